@@ -8,10 +8,10 @@ import sys
 import tempfile
 
 CRATES = ["decimal_digits", "decimal_unsigned", "fixed_decimal", "decimal_format", "plural_rules", "locale_data",
-          "number_format", "cli"]
+          "number_format", "cli", "fixed_decimal_c"]
 LIBRARIES = [*CRATES[:4], "locale_data", "number_format"]
 # Crates whose proofs cite of the libraries only the lemmas for callers.
-CALLERS = ["uses", "plural_rules", "decimal_format", "locale_data", "number_format", "cli"]
+CALLERS = ["uses", "plural_rules", "decimal_format", "locale_data", "number_format", "cli", "fixed_decimal_c"]
 # Words of other programs, of Rust, of commands and of tables that are no names in the code.
 FOREIGN = set(
     """FloatPrecision DoublePrecision WithInfinity try_from_f64 ryu writeable write_to_string LengthHint FromStr ONE
@@ -59,6 +59,7 @@ def check_names():
     for path, text in CODE.items():
         words.update(re.findall(r"[A-Za-z_][\w'-]*|[A-Za-z_]\w*", re.sub(r"//.*|(?m:^--.*)", "", text)))
         words.update(word for name in re.findall(r"[A-Za-z_][\w'-]*", text) for word in name.split("-"))
+    words.update(word for path in FILES if path.endswith((".h", ".pyi")) for word in re.findall(r"\w+", read(path)))
     words.update(part.split(".")[0] for path in FILES for part in path.split("/"))
     for document in DOCUMENTS:
         for word in quoted(re.sub(r"```.*?```", "", read(document), flags=re.S)):
@@ -99,7 +100,7 @@ def functions(path):
     for line in CODE[path].split("\n#[cfg(test)]\nmod tests {")[0].splitlines():
         if re.match(r"(?:pub )?(?:impl|trait)\b", line):
             public_block = line.startswith("pub trait")
-        if named := re.match(r"\s*(pub )?(?:pub\(\w+\) )?(?:unsafe )?(?:const )?fn (\w+)", line):
+        if named := re.match(r"\s*(pub )?(?:pub\(\w+\) )?(?:unsafe )?(?:const )?(?:extern \"C\" )?fn (\w+)", line):
             found.append((bool(named[1]) or public_block and line.startswith(" "), named[2], set()))
         elif (clause := re.match(r"\s*ensures\*? ?(\w*) ?\{", line)) and found:
             found[-1][2].add(clause[1] or "ensures")
@@ -189,7 +190,7 @@ def check_counts():
         lines = sum(read(document).count("\n") for document in documents)
         check(lines <= most, f"{' and '.join(documents)}: {lines} lines, and at most {most} are allowed")
     words = sum(len(read(document).split()) for document in [*DOCUMENTS, "bench/README.md", "diff/README.md"])
-    check(words <= 13_000, f"the documents have {words:,} words, and at most 13,000 are allowed")
+    check(words <= 14_000, f"the documents have {words:,} words, and at most 14,000 are allowed")
 
 
 def check_modules():

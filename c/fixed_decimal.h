@@ -1,0 +1,198 @@
+/* Exact decimals for display, in C99 and C++.
+ *
+ * A value is its text: 2.50 is not 2.5, and the text of a value reads back as that value. So a function takes the text
+ * of a value and writes the text of another one into a buffer of the caller. Nothing is kept between calls: there is no
+ * handle, nothing to free and no global state, and each function may be called in any thread at any time.
+ *
+ * Each function is proved to return; none panics, aborts, waits, prints or calls back. docs/C.md says what is proved.
+ *
+ * What the caller upholds:
+ * - Each pointer is not null and points to as many bytes (or calls) as the number after it says, also if that is 0
+ *   (FD_NONE will do), and the number is below 2^63.
+ * - The buffer overlaps no other argument, and no other thread reads or writes it during the call; nor writes the others.
+ * - malloc, realloc and free are those of one allocator, and the call is not made in a signal handler, nor in the forked
+ *   child of a process with threads. Values of up to 16 digits, in texts of less than 64 bytes and lists of up to eight
+ *   calls, need no memory; fd_category allocates for its rules.
+ *
+ * Texts need not be UTF-8 and do not end in a zero byte: neither those that are passed nor those that are written.
+ *
+ *   decimal     = [ "-" | "+" ], unsigned ;
+ *   unsigned    = digits | [ digits ], ".", digits | significand, exponent ;
+ *   significand = digits | [ digits ], ".", [ digits ] ;
+ *   exponent    = ( "e" | "E" ), [ "-" | "+" ], digits ;
+ */
+#ifndef FIXED_DECIMAL_H
+#define FIXED_DECIMAL_H
+
+#include <stddef.h>
+#include <stdint.h>
+
+#ifdef __cplusplus
+extern "C" {
+#endif
+
+/* The version of this interface: it grows when a number, a struct or a meaning changes. */
+#define FD_VERSION 1
+
+/* The version of the library, to be compared with FD_VERSION. */
+uint32_t fd_version(void);
+
+/* Why a function has no answer. `at` of the answer says where. */
+typedef enum fd_status {
+    FD_OK = 0,
+    FD_SYNTAX = 1,           /* a text is not in the grammar; at: 0 the first text, 1 the second */
+    FD_LIMIT = 2,            /* a text has more than 32768 digits before or after the point; at: as above */
+    FD_MEMORY = 3,           /* out of memory */
+    FD_OPERAND_SYNTAX = 4,   /* the operand of call `at` is not in the grammar */
+    FD_OPERAND_LIMIT = 5,    /* the operand of call `at` has too many digits */
+    FD_OVERLAP = 6,          /* the numbers that call `at` concatenates overlap */
+    FD_OVERFLOW = 7,         /* the result of call `at`, a shift or a rounding, is beyond the limits */
+    FD_BUFFER_TOO_SMALL = 8, /* the text does not fit the rest of the buffer */
+    FD_UNKNOWN_CALL = 9,     /* call `at` has an unknown kind, option or increment, or an operand outside the texts */
+    FD_UNKNOWN_LOCALE = 10,  /* no locale of the tag is known, or its numbering system is not */
+    FD_UNKNOWN_OPTION = 11,  /* an unknown grouping or reading */
+    FD_NOT_WHOLE = 12,       /* a fraction digit is not 0 */
+    FD_OUT_OF_RANGE = 13,    /* the integer type does not hold the number */
+    FD_RULES_SYNTAX = 14,    /* the text cannot go on as rules at byte `at` */
+    FD_RULES_LIMIT = 15      /* the number at byte `at` of the rules is too great */
+} fd_status;
+
+/* An answer that is a text: status is an fd_status. */
+typedef struct fd_result {
+    uint32_t status;
+    size_t at;
+    size_t count; /* FD_OK: bytes written; FD_BUFFER_TOO_SMALL: bytes needed; else 0 */
+} fd_result;
+
+/* An answer that is a number; it is 0 if status is not FD_OK. */
+typedef struct fd_number {
+    uint32_t status;
+    size_t at;
+    int64_t value;
+} fd_number;
+
+/* An answer that is an unsigned number; it is 0 if status is not FD_OK. */
+typedef struct fd_unsigned {
+    uint32_t status;
+    size_t at;
+    uint64_t value;
+} fd_unsigned;
+
+/* An answer that is a column. */
+typedef struct fd_column {
+    uint32_t status; /* FD_OK: all lines are converted; else why the next line is not */
+    size_t at;       /* where the error is */
+    size_t lines;    /* lines that are converted */
+    size_t read;     /* bytes of these lines, with their line feeds: where the next line begins */
+    size_t written;  /* bytes that are written */
+    size_t failed;   /* lines that were skipped */
+} fd_column;
+
+/* The calls of a run. */
+enum fd_kind {
+    FD_SHIFT = 0,               /* times 10^position */
+    FD_TRIM_START = 1,          /* no leading zeros */
+    FD_TRIM_END = 2,            /* no trailing zeros among the fraction digits */
+    FD_TRIM_END_IF_INTEGER = 3, /* no fraction digits if all are 0 */
+    FD_PAD_START = 4,           /* zeros at all magnitudes from 0 to position - 1 */
+    FD_PAD_END = 5,             /* zeros down to magnitude position */
+    FD_MAX = 6,                 /* no digits at magnitude position and above */
+    FD_ROUND = 7,               /* to a multiple of increment * 10^position, by the mode in option */
+    FD_SIGN = 8,                /* the sign in option */
+    FD_DISPLAY = 9,             /* the sign that the display in option shows */
+    FD_CONCAT = 10              /* the digits of the operand at the end */
+};
+
+/* Options of FD_ROUND. */
+enum fd_mode {
+    FD_CEIL = 0,
+    FD_FLOOR = 1,
+    FD_EXPAND = 2,
+    FD_TRUNC = 3,
+    FD_HALF_CEIL = 4,
+    FD_HALF_FLOOR = 5,
+    FD_HALF_EXPAND = 6,
+    FD_HALF_TRUNC = 7,
+    FD_HALF_EVEN = 8
+};
+
+/* Options of FD_SIGN and of FD_DISPLAY. */
+enum fd_sign_option { FD_NO_SIGN = 0, FD_MINUS = 1, FD_PLUS = 2 };
+enum fd_display { FD_AUTO = 0, FD_NEVER = 1, FD_ALWAYS = 2, FD_EXCEPT_ZERO = 3, FD_NEGATIVE = 4 };
+
+/* A call of a run. Fields that its kind does not use are ignored. */
+typedef struct fd_call {
+    uint8_t kind;      /* an fd_kind */
+    uint8_t option;    /* an fd_mode, fd_sign_option or fd_display */
+    uint8_t increment; /* FD_ROUND: 1, 2, 5 or 25 */
+    int16_t position;  /* a position, or the distance of a shift */
+    size_t text_start; /* FD_CONCAT: where the operand begins in the texts */
+    size_t text_count; /* FD_CONCAT: its number of bytes */
+} fd_call;
+
+/* Where separators are written, and how strictly a text is read. */
+enum fd_grouping { FD_GROUP_AUTO = 0, FD_GROUP_NEVER = 1, FD_GROUP_ALWAYS = 2, FD_GROUP_MIN2 = 3 };
+enum fd_reading { FD_STRICT = 0, FD_LENIENT = 1 };
+
+/* The forms in which a text is read and written. A tag is a BCP 47 tag, or the name that a shell has (de_CH.UTF-8). */
+typedef struct fd_forms {
+    size_t read_start;   /* where the tag by which the text is read begins in the texts */
+    size_t read_count;   /* its number of bytes; 0: the text is a decimal's own */
+    size_t format_start; /* where the tag by which the result is written begins in the texts */
+    size_t format_count; /* its number of bytes; 0: the result is written as its own text */
+    uint8_t reading;     /* an fd_reading */
+    uint8_t grouping;    /* an fd_grouping */
+} fd_forms;
+
+/* Values of fd_category. */
+enum fd_plural { FD_ZERO = 0, FD_ONE = 1, FD_TWO = 2, FD_FEW = 3, FD_MANY = 4, FD_OTHER = 5 };
+
+/* Something to point to where there are 0 bytes or calls. */
+static const uint64_t fd_empty[1] = {0};
+#define FD_NONE(type) ((const type *)(const void *)fd_empty)
+
+/* Makes calls in order on the decimal that start writes, and writes the text of the result to the start of the buffer.
+ *
+ * FD_OK: the first count bytes of the buffer are exactly the text, and all other bytes are as they were.
+ * Else the whole buffer is as it was. With capacity 0 it only returns the number of bytes, as FD_BUFFER_TOO_SMALL.
+ * Errors: FD_SYNTAX, FD_LIMIT, FD_MEMORY, FD_OPERAND_SYNTAX, FD_OPERAND_LIMIT, FD_OVERLAP, FD_OVERFLOW,
+ * FD_BUFFER_TOO_SMALL, FD_UNKNOWN_CALL. */
+fd_result fd_run(const uint8_t *start, size_t start_count, const fd_call *calls, size_t call_count,
+                 const uint8_t *texts, size_t texts_count, uint8_t *buffer, size_t capacity);
+
+/* The same of a text that is read in one form, with the result written in another.
+ * Errors: as fd_run, FD_UNKNOWN_LOCALE, FD_UNKNOWN_OPTION. */
+fd_result fd_convert(const uint8_t *text, size_t count, const fd_forms *forms, const fd_call *calls, size_t call_count,
+                     const uint8_t *texts, size_t texts_count, uint8_t *buffer, size_t capacity);
+
+/* Converts each line as fd_convert does, and writes the text of each with a line feed. A line is all bytes up to a line
+ * feed; the bytes after the last line feed are a line if there are any.
+ *
+ * With skip, a line that fails is an empty line, and failed counts them; FD_MEMORY ends the column all the same.
+ * Else the column ends before the first line that fails, with its error. Where the buffer is too small, it ends before
+ * the first line that does not fit: call again from `read` with another buffer. What was written before is whole; all
+ * bytes after `written` are as they were. */
+fd_column fd_lines(const uint8_t *lines, size_t count, uint32_t skip, const fd_forms *forms, const fd_call *calls,
+                   size_t call_count, const uint8_t *texts, size_t texts_count, uint8_t *buffer, size_t capacity);
+
+/* The order of two numbers: -1, 0 or 1. 1.0 and 1 are 0. Errors: FD_SYNTAX, FD_LIMIT, FD_MEMORY. */
+fd_number fd_compare(const uint8_t *left, size_t left_count, const uint8_t *right, size_t right_count);
+
+/* 1 if two texts write the same value, with its sign and its zeros, else 0. Errors as fd_compare. */
+fd_number fd_equal(const uint8_t *left, size_t left_count, const uint8_t *right, size_t right_count);
+
+/* The sign that is shown: -1 a minus, 0 none, 1 a plus. Errors as fd_compare. */
+fd_number fd_sign(const uint8_t *text, size_t count);
+
+/* The integer, whatever zeros are shown. Errors: as fd_compare, FD_NOT_WHOLE, FD_OUT_OF_RANGE. */
+fd_number fd_to_i64(const uint8_t *text, size_t count);
+fd_unsigned fd_to_u64(const uint8_t *text, size_t count);
+
+/* The plural category of a decimal, an fd_plural, by rules in CLDR's syntax: "one: i = 1 and v = 0".
+ * Errors: as fd_compare, FD_RULES_SYNTAX, FD_RULES_LIMIT. */
+fd_number fd_category(const uint8_t *rules, size_t rules_count, const uint8_t *text, size_t count);
+
+#ifdef __cplusplus
+}
+#endif
+#endif

@@ -1,0 +1,103 @@
+/* Makes each allocation fail in turn: the answer is then FD_MEMORY, what was not written is as it was, and nothing leaks.
+ * Short values and lists of up to eight calls allocate nothing.
+ * Link with -Wl,--wrap=malloc,--wrap=realloc,--wrap=free. */
+#include "../fixed_decimal.h"
+#include <stdio.h>
+#include <stdlib.h>
+#include <string.h>
+
+#define BYTES(s) (const uint8_t *)(s), strlen(s)
+#define ROOM 4096
+
+void *__real_malloc(size_t n);
+void *__real_realloc(void *p, size_t n);
+void __real_free(void *p);
+static long count, fail_at, live;
+
+void *__wrap_malloc(size_t n) {
+    if (++count == fail_at) return 0;
+    live++;
+    return __real_malloc(n);
+}
+
+void *__wrap_realloc(void *p, size_t n) {
+    if (++count == fail_at) return 0;
+    return __real_realloc(p, n);
+}
+
+void __wrap_free(void *p) {
+    if (p) live--;
+    __real_free(p);
+}
+
+static char digits[201], lines[450];
+static uint8_t buffer[ROOM], before[ROOM];
+static const fd_forms own_text, german = {.read_count = 2, .format_count = 2};
+static fd_call calls[9];
+
+static uint32_t run(void) {
+    return fd_run(BYTES(digits), calls, 9, BYTES("5"), buffer, ROOM).status;
+}
+static uint32_t convert(void) {
+    return fd_convert(BYTES(digits), &german, calls, 1, BYTES("de"), buffer, ROOM).status;
+}
+static uint32_t compare(void) {
+    return fd_compare(BYTES(digits), (const uint8_t *)digits, 199).status;
+}
+static uint32_t category(void) {
+    return fd_category(BYTES("one: i = 1 and v = 0 or n % 10 = 3..4,7; few: i = 2"), BYTES("1")).status;
+}
+/* The first line is whole before the second one is out of memory. */
+static uint32_t column(void) {
+    fd_column c = fd_lines(BYTES(lines), 1, &own_text, calls, 1, BYTES("5"), buffer, ROOM);
+    if (c.status == FD_MEMORY && (c.lines != 1 || c.written != 2 || memcmp(buffer, "7\n", 2))) return 99;
+    memset(buffer, 0xC3, c.written);
+    return c.status;
+}
+static uint32_t short_run(void) {
+    return fd_run(BYTES("-1234567.890123456"), calls + 1, 8, BYTES("5"), buffer, ROOM).status;
+}
+static uint32_t short_convert(void) {
+    return fd_convert(BYTES("1.234,5"), &german, calls + 1, 8, BYTES("de"), buffer, ROOM).status;
+}
+static uint32_t short_column(void) {
+    fd_column c = fd_lines(BYTES("1\n22.5\nx\n"), 1, &own_text, calls + 1, 8, BYTES("5"), buffer, ROOM);
+    memset(buffer, 0xC3, c.written);
+    return c.status;
+}
+
+int main(void) {
+    memset(digits, '7', 200);
+    sprintf(lines, "7\n%s\n%s\n", digits, digits);
+    for (int i = 0; i < 9; i++) calls[i] = (fd_call){.kind = FD_PAD_START, .position = 1};
+    calls[8] = (fd_call){.kind = FD_ROUND, .position = -4, .increment = 25, .option = FD_HALF_EVEN};
+    static const struct {
+        const char *name;
+        uint32_t (*job)(void);
+        int allocates;
+    } jobs[] = {{"fd_run", run, 1}, {"fd_convert", convert, 1}, {"fd_compare", compare, 1},
+                {"fd_category", category, 1}, {"fd_lines", column, 1}, {"fd_run, short", short_run, 0},
+                {"fd_convert, short", short_convert, 0}, {"fd_lines, short", short_column, 0}};
+    int bad = 0;
+    for (size_t j = 0; j < sizeof jobs / sizeof *jobs; j++) {
+        long n = 0;
+        for (fail_at = 1;; fail_at++, n++) {
+            count = live = 0;
+            memset(buffer, 0xC3, ROOM);
+            memcpy(before, buffer, ROOM);
+            uint32_t status = jobs[j].job();
+            int done = count < fail_at;
+            int changed = memcmp(buffer, before, ROOM) != 0;
+            if (live || status != (done ? FD_OK : FD_MEMORY) || (!done && changed)) {
+                bad++;
+                fprintf(stderr, "%s, allocation %ld fails: status %u, %ld blocks leak, changed %d\n", jobs[j].name,
+                        fail_at, status, live, changed);
+            }
+            if (done) break;
+        }
+        if ((n > 0) != jobs[j].allocates) bad++;
+        printf("%-20s %ld allocations, each failed in turn\n", jobs[j].name, n);
+    }
+    printf("%d failures\n", bad);
+    return bad != 0;
+}

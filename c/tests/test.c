@@ -1,0 +1,251 @@
+/* Each export at each status, and at each capacity from 0 to 8 beyond each text, in exact blocks of the heap. */
+#include "../fixed_decimal.h"
+#include <stdio.h>
+#include <stdlib.h>
+#include <string.h>
+
+static int failures, checks;
+#define CHECK(condition)                                                  \
+    do {                                                                  \
+        checks++;                                                         \
+        if (!(condition)) {                                               \
+            failures++;                                                   \
+            fprintf(stderr, "line %d: %s\n", __LINE__, #condition);       \
+        }                                                                 \
+    } while (0)
+#define B(s) (const uint8_t *)(s), sizeof(s) - 1
+#define BYTES(s) (const uint8_t *)(s), strlen(s)
+
+static int gives(fd_result r, const uint8_t *buffer, const char *text) {
+    size_t n = strlen(text);
+    return r.status == FD_OK && r.at == 0 && r.count == n && memcmp(buffer, text, n) == 0;
+}
+
+static int all(const uint8_t *p, size_t n, uint8_t b) {
+    for (size_t i = 0; i < n; i++)
+        if (p[i] != b) return 0;
+    return 1;
+}
+
+/* fd_run, or fd_convert where there are forms. */
+static fd_result convert(const char *start, const fd_forms *forms, const fd_call *calls, size_t count, const char *texts,
+                         uint8_t *buffer, size_t room) {
+    if (forms) return fd_convert(BYTES(start), forms, calls, count, BYTES(texts), buffer, room);
+    return fd_run(BYTES(start), calls, count, BYTES(texts), buffer, room);
+}
+
+static void at_all_sizes(const char *start, const fd_forms *forms, const fd_call *calls, size_t count, const char *texts,
+                         const char *text) {
+    size_t n = strlen(text);
+    for (size_t room = 0; room < n + 9; room++) {
+        uint8_t *buffer = malloc(room ? room : 1);
+        memset(buffer, 0xA5, room ? room : 1);
+        fd_result r = convert(start, forms, calls, count, texts, buffer, room);
+        if (room < n) {
+            CHECK(r.status == FD_BUFFER_TOO_SMALL && r.count == n && r.at == 0 && all(buffer, room, 0xA5));
+        } else {
+            CHECK(gives(r, buffer, text) && all(buffer + n, room - n, 0xA5));
+        }
+        free(buffer);
+    }
+}
+
+static const fd_forms own_text;
+#define RUN1(start, text, ...)                                   \
+    do {                                                         \
+        fd_call c_ = {__VA_ARGS__};                              \
+        at_all_sizes(start, 0, &c_, 1, "", text);                \
+        at_all_sizes(start, &own_text, &c_, 1, "", text);        \
+    } while (0)
+
+static void fails(const char *start, fd_call call, const char *texts, uint32_t status, size_t at) {
+    uint8_t buffer[32];
+    memset(buffer, 0x5A, sizeof buffer);
+    for (int form = 0; form < 2; form++) {
+        fd_result r = convert(start, form ? &own_text : 0, &call, 1, texts, buffer, 32);
+        CHECK(r.status == status && r.at == at && r.count == 0 && all(buffer, 32, 0x5A));
+    }
+}
+
+static void test_calls(void) {
+    at_all_sizes("+0012.50", 0, FD_NONE(fd_call), 0, "", "+0012.50");
+    RUN1("250", "2.50", .kind = FD_SHIFT, .position = -2);
+    RUN1("007", "7", .kind = FD_TRIM_START);
+    RUN1("2.50", "2.5", .kind = FD_TRIM_END);
+    RUN1("2.00", "2", .kind = FD_TRIM_END_IF_INTEGER);
+    RUN1("42", "0042", .kind = FD_PAD_START, .position = 4);
+    RUN1("42", "42.00", .kind = FD_PAD_END, .position = -2);
+    RUN1("42.5", "2.5", .kind = FD_MAX, .position = 1);
+    RUN1("2.25", "2.2", .kind = FD_ROUND, .position = -1, .option = FD_HALF_EVEN, .increment = 1);
+    RUN1("5", "-5", .kind = FD_SIGN, .option = FD_MINUS);
+    RUN1("5", "+5", .kind = FD_DISPLAY, .option = FD_ALWAYS);
+    fd_call c = {.kind = FD_CONCAT, .text_start = 2, .text_count = 4};
+    at_all_sizes("12", 0, &c, 1, "xx0.25yy", "12.25");
+    fd_call many[9] = {{.kind = FD_CONCAT, .text_count = 3}, {.kind = FD_SHIFT, .position = 1},
+                       {.kind = FD_SIGN, .option = FD_PLUS}};
+    for (size_t n = 3; n < 9; n++) many[n] = (fd_call){.kind = FD_PAD_START, .position = (int16_t)n};
+    static const char *padded[10] = {"", "", "", "+75", "+075", "+0075", "+00075", "+000075", "+0000075", "+00000075"};
+    for (size_t n = 3; n <= 9; n++) at_all_sizes("7", n % 2 ? 0 : &own_text, many, n, "0.5", padded[n]);
+    static const char *tie[9] = {"-2", "-3", "-3", "-2", "-2", "-3", "-3", "-2", "-2"};
+    for (uint8_t m = 0; m < 9; m++) RUN1("-2.5", tie[m], .kind = FD_ROUND, .option = m, .increment = 1);
+    RUN1("112", "100", .kind = FD_ROUND, .option = FD_HALF_EVEN, .increment = 25);
+    RUN1("113", "125", .kind = FD_ROUND, .option = FD_HALF_EVEN, .increment = 25);
+    RUN1("113", "115", .kind = FD_ROUND, .option = FD_HALF_EVEN, .increment = 5);
+    RUN1("113", "114", .kind = FD_ROUND, .option = FD_CEIL, .increment = 2);
+}
+
+static void test_errors(void) {
+    fd_call trim = {.kind = FD_TRIM_END};
+    fails("1x", trim, "", FD_SYNTAX, 0);
+    fails("", trim, "", FD_SYNTAX, 0);
+    fails("1e32768", trim, "", FD_LIMIT, 0);
+    fails("10", (fd_call){.kind = FD_SHIFT, .position = 32767}, "", FD_OVERFLOW, 0);
+    fails("1", (fd_call){.kind = 11}, "", FD_UNKNOWN_CALL, 0);
+    fails("1", (fd_call){.kind = 255}, "", FD_UNKNOWN_CALL, 0);
+    fails("1", (fd_call){.kind = FD_ROUND, .option = 9, .increment = 1}, "", FD_UNKNOWN_CALL, 0);
+    fails("1", (fd_call){.kind = FD_ROUND, .increment = 3}, "", FD_UNKNOWN_CALL, 0);
+    fails("1", (fd_call){.kind = FD_SIGN, .option = 3}, "", FD_UNKNOWN_CALL, 0);
+    fails("1", (fd_call){.kind = FD_DISPLAY, .option = 5}, "", FD_UNKNOWN_CALL, 0);
+    static const size_t outside[4][2] = {{0, 4}, {4, 0}, {SIZE_MAX, 2}, {2, SIZE_MAX}};
+    for (int i = 0; i < 4; i++)
+        fails("1", (fd_call){.kind = FD_CONCAT, .text_start = outside[i][0], .text_count = outside[i][1]}, "0.5",
+              FD_UNKNOWN_CALL, 0);
+    fails("1", (fd_call){.kind = FD_CONCAT, .text_count = 2}, "0.5", FD_OPERAND_SYNTAX, 0);
+    fails("12", (fd_call){.kind = FD_CONCAT, .text_count = 2}, "25", FD_OVERLAP, 0);
+    fails("1", (fd_call){.kind = FD_CONCAT, .text_count = 7}, "1e40000", FD_OPERAND_LIMIT, 0);
+    uint8_t b[1];
+    fd_call c[10] = {trim, {.kind = FD_SHIFT, .position = 32767}, {.kind = FD_SHIFT, .position = 1}, trim, trim,
+                     trim, trim, trim, trim, trim};
+    for (size_t n = 3; n <= 10; n++) {
+        fd_result r = fd_run(B("7"), c, n, FD_NONE(uint8_t), 0, b, 0);
+        CHECK(r.status == FD_OVERFLOW && r.at == 2);
+    }
+    c[1].kind = 77;
+    for (size_t n = 2; n <= 10; n++) {
+        fd_result r = fd_run(B("x"), c, n, FD_NONE(uint8_t), 0, b, 0);
+        CHECK(r.status == FD_UNKNOWN_CALL && r.at == 1);
+    }
+}
+
+static void test_long_texts(void) {
+    uint8_t b[128];
+    fd_call c[2] = {{.kind = FD_PAD_END, .position = -32768}, {.kind = FD_PAD_START, .position = 32767}};
+    fd_result r = fd_run(B("1"), c, 2, FD_NONE(uint8_t), 0, b, 128);
+    CHECK(r.status == FD_BUFFER_TOO_SMALL && r.count == 32767 + 1 + 32768);
+    uint8_t *big = malloc(r.count);
+    fd_result again = fd_run(B("1"), c, 2, FD_NONE(uint8_t), 0, big, r.count);
+    CHECK(again.status == FD_OK && again.count == r.count && big[32766] == '1' && big[32767] == '.' && big[0] == '0');
+    fd_call trims[2] = {{.kind = FD_TRIM_START}, {.kind = FD_TRIM_END}};
+    CHECK(gives(fd_run(big, r.count, trims, 2, FD_NONE(uint8_t), 0, b, 128), b, "1"));
+    free(big);
+    for (size_t n = 55; n < 75; n++) { /* around the 64 bytes that need no memory */
+        char text[81];
+        memset(text, '7', n);
+        text[n] = 0;
+        at_all_sizes(text, n % 2 ? 0 : &own_text, FD_NONE(fd_call), 0, "", text);
+    }
+}
+
+static void test_locales(void) {
+    static const struct {
+        const char *text, *texts, *result;
+        fd_forms forms;
+    } rows[] = {
+        {"-1234567.50", "de-CH", "-1\xe2\x80\x99" "234\xe2\x80\x99" "567.50", {.format_count = 5}},
+        {"1234567.5", "en-IN", "12,34,567.5", {.format_count = 5}},
+        {"1234567.5", "en", "1234567.5", {.format_count = 2, .grouping = FD_GROUP_NEVER}},
+        {"1234.5", "..de", "1.234,5", {.format_start = 2, .format_count = 2}},
+        {"1.234,565", "de", "1234.565", {.read_count = 2}},
+        {"-1'234'567.50", "de-CH", "-1234567.50", {.read_count = 5, .reading = FD_LENIENT}},
+        {"1.234,5", "deen-IN", "1,234.5", {.read_count = 2, .format_start = 2, .format_count = 5}},
+    };
+    for (size_t i = 0; i < sizeof rows / sizeof *rows; i++)
+        at_all_sizes(rows[i].text, &rows[i].forms, FD_NONE(fd_call), 0, rows[i].texts, rows[i].result);
+    static const struct {
+        const char *text, *texts;
+        fd_forms forms;
+        uint32_t status;
+    } errors[] = {
+        {"1", "tlh", {.format_count = 3}, FD_UNKNOWN_LOCALE},
+        {"1", "tlh", {.read_count = 3}, FD_UNKNOWN_LOCALE},
+        {"1", "\xff", {.format_count = 1}, FD_UNKNOWN_LOCALE},
+        {"1", "de", {.format_start = 1, .format_count = 2}, FD_UNKNOWN_LOCALE},
+        {"1", "de", {.format_count = 2, .grouping = 4}, FD_UNKNOWN_OPTION},
+        {"1", "de", {.read_count = 2, .reading = 2}, FD_UNKNOWN_OPTION},
+        {"1,23", "en", {.read_count = 2}, FD_SYNTAX},
+        {"\xff", "en", {.read_count = 2, .reading = FD_LENIENT}, FD_SYNTAX},
+        {"1,5", "de", {.format_count = 2}, FD_SYNTAX},
+    };
+    for (size_t i = 0; i < sizeof errors / sizeof *errors; i++) {
+        uint8_t b[32];
+        memset(b, 0x3C, 32);
+        fd_result r = convert(errors[i].text, &errors[i].forms, FD_NONE(fd_call), 0, errors[i].texts, b, 32);
+        CHECK(r.status == errors[i].status && r.count == 0 && all(b, 32, 0x3C));
+    }
+}
+
+/* The column at each capacity: the lines that fit, and from where to go on. */
+static void test_lines(void) {
+    static const char input[] = "250\n\n-7\nx\n12345678901234567890\n5", output[] = "2.50\n\n-0.07\n\n123456789012345678.90\n0.05\n";
+    static const size_t ends[7] = {0, 5, 6, 12, 13, 35, 40}, reads[7] = {0, 4, 5, 8, 10, 31, 32};
+    static const size_t failed[7] = {0, 0, 1, 1, 2, 2, 2};
+    fd_call shift = {.kind = FD_SHIFT, .position = -2};
+    for (size_t room = 0; room < sizeof output + 8; room++) {
+        uint8_t *buffer = malloc(room ? room : 1);
+        memset(buffer, 0xA5, room ? room : 1);
+        fd_column c = fd_lines(B(input), 1, &own_text, &shift, 1, FD_NONE(uint8_t), 0, buffer, room);
+        size_t n = 0;
+        while (n < 6 && ends[n + 1] <= room) n++;
+        CHECK(c.lines == n && c.read == reads[n] && c.written == ends[n] && c.failed == failed[n]);
+        CHECK(c.status == (n == 6 ? FD_OK : FD_BUFFER_TOO_SMALL));
+        CHECK(memcmp(buffer, output, c.written) == 0 && all(buffer + c.written, room - c.written, 0xA5));
+        free(buffer);
+    }
+    uint8_t b[64];
+    memset(b, 0xA5, 64);
+    fd_column c = fd_lines(B("1\n2\n1e32768\n3"), 0, &own_text, &shift, 1, FD_NONE(uint8_t), 0, b, 64);
+    CHECK(c.status == FD_LIMIT && c.lines == 2 && c.read == 4 && c.written == 10 && c.failed == 0);
+    CHECK(memcmp(b, "0.01\n0.02\n", 10) == 0 && all(b + 10, 54, 0xA5));
+    fd_forms forms = {.read_count = 2, .format_start = 2, .format_count = 5};
+    c = fd_lines(B("1.234,5\n"), 0, &forms, FD_NONE(fd_call), 0, B("deen-IN"), b, 64);
+    CHECK(c.status == FD_OK && c.lines == 1 && c.read == 8 && c.written == 8 && memcmp(b, "1,234.5\n", 8) == 0);
+    c = fd_lines(FD_NONE(uint8_t), 0, 0, &own_text, &shift, 1, FD_NONE(uint8_t), 0, b, 0);
+    CHECK(c.status == FD_OK && c.lines == 0 && c.read == 0 && c.written == 0);
+    c = fd_lines(B("1\n"), 0, &forms, FD_NONE(fd_call), 0, B("zz"), b, 64);
+    CHECK(c.status == FD_UNKNOWN_LOCALE && c.lines == 0 && c.written == 0);
+    fd_call unknown = {.kind = 99};
+    c = fd_lines(B("1\n"), 0, &own_text, &unknown, 1, FD_NONE(uint8_t), 0, b, 64);
+    CHECK(c.status == FD_UNKNOWN_CALL && c.at == 0);
+}
+
+static void test_numbers(void) {
+    CHECK(fd_compare(B("1.0"), B("1")).value == 0 && fd_compare(B("-2"), B("1")).value == -1);
+    CHECK(fd_compare(B("3"), B("1")).value == 1 && fd_compare(B("x"), B("1")).at == 0);
+    CHECK(fd_compare(B("1"), B("x")).status == FD_SYNTAX && fd_compare(B("1"), B("x")).at == 1);
+    CHECK(fd_equal(B("1.0"), B("1")).value == 0 && fd_equal(B("-0"), B("0")).value == 0);
+    CHECK(fd_equal(B("1.0e1"), B("10")).value == 1);
+    CHECK(fd_sign(B("-0")).value == -1 && fd_sign(B("0")).value == 0 && fd_sign(B("+0")).value == 1);
+    CHECK(fd_to_i64(B("-9223372036854775808.00")).value == INT64_MIN);
+    CHECK(fd_to_i64(B("9223372036854775807")).value == INT64_MAX);
+    CHECK(fd_to_i64(B("9223372036854775808")).status == FD_OUT_OF_RANGE);
+    CHECK(fd_to_i64(B("0.5")).status == FD_NOT_WHOLE && fd_to_i64(B("0.5")).value == 0);
+    CHECK(fd_to_u64(B("18446744073709551615")).value == UINT64_MAX);
+    CHECK(fd_to_u64(B("-1")).status == FD_OUT_OF_RANGE);
+    CHECK(fd_category(B("one: i = 1 and v = 0"), B("1")).value == FD_ONE);
+    CHECK(fd_category(B("one: i = 1 and v = 0"), B("1.0")).value == FD_OTHER);
+    CHECK(fd_category(B("n ="), B("1")).status == FD_RULES_SYNTAX);
+    CHECK(fd_category(B("one: i = 99999999999999999999"), B("1")).status == FD_RULES_LIMIT);
+    CHECK(fd_category(B("one: i = 1"), B("")).status == FD_SYNTAX);
+    CHECK(fd_version() == FD_VERSION);
+}
+
+int main(void) {
+    test_calls();
+    test_errors();
+    test_long_texts();
+    test_locales();
+    test_lines();
+    test_numbers();
+    printf("%d checks, %d failures\n", checks, failures);
+    return failures != 0;
+}

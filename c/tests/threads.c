@@ -1,0 +1,34 @@
+/* Four threads make calls at once. */
+#include "../fixed_decimal.h"
+#include <pthread.h>
+#include <stdio.h>
+#include <string.h>
+
+static void *work(void *arg) {
+    size_t bad = 0;
+    long seed = (long)(size_t)arg;
+    fd_call pad = {.kind = FD_PAD_END, .position = -5};
+    fd_forms german = {.format_count = 2};
+    for (long i = 0; i < 50000; i++) {
+        char text[40], want[40];
+        uint8_t out[40];
+        int n = snprintf(text, 40, "%ld.%03ld", seed * 100000 + i, i % 1000);
+        int m = snprintf(want, 40, "%ld.%03ld,%03ld00", seed * 100 + i / 1000, i % 1000, i % 1000);
+        fd_result r = fd_convert((uint8_t *)text, (size_t)n, &german, &pad, 1, (const uint8_t *)"de", 2, out, 40);
+        bad += r.status != 0 || r.count != (size_t)m || memcmp(out, want, (size_t)m) != 0;
+    }
+    return (void *)bad;
+}
+
+int main(void) {
+    pthread_t threads[4];
+    size_t bad = 0;
+    for (size_t i = 0; i < 4; i++) pthread_create(&threads[i], 0, work, (void *)(i + 1));
+    for (int i = 0; i < 4; i++) {
+        void *found;
+        pthread_join(threads[i], &found);
+        bad += (size_t)found;
+    }
+    printf("200000 conversions in 4 threads, %zu wrong\n", bad);
+    return bad != 0;
+}

@@ -1,0 +1,4 @@
+pub mod Decoding
+pub mod LongTexts
+pub mod Converting
+pub mod Columns

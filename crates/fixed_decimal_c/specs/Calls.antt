@@ -1,0 +1,82 @@
+-- Calls, as C passes them.
+use Rattle.std.specs.Prelude.{◌≡◌, ℕ, ◌+◌, ◌≤◌, ◌<◌, ⊤, List, [], ◌∷◌, length, take, drop, slice_get, IsSomeAnd}
+use Rattle.decimal_digits.specs.declared.rounding.UnsignedRoundingMode.TheVariants as unsigned
+use Rattle.fixed_decimal.specs.declared.rounding.SignedRoundingMode.{SignedRoundingMode}
+use Rattle.fixed_decimal.specs.declared.rounding.SignedRoundingMode.TheVariants as mode
+use Rattle.decimal_digits.specs.declared.rounding.RoundingIncrement.{RoundingIncrement}
+use Rattle.decimal_digits.specs.declared.rounding.RoundingIncrement.TheVariants.{MultiplesOf1, MultiplesOf2, MultiplesOf5, MultiplesOf25}
+use Rattle.fixed_decimal.specs.declared.variations.Sign.{Sign}
+use Rattle.fixed_decimal.specs.declared.variations.Sign.TheVariants as sign
+use Rattle.fixed_decimal.specs.declared.variations.SignDisplay.{SignDisplay}
+use Rattle.fixed_decimal.specs.declared.variations.SignDisplay.TheVariants as display
+use Rattle.fixed_decimal.specs.declared.runs.Call.{Call}
+use Rattle.fixed_decimal.specs.declared.runs.Call.TheVariants.{MultiplyPow10, TrimStart, TrimEnd, TrimEndIfInteger, PadStart, PadEnd, SetMaxPosition, Round, SetSign, ApplySignDisplay, Concatenate}
+use Rattle.fixed_decimal_c.specs.declared.calls.FdCall.{FdCall}
+use Rattle.fixed_decimal_c.specs.declared.error.FdError.{FdError}
+use Rattle.fixed_decimal_c.specs.declared.error.FdError.TheVariants.{Memory, UnknownCall}
+
+abbrev pub mode_code : SignedRoundingMode → ℕ
+mode_code mode.Ceil = 0
+mode_code mode.Floor = 1
+mode_code (mode.Unsigned unsigned.Expand) = 2
+mode_code (mode.Unsigned unsigned.Trunc) = 3
+mode_code mode.HalfCeil = 4
+mode_code mode.HalfFloor = 5
+mode_code (mode.Unsigned unsigned.HalfExpand) = 6
+mode_code (mode.Unsigned unsigned.HalfTrunc) = 7
+mode_code (mode.Unsigned unsigned.HalfEven) = 8
+
+abbrev pub increment_code : RoundingIncrement → ℕ
+increment_code MultiplesOf1 = 1
+increment_code MultiplesOf2 = 2
+increment_code MultiplesOf5 = 5
+increment_code MultiplesOf25 = 25
+
+abbrev pub sign_code : Sign → ℕ
+sign_code sign.None = 0
+sign_code sign.Negative = 1
+sign_code sign.Positive = 2
+
+abbrev pub display_code : SignDisplay → ℕ
+display_code display.Auto = 0
+display_code display.Never = 1
+display_code display.Always = 2
+display_code display.ExceptZero = 3
+display_code display.Negative = 4
+
+-- t is the part of the texts with this start and number of bytes
+abbrev pub IsPart : List ℕ → ℕ → ℕ → List ℕ → Type 0
+IsPart texts start count t = (start + count ≤ length texts) × (t ≡ take count (drop start texts))
+
+-- C passes this call
+abbrev pub IsCall : FdCall → List ℕ → Call → Type 0
+IsCall c texts (MultiplyPow10 delta) = (c.kind ≡ 0) × (c.position ≡ delta)
+IsCall c texts TrimStart = c.kind ≡ 1
+IsCall c texts TrimEnd = c.kind ≡ 2
+IsCall c texts TrimEndIfInteger = c.kind ≡ 3
+IsCall c texts (PadStart position) = (c.kind ≡ 4) × (c.position ≡ position)
+IsCall c texts (PadEnd position) = (c.kind ≡ 5) × (c.position ≡ position)
+IsCall c texts (SetMaxPosition position) = (c.kind ≡ 6) × (c.position ≡ position)
+IsCall c texts (Round position m i) =
+    (c.kind ≡ 7) × (c.position ≡ position) × (c.option ≡ mode_code m) × (c.increment ≡ increment_code i)
+IsCall c texts (SetSign s) = (c.kind ≡ 8) × (c.option ≡ sign_code s)
+IsCall c texts (ApplySignDisplay d) = (c.kind ≡ 9) × (c.option ≡ display_code d)
+IsCall c texts (Concatenate t) = (c.kind ≡ 10) × IsPart texts c.text_start c.text_count t.now
+
+-- C passes these calls, one by one
+abbrev pub AreCalls : List FdCall → List ℕ → List Call → Type 0
+AreCalls [] texts [] = ⊤
+AreCalls (c ∷ cs) texts (call ∷ calls) = IsCall c texts call × AreCalls cs texts calls
+AreCalls _ texts _ = ⊥
+
+-- the error is that of the first call that C passes and that is none
+abbrev pub IsUnknown : FdError → List FdCall → List ℕ → Type 0
+IsUnknown (UnknownCall at) calls texts =
+    ((known : List Call) × AreCalls (take at calls) texts known)
+    × IsSomeAnd (slice_get calls at) (λ c. (call : Call) → IsCall c texts call → ⊥)
+IsUnknown _ calls texts = ⊥
+
+-- a call is unknown; or out of memory, for a list of more than eight calls
+abbrev pub DecodeFails : FdError → List FdCall → List ℕ → Type 0
+DecodeFails Memory calls texts = 8 < length calls
+DecodeFails error calls texts = IsUnknown error calls texts

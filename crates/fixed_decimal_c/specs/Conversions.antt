@@ -1,0 +1,78 @@
+-- Conversions, whose text is written to the buffer of a caller.
+use Rattle.std.specs.Prelude.{◌≡◌, ℕ, ◌⊎◌, List, [], ◌++◌, Result, Ok, Err}
+use Rattle.decimal_unsigned.specs.declared.decimal.TheConstants.{INLINE_DIGITS}
+use Rattle.decimal_unsigned.specs.declared.error.ParseError.{ParseError}
+use Rattle.decimal_unsigned.specs.Reading.{ReadError}
+use Rattle.fixed_decimal.specs.Decimal.{Decimal}
+use Rattle.fixed_decimal.specs.Calls.{CallsFail}
+use Rattle.fixed_decimal.specs.Errors.{run_error}
+use Rattle.fixed_decimal.specs.Outcome.{OutcomeError}
+use Rattle.fixed_decimal.specs.declared.runs.Call.{Call}
+use Rattle.fixed_decimal.specs.declared.runs.CallError.{CallError}
+use Rattle.cli.specs.Conversion.{IsReadAs, ReadingFails, last_decimal, formatted_by}
+use Rattle.fixed_decimal_c.specs.declared.calls.FdCall.{FdCall}
+use Rattle.fixed_decimal_c.specs.declared.convert.Forms.{Forms}
+use Rattle.fixed_decimal_c.specs.declared.error.FdError.{FdError}
+use Rattle.fixed_decimal_c.specs.declared.error.FdError.TheVariants.{BufferTooSmall, Memory}
+use Rattle.fixed_decimal_c.specs.declared.forms.FdForms.{FdForms}
+use Rattle.fixed_decimal_c.specs.Calls.{AreCalls, DecodeFails}
+use Rattle.fixed_decimal_c.specs.Errors.{error_of_parsing, error_of_run}
+use Rattle.fixed_decimal_c.specs.Forms.{IsReaderOf, ReaderFails, IsFormatterOf, FormatterFails}
+use Rattle.fixed_decimal_c.specs.Texts.{IsWritten, IsTooLong, IsLongText}
+
+-- the forms that C passes
+pub record AreForms (forms : FdForms) (texts : List ℕ) (f : Forms) : Type 0 where
+  pub reader : IsReaderOf forms texts f.reader
+  pub formatter : IsFormatterOf forms texts f.formatter
+
+-- there are no such forms
+abbrev pub FormsFail : FdError → FdForms → List ℕ → Type 0
+FormsFail error forms texts = ReaderFails error forms texts ⊎ FormatterFails error forms texts
+
+-- a text that is read, changed by the calls and formatted has this result
+pub record IsConverted (f : Forms) (calls : List Call) (text : List ℕ) (result : Result (List ℕ) OutcomeError) : Type 0
+  where
+    pub read : Result Decimal ReadError
+    pub is_read : IsReadAs f.reader text read
+    pub is : result ≡ formatted_by f.formatter (last_decimal calls read)
+
+-- reading the text, or a call, fails with the error
+abbrev pub ConversionFails : Forms → List Call → List ℕ → FdError → Type 0
+ConversionFails f calls text error =
+    ((e : ParseError) × (error ≡ error_of_parsing e 0) × ReadingFails f.reader text e)
+    ⊎ ((v : Decimal) × (e : CallError) × (error ≡ error_of_run (run_error e)) × IsReadAs f.reader text (Ok v)
+    × CallsFail INLINE_DIGITS e v calls)
+
+-- P holds of the text that the conversion makes, and `end` after it
+abbrev pub HasText : Forms → List Call → List ℕ → List ℕ → (List ℕ → Type 0) → Type 0
+HasText f calls text end P = (written : List ℕ) × IsConverted f calls text (Ok written) × P (written ++ end)
+
+-- the conversion fails with the error; or it is out of memory for a long text
+abbrev pub ConvertErrs : Forms → List Call → List ℕ → List ℕ → FdError → Type 0
+ConvertErrs f calls text end Memory = ConversionFails f calls text Memory ⊎ HasText f calls text end IsLongText
+ConvertErrs f calls text end error = ConversionFails f calls text error
+
+-- the text and `end` are written if they fit; or the conversion fails, and the buffer is as it was
+abbrev pub Converts : Forms → List Call → List ℕ → List ℕ → Result ℕ FdError → List ℕ → List ℕ → Type 0
+Converts f calls text end (Ok count) old new = HasText f calls text end (λ bytes. IsWritten bytes count old new)
+Converts f calls text end (Err (BufferTooSmall needed)) old new =
+    HasText f calls text end (λ bytes. IsTooLong bytes needed old new)
+Converts f calls text end (Err error) old new = ConvertErrs f calls text end error × (new ≡ old)
+
+-- the forms and the calls that C passes are these
+pub record AreDecoded (forms : FdForms) (calls : List FdCall) (texts : List ℕ) (f : Forms) (list : List Call) : Type 0
+  where
+    pub are_forms : AreForms forms texts f
+    pub are_calls : AreCalls calls texts list
+
+-- there are no such forms, or a call is unknown, or out of memory for the list of the calls
+abbrev pub JobFails : FdError → FdForms → List FdCall → List ℕ → Type 0
+JobFails error forms calls texts = FormsFail error forms texts ⊎ DecodeFails error calls texts
+
+-- the text is converted by the forms and the calls that C passes
+abbrev pub ConvertsCalls :
+    Result ℕ FdError → List ℕ → FdForms → List FdCall → List ℕ → List ℕ → List ℕ → Type 0
+ConvertsCalls answer text forms calls texts old new =
+    ((f : Forms) × (list : List Call) × AreDecoded forms calls texts f list
+    × Converts f list text [] answer old new)
+    ⊎ ((error : FdError) × (answer ≡ Err error) × JobFails error forms calls texts × (new ≡ old))

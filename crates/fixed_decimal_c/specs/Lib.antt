@@ -1,0 +1,9 @@
+pub mod Errors
+pub mod Encodings
+pub mod Texts
+pub mod Calls
+pub mod Runs
+pub mod Forms
+pub mod Conversions
+pub mod Lines
+pub mod Numbers

@@ -1,0 +1,90 @@
+-- Columns: lines in, lines out.
+use Rattle.std.specs.Prelude.{◌≡◌, ◌≢◌, ℕ, ◌<◌, ◌≤◌, ◌⊎◌, Bool, true, false, ⊤, List, [], ◌∷◌, ◌++◌, length, drop, flat_map, count_by, Result, Ok, Err, is_err}
+use Rattle.fixed_decimal.specs.declared.runs.Call.{Call}
+use Rattle.cli.specs.Lines.{lines_of}
+use Rattle.fixed_decimal_c.specs.declared.answer.FdColumn.{FdColumn}
+use Rattle.fixed_decimal_c.specs.declared.calls.FdCall.{FdCall}
+use Rattle.fixed_decimal_c.specs.declared.convert.Forms.{Forms}
+use Rattle.fixed_decimal_c.specs.declared.forms.FdForms.{FdForms}
+use Rattle.fixed_decimal_c.specs.declared.lines.Progress.{Progress}
+use Rattle.fixed_decimal_c.specs.declared.error.FdError.{FdError}
+use Rattle.fixed_decimal_c.specs.declared.error.FdError.TheVariants.{BufferTooSmall, Memory}
+use Rattle.fixed_decimal_c.specs.Encodings.{fd_column}
+use Rattle.fixed_decimal_c.specs.Conversions.{IsConverted, ConversionFails, ConvertErrs, AreDecoded, JobFails}
+use Rattle.fixed_decimal_c.specs.Texts.{IsWritten}
+
+-- a line has this result: its text; or, where lines that fail are skipped, the error of reading it or of a call
+abbrev pub IsLineResult : Forms → List Call → Bool → List ℕ → Result (List ℕ) FdError → Type 0
+IsLineResult f calls skip line (Ok text) = IsConverted f calls line (Ok text)
+IsLineResult f calls skip line (Err error) = (skip ≡ true) × (error ≢ Memory) × ConversionFails f calls line error
+
+-- each line has its result
+abbrev pub AreLineResults : Forms → List Call → Bool → List (List ℕ) → List (Result (List ℕ) FdError) → Type 0
+AreLineResults f calls skip [] [] = ⊤
+AreLineResults f calls skip (line ∷ lines) (result ∷ results) =
+    IsLineResult f calls skip line result × AreLineResults f calls skip lines results
+AreLineResults f calls skip _ _ = ⊥
+
+-- the output of a line: its text and a line feed, or an empty line if it has none
+abbrev pub output_of_line : Result (List ℕ) FdError → List ℕ
+output_of_line (Ok text) = text ++ (10 ∷ [])
+output_of_line (Err error) = 10 ∷ []
+
+-- the output of a line is written, and it is one of the lines that fail if it has no text
+pub record IsLineWritten
+    (f : Forms) (calls : List Call) (skip : Bool) (line : List ℕ) (failed count : ℕ) (old new : List ℕ)
+    : Type 0
+  where
+    pub result : Result (List ℕ) FdError
+    pub is_result : IsLineResult f calls skip line result
+    pub fails : failed ≡ count_by is_err (result ∷ [])
+    pub written : IsWritten (output_of_line result) count old new
+
+-- a line ends the column with the error: its output does not fit the room that is left; or out of memory for it; or it
+-- fails, and such lines are not skipped
+abbrev pub LineStops : Forms → List Call → Bool → List ℕ → List ℕ → FdError → Type 0
+LineStops f calls skip line room (BufferTooSmall needed) =
+    (result : Result (List ℕ) FdError) × IsLineResult f calls skip line result
+    × (needed ≡ length (output_of_line result)) × (length room < needed)
+LineStops f calls skip line room Memory = ConvertErrs f calls line (10 ∷ []) Memory
+LineStops f calls skip line room error = (skip ≡ false) × ConversionFails f calls line error
+
+-- the first lines of the input were converted, and their output was written
+pub record AreConverted
+    (f : Forms) (calls : List Call) (skip : Bool) (input : List ℕ) (done : Progress) (old new : List ℕ)
+    : Type 0
+  where
+    pub lines : List (List ℕ)
+    pub results : List (Result (List ℕ) FdError)
+    pub are_results : AreLineResults f calls skip lines results
+    pub read : lines_of input ≡ lines ++ lines_of (drop done.read input)
+    pub inside : done.read ≤ length input
+    pub count : done.lines ≡ length lines
+    pub failed : done.failed ≡ count_by is_err results
+    pub written : IsWritten (flat_map output_of_line results) done.written old new
+
+-- there are no more lines; or the next one ends the column
+abbrev pub ColumnEnds : Forms → List Call → Bool → List ℕ → Progress → Result Unit FdError → List ℕ → Type 0
+ColumnEnds f calls skip input done (Ok _) old = done.read ≡ length input
+ColumnEnds f calls skip input done (Err error) old =
+    (line : List ℕ) × (lines : List (List ℕ)) × (lines_of (drop done.read input) ≡ line ∷ lines)
+    × LineStops f calls skip line (drop done.written old) error
+
+-- the column is converted up to its end, or to the line that ends it
+abbrev pub ConvertsLines :
+    Forms → List Call → Bool → List ℕ → Progress → Result Unit FdError → List ℕ → List ℕ → Type 0
+ConvertsLines f calls skip input done result old new =
+    AreConverted f calls skip input done old new × ColumnEnds f calls skip input done result old
+
+-- no line was converted
+abbrev pub none : Progress
+none = record { lines = 0; read = 0; written = 0; failed = 0 }
+
+-- the column is converted by the forms and the calls that C passes
+abbrev pub ConvertsColumn :
+    FdColumn → List ℕ → Bool → FdForms → List FdCall → List ℕ → List ℕ → List ℕ → Type 0
+ConvertsColumn answer input skip forms calls texts old new =
+    ((f : Forms) × (list : List Call) × AreDecoded forms calls texts f list
+    × ((done : Progress) × (result : Result Unit FdError) × (answer ≡ fd_column done result)
+    × ConvertsLines f list skip input done result old new))
+    ⊎ ((error : FdError) × (answer ≡ fd_column none (Err error)) × JobFails error forms calls texts × (new ≡ old))

@@ -1,0 +1,103 @@
+-- What one learns of a decimal as a number.
+use Rattle.std.specs.Prelude.{◌≡◌, ℕ, ◌^◌, ℤ, pos, negsuc, ◌⊎◌, ◌↔◌, List, Bool, true, false, IsTrue, Result, Ok, Err, IsOkAnd}
+use Rattle.std.specs.Ordering.{int_cmp}
+use Rattle.std.specs.declared.cmp.Ordering.{Ordering}
+use Rattle.std.specs.declared.cmp.Ordering.TheVariants.{Less, Equal, Greater}
+use Rattle.decimal_unsigned.specs.declared.decimal.TheConstants.{INLINE_DIGITS}
+use Rattle.decimal_unsigned.specs.declared.error.ParseError.{ParseError}
+use Rattle.decimal_unsigned.specs.declared.error.IntegerError.{IntegerError}
+use Rattle.decimal_unsigned.specs.declared.error.IntegerError.TheVariants as integer
+use Rattle.decimal_unsigned.specs.ParseResult.{ParseFails}
+use Rattle.fixed_decimal.specs.declared.variations.Sign.{Sign}
+use Rattle.fixed_decimal.specs.declared.variations.Sign.TheVariants as sign
+use Rattle.fixed_decimal.specs.Decimal.{Decimal, signed_number}
+use Rattle.fixed_decimal.specs.DecimalText.{read_decimal, IsLong}
+use Rattle.fixed_decimal.specs.ToInteger.{as_signed, as_unsigned}
+use Rattle.plural_rules.specs.declared.rules.PluralCategory.{PluralCategory}
+use Rattle.plural_rules.specs.declared.rules.PluralCategory.TheVariants as category
+use Rattle.plural_rules.specs.Operands.{plain}
+use Rattle.plural_rules.specs.Rules.{RuleValue, category_of}
+use Rattle.plural_rules.specs.RulesGrammar.{Grammar}
+use Rattle.plural_rules.specs.RulesParseResult.{IsSyntaxErrorAt, IsLimitErrorAt}
+use Rattle.fixed_decimal_c.specs.declared.error.FdError.{FdError}
+use Rattle.fixed_decimal_c.specs.declared.error.FdError.TheVariants.{Memory, NotWhole, OutOfRange, RulesSyntax, RulesLimit}
+use Rattle.fixed_decimal_c.specs.Errors.{error_of_parsing}
+
+-- parsing the text with this number fails
+abbrev pub ParsingFails : FdError → List ℕ → ℕ → Type 0
+ParsingFails error text at =
+    (e : ParseError) × (error ≡ error_of_parsing e at)
+    × ParseFails (IsOkAnd (read_decimal text) (IsLong INLINE_DIGITS)) e (read_decimal text)
+
+abbrev pub order_code : Ordering → ℤ
+order_code Less = negsuc 0
+order_code Equal = pos 0
+order_code Greater = pos 1
+
+-- the order of the numbers of two texts
+abbrev pub Compares : Result ℤ FdError → List ℕ → List ℕ → Type 0
+Compares (Ok n) left right =
+    IsOkAnd (read_decimal left) (λ v. IsOkAnd (read_decimal right)
+    (λ w. n ≡ order_code (int_cmp (signed_number v) (signed_number w))))
+Compares (Err error) left right = ParsingFails error left 0 ⊎ ParsingFails error right 1
+
+abbrev pub bool_code : Bool → ℤ
+bool_code false = pos 0
+bool_code true = pos 1
+
+-- whether two texts write the same value
+abbrev pub Equates : Result ℤ FdError → List ℕ → List ℕ → Type 0
+Equates (Ok n) left right =
+    IsOkAnd (read_decimal left) (λ v. IsOkAnd (read_decimal right)
+    (λ w. (b : Bool) × (n ≡ bool_code b) × (IsTrue b ↔ (v ≡ w))))
+Equates (Err error) left right = ParsingFails error left 0 ⊎ ParsingFails error right 1
+
+abbrev pub sign_number : Sign → ℤ
+sign_number sign.Negative = negsuc 0
+sign_number sign.None = pos 0
+sign_number sign.Positive = pos 1
+
+-- the sign of a text
+abbrev pub HasSign : Result ℤ FdError → List ℕ → Type 0
+HasSign (Ok n) text = IsOkAnd (read_decimal text) (λ v. n ≡ sign_number v.sign)
+HasSign (Err error) text = ParsingFails error text 0
+
+abbrev pub error_of_integer : IntegerError → FdError
+error_of_integer integer.NotWhole = NotWhole
+error_of_integer integer.OutOfRange = OutOfRange
+
+-- a conversion of the decimal fails
+abbrev pub ConversionFails : {A : Type 0} → FdError → (Decimal → Result A IntegerError) → List ℕ → Type 0
+ConversionFails error convert text =
+    IsOkAnd (read_decimal text) (λ v. (e : IntegerError) × (error ≡ error_of_integer e) × (convert v ≡ Err e))
+
+-- the integer of a text
+abbrev pub HasI64 : Result ℤ FdError → List ℕ → Type 0
+HasI64 (Ok n) text = IsOkAnd (read_decimal text) (λ v. as_signed (2 ^ 63) v ≡ Ok n)
+HasI64 (Err error) text = ConversionFails error (as_signed (2 ^ 63)) text ⊎ ParsingFails error text 0
+
+abbrev pub HasU64 : Result ℕ FdError → List ℕ → Type 0
+HasU64 (Ok n) text = IsOkAnd (read_decimal text) (λ v. as_unsigned (2 ^ 64) v ≡ Ok n)
+HasU64 (Err error) text = ConversionFails error (as_unsigned (2 ^ 64)) text ⊎ ParsingFails error text 0
+
+abbrev pub category_code : PluralCategory → ℤ
+category_code category.Zero = pos 0
+category_code category.One = pos 1
+category_code category.Two = pos 2
+category_code category.Few = pos 3
+category_code category.Many = pos 4
+category_code category.Other = pos 5
+
+-- why rules are rejected; out of memory only for rules
+abbrev pub RulesFail : FdError → List ℕ → Type 0
+RulesFail (RulesSyntax at) rules = IsSyntaxErrorAt rules at
+RulesFail (RulesLimit at) rules = IsLimitErrorAt rules at
+RulesFail Memory rules = (list : List RuleValue) × Grammar rules list
+RulesFail _ rules = ⊥
+
+-- the category of a text by rules
+abbrev pub HasCategory : Result ℤ FdError → List ℕ → List ℕ → Type 0
+HasCategory (Ok n) rules text =
+    (list : List RuleValue) × Grammar rules list
+    × IsOkAnd (read_decimal text) (λ v. n ≡ category_code (category_of list (plain v.absolute)))
+HasCategory (Err error) rules text = RulesFail error rules ⊎ ParsingFails error text 0

@@ -1,0 +1,207 @@
+//! Calls, as C passes them.
+ghost use Rattle.std.specs.Prelude.{◌≡◌, List, ℕ, ◌≤◌, ◌<◌, length, take, IfSome, IfNone, IfOk, IfErr, OnOk};
+ghost use Rattle.fixed_decimal.specs.declared.runs.Call.{Call};
+ghost use Rattle.fixed_decimal.specs.declared.rounding.SignedRoundingMode.{SignedRoundingMode};
+ghost use Rattle.decimal_digits.specs.declared.rounding.RoundingIncrement.{RoundingIncrement};
+ghost use Rattle.fixed_decimal.specs.declared.variations.Sign.{Sign};
+ghost use Rattle.fixed_decimal.specs.declared.variations.SignDisplay.{SignDisplay};
+ghost use Rattle.fixed_decimal_c.specs.Calls.{mode_code, increment_code, sign_code, display_code, IsPart, IsCall, AreCalls, IsUnknown, DecodeFails};
+ghost use Rattle.fixed_decimal_c.specs.Runs.{Runs};
+
+use crate::error::FdError;
+use crate::texts::run_into;
+use fixed_decimal::{
+    Call, RoundingIncrement, Sign, SignDisplay, SignedRoundingMode, UnsignedRoundingMode,
+};
+use std::alloc::Global;
+
+/// The number of calls that a list holds without an allocation.
+pub(crate) const INLINE_CALLS: usize = 8;
+
+/// A call of a run, with its arguments. Arguments that the call does not have are ignored.
+#[repr(C)]
+#[derive(Clone, Copy, Debug, PartialEq)]
+pub struct FdCall {
+    /// The number of the call.
+    pub kind: u8,
+    /// The mode of a rounding, the sign, or the display of a sign.
+    pub option: u8,
+    /// The increment of a rounding: 1, 2, 5 or 25.
+    pub increment: u8,
+    /// The position, or the distance of a shift.
+    pub position: i16,
+    /// Where the operand of a concatenation begins in the texts.
+    pub text_start: usize,
+    /// The number of bytes of that operand.
+    pub text_count: usize,
+}
+
+/// Returns the mode of a rounding with this number.
+fn mode(code: u8) -> Option<SignedRoundingMode>
+    ensures some { IfSome result (λ m. code ≡ mode_code m) }
+    ensures none { IfNone result ((m : SignedRoundingMode) → code ≡ mode_code m → ⊥) }
+{
+    match code {
+        0 => Some(SignedRoundingMode::Ceil),
+        1 => Some(SignedRoundingMode::Floor),
+        2 => Some(SignedRoundingMode::Unsigned(UnsignedRoundingMode::Expand)),
+        3 => Some(SignedRoundingMode::Unsigned(UnsignedRoundingMode::Trunc)),
+        4 => Some(SignedRoundingMode::HalfCeil),
+        5 => Some(SignedRoundingMode::HalfFloor),
+        6 => Some(SignedRoundingMode::Unsigned(UnsignedRoundingMode::HalfExpand)),
+        7 => Some(SignedRoundingMode::Unsigned(UnsignedRoundingMode::HalfTrunc)),
+        8 => Some(SignedRoundingMode::Unsigned(UnsignedRoundingMode::HalfEven)),
+        _ => None,
+    }
+}
+
+/// Returns the increment of a rounding that is this number.
+fn increment(code: u8) -> Option<RoundingIncrement>
+    ensures some { IfSome result (λ i. code ≡ increment_code i) }
+    ensures none { IfNone result ((i : RoundingIncrement) → code ≡ increment_code i → ⊥) }
+{
+    match code {
+        1 => Some(RoundingIncrement::MultiplesOf1),
+        2 => Some(RoundingIncrement::MultiplesOf2),
+        5 => Some(RoundingIncrement::MultiplesOf5),
+        25 => Some(RoundingIncrement::MultiplesOf25),
+        _ => None,
+    }
+}
+
+/// Returns the sign with this number.
+fn sign(code: u8) -> Option<Sign>
+    ensures some { IfSome result (λ s. code ≡ sign_code s) }
+    ensures none { IfNone result ((s : Sign) → code ≡ sign_code s → ⊥) }
+{
+    match code {
+        0 => Some(Sign::None),
+        1 => Some(Sign::Negative),
+        2 => Some(Sign::Positive),
+        _ => None,
+    }
+}
+
+/// Returns the display of a sign with this number.
+fn display(code: u8) -> Option<SignDisplay>
+    ensures some { IfSome result (λ d. code ≡ display_code d) }
+    ensures none { IfNone result ((d : SignDisplay) → code ≡ display_code d → ⊥) }
+{
+    match code {
+        0 => Some(SignDisplay::Auto),
+        1 => Some(SignDisplay::Never),
+        2 => Some(SignDisplay::Always),
+        3 => Some(SignDisplay::ExceptZero),
+        4 => Some(SignDisplay::Negative),
+        _ => None,
+    }
+}
+
+/// Returns a part of the texts.
+pub(crate) fn part(texts: &[u8], start: usize, count: usize) -> Option<&[u8]>
+    ensures some { IfSome result (λ t. IsPart texts.now start count t.now) }
+    ensures none { IfNone result ((t : List ℕ) → IsPart texts.now start count t → ⊥) }
+{
+    if texts.len() < start || texts.len() - start < count {
+        return None;
+    }
+    Some(&texts[start..start + count])
+}
+
+/// Returns the call that C passes.
+fn decode<'t>(call: &FdCall, texts: &'t [u8]) -> Option<Call<'t>>
+    ensures some { IfSome result (IsCall call.now texts.now) }
+    ensures none { IfNone result ((c : Call) → IsCall call.now texts.now c → ⊥) }
+{
+    match call.kind {
+        0 => Some(Call::MultiplyPow10(call.position)),
+        1 => Some(Call::TrimStart),
+        2 => Some(Call::TrimEnd),
+        3 => Some(Call::TrimEndIfInteger),
+        4 => Some(Call::PadStart(call.position)),
+        5 => Some(Call::PadEnd(call.position)),
+        6 => Some(Call::SetMaxPosition(call.position)),
+        7 => match (mode(call.option), increment(call.increment)) {
+            (Some(mode), Some(increment)) => Some(Call::Round(call.position, mode, increment)),
+            _ => None,
+        },
+        8 => match sign(call.option) {
+            Some(sign) => Some(Call::SetSign(sign)),
+            None => None,
+        },
+        9 => match display(call.option) {
+            Some(display) => Some(Call::ApplySignDisplay(display)),
+            None => None,
+        },
+        10 => match part(texts, call.text_start, call.text_count) {
+            Some(text) => Some(Call::Concatenate(text)),
+            None => None,
+        },
+        _ => None,
+    }
+}
+
+/// Decodes up to eight calls, into the first of a list.
+pub(crate) fn decode_short<'t>(
+    calls: &[FdCall],
+    texts: &'t [u8],
+    list: &mut [Call<'t>; INLINE_CALLS],
+) -> Result<(), FdError>
+    requires { length calls.now ≤ 8 }
+    ensures ok { OnOk result (AreCalls calls.now texts.now (take (length calls.now) list.new)) }
+    ensures room { length list.new ≡ 8 }
+    ensures err { IfErr result (λ error. IsUnknown error calls.now texts.now) }
+{
+    for (at, call) in calls.iter().enumerate() {
+        match decode(call, texts) {
+            Some(call) => list[at] = call,
+            None => return Err(FdError::UnknownCall { at }),
+        }
+    }
+    Ok(())
+}
+
+/// Decodes calls into a list in memory.
+pub(crate) fn decode_long<'t>(
+    alloc: Global,
+    calls: &[FdCall],
+    texts: &'t [u8],
+) -> Result<Vec<Call<'t>>, FdError>
+    requires { 8 < length calls.now }
+    ensures ok { IfOk result (λ list. AreCalls calls.now texts.now list.items) }
+    ensures err { IfErr result (λ error. DecodeFails error calls.now texts.now) }
+{
+    let Ok(mut list) = Vec::with_capacity(alloc, calls.len()) else {
+        return Err(FdError::Memory);
+    };
+    for (at, call) in calls.iter().enumerate() {
+        let Some(call) = decode(call, texts) else {
+            return Err(FdError::UnknownCall { at });
+        };
+        list.push_reserved(call);
+    }
+    Ok(list)
+}
+
+/// Makes the calls that C passes on the decimal that a text writes, and writes the text of the result.
+pub(crate) fn run_calls(
+    alloc: Global,
+    start: &[u8],
+    calls: &[FdCall],
+    texts: &[u8],
+    buffer: &mut [u8],
+) -> Result<usize, FdError>
+    ensures { Runs result start.now calls.now texts.now buffer.old buffer.new }
+{
+    if calls.len() <= INLINE_CALLS {
+        let mut list = [Call::TrimStart; INLINE_CALLS];
+        return match decode_short(calls, texts, &mut list) {
+            Ok(()) => run_into(alloc, start, &list[..calls.len()], buffer),
+            Err(error) => Err(error),
+        };
+    }
+    match decode_long(alloc, calls, texts) {
+        Ok(list) => run_into(alloc, start, list.as_slice(), buffer),
+        Err(error) => Err(error),
+    }
+}

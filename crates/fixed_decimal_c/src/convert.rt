@@ -1,0 +1,106 @@
+//! Conversions: a text is read in one form, changed, and written in another.
+ghost use Rattle.std.specs.Prelude.{◌≡◌, ◌++◌, Ok, IfOk, IfErr};
+ghost use Rattle.cli.specs.Conversion.{IsReadAs, ReadingFails, text_by};
+ghost use Rattle.fixed_decimal_c.specs.Texts.{Writes};
+ghost use Rattle.fixed_decimal_c.specs.Conversions.{AreForms, FormsFail, Converts, ConvertsCalls};
+
+use crate::calls::{FdCall, INLINE_CALLS, decode_long, decode_short};
+use crate::error::{FdError, error_of_parsing, error_of_run};
+use crate::forms::{FdForms, formatter, reader};
+use crate::texts::write_value;
+use cli::DecimalReader;
+use decimal_format::DecimalFormatter;
+use fixed_decimal::{Call, Decimal, ParseError, RunError, apply_calls};
+use std::alloc::Global;
+
+/// How a text is read and how the result is written. `None`: as the decimal's own text.
+#[derive(Debug, Drop)]
+pub(crate) struct Forms {
+    pub(crate) reader: Option<DecimalReader<'static>>,
+    pub(crate) formatter: Option<DecimalFormatter<'static>>,
+}
+
+impl Forms {
+    pub(crate) fn decode(forms: &FdForms, texts: &[u8]) -> Result<Forms, FdError>
+        ensures ok { IfOk result (AreForms forms.now texts.now) }
+        ensures err { IfErr result (λ error. FormsFail error forms.now texts.now) }
+    {
+        let reader = reader(forms, texts)?;
+        let formatter = formatter(forms, texts)?;
+        Ok(Forms { reader, formatter })
+    }
+
+    fn read(&self, alloc: Global, text: &[u8]) -> Result<Decimal, ParseError>
+        ensures found { IfOk result (λ v. IsReadAs self.now.reader text.now (Ok v)) }
+        ensures fails_with { IfErr result (ReadingFails self.now.reader text.now) }
+    {
+        match &self.reader {
+            Some(reader) => reader.read(alloc, text),
+            None => Decimal::try_from_utf8(alloc, text),
+        }
+    }
+
+    fn write(
+        &self,
+        alloc: Global,
+        value: &Decimal,
+        end: &[u8],
+        buffer: &mut [u8],
+    ) -> Result<usize, FdError>
+        ensures { Writes result (text_by self.now.formatter value.now ++ end.now) buffer.old buffer.new }
+    {
+        match &self.formatter {
+            Some(formatter) => write_value(alloc, &formatter.format(value), end, buffer),
+            None => write_value(alloc, value, end, buffer),
+        }
+    }
+
+    /// Converts a text, and writes the result, and some bytes after it.
+    pub(crate) fn convert(
+        &self,
+        alloc: Global,
+        text: &[u8],
+        calls: &[Call<'_>],
+        end: &[u8],
+        buffer: &mut [u8],
+    ) -> Result<usize, FdError>
+        ensures { Converts self.now calls.now text.now end.now result buffer.old buffer.new }
+    {
+        let mut value = match self.read(alloc, text) {
+            Ok(value) => value,
+            Err(error) => return Err(error_of_parsing(error, 0)),
+        };
+        if let Err(error) = apply_calls(alloc, &mut value, calls) {
+            return Err(error_of_run(RunError::from(error)));
+        }
+        self.write(alloc, &value, end, buffer)
+    }
+}
+
+/// Reads a text in one form, makes the calls that C passes, and writes the text of the result in another form.
+pub(crate) fn convert(
+    alloc: Global,
+    text: &[u8],
+    forms: &FdForms,
+    calls: &[FdCall],
+    texts: &[u8],
+    buffer: &mut [u8],
+) -> Result<usize, FdError>
+    ensures { ConvertsCalls result text.now forms.now calls.now texts.now buffer.old buffer.new }
+{
+    let forms = match Forms::decode(forms, texts) {
+        Ok(forms) => forms,
+        Err(error) => return Err(error),
+    };
+    if calls.len() <= INLINE_CALLS {
+        let mut list = [Call::TrimStart; INLINE_CALLS];
+        return match decode_short(calls, texts, &mut list) {
+            Ok(()) => forms.convert(alloc, text, &list[..calls.len()], &[], buffer),
+            Err(error) => Err(error),
+        };
+    }
+    match decode_long(alloc, calls, texts) {
+        Ok(list) => forms.convert(alloc, text, list.as_slice(), &[], buffer),
+        Err(error) => Err(error),
+    }
+}

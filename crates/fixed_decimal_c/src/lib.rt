@@ -1,0 +1,133 @@
+//! The C interface of decimals for display: `fixed_decimal.h` declares each export.
+//!
+//! A value crosses as its text, which reads back as the value: so no call keeps anything for the caller, and there is
+//! nothing to free. Each text is a pointer and a number of bytes, which need not be UTF-8 nor end in a zero byte.
+#![tactic(auto)]
+
+ghost use Rattle.std.specs.Prelude.{◌≡◌, nat_lt};
+ghost use Rattle.fixed_decimal_c.specs.Encodings.{Encodes, EncodesNumber, EncodesUnsigned};
+ghost use Rattle.fixed_decimal_c.specs.Runs.{Runs};
+ghost use Rattle.fixed_decimal_c.specs.Conversions.{ConvertsCalls};
+ghost use Rattle.fixed_decimal_c.specs.Lines.{ConvertsColumn};
+ghost use Rattle.fixed_decimal_c.specs.Numbers.{Compares, Equates, HasSign, HasI64, HasU64, HasCategory};
+
+mod answer;
+mod block;
+mod calls;
+mod convert;
+mod error;
+mod forms;
+mod lines;
+mod numbers;
+mod texts;
+
+pub use answer::{FdColumn, FdNumber, FdResult, FdUnsigned};
+use answer::{encode, encode_number, encode_unsigned};
+pub use calls::FdCall;
+use calls::run_calls;
+use convert::convert;
+pub use error::FdError;
+pub use forms::FdForms;
+pub use lines::Progress;
+use lines::convert_column;
+use numbers::{category_of, compare_texts, equal_texts, sign_of, to_i64, to_u64};
+use std::alloc::Global;
+
+/// Returns the version of the interface. It grows when a number, a struct or a meaning changes.
+pub fn fd_version() -> u32
+    ensures { result ≡ 1 }
+{
+    1
+}
+
+/// Makes calls in order on the decimal that `start` writes, and writes the text of the result.
+///
+/// The operand of a concatenation is a part of `texts`.
+pub fn fd_run(
+    alloc: Global,
+    start: &[u8],
+    calls: &[FdCall],
+    texts: &[u8],
+    buffer: &mut [u8],
+) -> FdResult
+    ensures { Encodes result (λ answer. Runs answer start.now calls.now texts.now buffer.old buffer.new) }
+{
+    encode(run_calls(alloc, start, calls, texts, buffer))
+}
+
+/// Reads a text in one form, makes calls in order on its decimal, and writes the text of the result in another form.
+///
+/// The operands and the tags of the forms are parts of `texts`.
+pub fn fd_convert(
+    alloc: Global,
+    text: &[u8],
+    forms: &FdForms,
+    calls: &[FdCall],
+    texts: &[u8],
+    buffer: &mut [u8],
+) -> FdResult
+    ensures { Encodes result
+        (λ answer. ConvertsCalls answer text.now forms.now calls.now texts.now buffer.old buffer.new) }
+{
+    encode(convert(alloc, text, forms, calls, texts, buffer))
+}
+
+/// Converts each line as [`fd_convert`] does, and writes the text of each with a line feed.
+///
+/// A line that fails ends the column; with `skip` it is an empty line, except when out of memory. A line whose output
+/// does not fit the buffer ends it too: the next call begins at `read`.
+pub fn fd_lines(
+    alloc: Global,
+    lines: &[u8],
+    skip: u32,
+    forms: &FdForms,
+    calls: &[FdCall],
+    texts: &[u8],
+    buffer: &mut [u8],
+) -> FdColumn
+    ensures { ConvertsColumn result lines.now (nat_lt 0 skip) forms.now calls.now texts.now buffer.old buffer.new }
+{
+    convert_column(alloc, lines, skip > 0, forms, calls, texts, buffer)
+}
+
+/// Compares the numbers of two decimals: -1, 0 or 1.
+pub fn fd_compare(alloc: Global, left: &[u8], right: &[u8]) -> FdNumber
+    ensures { EncodesNumber result (λ answer. Compares answer left.now right.now) }
+{
+    encode_number(compare_texts(alloc, left, right))
+}
+
+/// Returns 1 if two decimals are the same value, with the same sign and range, and else 0.
+pub fn fd_equal(alloc: Global, left: &[u8], right: &[u8]) -> FdNumber
+    ensures { EncodesNumber result (λ answer. Equates answer left.now right.now) }
+{
+    encode_number(equal_texts(alloc, left, right))
+}
+
+/// Returns the sign that a decimal shows: -1 a minus, 0 none, 1 a plus.
+pub fn fd_sign(alloc: Global, text: &[u8]) -> FdNumber
+    ensures { EncodesNumber result (λ answer. HasSign answer text.now) }
+{
+    encode_number(sign_of(alloc, text))
+}
+
+/// Converts a decimal to a signed integer.
+pub fn fd_to_i64(alloc: Global, text: &[u8]) -> FdNumber
+    ensures { EncodesNumber result (λ answer. HasI64 answer text.now) }
+{
+    encode_number(to_i64(alloc, text))
+}
+
+/// Converts a decimal to an unsigned integer.
+pub fn fd_to_u64(alloc: Global, text: &[u8]) -> FdUnsigned
+    ensures { EncodesUnsigned result (λ answer. HasU64 answer text.now) }
+{
+    encode_unsigned(to_u64(alloc, text))
+}
+
+/// Returns the plural category of a decimal by rules in CLDR's syntax: 0 zero, 1 one, 2 two, 3 few, 4 many, 5 other.
+pub fn fd_category(alloc: Global, rules: &[u8], text: &[u8]) -> FdNumber
+    ensures { EncodesNumber result (λ answer. HasCategory answer rules.now text.now) }
+{
+    encode_number(category_of(alloc, rules, text))
+}

@@ -1,0 +1,104 @@
+//! The exports of the C library: `c/fixed_decimal.h` declares each, and `fixed_decimal_c` says what it does.
+#![tactic(auto)]
+
+ghost use Rattle.std.specs.Prelude.{◌≡◌, nat_lt};
+ghost use Rattle.fixed_decimal_c.specs.Encodings.{Encodes, EncodesNumber, EncodesUnsigned};
+ghost use Rattle.fixed_decimal_c.specs.Runs.{Runs};
+ghost use Rattle.fixed_decimal_c.specs.Conversions.{ConvertsCalls};
+ghost use Rattle.fixed_decimal_c.specs.Lines.{ConvertsColumn};
+ghost use Rattle.fixed_decimal_c.specs.Numbers.{Compares, Equates, HasSign, HasI64, HasU64, HasCategory};
+
+use fixed_decimal_c::{FdCall, FdColumn, FdForms, FdNumber, FdResult, FdUnsigned};
+use std::alloc::Global;
+
+#[unsafe(no_mangle)]
+pub extern "C" fn fd_version() -> u32
+    ensures { result ≡ 1 }
+{
+    fixed_decimal_c::fd_version()
+}
+
+#[unsafe(no_mangle)]
+pub extern "C" fn fd_run(
+    alloc: Global,
+    start: &[u8],
+    calls: &[FdCall],
+    texts: &[u8],
+    buffer: &mut [u8],
+) -> FdResult
+    ensures { Encodes result (λ answer. Runs answer start.now calls.now texts.now buffer.old buffer.new) }
+{
+    fixed_decimal_c::fd_run(alloc, start, calls, texts, buffer)
+}
+
+#[unsafe(no_mangle)]
+pub extern "C" fn fd_convert(
+    alloc: Global,
+    text: &[u8],
+    forms: &FdForms,
+    calls: &[FdCall],
+    texts: &[u8],
+    buffer: &mut [u8],
+) -> FdResult
+    ensures { Encodes result
+        (λ answer. ConvertsCalls answer text.now forms.now calls.now texts.now buffer.old buffer.new) }
+{
+    fixed_decimal_c::fd_convert(alloc, text, forms, calls, texts, buffer)
+}
+
+#[unsafe(no_mangle)]
+pub extern "C" fn fd_lines(
+    alloc: Global,
+    lines: &[u8],
+    skip: u32,
+    forms: &FdForms,
+    calls: &[FdCall],
+    texts: &[u8],
+    buffer: &mut [u8],
+) -> FdColumn
+    ensures { ConvertsColumn result lines.now (nat_lt 0 skip) forms.now calls.now texts.now buffer.old buffer.new }
+{
+    fixed_decimal_c::fd_lines(alloc, lines, skip, forms, calls, texts, buffer)
+}
+
+#[unsafe(no_mangle)]
+pub extern "C" fn fd_compare(alloc: Global, left: &[u8], right: &[u8]) -> FdNumber
+    ensures { EncodesNumber result (λ answer. Compares answer left.now right.now) }
+{
+    fixed_decimal_c::fd_compare(alloc, left, right)
+}
+
+#[unsafe(no_mangle)]
+pub extern "C" fn fd_equal(alloc: Global, left: &[u8], right: &[u8]) -> FdNumber
+    ensures { EncodesNumber result (λ answer. Equates answer left.now right.now) }
+{
+    fixed_decimal_c::fd_equal(alloc, left, right)
+}
+
+#[unsafe(no_mangle)]
+pub extern "C" fn fd_sign(alloc: Global, text: &[u8]) -> FdNumber
+    ensures { EncodesNumber result (λ answer. HasSign answer text.now) }
+{
+    fixed_decimal_c::fd_sign(alloc, text)
+}
+
+#[unsafe(no_mangle)]
+pub extern "C" fn fd_to_i64(alloc: Global, text: &[u8]) -> FdNumber
+    ensures { EncodesNumber result (λ answer. HasI64 answer text.now) }
+{
+    fixed_decimal_c::fd_to_i64(alloc, text)
+}
+
+#[unsafe(no_mangle)]
+pub extern "C" fn fd_to_u64(alloc: Global, text: &[u8]) -> FdUnsigned
+    ensures { EncodesUnsigned result (λ answer. HasU64 answer text.now) }
+{
+    fixed_decimal_c::fd_to_u64(alloc, text)
+}
+
+#[unsafe(no_mangle)]
+pub extern "C" fn fd_category(alloc: Global, rules: &[u8], text: &[u8]) -> FdNumber
+    ensures { EncodesNumber result (λ answer. HasCategory answer rules.now text.now) }
+{
+    fixed_decimal_c::fd_category(alloc, rules, text)
+}

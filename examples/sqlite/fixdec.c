@@ -1,0 +1,119 @@
+/* Decimals in SQLite: fixdec(text, call, ..), the collation decimal_compare, and plural(rules, text).
+ *
+ *   gcc -shared -fPIC -I ../../c fixdec.c ../../c/out/libfixed_decimal.a -o fixdec.so
+ *   SELECT fixdec('1234.565', 'round:-2:half-even:1', 'format:de');  -- 1.234,56
+ *
+ * NULL in, NULL out. A text, a call or rules that are rejected are an SQL error. */
+#include <fixed_decimal.h>
+#include <sqlite3ext.h>
+#include <stdio.h>
+#include <string.h>
+SQLITE_EXTENSION_INIT1
+
+#define BYTES(value) (const uint8_t *)sqlite3_value_text(value), (size_t)sqlite3_value_bytes(value)
+enum { READ = FD_CONCAT + 1, MAX_CALLS = 32, MAX_TEXTS = 1000 };
+static const char *const modes[] = {"ceil", "floor", "expand", "trunc", "half-ceil", "half-floor", "half-expand",
+    "half-trunc", "half-even", NULL};
+static const char *const signs[] = {"none", "minus", "plus", NULL};
+static const char *const displays[] = {"auto", "never", "always", "except-zero", "negative", NULL};
+static const char *const kinds[] = {"shift", "trim-start", "trim-end", "trim-end-if-integer", "pad-start", "pad-end",
+    "max", "round", "sign", "display", "concat", "read", "format", NULL};
+static const char *const reasons[] = {"", "start: syntax", "start: limit", "memory", "call %d: syntax",
+    "call %d: limit", "call %d: overlap", "call %d: overflow", "", "no such call: %d", "unknown locale",
+    "unknown option", "", "", "rules: syntax at %d", "rules: limit at %d"};
+
+typedef struct { fd_call calls[MAX_CALLS]; size_t count; fd_forms forms; uint8_t texts[MAX_TEXTS]; size_t used; } job;
+
+static int index_of(const char *const *words, const char *word, size_t count) {
+    for (int i = 0; words[i]; i++)
+        if (strlen(words[i]) == count && memcmp(words[i], word, count) == 0) return i;
+    return -1;
+}
+
+/* Parses a word of the programs; 0: it is none. */
+static int parse(job *j, const char *word) {
+    const char *rest = strchr(word, ':');
+    int position, increment, used = 0, kind = index_of(kinds, word, rest ? (size_t)(rest++ - word) : strlen(word));
+    if (kind < 0 || j->count == MAX_CALLS) return 0;
+    fd_call *call = &j->calls[j->count];
+    *call = (fd_call){.kind = (uint8_t)kind};
+    j->count += kind <= FD_CONCAT;
+    if (kind >= FD_TRIM_START && kind <= FD_TRIM_END_IF_INTEGER) return !rest;
+    if (!rest) return 0;
+    if (kind >= FD_CONCAT) { /* or read, or format */
+        size_t start = j->used, count = strlen(rest);
+        if (count > MAX_TEXTS - start || (kind > FD_CONCAT && !count)) return 0;
+        memcpy(j->texts + start, rest, count);
+        j->used += count;
+        if (kind == FD_CONCAT) call->text_start = start, call->text_count = count;
+        else if (kind == READ) j->forms.read_start = start, j->forms.read_count = count;
+        else j->forms.format_start = start, j->forms.format_count = count;
+        return 1;
+    }
+    int option = kind == FD_SIGN ? index_of(signs, rest, strlen(rest)) : index_of(displays, rest, strlen(rest));
+    call->option = (uint8_t)option;
+    if (kind == FD_SIGN || kind == FD_DISPLAY) return option >= 0;
+    if (sscanf(rest, "%d%n", &position, &used) != 1 || position != (int16_t)position) return 0;
+    call->position = (int16_t)position;
+    if (kind != FD_ROUND) return rest[used] == 0;
+    const char *mode = rest + used + 1, *end = rest[used] == ':' ? strchr(mode, ':') : NULL;
+    if (!end || (option = index_of(modes, mode, (size_t)(end - mode))) < 0) return 0;
+    call->option = (uint8_t)option;
+    if (sscanf(end + 1, "%d%n", &increment, &used) != 1 || end[1 + used]) return 0;
+    call->increment = increment < 0 || increment > 255 ? 0 : (uint8_t)increment;
+    return 1;
+}
+
+static void fail(sqlite3_context *context, uint32_t status, size_t at) {
+    char *line = sqlite3_mprintf(reasons[status], (int)at);
+    sqlite3_result_error(context, line, -1);
+    sqlite3_free(line);
+}
+
+static void fixdec(sqlite3_context *context, int count, sqlite3_value **values) {
+    job j = {.count = 0};
+    for (int i = 0; i < count; i++)
+        if (sqlite3_value_type(values[i]) == SQLITE_NULL) return;
+    for (int i = 1; i < count; i++)
+        if (!parse(&j, (const char *)sqlite3_value_text(values[i]))) return sqlite3_result_error(context, "no such call", -1);
+    uint8_t buffer[128], *out = buffer;
+    const uint8_t *text = sqlite3_value_text(values[0]);
+    size_t bytes = (size_t)sqlite3_value_bytes(values[0]);
+    fd_result answer = fd_convert(text, bytes, &j.forms, j.calls, j.count, j.texts, j.used, out, sizeof buffer);
+    if (answer.status == FD_BUFFER_TOO_SMALL && (out = sqlite3_malloc64(answer.count)))
+        answer = fd_convert(text, bytes, &j.forms, j.calls, j.count, j.texts, j.used, out, answer.count);
+    if (answer.status == FD_OK) sqlite3_result_text(context, (char *)out, (int)answer.count, SQLITE_TRANSIENT);
+    else if (!out) sqlite3_result_error_nomem(context);
+    else fail(context, answer.status, answer.at);
+    if (out != buffer) sqlite3_free(out);
+}
+
+static void plural(sqlite3_context *context, int count, sqlite3_value **values) {
+    static const char *const names[] = {"zero", "one", "two", "few", "many", "other"};
+    for (int i = 0; i < count; i++)
+        if (sqlite3_value_type(values[i]) == SQLITE_NULL) return;
+    fd_number answer = fd_category(BYTES(values[0]), BYTES(values[1]));
+    if (answer.status == FD_OK) sqlite3_result_text(context, names[answer.value], -1, SQLITE_STATIC);
+    else fail(context, answer.status, answer.at);
+}
+
+/* By value; texts that are no decimals are after all decimals, by bytes. */
+static int compare(void *ignored, int left_count, const void *left, int right_count, const void *right) {
+    (void)ignored;
+    fd_number order = fd_compare(left, (size_t)left_count, right, (size_t)right_count);
+    if (order.status == FD_OK) return (int)order.value;
+    int left_is = fd_sign(left, (size_t)left_count).status == FD_OK;
+    int right_is = fd_sign(right, (size_t)right_count).status == FD_OK;
+    if (left_is != right_is) return right_is - left_is;
+    int bytes = memcmp(left, right, (size_t)(left_count < right_count ? left_count : right_count));
+    return bytes ? bytes : left_count - right_count;
+}
+
+int sqlite3_fixdec_init(sqlite3 *db, char **unused, const sqlite3_api_routines *api) {
+    SQLITE_EXTENSION_INIT2(api);
+    (void)unused;
+    int flags = SQLITE_UTF8 | SQLITE_DETERMINISTIC | SQLITE_INNOCUOUS;
+    int status = sqlite3_create_function(db, "fixdec", -1, flags, 0, fixdec, 0, 0);
+    if (!status) status = sqlite3_create_function(db, "plural", 2, flags, 0, plural, 0, 0);
+    return status ? status : sqlite3_create_collation(db, "decimal_compare", SQLITE_UTF8, 0, compare);
+}

@@ -1,0 +1,427 @@
+/* The class Decimal and columns, over fixed_decimal.h: an extension module of CPython. */
+#define PY_SSIZE_T_CLEAN
+#include <Python.h>
+#include <string.h>
+#include <fixed_decimal.h>
+
+/* An immutable decimal: its text. */
+typedef struct {
+    PyObject_VAR_HEAD
+    char text[];
+} Decimal;
+
+static PyTypeObject DecimalType;
+static PyObject *decimal_error;
+
+#define IS_DECIMAL(object) Py_IS_TYPE(object, &DecimalType)
+#define BYTES(decimal) ((const uint8_t *)(decimal)->text), ((size_t)Py_SIZE(decimal))
+#define ROOM 128
+
+static const char *const reasons[] = {"", "syntax", "limit", "memory", "operand syntax", "operand limit", "overlap",
+    "overflow", "", "unknown call", "unknown locale", "unknown option", "not whole", "out of range", "rules syntax",
+    "rules limit"};
+static const char *const modes[] = {"ceil", "floor", "expand", "trunc", "half-ceil", "half-floor", "half-expand",
+    "half-trunc", "half-even", NULL};
+static const char *const displays[] = {"auto", "never", "always", "except-zero", "negative", NULL};
+static const char *const groupings[] = {"auto", "never", "always", "min2", NULL};
+static const char *const categories[] = {"zero", "one", "two", "few", "many", "other"};
+
+/* Raises DecimalError(reason, at), or MemoryError. */
+static PyObject *fail(uint32_t status, size_t at) {
+    if (status == FD_MEMORY) return PyErr_NoMemory();
+    PyObject *arguments = Py_BuildValue("sn", reasons[status], (Py_ssize_t)at);
+    if (arguments) PyErr_SetObject(decimal_error, arguments);
+    Py_XDECREF(arguments);
+    return NULL;
+}
+
+/* The index of a word, or -1 with ValueError. */
+static int index_of(const char *const *words, const char *word, const char *what) {
+    for (int i = 0; words[i]; i++)
+        if (strcmp(words[i], word) == 0) return i;
+    PyErr_Format(PyExc_ValueError, "no such %s: %s", what, word);
+    return -1;
+}
+
+static Decimal *with_room(size_t count) {
+    Decimal *made = PyObject_NewVar(Decimal, &DecimalType, (Py_ssize_t)count);
+    return made;
+}
+
+/* The decimal after calls on a text. */
+static PyObject *run(const uint8_t *text, size_t count, const fd_call *calls, size_t call_count) {
+    uint8_t buffer[ROOM];
+    fd_result answer = fd_run(text, count, calls, call_count, FD_NONE(uint8_t), 0, buffer, ROOM);
+    if (answer.status != FD_OK && answer.status != FD_BUFFER_TOO_SMALL) return fail(answer.status, answer.at);
+    Decimal *made = with_room(answer.count);
+    if (!made) return NULL;
+    if (answer.status == FD_OK) {
+        memcpy(made->text, buffer, answer.count);
+        return (PyObject *)made;
+    }
+    answer = fd_run(text, count, calls, call_count, FD_NONE(uint8_t), 0, (uint8_t *)made->text, answer.count);
+    if (answer.status == FD_OK) return (PyObject *)made;
+    Py_DECREF(made);
+    return fail(answer.status, answer.at);
+}
+
+static PyObject *parse(PyObject *text) {
+    Py_ssize_t count;
+    const char *bytes = PyUnicode_AsUTF8AndSize(text, &count);
+    if (bytes) return run((const uint8_t *)bytes, (size_t)count, FD_NONE(fd_call), 0);
+    if (!PyErr_ExceptionMatches(PyExc_UnicodeEncodeError)) return NULL;
+    PyErr_Clear();
+    return fail(FD_SYNTAX, 0);
+}
+
+/* Of an int its digits, and of a decimal.Decimal its digits without an exponent. */
+static PyObject *parse_number(PyObject *value) {
+    PyObject *text;
+    if (PyLong_Check(value)) {
+        text = PyNumber_ToBase(value, 10);
+    } else {
+        PyObject *module = PyImport_ImportModule("decimal");
+        PyObject *type = module ? PyObject_GetAttrString(module, "Decimal") : NULL;
+        int is = type ? PyObject_IsInstance(value, type) : -1;
+        Py_XDECREF(type);
+        Py_XDECREF(module);
+        if (is < 0) return NULL;
+        if (!is) return PyErr_Format(PyExc_TypeError, "a Decimal is made from a str, an int or a decimal.Decimal");
+        PyObject *form = PyUnicode_FromString("f");
+        text = form ? PyObject_Format(value, form) : NULL;
+        Py_XDECREF(form);
+    }
+    PyObject *made = text ? parse(text) : NULL;
+    Py_XDECREF(text);
+    return made;
+}
+
+static PyObject *decimal_new(PyTypeObject *type, PyObject *arguments, PyObject *keywords) {
+    PyObject *value = NULL;
+    (void)type;
+    if (keywords && PyDict_GET_SIZE(keywords)) return PyErr_Format(PyExc_TypeError, "Decimal() takes no keywords");
+    if (!PyArg_UnpackTuple(arguments, "Decimal", 0, 1, &value)) return NULL;
+    if (!value) return run((const uint8_t *)"0", 1, FD_NONE(fd_call), 0);
+    if (PyUnicode_Check(value)) return parse(value);
+    if (IS_DECIMAL(value)) return Py_NewRef(value);
+    return parse_number(value);
+}
+
+static PyObject *decimal_vectorcall(PyObject *type, PyObject *const *arguments, size_t flags, PyObject *keywords) {
+    Py_ssize_t count = PyVectorcall_NARGS(flags);
+    if (count == 1 && !keywords && PyUnicode_Check(arguments[0])) return parse(arguments[0]);
+    PyObject *tuple = PyTuple_New(count);
+    if (!tuple) return NULL;
+    for (Py_ssize_t i = 0; i < count; i++) PyTuple_SET_ITEM(tuple, i, Py_NewRef(arguments[i]));
+    PyObject *made;
+    if (keywords && PyTuple_GET_SIZE(keywords)) made = PyErr_Format(PyExc_TypeError, "Decimal() takes no keywords");
+    else made = decimal_new((PyTypeObject *)type, tuple, NULL);
+    Py_DECREF(tuple);
+    return made;
+}
+
+static PyObject *decimal_str(Decimal *self) {
+    PyObject *made = PyUnicode_New(Py_SIZE(self), 127);
+    if (made) memcpy(PyUnicode_1BYTE_DATA(made), self->text, (size_t)Py_SIZE(self));
+    return made;
+}
+
+static PyObject *decimal_repr(Decimal *self) {
+    PyObject *text = decimal_str(self);
+    PyObject *made = text ? PyUnicode_FromFormat("Decimal('%U')", text) : NULL;
+    Py_XDECREF(text);
+    return made;
+}
+
+static Py_hash_t decimal_hash(Decimal *self) {
+    PyObject *text = decimal_str(self);
+    Py_hash_t hash = text ? PyObject_Hash(text) : -1;
+    Py_XDECREF(text);
+    return hash;
+}
+
+static PyObject *decimal_richcompare(Decimal *self, PyObject *value, int operation) {
+    if (!IS_DECIMAL(value)) Py_RETURN_NOTIMPLEMENTED;
+    Decimal *other = (Decimal *)value;
+    if (operation == Py_EQ || operation == Py_NE) {
+        int same = Py_SIZE(self) == Py_SIZE(other) && memcmp(self->text, other->text, (size_t)Py_SIZE(self)) == 0;
+        return PyBool_FromLong(same == (operation == Py_EQ));
+    }
+    fd_number answer = fd_compare(BYTES(self), BYTES(other));
+    if (answer.status != FD_OK) return fail(answer.status, answer.at);
+    Py_RETURN_RICHCOMPARE(answer.value, 0, operation);
+}
+
+static PyObject *decimal_compare(Decimal *self, PyObject *value) {
+    if (!IS_DECIMAL(value)) return PyErr_Format(PyExc_TypeError, "compare() takes a Decimal");
+    fd_number answer = fd_compare(BYTES(self), BYTES((Decimal *)value));
+    return answer.status == FD_OK ? PyLong_FromLongLong(answer.value) : fail(answer.status, answer.at);
+}
+
+/* A position, or OverflowError. */
+static int position_of(PyObject *value, int16_t *position) {
+    long found = PyLong_AsLong(value);
+    if (found == -1 && PyErr_Occurred()) return 0;
+    if (found < INT16_MIN || found > INT16_MAX) {
+        PyErr_SetString(PyExc_OverflowError, "a position is from -32768 to 32767");
+        return 0;
+    }
+    *position = (int16_t)found;
+    return 1;
+}
+
+static PyObject *decimal_round(Decimal *self, PyObject *const *arguments, Py_ssize_t count, PyObject *names) {
+    static const char *const words[] = {"position", "mode", "increment"};
+    PyObject *values[3] = {NULL, NULL, NULL};
+    if (count > 3) return PyErr_Format(PyExc_TypeError, "round() takes a position, a mode and an increment");
+    for (Py_ssize_t i = 0; i < count; i++) values[i] = arguments[i];
+    for (Py_ssize_t i = 0; names && i < PyTuple_GET_SIZE(names); i++) {
+        int at = 0;
+        while (at < 3 && PyUnicode_CompareWithASCIIString(PyTuple_GET_ITEM(names, i), words[at])) at++;
+        if (at == 3 || values[at]) return PyErr_Format(PyExc_TypeError, "round() has no such argument");
+        values[at] = arguments[count + i];
+    }
+    fd_call call = {.kind = FD_ROUND, .option = FD_HALF_EVEN, .increment = 1};
+    if (!values[0]) return PyErr_Format(PyExc_TypeError, "round() takes a position");
+    if (!position_of(values[0], &call.position)) return NULL;
+    if (values[1]) {
+        const char *word = PyUnicode_AsUTF8(values[1]);
+        int mode = word ? index_of(modes, word, "mode") : -1;
+        if (mode < 0) return NULL;
+        call.option = (uint8_t)mode;
+    }
+    if (values[2]) {
+        long increment = PyLong_AsLong(values[2]);
+        if (increment == -1 && PyErr_Occurred()) return NULL;
+        call.increment = increment < 0 || increment > 255 ? 0 : (uint8_t)increment;
+    }
+    return run(BYTES(self), &call, 1);
+}
+
+static PyObject *decimal_shift(Decimal *self, PyObject *value) {
+    fd_call call = {.kind = FD_SHIFT};
+    return position_of(value, &call.position) ? run(BYTES(self), &call, 1) : NULL;
+}
+
+static PyObject *decimal_trim(Decimal *self, PyObject *ignored) {
+    static const fd_call calls[2] = {{.kind = FD_TRIM_START}, {.kind = FD_TRIM_END}};
+    (void)ignored;
+    return run(BYTES(self), calls, 2);
+}
+
+static PyObject *decimal_pad(Decimal *self, PyObject *arguments, PyObject *keywords) {
+    static char *names[] = {"start", "end", NULL};
+    PyObject *values[2] = {NULL, NULL};
+    if (!PyArg_ParseTupleAndKeywords(arguments, keywords, "|OO:pad", names, &values[0], &values[1])) return NULL;
+    fd_call calls[2];
+    size_t count = 0;
+    for (int i = 0; i < 2; i++) {
+        if (!values[i]) continue;
+        calls[count] = (fd_call){.kind = i ? FD_PAD_END : FD_PAD_START};
+        if (!position_of(values[i], &calls[count].position)) return NULL;
+        count++;
+    }
+    return run(BYTES(self), calls, count);
+}
+
+static PyObject *decimal_sign(Decimal *self, PyObject *value) {
+    const char *word = PyUnicode_AsUTF8(value);
+    int display = word ? index_of(displays, word, "display of a sign") : -1;
+    fd_call call = {.kind = FD_DISPLAY, .option = (uint8_t)display};
+    return display < 0 ? NULL : run(BYTES(self), &call, 1);
+}
+
+static PyObject *decimal_format(Decimal *self, PyObject *arguments, PyObject *keywords) {
+    static char *names[] = {"locale", "grouping", NULL};
+    const char *tag, *word = "auto";
+    Py_ssize_t tag_count;
+    if (!PyArg_ParseTupleAndKeywords(arguments, keywords, "s#|s:format", names, &tag, &tag_count, &word)) return NULL;
+    int grouping = index_of(groupings, word, "grouping");
+    if (grouping < 0) return NULL;
+    if (tag_count == 0) return fail(FD_UNKNOWN_LOCALE, 0);
+    fd_forms forms = {.format_count = (size_t)tag_count, .grouping = (uint8_t)grouping};
+    uint8_t buffer[ROOM], *bytes = buffer;
+    size_t room = ROOM;
+    for (;;) {
+        fd_result answer = fd_convert(BYTES(self), &forms, FD_NONE(fd_call), 0, (const uint8_t *)tag,
+                                      (size_t)tag_count, bytes, room);
+        PyObject *made = NULL;
+        if (answer.status == FD_BUFFER_TOO_SMALL && bytes == buffer) {
+            room = answer.count;
+            bytes = PyMem_Malloc(room);
+            if (!bytes) return PyErr_NoMemory();
+            continue;
+        }
+        if (answer.status == FD_OK) made = PyUnicode_DecodeUTF8((char *)bytes, (Py_ssize_t)answer.count, NULL);
+        else fail(answer.status, answer.at);
+        if (bytes != buffer) PyMem_Free(bytes);
+        return made;
+    }
+}
+
+static PyObject *decimal_plural(Decimal *self, PyObject *value) {
+    Py_ssize_t count;
+    const char *rules = PyUnicode_AsUTF8AndSize(value, &count);
+    if (!rules) return NULL;
+    fd_number answer = fd_category((const uint8_t *)rules, (size_t)count, BYTES(self));
+    return answer.status == FD_OK ? PyUnicode_FromString(categories[answer.value]) : fail(answer.status, answer.at);
+}
+
+/* As Python's own decimals answer a format specification. */
+static PyObject *decimal_dunder_format(Decimal *self, PyObject *specification) {
+    PyObject *module = PyImport_ImportModule("decimal");
+    PyObject *text = decimal_str(self);
+    PyObject *value = module && text ? PyObject_CallMethod(module, "Decimal", "O", text) : NULL;
+    PyObject *made = value ? PyObject_Format(value, specification) : NULL;
+    Py_XDECREF(value);
+    Py_XDECREF(text);
+    Py_XDECREF(module);
+    return made;
+}
+
+static PyObject *decimal_reduce(Decimal *self, PyObject *ignored) {
+    (void)ignored;
+    return Py_BuildValue("O(N)", &DecimalType, decimal_str(self));
+}
+
+/* The lines of an output, as a list of str. */
+static PyObject *split_lines(const char *bytes, size_t count, Py_ssize_t lines) {
+    PyObject *made = PyList_New(lines);
+    for (Py_ssize_t i = 0; made && i < lines; i++) {
+        const char *end = memchr(bytes, '\n', count);
+        size_t length = (size_t)(end - bytes);
+        PyObject *text = PyUnicode_DecodeUTF8(bytes, (Py_ssize_t)length, NULL);
+        if (!text) Py_CLEAR(made);
+        else PyList_SET_ITEM(made, i, text);
+        bytes = end + 1;
+        count -= length + 1;
+    }
+    return made;
+}
+
+/* Converts all lines; the output is in *out, which the caller frees. */
+static int convert_lines(const uint8_t *input, size_t count, const fd_forms *forms, const fd_call *calls,
+                         size_t call_count, const uint8_t *texts, size_t texts_count, uint8_t **out, size_t *written) {
+    size_t room = count + count / 2 + 64, line = 0;
+    *written = 0;
+    *out = PyMem_Malloc(room);
+    while (*out) {
+        fd_column column;
+        Py_BEGIN_ALLOW_THREADS
+        column = fd_lines(input, count, 0, forms, calls, call_count, texts, texts_count, *out + *written,
+                          room - *written);
+        Py_END_ALLOW_THREADS
+        line += column.lines;
+        *written += column.written;
+        if (column.status == FD_OK) return 1;
+        if (column.status != FD_BUFFER_TOO_SMALL) {
+            if (!fail(column.status, column.at) && column.status != FD_MEMORY) {
+                PyObject *type, *value, *trace, *number = PyLong_FromSize_t(line);
+                PyErr_Fetch(&type, &value, &trace);
+                PyErr_NormalizeException(&type, &value, &trace);
+                if (number && value) PyObject_SetAttrString(value, "line", number);
+                Py_XDECREF(number);
+                PyErr_Restore(type, value, trace);
+            }
+            return 0;
+        }
+        input += column.read;
+        count -= column.read;
+        room *= 2;
+        uint8_t *more = PyMem_Realloc(*out, room);
+        if (!more) break;
+        *out = more;
+    }
+    PyErr_NoMemory();
+    return 0;
+}
+
+/* column(list of str, calls, texts, read_count, format_start, format_count, reading, grouping) */
+static PyObject *native_column(PyObject *module, PyObject *arguments) {
+    PyObject *list;
+    const char *calls, *texts;
+    Py_ssize_t calls_size, texts_size, read_count, format_count;
+    (void)module;
+    if (!PyArg_ParseTuple(arguments, "O!y#y#nn", &PyList_Type, &list, &calls, &calls_size, &texts, &texts_size,
+                          &read_count, &format_count))
+        return NULL;
+    fd_forms forms = {.read_count = (size_t)read_count, .format_start = (size_t)read_count,
+                      .format_count = (size_t)format_count};
+    Py_ssize_t lines = PyList_GET_SIZE(list), total = 0, count;
+    for (Py_ssize_t i = 0; i < lines; i++) {
+        if (!PyUnicode_AsUTF8AndSize(PyList_GET_ITEM(list, i), &count)) return NULL;
+        total += count + 1;
+    }
+    char *input = PyMem_Malloc((size_t)total + 1), *end = input;
+    if (!input) return PyErr_NoMemory();
+    for (Py_ssize_t i = 0; i < lines; i++) {
+        const char *text = PyUnicode_AsUTF8AndSize(PyList_GET_ITEM(list, i), &count);
+        if (memchr(text, '\n', (size_t)count)) {
+            PyMem_Free(input);
+            return PyErr_Format(PyExc_ValueError, "text %zd has a line feed", i);
+        }
+        memcpy(end, text, (size_t)count);
+        end += count;
+        *end++ = '\n';
+    }
+    uint8_t *out;
+    size_t written;
+    PyObject *made = NULL;
+    fd_call *aligned = PyMem_Malloc((size_t)calls_size + 1);
+    if (aligned) memcpy(aligned, calls, (size_t)calls_size);
+    if (!aligned) out = NULL, PyErr_NoMemory();
+    else if (convert_lines((uint8_t *)input, (size_t)total, &forms, aligned, (size_t)calls_size / sizeof(fd_call),
+                           (const uint8_t *)texts, (size_t)texts_size, &out, &written))
+        made = split_lines((char *)out, written, lines);
+    PyMem_Free(aligned);
+    PyMem_Free(out);
+    PyMem_Free(input);
+    return made;
+}
+
+static PyMethodDef decimal_methods[] = {
+    {"round", (PyCFunction)(void (*)(void))decimal_round, METH_FASTCALL | METH_KEYWORDS,
+     "Rounds to a multiple of increment * 10^position."},
+    {"shift", (PyCFunction)decimal_shift, METH_O, "Multiplies by a power of ten."},
+    {"trim", (PyCFunction)decimal_trim, METH_NOARGS, "Removes leading zeros, and trailing zeros of the fraction."},
+    {"pad", (PyCFunction)(void (*)(void))decimal_pad, METH_VARARGS | METH_KEYWORDS,
+     "Shows zeros below the position start, and down to the position end."},
+    {"sign", (PyCFunction)decimal_sign, METH_O, "Sets the sign that a display shows."},
+    {"compare", (PyCFunction)decimal_compare, METH_O, "Returns the order of two numbers: -1, 0 or 1."},
+    {"format", (PyCFunction)(void (*)(void))decimal_format, METH_VARARGS | METH_KEYWORDS,
+     "Returns the text in the form of a locale."},
+    {"plural", (PyCFunction)decimal_plural, METH_O, "Returns the plural category by rules in CLDR's syntax."},
+    {"__format__", (PyCFunction)decimal_dunder_format, METH_O, "Formats as decimal.Decimal does."},
+    {"__reduce__", (PyCFunction)decimal_reduce, METH_NOARGS, NULL},
+    {NULL, NULL, 0, NULL}};
+
+static PyTypeObject DecimalType = {
+    PyVarObject_HEAD_INIT(NULL, 0).tp_name = "fixed_decimal.Decimal",
+    .tp_doc = "An immutable decimal, with its zeros as written.",
+    .tp_basicsize = sizeof(Decimal),
+    .tp_itemsize = 1,
+    .tp_flags = Py_TPFLAGS_DEFAULT,
+    .tp_new = decimal_new,
+    .tp_vectorcall = decimal_vectorcall,
+    .tp_dealloc = (destructor)PyObject_Free,
+    .tp_str = (reprfunc)decimal_str,
+    .tp_repr = (reprfunc)decimal_repr,
+    .tp_hash = (hashfunc)decimal_hash,
+    .tp_richcompare = (richcmpfunc)decimal_richcompare,
+    .tp_methods = decimal_methods,
+};
+
+static PyMethodDef functions[] = {{"column", native_column, METH_VARARGS, NULL}, {NULL, NULL, 0, NULL}};
+static PyModuleDef definition = {PyModuleDef_HEAD_INIT, "fixed_decimal._native", NULL, -1, functions,
+                                 NULL, NULL, NULL, NULL};
+
+PyMODINIT_FUNC PyInit__native(void) {
+    if (fd_version() != FD_VERSION) return PyErr_Format(PyExc_ImportError, "the library has another version");
+    PyObject *errors = PyImport_ImportModule("fixed_decimal._errors");
+    decimal_error = errors ? PyObject_GetAttrString(errors, "DecimalError") : NULL;
+    Py_XDECREF(errors);
+    if (!decimal_error || PyType_Ready(&DecimalType) < 0) return NULL;
+    PyObject *module = PyModule_Create(&definition);
+    if (module && PyModule_AddObjectRef(module, "Decimal", (PyObject *)&DecimalType) < 0) Py_CLEAR(module);
+    return module;
+}

@@ -1,0 +1,155 @@
+"""The module beside Python's decimal: `python3 test_fixed_decimal.py [CASES]`. Prints `N passed, M failed` last."""
+import decimal
+import pickle
+import random
+import sys
+
+from fixed_decimal import Decimal, DecimalError, column
+
+MODES = {  # those that decimal has
+    "ceil": decimal.ROUND_CEILING, "floor": decimal.ROUND_FLOOR, "expand": decimal.ROUND_UP, "trunc": decimal.ROUND_DOWN,
+    "half-even": decimal.ROUND_HALF_EVEN, "half-expand": decimal.ROUND_HALF_UP, "half-trunc": decimal.ROUND_HALF_DOWN,
+}
+CONTEXT = decimal.Context(prec=400, Emin=-999999, Emax=999999, traps=[decimal.InvalidOperation])
+passed, failures = 0, []
+
+
+def check(good, *case):
+    global passed
+    if good:
+        passed += 1
+    else:
+        failures.append(case)
+
+
+def raises(error, call, reason=None):
+    try:
+        call()
+    except error as found:
+        check(reason is None or found.reason == reason, error, reason, found)
+    else:
+        check(False, error, reason)
+
+
+def random_text(rng):
+    whole = "".join(rng.choices("0123456789", k=rng.choice((1, 1, 2, 3, 5, 9, 20, 45))))
+    part = "".join(rng.choices(rng.choice(("0123456789", "0059")), k=rng.choice((0, 1, 2, 3, 6, 20, 45))))
+    return rng.choice(("", "-", "")) + whole + ("." + part if part else "")
+
+
+def without_leading_zeros(text):
+    sign = "-" if text.startswith("-") else ""
+    body = text.lstrip("-").lstrip("0")
+    return sign + (body if body and body[0] != "." else "0" + body)
+
+
+def test_random(cases):
+    rng = random.Random(7)
+    for _ in range(cases):
+        text, position = random_text(rng), rng.randint(-8, 6)
+        ours, theirs = Decimal(text), decimal.Decimal(text)
+        check(str(ours) == text and repr(ours) == f"Decimal('{text}')", text)
+        for mode, name in MODES.items():
+            want = theirs.quantize(decimal.Decimal((0, (1,), position)), name, CONTEXT)
+            if position > 0:
+                want = CONTEXT.quantize(want, decimal.Decimal(1))
+            got = str(ours.round(position, mode))
+            check(without_leading_zeros(got) == format(want, "f"), text, position, mode, got)
+        other = random_text(rng)
+        second, their_second = Decimal(other), decimal.Decimal(other)
+        check((ours < second) == (theirs < their_second) and (ours >= second) == (theirs >= their_second), text, other)
+        check(ours.compare(second) == int(theirs.compare(their_second)), text, other)
+        check((ours == second) == (text == other) and ours == Decimal(text) and hash(ours) == hash(Decimal(text)), text)
+        power = rng.randint(-30, 30)
+        check(decimal.Decimal(str(ours.shift(power))) == CONTEXT.scaleb(theirs, power), text, power)
+        check(decimal.Decimal(str(ours.trim())) == theirs and str(ours.trim()).strip("-") not in ("", "."), text)
+        check(decimal.Decimal(str(ours.pad(9, -9))) == theirs, text)
+        specification = rng.choice((".2f", ",", ",.3f", "+.1f", "020.4f", "e", ".3%", "*>30", ""))
+        check(format(ours, specification) == format(theirs, specification), text, specification)
+
+
+def test_other_modes(cases):
+    """By their definition: a tie goes up, or down."""
+    rng = random.Random(8)
+    for _ in range(cases):
+        text, position = random_text(rng), rng.randint(-8, 0)
+        value, unit = decimal.Decimal(text), decimal.Decimal((0, (1,), position))
+        down, up = (value.quantize(unit, mode, CONTEXT) for mode in (decimal.ROUND_FLOOR, decimal.ROUND_CEILING))
+        half = CONTEXT.add(down, CONTEXT.divide(unit, decimal.Decimal(2)))
+        for mode, want in (("half-ceil", down if value < half else up), ("half-floor", up if value > half else down)):
+            check(decimal.Decimal(str(Decimal(text).round(position, mode))) == want, text, position, mode)
+
+
+def test_class():
+    rows = [
+        (str(Decimal()), "0"), (str(Decimal("1e3")), "1000"), (str(Decimal(-250)), "-250"), (str(Decimal(True)), "1"),
+        (str(Decimal(10**30)), "1" + "0" * 30), (str(Decimal(decimal.Decimal("1E+3"))), "1000"),
+        (str(Decimal(decimal.Decimal("-0.00"))), "-0.00"), (str(Decimal(Decimal("007.50"))), "007.50"),
+        (str(Decimal("1234.565").round(-2)), "1234.56"), (str(Decimal("113").round(0, increment=25)), "125"),
+        (str(Decimal("113").round(position=0, mode="ceil", increment=2)), "114"),
+        (str(Decimal("42").pad(4, -2)), "0042.00"), (str(Decimal("42").pad(end=-1)), "42.0"),
+        (str(Decimal("007.50").trim()), "7.5"), (str(Decimal("5").sign("always")), "+5"),
+        (Decimal("1234567.5").format("en-IN"), "12,34,567.5"), (Decimal("1234.5").format("de"), "1.234,5"),
+        (Decimal("1234.5").format("de", grouping="never"), "1234,5"), (Decimal("1234").format("hi-u-nu-deva"), "१,२३४"),
+        (Decimal("1").plural("one: i = 1 and v = 0"), "one"), (Decimal("1.0").plural("one: i = 1 and v = 0"), "other"),
+        (len(str(Decimal("1").pad(end=-32768))), 32770), (len(Decimal("1" * 300).format("de")), 399),
+        (pickle.loads(pickle.dumps(Decimal("1.50"))), Decimal("1.50")), (f"{Decimal('1234.565'):,.2f}", "1,234.56"),
+        (len({Decimal("1.0"), Decimal("1"), Decimal("1.0")}), 2), (Decimal("1.0") == 1, False),
+        (Decimal("1.0") != Decimal("1"), True), (Decimal("1.0").__eq__(1), NotImplemented),
+        (Decimal("1.0").__lt__(2), NotImplemented), (Decimal("1.0") <= Decimal("1"), True),
+        (Decimal("1.0").compare(Decimal("1")), 0),
+    ]
+    for got, want in rows:
+        check(got == want, got, want)
+    for bad, reason in (("1x", "syntax"), ("", "syntax"), ("1e99999", "limit"), ("\udcff", "syntax"), ("１", "syntax")):
+        raises(DecimalError, lambda: Decimal(bad), reason)
+    for error, call in (
+        (TypeError, lambda: Decimal(1.5)), (TypeError, lambda: Decimal(None)), (TypeError, lambda: Decimal("1", "2")),
+        (TypeError, lambda: Decimal("1") < 2), (TypeError, lambda: Decimal("1").compare(1)),
+        (TypeError, lambda: Decimal(value="1")), (ValueError, lambda: Decimal(decimal.Decimal("NaN"))),
+        (ValueError, lambda: Decimal("1").round(0, "up")), (OverflowError, lambda: Decimal("1").shift(40000)),
+        (TypeError, lambda: Decimal("1").round()), (TypeError, lambda: Decimal("1").round(0, places=1)),
+        (ValueError, lambda: Decimal("1").format("de", "some")), (ValueError, lambda: Decimal("1").sign("plus")),
+    ):
+        raises(error, call)
+    raises(DecimalError, lambda: Decimal("1").format("tlh"), "unknown locale")
+    raises(DecimalError, lambda: Decimal("1").format(""), "unknown locale")
+    raises(DecimalError, lambda: Decimal("10").shift(32767), "overflow")
+    raises(DecimalError, lambda: Decimal("1").round(0, increment=3), "unknown call")
+    raises(DecimalError, lambda: Decimal("1").plural("n ="), "rules syntax")
+
+
+def test_column(cases):
+    rng = random.Random(9)
+    texts = [random_text(rng) for _ in range(cases)]
+    check(column(texts, "round:-2:half-even:1") == [str(Decimal(text).round(-2)) for text in texts], "round")
+    check(column(texts, format="de") == [Decimal(text).format("de") for text in texts], "format")
+    check(column(["250", "5"], "shift:-2", "display:always", format="de") == ["+2,50", "+0,05"], "calls")
+    check(column(["1.234,5", "7"], read="de", format="en-IN") == ["1,234.5", "7"], "read")
+    check(column(["12", "7"], "concat:0.5", "concat:0.005") == ["12.505", "7.505"], "operands")
+    check(column(["1"] * 5, "pad-end:-32768") == ["1." + "0" * 32768] * 5, "long")
+    check(column([], "trim-end") == [] and column(iter(["1"])) == ["1"], "empty")
+    for error, call in (
+        (ValueError, lambda: column(["1\n2"])), (ValueError, lambda: column(["1"], "round")),
+        (ValueError, lambda: column(["1"], "trim-end:1")), (ValueError, lambda: column(["1"], "shift:99999")),
+        (ValueError, lambda: column(["1"], "no")), (TypeError, lambda: column([1])),
+    ):
+        raises(error, call)
+    raises(DecimalError, lambda: column(["1"], read="tlh"), "unknown locale")
+    try:
+        column(["1", "2", "x", "y"], "trim-end")
+        check(False, "a text that fails")
+    except DecimalError as error:
+        check((error.reason, error.line) == ("syntax", 2), error.reason, error.line)
+
+
+if __name__ == "__main__":
+    count = int(sys.argv[1]) if len(sys.argv) > 1 else 15000
+    test_random(count)
+    test_other_modes(count // 7)
+    test_class()
+    test_column(count)
+    for case in failures[:20]:
+        print("failed:", *case)
+    print(f"{passed} passed, {len(failures)} failed")
+    sys.exit(1 if failures else 0)

@@ -1,0 +1,101 @@
+#!/usr/bin/env bash
+# Builds the C library and tries it from C, Python and SQLite. Needs gcc and python3; what else is missing is a line
+# `not run: ..`, and a failure under ALL=1: Python's headers and pip, sqlite3 with its headers, valgrind. With
+# BUILT_BY_GATE set nothing is proved. The last line is `N passed, M failed`; the status is 0 if M is 0.
+set -u
+cd "$(dirname "$0")/.." || exit 1
+. tests/programs.sh
+
+# missing NAME: what is not there is not run.
+missing() {
+  echo "not run: $1"
+  [ -z "${ALL:-}" ]
+  judge "$1"
+}
+
+# try NAME COMMAND..: the command succeeds; its output is shown if not.
+try() {
+  "${@:2}" > "$room/log" 2>&1 || { tail -n 20 "$room/log"; false; }
+  judge "$1"
+}
+
+# compile NAME FLAG..: compiles a test over the static library.
+compile() {
+  gcc -std=gnu11 -Wall -Wextra -Werror -g "c/tests/$1.c" c/out/libfixed_decimal.a "${@:3}" -o "$room/$2"
+}
+
+for tool in gcc python3; do
+  command -v $tool > /dev/null
+  judge "$tool is there"
+done
+try 'c/build.sh' bash c/build.sh
+PREFIX=$room/prefix BUILT_BY_GATE=1 try 'c/build.sh install' bash c/build.sh install
+export LD_LIBRARY_PATH=$room/prefix/lib
+
+# ---- C
+try 'the header in C99' gcc -std=c99 -pedantic -Wall -Wextra -Werror -fsyntax-only -x c c/fixed_decimal.h
+try 'the header in C++' g++ -std=c++17 -Wall -Wextra -Werror -fsyntax-only -x c++ -include c/fixed_decimal.h /dev/null
+try 'the tests compile' compile test test_plain -O1
+try 'each export, at each capacity' "$room/test_plain"
+try 'the same with sanitizers' compile test test_asan -O1 -fsanitize=address,undefined -fno-sanitize-recover=all
+try 'sanitizers' "$room/test_asan"
+if command -v valgrind > /dev/null; then
+  try 'valgrind' valgrind -q --error-exitcode=9 --leak-check=full --show-leak-kinds=all "$room/test_plain"
+else
+  missing valgrind
+fi
+try 'the test of memory' compile memory memory -O1 -Wl,--wrap=malloc,--wrap=realloc,--wrap=free
+try 'each allocation fails in turn' "$room/memory"
+try 'the test of threads' compile threads threads -O1 -fsanitize=thread -lpthread
+try 'four threads' "$room/threads"
+try 'the example' gcc -std=c99 -Wall -Wextra -Werror c/example.c "-I$room/prefix/include" "-L$room/prefix/lib" \
+  -lfixed_decimal -o "$room/example"
+[ "$("$room/example")" = 1.234,56 ]
+judge 'the example writes 1.234,56'
+nm -D --defined-only c/out/libfixed_decimal.so | awk '{ print $3 }' | grep -v '^fd_' > "$room/others"
+[ ! -s "$room/others" ]
+judge 'the shared library exports no other names'
+readelf -d c/out/libfixed_decimal.so | grep -q 'SONAME.*libfixed_decimal.so.1'
+judge 'the shared library has a soname'
+
+# ---- Python
+if python3 -c 'import sysconfig, os; assert os.path.exists(sysconfig.get_path("include") + "/Python.h")' 2> /dev/null &&
+  python3 -m pip --version > /dev/null 2>&1; then
+  try 'pip install' python3 -m pip install --no-index --quiet --target "$room/python" ./python
+  PYTHONPATH=$room/python try 'Python beside decimal' python3 python/tests/test_fixed_decimal.py
+else
+  missing "Python's headers and pip"
+fi
+
+# ---- SQLite
+if command -v sqlite3 > /dev/null && echo '#include <sqlite3ext.h>' | gcc -E -x c - > /dev/null 2>&1; then
+  try 'the extension' gcc -shared -fPIC -O2 -Wall -Wextra -Werror -Ic examples/sqlite/fixdec.c c/out/libfixed_decimal.a \
+    -o "$room/fixdec.so"
+  # row SQL RESULT
+  row() {
+    found=$(sqlite3 -cmd ".load $room/fixdec" :memory: "$1" 2>&1)
+    [ "$found" = "$2" ]
+    judge "$1: $found"
+  }
+  row "SELECT fixdec('1234.565', 'round:-2:half-even:1', 'format:de')" 1.234,56
+  row "SELECT fixdec('1.234,5', 'read:de', 'shift:2', 'pad-end:-1', 'sign:minus', 'format:en-IN')" -1,23,450.0
+  row "SELECT fixdec('12', 'concat:0.5', 'concat:0.005', 'display:always')" +12.505
+  row "SELECT length(fixdec('1', 'pad-end:-32768')), fixdec(250)" '32770|250'
+  row "SELECT fixdec(NULL, 'trim-end') IS NULL, fixdec('1', NULL) IS NULL, plural(NULL, 1) IS NULL" '1|1|1'
+  row "SELECT plural('one: i = 1 and v = 0', '1'), plural('one: i = 1 and v = 0', '1.0')" 'one|other'
+  row "SELECT group_concat(x, ' ') FROM (SELECT column1 AS x FROM (VALUES ('b'), ('10'), ('9.50'), ('a'), ('-1e2'), ('9.5')) ORDER BY x COLLATE decimal_compare, x)" \
+    '-1e2 9.5 9.50 10 a b'
+  for call in "'1x', 'trim-end'|start: syntax" "'10', 'trim-end', 'shift:32767'|call 1: overflow" \
+    "'1', 'trimm'|no such call" "'1', 'round:0:up:1'|no such call" "'1', 'format:tlh'|unknown locale" \
+    "'1', 'round:0:ceil:3'|no such call: 0" "'12', 'concat:25'|call 0: overlap"; do
+    found=$(sqlite3 -cmd ".load $room/fixdec" :memory: "SELECT fixdec(${call%|*})" 2>&1)
+    [[ $found == *"${call#*|}"* ]]
+    judge "fixdec(${call%|*}): $found"
+  done
+  found=$(sqlite3 -cmd ".load $room/fixdec" :memory: "SELECT plural('n =', '1')" 2>&1)
+  [[ $found == *'rules: syntax at 3'* ]]
+  judge "plural('n =', '1'): $found"
+else
+  missing 'sqlite3 and its headers'
+fi
+finish
