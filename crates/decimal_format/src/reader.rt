@@ -95,7 +95,7 @@ impl<'a> DecimalSymbols<'a> {
         let mut all = true;
         let mut none = true;
         while left > 0 {
-            let (most, possible) = self.sizes().run_to_end(left - 1);
+            let (most, possible) = self.sizes().run_to_end(left - 1, left);
             let (_, found, after) = self.read_run(most, rest);
             if found < most {
                 return None;
