@@ -50,7 +50,12 @@ last_push n k d ds below is = record {
   digits = below_append ds (d ∷ []) is.digits (below, tt);
   count = omega (arith, is.count, length-append ds (d ∷ []));
   number =
-      omega (arith, is.number, number_after_append 16 0 ds (d ∷ []), number_after 16 (number_from_digits 16 ds) (d ∷ []));
+      omega (
+        arith,
+        is.number,
+        number_after_append 16 0 ds (d ∷ []),
+        number_after 16 (number_from_digits 16 ds) (d ∷ []),
+      );
 }
 
 -- sixteen digits have room in a word

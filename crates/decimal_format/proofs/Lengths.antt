@@ -12,7 +12,7 @@ use Rattle.decimal_format.specs.declared.grouping.GroupingStrategy.{GroupingStra
 use Rattle.decimal_format.specs.Grouping.{separates}
 use Rattle.decimal_format.specs.Symbols.{Symbols, digit_text, HaveWidth}
 use Rattle.decimal_format.specs.Formatted.{shown_count, absolute_text}
-use Rattle.decimal_format.specs.SeparatorCount.{separators_below}
+use Rattle.decimal_format.specs.Parts.{separators_below}
 use Rattle.decimal_format.specs.Reading.{digits_text, fraction_text}
 use Rattle.decimal_format.specs.Scanning.{separator_if}
 use Rattle.decimal_format.proofs.NumeralTexts.{digits_of_value, absolute_is}

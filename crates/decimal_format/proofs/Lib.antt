@@ -2,7 +2,9 @@ pub mod AsciiDigits
 pub mod FormattedLaws
 pub mod Lengths
 pub mod Magnitudes
+pub mod Parts
 pub mod Separators
+pub mod ShortTexts
 pub mod Codes
 pub mod DigitTexts
 pub mod NumeralTexts

@@ -1,14 +1,13 @@
 -- The text magnitude by magnitude.
-use Rattle.std.proofs.Common.{◌≡◌, ℕ, zero, suc, ◌+◌, ◌-◌, ◌/◌, ◌%◌, ◌<◌, List, [], ◌∷◌, ◌++◌, refl, sym, ◌∙◌, ap, arith, append_assoc, append-nil}
+use Rattle.std.proofs.Common.{◌≡◌, ℕ, zero, suc, ◌+◌, ◌/◌, ◌<◌, List, ◌++◌, sym, ◌∙◌, ap, arith, append_assoc, append-nil}
 use Rattle.std.specs.Prelude.{ℤ, pos, ◌-ℤ◌}
 use Rattle.std.proofs.lemmas.Int.{ints}
 use Rattle.std.proofs.Math.Nat.{mod-lt}
 use Rattle.decimal_digits.specs.Number.{weight, digit}
-use Rattle.decimal_unsigned.specs.ShownDigits.{digits_down}
 use Rattle.decimal_unsigned.specs.Unsigned.{Unsigned}
 use Rattle.decimal_format.specs.declared.grouping.GroupingStrategy.{GroupingStrategy}
 use Rattle.decimal_format.specs.Symbols.{Symbols}
-use Rattle.decimal_format.specs.Formatted.{magnitude_text, formatted_down, nth_text, shown_count, absolute_text}
+use Rattle.decimal_format.specs.Formatted.{magnitude_text, formatted_down, nth_text}
 
 -- the given number of magnitudes, and then others
 pub formatted_down-add : (s : Symbols) (strategy : GroupingStrategy) (hi : ℤ) (number : ℕ) (m : ℤ) (i j : ℕ)
@@ -44,28 +43,3 @@ module _ (s : Symbols) (strategy : GroupingStrategy) (v : Unsigned) where
   one_more i =
       formatted_down-add s strategy v.hi v.number v.hi i 1
       ∙ ap (λ l. first_magnitudes i ++ l) (append-nil (nth_text s strategy v i))
-
-  -- the text is the first magnitudes, one more, and the others
-  pub absolute_split : (i : ℕ) → i < shown_count v → absolute_text s strategy v
-      ≡ first_magnitudes i
-      ++ (nth_text s strategy v i
-      ++ formatted_down s strategy v.hi v.number ((v.hi -ℤ pos i) -ℤ pos 1) (shown_count v - i - 1))
-  unfolding formatted_down
-  absolute_split i h =
-      let count : shown_count v ≡ i + suc (shown_count v - i - 1) = omega (arith, h) in
-      ap (formatted_down s strategy v.hi v.number v.hi) count
-      ∙ formatted_down-add s strategy v.hi v.number v.hi i (suc (shown_count v - i - 1))
-
--- the digits that an iterator has left: the first one, and those after it
-pub next_digit : (number n d : ℕ) (m : ℤ) (rest : List ℕ) → digits_down number m n ≡ d ∷ rest
-    → (0 < n) × (d ≡ digit number m) × (rest ≡ digits_down number (m -ℤ pos 1) (n - 1))
-unfolding digits_down
-next_digit number zero d m rest e = absurd (cc)
-next_digit number (suc n) d m rest e =
-    let others : rest ≡ digits_down number (m -ℤ pos 1) n = cc in
-    (omega arith, cc, others ∙ ap (digits_down number (m -ℤ pos 1)) (let k : n ≡ suc n - 1 = omega arith in k))
-
-pub no_digit : (number n : ℕ) (m : ℤ) → digits_down number m n ≡ [] → n ≡ 0
-unfolding digits_down
-no_digit number zero m e = refl
-no_digit number (suc n) m e = absurd (cc)

@@ -81,7 +81,8 @@ module _ (s : Symbols) (readable : IsReadable s) where
 run_length : {s : Symbols} {most : ℕ} {bytes after : List ℕ} {number k : ℕ} → IsReadable s
     → ReadsRun s most bytes after number k → k + length after ≤ length bytes
 run_length {s = s} {after = after} readable run =
-    omega (arith, ap length run.text, text_length s readable (λ _. false) run.digits after run.bcd.digits, run.bcd.count)
+    let most = text_length s readable (λ _. false) run.digits after run.bcd.digits in
+    omega (arith, ap length run.text, most, run.bcd.count)
 
 -- ---- Digits with separators anywhere.
 module _ (s : Symbols) (readable : IsReadable s) (rest : List ℕ) where
@@ -191,8 +192,8 @@ spelled_whole s readable f w bytes digits e =
     (f, fraction_text s w.fraction, fraction_ends s readable w.fraction, digits.whole, false, e)
 
 -- all of them are read
-pub whole_bcd : (s : Symbols) → IsReadable s → (f : ℕ → Bool) (w : Numeral) (bytes rest : List ℕ) (n k : ℕ) → AreDigits w
-    → bytes ≡ absolute_numeral_text s f w → length bytes < 2 ^ 64
+pub whole_bcd : (s : Symbols) → IsReadable s → (f : ℕ → Bool) (w : Numeral) (bytes rest : List ℕ) (n k : ℕ)
+    → AreDigits w → bytes ≡ absolute_numeral_text s f w → length bytes < 2 ^ 64
     → ((ds : List ℕ) → IsSpelled s bytes ds → ReadsSpelled s (2 ^ 64 - 1) rest n k ds) → HasBcd n k w.whole
 whole_bcd s readable f w bytes rest n k digits e few read =
     let most = text_length s readable f w.whole (fraction_text s w.fraction) digits.whole in
@@ -218,7 +219,8 @@ text_append s bytes ds rest es after e more =
 
 -- one digit more
 pub run_push : {s : Symbols} {bytes rest : List ℕ} {n k : ℕ} (after : List ℕ) (d : ℕ) → d < 10
-    → rest ≡ digit_text s d ++ after → ReadsRun s k bytes rest n k → ReadsRun s (k + 1) bytes after (n * 2 ^ 4 % 2 ^ 64 + d) (k + 1)
+    → rest ≡ digit_text s d ++ after → ReadsRun s k bytes rest n k
+    → ReadsRun s (k + 1) bytes after (n * 2 ^ 4 % 2 ^ 64 + d) (k + 1)
 run_push {s = s} {bytes = bytes} {rest = rest} {n = n} {k = k} after d below e read =
     let none : ℕ → Bool = λ _. false in
     let one : digits_text s none (d ∷ []) ++ after ≡ digit_text s d ++ after =

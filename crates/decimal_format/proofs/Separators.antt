@@ -9,7 +9,7 @@ use Rattle.decimal_format.specs.declared.grouping.GroupingSizes.{GroupingSizes}
 use Rattle.decimal_format.specs.declared.grouping.GroupingStrategy.{GroupingStrategy}
 use Rattle.decimal_format.specs.declared.grouping.GroupingStrategy.TheVariants.{Auto, Never, Always, Min2}
 use Rattle.decimal_format.specs.Grouping.{reaches, is_grouped, secondary_size, ends_group, separates}
-use Rattle.decimal_format.specs.SeparatorCount.{separators_below}
+use Rattle.decimal_format.specs.Parts.{separators_below}
 
 -- ---- Quotients and remainders.
 -- subtracting less than the remainder leaves the rest of the remainder

@@ -110,7 +110,9 @@ module _ {whole k word j : ℕ} {v : Unsigned} {ds es : List ℕ} {position : �
       (omega (arith, ints, next_is.at, offset_is position, next_is.limits.0, next_is.limits.1, holds.count, bcd.count))
 
   sum_is : sum ≡ number_at t (ds ++ es)
-  sum_is = ap (λ x. number_at t ds + x) es_is ∙ sym (number_at-append t ds es (omega (arith, all_count, next_is.limits.1)))
+  sum_is =
+      ap (λ x. number_at t ds + x) es_is
+      ∙ sym (number_at-append t ds es (omega (arith, all_count, next_is.limits.1)))
 
   divides : number_at t ds % 10 ^ cut ≡ 0
   divides = number_at-divides t ds
@@ -123,7 +125,8 @@ module _ {whole k word j : ℕ} {v : Unsigned} {ds es : List ℕ} {position : �
   sum_lt : sum < 10 ^ t
   sum_lt =
       subst (λ x. x < 10 ^ t) (sym sum_is)
-      (number_at-lt t (ds ++ es) (below_append ds es holds.digits bcd.digits) (omega (arith, all_count, next_is.limits.1)))
+      (number_at-lt t (ds ++ es) (below_append ds es holds.digits bcd.digits)
+      (omega (arith, all_count, next_is.limits.1)))
 
   -- their number of digits is the same at each position
   same_size : size (integer * weight (pos 0)) ≡ size moved_integer
@@ -149,7 +152,8 @@ module _ {whole k word j : ℕ} {v : Unsigned} {ds es : List ℕ} {position : �
   pub memory_for_integer : (inline : ℕ) → (size next.number ≤ inline → ⊥)
       → inline < size (value_of_first whole (ds ++ es)).number
   memory_for_integer inline more =
-      let grown = size_right (number_at t ds) moved_integer cut t divides less sum_lt (omega (arith, next_is.limits.0)) in
+      let grown = size_right (number_at t ds) moved_integer cut t divides less sum_lt
+      (omega (arith, next_is.limits.0)) in
       elim (cases_lt inline (size next.number)) [
         | inl h ↦ omega (arith, h, ap size next_number, same_size, grown, ap size sum_is)
         | inr h ↦ absurd (more h)
@@ -222,7 +226,8 @@ module _ {whole k word j : ℕ} {v : Unsigned} {ds es : List ℕ} {position : �
     pub memory_for_sum : (inline : ℕ) → 0 < v.number → 0 < moved.number → inline < concatenated_size v moved
         → inline < size (value_of_first whole (ds ++ es)).number
     memory_for_sum inline some more h =
-        let joined = size_joined (number_at t ds) moved_integer cut t divides less sum_lt (omega (arith, next_is.limits.0))
+        let joined = size_joined (number_at t ds) moved_integer cut t divides less sum_lt
+        (omega (arith, next_is.limits.0))
         (subst (λ n. 0 < n) v_number some) (subst (λ n. 0 < n) moved_number more) in
         let size_is : concatenated_size v moved ≡ int_gap (last moved_integer) (first (number_at t ds)) + 1 =
         λ i. int_gap (last (moved_number i)) (first (v_number i)) + 1 in

@@ -7,5 +7,5 @@ pub mod Readable
 pub mod Reading
 pub mod Lenient
 -- Private: used only in the contracts of private functions.
-pub mod SeparatorCount
+pub mod Parts
 pub mod Scanning

@@ -44,6 +44,27 @@ impl Block {
         &self.bytes[..self.len]
     }
 
+    /// Returns whether there is room for a number of bytes.
+    #[inline]
+    pub(crate) fn has_room(&self, count: usize) -> bool
+        ensures { IsTrue result ↔ (length self.now.0 + count ≤ 192) }
+    {
+        count <= SIZE - self.len
+    }
+
+    /// Appends a byte if a condition holds. Requires room for it.
+    #[inline]
+    pub(crate) fn push_if(&mut self, byte: u8, condition: bool)
+        requires { length self.old.0 < 192 }
+        ensures bytes { self.new ≡ (self.old.0 ++ (if condition then byte ∷ [] else []), self.old.1) }
+        ensures at_most { length self.new.0 ≤ length self.old.0 + 1 }
+    {
+        if condition {
+            self.bytes[self.len] = byte;
+            self.len += 1;
+        }
+    }
+
     /// Appends bytes, or none if they do not fit.
     #[inline]
     pub(crate) fn append(&mut self, bytes: &[u8]) -> Result<(), SinkFault>
@@ -52,17 +73,22 @@ impl Block {
         ensures at_most { OnOk result (length self.new.0 ≤ 192) }
         ensures err { OnErr result (self.new ≡ (self.old.0, true)) }
     {
-        if self.failed || bytes.len() > SIZE - self.len {
+        if self.failed || !self.has_room(bytes.len()) {
             self.failed = true;
             return Err(SinkFault);
         }
         let end = self.len + bytes.len();
-        // Most texts are a digit or a separator.
         match bytes {
+            [] => {}
             [byte] => self.bytes[self.len] = *byte,
             [first, second] => {
                 self.bytes[self.len] = *first;
                 self.bytes[self.len + 1] = *second;
+            }
+            [first, second, third] => {
+                self.bytes[self.len] = *first;
+                self.bytes[self.len + 1] = *second;
+                self.bytes[self.len + 2] = *third;
             }
             _ => self.bytes[self.len..end].copy_from_slice(bytes),
         }

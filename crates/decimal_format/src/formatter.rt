@@ -6,10 +6,11 @@ ghost use Rattle.decimal_format.specs.Symbols.{digit_text, sign_affixes};
 ghost use Rattle.decimal_format.specs.Formatted.{formatter, formatted_by, shown_count, separator_before, separator_after};
 
 mod display;
+mod short;
 mod text;
 
 use crate::grouping::GroupingStrategy;
-use crate::symbols::{Affixes, DecimalSymbols};
+use crate::symbols::DecimalSymbols;
 use decimal_digits::ops::{count_between, magnitude_below};
 use fixed_decimal::{DigitStore, Signed, UnsignedOver};
 use std::marker::Model;
@@ -114,13 +115,24 @@ impl<'f, D: DigitStore> FormattedDecimal<'f, D> {
         magnitude_below(*range.end(), below)
     }
 
+    /// Returns whether the decimal separator is before the digit of a magnitude.
+    #[inline]
+    fn has_separator_before(&self, below: u32) -> bool
+        requires { below < shown_count self.now.value.absolute }
+        ensures { (if result then self.now.symbols.decimal else [])
+            ≡ separator_before self.now.symbols (self.now.value.absolute.hi -ℤ pos below) }
+    {
+        self.magnitude(below) == -1
+    }
+
     /// Returns the text before the digit of a magnitude: the decimal separator or nothing.
     #[inline]
     fn separator_before(&self, below: u32) -> &str
         requires { below < shown_count self.now.value.absolute }
-        ensures { result.now ≡ separator_before self.now.symbols (self.now.value.absolute.hi -ℤ pos below) }
+        ensures value { result.now ≡ separator_before self.now.symbols (self.now.value.absolute.hi -ℤ pos below) }
+        ensures at_most { length result.now ≤ 255 }
     {
-        if self.magnitude(below) == -1 {
+        if self.has_separator_before(below) {
             self.symbols.decimal_separator()
         } else {
             ""
@@ -142,8 +154,9 @@ impl<'f, D: DigitStore> FormattedDecimal<'f, D> {
     #[inline]
     fn separator_after(&self, below: u32) -> &str
         requires { below < shown_count self.now.value.absolute }
-        ensures { result.now ≡ separator_after self.now.symbols self.now.strategy self.now.value.absolute.hi
+        ensures value { result.now ≡ separator_after self.now.symbols self.now.strategy self.now.value.absolute.hi
             (self.now.value.absolute.hi -ℤ pos below) }
+        ensures at_most { length result.now ≤ 255 }
     {
         let symbols = self.symbols;
         if symbols
@@ -156,13 +169,21 @@ impl<'f, D: DigitStore> FormattedDecimal<'f, D> {
         }
     }
 
-    /// Returns the texts before and after the number.
+    /// Returns the text before the number.
     #[inline]
-    fn affixes(&self) -> Affixes<'_>
-        ensures prefix { result.prefix.now ≡ (sign_affixes self.now.symbols self.now.value.sign).prefix }
-        ensures suffix { result.suffix.now ≡ (sign_affixes self.now.symbols self.now.value.sign).suffix }
-        ensures at_most { (length result.prefix.now ≤ 255) × (length result.suffix.now ≤ 255) }
+    fn prefix(&self) -> &str
+        ensures value { result.now ≡ (sign_affixes self.now.symbols self.now.value.sign).prefix }
+        ensures at_most { length result.now ≤ 255 }
     {
-        self.symbols.affixes(self.value.sign())
+        self.symbols.affixes(self.value.sign()).prefix
+    }
+
+    /// Returns the text after the number.
+    #[inline]
+    fn suffix(&self) -> &str
+        ensures value { result.now ≡ (sign_affixes self.now.symbols self.now.value.sign).suffix }
+        ensures at_most { length result.now ≤ 255 }
+    {
+        self.symbols.affixes(self.value.sign()).suffix
     }
 }

@@ -2,7 +2,7 @@
 ghost use Rattle.std.specs.Prelude.{◌≡◌, ℕ, ◌+◌, ◌-◌, ◌%◌, ◌^◌, ◌<◌, ◌≤◌, ◌≤ℤ◌, ◌&&◌, pos, false};
 ghost use Rattle.std.specs.Int.{int_gap};
 ghost use Rattle.decimal_format.specs.Grouping.{reaches, is_grouped, secondary_size, ends_group, separates};
-ghost use Rattle.decimal_format.specs.SeparatorCount.{separators_below};
+ghost use Rattle.decimal_format.specs.Parts.{ends_group_at, separators_below};
 
 /// When the integer digits are grouped.
 ///
@@ -87,34 +87,71 @@ impl GroupingSizes {
     pub fn separates(self, strategy: GroupingStrategy, hi: i16, magnitude: i16) -> bool
         ensures { result ≡ separates strategy self hi magnitude }
     {
+        self.separates_if(self.is_grouped(strategy, hi), magnitude)
+    }
+
+    /// Returns whether a separator is after the digit at a magnitude of a value, which may be grouped.
+    #[inline]
+    pub(crate) fn separates_if(self, is_grouped: bool, magnitude: i16) -> bool
+        ensures { result ≡ (is_grouped && ends_group_at self magnitude) }
+    {
         let primary = self.primary as i16;
-        if primary == 0 || magnitude < primary {
+        if !is_grouped || primary == 0 || magnitude < primary {
             return false;
         }
         let secondary = self.secondary_size();
-        let before_last = remainder((magnitude - primary) as usize, secondary as usize);
-        before_last == 0 && self.is_grouped(strategy, hi)
+        remainder((magnitude - primary) as usize, secondary as usize) == 0
     }
 
-    /// Returns the number of digits from an integer magnitude down to the next end of a group, or to magnitude 0, and
-    /// whether a group ends there.
+    /// Returns a number of digits, from an integer magnitude down, with no end of a group between them, and whether one
+    /// is after them: the digits to the next end of a group, or to magnitude 0, or `most`.
     ///
     /// In groups of 3 it is 1 from magnitude 3, and 3 from magnitude 5.
     #[inline]
-    pub(crate) fn run_to_end(self, magnitude: usize) -> (usize, bool)
-        requires { magnitude + 1 < 2 ^ 64 }
+    pub(crate) fn run_to_end(self, magnitude: usize, most: usize) -> (usize, bool)
+        requires in_range { magnitude + 1 < 2 ^ 64 }
+        requires some { 0 < most }
         ensures some { 0 < result.0 }
+        ensures at_most { result.0 ≤ most }
         ensures within { result.0 ≤ magnitude + 1 }
         ensures none_between { (k : ℕ) → k + 1 < result.0 → ends_group self (magnitude - k) ≡ false }
         ensures last { ends_group self (magnitude - (result.0 - 1)) ≡ result.1 }
     {
         let primary = self.primary as usize;
         if primary == 0 || magnitude < primary {
-            return (magnitude + 1, false);
+            return (most.min(magnitude + 1), false);
         }
-        let secondary = self.secondary_size();
-        let before_last = remainder(magnitude - primary, secondary as usize);
+        let before_last = remainder(magnitude - primary, self.secondary_size() as usize);
+        if before_last >= most {
+            return (most, false);
+        }
         (before_last + 1, true)
+    }
+
+    /// Returns a number of digits, from an integer magnitude down, with no separator between them, and whether a
+    /// separator is after them: the digits to the next separator, or to magnitude 0, or `most`.
+    #[inline]
+    pub(crate) fn run_from(
+        self,
+        strategy: GroupingStrategy,
+        hi: i16,
+        magnitude: u32,
+        most: u32,
+    ) -> (u32, bool)
+        requires in_range { magnitude < 2 ^ 16 }
+        requires some { 0 < most }
+        ensures some { 0 < result.0 }
+        ensures at_most { result.0 ≤ most }
+        ensures within { result.0 ≤ magnitude + 1 }
+        ensures none_between { (k : ℕ) → k + 1 < result.0
+            → separates strategy self hi (pos (magnitude - k)) ≡ false }
+        ensures last { separates strategy self hi (pos (magnitude - (result.0 - 1))) ≡ result.1 }
+    {
+        if !self.is_grouped(strategy, hi) {
+            return (most.min(magnitude + 1), false);
+        }
+        let (count, ends) = self.run_to_end(magnitude as usize, most as usize);
+        (count as u32, ends)
     }
 
     /// Returns the number of separators of a value with the highest magnitude `hi`, which is at least 0.

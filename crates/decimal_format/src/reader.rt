@@ -20,7 +20,7 @@ use std::alloc::Global;
 
 /// Digits of a text: the text that begins with them, their number, and the last sixteen as packed BCD.
 #[derive(Clone, Copy)]
-pub struct Part<T> {
+struct Part<T> {
     text: T,
     count: usize,
     number: u64,
@@ -28,7 +28,7 @@ pub struct Part<T> {
 
 /// What a text says: a sign and digits.
 #[derive(Clone, Copy)]
-pub struct Scanned<T> {
+struct Scanned<T> {
     sign: Sign,
     whole: Part<T>,
     fraction: Part<T>,
@@ -95,7 +95,7 @@ impl<'a> DecimalSymbols<'a> {
         let mut all = true;
         let mut none = true;
         while left > 0 {
-            let (most, possible) = self.sizes().run_to_end(left - 1);
+            let (most, possible) = self.sizes().run_to_end(left - 1, left);
             let (_, found, after) = self.read_run(most, rest);
             if found < most {
                 return None;

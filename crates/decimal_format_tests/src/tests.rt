@@ -1,6 +1,6 @@
 //! Rows of ICU 78 (CLDR 48), and what no row says. A helper holds one value, and returns whether its row holds.
 use decimal_format::GroupingStrategy::{Always, Auto, Min2, Never};
-use decimal_format::{DecimalFormatter, GroupingStrategy};
+use decimal_format::{DecimalFormatter, GroupingStrategy, SymbolsError};
 use fixed_decimal::{DigitList, DigitStore, PackedDigits, Signed, Sink, UnsignedOver, Writeable};
 use locale_data::locale;
 use std::alloc::{AllocError, Global};
@@ -112,6 +112,42 @@ fn texts_are_those_of_icu(rt: HostRuntime) {
     }
     for row in UNGROUPED {
         assert!(rt; formats_over_each(rt.alloc(), *row), "{} {}", row.2, row.3);
+    }
+}
+
+/// The messages of the errors of symbols.
+const MESSAGES: &[(SymbolsError, &str)] = &[
+    (SymbolsError::DigitWidths, "The digits differ in length"),
+    (
+        SymbolsError::DecimalTooLong,
+        "The decimal separator has more than 255 bytes",
+    ),
+    (
+        SymbolsError::GroupingTooLong,
+        "The grouping separator has more than 255 bytes",
+    ),
+    (
+        SymbolsError::MinusPrefixTooLong,
+        "The prefix of the minus sign has more than 255 bytes",
+    ),
+    (
+        SymbolsError::MinusSuffixTooLong,
+        "The suffix of the minus sign has more than 255 bytes",
+    ),
+    (
+        SymbolsError::PlusPrefixTooLong,
+        "The prefix of the plus sign has more than 255 bytes",
+    ),
+    (
+        SymbolsError::PlusSuffixTooLong,
+        "The suffix of the plus sign has more than 255 bytes",
+    ),
+];
+
+#[test]
+fn errors_have_messages(rt: HostRuntime) {
+    for (error, text) in MESSAGES {
+        assert!(rt; displays(error, text.as_bytes()), "{text}");
     }
 }
 

@@ -42,9 +42,8 @@ impl<'f, D: DigitStore> fmt::Display for FormattedDecimal<'f, D> {
     ///
     /// The formatter fails.
     fn fmt<W: fmt::Write>(&self, f: &mut fmt::Formatter<W>) -> fmt::Result {
-        let affixes = self.affixes();
-        f.write_str(affixes.prefix)?;
+        f.write_str(self.prefix())?;
         self.fmt_absolute(f)?;
-        f.write_str(affixes.suffix)
+        f.write_str(self.suffix())
     }
 }

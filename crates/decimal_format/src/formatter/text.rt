@@ -1,70 +1,197 @@
 //! The text of a formatted decimal.
-ghost use Rattle.std.specs.Prelude.{◌≡◌, ◌+◌, ◌*◌, ◌<◌, ◌≤◌, ◌<ℤ◌, ◌≤ℤ◌, ◌-ℤ◌, pos, [], length, if◌then◌else◌, OnOk, OnErr, true, false};
+ghost use Rattle.std.specs.Prelude.{◌≡◌, ◌+◌, ◌*◌, ◌<◌, ◌≤◌, ◌<ℤ◌, ◌≤ℤ◌, ◌-◌, pos, [], ◌++◌, length, slice_index, EachIndex, OnOk, OnErr, true, false};
 ghost use Rattle.std.specs.Int.{int_gap};
 ghost use Rattle.std.specs.Io.KnownBytes.{Keeps, Appends};
 ghost use Rattle.decimal_digits.specs.AppendsPrefix.{AppendsPrefix};
-ghost use Rattle.decimal_digits.specs.Number.{digit as digit_of};
 ghost use Rattle.decimal_unsigned.specs.Unsigned.{IsValue};
-ghost use Rattle.decimal_format.specs.Formatted.{shown_count, nth_text, absolute_text, formatted_text};
-ghost use Rattle.decimal_format.specs.SeparatorCount.{separators_below};
-ghost use Rattle.decimal_format.specs.Symbols.{digit_text};
+ghost use Rattle.decimal_format.specs.Formatted.{shown_count, separator_before, separator_after, absolute_text, formatted_text};
+ghost use Rattle.decimal_format.specs.Parts.{magnitude_of, part_text, AreDigits, IsRun, digits_text, run_text, separators_below};
+ghost use Rattle.decimal_format.specs.Scanning.{separator_if};
 
 use super::FormattedDecimal;
+use super::short::{SHORT, SHORT_ROOM};
 use crate::block::Block;
 use crate::symbols::DecimalSymbols;
 use fixed_decimal::{DigitStore, Sink, SinkFault, Writeable};
 
-/// The greatest number of magnitudes of a text that is put into a block first.
-const SHORT: u32 = 32;
+/// The greatest number of digits of a part, which is written to a block before it is put into the sink.
+const PART: u32 = 32;
 
-/// Appends a separator, which is mostly empty.
-#[inline]
-fn put_separator<W: Sink>(separator: &str, sink: &mut W) -> Result<(), SinkFault>
-    ensures ok { OnOk result (Appends (W.contents sink.old) (W.contents sink.new) separator.now) }
-    ensures err { OnErr result (AppendsPrefix (W.contents sink.old) (W.contents sink.new) separator.now) }
-    ensures failed { OnErr result (W.has_failed sink.new ≡ true) }
-{
-    if separator.is_empty() {
-        return Ok(());
-    }
-    sink.put_bytes(separator.as_bytes())
+/// Digits with no separator between them: their number, and the separators before and after them, which may be empty.
+#[derive(Clone, Copy)]
+struct Run<'s> {
+    count: u32,
+    before: &'s str,
+    after: &'s str,
 }
 
-/// Appends a digit.
-#[inline]
-fn put_digit<W: Sink>(
+/// Appends ASCII digits by the symbols.
+fn write_digits<W: Sink>(
     symbols: &DecimalSymbols<'_>,
-    digit: u8,
+    digits: &[u8],
     sink: &mut W,
 ) -> Result<(), SinkFault>
-    requires { digit < 10 }
-    ensures ok { OnOk result (Appends (W.contents sink.old) (W.contents sink.new) (digit_text symbols.now digit)) }
+    requires { EachIndex digits.now (λ k. (48 ≤ slice_index digits.now k) × (slice_index digits.now k < 58)) }
+    ensures ok { OnOk result
+        (Appends (W.contents sink.old) (W.contents sink.new) (digits_text symbols.now digits.now)) }
     ensures err { OnErr result
-        (AppendsPrefix (W.contents sink.old) (W.contents sink.new) (digit_text symbols.now digit)) }
+        (AppendsPrefix (W.contents sink.old) (W.contents sink.new) (digits_text symbols.now digits.now)) }
     ensures failed { OnErr result (W.has_failed sink.new ≡ true) }
 {
     if symbols.has_ascii_digits() {
-        return sink.put_bytes(&[b'0' + digit]);
+        return sink.put_bytes(digits);
     }
-    let mut buffer = [0; 4];
-    sink.put_bytes(symbols.digit(digit).encode_utf8(&mut buffer).as_bytes())
+    for digit in digits {
+        let mut buffer = [0; 4];
+        let text = symbols.digit(*digit - b'0').encode_utf8(&mut buffer);
+        sink.put_bytes(text.as_bytes())?;
+    }
+    Ok(())
+}
+
+/// Returns the grouping separator or nothing.
+#[inline]
+fn grouping_if<'s>(symbols: &'s DecimalSymbols<'_>, separated: bool) -> &'s str
+    ensures { result.now ≡ separator_if symbols.now separated }
+{
+    if separated {
+        symbols.grouping_separator()
+    } else {
+        ""
+    }
 }
 
 impl<'f, D: DigitStore> FormattedDecimal<'f, D> {
-    /// Appends the digit of a magnitude, between separators.
+    /// Returns the run of up to `most` digits that begins at a magnitude.
     #[inline]
-    fn write_nth<W: Sink>(&self, below: u32, digit: u8, sink: &mut W) -> Result<(), SinkFault>
-        requires { (below < shown_count self.now.value.absolute)
-            × (digit ≡ digit_of self.now.value.absolute.number (self.now.value.absolute.hi -ℤ pos below)) }
+    fn run_at(&self, below: u32, most: u32) -> Run<'_>
+        requires some { 0 < most }
+        requires shown { below + most ≤ shown_count self.now.value.absolute }
+        ensures some { 0 < result.count }
+        ensures at_most { result.count ≤ most }
+        ensures run { IsRun self.now below result.count }
+        ensures before { result.before.now ≡ separator_before self.now.symbols (magnitude_of self.now below) }
+        ensures after { result.after.now ≡ separator_after self.now.symbols self.now.strategy self.now.value.absolute.hi
+            (magnitude_of self.now (below + result.count - 1)) }
+    {
+        let magnitude = self.magnitude(below);
+        if magnitude < 0 {
+            let before = self.separator_before(below);
+            return Run {
+                count: most,
+                before,
+                after: "",
+            };
+        }
+        let symbols = self.symbols;
+        let (count, separated) = symbols
+            .sizes()
+            .run_from(self.strategy, self.highest(), magnitude as u32, most);
+        let after = grouping_if(symbols, separated);
+        Run {
+            count,
+            before: "",
+            after,
+        }
+    }
+
+    /// Appends ASCII digits between the separators of a run.
+    #[inline]
+    fn write_run<W: Sink>(&self, run: Run<'_>, digits: &[u8], sink: &mut W) -> Result<(), SinkFault>
+        requires { EachIndex digits.now (λ k. (48 ≤ slice_index digits.now k) × (slice_index digits.now k < 58)) }
         ensures ok { OnOk result (Appends (W.contents sink.old) (W.contents sink.new)
-            (nth_text self.now.symbols self.now.strategy self.now.value.absolute below)) }
+            (run_text self.now.symbols run.entry.before.now run.entry.after.now digits.now)) }
         ensures err { OnErr result (AppendsPrefix (W.contents sink.old) (W.contents sink.new)
-            (nth_text self.now.symbols self.now.strategy self.now.value.absolute below)) }
+            (run_text self.now.symbols run.entry.before.now run.entry.after.now digits.now)) }
         ensures failed { OnErr result (W.has_failed sink.new ≡ true) }
     {
-        put_separator(self.separator_before(below), sink)?;
-        put_digit(self.symbols, digit, sink)?;
-        put_separator(self.separator_after(below), sink)
+        sink.put_bytes(run.before.as_bytes())?;
+        write_digits(self.symbols, digits, sink)?;
+        sink.put_bytes(run.after.as_bytes())
+    }
+
+    /// Writes the ASCII digits at consecutive magnitudes, one to each byte of the buffer.
+    #[inline]
+    fn copy_digits(&self, below: u32, buffer: &mut [u8])
+        requires some { 0 < length buffer.old }
+        requires shown { below + length buffer.old ≤ shown_count self.now.value.absolute }
+        ensures { AreDigits self.now below buffer.new }
+    {
+        self.value
+            .absolute
+            .write_digits(self.magnitude(below), buffer);
+    }
+
+    /// Appends the text of up to 32 magnitudes.
+    fn write_part<W: Sink>(&self, below: u32, count: u32, sink: &mut W) -> Result<(), SinkFault>
+        requires some { 0 < count }
+        requires at_most { count ≤ 32 }
+        requires shown { below + count ≤ shown_count self.now.value.absolute }
+        requires in_limits { below + count ≤ 65536 }
+        ensures ok { OnOk result
+            (Appends (W.contents sink.old) (W.contents sink.new) (part_text self.now below count)) }
+        ensures err { OnErr result
+            (AppendsPrefix (W.contents sink.old) (W.contents sink.new) (part_text self.now below count)) }
+        ensures failed { OnErr result (W.has_failed sink.new ≡ true) }
+    {
+        let mut buffer = [b'0'; PART as usize];
+        let digits = &mut buffer[..count as usize];
+        self.copy_digits(below, digits);
+        let mut written = 0;
+        while written < count {
+            let run = self.run_at(below + written, count - written);
+            let end = written + run.count;
+            self.write_run(run, &digits[written as usize..end as usize], sink)?;
+            written = end;
+        }
+        Ok(())
+    }
+
+    /// Appends the text of up to 32 magnitudes at once, if it fits a block.
+    fn put_part<W: Sink>(&self, below: u32, count: u32, sink: &mut W) -> Result<(), SinkFault>
+        requires some { 0 < count }
+        requires at_most { count ≤ 32 }
+        requires shown { below + count ≤ shown_count self.now.value.absolute }
+        requires in_limits { below + count ≤ 65536 }
+        ensures ok { OnOk result
+            (Appends (W.contents sink.old) (W.contents sink.new) (part_text self.now below count)) }
+        ensures err { OnErr result
+            (AppendsPrefix (W.contents sink.old) (W.contents sink.new) (part_text self.now below count)) }
+        ensures failed { OnErr result (W.has_failed sink.new ≡ true) }
+    {
+        let mut block = Block::new();
+        match self.write_part(below, count, &mut block) {
+            Ok(()) => sink.put_bytes(block.as_bytes()),
+            Err(SinkFault) => self.write_part(below, count, sink),
+        }
+    }
+
+    /// Appends the text of up to 32 magnitudes without the sign, if it fits the block.
+    #[inline]
+    fn put_absolute(&self, block: &mut Block) -> Result<(), SinkFault>
+        requires { shown_count self.now.value.absolute ≤ 32 }
+        ensures { OnOk result (block.new.0
+            ≡ block.old.0 ++ absolute_text self.now.symbols self.now.strategy self.now.value.absolute) }
+    {
+        let count = self.shown_count();
+        if count <= SHORT && block.has_room(SHORT_ROOM) {
+            if let Some((decimal, grouping)) = self.byte_separators() {
+                self.push_digits(decimal, grouping, block);
+                return Ok(());
+            }
+        }
+        self.write_part(0, count, block)
+    }
+
+    /// Appends the text of up to 32 magnitudes with the sign, if it fits the block.
+    #[inline]
+    fn write_short(&self, block: &mut Block) -> Result<(), SinkFault>
+        requires { shown_count self.now.value.absolute ≤ 32 }
+        ensures { OnOk result (block.new.0 ≡ block.old.0 ++ formatted_text self.now) }
+    {
+        block.put_bytes(self.prefix().as_bytes())?;
+        self.put_absolute(block)?;
+        block.put_bytes(self.suffix().as_bytes())
     }
 
     /// Appends the text without the sign.
@@ -75,30 +202,18 @@ impl<'f, D: DigitStore> FormattedDecimal<'f, D> {
             (absolute_text self.now.symbols self.now.strategy self.now.value.absolute)) }
         ensures failed { OnErr result (W.has_failed sink.new ≡ true) }
     {
-        let mut digits = self.value.absolute.digits();
-        let mut below = 0;
-        while let Some(digit) = digits.next() {
-            self.write_nth(below, digit, sink)?;
-            below += 1;
+        let count = self.shown_count();
+        let mut written = 0;
+        while written < count {
+            let part = PART.min(count - written);
+            self.put_part(written, part, sink)?;
+            written += part;
         }
         Ok(())
     }
+}
 
-    /// Appends the text.
-    fn write<W: Sink>(&self, sink: &mut W) -> Result<(), SinkFault>
-        ensures ok { OnOk result (Appends (W.contents sink.old) (W.contents sink.new) (formatted_text self.now)) }
-        ensures err { OnErr result
-            (AppendsPrefix (W.contents sink.old) (W.contents sink.new) (formatted_text self.now)) }
-        ensures had_not_failed { OnOk result (W.has_failed sink.old ≡ false) }
-        ensures failed { OnErr result (W.has_failed sink.new ≡ true) }
-        ensures unchanged { W.has_failed sink.old ≡ true → Keeps (W.contents sink.old) (W.contents sink.new) }
-    {
-        let affixes = self.affixes();
-        sink.put_bytes(affixes.prefix.as_bytes())?;
-        self.write_absolute(sink)?;
-        sink.put_bytes(affixes.suffix.as_bytes())
-    }
-
+impl<'f, D: DigitStore> FormattedDecimal<'f, D> {
     /// Returns the decimal separator if there are fraction digits.
     fn fraction_separator(&self) -> &str
         ensures fraction { self.now.value.absolute.lo <ℤ pos 0 → result.now ≡ self.now.symbols.decimal }
@@ -136,23 +251,24 @@ impl<'f, D: DigitStore> Writeable for FormattedDecimal<'f, D> {
     ///
     /// As [`Writeable::write_to`].
     fn write_to<W: Sink>(&self, sink: &mut W) -> Result<(), SinkFault> {
-        if self.shown_count() <= SHORT {
+        if self.shown_count() <= PART {
             let mut block = Block::new();
-            if let Ok(()) = self.write(&mut block) {
+            if let Ok(()) = self.write_short(&mut block) {
                 return sink.put_bytes(block.as_bytes());
             }
         }
-        self.write(sink)
+        sink.put_bytes(self.prefix().as_bytes())?;
+        self.write_absolute(sink)?;
+        sink.put_bytes(self.suffix().as_bytes())
     }
 
     /// Returns the exact number of bytes of the text, in constant time: 12 for `-1,234,567.5`.
     fn writeable_length_hint(&self) -> usize {
-        let affixes = self.affixes();
         let digits = self.shown_count() as usize * self.symbols.digit_width();
-        affixes.prefix.len()
+        self.prefix().len()
             + digits
             + self.separators_length()
             + self.fraction_separator().len()
-            + affixes.suffix.len()
+            + self.suffix().len()
     }
 }

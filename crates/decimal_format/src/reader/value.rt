@@ -127,7 +127,7 @@ impl<'a> DecimalSymbols<'a> {
 
     /// Makes the value of a text that was scanned.
     #[inline]
-    pub(crate) fn value<T: Input, D: DigitStore>(
+    pub(super) fn value<T: Input, D: DigitStore>(
         &self,
         alloc: Global,
         scanned: &Scanned<T>,

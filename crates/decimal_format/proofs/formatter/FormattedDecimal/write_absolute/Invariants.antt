@@ -1,20 +1,13 @@
-use Rattle.std.proofs.Common.{◌≡◌, ◌-◌, ◌≤◌, length}
-use Rattle.std.specs.Prelude.{pos, ◌-ℤ◌}
+use Rattle.std.proofs.Common.{◌-◌, ◌≤◌}
 use Rattle.std.specs.Io.KnownBytes.{Appends}
-use Rattle.decimal_unsigned.specs.ShownDigits.{digits_down}
-use Rattle.decimal_format.specs.Formatted.{shown_count}
-use Rattle.decimal_format.proofs.Magnitudes.{first_magnitudes}
+use Rattle.decimal_format.specs.Parts.{part_text}
 use Rattle.decimal_format.proofs.formatter.FormattedDecimal.write_absolute.Given as goal
 
-abbrev pub invariant-loop-digit : goal.invariant-loop-digit
-invariant-loop-digit g l =
-    let v = l.self.value.absolute in
-    record {
-      within : l.below ≤ shown_count v;
-      digits : l.digits ≡ digits_down v.number (v.hi -ℤ pos l.below) (shown_count v - l.below);
-      appended : Appends (g.W.Sink.contents l.initial.sink) (g.W.Sink.contents l.sink)
-          (first_magnitudes l.self.symbols l.self.strategy v l.below);
-    }
+abbrev pub invariant-loop-written : goal.invariant-loop-written
+invariant-loop-written g l = record {
+  within : l.written ≤ l.count;
+  appended : Appends (g.W.Sink.contents l.initial.sink) (g.W.Sink.contents l.sink) (part_text l.self 0 l.written);
+}
 
-abbrev pub decreases-loop-digit : goal.decreases-loop-digit
-decreases-loop-digit g l = length l.digits
+abbrev pub decreases-loop-written : goal.decreases-loop-written
+decreases-loop-written g l = l.count - l.written

@@ -44,7 +44,8 @@ returns-in_err-append-clause-memory g c = on_err c.from_residual.result _ (λ ds
     let so_far = c.loop-done.invariant ds es holds part in
     let read = c.read_separated-number.ensures so_far.others so_far.spelled in
     let word = (next_word so_far read (omega (arith, c.loop-done-test.true, part.bcd.count))).2 in
-    memory_for_word so_far read g.D.DigitStore.L (below_append ds es holds.digits part.bcd.digits) c.requires.in_limits.0
+    memory_for_word so_far read g.D.DigitStore.L (below_append ds es holds.digits part.bcd.digits)
+    c.requires.in_limits.0
     (omega (arith, length-append ds es, holds.count, part.bcd.count, c.requires.in_limits.1))
     (c.in_err-append.ensures.memory (ds ++ so_far.first) read.first so_far.holds word))
 

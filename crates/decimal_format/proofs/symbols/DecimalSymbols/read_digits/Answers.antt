@@ -18,7 +18,8 @@ pub returns-then-found-most-clause-none : goal.returns-then-found-most-clause-no
 returns-then-found-most-clause-none g c = λ chosen ds tail size below e.
     let group = rw c.sizes.ensures at c.run_to_end-most.ensures in
     read_fails c.loop-left.invariant.1 c.requires (none_after_last c.args.self.now) chosen ds tail size below e
-    c.read_run-found.ensures c.if-found-most.true (omega (arith, group.within, c.loop-left-test.true)) group.none_between
+    c.read_run-found.ensures c.if-found-most.true (omega (arith, group.within, c.loop-left-test.true))
+    group.none_between
 
 pub returns-clause-found : goal.returns-clause-found
 returns-clause-found g c = read_all c.loop-left.invariant.1 (omega (arith, c.loop-left-test.false))

@@ -24,6 +24,6 @@ returns g c =
       middle,
       count,
       c.separators_length.ensures.value,
-      ap length c.affixes-affixes.ensures.prefix,
-      ap length c.affixes-affixes.ensures.suffix,
+      ap length c.prefix.ensures.value,
+      ap length c.suffix.ensures.value,
     )
