@@ -1,11 +1,11 @@
 -- A decimal that is rounded at the position of a precision, with the digits that are shown then, is the one that the
 -- options make.
 use Rattle.std.proofs.Common.{◌≡◌, ℕ, ◌+◌, ◌-◌, ◌*◌, ◌/◌, ◌%◌, ◌^◌, ◌<◌, ◌≤◌, true, false, inl, inr, refl, sym, ◌∙◌, ap, subst, arith}
-use Rattle.std.specs.Prelude.{◌==◌, Option, Some, None, if◌then◌else◌, ◌||◌, ℤ, pos, negsuc, ◌+ℤ◌, ◌-ℤ◌, ◌≤ℤ◌, int_lt}
+use Rattle.std.specs.Prelude.{Some, None, ℤ, pos, negsuc, ◌-ℤ◌, ◌≤ℤ◌, int_lt}
 use Rattle.std.specs.Int.{int_max, int_min}
-use Rattle.std.proofs.Math.Nat.{mod-eq_of_lt, mod-lt, div-add-mod', mul-mod_left}
+use Rattle.std.proofs.Math.Nat.{mod-lt, div-add-mod', mul-mod_left}
 use Rattle.std.proofs.lemmas.Int.{ints, clamps}
-use Rattle.std.proofs.lemmas.Bool.{cases_Bool, or_from, or_parts, or_right}
+use Rattle.std.proofs.lemmas.Bool.{cases_Bool, or_from, or_right}
 use Rattle.decimal_digits.specs.Number.{number_limit, offset, weight, first, last, size, highest_magnitude}
 use Rattle.decimal_digits.specs.Rounding.{step_of, unit_at, rounded_number}
 use Rattle.decimal_digits.specs.declared.rounding.RoundError.{RoundError}
@@ -13,7 +13,7 @@ use Rattle.decimal_digits.specs.declared.rounding.RoundError.TheVariants.{Limit,
 use Rattle.decimal_digits.specs.declared.rounding.RoundingIncrement.{RoundingIncrement}
 use Rattle.decimal_unsigned.specs.Unsigned.{Unsigned, IsValue}
 use Rattle.decimal_unsigned.specs.Edits.{padded_start, padded_end, trimmed_end_if_integer}
-use Rattle.decimal_unsigned.specs.Rounded.{rounding, rounded_to, reaches_limit, with_number}
+use Rattle.decimal_unsigned.specs.Rounded.{rounding, rounded_to, reaches_limit}
 use Rattle.fixed_decimal.specs.Decimal.{Decimal, signed_number, with_absolute}
 use Rattle.fixed_decimal.specs.SignedRounding.{NamedSigned, mode_at, IsRounded, RoundingFails}
 use Rattle.fixed_decimal.proofs.Calling.{signed_rounded_to-some, below_limit, offset_is, first_le, size_right, ten_pos}
@@ -23,7 +23,7 @@ use Rattle.number_format.specs.declared.digit_options.TrailingZeros.TheVariants.
 use Rattle.number_format.specs.declared.precision.Precision.{Precision}
 use Rattle.number_format.specs.declared.precision.Precision.TheVariants.{Fraction, Multiples, Significant, MorePrecision, LessPrecision}
 use Rattle.number_format.specs.Positions.{base_of, position_of}
-use Rattle.number_format.specs.ShownDigits.{Rounded, rounded_by, rounded_at, exceeds_limit, lowest_shown, shown, applied, IsApplied, ApplyFails}
+use Rattle.number_format.specs.ShownDigits.{Rounded, rounded_at, lowest_shown, shown, ApplyFails}
 use Rattle.number_format.specs.Choices.{last_shown_of, IsRoundedAt, RoundingFailsAt}
 use Rattle.number_format.proofs.Chosen.{chosen}
 

@@ -1,31 +1,30 @@
 -- The exponent of a rounded number is that of its own magnitude, also if the rounding carries.
-use Rattle.std.proofs.Common.{◌≡◌, ℕ, zero, suc, ◌+◌, ◌-◌, ◌*◌, ◌/◌, ◌%◌, ◌^◌, ◌<◌, ◌≤◌, true, false, inl, inr, refl, sym, ◌∙◌, ap, subst, arith}
-use Rattle.std.specs.Prelude.{◌⊎◌, Option, Some, None, option_map, option_and_then, if◌then◌else◌, nat_lt, unsigned_abs, ℤ, pos, negsuc, ◌+ℤ◌, ◌-ℤ◌, ◌≤ℤ◌, ◌<ℤ◌, int_lt}
-use Rattle.std.specs.Int.{int_max, int_min, int_rem_euclid}
+use Rattle.std.proofs.Common.{◌≡◌, ℕ, ◌+◌, ◌-◌, ◌*◌, ◌^◌, ◌<◌, ◌≤◌, true, inl, inr, refl, sym, ◌∙◌, ap, subst, arith}
+use Rattle.std.specs.Prelude.{unsigned_abs, ℤ, pos, negsuc, ◌≤ℤ◌, ◌<ℤ◌, int_lt}
+use Rattle.std.specs.Int.{int_max}
 use Rattle.std.proofs.Math.Nat.{pow-le-pow_right}
 use Rattle.std.proofs.lemmas.Int.{ints, clamps}
-use Rattle.std.proofs.lemmas.Bool.{cases_Bool, cases_lt, or_parts}
-use Rattle.std.proofs.lemmas.Bool.Decides.{nat_tests}
-use Rattle.decimal_digits.specs.Number.{offset, number_limit, magnitude_at, first, highest_magnitude}
+use Rattle.std.proofs.lemmas.Bool.{cases_lt}
+use Rattle.decimal_digits.specs.Number.{offset, number_limit, magnitude_at, first}
 use Rattle.decimal_digits.specs.Rounding.{unit_at, rounded_number}
 use Rattle.decimal_digits.specs.declared.rounding.RoundingIncrement.TheVariants.{MultiplesOf1}
 use Rattle.decimal_digits.specs.declared.rounding.UnsignedRoundingMode.{UnsignedRoundingMode}
-use Rattle.decimal_unsigned.specs.Rounded.{reaches_limit}
 use Rattle.fixed_decimal.specs.Decimal.{Decimal}
 use Rattle.fixed_decimal.specs.SignedRounding.{mode_at}
-use Rattle.fixed_decimal.proofs.Calling.{Extent, extent, first_of, offset_is, ten_pos, powers, first_is, first_zero, first_le}
+use Rattle.fixed_decimal.proofs.Calling.{extent, first_of, offset_is, ten_pos, powers, first_is, first_zero, first_le}
 use Rattle.number_format.specs.declared.digit_options.DigitOptions.{DigitOptions}
 use Rattle.number_format.specs.declared.notation.Notation.{Notation}
 use Rattle.number_format.specs.declared.notation.Notation.TheVariants.{Standard, Scientific, Engineering, Compact}
 use Rattle.number_format.specs.declared.precision.Precision.{Precision}
 use Rattle.number_format.specs.declared.precision.Precision.TheVariants.{Fraction, Multiples, Significant, MorePrecision, LessPrecision}
-use Rattle.number_format.specs.Exponents.{compact_exponent, exponent_at}
+use Rattle.number_format.specs.Exponents.{exponent_at}
 use Rattle.number_format.specs.Positions.{base_of, position_of}
-use Rattle.number_format.specs.ShownDigits.{Rounded, rounded_at, exceeds_limit}
+use Rattle.number_format.specs.ShownDigits.{rounded_at}
 use Rattle.number_format.specs.Scaled.{whole_exponent, with_number, Settled}
-use Rattle.number_format.specs.DigitLaws.{HasNoIncrement, IsOrdered, HasOwnExponent}
+use Rattle.number_format.specs.DigitLaws.{HasNoIncrement, IsOrdered, HasOwnExponent, RoundsAsOnce}
 use Rattle.number_format.proofs.Chosen.{chosen}
-use Rattle.number_format.proofs.FirstDigits.{kept, reaches, limited}
+use Rattle.number_format.proofs.Coarser.{carry_coarser}
+use Rattle.number_format.proofs.FirstDigits.{unit_some, kept, reaches, limited}
 use Rattle.number_format.proofs.Scales.{once_or_twice}
 
 -- ---- The exponents of magnitudes.
@@ -106,11 +105,13 @@ module _ (o : DigitOptions) (plain : HasNoIncrement o.precision) (exponent : ℕ
       (base_is o.precision plain)
 
   -- a power of ten above the position bounds the rounded number, if it bounds the number
-  rounded_reaches : (k : ℕ) → offset position ≤ k → 10 ^ k ≤ v.absolute.number → 10 ^ k ≤ (rounded_at o exponent v).number
+  rounded_reaches : (k : ℕ) → offset position ≤ k → 10 ^ k ≤ v.absolute.number
+      → 10 ^ k ≤ (rounded_at o exponent v).number
   rounded_reaches k above h =
       subst (λ m. 10 ^ k ≤ m) (sym by_1) (reaches (mode_at o.mode v.sign) position v.absolute.number k above h)
 
-  rounded_limited : (k : ℕ) → offset position ≤ k → v.absolute.number ≤ 10 ^ k → (rounded_at o exponent v).number ≤ 10 ^ k
+  rounded_limited : (k : ℕ) → offset position ≤ k → v.absolute.number ≤ 10 ^ k
+      → (rounded_at o exponent v).number ≤ 10 ^ k
   rounded_limited k above h =
       subst (λ m. m ≤ 10 ^ k) (sym by_1) (limited (mode_at o.mode v.sign) position v.absolute.number k above h)
 
@@ -171,7 +172,9 @@ module _ (notation : Notation) (o : DigitOptions) (v : Decimal) (plain : HasNoIn
   position_there : offset (position_of o.precision exponent (first n)) ≤ 32768 + top
   position_there =
       let most = exponent_top notation ordered (first n) in
-      let below = position_most o.precision plain exponent (first n) (pos top) (omega (arith, ints, clamps)) (omega (arith, ints, most)) in
+      let below =
+      position_most o.precision plain exponent (first n) (pos top) (omega (arith, ints, clamps))
+      (omega (arith, ints, most)) in
       omega (arith, ints, below, offset_is (position_of o.precision exponent (first n)))
 
   made_most : made ≤ 10 ^ (32768 + top + 1)
@@ -185,14 +188,18 @@ module _ (notation : Notation) (o : DigitOptions) (v : Decimal) (plain : HasNoIn
       let high = first_most n few in
       elim (cases_lt 0 top) [
         | inr none ↦
-            let low = first_le made (pos 0) (subst (λ k. made < 10 ^ k) (let e : 32768 + top + 1 ≡ offset (pos 0) + 1 = omega (arith, ints, offset_is (pos 0)) in e) less) (omega (arith, ints)) (omega (arith, ints)) in
+            let at : 32768 + top + 1 ≡ offset (pos 0) + 1 = omega (arith, ints, offset_is (pos 0), none) in
+            let low =
+            first_le made (pos 0) (subst (λ k. made < 10 ^ k) at less) (omega (arith, ints)) (omega (arith, ints)) in
             exponent_low notation (first made) low
             ∙ sym (exponent_low notation (first n) (omega (arith, ints, clamps, none)))
         | inl some ↦
             let at : first n ≡ pos top = omega (arith, ints, clamps, some) in
-            let reach = rounded_reaches o plain exponent v few (32768 + top) position_there (at_least_power n top few at some) in
+            let reach =
+            rounded_reaches o plain exponent v few (32768 + top) position_there (at_least_power n top few at some) in
             let same = first_is made (32768 + top) reach less (omega (arith, ints, at, high)) in
-            ap (exponent_from_0 notation) (same ∙ (let m : magnitude_at (32768 + top) ≡ first n = omega (arith, ints, at) in m))
+            let there : magnitude_at (32768 + top) ≡ first n = omega (arith, ints, at) in
+            ap (exponent_from_0 notation) (same ∙ there)
       ]
 
   -- a carry makes exactly a power of ten
@@ -209,7 +216,8 @@ module _ (notation : Notation) (o : DigitOptions) (v : Decimal) (plain : HasNoIn
               first_is made (32768 + top + 1) full (omega (arith, made_is, next, ten_pos (32768 + top + 1))) low
               ∙ (let m : magnitude_at (32768 + top + 1) ≡ pos (top + 1) = omega (arith, ints) in m)
           | inr high ↦
-              let limit : number_limit ≤ 10 ^ (32768 + top + 1) = pow-le-pow_right (omega arith) (omega (arith, ints, high, offset_is (pos 32768))) in
+              let limit : number_limit ≤ 10 ^ (32768 + top + 1) =
+              pow-le-pow_right (omega arith) (omega (arith, ints, high, offset_is (pos 32768))) in
               absurd (omega (arith, limit, full, fits))
         ]
 
@@ -221,8 +229,12 @@ module _ (notation : Notation) (o : DigitOptions) (v : Decimal) (plain : HasNoIn
     again =
         let next = whole_exponent notation made in
         let most = exponent_top notation ordered (first made) in
-        let below = position_most o.precision plain next (first made) (pos (top + 1)) (omega (arith, ints, carried)) (omega (arith, ints, clamps, carried, most)) in
-        rounded_kept o plain next (with_number v made) fits (32768 + top + 1) (omega (arith, ints, below, offset_is (position_of o.precision next (first made)))) made_is
+        let below =
+        position_most o.precision plain next (first made) (pos (top + 1)) (omega (arith, ints, carried))
+        (omega (arith, ints, clamps, carried, most)) in
+        let there : offset (position_of o.precision next (first made)) ≤ 32768 + top + 1 =
+        omega (arith, ints, below, offset_is (position_of o.precision next (first made))) in
+        rounded_kept o plain next (with_number v made) fits (32768 + top + 1) there made_is
 
 -- the exponent of a settled decimal is that of its rounded number
 pub has_own_exponent : (notation : Notation) (o : DigitOptions) (v : Decimal) → HasOwnExponent notation o v
@@ -243,4 +255,62 @@ has_own_exponent notation o v plain ordered few s is =
             | inl less ↦ absurd (omega (arith, stays notation o v plain ordered few less, twice.1))
             | inr full ↦ ap (whole_exponent notation) (sym (again notation o v plain ordered few full twice.2))
           ])
+    ]
+
+-- ---- Two roundings make what one makes.
+-- a higher exponent gives no lower position
+position_up : (p : Precision) → HasNoIncrement p → (low high : ℕ) (m : ℤ) → low ≤ high
+    → position_of p low m ≤ℤ position_of p high m
+position_up (Fraction f) is low high m h = omega (arith, ints)
+position_up (Multiples x) is low high m h = absurd is
+position_up (Significant s) is low high m h = omega (arith, ints)
+position_up (MorePrecision b) is low high m h = omega (arith, ints, clamps)
+position_up (LessPrecision b) is low high m h = omega (arith, ints, clamps)
+
+-- a carry at one position is a carry at each higher one
+carry_higher : (mode : UnsignedRoundingMode) (n : ℕ) (p q : ℤ) (k : ℕ) → offset p ≤ offset q → offset q ≤ k
+    → n < 10 ^ k → rounded_number mode (unit_at MultiplesOf1 p) n ≡ 10 ^ k
+    → rounded_number mode (unit_at MultiplesOf1 q) n ≡ 10 ^ k
+carry_higher mode n p q k h l less made =
+    let split = powers (offset q - offset p) (offset p) (offset q) (omega (arith, h)) in
+    let factor : 10 ^ (k - offset q) ≡ 10 ^ (k - offset q) - 1 + 1 = omega (arith, ten_pos (k - offset q)) in
+    let end : 10 ^ k ≡ (10 ^ (k - offset q) - 1 + 1) * 10 ^ offset q =
+    powers (k - offset q) (offset q) k (omega (arith, l)) ∙ ap (λ x. x * 10 ^ offset q) factor in
+    carry_coarser mode (unit_at MultiplesOf1 p) (10 ^ (offset q - offset p)) (unit_at MultiplesOf1 q) n
+    (10 ^ (k - offset q) - 1) (10 ^ k) (unit_some mode p) (ten_pos (offset q - offset p)) (omega (arith, split))
+    (omega (arith, end)) less made
+
+-- the number of a settled decimal is what one rounding with its exponent makes
+pub rounds_as_once : (notation : Notation) (o : DigitOptions) (v : Decimal) → RoundsAsOnce notation o v
+rounds_as_once notation o v plain ordered few s is =
+    let own = whole_exponent notation v.absolute.number in
+    let number = (rounded_at o own v).number in
+    let next = whole_exponent notation number in
+    let high = top notation o v plain ordered few in
+    elim (once_or_twice notation o v s is) [
+      | inl once ↦
+          subst (λ (s : Settled). s.rounded.number ≡ (rounded_at o s.exponent v).number) (sym once.0) refl
+      | inr twice ↦ elim (cases_lt number (10 ^ (32768 + high + 1))) [
+        | inl less ↦ absurd (omega (arith, stays notation o v plain ordered few less, twice.1))
+        | inr full ↦
+            let first_is = carried notation o v plain ordered few full twice.2 in
+            let most = exponent_top notation ordered (first number) in
+            let m = first v.absolute.number in
+            let p = position_of o.precision own m in
+            let q = position_of o.precision next m in
+            let up = position_up o.precision plain own next m (omega (arith, twice.1)) in
+            let below =
+            position_most o.precision plain next m (pos (high + 1)) (omega (arith, ints, clamps))
+            (omega (arith, ints, clamps, first_is, most)) in
+            let made = made_is notation o v plain ordered few full twice.2 in
+            let less =
+            below_power v.absolute.number (32768 + high + 1) few (omega (arith, ints, clamps)) (omega arith) in
+            let directly =
+            by_1 o plain next v few
+            ∙ carry_higher (mode_at o.mode v.sign) v.absolute.number p q (32768 + high + 1)
+            (omega (arith, ints, offset_is p, offset_is q, up)) (omega (arith, ints, offset_is q, below)) less
+            (sym (by_1 o plain own v few) ∙ made) in
+            subst (λ (s : Settled). s.rounded.number ≡ (rounded_at o s.exponent v).number) (sym twice.0)
+            (again notation o v plain ordered few full twice.2 ∙ made ∙ sym directly)
+      ]
     ]

@@ -1,13 +1,13 @@
 -- The first digit of a number before and after a rounding.
-use Rattle.std.proofs.Common.{◌≡◌, ℕ, zero, suc, ◌+◌, ◌-◌, ◌*◌, ◌^◌, ◌<◌, ◌≤◌, true, inl, inr, refl, sym, ◌∙◌, ap, subst, arith, rules}
-use Rattle.std.specs.Prelude.{nat_le, ℤ, pos, negsuc, ◌+ℤ◌, ◌-ℤ◌, ◌≤ℤ◌, ◌<ℤ◌}
+use Rattle.std.proofs.Common.{◌≡◌, ℕ, zero, suc, ◌+◌, ◌-◌, ◌*◌, ◌^◌, ◌<◌, ◌≤◌, inl, inr, refl, sym, ◌∙◌, ap, subst, arith, rules}
+use Rattle.std.specs.Prelude.{nat_le, ℤ, pos, ◌+ℤ◌, ◌≤ℤ◌}
 use Rattle.std.proofs.lemmas.Int.{ints}
 use Rattle.std.proofs.lemmas.Bool.{cases_lt}
-use Rattle.decimal_digits.specs.Number.{offset, weight, number_limit, magnitude_at, first}
+use Rattle.decimal_digits.specs.Number.{offset, number_limit, magnitude_at, first}
 use Rattle.decimal_digits.specs.Rounding.{unit_at, rounded_number}
 use Rattle.decimal_digits.specs.declared.rounding.RoundingIncrement.TheVariants.{MultiplesOf1}
 use Rattle.decimal_digits.specs.declared.rounding.UnsignedRoundingMode.{UnsignedRoundingMode}
-use Rattle.fixed_decimal.proofs.Calling.{Extent, extent, first_of, offset_is, ten_pos, powers, first_is, first_zero, greatest_is, rounded_number-multiple, rounded_number-monotone}
+use Rattle.fixed_decimal.proofs.Calling.{Extent, extent, first_of, offset_is, ten_pos, powers, first_is, greatest_is, rounded_number-multiple, rounded_number-monotone}
 
 -- no search for the first digit goes above 65535
 first_highest : (n k : ℕ) → k + 1 ≡ 65536 → 10 ^ k ≤ n → first n ≡ magnitude_at k
@@ -90,6 +90,7 @@ module _ (mode : UnsignedRoundingMode) (n : ℕ) (position : ℤ) (few : n < num
   first_near = elim (cases_lt 0 n) [
     | inl some ↦ near (extent (offset (pos 32768)) n some few (omega (arith, ints, offset_is (pos 32768))))
     | inr none ↦
-        let e = ap first (rounded_zero mode (unit_at MultiplesOf1 position) n (unit_some mode position) (omega arith)) in
+        let e =
+        ap first (rounded_zero mode (unit_at MultiplesOf1 position) n (unit_some mode position) (omega arith)) in
         (omega (arith, ints, e), omega (arith, ints, e))
   ]

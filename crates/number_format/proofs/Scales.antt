@@ -1,22 +1,21 @@
 -- The significand and the exponent of a number.
-use Rattle.std.proofs.Common.{◌≡◌, ℕ, zero, suc, ◌+◌, ◌-◌, ◌*◌, ◌/◌, ◌%◌, ◌^◌, ◌<◌, ◌≤◌, true, false, ◌||◌, inl, inr, refl, sym, ◌∙◌, ap, subst, arith}
+use Rattle.std.proofs.Common.{◌≡◌, ℕ, zero, suc, ◌+◌, ◌-◌, ◌*◌, ◌/◌, ◌%◌, ◌^◌, ◌<◌, ◌≤◌, true, false, inl, inr, refl, sym, ◌∙◌, ap, subst, arith}
 use Rattle.std.specs.Prelude.{◌⊎◌, Option, Some, None, option_map, option_and_then, if◌then◌else◌, nat_lt, unsigned_abs, ℤ, pos, negsuc, neg_ℤ, ◌+ℤ◌, ◌-ℤ◌, ◌<ℤ◌, ◌≤ℤ◌, int_lt}
-use Rattle.std.specs.Int.{int_max, int_min}
+use Rattle.std.specs.Int.{int_min}
 use Rattle.std.proofs.Math.Nat.{mul_assoc, mul-le-mul_right, mul-lt-mul_of_pos_right, mul-mod_left, mod-eq_of_lt, div-add-mod', div-le_self}
-use Rattle.std.proofs.lemmas.Int.{ints, clamps}
+use Rattle.std.proofs.lemmas.Int.{ints}
 use Rattle.std.proofs.lemmas.Bool.{cases_Bool, cases_lt, or_parts}
 use Rattle.std.proofs.lemmas.Bool.Decides.{nat_tests}
-use Rattle.decimal_digits.specs.Number.{offset, number_limit, weight, magnitude_at, first, last, lowest_magnitude}
-use Rattle.decimal_unsigned.specs.Unsigned.{Unsigned, IsValue}
+use Rattle.decimal_digits.specs.Number.{offset, number_limit, weight, first, last, lowest_magnitude}
+use Rattle.decimal_unsigned.specs.Unsigned.{Unsigned}
 use Rattle.decimal_unsigned.specs.Rounded.{reaches_limit}
-use Rattle.decimal_unsigned.specs.Edits.{times_power, leaves_limits, trimmed_end, trimmed_start}
+use Rattle.decimal_unsigned.specs.Edits.{times_power}
 use Rattle.fixed_decimal.specs.Decimal.{Decimal}
-use Rattle.fixed_decimal.specs.SignedRounding.{mode_at}
-use Rattle.fixed_decimal.proofs.Calling.{Extent, extent, first_of, last_of, offset_is, ten_pos, powers, first_is, first_zero, below_limit}
+use Rattle.fixed_decimal.proofs.Calling.{extent, first_of, last_of, offset_is, ten_pos, powers, first_is, first_zero}
 use Rattle.number_format.specs.declared.digit_options.DigitOptions.{DigitOptions}
 use Rattle.number_format.specs.declared.notation.Notation.{Notation}
 use Rattle.number_format.specs.Exponents.{exponent_at}
-use Rattle.number_format.specs.ShownDigits.{Rounded, rounded_by, rounded_at, exceeds_limit, shown}
+use Rattle.number_format.specs.ShownDigits.{Rounded, rounded_at, exceeds_limit, shown}
 use Rattle.number_format.specs.Choices.{IsRoundedAt}
 use Rattle.number_format.specs.ScaledValue.{ScaledValue, scaled_value}
 use Rattle.number_format.specs.DigitLaws.{KeepsValueOf}

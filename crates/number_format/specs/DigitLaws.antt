@@ -1,5 +1,5 @@
 -- Laws of digit options and of notations.
-use Rattle.std.specs.Prelude.{◌≡◌, ℕ, ◌+◌, ◌*◌, ◌%◌, ◌^◌, ◌<◌, ◌≤◌, Option, Some, ℤ, pos, ◌+ℤ◌, ◌-ℤ◌, ◌≤ℤ◌}
+use Rattle.std.specs.Prelude.{◌≡◌, ℕ, ◌+◌, ◌*◌, ◌%◌, ◌^◌, ◌<◌, ◌≤◌, Some, pos, ◌+ℤ◌, ◌-ℤ◌, ◌≤ℤ◌}
 use Rattle.std.specs.Int.{int_max}
 use Rattle.decimal_digits.specs.Number.{number_limit, weight, first}
 use Rattle.fixed_decimal.specs.Decimal.{Decimal}
@@ -66,6 +66,12 @@ abbrev pub HasOwnExponent : Notation → DigitOptions → Decimal → Type 0
 HasOwnExponent notation o v =
     HasNoIncrement o.precision → IsOrdered notation → v.absolute.number < number_limit
     → (s : Settled) → settled notation o v ≡ Some s → s.exponent ≡ whole_exponent notation s.rounded.number
+
+-- and one rounding with that exponent makes the same number
+abbrev pub RoundsAsOnce : Notation → DigitOptions → Decimal → Type 0
+RoundsAsOnce notation o v =
+    HasNoIncrement o.precision → IsOrdered notation → v.absolute.number < number_limit
+    → (s : Settled) → settled notation o v ≡ Some s → s.rounded.number ≡ (rounded_at o s.exponent v).number
 
 -- the significand times the power of ten is the rounded number, if no integer digit is cut off
 abbrev pub KeepsValueOf : Notation → DigitOptions → Decimal → Type 0
