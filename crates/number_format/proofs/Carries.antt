@@ -1,10 +1,10 @@
 -- The exponent of a rounded number is that of its own magnitude, also if the rounding carries.
-use Rattle.std.proofs.Common.{◌≡◌, ℕ, ◌+◌, ◌-◌, ◌*◌, ◌^◌, ◌<◌, ◌≤◌, true, inl, inr, refl, sym, ◌∙◌, ap, subst, arith}
-use Rattle.std.specs.Prelude.{unsigned_abs, ℤ, pos, negsuc, ◌≤ℤ◌, ◌<ℤ◌, int_lt}
-use Rattle.std.specs.Int.{int_max}
-use Rattle.std.proofs.Math.Nat.{pow-le-pow_right}
+use Rattle.std.proofs.Common.{◌≡◌, ℕ, ◌+◌, ◌-◌, ◌*◌, ◌^◌, ◌<◌, ◌≤◌, true, inl, inr, refl, sym, ◌∙◌, ap, subst, arith, false}
+use Rattle.std.specs.Prelude.{unsigned_abs, ℤ, pos, negsuc, ◌≤ℤ◌, ◌<ℤ◌, int_lt, Some, if◌then◌else◌, ◌-ℤ◌}
+use Rattle.std.specs.Int.{int_max, int_min}
+use Rattle.std.proofs.Math.Nat.{mul-lt-mul_of_pos_right, pow-le-pow_right}
 use Rattle.std.proofs.lemmas.Int.{ints, clamps}
-use Rattle.std.proofs.lemmas.Bool.{cases_lt}
+use Rattle.std.proofs.lemmas.Bool.{cases_lt, cases_Bool}
 use Rattle.decimal_digits.specs.Number.{offset, number_limit, magnitude_at, first}
 use Rattle.decimal_digits.specs.Rounding.{unit_at, rounded_number}
 use Rattle.decimal_digits.specs.declared.rounding.RoundingIncrement.TheVariants.{MultiplesOf1}
@@ -20,7 +20,7 @@ use Rattle.number_format.specs.declared.precision.Precision.TheVariants.{Fractio
 use Rattle.number_format.specs.Exponents.{exponent_at}
 use Rattle.number_format.specs.Positions.{base_of, position_of}
 use Rattle.number_format.specs.ShownDigits.{rounded_at}
-use Rattle.number_format.specs.Scaled.{whole_exponent, with_number, Settled}
+use Rattle.number_format.specs.Scaled.{whole_exponent, with_number, Settled, base_exponent, raised, settled}
 use Rattle.number_format.specs.DigitLaws.{HasNoIncrement, IsOrdered, HasOwnExponent, RoundsAsOnce}
 use Rattle.number_format.proofs.Chosen.{chosen}
 use Rattle.number_format.proofs.Coarser.{carry_coarser}
@@ -237,8 +237,10 @@ module _ (notation : Notation) (o : DigitOptions) (v : Decimal) (plain : HasNoIn
         rounded_kept o plain next (with_number v made) fits (32768 + top + 1) there made_is
 
 -- the exponent of a settled decimal is that of its rounded number
-pub has_own_exponent : (notation : Notation) (o : DigitOptions) (v : Decimal) → HasOwnExponent notation o v
-has_own_exponent notation o v plain ordered few s is =
+own_exponent : (notation : Notation) (o : DigitOptions) (v : Decimal) → HasNoIncrement o.precision → IsOrdered notation
+    → v.absolute.number < number_limit → (s : Settled) → settled notation o v ≡ Some s
+    → s.exponent ≡ whole_exponent notation s.rounded.number
+own_exponent notation o v plain ordered few s is =
     let number = (rounded_at o (whole_exponent notation v.absolute.number) v).number in
     let carry = 32768 + top notation o v plain ordered few + 1 in
     elim (once_or_twice notation o v s is) [
@@ -281,8 +283,10 @@ carry_higher mode n p q k h l less made =
     (omega (arith, end)) less made
 
 -- the number of a settled decimal is what one rounding with its exponent makes
-pub rounds_as_once : (notation : Notation) (o : DigitOptions) (v : Decimal) → RoundsAsOnce notation o v
-rounds_as_once notation o v plain ordered few s is =
+as_once : (notation : Notation) (o : DigitOptions) (v : Decimal) → HasNoIncrement o.precision → IsOrdered notation
+    → v.absolute.number < number_limit → (s : Settled) → settled notation o v ≡ Some s
+    → s.rounded.number ≡ (rounded_at o s.exponent v).number
+as_once notation o v plain ordered few s is =
     let own = whole_exponent notation v.absolute.number in
     let number = (rounded_at o own v).number in
     let next = whole_exponent notation number in
@@ -314,3 +318,46 @@ rounds_as_once notation o v plain ordered few s is =
             (again notation o v plain ordered few full twice.2 ∙ made ∙ sym directly)
       ]
     ]
+
+-- ---- A decimal that is multiplied by its power of ten first.
+-- an exponent is 0 or more, or at most 2 below the magnitude
+exponent_least : (notation : Notation) (m : ℤ) → int_min (m -ℤ pos 2) (pos 0) ≤ℤ exponent_at notation m
+exponent_least Standard m = omega (arith, ints, clamps)
+exponent_least Scientific m = omega (arith, ints, clamps)
+exponent_least Engineering (pos m) = omega (arith, ints, clamps)
+exponent_least Engineering (negsuc m) = omega (arith, ints, clamps)
+exponent_least (Compact table) m = elim (cases_Bool (int_lt m (pos 3))) [
+  | inl t ↦ rw t (omega (arith, ints, clamps))
+  | inr t ↦ rw t (omega (arith, ints, clamps))
+]
+
+-- it stays below the limit
+raised_below : (notation : Notation) (v : Decimal) → v.absolute.number < number_limit
+    → (raised notation v).absolute.number < number_limit
+raised_below notation v few =
+    let n = v.absolute.number in
+    let least = exponent_least notation (first n) in
+    let count = unsigned_abs (base_exponent notation v) in
+    elim (cases_lt 0 n) [
+      | inr none ↦
+          let zero : n * 10 ^ count ≡ 0 * 10 ^ count =
+          ap (λ m. m * 10 ^ count) (let z : n ≡ 0 = omega arith in z) in
+          omega (arith, zero, ten_pos (offset (pos 32768)))
+      | inl some ↦
+          let e = extent (offset (pos 32768)) n some few (omega (arith, ints, offset_is (pos 32768))) in
+          let less = mul-lt-mul_of_pos_right e.below (ten_pos count) in
+          let up : 10 ^ (e.top + 1 + count) ≡ 10 ^ (e.top + 1) * 10 ^ count =
+          powers (e.top + 1) count (e.top + 1 + count) refl in
+          let low : e.top + 1 + count ≤ offset (pos 32768) =
+          omega (arith, ints, clamps, first_of e, least, e.limit, offset_is (pos 32768)) in
+          let most : 10 ^ (e.top + 1 + count) ≤ number_limit = pow-le-pow_right (omega arith) low in
+          omega (arith, less, up, most)
+    ]
+
+pub has_own_exponent : (notation : Notation) (o : DigitOptions) (v : Decimal) → HasOwnExponent notation o v
+has_own_exponent notation o v plain ordered few s is =
+    own_exponent notation o (raised notation v) plain ordered (raised_below notation v few) s is
+
+pub rounds_as_once : (notation : Notation) (o : DigitOptions) (v : Decimal) → RoundsAsOnce notation o v
+rounds_as_once notation o v plain ordered few s is =
+    as_once notation o (raised notation v) plain ordered (raised_below notation v few) s is

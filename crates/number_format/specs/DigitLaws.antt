@@ -65,13 +65,15 @@ IsOrdered notation = Unit {0}
 abbrev pub HasOwnExponent : Notation → DigitOptions → Decimal → Type 0
 HasOwnExponent notation o v =
     HasNoIncrement o.precision → IsOrdered notation → v.absolute.number < number_limit
-    → (s : Settled) → settled notation o v ≡ Some s → s.exponent ≡ whole_exponent notation s.rounded.number
+    → (s : Settled) → settled notation o (raised notation v) ≡ Some s
+    → s.exponent ≡ whole_exponent notation s.rounded.number
 
 -- and one rounding with that exponent makes the same number
 abbrev pub RoundsAsOnce : Notation → DigitOptions → Decimal → Type 0
 RoundsAsOnce notation o v =
     HasNoIncrement o.precision → IsOrdered notation → v.absolute.number < number_limit
-    → (s : Settled) → settled notation o v ≡ Some s → s.rounded.number ≡ (rounded_at o s.exponent v).number
+    → (s : Settled) → settled notation o (raised notation v) ≡ Some s
+    → s.rounded.number ≡ (rounded_at o s.exponent (raised notation v)).number
 
 -- the significand times the power of ten is the rounded number, if no integer digit is cut off
 abbrev pub KeepsValueOf : Notation → DigitOptions → Decimal → Type 0
