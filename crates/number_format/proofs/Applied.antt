@@ -16,7 +16,7 @@ use Rattle.decimal_unsigned.specs.Edits.{padded_start, padded_end, trimmed_end_i
 use Rattle.decimal_unsigned.specs.Rounded.{rounding, rounded_to, reaches_limit}
 use Rattle.fixed_decimal.specs.Decimal.{Decimal, signed_number, with_absolute}
 use Rattle.fixed_decimal.specs.SignedRounding.{NamedSigned, mode_at, IsRounded, RoundingFails}
-use Rattle.fixed_decimal.proofs.Calling.{signed_rounded_to-some, below_limit, offset_is, first_le, size_right, ten_pos}
+use Rattle.fixed_decimal.proofs.Calling.{signed_rounded_to-some, below_limit, offset_is, size_right, ten_pos}
 use Rattle.number_format.specs.declared.digit_options.DigitOptions.{DigitOptions}
 use Rattle.number_format.specs.declared.digit_options.TrailingZeros.{TrailingZeros}
 use Rattle.number_format.specs.declared.digit_options.TrailingZeros.TheVariants.{Auto, StripIfInteger}
@@ -26,6 +26,7 @@ use Rattle.number_format.specs.Positions.{base_of, position_of}
 use Rattle.number_format.specs.ShownDigits.{Rounded, rounded_at, lowest_shown, shown, ApplyFails}
 use Rattle.number_format.specs.Choices.{last_shown_of, IsRoundedAt, RoundingFailsAt}
 use Rattle.number_format.proofs.Chosen.{chosen}
+use Rattle.number_format.proofs.FirstDigits.{first_most}
 
 -- ---- The rounding.
 -- at a position below the lowest magnitude the unit is that of the lowest one
@@ -184,12 +185,7 @@ position_within (LessPrecision b) m h = omega (arith, ints, clamps, b.significan
 pub apply_fails : (held : ℕ) (e : RoundError) (o : DigitOptions) (v : Decimal) → RoundingFailsAt held e o 0 v
     → ApplyFails held e o v
 apply_fails held Limit o v (few, exceeds) =
-    let top : offset (pos 32768) ≡ offset (pos 32767) + 1 =
-    omega (arith, ints, offset_is (pos 32767), offset_is (pos 32768)) in
-    let high =
-    first_le v.absolute.number (pos 32767) (subst (λ k. v.absolute.number < 10 ^ k) top few) (omega (arith, ints))
-    (omega (arith, ints)) in
-    let below = position_within o.precision (first v.absolute.number) high in
+    let below = position_within o.precision (first v.absolute.number) (first_most v.absolute.number few) in
     let within : int_lt highest_magnitude (position_of o.precision 0 (first v.absolute.number)) ≡ false =
     grind (arith, ints) in
     elim (cases_Bool (reaches_limit (rounded_at o 0 v).number)) [

@@ -24,7 +24,7 @@ use Rattle.number_format.specs.Scaled.{whole_exponent, with_number, Settled, bas
 use Rattle.number_format.specs.DigitLaws.{HasNoIncrement, IsOrdered, HasOwnExponent, RoundsAsOnce}
 use Rattle.number_format.proofs.Chosen.{chosen}
 use Rattle.number_format.proofs.Coarser.{carry_coarser}
-use Rattle.number_format.proofs.FirstDigits.{unit_some, kept, reaches, limited}
+use Rattle.number_format.proofs.FirstDigits.{first_most, unit_some, kept, reaches, limited}
 use Rattle.number_format.proofs.Scales.{once_or_twice}
 
 -- ---- The exponents of magnitudes.
@@ -122,13 +122,6 @@ module _ (o : DigitOptions) (plain : HasNoIncrement o.precision) (exponent : ℕ
       by_1 ∙ ap (rounded_number (mode_at o.mode v.sign) (unit_at MultiplesOf1 position)) is
       ∙ kept (mode_at o.mode v.sign) position k above ∙ sym is
 
--- the first digit of a number below the limit
-first_most : (n : ℕ) → n < number_limit → first n ≤ℤ pos 32767
-first_most n few =
-    let top : offset (pos 32768) ≡ offset (pos 32767) + 1 =
-    omega (arith, ints, offset_is (pos 32767), offset_is (pos 32768)) in
-    first_le n (pos 32767) (subst (λ k. n < 10 ^ k) top few) (omega (arith, ints)) (omega (arith, ints))
-
 -- a number is less than a power of ten above its first digit
 below_power : (n k : ℕ) → n < number_limit → first n <ℤ magnitude_at k → 32768 < k → n < 10 ^ k
 below_power n k few above high = elim (cases_lt 0 n) [
@@ -165,9 +158,6 @@ module _ (notation : Notation) (o : DigitOptions) (v : Decimal) (plain : HasNoIn
   -- the magnitude of the first digit, and 0 if it is below 0
   abbrev top : ℕ
   top = unsigned_abs (int_max (pos 0) (first n))
-
-  top_is : pos top ≡ int_max (pos 0) (first n)
-  top_is = omega (arith, ints, clamps)
 
   position_there : offset (position_of o.precision exponent (first n)) ≤ 32768 + top
   position_there =

@@ -7,7 +7,7 @@ use Rattle.decimal_digits.specs.Number.{offset, number_limit, magnitude_at, firs
 use Rattle.decimal_digits.specs.Rounding.{unit_at, rounded_number}
 use Rattle.decimal_digits.specs.declared.rounding.RoundingIncrement.TheVariants.{MultiplesOf1}
 use Rattle.decimal_digits.specs.declared.rounding.UnsignedRoundingMode.{UnsignedRoundingMode}
-use Rattle.fixed_decimal.proofs.Calling.{Extent, extent, first_of, offset_is, ten_pos, powers, first_is, greatest_is, rounded_number-multiple, rounded_number-monotone}
+use Rattle.fixed_decimal.proofs.Calling.{Extent, extent, first_of, offset_is, ten_pos, powers, first_is, first_le, greatest_is, rounded_number-multiple, rounded_number-monotone}
 
 -- no search for the first digit goes above 65535
 first_highest : (n k : ℕ) → k + 1 ≡ 65536 → 10 ^ k ≤ n → first n ≡ magnitude_at k
@@ -17,6 +17,13 @@ first_highest (suc n) k last h =
     ap magnitude_at
     (greatest_is (λ i. nat_le (10 ^ i) (suc n)) 65536 k (omega arith) (search (rules, h))
     (λ i p q. absurd (omega arith)))
+
+-- the first digit of a number below the limit
+pub first_most : (n : ℕ) → n < number_limit → first n ≤ℤ pos 32767
+first_most n few =
+    let top : offset (pos 32768) ≡ offset (pos 32767) + 1 =
+    omega (arith, ints, offset_is (pos 32767), offset_is (pos 32768)) in
+    first_le n (pos 32767) (subst (λ k. n < 10 ^ k) top few) (omega (arith, ints)) (omega (arith, ints))
 
 -- 0 is rounded to 0
 pub rounded_zero : (mode : UnsignedRoundingMode) (unit n : ℕ) → 0 < unit → n ≡ 0 → rounded_number mode unit n ≡ n
