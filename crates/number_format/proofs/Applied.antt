@@ -1,11 +1,11 @@
 -- A decimal that is rounded at the position of a precision, with the digits that are shown then, is the one that the
 -- options make.
 use Rattle.std.proofs.Common.{◌≡◌, ℕ, ◌+◌, ◌-◌, ◌*◌, ◌/◌, ◌%◌, ◌^◌, ◌<◌, ◌≤◌, true, false, inl, inr, refl, sym, ◌∙◌, ap, subst, arith}
-use Rattle.std.specs.Prelude.{◌==◌, Option, Some, None, if◌then◌else◌, ◌||◌, ℤ, pos, negsuc, ◌+ℤ◌, ◌-ℤ◌, ◌≤ℤ◌, int_lt}
+use Rattle.std.specs.Prelude.{Some, None, ℤ, pos, negsuc, ◌-ℤ◌, ◌≤ℤ◌, int_lt}
 use Rattle.std.specs.Int.{int_max, int_min}
-use Rattle.std.proofs.Math.Nat.{mod-eq_of_lt, mod-lt, div-add-mod', mul-mod_left}
+use Rattle.std.proofs.Math.Nat.{mod-lt, div-add-mod', mul-mod_left}
 use Rattle.std.proofs.lemmas.Int.{ints, clamps}
-use Rattle.std.proofs.lemmas.Bool.{cases_Bool, or_from, or_parts, or_right}
+use Rattle.std.proofs.lemmas.Bool.{cases_Bool, or_from, or_right}
 use Rattle.decimal_digits.specs.Number.{number_limit, offset, weight, first, last, size, highest_magnitude}
 use Rattle.decimal_digits.specs.Rounding.{step_of, unit_at, rounded_number}
 use Rattle.decimal_digits.specs.declared.rounding.RoundError.{RoundError}
@@ -13,19 +13,20 @@ use Rattle.decimal_digits.specs.declared.rounding.RoundError.TheVariants.{Limit,
 use Rattle.decimal_digits.specs.declared.rounding.RoundingIncrement.{RoundingIncrement}
 use Rattle.decimal_unsigned.specs.Unsigned.{Unsigned, IsValue}
 use Rattle.decimal_unsigned.specs.Edits.{padded_start, padded_end, trimmed_end_if_integer}
-use Rattle.decimal_unsigned.specs.Rounded.{rounding, rounded_to, reaches_limit, with_number}
+use Rattle.decimal_unsigned.specs.Rounded.{rounding, rounded_to, reaches_limit}
 use Rattle.fixed_decimal.specs.Decimal.{Decimal, signed_number, with_absolute}
 use Rattle.fixed_decimal.specs.SignedRounding.{NamedSigned, mode_at, IsRounded, RoundingFails}
-use Rattle.fixed_decimal.proofs.Calling.{signed_rounded_to-some, below_limit, offset_is, first_le, size_right, ten_pos}
+use Rattle.fixed_decimal.proofs.Calling.{signed_rounded_to-some, below_limit, offset_is, size_right, ten_pos}
 use Rattle.number_format.specs.declared.digit_options.DigitOptions.{DigitOptions}
 use Rattle.number_format.specs.declared.digit_options.TrailingZeros.{TrailingZeros}
 use Rattle.number_format.specs.declared.digit_options.TrailingZeros.TheVariants.{Auto, StripIfInteger}
 use Rattle.number_format.specs.declared.precision.Precision.{Precision}
 use Rattle.number_format.specs.declared.precision.Precision.TheVariants.{Fraction, Multiples, Significant, MorePrecision, LessPrecision}
 use Rattle.number_format.specs.Positions.{base_of, position_of}
-use Rattle.number_format.specs.ShownDigits.{Rounded, rounded_by, rounded_at, exceeds_limit, lowest_shown, shown, applied, IsApplied, ApplyFails}
+use Rattle.number_format.specs.ShownDigits.{Rounded, rounded_at, lowest_shown, shown, ApplyFails}
 use Rattle.number_format.specs.Choices.{last_shown_of, IsRoundedAt, RoundingFailsAt}
 use Rattle.number_format.proofs.Chosen.{chosen}
+use Rattle.number_format.proofs.FirstDigits.{first_most}
 
 -- ---- The rounding.
 -- at a position below the lowest magnitude the unit is that of the lowest one
@@ -184,12 +185,7 @@ position_within (LessPrecision b) m h = omega (arith, ints, clamps, b.significan
 pub apply_fails : (held : ℕ) (e : RoundError) (o : DigitOptions) (v : Decimal) → RoundingFailsAt held e o 0 v
     → ApplyFails held e o v
 apply_fails held Limit o v (few, exceeds) =
-    let top : offset (pos 32768) ≡ offset (pos 32767) + 1 =
-    omega (arith, ints, offset_is (pos 32767), offset_is (pos 32768)) in
-    let high =
-    first_le v.absolute.number (pos 32767) (subst (λ k. v.absolute.number < 10 ^ k) top few) (omega (arith, ints))
-    (omega (arith, ints)) in
-    let below = position_within o.precision (first v.absolute.number) high in
+    let below = position_within o.precision (first v.absolute.number) (first_most v.absolute.number few) in
     let within : int_lt highest_magnitude (position_of o.precision 0 (first v.absolute.number)) ≡ false =
     grind (arith, ints) in
     elim (cases_Bool (reaches_limit (rounded_at o 0 v).number)) [

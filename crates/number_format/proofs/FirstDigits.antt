@@ -1,13 +1,13 @@
 -- The first digit of a number before and after a rounding.
-use Rattle.std.proofs.Common.{◌≡◌, ℕ, zero, suc, ◌+◌, ◌-◌, ◌*◌, ◌^◌, ◌<◌, ◌≤◌, true, inl, inr, refl, sym, ◌∙◌, ap, subst, arith, rules}
-use Rattle.std.specs.Prelude.{nat_le, ℤ, pos, negsuc, ◌+ℤ◌, ◌-ℤ◌, ◌≤ℤ◌, ◌<ℤ◌}
+use Rattle.std.proofs.Common.{◌≡◌, ℕ, zero, suc, ◌+◌, ◌-◌, ◌*◌, ◌^◌, ◌<◌, ◌≤◌, inl, inr, refl, sym, ◌∙◌, ap, subst, arith, rules}
+use Rattle.std.specs.Prelude.{nat_le, ℤ, pos, ◌+ℤ◌, ◌≤ℤ◌}
 use Rattle.std.proofs.lemmas.Int.{ints}
 use Rattle.std.proofs.lemmas.Bool.{cases_lt}
-use Rattle.decimal_digits.specs.Number.{offset, weight, number_limit, magnitude_at, first}
+use Rattle.decimal_digits.specs.Number.{offset, number_limit, magnitude_at, first}
 use Rattle.decimal_digits.specs.Rounding.{unit_at, rounded_number}
 use Rattle.decimal_digits.specs.declared.rounding.RoundingIncrement.TheVariants.{MultiplesOf1}
 use Rattle.decimal_digits.specs.declared.rounding.UnsignedRoundingMode.{UnsignedRoundingMode}
-use Rattle.fixed_decimal.proofs.Calling.{Extent, extent, first_of, offset_is, ten_pos, powers, first_is, first_zero, greatest_is, rounded_number-multiple, rounded_number-monotone}
+use Rattle.fixed_decimal.proofs.Calling.{Extent, extent, first_of, offset_is, ten_pos, powers, first_is, first_le, greatest_is, rounded_number-multiple, rounded_number-monotone}
 
 -- no search for the first digit goes above 65535
 first_highest : (n k : ℕ) → k + 1 ≡ 65536 → 10 ^ k ≤ n → first n ≡ magnitude_at k
@@ -18,25 +18,28 @@ first_highest (suc n) k last h =
     (greatest_is (λ i. nat_le (10 ^ i) (suc n)) 65536 k (omega arith) (search (rules, h))
     (λ i p q. absurd (omega arith)))
 
+-- the first digit of a number below the limit
+pub first_most : (n : ℕ) → n < number_limit → first n ≤ℤ pos 32767
+first_most n few =
+    let top : offset (pos 32768) ≡ offset (pos 32767) + 1 =
+    omega (arith, ints, offset_is (pos 32767), offset_is (pos 32768)) in
+    first_le n (pos 32767) (subst (λ k. n < 10 ^ k) top few) (omega (arith, ints)) (omega (arith, ints))
+
 -- 0 is rounded to 0
 pub rounded_zero : (mode : UnsignedRoundingMode) (unit n : ℕ) → 0 < unit → n ≡ 0 → rounded_number mode unit n ≡ n
 rounded_zero mode unit n some none =
     subst (λ m. rounded_number mode unit m ≡ m) (let e : 0 * unit ≡ n = omega (arith, none) in e)
     (rounded_number-multiple mode unit 0 some)
 
--- ---- A number that is rounded at its first digit or below.
-module _ (mode : UnsignedRoundingMode) (n : ℕ) (position : ℤ) (few : n < number_limit)
-    (below : position ≤ℤ first n) where
+-- ---- Powers of ten at the position of a rounding or above.
+module _ (mode : UnsignedRoundingMode) (position : ℤ) where
   abbrev unit : ℕ
   unit = unit_at MultiplesOf1 position
 
-  abbrev new : ℕ
-  new = rounded_number mode unit n
-
-  unit_some : 0 < unit
+  pub unit_some : 0 < unit
   unit_some = omega (arith, ten_pos (offset position))
 
-  -- a power of ten above the position is kept
+  -- each is kept
   pub kept : (k : ℕ) → offset position ≤ k → rounded_number mode unit (10 ^ k) ≡ 10 ^ k
   kept k h =
       let split : 10 ^ k ≡ 10 ^ (k - offset position) * unit =
@@ -44,19 +47,33 @@ module _ (mode : UnsignedRoundingMode) (n : ℕ) (position : ℤ) (few : n < num
       subst (λ m. rounded_number mode unit m ≡ m) (sym split)
       (rounded_number-multiple mode unit (10 ^ (k - offset position)) unit_some)
 
+  -- a number that is no less is rounded to no less
+  pub reaches : (n k : ℕ) → offset position ≤ k → 10 ^ k ≤ n → 10 ^ k ≤ rounded_number mode unit n
+  reaches n k above h =
+      subst (λ m. m ≤ rounded_number mode unit n) (kept k above)
+      (rounded_number-monotone mode unit (10 ^ k) n unit_some h)
+
+  -- and one that is no more to no more
+  pub limited : (n k : ℕ) → offset position ≤ k → n ≤ 10 ^ k → rounded_number mode unit n ≤ 10 ^ k
+  limited n k above h =
+      subst (λ m. rounded_number mode unit n ≤ m) (kept k above)
+      (rounded_number-monotone mode unit n (10 ^ k) unit_some h)
+
+-- ---- A number that is rounded at its first digit or below.
+module _ (mode : UnsignedRoundingMode) (n : ℕ) (position : ℤ) (few : n < number_limit)
+    (below : position ≤ℤ first n) where
+  abbrev new : ℕ
+  new = rounded_number mode (unit_at MultiplesOf1 position) n
+
   module _ (e : Extent n) where
     top_above : offset position ≤ e.top
     top_above = omega (arith, ints, offset_is position, first_of e, below)
 
     reached : 10 ^ e.top ≤ new
-    reached =
-        subst (λ m. m ≤ new) (kept e.top top_above)
-        (rounded_number-monotone mode unit (10 ^ e.top) n unit_some e.reaches)
+    reached = reaches mode position n e.top top_above e.reaches
 
-    limited : new ≤ 10 ^ (e.top + 1)
-    limited =
-        subst (λ m. new ≤ m) (kept (e.top + 1) (omega (arith, top_above)))
-        (rounded_number-monotone mode unit n (10 ^ (e.top + 1)) unit_some (omega (arith, e.below)))
+    most : new ≤ 10 ^ (e.top + 1)
+    most = limited mode position n (e.top + 1) (omega (arith, top_above)) (omega (arith, e.below))
 
     near : (first n ≤ℤ first new) × (first new ≤ℤ (first n +ℤ pos 1))
     near = elim (cases_lt new (10 ^ (e.top + 1))) [
@@ -66,9 +83,9 @@ module _ (mode : UnsignedRoundingMode) (n : ℕ) (position : ℤ) (few : n < num
       | inr full ↦ elim (cases_lt (e.top + 1) 65536) [
         | inl fits ↦
             let next : 10 ^ (e.top + 1 + 1) ≡ 10 ^ (e.top + 1) * 10 ^ 1 = powers (e.top + 1) 1 (e.top + 1 + 1) refl in
-            let up = first_is new (e.top + 1) full (omega (arith, limited, next, ten_pos (e.top + 1))) fits in
+            let up = first_is new (e.top + 1) full (omega (arith, most, next, ten_pos (e.top + 1))) fits in
             (omega (arith, ints, up, first_of e), omega (arith, ints, up, first_of e))
-        | inr most ↦
+        | inr last ↦
             let top : e.top ≡ 65535 = omega (arith, e.limit) in
             let same = first_highest new e.top (omega (arith, top)) reached in
             (omega (arith, ints, same, first_of e), omega (arith, ints, same, first_of e))
@@ -80,6 +97,7 @@ module _ (mode : UnsignedRoundingMode) (n : ℕ) (position : ℤ) (few : n < num
   first_near = elim (cases_lt 0 n) [
     | inl some ↦ near (extent (offset (pos 32768)) n some few (omega (arith, ints, offset_is (pos 32768))))
     | inr none ↦
-        let e = ap first (rounded_zero mode unit n unit_some (omega arith)) in
+        let e =
+        ap first (rounded_zero mode (unit_at MultiplesOf1 position) n (unit_some mode position) (omega arith)) in
         (omega (arith, ints, e), omega (arith, ints, e))
   ]

@@ -1,24 +1,25 @@
 -- The significand and the exponent of a number.
-use Rattle.std.proofs.Common.{◌≡◌, ℕ, zero, suc, ◌+◌, ◌-◌, ◌*◌, ◌/◌, ◌^◌, ◌<◌, ◌≤◌, true, false, ◌||◌, inl, inr, refl, sym, ◌∙◌, ap, subst, arith}
-use Rattle.std.specs.Prelude.{Option, Some, None, option_map, option_and_then, if◌then◌else◌, nat_lt, unsigned_abs, ℤ, pos, negsuc, neg_ℤ, ◌+ℤ◌, ◌-ℤ◌, ◌<ℤ◌, ◌≤ℤ◌, int_lt}
-use Rattle.std.specs.Int.{int_max, int_min}
-use Rattle.std.proofs.Math.Nat.{mul_assoc, mul-le-mul_right, mul-lt-mul_of_pos_right}
-use Rattle.std.proofs.lemmas.Int.{ints, clamps}
-use Rattle.std.proofs.lemmas.Bool.{cases_lt}
+use Rattle.std.proofs.Common.{◌≡◌, ℕ, zero, suc, ◌+◌, ◌-◌, ◌*◌, ◌/◌, ◌%◌, ◌^◌, ◌<◌, ◌≤◌, true, false, inl, inr, refl, sym, ◌∙◌, ap, subst, arith}
+use Rattle.std.specs.Prelude.{◌⊎◌, Option, Some, None, option_map, option_and_then, if◌then◌else◌, nat_lt, unsigned_abs, ℤ, pos, negsuc, neg_ℤ, ◌+ℤ◌, ◌-ℤ◌, ◌<ℤ◌, ◌≤ℤ◌, int_lt}
+use Rattle.std.specs.Int.{int_min}
+use Rattle.std.proofs.Math.Nat.{mul_assoc, mul-le-mul_right, mul-lt-mul_of_pos_right, mul-mod_left, mod-eq_of_lt, div-add-mod', div-le_self}
+use Rattle.std.proofs.lemmas.Int.{ints}
+use Rattle.std.proofs.lemmas.Bool.{cases_Bool, cases_lt, or_parts}
 use Rattle.std.proofs.lemmas.Bool.Decides.{nat_tests}
-use Rattle.decimal_digits.specs.Number.{offset, number_limit, magnitude_at, first, last, lowest_magnitude}
-use Rattle.decimal_unsigned.specs.Unsigned.{Unsigned, IsValue}
-use Rattle.decimal_unsigned.specs.Edits.{times_power, leaves_limits, trimmed_end, trimmed_start}
+use Rattle.decimal_digits.specs.Number.{offset, number_limit, weight, first, last, lowest_magnitude}
+use Rattle.decimal_unsigned.specs.Unsigned.{Unsigned}
+use Rattle.decimal_unsigned.specs.Rounded.{reaches_limit}
+use Rattle.decimal_unsigned.specs.Edits.{times_power}
 use Rattle.fixed_decimal.specs.Decimal.{Decimal}
-use Rattle.fixed_decimal.specs.SignedRounding.{mode_at}
-use Rattle.fixed_decimal.proofs.Calling.{Extent, extent, first_of, offset_is, ten_pos, powers, first_is, first_zero, below_limit}
+use Rattle.fixed_decimal.proofs.Calling.{extent, first_of, last_of, offset_is, ten_pos, powers, first_is, first_zero}
 use Rattle.number_format.specs.declared.digit_options.DigitOptions.{DigitOptions}
 use Rattle.number_format.specs.declared.notation.Notation.{Notation}
 use Rattle.number_format.specs.Exponents.{exponent_at}
-use Rattle.number_format.specs.ShownDigits.{Rounded, rounded_by, rounded_at, exceeds_limit, shown}
+use Rattle.number_format.specs.ShownDigits.{Rounded, rounded_at, exceeds_limit, shown}
 use Rattle.number_format.specs.Choices.{IsRoundedAt}
 use Rattle.number_format.specs.ScaledValue.{ScaledValue, scaled_value}
-use Rattle.number_format.specs.Scaled.{whole_exponent, with_number, rounded_within, Settled, settled_with, settled_after, settled, written, scaled, IsSettled}
+use Rattle.number_format.specs.DigitLaws.{KeepsValueOf}
+use Rattle.number_format.specs.Scaled.{whole_exponent, base_exponent, raised, with_number, rounded_within, Settled, settled_with, settled_after, settled, written, scaled, IsSettled}
 
 -- ---- Shifts.
 -- a division by a power of ten
@@ -166,3 +167,118 @@ module _ (notation : Notation) (o : DigitOptions) (v raised : Decimal) (base : �
               (settles.shown j -ℤ pos (settles.exponent_is j)))) i;
         })
         (base +ℤ pos (settles.exponent_is i))))
+
+-- ---- What a settled decimal is.
+module _ (notation : Notation) (o : DigitOptions) (v : Decimal) (s : Settled) where
+  abbrev own : ℕ
+  own = whole_exponent notation v.absolute.number
+
+  abbrev first_made : Rounded
+  first_made = rounded_at o own v
+
+  -- the exponent of the rounded number
+  abbrev after : ℕ
+  after = whole_exponent notation first_made.number
+
+  abbrev second_made : Rounded
+  second_made = rounded_at o after (with_number v first_made.number)
+
+  -- the number that is rounded once, or twice if the exponent grows
+  abbrev pub IsOnceOrTwice : Type 0
+  IsOnceOrTwice =
+      ((s ≡ settled_with own first_made) × (after ≤ own) × (first_made.number < number_limit))
+      ⊎ ((s ≡ settled_with after second_made) × (own < after) × (first_made.number < number_limit)
+      × (second_made.number < number_limit))
+
+  below : (r : ℕ) → reaches_limit r ≡ false → r < number_limit
+  below r h = grind (arith, nat_tests)
+
+  by_after : first_made.number < number_limit → settled_after notation o v own first_made ≡ Some s → IsOnceOrTwice
+  by_after fits is = elim (cases_lt own after) [
+    | inr whole ↦
+        let t : nat_lt own after ≡ false = grind (arith, nat_tests) in
+        let kept = rw t at is in
+        inl (let same : s ≡ settled_with own first_made = cc in same, whole, fits)
+    | inl more ↦
+        let t : nat_lt own after ≡ true = grind (arith, nat_tests) in
+        let twice = rw t at is in
+        elim (cases_Bool (exceeds_limit o after (with_number v first_made.number))) [
+          | inl over ↦ absurd (let none = rw over at twice in cc)
+          | inr within ↦
+              let some = rw within at twice in
+              inr (
+                let same : s ≡ settled_with after second_made = cc in same,
+                more,
+                fits,
+                below second_made.number (or_parts _ _ within).1,
+              )
+        ]
+  ]
+
+  pub once_or_twice : settled notation o v ≡ Some s → IsOnceOrTwice
+  once_or_twice is = elim (cases_Bool (exceeds_limit o own v)) [
+    | inl over ↦ absurd (let none = rw over at is in cc)
+    | inr within ↦ by_after (below first_made.number (or_parts _ _ within).1) (rw within at is)
+  ]
+
+  -- its number is below the limit
+  pub settled_below : settled notation o v ≡ Some s → s.rounded.number < number_limit
+  settled_below is = elim (once_or_twice is) [
+    | inl once ↦ subst (λ (s : Settled). s.rounded.number < number_limit) (sym once.0) once.2
+    | inr twice ↦ subst (λ (s : Settled). s.rounded.number < number_limit) (sym twice.0) twice.3
+  ]
+
+-- ---- The value of the significand and the exponent.
+at_lowest : (z : ℤ) → int_lt z lowest_magnitude ≡ false → negsuc 32767 ≤ℤ z
+at_lowest z h = grind (arith, ints)
+
+-- a power of ten that divides a number
+whole_shift : (n e : ℕ) → n < number_limit → negsuc 32767 ≤ℤ (last n -ℤ pos e) → n / 10 ^ e * 10 ^ e ≡ n
+whole_shift n e few fits = elim (cases_lt 0 n) [
+  | inr none ↦
+      let zero : n ≡ 0 = omega arith in
+      subst (λ m. m / 10 ^ e * 10 ^ e ≡ m) (sym zero) (omega (arith, ten_pos e))
+  | inl some ↦
+      let x = extent (offset (pos 32768)) n some few (omega (arith, ints, offset_is (pos 32768))) in
+      let low : e ≤ x.bottom = omega (arith, ints, last_of x, fits) in
+      let split : n ≡ x.factor * 10 ^ (x.bottom - e) * 10 ^ e =
+      x.is ∙ ap (λ p. x.factor * p) (powers (x.bottom - e) e x.bottom (omega (arith, low)))
+      ∙ sym (mul_assoc x.factor (10 ^ (x.bottom - e)) (10 ^ e)) in
+      let divides : n % 10 ^ e ≡ 0 =
+      ap (λ m. m % 10 ^ e) split ∙ mul-mod_left (x.factor * 10 ^ (x.bottom - e)) (10 ^ e) in
+      omega (arith, divides, div-add-mod' n (10 ^ e))
+]
+
+module _ (notation : Notation) (o : DigitOptions) (v : Decimal) (all : o.integer.max ≡ 32768) (s : ScaledValue) where
+  abbrev base : ℤ
+  base = base_exponent notation v
+
+  by_settled : (r : Option Settled) → settled notation o (raised notation v) ≡ r
+      → option_and_then (written o v base) r ≡ Some s
+      → (t : Settled) × (settled notation o (raised notation v) ≡ Some t)
+      × (s.significand.absolute.number * 10 ^ t.exponent ≡ t.rounded.number) × (s.exponent ≡ base +ℤ pos t.exponent)
+  by_settled None is none = absurd (cc)
+  by_settled (Some t) is some =
+      let e = t.exponent in
+      let r = t.rounded.number in
+      let few = settled_below notation o (raised notation v) t is in
+      elim (cases_Bool (int_lt (last r -ℤ pos e) lowest_magnitude)) [
+        | inl low ↦ absurd (let none = rw low at some in cc)
+        | inr fits ↦
+            let made = rw fits at some in
+            let there = at_lowest (last r -ℤ pos e) fits in
+            let same : scaled_value (record v { absolute = shown o (r / 10 ^ e) (t.rounded.last_shown -ℤ pos e) })
+            (base +ℤ pos e) ≡ s = cc in
+            let whole : r / 10 ^ e % weight (pos o.integer.max) ≡ r / 10 ^ e =
+            ap (λ m. r / 10 ^ e % weight (pos m)) all
+            ∙ mod-eq_of_lt (omega (arith, few, div-le_self r (10 ^ e))) in (
+              t,
+              is,
+              ap (λ (s : ScaledValue). s.significand.absolute.number * 10 ^ e) (sym same)
+                  ∙ ap (λ m. m * 10 ^ e) whole ∙ whole_shift r e few there,
+              ap (λ (s : ScaledValue). s.exponent) (sym same),
+            )
+      ]
+
+pub keeps_value_of : (notation : Notation) (o : DigitOptions) (v : Decimal) → KeepsValueOf notation o v
+keeps_value_of notation o v all s is = by_settled notation o v all s (settled notation o (raised notation v)) refl is

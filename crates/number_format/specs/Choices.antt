@@ -1,6 +1,6 @@
 -- Private: used only in the contracts of private functions.
 -- The one rounding that a precision makes, and down to which magnitude zeros are then shown.
-use Rattle.std.specs.Prelude.{◌≡◌, ℕ, ◌<◌, Bool, true, false, not, ◌||◌, if◌then◌else◌, ℤ, pos, int_lt, int_le}
+use Rattle.std.specs.Prelude.{◌≡◌, ℕ, ◌<◌, Bool, true, false, not, ◌||◌, ℤ, int_lt, int_le}
 use Rattle.std.specs.Int.{int_min}
 use Rattle.decimal_digits.specs.Number.{number_limit}
 use Rattle.decimal_digits.specs.declared.rounding.RoundError.{RoundError}

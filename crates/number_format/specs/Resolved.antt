@@ -1,5 +1,5 @@
 -- ECMA-402's SetNumberFormatDigitOptions: the options that the given numbers of digits name, or the error.
-use Rattle.std.specs.Prelude.{◌≡◌, ◌≢◌, ℕ, ◌==◌, min, max, nat_le, Bool, true, false, ◌||◌, ◌&&◌, not, if◌then◌else◌, Option, Some, None, unwrap_or, is_some}
+use Rattle.std.specs.Prelude.{◌≡◌, ◌≢◌, ℕ, ◌==◌, min, max, nat_le, Bool, true, ◌||◌, ◌&&◌, not, if◌then◌else◌, Option, Some, None, unwrap_or, is_some}
 use Rattle.number_format.specs.declared.digit_options.DigitOptions.{DigitOptions}
 use Rattle.number_format.specs.declared.digit_ranges.FractionDigits.{FractionDigits}
 use Rattle.number_format.specs.declared.digit_ranges.SignificantDigits.{SignificantDigits}

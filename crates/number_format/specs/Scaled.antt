@@ -58,12 +58,18 @@ written o v base s =
     })
     (base +ℤ pos s.exponent))
 
+-- the exponent of a decimal, and 0 if it is above 0
+abbrev pub base_exponent : Notation → Decimal → ℤ
+base_exponent notation v = int_min (pos 0) (exponent_at notation (first v.absolute.number))
+
+-- the decimal, multiplied by its power of ten if its exponent is below 0
+abbrev pub raised : Notation → Decimal → Decimal
+raised notation v = with_number v (v.absolute.number * 10 ^ unsigned_abs (base_exponent notation v))
+
 -- the significand and the exponent of a decimal; one whose exponent is below 0 is multiplied by its power of ten first
 abbrev pub scaled : Notation → DigitOptions → Decimal → Option ScaledValue
 scaled notation o v =
-    let base = int_min (pos 0) (exponent_at notation (first v.absolute.number)) in
-    option_and_then (written o v base)
-    (settled notation o (with_number v (v.absolute.number * 10 ^ unsigned_abs base)))
+    option_and_then (written o v (base_exponent notation v)) (settled notation o (raised notation v))
 
 -- ---- Private: results of private functions.
 

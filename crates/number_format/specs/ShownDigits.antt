@@ -2,13 +2,12 @@
 -- by 10^exponent. Numbers are in units of 10^-32768; magnitudes are those of the number and not of the quotient, so its
 -- fraction digits begin below the magnitude `exponent`. The weight of a magnitude below -32768 is 1 unit: at such a
 -- position nothing is rounded.
-use Rattle.std.specs.Prelude.{◌≡◌, ℕ, ◌*◌, ◌%◌, ◌^◌, ◌||◌, Bool, if◌then◌else◌, Option, Some, None, ℤ, pos, ◌+ℤ◌, ◌-ℤ◌, int_lt, int_le}
+use Rattle.std.specs.Prelude.{◌≡◌, ℕ, ◌*◌, ◌%◌, ◌||◌, Bool, if◌then◌else◌, Option, Some, None, ℤ, pos, ◌-ℤ◌, int_lt, int_le}
 use Rattle.std.specs.Int.{int_max, int_min}
 use Rattle.decimal_digits.specs.Number.{weight, first, last, size, lowest_magnitude, highest_magnitude}
-use Rattle.decimal_digits.specs.Rounding.{step_of, unit_at, rounded_number, DigitRoundingNeedsMemory}
+use Rattle.decimal_digits.specs.Rounding.{unit_at, rounded_number, DigitRoundingNeedsMemory}
 use Rattle.decimal_digits.specs.declared.rounding.RoundError.{RoundError}
 use Rattle.decimal_digits.specs.declared.rounding.RoundError.TheVariants.{Limit, Memory}
-use Rattle.decimal_digits.specs.declared.rounding.RoundingIncrement.{RoundingIncrement}
 use Rattle.decimal_digits.specs.declared.rounding.RoundingIncrement.TheVariants.{MultiplesOf1}
 use Rattle.decimal_digits.specs.declared.rounding.UnsignedRoundingMode.{UnsignedRoundingMode}
 use Rattle.decimal_unsigned.specs.Unsigned.{Unsigned}

@@ -1,4 +1,4 @@
-use Rattle.std.proofs.Common.{◌≡◌, Ok, Err, sym, ◌∙◌, ap, subst, arith, rules, w32, w64, FitsSigned}
+use Rattle.std.proofs.Common.{◌≡◌, Ok, Err, sym, subst}
 use Rattle.std.specs.Prelude.{Result, IsErrAnd}
 use Rattle.decimal_unsigned.specs.Rounded.{ChangesInPlace}
 use Rattle.number_format.specs.ShownDigits.{IsApplied, ApplyFails}

@@ -1,4 +1,4 @@
-use Rattle.std.proofs.Common.{◌≡◌, ℕ, true, false, Ok, Err, sym, ◌∙◌, ap, subst, refl, arith, rules, w16, w32, to_z, of_z, FitsSigned}
+use Rattle.std.proofs.Common.{◌≡◌, true, false, Ok, Err, sym, ◌∙◌, ap, subst, refl, arith, rules, w16, w32, to_z, of_z, FitsSigned}
 use Rattle.std.specs.Prelude.{Some, Result, IsErrOf, IsErrAnd, MatchResult, ℤ, pos, negsuc, ◌≤ℤ◌, int_lt}
 use Rattle.std.specs.Int.{int_max}
 use Rattle.std.proofs.lemmas.Int.{ints, clamps, to_z-of_z}

@@ -5,7 +5,6 @@ use Rattle.std.proofs.lemmas.Int.{ints, clamps}
 use Rattle.decimal_digits.specs.Number.{size}
 use Rattle.decimal_unsigned.specs.Unsigned.{Unsigned}
 use Rattle.decimal_unsigned.specs.Edits.{padded_start, padded_end, trimmed_end_if_integer}
-use Rattle.number_format.specs.ShownDigits.{shown}
 use Rattle.number_format.proofs.Applied.{padded, shown_auto, shown_stripped}
 use Rattle.number_format.proofs.digit_options.DigitOptions.show.Goals as goal
 

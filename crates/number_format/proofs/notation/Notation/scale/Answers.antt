@@ -1,6 +1,6 @@
-use Rattle.std.proofs.Common.{◌≡◌, refl, sym, ◌∙◌, ap, subst, arith, rules, w32, w64, to_z, of_z, FitsSigned}
-use Rattle.std.specs.Prelude.{Some, ℤ, pos, ◌+ℤ◌, ◌-ℤ◌}
-use Rattle.std.proofs.lemmas.Int.{ints, clamps, to_z-of_z}
+use Rattle.std.proofs.Common.{◌≡◌, refl, sym, ◌∙◌, ap, subst, arith, w32, w64, to_z, of_z}
+use Rattle.std.specs.Prelude.{Some, pos, ◌+ℤ◌, ◌-ℤ◌}
+use Rattle.std.proofs.lemmas.Int.{ints}
 use Rattle.number_format.specs.ShownDigits.{shown}
 use Rattle.number_format.specs.ScaledValue.{scaled_value}
 use Rattle.number_format.proofs.Scales.{scaled-some}

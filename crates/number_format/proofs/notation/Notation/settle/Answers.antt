@@ -1,5 +1,5 @@
-use Rattle.std.proofs.Common.{◌≡◌, refl, sym, ◌∙◌, ap, arith, rules, w32, FitsSigned}
-use Rattle.std.proofs.lemmas.Int.{ints, to_z-of_z}
+use Rattle.std.proofs.Common.{refl, ◌∙◌, rules, w32, FitsSigned}
+use Rattle.std.proofs.lemmas.Int.{to_z-of_z}
 use Rattle.number_format.specs.ShownDigits.{rounded_at}
 use Rattle.number_format.specs.Scaled.{settled_with}
 use Rattle.number_format.proofs.Scales.{settled-kept, settled-again}
