@@ -23,7 +23,7 @@ use Rattle.cli.specs.declared.reader.DecimalReader.{DecimalReader}
 use Rattle.cli.specs.declared.error.OperationError.TheVariants as operation
 use Rattle.cli.specs.declared.error.OperationError.{OperationError}
 use Rattle.cli.specs.Error.{error_of_run, status_of_operation}
-use Rattle.cli.specs.Conversion.{IsReadAs, ReadingFails, IsOutcome, IsOutcomeByForms, HasOutcome, OperationsFail, FailsByForms, IsRunFormatted, is_plain, error_of, formatted_by, last_decimal}
+use Rattle.cli.specs.Conversion.{IsReadAs, ReadingFails, IsOutcome, IsOutcomeByForms, HasOutcome, OperationsFail, FailsByForms, IsErrorOfRun, IsRunFormatted, is_plain, error_of, formatted_by, last_decimal}
 
 -- only a failed sink is a failed output
 pub output_is_sink : (why : RunError) → error_of_run why ≡ operation.Output → why ≡ Sink
@@ -59,24 +59,24 @@ cases_of : {P Q : Type 0} (b : Bool) → MatchBool b P Q → ((b ≡ true) × P)
 cases_of true p = inl (refl, p)
 cases_of false q = inr (refl, q)
 
-at_true : {P Q : Type 0} (b : Bool) → b ≡ true → P → MatchBool b P Q
-at_true {P} {Q} b is p = subst (λ k. MatchBool k P Q) (sym is) p
+at_true : (P Q : Type 0) (b : Bool) → b ≡ true → P → MatchBool b P Q
+at_true P Q b is p = subst (λ k. MatchBool k P Q) (sym is) p
 
-at_false : {P Q : Type 0} (b : Bool) → b ≡ false → Q → MatchBool b P Q
-at_false {P} {Q} b is q = subst (λ k. MatchBool k P Q) (sym is) q
+at_false : (P Q : Type 0) (b : Bool) → b ≡ false → Q → MatchBool b P Q
+at_false P Q b is q = subst (λ k. MatchBool k P Q) (sym is) q
 
 module _ (c : Conversion) (text : List ℕ) where
   pub outcome_by_forms :
       (result : Result (List ℕ) OutcomeError) → is_plain c ≡ false → IsOutcomeByForms c text result
       → IsOutcome c text result
-  outcome_by_forms result other is = at_false (is_plain c) other is
+  outcome_by_forms result other is = at_false (result ≡ outcome text c.calls.items) _ (is_plain c) other is
 
   -- what holds of the text of a run
   pub run_outcome :
       (P : List ℕ → Type 0) → is_plain c ≡ true → IsOkAnd (outcome text c.calls.items) P → HasOutcome c text P
   run_outcome P plain h =
       let (written, is, holds) = ok_and (outcome text c.calls.items) h in
-      (written, at_true (is_plain c) plain is, holds)
+      (written, at_true _ (IsOutcomeByForms c text (Ok written)) (is_plain c) plain is, holds)
     where
       ok_and : (o : Result (List ℕ) OutcomeError) → IsOkAnd o P → (written : List ℕ) × (Ok written ≡ o) × P written
       ok_and (Ok written) h = (written, refl, h)
@@ -86,8 +86,10 @@ module _ (c : Conversion) (text : List ℕ) where
 pub output_fails :
     (c : Conversion) (text written : List ℕ) → IsOutcome c text (Ok written) → OperationsFail operation.Output c text
 output_fails c text written h = elim (cases_of (is_plain c) h) [
-  | inl (plain, is) ↦ at_true (is_plain c) plain (Sink, refl, subst (λ o. IsOk o) is refl)
-  | inr (other, is) ↦ at_false (is_plain c) other (written, is)
+  | inl (plain, is) ↦
+      at_true _ (FailsByForms operation.Output c text) (is_plain c) plain (Sink, refl, subst (λ o. IsOk o) is refl)
+  | inr (other, is) ↦
+      at_false (IsErrorOfRun operation.Output text c.calls.items) _ (is_plain c) other (written, is)
 ]
 
 -- ---- Errors with status 1.
@@ -118,10 +120,10 @@ pub error_is_outcome :
 error_is_outcome c text error one h = elim (cases_of (is_plain c) h) [
   | inl (plain, (why, same, fails)) ↦
       let (e, equal, is) = run_error_is text c.calls.items why (ap status_of_operation (sym same) ∙ one) fails in
-      (e, same ∙ equal, at_true (is_plain c) plain (sym is))
+      (e, same ∙ equal, at_true _ (IsOutcomeByForms c text (Err e)) (is_plain c) plain (sym is))
   | inr (other, fails) ↦
       let (e, same, is) = error_by_forms c text error one fails in
-      (e, same, at_false (is_plain c) other is)
+      (e, same, at_false (Err e ≡ outcome text c.calls.items) _ (is_plain c) other is)
 ]
 
 -- ---- The law.

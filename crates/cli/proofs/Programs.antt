@@ -1,11 +1,10 @@
 -- The run that the words of a command line name, and its result.
-use Rattle.std.proofs.Common.{◌≡◌, ℕ, ◌+◌, ◌-◌, ◌<◌, ◌≤◌, List, [], ◌∷◌, ◌++◌, length, take, drop, get_or, String, string_bytes, Option, Some, None, Result, Ok, Err, IfNone, IfSome, IfErr, true, false, refl, sym, ap, subst, ◌∙◌, arith, add-one}
+use Rattle.std.proofs.Common.{◌≡◌, ℕ, ◌+◌, ◌<◌, List, [], ◌∷◌, ◌++◌, length, take, get_or, String, string_bytes, Option, Result, Ok, Err, IfErr, refl, sym, ap, subst, ◌∙◌, arith, add-one}
 use Rattle.std.specs.Prelude.{IsErrAnd, OnOk}
-use Rattle.std.specs.Option.{is_some}
 use Rattle.std.specs.declared.alloc.Global.{Global}
 use Rattle.std.specs.Io.KnownBytes.{Keeps}
-use Rattle.std.proofs.Math.Seq.{take-suc, take-length}
-use Rattle.std.proofs.lemmas.List.{length-drop, append-nil}
+use Rattle.std.proofs.Math.Seq.{take-suc}
+use Rattle.std.proofs.lemmas.List.{append-nil}
 use Rattle.std.proofs.KnownBytes.{Appends-kept}
 use Rattle.decimal_digits.specs.AppendsPrefix.{AppendsPrefix}
 use Rattle.fixed_decimal.proofs.Calling.{prefix_more}
@@ -16,13 +15,9 @@ use Rattle.cli.specs.declared.error.OperationError.{OperationError}
 use Rattle.cli.specs.Conversion.{HasOutcome, OperationsFail}
 use Rattle.cli.proofs.Conversions.{output_fails}
 use Rattle.cli.specs.Calls.{Names, NameAll}
-use Rattle.cli.specs.Words.{NamesConversion, ConversionFails}
-use Rattle.cli.specs.declared.error.WordsError.{WordsError}
-use Rattle.cli.specs.declared.error.WordsError.TheVariants.{Usage}
-use Rattle.cli.specs.declared.help.Program.TheVariants.{Fixdec}
-use Rattle.cli.specs.Error.{start_error, conversion_error}
+use Rattle.cli.specs.Error.{conversion_error}
 use Rattle.cli.specs.declared.error.OperationError.TheVariants.{Output}
-use Rattle.cli.specs.Fixdec.{HasRun, NamesRun, RunFails, HasError, PrintsLine, PrintsLinePrefix, Prints, PrintsPrefix}
+use Rattle.cli.specs.Fixdec.{HasRun, NamesRun, HasError, PrintsLine, PrintsLinePrefix, Prints, PrintsPrefix}
 
 -- ---- Words and calls, one by one.
 

@@ -53,12 +53,12 @@ fn parse_words(alloc: Global, words: &[String]) -> Result<(&[u8], Conversion<'_>
     ensures err { IfErr result (HasError words.now) }
     ensures no_output { IfErr result (λ error. error ≢ ProgramError.Output) }
 {
-    let Some((text, words)) = words.split_first() else {
-        return Err(ProgramError::start(Program::Fixdec, WordsError::Usage));
-    };
-    match parse_conversion(alloc, words) {
-        Ok(conversion) => Ok((text.as_bytes(), conversion)),
-        Err(why) => Err(ProgramError::start(Program::Fixdec, why)),
+    match words.split_first() {
+        None => Err(ProgramError::start(Program::Fixdec, WordsError::Usage)),
+        Some((text, words)) => match parse_conversion(alloc, words) {
+            Ok(conversion) => Ok((text.as_bytes(), conversion)),
+            Err(why) => Err(ProgramError::start(Program::Fixdec, why)),
+        },
     }
 }
 

@@ -89,15 +89,20 @@ impl<'a> Options<'a> {
         ensures none { result ≡ None → (next : Options) → ¬ Adds word.now self.entry next }
     {
         match word {
-            "skip" if self.on_error == OnError::Stop => Some(Options {
-                on_error: OnError::Skip,
-                ..self
-            }),
-            "csv" if !self.is_csv => Some(Options {
+            "skip" => match self.on_error {
+                OnError::Stop => Some(Options {
+                    on_error: OnError::Skip,
+                    ..self
+                }),
+                OnError::Skip => None,
+            },
+            "csv" if self.is_csv => None,
+            "csv" => Some(Options {
                 is_csv: true,
                 ..self
             }),
-            "header" if !self.has_header => Some(Options {
+            "header" if self.has_header => None,
+            "header" => Some(Options {
                 has_header: true,
                 ..self
             }),

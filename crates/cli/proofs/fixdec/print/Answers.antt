@@ -1,6 +1,5 @@
 use Rattle.std.proofs.Common.{◌≡◌, Err, ap, ◌∙◌}
 use Rattle.std.proofs.lemmas.Result.{err_from_is_err_and}
-use Rattle.cli.specs.declared.error.OperationError.TheVariants.{Output}
 use Rattle.cli.specs.declared.error.ProgramError.TheVariants as program
 use Rattle.cli.specs.Error.{conversion_error}
 use Rattle.cli.proofs.Conversions.{output_fails}

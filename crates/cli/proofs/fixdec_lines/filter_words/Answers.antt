@@ -1,5 +1,4 @@
-use Rattle.std.proofs.Common.{ℕ, List, [], String, Option, Some, Result, Ok, Err, IfErr, Bool, inl, inr, refl, rules}
-use Rattle.std.specs.declared.alloc.Global.{Global}
+use Rattle.std.proofs.Common.{ℕ, List, [], Option, Some, Result, Ok, Err, IfErr, Bool, inl, inr, refl, rules}
 use Rattle.std.specs.Io.KnownBytes.{Keeps, append_known}
 use Rattle.std.proofs.KnownBytes.{Appends-kept}
 use Rattle.decimal_digits.specs.AppendsPrefix.{AppendsPrefix}

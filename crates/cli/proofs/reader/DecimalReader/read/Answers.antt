@@ -6,8 +6,7 @@ use Rattle.decimal_unsigned.specs.declared.error.ParseError.TheVariants.{Syntax,
 use Rattle.decimal_unsigned.specs.declared.decimal.TheConstants.{INLINE_DIGITS}
 use Rattle.fixed_decimal.specs.Decimal.{Decimal}
 use Rattle.decimal_format.specs.Symbols.{Symbols}
-use Rattle.decimal_format.specs.Reading.{Numeral, IsNumeral, IsWritten, IsRead}
-use Rattle.decimal_format.specs.Lenient.{IsTyped, IsTypedNumeral}
+use Rattle.decimal_format.specs.Reading.{Numeral, IsRead}
 use Rattle.cli.specs.declared.reader.ParseMode.{ParseMode}
 use Rattle.cli.specs.declared.reader.ParseMode.TheVariants.{Strict, Lenient}
 use Rattle.cli.specs.Reader.{IsTextIn, IsNumeralIn, IsReadIn, ReadingFailsIn}
