@@ -185,7 +185,7 @@ name='fixdec --help > /dev/full'
 "$room/fixdec" --help > /dev/full 2> "$room/err" < /dev/null
 found=$?
 : > "$room/out"
-compare 3 '' ''
+compare 3 '' $'output\n'
 row fixdec 1 '' $'start: syntax\n' --help shift:1
 row fixdec 2 '' "$usage" --help 5
 

@@ -1,7 +1,8 @@
 -- The outcome of a conversion, and its errors.
-use Rattle.std.proofs.Common.{◌≡◌, ◌⊎◌, ◌||◌, ℕ, List, Option, Some, None, Result, Ok, Err, true, false, inl, inr, refl, sym, ap, subst, ◌∙◌, arith}
-use Rattle.std.specs.Prelude.{MatchOption, IsOk, IsOkAnd}
-use Rattle.std.specs.Option.{is_some}
+use Rattle.std.proofs.Common.{◌≡◌, ◌⊎◌, ◌&&◌, ℕ, List, Bool, Option, Some, None, Result, Ok, Err, true, false, inl, inr, refl, sym, ap, subst, ◌∙◌, arith}
+use Rattle.std.proofs.lemmas.Bool.{false≢true}
+use Rattle.std.specs.Prelude.{MatchBool, IsOk, IsOkAnd}
+use Rattle.std.specs.Option.{is_none}
 use Rattle.decimal_unsigned.specs.declared.error.ParseError.{ParseError}
 use Rattle.decimal_unsigned.specs.declared.error.ParseError.TheVariants as parse
 use Rattle.decimal_unsigned.specs.Reading.{ReadError, syntax, limit}
@@ -21,16 +22,12 @@ use Rattle.cli.specs.declared.conversion.Conversion.{Conversion}
 use Rattle.cli.specs.declared.reader.DecimalReader.{DecimalReader}
 use Rattle.cli.specs.declared.error.OperationError.TheVariants as operation
 use Rattle.cli.specs.declared.error.OperationError.{OperationError}
-use Rattle.cli.specs.Errors.{error_of_run, status_of_operation}
-use Rattle.cli.specs.Conversion.{IsReadAs, ReadingFails, IsOutcome, IsOutcomeByForms, HasOutcome, OperationsFail, FailsByForms, IsErrorOfRun, IsRunFormatted, error_of, formatted_by, last_decimal}
+use Rattle.cli.specs.Error.{error_of_run, status_of_operation}
+use Rattle.cli.specs.Conversion.{IsReadAs, ReadingFails, IsOutcome, IsOutcomeByForms, HasOutcome, OperationsFail, FailsByForms, IsErrorOfRun, IsRunFormatted, is_plain, error_of, formatted_by, last_decimal}
 
 -- only a failed sink is a failed output
 pub output_is_sink : (why : RunError) → error_of_run why ≡ operation.Output → why ≡ Sink
 output_is_sink why is = grind arith
-
--- an error of reading is none of the output
-pub reading_no_output : (why : ParseError) → error_of_run (Start why) ≡ operation.Output → ⊥
-reading_no_output why is = let e : Start why ≡ Sink = output_is_sink (Start why) is in cc
 
 module _ (c : Conversion) (text : List ℕ) where
   -- ---- The errors of the parts.
@@ -58,64 +55,41 @@ module _ (c : Conversion) (text : List ℕ) where
 
 -- ---- With and without a reader and a formatter.
 
--- P of a conversion without a reader and a formatter, and Q of any other, by its reader and its formatter
-abbrev IfBothNone : Option DecimalReader → Option Formatter → Type 0 → Type 0 → Type 0
-IfBothNone r f P Q = MatchOption r (MatchOption f P (λ _. Q)) (λ _. Q)
+cases_of : {P Q : Type 0} (b : Bool) → MatchBool b P Q → ((b ≡ true) × P) ⊎ ((b ≡ false) × Q)
+cases_of true p = inl (refl, p)
+cases_of false q = inr (refl, q)
 
-module _ (P Q : Type 0) where
-  cases_of :
-      (r : Option DecimalReader) (f : Option Formatter) → IfBothNone r f P Q
-      → ((is_some r ≡ false) × (is_some f ≡ false) × P) ⊎ (((is_some r || is_some f) ≡ true) × Q)
-  cases_of None None p = inl (refl, refl, p)
-  cases_of None (Some f) q = inr (refl, q)
-  cases_of (Some r) f q = inr (refl, q)
+at_true : (P Q : Type 0) (b : Bool) → b ≡ true → P → MatchBool b P Q
+at_true P Q b is p = subst (λ k. MatchBool k P Q) (sym is) p
 
-  if_none :
-      (r : Option DecimalReader) (f : Option Formatter) → is_some r ≡ false → is_some f ≡ false → P
-      → IfBothNone r f P Q
-  if_none None None reader formatter p = p
-  if_none None (Some f) reader formatter p = cc
-  if_none (Some r) f reader formatter p = cc
+at_false : (P Q : Type 0) (b : Bool) → b ≡ false → Q → MatchBool b P Q
+at_false P Q b is q = subst (λ k. MatchBool k P Q) (sym is) q
 
-  if_some :
-      (r : Option DecimalReader) (f : Option Formatter) → (is_some r || is_some f) ≡ true → Q → IfBothNone r f P Q
-  if_some None None some q = cc
-  if_some None (Some f) some q = q
-  if_some (Some r) f some q = q
-
-module _ (c : Conversion) (text : List ℕ) (result : Result (List ℕ) OutcomeError) where
-  pub plain_outcome :
-      is_some c.reader ≡ false → is_some c.formatter ≡ false → result ≡ outcome text c.calls.items
-      → IsOutcome c text result
-  plain_outcome reader formatter is =
-      if_none _ (IsOutcomeByForms c text result) c.reader c.formatter reader formatter is
-
+module _ (c : Conversion) (text : List ℕ) where
   pub outcome_by_forms :
-      (is_some c.reader || is_some c.formatter) ≡ true → IsOutcomeByForms c text result → IsOutcome c text result
-  outcome_by_forms some is = if_some (result ≡ outcome text c.calls.items) _ c.reader c.formatter some is
+      (result : Result (List ℕ) OutcomeError) → is_plain c ≡ false → IsOutcomeByForms c text result
+      → IsOutcome c text result
+  outcome_by_forms result other is = at_false (result ≡ outcome text c.calls.items) _ (is_plain c) other is
 
--- what holds of the text of a run
-pub run_outcome :
-    (c : Conversion) (text : List ℕ) (P : List ℕ → Type 0) → is_some c.reader ≡ false → is_some c.formatter ≡ false
-    → IsOkAnd (outcome text c.calls.items) P → HasOutcome c text P
-run_outcome c text P reader formatter h =
-    let (written, is, holds) = ok_and (outcome text c.calls.items) h in
-    (written, plain_outcome c text (Ok written) reader formatter is, holds)
-  where
-    ok_and : (o : Result (List ℕ) OutcomeError) → IsOkAnd o P → (written : List ℕ) × (Ok written ≡ o) × P written
-    ok_and (Ok written) h = (written, refl, h)
-    ok_and (Err e) h = absurd h
+  -- what holds of the text of a run
+  pub run_outcome :
+      (P : List ℕ → Type 0) → is_plain c ≡ true → IsOkAnd (outcome text c.calls.items) P → HasOutcome c text P
+  run_outcome P plain h =
+      let (written, is, holds) = ok_and (outcome text c.calls.items) h in
+      (written, at_true _ (IsOutcomeByForms c text (Ok written)) (is_plain c) plain is, holds)
+    where
+      ok_and : (o : Result (List ℕ) OutcomeError) → IsOkAnd o P → (written : List ℕ) × (Ok written ≡ o) × P written
+      ok_and (Ok written) h = (written, refl, h)
+      ok_and (Err e) h = absurd h
 
 -- a text that was not written
 pub output_fails :
-    (c : Conversion) (text written : List ℕ) → IsOutcome c text (Ok written)
-    → OperationsFail operation.Output c text
-output_fails c text written h = elim (cases_of _ _ c.reader c.formatter h) [
-  | inl (reader, formatter, is) ↦
-      if_none _ (FailsByForms operation.Output c text) c.reader c.formatter reader formatter
-      (Sink, refl, subst (λ o. IsOk o) is refl)
-  | inr (some, is) ↦
-      if_some (IsErrorOfRun operation.Output text c.calls.items) _ c.reader c.formatter some (written, is)
+    (c : Conversion) (text written : List ℕ) → IsOutcome c text (Ok written) → OperationsFail operation.Output c text
+output_fails c text written h = elim (cases_of (is_plain c) h) [
+  | inl (plain, is) ↦
+      at_true _ (FailsByForms operation.Output c text) (is_plain c) plain (Sink, refl, subst (λ o. IsOk o) is refl)
+  | inr (other, is) ↦
+      at_false (IsErrorOfRun operation.Output text c.calls.items) _ (is_plain c) other (written, is)
 ]
 
 -- ---- Errors with status 1.
@@ -143,13 +117,13 @@ error_by_forms c text error one h = h
 pub error_is_outcome :
     (c : Conversion) (text : List ℕ) (error : OperationError) → status_of_operation error ≡ 1
     → OperationsFail error c text → (why : OutcomeError) × (error ≡ error_of why) × IsOutcome c text (Err why)
-error_is_outcome c text error one h = elim (cases_of _ _ c.reader c.formatter h) [
-  | inl (reader, formatter, (why, same, fails)) ↦
+error_is_outcome c text error one h = elim (cases_of (is_plain c) h) [
+  | inl (plain, (why, same, fails)) ↦
       let (e, equal, is) = run_error_is text c.calls.items why (ap status_of_operation (sym same) ∙ one) fails in
-      (e, same ∙ equal, plain_outcome c text (Err e) reader formatter (sym is))
-  | inr (some, fails) ↦
+      (e, same ∙ equal, at_true _ (IsOutcomeByForms c text (Err e)) (is_plain c) plain (sym is))
+  | inr (other, fails) ↦
       let (e, same, is) = error_by_forms c text error one fails in
-      (e, same, outcome_by_forms c text (Err e) some is)
+      (e, same, at_false (Err e ≡ outcome text c.calls.items) _ (is_plain c) other is)
 ]
 
 -- ---- The law.
@@ -164,14 +138,14 @@ pub conversion_is_run_formatted :
     → IsOutcome c text result → IsRunFormatted c text result
 conversion_is_run_formatted c text result none h =
     let run = run_is_formatted c.calls.items text (read_decimal text) refl in
-    elim (cases_of _ _ c.reader c.formatter h) [
-      | inl (reader, formatter, is) ↦
-          (run, rw (no_formatter c.formatter formatter) (is ∙ run))
-      | inr (some, is) ↦
+    elim (cases_of (is_plain c) h) [
+      | inl (plain, is) ↦ (run, rw (no_formatter c.reader c.formatter plain) (is ∙ run))
+      | inr (other, is) ↦
           let read : is.read ≡ read_decimal text = rw none at is.is_read in
           (run, rw read at is.is)
     ]
   where
-    no_formatter : (f : Option Formatter) → is_some f ≡ false → f ≡ None
-    no_formatter None e = refl
-    no_formatter (Some f) e = cc
+    no_formatter : (r : Option DecimalReader) (f : Option Formatter) → (is_none r && is_none f) ≡ true → f ≡ None
+    no_formatter None None e = refl
+    no_formatter None (Some f) e = absurd (false≢true e)
+    no_formatter (Some r) f e = absurd (false≢true e)

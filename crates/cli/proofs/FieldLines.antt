@@ -1,5 +1,5 @@
 -- A line with a new text for a field, written piece by piece.
-use Rattle.std.proofs.Common.{◌≡◌, ◌≢◌, ℕ, inl, refl, Some, None, Ok, Err, Result, List, ◌++◌, ◌-◌, length, take, drop, Option, append_assoc, ap, arith}
+use Rattle.std.proofs.Common.{◌≡◌, ◌≢◌, ℕ, inl, inr, refl, Some, None, Ok, Err, Result, List, ◌++◌, ◌-◌, length, take, drop, Option, append_assoc, ap, arith}
 use Rattle.std.proofs.lemmas.List.{length-drop}
 use Rattle.std.proofs.Math.Seq.{take-length}
 use Rattle.std.specs.Io.KnownBytes.{Appends}
@@ -12,8 +12,11 @@ use Rattle.cli.specs.declared.error.OperationError.TheVariants.{Memory, Output}
 use Rattle.cli.specs.declared.fields.Field.{Field}
 use Rattle.cli.specs.Conversion.{IsOutcome, OperationsFail}
 use Rattle.cli.specs.Fields.{Holds, located, within}
-use Rattle.cli.specs.Errors.{status_of_operation}
+use Rattle.cli.specs.Error.{status_of_operation}
 use Rattle.cli.proofs.Conversions.{error_is_outcome}
+use Rattle.cli.specs.declared.error.ProgramError.TheVariants.{Line}
+use Rattle.cli.specs.declared.filter.Filter.{Filter}
+use Rattle.cli.specs.Filter.{ConversionFails, IsResultOfLine}
 use Rattle.cli.specs.FieldConversion.{IsFieldResult, IsLineResult, LineFails, with_text}
 
 -- the bytes from an index to the end
@@ -77,7 +80,7 @@ module _
     line_fails error is other = line_result (Err error) (is (λ e. cc))
 
 -- an error with status 1 is that of the result
-pub error_is_result :
+error_is_result :
     (field : Option Field) (conversion : Conversion) (line : List ℕ) (error : OperationError)
     → status_of_operation error ≡ 1 → LineFails field conversion line error
     → IsLineResult field conversion line (Err error)
@@ -87,3 +90,10 @@ error_is_result None conversion line error one h =
 error_is_result (Some field) conversion line Memory one h = absurd (omega (arith, one))
 error_is_result (Some field) conversion line Output one h = absurd (omega (arith, one))
 error_is_result (Some field) conversion line error one h = h
+
+-- and of the line with this number
+pub rejected_line :
+    (filter : Filter) (number : ℕ) (line : List ℕ) (error : OperationError) → status_of_operation error ≡ 1
+    → ConversionFails filter number line error → IsResultOfLine filter number line (Err (Line number error))
+rejected_line filter number line error one (other, fails) =
+    (Err error, inr (other, error_is_result filter.field filter.conversion line error one fails), refl)

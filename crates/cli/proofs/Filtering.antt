@@ -12,11 +12,11 @@ use Rattle.std.specs.declared.io.ErrorKind.{ErrorKind}
 use Rattle.std.proofs.KnownBytes.{Appends-nil, Appends-trans}
 use Rattle.decimal_digits.specs.AppendsPrefix.{AppendsPrefix}
 use Rattle.fixed_decimal.proofs.Calling.{then_prefix}
-use Rattle.cli.specs.declared.error.FilterError.{FilterError}
-use Rattle.cli.specs.declared.error.FilterError.TheVariants.{Operation, LongLine, Input, Output}
+use Rattle.cli.specs.declared.error.ProgramError.{ProgramError}
+use Rattle.cli.specs.declared.error.ProgramError.TheVariants.{Line, LongLine, Input, Output}
 use Rattle.cli.specs.declared.filter.Filter.{Filter}
 use Rattle.cli.specs.declared.filter.OnError.TheVariants.{Stop}
-use Rattle.cli.specs.FilterLine.{Effects, IsErrorOfReading, IsResultOfLine, FiltersLine, FiltersNext, output_of_line, errors_of_line}
+use Rattle.cli.specs.Filter.{Effects, IsErrorOfReading, IsResultOfLine, FiltersLine, FiltersNext, output_of_line, errors_of_line}
 use Rattle.cli.specs.Input.{IsRead}
 use Rattle.cli.specs.Lines.{lines_of, AreRead, AreResults, output_of, errors_of, have_texts, Returns, Filters, IsConsumed}
 use Rattle.cli.proofs.FirstLine.{lines_first}
@@ -46,8 +46,8 @@ read_all a b c lines h is = grind (arith, common_steps)
 -- ---- The results of one line more.
 
 results_more :
-    (filter : Filter) (number : ℕ) (lines : List (List ℕ)) (results : List (Result (List ℕ) FilterError))
-    (line : List ℕ) (r : Result (List ℕ) FilterError) → AreResults filter number lines results
+    (filter : Filter) (number : ℕ) (lines : List (List ℕ)) (results : List (Result (List ℕ) ProgramError))
+    (line : List ℕ) (r : Result (List ℕ) ProgramError) → AreResults filter number lines results
     → IsResultOfLine filter (number + length lines) line r
     → AreResults filter number (lines ++ (line ∷ [])) (results ++ (r ∷ []))
 results_more filter number [] [] line r h is =
@@ -59,7 +59,7 @@ results_more filter number (x ∷ xs) (y ∷ ys) line r (first, rest) is =
 results_more filter number lines results line r never is = absurd never
 
 -- lines that have texts have no errors
-no_errors : (results : List (Result (List ℕ) FilterError)) → have_texts results ≡ true → errors_of results ≡ []
+no_errors : (results : List (Result (List ℕ) ProgramError)) → have_texts results ≡ true → errors_of results ≡ []
 no_errors [] h = refl
 no_errors (r ∷ results) h = grind (arith, h, no_errors results)
 
@@ -98,11 +98,12 @@ from_start e input failure output diagnostics = record {
 
 -- the lines were read, the output of their results was appended, and their errors were reported
 pub record Filtered
-    {D : Type 0} (reports : D → FilterError → D → Type 0) (filter : Filter) (count : ℕ) (texts : Bool) (e : Effects D)
+    {D : Type 0} (reports : D → ProgramError → D → Type 0) (filter : Filter) (count : ℕ) (texts : Bool)
+    (e : Effects D)
     : Type 0
   where
     pub lines : List (List ℕ)
-    pub results : List (Result (List ℕ) FilterError)
+    pub results : List (Result (List ℕ) ProgramError)
     pub are_results : AreResults filter 1 lines results
     pub read : AreRead e.input.before lines e.input.after
     pub number : length lines ≡ count
@@ -113,8 +114,8 @@ pub record Filtered
 
 -- before the first line
 pub filtered_start :
-    {D : Type 0} (reports : D → FilterError → D → Type 0) (filter : Filter) (a : Option (List ℕ)) (f : Option ErrorKind)
-    (o : Option (List ℕ)) (d : D)
+    {D : Type 0} (reports : D → ProgramError → D → Type 0) (filter : Filter) (a : Option (List ℕ))
+    (f : Option ErrorKind) (o : Option (List ℕ)) (d : D)
     → Filtered reports filter 0 true (record {
       input = record { before = a; after = a };
       failure = f;
@@ -134,19 +135,19 @@ filtered_start reports filter a f o d = record {
 }
 
 module _
-    {D : Type 0} {reports : D → FilterError → D → Type 0} {filter : Filter} {count : ℕ} {t : Bool} {e : Effects D}
+    {D : Type 0} {reports : D → ProgramError → D → Type 0} {filter : Filter} {count : ℕ} {t : Bool} {e : Effects D}
     (h : Filtered reports filter count t e)
   where
     -- ---- One more line.
 
     results_next :
-        (line : List ℕ) (r : Result (List ℕ) FilterError) → IsResultOfLine filter (count + 1) line r
+        (line : List ℕ) (r : Result (List ℕ) ProgramError) → IsResultOfLine filter (count + 1) line r
         → AreResults filter 1 (h.lines ++ (line ∷ [])) (h.results ++ (r ∷ []))
     results_next line r is =
         let number : count + 1 ≡ 1 + length h.lines = omega (arith, h.number) in
         results_more filter 1 h.lines h.results line r h.are_results (rw number at is)
 
-    module _ (r : Result (List ℕ) FilterError) where
+    module _ (r : Result (List ℕ) ProgramError) where
       output_next :
           (q : Option (List ℕ)) → Appends e.output.after q (output_of_line r)
           → Appends e.output.before q (output_of (h.results ++ (r ∷ [])))
@@ -198,7 +199,7 @@ module _
 
       -- nothing was written, and the filter returned this
       filters :
-          (result : Result Bool FilterError) → Returns filter e.input.before f h.lines h.results result
+          (result : Result Bool ProgramError) → Returns filter e.input.before f h.lines h.results result
           → q ≡ e.output.after → g ≡ e.diagnostics.after
           → Filters AppendsPrefix reports filter (from_start e c f q g) result
       filters result how out err = record {
@@ -229,7 +230,7 @@ module _
 
       -- it could not be read
       filters_reading :
-          (error : FilterError) → IsErrorOfReading (count + 1) f error → q ≡ e.output.after
+          (error : ProgramError) → IsErrorOfReading (count + 1) f error → q ≡ e.output.after
           → g ≡ e.diagnostics.after → Filters AppendsPrefix reports filter (from_start e c f q g) (Err error)
       filters_reading (LongLine at) (same, memory) out err =
           filters (Err (LongLine at))
@@ -239,12 +240,12 @@ module _
 
       -- it was read, and it has this error
       filters_line :
-          (line : List ℕ) (error : FilterError) → IfSome e.input.after (λ rest. IsRead true rest line c)
+          (line : List ℕ) (error : ProgramError) → IfSome e.input.after (λ rest. IsRead true rest line c)
           → FiltersLine reports filter (count + 1) line (from_end e c f q g).output
           (from_end e c f q g).diagnostics (Err error)
           → Filters AppendsPrefix reports filter (from_start e c f q g) (Err error)
-      filters_line line (Operation at error) is (why, out, err) =
-          filters (Err (Operation at error)) (
+      filters_line line (Line at error) is (why, out, err) =
+          filters (Err (Line at error)) (
             (e.input.after, h.read),
             (
               line,
@@ -266,21 +267,21 @@ module _
 
       -- it has this error, or could not be read
       pub filters_error :
-          (error : FilterError) → FiltersNext reports filter (count + 1) (from_end e c f q g) (Err error)
+          (error : ProgramError) → FiltersNext reports filter (count + 1) (from_end e c f q g) (Err error)
           → Filters AppendsPrefix reports filter (from_start e c f q g) (Err error)
       filters_error error (inl (line, is, fails)) = filters_line line error is fails
       filters_error error (inr (reading, (out, err))) = filters_reading error reading out err
 
       -- what is left after it
       pub consumed_next :
-          (error : FilterError) → FiltersNext reports filter (count + 1) (from_end e c f q g) (Err error)
+          (error : ProgramError) → FiltersNext reports filter (count + 1) (from_end e c f q g) (Err error)
           → IsConsumed (record { before = e.input.before; after = c }) error
-      consumed_next (Operation at error) (inl (line, is, ((same, other, real, fails), out, err))) = (
+      consumed_next (Line at error) (inl (line, is, ((same, other, real, fails), out, err))) = (
         h.lines ++ (line ∷ []),
         length-append h.lines (line ∷ []) ∙ (ap (λ n. n + 1) h.number ∙ sym same),
         read_more e.input.before e.input.after c h.lines line h.read is,
       )
-      consumed_next (Operation at error) (inr (never, silent)) = absurd never
+      consumed_next (Line at error) (inr (never, silent)) = absurd never
       consumed_next error fails = tt
 
     -- after all lines that a `u64` counts

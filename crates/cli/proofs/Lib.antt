@@ -1,8 +1,8 @@
 pub mod Numerals
 pub mod RoundingWord
 pub mod Programs
+pub mod Starting
 pub mod Conversions
-pub mod WordErrors
 pub mod Buffers
 pub mod Filtering
 pub mod Reporting

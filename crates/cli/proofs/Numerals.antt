@@ -7,7 +7,7 @@ use Rattle.std.specs.Str.Parse.{digits_value, ParsesSigned}
 use Rattle.std.proofs.lemmas.Bool.Decides.{nat_tests}
 use Rattle.std.proofs.lemmas.Bool.{and_parts, leb-true, ltb-true, ne_eqb}
 use Rattle.std.proofs.lemmas.Str.Parse.{IsNumeralModel, numerals_by_value, tells_all_ascii_digits, parse_signed_minus, parse_signed_plain}
-use Rattle.cli.specs.Words.{are_digits, digits_up_to, number}
+use Rattle.cli.specs.Calls.{are_digits, digits_up_to, number}
 
 -- digits with the value of `digits_value` are a model of numerals for the lemmas on parsing
 pub digits-is_numeral_model : IsNumeralModel (λ ds. all_ascii_digits ds ≡ true) (digits_value 10)

@@ -9,8 +9,8 @@ use Rattle.std.proofs.KnownBytes.{Appends-kept, Appends-trans}
 use Rattle.decimal_digits.specs.AppendsPrefix.{AppendsPrefix}
 use Rattle.plural_rules.specs.declared.rules.PluralCategory.{PluralCategory}
 use Rattle.plural_rules.specs.Rules.{RuleValue}
-use Rattle.cli.specs.declared.error.PluralError.{PluralError}
-use Rattle.cli.specs.declared.error.PluralError.TheVariants.{Output}
+use Rattle.cli.specs.declared.error.ProgramError.{ProgramError}
+use Rattle.cli.specs.declared.error.ProgramError.TheVariants.{Output}
 use Rattle.cli.specs.Categories.{read_category, category_line, HaveLines, PrintsAll, StopsAt, TextFails}
 use Rattle.cli.specs.Plural.{HasRules}
 use Rattle.cli.proofs.Programs.{taken}
@@ -60,7 +60,7 @@ module _
 
     -- the error of this one; at `Output` it is that of its line
     pub stops_here :
-        (error : PluralError) → TextFails rules (string_bytes text) (i + 1) error → (error ≢ Output → new ≡ mid)
+        (error : ProgramError) → TextFails rules (string_bytes text) (i + 1) error → (error ≢ Output → new ≡ mid)
         → (error ≡ Output
         → IsOkAnd (read_category rules (string_bytes text))
         (λ category. AppendsPrefix mid new (category_line category)))
@@ -98,7 +98,7 @@ module _ (rules : List RuleValue) (texts : List (String Global)) (old mid new : 
     pub all_kept : PrintsAll rules texts old mid → PrintsAll rules texts old new
     all_kept (lines, have, appends) = (lines, have, Appends-kept old mid new lines appends k)
 
-    pub stop_kept : (error : PluralError) → StopsAt rules texts old mid error → StopsAt rules texts old new error
+    pub stop_kept : (error : ProgramError) → StopsAt rules texts old mid error → StopsAt rules texts old new error
     stop_kept error (front, back, lines, e, have, part, all) = (
       front,
       back,
@@ -111,7 +111,7 @@ module _ (rules : List RuleValue) (texts : List (String Global)) (old mid new : 
 
     -- with or without an error, the printed lines are a prefix
     pub begun :
-        {U : Type 0} (r : Result U PluralError) → OnOk r (PrintsAll rules texts old mid)
+        {U : Type 0} (r : Result U ProgramError) → OnOk r (PrintsAll rules texts old mid)
         → IfErr r (StopsAt rules texts old mid) → StopsAt rules texts old new Output
     begun (Ok x) (lines, have, appends) stopped = (
       texts,

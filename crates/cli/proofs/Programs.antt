@@ -1,27 +1,23 @@
 -- The run that the words of a command line name, and its result.
-use Rattle.std.proofs.Common.{◌≡◌, ℕ, ◌+◌, ◌-◌, ◌<◌, ◌≤◌, List, [], ◌∷◌, ◌++◌, length, take, drop, get_or, String, string_bytes, Option, Some, None, Result, Ok, Err, IfNone, IfSome, IfErr, true, false, refl, sym, ap, subst, ◌∙◌, arith, add-one}
+use Rattle.std.proofs.Common.{◌≡◌, ℕ, ◌+◌, ◌<◌, List, [], ◌∷◌, ◌++◌, length, take, get_or, String, string_bytes, Option, Result, Ok, Err, IfErr, refl, sym, ap, subst, ◌∙◌, arith, add-one}
 use Rattle.std.specs.Prelude.{IsErrAnd, OnOk}
-use Rattle.std.specs.Option.{is_some}
 use Rattle.std.specs.declared.alloc.Global.{Global}
 use Rattle.std.specs.Io.KnownBytes.{Keeps}
-use Rattle.std.proofs.Math.Seq.{take-suc, take-length}
-use Rattle.std.proofs.lemmas.List.{length-drop, append-nil}
+use Rattle.std.proofs.Math.Seq.{take-suc}
+use Rattle.std.proofs.lemmas.List.{append-nil}
 use Rattle.std.proofs.KnownBytes.{Appends-kept}
 use Rattle.decimal_digits.specs.AppendsPrefix.{AppendsPrefix}
 use Rattle.fixed_decimal.proofs.Calling.{prefix_more}
 use Rattle.fixed_decimal.specs.declared.runs.Call.{Call}
 use Rattle.cli.specs.declared.conversion.Conversion.{Conversion}
-use Rattle.cli.specs.declared.error.FixdecError.TheVariants.{Usage, Operation}
-use Rattle.cli.specs.Conversion.{HasOutcome}
+use Rattle.cli.specs.declared.error.ProgramError.TheVariants as program
+use Rattle.cli.specs.declared.error.OperationError.{OperationError}
+use Rattle.cli.specs.Conversion.{HasOutcome, OperationsFail}
 use Rattle.cli.proofs.Conversions.{output_fails}
-use Rattle.cli.specs.Words.{Names, NameAll}
-use Rattle.cli.specs.ConversionWords.{NamesConversion, ConversionFails}
-use Rattle.cli.specs.declared.words.WordsError.{WordsError}
-use Rattle.cli.specs.declared.words.WordsError.TheVariants as reason
-use Rattle.cli.specs.Errors.{fixdec_error_of}
+use Rattle.cli.specs.Calls.{Names, NameAll}
+use Rattle.cli.specs.Error.{conversion_error}
 use Rattle.cli.specs.declared.error.OperationError.TheVariants.{Output}
-use Rattle.cli.specs.Arguments.{Arguments, HaveWords}
-use Rattle.cli.specs.Fixdec.{HasRun, NamesRun, RunFails, HasError, PrintsLine, PrintsLinePrefix, Prints, PrintsPrefix}
+use Rattle.cli.specs.Fixdec.{HasRun, NamesRun, HasError, PrintsLine, PrintsLinePrefix, Prints, PrintsPrefix}
 
 -- ---- Words and calls, one by one.
 
@@ -38,64 +34,6 @@ pub taken :
     (ws : List (String Global)) (i : ℕ) (w : String Global) → i < length ws → w ≡ get_or ws i w
     → take (i + 1) ws ≡ take i ws ++ (w ∷ [])
 taken ws i w l e = rw add-one (take-suc ws i w l ∙ ap (λ x. take i ws ++ (x ∷ [])) (sym e))
-
--- what is known of a result that is None
-pub at_none : {A : Type 0} {Q : Type 0} (o : Option A) → is_some o ≡ false → IfNone o Q → Q
-at_none o e q = grind arith
-
--- the value of a result that is Some, and what is known of it
-pub at_some : {A : Type 0} {Q : A → Type 0} (o : Option A) → is_some o ≡ true → IfSome o Q → (x : A) × Q x
-at_some None e q = cc
-at_some (Some x) e q = (x, q)
-
--- ---- The words after the first, and before the last.
-
-pub after_first :
-    (first : String Global) (words : List (String Global))
-    → take (length (first ∷ words) - 1) (drop 1 (first ∷ words)) ≡ words
-after_first first words = rw (← length-drop 1 (first ∷ words)) (take-length words)
-
--- words are the first and those after it
-pub first_and_others :
-    (words : List (String Global)) (first : String Global) → 1 ≤ length words → first ≡ get_or words 0 first
-    → words ≡ first ∷ take (length words - 1) (drop 1 words)
-first_and_others [] first l is = absurd (omega arith)
-first_and_others (w ∷ ws) first l is = rw (after_first w ws) (ap (λ x. x ∷ ws) (sym is))
-
--- words are the last and those before it
-pub others_and_last :
-    (words : List (String Global)) (last : String Global) → 1 ≤ length words
-    → last ≡ get_or words (length words - 1) last → words ≡ take (length words - 1) words ++ (last ∷ [])
-others_and_last words last l is =
-    let i = length words - 1 in
-    let e : length words - 1 + 1 ≡ length words = omega arith in
-    let inside : length words - 1 < length words = omega arith in
-    sym (take-length words) ∙ ap (λ n. take n words) (sym e) ∙ taken words (length words - 1) last inside is
-
--- there is no text
-pub no_text : (words : List (String Global)) → length words < 1 → HasError words Usage
-no_text [] few = refl
-no_text (w ∷ ws) few = absurd (omega arith)
-
-module _ (words : List (String Global)) (first : String Global) (l : 1 ≤ length words)
-    (is : first ≡ get_or words 0 first) where
-  abbrev others : List (String Global)
-  others = take (length words - 1) (drop 1 words)
-
-  split : first ∷ others ≡ words
-  split = sym (first_and_others words first l is)
-
-  -- the first word is the text, and the others name a conversion
-  pub names_run :
-      (conversion : Conversion) → NamesConversion others conversion → NamesRun words conversion (string_bytes first)
-  names_run conversion names = subst (λ ws. NamesRun ws conversion (string_bytes first)) split (refl, names)
-
-  -- they name none
-  pub words_fail :
-      (error : WordsError) → ConversionFails others error → HasError words (fixdec_error_of error)
-  words_fail reason.Usage fails = subst (λ ws. RunFails ws reason.Usage) split fails
-  words_fail reason.UnknownLocale fails = subst (λ ws. RunFails ws reason.UnknownLocale) split fails
-  words_fail reason.Memory fails = subst (λ ws. RunFails ws reason.Memory) split fails
 
 -- ---- Results.
 
@@ -162,18 +100,22 @@ pub prints_kept :
     (words : List (String Global)) (a b d : Option (List ℕ)) → Prints words a b → Keeps b d → Prints words a d
 prints_kept words a b d h k = run_of h.conversion h.text h.names (line_kept h.conversion h.text a b d h.holds k)
 
--- P holds of the words of the arguments
-pub have_words :
-    (arguments : Arguments) (words : List (String Global)) (P : List (String Global) → Type 0)
-    → HaveWords arguments (λ all. words ≡ all) → P words → HaveWords arguments P
-have_words (Ok arguments) words P is p = subst P is p
-have_words (Err error) words P is p = absurd is
-
 -- a run that prints to a block whose last bytes cannot be written
 pub unwritten_fails :
     (words : List (String Global)) (a b d : Option (List ℕ)) → Prints words a b → Keeps b d
-    → HasError words (Operation Output) × PrintsPrefix words a d
+    → HasError words program.Output × PrintsPrefix words a d
 unwritten_fails words a b d h k = (
   run_of h.conversion h.text h.names (output_fails h.conversion h.text h.holds.0 h.holds.1),
   run_of h.conversion h.text h.names (line_begun h.conversion h.text a b d h.holds k),
 )
+
+-- the conversion of the run fails
+pub conversion_fails :
+    (words : List (String Global)) (error : OperationError) → HasRun words (OperationsFail error)
+    → HasError words (conversion_error error)
+conversion_fails words Output h = h
+conversion_fails words error h = h
+
+-- with the error of a failed output, if it did
+pub conversion_output : (error : OperationError) → conversion_error error ≡ program.Output → error ≡ Output
+conversion_output error is = grind arith

@@ -52,12 +52,6 @@ pub record Undoubled (bytes text : List ℕ) (is_open : Bool) (left : List ℕ) 
   pub read : doubled text ++ (pending is_open ++ left) ≡ bytes
   pub only : (all : List ℕ) → bytes ≡ doubled all → (rest : List ℕ) × (pending is_open ++ left ≡ doubled rest)
 
-pub undoubled_start : (bytes : List ℕ) → Undoubled bytes [] false bytes
-undoubled_start bytes = record { read = refl; only = λ all e. (all, e) }
-
-pub undoubled_all : {bytes text : List ℕ} → Undoubled bytes text false [] → bytes ≡ doubled text
-undoubled_all h = grind (arith, common_steps, h.read)
-
 -- a quote that waits is followed by one
 after_pending :
     {bytes text left : List ℕ} → Undoubled bytes text true left → (all : List ℕ) → bytes ≡ doubled all

@@ -8,7 +8,7 @@ use Rattle.std.proofs.lemmas.Str.Pattern.{IsSplitOnceResult, split_after}
 use Rattle.fixed_decimal.specs.declared.rounding.SignedRoundingMode.{SignedRoundingMode}
 use Rattle.decimal_digits.specs.declared.rounding.RoundingIncrement.{RoundingIncrement}
 use Rattle.fixed_decimal.specs.declared.runs.Call.TheVariants.{Round}
-use Rattle.cli.specs.Words.{number, mode_word, increment_word, Names}
+use Rattle.cli.specs.Calls.{number, mode_word, increment_word, Names}
 use Rattle.cli.proofs.Numerals.{digits-is_numeral_model}
 
 digits_after : (w : ℕ) (ws : List ℕ) (p : ℤ) → number (w ∷ ws) ≡ Some p → all_ascii_digits ws ≡ true

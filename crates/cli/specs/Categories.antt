@@ -4,19 +4,20 @@ use Rattle.std.specs.Prelude.{Option, Result, Ok, Err, IsOk, IsOkAnd, MatchBool}
 use Rattle.std.specs.List.{list_any}
 use Rattle.decimal_unsigned.specs.declared.decimal.TheConstants.{INLINE_DIGITS}
 use Rattle.decimal_unsigned.specs.Reading.{ReadError}
-use Rattle.fixed_decimal.specs.Decimal.{Decimal}
 use Rattle.fixed_decimal.specs.DecimalText.{read_decimal, IsLong, and_then}
 use Rattle.fixed_decimal.specs.Letters.{is_c}
-use Rattle.fixed_decimal.specs.Compact.{Compact, read_compact, HasLongSignificand}
+use Rattle.fixed_decimal.specs.Compact.{read_compact, HasLongSignificand}
 use Rattle.plural_rules.specs.declared.rules.PluralCategory.{PluralCategory}
 use Rattle.plural_rules.specs.Operands.{plain, compact}
 use Rattle.plural_rules.specs.Rules.{RuleValue, category_of, name_of}
 use Rattle.std.specs.Io.KnownBytes.{Appends}
 use Rattle.std.specs.declared.alloc.Global.{Global}
 use Rattle.decimal_digits.specs.AppendsPrefix.{AppendsPrefix}
-use Rattle.cli.specs.declared.error.PluralError.{PluralError}
-use Rattle.cli.specs.declared.error.PluralError.TheVariants.{Memory, Text, Output}
-use Rattle.cli.specs.Errors.{read_error_of}
+use Rattle.cli.specs.declared.error.ProgramError.{ProgramError}
+use Rattle.cli.specs.declared.error.ProgramError.TheVariants.{Start, Text, Output}
+use Rattle.cli.specs.declared.error.WordsError.TheVariants.{Memory}
+use Rattle.cli.specs.declared.help.Program.TheVariants.{Plural}
+use Rattle.cli.specs.Error.{read_error_of}
 
 -- the text has more digits than are held without allocation
 abbrev pub IsLongText : List ℕ → Type 0
@@ -24,20 +25,12 @@ IsLongText bytes =
     MatchBool (list_any is_c bytes) (IsOkAnd (read_compact bytes) (HasLongSignificand INLINE_DIGITS))
     (IsOkAnd (read_decimal bytes) (IsLong INLINE_DIGITS))
 
--- the category of a compact decimal
-abbrev pub category_of_compact : List RuleValue → Compact → PluralCategory
-category_of_compact rules v = category_of rules (compact v.significand.absolute v.exponent)
-
--- the category of a decimal
-abbrev pub category_of_decimal : List RuleValue → Decimal → PluralCategory
-category_of_decimal rules v = category_of rules (plain v.absolute)
-
 -- the category of a text: with a c it is a compact decimal, and else a decimal
 abbrev pub read_category : List RuleValue → List ℕ → Result PluralCategory ReadError
 read_category rules bytes =
     if list_any is_c bytes
-    then and_then (read_compact bytes) (λ v. Ok (category_of_compact rules v))
-    else and_then (read_decimal bytes) (λ v. Ok (category_of_decimal rules v))
+    then and_then (read_compact bytes) (λ v. Ok (category_of rules (compact v.significand.absolute v.exponent)))
+    else and_then (read_decimal bytes) (λ v. Ok (category_of rules (plain v.absolute)))
 
 -- the line of a category: its name, and a line feed
 abbrev pub category_line : PluralCategory → List ℕ
@@ -55,21 +48,22 @@ abbrev pub PrintsAll : List RuleValue → List (String Global) → Option (List 
 PrintsAll rules texts old new = (lines : List ℕ) × HaveLines rules texts lines × Appends old new lines
 
 -- the text of a number has no line: it is rejected, or the program is out of memory for its digits
-abbrev pub TextFails : List RuleValue → List ℕ → ℕ → PluralError → Type 0
-TextFails rules bytes number Memory = IsLongText bytes
+abbrev pub TextFails : List RuleValue → List ℕ → ℕ → ProgramError → Type 0
+TextFails rules bytes number (Start error) =
+    (error ≡ record { program = Plural; why = Memory }) × IsLongText bytes
 TextFails rules bytes number (Text at reason) =
     (at ≡ number) × (read_category rules bytes ≡ Err (read_error_of reason))
 TextFails rules bytes number Output = IsOk (read_category rules bytes)
 TextFails rules bytes number _ = ⊥
 
 -- the first text, which has this number, fails with this error
-abbrev pub FirstFails : List RuleValue → List (String Global) → ℕ → PluralError → Type 0
+abbrev pub FirstFails : List RuleValue → List (String Global) → ℕ → ProgramError → Type 0
 FirstFails rules [] number error = ⊥
 FirstFails rules (text ∷ texts) number error = TextFails rules (string_bytes text) number error
 
 -- what is printed before an error: the lines of the texts before the one that fails; at `Output` a prefix of lines
 abbrev pub StopsAt :
-    List RuleValue → List (String Global) → Option (List ℕ) → Option (List ℕ) → PluralError → Type 0
+    List RuleValue → List (String Global) → Option (List ℕ) → Option (List ℕ) → ProgramError → Type 0
 StopsAt rules texts old new error =
     (front : List (String Global)) × (back : List (String Global)) × (lines : List ℕ)
     × (texts ≡ front ++ back) × HaveLines rules front lines × AppendsPrefix old new lines

@@ -1,5 +1,5 @@
 -- The outcome of a conversion on a text, and its errors.
-use Rattle.std.specs.Prelude.{◌≡◌, ◌⊎◌, List, ℕ, Option, Some, None, MatchOption, Result, Ok, Err, IsOkAnd}
+use Rattle.std.specs.Prelude.{◌≡◌, ◌⊎◌, ◌&&◌, Bool, List, ℕ, Option, Some, None, is_none, MatchBool, Result, Ok, Err, IsOkAnd}
 use Rattle.decimal_unsigned.specs.Reading.{ReadError, syntax, limit}
 use Rattle.decimal_unsigned.specs.declared.decimal.TheConstants.{INLINE_DIGITS}
 use Rattle.decimal_unsigned.specs.declared.error.ParseError.{ParseError}
@@ -18,8 +18,8 @@ use Rattle.cli.specs.declared.reader.DecimalReader.{DecimalReader}
 use Rattle.cli.specs.declared.error.Reason.TheVariants as reason
 use Rattle.cli.specs.declared.error.OperationError.{OperationError}
 use Rattle.cli.specs.declared.error.OperationError.TheVariants.{Start, Operand, Overlap, Overflow, Memory, Output}
-use Rattle.cli.specs.Errors.{error_of_run}
-use Rattle.cli.specs.Reading.{IsReadIn, NeedsMemoryIn}
+use Rattle.cli.specs.Error.{error_of_run}
+use Rattle.cli.specs.Reader.{IsReadIn, NeedsMemoryIn}
 
 -- ---- Reading.
 
@@ -60,13 +60,13 @@ pub record IsOutcomeByForms (c : Conversion) (text : List ℕ) (result : Result 
   pub is_read : IsReadAs c.reader text read
   pub is : result ≡ formatted_by c.formatter (last_decimal c.calls.items read)
 
--- P of a conversion without a reader and a formatter, and Q of any other
-abbrev pub IfPlain : Conversion → Type 0 → Type 0 → Type 0
-IfPlain c P Q = MatchOption c.reader (MatchOption c.formatter P (λ _. Q)) (λ _. Q)
+-- there is no reader and no formatter
+abbrev pub is_plain : Conversion → Bool
+is_plain c = is_none c.reader && is_none c.formatter
 
 -- the outcome of a text: without a reader and a formatter that of the run
 abbrev pub IsOutcome : Conversion → List ℕ → Result (List ℕ) OutcomeError → Type 0
-IsOutcome c text result = IfPlain c (result ≡ outcome text c.calls.items) (IsOutcomeByForms c text result)
+IsOutcome c text result = MatchBool (is_plain c) (result ≡ outcome text c.calls.items) (IsOutcomeByForms c text result)
 
 -- P holds of the text that the conversion makes of a text
 abbrev pub HasOutcome : Conversion → List ℕ → (List ℕ → Type 0) → Type 0
@@ -108,7 +108,7 @@ IsErrorOfRun error text calls =
 
 -- the conversion of a text fails with this error: without a reader and a formatter that of the run
 abbrev pub OperationsFail : OperationError → Conversion → List ℕ → Type 0
-OperationsFail error c text = IfPlain c (IsErrorOfRun error text c.calls.items) (FailsByForms error c text)
+OperationsFail error c text = MatchBool (is_plain c) (IsErrorOfRun error text c.calls.items) (FailsByForms error c text)
 
 -- ---- The law.
 

@@ -14,3 +14,7 @@ abbrev pub Reports : Option (List ℕ) → Option (List ℕ) → Bool → Option
 Reports output old had_failed new failed =
     (line : List ℕ) × IsErrorLine output line × AppendsPrefix old new line × (failed ≡ false → Appends old new line)
     × (had_failed ≡ true → Keeps old new × (failed ≡ true))
+
+-- one line is written to a writer that has not failed, or a prefix of it
+abbrev pub IsReported : Option (List ℕ) → Option (List ℕ) → Option (List ℕ) → Type 0
+IsReported output old new = (failed : Bool) × Reports output old false new failed

@@ -1,17 +1,19 @@
 -- The run that the words of `fixdec` name, and its result.
-use Rattle.std.specs.Prelude.{◌≡◌, ℕ, Bool, true, List, [], ◌∷◌, ◌++◌, String, string_bytes}
+use Rattle.std.specs.Prelude.{◌≡◌, ◌≢◌, ℕ, Bool, true, false, List, [], ◌∷◌, ◌++◌, String, string_bytes}
 use Rattle.std.specs.Prelude.{Option, MatchOption}
 use Rattle.std.specs.Io.KnownBytes.{Appends, append_known}
 use Rattle.std.specs.declared.alloc.Global.{Global}
 use Rattle.decimal_digits.specs.AppendsPrefix.{AppendsPrefix}
-use Rattle.cli.specs.ConversionWords.{NamesConversion, ConversionFails}
-use Rattle.cli.specs.declared.words.WordsError.{WordsError}
-use Rattle.cli.specs.declared.words.WordsError.TheVariants as reason
+use Rattle.cli.specs.Words.{NamesConversion, ConversionFails}
+use Rattle.cli.specs.declared.error.WordsError.{WordsError}
+use Rattle.cli.specs.declared.error.WordsError.TheVariants.{Usage, Memory}
 use Rattle.cli.specs.declared.conversion.Conversion.{Conversion}
-use Rattle.cli.specs.declared.error.FixdecError.{FixdecError}
-use Rattle.cli.specs.declared.error.FixdecError.TheVariants.{Usage, UnknownLocale, Memory, Operation}
+use Rattle.cli.specs.declared.error.ProgramError.{ProgramError}
+use Rattle.cli.specs.declared.error.ProgramError.TheVariants.{Start, Operation, Output}
+use Rattle.cli.specs.declared.error.OperationError.TheVariants as operation
 use Rattle.cli.specs.Conversion.{HasOutcome, OperationsFail}
-use Rattle.cli.specs.Errors.{output}
+use Rattle.cli.specs.Error.{start_error}
+use Rattle.cli.specs.declared.help.Program.TheVariants.{Fixdec}
 
 -- the words are TEXT [read:..] [CALL].. [format:..], with this conversion and this text
 abbrev pub NamesRun : List (String Global) → Conversion → List ℕ → Type 0
@@ -20,7 +22,7 @@ NamesRun (first ∷ others) conversion text = (text ≡ string_bytes first) × N
 
 -- they are not, for this reason
 abbrev pub RunFails : List (String Global) → WordsError → Type 0
-RunFails [] error = error ≡ reason.Usage
+RunFails [] error = error ≡ Usage
 RunFails (first ∷ others) error = ConversionFails others error
 
 -- the words name a conversion and a text, and P holds of these
@@ -48,17 +50,18 @@ abbrev pub PrintsPrefix : List (String Global) → Option (List ℕ) → Option 
 PrintsPrefix words old new = HasRun words (PrintsLinePrefix old new)
 
 -- the error of the words, or of the conversion
-abbrev pub HasError : List (String Global) → FixdecError → Type 0
-HasError words Usage = RunFails words reason.Usage
-HasError words UnknownLocale = RunFails words reason.UnknownLocale
-HasError words Memory = RunFails words reason.Memory
+abbrev pub HasError : List (String Global) → ProgramError → Type 0
+HasError words (Start error) = (error.program ≡ Fixdec) × RunFails words error.why
 HasError words (Operation error) = HasRun words (OperationsFail error)
+HasError words Output = HasRun words (OperationsFail operation.Output)
+HasError words _ = ⊥
 
--- the block before the writer cannot be allocated; or the words have the error, and at `output` the writer failed after
--- a prefix of the text and a line feed, of which the block still holds a part
+-- the block before the writer cannot be allocated; or the words have the error: the writer is not called, but at
+-- `Output`, where it failed after a prefix of the text and a line feed, of which the block still holds a part
 abbrev pub WordsFail :
-    {O : Type 0} → (O → Option (List ℕ)) → O → List (String Global) → Option (O × Bool) → FixdecError → Type 0
+    {O : Type 0} → (O → Option (List ℕ)) → O → List (String Global) → Option (O × Bool) → ProgramError → Type 0
 WordsFail contents out words back error =
-    MatchOption back (error ≡ Memory) (λ closed. HasError words error
-    × (error ≡ output → (closed.1 ≡ true)
+    MatchOption back (error ≡ start_error Fixdec Memory) (λ closed. HasError words error
+    × (error ≢ Output → closed ≡ (out, false))
+    × (error ≡ Output → (closed.1 ≡ true)
     × ((unwritten : List ℕ) × PrintsPrefix words (contents out) (append_known (contents closed.0) unwritten))))

@@ -4,11 +4,11 @@ use Rattle.std.specs.List.{FoldsTo, list_all, onto_first}
 use Rattle.std.specs.Io.KnownBytes.{Appends, append_known}
 use Rattle.std.specs.declared.io.ErrorKind.{ErrorKind}
 use Rattle.decimal_digits.specs.AppendsPrefix.{AppendsPrefix}
-use Rattle.cli.specs.declared.error.FilterError.{FilterError}
-use Rattle.cli.specs.declared.error.FilterError.TheVariants.{Operation, LongLine, Input, Output}
+use Rattle.cli.specs.declared.error.ProgramError.{ProgramError}
+use Rattle.cli.specs.declared.error.ProgramError.TheVariants.{Line, LongLine, Input, Output}
 use Rattle.cli.specs.declared.filter.Filter.{Filter}
 use Rattle.cli.specs.declared.filter.OnError.TheVariants.{Stop}
-use Rattle.cli.specs.FilterLine.{Change, Effects, IsResultOfLine, output_of_line, errors_of_line, IsErrorOfReading, IsErrorOfLine}
+use Rattle.cli.specs.Filter.{Change, Effects, IsResultOfLine, output_of_line, errors_of_line, IsErrorOfReading, IsErrorOfLine}
 
 -- ---- The lines of an input.
 
@@ -32,32 +32,32 @@ AreFirst input lines = (left : Option (List ℕ)) × AreRead input lines left
 -- ---- The results of lines.
 
 -- the result of each line, in order; the first has this number
-abbrev pub AreResults : Filter → ℕ → List (List ℕ) → List (Result (List ℕ) FilterError) → Type 0
+abbrev pub AreResults : Filter → ℕ → List (List ℕ) → List (Result (List ℕ) ProgramError) → Type 0
 AreResults filter number [] [] = ⊤
 AreResults filter number (line ∷ lines) (result ∷ results) =
     IsResultOfLine filter number line result × AreResults filter (number + 1) lines results
 AreResults filter number _ _ = ⊥
 
 -- the output of lines with these results
-abbrev pub output_of : List (Result (List ℕ) FilterError) → List ℕ
+abbrev pub output_of : List (Result (List ℕ) ProgramError) → List ℕ
 output_of results = flat_map output_of_line results
 
 -- the errors of lines with these results
-abbrev pub errors_of : List (Result (List ℕ) FilterError) → List FilterError
+abbrev pub errors_of : List (Result (List ℕ) ProgramError) → List ProgramError
 errors_of results = flat_map errors_of_line results
 
 -- whether each line has a text
-abbrev pub have_texts : List (Result (List ℕ) FilterError) → Bool
+abbrev pub have_texts : List (Result (List ℕ) ProgramError) → Bool
 have_texts results = list_all is_ok results
 
 -- ---- What a filter returns.
 
 -- the error ends the filter after these lines: the run of the next line has it; or the reader, with this failure,
 -- cannot read the next line; or a `u64` counts no more lines; or the output failed
-abbrev pub EndsWith : Filter → Option (List ℕ) → Option ErrorKind → List (List ℕ) → FilterError → Type 0
-EndsWith filter input failure lines (Operation number error) =
+abbrev pub EndsWith : Filter → Option (List ℕ) → Option ErrorKind → List (List ℕ) → ProgramError → Type 0
+EndsWith filter input failure lines (Line number error) =
     (line : List ℕ) × AreFirst input (lines ++ (line ∷ []))
-    × IsErrorOfLine filter (length lines + 1) line (Operation number error)
+    × IsErrorOfLine filter (length lines + 1) line (Line number error)
 EndsWith filter input failure lines (LongLine number) = IsErrorOfReading (length lines + 1) failure (LongLine number)
 EndsWith filter input failure lines Input =
     IsErrorOfReading (length lines + 1) failure Input ⊎ (length lines ≡ 2 ^ 64 - 1)
@@ -67,8 +67,8 @@ EndsWith filter input failure lines _ = ⊥
 -- the filter returns this after these lines with these results: whether each has a text, after all lines; or an error,
 -- after some
 abbrev pub Returns :
-    Filter → Option (List ℕ) → Option ErrorKind → List (List ℕ) → List (Result (List ℕ) FilterError)
-    → Result Bool FilterError → Type 0
+    Filter → Option (List ℕ) → Option ErrorKind → List (List ℕ) → List (Result (List ℕ) ProgramError)
+    → Result Bool ProgramError → Type 0
 Returns filter input failure lines results (Ok texts) = AreAll input lines × (texts ≡ have_texts results)
 Returns filter input failure lines results (Err error) =
     AreFirst input lines × EndsWith filter input failure lines error
@@ -77,12 +77,12 @@ Returns filter input failure lines results (Err error) =
 -- of it, and their errors were reported in order
 pub record Filters
     {D : Type 0} (AppendsPart : Option (List ℕ) → Option (List ℕ) → List ℕ → Type 0)
-    (reports : D → FilterError → D → Type 0) (filter : Filter) (effects : Effects D)
-    (returned : Result Bool FilterError)
+    (reports : D → ProgramError → D → Type 0) (filter : Filter) (effects : Effects D)
+    (returned : Result Bool ProgramError)
     : Type 0
   where
     pub lines : List (List ℕ)
-    pub results : List (Result (List ℕ) FilterError)
+    pub results : List (Result (List ℕ) ProgramError)
     pub are_results : AreResults filter 1 lines results
     pub returns : Returns filter effects.input.before effects.failure lines results returned
     pub stop : filter.on_error ≡ Stop → have_texts results ≡ true
@@ -95,7 +95,7 @@ abbrev pub AppendsUnwritten : Option (List ℕ) → Option (List ℕ) → List �
 AppendsUnwritten old new text = (missing : List ℕ) × AppendsPrefix old (append_known new missing) text
 
 -- after an error of the run of a line, the lines up to it are read, and the others are left
-abbrev pub IsConsumed : Change (Option (List ℕ)) → FilterError → Type 0
-IsConsumed input (Operation number error) =
+abbrev pub IsConsumed : Change (Option (List ℕ)) → ProgramError → Type 0
+IsConsumed input (Line number error) =
     (lines : List (List ℕ)) × (length lines ≡ number) × AreRead input.before lines input.after
 IsConsumed input _ = ⊤

@@ -3,7 +3,7 @@ use Rattle.std.specs.Prelude.{◌≡◌, ◌≢◌, ◌⊎◌, ℕ, ◌+◌, if�
 use Rattle.std.specs.Borrow.{Bor}
 use Rattle.std.specs.Str.{chars}
 use Rattle.std.specs.declared.alloc.Global.{Global}
-use Rattle.cli.specs.Words.{HasNumber}
+use Rattle.cli.specs.Calls.{HasNumber}
 use Rattle.cli.specs.declared.fields.Field.{Field}
 use Rattle.cli.specs.Fields.{quote}
 use Rattle.cli.specs.declared.filter.OnError.TheVariants.{Stop, Skip}

@@ -6,9 +6,11 @@ use Rattle.plural_rules.specs.declared.parse.RulesError.{RulesError}
 use Rattle.plural_rules.specs.Rules.{RuleValue}
 use Rattle.plural_rules.specs.RulesGrammar.{Grammar}
 use Rattle.plural_rules.specs.RulesParseResult.{IsParseResult}
-use Rattle.cli.specs.declared.error.PluralError.{PluralError}
-use Rattle.cli.specs.declared.error.PluralError.TheVariants.{Usage, Memory, Output}
-use Rattle.cli.specs.Errors.{error_of_rules}
+use Rattle.cli.specs.declared.error.ProgramError.{ProgramError}
+use Rattle.cli.specs.declared.error.ProgramError.TheVariants.{Output}
+use Rattle.cli.specs.declared.error.WordsError.TheVariants.{Usage, Memory}
+use Rattle.cli.specs.declared.help.Program.TheVariants.{Plural}
+use Rattle.cli.specs.Error.{start_error, error_of_rules}
 use Rattle.cli.specs.Categories.{PrintsAll, StopsAt}
 
 -- the first word is followed by others, and P holds of its bytes and of these
@@ -23,9 +25,9 @@ HasRules words P =
     HasTexts words (λ bytes texts. (rules : List RuleValue) × Grammar bytes rules × P rules texts)
 
 -- the error before a text is read: there are no rules or no texts, or the rules are rejected
-abbrev pub RulesFail : List (String Global) → PluralError → Type 0
+abbrev pub RulesFail : List (String Global) → ProgramError → Type 0
 RulesFail words error =
-    ((length words < 2) × (error ≡ Usage))
+    ((length words < 2) × (error ≡ start_error Plural Usage))
     ⊎ HasTexts words (λ bytes _. (why : RulesError) × (error ≡ error_of_rules why) × IsParseResult bytes (Err why))
 
 -- the categories of all texts are printed
@@ -36,9 +38,9 @@ Prints words old new = HasRules words (λ rules texts. PrintsAll rules texts old
 -- called; or it comes after the lines of some texts, of which bytes are unwritten only where the writer failed, as it
 -- did at `Output`
 abbrev pub PluralFails :
-    {O : Type 0} → (O → Option (List ℕ)) → O → List (String Global) → Option (O × Bool) → PluralError → Type 0
+    {O : Type 0} → (O → Option (List ℕ)) → O → List (String Global) → Option (O × Bool) → ProgramError → Type 0
 PluralFails contents out words back error =
-    MatchOption back (error ≡ Memory) (λ closed. (RulesFail words error × (closed ≡ (out, false)))
+    MatchOption back (error ≡ start_error Plural Memory) (λ closed. (RulesFail words error × (closed ≡ (out, false)))
     ⊎ ((unwritten : List ℕ) × (closed.1 ≡ false → unwritten ≡ []) × (error ≡ Output → closed.1 ≡ true)
     × HasRules words (λ rules texts. StopsAt rules texts (contents out) (append_known (contents closed.0) unwritten)
     error)))

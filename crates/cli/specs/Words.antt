@@ -1,112 +1,139 @@
--- The call that each word of a command line names, by its bytes.
-use Rattle.std.specs.Prelude.{◌≡◌, ℕ, ◌==◌, ◌&&◌, ⊤, Bool, nat_le, nat_lt, if◌then◌else◌, ℤ, pos, neg_ℤ, List, [], ◌∷◌, ◌++◌, length, drop, slice_index, codes, String, string_bytes, Option, Some, None, option_map}
-use Rattle.std.specs.Str.{all_ascii_digits}
-use Rattle.std.specs.Str.Parse.{digits_value}
+-- The conversion that words name: [read:LOCALE[:lenient]] [CALL].. [format:LOCALE[:GROUPING]].
+use Rattle.std.specs.Prelude.{◌≡◌, ◌≢◌, ◌⊎◌, ℕ, ◌==◌, ⊤, Any, Bool, if◌then◌else◌, List, [], ◌∷◌, ◌++◌, codes, String, string_bytes, Option, Some, None}
+use Rattle.std.specs.List.{before_first, after_first, list_any}
 use Rattle.std.specs.declared.alloc.Global.{Global}
-use Rattle.decimal_digits.specs.Ascii.{minus_sign}
-use Rattle.decimal_digits.specs.declared.rounding.UnsignedRoundingMode.TheVariants as unsigned
-use Rattle.fixed_decimal.specs.declared.rounding.SignedRoundingMode.{SignedRoundingMode}
-use Rattle.fixed_decimal.specs.declared.rounding.SignedRoundingMode.TheVariants as mode
-use Rattle.decimal_digits.specs.declared.rounding.RoundingIncrement.{RoundingIncrement}
-use Rattle.decimal_digits.specs.declared.rounding.RoundingIncrement.TheVariants.{MultiplesOf1, MultiplesOf2, MultiplesOf5, MultiplesOf25}
-use Rattle.fixed_decimal.specs.declared.variations.Sign.{Sign}
-use Rattle.fixed_decimal.specs.declared.variations.Sign.TheVariants as sign
-use Rattle.fixed_decimal.specs.declared.variations.SignDisplay.{SignDisplay}
-use Rattle.fixed_decimal.specs.declared.variations.SignDisplay.TheVariants as display
-use Rattle.fixed_decimal.specs.declared.runs.Call.{Call}
-use Rattle.fixed_decimal.specs.declared.runs.Call.TheVariants.{MultiplyPow10, TrimStart, TrimEnd, TrimEndIfInteger, PadStart, PadEnd, SetMaxPosition, Round, SetSign, ApplySignDisplay, Concatenate}
+use Rattle.decimal_format.specs.Formatted.{Formatter}
+use Rattle.decimal_format.specs.declared.grouping.GroupingStrategy.{GroupingStrategy}
+use Rattle.decimal_format.specs.declared.grouping.GroupingStrategy.TheVariants.{Auto, Never, Always, Min2}
+use Rattle.locale_symbols.specs.Locales.{IsLocale}
+use Rattle.locale_symbols.specs.Locales as locales
+use Rattle.cli.specs.declared.conversion.Conversion.{Conversion}
+use Rattle.cli.specs.declared.reader.DecimalReader.{DecimalReader}
+use Rattle.cli.specs.declared.reader.ParseMode.{ParseMode}
+use Rattle.cli.specs.declared.reader.ParseMode.TheVariants.{Strict, Lenient}
+use Rattle.cli.specs.declared.error.WordsError.{WordsError}
+use Rattle.cli.specs.declared.error.WordsError.TheVariants.{Usage, UnknownLocale, Memory}
+use Rattle.cli.specs.Calls.{NameAll, AreCalls, IsUnknown}
 
--- ---- Parameters.
+-- ---- The first and the last word.
 
--- one to six digits and nothing else
-abbrev pub are_digits : List ℕ → Bool
-are_digits bytes = all_ascii_digits bytes && (nat_lt 0 (length bytes) && nat_le (length bytes) 6)
+-- the first word is `read:` and these parameters, and these are the words after it; or it is another, and these are all
+abbrev pub IsReadSplit : List (String Global) → Option (List ℕ) → List (String Global) → Type 0
+IsReadSplit words (Some parameters) others =
+    (word : String Global) × (words ≡ word ∷ others) × (string_bytes word ≡ codes "read:" ++ parameters)
+IsReadSplit words None others =
+    (others ≡ words) × ((word : String Global) (rest : List (String Global)) (parameters : List ℕ)
+    → words ≡ word ∷ rest → string_bytes word ≢ codes "read:" ++ parameters)
 
--- the number of one to six digits, if it is at most `most`
-abbrev pub digits_up_to : ℕ → List ℕ → Option ℕ
-digits_up_to most bytes =
-    if are_digits bytes && nat_le (digits_value 10 bytes) most then Some (digits_value 10 bytes) else None
+-- the last word is `format:` and these parameters, and these are the words before it; or it is another, and these are
+-- all
+abbrev pub IsFormatSplit : List (String Global) → Option (List ℕ) → List (String Global) → Type 0
+IsFormatSplit words (Some parameters) others =
+    (word : String Global) × (words ≡ others ++ (word ∷ [])) × (string_bytes word ≡ codes "format:" ++ parameters)
+IsFormatSplit words None others =
+    (others ≡ words) × ((word : String Global) (rest : List (String Global)) (parameters : List ℕ)
+    → words ≡ rest ++ (word ∷ []) → string_bytes word ≢ codes "format:" ++ parameters)
 
--- the number of an optional minus and one to six digits, from -32768 to 32767
-abbrev pub number : List ℕ → Option ℤ
-number bytes =
-    if slice_index bytes 0 == minus_sign
-    then option_map (λ n. neg_ℤ (pos n)) (digits_up_to 32768 (drop 1 bytes))
-    else option_map pos (digits_up_to 32767 bytes)
+-- ---- Parameters: the tag of a locale, and an option after a colon, if there is one.
 
--- the word of a mode
-abbrev pub mode_word : SignedRoundingMode → List ℕ
-mode_word mode.Ceil = codes "ceil"
-mode_word mode.Floor = codes "floor"
-mode_word (mode.Unsigned unsigned.Expand) = codes "expand"
-mode_word (mode.Unsigned unsigned.Trunc) = codes "trunc"
-mode_word mode.HalfCeil = codes "half-ceil"
-mode_word mode.HalfFloor = codes "half-floor"
-mode_word (mode.Unsigned unsigned.HalfExpand) = codes "half-expand"
-mode_word (mode.Unsigned unsigned.HalfTrunc) = codes "half-trunc"
-mode_word (mode.Unsigned unsigned.HalfEven) = codes "half-even"
+abbrev pub is_colon : ℕ → Bool
+is_colon byte = byte == 58
 
--- the word of an increment
-abbrev pub increment_word : RoundingIncrement → List ℕ
-increment_word MultiplesOf1 = codes "1"
-increment_word MultiplesOf2 = codes "2"
-increment_word MultiplesOf5 = codes "5"
-increment_word MultiplesOf25 = codes "25"
+-- the bytes before the first colon
+abbrev pub tag_of : List ℕ → List ℕ
+tag_of parameters = before_first is_colon parameters
 
--- the word of a sign
-abbrev pub sign_word : Sign → List ℕ
-sign_word sign.None = codes "none"
-sign_word sign.Negative = codes "minus"
-sign_word sign.Positive = codes "plus"
+-- the bytes after the first colon, if there is one
+abbrev pub option_of : List ℕ → Option (List ℕ)
+option_of parameters = if list_any is_colon parameters then Some (after_first is_colon parameters) else None
 
--- the word of a sign display
-abbrev pub display_word : SignDisplay → List ℕ
-display_word display.Auto = codes "auto"
-display_word display.Never = codes "never"
-display_word display.Always = codes "always"
-display_word display.ExceptZero = codes "except-zero"
-display_word display.Negative = codes "negative"
+-- the option of a mode
+abbrev pub mode_option : ParseMode → Option (List ℕ)
+mode_option Strict = None
+mode_option Lenient = Some (codes "lenient")
 
--- ---- Words.
+-- the word of a grouping strategy
+abbrev pub strategy_word : GroupingStrategy → List ℕ
+strategy_word Auto = codes "auto"
+strategy_word Never = codes "never"
+strategy_word Always = codes "always"
+strategy_word Min2 = codes "min2"
 
--- a name with its colon, and then this number
-abbrev pub HasNumber : List ℕ → List ℕ → ℤ → Type 0
-HasNumber name word n = (digits : List ℕ) × (word ≡ name ++ digits) × (number digits ≡ Some n)
+-- the option is the word of the strategy; none is `Auto`
+abbrev pub IsStrategyOption : Option (List ℕ) → GroupingStrategy → Type 0
+IsStrategyOption None strategy = strategy ≡ Auto
+IsStrategyOption (Some option) strategy = option ≡ strategy_word strategy
 
--- the word names this call; the text of `concat` is all that follows the first colon
-abbrev pub Names : List ℕ → Call → Type 0
-Names word (MultiplyPow10 delta) = HasNumber (codes "shift:") word delta
-Names word TrimStart = word ≡ codes "trim-start"
-Names word TrimEnd = word ≡ codes "trim-end"
-Names word TrimEndIfInteger = word ≡ codes "trim-end-if-integer"
-Names word (PadStart position) = HasNumber (codes "pad-start:") word position
-Names word (PadEnd position) = HasNumber (codes "pad-end:") word position
-Names word (SetMaxPosition position) = HasNumber (codes "max:") word position
-Names word (Round position mode increment) =
-    (digits : List ℕ)
-    × (word ≡ codes "round:" ++ (digits ++ (codes ":" ++ (mode_word mode ++ (codes ":" ++ increment_word increment)))))
-    × (number digits ≡ Some position)
-Names word (SetSign sign) = word ≡ codes "sign:" ++ sign_word sign
-Names word (ApplySignDisplay display) = word ≡ codes "display:" ++ display_word display
-Names word (Concatenate text) = word ≡ codes "concat:" ++ text.now
+-- ---- What parameters name.
 
--- two calls are the same; texts to concatenate are compared by their bytes
-abbrev pub IsSame : Call → Call → Type 0
-IsSame (Concatenate first) (Concatenate second) = first.now ≡ second.now
-IsSame first second = first ≡ second
+-- the parameters after `read:` name this reader; without them there is none
+abbrev pub NamesReader : Option (List ℕ) → Option DecimalReader → Type 0
+NamesReader None None = ⊤
+NamesReader (Some parameters) (Some reader) =
+    (option_of parameters ≡ mode_option reader.mode) × IsLocale (tag_of parameters) reader.symbols
+NamesReader _ _ = ⊥
 
--- ---- Lists of words.
+-- the parameters after `format:` name this formatter; without them there is none
+abbrev pub NamesFormatter : Option (List ℕ) → Option Formatter → Type 0
+NamesFormatter None None = ⊤
+NamesFormatter (Some parameters) (Some formatter) =
+    IsStrategyOption (option_of parameters) formatter.strategy × IsLocale (tag_of parameters) formatter.symbols
+NamesFormatter _ _ = ⊥
 
--- the words name these calls, one by one
-abbrev pub NameAll : List (String Global) → List Call → Type 0
-NameAll [] [] = ⊤
-NameAll (word ∷ words) (call ∷ calls) = Names (string_bytes word) call × NameAll words calls
-NameAll _ _ = ⊥
+-- ---- All words.
 
--- each word names a call
-abbrev pub AreCalls : List (String Global) → Type 0
-AreCalls words = (calls : List Call) × NameAll words calls
+-- the words are [read:..] .. [format:..], and P holds of what follows `read:`, of the words between, and of what
+-- follows `format:`
+pub record HasParts
+    (words : List (String Global)) (P : Option (List ℕ) → List (String Global) → Option (List ℕ) → Type 0)
+    : Type 0
+  where
+    pub read : Option (List ℕ)
+    pub others : List (String Global)
+    pub calls : List (String Global)
+    pub format : Option (List ℕ)
+    pub first : IsReadSplit words read others
+    pub last : IsFormatSplit others format calls
+    pub holds : P read calls format
 
--- the word names no call
-abbrev pub IsUnknown : String Global → Type 0
-IsUnknown word = (call : Call) → Names (string_bytes word) call → ⊥
+-- the words are [read:..] [CALL].. [format:..], and name this conversion
+abbrev pub NamesConversion : List (String Global) → Conversion → Type 0
+NamesConversion words conversion =
+    HasParts words
+    (λ read calls format. NamesReader read conversion.reader × NameAll calls conversion.calls.items
+    × NamesFormatter format conversion.formatter)
+
+-- ---- Errors.
+
+-- the parameters after `read:` name no reader: the option is that of no mode; or it is that of one, and the locale is
+-- unknown
+abbrev pub ReaderFails : Option (List ℕ) → WordsError → Type 0
+ReaderFails (Some parameters) Usage = (mode : ParseMode) → option_of parameters ≢ mode_option mode
+ReaderFails (Some parameters) UnknownLocale =
+    ((mode : ParseMode) × (option_of parameters ≡ mode_option mode)) × locales.IsUnknown (tag_of parameters)
+ReaderFails _ _ = ⊥
+
+-- the parameters after `format:` name no formatter: the option is that of no strategy; or it is that of one, and the
+-- locale is unknown
+abbrev pub FormatterFails : Option (List ℕ) → WordsError → Type 0
+FormatterFails (Some parameters) Usage =
+    (strategy : GroupingStrategy) → ¬ IsStrategyOption (option_of parameters) strategy
+FormatterFails (Some parameters) UnknownLocale =
+    ((strategy : GroupingStrategy) × IsStrategyOption (option_of parameters) strategy)
+    × locales.IsUnknown (tag_of parameters)
+FormatterFails _ _ = ⊥
+
+-- the first wrong word has this error, from the left: `read:..`, a call, `format:..`; or no word is wrong, and the list
+-- of the calls is out of memory
+abbrev pub PartsFail : WordsError → Option (List ℕ) → List (String Global) → Option (List ℕ) → Type 0
+PartsFail error read calls format =
+    ReaderFails read error
+    ⊎ (((reader : Option DecimalReader) × NamesReader read reader)
+    × ((Any IsUnknown calls × (error ≡ Usage))
+    ⊎ (AreCalls calls
+    × (FormatterFails format error
+    ⊎ (((formatter : Option Formatter) × NamesFormatter format formatter) × (calls ≢ []) × (error ≡ Memory))))))
+
+-- the words name no conversion, for this error
+abbrev pub ConversionFails : List (String Global) → WordsError → Type 0
+ConversionFails words error = HasParts words (PartsFail error)

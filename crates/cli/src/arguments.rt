@@ -1,35 +1,70 @@
 //! The words of a command line.
-ghost use Rattle.std.specs.Prelude.{◌≡◌, IfOk, IfErr};
-ghost use Rattle.cli.specs.Arguments.{HaveWords, AreUnreadable};
+ghost use Rattle.std.specs.Prelude.{◌≡◌, IfOk, IfErr, OnErr, IsTrue, ◌↔◌};
+ghost use Rattle.cli.specs.Arguments.{HaveWords, AreUnreadable, IsHelp, Ends};
 
+use crate::error::{ProgramError, WordsError};
+use crate::help::Program;
+use fixed_decimal::Closed;
 use std::alloc::Global;
 use std::env::Args;
 use std::io;
-use std::io::ErrorKind;
+use std::io::{ErrorKind, Write};
 
-/// Returns the words after the program's name, in order.
-///
-/// Of the arguments `fixdec`, `250` and `trim-end` they are `250` and `trim-end`.
-///
-/// # Errors
-///
-/// `usage`: an argument is not UTF-8. `memory`: out of memory, for the arguments or for the words.
-pub fn words<E: Drop>(
-    alloc: Global,
-    arguments: io::Result<Args>,
-    usage: E,
-    memory: E,
-) -> Result<Vec<String>, E>
+fn words(alloc: Global, arguments: io::Result<Args>) -> Result<Vec<String>, WordsError>
     ensures words { IfOk result (λ words. HaveWords arguments (λ all. words.items ≡ all)) }
-    ensures err { IfErr result (AreUnreadable usage memory arguments) }
+    ensures err { IfErr result (AreUnreadable arguments) }
 {
     let arguments = match arguments {
         Ok(arguments) => arguments,
-        Err(error) if error.kind() == ErrorKind::OutOfMemory => return Err(memory),
-        Err(_) => return Err(usage),
+        Err(error) if error.kind() == ErrorKind::OutOfMemory => return Err(WordsError::Memory),
+        Err(_) => return Err(WordsError::Usage),
     };
     match arguments.skip(1).collect(alloc) {
         Ok(words) => Ok(words),
-        Err(_) => Err(memory),
+        Err(_) => Err(WordsError::Memory),
+    }
+}
+
+fn is_help(words: &[String]) -> bool
+    ensures { IsTrue result ↔ IsHelp words.now }
+{
+    match words {
+        [word] => word.as_str() == "--help" || word.as_str() == "-h",
+        _ => false,
+    }
+}
+
+/// Reads the words of a program.
+///
+/// # Errors
+///
+/// The program has ended: its help was printed, or there is an error. The writer is returned after its last call.
+pub fn start<O: Write>(
+    alloc: Global,
+    program: Program,
+    arguments: io::Result<Args>,
+    mut out: O,
+) -> Result<(Vec<String>, O), (Result<(), ProgramError>, Closed<O>)>
+    ensures words { IfOk result (λ started. HaveWords arguments
+        (λ all. (started.0.items ≡ all) × ¬ IsHelp started.0.items)) }
+    ensures out { IfOk result (λ started. started.1 ≡ out) }
+    ensures ended { IfErr result (λ ended. Ends program O.contents arguments out ended.1 ended.0) }
+{
+    let words = match words(alloc, arguments) {
+        Ok(words) => words,
+        Err(why) => return Err((
+            Err(ProgramError::start(program, why)),
+            Closed::new(out, None),
+        )),
+    };
+    if !is_help(words.as_slice()) {
+        return Ok((words, out));
+    }
+    match program.print_help(&mut out) {
+        Ok(()) => Err((Ok(()), Closed::new(out, None))),
+        Err(error) => Err((
+            Err(ProgramError::start(program, WordsError::Output)),
+            Closed::new(out, Some(error)),
+        )),
     }
 }

@@ -4,14 +4,13 @@ ghost use Rattle.fixed_decimal.specs.declared.rounding.SignedRoundingMode.{Signe
 ghost use Rattle.decimal_digits.specs.declared.rounding.RoundingIncrement.{RoundingIncrement};
 ghost use Rattle.fixed_decimal.specs.declared.runs.Call.{Call};
 ghost use Rattle.fixed_decimal.specs.declared.runs.Call.TheVariants.{Round};
-ghost use Rattle.cli.specs.Words.{number, mode_word, increment_word, HasNumber, Names, IsSame, NameAll, AreCalls, IsUnknown};
+ghost use Rattle.cli.specs.Calls.{number, mode_word, increment_word, HasNumber, Names, IsSame, NameAll, AreCalls, IsUnknown};
 
 use fixed_decimal::{
     Call, RoundingIncrement, Sign, SignDisplay, SignedRoundingMode, UnsignedRoundingMode,
 };
 use std::alloc::{AllocError, Global};
 
-/// Parses a magnitude, a position or a distance: an optional minus and one to six digits, in 16 bits.
 fn number(word: &str) -> Option<i16>
     ensures { result ≡ number word.now }
 {
@@ -30,7 +29,6 @@ pub fn number_after(prefix: &str, word: &str) -> Option<i16>
     number(word.strip_prefix(prefix)?)
 }
 
-/// Parses the mode of a rounding.
 fn mode(word: &str) -> Option<SignedRoundingMode>
     ensures some { IfSome result (λ m. word.now ≡ mode_word m) }
     ensures only { (m : SignedRoundingMode) → word.now ≡ mode_word m → result ≡ Some m }
@@ -49,7 +47,6 @@ fn mode(word: &str) -> Option<SignedRoundingMode>
     }
 }
 
-/// Parses the increment of a rounding.
 fn increment(word: &str) -> Option<RoundingIncrement>
     ensures some { IfSome result (λ i. word.now ≡ increment_word i) }
     ensures only { (i : RoundingIncrement) → word.now ≡ increment_word i → result ≡ Some i }
@@ -63,7 +60,6 @@ fn increment(word: &str) -> Option<RoundingIncrement>
     }
 }
 
-/// Parses the position, the mode and the increment of a rounding.
 fn rounding(word: &str) -> Option<(i16, SignedRoundingMode, RoundingIncrement)>
     ensures some { IfSome result (λ x. Names word.now (Round x.0 x.1 x.2)) }
     ensures only { (p : ℤ) (m : SignedRoundingMode) (i : RoundingIncrement) → Names word.now (Round p m i)
@@ -79,7 +75,6 @@ fn rounding(word: &str) -> Option<(i16, SignedRoundingMode, RoundingIncrement)>
     ))
 }
 
-/// Parses a word, which names one call at most.
 fn call(word: &str) -> Option<Call<'_>>
     ensures some { IfSome result (Names word.now) }
     ensures none { IfNone result ((call : Call) → ¬ Names word.now call) }
@@ -117,15 +112,14 @@ fn call(word: &str) -> Option<Call<'_>>
     }
 }
 
-/// Returns whether each word names a call.
 fn are_calls(words: &[String]) -> bool
     ensures known { result ≡ true → AreCalls words.now }
     ensures unknown { result ≡ false → Any IsUnknown words.now }
 {
     for word in words {
-        if call(word.as_str()).is_none() {
+        let Some(_) = call(word.as_str()) else {
             return false;
-        }
+        };
     }
     true
 }

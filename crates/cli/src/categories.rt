@@ -4,56 +4,21 @@ ghost use Rattle.std.specs.Io.KnownBytes.{Appends};
 ghost use Rattle.decimal_digits.specs.AppendsPrefix.{AppendsPrefix};
 ghost use Rattle.decimal_unsigned.specs.ParseResult.{ParseFails};
 ghost use Rattle.std.specs.List.{list_any};
-ghost use Rattle.decimal_unsigned.specs.declared.decimal.TheConstants.{INLINE_DIGITS};
 ghost use Rattle.fixed_decimal.specs.Letters.{is_c};
-ghost use Rattle.fixed_decimal.specs.Compact.{read_compact, HasLongSignificand};
-ghost use Rattle.fixed_decimal.specs.DecimalText.{read_decimal, IsLong};
-ghost use Rattle.cli.specs.Categories.{category_of_compact, category_of_decimal};
 ghost use Rattle.cli.specs.Categories.{IsLongText, read_category, category_line};
 ghost use Rattle.cli.specs.Categories.{TextFails, PrintsAll, StopsAt};
-ghost use Rattle.cli.specs.declared.error.PluralError.{PluralError};
+ghost use Rattle.cli.specs.declared.error.ProgramError.{ProgramError};
 
-use crate::error::{PluralError, Reason};
+use crate::error::{ProgramError, Reason, WordsError};
+use crate::help::Program;
 use fixed_decimal::{CompactDecimal, Decimal, ParseError, Sink, SinkFault};
 use plural_rules::{PluralCategory, PluralOperands, PluralRules};
 use std::alloc::Global;
 
-/// Whether a text has a `c`, as a compact decimal does.
 fn has_c(text: &str) -> bool
     ensures { result ≡ list_any is_c text.now }
 {
     text.as_bytes().iter().any(|byte| *byte == b'c')
-}
-
-/// Returns the category of a compact decimal.
-fn category_of_compact(
-    alloc: Global,
-    rules: &PluralRules,
-    text: &str,
-) -> Result<PluralCategory, ParseError>
-    ensures found { IfOk result (λ category.
-        IsOkAnd (read_compact text.now) (λ v. category ≡ category_of_compact rules.now v)) }
-    ensures fails_with { IfErr result (λ error.
-        ParseFails (IsOkAnd (read_compact text.now) (HasLongSignificand INLINE_DIGITS)) error
-        (read_compact text.now)) }
-{
-    let number = CompactDecimal::try_from_str(alloc, text)?;
-    Ok(rules.category(&PluralOperands::of_compact(&number)))
-}
-
-/// Returns the category of a decimal.
-fn category_of_decimal(
-    alloc: Global,
-    rules: &PluralRules,
-    text: &str,
-) -> Result<PluralCategory, ParseError>
-    ensures found { IfOk result (λ category.
-        IsOkAnd (read_decimal text.now) (λ v. category ≡ category_of_decimal rules.now v)) }
-    ensures fails_with { IfErr result (λ error.
-        ParseFails (IsOkAnd (read_decimal text.now) (IsLong INLINE_DIGITS)) error (read_decimal text.now)) }
-{
-    let number = Decimal::try_from_str(alloc, text)?;
-    Ok(rules.category(&PluralOperands::of_decimal(&number)))
 }
 
 /// Returns the category of a text by rules; a text with a `c` is a compact decimal, and any other a decimal.
@@ -63,13 +28,13 @@ fn category(alloc: Global, rules: &PluralRules, text: &str) -> Result<PluralCate
         (λ error. ParseFails (IsLongText text.now) error (read_category rules.now text.now)) }
 {
     if has_c(text) {
-        category_of_compact(alloc, rules, text)
-    } else {
-        category_of_decimal(alloc, rules, text)
+        let number = CompactDecimal::try_from_str(alloc, text)?;
+        return Ok(rules.category(&PluralOperands::of_compact(&number)));
     }
+    let number = Decimal::try_from_str(alloc, text)?;
+    Ok(rules.category(&PluralOperands::of_decimal(&number)))
 }
 
-/// Writes the name of a category and a line feed to a sink.
 fn write_category_line<W: Sink>(category: PluralCategory, sink: &mut W) -> Result<(), SinkFault>
     ensures ok { OnOk result (Appends (W.contents sink.old) (W.contents sink.new) (category_line category)) }
     ensures err { OnErr result (AppendsPrefix (W.contents sink.old) (W.contents sink.new) (category_line category)) }
@@ -86,23 +51,23 @@ fn print_category<W: Sink>(
     text: &str,
     number: usize,
     sink: &mut W,
-) -> Result<(), PluralError>
+) -> Result<(), ProgramError>
     ensures printed { OnOk result (IsOkAnd (read_category rules.now text.now)
         (λ category. Appends (W.contents sink.old) (W.contents sink.new) (category_line category))) }
     ensures error { IfErr result (TextFails rules.now text.now number) }
-    ensures unchanged_on_error { IfErr result (λ error. error ≢ PluralError.Output → sink.new ≡ sink.old) }
-    ensures prefix { result ≡ Err PluralError.Output → IsOkAnd (read_category rules.now text.now)
+    ensures unchanged_on_error { IfErr result (λ error. error ≢ ProgramError.Output → sink.new ≡ sink.old) }
+    ensures prefix { result ≡ Err ProgramError.Output → IsOkAnd (read_category rules.now text.now)
         (λ category. AppendsPrefix (W.contents sink.old) (W.contents sink.new) (category_line category)) }
-    ensures failed { result ≡ Err PluralError.Output → W.has_failed sink.new ≡ true }
+    ensures failed { result ≡ Err ProgramError.Output → W.has_failed sink.new ≡ true }
 {
     match category(alloc, rules, text) {
         Ok(category) => Ok(write_category_line(category, sink)?),
-        Err(ParseError::Memory) => Err(PluralError::Memory),
-        Err(ParseError::Syntax) => Err(PluralError::Text {
+        Err(ParseError::Memory) => Err(ProgramError::start(Program::Plural, WordsError::Memory)),
+        Err(ParseError::Syntax) => Err(ProgramError::Text {
             number,
             reason: Reason::Syntax,
         }),
-        Err(ParseError::Limit) => Err(PluralError::Text {
+        Err(ParseError::Limit) => Err(ProgramError::Text {
             number,
             reason: Reason::Limit,
         }),
@@ -116,10 +81,10 @@ pub fn print_categories<W: Sink>(
     rules: &PluralRules,
     texts: &[String],
     sink: &mut W,
-) -> Result<(), PluralError>
+) -> Result<(), ProgramError>
     ensures printed { OnOk result (PrintsAll rules.now texts.now (W.contents sink.old) (W.contents sink.new)) }
     ensures stopped { IfErr result (StopsAt rules.now texts.now (W.contents sink.old) (W.contents sink.new)) }
-    ensures failed { result ≡ Err PluralError.Output → W.has_failed sink.new ≡ true }
+    ensures failed { result ≡ Err ProgramError.Output → W.has_failed sink.new ≡ true }
 {
     for (index, text) in texts.iter().enumerate() {
         print_category(alloc, rules, text.as_str(), index + 1, sink)?;

@@ -2,7 +2,7 @@
 ghost use Rattle.std.specs.Prelude.{◌≡◌, ◌≢◌, Ok, Err, true, IfOk, IfErr, OnOk, OnErr};
 ghost use Rattle.std.specs.Io.KnownBytes.{Appends};
 ghost use Rattle.decimal_digits.specs.AppendsPrefix.{AppendsPrefix};
-ghost use Rattle.cli.specs.Conversion.{IsReadAs, ReadingFails, text_by, HasOutcome, OperationsFail};
+ghost use Rattle.cli.specs.Conversion.{IsReadAs, ReadingFails, text_by, is_plain, HasOutcome, OperationsFail};
 ghost use Rattle.cli.specs.Conversion.{HasOutcomeByForms, FailsByForms};
 
 use crate::error::OperationError;
@@ -25,7 +25,13 @@ pub struct Conversion<'a> {
 }
 
 impl Conversion<'_> {
-    /// Reads a decimal.
+    #[inline]
+    fn is_plain(&self) -> bool
+        ensures { result ≡ is_plain self.now }
+    {
+        self.reader.is_none() && self.formatter.is_none()
+    }
+
     #[inline]
     fn read(&self, alloc: Global, text: &[u8]) -> Result<Decimal, ParseError>
         ensures found { IfOk result (λ v. IsReadAs self.now.reader text.now (Ok v)) }
@@ -37,7 +43,6 @@ impl Conversion<'_> {
         }
     }
 
-    /// Writes a decimal to a sink.
     #[inline]
     fn write<W: Sink>(&self, value: &Decimal, sink: &mut W) -> Result<(), SinkFault>
         ensures ok { OnOk result
@@ -52,7 +57,6 @@ impl Conversion<'_> {
         }
     }
 
-    /// Converts a text by the reader and the formatter.
     fn convert_by_forms<W: Sink>(
         &self,
         alloc: Global,
@@ -108,7 +112,7 @@ pub fn convert<W: Sink>(
     ensures prefix { result ≡ Err OperationError.Output → HasOutcome conversion.now text.now
         (AppendsPrefix (W.contents sink.old) (W.contents sink.new)) }
 {
-    if conversion.reader.is_some() || conversion.formatter.is_some() {
+    if !conversion.is_plain() {
         return conversion.convert_by_forms(alloc, text, sink);
     }
     match run(alloc, text, conversion.calls.as_slice(), sink) {

@@ -1,6 +1,7 @@
 //! Reports of errors.
-ghost use Rattle.std.specs.Prelude.{◌≡◌, ◌<◌, ◌≤◌, false, None, is_some, IfErr, OnOk};
+ghost use Rattle.std.specs.Prelude.{◌≡◌, ◌<◌, ◌≤◌, None, is_some, IfErr, OnOk};
 ghost use Rattle.cli.specs.Diagnostics.{IsErrorLine, Reports};
+ghost use Rattle.cli.specs.Error.{status_of};
 
 use crate::error::ProgramError;
 use arrayvec::ArrayString;
@@ -23,7 +24,6 @@ pub trait Diagnostics<E> {
         ensures { reports self.old error.now self.new };
 }
 
-/// Returns the text of an error, cut after 80 bytes, and a line feed.
 fn error_line<E: Display>(error: &E) -> Line
     ensures { IsErrorLine (E.output error.now) result.bytes }
 {
@@ -70,10 +70,13 @@ impl<W: Write, E: Display> Diagnostics<E> for ErrorLines<'_, W> {
 }
 
 /// Reports the error, if there is one, and returns the exit status.
-pub fn conclude<E: ProgramError, D: Diagnostics<E>>(done: Result<(), E>, diagnostics: &mut D) -> u8
+pub fn conclude<D: Diagnostics<ProgramError>>(
+    done: Result<(), ProgramError>,
+    diagnostics: &mut D,
+) -> u8
     ensures at_most { result ≤ 3 }
     ensures done { OnOk done ((result ≡ 0) × (diagnostics.new ≡ diagnostics.old)) }
-    ensures reported { IfErr done (λ error. (0 < result) × (result ≡ E.status_of error)
+    ensures reported { IfErr done (λ error. (0 < result) × (result ≡ status_of error)
         × D.reports diagnostics.old error diagnostics.new) }
 {
     match done {
@@ -81,27 +84,6 @@ pub fn conclude<E: ProgramError, D: Diagnostics<E>>(done: Result<(), E>, diagnos
         Err(error) => {
             diagnostics.report(&error);
             error.status()
-        }
-    }
-}
-
-/// Reports the error, if there is one, as a line of a writer, and returns the exit status, and the error of the call of
-/// the writer that failed, if one did.
-pub fn conclude_on<E: ProgramError + Display, W: Write>(
-    done: Result<(), E>,
-    err: &mut W,
-) -> (u8, Option<WriteError<W>>)
-    ensures at_most { result.0 ≤ 3 }
-    ensures done { OnOk done ((result.0 ≡ 0) × (err.new ≡ err.old)) }
-    ensures reported { IfErr done (λ error. (0 < result.0) × (result.0 ≡ E.status_of error)
-        × Reports (E.output error) (W.contents err.old) false (W.contents err.new) (is_some result.1)) }
-{
-    match done {
-        Ok(()) => (0, None),
-        Err(error) => {
-            let line = error_line(&error);
-            let failure = write_whole(err, line.as_bytes()).err();
-            (error.status(), failure)
         }
     }
 }

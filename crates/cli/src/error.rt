@@ -1,13 +1,58 @@
 //! The errors of the programs: a line on standard error and an exit status each.
-ghost use Rattle.std.specs.Prelude.{◌≡◌, ◌<◌, ◌≤◌, ℕ};
-ghost use Rattle.cli.specs.Errors.{status_of_operation, status_of_fixdec, status_of_filter, status_of_plural};
+ghost use Rattle.std.specs.Prelude.{◌≡◌, ◌<◌, ◌≤◌};
+ghost use Rattle.cli.specs.Error.{status_of_words, status_of_operation, status_of, start_error};
 
-use crate::help::{FIXDEC, FIXDEC_LINES, PLURAL};
-use crate::words::WordsError;
+use crate::help::Program;
 use fixed_decimal::{ParseError, RunError, SinkFault};
 use plural_rules::RulesError;
-use std::error;
+use std::{error, fmt};
 use thiserror::Error;
+
+/// Why a program ends before its work.
+#[derive(Clone, Copy, Debug, PartialEq)]
+pub enum WordsError {
+    /// A word is missing, names nothing, is not in its place, or is not UTF-8.
+    Usage,
+    /// The locale of `read:` or `format:` is unknown.
+    UnknownLocale,
+    /// Out of memory for the words, for the calls or rules that they name, or for the block.
+    Memory,
+    /// A write of the help failed.
+    Output,
+}
+
+/// The error of a program before its work.
+#[derive(Clone, Copy, Debug, PartialEq)]
+pub struct StartError {
+    pub program: Program,
+    pub why: WordsError,
+}
+
+impl fmt::Display for StartError {
+    fn fmt<W: fmt::Write>(&self, f: &mut fmt::Formatter<W>) -> fmt::Result {
+        f.write_str(match self.why {
+            WordsError::Usage => self.program.usage(),
+            WordsError::UnknownLocale => "unknown locale",
+            WordsError::Memory => "memory",
+            WordsError::Output => "output",
+        })
+    }
+}
+
+impl error::Error for StartError {}
+
+impl WordsError {
+    fn status(&self) -> u8
+        ensures status { result ≡ status_of_words self.now }
+        ensures positive { 0 < result }
+        ensures at_most { result ≤ 3 }
+    {
+        match self {
+            WordsError::Usage | WordsError::UnknownLocale => 2,
+            WordsError::Memory | WordsError::Output => 3,
+        }
+    }
+}
 
 /// The reason for which a text or rules are rejected.
 #[derive(Clone, Copy, Debug, PartialEq, Error)]
@@ -49,35 +94,6 @@ pub enum OperationError {
     Output,
 }
 
-/// The error of `fixdec`.
-#[derive(Debug, Drop, PartialEq, Error)]
-pub enum FixdecError {
-    /// There is no text, or a word names nothing, is not in its place, or is not UTF-8.
-    #[error("{FIXDEC}")]
-    Usage,
-    /// The locale of `read:` or `format:` is unknown.
-    #[error("unknown locale")]
-    UnknownLocale,
-    /// Out of memory for the words, for their calls or for the block.
-    #[error("memory")]
-    Memory,
-    /// The calls fail.
-    #[error(transparent)]
-    Operation(OperationError),
-}
-
-/// An error that a program reports.
-pub trait ProgramError: error::Error {
-    /// The exit status.
-    ghost status_of: { Self → ℕ };
-
-    /// The exit status.
-    fn status(&self) -> u8
-        ensures status { result ≡ status_of self.now }
-        ensures positive { 0 < result }
-        ensures at_most { result ≤ 3 };
-}
-
 impl OperationError {
     /// Returns the exit status.
     pub fn status(&self) -> u8
@@ -97,20 +113,8 @@ impl OperationError {
     }
 }
 
-impl ProgramError for FixdecError {
-    ghost status_of = { status_of_fixdec };
-
-    fn status(&self) -> u8 {
-        match self {
-            FixdecError::Usage | FixdecError::UnknownLocale => 2,
-            FixdecError::Memory => 3,
-            FixdecError::Operation(error) => error.status(),
-        }
-    }
-}
-
 impl From<RunError> for OperationError {
-    ghost use Rattle.cli.specs.Errors.{error_of_run};
+    ghost use Rattle.cli.specs.Error.{error_of_run};
 
     ghost from_gives = { λ error result. result ≡ error_of_run error };
 
@@ -155,108 +159,28 @@ impl From<SinkFault> for OperationError {
     }
 }
 
-impl From<OperationError> for FixdecError {
-    ghost use Rattle.cli.specs.declared.error.FixdecError.TheVariants.{Operation};
-
-    ghost from_gives = { λ error result. result ≡ Operation error };
-
-    fn from(error: OperationError) -> FixdecError {
-        FixdecError::Operation(error)
-    }
-}
-
-impl From<WordsError> for FixdecError {
-    ghost use Rattle.cli.specs.Errors.{fixdec_error_of};
-
-    ghost from_gives = { λ error result. result ≡ fixdec_error_of error };
-
-    fn from(error: WordsError) -> FixdecError {
-        match error {
-            WordsError::Usage => FixdecError::Usage,
-            WordsError::UnknownLocale => FixdecError::UnknownLocale,
-            WordsError::Memory => FixdecError::Memory,
-        }
-    }
-}
-
-impl From<WordsError> for FilterError {
-    ghost use Rattle.cli.specs.Errors.{filter_error_of};
-
-    ghost from_gives = { λ error result. result ≡ filter_error_of error };
-
-    fn from(error: WordsError) -> FilterError {
-        match error {
-            WordsError::Usage => FilterError::Usage,
-            WordsError::UnknownLocale => FilterError::UnknownLocale,
-            WordsError::Memory => FilterError::Memory,
-        }
-    }
-}
-
-impl From<SinkFault> for FixdecError {
-    ghost use Rattle.cli.specs.Errors.{output};
-
-    ghost from_gives = { λ _ result. result ≡ output };
-
-    fn from(_error: SinkFault) -> FixdecError {
-        FixdecError::Operation(OperationError::Output)
-    }
-}
-
-/// The error of `fixdec_lines`. Lines have 1-based numbers.
+/// The error of a program. Lines and texts have 1-based numbers.
 #[derive(Clone, Copy, Debug, PartialEq, Error)]
-pub enum FilterError {
-    /// A word names nothing, is not in its place, or is not UTF-8.
-    #[error("{FIXDEC_LINES}")]
-    Usage,
-    /// The locale of `read:` or `format:` is unknown.
-    #[error("unknown locale")]
-    UnknownLocale,
-    /// Out of memory before the first line.
-    #[error("memory")]
-    Memory,
-    /// The calls on this line fail.
+pub enum ProgramError {
+    /// The program ends before its work.
+    #[error(transparent)]
+    Start(StartError),
+    /// The conversion of the text fails.
+    #[error(transparent)]
+    Operation(OperationError),
+    /// The conversion of this line fails.
     #[error("line {line}: {error}")]
-    Operation { line: u64, error: OperationError },
+    Line { line: u64, error: OperationError },
     /// Out of memory to hold this line.
     #[error("line {line}: memory")]
     LongLine { line: u64 },
     /// A read of the input failed.
     #[error("input")]
     Input,
-    /// A write or the flush of the output failed.
-    #[error("output")]
-    Output,
-}
-
-impl ProgramError for FilterError {
-    ghost status_of = { status_of_filter };
-
-    fn status(&self) -> u8 {
-        match self {
-            FilterError::Usage | FilterError::UnknownLocale => 2,
-            FilterError::Operation { error, .. } => error.status(),
-            FilterError::Memory
-            | FilterError::LongLine { .. }
-            | FilterError::Input
-            | FilterError::Output => 3,
-        }
-    }
-}
-
-/// The error of `plural`.
-#[derive(Clone, Copy, Debug, PartialEq, Error)]
-pub enum PluralError {
-    /// There are no rules or no text, or a word is not UTF-8.
-    #[error("{PLURAL}")]
-    Usage,
-    /// Out of memory.
-    #[error("memory")]
-    Memory,
-    /// The rules are rejected at the byte with this 0-based index.
+    /// The plural rules are rejected at the byte with this 0-based index.
     #[error("rules: {reason} at {at}")]
     Rules { at: usize, reason: Reason },
-    /// The text with this 1-based number is rejected.
+    /// The text with this number is rejected.
     #[error("text {number}: {reason}")]
     Text { number: usize, reason: Reason },
     /// A write or the flush of the output failed.
@@ -264,44 +188,63 @@ pub enum PluralError {
     Output,
 }
 
-impl ProgramError for PluralError {
-    ghost status_of = { status_of_plural };
+impl ProgramError {
+    /// Returns the error of a program before its work.
+    pub fn start(program: Program, why: WordsError) -> Self
+        ensures { result ≡ start_error program why }
+    {
+        ProgramError::Start(StartError { program, why })
+    }
 
-    fn status(&self) -> u8 {
+    /// Returns the exit status.
+    pub fn status(&self) -> u8
+        ensures status { result ≡ status_of self.now }
+        ensures positive { 0 < result }
+        ensures at_most { result ≤ 3 }
+    {
         match self {
-            PluralError::Rules { .. } | PluralError::Text { .. } => 1,
-            PluralError::Usage => 2,
-            PluralError::Memory | PluralError::Output => 3,
+            ProgramError::Start(error) => error.why.status(),
+            ProgramError::Operation(error) | ProgramError::Line { error, .. } => error.status(),
+            ProgramError::Rules { .. } | ProgramError::Text { .. } => 1,
+            ProgramError::LongLine { .. } | ProgramError::Input | ProgramError::Output => 3,
         }
     }
 }
 
-impl From<RulesError> for PluralError {
-    ghost use Rattle.cli.specs.Errors.{error_of_rules};
+impl From<OperationError> for ProgramError {
+    ghost use Rattle.cli.specs.Error.{conversion_error};
+
+    ghost from_gives = { λ error result. result ≡ conversion_error error };
+
+    fn from(error: OperationError) -> ProgramError {
+        match error {
+            OperationError::Output => ProgramError::Output,
+            error => ProgramError::Operation(error),
+        }
+    }
+}
+
+impl From<RulesError> for ProgramError {
+    ghost use Rattle.cli.specs.Error.{error_of_rules};
 
     ghost from_gives = { λ error result. result ≡ error_of_rules error };
 
-    fn from(error: RulesError) -> PluralError {
-        match error {
-            RulesError::Syntax { at } => PluralError::Rules {
-                at,
-                reason: Reason::Syntax,
-            },
-            RulesError::Limit { at } => PluralError::Rules {
-                at,
-                reason: Reason::Limit,
-            },
-            RulesError::Memory => PluralError::Memory,
-        }
+    fn from(error: RulesError) -> ProgramError {
+        let (at, reason) = match error {
+            RulesError::Syntax { at } => (at, Reason::Syntax),
+            RulesError::Limit { at } => (at, Reason::Limit),
+            RulesError::Memory => return ProgramError::start(Program::Plural, WordsError::Memory),
+        };
+        ProgramError::Rules { at, reason }
     }
 }
 
-impl From<SinkFault> for PluralError {
-    ghost use Rattle.cli.specs.declared.error.PluralError.TheVariants.{Output};
+impl From<SinkFault> for ProgramError {
+    ghost use Rattle.cli.specs.declared.error.ProgramError.TheVariants.{Output};
 
     ghost from_gives = { λ _ result. result ≡ Output };
 
-    fn from(_error: SinkFault) -> PluralError {
-        PluralError::Output
+    fn from(_error: SinkFault) -> ProgramError {
+        ProgramError::Output
     }
 }

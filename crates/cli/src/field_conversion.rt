@@ -23,7 +23,6 @@ fn error_in_memory(error: OperationError) -> OperationError
     }
 }
 
-/// Converts the text that the bytes of a field hold.
 fn converted(
     alloc: Global,
     conversion: &Conversion<'_>,
@@ -47,7 +46,6 @@ fn converted(
     }
 }
 
-/// Writes a line with a new text between these bounds of a field, and a line feed.
 fn write_replaced<W: Sink>(
     field: &Field<'_>,
     line: &[u8],

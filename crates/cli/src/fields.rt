@@ -24,21 +24,18 @@ pub struct Field<'a> {
     pub is_csv: bool,
 }
 
-/// Returns whether each quote that opens is closed.
 fn are_closed(bytes: &[u8]) -> bool
     ensures { result ≡ are_closed bytes.now }
 {
     bytes.iter().filter(|byte| **byte == b'"').count() % 2 == 0
 }
 
-/// Returns whether some bytes have a quote.
 fn has_quote(bytes: &[u8]) -> bool
     ensures { result ≡ list_any is_quote bytes.now }
 {
     bytes.iter().any(|byte| *byte == b'"')
 }
 
-/// Returns whether a text has a byte that needs quotes around it.
 fn has_special(text: &[u8]) -> bool
     ensures { result ≡ list_any is_special text.now }
 {
@@ -46,7 +43,6 @@ fn has_special(text: &[u8]) -> bool
         .any(|byte| *byte == b'"' || *byte == b'\r' || *byte == b'\n')
 }
 
-/// Returns the bytes between a first and a last quote.
 fn between_quotes(bytes: &[u8]) -> Option<&[u8]>
     ensures some { IfSome result (λ inner. bytes.now ≡ between_quotes inner.now) }
     ensures none { result ≡ None → (inner : List ℕ) → bytes.now ≢ between_quotes inner }
@@ -83,7 +79,6 @@ fn undoubled(alloc: Global, bytes: &[u8]) -> Result<Option<Vec<u8>>, AllocError>
     Ok(Some(text))
 }
 
-/// Writes a byte of a text in quotes.
 fn write_byte<W: Sink>(byte: u8, sink: &mut W) -> Result<(), SinkFault>
     ensures ok { OnOk result (Appends (W.contents sink.old) (W.contents sink.new) (double byte)) }
     ensures err { OnErr result (AppendsPrefix (W.contents sink.old) (W.contents sink.new) (double byte)) }
@@ -96,7 +91,6 @@ fn write_byte<W: Sink>(byte: u8, sink: &mut W) -> Result<(), SinkFault>
     }
 }
 
-/// Writes a text in quotes.
 fn write_quoted<W: Sink>(text: &[u8], sink: &mut W) -> Result<(), SinkFault>
     ensures ok { OnOk result (Appends (W.contents sink.old) (W.contents sink.new) (quoted text.now)) }
     ensures err { OnErr result (AppendsPrefix (W.contents sink.old) (W.contents sink.new) (quoted text.now)) }
@@ -146,7 +140,6 @@ impl Field<'_> {
         Some((start, line.len()))
     }
 
-    /// Returns the start and the end of the field in a line. None: the line has fewer fields.
     fn bounds(&self, line: &[u8]) -> Option<(usize, usize)>
         ensures value { result ≡ bounds self.now line.now }
         ensures ordered { IfSome result (λ bounds. bounds.0 ≤ bounds.1) }
@@ -176,7 +169,6 @@ impl Field<'_> {
         Some((start, line.len()))
     }
 
-    /// Returns the bytes of a line that its fields are in.
     fn record<'a>(&self, line: &'a [u8]) -> &'a [u8]
         ensures { result.now ≡ record_of self.now line.now }
     {
@@ -231,7 +223,6 @@ impl Field<'_> {
         }
     }
 
-    /// Returns whether a text is in quotes as a field.
     fn needs_quotes(&self, text: &[u8]) -> bool
         ensures { result ≡ needs_quotes self.now text.now }
     {

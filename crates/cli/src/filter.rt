@@ -2,13 +2,13 @@
 ghost use Rattle.std.specs.Prelude.{◌≡◌, ◌≢◌, ◌∷◌, ◌++◌, [], Ok, Err, Some, true, IfErr, IfSome, OnOk, OnErr};
 ghost use Rattle.std.specs.Io.KnownBytes.{Appends, IsAtEnd};
 ghost use Rattle.decimal_digits.specs.AppendsPrefix.{AppendsPrefix};
-ghost use Rattle.cli.specs.FilterLine.{HasText, ConversionFails, IsErrorOfReading, FiltersLine, FiltersNext};
+ghost use Rattle.cli.specs.Filter.{HasText, ConversionFails, IsErrorOfReading, FiltersLine, FiltersNext};
 ghost use Rattle.cli.specs.Input.{bytes_left};
 ghost use Rattle.cli.specs.Lines.{Filters, IsConsumed};
 
 use crate::conversion::Conversion;
 use crate::diagnostics::Diagnostics;
-use crate::error::{FilterError, OperationError};
+use crate::error::{OperationError, ProgramError};
 use crate::field_conversion::print_field_line;
 use crate::fields::Field;
 use crate::fixdec::print_line;
@@ -41,7 +41,6 @@ pub struct Filter<'a> {
 }
 
 impl Filter<'_> {
-    /// Writes the text of the line with this number and a line feed to a sink.
     #[inline(always)]
     fn print<W: Sink>(
         &self,
@@ -70,7 +69,6 @@ impl Filter<'_> {
     }
 }
 
-/// Writes a line and a line feed to a sink.
 fn copy_line<W: Sink>(line: &[u8], sink: &mut W) -> Result<(), SinkFault>
     ensures ok { OnOk result (Appends (W.contents sink.old) (W.contents sink.new) (line.now ++ 10 ∷ [])) }
     ensures err { OnErr result (AppendsPrefix (W.contents sink.old) (W.contents sink.new) (line.now ++ 10 ∷ [])) }
@@ -80,40 +78,39 @@ fn copy_line<W: Sink>(line: &[u8], sink: &mut W) -> Result<(), SinkFault>
     sink.put_byte(b'\n')
 }
 
-/// Returns the error of a failed read of the line with this number.
-fn error_of_reading(line: u64, kind: ErrorKind) -> FilterError
+fn error_of_reading(line: u64, kind: ErrorKind) -> ProgramError
     ensures { IsErrorOfReading line (Some kind) result }
 {
     if kind == ErrorKind::OutOfMemory {
-        FilterError::LongLine { line }
+        ProgramError::LongLine { line }
     } else {
-        FilterError::Input
+        ProgramError::Input
     }
 }
 
 /// Writes the text of a line and a line feed, and returns whether it has a text. With `Skip` an error of the conversion
 /// is reported, and an empty line is written.
 #[inline(always)]
-fn filter_line<W: Sink, D: Diagnostics<FilterError>>(
+fn filter_line<W: Sink, D: Diagnostics<ProgramError>>(
     alloc: Global,
     filter: &Filter<'_>,
     number: u64,
     line: &[u8],
     out: &mut W,
     diagnostics: &mut D,
-) -> Result<bool, FilterError>
+) -> Result<bool, ProgramError>
     ensures filtered { FiltersLine D.reports filter.now number line.now
         (record { before = W.contents out.old; after = W.contents out.new })
         (record { before = diagnostics.old; after = diagnostics.new }) result }
-    ensures failed { result ≡ Err FilterError.Output → W.has_failed out.new ≡ true }
+    ensures failed { result ≡ Err ProgramError.Output → W.has_failed out.new ≡ true }
 {
     let error = match filter.print(alloc, number, line, out) {
         Ok(()) => return Ok(true),
-        Err(OperationError::Output) => return Err(FilterError::Output),
+        Err(OperationError::Output) => return Err(ProgramError::Output),
         Err(error) => error,
     };
     let is_rejected = error.status() == 1;
-    let error = FilterError::Operation {
+    let error = ProgramError::Line {
         line: number,
         error,
     };
@@ -123,14 +120,14 @@ fn filter_line<W: Sink, D: Diagnostics<FilterError>>(
     diagnostics.report(&error);
     match out.put_byte(b'\n') {
         Ok(()) => Ok(false),
-        Err(_) => Err(FilterError::Output),
+        Err(_) => Err(ProgramError::Output),
     }
 }
 
 /// Filters the next line, and returns whether it has a text. None: there is no line. A line that is not whole in the
 /// block of the reader is copied into `copy` first.
 #[inline]
-fn filter_next<R: Read, W: Sink, D: Diagnostics<FilterError>>(
+fn filter_next<R: Read, W: Sink, D: Diagnostics<ProgramError>>(
     alloc: Global,
     filter: &Filter<'_>,
     number: u64,
@@ -138,14 +135,14 @@ fn filter_next<R: Read, W: Sink, D: Diagnostics<FilterError>>(
     input: &mut LineReader<R>,
     out: &mut W,
     diagnostics: &mut D,
-) -> Result<Option<bool>, FilterError>
+) -> Result<Option<bool>, ProgramError>
     ensures filtered { FiltersNext D.reports filter.now number (record {
       input = record { before = bytes_left R.remaining input.old; after = bytes_left R.remaining input.new };
       failure = input.new.1;
       output = record { before = W.contents out.old; after = W.contents out.new };
       diagnostics = record { before = diagnostics.old; after = diagnostics.new };
     }) result }
-    ensures failed { result ≡ Err FilterError.Output → W.has_failed out.new ≡ true }
+    ensures failed { result ≡ Err ProgramError.Output → W.has_failed out.new ≡ true }
 {
     let Some(end) = find_line_feed(input.block()) else {
         return match input.read_line(copy) {
@@ -187,13 +184,13 @@ fn filter_next<R: Read, W: Sink, D: Diagnostics<FilterError>>(
 /// - `Output`: the sink failed, after a prefix of the texts of some lines.
 ///
 /// Else the texts of all lines before the error are in `out`.
-pub fn filter_lines<R: Read, W: Sink, D: Diagnostics<FilterError>>(
+pub fn filter_lines<R: Read, W: Sink, D: Diagnostics<ProgramError>>(
     alloc: Global,
     filter: &Filter<'_>,
     input: &mut LineReader<R>,
     out: &mut W,
     diagnostics: &mut D,
-) -> Result<bool, FilterError>
+) -> Result<bool, ProgramError>
     ensures filtered { Filters AppendsPrefix D.reports filter.now (record {
       input = record { before = bytes_left R.remaining input.old; after = bytes_left R.remaining input.new };
       failure = input.new.1;
@@ -201,7 +198,7 @@ pub fn filter_lines<R: Read, W: Sink, D: Diagnostics<FilterError>>(
       diagnostics = record { before = diagnostics.old; after = diagnostics.new };
     }) result }
     ensures silent { result ≡ Ok true → diagnostics.new ≡ diagnostics.old }
-    ensures failed { result ≡ Err FilterError.Output → W.has_failed out.new ≡ true }
+    ensures failed { result ≡ Err ProgramError.Output → W.has_failed out.new ≡ true }
     ensures consumed { IfErr result
         (IsConsumed (record { before = bytes_left R.remaining input.old; after = bytes_left R.remaining input.new })) }
     ensures at_end { OnOk result (IfSome (bytes_left R.remaining input.old)
@@ -215,5 +212,5 @@ pub fn filter_lines<R: Read, W: Sink, D: Diagnostics<FilterError>>(
             None => return Ok(have_texts),
         }
     }
-    Err(FilterError::Input)
+    Err(ProgramError::Input)
 }

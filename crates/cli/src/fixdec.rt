@@ -1,21 +1,22 @@
 //! `fixdec TEXT [read:LOCALE] [CALL].. [format:LOCALE]`: reads a decimal, makes the calls in order, and prints the text
 //! of the result.
-ghost use Rattle.std.specs.Prelude.{◌≡◌, ◌≢◌, ◌≤◌, ◌<◌, Bool, true, false, Err, IfOk, IfErr, IfSome, OnOk, IsSomeAnd};
+ghost use Rattle.std.specs.Prelude.{◌≡◌, ◌≢◌, ◌≤◌, ◌<◌, true, false, Err, IfOk, IfErr, IfSome, OnOk, IsSomeAnd};
 ghost use Rattle.std.specs.Process.{exit_status};
-ghost use Rattle.cli.specs.declared.error.FixdecError.{FixdecError};
-ghost use Rattle.cli.specs.Arguments.{HaveWords, ArgumentsFail};
-ghost use Rattle.cli.specs.Diagnostics.{Reports};
-ghost use Rattle.cli.specs.Errors.{status_of_fixdec, output};
+ghost use Rattle.cli.specs.declared.error.ProgramError.{ProgramError};
+ghost use Rattle.cli.specs.declared.help.Program.TheVariants.{Fixdec};
+ghost use Rattle.cli.specs.Error.{status_of};
 ghost use Rattle.cli.specs.Conversion.{OperationsFail};
 ghost use Rattle.cli.specs.Fixdec.{HasError, WordsFail, NamesRun, PrintsLine, PrintsLinePrefix, Prints, PrintsPrefix};
+ghost use Rattle.cli.specs.Diagnostics.{IsReported};
+ghost use Rattle.cli.specs.Arguments.{PrintsFor, ArgumentsFail};
 
-use crate::arguments::words;
+use crate::arguments::start;
 use crate::conversion::{Conversion, convert};
-use crate::diagnostics::conclude_on;
-use crate::error::{FixdecError, OperationError};
-use crate::help::{CALLS, FIXDEC, LOCALES, help};
+use crate::diagnostics::{Diagnostics, ErrorLines};
+use crate::error::{OperationError, ProgramError, WordsError};
+use crate::help::Program;
 use crate::words::parse_conversion;
-use fixed_decimal::{Closed, Out, Sink, SinkFault};
+use fixed_decimal::{Closed, Out, Sink};
 use std::alloc::Global;
 use std::env::Args;
 use std::fmt::Display;
@@ -47,34 +48,48 @@ pub fn print_line<W: Sink>(
     Ok(())
 }
 
-/// Parses the words as a text and a conversion.
-fn parse_words(alloc: Global, words: &[String]) -> Result<(&[u8], Conversion<'_>), FixdecError>
+fn parse_words(alloc: Global, words: &[String]) -> Result<(&[u8], Conversion<'_>), ProgramError>
     ensures some { IfOk result (λ run. NamesRun words.now run.1 run.0.now) }
     ensures err { IfErr result (HasError words.now) }
-    ensures no_output { IfErr result (λ error. error ≢ output) }
+    ensures no_output { IfErr result (λ error. error ≢ ProgramError.Output) }
 {
-    let [text, words @ ..] = words else {
-        return Err(FixdecError::Usage);
-    };
-    match parse_conversion(alloc, words) {
-        Ok(conversion) => Ok((text.as_bytes(), conversion)),
-        Err(error) => Err(FixdecError::from(error)),
+    match words.split_first() {
+        None => Err(ProgramError::start(Program::Fixdec, WordsError::Usage)),
+        Some((text, words)) => match parse_conversion(alloc, words) {
+            Ok(conversion) => Ok((text.as_bytes(), conversion)),
+            Err(why) => Err(ProgramError::start(Program::Fixdec, why)),
+        },
     }
 }
 
-/// Prints the text of the conversion that the words name, and a line feed.
-fn print<O: Write>(alloc: Global, words: &[String], out: &mut Out<O>) -> Result<(), FixdecError>
+fn print<O: Write>(alloc: Global, words: &[String], out: &mut Out<O>) -> Result<(), ProgramError>
     ensures printed { OnOk result (Prints words.now (O.contents out.old.0) (O.contents out.new.0)) }
     ensures has_not_failed { OnOk result (out.new.1 ≡ false) }
     ensures error { IfErr result (HasError words.now) }
-    ensures unchanged_on_error { IfErr result (λ error. error ≢ output → out.new ≡ out.old) }
-    ensures failed { result ≡ Err output → out.new.1 ≡ true }
-    ensures prefix { result ≡ Err output → PrintsPrefix words.now (O.contents out.old.0) (O.contents out.new.0) }
+    ensures unchanged_on_error { IfErr result (λ error. error ≢ ProgramError.Output → out.new ≡ out.old) }
+    ensures failed { result ≡ Err ProgramError.Output → out.new.1 ≡ true }
+    ensures prefix { result ≡ Err ProgramError.Output →
+        PrintsPrefix words.now (O.contents out.old.0) (O.contents out.new.0) }
 {
     let (text, conversion) = parse_words(alloc, words)?;
     print_line(alloc, &conversion, text, out)?;
     out.flush()?;
     Ok(())
+}
+
+fn conclude_on<E: Write>(done: Result<(), ProgramError>, err: &mut E) -> u8
+    ensures at_most { result ≤ 3 }
+    ensures done { OnOk done ((result ≡ 0) × (err.new ≡ err.old)) }
+    ensures reported { IfErr done (λ error. (0 < result) × (result ≡ status_of error)
+        × IsReported (⟦<ProgramError as Display>⟧.output error) (E.contents err.old) (E.contents err.new)) }
+{
+    match done {
+        Ok(()) => 0,
+        Err(error) => {
+            ErrorLines::new(err).report(&error);
+            error.status()
+        }
+    }
 }
 
 /// Runs the program on the words after its name, and returns the exit status.
@@ -102,18 +117,18 @@ pub fn program<O: Write, E: Write>(
     ensures printed { result ≡ 0 → Prints words.now (O.contents out.old.0) (O.contents out.new.0) }
     ensures has_not_failed { result ≡ 0 → out.new.1 ≡ false }
     ensures silent { result ≡ 0 → err.new ≡ err.old }
-    ensures reported { 0 < result → (error : FixdecError) × (result ≡ status_of_fixdec error) × HasError words.now error
-        × ((failed : Bool)
-        × Reports (⟦<FixdecError as Display>⟧.output error) (E.contents err.old) false (E.contents err.new) failed)
-        × (error ≢ output → out.new ≡ out.old)
-        × (error ≡ output → (out.new.1 ≡ true)
+    ensures reported { 0 < result → (error : ProgramError) × (result ≡ status_of error) × HasError words.now error
+        × IsReported (⟦<ProgramError as Display>⟧.output error) (E.contents err.old) (E.contents err.new)
+        × (error ≢ ProgramError.Output → out.new ≡ out.old)
+        × (error ≡ ProgramError.Output → (out.new.1 ≡ true)
         × PrintsPrefix words.now (O.contents out.old.0) (O.contents out.new.0)) }
     ensures unchanged_on_error { 0 < result → result < 3 → out.new ≡ out.old }
 {
-    conclude_on(print(alloc, words, out), err).0
+    conclude_on(print(alloc, words, out), err)
 }
 
 /// Runs `program` on the arguments of the process, with a buffer before `out`, which is returned after its last call.
+/// The only word `--help` or `-h` prints the help.
 pub fn run_arguments<O: Write + Drop, E: Write>(
     alloc: Global,
     arguments: io::Result<Args>,
@@ -121,22 +136,22 @@ pub fn run_arguments<O: Write + Drop, E: Write>(
     err: &mut E,
 ) -> (u8, Option<Closed<O>>)
     ensures at_most { result.0 ≤ 3 }
-    ensures printed { result.0 ≡ 0 → HaveWords arguments (λ words. IsSomeAnd result.1
-        (λ closed. Prints words (O.contents out) (O.contents closed.0) × (closed.1 ≡ false))) }
+    ensures printed { result.0 ≡ 0 → IsSomeAnd result.1 (λ closed. (closed.1 ≡ false)
+        × PrintsFor Fixdec arguments (O.contents out) (O.contents closed.0)
+        (λ words. Prints words (O.contents out) (O.contents closed.0))) }
     ensures silent { result.0 ≡ 0 → err.new ≡ err.old }
-    ensures reported { 0 < result.0 → (error : FixdecError) × (result.0 ≡ status_of_fixdec error)
-        × ArgumentsFail FixdecError.Usage FixdecError.Memory arguments result.1 (WordsFail O.contents out) error
-        × ((failed : Bool)
-        × Reports (⟦<FixdecError as Display>⟧.output error) (E.contents err.old) false (E.contents err.new) failed)
-        × (error ≢ output → IfSome result.1 (λ closed. closed ≡ (out, false))) }
+    ensures reported { 0 < result.0 → (error : ProgramError) × (result.0 ≡ status_of error)
+        × ArgumentsFail Fixdec O.contents arguments out result.1 (WordsFail O.contents out) error
+        × IsReported (⟦<ProgramError as Display>⟧.output error) (E.contents err.old) (E.contents err.new) }
     ensures unchanged_on_error { 0 < result.0 → result.0 < 3 → IfSome result.1 (λ closed. closed ≡ (out, false)) }
 {
-    let words = match words(alloc, arguments, FixdecError::Usage, FixdecError::Memory) {
-        Ok(words) => words,
-        Err(error) => return (conclude_on(Err(error), err).0, Some(Closed::new(out, None))),
+    let (words, out) = match start(alloc, Program::Fixdec, arguments, out) {
+        Ok(started) => started,
+        Err((ended, closed)) => return (conclude_on(ended, err), Some(closed)),
     };
     let Ok(buffer) = BufWriter::with_capacity(alloc, BUFFER, out) else {
-        return (conclude_on(Err(FixdecError::Memory), err).0, None);
+        let no_memory = Err(ProgramError::start(Program::Fixdec, WordsError::Memory));
+        return (conclude_on(no_memory, err), None);
     };
     let mut buffered = Out::new(buffer);
     let status = program(alloc, words.as_slice(), &mut buffered, err);
@@ -145,10 +160,7 @@ pub fn run_arguments<O: Write + Drop, E: Write>(
     }
     let closed = buffered.close();
     if closed.has_failed() {
-        return (
-            conclude_on(Err(FixdecError::from(SinkFault)), err).0,
-            Some(closed),
-        );
+        return (conclude_on(Err(ProgramError::Output), err), Some(closed));
     }
     (0, Some(closed))
 }
@@ -157,9 +169,6 @@ pub fn run_arguments<O: Write + Drop, E: Write>(
 pub fn execute(rt: HostRuntime) -> ExitCode
     ensures at_most { exit_status result ≤ 3 }
 {
-    if let Some(status) = help(env::args(&rt), FIXDEC, LOCALES, CALLS, &mut rt.stdout()) {
-        return ExitCode::from(status);
-    }
     let (status, _out) = run_arguments(rt.alloc(), env::args(&rt), rt.stdout(), &mut rt.stderr());
     ExitCode::from(status)
 }

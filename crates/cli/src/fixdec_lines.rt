@@ -3,17 +3,18 @@
 ghost use Rattle.std.specs.Prelude.{◌≡◌, ◌≤◌, ◌<◌, ◌⊎◌, Ok, Err, true, false, IfOk, IfErr, IfSome, OnOk, IsSomeAnd};
 ghost use Rattle.std.specs.Process.{exit_status};
 ghost use Rattle.decimal_digits.specs.Buffered.{buffered_contents};
-ghost use Rattle.cli.specs.declared.error.FilterError.{FilterError};
-ghost use Rattle.cli.specs.Arguments.{HaveWords, ArgumentsFail};
-ghost use Rattle.cli.specs.Errors.{status_of_filter};
-ghost use Rattle.cli.specs.Filter.{NamesFilter, FilterFails, IsEarly, Process, effects, WordsFilter, LinesFail};
+ghost use Rattle.cli.specs.declared.error.ProgramError.{ProgramError};
+ghost use Rattle.cli.specs.Arguments.{HaveWords, IsHelp, PrintsFor, ArgumentsFail};
+ghost use Rattle.cli.specs.declared.help.Program.TheVariants.{FixdecLines};
+ghost use Rattle.cli.specs.Error.{status_of};
+ghost use Rattle.cli.specs.FixdecLines.{NamesFilter, FilterFails, IsEarly, Process, effects, WordsFilter, LinesFail};
 ghost use Rattle.cli.specs.Input.{bytes_left};
 
-use crate::arguments::words;
+use crate::arguments::start;
 use crate::diagnostics::{Diagnostics, ErrorLines, conclude};
-use crate::error::FilterError;
+use crate::error::{ProgramError, WordsError};
 use crate::filter::{Filter, filter_lines};
-use crate::help::{CALLS, FIXDEC_LINES, OPTIONS, help};
+use crate::help::Program;
 use crate::input::LineReader;
 use crate::options::split_options;
 use crate::words::parse_conversion;
@@ -24,14 +25,13 @@ use std::io::{Read, Write};
 use std::process::ExitCode;
 use std::{env, io};
 
-/// Parses the words as a filter.
-fn parse_filter(alloc: Global, words: &[String]) -> Result<Filter<'_>, FilterError>
+fn parse_filter(alloc: Global, words: &[String]) -> Result<Filter<'_>, ProgramError>
     ensures some { IfOk result (NamesFilter words.now) }
     ensures err { IfErr result (FilterFails words.now) }
 {
     let (options, words) = split_options(words);
     let Some(field) = options.field() else {
-        return Err(FilterError::Usage);
+        return Err(ProgramError::start(Program::FixdecLines, WordsError::Usage));
     };
     match parse_conversion(alloc, words) {
         Ok(conversion) => Ok(Filter {
@@ -40,18 +40,18 @@ fn parse_filter(alloc: Global, words: &[String]) -> Result<Filter<'_>, FilterErr
             field,
             has_header: options.has_header,
         }),
-        Err(error) => Err(FilterError::from(error)),
+        Err(why) => Err(ProgramError::start(Program::FixdecLines, why)),
     }
 }
 
 /// Runs the filter that the words name with a block before the writer, and returns the writer after its last call.
-fn filter_words<R: Read, O: Write + Drop, D: Diagnostics<FilterError>>(
+fn filter_words<R: Read, O: Write + Drop, D: Diagnostics<ProgramError>>(
     alloc: Global,
     words: &[String],
     input: &mut LineReader<R>,
     mut buffered: BufferedOut<O>,
     diagnostics: &mut D,
-) -> (Result<bool, FilterError>, Closed<O>)
+) -> (Result<bool, ProgramError>, Closed<O>)
     ensures filtered { WordsFilter D.reports words.now (record {
       input = record { before = bytes_left R.remaining input.old; after = bytes_left R.remaining input.new };
       failure = input.new.1;
@@ -60,11 +60,10 @@ fn filter_words<R: Read, O: Write + Drop, D: Diagnostics<FilterError>>(
     }) result.0 }
     ensures silent { result.0 ≡ Ok true → diagnostics.new ≡ diagnostics.old }
     ensures has_not_failed { OnOk result.0 (result.1.1 ≡ false) }
-    ensures failed { result.0 ≡ Err FilterError.Output → result.1.1 ≡ true }
+    ensures failed { result.0 ≡ Err ProgramError.Output → result.1.1 ≡ true }
     ensures unchanged_on_error { IfErr result.0 (λ error. IsEarly error
-        → result.1 ≡ (buffered.writer, buffered.has_failed)) }
-    ensures unread { result.0 ≡ Err FilterError.Usage → input.new ≡ input.old }
-    ensures unread_for_locale { result.0 ≡ Err FilterError.UnknownLocale → input.new ≡ input.old }
+        → (result.1 ≡ (buffered.writer, buffered.has_failed)) × (input.new ≡ input.old)
+        × (diagnostics.new ≡ diagnostics.old)) }
 {
     let filter = match parse_filter(alloc, words) {
         Ok(filter) => filter,
@@ -73,7 +72,7 @@ fn filter_words<R: Read, O: Write + Drop, D: Diagnostics<FilterError>>(
     let filtered = filter_lines(alloc, &filter, input, &mut buffered, diagnostics);
     let closed = buffered.close();
     if closed.has_failed() {
-        return (Err(FilterError::Output), closed);
+        return (Err(ProgramError::Output), closed);
     }
     (filtered, closed)
 }
@@ -85,10 +84,10 @@ fn filter_words<R: Read, O: Write + Drop, D: Diagnostics<FilterError>>(
 ///
 /// The last report is the error:
 ///
-/// - Status 1: `line 3: call 1: overflow` and others of [`FilterError::Operation`].
+/// - Status 1: `line 3: call 1: overflow` and others of [`ProgramError::Operation`].
 /// - Status 2: a word names nothing, or `unknown locale`; nothing is read.
 /// - Status 3: `memory`, `line 7: memory`, `input`, or `output` where a write or the flush of `out` fails.
-pub fn run_arguments<R: Read, O: Write + Drop, D: Diagnostics<FilterError>>(
+pub fn run_arguments<R: Read, O: Write + Drop, D: Diagnostics<ProgramError>>(
     alloc: Global,
     arguments: io::Result<Args>,
     input: &mut LineReader<R>,
@@ -103,8 +102,9 @@ pub fn run_arguments<R: Read, O: Write + Drop, D: Diagnostics<FilterError>>(
       contents = O.contents;
       diagnostics = record { before = diagnostics.old; after = diagnostics.new };
     } in
-        result.0 ≡ 0 → HaveWords arguments (λ words. IsSomeAnd result.1 (λ closed.
-        WordsFilter D.reports words (effects process closed.0) (Ok true) × (closed.1 ≡ false))) }
+        result.0 ≡ 0 → IsSomeAnd result.1 (λ closed. (closed.1 ≡ false)
+        × PrintsFor FixdecLines arguments (O.contents out) (O.contents closed.0)
+        (λ words. WordsFilter D.reports words (effects process closed.0) (Ok true))) }
     ensures silent { result.0 ≡ 0 → diagnostics.new ≡ diagnostics.old }
     ensures reported { let process : (last : D) → Process O D = λ last. record {
       input = record { before = bytes_left R.remaining input.old; after = bytes_left R.remaining input.new };
@@ -114,25 +114,24 @@ pub fn run_arguments<R: Read, O: Write + Drop, D: Diagnostics<FilterError>>(
       diagnostics = record { before = diagnostics.old; after = last };
     } in
         0 < result.0 →
-        ((result.0 ≡ 1) × HaveWords arguments (λ words. IsSomeAnd result.1 (λ closed.
+        ((result.0 ≡ 1) × HaveWords arguments (λ words. ¬ IsHelp words × IsSomeAnd result.1 (λ closed.
         WordsFilter D.reports words (effects (process diagnostics.new) closed.0) (Ok false) × (closed.1 ≡ false))))
-        ⊎ ((error : FilterError) × (before : D) × (result.0 ≡ status_of_filter error)
-        × ArgumentsFail FilterError.Usage FilterError.Memory arguments result.1
+        ⊎ ((error : ProgramError) × (before : D) × (result.0 ≡ status_of error)
+        × ArgumentsFail FixdecLines O.contents arguments out result.1
         (LinesFail D.reports (process before)) error
         × D.reports before error diagnostics.new
-        × (IsEarly error → IfSome result.1 (λ closed. closed ≡ (out, false)))) }
+        × (IsEarly error → (before ≡ diagnostics.old) × (input.new ≡ input.old))) }
+    ensures unread_for_help { HaveWords arguments IsHelp → input.new ≡ input.old }
     ensures unchanged_on_error { result.0 ≡ 2 → (input.new ≡ input.old)
         × IfSome result.1 (λ closed. closed ≡ (out, false)) }
 {
-    let words = match words(alloc, arguments, FilterError::Usage, FilterError::Memory) {
-        Ok(words) => words,
-        Err(error) => return (
-            conclude(Err(error), diagnostics),
-            Some(Closed::new(out, None)),
-        ),
+    let (words, out) = match start(alloc, Program::FixdecLines, arguments, out) {
+        Ok(started) => started,
+        Err((ended, closed)) => return (conclude(ended, diagnostics), Some(closed)),
     };
     let Ok(buffered) = BufferedOut::open(alloc, out) else {
-        return (conclude(Err(FilterError::Memory), diagnostics), None);
+        let no_memory = Err(ProgramError::start(Program::FixdecLines, WordsError::Memory));
+        return (conclude(no_memory, diagnostics), None);
     };
     match filter_words(alloc, words.as_slice(), input, buffered, diagnostics) {
         (Ok(true), closed) => (0, Some(closed)),
@@ -145,19 +144,11 @@ pub fn run_arguments<R: Read, O: Write + Drop, D: Diagnostics<FilterError>>(
 pub fn execute(rt: HostRuntime) -> ExitCode
     ensures at_most { exit_status result ≤ 3 }
 {
-    if let Some(status) = help(
-        env::args(&rt),
-        FIXDEC_LINES,
-        OPTIONS,
-        CALLS,
-        &mut rt.stdout(),
-    ) {
-        return ExitCode::from(status);
-    }
     let mut err = rt.stderr();
     let mut diagnostics = ErrorLines::new(&mut err);
     let Ok(mut input) = LineReader::open(rt.alloc(), rt.stdin()) else {
-        return ExitCode::from(conclude(Err(FilterError::Memory), &mut diagnostics));
+        let no_memory = Err(ProgramError::start(Program::FixdecLines, WordsError::Memory));
+        return ExitCode::from(conclude(no_memory, &mut diagnostics));
     };
     let arguments = env::args(&rt);
     let (status, _out) = run_arguments(

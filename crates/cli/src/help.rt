@@ -1,31 +1,32 @@
 //! The texts of `--help`.
-ghost use Rattle.std.specs.Prelude.{◌≡◌, ◌⊎◌, ◌++◌, Some, None, IfSome, IsTrue, ◌↔◌};
+ghost use Rattle.std.specs.Prelude.{◌≡◌, ◌++◌, OnOk};
 ghost use Rattle.std.specs.Io.KnownBytes.{Appends};
-ghost use Rattle.cli.specs.Arguments.{HaveWords, IsHelp};
+ghost use Rattle.cli.specs.Help.{usage_of, words_and_table_of, help_of};
 
-use decimal_digits::sink::write_whole;
-use std::env::Args;
-use std::io;
+use fixed_decimal::{WriteError, write_whole};
 use std::io::Write;
 
-/// The usage line of `fixdec`.
-pub const FIXDEC: &str = "usage: fixdec TEXT [CALL]..";
+/// A program.
+#[derive(Clone, Copy, Debug, PartialEq)]
+pub enum Program {
+    Fixdec,
+    FixdecLines,
+    Plural,
+}
 
-/// The usage line of `fixdec_lines`.
-pub const FIXDEC_LINES: &str =
-    "usage: fixdec_lines [OPTION].. [read:LOCALE] [CALL].. [format:LOCALE]";
+const FIXDEC: &str = "usage: fixdec TEXT [CALL]..";
 
-/// The usage line of `plural`.
-pub const PLURAL: &str = "usage: plural RULES TEXT..";
+const FIXDEC_LINES: &str = "usage: fixdec_lines [OPTION].. [read:LOCALE] [CALL].. [format:LOCALE]";
+
+const PLURAL: &str = "usage: plural RULES TEXT..";
 
 /// All words of `fixdec`.
-pub const LOCALES: &str = "
+const LOCALES: &str = "
 
 All words: TEXT [read:LOCALE[:lenient]] [CALL].. [format:LOCALE[:GROUPING]]
 ";
 
-/// The options of `fixdec_lines`.
-pub const OPTIONS: &str = "
+const OPTIONS: &str = "
 
 field:N                 converts field N of each line, from 1, and copies the other bytes
 delimiter:C             C is between two fields: by default a tab, with csv a comma
@@ -34,14 +35,12 @@ header                  the first line is copied
 skip                    reports a line that fails, and writes an empty line
 ";
 
-/// The rules of `plural`.
-pub const RULES: &str = "
+const RULES: &str = "
 
 RULES are rules between semicolons, as 'one: i = 1 and v = 0; many: e != 0..5'.
 ";
 
-/// The calls of `fixdec` and `fixdec_lines`, and the words of locales.
-pub const CALLS: &str = "
+const CALLS: &str = "
 shift:D                 multiplies by 10 to the D
 trim-start, trim-end    removes leading, trailing zeros
 trim-end-if-integer     removes the fraction digits if all are zeros
@@ -63,8 +62,7 @@ LOCALE: a tag as de-CH, or a name as de_CH.UTF-8
 GROUPING: auto, never, always, min2
 ";
 
-/// The operands of a condition of `plural`.
-pub const OPERANDS: &str = "\
+const OPERANDS: &str = "\
 n     the absolute value
 i     the integer digits
 v, w  the number of fraction digits, with and without trailing zeros
@@ -72,43 +70,38 @@ f, t  the fraction digits as an integer, with and without trailing zeros
 c, e  the exponent of a compact decimal
 ";
 
-/// Returns whether the only word is `--help` or `-h`.
-fn is_help(arguments: io::Result<Args>) -> bool
-    ensures { IsTrue result ↔ HaveWords arguments IsHelp }
-{
-    let Ok(mut arguments) = arguments else {
-        return false;
-    };
-    let _name = arguments.next();
-    let Some(word) = arguments.next() else {
-        return false;
-    };
-    arguments.next().is_none() && (word.as_str() == "--help" || word.as_str() == "-h")
-}
-
-/// Prints a usage line, a text on its words and a table if the only word is `--help` or `-h`, and returns the exit
-/// status.
-pub fn help<O: Write>(
-    arguments: io::Result<Args>,
-    usage: &str,
-    words: &str,
-    table: &str,
-    out: &mut O,
-) -> Option<u8>
-    ensures asked { IfSome result (λ status. HaveWords arguments IsHelp × ((status ≡ 0) ⊎ (status ≡ 3))) }
-    ensures printed { result ≡ Some 0 →
-        Appends (O.contents out.old) (O.contents out.new) (usage.now ++ words.now ++ table.now) }
-    ensures not_asked { result ≡ None → ¬ HaveWords arguments IsHelp }
-    ensures silent { result ≡ None → out.new ≡ out.old }
-{
-    if !is_help(arguments) {
-        return None;
-    }
-    if write_whole(out, usage.as_bytes()).is_err()
-        || write_whole(out, words.as_bytes()).is_err()
-        || write_whole(out, table.as_bytes()).is_err()
+impl Program {
+    /// Returns the usage line.
+    #[tactic(auto, unfolding(crate::specs::Help::usage_of))]
+    pub fn usage(self) -> &'static str
+        ensures { result.now ≡ usage_of self }
     {
-        return Some(3);
+        match self {
+            Program::Fixdec => FIXDEC,
+            Program::FixdecLines => FIXDEC_LINES,
+            Program::Plural => PLURAL,
+        }
     }
-    Some(0)
+
+    /// Returns what follows the usage line: a text on the words, and a table.
+    #[tactic(auto, unfolding(crate::specs::Help::words_and_table_of))]
+    fn words_and_table(self) -> (&'static str, &'static str)
+        ensures { (result.0.now ++ result.1.now) ≡ words_and_table_of self }
+    {
+        match self {
+            Program::Fixdec => (LOCALES, CALLS),
+            Program::FixdecLines => (OPTIONS, CALLS),
+            Program::Plural => (RULES, OPERANDS),
+        }
+    }
+
+    /// Writes the text of `--help`.
+    pub fn print_help<W: Write>(self, out: &mut W) -> Result<(), WriteError<W>>
+        ensures { OnOk result (Appends (W.contents out.old) (W.contents out.new) (help_of self)) }
+    {
+        let (words, table) = self.words_and_table();
+        write_whole(out, self.usage().as_bytes())?;
+        write_whole(out, words.as_bytes())?;
+        write_whole(out, table.as_bytes())
+    }
 }

@@ -32,7 +32,6 @@ impl<R: Read> Model for LineReader<R> {
     ghost view = { λ s. (s.reader, s.error) };
 }
 
-/// Removes a trailing line feed.
 fn pop_line_feed(line: &mut Vec<u8>)
     ensures { line.new.items ≡ strip_last 10 line.old.items }
 {

@@ -1,21 +1,12 @@
 //! Laws of the programs: the contract of each function states a law.
-ghost use Rattle.std.specs.Prelude.{◌≡◌, ℕ, List, String, Result, None};
-ghost use Rattle.std.specs.declared.alloc.Global.{Global};
+ghost use Rattle.std.specs.Prelude.{◌≡◌, ℕ, List, Result, None};
 ghost use Rattle.fixed_decimal.specs.Outcome.{OutcomeError};
 ghost use Rattle.cli.specs.Conversion.{IsOutcome, IsRunFormatted};
-ghost use Rattle.cli.specs.ConversionWords.{ConversionFails};
 ghost use Rattle.cli.specs.declared.conversion.Conversion.{Conversion};
-ghost use Rattle.cli.specs.declared.words.WordsError.{WordsError};
 
 /// A conversion without a reader is the run of its calls, formatted: both write the same last decimal.
 #[tactic(auto, using(crate::proofs::Conversions::conversion_is_run_formatted))]
 pub fn conversion_is_run_formatted()
     ensures { (c : Conversion) (text : List ℕ) (result : Result (List ℕ) OutcomeError) → c.reader ≡ None
         → IsOutcome c text result → IsRunFormatted c text result }
-{}
-
-/// Words that name no conversion have one error.
-pub fn error_of_words_is_unique()
-    ensures { (words : List (String Global)) (first second : WordsError) → ConversionFails words first
-        → ConversionFails words second → first ≡ second }
 {}

@@ -7,7 +7,6 @@ use std::simd::prelude::*;
 /// The number of bytes that are tested at once. Most lines of numbers are shorter.
 const LANES: usize = 16;
 
-/// Returns the index of the first line feed.
 #[inline]
 pub(crate) fn find_line_feed(bytes: &[u8]) -> Option<usize>
     ensures { IsFirstByte (is_byte 10) bytes.now result }

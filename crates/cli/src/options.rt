@@ -23,7 +23,6 @@ pub struct Options<'a> {
     pub has_header: bool,
 }
 
-/// Parses `field:N` as the 0-based index of the field.
 fn field_index(word: &str) -> Option<usize>
     ensures some { IfSome result (IsField word.now) }
     ensures only { (index : ℕ) → IsField word.now index → result ≡ Some index }
@@ -34,7 +33,6 @@ fn field_index(word: &str) -> Option<usize>
     }
 }
 
-/// Parses `delimiter:C`, where C is one character.
 fn delimiter(word: &str) -> Option<&[u8]>
     ensures some { IfSome result (λ delimiter. IsDelimiter word.now delimiter.now) }
     ensures none { result ≡ None → (delimiter : List ℕ) → ¬ IsDelimiter word.now delimiter }
@@ -60,7 +58,6 @@ impl<'a> Options<'a> {
         }
     }
 
-    /// Returns the options with that of a word with a parameter. None: as in [`Options::with`].
     fn with_parameter(self, word: &'a str) -> Option<Options<'a>>
         ensures some { IfSome result (Adds word.now self.entry) }
         ensures none { result ≡ None → (next : Options) → AddsParameter word.now self.entry next → ⊥ }
@@ -141,11 +138,10 @@ impl<'a> Options<'a> {
     }
 }
 
-/// Splits off the words of options, after these ones.
 fn split_after<'a>(options: Options<'a>, words: &'a [String]) -> (Options<'a>, &'a [String])
     ensures { AreOptions options.entry words.now result.0 result.1.now }
 {
-    let [first, rest @ ..] = words else {
+    let Some((first, rest)) = words.split_first() else {
         return (options, words);
     };
     match options.with(first.as_str()) {

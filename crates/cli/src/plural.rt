@@ -1,16 +1,17 @@
 //! `plural RULES TEXT..`: reads plural rules, and prints the category of each text on a line.
 ghost use Rattle.std.specs.Prelude.{◌≡◌, ◌<◌, ◌≤◌, IfOk, IfErr, OnOk, IsSomeAnd, false};
 ghost use Rattle.std.specs.Process.{exit_status};
-ghost use Rattle.cli.specs.declared.error.PluralError.{PluralError};
-ghost use Rattle.cli.specs.Arguments.{HaveWords, ArgumentsFail};
-ghost use Rattle.cli.specs.Errors.{status_of_plural};
+ghost use Rattle.cli.specs.declared.error.ProgramError.{ProgramError};
+ghost use Rattle.cli.specs.declared.help.Program.TheVariants.{Plural};
+ghost use Rattle.cli.specs.Error.{status_of};
 ghost use Rattle.cli.specs.Plural.{HasRules, RulesFail, Prints, PluralFails};
+ghost use Rattle.cli.specs.Arguments.{PrintsFor, ArgumentsFail};
 
-use crate::arguments::words;
+use crate::arguments::start;
 use crate::categories::print_categories;
 use crate::diagnostics::{Diagnostics, ErrorLines, conclude};
-use crate::error::PluralError;
-use crate::help::{OPERANDS, PLURAL, RULES, help};
+use crate::error::{ProgramError, WordsError};
+use crate::help::Program;
 use fixed_decimal::{BufferedOut, Closed};
 use plural_rules::PluralRules;
 use std::alloc::Global;
@@ -19,21 +20,19 @@ use std::io::Write;
 use std::process::ExitCode;
 use std::{env, io};
 
-/// Parses the first word as rules, and returns them with the other words.
-///
-/// # Errors
-///
-/// There are no rules or no texts, the rules are rejected, or the program is out of memory for them.
-fn rules_and_texts(alloc: Global, words: &[String]) -> Result<(PluralRules, &[String]), PluralError>
+fn rules_and_texts(
+    alloc: Global,
+    words: &[String],
+) -> Result<(PluralRules, &[String]), ProgramError>
     ensures found { IfOk result (λ found. HasRules words.now (λ rules texts. (rules ≡ found.0)
         × (texts ≡ found.1.now))) }
     ensures error { IfErr result (RulesFail words.now) }
 {
     let Some((rules, texts)) = words.split_first() else {
-        return Err(PluralError::Usage);
+        return Err(ProgramError::start(Program::Plural, WordsError::Usage));
     };
     if texts.is_empty() {
-        return Err(PluralError::Usage);
+        return Err(ProgramError::start(Program::Plural, WordsError::Usage));
     }
     let rules = PluralRules::try_from_str(alloc, rules.as_str())?;
     Ok((rules, texts))
@@ -44,7 +43,7 @@ fn print<O: Write + Drop>(
     alloc: Global,
     words: &[String],
     out: O,
-) -> (Result<(), PluralError>, Option<Closed<O>>)
+) -> (Result<(), ProgramError>, Option<Closed<O>>)
     ensures printed { OnOk result.0 (IsSomeAnd result.1 (λ closed.
         Prints words.now (O.contents out) (O.contents closed.0) × (closed.1 ≡ false))) }
     ensures error { IfErr result.0 (PluralFails O.contents out words.now result.1) }
@@ -54,12 +53,15 @@ fn print<O: Write + Drop>(
         Err(error) => return (Err(error), Some(Closed::new(out, None))),
     };
     let Ok(mut buffered) = BufferedOut::open(alloc, out) else {
-        return (Err(PluralError::Memory), None);
+        return (
+            Err(ProgramError::start(Program::Plural, WordsError::Memory)),
+            None,
+        );
     };
     let printed = print_categories(alloc, &rules, texts, &mut buffered);
     let closed = buffered.close();
     if closed.has_failed() {
-        return (Err(PluralError::Output), Some(closed));
+        return (Err(ProgramError::Output), Some(closed));
     }
     (printed, Some(closed))
 }
@@ -68,7 +70,7 @@ fn print<O: Write + Drop>(
 /// after its last call.
 ///
 /// The first word is rules, and each other word a text: a compact decimal where it has a `c`, and else a decimal. The
-/// words `one: i = 1 and v = 0`, `1` and `1.0` print `one` and `other`.
+/// words `one: i = 1 and v = 0`, `1` and `1.0` print `one` and `other`. The only word `--help` or `-h` prints the help.
 ///
 /// # Errors
 ///
@@ -77,26 +79,24 @@ fn print<O: Write + Drop>(
 /// - Status 1: the rules or a text are rejected, as `rules: syntax at 4` and `text 2: limit`.
 /// - Status 2: no rules or no text.
 /// - Status 3: `memory`, or `output` where a write or the flush of `out` fails.
-pub fn run_arguments<O: Write + Drop, D: Diagnostics<PluralError>>(
+pub fn run_arguments<O: Write + Drop, D: Diagnostics<ProgramError>>(
     alloc: Global,
     arguments: io::Result<Args>,
     out: O,
     diagnostics: &mut D,
 ) -> (u8, Option<Closed<O>>)
     ensures at_most { result.0 ≤ 3 }
-    ensures printed { result.0 ≡ 0 → HaveWords arguments (λ words. IsSomeAnd result.1
-        (λ closed. Prints words (O.contents out) (O.contents closed.0) × (closed.1 ≡ false))) }
+    ensures printed { result.0 ≡ 0 → IsSomeAnd result.1 (λ closed. (closed.1 ≡ false)
+        × PrintsFor Plural arguments (O.contents out) (O.contents closed.0)
+        (λ words. Prints words (O.contents out) (O.contents closed.0))) }
     ensures silent { result.0 ≡ 0 → diagnostics.new ≡ diagnostics.old }
-    ensures reported { 0 < result.0 → (error : PluralError) × (result.0 ≡ status_of_plural error)
-        × ArgumentsFail PluralError.Usage PluralError.Memory arguments result.1 (PluralFails O.contents out) error
+    ensures reported { 0 < result.0 → (error : ProgramError) × (result.0 ≡ status_of error)
+        × ArgumentsFail Plural O.contents arguments out result.1 (PluralFails O.contents out) error
         × D.reports diagnostics.old error diagnostics.new }
 {
-    let words = match words(alloc, arguments, PluralError::Usage, PluralError::Memory) {
-        Ok(words) => words,
-        Err(error) => return (
-            conclude(Err(error), diagnostics),
-            Some(Closed::new(out, None)),
-        ),
+    let (words, out) = match start(alloc, Program::Plural, arguments, out) {
+        Ok(started) => started,
+        Err((ended, closed)) => return (conclude(ended, diagnostics), Some(closed)),
     };
     let (printed, closed) = print(alloc, words.as_slice(), out);
     let status = conclude(printed, diagnostics);
@@ -107,9 +107,6 @@ pub fn run_arguments<O: Write + Drop, D: Diagnostics<PluralError>>(
 pub fn execute(rt: HostRuntime) -> ExitCode
     ensures at_most { exit_status result ≤ 3 }
 {
-    if let Some(status) = help(env::args(&rt), PLURAL, RULES, OPERANDS, &mut rt.stdout()) {
-        return ExitCode::from(status);
-    }
     let mut err = rt.stderr();
     let mut diagnostics = ErrorLines::new(&mut err);
     let (status, _out) = run_arguments(rt.alloc(), env::args(&rt), rt.stdout(), &mut diagnostics);

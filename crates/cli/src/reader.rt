@@ -28,7 +28,7 @@ pub struct DecimalReader<'a> {
 }
 
 impl<'a> DecimalReader<'a> {
-    ghost use Rattle.cli.specs.Reading.{IsReadIn, ReadingFailsIn};
+    ghost use Rattle.cli.specs.Reader.{IsReadIn, ReadingFailsIn};
 
     /// Reads a decimal.
     ///

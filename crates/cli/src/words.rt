@@ -3,33 +3,22 @@ ghost use Rattle.std.specs.Prelude.{◌≡◌, ◌≢◌, IfOk, IfErr, IfSome, I
 ghost use Rattle.std.specs.Option.{option_copied};
 ghost use Rattle.decimal_format.specs.declared.grouping.GroupingStrategy.{GroupingStrategy};
 ghost use Rattle.cli.specs.declared.reader.ParseMode.{ParseMode};
-ghost use Rattle.cli.specs.ConversionWords.{IsReadSplit, IsFormatSplit, tag_of, option_of, mode_option};
-ghost use Rattle.cli.specs.ConversionWords.{IsStrategyOption, NamesReader, NamesFormatter, NamesConversion};
-ghost use Rattle.cli.specs.ConversionWords.{ReaderFails, FormatterFails, ConversionFails};
+ghost use Rattle.cli.specs.Words.{IsReadSplit, IsFormatSplit, tag_of, option_of, mode_option};
+ghost use Rattle.cli.specs.Words.{IsStrategyOption, NamesReader, NamesFormatter, NamesConversion};
+ghost use Rattle.cli.specs.Words.{ReaderFails, FormatterFails, ConversionFails};
 
 use crate::calls::parse_calls;
 use crate::conversion::Conversion;
+use crate::error::WordsError;
 use crate::reader::{DecimalReader, ParseMode};
 use decimal_format::{DecimalFormatter, DecimalSymbols, GroupingStrategy};
 use locale_symbols::locale;
 use std::alloc::Global;
 
-/// Why words name no conversion.
-#[derive(Clone, Copy, Debug, PartialEq)]
-pub enum WordsError {
-    /// A word names nothing, or is not in its place.
-    Usage,
-    /// The locale of a word is unknown.
-    UnknownLocale,
-    /// Out of memory for the list of the calls.
-    Memory,
-}
-
-/// Splits off a first word `read:..`, and returns what follows the colon and the other words.
 fn split_read(words: &[String]) -> (Option<&str>, &[String])
     ensures { IsReadSplit words.now (option_copied result.0) result.1.now }
 {
-    if let [first, rest @ ..] = words {
+    if let Some((first, rest)) = words.split_first() {
         if let Some(parameters) = first.as_str().strip_prefix("read:") {
             return (Some(parameters), rest);
         }
@@ -37,11 +26,10 @@ fn split_read(words: &[String]) -> (Option<&str>, &[String])
     (None, words)
 }
 
-/// Splits off a last word `format:..`, and returns what follows the colon and the other words.
 fn split_format(words: &[String]) -> (Option<&str>, &[String])
     ensures { IsFormatSplit words.now (option_copied result.0) result.1.now }
 {
-    if let [rest @ .., last] = words {
+    if let Some((last, rest)) = words.split_last() {
         if let Some(parameters) = last.as_str().strip_prefix("format:") {
             return (Some(parameters), rest);
         }
@@ -49,7 +37,6 @@ fn split_format(words: &[String]) -> (Option<&str>, &[String])
     (None, words)
 }
 
-/// Splits parameters into the tag of a locale and the option after a colon, if there is one.
 fn split_parameters(parameters: &str) -> (&str, Option<&str>)
     ensures tag { result.0.now ≡ tag_of parameters.now }
     ensures option { option_copied result.1 ≡ option_of parameters.now }
@@ -60,7 +47,6 @@ fn split_parameters(parameters: &str) -> (&str, Option<&str>)
     }
 }
 
-/// Parses the option of a mode.
 fn parse_mode(option: Option<&str>) -> Option<ParseMode>
     ensures some { IfSome result (λ mode. option_copied option.entry ≡ mode_option mode) }
     ensures none { IfNone result ((mode : ParseMode) → option_copied option.entry ≢ mode_option mode) }
@@ -72,7 +58,6 @@ fn parse_mode(option: Option<&str>) -> Option<ParseMode>
     }
 }
 
-/// Parses the option of a grouping strategy.
 fn parse_strategy(option: Option<&str>) -> Option<GroupingStrategy>
     ensures some { IfSome result (IsStrategyOption (option_copied option.entry)) }
     ensures none { IfNone result
@@ -87,7 +72,6 @@ fn parse_strategy(option: Option<&str>) -> Option<GroupingStrategy>
     }
 }
 
-/// Parses the parameters after `read:`, if there are any.
 fn parse_reader(parameters: Option<&str>) -> Result<Option<DecimalReader<'static>>, WordsError>
     ensures some { IfOk result (NamesReader (option_copied parameters.entry)) }
     ensures err { IfErr result (ReaderFails (option_copied parameters.entry)) }
@@ -105,7 +89,6 @@ fn parse_reader(parameters: Option<&str>) -> Result<Option<DecimalReader<'static
     }
 }
 
-/// Parses the parameters after `format:`, if there are any.
 fn parse_formatter(
     parameters: Option<&str>,
 ) -> Result<Option<DecimalFormatter<'static>>, WordsError>

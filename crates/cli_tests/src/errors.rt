@@ -2,12 +2,11 @@
 ghost use Rattle.std.specs.Prelude.{◌≡◌, true, [], ◌∷◌, ◌++◌};
 
 use cli::{
-    Conversion, Diagnostics, ErrorLines, Filter, FilterError, LineReader, OnError, OperationError,
-    PluralError, Reason, filter_lines,
+    Conversion, Diagnostics, ErrorLines, Filter, LineReader, OnError, OperationError, Program,
+    ProgramError, Reason, StartError, WordsError, filter_lines,
 };
 use fixed_decimal::{Call, TextBuf};
 use std::alloc::Global;
-use std::fmt::Display;
 use std::test::Fail;
 use test_support::{FailingWriter, WriteFailure};
 
@@ -30,7 +29,7 @@ impl<E: Copy> Diagnostics<E> for Log<E> {
 }
 
 /// Whether an error is reported by this line, in one write.
-fn is_reported<E: Display>(error: &E, line: &str) -> bool {
+fn is_reported(error: &ProgramError, line: &str) -> bool {
     let failure = WriteFailure::StorageFull;
     let mut err = FailingWriter::new(line.as_bytes(), usize::MAX, failure).with_width(usize::MAX);
     let mut lines = ErrorLines::new(&mut err);
@@ -39,13 +38,16 @@ fn is_reported<E: Display>(error: &E, line: &str) -> bool {
 }
 
 /// The longest lines; shorter ones are those of the programs.
-const FILTER: &[(FilterError, &str)] = &[
+const FILTER: &[(ProgramError, &str)] = &[
     (
-        FilterError::Usage,
+        ProgramError::Start(StartError {
+            program: Program::FixdecLines,
+            why: WordsError::Usage,
+        }),
         "usage: fixdec_lines [OPTION].. [read:LOCALE] [CALL].. [format:LOCALE]\n",
     ),
     (
-        FilterError::Operation {
+        ProgramError::Line {
             line: 18_446_744_073_709_551_615,
             error: OperationError::Overflow {
                 at: 18_446_744_073_709_551_615,
@@ -53,7 +55,7 @@ const FILTER: &[(FilterError, &str)] = &[
         },
         "line 18446744073709551615: call 18446744073709551615: overflow\n",
     ),
-    (FilterError::LongLine { line: 7 }, "line 7: memory\n"),
+    (ProgramError::LongLine { line: 7 }, "line 7: memory\n"),
 ];
 
 #[test]
@@ -61,7 +63,7 @@ fn reports_a_line_in_one_write(rt: HostRuntime) -> Result<(), Fail> {
     for (error, line) in FILTER {
         assert!(rt; is_reported(error, line), "{line}");
     }
-    let text = PluralError::Text {
+    let text = ProgramError::Text {
         number: 18_446_744_073_709_551_615,
         reason: Reason::Limit,
     };
@@ -92,11 +94,11 @@ fn a_skipping_filter_reports_each_refusal(rt: HostRuntime) -> Result<(), Fail> {
     assert_eq!(rt; answer, Ok(false));
     assert_eq!(rt; out.as_bytes(), b"2.50\n\n0.07\n\n".as_slice());
     let wanted = [
-        FilterError::Operation {
+        ProgramError::Line {
             line: 2,
             error: OperationError::Start(Reason::Syntax),
         },
-        FilterError::Operation {
+        ProgramError::Line {
             line: 4,
             error: OperationError::Start(Reason::Limit),
         },

@@ -7,7 +7,7 @@ use Rattle.cli.specs.Arguments.{words_of}
 use Rattle.cli.proofs.arguments.words.Goals as goal
 
 pub returns-in-Ok-collect-clause-words : goal.returns-in-Ok-collect-clause-words
-returns-in-Ok-collect-clause-words g c =
+returns-in-Ok-collect-clause-words c =
     let is : c.args.arguments ≡ Ok c.in-Ok.arguments = search rules in
     let items = ap into_iter_items c.skip.ensures.source in
     let count : into_iter_len (skip_source c.skip.result) ≡ length (into_iter_items c.in-Ok.arguments) =

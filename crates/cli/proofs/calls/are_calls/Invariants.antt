@@ -1,5 +1,5 @@
 use Rattle.std.proofs.Common.{take}
-use Rattle.cli.specs.Words.{AreCalls}
+use Rattle.cli.specs.Calls.{AreCalls}
 use Rattle.cli.proofs.calls.are_calls.Given as goal
 
 -- each word so far names a call

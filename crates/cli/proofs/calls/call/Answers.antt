@@ -6,7 +6,7 @@ use Rattle.fixed_decimal.specs.declared.variations.Sign.TheVariants as sign
 use Rattle.fixed_decimal.specs.declared.variations.SignDisplay.TheVariants as display
 use Rattle.fixed_decimal.specs.declared.runs.Call.{Call}
 use Rattle.fixed_decimal.specs.declared.runs.Call.TheVariants.{MultiplyPow10, TrimStart, TrimEnd, TrimEndIfInteger, PadStart, PadEnd, SetMaxPosition, Round, SetSign, ApplySignDisplay, Concatenate}
-use Rattle.cli.specs.Words.{Names}
+use Rattle.cli.specs.Calls.{Names}
 use Rattle.cli.proofs.calls.call.Goals as goal
 use Rattle.cli.proofs.calls.call.Goals.{In_default-rounding}
 

@@ -1,6 +1,6 @@
 use Rattle.std.proofs.Common.{sym, string_bytes, arith}
-use Rattle.cli.specs.Words.{Names}
-use Rattle.cli.specs.Words.{IsUnknown}
+use Rattle.cli.specs.Calls.{Names}
+use Rattle.cli.specs.Calls.{IsUnknown}
 use Rattle.cli.proofs.Programs.{names_more, taken}
 use Rattle.cli.proofs.calls.parse_calls.Goals as goal
 

@@ -1,5 +1,5 @@
 use Rattle.std.proofs.Common.{◌≡◌, ◌≤◌, length, take, vec_len, vec_capacity}
-use Rattle.cli.specs.Words.{NameAll}
+use Rattle.cli.specs.Calls.{NameAll}
 use Rattle.cli.proofs.calls.parse_calls.Given as goal
 
 -- the words so far name the calls, and there is room for those of all words

@@ -5,7 +5,7 @@ use Rattle.std.proofs.lemmas.Str.Pattern.{split_after, split_parts}
 use Rattle.fixed_decimal.specs.declared.rounding.SignedRoundingMode.{SignedRoundingMode}
 use Rattle.decimal_digits.specs.declared.rounding.RoundingIncrement.{RoundingIncrement}
 use Rattle.fixed_decimal.specs.declared.runs.Call.TheVariants.{Round}
-use Rattle.cli.specs.Words.{number, mode_word, increment_word, Names}
+use Rattle.cli.specs.Calls.{number, mode_word, increment_word, Names}
 use Rattle.cli.proofs.RoundingWord.{after_position, mode_free}
 use Rattle.cli.proofs.calls.rounding.Goals as goal
 use Rattle.cli.proofs.calls.rounding.Goals.{In_ok-parts, In_ok-position, In_ok-mode_word}

@@ -1,9 +1,9 @@
-use Rattle.std.proofs.Common.{◌≡◌, ◌≢◌, [], Ok, Err, inr, refl, ap, arith, rules}
+use Rattle.std.proofs.Common.{◌≡◌, ◌≢◌, [], Ok, Err, refl, ap, arith, rules}
 use Rattle.std.proofs.KnownBytes.{Appends-kept, Appends-nil}
-use Rattle.cli.specs.declared.error.FilterError.TheVariants.{Operation}
+use Rattle.cli.specs.declared.error.ProgramError.TheVariants.{Line}
 use Rattle.cli.specs.declared.error.OperationError.TheVariants.{Output}
-use Rattle.cli.specs.Errors.{status_of_operation}
-use Rattle.cli.proofs.FieldLines.{error_is_result}
+use Rattle.cli.specs.Error.{status_of_operation}
+use Rattle.cli.proofs.FieldLines.{rejected_line}
 use Rattle.cli.proofs.filter.filter_line.Goals as goal
 
 pub returns-in-Ok-clause-filtered : goal.returns-in-Ok-clause-filtered
@@ -19,18 +19,9 @@ returns-in-Err-Output-clause-filtered g c =
 pub returns-in-Ok-put_byte-clause-filtered : goal.returns-in-Ok-put_byte-clause-filtered
 returns-in-Ok-put_byte-clause-filtered g c =
     let one : status_of_operation c.in-Err.error ≡ 1 = search rules in
-    let real : c.in-Err.error ≢ Output = λ is. absurd (omega (arith, ap status_of_operation is, one)) in
-    let (other, fails) = c.in-Err.ensures.fails_with real in (
-      Err (Operation c.args.number c.in-Err.error),
-      (
-        Err c.in-Err.error,
-        inr (
-          other,
-          error_is_result c.args.filter.now.field c.args.filter.now.conversion c.args.line.now
-              c.in-Err.error one fails,
-        ),
-        refl,
-      ),
+    let real : c.in-Err.error ≢ Output = λ is. absurd (omega (arith, ap status_of_operation is, one)) in (
+      Err (Line c.args.number c.in-Err.error),
+      rejected_line c.args.filter.now c.args.number c.args.line.now _ one (c.in-Err.ensures.fails_with real),
       rw (c.in-Err.ensures.unchanged_on_error real) at c.in-Ok-put_byte.ensures.appends,
       (c.report.new.self, c.report.ensures, refl),
       refl,
@@ -41,19 +32,10 @@ pub returns-in-Err-put_byte-clause-filtered : goal.returns-in-Err-put_byte-claus
 returns-in-Err-put_byte-clause-filtered g c =
     let one : status_of_operation c.in-Err.error ≡ 1 = search rules in
     let real : c.in-Err.error ≢ Output = λ is. absurd (omega (arith, ap status_of_operation is, one)) in
-    let (other, fails) = c.in-Err.ensures.fails_with real in
     let still : c.print.new.sink ≡ c.args.out.now = c.in-Err.ensures.unchanged_on_error real in
     let none = Appends-nil (g.W.Sink.contents c.print.new.sink) in (
-      Err (Operation c.args.number c.in-Err.error),
-      (
-        Err c.in-Err.error,
-        inr (
-          other,
-          error_is_result c.args.filter.now.field c.args.filter.now.conversion c.args.line.now
-              c.in-Err.error one fails,
-        ),
-        refl,
-      ),
+      Err (Line c.args.number c.in-Err.error),
+      rejected_line c.args.filter.now c.args.number c.args.line.now _ one (c.in-Err.ensures.fails_with real),
       ([], _, refl, rw still at (Appends-kept _ _ _ [] none c.in-Err-put_byte.ensures.keeps)),
       (c.report.new.self, c.report.ensures, refl),
       search rules,

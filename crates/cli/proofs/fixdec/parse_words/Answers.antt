@@ -1,17 +1,24 @@
-use Rattle.cli.proofs.Programs.{no_text, names_run, words_fail}
+use Rattle.std.proofs.Common.{◌≡◌, List, String, [], ◌∷◌, length, refl, rules, arith}
+use Rattle.std.specs.declared.alloc.Global.{Global}
+use Rattle.cli.specs.declared.error.WordsError.TheVariants.{Usage}
+use Rattle.cli.specs.declared.help.Program.TheVariants.{Fixdec}
+use Rattle.cli.specs.Error.{start_error}
+use Rattle.cli.specs.Fixdec.{HasError}
 use Rattle.cli.proofs.fixdec.parse_words.Goals as goal
 
-pub returns-in_default-clause-err : goal.returns-in_default-clause-err
-returns-in_default-clause-err c = no_text c.args.words.now c.in_default.len_below
+no_text : (words : List (String Global)) → length words ≡ 0 → HasError words (start_error Fixdec Usage)
+no_text [] none = (refl, refl)
+no_text (w ∷ ws) none = absurd (omega (arith, none))
+
+pub returns-in-None-clause-err : goal.returns-in-None-clause-err
+returns-in-None-clause-err c = rw c.start.ensures (no_text c.args.words.now c.in-None.ensures.cases)
 
 pub returns-in-Ok-clause-some : goal.returns-in-Ok-clause-some
 returns-in-Ok-clause-some c =
-    rw c.as_bytes.ensures.value
-    (names_run c.args.words.now c.text-item.result c.in-len1-up.len_at_least c.text-item.is c.in-Ok.conversion
-    c.in-Ok.ensures.some)
+    let is : c.args.words.now ≡ c.in-Some.text.now ∷ c.in-Some.words.now = search rules in
+    rw (is, c.as_bytes.ensures.value) (refl, c.in-Ok.ensures.some)
 
 pub returns-in-Err-clause-err : goal.returns-in-Err-clause-err
 returns-in-Err-clause-err c =
-    rw c.from.ensures
-    (words_fail c.args.words.now c.text-item.result c.in-len1-up.len_at_least c.text-item.is c.in-Err.error
-    c.in-Err.ensures.err)
+    let is : c.args.words.now ≡ c.in-Some.text.now ∷ c.in-Some.words.now = search rules in
+    rw (is, c.start-in-Err.ensures) (refl, c.in-Err.ensures.err)

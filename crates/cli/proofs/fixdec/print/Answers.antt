@@ -1,8 +1,9 @@
-use Rattle.std.proofs.Common.{◌≡◌, Err, rules}
+use Rattle.std.proofs.Common.{◌≡◌, Err, ap, ◌∙◌}
 use Rattle.std.proofs.lemmas.Result.{err_from_is_err_and}
-use Rattle.cli.specs.declared.error.OperationError.TheVariants.{Output}
+use Rattle.cli.specs.declared.error.ProgramError.TheVariants as program
+use Rattle.cli.specs.Error.{conversion_error}
 use Rattle.cli.proofs.Conversions.{output_fails}
-use Rattle.cli.proofs.Programs.{line_begun, line_kept, run_of}
+use Rattle.cli.proofs.Programs.{line_begun, line_kept, run_of, conversion_fails, conversion_output}
 use Rattle.cli.proofs.fixdec.print.Goals as goal
 
 pub returns-in_err-print_line-clause-error : goal.returns-in_err-print_line-clause-error
@@ -10,13 +11,32 @@ returns-in_err-print_line-clause-error g c =
     let residual = c.from_residual-in_err-print_line in
     let p = err_from_is_err_and residual.result residual.ensures.1 in
     let run = c.in_ok-text in
-    rw (p.1, p.2) (run_of run.conversion run.text.now run.ensures.some c.in_err-print_line.ensures.fails_with)
+    rw (p.1, p.2)
+    (conversion_fails c.args.words.now c.in_err-print_line.field-0.0
+    (run_of run.conversion run.text.now run.ensures.some c.in_err-print_line.ensures.fails_with))
+
+pub returns-in_err-print_line-clause-unchanged_on_error : goal.returns-in_err-print_line-clause-unchanged_on_error
+returns-in_err-print_line-clause-unchanged_on_error g c =
+    let residual = c.from_residual-in_err-print_line in
+    let p = err_from_is_err_and residual.result residual.ensures.1 in
+    rw (p.1, p.2)
+    (λ other. c.in_err-print_line.ensures.unchanged_on_error (λ is. other (ap conversion_error is)))
+
+pub returns-in_err-print_line-clause-failed : goal.returns-in_err-print_line-clause-failed
+returns-in_err-print_line-clause-failed g c = λ is.
+    let residual = c.from_residual-in_err-print_line in
+    let p = err_from_is_err_and residual.result residual.ensures.1 in
+    let same : conversion_error c.in_err-print_line.field-0.0 ≡ program.Output = cc in
+    c.print_line.ensures.failed (c.in_err-print_line.was ∙ ap Err (conversion_output _ same))
 
 pub returns-in_err-print_line-clause-prefix : goal.returns-in_err-print_line-clause-prefix
 returns-in_err-print_line-clause-prefix g c = λ is.
-    let failed : c.print_line.result ≡ Err Output = search (rules, is) in
+    let residual = c.from_residual-in_err-print_line in
+    let p = err_from_is_err_and residual.result residual.ensures.1 in
+    let same : conversion_error c.in_err-print_line.field-0.0 ≡ program.Output = cc in
     let run = c.in_ok-text in
-    run_of run.conversion run.text.now run.ensures.some (c.print_line.ensures.prefix failed)
+    run_of run.conversion run.text.now run.ensures.some
+    (c.print_line.ensures.prefix (c.in_err-print_line.was ∙ ap Err (conversion_output _ same)))
 
 pub returns-in_err-flush-clause-error : goal.returns-in_err-flush-clause-error
 returns-in_err-flush-clause-error g c =

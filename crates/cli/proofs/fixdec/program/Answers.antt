@@ -1,17 +1,16 @@
 use Rattle.std.proofs.Common.{Err, ap, ◌∙◌}
-use Rattle.std.specs.Prelude.{is_some}
 use Rattle.cli.proofs.Programs.{some_error}
 use Rattle.cli.proofs.fixdec.program.Goals as goal
 
 pub returns-clause-reported : goal.returns-clause-reported
 returns-clause-reported g c = λ some.
     let concluded = c.conclude_on.ensures in
-    let (error, is, (positive, status, reports)) =
-    some_error _ _ c.print.result c.conclude_on.result.0 concluded.done concluded.reported some in (
+    let (error, is, (positive, status, reported)) =
+    some_error _ _ c.print.result c.conclude_on.result concluded.done concluded.reported some in (
       error,
       status,
       rw is at c.print.ensures.error,
-      (is_some c.conclude_on.result.1, reports),
+      reported,
       rw is at c.print.ensures.unchanged_on_error,
       λ e. (c.print.ensures.failed (is ∙ ap Err e), c.print.ensures.prefix (is ∙ ap Err e)),
     )

@@ -1,7 +1,7 @@
 use Rattle.std.proofs.Common.{◌≡◌, ◌≢◌, ◌<◌, [], ◌∷◌, length, string_bytes, Err, inr, refl, ap, subst, arith, rules}
 use Rattle.plural_rules.specs.RulesGrammar.{Grammar}
 use Rattle.plural_rules.specs.RulesParseResult.{IsParseResult}
-use Rattle.cli.specs.Errors.{error_of_rules}
+use Rattle.cli.specs.Error.{error_of_rules}
 use Rattle.cli.specs.Plural.{RulesFail}
 use Rattle.cli.proofs.Programs.{err_with}
 use Rattle.cli.proofs.plural.rules_and_texts.Goals as goal

@@ -1,11 +1,24 @@
-use Rattle.std.proofs.Common.{rules}
-use Rattle.cli.proofs.Programs.{at_ok, err_map, have_words}
+use Rattle.std.proofs.Common.{Option, Some, None, IsSomeAnd}
+use Rattle.cli.specs.Plural.{Prints}
+use Rattle.cli.proofs.Programs.{at_ok, err_map}
+use Rattle.cli.proofs.Starting.{prints_for}
 use Rattle.cli.proofs.plural.run_arguments.Goals as goal
+
+some_map : {A : Type 0} {P Q : A → Type 0} (o : Option A) → ((x : A) → P x → Q x) → IsSomeAnd o P → IsSomeAnd o Q
+some_map None f h = h
+some_map (Some x) f h = f x h
 
 pub returns-clause-printed : goal.returns-clause-printed
 returns-clause-printed g c = λ zero.
-    let words = c.in-Ok.words.items in
-    have_words c.args.arguments words _ (search rules)
-    (rw c.as_slice.ensures.value at (at_ok c.print-printed.result.0 c.conclude-status.result
+    let contents = g.O.Write.contents in
+    let printed =
+    rw (c.in-Ok.ensures.out, c.as_slice.ensures.value) at (at_ok c.print-printed.result.0 c.conclude-status.result
     (err_map c.print-printed.result.0 (λ error is h. h.0) c.conclude-status.ensures.reported) zero
-    c.print-printed.ensures.printed))
+    c.print-printed.ensures.printed) in
+    some_map c.print-printed.result.1
+    (λ closed h. (
+      h.1,
+      prints_for c.args.arguments c.in-Ok.started.0.items
+          (λ words. Prints words (contents c.args.out) (contents closed.0)) c.in-Ok.ensures.words h.0 _ _ _,
+    ))
+    printed

@@ -6,53 +6,38 @@ use Rattle.decimal_unsigned.specs.declared.error.ParseError.TheVariants.{Syntax,
 use Rattle.decimal_unsigned.specs.declared.decimal.TheConstants.{INLINE_DIGITS}
 use Rattle.fixed_decimal.specs.Decimal.{Decimal}
 use Rattle.decimal_format.specs.Symbols.{Symbols}
-use Rattle.decimal_format.specs.Reading.{Numeral, IsNumeral, IsWritten, IsRead}
-use Rattle.decimal_format.specs.Lenient.{IsTyped, IsTypedNumeral}
+use Rattle.decimal_format.specs.Reading.{Numeral, IsRead}
 use Rattle.cli.specs.declared.reader.ParseMode.{ParseMode}
 use Rattle.cli.specs.declared.reader.ParseMode.TheVariants.{Strict, Lenient}
-use Rattle.cli.specs.Reading.{IsTextIn, IsNumeralIn, IsReadIn, ReadingFailsIn}
+use Rattle.cli.specs.Reader.{IsTextIn, IsNumeralIn, IsReadIn, ReadingFailsIn}
 use Rattle.cli.proofs.reader.DecimalReader.read.Goals as goal
 
 -- what is read of a text whose numerals and decimals are those of a mode
-module _ (mode : ParseMode) (s : Symbols) (text : List ℕ) {is_numeral : Numeral → Type 0}
-    {is_written : Decimal → Type 0} (numerals : (w : Numeral) → is_numeral w ↔ IsNumeralIn mode s w text)
-    (decimals : (v : Decimal) → is_written v → IsTextIn mode s v text) where
-  found : (r : Result Decimal ParseError) → IsRead INLINE_DIGITS is_numeral is_written r
-      → IfOk r (λ v. IsReadIn mode s text (Ok v))
-  found (Ok v) read = (read.found.0, decimals v read.found.1)
-  found (Err e) read = tt
+reads :
+    (mode : ParseMode) (s : Symbols) (text : List ℕ) {is_numeral : Numeral → Type 0} {is_written : Decimal → Type 0}
+    → ((w : Numeral) → is_numeral w ↔ IsNumeralIn mode s w text)
+    → ((v : Decimal) → is_written v → IsTextIn mode s v text) → (r : Result Decimal ParseError)
+    → IsRead INLINE_DIGITS is_numeral is_written r
+    → IfOk r (λ v. IsReadIn mode s text (Ok v)) × IfErr r (ReadingFailsIn mode s text)
+reads mode s text numerals decimals (Ok v) read = ((read.found.0, decimals v read.found.1), tt)
+reads mode s text numerals decimals (Err Syntax) read =
+    (tt, λ w numeral. read.syntax.0 refl w ((numerals w).1 numeral))
+reads mode s text numerals decimals (Err Limit) read =
+    let x = read.limit.0 refl in (tt, (x.0, (numerals x.0).0 x.1, x.2))
+reads mode s text numerals decimals (Err Memory) read =
+    let x = read.memory refl in (tt, (x.0, x.1, decimals x.0 x.2, x.3))
 
-  fails_with : (r : Result Decimal ParseError) → IsRead INLINE_DIGITS is_numeral is_written r
-      → IfErr r (ReadingFailsIn mode s text)
-  fails_with (Ok v) read = tt
-  fails_with (Err Syntax) read = λ w numeral. read.syntax.0 refl w ((numerals w).1 numeral)
-  fails_with (Err Limit) read = let x = read.limit.0 refl in (x.0, (numerals x.0).0 x.1, x.2)
-  fails_with (Err Memory) read = let x = read.memory refl in (x.0, x.1, decimals x.0 x.2, x.3)
+pub returns-in-Strict : goal.returns-in-Strict
+returns-in-Strict c =
+    let (found, fails) =
+    reads Strict c.args.self.now.symbols c.args.text.now
+    (λ w. (λ h. h, λ h. h)) (λ v h. h) c.read.result c.read.ensures in
+    rw c.in-Strict.is (record { found = found; fails_with = fails })
 
-pub returns-in-Strict-clause-found : goal.returns-in-Strict-clause-found
-returns-in-Strict-clause-found c =
-    rw c.in-Strict.is
-    (found Strict c.args.self.now.symbols c.args.text.now
-    (λ w. (λ h. h, λ h. h)) (λ v h. h) c.read.result c.read.ensures)
-
-pub returns-in-Strict-clause-fails_with : goal.returns-in-Strict-clause-fails_with
-returns-in-Strict-clause-fails_with c =
-    rw c.in-Strict.is
-    (fails_with Strict c.args.self.now.symbols c.args.text.now
-    (λ w. (λ h. h, λ h. h)) (λ v h. h) c.read.result c.read.ensures)
-
-pub returns-in-Ok-clause-found : goal.returns-in-Ok-clause-found
-returns-in-Ok-clause-found c =
+pub returns-in-Ok : goal.returns-in-Ok
+returns-in-Ok c =
     let utf8 : IsUtf8 c.in-Ok.text.now = rw c.in-Ok.ensures.cases.0 c.in-Ok.ensures.cases.1 in
-    rw (c.in-Lenient.is, ← c.in-Ok.ensures.cases.0)
-    (found Lenient c.args.self.now.symbols c.in-Ok.text.now
-    (λ w. (λ h. (utf8, h), λ h. h.1)) (λ v h. (utf8, h)) c.read_lenient.result
-    c.read_lenient.ensures)
-
-pub returns-in-Ok-clause-fails_with : goal.returns-in-Ok-clause-fails_with
-returns-in-Ok-clause-fails_with c =
-    let utf8 : IsUtf8 c.in-Ok.text.now = rw c.in-Ok.ensures.cases.0 c.in-Ok.ensures.cases.1 in
-    rw (c.in-Lenient.is, ← c.in-Ok.ensures.cases.0)
-    (fails_with Lenient c.args.self.now.symbols c.in-Ok.text.now
-    (λ w. (λ h. (utf8, h), λ h. h.1)) (λ v h. (utf8, h)) c.read_lenient.result
-    c.read_lenient.ensures)
+    let (found, fails) =
+    reads Lenient c.args.self.now.symbols c.in-Ok.text.now
+    (λ w. (λ h. (utf8, h), λ h. h.1)) (λ v h. (utf8, h)) c.read_lenient.result c.read_lenient.ensures in
+    rw (c.in-Lenient.is, ← c.in-Ok.ensures.cases.0) (record { found = found; fails_with = fails })

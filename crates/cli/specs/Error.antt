@@ -1,0 +1,81 @@
+-- The errors of the programs, and the exit status that goes with each.
+use Rattle.std.specs.Prelude.{ℕ}
+use Rattle.decimal_unsigned.specs.declared.error.ParseError.TheVariants as parse
+use Rattle.decimal_unsigned.specs.Reading.{ReadError, syntax, limit}
+use Rattle.plural_rules.specs.declared.parse.RulesError.{RulesError}
+use Rattle.plural_rules.specs.declared.parse.RulesError.TheVariants as rules
+use Rattle.fixed_decimal.specs.declared.runs.RunError.{RunError}
+use Rattle.fixed_decimal.specs.declared.runs.RunError.TheVariants as run
+use Rattle.cli.specs.declared.error.Reason.{Reason}
+use Rattle.cli.specs.declared.error.Reason.TheVariants.{Syntax, Limit}
+use Rattle.cli.specs.declared.error.OperationError.{OperationError}
+use Rattle.cli.specs.declared.error.OperationError.TheVariants.{Field, Quote, Start, Operand, Overlap, Overflow, Memory, Output}
+use Rattle.cli.specs.declared.error.ProgramError.{ProgramError}
+use Rattle.cli.specs.declared.error.ProgramError.TheVariants as program
+use Rattle.cli.specs.declared.error.WordsError.{WordsError}
+use Rattle.cli.specs.declared.error.WordsError.TheVariants as words
+use Rattle.cli.specs.declared.help.Program.{Program}
+use Rattle.cli.specs.declared.help.Program.TheVariants.{Plural}
+
+-- an error of a run as an error of the programs
+abbrev pub error_of_run : RunError → OperationError
+error_of_run (run.Start parse.Syntax) = Start Syntax
+error_of_run (run.Start parse.Limit) = Start Limit
+error_of_run (run.Start parse.Memory) = Memory
+error_of_run (run.Operand at parse.Syntax) = Operand at Syntax
+error_of_run (run.Operand at parse.Limit) = Operand at Limit
+error_of_run (run.Operand at parse.Memory) = Memory
+error_of_run (run.Overlap at) = Overlap at
+error_of_run (run.Limit at) = Overflow at
+error_of_run (run.Memory at) = Memory
+error_of_run run.Sink = Output
+
+-- the status of an error of operations: 1 of a rejected line or text and of a failed call, 3 of out of memory and of
+-- failed output
+abbrev pub status_of_operation : OperationError → ℕ
+status_of_operation Field = 1
+status_of_operation Quote = 1
+status_of_operation (Start reason) = 1
+status_of_operation (Operand at reason) = 1
+status_of_operation (Overlap at) = 1
+status_of_operation (Overflow at) = 1
+status_of_operation Memory = 3
+status_of_operation Output = 3
+
+-- the status of an error before the work: 2 of wrong words, 3 of out of memory and of failed output
+abbrev pub status_of_words : WordsError → ℕ
+status_of_words words.Usage = 2
+status_of_words words.UnknownLocale = 2
+status_of_words words.Memory = 3
+status_of_words words.Output = 3
+
+-- the status of an error of a program
+abbrev pub status_of : ProgramError → ℕ
+status_of (program.Start error) = status_of_words error.why
+status_of (program.Operation error) = status_of_operation error
+status_of (program.Line line error) = status_of_operation error
+status_of (program.LongLine line) = 3
+status_of program.Input = 3
+status_of (program.Rules at reason) = 1
+status_of (program.Text at reason) = 1
+status_of program.Output = 3
+
+-- an error before the work of a program
+abbrev pub start_error : Program → WordsError → ProgramError
+start_error by why = program.Start (record { program = by; why = why })
+
+-- an error of the one conversion of a program
+abbrev pub conversion_error : OperationError → ProgramError
+conversion_error Output = program.Output
+conversion_error error = program.Operation error
+
+-- the error of rules that are rejected
+abbrev pub error_of_rules : RulesError → ProgramError
+error_of_rules (rules.Syntax at) = program.Rules at Syntax
+error_of_rules (rules.Limit at) = program.Rules at Limit
+error_of_rules rules.Memory = start_error Plural words.Memory
+
+-- a reason as an error of the libraries
+abbrev pub read_error_of : Reason → ReadError
+read_error_of Syntax = syntax
+read_error_of Limit = limit

@@ -1,0 +1,80 @@
+-- The filter that the words of `fixdec_lines` name, and its result on an input.
+use Rattle.std.specs.Prelude.{◌≡◌, ◌⊎◌, ℕ, ⊤, Bool, true, false, List, String, Option, MatchOption, Result, Err, IsErrAnd}
+use Rattle.std.specs.declared.alloc.Global.{Global}
+use Rattle.std.specs.declared.io.ErrorKind.{ErrorKind}
+use Rattle.cli.specs.Words.{NamesConversion, ConversionFails}
+use Rattle.cli.specs.Options.{none, AreOptions, HasField}
+use Rattle.cli.specs.declared.options.Options.{Options}
+use Rattle.cli.specs.declared.fields.Field.{Field}
+use Rattle.cli.specs.declared.error.WordsError.{WordsError}
+use Rattle.cli.specs.declared.error.WordsError.TheVariants.{Usage, Memory}
+use Rattle.cli.specs.declared.help.Program.TheVariants.{FixdecLines}
+use Rattle.cli.specs.Error.{start_error}
+use Rattle.cli.specs.declared.error.ProgramError.{ProgramError}
+use Rattle.cli.specs.declared.error.ProgramError.TheVariants.{Start, Output}
+use Rattle.cli.specs.declared.filter.Filter.{Filter}
+use Rattle.cli.specs.Filter.{Change, Effects}
+use Rattle.cli.specs.Lines.{AppendsUnwritten, Filters}
+
+-- the words are [OPTION].. .., and P holds of the options and of the words after them
+pub record HasWords (words : List (String Global)) (P : Options → List (String Global) → Type 0) : Type 0 where
+  pub options : Options
+  pub others : List (String Global)
+  pub first : AreOptions none words options others
+  pub holds : P options others
+
+-- the words are [OPTION].. [read:..] [CALL].. [format:..], with this filter
+abbrev pub NamesFilter : List (String Global) → Filter → Type 0
+NamesFilter words filter =
+    HasWords words
+    (λ options others. (filter.on_error ≡ options.on_error) × (filter.has_header ≡ options.has_header)
+    × HasField options filter.field × NamesConversion others filter.conversion)
+
+-- they are not, for this error: the options have no field; or they have one, and the other words name no conversion
+abbrev pub FilterFails : List (String Global) → ProgramError → Type 0
+FilterFails words error =
+    HasWords words
+    (λ options others. (((field : Option Field) → ¬ HasField options field) × (error ≡ start_error FixdecLines Usage))
+    ⊎ (((field : Option Field) × HasField options field)
+    × ((why : WordsError) × (error ≡ start_error FixdecLines why) × ConversionFails others why)))
+
+-- the error comes before the first line
+abbrev pub IsEarly : ProgramError → Type 0
+IsEarly (Start error) = ⊤
+IsEarly _ = ⊥
+
+-- what is left of the input, and the kind of the first error of the reader, if it has failed; the writer, and how its
+-- contents are seen; and the diagnostics, before and after
+pub record Process (O D : Type 0) : Type 0 where
+  pub input : Change (Option (List ℕ))
+  pub failure : Option ErrorKind
+  pub writer : O
+  pub contents : O → Option (List ℕ)
+  pub diagnostics : Change D
+
+-- what a process changes if this is the writer afterwards
+abbrev pub effects : {O D : Type 0} → Process O D → O → Effects D
+effects process writer = record {
+  input = process.input;
+  failure = process.failure;
+  output = record { before = process.contents process.writer; after = process.contents writer };
+  diagnostics = process.diagnostics;
+}
+
+module _ {D : Type 0} (reports : D → ProgramError → D → Type 0) where
+  -- the words name a filter, which ran with this result; or they name none, and nothing was reported before this error
+  abbrev pub WordsFilter : List (String Global) → Effects D → Result Bool ProgramError → Type 0
+  WordsFilter words effects returned =
+      ((filter : Filter) × NamesFilter words filter × Filters AppendsUnwritten reports filter effects returned)
+      ⊎ IsErrAnd returned (λ error. FilterFails words error
+      × (effects.diagnostics.after ≡ effects.diagnostics.before))
+
+  -- the block before the writer cannot be allocated, and nothing is reported before this error; or the filter fails
+  -- with it, at `Output` because the writer failed, and at an early error the writer is not called
+  abbrev pub LinesFail :
+      {O : Type 0} → Process O D → List (String Global) → Option (O × Bool) → ProgramError → Type 0
+  LinesFail process words back error =
+      MatchOption back
+      ((error ≡ start_error FixdecLines Memory) × (process.diagnostics.after ≡ process.diagnostics.before))
+      (λ closed. WordsFilter words (effects process closed.0) (Err error)
+      × (error ≡ Output → closed.1 ≡ true) × (IsEarly error → closed ≡ (process.writer, false)))
