@@ -92,9 +92,9 @@ if command -v sqlite3 > /dev/null && echo '#include <sqlite3ext.h>' | gcc -E -x 
     [[ $found == *"${call#*|}"* ]]
     judge "fixdec(${call%|*}): $found"
   done
-  found=$(sqlite3 -cmd ".load $room/fixdec" :memory: "SELECT plural('n =', '1')" 2>&1)
-  [[ $found == *'rules: syntax at 3'* ]]
-  judge "plural('n =', '1'): $found"
+  found=$(sqlite3 -cmd ".load $room/fixdec" :memory: "SELECT plural('one: n =', '1')" 2>&1)
+  [[ $found == *'rules: syntax at 8'* ]]
+  judge "plural('one: n =', '1'): $found"
 else
   missing 'sqlite3 and its headers'
 fi

@@ -47,10 +47,11 @@ static uint32_t compare(void) {
 static uint32_t category(void) {
     return fd_category(BYTES("one: i = 1 and v = 0 or n % 10 = 3..4,7; few: i = 2"), BYTES("1")).status;
 }
-/* The first line is whole before the second one is out of memory. */
+/* The lines before the one that is out of memory are whole; here the output is the input. */
 static uint32_t column(void) {
     fd_column c = fd_lines(BYTES(lines), 1, &own_text, calls, 1, BYTES("5"), buffer, ROOM);
-    if (c.status == FD_MEMORY && (c.lines != 1 || c.written != 2 || memcmp(buffer, "7\n", 2))) return 99;
+    if (c.failed || c.read != c.written || memcmp(buffer, lines, c.written)) return 99;
+    if (c.status == FD_MEMORY && c.written != (c.lines == 1 ? 2 : 203)) return 98;
     memset(buffer, 0xC3, c.written);
     return c.status;
 }
