@@ -13,7 +13,7 @@ compare() {
   printf '%s' "$2" > "$room/text"
   printf '%s' "$3" > "$room/lines"
   [ "$found" = "$1" ] && cmp -s "$room/out" "$room/text" && cmp -s "$room/err" "$room/lines"
-  judge "$name: status $found, $(head -c 200 "$room/out" | tr '\n' '|'), $(head -c 200 "$room/err" | tr '\n' '|')"
+  judge $? "$name: status $found, $(head -c 200 "$room/out" | tr '\n' '|'), $(head -c 200 "$room/err" | tr '\n' '|')"
 }
 
 # row PROGRAM STATUS TEXT LINES WORD..: the result of the words is this.
@@ -41,7 +41,7 @@ help() {
     "$room/$1" "$word" > "$room/out" 2> "$room/err" < /dev/null \
       && [ "$(head -n 1 "$room/out")" = "$2" ] && [ "$(tail -n 1 "$room/out")" = "$1 $version" ] \
       && [ "$(wc -l < "$room/out")" -gt 20 ] && [ ! -s "$room/err" ]
-    judge "$1 $word"
+    judge $? "$1 $word"
   done
 }
 
@@ -181,7 +181,7 @@ for ((limit = 4000; limit <= 64000; limit += 4000)); do
   fi
 done 2> /dev/null
 [ "$reported" != 0 ] && [ "$printed" != 0 ]
-judge "with little memory it reported memory $reported times and printed $printed times"
+judge $? "with little memory it reported memory $reported times and printed $printed times"
 
 help fixdec 'usage: fixdec TEXT [CALL]..'
 name='fixdec --help > /dev/full'
@@ -278,7 +278,7 @@ wrong 'header is not in its place (--help lists all)' header header
 wrong 'header stands after a call' shift:1 header
 printf '1\n2\n' > "$room/in"
 { "$room/fixdec_lines" up > /dev/null 2>&1; [ "$(cat)" = $'1\n2' ]; } < "$room/in"
-judge 'the input is not read where a word names no call'
+judge $? 'the input is not read where a word names no call'
 
 # Status 3: standard output or standard input fails.
 printf '250\n' > "$room/in"
@@ -299,7 +299,7 @@ name='fixdec_lines <&-'
 "$room/fixdec_lines" > "$room/out" 2> "$room/err" <&-
 found=$?
 [ "$found" = 0 ] || [ "$found" = 3 ]
-judge "$name: status $found"
+judge $? "$name: status $found"
 
 # A failed standard error changes no status.
 name='fixdec_lines skip 2> /dev/full'
@@ -342,7 +342,7 @@ lines 1 "$quotes\",250\n" '' $'line 1: quote\n' csv field:2 shift:-2
 for ((i = 0; i < 20000; i++)); do echo "$i.125"; done > "$room/many"
 "$room/fixdec_lines" round:-2:half-even:1 < "$room/many" > "$room/out" 2> "$room/err"
 [ $? = 0 ] && [ "$(wc -l < "$room/out")" = 20000 ] && [ "$(tail -n 1 "$room/out")" = 19999.12 ]
-judge 'many lines'
+judge $? 'many lines'
 
 # Little memory: the system cannot start the program; it reports `memory`, or `line 2: memory` with the line before; or
 # it prints. Some limits are of the last two kinds.
@@ -366,14 +366,14 @@ for ((limit = 2000; limit <= 130000; limit += 4000)); do
   fi
 done 2> /dev/null
 [ "$reported" != 0 ] && [ "$printed" != 0 ]
-judge "with little memory it reported memory $early times, that of a line $reported times, and read it $printed times"
+judge $? "with little memory it reported memory $early times, that of a line $reported times, and read it $printed times"
 
 # Blocks of lines on many processors, where Debian's parallel is installed.
 if command -v parallel > /dev/null; then
   seq -f %.3f 1 0.377 40000 > "$room/in"
   cmp -s <("$room/fixdec_lines" round:-2:half-even:1 < "$room/in") \
     <(parallel --pipepart -a "$room/in" --block -1 -k "$room/fixdec_lines" round:-2:half-even:1 2> /dev/null)
-  judge 'parallel writes other bytes'
+  judge $? 'parallel writes other bytes'
 fi
 
 help fixdec_lines 'usage: fixdec_lines [OPTION].. [read:LOCALE] [CALL].. [format:LOCALE]'
@@ -452,7 +452,7 @@ for ((limit = 1000; limit <= 64000; limit += 250)); do
   fi
 done 2> /dev/null
 [ "$reported" != 0 ] && [ "$printed" != 0 ]
-judge "with little memory it reported memory $reported times and printed $printed times"
+judge $? "with little memory it reported memory $reported times and printed $printed times"
 
 help plural 'usage: plural RULES TEXT..'
 row plural 0 "plural $version"$'\n' '' --version
