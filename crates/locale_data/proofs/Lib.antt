@@ -6,3 +6,5 @@ pub mod Unknown
 pub mod ReadableRows
 pub mod UniqueRows
 pub mod RulesTexts
+pub mod FormatRows
+pub mod CurrencyRows

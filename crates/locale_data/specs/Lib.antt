@@ -4,3 +4,6 @@ pub mod SortedRows
 pub mod Symbol
 pub mod Locales
 pub mod Plurals
+pub mod Patterns
+pub mod Formats
+pub mod Currencies

@@ -7,8 +7,16 @@
 //! ```
 #![tactic(auto)]
 
+mod compact;
+mod compact_table;
+mod currency;
+mod currency_table;
+mod formats;
+mod formats_table;
 pub mod laws;
 mod lookup;
+mod number_formats;
+mod patterns;
 mod plurals;
 mod plurals_table;
 mod rows;
@@ -16,7 +24,21 @@ mod symbols;
 mod symbols_table;
 mod tag;
 
+pub use compact::{
+    AffixText, CompactCount, CompactForm, CompactPattern, CompactRun, CompactSet, PercentUnit,
+    UnitPattern,
+};
+pub use currency::{
+    Currency, CurrencyCode, CurrencyDigits, CurrencyText, LocaleCurrency, LocaleOverride,
+    currency_digits,
+};
+pub use formats::{FormatSystem, LocaleFormats, SystemFormats, formats_of};
 pub use lookup::locale;
+pub use number_formats::NumberFormats;
+pub use patterns::{
+    Affix, AffixPair, CurrencyOverride, ExponentSeparator, MoneyFormat, MoneySeparator,
+    NumberSigns, Pattern, PercentSign, Piece,
+};
 pub use plurals::{
     LanguageRules, PluralRuleType, PluralRulesError, plural_rules_of, plural_rules_text,
 };
