@@ -6,5 +6,6 @@ pub mod Unknown
 pub mod ReadableRows
 pub mod UniqueRows
 pub mod RulesTexts
+pub mod TableTexts
 pub mod FormatRows
 pub mod CurrencyRows

@@ -7,3 +7,4 @@ pub mod Plurals
 pub mod Patterns
 pub mod Formats
 pub mod Currencies
+pub mod Texts

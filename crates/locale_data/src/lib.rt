@@ -23,14 +23,16 @@ mod rows;
 mod symbols;
 mod symbols_table;
 mod tag;
+mod texts;
 
 pub use compact::{
     AffixText, CompactCount, CompactForm, CompactPattern, CompactRun, CompactSet, PercentUnit,
     UnitPattern,
 };
 pub use currency::{
-    Currency, CurrencyCode, CurrencyDigits, CurrencyText, LocaleCurrency, LocaleOverride,
-    currency_digits,
+    Currency, CurrencyCode, CurrencyDigits, CurrencyPattern, CurrencySign, CurrencySymbol,
+    CurrencyText, LocaleCurrency, LocaleOverride, SymbolWidth, currency_digits, currency_pattern,
+    currency_symbol,
 };
 pub use formats::{FormatSystem, LocaleFormats, SystemFormats, formats_of};
 pub use lookup::locale;

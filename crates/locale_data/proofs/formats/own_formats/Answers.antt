@@ -1,7 +1,6 @@
-use Rattle.std.proofs.Common.{Some, None, refl, subst, sym}
+use Rattle.std.proofs.Common.{Some, None, refl, subst}
 use Rattle.locale_data.specs.declared.formats.SystemFormats.{SystemFormats}
 use Rattle.locale_data.specs.Rows.{IsRowOf}
-use Rattle.locale_data.specs.SortedRows.{is_table}
 use Rattle.locale_data.proofs.FormatRows.{has_formats_if_listed}
 use Rattle.locale_data.proofs.formats.own_formats.Goals as goal
 

@@ -1,4 +1,4 @@
-use Rattle.std.proofs.Common.{Some, None, sym, refl}
+use Rattle.std.proofs.Common.{sym}
 use Rattle.locale_data.proofs.FormatRows.{format_systems_are_table, listed_system}
 use Rattle.locale_data.proofs.formats.system_formats.Goals as goal
 
