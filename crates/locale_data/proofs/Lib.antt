@@ -9,3 +9,4 @@ pub mod RulesTexts
 pub mod TableTexts
 pub mod FormatRows
 pub mod CurrencyRows
+pub mod CompactRows

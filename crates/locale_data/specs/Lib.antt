@@ -8,3 +8,4 @@ pub mod Patterns
 pub mod Formats
 pub mod Currencies
 pub mod Texts
+pub mod Compact

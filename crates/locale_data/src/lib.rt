@@ -26,8 +26,8 @@ mod tag;
 mod texts;
 
 pub use compact::{
-    AffixText, CompactCount, CompactForm, CompactPattern, CompactRun, CompactSet, PercentUnit,
-    UnitPattern,
+    AffixText, CompactAffix, CompactAffixes, CompactCount, CompactForm, CompactPattern, CompactRun,
+    CompactSet, CompactStyle, PercentUnit, UnitAffixes, UnitPattern,
 };
 pub use currency::{
     Currency, CurrencyCode, CurrencyDigits, CurrencyPattern, CurrencySign, CurrencySymbol,
