@@ -1,16 +1,19 @@
 #!/usr/bin/env python3
-"""Writes crates/locale_data/src/symbols_table.rt from symbols.tsv and systems.tsv.
+"""Writes the tables of crates/locale_data/src from the files of data in this folder.
 
-`tools/locales/make_tables.py` writes the file, `tools/locales/make_tables.py --check` fails if it would change. A locale
-is listed unless it has the same symbols as the longest listed tag before one of its hyphens.
+`tools/locales/make_tables.py` writes the files, `tools/locales/make_tables.py --check` fails if they would change. With a
+folder after `--check` it also compares what the tables say of every tag and numbering system with the rows of the files
+there, which are those that the data were made from. A locale is listed unless it has the same data as the longest listed
+tag before one of its hyphens.
 """
 import os
 import sys
 import unicodedata
 
-FOLDER = os.path.dirname(os.path.abspath(__file__))
-SOURCES = os.path.join(FOLDER, "..", "..", "crates", "locale_data", "src")
-COLUMNS = 120
+from compare_tables import compare
+from number_tables import number_tables
+from table_text import SKIP, SOURCES, Texts, array, listed_tags, rows
+
 SYMBOLS = {
     ".": "Period", ",": "Comma", "\u00a0": "NoBreakSpace", "\u202f": "NarrowNoBreakSpace", "\u2019": "RightQuote",
     "\u060c": "ArabicComma", "\u2e41": "ReversedComma", "\u066b": "ArabicDecimal", "\u066c": "ArabicThousands",
@@ -19,6 +22,8 @@ SYMBOLS = {
     "'": "Apostrophe", "\u200f-": "RightHyphen", "\u200f+": "RightPlus", "\u200e-\u200e": "EnclosedHyphen",
     "\u200e\u2212\u200e": "EnclosedMinus", "\u200e+\u200e": "EnclosedPlus", "+\u200e": "PlusLeft",
 }
+# Tags that have the symbols of root: `und`, and the names of a shell's locales without a language, as `C.UTF-8`.
+ROOT_TAGS = ("c", "posix", "und")
 # The names of group sizes: primary, secondary, minimum grouping digits.
 SIZES = {
     ("3", "0", "1"): "THREES",
@@ -28,7 +33,6 @@ SIZES = {
     ("2", "0", "1"): "TWOS",
     ("0", "0", "1"): "NO_GROUPS",
 }
-SKIP = "#[rattlefmt::skip]\n"
 HEAD = '''//! The numbering systems, and the locales with their symbols.
 // Written by tools/locales/make_tables.py from data of CLDR 48; their license is tools/locales/LICENSE. Do not edit.
 use crate::rows::TableRange;
@@ -41,11 +45,6 @@ PLURALS_HEAD = """//! The plural rules of languages.
 use crate::plurals::LanguageRules;
 use crate::rows::TableRange;
 """
-
-
-def rows(name):
-    with open(os.path.join(FOLDER, name), encoding="utf-8") as file:
-        return [line.rstrip("\n").split("\t") for line in file if not line.startswith("#")]
 
 
 def size_text(sizes, name):
@@ -73,10 +72,6 @@ def system_text(name, digits, own, rows):
             f"        symbols: {own},\n        rows: TableRange({rows[0]}, {rows[1]}),\n    }},\n")
 
 
-def array(title, name, kind, items):
-    return f"/// {title}\n{SKIP}pub static {name}: [{kind}; {len(items)}] = [\n{''.join(items)}];\n"
-
-
 def fields_of(symbols):
     """For each tag its default system; for each tag and system the symbols and the sizes; those of each system in root."""
     default, fields = {}, {}
@@ -85,18 +80,10 @@ def fields_of(symbols):
         if is_default:
             default[tag.lower()] = system
     del default["root"]
+    for tag in ROOT_TAGS:
+        default[tag], fields[tag, "latn"] = "latn", fields["root", "latn"]
     own = {system: fields["root", system][0] for tag, system in fields if tag == "root" and system != "latn"}
     return default, {key: value for key, value in fields.items() if key[0] != "root"}, own
-
-
-def listed_tags(tags, actual, usual):
-    """The tags whose data are not those of the longest listed tag before one of their hyphens, or the usual ones."""
-    listed = {}
-    for tag in sorted(tags, key=lambda it: (it.count("-"), it)):
-        parents = [tag[:at] for at in range(len(tag) - 1, 0, -1) if tag[at] == "-" and tag[:at] in listed]
-        if actual(tag) != (listed[parents[0]] if parents else usual(tag)):
-            listed[tag] = actual(tag)
-    return sorted(listed.items())
 
 
 def symbol_tables():
@@ -130,29 +117,6 @@ def symbol_tables():
     return "\n".join([HEAD, *constants, *lists])
 
 
-class Texts:
-    """A pool of texts: each is a range of its bytes."""
-
-    def __init__(self, texts):
-        self.bytes, self.ranges = b"", {}
-        for text in sorted(set(texts), key=lambda it: (-len(it.encode()), it)):
-            start = self.bytes.find(text.encode())
-            if start < 0:
-                start, self.bytes = len(self.bytes), self.bytes + text.encode()
-            self.ranges[text] = f"TableRange({start}, {start + len(text.encode())})"
-
-    def array(self, title, name):
-        lines, line = [], ""
-        for byte in self.bytes:
-            shown = chr(byte) if 32 <= byte < 127 and chr(byte) not in '"\\' else f"\\x{byte:02x}"
-            if len(line) + len(shown) > 110:
-                lines, line = [*lines, line], ""
-            # A space at the head of a line would be skipped.
-            line += "\\x20" if shown == " " and not line else shown
-        shown = "\\\n".join(["", *lines, line])
-        return f'/// {title}\n{SKIP}pub static {name}: [u8; {len(self.bytes)}] = *b"{shown}";\n'
-
-
 def plural_tables():
     """The text of plurals_table.rt."""
     rules = {}
@@ -163,28 +127,33 @@ def plural_tables():
         parent = listed.get(tag.rpartition("-")[0], {})
         listed[tag] = {kind: rules[tag].get(kind, parent.get(kind, "other:")) for kind in ("cardinal", "ordinal")}
     texts = Texts(text for kinds in listed.values() for text in kinds.values())
-    items = [f'    LanguageRules {{ tag: *b"{tag:16}", cardinal: {texts.ranges[kinds["cardinal"]]}, '
-             f'ordinal: {texts.ranges[kinds["ordinal"]]} }},\n' for tag, kinds in listed.items()]
+    items = [f'    LanguageRules {{ tag: *b"{tag:16}", cardinal: {texts.range(kinds["cardinal"])}, '
+             f'ordinal: {texts.range(kinds["ordinal"])} }},\n' for tag, kinds in listed.items()]
     return "\n".join([PLURALS_HEAD, array("The languages that have plural rules.", "PLURAL_RULES", "LanguageRules", items),
                       texts.array("The texts of plural rules.", "PLURAL_RULES_TEXTS")])
 
 
-FILES = {"symbols_table.rt": symbol_tables, "plurals_table.rt": plural_tables}
+def tables():
+    """The text of each file."""
+    tags = {row[0].lower() for row in rows("symbols.tsv")} - {"root"}
+    return {"symbols_table.rt": symbol_tables(), "plurals_table.rt": plural_tables(), **number_tables(tags)}
 
 
-def main():
+def main(words):
     wrong = []
-    for name, text in FILES.items():
+    for name, text in tables().items():
         path = os.path.join(SOURCES, name)
-        if sys.argv[1:] != ["--check"]:
+        if not words:
             with open(path, "w", encoding="utf-8") as file:
-                file.write(text())
+                file.write(text)
         else:
             with open(path, encoding="utf-8") as file:
-                wrong += [] if file.read() == text() else [name]
+                wrong += [] if file.read() == text else [name]
     if wrong:
         sys.exit(f"not what tools/locales/make_tables.py writes: {', '.join(wrong)}")
+    if words[1:]:
+        compare(words[1])
 
 
 if __name__ == "__main__":
-    main()
+    main(sys.argv[1:])

@@ -6,3 +6,7 @@ pub mod Unknown
 pub mod ReadableRows
 pub mod UniqueRows
 pub mod RulesTexts
+pub mod TableTexts
+pub mod FormatRows
+pub mod CurrencyRows
+pub mod CompactRows

@@ -4,3 +4,8 @@ pub mod SortedRows
 pub mod Symbol
 pub mod Locales
 pub mod Plurals
+pub mod Patterns
+pub mod Formats
+pub mod Currencies
+pub mod Texts
+pub mod Compact

@@ -7,16 +7,40 @@
 //! ```
 #![tactic(auto)]
 
+mod compact;
+mod compact_table;
+mod currency;
+mod currency_table;
+mod formats;
+mod formats_table;
 pub mod laws;
 mod lookup;
+mod number_formats;
+mod patterns;
 mod plurals;
 mod plurals_table;
 mod rows;
 mod symbols;
 mod symbols_table;
 mod tag;
+mod texts;
 
+pub use compact::{
+    AffixText, CompactAffix, CompactAffixes, CompactCount, CompactForm, CompactPattern, CompactRun,
+    CompactSet, CompactStyle, PercentUnit, UnitAffixes, UnitPattern,
+};
+pub use currency::{
+    Currency, CurrencyCode, CurrencyDigits, CurrencyPattern, CurrencySign, CurrencySymbol,
+    CurrencyText, LocaleCurrency, LocaleOverride, SymbolWidth, currency_digits, currency_pattern,
+    currency_symbol,
+};
+pub use formats::{FormatSystem, LocaleFormats, SystemFormats, formats_of};
 pub use lookup::locale;
+pub use number_formats::NumberFormats;
+pub use patterns::{
+    Affix, AffixPair, CurrencyOverride, ExponentSeparator, MoneyFormat, MoneySeparator,
+    NumberSigns, Pattern, PercentSign, Piece,
+};
 pub use plurals::{
     LanguageRules, PluralRuleType, PluralRulesError, plural_rules_of, plural_rules_text,
 };

@@ -833,7 +833,7 @@ pub static NUMBERING_SYSTEMS: [NumberingSystem; 78] = [
 
 /// The locales, each with its default numbering system.
 #[rattlefmt::skip]
-pub static LOCALES: [LocaleSymbols; 358] = [
+pub static LOCALES: [LocaleSymbols; 361] = [
     LocaleSymbols { tag: *b"af              ", system: *b"latn    ", symbols: AF, sizes: THREES },
     LocaleSymbols { tag: *b"agq             ", system: *b"latn    ", symbols: AF, sizes: THREES },
     LocaleSymbols { tag: *b"ak              ", system: *b"latn    ", symbols: AK, sizes: THREES },
@@ -885,6 +885,7 @@ pub static LOCALES: [LocaleSymbols; 358] = [
     LocaleSymbols { tag: *b"brx             ", system: *b"latn    ", symbols: AK, sizes: THREE_AND_TWOS },
     LocaleSymbols { tag: *b"bs              ", system: *b"latn    ", symbols: AST, sizes: THREES },
     LocaleSymbols { tag: *b"bua             ", system: *b"latn    ", symbols: AF, sizes: THREES },
+    LocaleSymbols { tag: *b"c               ", system: *b"latn    ", symbols: AK, sizes: THREES },
     LocaleSymbols { tag: *b"ca              ", system: *b"latn    ", symbols: AST, sizes: THREES },
     LocaleSymbols { tag: *b"ccp             ", system: *b"cakm    ", symbols: AK, sizes: THREE_AND_TWOS },
     LocaleSymbols { tag: *b"ce              ", system: *b"latn    ", symbols: AK, sizes: THREES },
@@ -1092,6 +1093,7 @@ pub static LOCALES: [LocaleSymbols; 358] = [
     LocaleSymbols { tag: *b"pcm             ", system: *b"latn    ", symbols: AK, sizes: THREES },
     LocaleSymbols { tag: *b"pl              ", system: *b"latn    ", symbols: AF, sizes: THREES_MIN_2 },
     LocaleSymbols { tag: *b"pms             ", system: *b"latn    ", symbols: AST, sizes: THREES },
+    LocaleSymbols { tag: *b"posix           ", system: *b"latn    ", symbols: AK, sizes: THREES },
     LocaleSymbols { tag: *b"prg             ", system: *b"latn    ", symbols: AF, sizes: THREES },
     LocaleSymbols { tag: *b"ps              ", system: *b"arabext ", symbols: PS, sizes: THREES },
     LocaleSymbols { tag: *b"pt              ", system: *b"latn    ", symbols: AST, sizes: THREES },
@@ -1169,6 +1171,7 @@ pub static LOCALES: [LocaleSymbols; 358] = [
     LocaleSymbols { tag: *b"tzm             ", system: *b"latn    ", symbols: AF, sizes: THREES },
     LocaleSymbols { tag: *b"ug              ", system: *b"latn    ", symbols: AK, sizes: THREES },
     LocaleSymbols { tag: *b"uk              ", system: *b"latn    ", symbols: AF, sizes: THREES },
+    LocaleSymbols { tag: *b"und             ", system: *b"latn    ", symbols: AK, sizes: THREES },
     LocaleSymbols { tag: *b"ur              ", system: *b"latn    ", symbols: AR, sizes: THREES },
     LocaleSymbols { tag: *b"ur-in           ", system: *b"arabext ", symbols: AR, sizes: THREES },
     LocaleSymbols { tag: *b"uz              ", system: *b"latn    ", symbols: AF, sizes: THREES },

@@ -1,0 +1,129 @@
+-- The ranges of compact patterns are parts of tables, and their texts are texts, by computation.
+use Rattle.std.proofs.Common.{◌≡◌, ℕ, ℤ, ◌==◌, ◌&&◌, Bool, true, false, cond, List, length, Option, Some, None, refl, subst, sym, ◌⊎◌, inl, inr}
+use Rattle.std.proofs.lemmas.Bool.{and_parts}
+use Rattle.std.specs.Prelude.{slice_get, IfSome, pos, int_le}
+use Rattle.std.specs.Borrow.{Bor}
+use Rattle.std.specs.List.{list_all, Contains}
+use Rattle.std.specs.Option.{option_copied, option_or}
+use Rattle.std.specs.Str.{is_utf8, chars}
+use Rattle.plural_rules.specs.declared.rules.PluralCategory.{PluralCategory}
+use Rattle.plural_rules.specs.declared.rules.PluralCategory.TheVariants as category
+use Rattle.locale_data.specs.declared.compact.CompactCount.{CompactCount}
+use Rattle.locale_data.specs.declared.compact.CompactCount.TheVariants.{ExactlyOne, Other}
+use Rattle.locale_data.specs.declared.compact.CompactPattern.{CompactPattern}
+use Rattle.locale_data.specs.declared.compact.CompactRun.{CompactRun}
+use Rattle.locale_data.specs.declared.compact.CompactSet.{CompactSet}
+use Rattle.locale_data.specs.declared.compact.CompactStyle.{CompactStyle}
+use Rattle.locale_data.specs.declared.compact.CompactStyle.TheVariants.{Short, Long, Currency}
+use Rattle.locale_data.specs.declared.compact.PercentUnit.{PercentUnit}
+use Rattle.locale_data.specs.declared.compact_table.TheConstants.{COMPACT_SETS, COMPACT_RUNS, COMPACT_PATTERNS, PERCENT_UNITS}
+use Rattle.locale_data.specs.Compact.{count_of, count_code, range_of, run_at, pattern_with, pattern_for, unit_for, has_texts, has_unit_texts}
+use Rattle.locale_data.specs.Rows.{part, is_inside}
+use Rattle.locale_data.proofs.EachRow.{passes}
+use Rattle.locale_data.proofs.SortedRows.{find_some}
+use Rattle.locale_data.proofs.TableTexts.{passes_at, contains-part}
+
+abbrev has_runs : CompactSet → CompactStyle → Bool
+has_runs set style = is_inside (range_of set style) (length COMPACT_RUNS)
+
+sets_have_short : list_all (λ set. has_runs set Short) COMPACT_SETS ≡ true
+sets_have_short = refl
+
+sets_have_long : list_all (λ set. has_runs set Long) COMPACT_SETS ≡ true
+sets_have_long = refl
+
+sets_have_currency : list_all (λ set. has_runs set Currency) COMPACT_SETS ≡ true
+sets_have_currency = refl
+
+pub has_runs_if_listed : (set : CompactSet) (style : CompactStyle) → Contains COMPACT_SETS set → has_runs set style ≡ true
+has_runs_if_listed set Short listed = passes (λ set. has_runs set Short) COMPACT_SETS set sets_have_short listed
+has_runs_if_listed set Long listed = passes (λ set. has_runs set Long) COMPACT_SETS set sets_have_long listed
+has_runs_if_listed set Currency listed = passes (λ set. has_runs set Currency) COMPACT_SETS set sets_have_currency listed
+
+abbrev has_patterns : CompactRun → Bool
+has_patterns run = is_inside run.patterns (length COMPACT_PATTERNS)
+
+runs_have_patterns : list_all has_patterns COMPACT_RUNS ≡ true
+runs_have_patterns = refl
+
+pub has_patterns_if_listed : (run : CompactRun) → Contains COMPACT_RUNS run → has_patterns run ≡ true
+has_patterns_if_listed run listed = passes has_patterns COMPACT_RUNS run runs_have_patterns listed
+
+abbrev has_affixes : CompactPattern → Bool
+has_affixes p = has_texts p.prefix && has_texts p.suffix
+
+patterns_have_affixes : list_all has_affixes COMPACT_PATTERNS ≡ true
+unfolding is_utf8 chars lib.Utf8.encode
+patterns_have_affixes = refl
+
+pub has_affixes_if_listed : (p : CompactPattern) → Contains COMPACT_PATTERNS p
+    → (has_texts p.prefix ≡ true) × (has_texts p.suffix ≡ true)
+has_affixes_if_listed p listed =
+    and_parts (has_texts p.prefix) (has_texts p.suffix) (passes has_affixes COMPACT_PATTERNS p patterns_have_affixes listed)
+
+abbrev has_units : PercentUnit → Bool
+has_units unit = has_unit_texts unit.one && has_unit_texts unit.other
+
+percent_has_units : list_all has_units PERCENT_UNITS ≡ true
+unfolding is_utf8 chars lib.Utf8.encode
+percent_has_units = refl
+
+pub has_unit_at : (i : ℕ) (unit : PercentUnit) (category : PluralCategory) → slice_get PERCENT_UNITS i ≡ Some unit
+    → has_unit_texts (unit_for unit category) ≡ true
+has_unit_at i unit which at =
+    by which (and_parts (has_unit_texts unit.one) (has_unit_texts unit.other)
+    (passes_at has_units PERCENT_UNITS i unit percent_has_units at))
+  where
+    by : (category : PluralCategory) → (has_unit_texts unit.one ≡ true) × (has_unit_texts unit.other ≡ true)
+        → has_unit_texts (unit_for unit category) ≡ true
+    by category.One has = has.0
+    by category.Zero has = has.1
+    by category.Two has = has.1
+    by category.Few has = has.1
+    by category.Many has = has.1
+    by category.Other has = has.1
+
+-- ---- What is found is a row.
+
+pub listed_run : (set : CompactSet) (style : CompactStyle) (runs : List CompactRun) (magnitude : ℤ)
+    (found : Option (Bor CompactRun)) → Contains COMPACT_SETS set → runs ≡ part COMPACT_RUNS (range_of set style)
+    → option_copied found ≡ run_at runs magnitude → IfSome found (λ run. Contains COMPACT_RUNS run.now)
+listed_run set style runs magnitude None listed are e = tt
+listed_run set style runs magnitude (Some run) listed are e =
+    contains-part COMPACT_RUNS (range_of set style) run.now (has_runs_if_listed set style listed)
+    (subst (λ rows. Contains rows run.now) are
+    (find_some (λ r. int_le (pos r.first) magnitude) runs run.now (sym e)).0)
+
+or-some : {X : Type 0} (a b : Option X) (x : X) → option_or a b ≡ Some x → (a ≡ Some x) ⊎ (b ≡ Some x)
+or-some None b x e = inr e
+or-some (Some y) b x e = inl e
+
+with-contains : (count : CompactCount) (patterns : List CompactPattern) (p : CompactPattern)
+    → pattern_with count patterns ≡ Some p → Contains patterns p
+with-contains count patterns p e = (find_some (λ q. count_code q.count == count_code count) patterns p e).0
+
+for-contains : (category : PluralCategory) (is_one : Bool) (patterns : List CompactPattern) (p : CompactPattern)
+    → pattern_for category is_one patterns ≡ Some p → Contains patterns p
+for-contains category is_one patterns p e =
+    elim (or-some (option_or (exact is_one) (pattern_with (count_of category) patterns))
+    (pattern_with Other patterns) p e) [
+      | inl f ↦ elim (or-some (exact is_one) (pattern_with (count_of category) patterns) p f) [
+        | inl g ↦ exactly is_one g
+        | inr g ↦ with-contains (count_of category) patterns p g
+      ]
+      | inr f ↦ with-contains Other patterns p f
+    ]
+  where
+    exact : Bool → Option CompactPattern
+    exact is_one = cond is_one (pattern_with ExactlyOne patterns) None
+
+    exactly : (is_one : Bool) → exact is_one ≡ Some p → Contains patterns p
+    exactly true e = with-contains ExactlyOne patterns p e
+    exactly false e = cc
+
+pub listed_pattern : (run : CompactRun) (category : PluralCategory) (is_one : Bool) (p : CompactPattern)
+    → Contains COMPACT_RUNS run → pattern_for category is_one (part COMPACT_PATTERNS run.patterns) ≡ Some p
+    → Contains COMPACT_PATTERNS p
+listed_pattern run category is_one p listed e =
+    contains-part COMPACT_PATTERNS run.patterns p (has_patterns_if_listed run listed)
+    (for-contains category is_one (part COMPACT_PATTERNS run.patterns) p e)

@@ -1,0 +1,14 @@
+use Rattle.std.specs.Option.{option_copied}
+use Rattle.locale_data.specs.declared.currency_table.TheConstants.{CURRENCY_TEXTS}
+use Rattle.locale_data.proofs.CurrencyRows.{symbol-below}
+use Rattle.locale_data.proofs.TableTexts.{contains_at}
+use Rattle.locale_data.proofs.currency.currency_symbol.Goals as goal
+
+pub row_at-requires : goal.row_at-requires
+row_at-requires c =
+    rw c.symbol_index-index.ensures
+    (symbol-below c.in_ok-currency.currency.now c.as_bytes.result.now (option_copied c.own_symbols-own.result)
+    c.args.width c.in_ok-currency.ensures.listed c.own_symbols-own.ensures)
+
+pub symbol_of-requires : goal.symbol_of-requires
+symbol_of-requires c = contains_at CURRENCY_TEXTS c.symbol_index-index.result c.row_at.result.now c.row_at.ensures

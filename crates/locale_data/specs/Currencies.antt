@@ -1,0 +1,98 @@
+-- The digits, symbols and patterns of currencies.
+use Rattle.std.specs.Prelude.{◌≡◌, ℕ, List, Option, None, Some, slice_get}
+use Rattle.std.specs.Option.{option_or, option_map, option_and_then}
+use Rattle.locale_data.specs.declared.currency.Currency.{Currency}
+use Rattle.locale_data.specs.declared.currency.CurrencyDigits.{CurrencyDigits}
+use Rattle.locale_data.specs.declared.currency.CurrencyPattern.{CurrencyPattern}
+use Rattle.locale_data.specs.declared.currency.CurrencySign.{CurrencySign}
+use Rattle.locale_data.specs.declared.currency.CurrencySign.TheVariants.{Standard, Accounting}
+use Rattle.locale_data.specs.declared.currency.CurrencySymbol.{CurrencySymbol}
+use Rattle.locale_data.specs.declared.currency.CurrencyText.{CurrencyText}
+use Rattle.locale_data.specs.declared.currency.LocaleCurrency.{LocaleCurrency}
+use Rattle.locale_data.specs.declared.currency.LocaleOverride.{LocaleOverride}
+use Rattle.locale_data.specs.declared.currency.SymbolWidth.{SymbolWidth}
+use Rattle.locale_data.specs.declared.currency.SymbolWidth.TheVariants.{Wide, Narrow}
+use Rattle.locale_data.specs.declared.currency_table.TheConstants.{CURRENCIES, CURRENCY_BYTES, CURRENCY_SYMBOLS, CURRENCY_TEXTS, OVERRIDES_BY_CURRENCY}
+use Rattle.locale_data.specs.declared.formats_table.TheConstants.{CURRENCY_OVERRIDES, MONEY_FORMATS, PATTERNS}
+use Rattle.locale_data.specs.declared.number_formats.NumberFormats.{NumberFormats}
+use Rattle.locale_data.specs.declared.patterns.MoneyFormat.{MoneyFormat}
+use Rattle.locale_data.specs.Formats.{AreFormatsOf}
+use Rattle.locale_data.specs.Rows.{part, row_named, IsRowOf}
+use Rattle.locale_data.specs.Tag.{compared}
+
+-- the currency with a code
+abbrev pub currency_with : List ℕ → Option Currency
+currency_with code = row_named (λ c. c.code) CURRENCIES (compared code)
+
+-- the digits of a currency: of one that is not listed 2, 2 in cash, and no increment
+abbrev pub digits_of : Option Currency → CurrencyDigits
+digits_of None = record { digits = 2; cash_digits = 2; cash_increment = 0 }
+digits_of (Some c) = record { digits = c.digits; cash_digits = c.cash_digits; cash_increment = c.cash_increment }
+
+-- ---- Symbols.
+
+-- the symbols of a currency in the locale with the longest tag that is a prefix of a tag, or None
+abbrev pub IsSymbolRow : Currency → List ℕ → Option LocaleCurrency → Type 0
+IsSymbolRow c = IsRowOf (λ l. l.tag) (part CURRENCY_SYMBOLS c.symbols)
+
+-- the index of a symbol: that of a locale, or else that of root
+abbrev pub symbol_index : Currency → Option LocaleCurrency → SymbolWidth → ℕ
+symbol_index c (Some own) Wide = own.symbol
+symbol_index c (Some own) Narrow = own.narrow
+symbol_index c None Wide = c.symbol
+symbol_index c None Narrow = c.narrow
+
+-- a symbol with its text
+pub record IsSymbol (text : CurrencyText) (symbol : CurrencySymbol) : Type 0 where
+  pub shown : symbol.text.now ≡ part CURRENCY_BYTES text.bytes
+  pub before : symbol.space_before ≡ text.space_before
+  pub after : symbol.space_after ≡ text.space_after
+
+-- the symbol of a currency for a tag
+pub record IsSymbolOf (tag code : List ℕ) (width : SymbolWidth) (symbol : CurrencySymbol) : Type 0 where
+  pub currency : Currency
+  pub own : Option LocaleCurrency
+  pub text : CurrencyText
+  pub listed : currency_with code ≡ Some currency
+  pub in_locale : IsSymbolRow currency tag own
+  pub at : slice_get CURRENCY_TEXTS (symbol_index currency own width) ≡ Some text
+  pub value : IsSymbol text symbol
+
+-- ---- Patterns.
+
+-- the override of a currency in the locale with the longest tag that is a prefix of a tag, or None
+abbrev pub IsOverrideRow : Currency → List ℕ → Option LocaleOverride → Type 0
+IsOverrideRow c = IsRowOf (λ l. l.tag) (part OVERRIDES_BY_CURRENCY c.overrides)
+
+-- the index of that override, or None
+abbrev pub IsOverride : Option Currency → List ℕ → Option ℕ → Type 0
+IsOverride None tag index = index ≡ None
+IsOverride (Some c) tag index =
+    (row : Option LocaleOverride) × IsOverrideRow c tag row × (index ≡ option_map (λ r. r.pattern) row)
+
+-- the pattern and the separators of an override
+abbrev pub overridden : ℕ → Option CurrencyPattern
+overridden index =
+    option_and_then (λ o. option_map (λ p. record { pattern = p; decimal = Some o.decimal; grouping = Some o.grouping })
+    (slice_get PATTERNS o.pattern)) (slice_get CURRENCY_OVERRIDES index)
+
+abbrev pub pattern_index : NumberFormats → CurrencySign → ℕ
+pattern_index formats Standard = formats.standard
+pattern_index formats Accounting = formats.accounting
+
+-- the pattern of an override, or else of the formats, with the separators of money
+abbrev pub pattern_by : NumberFormats → MoneyFormat → CurrencySign → Option ℕ → Option CurrencyPattern
+pattern_by formats money sign (Some index) = overridden index
+pattern_by formats money sign None =
+    option_map (λ p. record { pattern = p; decimal = money.decimal; grouping = money.grouping })
+    (slice_get PATTERNS (pattern_index formats sign))
+
+-- the pattern of a currency: by its override for the tag, or else by that of the region, or else by the formats
+pub record IsCurrencyPattern (tag system code : List ℕ) (sign : CurrencySign) (p : CurrencyPattern) : Type 0 where
+  pub formats : NumberFormats
+  pub money : MoneyFormat
+  pub own : Option ℕ
+  pub of_tag : AreFormatsOf tag system formats
+  pub of_money : slice_get MONEY_FORMATS formats.money ≡ Some money
+  pub of_currency : IsOverride (currency_with code) tag own
+  pub value : pattern_by formats money sign (option_or own money.replaced) ≡ Some p

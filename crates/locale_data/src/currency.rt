@@ -1,0 +1,295 @@
+//! The symbols, digits and patterns of currencies.
+ghost use Rattle.std.specs.Prelude.{◌≡◌, ◌<◌, ◌≤◌, ◌↔◌, length, Contains, Some, None, IsNone, IfSome};
+ghost use Rattle.std.specs.Option.{option_copied};
+ghost use Rattle.locale_data.specs.declared.currency_table.TheConstants.{CURRENCIES, CURRENCY_TEXTS};
+ghost use Rattle.locale_data.specs.declared.formats_table.TheConstants.{CURRENCY_OVERRIDES};
+ghost use Rattle.locale_data.specs.Currencies.{currency_with, digits_of, symbol_index, IsSymbol, IsSymbolRow, IsSymbolOf, IsOverrideRow, IsOverride, overridden, pattern_index, IsCurrencyPattern};
+
+use crate::currency_table::{
+    CURRENCIES, CURRENCY_BYTES, CURRENCY_SYMBOLS, CURRENCY_TEXTS, OVERRIDES_BY_CURRENCY,
+};
+use crate::formats::formats_of;
+use crate::formats_table::{CURRENCY_OVERRIDES, MONEY_FORMATS, PATTERNS};
+use crate::number_formats::NumberFormats;
+use crate::patterns::{MoneySeparator, Pattern};
+use crate::rows::{Name, Row, TableRange, part, row_named, row_of};
+use crate::texts::{row_at, text_in};
+
+/// A code of ISO 4217, as `*b"USD"`. Letters may be of either case.
+pub type CurrencyCode = [u8; 3];
+
+/// A currency, and what it has in locales.
+#[derive(Clone, Copy, Debug)]
+pub struct Currency {
+    /// Its code in lower case.
+    pub code: Name,
+    /// The number of fraction digits.
+    pub digits: u8,
+    /// The number of fraction digits in cash.
+    pub cash_digits: u8,
+    /// The increment in cash, in units of the last digit; 0 for 1.
+    pub cash_increment: u8,
+    /// The index of its symbol in root.
+    pub symbol: u16,
+    /// The index of its narrow symbol in root.
+    pub narrow: u16,
+    /// The locales that have other symbols.
+    pub symbols: TableRange,
+    /// The locales that have a pattern for it.
+    pub overrides: TableRange,
+}
+
+impl Row for Currency {
+    ghost name = { λ currency. currency.code };
+
+    fn name(&self) -> Name {
+        self.code
+    }
+}
+
+/// The symbols of a currency in a locale, as indices.
+#[derive(Clone, Copy, Debug)]
+pub struct LocaleCurrency {
+    /// The tag of the locale.
+    pub tag: Name,
+    /// The symbol.
+    pub symbol: u16,
+    /// The narrow symbol.
+    pub narrow: u16,
+}
+
+impl Row for LocaleCurrency {
+    ghost name = { λ locale. locale.tag };
+
+    fn name(&self) -> Name {
+        self.tag
+    }
+}
+
+/// The pattern of a currency in a locale.
+#[derive(Clone, Copy, Debug)]
+pub struct LocaleOverride {
+    /// The tag of the locale.
+    pub tag: Name,
+    /// The index of the override.
+    pub pattern: u8,
+}
+
+impl Row for LocaleOverride {
+    ghost name = { λ locale. locale.tag };
+
+    fn name(&self) -> Name {
+        self.tag
+    }
+}
+
+/// The text of a symbol.
+#[derive(Clone, Copy, Debug)]
+pub struct CurrencyText {
+    /// Its bytes.
+    pub bytes: TableRange,
+    /// Whether a space separates it from a digit before it.
+    pub space_before: bool,
+    /// Whether a space separates it from a digit after it.
+    pub space_after: bool,
+}
+
+/// The numbers of digits of a currency.
+#[derive(Clone, Copy, Debug, PartialEq)]
+pub struct CurrencyDigits {
+    /// The number of fraction digits.
+    pub digits: u8,
+    /// The number of fraction digits in cash.
+    pub cash_digits: u8,
+    /// The increment in cash, in units of the last digit; 0 for 1.
+    pub cash_increment: u8,
+}
+
+fn currency_with(code: CurrencyCode) -> Option<&'static Currency>
+    ensures value { option_copied result ≡ currency_with code }
+    ensures listed { IfSome result (λ found. Contains CURRENCIES found.now) }
+{
+    row_named(&CURRENCIES, &code)
+}
+
+/// Returns the numbers of digits of a currency; of a code that is not listed 2, 2 and 0.
+///
+/// ```
+/// currency_digits(*b"CHF") // 2, in cash 2 and multiples of 5
+/// ```
+pub fn currency_digits(code: CurrencyCode) -> CurrencyDigits
+    ensures { result ≡ digits_of (currency_with code) }
+{
+    match currency_with(code) {
+        Some(found) => CurrencyDigits {
+            digits: found.digits,
+            cash_digits: found.cash_digits,
+            cash_increment: found.cash_increment,
+        },
+        None => CurrencyDigits {
+            digits: 2,
+            cash_digits: 2,
+            cash_increment: 0,
+        },
+    }
+}
+
+/// Which symbol of a currency.
+#[derive(Clone, Copy, Debug, PartialEq)]
+pub enum SymbolWidth {
+    /// The symbol that is not that of another currency: `US$`.
+    Wide,
+    /// A shorter symbol: `$`.
+    Narrow,
+}
+
+/// A symbol of a currency.
+#[derive(Clone, Copy, Debug)]
+pub struct CurrencySymbol {
+    /// Its text, of at most 255 bytes.
+    pub text: &'static str,
+    /// Whether a space separates it from a digit before it, by the rule of CLDR, Currency Spacing.
+    pub space_before: bool,
+    /// Whether a space separates it from a digit after it.
+    pub space_after: bool,
+}
+
+fn own_symbols(currency: &Currency, tag: &[u8]) -> Option<&'static LocaleCurrency>
+    requires { Contains CURRENCIES currency.now }
+    ensures { IsSymbolRow currency.now tag.now (option_copied result) }
+{
+    row_of(part(&CURRENCY_SYMBOLS, currency.symbols), tag)
+}
+
+fn symbol_index(currency: &Currency, own: Option<&LocaleCurrency>, width: SymbolWidth) -> u16
+    ensures { result ≡ symbol_index currency.now (option_copied own.entry) width }
+{
+    match (own, width) {
+        (Some(own), SymbolWidth::Wide) => own.symbol,
+        (Some(own), SymbolWidth::Narrow) => own.narrow,
+        (None, SymbolWidth::Wide) => currency.symbol,
+        (None, SymbolWidth::Narrow) => currency.narrow,
+    }
+}
+
+fn symbol_of(text: &CurrencyText) -> CurrencySymbol
+    requires { Contains CURRENCY_TEXTS text.now }
+    ensures value { IsSymbol text.now result }
+    ensures short { length result.text.now ≤ 255 }
+{
+    CurrencySymbol {
+        text: text_in(&CURRENCY_BYTES, text.bytes),
+        space_before: text.space_before,
+        space_after: text.space_after,
+    }
+}
+
+/// Returns the symbol of a currency for a tag, as `locale` has it.
+///
+/// It is that of the listed locale with the longest tag that is `tag` or has a hyphen after it there, and without one
+/// that of root. Returns `None` for a code that is not listed, whose symbol is the code.
+///
+/// ```
+/// currency_symbol("de-AT", *b"USD", SymbolWidth::Wide) // $
+/// currency_symbol("en-AU", *b"USD", SymbolWidth::Wide) // USD
+/// ```
+pub fn currency_symbol(tag: &str, code: CurrencyCode, width: SymbolWidth) -> Option<CurrencySymbol>
+    ensures found { IfSome result (λ symbol. IsSymbolOf tag.now code width symbol) }
+    ensures short { IfSome result (λ symbol. length symbol.text.now ≤ 255) }
+    ensures unlisted { IsNone result ↔ (currency_with code ≡ None) }
+{
+    let currency = currency_with(code)?;
+    let own = own_symbols(currency, tag.as_bytes());
+    let index = symbol_index(currency, own, width);
+    Some(symbol_of(row_at(&CURRENCY_TEXTS, index as usize)))
+}
+
+/// Which pattern of a currency.
+#[derive(Clone, Copy, Debug, PartialEq)]
+pub enum CurrencySign {
+    /// The usual one.
+    Standard,
+    /// That of accounts, which may have parentheses in place of a minus sign.
+    Accounting,
+}
+
+/// How a currency is written.
+#[derive(Clone, Copy, Debug)]
+pub struct CurrencyPattern {
+    /// The pattern.
+    pub pattern: Pattern,
+    /// The decimal separator, if it is not that of other numbers.
+    pub decimal: Option<MoneySeparator>,
+    /// The grouping separator, if it is not that of other numbers.
+    pub grouping: Option<MoneySeparator>,
+}
+
+fn override_row(currency: &Currency, tag: &[u8]) -> Option<&'static LocaleOverride>
+    requires { Contains CURRENCIES currency.now }
+    ensures { IsOverrideRow currency.now tag.now (option_copied result) }
+{
+    row_of(part(&OVERRIDES_BY_CURRENCY, currency.overrides), tag)
+}
+
+fn override_of(tag: &[u8], code: CurrencyCode) -> Option<u8>
+    ensures value { IsOverride (currency_with code) tag.now result }
+    ensures listed { IfSome result (λ index. index < length CURRENCY_OVERRIDES) }
+{
+    match currency_with(code) {
+        Some(currency) => match override_row(currency, tag) {
+            Some(row) => Some(row.pattern),
+            None => None,
+        },
+        None => None,
+    }
+}
+
+fn overridden(index: u8) -> CurrencyPattern
+    requires { index < length CURRENCY_OVERRIDES }
+    ensures { overridden index ≡ Some result }
+{
+    let replaced = row_at(&CURRENCY_OVERRIDES, index as usize);
+    CurrencyPattern {
+        pattern: *row_at(&PATTERNS, replaced.pattern as usize),
+        decimal: Some(replaced.decimal),
+        grouping: Some(replaced.grouping),
+    }
+}
+
+fn pattern_index(formats: &NumberFormats, sign: CurrencySign) -> u8
+    ensures { result ≡ pattern_index formats.now sign }
+{
+    match sign {
+        CurrencySign::Standard => formats.standard,
+        CurrencySign::Accounting => formats.accounting,
+    }
+}
+
+/// Returns how a currency is written for a tag, as `locale` has it, in a numbering system, as `latn`.
+///
+/// It is the pattern that the tag has for this currency, or else that of the region's currency, which ICU uses for all
+/// currencies there, or else the pattern of `formats_of`. Of a code that is not listed it is that of other currencies.
+///
+/// ```
+/// currency_pattern("de", "latn", *b"EUR", CurrencySign::Standard) // 1,00 €
+/// currency_pattern("en", "latn", *b"USD", CurrencySign::Accounting) // ($1.00)
+/// ```
+pub fn currency_pattern(
+    tag: &str,
+    system: &str,
+    code: CurrencyCode,
+    sign: CurrencySign,
+) -> CurrencyPattern
+    ensures { IsCurrencyPattern tag.now system.now code sign result }
+{
+    let formats = formats_of(tag, system);
+    let money = row_at(&MONEY_FORMATS, formats.money as usize);
+    match override_of(tag.as_bytes(), code).or(money.replaced) {
+        Some(index) => overridden(index),
+        None => CurrencyPattern {
+            pattern: *row_at(&PATTERNS, pattern_index(&formats, sign) as usize),
+            decimal: money.decimal,
+            grouping: money.grouping,
+        },
+    }
+}

@@ -1,0 +1,152 @@
+//! The formats of numbers in a locale and a numbering system.
+ghost use Rattle.std.specs.Prelude.{◌≡◌, Contains};
+ghost use Rattle.locale_data.specs.declared.formats_table.TheConstants.{FORMAT_SYSTEMS};
+ghost use Rattle.locale_data.specs.Formats.{chosen, format_system, IsOwnFormats, IsLatinFormats, AreOfSystem, AreFormatsOf};
+
+use crate::formats_table::{FORMAT_SYSTEMS, FORMATS_BY_SYSTEM, LOCALE_FORMATS, ROOT_FORMATS};
+use crate::number_formats::NumberFormats;
+use crate::rows::{Name, Row, TableRange, part, row_named, row_of};
+
+/// What a locale has in the numbering system `latn`, as indices of tables.
+#[derive(Clone, Copy, Debug)]
+pub struct LocaleFormats {
+    /// The tag of the locale.
+    pub tag: Name,
+    /// The pattern of percent.
+    pub percent: u8,
+    /// The pattern of currencies.
+    pub standard: u8,
+    /// The pattern of currencies in accounts.
+    pub accounting: u8,
+    /// The exponent separator and the percent sign.
+    pub signs: u8,
+    /// The compact patterns.
+    pub compact: u8,
+    /// The pattern of percent in compact notation.
+    pub unit: u8,
+    /// How money is written.
+    pub money: u8,
+}
+
+impl Row for LocaleFormats {
+    ghost name = { λ locale. locale.tag };
+
+    fn name(&self) -> Name {
+        self.tag
+    }
+}
+
+/// What a locale has in another numbering system; the rest is that of root there, or else that of the locale in `latn`.
+#[derive(Clone, Copy, Debug)]
+pub struct SystemFormats {
+    /// The tag of the locale.
+    pub tag: Name,
+    /// The pattern of percent.
+    pub percent: Option<u8>,
+    /// The pattern of currencies.
+    pub standard: Option<u8>,
+    /// The pattern of currencies in accounts.
+    pub accounting: Option<u8>,
+    /// The exponent separator and the percent sign.
+    pub signs: Option<u8>,
+    /// The compact patterns.
+    pub compact: Option<u8>,
+}
+
+impl Row for SystemFormats {
+    ghost name = { λ locale. locale.tag };
+
+    fn name(&self) -> Name {
+        self.tag
+    }
+}
+
+/// A numbering system in which locales have formats of their own.
+#[derive(Clone, Copy, Debug)]
+pub struct FormatSystem {
+    /// Its name in CLDR.
+    pub name: Name,
+    /// The locales.
+    pub rows: TableRange,
+    /// What root has.
+    pub root: SystemFormats,
+}
+
+impl Row for FormatSystem {
+    ghost name = { λ system. system.name };
+
+    fn name(&self) -> Name {
+        self.name
+    }
+}
+
+/// No formats: each is that of `latn`.
+pub const NO_FORMATS: SystemFormats = SystemFormats {
+    tag: *b"                ",
+    percent: None,
+    standard: None,
+    accounting: None,
+    signs: None,
+    compact: None,
+};
+
+fn chosen(own: Option<u8>, root: Option<u8>, latin: u8) -> u8
+    ensures { result ≡ chosen own root latin }
+{
+    own.or(root).unwrap_or(latin)
+}
+
+fn own_formats(system: &FormatSystem, tag: &[u8]) -> SystemFormats
+    requires { Contains FORMAT_SYSTEMS system.now }
+    ensures { IsOwnFormats tag.now system.now result }
+{
+    match row_of(part(&FORMATS_BY_SYSTEM, system.rows), tag) {
+        Some(own) => *own,
+        None => NO_FORMATS,
+    }
+}
+
+fn latin_formats(tag: &[u8]) -> LocaleFormats
+    ensures { IsLatinFormats tag.now result }
+{
+    match row_of(&LOCALE_FORMATS, tag) {
+        Some(locale) => *locale,
+        None => ROOT_FORMATS,
+    }
+}
+
+fn system_formats(tag: &[u8], system: &[u8]) -> (SystemFormats, SystemFormats)
+    ensures { AreOfSystem (format_system system.now) tag.now result.0 result.1 }
+{
+    match row_named(&FORMAT_SYSTEMS, system) {
+        Some(system) => (own_formats(system, tag), system.root),
+        None => (NO_FORMATS, NO_FORMATS),
+    }
+}
+
+/// Returns the formats of a tag, as `locale` has it, in a numbering system, as `latn`.
+///
+/// Of each format it is that of the listed locale with the longest tag that is `tag` or has a hyphen after it there, and
+/// without one that of root: in the numbering system, or else in `latn`. Every tag and every system have formats;
+/// `locale` decides which are known.
+///
+/// ```
+/// formats_of("de", "latn").percent() // 12 %
+/// formats_of("fa", "arabext").signs().percent.text() // ٪
+/// ```
+pub fn formats_of(tag: &str, system: &str) -> NumberFormats
+    ensures { AreFormatsOf tag.now system.now result }
+{
+    let (tag, system) = (tag.as_bytes(), system.as_bytes());
+    let latin = latin_formats(tag);
+    let (own, root) = system_formats(tag, system);
+    NumberFormats {
+        percent: chosen(own.percent, root.percent, latin.percent),
+        standard: chosen(own.standard, root.standard, latin.standard),
+        accounting: chosen(own.accounting, root.accounting, latin.accounting),
+        signs: chosen(own.signs, root.signs, latin.signs),
+        compact: chosen(own.compact, root.compact, latin.compact),
+        unit: latin.unit,
+        money: latin.money,
+    }
+}

@@ -1,0 +1,43 @@
+//! What a locale and a numbering system have, as indices of tables.
+ghost use Rattle.std.specs.Prelude.{◌≡◌, ◌<◌, length, slice_get, Some};
+ghost use Rattle.locale_data.specs.declared.compact_table.TheConstants.{COMPACT_SETS, PERCENT_UNITS};
+ghost use Rattle.locale_data.specs.declared.formats_table.TheConstants.{PATTERNS, NUMBER_SIGNS, MONEY_FORMATS};
+
+use crate::formats_table::{NUMBER_SIGNS, PATTERNS};
+use crate::patterns::{NumberSigns, Pattern};
+use crate::texts::row_at;
+
+/// The formats of numbers in a locale and a numbering system.
+#[derive(Clone, Copy, Debug)]
+pub struct NumberFormats {
+    pub(crate) percent: u8,
+    pub(crate) standard: u8,
+    pub(crate) accounting: u8,
+    pub(crate) signs: u8,
+    pub(crate) compact: u8,
+    pub(crate) unit: u8,
+    pub(crate) money: u8,
+    pub ghost percent_listed: { percent < length PATTERNS },
+    pub ghost standard_listed: { standard < length PATTERNS },
+    pub ghost accounting_listed: { accounting < length PATTERNS },
+    pub ghost signs_listed: { signs < length NUMBER_SIGNS },
+    pub ghost compact_listed: { compact < length COMPACT_SETS },
+    pub ghost unit_listed: { unit < length PERCENT_UNITS },
+    pub ghost money_listed: { money < length MONEY_FORMATS },
+}
+
+impl NumberFormats {
+    /// Returns the pattern of percent.
+    pub fn percent(&self) -> &'static Pattern
+        ensures { slice_get PATTERNS self.now.percent ≡ Some result.now }
+    {
+        row_at(&PATTERNS, self.percent as usize)
+    }
+
+    /// Returns the exponent separator and the percent sign.
+    pub fn signs(&self) -> NumberSigns
+        ensures { slice_get NUMBER_SIGNS self.now.signs ≡ Some result }
+    {
+        *row_at(&NUMBER_SIGNS, self.signs as usize)
+    }
+}

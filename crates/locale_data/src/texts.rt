@@ -1,0 +1,26 @@
+//! Rows and texts of tables by index.
+ghost use Rattle.std.specs.Prelude.{◌≡◌, ◌<◌, ◌≤◌, length, slice_get, Some, true};
+ghost use Rattle.locale_data.specs.Rows.{part};
+ghost use Rattle.locale_data.specs.Texts.{is_text};
+
+use crate::rows::{TableRange, part};
+
+/// Returns the row at an index.
+pub fn row_at<'a, T>(table: &'a [T], index: usize) -> &'a T
+    requires { index < length table.now }
+    ensures { slice_get table.now index ≡ Some result.now }
+{
+    &table[index]
+}
+
+/// Returns the text in a range of bytes.
+pub fn text_in(bytes: &'static [u8], range: TableRange) -> &'static str
+    requires { is_text bytes.now range ≡ true }
+    ensures value { result.now ≡ part bytes.now range }
+    ensures short { length result.now ≤ 255 }
+{
+    match str::from_utf8(part(bytes, range)) {
+        Ok(text) => text,
+        Err(_) => unreachable!(),
+    }
+}
