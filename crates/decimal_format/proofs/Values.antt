@@ -1,5 +1,6 @@
 -- The value of digits, appended from left to right.
 use Rattle.std.proofs.Common.{◌≡◌, ℕ, ◌+◌, ◌-◌, ◌*◌, ◌%◌, ◌^◌, ◌<◌, ◌≤◌, false, List, [], ◌++◌, length, length-append, append_assoc, append-nil, refl, sym, ◌∙◌, ap, subst, arith, inl, inr, FitsSigned, w16, to_z, of_z}
+use lib.Signed.{mag}
 use Rattle.std.specs.Int.Digits.{AllBelowBase, number_from_digits}
 use Rattle.std.specs.Prelude.{Result, Ok, Err, IsOk, OnErr, ℤ, pos, negsuc, ◌+ℤ◌, ◌-ℤ◌, ◌≤ℤ◌, ◌<ℤ◌}
 use Rattle.std.specs.Int.{int_max, int_min, int_gap}
@@ -79,8 +80,8 @@ pub record IsNext (whole k j : ℕ) (position : ℤ) : Type 0 where
 
 pub next_at : {whole k j : ℕ} {position : ℤ} {A : Type 0}
     → (0 < j) × (j ≤ 16) × (whole ≤ 32768) × (k + j ≤ whole + 32768) × A → position ≡ pos whole -ℤ pos (k + j)
-    → FitsSigned w16 position → IsNext whole k j position
-next_at h at fits = record { some = h.0; few = h.1; limits = (h.2, h.3); at = at; fits = fits }
+    → mag position < 32768 → IsNext whole k j position
+next_at h at kept = record { some = h.0; few = h.1; limits = (h.2, h.3); at = at; fits = record { sfits = kept } }
 
 module _ {whole k word j : ℕ} {v : Unsigned} {ds es : List ℕ} {position : ℤ} (holds : HoldsDigits whole k v ds)
     (bcd : IsBcd word j es) (next_is : IsNext whole k j position) where

@@ -22,7 +22,7 @@ use Rattle.plural_rules.specs.RulesGrammar as g
 use Rattle.plural_rules.specs.RulesGrammar.{is_blank, operand_word, HasNoLeadingDigit, HasDistinctCategories, Grammar}
 use Rattle.plural_rules.specs.RulesParseResult.{RangeFits, RelationFits, AndConditionFits, RuleFits, Fits}
 use Rattle.plural_rules.specs.RulesReader.{has, with, is_full, no_categories, Partial, no_rules, end_range, end_relation, end_alternative, after, next, follows_range, at_end, condition_of, limit}
-use Rattle.plural_rules.proofs.RulesRun.{allowed, finish, finished, transitions, run, read}
+use Rattle.plural_rules.proofs.RulesRun.{allowed, finish, finished, transitions, run, read, read_text}
 
 -- ---- Bytes.
 
@@ -433,13 +433,13 @@ none_read (r ∷ rs) = (grind arith, none_read rs)
 
 -- the reader accepts a text of the grammar and returns its meaning
 pub read-complete : (strict : Bool) {text : List ℕ} {rs : List RuleValue} → Grammar text rs
-    → (strict ≡ true → Fits rs) → read strict state.Category no_rules text ≡ Some rs
+    → (strict ≡ true → Fits rs) → read_text strict text ≡ Some rs
 read-complete strict {text} {rs} h fits =
     skips strict state.Category (λ seen c b. rw b refl) h.blanks no_rules
     ∙ all_rules strict h.rules no_rules fits (none_read rs, h.distinct)
 
 pub read_any-complete : {text : List ℕ} {rs : List RuleValue} → Grammar text rs
-    → read false state.Category no_rules text ≡ Some rs
+    → read_text false text ≡ Some rs
 read_any-complete h = read-complete false h (λ e. absurd (cc))
 
 -- the grammar is unambiguous

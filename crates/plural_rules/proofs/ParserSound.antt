@@ -21,7 +21,7 @@ use Rattle.plural_rules.specs.RulesGrammar as g
 use Rattle.plural_rules.specs.RulesGrammar.{is_blank, operand_word, HasNoLeadingDigit, Grammar}
 use Rattle.plural_rules.specs.RulesReader as reader
 use Rattle.plural_rules.specs.RulesReader.{has, with, is_full, Transition, Partial, no_rules, after, next, follows_range, condition_of, modulus_state}
-use Rattle.plural_rules.proofs.RulesRun.{any_allowed, apply_transition, finish, run, read}
+use Rattle.plural_rules.proofs.RulesRun.{any_allowed, apply_transition, finish, run, read, read_text}
 use Rattle.plural_rules.proofs.ParserComplete.{IsNewCategory, AreNewCategories, digit_is, grows, read_any-complete}
 
 -- ---- What may follow each form, by what it makes of the form before it.
@@ -476,7 +476,7 @@ found meaning (c ∷ t) s p h = one_byte meaning c t (found meaning t) p s h
 
 -- an accepted text is in the grammar, with this meaning
 pub read-sound :
-    {text : List ℕ} {meaning : List RuleValue} → read false state.Category no_rules text ≡ Some meaning
+    {text : List ℕ} {meaning : List RuleValue} → read_text false text ≡ Some meaning
     → Grammar text meaning
 read-sound {text} {meaning} h =
     let i = found meaning text state.Category no_rules h in

@@ -91,6 +91,13 @@ finish (Some x) = finished (at_end x.0) x.1
 abbrev pub read : Bool → State → Partial → List ℕ → Option (List RuleValue)
 read strict s p text = finish (run strict s p text)
 
+-- the same from the first state, with no rules so far
+abbrev pub run_text : Bool → List ℕ → Reached
+run_text strict text = run strict state.Category no_rules text
+
+abbrev pub read_text : Bool → List ℕ → Option (List RuleValue)
+read_text strict text = finish (run_text strict text)
+
 -- ---- Concatenated texts.
 
 abbrev pub bind : Reached → (State → Partial → Reached) → Reached
@@ -116,11 +123,10 @@ run_append strict (c ∷ text) more s p = go (run_append strict text more) (next
 
 -- one more byte, and its transition
 pub run_more : (strict : Bool) (text : List ℕ) (i : ℕ) (s : State) (p : Partial) {m : Transition} → i < length text
-    → run strict state.Category no_rules (take i text) ≡ Some (s, p) → next p.seen s (get_or text i 0) ≡ m
-    → run strict state.Category no_rules (take (i + 1) text) ≡ apply_transition strict m p (λ s q. Some (s, q))
+    → run_text strict (take i text) ≡ Some (s, p) → next p.seen s (get_or text i 0) ≡ m
+    → run_text strict (take (i + 1) text) ≡ apply_transition strict m p (λ s q. Some (s, q))
 run_more strict text i s p less h to =
-    ap (run strict state.Category no_rules) (take_more text i 0 less)
-    ∙ run_append strict (take i text) (get_or text i 0 ∷ []) state.Category no_rules
+    ap (run_text strict) (take_more text i 0 less) ∙ run_append strict (take i text) (get_or text i 0 ∷ []) _ _
     ∙ ap (λ x. bind x (λ s q. run strict s q (get_or text i 0 ∷ []))) h
     ∙ ap (λ m. apply_transition strict m p (λ s q. Some (s, q))) to
 
@@ -204,15 +210,15 @@ strict_run (c ∷ text) s p x f h = go (strict_run text) (next p.seen s c) h
         (rest.0, any ∙ rest.1)
 
 pub reached_strictly : (text : List ℕ) (s : State) (p : Partial)
-    → run true state.Category no_rules text ≡ Some (s, p)
-    → FitsSoFar p × (run false state.Category no_rules text ≡ Some (s, p))
+    → run_text true text ≡ Some (s, p)
+    → FitsSoFar p × (run_text false text ≡ Some (s, p))
 reached_strictly text s p h =
     strict_run text state.Category no_rules (s, p) (tt, tt, tt, tt, tt, tt, omega arith) h
 
 -- rules that the strict reader accepts fit, and are those of the other one
-pub read_fits : (text : List ℕ) (rules : List RuleValue) → read true state.Category no_rules text ≡ Some rules
-    → Fits rules × (read false state.Category no_rules text ≡ Some rules)
-read_fits text rules h = go (run true state.Category no_rules text) refl h
+pub read_fits : (text : List ℕ) (rules : List RuleValue) → read_text true text ≡ Some rules
+    → Fits rules × (read_text false text ≡ Some rules)
+read_fits text rules h = go (run_text true text) refl h
   where
     ended : (s : State) (p : Partial) → FitsSoFar p → (end : Option Event) → at_end s ≡ end
         → finished end p ≡ Some rules → Fits rules
@@ -223,8 +229,8 @@ read_fits text rules h = go (run true state.Category no_rules text) refl h
         let fits = fits_on e p f may in
         rw (← same) (fits.0)
 
-    go : (x : Reached) → run true state.Category no_rules text ≡ x → finish x ≡ Some rules
-        → Fits rules × (read false state.Category no_rules text ≡ Some rules)
+    go : (x : Reached) → run_text true text ≡ x → finish x ≡ Some rules
+        → Fits rules × (read_text false text ≡ Some rules)
     go None is h = absurd (cc)
     go (Some x) is h =
         let strictly = reached_strictly text x.0 x.1 is in
