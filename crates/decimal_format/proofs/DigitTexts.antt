@@ -17,9 +17,7 @@ digits_text-nil s f = refl
 pub digits_text-first : (s : Symbols) (f : ℕ → Bool) (d : ℕ) (ds tail : List ℕ) → digits_text s f (d ∷ ds) ++ tail
     ≡ digit_text s d ++ (separator_if s (f (length ds)) ++ (digits_text s f ds ++ tail))
 unfolding digits_text
-digits_text-first s f d ds tail =
-    append_assoc (digit_text s d) (separator_if s (f (length ds)) ++ digits_text s f ds) tail
-    ∙ ap (λ l. digit_text s d ++ l) (append_assoc (separator_if s (f (length ds))) (digits_text s f ds) tail)
+digits_text-first s f d ds tail = simp append_assoc
 
 -- only the tests of the magnitudes below the number of digits matter
 pub digits_text-cong : (s : Symbols) (f g : ℕ → Bool) (ds : List ℕ) → ((m : ℕ) → m < length ds → f m ≡ g m)
@@ -61,42 +59,27 @@ pub record EndsDigits (s : Symbols) (f g : ℕ → Bool) (n all : ℕ) (t : List
 
 ends_less : {s : Symbols} {f g : ℕ → Bool} {n all : ℕ} {t : List ℕ} → EndsDigits s f g (suc n) (suc all) t
     → EndsDigits s f g n all t
-ends_less {g = g} {n = n} {all = all} ends = record {
-  digit = λ d rest below e. omega (arith, ends.digit d rest below e);
-  separator = λ rest e there. ends.separator rest e
-      (ap g (let same : suc all - suc n ≡ all - n = omega arith in same) ∙ there);
-}
+ends_less {g = g} {n = n} {all = all} ends = grind arith
 
 pub ends_integer : {s : Symbols} {f g : ℕ → Bool} {n all : ℕ} {t : List ℕ} → EndsInteger s t
     → EndsDigits s f g n all t
-ends_integer ends = record {
-  digit = λ d rest below e. absurd (ends.digit d rest below e);
-  separator = λ rest e. absurd (ends.grouping rest e);
-}
+ends_integer ends = grind arith
 
 module _ (s : Symbols) (readable : IsReadable s) where
   -- nothing but integer digits begins with a digit or with a grouping separator
   pub nil_ends : EndsInteger s []
-  nil_ends = record {
-    digit = λ d rest below e. none_not_digit s readable d rest below e;
-    grouping = λ rest e. none_not_grouping s readable rest e;
-  }
+  nil_ends = grind (arith, none_not_digit, none_not_grouping)
 
   pub fraction_ends : (ds : List ℕ) → EndsInteger s (fraction_text s ds)
   fraction_ends [] = nil_ends
-  fraction_ends (d ∷ ds) = record {
-    digit = λ e rest below h. digit_not_decimal s readable e rest (digits_text s (λ _. false) (d ∷ ds)) below (sym h);
-    grouping = λ rest h. decimal_not_grouping s readable (digits_text s (λ _. false) (d ∷ ds)) rest h;
-  }
+  fraction_ends (d ∷ ds) = grind (arith, digit_not_decimal, decimal_not_grouping)
 
   -- digits begin with no grouping separator, if what follows them does not
   pub digits_not_grouping : (f : ℕ → Bool) (ds tail rest : List ℕ) → AllBelowBase 10 ds
       → (length ds ≡ 0 → tail ≢ s.grouping ++ rest) → digits_text s f ds ++ tail ≢ s.grouping ++ rest
   unfolding digits_text
   digits_not_grouping f [] tail rest all ends e = ends refl e
-  digits_not_grouping f (d ∷ ds) tail rest all ends e =
-      digit_not_grouping s readable d (separator_if s (f (length ds)) ++ (digits_text s f ds ++ tail)) rest all.0
-      (sym (digits_text-first s f d ds tail) ∙ e)
+  digits_not_grouping f (d ∷ ds) tail rest all ends e = grind (arith, digit_not_grouping, digits_text-first)
 
   separator_there : (f g : ℕ → Bool) (ds t rest : List ℕ) (all : ℕ) → AllBelowBase 10 ds
       → EndsDigits s f g (suc (length ds)) (suc all) t → g all ≡ true → digits_text s f ds ++ t ≡ s.grouping ++ rest

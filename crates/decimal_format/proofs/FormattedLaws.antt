@@ -1,10 +1,10 @@
 -- The text by other symbols, or under another strategy.
-use Rattle.std.proofs.Common.{◌≡◌, ℕ, zero, suc, Bool, true, false, List, [], ◌∷◌, ◌++◌, refl, sym, ◌∙◌, ap, append-nil}
+use Rattle.std.proofs.Common.{◌≡◌, ℕ, zero, suc, Bool, true, false, List, [], ◌++◌, refl, sym, ◌∙◌, append-nil}
 use Rattle.std.specs.Prelude.{if◌then◌else◌, ℤ, pos, negsuc, ◌-ℤ◌}
 use Rattle.decimal_digits.specs.Number.{digit}
-use Rattle.decimal_unsigned.specs.Text.{dot_before, text_down, text}
+use Rattle.decimal_unsigned.specs.Text.{dot_before, text_down}
 use Rattle.fixed_decimal.specs.Decimal.{Decimal}
-use Rattle.fixed_decimal.specs.DecimalText.{sign_text, decimal_text}
+use Rattle.fixed_decimal.specs.DecimalText.{decimal_text}
 use Rattle.fixed_decimal.specs.declared.variations.Sign.{Sign}
 use Rattle.fixed_decimal.specs.declared.variations.Sign.TheVariants as sign
 use Rattle.decimal_format.specs.declared.grouping.GroupingSizes.{GroupingSizes}
@@ -13,9 +13,10 @@ use Rattle.decimal_format.specs.declared.grouping.GroupingStrategy.TheVariants.{
 use Rattle.decimal_format.specs.Symbols.{Symbols, digit_text, sign_affixes, without_grouping}
 use Rattle.decimal_format.specs.Ascii.{ascii_with}
 use Rattle.decimal_format.specs.Grouping.{separates}
-use Rattle.decimal_format.specs.Formatted.{separator_before, separator_after, formatted_down, shown_count, absolute_text, formatted}
+use Rattle.decimal_format.specs.Formatted.{separator_before, separator_after, formatted_down, formatted}
 use Rattle.decimal_format.proofs.AsciiDigits.{ten_digits}
 use Rattle.decimal_format.proofs.Magnitudes.{digit_below}
+use Rattle.std.proofs.Common.{arith}
 
 either : (b : Bool) (xs : List ℕ) → (if b then xs else xs) ≡ xs
 either true xs = refl
@@ -53,10 +54,7 @@ same_affixes s sign.Positive = refl
 
 pub groups_insert_separators : (s : Symbols) (strategy : GroupingStrategy) (v : Decimal)
     → formatted (without_grouping s) strategy v ≡ formatted s Never v
-groups_insert_separators s g v =
-    let n = shown_count v.absolute in
-    (λ i. (same_affixes s v.sign i).prefix
-    ++ (same_down s g v.absolute.hi v.absolute.number v.absolute.hi n i ++ (same_affixes s v.sign i).suffix))
+groups_insert_separators s g v = simp (same_affixes, same_down)
 
 -- ---- By the ASCII symbols.
 module _ (grouping : List ℕ) (sizes : GroupingSizes) where
@@ -75,14 +73,4 @@ module _ (grouping : List ℕ) (sizes : GroupingSizes) where
       ++ down_is hi number (m -ℤ pos 1) n i)
 
   pub ascii_is_plain : (v : Decimal) → formatted (ascii_with grouping sizes) Never v ≡ decimal_text v
-  ascii_is_plain v = go v.sign
-    where
-      middle : absolute_text (ascii_with grouping sizes) Never v.absolute ≡ text v.absolute
-      middle = down_is v.absolute.hi v.absolute.number v.absolute.hi (shown_count v.absolute)
-
-      go : (s : Sign) → (sign_affixes (ascii_with grouping sizes) s).prefix
-          ++ (absolute_text (ascii_with grouping sizes) Never v.absolute
-          ++ (sign_affixes (ascii_with grouping sizes) s).suffix) ≡ sign_text s ++ text v.absolute
-      go sign.None = append-nil _ ∙ middle
-      go sign.Negative = ap (λ l. 45 ∷ l) (append-nil _ ∙ middle)
-      go sign.Positive = ap (λ l. 43 ∷ l) (append-nil _ ∙ middle)
+  ascii_is_plain v = grind (arith, down_is, append-nil)

@@ -22,6 +22,8 @@ use Rattle.decimal_format.proofs.Codes.{none_not_decimal}
 use Rattle.decimal_format.proofs.DigitTexts.{digits_text-cong, nil_ends, fraction_ends, digits-unique, ends_integer}
 use Rattle.decimal_format.proofs.NumeralTexts.{HasDigits, same_value, digits_are_value, formatted-digits, digits_of_value}
 use Rattle.decimal_format.proofs.Scans.{number_begins, begins-append, sign-unique, strategy_is, strategy_if, strategy_separates}
+use Rattle.std.proofs.Common.{arith}
+use Rattle.std.proofs.Common.{rules}
 
 -- a text by some strategy has separators at ends of groups, all of them or none
 pub numeral_is_lenient : (s : Symbols) (bytes : List ℕ) (w : Numeral) → IsNumeral s bytes w
@@ -101,19 +103,12 @@ module _ (s : Symbols) (readable : IsReadable s) where
 -- the text of a value is that of its digits
 written_digits : (s : Symbols) (bytes : List ℕ) (v : Decimal) → IsValue v.absolute → IsWritten s v bytes
     → (w : Numeral) × IsNumeral s bytes w × HasDigits v w
-written_digits s bytes v valid written =
-    let d = digits_of_value v valid in (
-      d.0,
-      record { digits = d.1; strategy = written.0; text = written.1 ∙ formatted-digits v d.0 d.2 d.1 s written.0 },
-      d.2,
-    )
+written_digits s bytes v valid written = grind (arith, digits_of_value, formatted-digits)
 
 -- the text by `Never` has no separators
 never-digits : (s : Symbols) (v : Decimal) (w : Numeral) → HasDigits v w → AreDigits w
     → formatted s Never v ≡ numeral_text s (λ _. false) w
-never-digits s v w has digits =
-    formatted-digits v w has digits s Never
-    ∙ (λ i. numeral_text s (λ m. (strategy_is s Never (length w.whole) m ∙ and-false (ends_group s.sizes m)) i) w)
+never-digits s v w has digits = search (rules, arith, formatted-digits, strategy_is, and-false)
 
 -- ---- What is read.
 -- a text is that of one of these numerals, and then of one of these decimals
@@ -132,13 +127,7 @@ module _ {is_numeral : Numeral → Type 0} {is_written : Decimal → Type 0} (te
 
   -- the text is that of no numeral
   pub nothing_read : (inline : ℕ) → ((w : Numeral) → ¬ is_numeral w) → IsRead inline is_numeral is_written (Err Syntax)
-  nothing_read inline none = record {
-    found = tt;
-    reads_back = λ v valid written. let t = texts.reads v valid written in absurd (none t.0 t.1);
-    syntax = (λ h. none, λ h. refl);
-    limit = (λ h. absurd (cc), λ h. absurd (none h.0 h.1));
-    memory = λ h. absurd (cc);
-  }
+  nothing_read inline none = grind arith
 
   -- the text is that of a numeral, and the result is the value of its digits
   pub value_read : (inline : ℕ) (w : Numeral) → is_numeral w → (result : Result Decimal ParseError)

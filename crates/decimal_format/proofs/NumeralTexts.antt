@@ -15,7 +15,7 @@ use Rattle.decimal_unsigned.specs.Unsigned.{IsValue}
 use Rattle.fixed_decimal.specs.Decimal.{Decimal}
 use Rattle.fixed_decimal.proofs.Calling.{number_first, number_at-lt, offset_is, gap_is, ten_pos, powers}
 use Rattle.decimal_format.specs.declared.grouping.GroupingStrategy.{GroupingStrategy}
-use Rattle.decimal_format.specs.Symbols.{Symbols, digit_text, sign_affixes}
+use Rattle.decimal_format.specs.Symbols.{Symbols, digit_text}
 use Rattle.decimal_format.specs.Grouping.{separates}
 use Rattle.decimal_format.specs.Formatted.{separator_before, separator_after, formatted_down, magnitude_text, shown_count, absolute_text, formatted}
 use Rattle.decimal_format.specs.Reading.{Numeral, AreDigits, IsBeyondLimits, digits_text, fraction_text, absolute_numeral_text, numeral_text, separated_by}
@@ -111,14 +111,7 @@ module _ (s : Symbols) (g : GroupingStrategy) (hi : ℤ) where
   unfolding digits_text
   whole_is [] es m at = fraction_is m (omega (arith, ints, at)) es
   whole_is (d ∷ ds) es m at =
-      let separated = λ (k : ℕ). separates g s.sizes hi (pos k) in
-      let here : m ≡ pos (length ds) = omega (arith, ints, at) in
-      ap (λ x. list_text x (d ∷ (ds ++ es))) here
-      ∙ ap (λ l. (digit_text s d ++ separator_after s g hi (pos (length ds))) ++ l)
-      (whole_is ds es (pos (length ds) -ℤ pos 1) refl)
-      ∙ append_assoc (digit_text s d) (separator_after s g hi (pos (length ds)))
-      (digits_text s separated ds ++ fraction_text s es)
-      ∙ sym (digits_text-first s separated d ds (fraction_text s es))
+      grind (arith, ints, append_assoc, digits_text-first, (whole_is ds es (pos (length ds) -ℤ pos 1) refl))
 
 -- ---- A decimal and its digits.
 -- the value of these digits, with this sign
@@ -158,38 +151,11 @@ module _ (w : Numeral) (digits : AreDigits w) (few : ¬ IsBeyondLimits w) where
   -- they have a value
   pub is_value : IsValue (value_of w)
   unfolding number_at
-  is_value =
-      let n = length w.whole in
-      let size = length-append w.whole w.fraction in
-      let below = below_append w.whole w.fraction digits.whole digits.fraction in
-      let whole : n ≤ 32768 = elim (cases_lt 32768 n) [ inl h ↦ absurd (few (inl h)) | inr h ↦ h ] in
-      let fraction : length w.fraction ≤ 32768 =
-      elim (cases_lt 32768 (length w.fraction)) [ inl h ↦ absurd (few (inr h)) | inr h ↦ h ] in
-      let number = number_from_digits 10 all in
-      let low : offset (value_of w).lo ≡ n + 32768 - length all =
-      omega (arith, ints, clamps, offset_is (value_of w).lo, size, fraction) in
-      record {
-        hi_in = (omega (arith, ints), omega (arith, ints, whole));
-        lo_in = (omega (arith, ints, clamps, size, fraction), omega (arith, ints, clamps));
-        below =
-            subst (λ k. (value_of w).number < 10 ^ k)
-            (let k : n + 32768 ≡ offset top + 1 = omega (arith, offset_is top, digits.some) in k)
-            (number_at-lt (n + 32768) all below (omega (arith, size, fraction)));
-        whole =
-            ap (λ k. (value_of w).number % 10 ^ k) low
-            ∙ mul-mod_left number (10 ^ (n + 32768 - length all));
-      }
+  is_value = grind (arith, ints, clamps, length-append, below_append, cases_lt, offset_is, number_at-lt, mul-mod_left)
 
   pub absolute_is : (s : Symbols) (g : GroupingStrategy)
       → absolute_text s g (value_of w) ≡ absolute_numeral_text s (separated_by s g (length w.whole)) w
-  absolute_is s g =
-      let number = (value_of w).number in
-      let count : shown_count (value_of w) ≡ length all =
-      omega (arith, ints, clamps, gap_is (value_of w).lo top, digits.some, length-append w.whole w.fraction) in
-      ap (formatted_down s g top number top) count
-      ∙ number_is s g top number top (length all)
-      ∙ ap (list_text s g top top) digits_are
-      ∙ whole_is s g top w.whole w.fraction top (omega (arith, ints, digits.some))
+  absolute_is s g = grind (arith, ints, clamps, gap_is, length-append, number_is, digits_are, whole_is)
 
 -- digits within the limits are those of a value
 pub digits_are_value : (v : Decimal) (w : Numeral) → HasDigits v w → AreDigits w → IsValue v.absolute
@@ -198,10 +164,7 @@ digits_are_value v w has digits = subst IsValue (sym has.absolute) (is_value w d
 -- by each strategy the text of a value is that of its digits
 pub formatted-digits : (v : Decimal) (w : Numeral) → HasDigits v w → AreDigits w → (s : Symbols) (g : GroupingStrategy)
     → formatted s g v ≡ numeral_text s (separated_by s g (length w.whole)) w
-formatted-digits v w has digits s g =
-    (λ i. (sign_affixes s (has.sign i)).prefix
-    ++ ((ap (absolute_text s g) has.absolute ∙ absolute_is w digits has.few s g) i
-    ++ (sign_affixes s (has.sign i)).suffix))
+formatted-digits v w has digits s g = grind (arith, absolute_is)
 
 -- the digits of a value
 pub digits_of_value : (v : Decimal) → IsValue v.absolute → (w : Numeral) × AreDigits w × HasDigits v w

@@ -14,10 +14,7 @@ use Rattle.decimal_format.specs.Parts.{separators_below}
 -- ---- Quotients and remainders.
 -- subtracting less than the remainder leaves the rest of the remainder
 mod-sub_less : (x d k : ℕ) → 0 < d → k < x % d → (x - k) % d ≡ x % d - k
-mod-sub_less x d k some h =
-    let split : x - k ≡ (x % d - k) + x / d * d = omega (arith, mod-add-div' x d) in
-    let less : x % d - k < d = omega (arith, mod-lt x some) in
-    ap (λ y. y % d) split ∙ add-mul-mod_self_right (x % d - k) (x / d) d ∙ mod-eq_of_lt less
+mod-sub_less x d k some h = grind (arith, mod-add-div', mod-lt, add-mul-mod_self_right, mod-eq_of_lt)
 
 -- the next quotient is one more at a multiple of the divisor
 div-add_one : (x d : ℕ) → 0 < d → (x + 1) / d ≡ x / d + (if (x + 1) % d == 0 then 1 else 0)
@@ -111,10 +108,7 @@ module _ (strategy : GroupingStrategy) (sizes : GroupingSizes) (hi : ℤ) where
   -- a value that is not grouped has none
   pub count-none : (n : ℕ) → (is_grouped strategy sizes hi && nat_lt 0 sizes.primary) ≡ false
       → separators_below strategy sizes hi n ≡ 0
-  count-none n h = none_below n (λ m l. both (is_grouped strategy sizes hi) (nat_lt 0 sizes.primary) _ h)
-    where
-      both : (a b c : Bool) → (a && b) ≡ false → (a && (b && c)) ≡ false
-      both a b c e = grind (arith, e)
+  count-none n h = grind (arith, none_below)
 
   -- a value that is grouped has one after the primary size and after each secondary size above
   pub count-some : 0 < sizes.primary → is_grouped strategy sizes hi ≡ true → (x : ℕ)

@@ -2,7 +2,7 @@
 use Rattle.std.proofs.Common.{◌≡◌, ℕ, ◌+◌, ◌-◌, ◌*◌, ◌%◌, ◌^◌, ◌<◌, ◌≤◌, false, List, [], ◌++◌, length, length-append, append_assoc, append-nil, refl, sym, ◌∙◌, ap, subst, arith, inl, inr, FitsSigned, w16, to_z, of_z}
 use lib.Signed.{mag}
 use Rattle.std.specs.Int.Digits.{AllBelowBase, number_from_digits}
-use Rattle.std.specs.Prelude.{Result, Ok, Err, IsOk, OnErr, ℤ, pos, negsuc, ◌+ℤ◌, ◌-ℤ◌, ◌≤ℤ◌, ◌<ℤ◌}
+use Rattle.std.specs.Prelude.{Result, Ok, Err, IsOk, OnErr, ℤ, pos, negsuc, ◌+ℤ◌, ◌-ℤ◌, ◌≤ℤ◌}
 use Rattle.std.specs.Int.{int_max, int_min, int_gap}
 use Rattle.std.proofs.Math.Nat.{mul-mod_left, mul_assoc, mul-le-mul_right, pow-le-pow_right}
 use Rattle.std.proofs.lemmas.Int.{ints, clamps, to_z-of_z}
@@ -59,11 +59,7 @@ pub zero_in_limits : (n : ℕ) → n ≤ 32768 → leaves_limits zero_value (pos
 zero_in_limits n few = grind (arith, ints, nat_tests)
 
 pub zero_moved : (n : ℕ) → multiplied zero_value (pos (n - 1)) ≡ value_of_first n []
-zero_moved n =
-    let hi : int_max (pos 0 +ℤ pos (n - 1)) (pos 0) ≡ pos (n - 1) = omega (arith, ints, clamps) in
-    let lo : int_min (pos 0 +ℤ pos (n - 1)) (pos 0) ≡ int_min (pos n -ℤ pos 0) (pos 0) = omega (arith, ints, clamps) in
-    let number : 0 * 10 ^ (n - 1) ≡ number_at (n + 32768) [] = omega (arith, no_digits n) in
-    λ i. record { number = number i; hi = hi i; lo = lo i }
+zero_moved n = grind (arith, ints, clamps, no_digits)
 
 -- the number of these digits as an integer
 pub bcd_only : {n k : ℕ} {ds : List ℕ} → IsBcd n k ds → IsBcd n (k + 0) ds
@@ -106,28 +102,19 @@ module _ {whole k word j : ℕ} {v : Unsigned} {ds es : List ℕ} {position : �
 
   es_is : moved_integer ≡ number_at cut es
   unfolding number_at
-  es_is =
-      ap (λ k. integer * 10 ^ k)
-      (omega (arith, ints, next_is.at, offset_is position, next_is.limits.0, next_is.limits.1, holds.count, bcd.count))
+  es_is = grind (arith, ints, offset_is)
 
   sum_is : sum ≡ number_at t (ds ++ es)
-  sum_is =
-      ap (λ x. number_at t ds + x) es_is
-      ∙ sym (number_at-append t ds es (omega (arith, all_count, next_is.limits.1)))
+  sum_is = grind (arith, es_is, number_at-append, all_count)
 
   divides : number_at t ds % 10 ^ cut ≡ 0
   divides = number_at-divides t ds
 
   less : moved_integer < 10 ^ cut
-  less =
-      subst (λ x. x < 10 ^ cut) (sym es_is)
-      (number_at-lt cut es bcd.digits (omega (arith, next_is.limits.1, holds.count, bcd.count)))
+  less = grind (arith, es_is, number_at-lt)
 
   sum_lt : sum < 10 ^ t
-  sum_lt =
-      subst (λ x. x < 10 ^ t) (sym sum_is)
-      (number_at-lt t (ds ++ es) (below_append ds es holds.digits bcd.digits)
-      (omega (arith, all_count, next_is.limits.1)))
+  sum_lt = grind (arith, sum_is, number_at-lt, below_append, all_count)
 
   -- their number of digits is the same at each position
   same_size : size (integer * weight (pos 0)) ≡ size moved_integer
@@ -162,10 +149,7 @@ module _ {whole k word j : ℕ} {v : Unsigned} {ds es : List ℕ} {position : �
 
   -- the value of the digits can be moved to their position
   pub stays_in_limits : leaves_limits next position ≡ false
-  stays_in_limits =
-      let low = next_is.fits.sfits in
-      let zero : int_min (pos j -ℤ pos (length es)) (pos 0) ≡ pos 0 = omega (arith, ints, clamps, bcd.count) in
-      rw zero (grind (arith, ints, nat_tests, next_is.at, next_is.limits.0, next_is.some))
+  stays_in_limits = grind (arith, ints, clamps, nat_tests)
 
   module _ (unmoved moved : Unsigned) (unmoved_is : unmoved ≡ next)
       (shift : moved ≡ multiplied unmoved (to_z w16 (of_z w16 position))) where
@@ -261,27 +245,11 @@ pub record IsAppended (s : Symbols) (whole written done : ℕ) (rest : List ℕ)
 module _ {s : Symbols} {whole written : ℕ} {ds es : List ℕ} where
   pub appended_none : {rest : List ℕ} {v : Unsigned} → HoldsDigits whole written v ds → IsSpelled s rest es
       → IsAppended s whole written 0 rest v ds es
-  appended_none {v = v} holds spelled = record {
-    first = [];
-    others = es;
-    all = refl;
-    count = refl;
-    spelled = spelled;
-    holds = subst (HoldsDigits whole (written + 0) v) (sym (append-nil ds)) (record {
-      digits = holds.digits;
-      count = omega (arith, holds.count);
-      value = holds.value;
-    });
-  }
+  appended_none {v = v} holds spelled = grind (arith, append-nil)
 
   module _ {done : ℕ} {rest : List ℕ} {v : Unsigned} (so_far : IsAppended s whole written done rest v ds es) where
     pub appended_all : length es ≤ done → v ≡ value_of_first whole (ds ++ es)
-    appended_all h =
-        let none = nil_from_length so_far.others
-        (omega (arith, ap length so_far.all, length-append so_far.first so_far.others, so_far.count, h)) in
-        so_far.holds.value
-        ∙ ap (λ l. value_of_first whole (ds ++ l))
-        (sym (so_far.all ∙ ap (λ l. so_far.first ++ l) none ∙ append-nil so_far.first))
+    appended_all h = grind (arith, nil_from_length, length-append, append-nil)
 
     module _ {after : List ℕ} {n k : ℕ} (read : ReadsSpelled s 16 after n k so_far.others) where
       abbrev joined : List ℕ

@@ -19,6 +19,7 @@ returns-in_err-next-clause-memory g c = on_err c.from_residual.result _ (λ ds e
 pub returns-in-Err-clause-ok : goal.returns-in-Err-clause-ok
 returns-in-Err-clause-ok g c = λ ds es holds bcd.
     let next = next_at c.requires c.last_magnitude-position.ensures c.last_magnitude-position.type_inv in
+    let fits = next.fits in
     let f = simp to_z-of_z at c.in-Err.ensures.fits in
     let t = f.1 (subst (λ v. IsFalse (leaves_limits v c.last_magnitude-position.result))
     (sym (c.in_ok-next.ensures.value es (bcd_only bcd))) (stays_in_limits holds bcd next)) in
