@@ -1,5 +1,5 @@
 -- What the loop of `read` knows of a text after each byte.
-use Rattle.std.proofs.Common.{◌≡◌, ℕ, ◌+◌, ◌-◌, ◌*◌, ◌<◌, ◌≤◌, nat_le, Bool, true, false, not, cond, List, length, take, drop, get_or, refl, sym, ◌∙◌, ap, subst, arith}
+use Rattle.std.proofs.Common.{◌≡◌, ℕ, ◌+◌, ◌-◌, ◌*◌, ◌<◌, ◌≤◌, nat_le, Bool, true, false, not, cond, List, length, take, drop, get_or, refl, sym, ◌∙◌, ap, arith}
 use Rattle.std.specs.Prelude.{Some, None}
 use Rattle.std.specs.Char.{is_ascii_digit}
 use Rattle.std.proofs.lemmas.Bool.{and_parts, false≢true}
@@ -13,7 +13,7 @@ use Rattle.plural_rules.specs.declared.parse.numbers.Numbers.TheVariants.{Fit, T
 use Rattle.plural_rules.specs.RulesGrammar.{Grammar}
 use Rattle.plural_rules.specs.RulesReader.{no_categories, no_rules, Partial, after, seen_after, next, at_end, limit, checked_number, numbers_after, all_fit}
 use Rattle.plural_rules.specs.RulesParseResult.{IsFittingPrefix, AreDigits, HasNoDigitBefore, Fits, IsLimitErrorAt}
-use Rattle.plural_rules.proofs.RulesRun.{is_open, starts_number, is_digits, is_valid, transition_is_valid, allowed, any_allowed, run_text, finish, finished, read_text, run_more, read_fits, reached_strictly, FitsSoFar}
+use Rattle.plural_rules.proofs.RulesRun.{is_open, starts_number, is_digits, is_valid, transition_is_valid, allowed, any_allowed, run_text, finish, finished, read_text, run_more, read_fits, reached_strictly}
 use Rattle.plural_rules.proofs.ParserSound.{read-sound}
 use Rattle.plural_rules.proofs.ViablePrefixes.{can_fit, stopped}
 use Rattle.plural_rules.specs.declared.parse.builder.Builder.{Builder}
@@ -64,8 +64,7 @@ checked_first text b empty = record {
 seen_after_is : (e : Event) (p : Partial) → (after e p).seen ≡ seen_after e p.seen
 seen_after_is e p = grind arith
 
-digit_more :
-    (text : List ℕ) (begin i : ℕ) → AreDigits text begin i → is_ascii_digit (get_or text i 0) ≡ true
+digit_more : (text : List ℕ) (begin i : ℕ) → AreDigits text begin i → is_ascii_digit (get_or text i 0) ≡ true
     → AreDigits text begin (i + 1)
 digit_more text begin i before is j from less = grind (arith, before, is)
 
@@ -73,8 +72,7 @@ digit_more text begin i before is j from less = grind (arith, before, is)
 module _ (text : List ℕ) (i : ℕ) (s : State) (p : Partial) (s2 : State) (less : i < length text)
     (front : starts_number s ≡ true → HasNoDigitBefore text i) where
   run_on : (e : Event) → next p.seen s (get_or text i 0) ≡ Some (s2, e) → allowed true e p ≡ true
-      → run_text true (take i text) ≡ Some (s, p)
-      → run_text true (take (i + 1) text) ≡ Some (s2, after e p)
+      → run_text true (take i text) ≡ Some (s, p) → run_text true (take (i + 1) text) ≡ Some (s2, after e p)
   run_on e to may runs = run_more true text i s p less runs to ∙ ap (λ b. cond b (Some (s2, after e p)) None) may
 
   apart : (e : Event) → next p.seen s (get_or text i 0) ≡ Some (s2, e)
@@ -86,15 +84,13 @@ module _ (text : List ℕ) (i : ℕ) (s : State) (p : Partial) (s2 : State) (les
       absurd (grind (arith, valid, digits))
 
   -- one more digit of a number
-  count :
-      (e : Event) (is_modulus : Bool) (begin n : ℕ) → next p.seen s (get_or text i 0) ≡ Some (s2, e)
-      → run_text true (take i text) ≡ Some (s, p) → n ≡ (after e p).number
-      → is_modulus ≡ (after e p).is_divided → allowed true e p ≡ nat_le n (limit is_modulus)
-      → Begun text begin (i + 1) → NumbersAre text (i + 1) s2 (after e p) (checked_number is_modulus begin n)
+  count : (e : Event) (is_modulus : Bool) (begin n : ℕ) → next p.seen s (get_or text i 0) ≡ Some (s2, e)
+      → run_text true (take i text) ≡ Some (s, p) → n ≡ (after e p).number → is_modulus ≡ (after e p).is_divided
+      → allowed true e p ≡ nat_le n (limit is_modulus) → Begun text begin (i + 1)
+      → NumbersAre text (i + 1) s2 (after e p) (checked_number is_modulus begin n)
   count e is_modulus begin n to runs number divided may begun = go (nat_le n (limit is_modulus)) refl
     where
-      more : run_text true (take (i + 1) text)
-          ≡ cond (nat_le n (limit is_modulus)) (Some (s2, after e p)) None
+      more : run_text true (take (i + 1) text) ≡ cond (nat_le n (limit is_modulus)) (Some (s2, after e p)) None
       more =
           run_more true text i s p less runs to ∙ ap (λ b. cond b (Some (s2, after e p)) None) may
 
@@ -109,9 +105,8 @@ module _ (text : List ℕ) (i : ℕ) (s : State) (p : Partial) (s2 : State) (les
             (more ∙ ap (λ b. cond b (Some (s2, after e p)) None) is) can.2 (λ e. can.3),
       )
 
-  numbers_more :
-      (e : Event) (numbers : Numbers) → next p.seen s (get_or text i 0) ≡ Some (s2, e) → NumbersAre text i s p numbers
-      → NumbersAre text (i + 1) s2 (after e p) (numbers_after numbers i e)
+  numbers_more : (e : Event) (numbers : Numbers) → next p.seen s (get_or text i 0) ≡ Some (s2, e)
+      → NumbersAre text i s p numbers → NumbersAre text (i + 1) s2 (after e p) (numbers_after numbers i e)
   numbers_more e (TooLarge begin) to h = h
   numbers_more (event.First d) (Fit n is_modulus begin) to h =
       let fine = (and_parts _ _ (transition_is_valid p.seen s (get_or text i 0) s2 (event.First d) to).0).1 in
@@ -140,21 +135,7 @@ module _ (text : List ℕ) (i : ℕ) (s : State) (p : Partial) (s2 : State) (les
 pub small : {text : List ℕ} {i : ℕ} {s : State} {seen : Categories} {numbers : Numbers} {b : Builder} {is_built : Bool}
     (e : Event) → Checked text i s seen numbers b is_built → is_built ≡ true
     → all_fit (numbers_after numbers i e) ≡ true → IsSmall e b
-small {text} {i} {s} {seen} {numbers} {b} e h built fit = go e numbers h.numbers_are fit
-  where
-    is : partial seen b ≡ h.p
-    is = h.built built
-
-    go : (e : Event) (numbers : Numbers) → NumbersAre text i s h.p numbers → all_fit (numbers_after numbers i e) ≡ true
-        → IsSmall e b
-    go e (TooLarge begin) f fit = absurd (cc)
-    go (event.Digit d) (Fit n is_modulus begin) f fit =
-        let number : b.number ≡ n = ap (λ (p : Partial). p.number) is ∙ sym f.1 in
-        grind (arith, nat_tests, number, fit)
-    go (event.Equal is_equal) (Fit n is_modulus begin) f fit =
-        let fits = subst FitsSoFar (sym is) (reached_strictly (take i text) s h.p f.0).0 in
-        grind (arith, fits)
-    go e (Fit n is_modulus begin) f fit = tt
+small {text} {i} {s} {seen} {numbers} {b} e h built fit = grind (arith, nat_tests, reached_strictly)
 
 pub checked_more :
     {text : List ℕ} {i : ℕ} {s : State} {seen : Categories} {numbers : Numbers} {b b2 : Builder}
@@ -192,9 +173,7 @@ module _ {text : List ℕ} {i : ℕ} {s : State} {seen : Categories} {numbers : 
     (e : Event) (least : length text ≤ i) (h : Checked text i s seen numbers b is_built) (end : at_end s ≡ Some e) where
   reads : (strict : Bool) → run_text strict (take i text) ≡ Some (s, h.p)
       → read_text strict text ≡ Some (after e h.p).rules
-  reads strict runs =
-      ap finish (ap (run_text strict) (sym (take_all i text least)) ∙ runs)
-      ∙ ap (λ m. finished m h.p) end
+  reads strict runs = grind (arith, finish, run_text, take_all, finished)
 
   grammar : Grammar text (after e h.p).rules
   grammar = read-sound (reads false h.runs)

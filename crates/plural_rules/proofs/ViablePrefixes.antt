@@ -25,9 +25,8 @@ abbrev Completion : Bool → State → Partial → Type 0
 Completion strict s p = (more : List ℕ) × (is_some (read strict s p more) ≡ true)
 
 -- a completion with one more byte before it
-completed : (strict : Bool) (s : State) (p : Partial) (c : ℕ) (s2 : State) (e : Event)
-    → next p.seen s c ≡ Some (s2, e) → allowed strict e p ≡ true → Completion strict s2 (after e p)
-    → Completion strict s p
+completed : (strict : Bool) (s : State) (p : Partial) (c : ℕ) (s2 : State) (e : Event) → next p.seen s c ≡ Some (s2, e)
+    → allowed strict e p ≡ true → Completion strict s2 (after e p) → Completion strict s p
 completed strict s p c s2 e h a go = (c ∷ go.0, ap is_some (step strict s p c go.0 s2 e h a) ∙ go.1)
 
 complete_condition : (p : Partial) (k : PluralCategory) → Completion false (condition_of k) p
@@ -100,10 +99,9 @@ small_completion s p h = absurd (false≢true h)
 -- ---- A text at which the reader does not stop.
 
 -- a text, and bytes that complete its state
-completed_text :
-    (strict : Bool) (text : List ℕ) (s : State) (p : Partial)
-    → run_text strict text ≡ Some (s, p) → Completion strict s p
-    → (more : List ℕ) × (rules : List RuleValue) × (read_text strict (text ++ more) ≡ Some rules)
+completed_text : (strict : Bool) (text : List ℕ) (s : State) (p : Partial) → run_text strict text ≡ Some (s, p)
+    → Completion strict s p → (more : List ℕ) × (rules : List RuleValue)
+    × (read_text strict (text ++ more) ≡ Some rules)
 completed_text strict text s p h go =
     let some = some_of (read strict s p go.0) go.1 in (
       go.0,
@@ -142,10 +140,8 @@ stopped strict text more rules none grammar fits =
     absurd (cc)
 
 -- a text that may not end in its state
-pub unended_text :
-    (text : List ℕ) (i : ℕ) (s : State) (p : Partial) → length text ≤ i
-    → run_text false (take i text) ≡ Some (s, p) → is_open p.seen s ≡ true → at_end s ≡ None
-    → IsSyntaxErrorAt text (length text)
+pub unended_text : (text : List ℕ) (i : ℕ) (s : State) (p : Partial) → length text ≤ i → run_text false (take i text)
+    ≡ Some (s, p) → is_open p.seen s ≡ true → at_end s ≡ None → IsSyntaxErrorAt text (length text)
 unended_text text i s p least h opens e =
     let runs : run_text false text ≡ Some (s, p) =
     ap (run_text false) (sym (take_all i text least)) ∙ h in
@@ -160,10 +156,8 @@ unended_text text i s p least h opens e =
     }
 
 -- a text at a byte of which the reader stops
-pub stopped_text :
-    (text : List ℕ) (at : ℕ) (s : State) (p : Partial) → at < length text
-    → run_text false (take at text) ≡ Some (s, p) → is_open p.seen s ≡ true
-    → next p.seen s (get_or text at 0) ≡ None → IsSyntaxErrorAt text at
+pub stopped_text : (text : List ℕ) (at : ℕ) (s : State) (p : Partial) → at < length text → run_text false (take at text)
+    ≡ Some (s, p) → is_open p.seen s ≡ true → next p.seen s (get_or text at 0) ≡ None → IsSyntaxErrorAt text at
 stopped_text text at s p less h opens none =
     let all = run_more false text at s p less h none in
     record {
