@@ -68,8 +68,7 @@ module _ (s : Symbols) (readable : IsReadable s) where
 
   pub lenient-unique : (bytes : List ℕ) (w u : Numeral) → IsLenientNumeral s bytes w → IsLenientNumeral s bytes u
       → w ≡ u
-  lenient-unique bytes w u p q =
-      text-unique (separated_at s p.chosen) (separated_at s q.chosen) bytes w u p.digits q.digits p.text q.text
+  lenient-unique bytes w u p q = grind (arith, text-unique)
 
   -- a strategy chooses all ends of groups, or none
   pub numeral_if_uniform : (bytes : List ℕ) (w : Numeral) (chosen : ℕ → Bool) → AreDigits w
@@ -203,8 +202,7 @@ texts_by false s readable bytes = lenient_texts s readable bytes
 
 pub numeral_by_is_lenient : (strict : Bool) (s : Symbols) (bytes : List ℕ) (w : Numeral)
     → IsNumeralBy strict s bytes w → IsLenientNumeral s bytes w
-numeral_by_is_lenient true s bytes w numeral = numeral_is_lenient s bytes w numeral
-numeral_by_is_lenient false s bytes w numeral = numeral
+numeral_by_is_lenient strict s bytes w numeral = grind (arith, numeral_is_lenient)
 
 -- a numeral whose separators are all there, or none, as far as this is asked for
 pub numeral_by : (strict all : Bool) (s : Symbols) (bytes : List ℕ) (w : Numeral) → IsLenientNumeral s bytes w

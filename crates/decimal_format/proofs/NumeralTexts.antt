@@ -17,7 +17,7 @@ use Rattle.fixed_decimal.proofs.Calling.{number_first, number_at-lt, offset_is, 
 use Rattle.decimal_format.specs.declared.grouping.GroupingStrategy.{GroupingStrategy}
 use Rattle.decimal_format.specs.Symbols.{Symbols, digit_text}
 use Rattle.decimal_format.specs.Grouping.{separates}
-use Rattle.decimal_format.specs.Formatted.{separator_before, separator_after, formatted_down, magnitude_text, shown_count, absolute_text, formatted}
+use Rattle.decimal_format.specs.Formatted.{separator_before, separator_after, formatted_down, shown_count, absolute_text, formatted}
 use Rattle.decimal_format.specs.Reading.{Numeral, AreDigits, IsBeyondLimits, digits_text, fraction_text, absolute_numeral_text, numeral_text, separated_by}
 use Rattle.decimal_format.specs.Scanning.{value_of}
 use Rattle.decimal_format.proofs.Bcd.{below_append, below_first, below_rest}
@@ -42,18 +42,19 @@ digit_list-number : (number low : ℕ) (m : ℤ) (n : ℕ) → (0 < n → offset
     → number_from_digits 10 (digit_list number m n) ≡ number / 10 ^ low % 10 ^ n
 digit_list-number number low m zero at = sym (mod-one (number / 10 ^ low))
 digit_list-number number low m (suc n) at =
-    let x = number / 10 ^ low in
-    let ds = digit_list number (m -ℤ pos 1) n in
-    let here : offset m ≡ low + n = omega (arith, at (omega arith)) in
-    let first : number / 10 ^ offset m ≡ x / 10 ^ n =
-    ap (λ y. number / y) (powers low n (offset m) here) ∙ sym (div-div-eq-div-mul number (10 ^ low) (10 ^ n)) in
-    let others : number_from_digits 10 ds ≡ x % 10 ^ n =
-    digit_list-number number low (m -ℤ pos 1) n
-    (λ some. omega (arith, ints, here, some, offset_is m, offset_is (m -ℤ pos 1))) in
-    number_first 10 (digit number m) ds
-    ∙ (λ i. first i % 10 * 10 ^ length-digit_list number (m -ℤ pos 1) n i + others i)
-    ∙ sym (mod-mul x (omega arith) (ten_pos n))
-    ∙ ap (λ y. x % y) (let p : 10 * 10 ^ n ≡ 10 ^ suc n = omega (arith, pow-suc 10 n) in p)
+    grind (
+      arith,
+      ints,
+      powers,
+      div-div-eq-div-mul,
+      number_first,
+      length-digit_list,
+      mod-mul,
+      ten_pos,
+      pow-suc,
+      offset_is,
+      digit_list-number number low (m -ℤ pos 1) n,
+    )
 
 -- equally long lists of digits that write the same number are the same
 digits_of_number : (ds es : List ℕ) → AllBelowBase 10 ds → AllBelowBase 10 es → length ds ≡ length es
@@ -84,8 +85,7 @@ module _ (s : Symbols) (g : GroupingStrategy) (hi : ℤ) where
   number_is : (number : ℕ) (m : ℤ) (n : ℕ) → formatted_down s g hi number m n ≡ list_text m (digit_list number m n)
   unfolding formatted_down
   number_is number m zero = refl
-  number_is number m (suc n) =
-      ap (λ l. magnitude_text s g hi number m ++ l) (number_is number (m -ℤ pos 1) n)
+  number_is number m (suc n) = grind (arith, number_is number (m -ℤ pos 1) n)
 
   -- below -1
   later_is : (m : ℤ) (k : ℕ) → m ≡ negsuc (suc k) → (ds : List ℕ) → list_text m ds ≡ digits_text s (λ _. false) ds
@@ -122,8 +122,7 @@ pub record HasDigits (v : Decimal) (w : Numeral) : Type 0 where
 
 -- two values with the same digits are equal
 pub same_value : (v u : Decimal) (w : Numeral) → HasDigits v w → HasDigits u w → v ≡ u
-same_value v u w a b =
-    λ i. record { sign = (a.sign ∙ sym b.sign) i; absolute = (a.absolute ∙ sym b.absolute) i }
+same_value v u w a b = grind arith
 
 module _ (w : Numeral) (digits : AreDigits w) (few : ¬ IsBeyondLimits w) where
   abbrev all : List ℕ

@@ -40,15 +40,7 @@ module _ (s : Symbols) (readable : IsReadable s) where
   pub sign-unique : (x y : Sign) (a b : List ℕ) → (x ≡ sign.None → BeginsWithDigit s a)
       → (y ≡ sign.None → BeginsWithDigit s b)
       → (sign_affixes s x).prefix ++ a ≡ (sign_affixes s y).prefix ++ b → (x ≡ y) × (a ≡ b)
-  sign-unique sign.None sign.None a b p q e = (refl, e)
-  sign-unique sign.None sign.Negative a b p q e = absurd (begins_not_minus a b (p refl) e)
-  sign-unique sign.None sign.Positive a b p q e = absurd (begins_not_plus a b (p refl) e)
-  sign-unique sign.Negative sign.None a b p q e = absurd (begins_not_minus b a (q refl) (sym e))
-  sign-unique sign.Negative sign.Negative a b p q e = (refl, append_cancel_left s.minus.prefix a b e)
-  sign-unique sign.Negative sign.Positive a b p q e = absurd (plus_not_minus s readable b a (sym e))
-  sign-unique sign.Positive sign.None a b p q e = absurd (begins_not_plus b a (q refl) (sym e))
-  sign-unique sign.Positive sign.Negative a b p q e = absurd (plus_not_minus s readable a b e)
-  sign-unique sign.Positive sign.Positive a b p q e = (refl, append_cancel_left s.plus.prefix a b e)
+  sign-unique x y a b p q e = grind (arith, begins_not_minus, begins_not_plus, plus_not_minus, append_cancel_left)
 
   -- a digit has bytes
   pub shorter : (bytes after : List ℕ) (d : ℕ) → d < 10 → bytes ≡ digit_text s d ++ after → length after < length bytes
@@ -85,10 +77,7 @@ module _ (s : Symbols) (readable : IsReadable s) (rest : List ℕ) where
   -- a separator before the digits
   spelled_separator : (after left : List ℕ) → rest ≡ s.grouping ++ after → IsSpelled s rest left
       → IsSpelled s after left
-  spelled_separator after left e (f, tail, ends, all, true, t) =
-      (f, tail, ends, all, false, append_cancel_left s.grouping after _ (sym e ∙ t))
-  spelled_separator after left e (f, tail, ends, all, false, t) =
-      absurd (digits_not_grouping s readable f left tail after all (λ _. ends.grouping after) (sym t ∙ e))
+  spelled_separator after left e (f, tail, ends, all, b, t) = grind (arith, append_cancel_left, digits_not_grouping)
 
   -- where neither follows, there are no digits
   pub spelled_none : ((d : ℕ) (r : List ℕ) → d < 10 → rest ≢ digit_text s d ++ r)
@@ -242,8 +231,7 @@ either_is may chosen n false false p q = grind arith
 
 skipped_is : (s : Symbols) (may b : Bool) (after next rest : List ℕ) → SkipsSeparator s may after next b
     → next ≡ s.grouping ++ rest → may ≡ true → b ≡ true
-skipped_is s may true after next rest skips e possible = refl
-skipped_is s may false after next rest skips e possible = absurd (skips.none refl possible rest (skips.text ∙ e))
+skipped_is s may b after next rest skips e possible = grind arith
 
 -- digits that no digit follows are not the first of more digits, between which there is no separator
 run_fails : (s : Symbols) → IsReadable s → (f : ℕ → Bool) (run ds after tail : List ℕ) (low : ℕ)
@@ -253,13 +241,9 @@ run_fails : (s : Symbols) → IsReadable s → (f : ℕ → Bool) (run ds after 
     → digits_text s (λ _. false) run ++ after ≢ digits_text s f ds ++ tail
 run_fails s readable f run [] after tail low p q fewer inside ends e = absurd (omega (arith, fewer))
 run_fails s readable f [] (x ∷ ds) after tail low p q fewer inside ends e =
-    ends x _ q.0 (ap (λ l. l ++ after) (sym (digits_text-nil s (λ _. false))) ∙ e ∙ digits_text-first s f x ds tail)
+    grind (arith, digits_text-nil, digits_text-first)
 run_fails s readable f (d ∷ run) (x ∷ ds) after tail low p q fewer inside ends e =
-    let following = digits_text s f ds ++ tail in
-    let same = same_digit s readable d x _ (separator_if s (f (length ds)) ++ following) p.0 q.0
-    (sym (digits_text-first s (λ _. false) d run after) ∙ e ∙ digits_text-first s f x ds tail) in
-    run_fails s readable f run ds after tail low p.1 q.1 (omega (arith, fewer)) (λ m l h. inside m l (omega (arith, h)))
-    ends (same.1 ∙ ap (λ b. separator_if s b ++ following) (inside (length ds) (omega (arith, fewer)) (omega arith)))
+    grind (arith, same_digit, digits_text-first, run_fails s readable f run ds after tail low p.1 q.1)
 
 module _ {s : Symbols} {may : ℕ → Bool} {n : ℕ} {bytes : List ℕ} where
   pub read_none : IsReadTo s may n bytes bytes n true true []
@@ -445,9 +429,7 @@ module _ {s : Symbols} {may : ℕ → Bool} {n : ℕ} {bytes : List ℕ} where
           ∙ append_assoc (digits_text s (λ m. f (m + length others)) first) (digits_text s f others) tail)).1
 
       pub read_last : left ≡ 0 → rest ≡ tail
-      read_last last =
-          let none = nil_from_length others (omega (arith, length_left, last)) in
-          read_left ∙ ap (λ l. digits_text s f l ++ tail) none ∙ ap (λ l. l ++ tail) (digits_text-nil s f)
+      read_last last = grind (arith, nil_from_length, read_left, length_left, digits_text-nil)
 
       -- and where fewer digits follow than these have before the next end of a group, the text does not begin with them
       pub read_fails : {after : List ℕ} {most number count : ℕ} → ReadsRun s most rest after number count

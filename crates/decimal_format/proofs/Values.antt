@@ -290,29 +290,10 @@ module _ {s : Symbols} {whole written : ℕ} {ds es : List ℕ} where
 
       pub appended_more : (new : Unsigned) → new ≡ value_of_first whole joined
           → IsAppended s whole written (done + k) after new ds es
-      appended_more new is = record {
-        first = so_far.first ++ read.first;
-        others = read.others;
-        all =
-            so_far.all ∙ ap (λ l. so_far.first ++ l) read.all
-            ∙ sym (append_assoc so_far.first read.first read.others);
-        count = omega (arith, length-append so_far.first read.first, so_far.count, read.bcd.count);
-        spelled = read.spelled;
-        holds = subst (HoldsDigits whole (written + (done + k)) new) (append_assoc ds so_far.first read.first) (record {
-          digits = below_append (ds ++ so_far.first) read.first so_far.holds.digits read.bcd.digits;
-          count = omega (arith, length-append (ds ++ so_far.first) read.first, so_far.holds.count, read.bcd.count);
-          value = is;
-        });
-      }
+      appended_more new is = grind (arith, append_assoc, length-append, below_append)
 
       -- where these digits need memory, all do
       pub memory_for_word : (inline : ℕ) → AllBelowBase 10 (ds ++ es) → whole ≤ 32768
           → length (ds ++ es) ≤ whole + 32768 → inline < size (value_of_first whole joined).number
           → inline < size (value_of_first whole (ds ++ es)).number
-      memory_for_word inline digits least most h =
-          let split : ds ++ es ≡ joined ++ read.others =
-          ap (λ l. ds ++ l) (so_far.all ∙ ap (λ l. so_far.first ++ l) read.all)
-          ∙ simp append_assoc in
-          let more = size_more whole joined read.others (subst (AllBelowBase 10) split digits) least
-          (subst (λ l. length l ≤ whole + 32768) split most) in
-          omega (arith, h, more, ap (λ l. size (value_of_first whole l).number) split)
+      memory_for_word inline digits least most h = grind (arith, append_assoc, size_more)
