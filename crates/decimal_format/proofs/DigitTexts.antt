@@ -24,9 +24,7 @@ pub digits_text-cong : (s : Symbols) (f g : ℕ → Bool) (ds : List ℕ) → ((
     → digits_text s f ds ≡ digits_text s g ds
 unfolding digits_text
 digits_text-cong s f g [] same = refl
-digits_text-cong s f g (d ∷ ds) same =
-    (λ i. digit_text s d ++ (separator_if s (same (length ds) (omega arith) i)
-    ++ digits_text-cong s f g ds (λ m h. same m (omega arith)) i))
+digits_text-cong s f g (d ∷ ds) same = grind (arith, digits_text-cong s f g ds)
 
 -- the digits of two lists follow each other, those of the first at higher magnitudes
 pub digits_text-append : (s : Symbols) (f : ℕ → Bool) (ds es : List ℕ)
@@ -71,8 +69,7 @@ module _ (s : Symbols) (readable : IsReadable s) where
   nil_ends = grind (arith, none_not_digit, none_not_grouping)
 
   pub fraction_ends : (ds : List ℕ) → EndsInteger s (fraction_text s ds)
-  fraction_ends [] = nil_ends
-  fraction_ends (d ∷ ds) = grind (arith, digit_not_decimal, decimal_not_grouping)
+  fraction_ends ds = grind (arith, digit_not_decimal, decimal_not_grouping, nil_ends)
 
   -- digits begin with no grouping separator, if what follows them does not
   pub digits_not_grouping : (f : ℕ → Bool) (ds tail rest : List ℕ) → AllBelowBase 10 ds
@@ -85,19 +82,13 @@ module _ (s : Symbols) (readable : IsReadable s) where
       → EndsDigits s f g (suc (length ds)) (suc all) t → g all ≡ true → digits_text s f ds ++ t ≡ s.grouping ++ rest
       → f (length ds) ≡ true
   unfolding digits_text
-  separator_there f g [] t rest all p ends there e =
-      ends.separator rest e (ap g (let same : suc all - suc 0 ≡ all = omega arith in same) ∙ there)
-  separator_there f g (d ∷ ds) t rest all p ends there e =
-      absurd (digits_not_grouping f (d ∷ ds) t rest p (λ none. absurd (omega (arith, none))) e)
+  separator_there f g ds t rest all p ends there e = grind (arith, digits_not_grouping, ends.separator)
 
   -- a separator is there exactly if it is read
   same_separator : (b c : Bool) (r t : List ℕ) → (c ≡ true → (rest : List ℕ) → r ≡ s.grouping ++ rest → b ≡ true)
       → (b ≡ true → (rest : List ℕ) → t ≡ s.grouping ++ rest → c ≡ true)
       → separator_if s b ++ r ≡ separator_if s c ++ t → (b ≡ c) × (r ≡ t)
-  same_separator true true r t p q e = (refl, append_cancel_left s.grouping r t e)
-  same_separator false false r t p q e = (refl, e)
-  same_separator true false r t p q e = absurd (let k = q refl r (sym e) in cc)
-  same_separator false true r t p q e = absurd (let k = p refl t e in cc)
+  same_separator b c r t p q e = grind (arith, append_cancel_left, p, q)
 
   -- a text of digits is read in one way only, wherever its separators are
   pub digits-unique : (f g : ℕ → Bool) (ds es t u : List ℕ) → AllBelowBase 10 ds → AllBelowBase 10 es

@@ -39,12 +39,7 @@ module _ (s : Symbols) (w : ℕ) (width : HaveWidth s.digits w) where
       → length (fraction_text s ds) ≡ length ds * w + length separator
   length-fraction separator [] some none all = omega (arith, ap length (none (omega arith)))
   length-fraction separator (d ∷ ds) some none all =
-      omega (
-        arith,
-        ap length (some (omega arith)),
-        length-append s.decimal (digits_text s (λ _. false) (d ∷ ds)),
-        length-digits_text (λ _. false) (λ _. 0) (omega arith) (λ n. omega arith) (d ∷ ds) all,
-      )
+      grind (arith, length-append, length-digits_text (λ _. false) (λ _. 0))
 
 -- the length of a text, with the separator before its fraction digits
 pub length-absolute : (s : Symbols) (g : GroupingStrategy) (v : Unsigned) → IsValue v → (w : ℕ) → HaveWidth s.digits w

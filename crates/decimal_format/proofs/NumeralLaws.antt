@@ -41,11 +41,8 @@ module _ (s : Symbols) (readable : IsReadable s) where
   fraction-unique [] (y ∷ es) p q e = absurd (none_not_decimal s readable (digits_text s (λ _. false) (y ∷ es)) e)
   fraction-unique (x ∷ ds) [] p q e = absurd (none_not_decimal s readable (digits_text s (λ _. false) (x ∷ ds)) (sym e))
   fraction-unique (x ∷ ds) (y ∷ es) p q e =
-      let a = digits_text s (λ _. false) (x ∷ ds) in
-      let b = digits_text s (λ _. false) (y ∷ es) in
-      (digits-unique s readable (λ _. false) (λ _. false) (x ∷ ds) (y ∷ es) [] [] p q
-      (ends_integer (nil_ends s readable)) (ends_integer (nil_ends s readable))
-      (append-nil a ∙ append_cancel_left s.decimal a b e ∙ sym (append-nil b))).0
+      let none = digits-unique s readable (λ _. false) (λ _. false) (x ∷ ds) (y ∷ es) [] [] p q in
+      grind (arith, none, ends_integer, nil_ends, append-nil, append_cancel_left)
 
   -- a text is that of one numeral, wherever its separators are
   text-unique : (f g : ℕ → Bool) (bytes : List ℕ) (w u : Numeral) → AreDigits w → AreDigits u
@@ -122,7 +119,7 @@ module _ {is_numeral : Numeral → Type 0} {is_written : Decimal → Type 0} (te
   decimal-unique v u p q a b =
       let x = texts.reads v p a in
       let y = texts.reads u q b in
-      same_value v u y.0 (subst (HasDigits v) (texts.unique x.0 y.0 x.1 y.1) x.2) y.2
+      grind (arith, same_value, texts.unique x.0 y.0 x.1 y.1)
 
   -- the text is that of no numeral
   pub nothing_read : (inline : ℕ) → ((w : Numeral) → ¬ is_numeral w) → IsRead inline is_numeral is_written (Err Syntax)

@@ -98,12 +98,7 @@ module _ (s : Symbols) (g : GroupingStrategy) (hi : ℤ) where
 
   fraction_is : (m : ℤ) → m ≡ negsuc zero → (ds : List ℕ) → list_text m ds ≡ fraction_text s ds
   unfolding digits_text
-  fraction_is m at [] = refl
-  fraction_is m at (d ∷ ds) =
-      ap (λ x. list_text x (d ∷ ds)) at
-      ∙ (λ i. (s.decimal ++ append-nil (digit_text s d) i)
-      ++ later_is (negsuc zero -ℤ pos 1) zero (omega (arith, ints)) ds i)
-      ∙ append_assoc s.decimal (digit_text s d) (digits_text s (λ _. false) ds)
+  fraction_is m at ds = grind (arith, ints, append-nil, append_assoc, later_is)
 
   -- integer digits and fraction digits
   whole_is : (ds es : List ℕ) (m : ℤ) → m ≡ pos (length ds) -ℤ pos 1
@@ -158,7 +153,7 @@ module _ (w : Numeral) (digits : AreDigits w) (few : ¬ IsBeyondLimits w) where
 
 -- digits within the limits are those of a value
 pub digits_are_value : (v : Decimal) (w : Numeral) → HasDigits v w → AreDigits w → IsValue v.absolute
-digits_are_value v w has digits = subst IsValue (sym has.absolute) (is_value w digits has.few)
+digits_are_value v w has digits = grind (arith, is_value w digits has.few)
 
 -- by each strategy the text of a value is that of its digits
 pub formatted-digits : (v : Decimal) (w : Numeral) → HasDigits v w → AreDigits w → (s : Symbols) (g : GroupingStrategy)

@@ -128,8 +128,7 @@ module _ (f : Formatted) where
   -- the digits that `write_digits` writes
   pub digits_from : (below : ℕ) (m : ℤ) (n : ℕ) (bytes : List ℕ) → m ≡ magnitude_of f below → n ≡ number
       → EachIndex bytes (λ k. slice_index bytes k ≡ 48 + digit n (m -ℤ pos k)) → AreDigits f below bytes
-  digits_from below m n bytes is same digits k h =
-      digits k h ∙ (λ i. 48 + digit (same i) (is i -ℤ pos k)) ∙ ap (λ x. 48 + digit number x) (below_more below k)
+  digits_from below m n bytes is same digits = grind (arith, below_more)
 
   -- the parts up to some magnitudes of a part
   pub part_more : (below i n : ℕ) (a b c : Option (List ℕ)) (x : List ℕ) → x ≡ part_text f (below + i) n

@@ -27,11 +27,11 @@ begins-append s number tail begins = grind (arith, append_assoc)
 code_shorter : (code bytes after : List ℕ) → ((t : List ℕ) → [] ≢ code ++ t) → bytes ≡ code ++ after
     → length after < length bytes
 code_shorter [] bytes after some e = absurd (some [] refl)
-code_shorter (x ∷ code) bytes after some e = omega (arith, ap length e, length-append (x ∷ code) after)
+code_shorter (x ∷ code) bytes after some e = grind (arith, length-append)
 
 module _ (s : Symbols) (readable : IsReadable s) where
   begins_not_minus : (a b : List ℕ) → BeginsWithDigit s a → a ≢ s.minus.prefix ++ b
-  begins_not_minus a b p e = digit_not_minus s readable p.digit p.following b p.is_digit (sym p.is ∙ e)
+  begins_not_minus a b p e = grind (arith, digit_not_minus)
 
   begins_not_plus : (a b : List ℕ) → BeginsWithDigit s a → a ≢ s.plus.prefix ++ b
   begins_not_plus a b p e = digit_not_plus s readable p.digit p.following b p.is_digit (sym p.is ∙ e)
@@ -83,7 +83,7 @@ module _ (s : Symbols) (readable : IsReadable s) (rest : List ℕ) where
   pub spelled_none : ((d : ℕ) (r : List ℕ) → d < 10 → rest ≢ digit_text s d ++ r)
       → ((r : List ℕ) → rest ≢ s.grouping ++ r) → (left : List ℕ) → IsSpelled s rest left → left ≡ []
   spelled_none no_digit no_separator left (f, tail, ends, all, true, t) = absurd (no_separator _ t)
-  spelled_none no_digit no_separator [] (f, tail, ends, all, false, t) = refl
+  spelled_none no_digit no_separator [] x = grind arith
   spelled_none no_digit no_separator (x ∷ others) (f, tail, ends, all, false, t) =
       absurd (no_digit x _ all.0 (t ∙ digits_text-first s f x others tail))
 
@@ -119,8 +119,7 @@ spelled_start s bytes ds spelled = grind (arith, last_none)
 -- where no fewer digits were to be read, all were
 pub spelled_all : {s : Symbols} {most n k : ℕ} {rest ds : List ℕ} → ReadsSpelled s most rest n k ds → length ds ≤ most
     → HasBcd n k ds
-spelled_all {most = most} {n = n} {k = k} {ds = ds} read few =
-    grind (arith, cases_lt, nil_from_length, length-append, append-nil)
+spelled_all read few = grind (arith, cases_lt, nil_from_length, length-append, append-nil)
 
 -- digits without separators, and nothing else
 pub spelled_plain : (s : Symbols) → IsReadable s → (bytes ds : List ℕ) → AllBelowBase 10 ds
@@ -182,7 +181,7 @@ choose_here : (chosen : ℕ → Bool) (less : ℕ) (b : Bool) → choose chosen 
 choose_here chosen less b = let t : (less == less) ≡ true = search (rules, arith) in rw t refl
 
 choose_other : (chosen : ℕ → Bool) (less m : ℕ) (b : Bool) → m ≢ less → choose chosen less b m ≡ chosen m
-choose_other chosen less m b h = let t : (m == less) ≡ false = grind (arith, nat_tests) in rw t refl
+choose_other chosen less m b h = grind (arith, nat_tests)
 
 -- at the magnitudes from `left` to n - 1 the tests are equal
 abbrev pub Agree : (ℕ → Bool) → (ℕ → Bool) → ℕ → ℕ → Type 0
@@ -225,9 +224,7 @@ either_is : (may chosen : ℕ → Bool) (n : ℕ) (all none : Bool)
     → (all ≡ true ↔ Agree (separated_if may chosen) (separated_if may (λ _. true)) 0 n)
     → (none ≡ true ↔ Agree (separated_if may chosen) (separated_if may (λ _. false)) 0 n)
     → (all || none) ≡ true ↔ IsUniform may chosen n
-either_is may chosen n true none p q = (λ h. (true, λ m high. p.0 refl m (omega arith) high), λ u. refl)
-either_is may chosen n false true p q = (λ h. (false, λ m high. q.0 refl m (omega arith) high), λ u. refl)
-either_is may chosen n false false p q = grind arith
+either_is may chosen n all none p q = grind (arith, p, q)
 
 skipped_is : (s : Symbols) (may b : Bool) (after next rest : List ℕ) → SkipsSeparator s may after next b
     → next ≡ s.grouping ++ rest → may ≡ true → b ≡ true
@@ -450,7 +447,7 @@ none_after_last s = grind (arith, nat_tests)
 -- a strategy separates at all ends of groups, or at none
 pub strategy_is : (s : Symbols) (g : GroupingStrategy) (n m : ℕ)
     → separated_by s g n m ≡ (ends_group s.sizes m && is_grouped g s.sizes (pos (n - 1)))
-strategy_is s g n m = and_comm (is_grouped g s.sizes (pos (n - 1))) (ends_group s.sizes m)
+strategy_is s g n m = grind (arith, and_comm)
 
 -- the strategy that writes all separators, or none
 abbrev pub strategy_if : Bool → GroupingStrategy
@@ -459,8 +456,7 @@ strategy_if false = Never
 
 pub strategy_separates : (s : Symbols) (all : Bool) (n m : ℕ) → m < n
     → (ends_group s.sizes m && all) ≡ separated_by s (strategy_if all) n m
-strategy_separates s false n m inside = and-false (ends_group s.sizes m)
-strategy_separates s true n m inside = grind (arith, ints, nat_tests, and-true, allowed_is)
+strategy_separates s all n m inside = grind (arith, ints, nat_tests, and-true, and-false, allowed_is)
 
 -- ---- Whole numbers.
 -- a number begins with a digit
@@ -481,8 +477,7 @@ number_begins s f w digits = go w.whole digits.some digits.whole
 -- ---- Fractions.
 pub fraction_is : (s : Symbols) (ds : List ℕ) → 0 < length ds
     → s.decimal ++ digits_text s (λ _. false) ds ≡ fraction_text s ds
-fraction_is s [] some = absurd (omega (arith, some))
-fraction_is s (d ∷ ds) some = refl
+fraction_is s ds some = grind arith
 
 -- of a text that is one of fraction digits, all of them were read
 pub fraction_read : {s : Symbols} {n k : ℕ} {text digits rest : List ℕ} → IsReadable s → (text ≡ [] → ⊥)

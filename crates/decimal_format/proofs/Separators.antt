@@ -1,13 +1,12 @@
 -- Where the next separator is, and how many there are.
 use Rattle.std.proofs.Common.{◌≡◌, ℕ, zero, suc, ◌+◌, ◌-◌, ◌*◌, ◌/◌, ◌%◌, ◌<◌, ◌≤◌, inl, inr, Bool, true, false, refl, sym, ◌∙◌, ap, arith}
-use Rattle.std.specs.Prelude.{if◌then◌else◌, ◌==◌, ◌&&◌, nat_lt, nat_le, max, ℤ, pos, ◌≤ℤ◌}
+use Rattle.std.specs.Prelude.{if◌then◌else◌, ◌==◌, ◌&&◌, nat_lt, nat_le, ℤ, pos, ◌≤ℤ◌}
 use Rattle.std.proofs.Math.Nat.{mod-add-div', add-mul-mod_self_right, add-mul-div_right, mod-eq_of_lt, mod-lt, mod_self, mul-mod_left, div_self, div-eq_of_lt, zero-div, zero-mod}
 use Rattle.std.proofs.lemmas.Int.{ints}
 use Rattle.std.proofs.lemmas.Bool.{cases_lt}
 use Rattle.std.proofs.lemmas.Bool.Decides.{nat_tests}
 use Rattle.decimal_format.specs.declared.grouping.GroupingSizes.{GroupingSizes}
 use Rattle.decimal_format.specs.declared.grouping.GroupingStrategy.{GroupingStrategy}
-use Rattle.decimal_format.specs.declared.grouping.GroupingStrategy.TheVariants.{Auto, Never, Always, Min2}
 use Rattle.decimal_format.specs.Grouping.{reaches, is_grouped, secondary_size, ends_group, separates}
 use Rattle.decimal_format.specs.Parts.{separators_below}
 
@@ -82,10 +81,7 @@ module _ (strategy : GroupingStrategy) (sizes : GroupingSizes) (hi : ℤ) where
 
   -- a value that is grouped reaches the primary size
   pub grouped_least : (g : GroupingStrategy) → is_grouped g sizes hi ≡ true → pos sizes.primary ≤ℤ hi
-  grouped_least Auto h = reaches_least (max sizes.min_grouping 1) (omega arith) h
-  grouped_least Never h = absurd (let n : false ≡ true = h in cc)
-  grouped_least Always h = reaches_least 1 (omega arith) h
-  grouped_least Min2 h = reaches_least (max sizes.min_grouping 2) (omega arith) h
+  grouped_least g h = grind (arith, ints, reaches_least)
 
   -- ---- All magnitudes.
   pub separators_below-suc : (n : ℕ) → separators_below strategy sizes hi (suc n)
@@ -101,9 +97,7 @@ module _ (strategy : GroupingStrategy) (sizes : GroupingSizes) (hi : ℤ) where
   none_below : (n : ℕ) → ((m : ℕ) → m < n → separates strategy sizes hi (pos m) ≡ false)
       → separators_below strategy sizes hi n ≡ 0
   none_below zero h = separators_below-zero
-  none_below (suc n) h =
-      separators_below-suc n
-      ∙ (λ i. none_below n (λ m l. h m (omega (arith, l))) i + (if h n (omega arith) i then 1 else 0))
+  none_below (suc n) h = grind (arith, separators_below-suc, none_below n)
 
   -- a value that is not grouped has none
   pub count-none : (n : ℕ) → (is_grouped strategy sizes hi && nat_lt 0 sizes.primary) ≡ false

@@ -1,9 +1,9 @@
 -- The value of digits, appended from left to right.
-use Rattle.std.proofs.Common.{◌≡◌, ℕ, ◌+◌, ◌-◌, ◌*◌, ◌%◌, ◌^◌, ◌<◌, ◌≤◌, false, List, [], ◌++◌, length, length-append, append_assoc, append-nil, refl, sym, ◌∙◌, ap, subst, arith, inl, inr, FitsSigned, w16, to_z, of_z}
+use Rattle.std.proofs.Common.{◌≡◌, ℕ, ◌+◌, ◌-◌, ◌*◌, ◌%◌, ◌^◌, ◌<◌, ◌≤◌, false, List, [], ◌++◌, length, length-append, append_assoc, append-nil, refl, sym, ◌∙◌, ap, subst, arith, FitsSigned, w16, to_z, of_z}
 use lib.Signed.{mag}
 use Rattle.std.specs.Int.Digits.{AllBelowBase, number_from_digits}
 use Rattle.std.specs.Prelude.{Result, Ok, Err, IsOk, OnErr, ℤ, pos, negsuc, ◌+ℤ◌, ◌-ℤ◌, ◌≤ℤ◌}
-use Rattle.std.specs.Int.{int_max, int_min, int_gap}
+use Rattle.std.specs.Int.{int_max, int_min}
 use Rattle.std.proofs.Math.Nat.{mul-mod_left, mul_assoc, mul-le-mul_right, pow-le-pow_right}
 use Rattle.std.proofs.lemmas.Int.{ints, clamps, to_z-of_z}
 use Rattle.std.proofs.lemmas.Bool.{cases_lt}
@@ -11,7 +11,7 @@ use Rattle.std.proofs.lemmas.Bool.Decides.{nat_tests}
 use Rattle.std.proofs.lemmas.List.{nil_from_length}
 use Rattle.std.proofs.lemmas.Int.Digits.{number_lt}
 use Rattle.decimal_digits.specs.Digits.{number_at}
-use Rattle.decimal_digits.specs.Number.{offset, weight, first, last, size}
+use Rattle.decimal_digits.specs.Number.{offset, weight, size}
 use Rattle.decimal_unsigned.specs.Concatenation.{overlaps, concatenated_end, concatenated_size}
 use Rattle.decimal_unsigned.specs.Edits.{leaves_limits, times_power, multiplied}
 use Rattle.decimal_unsigned.specs.Unsigned.{Unsigned, zero_value}
@@ -120,12 +120,9 @@ module _ {whole k word j : ℕ} {v : Unsigned} {ds es : List ℕ} {position : �
   same_size : size (integer * weight (pos 0)) ≡ size moved_integer
   same_size =
       let split : 10 ^ (16 + offset (pos 0)) ≡ 10 ^ 16 * weight (pos 0) = powers 16 (offset (pos 0)) _ refl in
-      let short : length es ≤ 16 = omega (arith, bcd.count, next_is.few) in
-      let most : 10 ^ length es ≤ 10 ^ 16 = pow-le-pow_right (omega arith) short in
-      let small : integer < 10 ^ 16 = omega (arith, number_lt 10 es bcd.digits, most) in
-      let inside : integer * weight (pos 0) < 10 ^ (16 + offset (pos 0)) =
-      omega (arith, split, mul-le-mul_right (weight (pos 0)) small, ten_pos (offset (pos 0))) in
-      size_up integer (offset (pos 0)) (offset position) (16 + offset (pos 0)) t inside (omega (arith, sum_lt))
+      let small : integer < 10 ^ 16 = grind (arith, pow-le-pow_right, number_lt) in
+      size_up integer (offset (pos 0)) (offset position) (16 + offset (pos 0)) t
+      (omega (arith, split, mul-le-mul_right (weight (pos 0)) small, ten_pos (offset (pos 0)))) (omega (arith, sum_lt))
       (omega (arith, offset_is (pos 0))) (omega (arith, next_is.limits.0))
 
   -- the value of the digits as an integer
@@ -140,12 +137,8 @@ module _ {whole k word j : ℕ} {v : Unsigned} {ds es : List ℕ} {position : �
   pub memory_for_integer : (inline : ℕ) → (size next.number ≤ inline → ⊥)
       → inline < size (value_of_first whole (ds ++ es)).number
   memory_for_integer inline more =
-      let grown = size_right (number_at t ds) moved_integer cut t divides less sum_lt
-      (omega (arith, next_is.limits.0)) in
-      elim (cases_lt inline (size next.number)) [
-        | inl h ↦ omega (arith, h, ap size next_number, same_size, grown, ap size sum_is)
-        | inr h ↦ absurd (more h)
-      ]
+      let grown = size_right (number_at t ds) moved_integer cut t divides less sum_lt (omega arith) in
+      grind (arith, cases_lt, next_number, same_size, grown, sum_is)
 
   -- the value of the digits can be moved to their position
   pub stays_in_limits : leaves_limits next position ≡ false
@@ -154,7 +147,7 @@ module _ {whole k word j : ℕ} {v : Unsigned} {ds es : List ℕ} {position : �
   module _ (unmoved moved : Unsigned) (unmoved_is : unmoved ≡ next)
       (shift : moved ≡ multiplied unmoved (to_z w16 (of_z w16 position))) where
     moved_is : moved ≡ multiplied next position
-    moved_is = shift ∙ (λ i. multiplied (unmoved_is i) (to_z-of_z w16 position next_is.fits i))
+    moved_is = grind (arith, to_z-of_z)
 
     moved_number : moved.number ≡ moved_integer
     moved_number =
@@ -170,7 +163,7 @@ module _ {whole k word j : ℕ} {v : Unsigned} {ds es : List ℕ} {position : �
         go (negsuc k) h = integer_down integer k (omega (arith, ints, h))
 
     v_number : v.number ≡ number_at t ds
-    v_number = ap (λ (u : Unsigned). u.number) holds.value
+    v_number = grind arith
 
     -- it is below the other value, which it extends
     pub is_apart : overlaps v moved ≡ false
@@ -211,12 +204,8 @@ module _ {whole k word j : ℕ} {v : Unsigned} {ds es : List ℕ} {position : �
     pub memory_for_sum : (inline : ℕ) → 0 < v.number → 0 < moved.number → inline < concatenated_size v moved
         → inline < size (value_of_first whole (ds ++ es)).number
     memory_for_sum inline some more h =
-        let joined = size_joined (number_at t ds) moved_integer cut t divides less sum_lt
-        (omega (arith, next_is.limits.0))
-        (subst (λ n. 0 < n) v_number some) (subst (λ n. 0 < n) moved_number more) in
-        let size_is : concatenated_size v moved ≡ int_gap (last moved_integer) (first (number_at t ds)) + 1 =
-        λ i. int_gap (last (moved_number i)) (first (v_number i)) + 1 in
-        omega (arith, h, size_is, joined, ap size sum_is)
+        let joined = size_joined (number_at t ds) moved_integer cut t divides less sum_lt (omega arith) in
+        grind (arith, joined, v_number, moved_number, sum_is)
 
 -- ---- The value of the first digits.
 pub holds_none : {whole : ℕ} {v : Unsigned} → v ≡ value_of_first whole [] → HoldsDigits whole 0 v []
@@ -257,36 +246,11 @@ module _ {s : Symbols} {whole written : ℕ} {ds es : List ℕ} where
 
       -- there are some digits, and no more than are left
       pub next_word : done < length es → (0 < k) × (done + k ≤ length es) × IsBcd n k read.first
-      next_word more =
-          let left = length-append so_far.first so_far.others in
-          let split = length-append read.first read.others in (
-            elim (cases_lt 0 k) [
-              | inl some ↦ some
-              | inr none ↦
-                  absurd (omega (
-                    arith,
-                    ap length (read.ends (omega (arith, none))),
-                    ap length read.all,
-                    ap length so_far.all,
-                    left,
-                    split,
-                    read.bcd.count,
-                    so_far.count,
-                    none,
-                    more,
-                  ))
-            ],
-            omega (
-              arith,
-              ap length read.all,
-              ap length so_far.all,
-              left,
-              split,
-              read.bcd.count,
-              so_far.count,
-            ),
-            last_is_bcd n k read.first read.bcd read.at_most,
-          )
+      next_word more = (
+        grind (arith, length-append, cases_lt),
+        grind (arith, length-append),
+        last_is_bcd n k read.first read.bcd read.at_most,
+      )
 
       pub appended_more : (new : Unsigned) → new ≡ value_of_first whole joined
           → IsAppended s whole written (done + k) after new ds es
