@@ -5,6 +5,7 @@ use Rattle.std.proofs.lemmas.Slice.Eq.{starts_is}
 use Rattle.std.specs.List.{starts_with}
 use Rattle.decimal_format.specs.Ascii.{ascii_symbols}
 use Rattle.decimal_format.specs.Readable.{BeginsWith, code, IsReadable}
+use Rattle.std.proofs.Common.{rules}
 
 -- a text does not begin with another
 abbrev pub is_other : List ℕ → List ℕ → Bool
@@ -50,6 +51,4 @@ unfolding lib.Utf8.encode
 ascii_codes_are_apart = refl
 
 pub ascii_is_readable : IsReadable ascii_symbols
-ascii_is_readable = record {
-  apart = λ j p k q begins. texts_apart 14 (code ascii_symbols) ascii_codes_are_apart j k p q begins;
-}
+ascii_is_readable = search (rules, arith, texts_apart, ascii_codes_are_apart)

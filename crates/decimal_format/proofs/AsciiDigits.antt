@@ -1,6 +1,6 @@
 -- The ASCII digits, and digits given in ASCII.
 use Rattle.std.proofs.Common.{◌≡◌, ℕ, suc, ◌+◌, ◌-◌, ◌<◌, ◌≤◌, List, [], ◌∷◌, ◌++◌, length, take, drop, refl, sym, ◌∙◌, ap, arith, append_assoc, append-nil, take-append-drop}
-use Rattle.std.specs.Prelude.{encode_utf8, slice_index, ◌==◌}
+use Rattle.std.specs.Prelude.{encode_utf8, slice_index}
 use Rattle.std.proofs.lemmas.Bool.Decides.{nat_tests}
 use Rattle.std.proofs.lemmas.Str.{encode_ascii}
 use Rattle.std.proofs.lemmas.List.{take_more}
@@ -10,13 +10,11 @@ use Rattle.decimal_format.specs.Ascii.{ascii_digits}
 use Rattle.decimal_format.specs.Parts.{digits_text}
 use Rattle.decimal_format.proofs.Apart.{passes_below}
 use Rattle.decimal_format.specs.Symbols.{Symbols, digit_text}
+use Rattle.decimal_format.proofs.Rules.{steps}
 
 -- the bytes of the ASCII digits
 pub ten_digits : (d : ℕ) → d < 10 → encode_utf8 (slice_index ascii_digits d) ≡ (48 + d) ∷ []
-ten_digits d h =
-    let test = passes_below 10 (λ k. slice_index ascii_digits k == 48 + k) refl d h in
-    let same : slice_index ascii_digits d ≡ 48 + d = grind (arith, nat_tests) in
-    ap encode_utf8 same ∙ encode_ascii (48 + d) (omega (arith, h))
+ten_digits d h = grind (arith, nat_tests, passes_below, encode_ascii)
 
 -- a digit of symbols with ASCII digits
 pub digit_text-ascii : (s : Symbols) (d : ℕ) → s.digits ≡ ascii_digits → d < 10 → digit_text s d ≡ (48 + d) ∷ []
@@ -38,12 +36,7 @@ digits_text-ascii s (byte ∷ rest) e h =
 -- one digit more
 pub digits_text-more : (s : Symbols) (bytes : List ℕ) (i : ℕ) → i < length bytes
     → digits_text s (take (i + 1) bytes) ≡ digits_text s (take i bytes) ++ digit_text s (slice_index bytes i - 48)
-digits_text-more s bytes i h =
-    let f : ℕ → List ℕ = λ b. digit_text s (b - 48) in
-    ap (digits_text s) (take_more bytes i 0 h)
-    ∙ flat_map-append f (take i bytes) (slice_index bytes i ∷ [])
-    ∙ ap (λ l. digits_text s (take i bytes) ++ l)
-    (flat_map-cons f (slice_index bytes i) [] ∙ append-nil (digit_text s (slice_index bytes i - 48)))
+digits_text-more s bytes i h = grind (steps, take_more, flat_map-append, flat_map-cons, append-nil)
 
 -- the digits before one, that digit, and those after it
 pub digits_text-parts : (s : Symbols) (bytes : List ℕ) (i : ℕ) → i < length bytes

@@ -1,6 +1,6 @@
 -- Digits as packed BCD.
-use Rattle.std.proofs.Common.{◌≡◌, ℕ, ◌+◌, ◌*◌, ◌%◌, ◌^◌, ◌<◌, ◌≤◌, List, [], ◌∷◌, ◌++◌, length, length-append, refl, sym, ◌∙◌, ap, subst, arith}
-use Rattle.std.specs.Int.Digits.{AllBelowBase, number_from_digits}
+use Rattle.std.proofs.Common.{◌≡◌, ℕ, ◌+◌, ◌*◌, ◌%◌, ◌^◌, ◌<◌, ◌≤◌, List, [], ◌∷◌, ◌++◌, length-append, refl, sym, ◌∙◌, ap, subst, arith}
+use Rattle.std.specs.Int.Digits.{AllBelowBase}
 use Rattle.std.proofs.lemmas.Int.Digits.{number_after_append, number_lt}
 use Rattle.std.proofs.lemmas.Nat.{shl_whole}
 use Rattle.std.proofs.Math.Nat.{mod-eq_of_lt, pow-le-pow_right}
@@ -24,20 +24,12 @@ below_rest (d ∷ ds) more all = below_rest ds more all.1
 
 -- a digit takes four bits
 pub bcd_lt : (n k : ℕ) (ds : List ℕ) → IsBcd n k ds → n < 16 ^ k
-bcd_lt n k ds is =
-    subst (λ x. x < 16 ^ k) (sym is.number)
-    (subst (λ j. number_from_digits 16 ds < 16 ^ j) is.count (number_lt 16 ds (below_sixteen ds is.digits)))
+bcd_lt n k ds is = grind (arith, number_lt, below_sixteen)
 
 -- digits after others
 pub bcd_append : (n k m j : ℕ) (ds es : List ℕ) → IsBcd n k ds → IsBcd m j es
     → IsBcd (n * 16 ^ j + m) (k + j) (ds ++ es)
-bcd_append n k m j ds es is more = record {
-  digits = below_append ds es is.digits more.digits;
-  count = omega (arith, is.count, more.count, length-append ds es);
-  number =
-      (λ i. is.number i * 16 ^ sym more.count i + more.number i)
-      ∙ sym (number_after_append 16 0 ds es ∙ number_after 16 (number_from_digits 16 ds) es);
-}
+bcd_append n k m j ds es is more = grind (arith, below_append, length-append, number_after_append, number_after)
 
 -- ---- The last sixteen of any number of digits.
 pub last_none : HasBcd 0 0 []
@@ -46,26 +38,11 @@ last_none = record { digits = tt; count = refl; number = refl }
 -- one digit more
 pub last_push : (n k d : ℕ) (ds : List ℕ) → d < 10 → HasBcd n k ds
     → HasBcd (n * 2 ^ 4 % 2 ^ 64 + d) (k + 1) (ds ++ d ∷ [])
-last_push n k d ds below is = record {
-  digits = below_append ds (d ∷ []) is.digits (below, tt);
-  count = omega (arith, is.count, length-append ds (d ∷ []));
-  number =
-      omega (
-        arith,
-        is.number,
-        number_after_append 16 0 ds (d ∷ []),
-        number_after 16 (number_from_digits 16 ds) (d ∷ []),
-      );
-}
+last_push n k d ds below is = grind (arith, below_append, length-append, number_after_append, number_after)
 
 -- sixteen digits have room in a word
 pub last_is_bcd : (n k : ℕ) (ds : List ℕ) → HasBcd n k ds → k ≤ 16 → IsBcd n k ds
-last_is_bcd n k ds is few =
-    let size : length ds ≤ 16 = omega (arith, is.count, few) in
-    let most : 16 ^ length ds ≤ 16 ^ 16 = pow-le-pow_right (omega arith) size in
-    let less : number_from_digits 16 ds < 2 ^ 64 =
-    omega (arith, number_lt 16 ds (below_sixteen ds is.digits), most) in
-    record { digits = is.digits; count = is.count; number = is.number ∙ mod-eq_of_lt less }
+last_is_bcd n k ds is few = grind (arith, pow-le-pow_right, number_lt, below_sixteen, mod-eq_of_lt)
 
 -- the digits of two words that one has room for
 pub short_word : {n k m j : ℕ} {ds es : List ℕ} → HasBcd n k ds → HasBcd m j es → k + j ≤ 16

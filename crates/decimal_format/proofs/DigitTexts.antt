@@ -17,18 +17,14 @@ digits_text-nil s f = refl
 pub digits_text-first : (s : Symbols) (f : ℕ → Bool) (d : ℕ) (ds tail : List ℕ) → digits_text s f (d ∷ ds) ++ tail
     ≡ digit_text s d ++ (separator_if s (f (length ds)) ++ (digits_text s f ds ++ tail))
 unfolding digits_text
-digits_text-first s f d ds tail =
-    append_assoc (digit_text s d) (separator_if s (f (length ds)) ++ digits_text s f ds) tail
-    ∙ ap (λ l. digit_text s d ++ l) (append_assoc (separator_if s (f (length ds))) (digits_text s f ds) tail)
+digits_text-first s f d ds tail = simp append_assoc
 
 -- only the tests of the magnitudes below the number of digits matter
 pub digits_text-cong : (s : Symbols) (f g : ℕ → Bool) (ds : List ℕ) → ((m : ℕ) → m < length ds → f m ≡ g m)
     → digits_text s f ds ≡ digits_text s g ds
 unfolding digits_text
 digits_text-cong s f g [] same = refl
-digits_text-cong s f g (d ∷ ds) same =
-    (λ i. digit_text s d ++ (separator_if s (same (length ds) (omega arith) i)
-    ++ digits_text-cong s f g ds (λ m h. same m (omega arith)) i))
+digits_text-cong s f g (d ∷ ds) same = grind (arith, digits_text-cong s f g ds)
 
 -- the digits of two lists follow each other, those of the first at higher magnitudes
 pub digits_text-append : (s : Symbols) (f : ℕ → Bool) (ds es : List ℕ)
@@ -61,60 +57,38 @@ pub record EndsDigits (s : Symbols) (f g : ℕ → Bool) (n all : ℕ) (t : List
 
 ends_less : {s : Symbols} {f g : ℕ → Bool} {n all : ℕ} {t : List ℕ} → EndsDigits s f g (suc n) (suc all) t
     → EndsDigits s f g n all t
-ends_less {g = g} {n = n} {all = all} ends = record {
-  digit = λ d rest below e. omega (arith, ends.digit d rest below e);
-  separator = λ rest e there. ends.separator rest e
-      (ap g (let same : suc all - suc n ≡ all - n = omega arith in same) ∙ there);
-}
+ends_less {g = g} {n = n} {all = all} ends = grind arith
 
 pub ends_integer : {s : Symbols} {f g : ℕ → Bool} {n all : ℕ} {t : List ℕ} → EndsInteger s t
     → EndsDigits s f g n all t
-ends_integer ends = record {
-  digit = λ d rest below e. absurd (ends.digit d rest below e);
-  separator = λ rest e. absurd (ends.grouping rest e);
-}
+ends_integer ends = grind arith
 
 module _ (s : Symbols) (readable : IsReadable s) where
   -- nothing but integer digits begins with a digit or with a grouping separator
   pub nil_ends : EndsInteger s []
-  nil_ends = record {
-    digit = λ d rest below e. none_not_digit s readable d rest below e;
-    grouping = λ rest e. none_not_grouping s readable rest e;
-  }
+  nil_ends = grind (arith, none_not_digit, none_not_grouping)
 
   pub fraction_ends : (ds : List ℕ) → EndsInteger s (fraction_text s ds)
-  fraction_ends [] = nil_ends
-  fraction_ends (d ∷ ds) = record {
-    digit = λ e rest below h. digit_not_decimal s readable e rest (digits_text s (λ _. false) (d ∷ ds)) below (sym h);
-    grouping = λ rest h. decimal_not_grouping s readable (digits_text s (λ _. false) (d ∷ ds)) rest h;
-  }
+  fraction_ends ds = grind (arith, digit_not_decimal, decimal_not_grouping, nil_ends)
 
   -- digits begin with no grouping separator, if what follows them does not
   pub digits_not_grouping : (f : ℕ → Bool) (ds tail rest : List ℕ) → AllBelowBase 10 ds
       → (length ds ≡ 0 → tail ≢ s.grouping ++ rest) → digits_text s f ds ++ tail ≢ s.grouping ++ rest
   unfolding digits_text
   digits_not_grouping f [] tail rest all ends e = ends refl e
-  digits_not_grouping f (d ∷ ds) tail rest all ends e =
-      digit_not_grouping s readable d (separator_if s (f (length ds)) ++ (digits_text s f ds ++ tail)) rest all.0
-      (sym (digits_text-first s f d ds tail) ∙ e)
+  digits_not_grouping f (d ∷ ds) tail rest all ends e = grind (arith, digit_not_grouping, digits_text-first)
 
   separator_there : (f g : ℕ → Bool) (ds t rest : List ℕ) (all : ℕ) → AllBelowBase 10 ds
       → EndsDigits s f g (suc (length ds)) (suc all) t → g all ≡ true → digits_text s f ds ++ t ≡ s.grouping ++ rest
       → f (length ds) ≡ true
   unfolding digits_text
-  separator_there f g [] t rest all p ends there e =
-      ends.separator rest e (ap g (let same : suc all - suc 0 ≡ all = omega arith in same) ∙ there)
-  separator_there f g (d ∷ ds) t rest all p ends there e =
-      absurd (digits_not_grouping f (d ∷ ds) t rest p (λ none. absurd (omega (arith, none))) e)
+  separator_there f g ds t rest all p ends there e = grind (arith, digits_not_grouping, ends.separator)
 
   -- a separator is there exactly if it is read
   same_separator : (b c : Bool) (r t : List ℕ) → (c ≡ true → (rest : List ℕ) → r ≡ s.grouping ++ rest → b ≡ true)
       → (b ≡ true → (rest : List ℕ) → t ≡ s.grouping ++ rest → c ≡ true)
       → separator_if s b ++ r ≡ separator_if s c ++ t → (b ≡ c) × (r ≡ t)
-  same_separator true true r t p q e = (refl, append_cancel_left s.grouping r t e)
-  same_separator false false r t p q e = (refl, e)
-  same_separator true false r t p q e = absurd (let k = q refl r (sym e) in cc)
-  same_separator false true r t p q e = absurd (let k = p refl t e in cc)
+  same_separator b c r t p q e = grind (arith, append_cancel_left, p, q)
 
   -- a text of digits is read in one way only, wherever its separators are
   pub digits-unique : (f g : ℕ → Bool) (ds es t u : List ℕ) → AllBelowBase 10 ds → AllBelowBase 10 es

@@ -1,69 +1,55 @@
 -- The text by other symbols, or under another strategy.
-use Rattle.std.proofs.Common.{◌≡◌, ℕ, zero, suc, Bool, true, false, List, [], ◌∷◌, ◌++◌, refl, sym, ◌∙◌, ap, append-nil}
-use Rattle.std.specs.Prelude.{if◌then◌else◌, ℤ, pos, negsuc, ◌-ℤ◌}
+use Rattle.std.proofs.Common.{◌≡◌, ℕ, zero, suc, Bool, List, [], ◌++◌, refl, append-nil}
+use Rattle.std.specs.Prelude.{if◌then◌else◌, ℤ, pos, ◌-ℤ◌}
 use Rattle.decimal_digits.specs.Number.{digit}
-use Rattle.decimal_unsigned.specs.Text.{dot_before, text_down, text}
+use Rattle.decimal_unsigned.specs.Text.{dot_before, text_down}
 use Rattle.fixed_decimal.specs.Decimal.{Decimal}
-use Rattle.fixed_decimal.specs.DecimalText.{sign_text, decimal_text}
+use Rattle.fixed_decimal.specs.DecimalText.{decimal_text}
 use Rattle.fixed_decimal.specs.declared.variations.Sign.{Sign}
-use Rattle.fixed_decimal.specs.declared.variations.Sign.TheVariants as sign
 use Rattle.decimal_format.specs.declared.grouping.GroupingSizes.{GroupingSizes}
 use Rattle.decimal_format.specs.declared.grouping.GroupingStrategy.{GroupingStrategy}
 use Rattle.decimal_format.specs.declared.grouping.GroupingStrategy.TheVariants.{Never}
-use Rattle.decimal_format.specs.Symbols.{Symbols, digit_text, sign_affixes, without_grouping}
+use Rattle.decimal_format.specs.Symbols.{Symbols, sign_affixes, without_grouping}
 use Rattle.decimal_format.specs.Ascii.{ascii_with}
-use Rattle.decimal_format.specs.Grouping.{separates}
-use Rattle.decimal_format.specs.Formatted.{separator_before, separator_after, formatted_down, shown_count, absolute_text, formatted}
+use Rattle.decimal_format.specs.Formatted.{separator_before, separator_after, formatted_down, formatted}
 use Rattle.decimal_format.proofs.AsciiDigits.{ten_digits}
 use Rattle.decimal_format.proofs.Magnitudes.{digit_below}
+use Rattle.std.proofs.Common.{arith}
 
 either : (b : Bool) (xs : List ℕ) → (if b then xs else xs) ≡ xs
-either true xs = refl
-either false xs = refl
+either b xs = grind arith
 
 -- under `Never` there is no separator
 never_separates : (s : Symbols) (hi m : ℤ) → separator_after s Never hi m ≡ []
-never_separates s hi (negsuc k) = refl
-never_separates s hi (pos k) = refl
+never_separates s hi m = grind arith
 
 -- an empty separator is empty wherever it is
 empty_separator : (s : Symbols) (g : GroupingStrategy) (hi m : ℤ) → separator_after (without_grouping s) g hi m ≡ []
-empty_separator s g hi m = either (separates g s.sizes hi m) []
+empty_separator s g hi m = grind arith
 
 -- ---- Without groups.
 module _ (s : Symbols) (g : GroupingStrategy) (hi : ℤ) where
   same_before : (m : ℤ) → separator_before (without_grouping s) m ≡ separator_before s m
-  same_before (pos k) = refl
-  same_before (negsuc zero) = refl
-  same_before (negsuc (suc k)) = refl
+  same_before m = grind arith
 
   same_down : (number : ℕ) (m : ℤ) (n : ℕ)
       → formatted_down (without_grouping s) g hi number m n ≡ formatted_down s Never hi number m n
   unfolding formatted_down
   same_down number m zero = refl
   same_down number m (suc n) =
-      (λ i. (same_before m i
-      ++ (digit_text s (digit number m) ++ (empty_separator s g hi m ∙ sym (never_separates s hi m)) i))
-      ++ same_down number (m -ℤ pos 1) n i)
+      grind (arith, same_before, empty_separator, never_separates, same_down number (m -ℤ pos 1) n)
 
 same_affixes : (s : Symbols) (sign : Sign) → sign_affixes (without_grouping s) sign ≡ sign_affixes s sign
-same_affixes s sign.None = refl
-same_affixes s sign.Negative = refl
-same_affixes s sign.Positive = refl
+same_affixes s sign = grind arith
 
 pub groups_insert_separators : (s : Symbols) (strategy : GroupingStrategy) (v : Decimal)
     → formatted (without_grouping s) strategy v ≡ formatted s Never v
-groups_insert_separators s g v =
-    let n = shown_count v.absolute in
-    (λ i. (same_affixes s v.sign i).prefix
-    ++ (same_down s g v.absolute.hi v.absolute.number v.absolute.hi n i ++ (same_affixes s v.sign i).suffix))
+groups_insert_separators s g v = simp (same_affixes, same_down)
 
 -- ---- By the ASCII symbols.
 module _ (grouping : List ℕ) (sizes : GroupingSizes) where
   before_is : (m : ℤ) → separator_before (ascii_with grouping sizes) m ≡ dot_before m
-  before_is (pos k) = refl
-  before_is (negsuc zero) = refl
-  before_is (negsuc (suc k)) = refl
+  before_is m = grind arith
 
   down_is : (hi : ℤ) (number : ℕ) (m : ℤ) (n : ℕ)
       → formatted_down (ascii_with grouping sizes) Never hi number m n ≡ text_down number m n
@@ -75,14 +61,4 @@ module _ (grouping : List ℕ) (sizes : GroupingSizes) where
       ++ down_is hi number (m -ℤ pos 1) n i)
 
   pub ascii_is_plain : (v : Decimal) → formatted (ascii_with grouping sizes) Never v ≡ decimal_text v
-  ascii_is_plain v = go v.sign
-    where
-      middle : absolute_text (ascii_with grouping sizes) Never v.absolute ≡ text v.absolute
-      middle = down_is v.absolute.hi v.absolute.number v.absolute.hi (shown_count v.absolute)
-
-      go : (s : Sign) → (sign_affixes (ascii_with grouping sizes) s).prefix
-          ++ (absolute_text (ascii_with grouping sizes) Never v.absolute
-          ++ (sign_affixes (ascii_with grouping sizes) s).suffix) ≡ sign_text s ++ text v.absolute
-      go sign.None = append-nil _ ∙ middle
-      go sign.Negative = ap (λ l. 45 ∷ l) (append-nil _ ∙ middle)
-      go sign.Positive = ap (λ l. 43 ∷ l) (append-nil _ ∙ middle)
+  ascii_is_plain v = grind (arith, down_is, append-nil)

@@ -10,7 +10,7 @@ use Rattle.fixed_decimal.specs.declared.variations.Sign.TheVariants.{None}
 use Rattle.fixed_decimal.proofs.Calling.{gap_is}
 use Rattle.decimal_format.specs.declared.grouping.GroupingStrategy.{GroupingStrategy}
 use Rattle.decimal_format.specs.Grouping.{separates}
-use Rattle.decimal_format.specs.Symbols.{Symbols, digit_text, HaveWidth}
+use Rattle.decimal_format.specs.Symbols.{Symbols, HaveWidth}
 use Rattle.decimal_format.specs.Formatted.{shown_count, absolute_text}
 use Rattle.decimal_format.specs.Parts.{separators_below}
 use Rattle.decimal_format.specs.Reading.{digits_text, fraction_text}
@@ -31,19 +31,7 @@ module _ (s : Symbols) (w : ℕ) (width : HaveWidth s.digits w) where
   length-digits_text f count zero next [] all =
       omega (arith, ap (λ k. k * length s.grouping) zero)
   length-digits_text f count zero next (d ∷ ds) all =
-      let n = length ds in
-      let one : ℕ = if f n then 1 else 0 in
-      omega (
-        arith,
-        length-append (digit_text s d) (separator_if s (f n) ++ digits_text s f ds),
-        length-append (separator_if s (f n)) (digits_text s f ds),
-        width d all.0,
-        length-separator (f n),
-        length-digits_text f count zero next ds all.1,
-        ap (λ k. k * length s.grouping) (next n),
-        add-mul (count n) one (length s.grouping),
-        add-mul n 1 w,
-      )
+      grind (arith, length-append, length-separator, add-mul, (length-digits_text f count zero next ds all.1))
 
   -- the separator is there if there are fraction digits
   length-fraction : (separator ds : List ℕ) → (0 < length ds → separator ≡ s.decimal)
@@ -51,12 +39,7 @@ module _ (s : Symbols) (w : ℕ) (width : HaveWidth s.digits w) where
       → length (fraction_text s ds) ≡ length ds * w + length separator
   length-fraction separator [] some none all = omega (arith, ap length (none (omega arith)))
   length-fraction separator (d ∷ ds) some none all =
-      omega (
-        arith,
-        ap length (some (omega arith)),
-        length-append s.decimal (digits_text s (λ _. false) (d ∷ ds)),
-        length-digits_text (λ _. false) (λ _. 0) (omega arith) (λ n. omega arith) (d ∷ ds) all,
-      )
+      grind (arith, length-append, length-digits_text (λ _. false) (λ _. 0))
 
 -- the length of a text, with the separator before its fraction digits
 pub length-absolute : (s : Symbols) (g : GroupingStrategy) (v : Unsigned) → IsValue v → (w : ℕ) → HaveWidth s.digits w

@@ -1,3 +1,4 @@
+pub mod Rules
 pub mod AsciiDigits
 pub mod FormattedLaws
 pub mod Lengths

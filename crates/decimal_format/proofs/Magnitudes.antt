@@ -14,10 +14,7 @@ pub formatted_down-add : (s : Symbols) (strategy : GroupingStrategy) (hi : ℤ) 
     → formatted_down s strategy hi number m (i + j)
     ≡ formatted_down s strategy hi number m i ++ formatted_down s strategy hi number (m -ℤ pos i) j
 unfolding formatted_down
-formatted_down-add s strategy hi number m zero j =
-    let n : zero + j ≡ j = omega arith in
-    let k : m ≡ m -ℤ pos zero = omega (arith, ints) in
-    (λ x. formatted_down s strategy hi number (k x) (n x))
+formatted_down-add s strategy hi number m zero j = grind (arith, ints)
 formatted_down-add s strategy hi number m (suc i) j =
     let n : suc i + j ≡ suc (i + j) = omega arith in
     let k : (m -ℤ pos 1) -ℤ pos i ≡ m -ℤ pos (suc i) = omega (arith, ints) in
@@ -40,6 +37,4 @@ module _ (s : Symbols) (strategy : GroupingStrategy) (v : Unsigned) where
   -- one magnitude more
   pub one_more : (i : ℕ) → first_magnitudes (i + 1) ≡ first_magnitudes i ++ nth_text s strategy v i
   unfolding formatted_down
-  one_more i =
-      formatted_down-add s strategy v.hi v.number v.hi i 1
-      ∙ ap (λ l. first_magnitudes i ++ l) (append-nil (nth_text s strategy v i))
+  one_more i = simp (formatted_down-add, append-nil)

@@ -1,16 +1,14 @@
 -- Normal forms, read byte by byte.
-use Rattle.std.proofs.Common.{◌≡◌, ◌≢◌, ℕ, suc, ◌+◌, ◌-◌, ◌*◌, ◌^◌, ◌<◌, ◌≤◌, Bool, true, false, List, [], ◌∷◌, ◌++◌, length, get_or, take, drop, sym, ◌∙◌, ap, arith, append-nil, length-append, length-drop, drop-cons, take-append-drop}
-use Rattle.std.specs.Prelude.{if◌then◌else◌, slice_index}
+use Rattle.std.proofs.Common.{◌≡◌, ◌≢◌, ℕ, ◌+◌, ◌-◌, ◌<◌, ◌≤◌, List, [], ◌∷◌, ◌++◌, length, get_or, take, drop, sym, ◌∙◌, ap, arith, append-nil, length-append, length-drop, drop-cons, take-append-drop}
 use Rattle.std.specs.List.{flat_map}
-use Rattle.std.specs.Str.{IsUtf8, chars}
-use Rattle.std.specs.Char.{is_ascii_digit, encode_utf8}
+use Rattle.std.specs.Str.{chars}
 use Rattle.std.proofs.Math.Seq.{drop-nil, drop-append-add, drop-append_seam}
 use Rattle.std.proofs.Math.ListN.{get_or-append}
-use Rattle.std.proofs.lemmas.List.{drop-drop, take_all, nil_from_length}
+use Rattle.std.proofs.lemmas.List.{drop-drop, nil_from_length}
 use Rattle.std.proofs.lemmas.List.Concat.{flat_map-cons}
-use Rattle.std.proofs.lemmas.Str.{length-encode, len_utf8_bounds, length-le-encodes, encodes-chars}
-use Rattle.decimal_format.specs.Symbols.{Symbols, AreValid}
-use Rattle.decimal_format.specs.Lenient.{is_mark, is_minus, is_plus, is_separator, replacement, replaced}
+use Rattle.decimal_format.specs.Symbols.{Symbols}
+use Rattle.decimal_format.specs.Lenient.{replacement, replaced}
+use Rattle.decimal_format.proofs.Rules.{steps}
 
 -- ---- Steps over a list.
 -- what follows one element more
@@ -50,18 +48,9 @@ module _ (s : Symbols) where
     -- its bytes were read
     pub character_read : (read : ℕ) → length (replacement s c) ≤ read
         → drop read (replaced s bytes) ≡ drop (read - length (replacement s c)) (replaced s rest)
-    character_read read h =
-        let n = length (replacement s c) in
-        let k : read ≡ n + (read - n) = omega (arith, h) in
-        ap (λ x. drop x (replaced s bytes)) k ∙ ap (drop (n + (read - n))) split
-        ∙ drop-append-add (replacement s c) (replaced s rest) (read - n)
+    character_read read h = grind (arith, split, drop-append-add)
 
     -- its next byte
     pub byte_read : (read : ℕ) → read < length (replacement s c)
         → drop read (replaced s bytes) ≡ get_or (replacement s c) read 0 ∷ drop (read + 1) (replaced s bytes)
-    byte_read read h =
-        let inside : read < length (replaced s bytes) =
-        omega (arith, h, ap length split, length-append (replacement s c) (replaced s rest)) in
-        let first = ap (λ l. get_or l read 0) split ∙ get_or-append (replacement s c) (replaced s rest) 0 read h in
-        let one : suc read ≡ read + 1 = omega arith in
-        drop-cons (replaced s bytes) read 0 inside ∙ (λ i. first i ∷ drop (one i) (replaced s bytes))
+    byte_read read h = grind (steps, split, length-append, get_or-append, drop-cons)

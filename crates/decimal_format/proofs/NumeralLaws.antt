@@ -22,6 +22,8 @@ use Rattle.decimal_format.proofs.Codes.{none_not_decimal}
 use Rattle.decimal_format.proofs.DigitTexts.{digits_text-cong, nil_ends, fraction_ends, digits-unique, ends_integer}
 use Rattle.decimal_format.proofs.NumeralTexts.{HasDigits, same_value, digits_are_value, formatted-digits, digits_of_value}
 use Rattle.decimal_format.proofs.Scans.{number_begins, begins-append, sign-unique, strategy_is, strategy_if, strategy_separates}
+use Rattle.std.proofs.Common.{arith}
+use Rattle.std.proofs.Common.{rules}
 
 -- a text by some strategy has separators at ends of groups, all of them or none
 pub numeral_is_lenient : (s : Symbols) (bytes : List ℕ) (w : Numeral) → IsNumeral s bytes w
@@ -39,11 +41,8 @@ module _ (s : Symbols) (readable : IsReadable s) where
   fraction-unique [] (y ∷ es) p q e = absurd (none_not_decimal s readable (digits_text s (λ _. false) (y ∷ es)) e)
   fraction-unique (x ∷ ds) [] p q e = absurd (none_not_decimal s readable (digits_text s (λ _. false) (x ∷ ds)) (sym e))
   fraction-unique (x ∷ ds) (y ∷ es) p q e =
-      let a = digits_text s (λ _. false) (x ∷ ds) in
-      let b = digits_text s (λ _. false) (y ∷ es) in
-      (digits-unique s readable (λ _. false) (λ _. false) (x ∷ ds) (y ∷ es) [] [] p q
-      (ends_integer (nil_ends s readable)) (ends_integer (nil_ends s readable))
-      (append-nil a ∙ append_cancel_left s.decimal a b e ∙ sym (append-nil b))).0
+      let none = digits-unique s readable (λ _. false) (λ _. false) (x ∷ ds) (y ∷ es) [] [] p q in
+      grind (arith, none, ends_integer, nil_ends, append-nil, append_cancel_left)
 
   -- a text is that of one numeral, wherever its separators are
   text-unique : (f g : ℕ → Bool) (bytes : List ℕ) (w u : Numeral) → AreDigits w → AreDigits u
@@ -66,8 +65,7 @@ module _ (s : Symbols) (readable : IsReadable s) where
 
   pub lenient-unique : (bytes : List ℕ) (w u : Numeral) → IsLenientNumeral s bytes w → IsLenientNumeral s bytes u
       → w ≡ u
-  lenient-unique bytes w u p q =
-      text-unique (separated_at s p.chosen) (separated_at s q.chosen) bytes w u p.digits q.digits p.text q.text
+  lenient-unique bytes w u p q = grind (arith, text-unique)
 
   -- a strategy chooses all ends of groups, or none
   pub numeral_if_uniform : (bytes : List ℕ) (w : Numeral) (chosen : ℕ → Bool) → AreDigits w
@@ -101,19 +99,12 @@ module _ (s : Symbols) (readable : IsReadable s) where
 -- the text of a value is that of its digits
 written_digits : (s : Symbols) (bytes : List ℕ) (v : Decimal) → IsValue v.absolute → IsWritten s v bytes
     → (w : Numeral) × IsNumeral s bytes w × HasDigits v w
-written_digits s bytes v valid written =
-    let d = digits_of_value v valid in (
-      d.0,
-      record { digits = d.1; strategy = written.0; text = written.1 ∙ formatted-digits v d.0 d.2 d.1 s written.0 },
-      d.2,
-    )
+written_digits s bytes v valid written = grind (arith, digits_of_value, formatted-digits)
 
 -- the text by `Never` has no separators
 never-digits : (s : Symbols) (v : Decimal) (w : Numeral) → HasDigits v w → AreDigits w
     → formatted s Never v ≡ numeral_text s (λ _. false) w
-never-digits s v w has digits =
-    formatted-digits v w has digits s Never
-    ∙ (λ i. numeral_text s (λ m. (strategy_is s Never (length w.whole) m ∙ and-false (ends_group s.sizes m)) i) w)
+never-digits s v w has digits = search (rules, arith, formatted-digits, strategy_is, and-false)
 
 -- ---- What is read.
 -- a text is that of one of these numerals, and then of one of these decimals
@@ -128,17 +119,11 @@ module _ {is_numeral : Numeral → Type 0} {is_written : Decimal → Type 0} (te
   decimal-unique v u p q a b =
       let x = texts.reads v p a in
       let y = texts.reads u q b in
-      same_value v u y.0 (subst (HasDigits v) (texts.unique x.0 y.0 x.1 y.1) x.2) y.2
+      grind (arith, same_value, texts.unique x.0 y.0 x.1 y.1)
 
   -- the text is that of no numeral
   pub nothing_read : (inline : ℕ) → ((w : Numeral) → ¬ is_numeral w) → IsRead inline is_numeral is_written (Err Syntax)
-  nothing_read inline none = record {
-    found = tt;
-    reads_back = λ v valid written. let t = texts.reads v valid written in absurd (none t.0 t.1);
-    syntax = (λ h. none, λ h. refl);
-    limit = (λ h. absurd (cc), λ h. absurd (none h.0 h.1));
-    memory = λ h. absurd (cc);
-  }
+  nothing_read inline none = grind arith
 
   -- the text is that of a numeral, and the result is the value of its digits
   pub value_read : (inline : ℕ) (w : Numeral) → is_numeral w → (result : Result Decimal ParseError)
@@ -214,8 +199,7 @@ texts_by false s readable bytes = lenient_texts s readable bytes
 
 pub numeral_by_is_lenient : (strict : Bool) (s : Symbols) (bytes : List ℕ) (w : Numeral)
     → IsNumeralBy strict s bytes w → IsLenientNumeral s bytes w
-numeral_by_is_lenient true s bytes w numeral = numeral_is_lenient s bytes w numeral
-numeral_by_is_lenient false s bytes w numeral = numeral
+numeral_by_is_lenient strict s bytes w numeral = grind (arith, numeral_is_lenient)
 
 -- a numeral whose separators are all there, or none, as far as this is asked for
 pub numeral_by : (strict all : Bool) (s : Symbols) (bytes : List ℕ) (w : Numeral) → IsLenientNumeral s bytes w

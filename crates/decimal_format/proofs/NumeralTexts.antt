@@ -15,9 +15,9 @@ use Rattle.decimal_unsigned.specs.Unsigned.{IsValue}
 use Rattle.fixed_decimal.specs.Decimal.{Decimal}
 use Rattle.fixed_decimal.proofs.Calling.{number_first, number_at-lt, offset_is, gap_is, ten_pos, powers}
 use Rattle.decimal_format.specs.declared.grouping.GroupingStrategy.{GroupingStrategy}
-use Rattle.decimal_format.specs.Symbols.{Symbols, digit_text, sign_affixes}
+use Rattle.decimal_format.specs.Symbols.{Symbols, digit_text}
 use Rattle.decimal_format.specs.Grouping.{separates}
-use Rattle.decimal_format.specs.Formatted.{separator_before, separator_after, formatted_down, magnitude_text, shown_count, absolute_text, formatted}
+use Rattle.decimal_format.specs.Formatted.{separator_before, separator_after, formatted_down, shown_count, absolute_text, formatted}
 use Rattle.decimal_format.specs.Reading.{Numeral, AreDigits, IsBeyondLimits, digits_text, fraction_text, absolute_numeral_text, numeral_text, separated_by}
 use Rattle.decimal_format.specs.Scanning.{value_of}
 use Rattle.decimal_format.proofs.Bcd.{below_append, below_first, below_rest}
@@ -42,18 +42,19 @@ digit_list-number : (number low : ℕ) (m : ℤ) (n : ℕ) → (0 < n → offset
     → number_from_digits 10 (digit_list number m n) ≡ number / 10 ^ low % 10 ^ n
 digit_list-number number low m zero at = sym (mod-one (number / 10 ^ low))
 digit_list-number number low m (suc n) at =
-    let x = number / 10 ^ low in
-    let ds = digit_list number (m -ℤ pos 1) n in
-    let here : offset m ≡ low + n = omega (arith, at (omega arith)) in
-    let first : number / 10 ^ offset m ≡ x / 10 ^ n =
-    ap (λ y. number / y) (powers low n (offset m) here) ∙ sym (div-div-eq-div-mul number (10 ^ low) (10 ^ n)) in
-    let others : number_from_digits 10 ds ≡ x % 10 ^ n =
-    digit_list-number number low (m -ℤ pos 1) n
-    (λ some. omega (arith, ints, here, some, offset_is m, offset_is (m -ℤ pos 1))) in
-    number_first 10 (digit number m) ds
-    ∙ (λ i. first i % 10 * 10 ^ length-digit_list number (m -ℤ pos 1) n i + others i)
-    ∙ sym (mod-mul x (omega arith) (ten_pos n))
-    ∙ ap (λ y. x % y) (let p : 10 * 10 ^ n ≡ 10 ^ suc n = omega (arith, pow-suc 10 n) in p)
+    grind (
+      arith,
+      ints,
+      powers,
+      div-div-eq-div-mul,
+      number_first,
+      length-digit_list,
+      mod-mul,
+      ten_pos,
+      pow-suc,
+      offset_is,
+      digit_list-number number low (m -ℤ pos 1) n,
+    )
 
 -- equally long lists of digits that write the same number are the same
 digits_of_number : (ds es : List ℕ) → AllBelowBase 10 ds → AllBelowBase 10 es → length ds ≡ length es
@@ -84,8 +85,7 @@ module _ (s : Symbols) (g : GroupingStrategy) (hi : ℤ) where
   number_is : (number : ℕ) (m : ℤ) (n : ℕ) → formatted_down s g hi number m n ≡ list_text m (digit_list number m n)
   unfolding formatted_down
   number_is number m zero = refl
-  number_is number m (suc n) =
-      ap (λ l. magnitude_text s g hi number m ++ l) (number_is number (m -ℤ pos 1) n)
+  number_is number m (suc n) = grind (arith, number_is number (m -ℤ pos 1) n)
 
   -- below -1
   later_is : (m : ℤ) (k : ℕ) → m ≡ negsuc (suc k) → (ds : List ℕ) → list_text m ds ≡ digits_text s (λ _. false) ds
@@ -98,12 +98,7 @@ module _ (s : Symbols) (g : GroupingStrategy) (hi : ℤ) where
 
   fraction_is : (m : ℤ) → m ≡ negsuc zero → (ds : List ℕ) → list_text m ds ≡ fraction_text s ds
   unfolding digits_text
-  fraction_is m at [] = refl
-  fraction_is m at (d ∷ ds) =
-      ap (λ x. list_text x (d ∷ ds)) at
-      ∙ (λ i. (s.decimal ++ append-nil (digit_text s d) i)
-      ++ later_is (negsuc zero -ℤ pos 1) zero (omega (arith, ints)) ds i)
-      ∙ append_assoc s.decimal (digit_text s d) (digits_text s (λ _. false) ds)
+  fraction_is m at ds = grind (arith, ints, append-nil, append_assoc, later_is)
 
   -- integer digits and fraction digits
   whole_is : (ds es : List ℕ) (m : ℤ) → m ≡ pos (length ds) -ℤ pos 1
@@ -111,14 +106,7 @@ module _ (s : Symbols) (g : GroupingStrategy) (hi : ℤ) where
   unfolding digits_text
   whole_is [] es m at = fraction_is m (omega (arith, ints, at)) es
   whole_is (d ∷ ds) es m at =
-      let separated = λ (k : ℕ). separates g s.sizes hi (pos k) in
-      let here : m ≡ pos (length ds) = omega (arith, ints, at) in
-      ap (λ x. list_text x (d ∷ (ds ++ es))) here
-      ∙ ap (λ l. (digit_text s d ++ separator_after s g hi (pos (length ds))) ++ l)
-      (whole_is ds es (pos (length ds) -ℤ pos 1) refl)
-      ∙ append_assoc (digit_text s d) (separator_after s g hi (pos (length ds)))
-      (digits_text s separated ds ++ fraction_text s es)
-      ∙ sym (digits_text-first s separated d ds (fraction_text s es))
+      grind (arith, ints, append_assoc, digits_text-first, (whole_is ds es (pos (length ds) -ℤ pos 1) refl))
 
 -- ---- A decimal and its digits.
 -- the value of these digits, with this sign
@@ -129,8 +117,7 @@ pub record HasDigits (v : Decimal) (w : Numeral) : Type 0 where
 
 -- two values with the same digits are equal
 pub same_value : (v u : Decimal) (w : Numeral) → HasDigits v w → HasDigits u w → v ≡ u
-same_value v u w a b =
-    λ i. record { sign = (a.sign ∙ sym b.sign) i; absolute = (a.absolute ∙ sym b.absolute) i }
+same_value v u w a b = grind arith
 
 module _ (w : Numeral) (digits : AreDigits w) (few : ¬ IsBeyondLimits w) where
   abbrev all : List ℕ
@@ -158,50 +145,20 @@ module _ (w : Numeral) (digits : AreDigits w) (few : ¬ IsBeyondLimits w) where
   -- they have a value
   pub is_value : IsValue (value_of w)
   unfolding number_at
-  is_value =
-      let n = length w.whole in
-      let size = length-append w.whole w.fraction in
-      let below = below_append w.whole w.fraction digits.whole digits.fraction in
-      let whole : n ≤ 32768 = elim (cases_lt 32768 n) [ inl h ↦ absurd (few (inl h)) | inr h ↦ h ] in
-      let fraction : length w.fraction ≤ 32768 =
-      elim (cases_lt 32768 (length w.fraction)) [ inl h ↦ absurd (few (inr h)) | inr h ↦ h ] in
-      let number = number_from_digits 10 all in
-      let low : offset (value_of w).lo ≡ n + 32768 - length all =
-      omega (arith, ints, clamps, offset_is (value_of w).lo, size, fraction) in
-      record {
-        hi_in = (omega (arith, ints), omega (arith, ints, whole));
-        lo_in = (omega (arith, ints, clamps, size, fraction), omega (arith, ints, clamps));
-        below =
-            subst (λ k. (value_of w).number < 10 ^ k)
-            (let k : n + 32768 ≡ offset top + 1 = omega (arith, offset_is top, digits.some) in k)
-            (number_at-lt (n + 32768) all below (omega (arith, size, fraction)));
-        whole =
-            ap (λ k. (value_of w).number % 10 ^ k) low
-            ∙ mul-mod_left number (10 ^ (n + 32768 - length all));
-      }
+  is_value = grind (arith, ints, clamps, length-append, below_append, cases_lt, offset_is, number_at-lt, mul-mod_left)
 
   pub absolute_is : (s : Symbols) (g : GroupingStrategy)
       → absolute_text s g (value_of w) ≡ absolute_numeral_text s (separated_by s g (length w.whole)) w
-  absolute_is s g =
-      let number = (value_of w).number in
-      let count : shown_count (value_of w) ≡ length all =
-      omega (arith, ints, clamps, gap_is (value_of w).lo top, digits.some, length-append w.whole w.fraction) in
-      ap (formatted_down s g top number top) count
-      ∙ number_is s g top number top (length all)
-      ∙ ap (list_text s g top top) digits_are
-      ∙ whole_is s g top w.whole w.fraction top (omega (arith, ints, digits.some))
+  absolute_is s g = grind (arith, ints, clamps, gap_is, length-append, number_is, digits_are, whole_is)
 
 -- digits within the limits are those of a value
 pub digits_are_value : (v : Decimal) (w : Numeral) → HasDigits v w → AreDigits w → IsValue v.absolute
-digits_are_value v w has digits = subst IsValue (sym has.absolute) (is_value w digits has.few)
+digits_are_value v w has digits = grind (arith, is_value w digits has.few)
 
 -- by each strategy the text of a value is that of its digits
 pub formatted-digits : (v : Decimal) (w : Numeral) → HasDigits v w → AreDigits w → (s : Symbols) (g : GroupingStrategy)
     → formatted s g v ≡ numeral_text s (separated_by s g (length w.whole)) w
-formatted-digits v w has digits s g =
-    (λ i. (sign_affixes s (has.sign i)).prefix
-    ++ ((ap (absolute_text s g) has.absolute ∙ absolute_is w digits has.few s g) i
-    ++ (sign_affixes s (has.sign i)).suffix))
+formatted-digits v w has digits s g = grind (arith, absolute_is)
 
 -- the digits of a value
 pub digits_of_value : (v : Decimal) → IsValue v.absolute → (w : Numeral) × AreDigits w × HasDigits v w

@@ -5,15 +5,16 @@ use Rattle.std.proofs.lemmas.Int.{ints}
 use Rattle.std.proofs.lemmas.List.Edits.{length-between, get_or-between}
 use Rattle.std.proofs.lemmas.List.Concat.{flat_map-cons}
 use Rattle.std.specs.Io.KnownBytes.{Appends}
-use Rattle.std.proofs.KnownBytes.{Appends-nil, Appends-trans}
+use Rattle.std.proofs.KnownBytes.{Appends-nil}
 use Rattle.decimal_digits.specs.AppendsPrefix.{AppendsPrefix}
 use Rattle.fixed_decimal.proofs.Calling.{second_of_three}
 use Rattle.decimal_digits.specs.Number.{digit}
 use Rattle.decimal_format.specs.Grouping.{separates}
 use Rattle.decimal_format.specs.Symbols.{digit_text}
-use Rattle.decimal_format.specs.Formatted.{Formatted, separator_before, separator_after, magnitude_text, formatted_down, shown_count, absolute_text}
+use Rattle.decimal_format.specs.Formatted.{Formatted, separator_before, separator_after, formatted_down, shown_count, absolute_text}
 use Rattle.decimal_format.specs.Parts.{magnitude_of, part_text, AreDigits, IsRun, digits_text, run_text}
 use Rattle.decimal_format.proofs.Magnitudes.{formatted_down-add, digit_below}
+use Rattle.decimal_format.proofs.Rules.{steps}
 
 -- the digits of two pieces without a separator between them
 regroup : (a d t z : List ℕ) → (a ++ (d ++ [])) ++ ([] ++ (t ++ z)) ≡ a ++ ((d ++ t) ++ z)
@@ -34,18 +35,13 @@ module _ (f : Formatted) where
 
   -- a part, and then the next
   part_text-add : (below i j : ℕ) → part_text f below (i + j) ≡ part_text f below i ++ part_text f (below + i) j
-  part_text-add below i j =
-      formatted_down-add f.symbols f.strategy f.value.absolute.hi number (magnitude_of f below) i j
-      ∙ ap (λ m. part_text f below i ++ formatted_down f.symbols f.strategy f.value.absolute.hi number m j)
-      (below_more below i)
+  part_text-add below i j = simp (formatted_down-add, below_more)
 
   part_text-suc : (below n : ℕ) → part_text f below (suc n)
       ≡ (before below ++ (digit_text f.symbols (digit number (magnitude_of f below)) ++ after below))
       ++ part_text f (below + 1) n
   unfolding formatted_down
-  part_text-suc below n =
-      ap (λ m. magnitude_text f.symbols f.strategy f.value.absolute.hi number (magnitude_of f below)
-      ++ formatted_down f.symbols f.strategy f.value.absolute.hi number m n) (below_more below 1)
+  part_text-suc below n = simp below_more
 
   -- the text of digits with no separator between them
   run_is : (below : ℕ) (bytes : List ℕ) → 0 < length bytes → AreDigits f below bytes → IsRun f below (length bytes)
@@ -89,13 +85,7 @@ module _ (f : Formatted) where
   -- the digits from one to another
   digits_between : (below i j : ℕ) (bytes : List ℕ) → j ≤ length bytes → AreDigits f below bytes
       → AreDigits f (below + i) (slice_range bytes i j)
-  digits_between below i j bytes h digits k l =
-      let size : length (slice_range bytes i j) ≡ j - i = length-between bytes i j h in
-      let inside : i + k < j = omega (arith, size, l) in
-      let order : below + (i + k) ≡ below + i + k = omega arith in
-      get_or-between bytes i j k 0 inside
-      ∙ digits (i + k) (omega (arith, inside))
-      ∙ ap (λ x. 48 + digit number (magnitude_of f x)) order
+  digits_between below i j bytes h digits k l = grind (arith, length-between, get_or-between)
 
   -- the integer digits down to the next separator
   pub integer_run : (below m n : ℕ) → magnitude_of f below ≡ pos m → n ≤ m + 1
@@ -127,32 +117,23 @@ module _ (f : Formatted) where
   pub ascii_between : (below i j : ℕ) (bytes : List ℕ) → j ≤ length bytes → AreDigits f below bytes
       → EachIndex (slice_range bytes i j)
       (λ k. (48 ≤ slice_index (slice_range bytes i j) k) × (slice_index (slice_range bytes i j) k < 58))
-  ascii_between below i j bytes h digits k l =
-      let is = digits_between below i j bytes h digits k l in
-      let ten = digit_below number (magnitude_of f (below + i + k)) in
-      (omega (arith, is), omega (arith, is, ten))
+  ascii_between below i j bytes h digits k l = grind (steps, digits_between, digit_below)
 
   -- the grouping separator after a run of integer digits, or none
   pub after_run : (below m n : ℕ) (b : Bool) → magnitude_of f below ≡ pos m → 0 < n → n ≤ m + 1
       → separates f.strategy f.symbols.sizes f.value.absolute.hi (pos (m - (n - 1))) ≡ b
       → (if b then f.symbols.grouping else []) ≡ after (below + n - 1)
-  after_run below m n b is some within test =
-      let at : magnitude_of f (below + n - 1) ≡ pos (m - (n - 1)) = omega (arith, ints, is, some, within) in
-      ap (λ b. if b then f.symbols.grouping else []) (sym test)
-      ∙ ap (separator_after f.symbols f.strategy f.value.absolute.hi) (sym at)
+  after_run below m n b is some within test = grind (arith, ints)
 
   -- the digits that `write_digits` writes
   pub digits_from : (below : ℕ) (m : ℤ) (n : ℕ) (bytes : List ℕ) → m ≡ magnitude_of f below → n ≡ number
       → EachIndex bytes (λ k. slice_index bytes k ≡ 48 + digit n (m -ℤ pos k)) → AreDigits f below bytes
-  digits_from below m n bytes is same digits k h =
-      digits k h ∙ (λ i. 48 + digit (same i) (is i -ℤ pos k)) ∙ ap (λ x. 48 + digit number x) (below_more below k)
+  digits_from below m n bytes is same digits = grind (arith, below_more)
 
   -- the parts up to some magnitudes of a part
   pub part_more : (below i n : ℕ) (a b c : Option (List ℕ)) (x : List ℕ) → x ≡ part_text f (below + i) n
       → Appends a b (part_text f below i) → Appends b c x → Appends a c (part_text f below (i + n))
-  part_more below i n a b c x is p q =
-      subst (Appends a c) (sym (part_text-add below i n))
-      (Appends-trans a b c (part_text f below i) (part_text f (below + i) n) p (subst (Appends b c) is q))
+  part_more below i n a b c x is p q = grind (steps, part_text-add)
 
   pub part_none : (below : ℕ) (a : Option (List ℕ)) → Appends a a (part_text f below 0)
   unfolding formatted_down
@@ -171,6 +152,4 @@ module _ (f : Formatted) where
 
   -- the part of all magnitudes is the text without the sign
   pub whole_part : part_text f 0 (shown_count f.value.absolute) ≡ absolute_text f.symbols f.strategy f.value.absolute
-  whole_part =
-      let first : magnitude_of f 0 ≡ f.value.absolute.hi = omega (arith, ints) in
-      ap (λ m. formatted_down f.symbols f.strategy f.value.absolute.hi number m (shown_count f.value.absolute)) first
+  whole_part = grind (arith, ints)

@@ -12,31 +12,26 @@ use Rattle.fixed_decimal.specs.declared.variations.Sign.TheVariants as sign
 use Rattle.decimal_format.specs.declared.grouping.GroupingStrategy.{GroupingStrategy}
 use Rattle.decimal_format.specs.declared.grouping.GroupingStrategy.TheVariants.{Never, Always}
 use Rattle.decimal_format.specs.Symbols.{Symbols, digit_text, sign_affixes}
-use Rattle.decimal_format.specs.Grouping.{reaches, is_grouped, ends_group}
+use Rattle.decimal_format.specs.Grouping.{is_grouped, ends_group}
 use Rattle.decimal_format.specs.Readable.{IsReadable}
 use Rattle.decimal_format.specs.Reading.{Numeral, AreDigits, digits_text, fraction_text, absolute_numeral_text, separated_by}
-use Rattle.decimal_format.specs.Scanning.{separator_if, separated_if, SkipsSeparator, EndsInteger, BeginsWithDigit, HasBcd, IsUniform, IsSpelled, ReadsSpelled, ReadsRun, ReadsDigits}
+use Rattle.decimal_format.specs.Scanning.{separator_if, separated_if, SkipsSeparator, BeginsWithDigit, HasBcd, IsUniform, IsSpelled, ReadsSpelled, ReadsRun, ReadsDigits}
 use Rattle.decimal_format.proofs.Bcd.{below_append, below_first, below_rest, last_none, last_push}
 use Rattle.decimal_format.proofs.Codes.{same_digit, digit_not_grouping, digit_not_minus, digit_not_plus, plus_not_minus, none_not_decimal, none_not_digit, none_not_grouping}
 use Rattle.decimal_format.proofs.DigitTexts.{digits_text-nil, digits_text-first, digits_text-cong, digits_text-append, digits_text-run, digits_not_grouping, digits-unique, ends_integer, nil_ends, fraction_ends}
 
 -- ---- Signs.
 pub begins-append : (s : Symbols) (number tail : List ℕ) → BeginsWithDigit s number → BeginsWithDigit s (number ++ tail)
-begins-append s number tail begins = record {
-  digit = begins.digit;
-  following = begins.following ++ tail;
-  is_digit = begins.is_digit;
-  is = ap (λ l. l ++ tail) begins.is ∙ append_assoc (digit_text s begins.digit) begins.following tail;
-}
+begins-append s number tail begins = grind (arith, append_assoc)
 
 code_shorter : (code bytes after : List ℕ) → ((t : List ℕ) → [] ≢ code ++ t) → bytes ≡ code ++ after
     → length after < length bytes
 code_shorter [] bytes after some e = absurd (some [] refl)
-code_shorter (x ∷ code) bytes after some e = omega (arith, ap length e, length-append (x ∷ code) after)
+code_shorter (x ∷ code) bytes after some e = grind (arith, length-append)
 
 module _ (s : Symbols) (readable : IsReadable s) where
   begins_not_minus : (a b : List ℕ) → BeginsWithDigit s a → a ≢ s.minus.prefix ++ b
-  begins_not_minus a b p e = digit_not_minus s readable p.digit p.following b p.is_digit (sym p.is ∙ e)
+  begins_not_minus a b p e = grind (arith, digit_not_minus)
 
   begins_not_plus : (a b : List ℕ) → BeginsWithDigit s a → a ≢ s.plus.prefix ++ b
   begins_not_plus a b p e = digit_not_plus s readable p.digit p.following b p.is_digit (sym p.is ∙ e)
@@ -45,15 +40,7 @@ module _ (s : Symbols) (readable : IsReadable s) where
   pub sign-unique : (x y : Sign) (a b : List ℕ) → (x ≡ sign.None → BeginsWithDigit s a)
       → (y ≡ sign.None → BeginsWithDigit s b)
       → (sign_affixes s x).prefix ++ a ≡ (sign_affixes s y).prefix ++ b → (x ≡ y) × (a ≡ b)
-  sign-unique sign.None sign.None a b p q e = (refl, e)
-  sign-unique sign.None sign.Negative a b p q e = absurd (begins_not_minus a b (p refl) e)
-  sign-unique sign.None sign.Positive a b p q e = absurd (begins_not_plus a b (p refl) e)
-  sign-unique sign.Negative sign.None a b p q e = absurd (begins_not_minus b a (q refl) (sym e))
-  sign-unique sign.Negative sign.Negative a b p q e = (refl, append_cancel_left s.minus.prefix a b e)
-  sign-unique sign.Negative sign.Positive a b p q e = absurd (plus_not_minus s readable b a (sym e))
-  sign-unique sign.Positive sign.None a b p q e = absurd (begins_not_plus b a (q refl) (sym e))
-  sign-unique sign.Positive sign.Negative a b p q e = absurd (plus_not_minus s readable a b e)
-  sign-unique sign.Positive sign.Positive a b p q e = (refl, append_cancel_left s.plus.prefix a b e)
+  sign-unique x y a b p q e = grind (arith, begins_not_minus, begins_not_plus, plus_not_minus, append_cancel_left)
 
   -- a digit has bytes
   pub shorter : (bytes after : List ℕ) (d : ℕ) → d < 10 → bytes ≡ digit_text s d ++ after → length after < length bytes
@@ -69,20 +56,11 @@ module _ (s : Symbols) (readable : IsReadable s) where
       → length ds + length after ≤ length (digits_text s f ds ++ after)
   text_length f [] after all = omega (arith, ap (λ l. length (l ++ after)) (digits_text-nil s f))
   text_length f (d ∷ ds) after all =
-      let more = digits_text s f ds ++ after in
-      let separator = separator_if s (f (length ds)) in
-      omega (
-        arith,
-        shorter _ (separator ++ more) d all.0 (digits_text-first s f d ds after),
-        length-append separator more,
-        text_length f ds after all.1,
-      )
+      grind (arith, shorter, digits_text-first, length-append, (text_length f ds after all.1))
 
 run_length : {s : Symbols} {most : ℕ} {bytes after : List ℕ} {number k : ℕ} → IsReadable s
     → ReadsRun s most bytes after number k → k + length after ≤ length bytes
-run_length {s = s} {after = after} readable run =
-    let most = text_length s readable (λ _. false) run.digits after run.bcd.digits in
-    omega (arith, ap length run.text, most, run.bcd.count)
+run_length {s = s} {after = after} readable run = grind (arith, text_length)
 
 -- ---- Digits with separators anywhere.
 module _ (s : Symbols) (readable : IsReadable s) (rest : List ℕ) where
@@ -94,22 +72,18 @@ module _ (s : Symbols) (readable : IsReadable s) (rest : List ℕ) where
   spelled_digit after [] d below e (f, tail, ends, all, false, t) =
       absurd (ends.digit d after below (ap (λ l. l ++ tail) (sym (digits_text-nil s f)) ∙ sym t ∙ e))
   spelled_digit after (x ∷ others) d below e (f, tail, ends, all, false, t) =
-      let same = same_digit s readable d x after _ below all.0 (sym e ∙ t ∙ digits_text-first s f x others tail) in
-      (others, ap (λ y. y ∷ others) (sym same.0), (f, tail, ends, all.1, f (length others), same.1))
+      grind (arith, same_digit, digits_text-first)
 
   -- a separator before the digits
   spelled_separator : (after left : List ℕ) → rest ≡ s.grouping ++ after → IsSpelled s rest left
       → IsSpelled s after left
-  spelled_separator after left e (f, tail, ends, all, true, t) =
-      (f, tail, ends, all, false, append_cancel_left s.grouping after _ (sym e ∙ t))
-  spelled_separator after left e (f, tail, ends, all, false, t) =
-      absurd (digits_not_grouping s readable f left tail after all (λ _. ends.grouping after) (sym t ∙ e))
+  spelled_separator after left e (f, tail, ends, all, b, t) = grind (arith, append_cancel_left, digits_not_grouping)
 
   -- where neither follows, there are no digits
   pub spelled_none : ((d : ℕ) (r : List ℕ) → d < 10 → rest ≢ digit_text s d ++ r)
       → ((r : List ℕ) → rest ≢ s.grouping ++ r) → (left : List ℕ) → IsSpelled s rest left → left ≡ []
   spelled_none no_digit no_separator left (f, tail, ends, all, true, t) = absurd (no_separator _ t)
-  spelled_none no_digit no_separator [] (f, tail, ends, all, false, t) = refl
+  spelled_none no_digit no_separator [] x = grind arith
   spelled_none no_digit no_separator (x ∷ others) (f, tail, ends, all, false, t) =
       absurd (no_digit x _ all.0 (t ∙ digits_text-first s f x others tail))
 
@@ -132,51 +106,20 @@ module _ (s : Symbols) (readable : IsReadable s) (rest : List ℕ) where
 
     -- a separator
     pub spelled_skip : (after : List ℕ) → rest ≡ s.grouping ++ after → ReadsSpelled s k after n k ds
-    spelled_skip after e = record {
-      first = read.first;
-      others = read.others;
-      all = read.all;
-      bcd = read.bcd;
-      at_most = read.at_most;
-      spelled = spelled_separator after read.others e read.spelled;
-      ends = read.ends;
-    }
+    spelled_skip after e = grind (arith, spelled_separator)
 
     -- no more digits were to be read, or none follows
     pub spelled_most : (most : ℕ) → k ≤ most → (k < most → (left : List ℕ) → IsSpelled s rest left → left ≡ [])
         → ReadsSpelled s most rest n k ds
-    spelled_most most few ends = record {
-      first = read.first;
-      others = read.others;
-      all = read.all;
-      bcd = read.bcd;
-      at_most = few;
-      spelled = read.spelled;
-      ends = λ less. ends less read.others read.spelled;
-    }
+    spelled_most most few ends = search (rules, arith)
 
 pub spelled_start : (s : Symbols) (bytes ds : List ℕ) → IsSpelled s bytes ds → ReadsSpelled s 0 bytes 0 0 ds
-spelled_start s bytes ds spelled = record {
-  first = [];
-  others = ds;
-  all = refl;
-  bcd = last_none;
-  at_most = omega arith;
-  spelled = spelled;
-  ends = λ few. absurd (omega (arith, few));
-}
+spelled_start s bytes ds spelled = grind (arith, last_none)
 
 -- where no fewer digits were to be read, all were
 pub spelled_all : {s : Symbols} {most n k : ℕ} {rest ds : List ℕ} → ReadsSpelled s most rest n k ds → length ds ≤ most
     → HasBcd n k ds
-spelled_all {most = most} {n = n} {k = k} {ds = ds} read few =
-    let none : read.others ≡ [] = elim (cases_lt k most) [
-      | inl less ↦ read.ends less
-      | inr full ↦
-          nil_from_length read.others
-          (omega (arith, ap length read.all, length-append read.first read.others, read.bcd.count, few, full))
-    ] in
-    subst (HasBcd n k) (sym (read.all ∙ ap (λ l. read.first ++ l) none ∙ append-nil read.first)) read.bcd
+spelled_all read few = grind (arith, cases_lt, nil_from_length, length-append, append-nil)
 
 -- digits without separators, and nothing else
 pub spelled_plain : (s : Symbols) → IsReadable s → (bytes ds : List ℕ) → AllBelowBase 10 ds
@@ -201,21 +144,12 @@ whole_bcd s readable f w bytes rest n k digits e few read =
 
 -- ---- Digits that follow each other.
 pub run_none : (s : Symbols) (bytes : List ℕ) → ReadsRun s 0 bytes bytes 0 0
-run_none s bytes = record {
-  digits = [];
-  bcd = last_none;
-  at_most = omega arith;
-  text = ap (λ l. l ++ bytes) (sym (digits_text-nil s (λ _. false)));
-  ends = λ few. absurd (omega (arith, few));
-}
+run_none s bytes = grind (arith, last_none, digits_text-nil)
 
 -- the text of digits and then of others
 text_append : (s : Symbols) (bytes ds rest es after : List ℕ) → bytes ≡ digits_text s (λ _. false) ds ++ rest
     → rest ≡ digits_text s (λ _. false) es ++ after → bytes ≡ digits_text s (λ _. false) (ds ++ es) ++ after
-text_append s bytes ds rest es after e more =
-    e ∙ ap (λ l. digits_text s (λ _. false) ds ++ l) more
-    ∙ sym (append_assoc (digits_text s (λ _. false) ds) (digits_text s (λ _. false) es) after)
-    ∙ ap (λ l. l ++ after) (sym (digits_text-append s (λ _. false) ds es))
+text_append s bytes ds rest es after e more = grind (arith, append_assoc, digits_text-append)
 
 -- one digit more
 pub run_push : {s : Symbols} {bytes rest : List ℕ} {n k : ℕ} (after : List ℕ) (d : ℕ) → d < 10
@@ -236,13 +170,7 @@ run_push {s = s} {bytes = bytes} {rest = rest} {n = n} {k = k} after d below e r
 -- no more digits were to be read, or none follows
 pub run_most : {s : Symbols} {most : ℕ} {bytes rest : List ℕ} {n k : ℕ} → ReadsRun s k bytes rest n k → k ≤ most
     → (k < most → (d : ℕ) (r : List ℕ) → d < 10 → rest ≢ digit_text s d ++ r) → ReadsRun s most bytes rest n k
-run_most read few ends = record {
-  digits = read.digits;
-  bcd = read.bcd;
-  at_most = few;
-  text = read.text;
-  ends = ends;
-}
+run_most read few ends = grind arith
 
 -- ---- Chosen magnitudes.
 -- the same choice, but for one magnitude
@@ -253,7 +181,7 @@ choose_here : (chosen : ℕ → Bool) (less : ℕ) (b : Bool) → choose chosen 
 choose_here chosen less b = let t : (less == less) ≡ true = search (rules, arith) in rw t refl
 
 choose_other : (chosen : ℕ → Bool) (less m : ℕ) (b : Bool) → m ≢ less → choose chosen less b m ≡ chosen m
-choose_other chosen less m b h = let t : (m == less) ≡ false = grind (arith, nat_tests) in rw t refl
+choose_other chosen less m b h = grind (arith, nat_tests)
 
 -- at the magnitudes from `left` to n - 1 the tests are equal
 abbrev pub Agree : (ℕ → Bool) → (ℕ → Bool) → ℕ → ℕ → Type 0
@@ -296,18 +224,11 @@ either_is : (may chosen : ℕ → Bool) (n : ℕ) (all none : Bool)
     → (all ≡ true ↔ Agree (separated_if may chosen) (separated_if may (λ _. true)) 0 n)
     → (none ≡ true ↔ Agree (separated_if may chosen) (separated_if may (λ _. false)) 0 n)
     → (all || none) ≡ true ↔ IsUniform may chosen n
-either_is may chosen n true none p q = (λ h. (true, λ m high. p.0 refl m (omega arith) high), λ u. refl)
-either_is may chosen n false true p q = (λ h. (false, λ m high. q.0 refl m (omega arith) high), λ u. refl)
-either_is may chosen n false false p q = (λ h. absurd (cc), λ u. go u.0 u.1)
-  where
-    go : (all : Bool) → ((m : ℕ) → m < n → separated_if may chosen m ≡ separated_if may (λ _. all) m) → false ≡ true
-    go true same = p.1 (λ m low high. same m high)
-    go false same = q.1 (λ m low high. same m high)
+either_is may chosen n all none p q = grind (arith, p, q)
 
 skipped_is : (s : Symbols) (may b : Bool) (after next rest : List ℕ) → SkipsSeparator s may after next b
     → next ≡ s.grouping ++ rest → may ≡ true → b ≡ true
-skipped_is s may true after next rest skips e possible = refl
-skipped_is s may false after next rest skips e possible = absurd (skips.none refl possible rest (skips.text ∙ e))
+skipped_is s may b after next rest skips e possible = grind arith
 
 -- digits that no digit follows are not the first of more digits, between which there is no separator
 run_fails : (s : Symbols) → IsReadable s → (f : ℕ → Bool) (run ds after tail : List ℕ) (low : ℕ)
@@ -317,13 +238,9 @@ run_fails : (s : Symbols) → IsReadable s → (f : ℕ → Bool) (run ds after 
     → digits_text s (λ _. false) run ++ after ≢ digits_text s f ds ++ tail
 run_fails s readable f run [] after tail low p q fewer inside ends e = absurd (omega (arith, fewer))
 run_fails s readable f [] (x ∷ ds) after tail low p q fewer inside ends e =
-    ends x _ q.0 (ap (λ l. l ++ after) (sym (digits_text-nil s (λ _. false))) ∙ e ∙ digits_text-first s f x ds tail)
+    grind (arith, digits_text-nil, digits_text-first)
 run_fails s readable f (d ∷ run) (x ∷ ds) after tail low p q fewer inside ends e =
-    let following = digits_text s f ds ++ tail in
-    let same = same_digit s readable d x _ (separator_if s (f (length ds)) ++ following) p.0 q.0
-    (sym (digits_text-first s (λ _. false) d run after) ∙ e ∙ digits_text-first s f x ds tail) in
-    run_fails s readable f run ds after tail low p.1 q.1 (omega (arith, fewer)) (λ m l h. inside m l (omega (arith, h)))
-    ends (same.1 ∙ ap (λ b. separator_if s b ++ following) (inside (length ds) (omega (arith, fewer)) (omega arith)))
+    grind (arith, same_digit, digits_text-first, run_fails s readable f run ds after tail low p.1 q.1)
 
 module _ {s : Symbols} {may : ℕ → Bool} {n : ℕ} {bytes : List ℕ} where
   pub read_none : IsReadTo s may n bytes bytes n true true []
@@ -509,9 +426,7 @@ module _ {s : Symbols} {may : ℕ → Bool} {n : ℕ} {bytes : List ℕ} where
           ∙ append_assoc (digits_text s (λ m. f (m + length others)) first) (digits_text s f others) tail)).1
 
       pub read_last : left ≡ 0 → rest ≡ tail
-      read_last last =
-          let none = nil_from_length others (omega (arith, length_left, last)) in
-          read_left ∙ ap (λ l. digits_text s f l ++ tail) none ∙ ap (λ l. l ++ tail) (digits_text-nil s f)
+      read_last last = grind (arith, nil_from_length, read_left, length_left, digits_text-nil)
 
       -- and where fewer digits follow than these have before the next end of a group, the text does not begin with them
       pub read_fails : {after : List ℕ} {most number count : ℕ} → ReadsRun s most rest after number count
@@ -532,7 +447,7 @@ none_after_last s = grind (arith, nat_tests)
 -- a strategy separates at all ends of groups, or at none
 pub strategy_is : (s : Symbols) (g : GroupingStrategy) (n m : ℕ)
     → separated_by s g n m ≡ (ends_group s.sizes m && is_grouped g s.sizes (pos (n - 1)))
-strategy_is s g n m = and_comm (is_grouped g s.sizes (pos (n - 1))) (ends_group s.sizes m)
+strategy_is s g n m = grind (arith, and_comm)
 
 -- the strategy that writes all separators, or none
 abbrev pub strategy_if : Bool → GroupingStrategy
@@ -541,10 +456,7 @@ strategy_if false = Never
 
 pub strategy_separates : (s : Symbols) (all : Bool) (n m : ℕ) → m < n
     → (ends_group s.sizes m && all) ≡ separated_by s (strategy_if all) n m
-strategy_separates s false n m inside = and-false (ends_group s.sizes m)
-strategy_separates s true n m inside =
-    and-true (ends_group s.sizes m)
-    ∙ sym (allowed_is (reaches s.sizes 1 (pos (n - 1))) (ends_group s.sizes m) (λ h. grind (arith, ints, nat_tests)))
+strategy_separates s all n m inside = grind (arith, ints, nat_tests, and-true, and-false, allowed_is)
 
 -- ---- Whole numbers.
 -- a number begins with a digit
@@ -565,8 +477,7 @@ number_begins s f w digits = go w.whole digits.some digits.whole
 -- ---- Fractions.
 pub fraction_is : (s : Symbols) (ds : List ℕ) → 0 < length ds
     → s.decimal ++ digits_text s (λ _. false) ds ≡ fraction_text s ds
-fraction_is s [] some = absurd (omega (arith, some))
-fraction_is s (d ∷ ds) some = refl
+fraction_is s ds some = grind arith
 
 -- of a text that is one of fraction digits, all of them were read
 pub fraction_read : {s : Symbols} {n k : ℕ} {text digits rest : List ℕ} → IsReadable s → (text ≡ [] → ⊥)

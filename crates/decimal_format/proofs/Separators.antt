@@ -1,23 +1,19 @@
 -- Where the next separator is, and how many there are.
 use Rattle.std.proofs.Common.{◌≡◌, ℕ, zero, suc, ◌+◌, ◌-◌, ◌*◌, ◌/◌, ◌%◌, ◌<◌, ◌≤◌, inl, inr, Bool, true, false, refl, sym, ◌∙◌, ap, arith}
-use Rattle.std.specs.Prelude.{if◌then◌else◌, ◌==◌, ◌&&◌, nat_lt, nat_le, max, ℤ, pos, ◌≤ℤ◌}
+use Rattle.std.specs.Prelude.{if◌then◌else◌, ◌==◌, ◌&&◌, nat_lt, nat_le, ℤ, pos, ◌≤ℤ◌}
 use Rattle.std.proofs.Math.Nat.{mod-add-div', add-mul-mod_self_right, add-mul-div_right, mod-eq_of_lt, mod-lt, mod_self, mul-mod_left, div_self, div-eq_of_lt, zero-div, zero-mod}
 use Rattle.std.proofs.lemmas.Int.{ints}
 use Rattle.std.proofs.lemmas.Bool.{cases_lt}
 use Rattle.std.proofs.lemmas.Bool.Decides.{nat_tests}
 use Rattle.decimal_format.specs.declared.grouping.GroupingSizes.{GroupingSizes}
 use Rattle.decimal_format.specs.declared.grouping.GroupingStrategy.{GroupingStrategy}
-use Rattle.decimal_format.specs.declared.grouping.GroupingStrategy.TheVariants.{Auto, Never, Always, Min2}
 use Rattle.decimal_format.specs.Grouping.{reaches, is_grouped, secondary_size, ends_group, separates}
 use Rattle.decimal_format.specs.Parts.{separators_below}
 
 -- ---- Quotients and remainders.
 -- subtracting less than the remainder leaves the rest of the remainder
 mod-sub_less : (x d k : ℕ) → 0 < d → k < x % d → (x - k) % d ≡ x % d - k
-mod-sub_less x d k some h =
-    let split : x - k ≡ (x % d - k) + x / d * d = omega (arith, mod-add-div' x d) in
-    let less : x % d - k < d = omega (arith, mod-lt x some) in
-    ap (λ y. y % d) split ∙ add-mul-mod_self_right (x % d - k) (x / d) d ∙ mod-eq_of_lt less
+mod-sub_less x d k some h = grind (arith, mod-add-div', mod-lt, add-mul-mod_self_right, mod-eq_of_lt)
 
 -- the next quotient is one more at a multiple of the divisor
 div-add_one : (x d : ℕ) → 0 < d → (x + 1) / d ≡ x / d + (if (x + 1) % d == 0 then 1 else 0)
@@ -85,10 +81,7 @@ module _ (strategy : GroupingStrategy) (sizes : GroupingSizes) (hi : ℤ) where
 
   -- a value that is grouped reaches the primary size
   pub grouped_least : (g : GroupingStrategy) → is_grouped g sizes hi ≡ true → pos sizes.primary ≤ℤ hi
-  grouped_least Auto h = reaches_least (max sizes.min_grouping 1) (omega arith) h
-  grouped_least Never h = absurd (let n : false ≡ true = h in cc)
-  grouped_least Always h = reaches_least 1 (omega arith) h
-  grouped_least Min2 h = reaches_least (max sizes.min_grouping 2) (omega arith) h
+  grouped_least g h = grind (arith, ints, reaches_least)
 
   -- ---- All magnitudes.
   pub separators_below-suc : (n : ℕ) → separators_below strategy sizes hi (suc n)
@@ -104,17 +97,12 @@ module _ (strategy : GroupingStrategy) (sizes : GroupingSizes) (hi : ℤ) where
   none_below : (n : ℕ) → ((m : ℕ) → m < n → separates strategy sizes hi (pos m) ≡ false)
       → separators_below strategy sizes hi n ≡ 0
   none_below zero h = separators_below-zero
-  none_below (suc n) h =
-      separators_below-suc n
-      ∙ (λ i. none_below n (λ m l. h m (omega (arith, l))) i + (if h n (omega arith) i then 1 else 0))
+  none_below (suc n) h = grind (arith, separators_below-suc, none_below n)
 
   -- a value that is not grouped has none
   pub count-none : (n : ℕ) → (is_grouped strategy sizes hi && nat_lt 0 sizes.primary) ≡ false
       → separators_below strategy sizes hi n ≡ 0
-  count-none n h = none_below n (λ m l. both (is_grouped strategy sizes hi) (nat_lt 0 sizes.primary) _ h)
-    where
-      both : (a b c : Bool) → (a && b) ≡ false → (a && (b && c)) ≡ false
-      both a b c e = grind (arith, e)
+  count-none n h = grind (arith, none_below)
 
   -- a value that is grouped has one after the primary size and after each secondary size above
   pub count-some : 0 < sizes.primary → is_grouped strategy sizes hi ≡ true → (x : ℕ)

@@ -1,13 +1,12 @@
 -- The text of a magnitude by symbols of one byte each.
-use Rattle.std.proofs.Common.{◌≡◌, ℕ, ◌+◌, List, [], ◌∷◌, ◌++◌, Bool, refl, sym, ◌∙◌, ap, arith, append_assoc}
+use Rattle.std.proofs.Common.{◌≡◌, ℕ, ◌+◌, List, [], ◌∷◌, ◌++◌, Bool, refl, arith, append_assoc}
 use Rattle.std.specs.Prelude.{if◌then◌else◌, ◌&&◌, ℤ, pos, negsuc}
 use Rattle.decimal_digits.specs.Number.{digit}
 use Rattle.decimal_format.specs.declared.grouping.GroupingSizes.{GroupingSizes}
 use Rattle.decimal_format.specs.declared.grouping.GroupingStrategy.{GroupingStrategy}
-use Rattle.decimal_format.specs.Formatted.{Formatted, separator_before, separator_after, magnitude_text}
+use Rattle.decimal_format.specs.Formatted.{Formatted, separator_before, magnitude_text}
 use Rattle.decimal_format.specs.Grouping.{is_grouped, separates}
 use Rattle.decimal_format.specs.Parts.{AreBytes, ends_group_at}
-use Rattle.decimal_format.specs.Symbols.{digit_text}
 use Rattle.decimal_format.proofs.AsciiDigits.{digit_text-ascii}
 use Rattle.decimal_format.proofs.Magnitudes.{digit_below}
 
@@ -24,17 +23,4 @@ module _ (f : Formatted) (decimal grouping : ℕ) (bytes : AreBytes f.symbols de
       → after ≡ separates f.strategy f.symbols.sizes f.value.absolute.hi m → (xs : List ℕ)
       → ((xs ++ (if before then decimal ∷ [] else [])) ++ (48 + d) ∷ []) ++ (if after then grouping ∷ [] else [])
       ≡ xs ++ magnitude_text f.symbols f.strategy f.value.absolute.hi f.value.absolute.number m
-  pushed m d before after digit_is before_is after_is xs =
-      let s = f.symbols in
-      let number = f.value.absolute.number in
-      let x = if before then decimal ∷ [] else [] in
-      let y = if after then grouping ∷ [] else [] in
-      let x_is : x ≡ separator_before s m =
-      ap (λ l. if before then l else []) (sym bytes.decimal_is) ∙ before_is in
-      let d_is : (48 + d) ∷ [] ≡ digit_text s (digit number m) =
-      ap (λ n. (48 + n) ∷ []) digit_is
-      ∙ sym (digit_text-ascii s (digit number m) bytes.ascii (digit_below number m)) in
-      let y_is : y ≡ separator_after s f.strategy f.value.absolute.hi m =
-      λ i. if after_is i then sym bytes.grouping_is i else [] in
-      let order : ((xs ++ x) ++ (48 + d) ∷ []) ++ y ≡ xs ++ (x ++ ((48 + d) ∷ [] ++ y)) = simp append_assoc in
-      order ∙ (λ i. xs ++ (x_is i ++ (d_is i ++ y_is i)))
+  pushed m d before after digit_is before_is after_is xs = grind (arith, digit_text-ascii, digit_below, append_assoc)

@@ -1,8 +1,9 @@
 -- The value of digits, appended from left to right.
-use Rattle.std.proofs.Common.{◌≡◌, ℕ, ◌+◌, ◌-◌, ◌*◌, ◌%◌, ◌^◌, ◌<◌, ◌≤◌, false, List, [], ◌++◌, length, length-append, append_assoc, append-nil, refl, sym, ◌∙◌, ap, subst, arith, inl, inr, FitsSigned, w16, to_z, of_z}
+use Rattle.std.proofs.Common.{◌≡◌, ℕ, ◌+◌, ◌-◌, ◌*◌, ◌%◌, ◌^◌, ◌<◌, ◌≤◌, false, List, [], ◌++◌, length, length-append, append_assoc, append-nil, refl, sym, ◌∙◌, ap, subst, arith, FitsSigned, w16, to_z, of_z}
+use lib.Signed.{mag}
 use Rattle.std.specs.Int.Digits.{AllBelowBase, number_from_digits}
-use Rattle.std.specs.Prelude.{Result, Ok, Err, IsOk, OnErr, ℤ, pos, negsuc, ◌+ℤ◌, ◌-ℤ◌, ◌≤ℤ◌, ◌<ℤ◌}
-use Rattle.std.specs.Int.{int_max, int_min, int_gap}
+use Rattle.std.specs.Prelude.{Result, Ok, Err, IsOk, OnErr, ℤ, pos, negsuc, ◌+ℤ◌, ◌-ℤ◌, ◌≤ℤ◌}
+use Rattle.std.specs.Int.{int_max, int_min}
 use Rattle.std.proofs.Math.Nat.{mul-mod_left, mul_assoc, mul-le-mul_right, pow-le-pow_right}
 use Rattle.std.proofs.lemmas.Int.{ints, clamps, to_z-of_z}
 use Rattle.std.proofs.lemmas.Bool.{cases_lt}
@@ -10,7 +11,7 @@ use Rattle.std.proofs.lemmas.Bool.Decides.{nat_tests}
 use Rattle.std.proofs.lemmas.List.{nil_from_length}
 use Rattle.std.proofs.lemmas.Int.Digits.{number_lt}
 use Rattle.decimal_digits.specs.Digits.{number_at}
-use Rattle.decimal_digits.specs.Number.{offset, weight, first, last, size}
+use Rattle.decimal_digits.specs.Number.{offset, weight, size}
 use Rattle.decimal_unsigned.specs.Concatenation.{overlaps, concatenated_end, concatenated_size}
 use Rattle.decimal_unsigned.specs.Edits.{leaves_limits, times_power, multiplied}
 use Rattle.decimal_unsigned.specs.Unsigned.{Unsigned, zero_value}
@@ -58,11 +59,7 @@ pub zero_in_limits : (n : ℕ) → n ≤ 32768 → leaves_limits zero_value (pos
 zero_in_limits n few = grind (arith, ints, nat_tests)
 
 pub zero_moved : (n : ℕ) → multiplied zero_value (pos (n - 1)) ≡ value_of_first n []
-zero_moved n =
-    let hi : int_max (pos 0 +ℤ pos (n - 1)) (pos 0) ≡ pos (n - 1) = omega (arith, ints, clamps) in
-    let lo : int_min (pos 0 +ℤ pos (n - 1)) (pos 0) ≡ int_min (pos n -ℤ pos 0) (pos 0) = omega (arith, ints, clamps) in
-    let number : 0 * 10 ^ (n - 1) ≡ number_at (n + 32768) [] = omega (arith, no_digits n) in
-    λ i. record { number = number i; hi = hi i; lo = lo i }
+zero_moved n = grind (arith, ints, clamps, no_digits)
 
 -- the number of these digits as an integer
 pub bcd_only : {n k : ℕ} {ds : List ℕ} → IsBcd n k ds → IsBcd n (k + 0) ds
@@ -79,8 +76,8 @@ pub record IsNext (whole k j : ℕ) (position : ℤ) : Type 0 where
 
 pub next_at : {whole k j : ℕ} {position : ℤ} {A : Type 0}
     → (0 < j) × (j ≤ 16) × (whole ≤ 32768) × (k + j ≤ whole + 32768) × A → position ≡ pos whole -ℤ pos (k + j)
-    → FitsSigned w16 position → IsNext whole k j position
-next_at h at fits = record { some = h.0; few = h.1; limits = (h.2, h.3); at = at; fits = fits }
+    → mag position < 32768 → IsNext whole k j position
+next_at h at kept = record { some = h.0; few = h.1; limits = (h.2, h.3); at = at; fits = record { sfits = kept } }
 
 module _ {whole k word j : ℕ} {v : Unsigned} {ds es : List ℕ} {position : ℤ} (holds : HoldsDigits whole k v ds)
     (bcd : IsBcd word j es) (next_is : IsNext whole k j position) where
@@ -105,39 +102,27 @@ module _ {whole k word j : ℕ} {v : Unsigned} {ds es : List ℕ} {position : �
 
   es_is : moved_integer ≡ number_at cut es
   unfolding number_at
-  es_is =
-      ap (λ k. integer * 10 ^ k)
-      (omega (arith, ints, next_is.at, offset_is position, next_is.limits.0, next_is.limits.1, holds.count, bcd.count))
+  es_is = grind (arith, ints, offset_is)
 
   sum_is : sum ≡ number_at t (ds ++ es)
-  sum_is =
-      ap (λ x. number_at t ds + x) es_is
-      ∙ sym (number_at-append t ds es (omega (arith, all_count, next_is.limits.1)))
+  sum_is = grind (arith, es_is, number_at-append, all_count)
 
   divides : number_at t ds % 10 ^ cut ≡ 0
   divides = number_at-divides t ds
 
   less : moved_integer < 10 ^ cut
-  less =
-      subst (λ x. x < 10 ^ cut) (sym es_is)
-      (number_at-lt cut es bcd.digits (omega (arith, next_is.limits.1, holds.count, bcd.count)))
+  less = grind (arith, es_is, number_at-lt)
 
   sum_lt : sum < 10 ^ t
-  sum_lt =
-      subst (λ x. x < 10 ^ t) (sym sum_is)
-      (number_at-lt t (ds ++ es) (below_append ds es holds.digits bcd.digits)
-      (omega (arith, all_count, next_is.limits.1)))
+  sum_lt = grind (arith, sum_is, number_at-lt, below_append, all_count)
 
   -- their number of digits is the same at each position
   same_size : size (integer * weight (pos 0)) ≡ size moved_integer
   same_size =
       let split : 10 ^ (16 + offset (pos 0)) ≡ 10 ^ 16 * weight (pos 0) = powers 16 (offset (pos 0)) _ refl in
-      let short : length es ≤ 16 = omega (arith, bcd.count, next_is.few) in
-      let most : 10 ^ length es ≤ 10 ^ 16 = pow-le-pow_right (omega arith) short in
-      let small : integer < 10 ^ 16 = omega (arith, number_lt 10 es bcd.digits, most) in
-      let inside : integer * weight (pos 0) < 10 ^ (16 + offset (pos 0)) =
-      omega (arith, split, mul-le-mul_right (weight (pos 0)) small, ten_pos (offset (pos 0))) in
-      size_up integer (offset (pos 0)) (offset position) (16 + offset (pos 0)) t inside (omega (arith, sum_lt))
+      let small : integer < 10 ^ 16 = grind (arith, pow-le-pow_right, number_lt) in
+      size_up integer (offset (pos 0)) (offset position) (16 + offset (pos 0)) t
+      (omega (arith, split, mul-le-mul_right (weight (pos 0)) small, ten_pos (offset (pos 0)))) (omega (arith, sum_lt))
       (omega (arith, offset_is (pos 0))) (omega (arith, next_is.limits.0))
 
   -- the value of the digits as an integer
@@ -152,24 +137,17 @@ module _ {whole k word j : ℕ} {v : Unsigned} {ds es : List ℕ} {position : �
   pub memory_for_integer : (inline : ℕ) → (size next.number ≤ inline → ⊥)
       → inline < size (value_of_first whole (ds ++ es)).number
   memory_for_integer inline more =
-      let grown = size_right (number_at t ds) moved_integer cut t divides less sum_lt
-      (omega (arith, next_is.limits.0)) in
-      elim (cases_lt inline (size next.number)) [
-        | inl h ↦ omega (arith, h, ap size next_number, same_size, grown, ap size sum_is)
-        | inr h ↦ absurd (more h)
-      ]
+      let grown = size_right (number_at t ds) moved_integer cut t divides less sum_lt (omega arith) in
+      grind (arith, cases_lt, next_number, same_size, grown, sum_is)
 
   -- the value of the digits can be moved to their position
   pub stays_in_limits : leaves_limits next position ≡ false
-  stays_in_limits =
-      let low = next_is.fits.sfits in
-      let zero : int_min (pos j -ℤ pos (length es)) (pos 0) ≡ pos 0 = omega (arith, ints, clamps, bcd.count) in
-      rw zero (grind (arith, ints, nat_tests, next_is.at, next_is.limits.0, next_is.some))
+  stays_in_limits = grind (arith, ints, clamps, nat_tests)
 
   module _ (unmoved moved : Unsigned) (unmoved_is : unmoved ≡ next)
       (shift : moved ≡ multiplied unmoved (to_z w16 (of_z w16 position))) where
     moved_is : moved ≡ multiplied next position
-    moved_is = shift ∙ (λ i. multiplied (unmoved_is i) (to_z-of_z w16 position next_is.fits i))
+    moved_is = grind (arith, to_z-of_z)
 
     moved_number : moved.number ≡ moved_integer
     moved_number =
@@ -185,7 +163,7 @@ module _ {whole k word j : ℕ} {v : Unsigned} {ds es : List ℕ} {position : �
         go (negsuc k) h = integer_down integer k (omega (arith, ints, h))
 
     v_number : v.number ≡ number_at t ds
-    v_number = ap (λ (u : Unsigned). u.number) holds.value
+    v_number = grind arith
 
     -- it is below the other value, which it extends
     pub is_apart : overlaps v moved ≡ false
@@ -226,12 +204,8 @@ module _ {whole k word j : ℕ} {v : Unsigned} {ds es : List ℕ} {position : �
     pub memory_for_sum : (inline : ℕ) → 0 < v.number → 0 < moved.number → inline < concatenated_size v moved
         → inline < size (value_of_first whole (ds ++ es)).number
     memory_for_sum inline some more h =
-        let joined = size_joined (number_at t ds) moved_integer cut t divides less sum_lt
-        (omega (arith, next_is.limits.0))
-        (subst (λ n. 0 < n) v_number some) (subst (λ n. 0 < n) moved_number more) in
-        let size_is : concatenated_size v moved ≡ int_gap (last moved_integer) (first (number_at t ds)) + 1 =
-        λ i. int_gap (last (moved_number i)) (first (v_number i)) + 1 in
-        omega (arith, h, size_is, joined, ap size sum_is)
+        let joined = size_joined (number_at t ds) moved_integer cut t divides less sum_lt (omega arith) in
+        grind (arith, joined, v_number, moved_number, sum_is)
 
 -- ---- The value of the first digits.
 pub holds_none : {whole : ℕ} {v : Unsigned} → v ≡ value_of_first whole [] → HoldsDigits whole 0 v []
@@ -260,27 +234,11 @@ pub record IsAppended (s : Symbols) (whole written done : ℕ) (rest : List ℕ)
 module _ {s : Symbols} {whole written : ℕ} {ds es : List ℕ} where
   pub appended_none : {rest : List ℕ} {v : Unsigned} → HoldsDigits whole written v ds → IsSpelled s rest es
       → IsAppended s whole written 0 rest v ds es
-  appended_none {v = v} holds spelled = record {
-    first = [];
-    others = es;
-    all = refl;
-    count = refl;
-    spelled = spelled;
-    holds = subst (HoldsDigits whole (written + 0) v) (sym (append-nil ds)) (record {
-      digits = holds.digits;
-      count = omega (arith, holds.count);
-      value = holds.value;
-    });
-  }
+  appended_none {v = v} holds spelled = grind (arith, append-nil)
 
   module _ {done : ℕ} {rest : List ℕ} {v : Unsigned} (so_far : IsAppended s whole written done rest v ds es) where
     pub appended_all : length es ≤ done → v ≡ value_of_first whole (ds ++ es)
-    appended_all h =
-        let none = nil_from_length so_far.others
-        (omega (arith, ap length so_far.all, length-append so_far.first so_far.others, so_far.count, h)) in
-        so_far.holds.value
-        ∙ ap (λ l. value_of_first whole (ds ++ l))
-        (sym (so_far.all ∙ ap (λ l. so_far.first ++ l) none ∙ append-nil so_far.first))
+    appended_all h = grind (arith, nil_from_length, length-append, append-nil)
 
     module _ {after : List ℕ} {n k : ℕ} (read : ReadsSpelled s 16 after n k so_far.others) where
       abbrev joined : List ℕ
@@ -288,62 +246,18 @@ module _ {s : Symbols} {whole written : ℕ} {ds es : List ℕ} where
 
       -- there are some digits, and no more than are left
       pub next_word : done < length es → (0 < k) × (done + k ≤ length es) × IsBcd n k read.first
-      next_word more =
-          let left = length-append so_far.first so_far.others in
-          let split = length-append read.first read.others in (
-            elim (cases_lt 0 k) [
-              | inl some ↦ some
-              | inr none ↦
-                  absurd (omega (
-                    arith,
-                    ap length (read.ends (omega (arith, none))),
-                    ap length read.all,
-                    ap length so_far.all,
-                    left,
-                    split,
-                    read.bcd.count,
-                    so_far.count,
-                    none,
-                    more,
-                  ))
-            ],
-            omega (
-              arith,
-              ap length read.all,
-              ap length so_far.all,
-              left,
-              split,
-              read.bcd.count,
-              so_far.count,
-            ),
-            last_is_bcd n k read.first read.bcd read.at_most,
-          )
+      next_word more = (
+        grind (arith, length-append, cases_lt),
+        grind (arith, length-append),
+        last_is_bcd n k read.first read.bcd read.at_most,
+      )
 
       pub appended_more : (new : Unsigned) → new ≡ value_of_first whole joined
           → IsAppended s whole written (done + k) after new ds es
-      appended_more new is = record {
-        first = so_far.first ++ read.first;
-        others = read.others;
-        all =
-            so_far.all ∙ ap (λ l. so_far.first ++ l) read.all
-            ∙ sym (append_assoc so_far.first read.first read.others);
-        count = omega (arith, length-append so_far.first read.first, so_far.count, read.bcd.count);
-        spelled = read.spelled;
-        holds = subst (HoldsDigits whole (written + (done + k)) new) (append_assoc ds so_far.first read.first) (record {
-          digits = below_append (ds ++ so_far.first) read.first so_far.holds.digits read.bcd.digits;
-          count = omega (arith, length-append (ds ++ so_far.first) read.first, so_far.holds.count, read.bcd.count);
-          value = is;
-        });
-      }
+      appended_more new is = grind (arith, append_assoc, length-append, below_append)
 
       -- where these digits need memory, all do
       pub memory_for_word : (inline : ℕ) → AllBelowBase 10 (ds ++ es) → whole ≤ 32768
           → length (ds ++ es) ≤ whole + 32768 → inline < size (value_of_first whole joined).number
           → inline < size (value_of_first whole (ds ++ es)).number
-      memory_for_word inline digits least most h =
-          let split : ds ++ es ≡ joined ++ read.others =
-          ap (λ l. ds ++ l) (so_far.all ∙ ap (λ l. so_far.first ++ l) read.all)
-          ∙ simp append_assoc in
-          let more = size_more whole joined read.others (subst (AllBelowBase 10) split digits) least
-          (subst (λ l. length l ≤ whole + 32768) split most) in
-          omega (arith, h, more, ap (λ l. size (value_of_first whole l).number) split)
+      memory_for_word inline digits least most h = grind (arith, append_assoc, size_more)

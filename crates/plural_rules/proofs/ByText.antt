@@ -1,9 +1,7 @@
 -- The operands are those of the digits of the text.
-use Rattle.std.proofs.Common.{◌≡◌, ℕ, ◌+◌, ◌-◌, ◌*◌, ◌/◌, ◌%◌, ◌^◌, ◌<◌, ◌≤◌, List, ◌++◌, length, map, sym, ◌∙◌, ap, subst, arith}
+use Rattle.std.proofs.Common.{◌≡◌, ℕ, ◌+◌, ◌-◌, ◌*◌, ◌/◌, ◌%◌, ◌^◌, ◌<◌, ◌≤◌, List, ◌++◌, length, sym, ◌∙◌, ap, subst, arith}
 use Rattle.std.specs.Prelude.{None, Ok, pos, ◌-ℤ◌}
 use Rattle.std.specs.Int.{int_gap}
-use Rattle.std.specs.Int.Digits.{number_from_digits}
-use Rattle.std.specs.Char.{digit_value}
 use Rattle.std.specs.Str.Parse.{AllDigits, digits_value}
 use Rattle.std.proofs.lemmas.Int.{ints}
 use Rattle.std.proofs.lemmas.Int.Digits.{digits_value_is, digits_value-lt}
@@ -22,11 +20,7 @@ use Rattle.plural_rules.specs.Operands.{MatchesDigits}
 -- the value of two lists of digits, one after the other
 numeral_append : (xs ys : List ℕ)
     → digits_value 10 (xs ++ ys) ≡ digits_value 10 xs * 10 ^ length ys + digits_value 10 ys
-numeral_append xs ys =
-    digits_value_is 10 (xs ++ ys)
-    ∙ ap (number_from_digits 10) (map-append digit_value xs ys)
-    ∙ number-append (map digit_value xs) (map digit_value ys)
-    ∙ (λ i. sym (digits_value_is 10 xs) i * 10 ^ length-map ys digit_value i + sym (digits_value_is 10 ys) i)
+numeral_append xs ys = simp (digits_value_is, map-append, number-append, length-map)
 
 -- the value of a text without an exponent is that of its digits
 parts_is : (w : Literal) (v : Unsigned) → w.exponent ≡ None → value_of w ≡ Ok v

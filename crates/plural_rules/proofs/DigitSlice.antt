@@ -16,13 +16,7 @@ digit_slice-zero n top = omega (arith, mod-one (n / 10 ^ top))
 
 -- the last digit, and the digits before it
 last_more : (q w : ℕ) → 0 < w → q % (w * 10) ≡ (q / 10 % w) * 10 + q % 10
-last_more q w h =
-    let a = q / 10 / w in
-    let r = q / 10 % w in
-    let lt : r < w = mod-lt (q / 10) h in
-    let whole : a * w + r ≡ q / 10 = div-add-mod' (q / 10) w in
-    let e : q ≡ a * (w * 10) + (r * 10 + q % 10) = omega arith in
-    ap (λ y. y % (w * 10)) e ∙ mod-mul-add a (w * 10) (r * 10 + q % 10) (omega arith)
+last_more q w h = grind (arith, mod-lt, div-add-mod', mod-mul-add)
 
 -- one digit more
 pub digit_slice-suc : (n top k d : ℕ) → k < top → d ≡ n / 10 ^ (top - (k + 1)) % 10
@@ -47,9 +41,7 @@ digit_slice-modulo p m r d r' e f =
 
 -- more digits are no less
 pub digit_slice-monotone : (n top k j : ℕ) → k + j ≤ top → digit_slice n top k ≤ digit_slice n top (k + j)
-digit_slice-monotone n top k zero h =
-    let e : digit_slice n top (k + 0) ≡ digit_slice n top k =
-    ap (digit_slice n top) (let i : k + 0 ≡ k = omega arith in i) in omega arith
+digit_slice-monotone n top k zero h = grind arith
 digit_slice-monotone n top k (suc j) h =
     let more = digit_slice-suc n top (k + j) _ (omega arith) refl in
     let e : digit_slice n top (k + suc j) ≡ digit_slice n top (k + j + 1) =
@@ -65,9 +57,7 @@ digit_slice-all n top k h l =
 -- the digit at the next lower magnitude
 pub step : (n : ℕ) (t m : ℤ) (k d : ℕ) → d ≡ digit n m → m ≡ t -ℤ pos k → k < offset t + 1
     → digit_slice n (offset t + 1) (k + 1) ≡ digit_slice n (offset t + 1) k * 10 + d
-step n t m k d e f h =
-    let p : offset m ≡ offset t + 1 - (k + 1) = omega (arith, ints, offset_is m, offset_is t) in
-    digit_slice-suc n (offset t + 1) k d h (e ∙ ap (λ i. n / 10 ^ i % 10) p)
+step n t m k d e f h = grind (arith, ints, offset_is, digit_slice-suc)
 
 -- a value that exceeds a limit still does with more digits
 pub over : (n top k count limit : ℕ) → k < count → count ≤ top → limit ≤ digit_slice n top (k + 1)

@@ -22,7 +22,7 @@ use Rattle.plural_rules.specs.RulesGrammar as g
 use Rattle.plural_rules.specs.RulesGrammar.{is_blank, operand_word, HasNoLeadingDigit, HasDistinctCategories, Grammar}
 use Rattle.plural_rules.specs.RulesParseResult.{RangeFits, RelationFits, AndConditionFits, RuleFits, Fits}
 use Rattle.plural_rules.specs.RulesReader.{has, with, is_full, no_categories, Partial, no_rules, end_range, end_relation, end_alternative, after, next, follows_range, at_end, condition_of, limit}
-use Rattle.plural_rules.proofs.RulesRun.{allowed, finish, finished, transitions, run, read}
+use Rattle.plural_rules.proofs.RulesRun.{allowed, finish, finished, transitions, run, read, read_text}
 
 -- ---- Bytes.
 
@@ -99,8 +99,7 @@ MayEnd s e =
     × ((strict : Bool) (p : Partial) → allowed strict e p ≡ true) × ((p : Partial) → (after e p).seen ≡ p.seen)
 
 -- a category is still new after a different one
-all_stay_new :
-    (seen : Categories) (c : PluralCategory) (rs : List RuleValue)
+all_stay_new : (seen : Categories) (c : PluralCategory) (rs : List RuleValue)
     → AllByRecursion (λ other. other.category ≢ c) rs → AllByRecursion (λ r. IsNewCategory seen r.category) rs
     → AllByRecursion (λ r. IsNewCategory (with seen c) r.category) rs
 all_stay_new seen c [] others h = tt
@@ -119,9 +118,8 @@ Rest = Option (List RuleValue)
 
 module _ (strict : Bool) where
   -- one step
-  pub step : (s : State) (p : Partial) (c : ℕ) (text : List ℕ) (s2 : State) (e : Event)
-      → next p.seen s c ≡ Some (s2, e) → allowed strict e p ≡ true
-      → read strict s p (c ∷ text) ≡ read strict s2 (after e p) text
+  pub step : (s : State) (p : Partial) (c : ℕ) (text : List ℕ) (s2 : State) (e : Event) → next p.seen s c ≡ Some (s2, e)
+      → allowed strict e p ≡ true → read strict s p (c ∷ text) ≡ read strict s2 (after e p) text
   step s p c text s2 e h a = ap finish (transitions strict (next p.seen s c) s2 e p (λ s q. run strict s q text) h a)
 
   skips : (s : State) → Skips s → {text rest : List ℕ} → g.Blanks text rest → (p : Partial)
@@ -151,8 +149,7 @@ module _ (strict : Bool) where
       le-leb from most (omega arith)
   may_read false most from ds h = refl
 
-  digits :
-      (s : ℕ → State) → Counts s → (ds suffix : List ℕ) → all_ascii_digits ds ≡ true → (p : Partial)
+  digits : (s : ℕ → State) → Counts s → (ds suffix : List ℕ) → all_ascii_digits ds ≡ true → (p : Partial)
       → May p (digits_value_after 10 p.number ds) → read strict (s p.number) p (ds ++ suffix)
       ≡ read strict (s (digits_value_after 10 p.number ds)) (numbered p (digits_value_after 10 p.number ds)) suffix
   digits s h [] suffix a p may = refl
@@ -218,8 +215,7 @@ module _ (strict : Bool) where
   abbrev Continues : (Partial → Type 0) → List ℕ → Rest → Type 0
   Continues P rest x = (q : Partial) (s : State) → IsAfterRange s → P q → read strict s q rest ≡ x
 
-  numbers :
-      {text rest : List ℕ} {range : Range} → g.Numbers text range rest → (p : Partial) (x : Rest)
+  numbers : {text rest : List ℕ} {range : Range} → g.Numbers text range rest → (p : Partial) (x : Rest)
       → (strict ≡ true → RangeFits range)
       → Continues (λ q. end_range q ≡ record (listing p) { ranges = p.ranges ++ range ∷ []; number = q.number }) rest x
       → read strict state.Low (listing p) text ≡ x
@@ -235,8 +231,7 @@ module _ (strict : Bool) where
       ∙ k (numbered (after event.To q) high) state.AfterHigh
       (λ seen c b. rw b refl, refl, λ seen c b d. rw b refl) refl
 
-  ranges_read :
-      {text rest : List ℕ} {ranges : List Range} → g.RangeList text ranges rest → (p : Partial) (x : Rest)
+  ranges_read : {text rest : List ℕ} {ranges : List Range} → g.RangeList text ranges rest → (p : Partial) (x : Rest)
       → (strict ≡ true → AllByRecursion RangeFits ranges)
       → Continues (λ q. end_range q ≡ record (listing p) { ranges = p.ranges ++ ranges; number = q.number }) rest x
       → read strict state.Low (listing p) text ≡ x
@@ -253,8 +248,7 @@ module _ (strict : Bool) where
   -- ---- Relations.
 
   -- the letter of an operand, in both states before a condition
-  letter :
-      (c : PluralCategory) {text rest : List ℕ} {o : Operand} → g.Letter text o rest → (p : Partial)
+  letter : (c : PluralCategory) {text rest : List ℕ} {o : Operand} → g.Letter text o rest → (p : Partial)
       → read strict (condition_of c) p text ≡ read strict state.Percent (after (event.Operand o) p) rest
   letter c (g.own {operand = o} word) p =
       token (condition_of c) state.Percent p (after (event.Operand o) p) (λ more. grind arith) (λ seen c b. rw b refl)
@@ -264,8 +258,7 @@ module _ (strict : Bool) where
       (λ seen c b. rw b refl) word
 
   -- = or !=, in the two states before it
-  comparison_read :
-      (b : Bool) {text rest : List ℕ} {is_equal : Bool} → g.Comparison text is_equal rest → (p : Partial)
+  comparison_read : (b : Bool) {text rest : List ℕ} {is_equal : Bool} → g.Comparison text is_equal rest → (p : Partial)
       → read strict (cond b state.Percent state.Comparison) p text
       ≡ read strict state.Low (after (event.Equal is_equal) p) rest
   comparison_read b (g.equal sign) p =
@@ -276,12 +269,9 @@ module _ (strict : Bool) where
       (λ seen c b. rw b refl) sign
 
   -- an optional modulus, and a comparison
-  divided :
-      {text suffix rest : List ℕ} {m : Option ℕ} {is_equal : Bool} → g.Divided text m suffix
-      → g.Comparison suffix is_equal rest → (p : Partial) (x : Rest)
-      → (strict ≡ true → IfSome m (λ n. n ≤ 10 ^ 18))
-      → ((n : ℕ) → read strict state.Low
-      (listing (record p { modulus = m; is_equal = is_equal; number = n })) rest ≡ x)
+  divided : {text suffix rest : List ℕ} {m : Option ℕ} {is_equal : Bool} → g.Divided text m suffix
+      → g.Comparison suffix is_equal rest → (p : Partial) (x : Rest) → (strict ≡ true → IfSome m (λ n. n ≤ 10 ^ 18))
+      → ((n : ℕ) → read strict state.Low (listing (record p { modulus = m; is_equal = is_equal; number = n })) rest ≡ x)
       → read strict state.Percent (record p { is_divided = false }) text ≡ x
   divided g.undivided compares p x fits k =
       comparison_read true compares (record p { is_divided = false }) ∙ k p.number
@@ -295,9 +285,8 @@ module _ (strict : Bool) where
       (let some : nat_lt 0 n ≡ true = grind (arith, nat_tests) in rw some refl)
       ∙ k n
 
-  related :
-      (c : PluralCategory) {text rest : List ℕ} {r : RelationValue} → g.Related text r rest → (p : Partial) (x : Rest)
-      → (strict ≡ true → RelationFits r)
+  related : (c : PluralCategory) {text rest : List ℕ} {r : RelationValue} → g.Related text r rest → (p : Partial)
+      (x : Rest) → (strict ≡ true → RelationFits r)
       → Continues (λ q. core (after event.And q) ≡ core (record p { relations = p.relations ++ r ∷ [] })) rest x
       → read strict (condition_of c) p text ≡ x
   related c (g.related {operand = o} {modulus = m} {is_equal} l d compares rs) p x fits k =
@@ -308,18 +297,13 @@ module _ (strict : Bool) where
       (λ q s b is. k q s b (ap (λ z. core (end_relation z)) is)))
 
   -- `and` or `or` before a relation
-  joint :
-      {letters text rest : List ℕ} → g.Keyword letters text rest → (s : State) (p q : Partial)
+  joint : {letters text rest : List ℕ} → g.Keyword letters text rest → (s : State) (p q : Partial)
       → ((suffix : List ℕ) → read strict s p (letters ++ suffix) ≡ read strict state.Blank q suffix)
       → read strict s p text ≡ read strict state.Operand q rest
-  joint (g.joint blank suffix e is_blank blanks) s p q to =
-      ap (read strict s p) e ∙ to (blank ∷ suffix)
-      ∙ step state.Blank q blank suffix state.Operand event.Nothing (rw is_blank refl) refl
-      ∙ skips state.Operand (λ seen c b. rw b refl) blanks q
+  joint (g.joint blank suffix e is_blank blanks) s p q to = grind (arith, read, step, skips)
 
-  conjunction :
-      (c : PluralCategory) {text rest : List ℕ} {rs : List RelationValue} → g.AndCondition text rs rest → (p : Partial)
-      (x : Rest) → (strict ≡ true → AndConditionFits rs)
+  conjunction : (c : PluralCategory) {text rest : List ℕ} {rs : List RelationValue} → g.AndCondition text rs rest
+      → (p : Partial) (x : Rest) → (strict ≡ true → AndConditionFits rs)
       → Continues (λ q. core (after event.And q) ≡ core (record p { relations = p.relations ++ rs })) rest x
       → read strict (condition_of c) p text ≡ x
   conjunction c (g.AndCondition.one r) p x fits k = related c r p x (λ e. (fits e).0) k
@@ -352,13 +336,10 @@ module _ (strict : Bool) where
 
   -- ---- Rules.
 
-  skip_samples :
-      (skipped rest : List ℕ) → AllByRecursion (λ c. (c == 59) ≡ false) skipped → (p : Partial)
+  skip_samples : (skipped rest : List ℕ) → AllByRecursion (λ c. (c == 59) ≡ false) skipped → (p : Partial)
       → read strict state.Samples p (skipped ++ rest) ≡ read strict state.Samples p rest
   skip_samples [] rest h p = refl
-  skip_samples (c ∷ skipped) rest h p =
-      step state.Samples p c (skipped ++ rest) state.Samples event.Nothing (rw (h.0) refl) refl
-      ∙ skip_samples skipped rest h.1 p
+  skip_samples (c ∷ skipped) rest h p = grind (arith, step, (skip_samples skipped rest h.1 p))
 
   -- what follows a rule gives this result
   abbrev Ended : Partial → RuleValue → List ℕ → Rest → Type 0
@@ -367,8 +348,7 @@ module _ (strict : Bool) where
       → q.seen ≡ with p.seen r.category → read strict s q rest ≡ x
 
   -- a rule ends, perhaps after samples
-  samples_read :
-      {text rest : List ℕ} → g.Samples text rest → (s : State) (e : Event) → MayEnd s e
+  samples_read : {text rest : List ℕ} → g.Samples text rest → (s : State) (e : Event) → MayEnd s e
       → ((seen : Categories) → next seen s 64 ≡ Some (state.Samples, e)) → (p : Partial) (r : RuleValue) (q : Partial)
       (x : Rest) → (after e q).rules ≡ p.rules ++ r ∷ [] → q.seen ≡ with p.seen r.category → Ended p r rest x
       → read strict s q text ≡ x
@@ -379,8 +359,7 @@ module _ (strict : Bool) where
       ∙ skip_samples skipped rest none (after e q)
       ∙ k state.Samples event.Nothing (after e q) (refl, λ seen. refl, λ b p. refl, λ p. refl) all (h.3 q ∙ same)
 
-  category_read :
-      {text colon_text suffix : List ℕ} → (c : PluralCategory) → g.Token (name_of c) text colon_text
+  category_read : {text colon_text suffix : List ℕ} → (c : PluralCategory) → g.Token (name_of c) text colon_text
       → g.Token (codes ":") colon_text suffix → (p : Partial) → IsNewCategory p.seen c
       → read strict state.Category p text ≡ read strict (condition_of c) (after (event.Category c) p) suffix
   category_read c name after_name p new =
@@ -389,8 +368,7 @@ module _ (strict : Bool) where
       (λ suffix. step (colon c) p 58 suffix (condition_of c) (event.Category c) (grind arith) refl)
       (λ seen x b. grind (arith, b)) after_name
 
-  one_rule :
-      {text rest : List ℕ} {r : RuleValue} → g.SingleRule text r rest → (p : Partial) (x : Rest)
+  one_rule : {text rest : List ℕ} {r : RuleValue} → g.SingleRule text r rest → (p : Partial) (x : Rest)
       → (strict ≡ true → RuleFits r) → IsNewCategory p.seen r.category → Ended p r rest x
       → read strict state.Category p text ≡ x
   one_rule {r = r} (g.conditioned {category} name after_name is end) p x fits new k =
@@ -404,8 +382,7 @@ module _ (strict : Bool) where
       ∙ samples_read end state.OtherCondition event.EndOther (refl, λ seen. refl, λ b p. refl, λ p. refl)
       (λ seen. refl) p r (after (event.Category category.Other) p) x refl refl k
 
-  all_rules :
-      {text : List ℕ} {rs : List RuleValue} → g.RuleList text rs → (p : Partial) → (strict ≡ true → Fits rs)
+  all_rules : {text : List ℕ} {rs : List RuleValue} → g.RuleList text rs → (p : Partial) → (strict ≡ true → Fits rs)
       → AreNewCategories p.seen rs → read strict state.Category p text ≡ Some (p.rules ++ rs)
   all_rules (g.last one) p fits new_category =
       let new = new_category.0 in
@@ -433,13 +410,12 @@ none_read (r ∷ rs) = (grind arith, none_read rs)
 
 -- the reader accepts a text of the grammar and returns its meaning
 pub read-complete : (strict : Bool) {text : List ℕ} {rs : List RuleValue} → Grammar text rs
-    → (strict ≡ true → Fits rs) → read strict state.Category no_rules text ≡ Some rs
+    → (strict ≡ true → Fits rs) → read_text strict text ≡ Some rs
 read-complete strict {text} {rs} h fits =
     skips strict state.Category (λ seen c b. rw b refl) h.blanks no_rules
     ∙ all_rules strict h.rules no_rules fits (none_read rs, h.distinct)
 
-pub read_any-complete : {text : List ℕ} {rs : List RuleValue} → Grammar text rs
-    → read false state.Category no_rules text ≡ Some rs
+pub read_any-complete : {text : List ℕ} {rs : List RuleValue} → Grammar text rs → read_text false text ≡ Some rs
 read_any-complete h = read-complete false h (λ e. absurd (cc))
 
 -- the grammar is unambiguous

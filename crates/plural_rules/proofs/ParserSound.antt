@@ -21,7 +21,7 @@ use Rattle.plural_rules.specs.RulesGrammar as g
 use Rattle.plural_rules.specs.RulesGrammar.{is_blank, operand_word, HasNoLeadingDigit, Grammar}
 use Rattle.plural_rules.specs.RulesReader as reader
 use Rattle.plural_rules.specs.RulesReader.{has, with, is_full, Transition, Partial, no_rules, after, next, follows_range, condition_of, modulus_state}
-use Rattle.plural_rules.proofs.RulesRun.{any_allowed, apply_transition, finish, run, read}
+use Rattle.plural_rules.proofs.RulesRun.{any_allowed, apply_transition, finish, run, read, read_text}
 use Rattle.plural_rules.proofs.ParserComplete.{IsNewCategory, AreNewCategories, digit_is, grows, read_any-complete}
 
 -- ---- What may follow each form, by what it makes of the form before it.
@@ -162,8 +162,7 @@ one_digit {c} {n} is_digit (g.number ds suffix is some all no_digit value blanks
       omega arith,
     )
 
-more_digits : {c : ℕ} {text rest : List ℕ} → is_ascii_digit c ≡ true → MoreDigits text rest
-    → MoreDigits (c ∷ text) rest
+more_digits : {c : ℕ} {text rest : List ℕ} → is_ascii_digit c ≡ true → MoreDigits text rest → MoreDigits (c ∷ text) rest
 more_digits {c} is_digit more d d_is = let n = one_digit d_is (more c is_digit).1 in (n.0, n.1, omega arith)
 
 no_digits : {Q : List ℕ → Type 0} {text : List ℕ} → HasNoLeadingDigit text → Spelled [] Q text → AtDigits Q text
@@ -185,10 +184,7 @@ fresh_before : (seen : Categories) (k : PluralCategory) (rs : List RuleValue)
     → AllByRecursion (λ r. IsNewCategory (with seen k) r.category) rs
     → AllByRecursion (λ r. IsNewCategory seen r.category) rs × AllByRecursion (λ r. r.category ≢ k) rs
 fresh_before seen k [] h = (tt, tt)
-fresh_before seen k (r ∷ rs) h =
-    let others = fresh_before seen k rs h.1 in
-    let one : IsNewCategory seen r.category × (r.category ≢ k) = grind (arith, h.0) in
-    ((one.0, others.0), (one.1, others.1))
+fresh_before seen k (r ∷ rs) h = grind (arith, (fresh_before seen k rs h.1))
 
 rule_found : {k : PluralCategory} {seen : Categories} {text : List ℕ} → IsNewCategory seen k
     → Spelled (name_of k) (Named k seen) text → Ruled seen text
@@ -258,9 +254,8 @@ module _ (meaning : List RuleValue) (c : ℕ) (t : List ℕ)
   on_if false y z here other h = other refl h
 
   -- by a test, whose transition is to a state
-  on_test : {Q : Type 0} (b : Bool) (s : State) (e : Event) (z : Transition)
-      → (b ≡ true → At (after e p).seen s t → Q) → (b ≡ false → ReadsAfter z → Q)
-      → ReadsAfter (cond b (Some (s, e)) z) → Q
+  on_test : {Q : Type 0} (b : Bool) (s : State) (e : Event) (z : Transition) → (b ≡ true → At (after e p).seen s t → Q)
+      → (b ≡ false → ReadsAfter z → Q) → ReadsAfter (cond b (Some (s, e)) z) → Q
   on_test b s e z here = on_if b (Some (s, e)) z (λ is h. here is (moved e s h))
 
   -- at this byte, or at any other
@@ -283,9 +278,7 @@ module _ (meaning : List RuleValue) (c : ℕ) (t : List ℕ)
 
   on_digits : (Q : List ℕ → Type 0) (s : State) (z : Transition) → (At p.seen s t → AtDigits Q t)
       → (ReadsAfter z → Spelled [] Q (c ∷ t)) → ReadsAfter (reader.digit c s z) → AtDigits Q (c ∷ t)
-  on_digits Q s z same other =
-      on_test (is_ascii_digit c) s (event.Digit (c - 48)) z
-      (λ d i. let j = same i in (j.0, more_digits d j.1, j.2)) (λ d h. no_digits d (other h))
+  on_digits Q s z same other = grind (arith, on_test, more_digits, no_digits)
 
   -- another rule, after a semicolon
   another : (e : Event) → (after e p).seen ≡ p.seen
@@ -475,9 +468,7 @@ found meaning [] s p h = at_the_end meaning s p h
 found meaning (c ∷ t) s p h = one_byte meaning c t (found meaning t) p s h
 
 -- an accepted text is in the grammar, with this meaning
-pub read-sound :
-    {text : List ℕ} {meaning : List RuleValue} → read false state.Category no_rules text ≡ Some meaning
-    → Grammar text meaning
+pub read-sound : {text : List ℕ} {meaning : List RuleValue} → read_text false text ≡ Some meaning → Grammar text meaning
 read-sound {text} {meaning} h =
     let i = found meaning text state.Category no_rules h in
     let r = i.2 in

@@ -7,13 +7,15 @@ use Rattle.std.specs.Char.{is_ascii_digit}
 use Rattle.plural_rules.specs.declared.parse.state.State.{State}
 use Rattle.plural_rules.specs.declared.parse.state.Event.{Event}
 use Rattle.plural_rules.specs.declared.parse.state.Categories.{Categories}
-use Rattle.plural_rules.specs.RulesReader.{is_full, Transition, seen_after, next, Partial, no_rules, range_of, end_range, end_relation, end_alternative, end_rule, after, at_end, limit}
+use Rattle.plural_rules.specs.RulesReader.{is_full, Transition, seen_after, next, Partial, no_rules, after, at_end, limit}
 use Rattle.std.specs.List.{AllByRecursion}
 use Rattle.std.proofs.lemmas.List.{take_more}
-use Rattle.plural_rules.specs.Rules.{relation, RuleValue, rule}
-use Rattle.plural_rules.specs.RulesParseResult.{RangeFits, RelationFits, AndConditionFits, RuleFits, Fits}
+use Rattle.plural_rules.specs.Rules.{RuleValue}
+use Rattle.plural_rules.specs.RulesParseResult.{RangeFits, AndConditionFits, Fits}
 use Rattle.plural_rules.specs.declared.parse.state.State.TheVariants as state
 use Rattle.plural_rules.specs.declared.parse.state.Event.TheVariants as event
+use Rattle.std.proofs.lemmas.Grind.{common_steps}
+use Rattle.std.proofs.Common.{rules}
 
 -- where a category comes next, one is left
 abbrev pub is_open : Categories → State → Bool
@@ -54,8 +56,7 @@ valid_next seen state.Category c = grind (arith, nat_tests)
 valid_next seen s c = grind arith
 
 -- each transition is fine, and leads from an open state to an open one
-pub transition_is_valid :
-    (seen : Categories) (s : State) (c : ℕ) (t : State) (e : Event) → next seen s c ≡ Some (t, e)
+pub transition_is_valid : (seen : Categories) (s : State) (c : ℕ) (t : State) (e : Event) → next seen s c ≡ Some (t, e)
     → (is_valid s e t (is_ascii_digit c) ≡ true) × (is_open seen s ≡ true → is_open (seen_after e seen) t ≡ true)
 transition_is_valid seen s c t e to = rw to at (valid_next seen s c)
 
@@ -91,6 +92,13 @@ finish (Some x) = finished (at_end x.0) x.1
 abbrev pub read : Bool → State → Partial → List ℕ → Option (List RuleValue)
 read strict s p text = finish (run strict s p text)
 
+-- the same from the first state, with no rules so far
+abbrev pub run_text : Bool → List ℕ → Reached
+run_text strict text = run strict state.Category no_rules text
+
+abbrev pub read_text : Bool → List ℕ → Option (List RuleValue)
+read_text strict text = finish (run_text strict text)
+
 -- ---- Concatenated texts.
 
 abbrev pub bind : Reached → (State → Partial → Reached) → Reached
@@ -105,24 +113,13 @@ bind_cond false x y go h = refl
 pub run_append : (strict : Bool) (text more : List ℕ) (s : State) (p : Partial)
     → run strict s p (text ++ more) ≡ bind (run strict s p text) (λ s q. run strict s q more)
 run_append strict [] more s p = refl
-run_append strict (c ∷ text) more s p = go (run_append strict text more) (next p.seen s c)
-  where
-    go : ((s : State) (p : Partial)
-        → run strict s p (text ++ more) ≡ bind (run strict s p text) (λ s q. run strict s q more))
-        → (m : Transition) → apply_transition strict m p (λ s q. run strict s q (text ++ more))
-        ≡ bind (apply_transition strict m p (λ s q. run strict s q text)) (λ s q. run strict s q more)
-    go ih None = refl
-    go ih (Some move) = bind_cond (allowed strict move.1 p) _ _ _ (ih move.0 (after move.1 p))
+run_append strict (c ∷ text) more s p = grind (arith, bind_cond, (run_append strict text more))
 
 -- one more byte, and its transition
 pub run_more : (strict : Bool) (text : List ℕ) (i : ℕ) (s : State) (p : Partial) {m : Transition} → i < length text
-    → run strict state.Category no_rules (take i text) ≡ Some (s, p) → next p.seen s (get_or text i 0) ≡ m
-    → run strict state.Category no_rules (take (i + 1) text) ≡ apply_transition strict m p (λ s q. Some (s, q))
-run_more strict text i s p less h to =
-    ap (run strict state.Category no_rules) (take_more text i 0 less)
-    ∙ run_append strict (take i text) (get_or text i 0 ∷ []) state.Category no_rules
-    ∙ ap (λ x. bind x (λ s q. run strict s q (get_or text i 0 ∷ []))) h
-    ∙ ap (λ m. apply_transition strict m p (λ s q. Some (s, q))) to
+    → run_text strict (take i text) ≡ Some (s, p) → next p.seen s (get_or text i 0) ≡ m
+    → run_text strict (take (i + 1) text) ≡ apply_transition strict m p (λ s q. Some (s, q))
+run_more strict text i s p less h to = grind (arith, common_steps, take_more, run_append)
 
 -- the run continues after an allowed transition
 pub transitions : (strict : Bool) (m : Transition) (s2 : State) (e : Event) (p : Partial) (go : State → Partial
@@ -155,35 +152,9 @@ all_more P (x ∷ xs) y h i = (h.0, all_more P xs y h.1 i)
 pub in_64_bits : (b : Bool) (n : ℕ) → n ≤ limit b → n < 2 ^ 64
 in_64_bits b n h = grind arith
 
-range_ends : (p : Partial) → FitsSoFar p → FitsSoFar (end_range p)
-range_ends p h =
-    let least = in_64_bits p.is_divided p.number h.6 in
-    let range : RangeFits (range_of p.low p.number) = grind (arith, h.5, least) in
-    (h.0, h.1, h.2, h.3, all_more RangeFits p.ranges (range_of p.low p.number) h.4 range, tt, h.6)
-
-relation_ends : (p : Partial) → FitsSoFar p → FitsSoFar (end_relation p)
-relation_ends p h =
-    let r = relation p.operand p.modulus p.is_equal p.ranges in
-    (h.0, h.1, all_more RelationFits p.relations r h.2 (h.3, h.4), h.3, tt, h.5, h.6)
-
-alternative_ends : (p : Partial) → FitsSoFar p → FitsSoFar (end_alternative p)
-alternative_ends p h =
-    (h.0, all_more AndConditionFits p.alternatives p.relations h.1 h.2, tt, h.3, h.4, h.5, h.6)
-
-rule_ends : (p : Partial) → FitsSoFar p → FitsSoFar (end_rule p)
-rule_ends p h =
-    (all_more RuleFits p.rules (rule p.category p.alternatives) h.0 h.1, tt, h.2, h.3, h.4, h.5, h.6)
-
 -- the number after an allowed event fits
 pub fits_on : (e : Event) (p : Partial) → FitsSoFar p → allowed true e p ≡ true → FitsSoFar (after e p)
-fits_on event.Comma p h a = range_ends p h
-fits_on event.And p h a = relation_ends (end_range p) (range_ends p h)
-fits_on event.Or p h a = alternative_ends (after event.And p) (relation_ends (end_range p) (range_ends p h))
-fits_on event.End p h a =
-    rule_ends (after event.Or p)
-    (alternative_ends (after event.And p) (relation_ends (end_range p) (range_ends p h)))
-fits_on event.EndOther p h a = rule_ends p h
-fits_on e p h a = grind arith
+fits_on e p h a = grind (arith, nat_tests, in_64_bits, all_more)
 
 -- a run of the strict reader is one of the other, and its rules fit
 strict_run : (text : List ℕ) (s : State) (p : Partial) (x : State × Partial) → FitsSoFar p
@@ -203,16 +174,15 @@ strict_run (c ∷ text) s p x f h = go (strict_run text) (next p.seen s c) h
         (any_allowed move.1 p) in
         (rest.0, any ∙ rest.1)
 
-pub reached_strictly : (text : List ℕ) (s : State) (p : Partial)
-    → run true state.Category no_rules text ≡ Some (s, p)
-    → FitsSoFar p × (run false state.Category no_rules text ≡ Some (s, p))
+pub reached_strictly : (text : List ℕ) (s : State) (p : Partial) → run_text true text ≡ Some (s, p) → FitsSoFar p
+    × (run_text false text ≡ Some (s, p))
 reached_strictly text s p h =
     strict_run text state.Category no_rules (s, p) (tt, tt, tt, tt, tt, tt, omega arith) h
 
 -- rules that the strict reader accepts fit, and are those of the other one
-pub read_fits : (text : List ℕ) (rules : List RuleValue) → read true state.Category no_rules text ≡ Some rules
-    → Fits rules × (read false state.Category no_rules text ≡ Some rules)
-read_fits text rules h = go (run true state.Category no_rules text) refl h
+pub read_fits : (text : List ℕ) (rules : List RuleValue) → read_text true text ≡ Some rules
+    → Fits rules × (read_text false text ≡ Some rules)
+read_fits text rules h = go (run_text true text) refl h
   where
     ended : (s : State) (p : Partial) → FitsSoFar p → (end : Option Event) → at_end s ≡ end
         → finished end p ≡ Some rules → Fits rules
@@ -223,8 +193,8 @@ read_fits text rules h = go (run true state.Category no_rules text) refl h
         let fits = fits_on e p f may in
         rw (← same) (fits.0)
 
-    go : (x : Reached) → run true state.Category no_rules text ≡ x → finish x ≡ Some rules
-        → Fits rules × (read false state.Category no_rules text ≡ Some rules)
+    go : (x : Reached) → run_text true text ≡ x → finish x ≡ Some rules
+        → Fits rules × (read_text false text ≡ Some rules)
     go None is h = absurd (cc)
     go (Some x) is h =
         let strictly = reached_strictly text x.0 x.1 is in

@@ -7,61 +7,44 @@ use Rattle.std.proofs.lemmas.Nat.{mod-mul-add}
 use Rattle.std.proofs.lemmas.Nat.Gcd.{dvd_trans, dvd_of_mod-eq-zero, mod-eq-zero_of_dvd}
 use Rattle.std.proofs.lemmas.Int.{ints, clamps}
 use Rattle.std.proofs.lemmas.Bool.{cases_lt}
-use Rattle.decimal_digits.specs.Number.{offset, weight, last, magnitude_at, IsFirst, IsLast}
+use Rattle.decimal_digits.specs.Number.{offset, last, magnitude_at, IsFirst, IsLast}
 use Rattle.decimal_unsigned.specs.Unsigned.{Unsigned}
-use Rattle.decimal_unsigned.specs.Edits.{trimmed_end}
 use Rattle.fixed_decimal.proofs.Calling.{ten_pos, offset_is, gap_is, shift_down, last_at, last_zero, greatest_is, powers}
-use Rattle.plural_rules.specs.Operands.{Operands, compact, i, v, w, f, t}
+use Rattle.plural_rules.specs.Operands.{Operands, compact, i, v, f}
 use Rattle.plural_rules.specs.DigitSlice.{digit_slice}
 use Rattle.plural_rules.proofs.DigitSlice.{digit_slice-all, digit_slice-zero}
 
 -- a number is less than the weight of the place above its first digit
 below_first : (n : ℕ) (m : ℤ) → IsFirst n m → n < 10 ^ (offset m + 1)
-below_first n m first_is = elim (cases_lt 0 n) [
-  | inl p ↦ first_is.less p
-  | inr z ↦ omega (arith, ten_pos (offset m + 1))
-]
+below_first n m first_is = grind (arith, cases_lt, ten_pos)
 
 -- the integer digits of a number times a power of ten are its first digits
 pub integer_digits_of : (o : Operands) (x : Unsigned) (m : ℤ) (c count : ℕ) → compact x c ≡ o
     → IsFirst x.number m → negsuc 32767 ≤ℤ m → m ≤ℤ pos 32767 → c < 256
-    → pos count ≡ int_max (m +ℤ pos (c + 1)) (pos 0)
-    → (count ≤ offset m + 1) × (digit_slice x.number (offset m + 1) count ≡ i o.value)
+    → pos count ≡ int_max (m +ℤ pos (c + 1)) (pos 0) → digit_slice x.number (offset m + 1) count ≡ i o.value
 integer_digits_of o x m c count is first_is low high small e =
     let n = x.number in
     let few : count ≤ offset m + 1 = omega (arith, ints, clamps, e, offset_is m) in
     let down =
-    ap (λ p. i p.value) (sym is) ∙ shift_down n c (offset (pos 0)) (omega (arith, ints, offset_is (pos 0))) in (
-      few,
-      elim (cases_lt 0 count) [
-        | inl p ↦
-            let q : offset m + 1 - count ≡ offset (pos 0) - c =
-            omega (arith, ints, clamps, e, offset_is m, offset_is (pos 0)) in
-            digit_slice-all n (offset m + 1) count few (below_first n m first_is) ∙ ap (λ k. n / 10 ^ k) q ∙ sym down
-        | inr z ↦
-            let none : count ≡ 0 = omega arith in
-            let le : 10 ^ (offset m + 1) ≤ 10 ^ (offset (pos 0) - c) =
-            pow-le-pow_right (omega arith) (omega (arith, ints, clamps, e, none, offset_is m, offset_is (pos 0))) in
-            let less : n < 10 ^ (offset (pos 0) - c) = omega (arith, le, below_first n m first_is) in
-            ap (digit_slice n (offset m + 1)) none ∙ digit_slice-zero n (offset m + 1) ∙ sym (div-eq_of_lt less)
-            ∙ sym down
-      ],
-    )
+    ap (λ p. i p.value) (sym is) ∙ shift_down n c (offset (pos 0)) (omega (arith, ints, offset_is (pos 0))) in
+    elim (cases_lt 0 count) [
+      | inl p ↦
+          let q : offset m + 1 - count ≡ offset (pos 0) - c =
+          omega (arith, ints, clamps, e, offset_is m, offset_is (pos 0)) in
+          digit_slice-all n (offset m + 1) count few (below_first n m first_is) ∙ ap (λ k. n / 10 ^ k) q ∙ sym down
+      | inr z ↦
+          let none : count ≡ 0 = omega arith in
+          let le : 10 ^ (offset m + 1) ≤ 10 ^ (offset (pos 0) - c) =
+          pow-le-pow_right (omega arith) (omega (arith, ints, clamps, e, none, offset_is m, offset_is (pos 0))) in
+          let less : n < 10 ^ (offset (pos 0) - c) = omega (arith, le, below_first n m first_is) in
+          ap (digit_slice n (offset m + 1)) none ∙ digit_slice-zero n (offset m + 1) ∙ sym (div-eq_of_lt less)
+          ∙ sym down
+    ]
 
 -- the fraction digits of a value that is a number times a power of ten
-fraction_at : (y : Unsigned) (number : ℕ) (m : ℤ) (c count : ℕ) → number * 10 ^ c ≡ y.number → y.lo ≤ℤ pos 0
-    → m ≡ negsuc c → c < 256 → count ≡ v y → count + c ≤ 32768
-    → (count ≤ offset m + 1) × (digit_slice number (offset m + 1) count ≡ f y)
-fraction_at y number m c count is high below small e few =
-    let top : offset m + 1 + c ≡ 32768 = omega (arith, ints, offset_is m, below) in
-    let low : negsuc 32767 ≤ℤ y.lo = omega (arith, ints, e, gap_is y.lo (pos 0)) in
-    let fits : c ≤ offset y.lo = omega (arith, ints, e, gap_is y.lo (pos 0), offset_is y.lo) in
-    let p : offset m + 1 - count ≡ offset y.lo - c = omega (arith, ints, e, offset_is y.lo, gap_is y.lo (pos 0)) in (
-      omega (arith, top),
-      (λ k. number / 10 ^ p k % 10 ^ e k)
-          ∙ ap (λ z. z % 10 ^ v y) (sym (shift_down number c (offset y.lo) fits))
-          ∙ ap (λ n. n / weight y.lo % 10 ^ v y) is,
-    )
+pub fraction_at : (y : Unsigned) (number : ℕ) (m : ℤ) (c count : ℕ) → number * 10 ^ c ≡ y.number → y.lo ≤ℤ pos 0
+    → m ≡ negsuc c → c < 256 → count ≡ v y → count + c ≤ 32768 → digit_slice number (offset m + 1) count ≡ f y
+fraction_at y number m c count is high below small e few = grind (arith, ints, offset_is, gap_is, shift_down)
 
 -- the remainder of a product by a power of ten, which divides by a factor of both
 mod_powers : (n c k : ℕ) → c ≤ k → n * 10 ^ c % 10 ^ k ≡ n % 10 ^ (k - c) * 10 ^ c
@@ -135,21 +118,3 @@ last-shifted n c m l low high small = elim (cases_lt 0 n) [
         mod_powers n c k (omega arith) ∙ ap (λ y. y * 10 ^ c) here ∙ (omega arith) in
         let top = last_top (n * 10 ^ c) k e more d in
         omega (arith, ints, clamps, top, offset_is m)
-
--- the fraction digits
-pub fraction_of : (o : Operands) (x : Unsigned) (m : ℤ) (c count : ℕ)
-    → compact x c ≡ o → m ≡ negsuc c → c < 256 → count ≡ v o.value → count + o.exponent ≤ 32768
-    → (count ≤ offset m + 1) × (digit_slice x.number (offset m + 1) count ≡ f o.value)
-fraction_of o x m c count is below small e few =
-    let high : o.value.lo ≤ℤ pos 0 = omega (arith, ints, clamps, ap (λ p. p.value.lo) is) in
-    fraction_at o.value x.number m c count (ap (λ p. p.value.number) is) high below small e
-    (omega (arith, ap (λ p. p.exponent) is))
-
--- the same without trailing zeros
-pub needed_of : (o : Operands) (x : Unsigned) (m : ℤ) (c count : ℕ)
-    → compact x c ≡ o → m ≡ negsuc c → c < 256 → count ≡ w o.value → count + o.exponent ≤ 32768
-    → (count ≤ offset m + 1) × (digit_slice x.number (offset m + 1) count ≡ t o.value)
-needed_of o x m c count is below small e few =
-    let high : (trimmed_end o.value).lo ≤ℤ pos 0 = omega (arith, ints, clamps) in
-    fraction_at (trimmed_end o.value) x.number m c count (ap (λ p. p.value.number) is) high below small e
-    (omega (arith, ap (λ p. p.exponent) is))

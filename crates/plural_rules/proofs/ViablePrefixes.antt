@@ -11,7 +11,7 @@ use Rattle.plural_rules.specs.Rules.{name_of, RuleValue}
 use Rattle.plural_rules.specs.RulesGrammar.{Grammar}
 use Rattle.plural_rules.specs.RulesReader.{is_full, condition_of, no_rules, Partial, after, next, at_end, limit}
 use Rattle.plural_rules.specs.RulesParseResult.{IsViablePrefix, IsFittingPrefix, Fits, IsSyntaxErrorAt}
-use Rattle.plural_rules.proofs.RulesRun.{is_open, starts_number, allowed, run, finish, finished, read, bind, run_append, run_more, read_fits}
+use Rattle.plural_rules.proofs.RulesRun.{is_open, starts_number, allowed, run, finish, finished, read, run_text, read_text, bind, run_append, run_more, read_fits}
 use Rattle.plural_rules.proofs.ParserComplete.{step, read-complete, read_any-complete}
 use Rattle.plural_rules.proofs.ParserSound.{read-sound}
 use Rattle.plural_rules.specs.declared.rules.PluralCategory.TheVariants as category
@@ -25,9 +25,8 @@ abbrev Completion : Bool → State → Partial → Type 0
 Completion strict s p = (more : List ℕ) × (is_some (read strict s p more) ≡ true)
 
 -- a completion with one more byte before it
-completed : (strict : Bool) (s : State) (p : Partial) (c : ℕ) (s2 : State) (e : Event)
-    → next p.seen s c ≡ Some (s2, e) → allowed strict e p ≡ true → Completion strict s2 (after e p)
-    → Completion strict s p
+completed : (strict : Bool) (s : State) (p : Partial) (c : ℕ) (s2 : State) (e : Event) → next p.seen s c ≡ Some (s2, e)
+    → allowed strict e p ≡ true → Completion strict s2 (after e p) → Completion strict s p
 completed strict s p c s2 e h a go = (c ∷ go.0, ap is_some (step strict s p c go.0 s2 e h a) ∙ go.1)
 
 complete_condition : (p : Partial) (k : PluralCategory) → Completion false (condition_of k) p
@@ -100,10 +99,9 @@ small_completion s p h = absurd (false≢true h)
 -- ---- A text at which the reader does not stop.
 
 -- a text, and bytes that complete its state
-completed_text :
-    (strict : Bool) (text : List ℕ) (s : State) (p : Partial)
-    → run strict state.Category no_rules text ≡ Some (s, p) → Completion strict s p
-    → (more : List ℕ) × (rules : List RuleValue) × (read strict state.Category no_rules (text ++ more) ≡ Some rules)
+completed_text : (strict : Bool) (text : List ℕ) (s : State) (p : Partial) → run_text strict text ≡ Some (s, p)
+    → Completion strict s p → (more : List ℕ) × (rules : List RuleValue)
+    × (read_text strict (text ++ more) ≡ Some rules)
 completed_text strict text s p h go =
     let some = some_of (read strict s p go.0) go.1 in (
       go.0,
@@ -117,13 +115,13 @@ completed_text strict text s p h go =
     some_of (Some rules) h = (rules, refl)
 
 -- the text is a prefix of rules
-viable : (text : List ℕ) (s : State) (p : Partial) → run false state.Category no_rules text ≡ Some (s, p)
+viable : (text : List ℕ) (s : State) (p : Partial) → run_text false text ≡ Some (s, p)
     → is_open p.seen s ≡ true → IsViablePrefix text
 viable text s p h opens =
     let go = completed_text false text s p h (completion s p opens) in (go.0, go.1, read-sound go.2)
 
 -- and, before a number and if all numbers so far fit, a prefix of rules that fit
-pub can_fit : (text : List ℕ) (s : State) (p : Partial) → run true state.Category no_rules text ≡ Some (s, p)
+pub can_fit : (text : List ℕ) (s : State) (p : Partial) → run_text true text ≡ Some (s, p)
     → starts_number s ≡ true → IsFittingPrefix text
 can_fit text s p h starts =
     let go = completed_text true text s p h (small_completion s p starts) in
@@ -134,37 +132,32 @@ can_fit text s p h starts =
 
 -- the text is not a prefix of rules
 pub stopped : (strict : Bool) (text more : List ℕ) (rules : List RuleValue)
-    → run strict state.Category no_rules text ≡ None → Grammar (text ++ more) rules → (strict ≡ true → Fits rules) → ⊥
+    → run_text strict text ≡ None → Grammar (text ++ more) rules → (strict ≡ true → Fits rules) → ⊥
 stopped strict text more rules none grammar fits =
-    let is : read strict state.Category no_rules (text ++ more) ≡ Some rules = read-complete strict grammar fits in
-    let stops : read strict state.Category no_rules (text ++ more) ≡ None =
-    ap finish (run_append strict text more state.Category no_rules
-    ∙ ap (λ x. bind x (λ s q. run strict s q more)) none) in
+    let is : read_text strict (text ++ more) ≡ Some rules = read-complete strict grammar fits in
+    let stops : read_text strict (text ++ more) ≡ None =
+    ap finish (run_append strict text more _ _ ∙ ap (λ x. bind x (λ s q. run strict s q more)) none) in
     absurd (cc)
 
 -- a text that may not end in its state
-pub unended_text :
-    (text : List ℕ) (i : ℕ) (s : State) (p : Partial) → length text ≤ i
-    → run false state.Category no_rules (take i text) ≡ Some (s, p) → is_open p.seen s ≡ true → at_end s ≡ None
-    → IsSyntaxErrorAt text (length text)
+pub unended_text : (text : List ℕ) (i : ℕ) (s : State) (p : Partial) → length text ≤ i → run_text false (take i text)
+    ≡ Some (s, p) → is_open p.seen s ≡ true → at_end s ≡ None → IsSyntaxErrorAt text (length text)
 unended_text text i s p least h opens e =
-    let runs : run false state.Category no_rules text ≡ Some (s, p) =
-    ap (run false state.Category no_rules) (sym (take_all i text least)) ∙ h in
+    let runs : run_text false text ≡ Some (s, p) =
+    ap (run_text false) (sym (take_all i text least)) ∙ h in
     record {
       within = omega arith;
       rejected = λ rules grammar.
-          let none : read false state.Category no_rules text ≡ None = ap finish runs ∙ ap (λ m. finished m p) e in
-          let some : read false state.Category no_rules text ≡ Some rules = read_any-complete grammar in
+          let none : read_text false text ≡ None = ap finish runs ∙ ap (λ m. finished m p) e in
+          let some : read_text false text ≡ Some rules = read_any-complete grammar in
           absurd (cc);
       viable = rw (take_all (length text) text (omega arith)) (viable text s p runs opens);
       not_viable = λ less. absurd (omega arith);
     }
 
 -- a text at a byte of which the reader stops
-pub stopped_text :
-    (text : List ℕ) (at : ℕ) (s : State) (p : Partial) → at < length text
-    → run false state.Category no_rules (take at text) ≡ Some (s, p) → is_open p.seen s ≡ true
-    → next p.seen s (get_or text at 0) ≡ None → IsSyntaxErrorAt text at
+pub stopped_text : (text : List ℕ) (at : ℕ) (s : State) (p : Partial) → at < length text → run_text false (take at text)
+    ≡ Some (s, p) → is_open p.seen s ≡ true → next p.seen s (get_or text at 0) ≡ None → IsSyntaxErrorAt text at
 stopped_text text at s p less h opens none =
     let all = run_more false text at s p less h none in
     record {

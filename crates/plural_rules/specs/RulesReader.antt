@@ -15,8 +15,7 @@ use Rattle.plural_rules.specs.declared.parse.state.Categories.{Categories}
 use Rattle.plural_rules.specs.declared.parse.numbers.Numbers.{Numbers}
 use Rattle.plural_rules.specs.declared.parse.numbers.Numbers.TheVariants.{Fit, TooLarge}
 use Rattle.plural_rules.specs.Rules.{name_of, RelationValue, relation, RuleValue, rule}
-use Rattle.plural_rules.specs.RulesGrammar.{is_blank, Grammar}
-use Rattle.plural_rules.specs.RulesParseResult.{Fits, IsLimitErrorAt}
+use Rattle.plural_rules.specs.RulesGrammar.{is_blank}
 
 -- ---- The categories so far.
 
@@ -283,7 +282,7 @@ numbers_after (Fit n is_modulus begin) at (event.Equal is_equal) = Fit n false b
 numbers_after (Fit n is_modulus begin) at (event.Operand operand) = Fit n false begin
 numbers_after (Fit n is_modulus begin) at e = Fit n is_modulus begin
 
--- the numbers of a whole text of rules: all fit, or the first one that is too great
-abbrev pub AreNumbersOf : List ℕ → Numbers → Type 0
-AreNumbersOf text (Fit n is_modulus begin) = (rules : List RuleValue) × Grammar text rules × Fits rules
-AreNumbersOf text (TooLarge begin) = IsLimitErrorAt text begin
+-- no number is too great
+abbrev pub all_fit : Numbers → Bool
+all_fit (Fit n is_modulus begin) = true
+all_fit (TooLarge begin) = false

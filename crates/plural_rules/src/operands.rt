@@ -1,8 +1,9 @@
 //! The plural operands of a decimal, at any length.
-ghost use Rattle.std.specs.Prelude.{◌≡◌, ◌+◌, ◌%◌, ◌^◌, ◌<◌, ◌≤◌, ◌+ℤ◌, None, pos, negsuc};
+ghost use Rattle.std.specs.Prelude.{◌≡◌, ◌+◌, ◌%◌, ◌^◌, ◌<◌, ◌≤◌, ◌+ℤ◌, ◌≤ℤ◌, None, pos, negsuc};
 ghost use Rattle.std.specs.Int.{int_gap, int_max, int_min};
 ghost use Rattle.decimal_unsigned.specs.Grammar.{Literal, Grammar};
 ghost use Rattle.decimal_unsigned.specs.Text.{text};
+ghost use Rattle.decimal_unsigned.specs.Unsigned.{Unsigned};
 ghost use Rattle.plural_rules.specs.Operands.{plain, compact, i, v, w, f, t, MatchesDigits, IsIn64Bits};
 ghost use Rattle.plural_rules.specs.DigitSlice.{IsUpTo};
 
@@ -121,18 +122,26 @@ impl<'a, D: DigitStore> PluralOperands<'a, D> {
         Digits::new(self.value, first, integer_digit_count(first, self.exponent))
     }
 
+    // The fraction digits of a value with the same number, which has `count` of them.
+    fn fraction_digits(&self, count: u32) -> Digits<'a, D>
+        requires { count + self.now.exponent ≤ 32768 }
+        ensures digits { (x : Unsigned) → x.number ≡ self.now.value.number → x.lo ≤ℤ pos 0 → count ≡ v x
+            → result ≡ f x }
+        ensures shown { self.now.value.lo ≤ℤ pos 0 }
+    {
+        Digits::new(self.value, first_fraction_magnitude(self.exponent), count)
+    }
+
     fn fraction(&self) -> Digits<'a, D>
         ensures { result ≡ f self.now.value }
     {
-        let first = first_fraction_magnitude(self.exponent);
-        Digits::new(self.value, first, self.v())
+        self.fraction_digits(self.v())
     }
 
     fn trimmed_fraction(&self) -> Digits<'a, D>
         ensures { result ≡ t self.now.value }
     {
-        let first = first_fraction_magnitude(self.exponent);
-        Digits::new(self.value, first, self.w())
+        self.fraction_digits(self.w())
     }
 
     /// Returns i, the integer digits as an integer: 2 for `2.50`. `None` if it is 2^64 or more.

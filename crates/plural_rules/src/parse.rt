@@ -1,9 +1,8 @@
 //! The parser of rules.
-ghost use Rattle.std.specs.Prelude.{◌≡◌, IfOk, IfErr, List};
+ghost use Rattle.std.specs.Prelude.{◌≡◌, List};
 ghost use Rattle.plural_rules.specs.Rules.{RuleValue};
-ghost use Rattle.plural_rules.specs.RulesReader.{AreNumbersOf};
 ghost use Rattle.plural_rules.specs.RulesGrammar.{Grammar};
-ghost use Rattle.plural_rules.specs.RulesParseResult.{IsSyntaxErrorAt, Fits, IsParseResult};
+ghost use Rattle.plural_rules.specs.RulesParseResult.{IsParseResult};
 
 mod builder;
 mod numbers;
@@ -13,12 +12,10 @@ use crate::rules::PluralRules;
 use builder::Builder;
 use numbers::Numbers;
 use state::{Categories, State};
-use std::alloc::{AllocError, Global};
+use std::alloc::Global;
 
-// The error is the offset at which the text cannot continue as rules.
-fn check(text: &[u8]) -> Result<Numbers, usize>
-    ensures ok { IfOk result (AreNumbersOf text.now) }
-    ensures err { IfErr result (IsSyntaxErrorAt text.now) }
+fn read(alloc: Global, text: &[u8]) -> Result<PluralRules, RulesError>
+    ensures { IsParseResult text.now result }
 {
     let mut state = State::Category;
     let mut seen = Categories::none();
@@ -27,39 +24,26 @@ fn check(text: &[u8]) -> Result<Numbers, usize>
         is_modulus: false,
         begin: 0,
     };
+    let mut builder = Builder::new(alloc);
+    let mut is_built = true;
     for (at, byte) in text.iter().enumerate() {
         let Some((next, event)) = state.next(seen, *byte) else {
-            return Err(at);
+            return Err(RulesError::Syntax { at });
         };
         numbers = numbers.after(at, event);
-        seen = seen.after(event);
-        state = next;
-    }
-    match state.at_end() {
-        Some(_) => Ok(numbers),
-        None => Err(text.len()),
-    }
-}
-
-fn build(alloc: Global, text: &[u8]) -> Result<PluralRules, AllocError>
-    requires { (rules : List RuleValue) × Grammar text.now rules × Fits rules }
-    ensures { IfOk result (Grammar text.now) }
-{
-    let mut builder = Builder::new(alloc);
-    let mut seen = Categories::none();
-    let mut state = State::Category;
-    for byte in text {
-        let Some((next, event)) = state.next(seen, *byte) else {
-            unreachable!()
-        };
-        builder.take(event)?;
+        is_built = builder.take_if(is_built, numbers, event);
         seen = seen.after(event);
         state = next;
     }
     let Some(event) = state.at_end() else {
-        unreachable!()
+        return Err(RulesError::Syntax { at: text.len() });
     };
-    builder.take(event)?;
+    if let Numbers::TooLarge(at) = numbers {
+        return Err(RulesError::Limit { at });
+    }
+    if !builder.take_if(is_built, numbers, event) {
+        return Err(RulesError::Memory);
+    }
     Ok(builder.into_rules())
 }
 
@@ -95,11 +79,7 @@ impl PluralRules {
         ensures unique { (first second : List RuleValue) → Grammar text.now first → Grammar text.now second
             → first ≡ second }
     {
-        let numbers = check(text).map_err(|at| RulesError::Syntax { at })?;
-        if let Numbers::TooLarge(at) = numbers {
-            return Err(RulesError::Limit { at });
-        }
-        build(alloc, text).map_err(|_| RulesError::Memory)
+        read(alloc, text)
     }
 
     /// Parses rules as `try_from_utf8` does.

@@ -4,6 +4,7 @@ ghost use Rattle.plural_rules.specs.declared.parse.state.Categories.{Categories}
 ghost use Rattle.plural_rules.specs.RulesReader as reader;
 ghost use Rattle.plural_rules.specs.RulesBuilder.{partial, IsSmall};
 
+use crate::parse::numbers::Numbers;
 use crate::parse::state::Event;
 use crate::rules::{Modulus, Operand, PluralCategory, PluralRules, Range, Relation, Rule};
 use std::alloc::{AllocError, Global};
@@ -129,7 +130,7 @@ impl Builder {
         Ok(())
     }
 
-    pub fn take(&mut self, event: Event) -> Result<(), AllocError>
+    fn take(&mut self, event: Event) -> Result<(), AllocError>
         requires { IsSmall event self.old }
         ensures { OnOk result ((seen : Categories) → partial (reader.seen_after event seen) self.new
             ≡ reader.after event (partial seen self.old)) }
@@ -183,5 +184,14 @@ impl Builder {
             }
             Event::EndOther => self.end_rule(),
         }
+    }
+
+    /// Takes an event if the rules so far were built and their numbers fit. False if not, or out of memory.
+    pub fn take_if(&mut self, is_built: bool, numbers: Numbers, event: Event) -> bool
+        requires { is_built ≡ true → reader.all_fit numbers ≡ true → IsSmall event self.old }
+        ensures { result ≡ true → (is_built ≡ true) × ((seen : Categories)
+            → partial (reader.seen_after event seen) self.new ≡ reader.after event (partial seen self.old)) }
+    {
+        is_built && numbers.all_fit() && self.take(event).is_ok()
     }
 }

@@ -68,4 +68,10 @@ impl Numbers {
             _ => self,
         }
     }
+
+    pub fn all_fit(self) -> bool
+        ensures { result ≡ reader.all_fit self }
+    {
+        matches!(self, Numbers::Fit { .. })
+    }
 }

@@ -1,4 +1,4 @@
-use Rattle.std.proofs.Common.{sym, ◌∙◌, ap, subst, rules, FitsSigned, w16}
+use Rattle.std.proofs.Common.{sym, ◌∙◌, ap, subst}
 use Rattle.std.specs.Prelude.{IsFalse, Err}
 use Rattle.std.proofs.lemmas.Int.{to_z-of_z}
 use Rattle.decimal_unsigned.specs.declared.error.ConcatenateError.TheVariants.{Overlap, Memory}
@@ -12,15 +12,14 @@ from_bcd_digits-requires-clause-digits g c = let d = c.requires.4 in (d.0, bcd_o
 
 pub returns-in_err-next-clause-memory : goal.returns-in_err-next-clause-memory
 returns-in_err-next-clause-memory g c = on_err c.from_residual.result _ (λ ds es holds bcd.
-    let fits : FitsSigned w16 c.last_magnitude-position.result = search rules in
-    let next = next_at c.requires c.last_magnitude-position.ensures fits in
+    let next = next_at c.requires c.last_magnitude-position.ensures c.last_magnitude-position.type_inv in
     memory_for_integer holds bcd next g.D.DigitStore.L
     (λ few. let t = c.in_err-next.ensures.succeeds es (bcd_only bcd) few in let no : ⊥ = cc in no))
 
 pub returns-in-Err-clause-ok : goal.returns-in-Err-clause-ok
 returns-in-Err-clause-ok g c = λ ds es holds bcd.
-    let fits : FitsSigned w16 c.last_magnitude-position.result = search rules in
-    let next = next_at c.requires c.last_magnitude-position.ensures fits in
+    let next = next_at c.requires c.last_magnitude-position.ensures c.last_magnitude-position.type_inv in
+    let fits = next.fits in
     let f = simp to_z-of_z at c.in-Err.ensures.fits in
     let t = f.1 (subst (λ v. IsFalse (leaves_limits v c.last_magnitude-position.result))
     (sym (c.in_ok-next.ensures.value es (bcd_only bcd))) (stays_in_limits holds bcd next)) in
@@ -28,15 +27,13 @@ returns-in-Err-clause-ok g c = λ ds es holds bcd.
 
 pub returns-in-Ok-clause-ok : goal.returns-in-Ok-clause-ok
 returns-in-Ok-clause-ok g c = λ ds es holds bcd.
-    let fits : FitsSigned w16 c.last_magnitude-position.result = search rules in
-    let next = next_at c.requires c.last_magnitude-position.ensures fits in
+    let next = next_at c.requires c.last_magnitude-position.ensures c.last_magnitude-position.type_inv in
     c.in-Ok.ensures.ok
     ∙ joined_is holds bcd next _ _ (c.in_ok-next.ensures.value es (bcd_only bcd)) c.in_default.ensures.moved
 
 pub returns-in-Err-Overlap-clause-ok : goal.returns-in-Err-Overlap-clause-ok
 returns-in-Err-Overlap-clause-ok g c = λ ds es holds bcd.
-    let fits : FitsSigned w16 c.last_magnitude-position.result = search rules in
-    let next = next_at c.requires c.last_magnitude-position.ensures fits in
+    let next = next_at c.requires c.last_magnitude-position.ensures c.last_magnitude-position.type_inv in
     let apart = is_apart holds bcd next _ _ (c.in_ok-next.ensures.value es (bcd_only bcd)) c.in_default.ensures.moved in
     let returned = rw c.in-Err-Overlap.field-0-is at c.in-Err-Overlap.ensures.returned in
     let overlap = c.in-Err-Overlap.ensures.overlap.0 (ap Err (c.in-Err-Overlap.field-0-is ∙ ap Overlap returned)) in
@@ -45,8 +42,7 @@ returns-in-Err-Overlap-clause-ok g c = λ ds es holds bcd.
 
 pub returns-in-Err-Memory-clause-memory : goal.returns-in-Err-Memory-clause-memory
 returns-in-Err-Memory-clause-memory g c = λ ds es holds bcd.
-    let fits : FitsSigned w16 c.last_magnitude-position.result = search rules in
-    let next = next_at c.requires c.last_magnitude-position.ensures fits in
+    let next = next_at c.requires c.last_magnitude-position.ensures c.last_magnitude-position.type_inv in
     let returned = rw c.in-Err-Memory.field-0-is at c.in-Err-Memory.ensures.returned in
     let needs = c.in-Err-Memory.ensures.memory (ap Err (c.in-Err-Memory.field-0-is ∙ ap Memory returned)) in
     memory_for_sum holds bcd next _ _ (c.in_ok-next.ensures.value es (bcd_only bcd)) c.in_default.ensures.moved

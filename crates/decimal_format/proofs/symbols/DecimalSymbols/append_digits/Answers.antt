@@ -1,4 +1,4 @@
-use Rattle.std.proofs.Common.{◌+◌, ◌++◌, length-append, arith}
+use Rattle.std.proofs.Common.{◌++◌, length-append, arith}
 use Rattle.fixed_decimal.proofs.Calling.{on_err}
 use Rattle.decimal_format.proofs.Bcd.{below_append}
 use Rattle.decimal_format.proofs.Values.{appended_none, appended_all, appended_more, next_word, memory_for_word}

@@ -1,20 +1,5 @@
-use Rattle.std.proofs.Common.{◌∙◌, arith}
-use Rattle.plural_rules.proofs.Shifted.{fraction_of}
-use Rattle.fixed_decimal.proofs.Calling.{narrow_kept}
+use Rattle.std.proofs.Common.{refl}
 use Rattle.plural_rules.proofs.operands.PluralOperands.fraction.Goals as goal
 
-pub new-requires : goal.new-requires
-new-requires g c =
-    let below = narrow_kept c.first_fraction_magnitude-first.type_inv ∙ c.first_fraction_magnitude-first.ensures in
-    let found =
-    fraction_of c.args.self.now c.self.inside.value.now _ c.self.inside.exponent c.v.result c.self.view_is below
-    (omega arith) c.v.ensures.value c.v.ensures.at_most in
-    found.0
-
 pub returns : goal.returns
-returns g c =
-    let below = narrow_kept c.first_fraction_magnitude-first.type_inv ∙ c.first_fraction_magnitude-first.ensures in
-    let found =
-    fraction_of c.args.self.now c.self.inside.value.now _ c.self.inside.exponent c.v.result c.self.view_is below
-    (omega arith) c.v.ensures.value c.v.ensures.at_most in
-    c.new.ensures ∙ found.1
+returns g c = c.fraction_digits.ensures.digits c.args.self.now.value refl c.fraction_digits.ensures.shown c.v.ensures.value
