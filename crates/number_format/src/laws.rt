@@ -1,6 +1,6 @@
 //! Laws of digit options and of notations.
 ghost use Rattle.fixed_decimal.specs.Decimal.{Decimal};
-ghost use Rattle.number_format.specs.DigitLaws.{KeepsNumber, KeepsValue, IsMonotone, AppliesOnce, HasOwnExponent, RoundsAsOnce, KeepsValueOf};
+ghost use Rattle.number_format.specs.DigitLaws.{KeepsNumber, KeepsValue, IsMonotone, AppliesOnce, KeepsValueOf};
 
 use crate::digit_options::DigitOptions;
 use crate::digit_ranges::FractionDigits;
@@ -27,14 +27,6 @@ pub fn fraction_digits_are_monotone()
 #[tactic(auto, using(crate::proofs::DigitLaws::applies_once))]
 pub fn applying_is_idempotent()
     ensures { (o : DigitOptions) (v : Decimal) → AppliesOnce o v }
-{}
-
-/// Without an increment the exponent of a notation is that of the rounded number, also if the rounding carries, and one
-/// rounding with this exponent makes the same number.
-#[tactic(auto, using(crate::proofs::Carries::has_own_exponent, crate::proofs::Carries::rounds_as_once))]
-pub fn the_exponent_is_of_the_rounded_number()
-    ensures exponent { (notation : Notation) (o : DigitOptions) (v : Decimal) → HasOwnExponent notation o v }
-    ensures once { (notation : Notation) (o : DigitOptions) (v : Decimal) → RoundsAsOnce notation o v }
 {}
 
 /// The significand times 10 to the power of the exponent is the rounded number, if no integer digit is cut off.
