@@ -18,11 +18,11 @@ use Rattle.number_format.specs.declared.notation.Notation.TheVariants.{Standard,
 use Rattle.number_format.specs.declared.precision.Precision.{Precision}
 use Rattle.number_format.specs.declared.precision.Precision.TheVariants.{Fraction, Multiples, Significant, MorePrecision, LessPrecision}
 use Rattle.number_format.specs.ShownDigits.{rounded_at, base_of, position_at}
-use Rattle.number_format.specs.Scaled.{exponent_at, whole_exponent, Settled, settled}
+use Rattle.number_format.specs.Scaled.{exponent_at, whole_exponent, Settled, settled_with, settled}
 use Rattle.number_format.specs.DigitLaws.{HasNoIncrement, IsOrdered}
 use Rattle.number_format.proofs.Chosen.{chosen}
 use Rattle.number_format.proofs.Coarser.{carry_coarser}
-use Rattle.number_format.proofs.FirstDigits.{unit_some, kept, limited, first_near}
+use Rattle.number_format.proofs.FirstDigits.{unit_some, kept, limited, IsNear, first_near, order}
 use Rattle.number_format.proofs.Scales.{once_or_twice}
 
 -- ---- The exponents of magnitudes.
@@ -162,3 +162,96 @@ module _ (notation : Notation) (o : DigitOptions) (sign : Sign) (n : ℕ) (plain
         subst (IsNear n) (sym (by_1 exponent n few))
         (first_near mode n (position_at o.precision exponent n) few
         (position_most o.precision plain exponent n (first n) (omega (arith, ints)) (omega (arith, ints, low, at))))
+
+    -- after a carry a second rounding keeps the number, and a first one with the new exponent makes it
+    module _ (more : exponent < next) (fits : made < number_limit) where
+      grown : first n <ℤ first made
+      grown = elim (order (first n) (first made)) [
+        | inl h ↦ h
+        | inr stays ↦
+            let same : first n ≡ first made = omega (arith, ints, stays, near.least) in
+            absurd (omega (arith, ap (exponent_from_0 notation) same, more))
+      ]
+
+      there : first made ≡ pos (k + 1)
+      there = omega (arith, ints, at, grown, near.most)
+
+      top : next ≤ k + 1
+      top = subst (λ m. exponent_from_0 notation m ≤ k + 1) (sym there) ((exponent_most notation ordered (k + 1)).0)
+
+      above : (m : ℕ) → first m ≤ℤ pos (k + 1) → offset (position_at o.precision next m) ≤ offset (first made)
+      above m h =
+          let below = position_most o.precision plain next m (pos (k + 1)) h (omega (arith, ints, top)) in
+          omega (arith, ints, below, there, offset_is (first made), offset_is (position_at o.precision next m))
+
+      again : (rounded_at o sign next made).number ≡ made
+      again =
+          let is = near.carried grown in
+          by_1 next made fits
+          ∙ subst (λ m. rounded_number mode (unit_at MultiplesOf1 (position_at o.precision next made)) m ≡ m) (sym is)
+          (kept mode (position_at o.precision next made) (offset (first made)) (above made (omega (arith, ints, there))))
+
+      directly : (rounded_at o sign next n).number ≡ made
+      directly =
+          let up = position_up o.precision plain exponent next n (omega (arith, more)) in
+          by_1 next n few
+          ∙ carry_higher mode n (position_at o.precision exponent n) (position_at o.precision next n) (offset (first made))
+          (omega (arith, ints, up, offset_is (position_at o.precision exponent n), offset_is (position_at o.precision next n)))
+          (above n (omega (arith, ints, at))) (below_weight n (first made) few grown)
+          (sym (by_1 exponent n few) ∙ near.carried grown)
+          ∙ sym (near.carried grown)
+
+    -- and no exponent falls
+    no_fall : exponent ≤ next
+    no_fall = elim (order (first n) (first made)) [
+      | inl up ↦
+          let there : first made ≡ pos (k + 1) = omega (arith, ints, at, up, near.most) in
+          omega (
+            arith,
+            ap (exponent_from_0 notation) at,
+            ap (exponent_from_0 notation) there,
+            (exponent_most notation ordered k).1,
+          )
+      | inr stays ↦
+          let same : first n ≡ first made = omega (arith, ints, stays, near.least) in
+          omega (arith, ap (exponent_from_0 notation) same)
+    ]
+
+  -- each settled number
+  module _ (s : Settled) (is : settled notation o sign n ≡ Some s) where
+    pub settles : (m : ℤ) → first n ≡ m → Settles notation o sign n s
+    settles (negsuc k) at = elim (once_or_twice notation o sign n s is).1 [
+      | inl kept ↦
+          subst (Settles notation o sign n) (sym kept.0)
+          (record {
+            own = none k at ∙ sym (none_after k at);
+            once = refl;
+            carry = inl refl;
+            least = λ h. absurd (omega (arith, ints, h, at));
+            most = λ h. absurd (omega (arith, ints, h, at));
+          })
+      | inr twice ↦ absurd (omega (arith, none_after k at, twice.1))
+    ]
+    settles (pos k) at = elim (once_or_twice notation o sign n s is).1 [
+      | inl kept ↦
+          subst (Settles notation o sign n) (sym kept.0)
+          (record {
+            own = omega (arith, no_fall k at, kept.1);
+            once = refl;
+            carry = inl refl;
+            least = λ h. (near k at).least;
+            most = λ h. (near k at).most;
+          })
+      | inr twice ↦
+          let fits = (once_or_twice notation o sign n s is).0 in
+          let same = again k at twice.1 fits in
+          subst (Settles notation o sign n) (sym twice.0)
+          (record {
+            own = ap (whole_exponent notation) (sym same);
+            once = same ∙ sym (directly k at twice.1 fits);
+            carry =
+                inr (subst (λ m. m ≡ weight (first m)) (sym same) ((near k at).carried (grown k at twice.1 fits)));
+            least = λ h. subst (λ m. first n ≤ℤ first m) (sym same) (near k at).least;
+            most = λ h. subst (λ m. first m ≤ℤ (first n +ℤ pos 1)) (sym same) (near k at).most;
+          })
+    ]

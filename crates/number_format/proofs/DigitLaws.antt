@@ -68,14 +68,13 @@ module _ (o : DigitOptions) (f : FractionDigits) (v : Decimal) where
   keeps_number is divides =
       let mode = mode_at o.mode v.sign in
       let n = v.absolute.number in
-      let unit = 1 * weight (pos 0 +ℤ fraction_end f.max) in
+      let unit = weight (fraction_end f.max) in
       let same : pos 0 +ℤ fraction_end f.max ≡ fraction_end f.max = omega (arith, ints) in
-      let multiple : n ≡ n / weight (fraction_end f.max) * unit =
-      omega (arith, divides, div-add-mod' n (weight (fraction_end f.max)), ap weight same) in
-      ap (λ p. (rounded_by p mode 0 n).number) is
+      let one : 1 * weight (pos 0 +ℤ fraction_end f.max) ≡ unit = omega (arith, ap weight same) in
+      let multiple : n ≡ n / unit * unit = omega (arith, divides, div-add-mod' n unit) in
+      ap (λ p. (rounded_by p mode 0 n).number) is ∙ ap (λ u. rounded_number mode u n) one
       ∙ subst (λ m. rounded_number mode unit m ≡ m) (sym multiple)
-      (rounded_number-multiple mode unit (n / weight (fraction_end f.max))
-      (omega (arith, ten_pos (offset (pos 0 +ℤ fraction_end f.max)))))
+      (rounded_number-multiple mode unit (n / unit) (ten_pos (offset (fraction_end f.max))))
 
   last_shown_is : o.precision ≡ Fraction f → (rounded o v).last_shown ≡ fraction_end f.min
   unfolding rounded_by to_fixed

@@ -1,8 +1,8 @@
 -- The first digit of a number before and after a rounding.
 use Rattle.std.proofs.Common.{◌≡◌, ℕ, zero, suc, ◌+◌, ◌-◌, ◌*◌, ◌^◌, ◌<◌, ◌≤◌, inl, inr, refl, sym, ◌∙◌, ap, subst, arith, rules}
-use Rattle.std.specs.Prelude.{nat_le, ℤ, pos, ◌+ℤ◌, ◌≤ℤ◌, ◌<ℤ◌}
+use Rattle.std.specs.Prelude.{◌⊎◌, nat_le, ℤ, pos, ◌+ℤ◌, ◌≤ℤ◌, ◌<ℤ◌, int_lt}
 use Rattle.std.proofs.lemmas.Int.{ints}
-use Rattle.std.proofs.lemmas.Bool.{cases_lt}
+use Rattle.std.proofs.lemmas.Bool.{cases_lt, cases_Bool}
 use Rattle.decimal_digits.specs.Number.{offset, number_limit, magnitude_at, weight, first}
 use Rattle.decimal_digits.specs.Rounding.{unit_at, rounded_number}
 use Rattle.decimal_digits.specs.declared.rounding.RoundingIncrement.TheVariants.{MultiplesOf1}
@@ -23,6 +23,10 @@ pub rounded_zero : (mode : UnsignedRoundingMode) (unit n : ℕ) → 0 < unit →
 rounded_zero mode unit n some none =
     subst (λ m. rounded_number mode unit m ≡ m) (let e : 0 * unit ≡ n = omega (arith, none) in e)
     (rounded_number-multiple mode unit 0 some)
+
+-- of two magnitudes one is less, or is not
+pub order : (a b : ℤ) → (a <ℤ b) ⊎ (b ≤ℤ a)
+order a b = elim (cases_Bool (int_lt a b)) [ | inl h ↦ inl (grind (arith, ints)) | inr h ↦ inr (grind (arith, ints)) ]
 
 -- ---- Powers of ten at the position of a rounding or above.
 module _ (mode : UnsignedRoundingMode) (position : ℤ) where

@@ -4,4 +4,5 @@ pub mod Applied
 pub mod Coarser
 pub mod Scales
 pub mod Carries
+pub mod Exponents
 pub mod DigitLaws

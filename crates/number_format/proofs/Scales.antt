@@ -1,8 +1,9 @@
 -- The significand and the exponent of a number.
 use Rattle.std.proofs.Common.{◌≡◌, ℕ, zero, suc, ◌+◌, ◌-◌, ◌*◌, ◌/◌, ◌%◌, ◌^◌, ◌<◌, ◌≤◌, true, false, inl, inr, refl, sym, ◌∙◌, ap, subst, arith}
 use Rattle.std.specs.Prelude.{◌⊎◌, ◌||◌, Option, Some, None, option_and_then, nat_lt, unsigned_abs, ℤ, pos, negsuc, neg_ℤ, ◌+ℤ◌, ◌-ℤ◌, ◌<ℤ◌, ◌≤ℤ◌, int_lt}
-use Rattle.std.proofs.Math.Nat.{mul_assoc, mul-lt-mul_of_pos_right, mul-mod_left, div-add-mod', div-le_self, pow-le-pow_right}
-use Rattle.std.proofs.lemmas.Int.{ints}
+use Rattle.std.specs.Int.{int_max}
+use Rattle.std.proofs.Math.Nat.{mul_assoc, le-mul_of_pos_right, mul-lt-mul_of_pos_right, mul-mod_left, div-add-mod', div-le_self, pow-le-pow_right}
+use Rattle.std.proofs.lemmas.Int.{ints, clamps}
 use Rattle.std.proofs.lemmas.Bool.{cases_Bool, cases_lt, or_parts}
 use Rattle.std.proofs.lemmas.Bool.Decides.{nat_tests}
 use Rattle.decimal_digits.specs.Number.{offset, number_limit, first, last, lowest_magnitude, highest_magnitude}
@@ -14,7 +15,7 @@ use Rattle.fixed_decimal.proofs.Calling.{extent, first_of, last_of, offset_is, t
 use Rattle.number_format.specs.declared.digit_options.DigitOptions.{DigitOptions}
 use Rattle.number_format.specs.declared.notation.Notation.{Notation}
 use Rattle.number_format.specs.ShownDigits.{Rounded, position_at, rounded_at, rounded_within, shown}
-use Rattle.number_format.specs.Scaled.{whole_exponent, base_exponent, Settled, settled_with, settled, ScaledValue, scaled_value, written, scaled}
+use Rattle.number_format.specs.Scaled.{whole_exponent, base_exponent, raised, Settled, settled_with, settled, ScaledValue, scaled_value, written, scaled}
 use Rattle.number_format.specs.DigitLaws.{KeepsValueOf}
 use Rattle.number_format.proofs.Applied.{shown_number}
 
@@ -25,27 +26,40 @@ lowered n zero = omega arith
 lowered n (suc count) = refl
 
 -- a multiplication moves the first digit up
-pub raised_some : (n count : ℕ) → 0 < n → n < number_limit → (first n +ℤ pos count) ≤ℤ pos 32767
-    → (n * 10 ^ count < number_limit) × (first (n * 10 ^ count) ≡ first n +ℤ pos count)
-raised_some n count some few low =
-    let e = extent (offset (pos 32768)) n some few (omega (arith, ints, offset_is (pos 32768))) in
-    let less = mul-lt-mul_of_pos_right e.below (ten_pos count) in
-    let up : 10 ^ (e.top + 1 + count) ≡ 10 ^ (e.top + 1) * 10 ^ count = powers (e.top + 1) count (e.top + 1 + count) refl in
-    let most : 10 ^ (e.top + 1 + count) ≤ number_limit =
-    pow-le-pow_right (omega arith) (omega (arith, ints, first_of e, low, e.limit, offset_is (pos 32768))) in
-    let below : n * 10 ^ count < number_limit = omega (arith, less, up, most) in
+pub first_shifted : (n e : ℕ) → 0 < n → n * 10 ^ e < number_limit → first (n * 10 ^ e) ≡ first n +ℤ pos e
+first_shifted n e some few =
     let same : n * 10 ^ 0 ≡ n = omega arith in
-    let moved = first_up n count 0 (offset (pos 32768)) (offset (pos 32768)) below (omega (arith, same, few))
-    (omega (arith, ints, offset_is (pos 32768))) (omega (arith, ints, offset_is (pos 32768))) some in
-    (below, omega (arith, ints, moved, ap first same))
+    let less : n * 10 ^ 0 < number_limit = omega (arith, few, le-mul_of_pos_right n (ten_pos e)) in
+    let moved =
+    first_up n e 0 (offset (pos 32768)) (offset (pos 32768)) few less (omega (arith, ints, offset_is (pos 32768)))
+    (omega (arith, ints, offset_is (pos 32768))) some in
+    omega (arith, ints, moved, ap first same)
 
-pub raised_low : (n x y : ℕ) → n < number_limit → (first n +ℤ pos (x + y)) ≤ℤ pos 32767 → y ≤ 32767
-    → (first (n * 10 ^ x) +ℤ pos y) ≤ℤ pos 32767
-raised_low n x y few low short = elim (cases_lt 0 n) [
-  | inl some ↦ omega (arith, ints, low, (raised_some n x some few (omega (arith, ints, low))).1)
+-- up to magnitude 2 it stays below the limit
+pub raised_below : (n count : ℕ) → n < number_limit → (first n +ℤ pos count) ≤ℤ int_max (first n) (pos 2)
+    → n * 10 ^ count < number_limit
+raised_below n count few low = elim (cases_lt 0 n) [
   | inr none ↦
-      let zero : n * 10 ^ x ≡ 0 = (let z : n ≡ 0 = omega arith in ap (λ m. m * 10 ^ x) z ∙ (omega arith)) in
-      omega (arith, ints, ap first zero, first_zero, short)
+      let zero : n * 10 ^ count ≡ n = (let z : n ≡ 0 = omega arith in ap (λ m. m * 10 ^ count) z ∙ (omega arith)) in
+      omega (arith, zero, few)
+  | inl some ↦
+      let e = extent (offset (pos 32768)) n some few (omega (arith, ints, offset_is (pos 32768))) in
+      let less = mul-lt-mul_of_pos_right e.below (ten_pos count) in
+      let up : 10 ^ (e.top + 1 + count) ≡ 10 ^ (e.top + 1) * 10 ^ count =
+      powers (e.top + 1) count (e.top + 1 + count) refl in
+      let most : 10 ^ (e.top + 1 + count) ≤ number_limit =
+      pow-le-pow_right (omega arith)
+      (omega (arith, ints, clamps, first_of e, low, e.limit, offset_is (pos 32768))) in
+      omega (arith, less, up, most)
+]
+
+pub raised_first : (n count : ℕ) → n < number_limit → (first n +ℤ pos count) ≤ℤ int_max (first n) (pos 2)
+    → first (n * 10 ^ count) ≤ℤ int_max (first n +ℤ pos count) (pos 0)
+raised_first n count few low = elim (cases_lt 0 n) [
+  | inl some ↦ omega (arith, ints, clamps, first_shifted n count some (raised_below n count few low))
+  | inr none ↦
+      let zero : n * 10 ^ count ≡ 0 = (let z : n ≡ 0 = omega arith in ap (λ m. m * 10 ^ count) z ∙ (omega arith)) in
+      omega (arith, ints, clamps, ap first zero, first_zero)
 ]
 
 -- two multiplications by parts of a power are one
@@ -57,16 +71,16 @@ raised_twice n x y count is =
 not_below : (z : ℤ) → negsuc 32767 ≤ℤ z → int_lt z lowest_magnitude ≡ false
 not_below z h = grind (arith, ints)
 
-pub scaled-some : (notation : Notation) (o : DigitOptions) (v : Decimal) (base : ℤ) (raised : ℕ) (t : Settled)
-    → base ≡ base_exponent notation v.absolute.number → raised ≡ v.absolute.number * 10 ^ unsigned_abs base
-    → settled notation o v.sign raised ≡ Some t → negsuc 32767 ≤ℤ (last t.number -ℤ pos t.exponent)
+pub scaled-some : (notation : Notation) (o : DigitOptions) (v : Decimal) (base : ℤ) (number : ℕ) (t : Settled)
+    → base ≡ base_exponent notation v.absolute.number → number ≡ v.absolute.number * 10 ^ unsigned_abs base
+    → settled notation o v.sign number ≡ Some t → negsuc 32767 ≤ℤ (last t.number -ℤ pos t.exponent)
     → (new : Decimal) (exponent : ℤ) → new.sign ≡ v.sign
     → new.absolute ≡ shown o (t.number / 10 ^ t.exponent) t.last_shown → exponent ≡ base +ℤ pos t.exponent
     → scaled notation o v ≡ Some (scaled_value new exponent)
-scaled-some notation o v base raised t is number settles fits new exponent sign digits sum =
+scaled-some notation o v base number t is shifted settles fits new exponent sign digits sum =
     sym (λ i. option_and_then (written o v.sign (is i))
     (settled notation o v.sign (v.absolute.number * 10 ^ unsigned_abs (is i))))
-    ∙ ap (λ n. option_and_then (written o v.sign base) (settled notation o v.sign n)) (sym number)
+    ∙ ap (λ n. option_and_then (written o v.sign base) (settled notation o v.sign n)) (sym shifted)
     ∙ (rw (settles, not_below (last t.number -ℤ pos t.exponent) fits)
     (sym (λ i. Some (scaled_value (record { sign = sign i; absolute = digits i }) (sum i)))))
 
@@ -155,19 +169,16 @@ module _ (notation : Notation) (o : DigitOptions) (v : Decimal) (all : o.integer
   abbrev base : ℤ
   base = base_exponent notation v.absolute.number
 
-  abbrev raised : ℕ
-  raised = v.absolute.number * 10 ^ unsigned_abs base
-
-  by_settled : (r : Option Settled) → settled notation o v.sign raised ≡ r
+  by_settled : (r : Option Settled) → settled notation o v.sign (raised notation v.absolute.number) ≡ r
       → option_and_then (written o v.sign base) r ≡ Some s
-      → (t : Settled) × (settled notation o v.sign raised ≡ Some t)
+      → (t : Settled) × (settled notation o v.sign (raised notation v.absolute.number) ≡ Some t)
       × (s.significand.absolute.number * 10 ^ t.exponent ≡ t.number) × (s.exponent ≡ base +ℤ pos t.exponent)
   by_settled None is none = absurd (cc)
   by_settled (Some t) is some = elim (cases_Bool (int_lt (last t.number -ℤ pos t.exponent) lowest_magnitude)) [
     | inl low ↦ absurd (let none = rw low at some in cc)
     | inr fits ↦
         let made = rw fits at some in
-        let few = settled_below notation o v.sign raised t is in
+        let few = settled_below notation o v.sign (raised notation v.absolute.number) t is in
         let power = 10 ^ t.exponent in
         let same : scaled_value (record { sign = v.sign; absolute = shown o (t.number / power) t.last_shown })
         (base +ℤ pos t.exponent) ≡ s = cc in
@@ -183,4 +194,4 @@ module _ (notation : Notation) (o : DigitOptions) (v : Decimal) (all : o.integer
 
 pub keeps_value_of : (notation : Notation) (o : DigitOptions) (v : Decimal) → KeepsValueOf notation o v
 keeps_value_of notation o v all s is =
-    by_settled notation o v all s (settled notation o v.sign (raised notation o v all s)) refl is
+    by_settled notation o v all s (settled notation o v.sign (raised notation v.absolute.number)) refl is

@@ -1,6 +1,5 @@
 -- Laws of digit options and of notations.
-use Rattle.std.specs.Prelude.{◌≡◌, ℕ, ◌+◌, ◌*◌, ◌%◌, ◌^◌, ◌<◌, ◌≤◌, ◌⊎◌, Some, unsigned_abs, pos, ◌+ℤ◌, ◌≤ℤ◌}
-use Rattle.std.specs.Int.{int_max, int_min}
+use Rattle.std.specs.Prelude.{◌≡◌, ℕ, ◌+◌, ◌*◌, ◌%◌, ◌^◌, ◌<◌, ◌≤◌, ◌⊎◌, Some, pos, ◌+ℤ◌, ◌≤ℤ◌}
 use Rattle.decimal_digits.specs.Number.{number_limit, weight, first}
 use Rattle.fixed_decimal.specs.Decimal.{Decimal}
 use Rattle.number_format.specs.declared.digit_options.DigitOptions.{DigitOptions}
@@ -9,7 +8,7 @@ use Rattle.number_format.specs.declared.precision.Precision.{Precision}
 use Rattle.number_format.specs.declared.precision.Precision.TheVariants.{Fraction, Multiples}
 use Rattle.number_format.specs.declared.notation.Notation.{Notation}
 use Rattle.number_format.specs.declared.notation.Notation.TheVariants.{Compact}
-use Rattle.number_format.specs.Scaled.{compact_exponent, exponent_at, base_exponent, Settled, settled, ScaledValue, scaled}
+use Rattle.number_format.specs.Scaled.{compact_exponent, exponent_at, base_exponent, raised, Settled, settled, ScaledValue, scaled}
 use Rattle.number_format.specs.ShownDigits.{fraction_end, rounded_at, rounded, shown, applied}
 
 -- the precision is a number of fraction digits, by 1 or by an increment
@@ -57,15 +56,15 @@ IsOrdered (Compact table) =
     × (compact_exponent table (pos m) ≤ℤ compact_exponent table (pos (m + 1)))
 IsOrdered notation = Unit {0}
 
--- the exponent is that of the first digit of the result; one rounding of the decimal with this exponent makes the same
--- number; and it is another exponent than that of the decimal only after a carry to a power of ten
-pub record HasOwnExponent (notation : Notation) (o : DigitOptions) (v : Decimal) (s : ScaledValue) : Type 0 where
-  pub own : s.exponent ≡ exponent_at notation (first s.significand.absolute.number +ℤ s.exponent)
-  pub once : s.significand.absolute.number * 10 ^ unsigned_abs (int_max (pos 0) s.exponent)
-      ≡ (rounded_at o v.sign (unsigned_abs (int_max (pos 0) s.exponent))
-      (v.absolute.number * 10 ^ unsigned_abs (int_min (pos 0) s.exponent))).number
-  pub carry : (s.exponent ≡ exponent_at notation (first v.absolute.number))
-      ⊎ (s.significand.absolute.number ≡ weight (first s.significand.absolute.number))
+-- the exponent is that of the first digit of the result; one rounding with it makes the same number; and it is another
+-- one than that of the decimal only after a carry to a power of ten
+abbrev pub HasOwnExponent : Notation → DigitOptions → Decimal → ScaledValue → Type 0
+HasOwnExponent notation o v s =
+    (s.exponent ≡ exponent_at notation (first s.significand.absolute.number +ℤ s.exponent))
+    × ((e : ℕ) → s.exponent ≡ base_exponent notation v.absolute.number +ℤ pos e
+    → s.significand.absolute.number * 10 ^ e ≡ (rounded_at o v.sign e (raised notation v.absolute.number)).number)
+    × ((s.exponent ≡ exponent_at notation (first v.absolute.number))
+    ⊎ (s.significand.absolute.number ≡ weight (first s.significand.absolute.number)))
 
 -- this holds without an increment, if no integer digit is cut off
 abbrev pub KeepsExponent : Notation → DigitOptions → Decimal → Type 0
@@ -77,8 +76,6 @@ KeepsExponent notation o v =
 abbrev pub KeepsValueOf : Notation → DigitOptions → Decimal → Type 0
 KeepsValueOf notation o v =
     o.integer.max ≡ 32768 → (s : ScaledValue) → scaled notation o v ≡ Some s
-    → (t : Settled)
-    × (settled notation o v.sign
-    (v.absolute.number * 10 ^ unsigned_abs (base_exponent notation v.absolute.number)) ≡ Some t)
+    → (t : Settled) × (settled notation o v.sign (raised notation v.absolute.number) ≡ Some t)
     × (s.significand.absolute.number * 10 ^ t.exponent ≡ t.number)
     × (s.exponent ≡ base_exponent notation v.absolute.number +ℤ pos t.exponent)

@@ -38,6 +38,10 @@ whole_exponent notation n = unsigned_abs (int_max (pos 0) (exponent_at notation 
 abbrev pub base_exponent : Notation → ℕ → ℤ
 base_exponent notation n = int_min (pos 0) (exponent_at notation (first n))
 
+-- the number, multiplied by the power of ten that makes an exponent below 0 one of 0
+abbrev pub raised : Notation → ℕ → ℕ
+raised notation n = n * 10 ^ unsigned_abs (base_exponent notation n)
+
 -- ---- The rounding.
 
 -- a rounded number, its exponent, and the magnitude of its quotient down to which zeros are shown
@@ -80,11 +84,11 @@ written o sign base s =
     else Some (scaled_value (record { sign = sign; absolute = shown o (s.number / 10 ^ s.exponent) s.last_shown })
     (base +ℤ pos s.exponent))
 
--- the significand and the exponent of a decimal; one whose exponent is below 0 is multiplied by its power of ten first
+-- the significand and the exponent of a decimal
 abbrev pub scaled : Notation → DigitOptions → Decimal → Option ScaledValue
 scaled notation o v =
-    let base = base_exponent notation v.absolute.number in
-    option_and_then (written o v.sign base) (settled notation o v.sign (v.absolute.number * 10 ^ unsigned_abs base))
+    option_and_then (written o v.sign (base_exponent notation v.absolute.number))
+    (settled notation o v.sign (raised notation v.absolute.number))
 
 -- ---- Private: used only in the contract of a private function.
 

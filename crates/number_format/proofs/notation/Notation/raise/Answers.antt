@@ -1,10 +1,10 @@
-use Rattle.std.proofs.Common.{◌≡◌, ◌+◌, ◌*◌, ◌^◌, sym, ◌∙◌, ap, subst, arith, rules, w16, w32, to_z, of_z, FitsSigned}
+use Rattle.std.proofs.Common.{◌≡◌, ◌*◌, ◌^◌, sym, ◌∙◌, ap, subst, arith, rules, w16, w32, to_z, of_z, FitsSigned}
 use Rattle.std.specs.Prelude.{pos, ◌+ℤ◌, ◌≤ℤ◌, unsigned_abs}
-use Rattle.std.specs.Int.{int_min}
+use Rattle.std.specs.Int.{int_max}
 use Rattle.std.proofs.lemmas.Int.{ints, clamps, to_z-of_z}
 use Rattle.decimal_digits.specs.Number.{first}
 use Rattle.fixed_decimal.proofs.Calling.{below_limit}
-use Rattle.number_format.proofs.Scales.{raised_low, raised_twice}
+use Rattle.number_format.proofs.Scales.{raised_first, raised_twice}
 use Rattle.number_format.proofs.notation.Notation.raise.Goals as goal
 
 pub raise-requires-2-clause-low : goal.raise-requires-2-clause-low
@@ -18,11 +18,12 @@ raise-requires-2-clause-low g c =
     let sum = simp to_z-of_z at c.halves-half.ensures.sum in
     let x = c.halves-half.result.0 in
     let y = c.halves-half.result.1 in
-    let top : (first n +ℤ pos (x + y)) ≤ℤ pos 32767 =
-    omega (arith, ints, clamps, low, sum, m_fits, c.nonzero_magnitude_start.ensures.value) in
+    let top : (first n +ℤ pos x) ≤ℤ int_max (first n) (pos 2) =
+    omega (arith, ints, clamps, low, sum, c.nonzero_magnitude_start.ensures.value) in
+    let moved =
+    raised_first n x (below_limit c.args.value.now (pos 0) c.nonzero_magnitude_start.ensures.valid) top in
     subst (λ k. (first k +ℤ pos y) ≤ℤ pos 32767) (sym c.raise.ensures)
-    (raised_low n x y (below_limit c.args.value.now (pos 0) c.nonzero_magnitude_start.ensures.valid) top
-    (omega (arith, c.halves-half.ensures.few)))
+    (omega (arith, ints, clamps, moved, low, sum, m_fits, c.nonzero_magnitude_start.ensures.value))
 
 pub returns-clause-number : goal.returns-clause-number
 returns-clause-number g c =

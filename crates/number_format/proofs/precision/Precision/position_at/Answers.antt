@@ -4,7 +4,7 @@ use Rattle.number_format.proofs.precision.Precision.position_at.Goals as goal
 
 pub returns-clause-position : goal.returns-clause-position
 returns-clause-position c =
-    let first_fits : FitsSigned w16 c.args.first = c.ranges.first.sfits in
+    let first_fits : FitsSigned w16 c.args.first = search rules in
     let position_fits : FitsSigned w32 c.position.result = search rules in
     let is = simp to_z-of_z at c.position.ensures.position in
     let most = simp to_z-of_z at c.position.ensures.at_most in
