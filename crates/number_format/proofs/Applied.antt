@@ -109,7 +109,7 @@ module _ (o : DigitOptions) (exponent : ℕ) (old : Decimal) (before position : 
   rounding_fails held Limit low fails = (
     subst (λ z. z ≤ℤ pos 32767) starts low,
     rw (or_right (int_lt highest_magnitude (position_at o.precision exponent n)) _
-    (ap reaches_limit number_is ∙ limit_if_none old position _ fails.value)) refl,
+        (ap reaches_limit number_is ∙ limit_if_none old position _ fails.value)) refl,
   )
   rounding_fails held Memory low fails = record {
     by_25 = sym base ∙ fails.by_25;

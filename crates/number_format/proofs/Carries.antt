@@ -11,14 +11,14 @@ use Rattle.decimal_digits.specs.declared.rounding.RoundingIncrement.TheVariants.
 use Rattle.decimal_digits.specs.declared.rounding.UnsignedRoundingMode.{UnsignedRoundingMode}
 use Rattle.fixed_decimal.specs.SignedRounding.{mode_at}
 use Rattle.fixed_decimal.specs.declared.variations.Sign.{Sign}
-use Rattle.fixed_decimal.proofs.Calling.{extent, first_of, offset_is, ten_pos, powers, first_zero, first_le}
+use Rattle.fixed_decimal.proofs.Calling.{extent, first_of, offset_is, ten_pos, powers, first_le}
 use Rattle.number_format.specs.declared.digit_options.DigitOptions.{DigitOptions}
 use Rattle.number_format.specs.declared.notation.Notation.{Notation}
 use Rattle.number_format.specs.declared.notation.Notation.TheVariants.{Standard, Scientific, Engineering, Compact}
 use Rattle.number_format.specs.declared.precision.Precision.{Precision}
 use Rattle.number_format.specs.declared.precision.Precision.TheVariants.{Fraction, Multiples, Significant, MorePrecision, LessPrecision}
 use Rattle.number_format.specs.ShownDigits.{rounded_at, base_of, position_at}
-use Rattle.number_format.specs.Scaled.{exponent_at, whole_exponent, Settled, settled_with, settled}
+use Rattle.number_format.specs.Scaled.{exponent_at, whole_exponent, Settled, settled}
 use Rattle.number_format.specs.DigitLaws.{HasNoIncrement, IsOrdered}
 use Rattle.number_format.proofs.Chosen.{chosen}
 use Rattle.number_format.proofs.Coarser.{carry_coarser}

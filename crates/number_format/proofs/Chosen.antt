@@ -1,11 +1,11 @@
 -- One rounding makes the number that a precision chooses of two.
 use Rattle.std.proofs.Common.{◌≡◌, ℕ, ◌*◌, ◌^◌, ◌<◌, Bool, true, false, inl, inr, refl, sym, ◌∙◌, ap, subst, arith}
-use Rattle.std.specs.Prelude.{not, if◌then◌else◌, ℤ, pos, ◌+ℤ◌, ◌-ℤ◌, ◌≤ℤ◌, ◌<ℤ◌, int_lt, int_le}
+use Rattle.std.specs.Prelude.{not, if◌then◌else◌, ℤ, pos, ◌+ℤ◌, ◌≤ℤ◌, ◌<ℤ◌, int_lt, int_le}
 use Rattle.std.specs.Int.{int_max, int_min}
 use Rattle.std.proofs.Math.Nat.{mul_assoc}
 use Rattle.std.proofs.lemmas.Int.{ints, clamps}
 use Rattle.std.proofs.lemmas.Bool.{cases_Bool}
-use Rattle.decimal_digits.specs.Number.{weight, first, number_limit}
+use Rattle.decimal_digits.specs.Number.{weight, number_limit}
 use Rattle.decimal_digits.specs.Rounding.{step_of, unit_at, rounded_number}
 use Rattle.decimal_digits.specs.declared.rounding.RoundingIncrement.TheVariants.{MultiplesOf1}
 use Rattle.decimal_digits.specs.declared.rounding.UnsignedRoundingMode.{UnsignedRoundingMode}

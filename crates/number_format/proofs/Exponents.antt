@@ -1,7 +1,7 @@
 -- The exponent of a significand is that of the first digit of the result.
 use Rattle.std.proofs.Common.{◌≡◌, ℕ, ◌+◌, ◌-◌, ◌*◌, ◌/◌, ◌%◌, ◌^◌, ◌<◌, inl, inr, sym, ◌∙◌, ap, subst, refl, arith}
-use Rattle.std.specs.Prelude.{Some, unsigned_abs, ℤ, pos, negsuc, ◌+ℤ◌, ◌-ℤ◌, ◌≤ℤ◌, int_lt}
-use Rattle.std.specs.Int.{int_max, int_min}
+use Rattle.std.specs.Prelude.{unsigned_abs, ℤ, pos, negsuc, ◌+ℤ◌, ◌-ℤ◌, ◌≤ℤ◌, int_lt}
+use Rattle.std.specs.Int.{int_min}
 use Rattle.std.proofs.Math.Nat.{le-mul_of_pos_right, eq_of_mul-eq-mul_right}
 use Rattle.std.proofs.lemmas.Int.{ints, clamps}
 use Rattle.std.proofs.lemmas.Bool.{cases_lt, cases_Bool}
@@ -13,7 +13,7 @@ use Rattle.number_format.specs.declared.notation.CompactExponents.{CompactExpone
 use Rattle.number_format.specs.declared.notation.Notation.{Notation}
 use Rattle.number_format.specs.declared.notation.Notation.TheVariants.{Standard, Scientific, Engineering, Compact}
 use Rattle.number_format.specs.ShownDigits.{rounded_at}
-use Rattle.number_format.specs.Scaled.{compact_exponent, exponent_at, base_exponent, raised, ScaledValue}
+use Rattle.number_format.specs.Scaled.{compact_exponent, exponent_at, base_exponent, raised}
 use Rattle.number_format.specs.DigitLaws.{KeepsExponent}
 use Rattle.number_format.proofs.Carries.{exponent_from_0, exponent_low, settles}
 use Rattle.number_format.proofs.Scales.{first_shifted, raised_below, settled_below, keeps_value_of}
@@ -152,8 +152,7 @@ keeps_exponent notation o v plain ordered few all s is =
     let quotient =
     first_of_quotient s.significand.absolute.number t.exponent t.number made.2 less
     (λ zero. law.own ∙ exponent_low notation (first t.number) (omega (arith, ints, ap first zero, first_zero))) in
-    let facts = moved notation (first n) (first t.number) (λ h. omega (arith, ints, start, law.least (omega (arith, ints, start, h)))) in
-    (
+    let facts = moved notation (first n) (first t.number) (λ h. omega (arith, ints, start, law.least (omega (arith, ints, start, h)))) in (
       made.3 ∙ ap (λ e. base +ℤ pos e) law.own ∙ facts.own
           ∙ ap (exponent_at notation) (omega (arith, ints, made.3, quotient)),
       λ e at.

@@ -26,7 +26,7 @@ rounded_zero mode unit n some none =
 
 -- of two magnitudes one is less, or is not
 pub order : (a b : ℤ) → (a <ℤ b) ⊎ (b ≤ℤ a)
-order a b = elim (cases_Bool (int_lt a b)) [ | inl h ↦ inl (grind (arith, ints)) | inr h ↦ inr (grind (arith, ints)) ]
+order a b = elim (cases_Bool (int_lt a b)) [ inl h ↦ inl (grind (arith, ints)) | inr h ↦ inr (grind (arith, ints)) ]
 
 -- ---- Powers of ten at the position of a rounding or above.
 module _ (mode : UnsignedRoundingMode) (position : ℤ) where

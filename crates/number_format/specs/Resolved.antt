@@ -55,8 +55,8 @@ fraction_counts least greatest (Some a) (Some b) = (a, b)
 abbrev pub fraction_of : DigitSettings → DigitDefaults → ℕ × ℕ
 fraction_of s d =
     if needs_fraction s d then
-      fraction_counts d.fraction.min (if s.rounding_increment == 1 then d.fraction.max else d.fraction.min)
-      s.minimum_fraction_digits s.maximum_fraction_digits
+    fraction_counts d.fraction.min (if s.rounding_increment == 1 then d.fraction.max else d.fraction.min)
+    s.minimum_fraction_digits s.maximum_fraction_digits
     else (0, 0)
 
 -- ---- The options.

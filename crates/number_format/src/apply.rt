@@ -86,9 +86,7 @@ impl DigitOptions {
     {
         let before = value.absolute.nonzero_magnitude_start();
         let position = self.precision.position_at(exponent, before)?;
-        if let Err(error) =
-            value.round_counted(position, self.mode, self.precision.base(), steps)
-        {
+        if let Err(error) = value.round_counted(position, self.mode, self.precision.base(), steps) {
             return Err(error);
         }
         let after = value.absolute.nonzero_magnitude_start();

@@ -108,10 +108,12 @@ impl Precision {
                 fraction_end(multiples.digits) + multiples.increment.zeros as i32
             }
             Precision::Significant(significant) => last_at(significant.max, exponent, first),
-            Precision::MorePrecision(both) => last_at(both.significant.max, exponent, first)
-                .min(fraction_end(both.fraction.max)),
-            Precision::LessPrecision(both) => last_at(both.significant.max, exponent, first)
-                .max(fraction_end(both.fraction.max)),
+            Precision::MorePrecision(both) => last_at(both.significant.max, exponent, first).min(
+                fraction_end(both.fraction.max),
+            ),
+            Precision::LessPrecision(both) => last_at(both.significant.max, exponent, first).max(
+                fraction_end(both.fraction.max),
+            ),
         }
     }
 

@@ -125,11 +125,24 @@ impl DigitSettings {
             return Ok(FractionDigits { min: 0, max: 0 });
         }
         let least = defaults.fraction.min;
-        let most = if self.rounding_increment == 1 { defaults.fraction.max } else { least };
+        let most = if self.rounding_increment == 1 {
+            defaults.fraction.max
+        } else {
+            least
+        };
         match (self.minimum_fraction_digits, self.maximum_fraction_digits) {
-            (None, None) => Ok(FractionDigits { min: least, max: most }),
-            (None, Some(max)) if max <= 100 => Ok(FractionDigits { min: least.min(max), max }),
-            (Some(min), None) if min <= 100 => Ok(FractionDigits { min, max: most.max(min) }),
+            (None, None) => Ok(FractionDigits {
+                min: least,
+                max: most,
+            }),
+            (None, Some(max)) if max <= 100 => Ok(FractionDigits {
+                min: least.min(max),
+                max,
+            }),
+            (Some(min), None) if min <= 100 => Ok(FractionDigits {
+                min,
+                max: most.max(min),
+            }),
             (Some(min), Some(max)) if min <= max && max <= 100 => Ok(FractionDigits { min, max }),
             _ => Err(DigitOptionsError::FractionDigits),
         }
@@ -160,12 +173,17 @@ impl DigitSettings {
             if digits.min != digits.max {
                 return Err(DigitOptionsError::IncrementDigits);
             }
-            return Ok(Precision::Multiples(FractionMultiples { digits: digits.max, increment }));
+            return Ok(Precision::Multiples(FractionMultiples {
+                digits: digits.max,
+                increment,
+            }));
         }
         Ok(match self.rounding_priority {
             RoundingPriority::MorePrecision => Precision::MorePrecision(both),
             RoundingPriority::LessPrecision => Precision::LessPrecision(both),
-            RoundingPriority::Auto if self.has_significant() => Precision::Significant(both.significant),
+            RoundingPriority::Auto if self.has_significant() => Precision::Significant(
+                both.significant,
+            ),
             RoundingPriority::Auto if self.is_fraction(defaults) => Precision::Fraction(digits),
             RoundingPriority::Auto => Precision::MorePrecision(both),
         })
@@ -192,7 +210,11 @@ impl DigitSettings {
         let increment = Increment::new(self.rounding_increment)?;
         let significant = self.significant()?;
         let fraction = self.fraction(defaults)?;
-        let both = BothDigits { fraction, significant, minimum: Minimum::Chosen };
+        let both = BothDigits {
+            fraction,
+            significant,
+            minimum: Minimum::Chosen,
+        };
         Ok(DigitOptions {
             integer,
             precision: self.precision(defaults, both, increment)?,

@@ -13,10 +13,12 @@ returns-in-Err-clause-rounds g c =
     let before = c.nonzero_magnitude_start-before in
     let before_fits : FitsSigned w16 before.result = search rules in
     let position_fits : FitsSigned w16 c.in_ok-position.position = search rules in
-    let rounds = simp to_z-of_z at c.in-Err.ensures.rounds in
-    (rounding_fails c.args.self.now c.args.exponent c.args.value.now before.result c.in_ok-position.position
-    c.base.result before.ensures.value (simp to_z-of_z at c.in_ok-position.ensures.position) c.base.ensures
-    before.ensures.valid g.D.DigitStore.L c.in-Err.error (omega (arith, ints, before_fits)) rounds.0, rounds.1)
+    let rounds = simp to_z-of_z at c.in-Err.ensures.rounds in (
+      rounding_fails c.args.self.now c.args.exponent c.args.value.now before.result c.in_ok-position.position
+          c.base.result before.ensures.value (simp to_z-of_z at c.in_ok-position.ensures.position) c.base.ensures
+          before.ensures.valid g.D.DigitStore.L c.in-Err.error (omega (arith, ints, before_fits)) rounds.0,
+      rounds.1,
+    )
 
 pub returns-clause-rounds : goal.returns-clause-rounds
 returns-clause-rounds g c =
