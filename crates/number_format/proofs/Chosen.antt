@@ -15,7 +15,7 @@ use Rattle.number_format.specs.declared.precision.BothDigits.{BothDigits}
 use Rattle.number_format.specs.declared.precision.Precision.{Precision}
 use Rattle.number_format.specs.declared.precision.Precision.TheVariants.{Fraction, Multiples, Significant, MorePrecision, LessPrecision}
 use Rattle.number_format.specs.ShownDigits.{last_at, fraction_end, first_by, increment_of, Rounded, to_precision, to_fixed, zeros_end, one_of, rounded_by, base_of, position_of, position_at, is_finer, last_shown_of}
-use Rattle.number_format.proofs.FirstDigits.{IsNear, first_near}
+use Rattle.number_format.proofs.FirstDigits.{IsNear, first_near, order}
 
 -- the rounding that a precision chooses is the one at its position
 pub record IsChosen (p : Precision) (mode : UnsignedRoundingMode) (exponent n : ℕ) : Type 0 where
@@ -36,6 +36,9 @@ multiples_unit m exponent =
     let split = mul_assoc (step_of m.increment.base) (10 ^ m.increment.zeros) (weight low) in
     let each = ap (λ w. step_of m.increment.base * w) (sym (ap weight same) ∙ up) in
     omega (arith, split, each)
+
+less_is : (a b : ℤ) → int_lt a b ≡ true → a <ℤ b
+less_is a b h = grind (arith, ints)
 
 -- ---- Two roundings.
 module _ (b : BothDigits) (exponent : ℕ) (mode : UnsignedRoundingMode) (n : ℕ) where
@@ -98,36 +101,26 @@ module _ (b : BothDigits) (exponent : ℕ) (mode : UnsignedRoundingMode) (n : �
     near_fine : IsNear n (at fine)
     near_fine = near fine (omega (arith, ints))
 
-    below_end : int_lt fine end ≡ true → lower ≡ true
-    below_end h =
-        let most = near_fine.most in
-        let less : fine <ℤ end = grind (arith, ints) in
-        let low : last_at b.significant.max (first_by exponent (at fine)) ≤ℤ end = omega (arith, ints, most, less) in
-        grind (arith, ints)
+    -- the digit that the rounding to significant digits keeps is at its position, or one magnitude higher
+    below_end : fine <ℤ end → lower ≡ true
+    below_end h = let most = near_fine.most in grind (arith, ints)
 
     test_fine : finer_at fine ≡ lower
     test_fine = elim (cases_Bool (int_lt fine end)) [
-      | inl less ↦ rw less (sym (below_end less))
+      | inl less ↦ rw less (sym (below_end (less_is fine end less)))
       | inr other ↦ rw other refl
     ]
 
     test_end : finer_at end ≡ lower
-    test_end = elim (cases_Bool (int_lt fine end)) [
-      | inl less ↦ rw less (sym (below_end less))
-      | inr other ↦ elim (cases_Bool (int_lt end fine)) [
-        | inl more ↦
-            let up : end <ℤ fine = grind (arith, ints) in
-            let high = (near end (omega (arith, ints, up))).least in
-            let least = near_fine.least in
-            let here : end <ℤ last_at b.significant.max (first_by exponent (at end)) = omega (arith, ints, up, high) in
-            let there : end <ℤ last_at b.significant.max (first_by exponent (at fine)) =
-            omega (arith, ints, up, least) in
-            let k : int_le (last_at b.significant.max (first_by exponent (at end))) end ≡ false = grind (arith, ints) in
-            let l : lower ≡ false = grind (arith, ints) in
-            rw (other, k) (sym l)
-        | inr not_more ↦
-            let same : fine ≡ end =
-            (let k : fine ≤ℤ end = grind (arith, ints) in let l : end ≤ℤ fine = grind (arith, ints) in omega (arith, ints)) in
+    test_end = elim (order end fine) [
+      | inl up ↦
+          let high = (near end (omega (arith, ints, up))).least in
+          let least = near_fine.least in
+          grind (arith, ints)
+      | inr down ↦ elim (order fine end) [
+        | inl less ↦ let low = below_end less in grind (arith, ints)
+        | inr up ↦
+            let same : fine ≡ end = omega (arith, ints, down, up) in
             subst (λ p. finer_at p ≡ lower) same test_fine
       ]
     ]
@@ -139,28 +132,22 @@ module _ (b : BothDigits) (exponent : ℕ) (mode : UnsignedRoundingMode) (n : �
     chosen_test true = test_fine
     chosen_test false = test_end
 
+    lower_is : (lower ≡ true → fine ≤ℤ end) × (lower ≡ false → end ≤ℤ fine)
+    lower_is =
+        let least = near_fine.least in
+        let most = near_fine.most in
+        (λ h. grind (arith, ints), λ h. grind (arith, ints))
+
     lower_least : int_min fine end ≡ (if lower then fine else end)
     lower_least = elim (cases_Bool lower) [
-      | inl h ↦
-          let least = near_fine.least in
-          let k : last_at b.significant.max (first_by exponent (at fine)) ≤ℤ end = grind (arith, ints) in
-          rw h (omega (arith, ints, clamps, least, k))
-      | inr h ↦
-          let most = near_fine.most in
-          let k : end <ℤ last_at b.significant.max (first_by exponent (at fine)) = grind (arith, ints) in
-          rw h (omega (arith, ints, clamps, most, k))
+      | inl h ↦ rw h (omega (arith, ints, clamps, lower_is.0 h))
+      | inr h ↦ rw h (omega (arith, ints, clamps, lower_is.1 h))
     ]
 
     other_greatest : int_max fine end ≡ (if not lower then fine else end)
     other_greatest = elim (cases_Bool lower) [
-      | inl h ↦
-          let least = near_fine.least in
-          let k : last_at b.significant.max (first_by exponent (at fine)) ≤ℤ end = grind (arith, ints) in
-          rw h (omega (arith, ints, clamps, least, k))
-      | inr h ↦
-          let most = near_fine.most in
-          let k : end <ℤ last_at b.significant.max (first_by exponent (at fine)) = grind (arith, ints) in
-          rw h (omega (arith, ints, clamps, most, k))
+      | inl h ↦ rw h (omega (arith, ints, clamps, lower_is.0 h))
+      | inr h ↦ rw h (omega (arith, ints, clamps, lower_is.1 h))
     ]
 
     more : IsChosen (MorePrecision b) mode exponent n
