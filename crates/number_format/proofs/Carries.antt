@@ -1,29 +1,31 @@
 -- The exponent of a rounded number is that of its own magnitude, also if the rounding carries.
-use Rattle.std.proofs.Common.{◌≡◌, ℕ, ◌+◌, ◌-◌, ◌*◌, ◌^◌, ◌<◌, ◌≤◌, true, inl, inr, refl, sym, ◌∙◌, ap, subst, arith}
-use Rattle.std.specs.Prelude.{◌⊎◌, Some, unsigned_abs, ℤ, pos, negsuc, ◌+ℤ◌, ◌≤ℤ◌, ◌<ℤ◌, int_lt}
-use Rattle.std.specs.Int.{int_max}
-use Rattle.std.proofs.Math.Nat.{pow-le-pow_right}
+use Rattle.std.proofs.Common.{◌≡◌, ℕ, ◌+◌, ◌-◌, ◌*◌, ◌^◌, ◌<◌, ◌≤◌, true, inl, inr, refl, sym, ◌∙◌, ap, subst, arith, ◌/◌, ◌%◌}
+use Rattle.std.specs.Prelude.{◌⊎◌, Some, unsigned_abs, ℤ, pos, negsuc, ◌+ℤ◌, ◌≤ℤ◌, ◌<ℤ◌, int_lt, ◌-ℤ◌}
+use Rattle.std.specs.Int.{int_max, int_min}
+use Rattle.std.proofs.Math.Nat.{pow-le-pow_right, le-mul_of_pos_right, eq_of_mul-eq-mul_right}
 use Rattle.std.proofs.lemmas.Int.{ints, clamps}
-use Rattle.std.proofs.lemmas.Bool.{cases_lt}
+use Rattle.std.proofs.lemmas.Bool.{cases_lt, cases_Bool}
 use Rattle.decimal_digits.specs.Number.{offset, number_limit, weight, first}
 use Rattle.decimal_digits.specs.Rounding.{unit_at, rounded_number}
 use Rattle.decimal_digits.specs.declared.rounding.RoundingIncrement.TheVariants.{MultiplesOf1}
 use Rattle.decimal_digits.specs.declared.rounding.UnsignedRoundingMode.{UnsignedRoundingMode}
 use Rattle.fixed_decimal.specs.SignedRounding.{mode_at}
 use Rattle.fixed_decimal.specs.declared.variations.Sign.{Sign}
-use Rattle.fixed_decimal.proofs.Calling.{extent, first_of, offset_is, ten_pos, powers, first_le}
+use Rattle.fixed_decimal.proofs.Calling.{extent, first_of, offset_is, ten_pos, powers, first_le, first_zero}
 use Rattle.number_format.specs.declared.digit_options.DigitOptions.{DigitOptions}
 use Rattle.number_format.specs.declared.notation.Notation.{Notation}
 use Rattle.number_format.specs.declared.notation.Notation.TheVariants.{Standard, Scientific, Engineering, Compact}
 use Rattle.number_format.specs.declared.precision.Precision.{Precision}
 use Rattle.number_format.specs.declared.precision.Precision.TheVariants.{Fraction, Multiples, Significant, MorePrecision, LessPrecision}
 use Rattle.number_format.specs.ShownDigits.{rounded_at, base_of, position_at}
-use Rattle.number_format.specs.Scaled.{exponent_at, whole_exponent, Settled, settled}
-use Rattle.number_format.specs.DigitLaws.{HasNoIncrement, IsOrdered}
+use Rattle.number_format.specs.Scaled.{exponent_at, whole_exponent, Settled, settled, compact_exponent, base_exponent, raised}
+use Rattle.number_format.specs.DigitLaws.{HasNoIncrement, IsOrdered, KeepsExponent}
 use Rattle.number_format.proofs.Chosen.{chosen}
 use Rattle.number_format.proofs.Coarser.{carry_coarser}
 use Rattle.number_format.proofs.FirstDigits.{unit_some, kept, limited, IsNear, first_near, order}
-use Rattle.number_format.proofs.Scales.{once_or_twice}
+use Rattle.number_format.proofs.Scales.{once_or_twice, first_shifted, raised_below, settled_below, keeps_value_of}
+use Rattle.fixed_decimal.specs.Decimal.{Decimal}
+use Rattle.number_format.specs.declared.notation.CompactExponents.{CompactExponents}
 
 -- ---- The exponents of magnitudes.
 -- the exponent of a magnitude, and 0 if it is below 0
@@ -110,7 +112,6 @@ pub record Settles (notation : Notation) (o : DigitOptions) (sign : Sign) (n : �
   pub once : s.number ≡ (rounded_at o sign s.exponent n).number
   pub carry : (s.exponent ≡ whole_exponent notation n) ⊎ (s.number ≡ weight (first s.number))
   pub least : pos 0 ≤ℤ first n → first n ≤ℤ first s.number
-  pub most : pos 0 ≤ℤ first n → first s.number ≤ℤ (first n +ℤ pos 1)
 
 module _ (notation : Notation) (o : DigitOptions) (sign : Sign) (n : ℕ) (plain : HasNoIncrement o.precision)
     (ordered : IsOrdered notation) (few : n < number_limit) where
@@ -228,7 +229,6 @@ module _ (notation : Notation) (o : DigitOptions) (sign : Sign) (n : ℕ) (plain
             once = refl;
             carry = inl refl;
             least = λ h. absurd (omega (arith, ints, h, at));
-            most = λ h. absurd (omega (arith, ints, h, at));
           })
       | inr twice ↦ absurd (omega (arith, none_after k at, twice.1))
     ]
@@ -240,7 +240,6 @@ module _ (notation : Notation) (o : DigitOptions) (sign : Sign) (n : ℕ) (plain
             once = refl;
             carry = inl refl;
             least = λ h. (near k at).least;
-            most = λ h. (near k at).most;
           })
       | inr twice ↦
           let fits = (once_or_twice notation o sign n s is).0 in
@@ -252,6 +251,105 @@ module _ (notation : Notation) (o : DigitOptions) (sign : Sign) (n : ℕ) (plain
             carry =
                 inr (subst (λ m. m ≡ weight (first m)) (sym same) ((near k at).carried (grown k at twice.1 fits)));
             least = λ h. subst (λ m. first n ≤ℤ first m) (sym same) (near k at).least;
-            most = λ h. subst (λ m. first m ≤ℤ (first n +ℤ pos 1)) (sym same) (near k at).most;
           })
     ]
+
+-- ---- The significand and the exponent.
+-- an exponent is 0 or more, or at most 2 below the magnitude
+exponent_least : (notation : Notation) (m : ℤ) → int_min (m -ℤ pos 2) (pos 0) ≤ℤ exponent_at notation m
+exponent_least Standard m = omega (arith, ints, clamps)
+exponent_least Scientific m = omega (arith, ints, clamps)
+exponent_least Engineering (pos m) = omega (arith, ints, clamps)
+exponent_least Engineering (negsuc m) = omega (arith, ints, clamps)
+exponent_least (Compact table) m = elim (cases_Bool (int_lt m (pos 3))) [
+  | inl t ↦ rw t (omega (arith, ints, clamps))
+  | inr t ↦ rw t (omega (arith, ints, clamps))
+]
+
+-- a compact exponent is not below 0
+compact_some : (table : CompactExponents) (m : ℤ) → pos 0 ≤ℤ compact_exponent table m
+compact_some table m = elim (cases_Bool (int_lt m (pos 3))) [
+  | inl t ↦ rw t (omega (arith, ints))
+  | inr t ↦ rw t (omega (arith, ints))
+]
+
+-- the multiple of 3 below a number
+engineering_is : (z : ℤ) (a b rest : ℕ) → z +ℤ pos (3 * a) ≡ pos (3 * b + rest) → rest < 3
+    → exponent_at Engineering z +ℤ pos (3 * a) ≡ pos (3 * b)
+engineering_is (pos m) a b rest is h = omega (arith, ints, is)
+engineering_is (negsuc m) a b rest is h = omega (arith, ints, is)
+
+-- the exponent of a magnitude f that is moved by the exponent of another one
+moved : (notation : Notation) (m f : ℤ)
+    → (pos 0 ≤ℤ (m -ℤ int_min (pos 0) (exponent_at notation m)) → pos 0 ≤ℤ f)
+    → int_min (pos 0) (exponent_at notation m) +ℤ pos (exponent_from_0 notation f)
+    ≡ exponent_at notation (f +ℤ int_min (pos 0) (exponent_at notation m))
+moved Standard m f up = omega (arith, ints, clamps)
+moved Scientific m f up = omega (arith, ints, clamps, up (omega (arith, ints, clamps)))
+moved Engineering (pos m) (negsuc f) up = absurd (omega (arith, ints, clamps, up (omega (arith, ints, clamps))))
+moved Engineering (negsuc m) (negsuc f) up = absurd (omega (arith, ints, clamps, up (omega (arith, ints, clamps))))
+moved Engineering (pos m) (pos f) up =
+    let zero : int_min (pos 0) (exponent_at Engineering (pos m)) ≡ pos 0 = omega (arith, ints, clamps) in
+    let f_is : pos f +ℤ int_min (pos 0) (exponent_at Engineering (pos m)) ≡ pos f = omega (arith, ints, zero) in
+    omega (arith, ints, clamps, zero, ap (exponent_at Engineering) f_is)
+moved Engineering (negsuc m) (pos f) up =
+    let z = pos f +ℤ int_min (pos 0) (exponent_at Engineering (negsuc m)) in
+    omega (
+      arith,
+      ints,
+      clamps,
+      engineering_is z (m / 3 + 1) (f / 3) (f % 3) (omega (arith, ints, clamps)) (omega arith),
+    )
+moved (Compact table) m f up =
+    let low = compact_some table m in
+    let zero : int_min (pos 0) (compact_exponent table m) ≡ pos 0 = omega (arith, ints, clamps, low) in
+    let f_is : f +ℤ int_min (pos 0) (compact_exponent table m) ≡ f = omega (arith, ints, zero) in
+    omega (arith, ints, clamps, zero, compact_some table f, ap (compact_exponent table) f_is)
+
+-- the first digit of a quotient
+first_of_quotient : (n e r : ℕ) → n * 10 ^ e ≡ r → r < number_limit → (r ≡ 0 → e ≡ 0) → first n +ℤ pos e ≡ first r
+first_of_quotient n e r is few zero = elim (cases_lt 0 n) [
+  | inl some ↦ sym (sym (ap first is) ∙ first_shifted n e some (omega (arith, is, few)))
+  | inr none ↦
+      let n_is : n ≡ 0 = omega arith in
+      let r_is : r ≡ 0 = sym is ∙ ap (λ m. m * 10 ^ e) n_is ∙ (omega arith) in
+      omega (arith, ints, zero r_is, ap first n_is, ap first r_is)
+]
+
+-- the first digit after the multiplication
+first_raised : (notation : Notation) (n : ℕ) → raised notation n < number_limit
+    → pos 0 ≤ℤ (first n -ℤ base_exponent notation n) → pos 0 ≤ℤ first (raised notation n)
+first_raised notation n below up = elim (cases_lt 0 n) [
+  | inl some ↦ omega (arith, ints, clamps, up, first_shifted n (unsigned_abs (base_exponent notation n)) some below)
+  | inr none ↦
+      let r_is : raised notation n ≡ 0 =
+      ap (λ m. m * 10 ^ unsigned_abs (base_exponent notation n)) (let z : n ≡ 0 = omega arith in z) ∙ (omega arith) in
+      omega (arith, ints, ap first r_is, first_zero)
+]
+
+module _ (notation : Notation) (o : DigitOptions) (sign : Sign) (n : ℕ) where
+  abbrev Law : ℕ → ℕ → Type 0
+  Law e r = (r ≡ (rounded_at o sign e n).number) × ((e ≡ whole_exponent notation n) ⊎ (r ≡ weight (first r)))
+
+pub keeps_exponent : (notation : Notation) (o : DigitOptions) (v : Decimal) → KeepsExponent notation o v
+keeps_exponent notation o v plain ordered few all s is =
+    let n = raised notation v.absolute.number in
+    let made = keeps_value_of notation o v all s is in
+    let t = made.0 in
+    let below =
+    raised_below v.absolute.number (unsigned_abs (base_exponent notation v.absolute.number)) few
+    (omega (arith, ints, clamps, exponent_least notation (first v.absolute.number))) in
+    let law = settles notation o v.sign n plain ordered below t made.1 (first n) refl in
+    let quotient =
+    first_of_quotient s.significand.absolute.number t.exponent t.number made.2 (settled_below notation o v.sign n t made.1)
+    (λ zero. law.own ∙ exponent_low notation (first t.number) (omega (arith, ints, ap first zero, first_zero))) in (
+      made.3 ∙ ap (λ e. base_exponent notation v.absolute.number +ℤ pos e) law.own
+          ∙ moved notation (first v.absolute.number) (first t.number) (λ h.
+              let up = first_raised notation v.absolute.number below h in
+              omega (arith, ints, up, law.least up))
+          ∙ ap (exponent_at notation) (omega (arith, ints, made.3, quotient)),
+      λ e r at number.
+          let same : t.exponent ≡ e = omega (arith, ints, made.3, at) in
+          let r_is : t.number ≡ r = sym made.2 ∙ ap (λ e. s.significand.absolute.number * 10 ^ e) same ∙ sym number in
+          subst (λ r. Law notation o v.sign n e r) r_is (subst (λ e. Law notation o v.sign n e t.number) same (law.once, law.carry)),
+    )

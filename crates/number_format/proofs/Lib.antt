@@ -4,5 +4,4 @@ pub mod Applied
 pub mod Coarser
 pub mod Scales
 pub mod Carries
-pub mod Exponents
 pub mod DigitLaws

@@ -8,7 +8,7 @@ use Rattle.number_format.specs.declared.precision.Precision.{Precision}
 use Rattle.number_format.specs.declared.precision.Precision.TheVariants.{Fraction, Multiples}
 use Rattle.number_format.specs.declared.notation.Notation.{Notation}
 use Rattle.number_format.specs.declared.notation.Notation.TheVariants.{Compact}
-use Rattle.number_format.specs.Scaled.{compact_exponent, exponent_at, base_exponent, raised, Settled, settled, ScaledValue, scaled}
+use Rattle.number_format.specs.Scaled.{compact_exponent, exponent_at, whole_exponent, base_exponent, raised, Settled, settled, ScaledValue, scaled}
 use Rattle.number_format.specs.ShownDigits.{fraction_end, rounded_at, rounded, shown, applied}
 
 -- the precision is a number of fraction digits, by 1 or by an increment
@@ -56,21 +56,17 @@ IsOrdered (Compact table) =
     × (compact_exponent table (pos m) ≤ℤ compact_exponent table (pos (m + 1)))
 IsOrdered notation = Unit {0}
 
--- the exponent is that of the first digit of the result; one rounding with it makes the same number; and it is another
--- one than that of the decimal only after a carry to a power of ten
-abbrev pub HasOwnExponent : Notation → DigitOptions → Decimal → ScaledValue → Type 0
-HasOwnExponent notation o v s =
-    (s.exponent ≡ exponent_at notation (first s.significand.absolute.number +ℤ s.exponent))
-    × ((e : ℕ) → s.exponent ≡ base_exponent notation v.absolute.number +ℤ pos e
-    → s.significand.absolute.number * 10 ^ e ≡ (rounded_at o v.sign e (raised notation v.absolute.number)).number)
-    × ((s.exponent ≡ exponent_at notation (first v.absolute.number))
-    ⊎ (s.significand.absolute.number ≡ weight (first s.significand.absolute.number)))
-
--- this holds without an increment, if no integer digit is cut off
+-- without an increment, if no integer digit is cut off, the exponent is that of the first digit of the result; one
+-- rounding with it makes the same number; and the rounding changes it only by a carry to a power of ten
 abbrev pub KeepsExponent : Notation → DigitOptions → Decimal → Type 0
 KeepsExponent notation o v =
     HasNoIncrement o.precision → IsOrdered notation → v.absolute.number < number_limit → o.integer.max ≡ 32768
-    → (s : ScaledValue) → scaled notation o v ≡ Some s → HasOwnExponent notation o v s
+    → (s : ScaledValue) → scaled notation o v ≡ Some s
+    → (s.exponent ≡ exponent_at notation (first s.significand.absolute.number +ℤ s.exponent))
+    × ((e r : ℕ) → s.exponent ≡ base_exponent notation v.absolute.number +ℤ pos e
+    → r ≡ s.significand.absolute.number * 10 ^ e
+    → (r ≡ (rounded_at o v.sign e (raised notation v.absolute.number)).number)
+    × ((e ≡ whole_exponent notation (raised notation v.absolute.number)) ⊎ (r ≡ weight (first r))))
 
 -- the significand times the power of ten is the rounded number, if no integer digit is cut off
 abbrev pub KeepsValueOf : Notation → DigitOptions → Decimal → Type 0
