@@ -1,39 +1,39 @@
 -- The exponent of a rounded number is that of its own magnitude, also if the rounding carries.
-use Rattle.std.proofs.Common.{◌≡◌, ℕ, ◌+◌, ◌-◌, ◌*◌, ◌^◌, ◌<◌, ◌≤◌, true, inl, inr, refl, sym, ◌∙◌, ap, subst, arith, false}
-use Rattle.std.specs.Prelude.{unsigned_abs, ℤ, pos, negsuc, ◌≤ℤ◌, ◌<ℤ◌, int_lt, Some, if◌then◌else◌, ◌-ℤ◌}
+use Rattle.std.proofs.Common.{◌≡◌, ℕ, ◌+◌, ◌-◌, ◌*◌, ◌^◌, ◌<◌, ◌≤◌, true, inl, inr, refl, sym, ◌∙◌, ap, subst, arith, ◌/◌, ◌%◌}
+use Rattle.std.specs.Prelude.{◌⊎◌, Some, unsigned_abs, ℤ, pos, negsuc, ◌+ℤ◌, ◌≤ℤ◌, ◌<ℤ◌, int_lt, ◌-ℤ◌}
 use Rattle.std.specs.Int.{int_max, int_min}
-use Rattle.std.proofs.Math.Nat.{mul-lt-mul_of_pos_right, pow-le-pow_right}
+use Rattle.std.proofs.Math.Nat.{pow-le-pow_right, le-mul_of_pos_right, eq_of_mul-eq-mul_right}
 use Rattle.std.proofs.lemmas.Int.{ints, clamps}
 use Rattle.std.proofs.lemmas.Bool.{cases_lt, cases_Bool}
-use Rattle.decimal_digits.specs.Number.{offset, number_limit, magnitude_at, first}
+use Rattle.decimal_digits.specs.Number.{offset, number_limit, weight, first}
 use Rattle.decimal_digits.specs.Rounding.{unit_at, rounded_number}
 use Rattle.decimal_digits.specs.declared.rounding.RoundingIncrement.TheVariants.{MultiplesOf1}
 use Rattle.decimal_digits.specs.declared.rounding.UnsignedRoundingMode.{UnsignedRoundingMode}
-use Rattle.fixed_decimal.specs.Decimal.{Decimal}
 use Rattle.fixed_decimal.specs.SignedRounding.{mode_at}
-use Rattle.fixed_decimal.proofs.Calling.{extent, first_of, offset_is, ten_pos, powers, first_is, first_zero, first_le}
+use Rattle.fixed_decimal.specs.declared.variations.Sign.{Sign}
+use Rattle.fixed_decimal.proofs.Calling.{extent, first_of, offset_is, ten_pos, powers, first_le, first_zero}
 use Rattle.number_format.specs.declared.digit_options.DigitOptions.{DigitOptions}
 use Rattle.number_format.specs.declared.notation.Notation.{Notation}
 use Rattle.number_format.specs.declared.notation.Notation.TheVariants.{Standard, Scientific, Engineering, Compact}
 use Rattle.number_format.specs.declared.precision.Precision.{Precision}
 use Rattle.number_format.specs.declared.precision.Precision.TheVariants.{Fraction, Multiples, Significant, MorePrecision, LessPrecision}
-use Rattle.number_format.specs.Exponents.{exponent_at}
-use Rattle.number_format.specs.Positions.{base_of, position_of}
-use Rattle.number_format.specs.ShownDigits.{rounded_at}
-use Rattle.number_format.specs.Scaled.{whole_exponent, with_number, Settled, base_exponent, raised, settled}
-use Rattle.number_format.specs.DigitLaws.{HasNoIncrement, IsOrdered, HasOwnExponent, RoundsAsOnce}
+use Rattle.number_format.specs.ShownDigits.{rounded_at, base_of, position_at}
+use Rattle.number_format.specs.Scaled.{exponent_at, whole_exponent, Settled, settled, compact_exponent, base_exponent, raised}
+use Rattle.number_format.specs.DigitLaws.{HasNoIncrement, IsOrdered, KeepsExponent}
 use Rattle.number_format.proofs.Chosen.{chosen}
 use Rattle.number_format.proofs.Coarser.{carry_coarser}
-use Rattle.number_format.proofs.FirstDigits.{first_most, unit_some, kept, reaches, limited}
-use Rattle.number_format.proofs.Scales.{once_or_twice}
+use Rattle.number_format.proofs.FirstDigits.{unit_some, kept, limited, IsNear, first_near, order}
+use Rattle.number_format.proofs.Scales.{once_or_twice, first_shifted, raised_below, settled_below, keeps_value_of}
+use Rattle.fixed_decimal.specs.Decimal.{Decimal}
+use Rattle.number_format.specs.declared.notation.CompactExponents.{CompactExponents}
 
 -- ---- The exponents of magnitudes.
 -- the exponent of a magnitude, and 0 if it is below 0
-abbrev exponent_from_0 : Notation → ℤ → ℕ
+abbrev pub exponent_from_0 : Notation → ℤ → ℕ
 exponent_from_0 notation m = unsigned_abs (int_max (pos 0) (exponent_at notation m))
 
 -- up to the magnitude 0 it is 0
-exponent_low : (notation : Notation) (m : ℤ) → m ≤ℤ pos 0 → exponent_from_0 notation m ≡ 0
+pub exponent_low : (notation : Notation) (m : ℤ) → m ≤ℤ pos 0 → exponent_from_0 notation m ≡ 0
 exponent_low Standard m h = omega (arith, ints, clamps)
 exponent_low Scientific m h = omega (arith, ints, clamps)
 exponent_low Engineering (pos m) h = let z : m ≡ 0 = omega (arith, ints) in omega (arith, ints, clamps, z)
@@ -42,36 +42,18 @@ exponent_low (Compact table) m h =
     let low : int_lt m (pos 3) ≡ true = grind (arith, ints) in
     rw low refl
 
--- above, it is at most the magnitude
-exponent_most : (notation : Notation) → IsOrdered notation → (m : ℕ) → exponent_from_0 notation (pos m) ≤ m
-exponent_most Standard is m = omega (arith, ints, clamps)
-exponent_most Scientific is m = omega (arith, ints, clamps)
-exponent_most Engineering is m = omega (arith, ints, clamps)
-exponent_most (Compact table) is m = let own = (is m).0 in omega (arith, ints, clamps, own)
+-- above, it is at most the magnitude, and at most that of the next magnitude
+exponent_most : (notation : Notation) → IsOrdered notation → (m : ℕ)
+    → (exponent_from_0 notation (pos m) ≤ m)
+    × (exponent_from_0 notation (pos m) ≤ exponent_from_0 notation (pos (m + 1)))
+exponent_most Standard is m = (omega (arith, ints, clamps), omega (arith, ints, clamps))
+exponent_most Scientific is m = (omega (arith, ints, clamps), omega (arith, ints, clamps))
+exponent_most Engineering is m = (omega (arith, ints, clamps), omega (arith, ints, clamps))
+exponent_most (Compact table) is m =
+    let own = is m in
+    (omega (arith, ints, clamps, own.0), omega (arith, ints, clamps, own.1))
 
--- and at most that of the next magnitude
-exponent_next : (notation : Notation) → IsOrdered notation → (m : ℕ)
-    → exponent_from_0 notation (pos m) ≤ exponent_from_0 notation (pos (m + 1))
-exponent_next Standard is m = omega (arith, ints, clamps)
-exponent_next Scientific is m = omega (arith, ints, clamps)
-exponent_next Engineering is m = omega (arith, ints, clamps)
-exponent_next (Compact table) is m = let next = (is m).1 in omega (arith, ints, clamps, next)
-
--- the same for each magnitude
-exponent_top : (notation : Notation) → IsOrdered notation → (m : ℤ)
-    → exponent_from_0 notation m ≤ unsigned_abs (int_max (pos 0) m)
-exponent_top notation is (pos m) = omega (arith, ints, clamps, exponent_most notation is m)
-exponent_top notation is (negsuc m) = omega (arith, exponent_low notation (negsuc m) (omega (arith, ints)))
-
-exponent_up : (notation : Notation) → IsOrdered notation → (m : ℤ)
-    → exponent_from_0 notation m ≤ exponent_from_0 notation (pos (unsigned_abs (int_max (pos 0) m) + 1))
-exponent_up notation is (pos m) =
-    let same : unsigned_abs (int_max (pos 0) (pos m)) ≡ m = omega (arith, ints, clamps) in
-    subst (λ k. exponent_from_0 notation (pos m) ≤ exponent_from_0 notation (pos (k + 1))) (sym same)
-    (exponent_next notation is m)
-exponent_up notation is (negsuc m) = omega (arith, exponent_low notation (negsuc m) (omega (arith, ints)))
-
--- ---- The position of a rounding without an increment.
+-- ---- A rounding without an increment.
 base_is : (p : Precision) → HasNoIncrement p → base_of p ≡ MultiplesOf1
 base_is (Fraction f) is = refl
 base_is (Multiples m) is = absurd is
@@ -79,185 +61,35 @@ base_is (Significant s) is = refl
 base_is (MorePrecision b) is = refl
 base_is (LessPrecision b) is = refl
 
--- it is not above the first digit and the exponent
-position_most : (p : Precision) → HasNoIncrement p → (exponent : ℕ) (m top : ℤ) → m ≤ℤ top → pos exponent ≤ℤ top
-    → position_of p exponent m ≤ℤ top
-position_most (Fraction f) is exponent m top h k = omega (arith, ints)
-position_most (Multiples x) is exponent m top h k = absurd is
-position_most (Significant s) is exponent m top h k = omega (arith, ints, s.some, s.ordered)
-position_most (MorePrecision b) is exponent m top h k = omega (arith, ints, clamps)
-position_most (LessPrecision b) is exponent m top h k =
+-- its position is not above the first digit and the exponent
+position_most : (p : Precision) → HasNoIncrement p → (e n : ℕ) (top : ℤ) → first n ≤ℤ top → pos e ≤ℤ top
+    → position_at p e n ≤ℤ top
+position_most (Fraction f) is e n top h k = omega (arith, ints)
+position_most (Multiples x) is e n top h k = absurd is
+position_most (Significant s) is e n top h k = omega (arith, ints, s.some, s.ordered)
+position_most (MorePrecision b) is e n top h k = omega (arith, ints, clamps)
+position_most (LessPrecision b) is e n top h k =
     omega (arith, ints, clamps, b.significant.some, b.significant.ordered)
 
--- ---- A rounding without an increment.
-module _ (o : DigitOptions) (plain : HasNoIncrement o.precision) (exponent : ℕ) (v : Decimal)
-    (few : v.absolute.number < number_limit) where
-  -- its position
-  abbrev position : ℤ
-  position = position_of o.precision exponent (first v.absolute.number)
-
-  -- it is a rounding by 1
-  by_1 : (rounded_at o exponent v).number
-      ≡ rounded_number (mode_at o.mode v.sign) (unit_at MultiplesOf1 position) v.absolute.number
-  by_1 =
-      (chosen o.precision (mode_at o.mode v.sign) exponent v.absolute.number few).number
-      ∙ ap (λ b. rounded_number (mode_at o.mode v.sign) (unit_at b position) v.absolute.number)
-      (base_is o.precision plain)
-
-  -- a power of ten above the position bounds the rounded number, if it bounds the number
-  rounded_reaches : (k : ℕ) → offset position ≤ k → 10 ^ k ≤ v.absolute.number
-      → 10 ^ k ≤ (rounded_at o exponent v).number
-  rounded_reaches k above h =
-      subst (λ m. 10 ^ k ≤ m) (sym by_1) (reaches (mode_at o.mode v.sign) position v.absolute.number k above h)
-
-  rounded_limited : (k : ℕ) → offset position ≤ k → v.absolute.number ≤ 10 ^ k
-      → (rounded_at o exponent v).number ≤ 10 ^ k
-  rounded_limited k above h =
-      subst (λ m. m ≤ 10 ^ k) (sym by_1) (limited (mode_at o.mode v.sign) position v.absolute.number k above h)
-
-  -- and a power of ten is kept
-  rounded_kept : (k : ℕ) → offset position ≤ k → v.absolute.number ≡ 10 ^ k
-      → (rounded_at o exponent v).number ≡ v.absolute.number
-  rounded_kept k above is =
-      by_1 ∙ ap (rounded_number (mode_at o.mode v.sign) (unit_at MultiplesOf1 position)) is
-      ∙ kept (mode_at o.mode v.sign) position k above ∙ sym is
+-- a higher exponent gives no lower position
+position_up : (p : Precision) → HasNoIncrement p → (low high n : ℕ) → low ≤ high
+    → position_at p low n ≤ℤ position_at p high n
+position_up (Fraction f) is low high n h = omega (arith, ints)
+position_up (Multiples x) is low high n h = absurd is
+position_up (Significant s) is low high n h = omega (arith, ints)
+position_up (MorePrecision b) is low high n h = omega (arith, ints, clamps)
+position_up (LessPrecision b) is low high n h = omega (arith, ints, clamps)
 
 -- a number is less than a power of ten above its first digit
-below_power : (n k : ℕ) → n < number_limit → first n <ℤ magnitude_at k → 32768 < k → n < 10 ^ k
-below_power n k few above high = elim (cases_lt 0 n) [
-  | inr none ↦ omega (arith, ten_pos k)
+below_weight : (n : ℕ) (m : ℤ) → n < number_limit → first n <ℤ m → n < weight m
+below_weight n m few above = elim (cases_lt 0 n) [
+  | inr none ↦ omega (arith, ten_pos (offset m))
   | inl some ↦
       let e = extent (offset (pos 32768)) n some few (omega (arith, ints, offset_is (pos 32768))) in
-      let up : 10 ^ (e.top + 1) ≤ 10 ^ k = pow-le-pow_right (omega arith) (omega (arith, ints, first_of e, above)) in
+      let up : 10 ^ (e.top + 1) ≤ weight m =
+      pow-le-pow_right (omega arith) (omega (arith, ints, first_of e, above, offset_is m)) in
       omega (arith, e.below, up)
 ]
-
--- and at least the power of ten of its first digit, if that is above 0
-at_least_power : (n top : ℕ) → n < number_limit → first n ≡ pos top → 0 < top → 10 ^ (32768 + top) ≤ n
-at_least_power n top few at some = elim (cases_lt 0 n) [
-  | inr none ↦
-      let zero : first n ≡ pos 0 = ap first (let z : n ≡ 0 = omega arith in z) ∙ first_zero in
-      absurd (omega (arith, ints, zero, at))
-  | inl some ↦
-      let e = extent (offset (pos 32768)) n some few (omega (arith, ints, offset_is (pos 32768))) in
-      subst (λ k. 10 ^ k ≤ n) (let t : e.top ≡ 32768 + top = omega (arith, ints, first_of e, at) in t) e.reaches
-]
-
--- ---- The rounding of a number with a whole exponent.
-module _ (notation : Notation) (o : DigitOptions) (v : Decimal) (plain : HasNoIncrement o.precision)
-    (ordered : IsOrdered notation) (few : v.absolute.number < number_limit) where
-  abbrev n : ℕ
-  n = v.absolute.number
-
-  abbrev exponent : ℕ
-  exponent = whole_exponent notation n
-
-  abbrev made : ℕ
-  made = (rounded_at o exponent v).number
-
-  -- the magnitude of the first digit, and 0 if it is below 0
-  abbrev top : ℕ
-  top = unsigned_abs (int_max (pos 0) (first n))
-
-  position_there : offset (position_of o.precision exponent (first n)) ≤ 32768 + top
-  position_there =
-      let most = exponent_top notation ordered (first n) in
-      let below =
-      position_most o.precision plain exponent (first n) (pos top) (omega (arith, ints, clamps))
-      (omega (arith, ints, most)) in
-      omega (arith, ints, below, offset_is (position_of o.precision exponent (first n)))
-
-  made_most : made ≤ 10 ^ (32768 + top + 1)
-  made_most =
-      let less = below_power n (32768 + top + 1) few (omega (arith, ints, clamps)) (omega arith) in
-      rounded_limited o plain exponent v few (32768 + top + 1) (omega (arith, position_there)) (omega (arith, less))
-
-  -- without a carry the exponent stays
-  stays : made < 10 ^ (32768 + top + 1) → whole_exponent notation made ≡ exponent
-  stays less =
-      let high = first_most n few in
-      elim (cases_lt 0 top) [
-        | inr none ↦
-            let at : 32768 + top + 1 ≡ offset (pos 0) + 1 = omega (arith, ints, offset_is (pos 0), none) in
-            let low =
-            first_le made (pos 0) (subst (λ k. made < 10 ^ k) at less) (omega (arith, ints)) (omega (arith, ints)) in
-            exponent_low notation (first made) low
-            ∙ sym (exponent_low notation (first n) (omega (arith, ints, clamps, none)))
-        | inl some ↦
-            let at : first n ≡ pos top = omega (arith, ints, clamps, some) in
-            let reach =
-            rounded_reaches o plain exponent v few (32768 + top) position_there (at_least_power n top few at some) in
-            let same = first_is made (32768 + top) reach less (omega (arith, ints, at, high)) in
-            let there : magnitude_at (32768 + top) ≡ first n = omega (arith, ints, at) in
-            ap (exponent_from_0 notation) (same ∙ there)
-      ]
-
-  -- a carry makes exactly a power of ten
-  module _ (full : 10 ^ (32768 + top + 1) ≤ made) (fits : made < number_limit) where
-    made_is : made ≡ 10 ^ (32768 + top + 1)
-    made_is = omega (arith, full, made_most)
-
-    carried : first made ≡ pos (top + 1)
-    carried =
-        let next : 10 ^ (32768 + top + 1 + 1) ≡ 10 ^ (32768 + top + 1) * 10 ^ 1 =
-        powers (32768 + top + 1) 1 (32768 + top + 1 + 1) refl in
-        elim (cases_lt (32768 + top + 1) 65536) [
-          | inl low ↦
-              first_is made (32768 + top + 1) full (omega (arith, made_is, next, ten_pos (32768 + top + 1))) low
-              ∙ (let m : magnitude_at (32768 + top + 1) ≡ pos (top + 1) = omega (arith, ints) in m)
-          | inr high ↦
-              let limit : number_limit ≤ 10 ^ (32768 + top + 1) =
-              pow-le-pow_right (omega arith) (omega (arith, ints, high, offset_is (pos 32768))) in
-              absurd (omega (arith, limit, full, fits))
-        ]
-
-    grows : exponent ≤ whole_exponent notation made
-    grows = subst (λ m. exponent ≤ exponent_from_0 notation m) (sym carried) (exponent_up notation ordered (first n))
-
-    -- and a second rounding changes it no more
-    pub again : (rounded_at o (whole_exponent notation made) (with_number v made)).number ≡ made
-    again =
-        let next = whole_exponent notation made in
-        let most = exponent_top notation ordered (first made) in
-        let below =
-        position_most o.precision plain next (first made) (pos (top + 1)) (omega (arith, ints, carried))
-        (omega (arith, ints, clamps, carried, most)) in
-        let there : offset (position_of o.precision next (first made)) ≤ 32768 + top + 1 =
-        omega (arith, ints, below, offset_is (position_of o.precision next (first made))) in
-        rounded_kept o plain next (with_number v made) fits (32768 + top + 1) there made_is
-
--- the exponent of a settled decimal is that of its rounded number
-own_exponent : (notation : Notation) (o : DigitOptions) (v : Decimal) → HasNoIncrement o.precision → IsOrdered notation
-    → v.absolute.number < number_limit → (s : Settled) → settled notation o v ≡ Some s
-    → s.exponent ≡ whole_exponent notation s.rounded.number
-own_exponent notation o v plain ordered few s is =
-    let number = (rounded_at o (whole_exponent notation v.absolute.number) v).number in
-    let carry = 32768 + top notation o v plain ordered few + 1 in
-    elim (once_or_twice notation o v s is) [
-      | inl once ↦
-          let own : whole_exponent notation v.absolute.number ≡ whole_exponent notation number =
-          elim (cases_lt number (10 ^ carry)) [
-            | inl less ↦ sym (stays notation o v plain ordered few less)
-            | inr full ↦ omega (arith, grows notation o v plain ordered few full once.2, once.1)
-          ] in
-          subst (λ (s : Settled). s.exponent ≡ whole_exponent notation s.rounded.number) (sym once.0) own
-      | inr twice ↦
-          subst (λ (s : Settled). s.exponent ≡ whole_exponent notation s.rounded.number) (sym twice.0)
-          (elim (cases_lt number (10 ^ carry)) [
-            | inl less ↦ absurd (omega (arith, stays notation o v plain ordered few less, twice.1))
-            | inr full ↦ ap (whole_exponent notation) (sym (again notation o v plain ordered few full twice.2))
-          ])
-    ]
-
--- ---- Two roundings make what one makes.
--- a higher exponent gives no lower position
-position_up : (p : Precision) → HasNoIncrement p → (low high : ℕ) (m : ℤ) → low ≤ high
-    → position_of p low m ≤ℤ position_of p high m
-position_up (Fraction f) is low high m h = omega (arith, ints)
-position_up (Multiples x) is low high m h = absurd is
-position_up (Significant s) is low high m h = omega (arith, ints)
-position_up (MorePrecision b) is low high m h = omega (arith, ints, clamps)
-position_up (LessPrecision b) is low high m h = omega (arith, ints, clamps)
 
 -- a carry at one position is a carry at each higher one
 carry_higher : (mode : UnsignedRoundingMode) (n : ℕ) (p q : ℤ) (k : ℕ) → offset p ≤ offset q → offset q ≤ k
@@ -272,44 +104,157 @@ carry_higher mode n p q k h l less made =
     (10 ^ (k - offset q) - 1) (10 ^ k) (unit_some mode p) (ten_pos (offset q - offset p)) (omega (arith, split))
     (omega (arith, end)) less made
 
--- the number of a settled decimal is what one rounding with its exponent makes
-as_once : (notation : Notation) (o : DigitOptions) (v : Decimal) → HasNoIncrement o.precision → IsOrdered notation
-    → v.absolute.number < number_limit → (s : Settled) → settled notation o v ≡ Some s
-    → s.rounded.number ≡ (rounded_at o s.exponent v).number
-as_once notation o v plain ordered few s is =
-    let own = whole_exponent notation v.absolute.number in
-    let number = (rounded_at o own v).number in
-    let next = whole_exponent notation number in
-    let high = top notation o v plain ordered few in
-    elim (once_or_twice notation o v s is) [
-      | inl once ↦
-          subst (λ (s : Settled). s.rounded.number ≡ (rounded_at o s.exponent v).number) (sym once.0) refl
-      | inr twice ↦ elim (cases_lt number (10 ^ (32768 + high + 1))) [
-        | inl less ↦ absurd (omega (arith, stays notation o v plain ordered few less, twice.1))
-        | inr full ↦
-            let first_is = carried notation o v plain ordered few full twice.2 in
-            let most = exponent_top notation ordered (first number) in
-            let m = first v.absolute.number in
-            let p = position_of o.precision own m in
-            let q = position_of o.precision next m in
-            let up = position_up o.precision plain own next m (omega (arith, twice.1)) in
-            let below =
-            position_most o.precision plain next m (pos (high + 1)) (omega (arith, ints, clamps))
-            (omega (arith, ints, clamps, first_is, most)) in
-            let made = made_is notation o v plain ordered few full twice.2 in
-            let less =
-            below_power v.absolute.number (32768 + high + 1) few (omega (arith, ints, clamps)) (omega arith) in
-            let directly =
-            by_1 o plain next v few
-            ∙ carry_higher (mode_at o.mode v.sign) v.absolute.number p q (32768 + high + 1)
-            (omega (arith, ints, offset_is p, offset_is q, up)) (omega (arith, ints, offset_is q, below)) less
-            (sym (by_1 o plain own v few) ∙ made) in
-            subst (λ (s : Settled). s.rounded.number ≡ (rounded_at o s.exponent v).number) (sym twice.0)
-            (again notation o v plain ordered few full twice.2 ∙ made ∙ sym directly)
+-- ---- A number that is rounded once, or twice.
+-- its exponent is that of its magnitude; one rounding with it makes the same number; it is another exponent than that of
+-- the number before only after a carry to a power of ten; and no rounding removes the digits from magnitude 0 up
+pub record Settles (notation : Notation) (o : DigitOptions) (sign : Sign) (n : ℕ) (s : Settled) : Type 0 where
+  pub own : s.exponent ≡ whole_exponent notation s.number
+  pub once : s.number ≡ (rounded_at o sign s.exponent n).number
+  pub carry : (s.exponent ≡ whole_exponent notation n) ⊎ (s.number ≡ weight (first s.number))
+  pub least : pos 0 ≤ℤ first n → first n ≤ℤ first s.number
+
+module _ (notation : Notation) (o : DigitOptions) (sign : Sign) (n : ℕ) (plain : HasNoIncrement o.precision)
+    (ordered : IsOrdered notation) (few : n < number_limit) where
+  abbrev mode : UnsignedRoundingMode
+  mode = mode_at o.mode sign
+
+  by_1 : (e m : ℕ) → m < number_limit → (rounded_at o sign e m).number
+      ≡ rounded_number mode (unit_at MultiplesOf1 (position_at o.precision e m)) m
+  by_1 e m less =
+      let is = chosen o.precision mode e m less in
+      is.number
+      ∙ ap (λ u. rounded_number mode u m)
+      (is.unit ∙ ap (λ b. unit_at b (position_at o.precision e m)) (base_is o.precision plain))
+
+  abbrev exponent : ℕ
+  exponent = whole_exponent notation n
+
+  abbrev made : ℕ
+  made = (rounded_at o sign exponent n).number
+
+  abbrev next : ℕ
+  next = whole_exponent notation made
+
+  -- below magnitude 0
+  module _ (k : ℕ) (at : first n ≡ negsuc k) where
+    none : exponent ≡ 0
+    none = exponent_low notation (first n) (omega (arith, ints, at))
+
+    none_after : next ≡ 0
+    none_after =
+        let low = position_most o.precision plain exponent n (pos 0) (omega (arith, ints, at)) (omega (arith, ints, none)) in
+        let most =
+        limited mode (position_at o.precision exponent n) n (offset (pos 0))
+        (omega (arith, ints, low, offset_is (pos 0), offset_is (position_at o.precision exponent n)))
+        (omega (arith, below_weight n (pos 0) few (omega (arith, ints, at)))) in
+        let up : 10 ^ (offset (pos 0) + 1) ≡ 10 ^ offset (pos 0) * 10 ^ 1 =
+        powers (offset (pos 0)) 1 (offset (pos 0) + 1) refl in
+        exponent_low notation (first made)
+        (first_le made (pos 0) (omega (arith, by_1 exponent n few, most, up, ten_pos (offset (pos 0)))) (omega (arith, ints))
+        (omega (arith, ints)))
+
+  -- from magnitude 0 up
+  module _ (k : ℕ) (at : first n ≡ pos k) where
+    low : exponent ≤ k
+    low = subst (λ m. exponent_from_0 notation m ≤ k) (sym at) ((exponent_most notation ordered k).0)
+
+    near : IsNear n made
+    near =
+        subst (IsNear n) (sym (by_1 exponent n few))
+        (first_near mode n (position_at o.precision exponent n) few
+        (position_most o.precision plain exponent n (first n) (omega (arith, ints)) (omega (arith, ints, low, at))))
+
+    -- after a carry a second rounding keeps the number, and a first one with the new exponent makes it
+    module _ (more : exponent < next) (fits : made < number_limit) where
+      grown : first n <ℤ first made
+      grown = elim (order (first n) (first made)) [
+        | inl h ↦ h
+        | inr stays ↦
+            let same : first n ≡ first made = omega (arith, ints, stays, near.least) in
+            absurd (omega (arith, ap (exponent_from_0 notation) same, more))
       ]
+
+      there : first made ≡ pos (k + 1)
+      there = omega (arith, ints, at, grown, near.most)
+
+      top : next ≤ k + 1
+      top = subst (λ m. exponent_from_0 notation m ≤ k + 1) (sym there) ((exponent_most notation ordered (k + 1)).0)
+
+      above : (m : ℕ) → first m ≤ℤ pos (k + 1) → offset (position_at o.precision next m) ≤ offset (first made)
+      above m h =
+          let below = position_most o.precision plain next m (pos (k + 1)) h (omega (arith, ints, top)) in
+          omega (arith, ints, below, there, offset_is (first made), offset_is (position_at o.precision next m))
+
+      again : (rounded_at o sign next made).number ≡ made
+      again =
+          let is = near.carried grown in
+          by_1 next made fits
+          ∙ subst (λ m. rounded_number mode (unit_at MultiplesOf1 (position_at o.precision next made)) m ≡ m) (sym is)
+          (kept mode (position_at o.precision next made) (offset (first made)) (above made (omega (arith, ints, there))))
+
+      directly : (rounded_at o sign next n).number ≡ made
+      directly =
+          let up = position_up o.precision plain exponent next n (omega (arith, more)) in
+          by_1 next n few
+          ∙ carry_higher mode n (position_at o.precision exponent n) (position_at o.precision next n) (offset (first made))
+          (omega (arith, ints, up, offset_is (position_at o.precision exponent n), offset_is (position_at o.precision next n)))
+          (above n (omega (arith, ints, at))) (below_weight n (first made) few grown)
+          (sym (by_1 exponent n few) ∙ near.carried grown)
+          ∙ sym (near.carried grown)
+
+    -- and no exponent falls
+    no_fall : exponent ≤ next
+    no_fall = elim (order (first n) (first made)) [
+      | inl up ↦
+          let there : first made ≡ pos (k + 1) = omega (arith, ints, at, up, near.most) in
+          omega (
+            arith,
+            ap (exponent_from_0 notation) at,
+            ap (exponent_from_0 notation) there,
+            (exponent_most notation ordered k).1,
+          )
+      | inr stays ↦
+          let same : first n ≡ first made = omega (arith, ints, stays, near.least) in
+          omega (arith, ap (exponent_from_0 notation) same)
     ]
 
--- ---- A decimal that is multiplied by its power of ten first.
+  -- each settled number
+  module _ (s : Settled) (is : settled notation o sign n ≡ Some s) where
+    pub settles : (m : ℤ) → first n ≡ m → Settles notation o sign n s
+    settles (negsuc k) at = elim (once_or_twice notation o sign n s is).1 [
+      | inl kept ↦
+          subst (Settles notation o sign n) (sym kept.0)
+          (record {
+            own = none k at ∙ sym (none_after k at);
+            once = refl;
+            carry = inl refl;
+            least = λ h. absurd (omega (arith, ints, h, at));
+          })
+      | inr twice ↦ absurd (omega (arith, none_after k at, twice.1))
+    ]
+    settles (pos k) at = elim (once_or_twice notation o sign n s is).1 [
+      | inl kept ↦
+          subst (Settles notation o sign n) (sym kept.0)
+          (record {
+            own = omega (arith, no_fall k at, kept.1);
+            once = refl;
+            carry = inl refl;
+            least = λ h. (near k at).least;
+          })
+      | inr twice ↦
+          let fits = (once_or_twice notation o sign n s is).0 in
+          let same = again k at twice.1 fits in
+          subst (Settles notation o sign n) (sym twice.0)
+          (record {
+            own = ap (whole_exponent notation) (sym same);
+            once = same ∙ sym (directly k at twice.1 fits);
+            carry =
+                inr (subst (λ m. m ≡ weight (first m)) (sym same) ((near k at).carried (grown k at twice.1 fits)));
+            least = λ h. subst (λ m. first n ≤ℤ first m) (sym same) (near k at).least;
+          })
+    ]
+
+-- ---- The significand and the exponent.
 -- an exponent is 0 or more, or at most 2 below the magnitude
 exponent_least : (notation : Notation) (m : ℤ) → int_min (m -ℤ pos 2) (pos 0) ≤ℤ exponent_at notation m
 exponent_least Standard m = omega (arith, ints, clamps)
@@ -321,33 +266,90 @@ exponent_least (Compact table) m = elim (cases_Bool (int_lt m (pos 3))) [
   | inr t ↦ rw t (omega (arith, ints, clamps))
 ]
 
--- it stays below the limit
-raised_below : (notation : Notation) (v : Decimal) → v.absolute.number < number_limit
-    → (raised notation v).absolute.number < number_limit
-raised_below notation v few =
-    let n = v.absolute.number in
-    let least = exponent_least notation (first n) in
-    let count = unsigned_abs (base_exponent notation v) in
-    elim (cases_lt 0 n) [
-      | inr none ↦
-          let zero : n * 10 ^ count ≡ 0 * 10 ^ count =
-          ap (λ m. m * 10 ^ count) (let z : n ≡ 0 = omega arith in z) in
-          omega (arith, zero, ten_pos (offset (pos 32768)))
-      | inl some ↦
-          let e = extent (offset (pos 32768)) n some few (omega (arith, ints, offset_is (pos 32768))) in
-          let less = mul-lt-mul_of_pos_right e.below (ten_pos count) in
-          let up : 10 ^ (e.top + 1 + count) ≡ 10 ^ (e.top + 1) * 10 ^ count =
-          powers (e.top + 1) count (e.top + 1 + count) refl in
-          let low : e.top + 1 + count ≤ offset (pos 32768) =
-          omega (arith, ints, clamps, first_of e, least, e.limit, offset_is (pos 32768)) in
-          let most : 10 ^ (e.top + 1 + count) ≤ number_limit = pow-le-pow_right (omega arith) low in
-          omega (arith, less, up, most)
-    ]
+-- a compact exponent is not below 0
+compact_some : (table : CompactExponents) (m : ℤ) → pos 0 ≤ℤ compact_exponent table m
+compact_some table m = elim (cases_Bool (int_lt m (pos 3))) [
+  | inl t ↦ rw t (omega (arith, ints))
+  | inr t ↦ rw t (omega (arith, ints))
+]
 
-pub has_own_exponent : (notation : Notation) (o : DigitOptions) (v : Decimal) → HasOwnExponent notation o v
-has_own_exponent notation o v plain ordered few s is =
-    own_exponent notation o (raised notation v) plain ordered (raised_below notation v few) s is
+-- the multiple of 3 below a number
+engineering_is : (z : ℤ) (a b rest : ℕ) → z +ℤ pos (3 * a) ≡ pos (3 * b + rest) → rest < 3
+    → exponent_at Engineering z +ℤ pos (3 * a) ≡ pos (3 * b)
+engineering_is (pos m) a b rest is h = omega (arith, ints, is)
+engineering_is (negsuc m) a b rest is h = omega (arith, ints, is)
 
-pub rounds_as_once : (notation : Notation) (o : DigitOptions) (v : Decimal) → RoundsAsOnce notation o v
-rounds_as_once notation o v plain ordered few s is =
-    as_once notation o (raised notation v) plain ordered (raised_below notation v few) s is
+-- the exponent of a magnitude f that is moved by the exponent of another one
+moved : (notation : Notation) (m f : ℤ)
+    → (pos 0 ≤ℤ (m -ℤ int_min (pos 0) (exponent_at notation m)) → pos 0 ≤ℤ f)
+    → int_min (pos 0) (exponent_at notation m) +ℤ pos (exponent_from_0 notation f)
+    ≡ exponent_at notation (f +ℤ int_min (pos 0) (exponent_at notation m))
+moved Standard m f up = omega (arith, ints, clamps)
+moved Scientific m f up = omega (arith, ints, clamps, up (omega (arith, ints, clamps)))
+moved Engineering (pos m) (negsuc f) up = absurd (omega (arith, ints, clamps, up (omega (arith, ints, clamps))))
+moved Engineering (negsuc m) (negsuc f) up = absurd (omega (arith, ints, clamps, up (omega (arith, ints, clamps))))
+moved Engineering (pos m) (pos f) up =
+    let zero : int_min (pos 0) (exponent_at Engineering (pos m)) ≡ pos 0 = omega (arith, ints, clamps) in
+    let f_is : pos f +ℤ int_min (pos 0) (exponent_at Engineering (pos m)) ≡ pos f = omega (arith, ints, zero) in
+    omega (arith, ints, clamps, zero, ap (exponent_at Engineering) f_is)
+moved Engineering (negsuc m) (pos f) up =
+    let z = pos f +ℤ int_min (pos 0) (exponent_at Engineering (negsuc m)) in
+    omega (
+      arith,
+      ints,
+      clamps,
+      engineering_is z (m / 3 + 1) (f / 3) (f % 3) (omega (arith, ints, clamps)) (omega arith),
+    )
+moved (Compact table) m f up =
+    let low = compact_some table m in
+    let zero : int_min (pos 0) (compact_exponent table m) ≡ pos 0 = omega (arith, ints, clamps, low) in
+    let f_is : f +ℤ int_min (pos 0) (compact_exponent table m) ≡ f = omega (arith, ints, zero) in
+    omega (arith, ints, clamps, zero, compact_some table f, ap (compact_exponent table) f_is)
+
+-- the first digit of a quotient
+first_of_quotient : (n e r : ℕ) → n * 10 ^ e ≡ r → r < number_limit → (r ≡ 0 → e ≡ 0) → first n +ℤ pos e ≡ first r
+first_of_quotient n e r is few zero = elim (cases_lt 0 n) [
+  | inl some ↦ sym (sym (ap first is) ∙ first_shifted n e some (omega (arith, is, few)))
+  | inr none ↦
+      let n_is : n ≡ 0 = omega arith in
+      let r_is : r ≡ 0 = sym is ∙ ap (λ m. m * 10 ^ e) n_is ∙ (omega arith) in
+      omega (arith, ints, zero r_is, ap first n_is, ap first r_is)
+]
+
+-- the first digit after the multiplication
+first_raised : (notation : Notation) (n : ℕ) → raised notation n < number_limit
+    → pos 0 ≤ℤ (first n -ℤ base_exponent notation n) → pos 0 ≤ℤ first (raised notation n)
+first_raised notation n below up = elim (cases_lt 0 n) [
+  | inl some ↦ omega (arith, ints, clamps, up, first_shifted n (unsigned_abs (base_exponent notation n)) some below)
+  | inr none ↦
+      let r_is : raised notation n ≡ 0 =
+      ap (λ m. m * 10 ^ unsigned_abs (base_exponent notation n)) (let z : n ≡ 0 = omega arith in z) ∙ (omega arith) in
+      omega (arith, ints, ap first r_is, first_zero)
+]
+
+module _ (notation : Notation) (o : DigitOptions) (sign : Sign) (n : ℕ) where
+  abbrev Law : ℕ → ℕ → Type 0
+  Law e r = (r ≡ (rounded_at o sign e n).number) × ((e ≡ whole_exponent notation n) ⊎ (r ≡ weight (first r)))
+
+pub keeps_exponent : (notation : Notation) (o : DigitOptions) (v : Decimal) → KeepsExponent notation o v
+keeps_exponent notation o v plain ordered few all s is =
+    let n = raised notation v.absolute.number in
+    let made = keeps_value_of notation o v all s is in
+    let t = made.0 in
+    let below =
+    raised_below v.absolute.number (unsigned_abs (base_exponent notation v.absolute.number)) few
+    (omega (arith, ints, clamps, exponent_least notation (first v.absolute.number))) in
+    let law = settles notation o v.sign n plain ordered below t made.1 (first n) refl in
+    let quotient =
+    first_of_quotient s.significand.absolute.number t.exponent t.number made.2 (settled_below notation o v.sign n t made.1)
+    (λ zero. law.own ∙ exponent_low notation (first t.number) (omega (arith, ints, ap first zero, first_zero))) in (
+      made.3 ∙ ap (λ e. base_exponent notation v.absolute.number +ℤ pos e) law.own
+          ∙ moved notation (first v.absolute.number) (first t.number) (λ h.
+              let up = first_raised notation v.absolute.number below h in
+              omega (arith, ints, up, law.least up))
+          ∙ ap (exponent_at notation) (omega (arith, ints, made.3, quotient)),
+      λ e r at number.
+          let same : t.exponent ≡ e = omega (arith, ints, made.3, at) in
+          let r_is : t.number ≡ r = sym made.2 ∙ ap (λ e. s.significand.absolute.number * 10 ^ e) same ∙ sym number in
+          subst (λ r. Law notation o v.sign n e r) r_is (subst (λ e. Law notation o v.sign n e t.number) same (law.once, law.carry)),
+    )

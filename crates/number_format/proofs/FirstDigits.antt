@@ -1,13 +1,13 @@
 -- The first digit of a number before and after a rounding.
 use Rattle.std.proofs.Common.{◌≡◌, ℕ, zero, suc, ◌+◌, ◌-◌, ◌*◌, ◌^◌, ◌<◌, ◌≤◌, inl, inr, refl, sym, ◌∙◌, ap, subst, arith, rules}
-use Rattle.std.specs.Prelude.{nat_le, ℤ, pos, ◌+ℤ◌, ◌≤ℤ◌}
+use Rattle.std.specs.Prelude.{◌⊎◌, nat_le, ℤ, pos, ◌+ℤ◌, ◌≤ℤ◌, ◌<ℤ◌, int_lt}
 use Rattle.std.proofs.lemmas.Int.{ints}
-use Rattle.std.proofs.lemmas.Bool.{cases_lt}
-use Rattle.decimal_digits.specs.Number.{offset, number_limit, magnitude_at, first}
+use Rattle.std.proofs.lemmas.Bool.{cases_lt, cases_Bool}
+use Rattle.decimal_digits.specs.Number.{offset, number_limit, magnitude_at, weight, first}
 use Rattle.decimal_digits.specs.Rounding.{unit_at, rounded_number}
 use Rattle.decimal_digits.specs.declared.rounding.RoundingIncrement.TheVariants.{MultiplesOf1}
 use Rattle.decimal_digits.specs.declared.rounding.UnsignedRoundingMode.{UnsignedRoundingMode}
-use Rattle.fixed_decimal.proofs.Calling.{Extent, extent, first_of, offset_is, ten_pos, powers, first_is, first_le, greatest_is, rounded_number-multiple, rounded_number-monotone}
+use Rattle.fixed_decimal.proofs.Calling.{Extent, extent, first_of, offset_is, ten_pos, powers, first_is, greatest_is, rounded_number-multiple, rounded_number-monotone}
 
 -- no search for the first digit goes above 65535
 first_highest : (n k : ℕ) → k + 1 ≡ 65536 → 10 ^ k ≤ n → first n ≡ magnitude_at k
@@ -18,18 +18,15 @@ first_highest (suc n) k last h =
     (greatest_is (λ i. nat_le (10 ^ i) (suc n)) 65536 k (omega arith) (search (rules, h))
     (λ i p q. absurd (omega arith)))
 
--- the first digit of a number below the limit
-pub first_most : (n : ℕ) → n < number_limit → first n ≤ℤ pos 32767
-first_most n few =
-    let top : offset (pos 32768) ≡ offset (pos 32767) + 1 =
-    omega (arith, ints, offset_is (pos 32767), offset_is (pos 32768)) in
-    first_le n (pos 32767) (subst (λ k. n < 10 ^ k) top few) (omega (arith, ints)) (omega (arith, ints))
-
 -- 0 is rounded to 0
 pub rounded_zero : (mode : UnsignedRoundingMode) (unit n : ℕ) → 0 < unit → n ≡ 0 → rounded_number mode unit n ≡ n
 rounded_zero mode unit n some none =
     subst (λ m. rounded_number mode unit m ≡ m) (let e : 0 * unit ≡ n = omega (arith, none) in e)
     (rounded_number-multiple mode unit 0 some)
+
+-- of two magnitudes one is less, or is not
+pub order : (a b : ℤ) → (a <ℤ b) ⊎ (b ≤ℤ a)
+order a b = elim (cases_Bool (int_lt a b)) [ inl h ↦ inl (grind (arith, ints)) | inr h ↦ inr (grind (arith, ints)) ]
 
 -- ---- Powers of ten at the position of a rounding or above.
 module _ (mode : UnsignedRoundingMode) (position : ℤ) where
@@ -60,44 +57,59 @@ module _ (mode : UnsignedRoundingMode) (position : ℤ) where
       (rounded_number-monotone mode unit n (10 ^ k) unit_some h)
 
 -- ---- A number that is rounded at its first digit or below.
+-- its first digit stays, or moves up by one magnitude, and the number is then a power of ten
+pub record IsNear (n new : ℕ) : Type 0 where
+  pub least : first n ≤ℤ first new
+  pub most : first new ≤ℤ (first n +ℤ pos 1)
+  pub carried : first n <ℤ first new → new ≡ weight (first new)
+
 module _ (mode : UnsignedRoundingMode) (n : ℕ) (position : ℤ) (few : n < number_limit)
     (below : position ≤ℤ first n) where
   abbrev new : ℕ
   new = rounded_number mode (unit_at MultiplesOf1 position) n
 
   module _ (e : Extent n) where
-    top_above : offset position ≤ e.top
-    top_above = omega (arith, ints, offset_is position, first_of e, below)
+    stays : first new ≡ magnitude_at e.top → IsNear n new
+    stays same = record {
+      least = omega (arith, ints, same, first_of e);
+      most = omega (arith, ints, same, first_of e);
+      carried = λ h. absurd (omega (arith, ints, same, first_of e, h));
+    }
 
-    reached : 10 ^ e.top ≤ new
-    reached = reaches mode position n e.top top_above e.reaches
+    near : IsNear n new
+    near =
+        let above : offset position ≤ e.top = omega (arith, ints, offset_is position, first_of e, below) in
+        let reached = reaches mode position n e.top above e.reaches in
+        let most = limited mode position n (e.top + 1) (omega (arith, above)) (omega (arith, e.below)) in
+        elim (cases_lt new (10 ^ (e.top + 1))) [
+          | inl less ↦ stays (first_is new e.top reached less e.limit)
+          | inr full ↦ elim (cases_lt (e.top + 1) 65536) [
+            | inr last ↦
+                let top : e.top ≡ 65535 = omega (arith, e.limit) in
+                stays (first_highest new e.top (omega (arith, top)) reached)
+            | inl fits ↦
+                let next : 10 ^ (e.top + 1 + 1) ≡ 10 ^ (e.top + 1) * 10 ^ 1 =
+                powers (e.top + 1) 1 (e.top + 1 + 1) refl in
+                let up = first_is new (e.top + 1) full (omega (arith, most, next, ten_pos (e.top + 1))) fits in
+                let at : e.top + 1 ≡ offset (first new) = omega (arith, ints, offset_is (first new), up) in
+                record {
+                  least = omega (arith, ints, up, first_of e);
+                  most = omega (arith, ints, up, first_of e);
+                  carried = λ h. (let made : new ≡ 10 ^ (e.top + 1) = omega (arith, full, most) in made)
+                      ∙ ap (λ k. 10 ^ k) at;
+                }
+          ]
+        ]
 
-    most : new ≤ 10 ^ (e.top + 1)
-    most = limited mode position n (e.top + 1) (omega (arith, top_above)) (omega (arith, e.below))
-
-    near : (first n ≤ℤ first new) × (first new ≤ℤ (first n +ℤ pos 1))
-    near = elim (cases_lt new (10 ^ (e.top + 1))) [
-      | inl less ↦
-          let same = first_is new e.top reached less e.limit in
-          (omega (arith, ints, same, first_of e), omega (arith, ints, same, first_of e))
-      | inr full ↦ elim (cases_lt (e.top + 1) 65536) [
-        | inl fits ↦
-            let next : 10 ^ (e.top + 1 + 1) ≡ 10 ^ (e.top + 1) * 10 ^ 1 = powers (e.top + 1) 1 (e.top + 1 + 1) refl in
-            let up = first_is new (e.top + 1) full (omega (arith, most, next, ten_pos (e.top + 1))) fits in
-            (omega (arith, ints, up, first_of e), omega (arith, ints, up, first_of e))
-        | inr last ↦
-            let top : e.top ≡ 65535 = omega (arith, e.limit) in
-            let same = first_highest new e.top (omega (arith, top)) reached in
-            (omega (arith, ints, same, first_of e), omega (arith, ints, same, first_of e))
-      ]
-    ]
-
-  -- its first digit stays, or moves up by one magnitude
-  pub first_near : (first n ≤ℤ first new) × (first new ≤ℤ (first n +ℤ pos 1))
+  pub first_near : IsNear n new
   first_near = elim (cases_lt 0 n) [
     | inl some ↦ near (extent (offset (pos 32768)) n some few (omega (arith, ints, offset_is (pos 32768))))
     | inr none ↦
         let e =
         ap first (rounded_zero mode (unit_at MultiplesOf1 position) n (unit_some mode position) (omega arith)) in
-        (omega (arith, ints, e), omega (arith, ints, e))
+        record {
+          least = omega (arith, ints, e);
+          most = omega (arith, ints, e);
+          carried = λ h. absurd (omega (arith, ints, e, h));
+        }
   ]

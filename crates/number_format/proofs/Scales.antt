@@ -1,25 +1,23 @@
 -- The significand and the exponent of a number.
 use Rattle.std.proofs.Common.{◌≡◌, ℕ, zero, suc, ◌+◌, ◌-◌, ◌*◌, ◌/◌, ◌%◌, ◌^◌, ◌<◌, ◌≤◌, true, false, inl, inr, refl, sym, ◌∙◌, ap, subst, arith}
-use Rattle.std.specs.Prelude.{◌⊎◌, Option, Some, None, option_map, option_and_then, if◌then◌else◌, nat_lt, unsigned_abs, ℤ, pos, negsuc, neg_ℤ, ◌+ℤ◌, ◌-ℤ◌, ◌<ℤ◌, ◌≤ℤ◌, int_lt}
-use Rattle.std.specs.Int.{int_min}
-use Rattle.std.proofs.Math.Nat.{mul_assoc, mul-le-mul_right, mul-lt-mul_of_pos_right, mul-mod_left, mod-eq_of_lt, div-add-mod', div-le_self}
-use Rattle.std.proofs.lemmas.Int.{ints}
+use Rattle.std.specs.Prelude.{◌⊎◌, ◌||◌, Option, Some, None, option_and_then, nat_lt, unsigned_abs, ℤ, pos, negsuc, neg_ℤ, ◌+ℤ◌, ◌-ℤ◌, ◌≤ℤ◌, int_lt}
+use Rattle.std.specs.Int.{int_max}
+use Rattle.std.proofs.Math.Nat.{mul_assoc, le-mul_of_pos_right, mul-lt-mul_of_pos_right, mul-mod_left, div-add-mod', div-le_self, pow-le-pow_right}
+use Rattle.std.proofs.lemmas.Int.{ints, clamps}
 use Rattle.std.proofs.lemmas.Bool.{cases_Bool, cases_lt, or_parts}
 use Rattle.std.proofs.lemmas.Bool.Decides.{nat_tests}
-use Rattle.decimal_digits.specs.Number.{offset, number_limit, weight, first, last, lowest_magnitude}
-use Rattle.decimal_unsigned.specs.Unsigned.{Unsigned}
-use Rattle.decimal_unsigned.specs.Rounded.{reaches_limit}
+use Rattle.decimal_digits.specs.Number.{offset, number_limit, first, last, lowest_magnitude, highest_magnitude}
 use Rattle.decimal_unsigned.specs.Edits.{times_power}
+use Rattle.decimal_unsigned.specs.Rounded.{reaches_limit}
 use Rattle.fixed_decimal.specs.Decimal.{Decimal}
-use Rattle.fixed_decimal.proofs.Calling.{extent, first_of, last_of, offset_is, ten_pos, powers, first_is, first_zero}
+use Rattle.fixed_decimal.specs.declared.variations.Sign.{Sign}
+use Rattle.fixed_decimal.proofs.Calling.{extent, first_of, last_of, offset_is, ten_pos, powers, first_up, first_zero}
 use Rattle.number_format.specs.declared.digit_options.DigitOptions.{DigitOptions}
 use Rattle.number_format.specs.declared.notation.Notation.{Notation}
-use Rattle.number_format.specs.Exponents.{exponent_at}
-use Rattle.number_format.specs.ShownDigits.{Rounded, rounded_at, exceeds_limit, shown}
-use Rattle.number_format.specs.Choices.{IsRoundedAt}
-use Rattle.number_format.specs.ScaledValue.{ScaledValue, scaled_value}
+use Rattle.number_format.specs.ShownDigits.{Rounded, position_at, rounded_at, rounded_within, shown}
+use Rattle.number_format.specs.Scaled.{whole_exponent, base_exponent, raised, Settled, settled_with, settled, ScaledValue, scaled_value, written, scaled}
 use Rattle.number_format.specs.DigitLaws.{KeepsValueOf}
-use Rattle.number_format.specs.Scaled.{whole_exponent, base_exponent, raised, with_number, rounded_within, Settled, settled_with, settled_after, settled, written, scaled, IsSettled}
+use Rattle.number_format.proofs.Applied.{shown_number}
 
 -- ---- Shifts.
 -- a division by a power of ten
@@ -28,205 +26,124 @@ lowered n zero = omega arith
 lowered n (suc count) = refl
 
 -- a multiplication moves the first digit up
-pub raised_low : (n count : ℕ) → n < number_limit → (first n +ℤ pos count) ≤ℤ pos 2
-    → first (n * 10 ^ count) ≤ℤ pos 2
-raised_low n count few low = elim (cases_lt 0 n) [
+pub first_shifted : (n e : ℕ) → 0 < n → n * 10 ^ e < number_limit → first (n * 10 ^ e) ≡ first n +ℤ pos e
+first_shifted n e some few =
+    let same : n * 10 ^ 0 ≡ n = omega arith in
+    let less : n * 10 ^ 0 < number_limit = omega (arith, few, le-mul_of_pos_right n (ten_pos e)) in
+    let moved =
+    first_up n e 0 (offset (pos 32768)) (offset (pos 32768)) few less (omega (arith, ints, offset_is (pos 32768)))
+    (omega (arith, ints, offset_is (pos 32768))) some in
+    omega (arith, ints, moved, ap first same)
+
+-- up to magnitude 2 it stays below the limit
+pub raised_below : (n count : ℕ) → n < number_limit → (first n +ℤ pos count) ≤ℤ int_max (first n) (pos 2)
+    → n * 10 ^ count < number_limit
+raised_below n count few low = elim (cases_lt 0 n) [
   | inr none ↦
-      let zero : n * 10 ^ count ≡ 0 = (let z : n ≡ 0 = omega arith in ap (λ m. m * 10 ^ count) z ∙ (omega arith)) in
-      omega (arith, ints, ap first zero, first_zero)
+      let zero : n * 10 ^ count ≡ n = (let z : n ≡ 0 = omega arith in ap (λ m. m * 10 ^ count) z ∙ (omega arith)) in
+      omega (arith, zero, few)
   | inl some ↦
       let e = extent (offset (pos 32768)) n some few (omega (arith, ints, offset_is (pos 32768))) in
-      let up : 10 ^ (e.top + count) ≡ 10 ^ e.top * 10 ^ count = powers e.top count (e.top + count) refl in
-      let next : 10 ^ (e.top + count + 1) ≡ 10 ^ (e.top + 1) * 10 ^ count =
-      powers (e.top + 1) count (e.top + count + 1) (omega arith) in
-      let reaches = mul-le-mul_right (10 ^ count) e.reaches in
-      let below = mul-lt-mul_of_pos_right e.below (ten_pos count) in
-      let moved =
-      first_is (n * 10 ^ count) (e.top + count) (omega (arith, up, reaches)) (omega (arith, next, below))
-      (omega (arith, ints, first_of e, low)) in
-      omega (arith, ints, moved, first_of e, low)
+      let less = mul-lt-mul_of_pos_right e.below (ten_pos count) in
+      let up : 10 ^ (e.top + 1 + count) ≡ 10 ^ (e.top + 1) * 10 ^ count =
+      powers (e.top + 1) count (e.top + 1 + count) refl in
+      let most : 10 ^ (e.top + 1 + count) ≤ number_limit =
+      pow-le-pow_right (omega arith)
+      (omega (arith, ints, clamps, first_of e, low, e.limit, offset_is (pos 32768))) in
+      omega (arith, less, up, most)
 ]
 
--- two multiplications by the halves of a power are one
-pub halves : (n x count : ℕ) → x ≡ count → n * 10 ^ (x / 2) * 10 ^ (x - x / 2) ≡ n * 10 ^ count
-halves n x count is =
-    mul_assoc n (10 ^ (x / 2)) (10 ^ (x - x / 2))
-    ∙ ap (λ m. n * m) (sym (powers (x / 2) (x - x / 2) x (omega arith)))
-    ∙ ap (λ c. n * 10 ^ c) is
+pub raised_first : (n count : ℕ) → n < number_limit → (first n +ℤ pos count) ≤ℤ int_max (first n) (pos 2)
+    → first (n * 10 ^ count) ≤ℤ int_max (first n +ℤ pos count) (pos 0)
+raised_first n count few low = elim (cases_lt 0 n) [
+  | inl some ↦ omega (arith, ints, clamps, first_shifted n count some (raised_below n count few low))
+  | inr none ↦
+      let zero : n * 10 ^ count ≡ 0 = (let z : n ≡ 0 = omega arith in ap (λ m. m * 10 ^ count) z ∙ (omega arith)) in
+      omega (arith, ints, clamps, ap first zero, first_zero)
+]
 
--- ---- The exponent of the rounded number.
-module _ (notation : Notation) (o : DigitOptions) where
-  -- only the sign and the number of a decimal decide
-  pub settled_same : (v w : Decimal) → v.sign ≡ w.sign → v.absolute.number ≡ w.absolute.number
-      → settled notation o v ≡ settled notation o w
-  settled_same v w sign number = λ i. settled notation o (record {
-    sign = sign i;
-    absolute = record { number = number i; hi = pos 0; lo = pos 0 };
-  })
+-- two multiplications by parts of a power are one
+pub raised_twice : (n x y count : ℕ) → x + y ≡ count → n * 10 ^ x * 10 ^ y ≡ n * 10 ^ count
+raised_twice n x y count is =
+    mul_assoc n (10 ^ x) (10 ^ y) ∙ ap (λ m. n * m) (sym (powers x y count (omega arith)))
 
-  module _ (old : Decimal) (exponent : ℕ) (is : exponent ≡ whole_exponent notation old.absolute.number) where
-    pub settled-none : exceeds_limit o exponent old ≡ true → settled notation o old ≡ None
-    settled-none h =
-        subst (λ e. option_and_then (settled_after notation o old e) (rounded_within o e old) ≡ None) is (rw h refl)
-
-    module _ (mid : Decimal) (last_shown : ℤ) (rounds : IsRoundedAt o exponent old mid last_shown) (next : ℕ)
-        (after : next ≡ whole_exponent notation mid.absolute.number) where
-      abbrev once : Rounded
-      once = rounded_at o exponent old
-
-      settled_is : settled notation o old ≡ settled_after notation o old exponent once
-      settled_is =
-          subst (λ e. option_and_then (settled_after notation o old e) (rounded_within o e old)
-          ≡ settled_after notation o old exponent once) is (rw rounds.fits refl)
-
-      next_is : next ≡ whole_exponent notation once.number
-      next_is = after ∙ ap (whole_exponent notation) rounds.number
-
-      pub settled-kept : next ≤ exponent → settled notation o old ≡ Some (settled_with exponent once)
-      settled-kept h =
-          let t : nat_lt exponent (whole_exponent notation once.number) ≡ false =
-          subst (λ x. nat_lt exponent x ≡ false) next_is
-          (let f : nat_lt exponent next ≡ false = grind (arith, nat_tests) in f) in
-          settled_is ∙ (rw t refl)
-
-      again_is : exponent < next
-          → settled notation o old
-          ≡ option_map (settled_with next) (rounded_within o next (with_number old once.number))
-      again_is h =
-          let t : nat_lt exponent next ≡ true = grind (arith, nat_tests) in
-          settled_is
-          ∙ sym (λ i. if nat_lt exponent (next_is i)
-          then option_map (settled_with (next_is i)) (rounded_within o (next_is i) (with_number old once.number))
-          else Some (settled_with exponent once))
-          ∙ (rw t refl)
-
-      same : (e : ℕ) → rounded_within o e mid ≡ rounded_within o e (with_number old once.number)
-      same e = λ i. rounded_within o e (record {
-        sign = rounds.sign i;
-        absolute = record { number = rounds.number i; hi = pos 0; lo = pos 0 };
-      })
-
-      pub settled-again : (new : Decimal) (shown : ℤ) → exponent < next → IsRoundedAt o next mid new shown
-          → settled notation o old ≡ Some (settled_with next (rounded_at o next mid))
-      settled-again new shown more twice =
-          again_is more ∙ sym (ap (option_map (settled_with next)) (same next)) ∙ (rw twice.fits refl)
-
-      pub settled-again_none : exponent < next → exceeds_limit o next mid ≡ true → settled notation o old ≡ None
-      settled-again_none more h =
-          again_is more ∙ sym (ap (option_map (settled_with next)) (same next)) ∙ (rw h refl)
-
--- ---- The significand.
-below_lowest : (z : ℤ) → z <ℤ negsuc 32767 → int_lt z lowest_magnitude ≡ true
-below_lowest z h = grind (arith, ints)
-
+-- ---- The parts of `scaled`.
 not_below : (z : ℤ) → negsuc 32767 ≤ℤ z → int_lt z lowest_magnitude ≡ false
 not_below z h = grind (arith, ints)
 
-module _ (notation : Notation) (o : DigitOptions) (v raised : Decimal) (base : ℤ)
-    (is : base ≡ int_min (pos 0) (exponent_at notation (first v.absolute.number)))
-    (sign : raised.sign ≡ v.sign) (number : raised.absolute.number ≡ v.absolute.number * 10 ^ unsigned_abs base) where
-  abbrev raised_by : ℤ → Decimal
-  raised_by b = with_number v (v.absolute.number * 10 ^ unsigned_abs b)
+pub scaled-some : (notation : Notation) (o : DigitOptions) (v : Decimal) (base : ℤ) (number : ℕ) (t : Settled)
+    → base ≡ base_exponent notation v.absolute.number → number ≡ v.absolute.number * 10 ^ unsigned_abs base
+    → settled notation o v.sign number ≡ Some t → negsuc 32767 ≤ℤ (last t.number -ℤ pos t.exponent)
+    → (new : Decimal) (exponent : ℤ) → new.sign ≡ v.sign
+    → new.absolute ≡ shown o (t.number / 10 ^ t.exponent) t.last_shown → exponent ≡ base +ℤ pos t.exponent
+    → scaled notation o v ≡ Some (scaled_value new exponent)
+scaled-some notation o v base number t is shifted settles fits new exponent sign digits sum =
+    sym (λ i. option_and_then (written o v.sign (is i))
+    (settled notation o v.sign (v.absolute.number * 10 ^ unsigned_abs (is i))))
+    ∙ ap (λ n. option_and_then (written o v.sign base) (settled notation o v.sign n)) (sym shifted)
+    ∙ (rw (settles, not_below (last t.number -ℤ pos t.exponent) fits)
+    (sym (λ i. Some (scaled_value (record { sign = sign i; absolute = digits i }) (sum i)))))
 
-  scaled_is : scaled notation o v ≡ option_and_then (written o v base) (settled notation o raised)
-  scaled_is =
-      sym (ap (λ b. option_and_then (written o v b) (settled notation o (raised_by b))) is)
-      ∙ ap (option_and_then (written o v base))
-      (settled_same notation o (raised_by base) raised (sym sign) (sym number))
-
-  pub scaled-none : settled notation o raised ≡ None → scaled notation o v ≡ None
-  scaled-none h = scaled_is ∙ (rw h refl)
-
-  module _ (new : Decimal) (exponent : ℕ) (end : ℤ) (settles : IsSettled notation o raised new exponent end) where
-    written_is : scaled notation o v ≡ written o v base settles.result
-    written_is = scaled_is ∙ (rw settles.is refl)
-
-    pub scaled-below : (last new.absolute.number -ℤ pos exponent) <ℤ negsuc 32767 → scaled notation o v ≡ None
-    scaled-below low =
-        let t : int_lt (last settles.result.rounded.number -ℤ pos settles.result.exponent) lowest_magnitude ≡ true =
-        subst (λ (z : ℤ). int_lt z lowest_magnitude ≡ true)
-        (λ i. last (settles.number i) -ℤ pos (settles.exponent_is i))
-        (below_lowest (last new.absolute.number -ℤ pos exponent) low) in
-        written_is ∙ (rw t refl)
-
-    pub scaled-some : (absolute : Unsigned) → negsuc 32767 ≤ℤ (last new.absolute.number -ℤ pos exponent)
-        → absolute ≡ shown o (new.absolute.number / 10 ^ exponent) (end -ℤ pos exponent)
-        → scaled notation o v
-        ≡ Some (scaled_value (record { sign = new.sign; absolute = absolute }) (base +ℤ pos exponent))
-    scaled-some absolute fits digits =
-        let t : int_lt (last settles.result.rounded.number -ℤ pos settles.result.exponent) lowest_magnitude ≡ false =
-        subst (λ (z : ℤ). int_lt z lowest_magnitude ≡ false)
-        (λ i. last (settles.number i) -ℤ pos (settles.exponent_is i))
-        (not_below (last new.absolute.number -ℤ pos exponent) fits) in
-        written_is ∙ (rw t refl)
-        ∙ sym (λ i. Some (scaled_value
-        (record {
-          sign = (settles.sign ∙ sign) i;
-          absolute =
-              (digits ∙ (λ j. shown o (settles.number j / 10 ^ settles.exponent_is j)
-              (settles.shown j -ℤ pos (settles.exponent_is j)))) i;
-        })
-        (base +ℤ pos (settles.exponent_is i))))
-
--- ---- What a settled decimal is.
-module _ (notation : Notation) (o : DigitOptions) (v : Decimal) (s : Settled) where
+-- ---- What a settled number is.
+module _ (notation : Notation) (o : DigitOptions) (sign : Sign) (n : ℕ) (s : Settled) where
   abbrev own : ℕ
-  own = whole_exponent notation v.absolute.number
+  own = whole_exponent notation n
 
-  abbrev first_made : Rounded
-  first_made = rounded_at o own v
+  abbrev once : Rounded
+  once = rounded_at o sign own n
 
   -- the exponent of the rounded number
   abbrev after : ℕ
-  after = whole_exponent notation first_made.number
+  after = whole_exponent notation once.number
 
-  abbrev second_made : Rounded
-  second_made = rounded_at o after (with_number v first_made.number)
-
-  -- the number that is rounded once, or twice if the exponent grows
-  abbrev pub IsOnceOrTwice : Type 0
-  IsOnceOrTwice =
-      ((s ≡ settled_with own first_made) × (after ≤ own) × (first_made.number < number_limit))
-      ⊎ ((s ≡ settled_with after second_made) × (own < after) × (first_made.number < number_limit)
-      × (second_made.number < number_limit))
+  abbrev twice : Rounded
+  twice = rounded_at o sign after once.number
 
   below : (r : ℕ) → reaches_limit r ≡ false → r < number_limit
   below r h = grind (arith, nat_tests)
 
-  by_after : first_made.number < number_limit → settled_after notation o v own first_made ≡ Some s → IsOnceOrTwice
-  by_after fits is = elim (cases_lt own after) [
-    | inr whole ↦
-        let t : nat_lt own after ≡ false = grind (arith, nat_tests) in
-        let kept = rw t at is in
-        inl (let same : s ≡ settled_with own first_made = cc in same, whole, fits)
-    | inl more ↦
-        let t : nat_lt own after ≡ true = grind (arith, nat_tests) in
-        let twice = rw t at is in
-        elim (cases_Bool (exceeds_limit o after (with_number v first_made.number))) [
-          | inl over ↦ absurd (let none = rw over at twice in cc)
-          | inr within ↦
-              let some = rw within at twice in
-              inr (
-                let same : s ≡ settled_with after second_made = cc in same,
-                more,
-                fits,
-                below second_made.number (or_parts _ _ within).1,
-              )
-        ]
+  within_or_none : (e m : ℕ) → (rounded_within o sign e m ≡ None)
+      ⊎ ((rounded_within o sign e m ≡ Some (rounded_at o sign e m)) × ((rounded_at o sign e m).number < number_limit))
+  within_or_none e m = elim (cases_Bool (int_lt highest_magnitude (position_at o.precision e m) || reaches_limit (rounded_at o sign e m).number)) [
+    | inl over ↦ inl (rw over refl)
+    | inr within ↦
+        inr (rw within refl, below _ (or_parts _ _ within).1)
   ]
 
-  pub once_or_twice : settled notation o v ≡ Some s → IsOnceOrTwice
-  once_or_twice is = elim (cases_Bool (exceeds_limit o own v)) [
-    | inl over ↦ absurd (let none = rw over at is in cc)
-    | inr within ↦ by_after (below first_made.number (or_parts _ _ within).1) (rw within at is)
+  -- the number that is rounded once, or twice if the exponent grows
+  abbrev pub IsOnceOrTwice : Type 0
+  IsOnceOrTwice =
+      (once.number < number_limit)
+      × (((s ≡ settled_with own once) × (after ≤ own))
+      ⊎ ((s ≡ settled_with after twice) × (own < after) × (twice.number < number_limit)))
+
+  pub once_or_twice : settled notation o sign n ≡ Some s → IsOnceOrTwice
+  once_or_twice is = elim (within_or_none own n) [
+    | inl none ↦ absurd (let e = rw none at is in cc)
+    | inr (some, few) ↦ elim (cases_lt own after) [
+      | inr whole ↦
+          let t : nat_lt own after ≡ false = grind (arith, nat_tests) in
+          let e = rw (some, t) at is in
+          (few, inl (let same : s ≡ settled_with own once = cc in same, whole))
+      | inl more ↦
+          let t : nat_lt own after ≡ true = grind (arith, nat_tests) in
+          elim (within_or_none after once.number) [
+            | inl none ↦ absurd (let e = rw (some, t, none) at is in cc)
+            | inr (again, less) ↦
+                let e = rw (some, t, again) at is in
+                (few, inr (let same : s ≡ settled_with after twice = cc in same, more, less))
+          ]
+    ]
   ]
 
   -- its number is below the limit
-  pub settled_below : settled notation o v ≡ Some s → s.rounded.number < number_limit
-  settled_below is = elim (once_or_twice is) [
-    | inl once ↦ subst (λ (s : Settled). s.rounded.number < number_limit) (sym once.0) once.2
-    | inr twice ↦ subst (λ (s : Settled). s.rounded.number < number_limit) (sym twice.0) twice.3
-  ]
+  pub settled_below : settled notation o sign n ≡ Some s → s.number < number_limit
+  settled_below is =
+      let which = once_or_twice is in
+      elim (which.1) [
+        | inl kept ↦ subst (λ (s : Settled). s.number < number_limit) (sym kept.0) which.0
+        | inr again ↦ subst (λ (s : Settled). s.number < number_limit) (sym again.0) again.2
+      ]
 
 -- ---- The value of the significand and the exponent.
 at_lowest : (z : ℤ) → int_lt z lowest_magnitude ≡ false → negsuc 32767 ≤ℤ z
@@ -242,8 +159,7 @@ whole_shift n e few fits = elim (cases_lt 0 n) [
       let x = extent (offset (pos 32768)) n some few (omega (arith, ints, offset_is (pos 32768))) in
       let low : e ≤ x.bottom = omega (arith, ints, last_of x, fits) in
       let split : n ≡ x.factor * 10 ^ (x.bottom - e) * 10 ^ e =
-      x.is ∙ ap (λ p. x.factor * p) (powers (x.bottom - e) e x.bottom (omega (arith, low)))
-      ∙ sym (mul_assoc x.factor (10 ^ (x.bottom - e)) (10 ^ e)) in
+      x.is ∙ sym (raised_twice x.factor (x.bottom - e) e x.bottom (omega (arith, low))) in
       let divides : n % 10 ^ e ≡ 0 =
       ap (λ m. m % 10 ^ e) split ∙ mul-mod_left (x.factor * 10 ^ (x.bottom - e)) (10 ^ e) in
       omega (arith, divides, div-add-mod' n (10 ^ e))
@@ -251,34 +167,31 @@ whole_shift n e few fits = elim (cases_lt 0 n) [
 
 module _ (notation : Notation) (o : DigitOptions) (v : Decimal) (all : o.integer.max ≡ 32768) (s : ScaledValue) where
   abbrev base : ℤ
-  base = base_exponent notation v
+  base = base_exponent notation v.absolute.number
 
-  by_settled : (r : Option Settled) → settled notation o (raised notation v) ≡ r
-      → option_and_then (written o v base) r ≡ Some s
-      → (t : Settled) × (settled notation o (raised notation v) ≡ Some t)
-      × (s.significand.absolute.number * 10 ^ t.exponent ≡ t.rounded.number) × (s.exponent ≡ base +ℤ pos t.exponent)
+  by_settled : (r : Option Settled) → settled notation o v.sign (raised notation v.absolute.number) ≡ r
+      → option_and_then (written o v.sign base) r ≡ Some s
+      → (t : Settled) × (settled notation o v.sign (raised notation v.absolute.number) ≡ Some t)
+      × (s.significand.absolute.number * 10 ^ t.exponent ≡ t.number) × (s.exponent ≡ base +ℤ pos t.exponent)
   by_settled None is none = absurd (cc)
-  by_settled (Some t) is some =
-      let e = t.exponent in
-      let r = t.rounded.number in
-      let few = settled_below notation o (raised notation v) t is in
-      elim (cases_Bool (int_lt (last r -ℤ pos e) lowest_magnitude)) [
-        | inl low ↦ absurd (let none = rw low at some in cc)
-        | inr fits ↦
-            let made = rw fits at some in
-            let there = at_lowest (last r -ℤ pos e) fits in
-            let same : scaled_value (record v { absolute = shown o (r / 10 ^ e) (t.rounded.last_shown -ℤ pos e) })
-            (base +ℤ pos e) ≡ s = cc in
-            let whole : r / 10 ^ e % weight (pos o.integer.max) ≡ r / 10 ^ e =
-            ap (λ m. r / 10 ^ e % weight (pos m)) all
-            ∙ mod-eq_of_lt (omega (arith, few, div-le_self r (10 ^ e))) in (
-              t,
-              is,
-              ap (λ (s : ScaledValue). s.significand.absolute.number * 10 ^ e) (sym same)
-                  ∙ ap (λ m. m * 10 ^ e) whole ∙ whole_shift r e few there,
-              ap (λ (s : ScaledValue). s.exponent) (sym same),
-            )
-      ]
+  by_settled (Some t) is some = elim (cases_Bool (int_lt (last t.number -ℤ pos t.exponent) lowest_magnitude)) [
+    | inl low ↦ absurd (let none = rw low at some in cc)
+    | inr fits ↦
+        let made = rw fits at some in
+        let few = settled_below notation o v.sign (raised notation v.absolute.number) t is in
+        let power = 10 ^ t.exponent in
+        let same : scaled_value (record { sign = v.sign; absolute = shown o (t.number / power) t.last_shown })
+        (base +ℤ pos t.exponent) ≡ s = cc in
+        let less : t.number / power < number_limit = omega (arith, few, div-le_self t.number power) in (
+          t,
+          is,
+          ap (λ (s : ScaledValue). s.significand.absolute.number * power) (sym same)
+              ∙ ap (λ m. m * power) (shown_number o (t.number / power) t.last_shown all less)
+              ∙ whole_shift t.number t.exponent few (at_lowest (last t.number -ℤ pos t.exponent) fits),
+          ap (λ (s : ScaledValue). s.exponent) (sym same),
+        )
+  ]
 
 pub keeps_value_of : (notation : Notation) (o : DigitOptions) (v : Decimal) → KeepsValueOf notation o v
-keeps_value_of notation o v all s is = by_settled notation o v all s (settled notation o (raised notation v)) refl is
+keeps_value_of notation o v all s is =
+    by_settled notation o v all s (settled notation o v.sign (raised notation v.absolute.number)) refl is

@@ -1,11 +1,9 @@
 //! Rounds a decimal to the digits that options show.
-ghost use Rattle.std.specs.Prelude.{◌≡◌, ◌+◌, ◌*◌, ◌%◌, ◌<◌, ◌≤◌, pos, ◌≤ℤ◌, IsErrOf, MatchResult};
-ghost use Rattle.decimal_digits.specs.Number.{weight, first, size};
+ghost use Rattle.std.specs.Prelude.{◌≡◌, ◌+◌, ◌%◌, ◌≤◌, pos, IsErrOf, MatchResult};
+ghost use Rattle.decimal_digits.specs.Number.{weight, size};
 ghost use Rattle.decimal_digits.specs.Rounding.{unit_at};
 ghost use Rattle.decimal_unsigned.specs.Rounded.{ChangesInPlace};
-ghost use Rattle.number_format.specs.Positions.{base_of};
-ghost use Rattle.number_format.specs.ShownDigits.{rounded_at, shown, IsApplied, ApplyFails};
-ghost use Rattle.number_format.specs.Choices.{IsRoundedAt, RoundingFailsAt};
+ghost use Rattle.number_format.specs.ShownDigits.{base_of, rounded, stripped, shown, IsApplied, ApplyFails, IsRoundedAt, RoundingFailsAt};
 
 use crate::digit_options::{DigitOptions, TrailingZeros};
 use fixed_decimal::{DigitStore, RoundError, Signed, Steps, UnsignedOver};
@@ -13,10 +11,13 @@ use fixed_decimal::{DigitStore, RoundError, Signed, Steps, UnsignedOver};
 impl DigitOptions {
     /// Returns the position at which [`apply`](Self::apply) rounds: the unit is the increment times its power of ten.
     pub fn position_of<D: DigitStore>(&self, value: &Signed<UnsignedOver<D>>) -> i16
-        ensures unit { (rounded_at self.now 0 value.now).unit ≡ unit_at (base_of self.now.precision) result }
+        ensures unit { (rounded self.now value.now).unit ≡ unit_at (base_of self.now.precision) result }
     {
         let first = value.absolute.nonzero_magnitude_start();
-        self.precision.position(0, first).max(-32768) as i16
+        match self.precision.position_at(0, first) {
+            Ok(position) => position,
+            Err(_) => 32767,
+        }
     }
 
     /// Rounds a decimal, and shows the digits of the rounded number that the options show.
@@ -46,6 +47,7 @@ impl DigitOptions {
     /// # Errors
     ///
     /// As there.
+    #[tactic(auto, using(crate::proofs::Applied::apply_fails))]
     pub fn apply_counted<D: DigitStore>(
         &self,
         value: &mut Signed<UnsignedOver<D>>,
@@ -61,14 +63,12 @@ impl DigitOptions {
         ensures count_nondecreasing { steps.old.count ≤ steps.new.count }
     {
         let last = self.round_at(value, 0, steps)?;
-        self.show(&mut value.absolute, last as i64);
+        self.show(&mut value.absolute, last);
         Ok(())
     }
-}
 
-impl DigitOptions {
-    /// Rounds a decimal to the digits of its quotient by 10^`exponent`, and returns down to which magnitude zeros are
-    /// shown; both magnitudes are those of the decimal, which is not divided.
+    /// Rounds a decimal to the digits of its quotient by 10^`exponent`, which is not divided, and returns the magnitude
+    /// of the quotient down to which zeros are shown.
     pub(crate) fn round_at<D: DigitStore>(
         &self,
         value: &mut Signed<UnsignedOver<D>>,
@@ -85,12 +85,10 @@ impl DigitOptions {
         ensures count_nondecreasing { steps.old.count ≤ steps.new.count }
     {
         let before = value.absolute.nonzero_magnitude_start();
-        let position = self.precision.position(exponent, before);
-        if position > 32767 {
-            return Err(RoundError::Limit);
+        let position = self.precision.position_at(exponent, before)?;
+        if let Err(error) = value.round_counted(position, self.mode, self.precision.base(), steps) {
+            return Err(error);
         }
-        let position = position.max(-32768) as i16;
-        value.round_counted(position, self.mode, self.precision.base(), steps)?;
         let after = value.absolute.nonzero_magnitude_start();
         Ok(self.precision.last_shown(exponent, before, after))
     }
@@ -108,16 +106,24 @@ impl DigitOptions {
     }
 
     /// Shows the digits of a number that is rounded: zeros down to a magnitude.
-    pub(crate) fn show<D: DigitStore>(&self, value: &mut UnsignedOver<D>, last: i64)
+    pub(crate) fn show<D: DigitStore>(&self, value: &mut UnsignedOver<D>, last: i32)
         ensures value { value.new ≡ shown self.now value.old.number last }
         ensures size { size value.new.number ≤ size value.old.number }
     {
         self.cut_integer_digits(value);
         value.pad_start(self.integer.min as i16);
         value.pad_end(last.clamp(-32768, 0) as i16);
-        match self.trailing_zeros {
-            TrailingZeros::Auto => (),
-            TrailingZeros::StripIfInteger => value.trim_end_if_integer(),
+        self.trailing_zeros.strip(value);
+    }
+}
+
+impl TrailingZeros {
+    fn strip<D: DigitStore>(self, value: &mut UnsignedOver<D>)
+        ensures value { value.new ≡ stripped self value.old }
+        ensures number { value.new.number ≡ value.old.number }
+    {
+        if let TrailingZeros::StripIfInteger = self {
+            value.trim_end_if_integer();
         }
     }
 }

@@ -1,6 +1,6 @@
 //! Laws of digit options and of notations.
 ghost use Rattle.fixed_decimal.specs.Decimal.{Decimal};
-ghost use Rattle.number_format.specs.DigitLaws.{KeepsNumber, KeepsValue, IsMonotone, AppliesOnce, HasOwnExponent, RoundsAsOnce, KeepsValueOf};
+ghost use Rattle.number_format.specs.DigitLaws.{KeepsNumber, KeepsValue, IsMonotone, AppliesOnce, KeepsExponent, KeepsValueOf};
 
 use crate::digit_options::DigitOptions;
 use crate::digit_ranges::FractionDigits;
@@ -29,12 +29,13 @@ pub fn applying_is_idempotent()
     ensures { (o : DigitOptions) (v : Decimal) → AppliesOnce o v }
 {}
 
-/// Without an increment the exponent of a notation is that of the rounded number, also if the rounding carries, and one
-/// rounding with this exponent makes the same number.
-#[tactic(auto, using(crate::proofs::Carries::has_own_exponent, crate::proofs::Carries::rounds_as_once))]
+/// Without an increment the exponent of a notation is that of the first digit of the result, also if the rounding
+/// carries, and one rounding with this exponent makes the same number; it is another one than that of the decimal only
+/// after a carry to a power of ten.
+///
+/// Of compact exponents this holds if they are ordered: none is above its magnitude or the exponent of the next one.
 pub fn the_exponent_is_of_the_rounded_number()
-    ensures exponent { (notation : Notation) (o : DigitOptions) (v : Decimal) → HasOwnExponent notation o v }
-    ensures once { (notation : Notation) (o : DigitOptions) (v : Decimal) → RoundsAsOnce notation o v }
+    ensures { (notation : Notation) (o : DigitOptions) (v : Decimal) → KeepsExponent notation o v }
 {}
 
 /// The significand times 10 to the power of the exponent is the rounded number, if no integer digit is cut off.

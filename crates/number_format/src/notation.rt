@@ -1,7 +1,7 @@
 //! The exponent that a notation writes for a magnitude.
 ghost use Rattle.std.specs.Prelude.{◌≡◌, ◌<◌, ◌≤◌, pos, ◌≤ℤ◌, ◌-ℤ◌};
 ghost use Rattle.std.specs.Int.{int_max, int_min};
-ghost use Rattle.number_format.specs.Exponents.{row_of, compact_exponent, exponent_at};
+ghost use Rattle.number_format.specs.Scaled.{row_of, compact_exponent, exponent_at};
 
 /// The exponents of a locale's compact patterns, for the magnitudes 3 to 14.
 ///

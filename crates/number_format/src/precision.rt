@@ -1,11 +1,10 @@
 //! To which digit a number is rounded, and down to which one zeros are shown.
-ghost use Rattle.std.specs.Prelude.{◌≡◌, ◌≤◌, pos, ◌+ℤ◌, ◌≤ℤ◌};
+ghost use Rattle.std.specs.Prelude.{◌≡◌, ◌≤◌, pos, negsuc, ◌+ℤ◌, ◌-ℤ◌, ◌≤ℤ◌, ◌<ℤ◌, IsOk, MatchResult};
 ghost use Rattle.std.specs.Int.{int_max};
-ghost use Rattle.number_format.specs.Positions.{last_at, fraction_end, position_of, base_of};
-ghost use Rattle.number_format.specs.Choices.{is_finer, last_shown_by, last_shown_of};
+ghost use Rattle.number_format.specs.ShownDigits.{last_at, fraction_end, zeros_end, position_of, base_of, is_finer, last_shown_of};
 
 use crate::digit_ranges::{FractionDigits, FractionMultiples, SignificantDigits};
-use fixed_decimal::RoundingIncrement;
+use fixed_decimal::{RoundError, RoundingIncrement};
 
 /// Which of two least numbers of digits is shown.
 #[derive(Clone, Copy, Debug)]
@@ -42,19 +41,22 @@ pub enum Precision {
     LessPrecision(BothDigits),
 }
 
+// The magnitudes that these functions return are those of the quotient by 10^`exponent`, and their arguments those of
+// the number.
+
 /// Returns the magnitude of the last of `count` digits, of which the first is at a magnitude.
-fn last_at(count: u32, first: i16) -> i32
+fn last_at(count: u32, exponent: u16, first: i16) -> i32
     requires { count ≤ 65536 }
-    ensures { result ≡ last_at count first }
+    ensures { result ≡ last_at count (first -ℤ pos exponent) }
 {
-    first as i32 + 1 - count as i32
+    first as i32 - exponent as i32 + 1 - count as i32
 }
 
-/// Returns the magnitude of the last of `count` fraction digits of a number that is written with an exponent.
-fn fraction_end(exponent: u16, count: u16) -> i32
-    ensures { result ≡ fraction_end exponent count }
+/// Returns the magnitude of the last of `count` fraction digits.
+fn fraction_end(count: u16) -> i32
+    ensures { result ≡ fraction_end count }
 {
-    exponent as i32 - count as i32
+    -(count as i32)
 }
 
 impl BothDigits {
@@ -62,18 +64,19 @@ impl BothDigits {
     ///
     /// `before` and `after` are the magnitudes of the first digit before and after the rounding.
     fn is_finer(self, exponent: u16, before: i16, after: i16) -> bool
-        ensures { result ≡ is_finer self exponent before after }
+        ensures { result ≡ is_finer self (before -ℤ pos exponent) (after -ℤ pos exponent) }
     {
-        let end = fraction_end(exponent, self.fraction.max);
-        last_at(self.significant.max, before) < end || last_at(self.significant.max, after) <= end
+        let end = fraction_end(self.fraction.max);
+        let digits = self.significant.max;
+        last_at(digits, exponent, before) < end || last_at(digits, exponent, after) <= end
     }
 
     /// Returns the magnitude down to which zeros are shown, if the rounding to significant digits is chosen or is not.
-    fn last_shown(self, exponent: u16, after: i16, is_significant: bool) -> i32
-        ensures { result ≡ last_shown_by self exponent after is_significant }
+    fn zeros_end(self, exponent: u16, after: i16, is_significant: bool) -> i32
+        ensures { result ≡ zeros_end self self.minimum is_significant (after -ℤ pos exponent) }
     {
-        let significant = last_at(self.significant.min, after);
-        let fraction = fraction_end(exponent, self.fraction.min);
+        let significant = last_at(self.significant.min, exponent, after);
+        let fraction = fraction_end(self.fraction.min);
         match (self.minimum, is_significant) {
             (Minimum::Both, _) => significant.min(fraction),
             (Minimum::Chosen, true) => significant,
@@ -83,7 +86,7 @@ impl BothDigits {
 }
 
 impl Precision {
-    /// Returns the increment of the rounding.
+    /// Returns the increment of the rounding, without its zeros.
     pub(crate) fn base(self) -> RoundingIncrement
         ensures { result ≡ base_of self }
     {
@@ -94,42 +97,61 @@ impl Precision {
     }
 
     /// Returns the position of the rounding of a number whose first digit is at a magnitude.
-    pub(crate) fn position(self, exponent: u16, first: i16) -> i32
-        ensures position { result ≡ position_of self exponent first }
-        ensures at_most { result ≤ℤ int_max first (pos exponent +ℤ pos 3) }
+    fn position(self, exponent: u16, first: i16) -> i32
+        ensures position { result ≡ position_of self (first -ℤ pos exponent) }
+        ensures at_most { result ≤ℤ int_max (first -ℤ pos exponent) (pos 3) }
+        ensures at_least { negsuc 163839 ≤ℤ result }
     {
         match self {
-            Precision::Fraction(fraction) => fraction_end(exponent, fraction.max),
+            Precision::Fraction(fraction) => fraction_end(fraction.max),
             Precision::Multiples(multiples) => {
-                fraction_end(exponent, multiples.digits) + multiples.increment.zeros as i32
+                fraction_end(multiples.digits) + multiples.increment.zeros as i32
             }
-            Precision::Significant(significant) => last_at(significant.max, first),
-            Precision::MorePrecision(both) => last_at(both.significant.max, first).min(fraction_end(
-                exponent,
-                both.fraction.max,
-            )),
-            Precision::LessPrecision(both) => last_at(both.significant.max, first).max(fraction_end(
-                exponent,
-                both.fraction.max,
-            )),
+            Precision::Significant(significant) => last_at(significant.max, exponent, first),
+            Precision::MorePrecision(both) => last_at(both.significant.max, exponent, first).min(
+                fraction_end(both.fraction.max),
+            ),
+            Precision::LessPrecision(both) => last_at(both.significant.max, exponent, first).max(
+                fraction_end(both.fraction.max),
+            ),
         }
+    }
+
+    /// Returns the position as a magnitude of the number, or the lowest one.
+    ///
+    /// # Errors
+    ///
+    /// `Limit`: it is above the highest one.
+    pub(crate) fn position_at(self, exponent: u16, first: i16) -> Result<i16, RoundError>
+        ensures position { MatchResult result
+            (λ p. (p ≡ int_max (pos exponent +ℤ position_of self (first -ℤ pos exponent)) (negsuc 32767))
+            × ((pos exponent +ℤ position_of self (first -ℤ pos exponent)) ≤ℤ pos 32767))
+            (λ e. (e ≡ RoundError.Limit)
+            × (pos 32767 <ℤ (pos exponent +ℤ position_of self (first -ℤ pos exponent)))) }
+        ensures within { exponent ≡ 0 → IsOk result }
+    {
+        let position = exponent as i32 + self.position(exponent, first);
+        if position > 32767 {
+            return Err(RoundError::Limit);
+        }
+        Ok(position.max(-32768) as i16)
     }
 
     /// Returns the magnitude down to which zeros are shown.
     ///
     /// `before` and `after` are the magnitudes of the first digit before and after the rounding.
     pub(crate) fn last_shown(self, exponent: u16, before: i16, after: i16) -> i32
-        ensures { result ≡ last_shown_of self exponent before after }
+        ensures { result ≡ last_shown_of self (before -ℤ pos exponent) (after -ℤ pos exponent) }
     {
         match self {
-            Precision::Fraction(fraction) => fraction_end(exponent, fraction.min),
-            Precision::Multiples(multiples) => fraction_end(exponent, multiples.digits),
-            Precision::Significant(significant) => last_at(significant.min, after),
+            Precision::Fraction(fraction) => fraction_end(fraction.min),
+            Precision::Multiples(multiples) => fraction_end(multiples.digits),
+            Precision::Significant(significant) => last_at(significant.min, exponent, after),
             Precision::MorePrecision(both) => {
-                both.last_shown(exponent, after, both.is_finer(exponent, before, after))
+                both.zeros_end(exponent, after, both.is_finer(exponent, before, after))
             }
             Precision::LessPrecision(both) => {
-                both.last_shown(exponent, after, !both.is_finer(exponent, before, after))
+                both.zeros_end(exponent, after, !both.is_finer(exponent, before, after))
             }
         }
     }

@@ -1,12 +1,10 @@
 //! The significand and the exponent of a number.
-ghost use Rattle.std.specs.Prelude.{◌≡◌, ◌+◌, ◌*◌, ◌/◌, ◌^◌, ◌≤◌, Some, None, IfOk, OnOk, IfErr, IsErrOf, MatchResult, pos, ◌-ℤ◌, ◌≤ℤ◌, ◌<ℤ◌, negsuc, unsigned_abs};
+ghost use Rattle.std.specs.Prelude.{◌≡◌, ◌+◌, ◌*◌, ◌/◌, ◌^◌, ◌≤◌, Some, None, IfOk, OnOk, IfErr, IsErrOf, MatchResult, pos, ◌+ℤ◌, ◌-ℤ◌, ◌≤ℤ◌, ◌<ℤ◌, negsuc, unsigned_abs};
 ghost use Rattle.std.specs.Int.{int_min};
 ghost use Rattle.decimal_digits.specs.Number.{first, last};
 ghost use Rattle.decimal_digits.specs.declared.rounding.RoundingIncrement.TheVariants.{MultiplesOf25};
-ghost use Rattle.number_format.specs.Positions.{base_of};
-ghost use Rattle.number_format.specs.Exponents.{exponent_at};
-ghost use Rattle.number_format.specs.ScaledValue.{ScaledValue, scaled_value};
-ghost use Rattle.number_format.specs.Scaled.{whole_exponent, settled, scaled, IsSettled, SettlingFails};
+ghost use Rattle.number_format.specs.ShownDigits.{base_of};
+ghost use Rattle.number_format.specs.Scaled.{whole_exponent, base_exponent, settled, scaled, SettlingFails};
 
 use crate::digit_options::DigitOptions;
 use crate::notation::Notation;
@@ -21,7 +19,7 @@ pub struct Scaled<D: DigitStore> {
 }
 
 impl<D: DigitStore> Model for Scaled<D> {
-    ghost use Rattle.number_format.specs.ScaledValue.{ScaledValue, scaled_value};
+    ghost use Rattle.number_format.specs.Scaled.{ScaledValue, scaled_value};
 
     ghost Value = { ScaledValue };
 
@@ -39,10 +37,20 @@ impl<D: DigitStore> Drop for Scaled<D> {
     }
 }
 
+/// Returns two numbers of at most 16,385 whose sum is the absolute value of an exponent below 0, and 0 for any other.
+fn halves(exponent: i32) -> (u16, u16)
+    requires { negsuc 32769 ≤ℤ exponent }
+    ensures sum { result.0 + result.1 ≡ unsigned_abs (int_min (pos 0) exponent) }
+    ensures few { (result.0 ≤ 16385) × (result.1 ≤ 16385) }
+{
+    let count = (-exponent.min(0)) as u16;
+    (count / 2, count - count / 2)
+}
+
 /// Multiplies by 10^`count`, without the leading zeros that are shown.
 fn raise<D: DigitStore>(value: &mut UnsignedOver<D>, count: u16)
     requires few { count ≤ 16385 }
-    requires low { first value.old.number ≤ℤ pos 2 }
+    requires low { (first value.old.number +ℤ pos count) ≤ℤ pos 32767 }
     ensures { value.new.number ≡ value.old.number * 10 ^ count }
 {
     value.trim_start();
@@ -70,20 +78,16 @@ impl Notation {
     /// Multiplies a number that is written with an exponent below 0 by the power of ten that makes it 0, and returns
     /// that exponent; otherwise 0.
     fn raise<D: DigitStore>(&self, value: &mut UnsignedOver<D>) -> i32
-        ensures exponent { result ≡ int_min (pos 0) (exponent_at self.now (first value.old.number)) }
+        ensures exponent { result ≡ base_exponent self.now value.old.number }
         ensures number { value.new.number ≡ value.old.number * 10 ^ unsigned_abs result }
         ensures at_least { negsuc 32769 ≤ℤ result }
         ensures at_most { result ≤ℤ pos 0 }
     {
         let exponent = self.exponent_at(value.nonzero_magnitude_start());
-        if exponent >= 0 {
-            return 0;
-        }
-        let count = (-exponent) as u16;
-        let half = count / 2;
+        let (half, rest) = halves(exponent);
         raise(value, half);
-        raise(value, count - half);
-        exponent
+        raise(value, rest);
+        exponent.min(0)
     }
 
     /// Returns the exponent of a number, and 0 if it is below 0.
@@ -94,16 +98,18 @@ impl Notation {
         self.exponent_at(value.nonzero_magnitude_start()).max(0) as u16
     }
 
-    /// Rounds a decimal that has a whole exponent, and returns the exponent of the rounded number, and down to which
-    /// magnitude zeros are shown.
+    /// Rounds a decimal that has a whole exponent, and returns the exponent of the rounded number, and the magnitude
+    /// of its quotient down to which zeros are shown.
     fn settle<D: DigitStore>(
         &self,
         options: &DigitOptions,
         value: &mut Signed<UnsignedOver<D>>,
     ) -> Result<(u16, i32), RoundError>
         ensures settles { MatchResult result
-            (λ r. IsSettled self.now options.now value.old value.new r.0 r.1)
+            (λ r. settled self.now options.now value.old.sign value.old.absolute.number
+            ≡ Some (record { exponent = r.0; number = value.new.absolute.number; last_shown = r.1 }))
             (λ e. SettlingFails e self.now options.now value.old) }
+        ensures sign { OnOk result (value.new.sign ≡ value.old.sign) }
         ensures at_most { IfOk result (λ r. r.0 ≤ 32767) }
     {
         let exponent = self.whole_exponent(&value.absolute);
@@ -141,7 +147,7 @@ impl Notation {
         let base = self.raise(&mut value.absolute);
         let (exponent, last) = self.settle(options, &mut value)?;
         lower(&mut value.absolute, exponent)?;
-        options.show(&mut value.absolute, last as i64 - exponent as i64);
+        options.show(&mut value.absolute, last);
         Ok(Scaled {
             significand: value,
             exponent: base + exponent as i32,

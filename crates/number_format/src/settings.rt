@@ -1,9 +1,7 @@
 //! The numbers of digits as ECMA-402 reads them.
-ghost use Rattle.std.specs.Prelude.{◌≡◌, ◌≤◌, Some, None, true, false, unwrap_or, IfOk, MatchResult};
-ghost use Rattle.number_format.specs.Resolved.{HasFraction, HasSignificant, IsBoth, Counts, Kind};
-ghost use Rattle.number_format.specs.Resolved.{default_max, fraction_of, significant_of, kind_by, kind_of, IsOfKind, IsResolved};
-ghost use Rattle.number_format.specs.Resolved.{are_integer, are_fraction, are_significant, both_error, precision_error_of, increment_error, resolve_error};
-ghost use Rattle.number_format.specs.Positions.{increment_of};
+ghost use Rattle.std.specs.Prelude.{◌≡◌, ◌≤◌, true, false, not, ◌||◌, ◌&&◌, Some, None, unwrap_or, IfOk, MatchResult};
+ghost use Rattle.number_format.specs.Resolved.{counts, is_auto, has_significant, needs_significant, needs_fraction, significant_of, fraction_of, are_within, are_fraction, IsNamed, IsResolved, first_error, increment_tests, resolve_error};
+ghost use Rattle.number_format.specs.ShownDigits.{increment_of};
 
 use crate::digit_options::{DigitOptions, TrailingZeros};
 use crate::digit_ranges::{
@@ -60,9 +58,10 @@ pub struct DigitDefaults {
 impl DigitSettings {
     fn integer(&self) -> Result<IntegerDigits, DigitOptionsError>
         ensures { MatchResult result
-            (λ i. (are_integer self.now ≡ true) × (i.min ≡ unwrap_or self.now.minimum_integer_digits 1)
-            × (i.max ≡ 32768))
-            (λ e. (are_integer self.now ≡ false) × (e ≡ DigitOptionsError.IntegerDigits)) }
+            (λ i. (are_within 1 21 (unwrap_or self.now.minimum_integer_digits 1, 21) ≡ true)
+            × (counts i.min i.max ≡ (unwrap_or self.now.minimum_integer_digits 1, 32768)))
+            (λ e. (are_within 1 21 (unwrap_or self.now.minimum_integer_digits 1, 21) ≡ false)
+            × (e ≡ DigitOptionsError.IntegerDigits)) }
     {
         let min = self.minimum_integer_digits.unwrap_or(1);
         if min == 0 || min > 21 {
@@ -71,25 +70,66 @@ impl DigitSettings {
         Ok(IntegerDigits { min, max: 32768 })
     }
 
-    /// Returns the greatest number of fraction digits by default: with an increment the least one.
-    fn default_max(&self, defaults: &DigitDefaults) -> u16
-        ensures value { result ≡ default_max self.now defaults.now }
-        ensures at_least { defaults.now.fraction.min ≤ result }
+    fn is_auto(&self) -> bool
+        ensures { result ≡ is_auto self.now.rounding_priority }
     {
-        if self.rounding_increment == 1 {
-            defaults.fraction.max
-        } else {
-            defaults.fraction.min
+        matches!(self.rounding_priority, RoundingPriority::Auto)
+    }
+
+    fn has_significant(&self) -> bool
+        ensures { result ≡ has_significant self.now }
+    {
+        self.minimum_significant_digits.is_some() || self.maximum_significant_digits.is_some()
+    }
+
+    fn needs_fraction(&self, defaults: &DigitDefaults) -> bool
+        ensures { result ≡ needs_fraction self.now defaults.now }
+    {
+        let has_fraction = self.minimum_fraction_digits.is_some()
+            || self.maximum_fraction_digits.is_some();
+        !self.is_auto() || !(self.has_significant() || (defaults.is_compact && !has_fraction))
+    }
+
+    /// Returns whether only fraction digits apply.
+    fn is_fraction(&self, defaults: &DigitDefaults) -> bool
+        ensures value { result ≡ (not (needs_significant self.now) && needs_fraction self.now defaults.now) }
+        ensures auto { result ≡ true → self.now.rounding_priority ≡ RoundingPriority.Auto }
+    {
+        self.is_auto() && !self.has_significant() && self.needs_fraction(defaults)
+    }
+
+    fn significant(&self) -> Result<SignificantDigits, DigitOptionsError>
+        ensures { MatchResult result
+            (λ x. (are_within 1 21 (significant_of self.now) ≡ true) × (counts x.min x.max ≡ significant_of self.now))
+            (λ e. (are_within 1 21 (significant_of self.now) ≡ false) × (e ≡ DigitOptionsError.SignificantDigits)) }
+    {
+        if self.is_auto() && !self.has_significant() {
+            return Ok(SignificantDigits { min: 1, max: 2 });
         }
+        let min = self.minimum_significant_digits.unwrap_or(1) as u32;
+        let max = self.maximum_significant_digits.unwrap_or(21) as u32;
+        if min == 0 || min > max || max > 21 {
+            return Err(DigitOptionsError::SignificantDigits);
+        }
+        Ok(SignificantDigits { min, max })
     }
 
     fn fraction(&self, defaults: &DigitDefaults) -> Result<FractionDigits, DigitOptionsError>
         ensures { MatchResult result
-            (λ f. (are_fraction self.now ≡ true) × HasFraction f (fraction_of self.now defaults.now))
-            (λ e. (are_fraction self.now ≡ false) × (e ≡ DigitOptionsError.FractionDigits)) }
+            (λ x. ((not (needs_fraction self.now defaults.now) || are_fraction self.now defaults.now) ≡ true)
+            × (counts x.min x.max ≡ fraction_of self.now defaults.now))
+            (λ e. ((not (needs_fraction self.now defaults.now) || are_fraction self.now defaults.now) ≡ false)
+            × (e ≡ DigitOptionsError.FractionDigits)) }
     {
+        if !self.needs_fraction(defaults) {
+            return Ok(FractionDigits { min: 0, max: 0 });
+        }
         let least = defaults.fraction.min;
-        let most = self.default_max(defaults);
+        let most = if self.rounding_increment == 1 {
+            defaults.fraction.max
+        } else {
+            least
+        };
         match (self.minimum_fraction_digits, self.maximum_fraction_digits) {
             (None, None) => Ok(FractionDigits {
                 min: least,
@@ -108,68 +148,45 @@ impl DigitSettings {
         }
     }
 
-    fn significant(&self) -> Result<SignificantDigits, DigitOptionsError>
+    /// Returns the precision of the numbers of digits.
+    fn precision(
+        &self,
+        defaults: &DigitDefaults,
+        both: BothDigits,
+        increment: Increment,
+    ) -> Result<Precision, DigitOptionsError>
+        requires fraction { counts both.fraction.min both.fraction.max ≡ fraction_of self.now defaults.now }
+        requires significant { counts both.significant.min both.significant.max ≡ significant_of self.now }
+        requires minimum { both.minimum ≡ Minimum.Chosen }
+        requires increment { increment_of increment ≡ self.now.rounding_increment }
         ensures { MatchResult result
-            (λ s. (are_significant self.now ≡ true) × HasSignificant s (significant_of self.now))
-            (λ e. (are_significant self.now ≡ false) × (e ≡ DigitOptionsError.SignificantDigits)) }
+            (λ p. (first_error (increment_tests self.now defaults.now) ≡ None)
+            × IsNamed (fraction_of self.now defaults.now) (significant_of self.now) self.now.rounding_increment
+            self.now.rounding_priority (needs_significant self.now) (needs_fraction self.now defaults.now) p)
+            (λ e. first_error (increment_tests self.now defaults.now) ≡ Some e) }
     {
-        let min = self.minimum_significant_digits.unwrap_or(1) as u32;
-        let max = self.maximum_significant_digits.unwrap_or(21) as u32;
-        if min == 0 || min > max || max > 21 {
-            return Err(DigitOptionsError::SignificantDigits);
-        }
-        Ok(SignificantDigits { min, max })
-    }
-
-    fn both(&self, defaults: &DigitDefaults) -> Result<BothDigits, DigitOptionsError>
-        ensures { MatchResult result
-            (λ b. (both_error self.now ≡ None) × IsBoth b (fraction_of self.now defaults.now) (significant_of self.now))
-            (λ e. both_error self.now ≡ Some e) }
-    {
-        let significant = self.significant()?;
-        let fraction = self.fraction(defaults)?;
-        Ok(BothDigits {
-            fraction,
-            significant,
-            minimum: Minimum::Chosen,
-        })
-    }
-
-    /// Returns the precision without an increment.
-    fn precision(&self, defaults: &DigitDefaults) -> Result<Precision, DigitOptionsError>
-        ensures { MatchResult result
-            (λ p. (precision_error_of self.now (kind_of self.now defaults.now) ≡ None)
-            × IsOfKind (kind_of self.now defaults.now) (fraction_of self.now defaults.now)
-            (significant_of self.now) 1 p)
-            (λ e. precision_error_of self.now (kind_of self.now defaults.now) ≡ Some e) }
-    {
-        match self.rounding_priority {
-            RoundingPriority::MorePrecision => Ok(Precision::MorePrecision(self.both(defaults)?)),
-            RoundingPriority::LessPrecision => Ok(Precision::LessPrecision(self.both(defaults)?)),
-            RoundingPriority::Auto => self.precision_by_counts(defaults),
-        }
-    }
-
-    fn precision_by_counts(&self, defaults: &DigitDefaults) -> Result<Precision, DigitOptionsError>
-        ensures { MatchResult result
-            (λ p. (precision_error_of self.now (kind_by RoundingPriority.Auto self.now defaults.now) ≡ None)
-            × IsOfKind (kind_by RoundingPriority.Auto self.now defaults.now) (fraction_of self.now defaults.now)
-            (significant_of self.now) 1 p)
-            (λ e. precision_error_of self.now (kind_by RoundingPriority.Auto self.now defaults.now) ≡ Some e) }
-    {
-        if self.minimum_significant_digits.is_some() || self.maximum_significant_digits.is_some() {
-            return Ok(Precision::Significant(self.significant()?));
-        }
-        let has_fraction = self.minimum_fraction_digits.is_some()
-            || self.maximum_fraction_digits.is_some();
-        if defaults.is_compact && !has_fraction {
-            return Ok(Precision::MorePrecision(BothDigits {
-                fraction: FractionDigits { min: 0, max: 0 },
-                significant: SignificantDigits { min: 1, max: 2 },
-                minimum: Minimum::Chosen,
+        let digits = both.fraction;
+        if self.rounding_increment != 1 {
+            if !self.is_fraction(defaults) {
+                return Err(DigitOptionsError::IncrementPrecision);
+            }
+            if digits.min != digits.max {
+                return Err(DigitOptionsError::IncrementDigits);
+            }
+            return Ok(Precision::Multiples(FractionMultiples {
+                digits: digits.max,
+                increment,
             }));
         }
-        Ok(Precision::Fraction(self.fraction(defaults)?))
+        Ok(match self.rounding_priority {
+            RoundingPriority::MorePrecision => Precision::MorePrecision(both),
+            RoundingPriority::LessPrecision => Precision::LessPrecision(both),
+            RoundingPriority::Auto if self.has_significant() => Precision::Significant(
+                both.significant,
+            ),
+            RoundingPriority::Auto if self.is_fraction(defaults) => Precision::Fraction(digits),
+            RoundingPriority::Auto => Precision::MorePrecision(both),
+        })
     }
 
     /// Returns the options that the numbers name: `SetNumberFormatDigitOptions` of ECMA-402.
@@ -191,41 +208,18 @@ impl DigitSettings {
     {
         let integer = self.integer()?;
         let increment = Increment::new(self.rounding_increment)?;
-        let precision = self.precision(defaults)?;
-        let precision = with_increment(precision, self.rounding_increment, increment)?;
+        let significant = self.significant()?;
+        let fraction = self.fraction(defaults)?;
+        let both = BothDigits {
+            fraction,
+            significant,
+            minimum: Minimum::Chosen,
+        };
         Ok(DigitOptions {
             integer,
-            precision,
+            precision: self.precision(defaults, both, increment)?,
             mode: self.rounding_mode,
             trailing_zeros: self.trailing_zeros,
         })
-    }
-}
-
-/// Adds an increment to a precision.
-fn with_increment(
-    precision: Precision,
-    number: u16,
-    increment: Increment,
-) -> Result<Precision, DigitOptionsError>
-    requires { increment_of increment ≡ number }
-    ensures { (kind : Kind) → (f s : Counts) → IsOfKind kind f s 1 precision → MatchResult result
-        (λ p. (increment_error number kind f ≡ None) × IsOfKind kind f s number p)
-        (λ e. increment_error number kind f ≡ Some e) }
-{
-    if number == 1 {
-        return Ok(precision);
-    }
-    match precision {
-        Precision::Fraction(digits) => {
-            if digits.min != digits.max {
-                return Err(DigitOptionsError::IncrementDigits);
-            }
-            Ok(Precision::Multiples(FractionMultiples {
-                digits: digits.max,
-                increment,
-            }))
-        }
-        _ => Err(DigitOptionsError::IncrementPrecision),
     }
 }

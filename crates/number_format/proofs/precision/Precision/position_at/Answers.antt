@@ -1,0 +1,14 @@
+use Rattle.std.proofs.Common.{arith, rules, w16, w32, FitsSigned}
+use Rattle.std.proofs.lemmas.Int.{ints, clamps, to_z-of_z}
+use Rattle.number_format.proofs.precision.Precision.position_at.Goals as goal
+
+pub returns-clause-position : goal.returns-clause-position
+returns-clause-position c =
+    let first_fits : FitsSigned w16 c.args.first = search rules in
+    let position_fits : FitsSigned w32 c.position.result = search rules in
+    let is = simp to_z-of_z at c.position.ensures.position in
+    let most = simp to_z-of_z at c.position.ensures.at_most in
+    let least = c.position.ensures.at_least in
+    let low = c.if-position-gt32767.false in
+    let max = c.max.ensures.value in
+    (omega (arith, ints, clamps), omega (arith, ints, clamps))
