@@ -1,8 +1,11 @@
 pub mod Tags
 pub mod SortedRows
+pub mod PrefixNumbers
 pub mod LongestRow
+pub mod Searches
 pub mod EachRow
 pub mod Unknown
 pub mod ReadableRows
 pub mod UniqueRows
 pub mod RulesTexts
+pub mod NumberedRows

@@ -16,9 +16,10 @@ mod symbols;
 mod symbols_table;
 mod tag;
 
-pub use lookup::locale;
+pub use lookup::{LocaleNumbers, locale, locale_numbers, symbols_at};
 pub use plurals::{
-    LanguageRules, PluralRuleType, PluralRulesError, plural_rules_of, plural_rules_text,
+    LanguageRules, PluralRuleType, PluralRulesError, RulesNumber, plural_rules_at,
+    plural_rules_number, plural_rules_of, plural_rules_text, rules_text_at,
 };
 pub use plurals_table::{PLURAL_RULES, PLURAL_RULES_TEXTS};
 pub use rows::{Name, Row, TableRange};
