@@ -94,7 +94,7 @@ if command -v sqlite3 > /dev/null && echo '#include <sqlite3ext.h>' | gcc -E -x 
     [[ $found == *"${call#*|}"* ]]
     judge "fixdec(${call%|*}): $found"
   done
-  for call in "'one: n =', '1'|rules: syntax at 8" "'xx', '1'|unknown locale" "'en:nominal', '1'|rules: syntax at 3" \
+  for call in "'one: n =', '1'|rules: syntax at 8" "'xx', '1'|unknown locale" "'en:nominal', '1'|rules: syntax at 0" \
     "'en', '1x'|start: syntax"; do
     found=$(sqlite3 -cmd ".load $room/fixdec" :memory: "SELECT plural(${call%|*})" 2>&1)
     [[ $found == *"${call#*|}"* ]]
