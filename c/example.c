@@ -7,7 +7,7 @@ int main(void) {
     const char *text = "1234.565", *tag = "de";
     uint8_t buffer[64];
     fd_call round = {.kind = FD_ROUND, .option = FD_HALF_EVEN, .increment = 1, .position = -2};
-    fd_forms forms = {.format_start = 0, .format_count = strlen(tag)};
+    fd_forms forms = {.format.start = 0, .format.count = strlen(tag)};
     fd_result answer = fd_convert((const uint8_t *)text, strlen(text), &forms, &round, 1, (const uint8_t *)tag,
                                   strlen(tag), buffer, sizeof buffer);
     if (answer.status != FD_OK) {

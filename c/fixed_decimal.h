@@ -4,6 +4,9 @@
  * of a value and writes the text of another one into a buffer of the caller. Nothing is kept between calls: there is no
  * handle, nothing to free and no global state, and each function may be called in any thread at any time.
  *
+ * The number of a locale or of plural rules names rows of constant tables. It is the same in all threads, and valid in
+ * this process only, since another version of the library may have other rows: do not store it.
+ *
  * Each function is proved to return; none panics, aborts, waits, prints or calls back. docs/C.md says what is proved.
  *
  * What the caller upholds:
@@ -12,7 +15,7 @@
  * - The buffer overlaps no other argument, and no other thread reads or writes it during the call; nor writes the others.
  * - malloc, realloc and free are those of one allocator, and the call is not made in a signal handler, nor in the forked
  *   child of a process with threads. Values of up to 16 digits, in texts of less than 64 bytes and lists of up to eight
- *   calls, need no memory; fd_category allocates for its rules.
+ *   calls, need no memory; fd_category and fd_category_of allocate for their rules.
  *
  * Texts need not be UTF-8 and do not end in a zero byte: neither those that are passed nor those that are written.
  *
@@ -32,7 +35,7 @@ extern "C" {
 #endif
 
 /* The version of this interface: it grows when a number, a struct or a meaning changes. */
-#define FD_VERSION 1
+#define FD_VERSION 2
 
 /* The version of the library, to be compared with FD_VERSION. */
 uint32_t fd_version(void);
@@ -49,8 +52,8 @@ typedef enum fd_status {
     FD_OVERFLOW = 7,         /* the result of call `at`, a shift or a rounding, is beyond the limits */
     FD_BUFFER_TOO_SMALL = 8, /* the text does not fit the rest of the buffer */
     FD_UNKNOWN_CALL = 9,     /* call `at` has an unknown kind, option or increment, or an operand outside the texts */
-    FD_UNKNOWN_LOCALE = 10,  /* no locale of the tag is known, or its numbering system is not */
-    FD_UNKNOWN_OPTION = 11,  /* an unknown grouping or reading */
+    FD_UNKNOWN_LOCALE = 10,  /* no locale of the tag is known, or its numbering system is not; or none has the number */
+    FD_UNKNOWN_OPTION = 11,  /* an unknown grouping, reading or type of rules */
     FD_NOT_WHOLE = 12,       /* a fraction digit is not 0 */
     FD_OUT_OF_RANGE = 13,    /* the integer type does not hold the number */
     FD_RULES_SYNTAX = 14,    /* the text cannot go on as rules at byte `at` */
@@ -134,17 +137,25 @@ typedef struct fd_call {
 enum fd_grouping { FD_GROUP_AUTO = 0, FD_GROUP_NEVER = 1, FD_GROUP_ALWAYS = 2, FD_GROUP_MIN2 = 3 };
 enum fd_reading { FD_STRICT = 0, FD_LENIENT = 1 };
 
-/* The forms in which a text is read and written. A tag is a BCP 47 tag, or the name that a shell has (de_CH.UTF-8). */
+/* The form of a text: that of a locale, by its number or its tag; with neither, the text is a decimal's own. A tag is a
+ * BCP 47 tag, or the name that a shell has (de_CH.UTF-8). */
+typedef struct fd_form {
+    uint64_t locale; /* the number of the locale, from fd_locale; 0: the locale of the tag */
+    size_t start;    /* where the tag begins in the texts; ignored with a number */
+    size_t count;    /* its number of bytes; 0: no tag */
+    uint8_t option;  /* of the text that is read an fd_reading, of the one that is written an fd_grouping */
+} fd_form;
+
+/* The forms in which a text is read and the result is written. */
 typedef struct fd_forms {
-    size_t read_start;   /* where the tag by which the text is read begins in the texts */
-    size_t read_count;   /* its number of bytes; 0: the text is a decimal's own */
-    size_t format_start; /* where the tag by which the result is written begins in the texts */
-    size_t format_count; /* its number of bytes; 0: the result is written as its own text */
-    uint8_t reading;     /* an fd_reading */
-    uint8_t grouping;    /* an fd_grouping */
+    fd_form read;
+    fd_form format;
 } fd_forms;
 
-/* Values of fd_category. */
+/* Types of plural rules: for numbers of things (2 days), and for places in an order (2nd day). */
+enum fd_rule_type { FD_CARDINAL = 0, FD_ORDINAL = 1 };
+
+/* Values of fd_category and fd_category_of. */
 enum fd_plural { FD_ZERO = 0, FD_ONE = 1, FD_TWO = 2, FD_FEW = 3, FD_MANY = 4, FD_OTHER = 5 };
 
 /* Something to point to where there are 0 bytes or calls. */
@@ -191,6 +202,19 @@ fd_unsigned fd_to_u64(const uint8_t *text, size_t count);
 /* The plural category of a decimal, an fd_plural, by rules in CLDR's syntax: "one: i = 1 and v = 0".
  * Errors: as fd_compare, FD_RULES_SYNTAX, FD_RULES_LIMIT. */
 fd_number fd_category(const uint8_t *rules, size_t rules_count, const uint8_t *text, size_t count);
+
+/* The number of the locale of a tag, for an fd_form: so the tag is not looked up each time. It is at least 1, and below
+ * 2^49. Errors: FD_UNKNOWN_LOCALE. */
+fd_unsigned fd_locale(const uint8_t *tag, size_t count);
+
+/* The number of the plural rules of a tag, of an fd_rule_type. It is at least 1, and below 2^18. A tag without rules for
+ * which fd_locale has a number has rules by which each number is FD_OTHER.
+ * Errors: FD_UNKNOWN_LOCALE, FD_UNKNOWN_OPTION. */
+fd_unsigned fd_plural_rules(const uint8_t *tag, size_t count, uint32_t type);
+
+/* As fd_category, by the rules with a number that fd_plural_rules returned.
+ * Errors: as fd_compare; FD_UNKNOWN_LOCALE if no rules have the number. */
+fd_number fd_category_of(uint64_t rules, const uint8_t *text, size_t count);
 
 #ifdef __cplusplus
 }

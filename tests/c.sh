@@ -48,7 +48,7 @@ judge $? 'the example writes 1.234,56'
 nm -D --defined-only c/out/libfixed_decimal.so | awk '{ print $3 }' | grep -v '^fd_' > "$room/others"
 [ ! -s "$room/others" ]
 judge $? 'the shared library exports no other names'
-readelf -d c/out/libfixed_decimal.so | grep -q 'SONAME.*libfixed_decimal.so.1'
+readelf -d c/out/libfixed_decimal.so | grep -q 'SONAME.*libfixed_decimal.so.2'
 judge $? 'the shared library has a soname'
 
 # ---- Python
@@ -76,6 +76,8 @@ if command -v sqlite3 > /dev/null && echo '#include <sqlite3ext.h>' | gcc -E -x 
   row "SELECT length(fixdec('1', 'pad-end:-32768')), fixdec(250)" '32770|250'
   row "SELECT fixdec(NULL, 'trim-end') IS NULL, fixdec('1', NULL) IS NULL, plural(NULL, 1) IS NULL" '1|1|1'
   row "SELECT plural('one: i = 1 and v = 0', '1'), plural('one: i = 1 and v = 0', '1.0')" 'one|other'
+  row "SELECT plural('ru', 2), plural('en:ordinal', '22'), plural('en_GB.UTF-8:cardinal', '1.0'), plural('ja', 1)" \
+    'few|two|other|other'
   row "SELECT group_concat(x, ' ') FROM (SELECT column1 AS x FROM (VALUES ('b'), ('10'), ('9.50'), ('a'), ('-1e2'), ('9.5')) ORDER BY x COLLATE decimal_compare, x)" \
     '-1e2 9.5 9.50 10 a b'
   for call in "'1x', 'trim-end'|start: syntax" "'10', 'trim-end', 'shift:32767'|call 1: overflow" \
@@ -85,9 +87,12 @@ if command -v sqlite3 > /dev/null && echo '#include <sqlite3ext.h>' | gcc -E -x 
     [[ $found == *"${call#*|}"* ]]
     judge $? "fixdec(${call%|*}): $found"
   done
-  found=$(sqlite3 -cmd ".load $room/fixdec" :memory: "SELECT plural('one: n =', '1')" 2>&1)
-  [[ $found == *'rules: syntax at 8'* ]]
-  judge $? "plural('one: n =', '1'): $found"
+  for call in "'one: n =', '1'|rules: syntax at 8" "'xx', '1'|unknown locale" "'en:nominal', '1'|rules: syntax at 0" \
+    "'en', '1x'|start: syntax"; do
+    found=$(sqlite3 -cmd ".load $room/fixdec" :memory: "SELECT plural(${call%|*})" 2>&1)
+    [[ $found == *"${call#*|}"* ]]
+    judge $? "plural(${call%|*}): $found"
+  done
 else
   missing 'sqlite3 and its headers'
 fi

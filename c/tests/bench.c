@@ -52,7 +52,7 @@ int main(void) {
     static const int lengths[] = {8, 19, 100};
     uint8_t out[160];
     fd_call round = {.kind = FD_ROUND, .option = FD_HALF_EVEN, .increment = 1, .position = -2};
-    fd_forms german = {.format_count = 2};
+    fd_forms german = {.format.count = 2}, numbered = {.format.locale = fd_locale((const uint8_t *)"de", 2).value};
     static const fd_forms own_text;
     for (size_t l = 0; l < 3; l++) {
         int digits = lengths[l];
@@ -64,6 +64,8 @@ int main(void) {
              sink += fd_convert(TEXT, &own_text, &round, 1, FD_NONE(uint8_t), 0, out, 160).count;);
         TIME("fd_convert to de: parse, round, write",
              sink += fd_convert(TEXT, &german, &round, 1, (const uint8_t *)"de", 2, out, 160).count;);
+        TIME("fd_convert to the number of de: the same",
+             sink += fd_convert(TEXT, &numbered, &round, 1, FD_NONE(uint8_t), 0, out, 160).count;);
         TIME("fd_compare with itself", sink += (size_t)fd_compare(TEXT, TEXT).value;);
 #ifdef WITH_MPDEC
         mpd_context_t context;
@@ -83,8 +85,12 @@ int main(void) {
         });
 #endif
     }
+    int digits = 0;
+    static const char *const tags[] = {"en", "de-CH", "zh-Hant-HK", "hi-u-nu-deva", "de_CH.UTF-8", "ar-EG-u-nu-latn"};
+    for (size_t k = 0; k < sizeof tags / sizeof *tags; k++)
+        TIME(tags[k], sink += fd_locale((const uint8_t *)tags[k], strlen(tags[k])).value;);
     /* A column of all texts of 8 digits. */
-    int digits = 8;
+    digits = 8;
     make(digits);
     static uint8_t lines[TEXTS * 16], output[TEXTS * 16];
     size_t count = 0;

@@ -32,7 +32,7 @@ void __wrap_free(void *p) {
 
 static char digits[201], lines[450];
 static uint8_t buffer[ROOM], before[ROOM];
-static const fd_forms own_text, german = {.read_count = 2, .format_count = 2};
+static const fd_forms own_text, german = {.read.count = 2, .format.count = 2};
 static fd_call calls[9];
 
 static uint32_t run(void) {
@@ -47,6 +47,9 @@ static uint32_t compare(void) {
 static uint32_t category(void) {
     return fd_category(BYTES("one: i = 1 and v = 0 or n % 10 = 3..4,7; few: i = 2"), BYTES("1")).status;
 }
+static uint32_t category_by_number(void) {
+    return fd_category_of(fd_plural_rules(BYTES("ru"), FD_CARDINAL).value, BYTES("2")).status;
+}
 /* The lines before the one that is out of memory are whole; here the output is the input. */
 static uint32_t column(void) {
     fd_column c = fd_lines(BYTES(lines), 1, &own_text, calls, 1, BYTES("5"), buffer, ROOM);
@@ -60,6 +63,10 @@ static uint32_t short_run(void) {
 }
 static uint32_t short_convert(void) {
     return fd_convert(BYTES("1.234,5"), &german, calls + 1, 8, BYTES("de"), buffer, ROOM).status;
+}
+static uint32_t short_numbered(void) {
+    fd_forms numbered = {.format.locale = fd_locale(BYTES("hi-u-nu-deva")).value};
+    return fd_convert(BYTES("1234.5"), &numbered, calls + 1, 8, BYTES(""), buffer, ROOM).status;
 }
 static uint32_t short_column(void) {
     fd_column c = fd_lines(BYTES("1\n22.5\nx\n"), 1, &own_text, calls + 1, 8, BYTES("5"), buffer, ROOM);
@@ -77,8 +84,9 @@ int main(void) {
         uint32_t (*job)(void);
         int allocates;
     } jobs[] = {{"fd_run", run, 1}, {"fd_convert", convert, 1}, {"fd_compare", compare, 1},
-                {"fd_category", category, 1}, {"fd_lines", column, 1}, {"fd_run, short", short_run, 0},
-                {"fd_convert, short", short_convert, 0}, {"fd_lines, short", short_column, 0}};
+                {"fd_category", category, 1}, {"fd_category_of", category_by_number, 1}, {"fd_lines", column, 1}, {"fd_run, short", short_run, 0},
+                {"fd_convert, short", short_convert, 0},
+                {"fd_convert, number", short_numbered, 0}, {"fd_lines, short", short_column, 0}};
     int bad = 0;
     for (size_t j = 0; j < sizeof jobs / sizeof *jobs; j++) {
         long n = 0;

@@ -146,35 +146,49 @@ static void test_long_texts(void) {
     }
 }
 
+/* The form by the number of its locale instead of the tag. */
+static fd_form by_number(fd_form form, const char *texts) {
+    if (!form.count) return form;
+    fd_unsigned locale = fd_locale((const uint8_t *)texts + form.start, form.count);
+    CHECK(locale.status == FD_OK && locale.at == 0 && locale.value > 0 && locale.value < 1ull << 49);
+    return (fd_form){.locale = locale.value, .start = SIZE_MAX, .count = 1, .option = form.option};
+}
+
 static void test_locales(void) {
     static const struct {
         const char *text, *texts, *result;
         fd_forms forms;
     } rows[] = {
-        {"-1234567.50", "de-CH", "-1'234'567.50", {.format_count = 5}},
-        {"1234567.5", "en-IN", "12,34,567.5", {.format_count = 5}},
-        {"1234567.5", "en", "1234567.5", {.format_count = 2, .grouping = FD_GROUP_NEVER}},
-        {"1234.5", "..de", "1.234,5", {.format_start = 2, .format_count = 2}},
-        {"1.234,565", "de", "1234.565", {.read_count = 2}},
-        {"-1'234'567.50", "de-CH", "-1234567.50", {.read_count = 5, .reading = FD_LENIENT}},
-        {"1.234,5", "deen-IN", "1,234.5", {.read_count = 2, .format_start = 2, .format_count = 5}},
+        {"-1234567.50", "de-CH", "-1'234'567.50", {.format.count = 5}},
+        {"1234567.5", "en-IN", "12,34,567.5", {.format.count = 5}},
+        {"1234567.5", "hi-u-nu-deva", "\u0967\u0968,\u0969\u096a,\u096b\u096c\u096d.\u096b", {.format.count = 12}},
+        {"-1234.5", "ar-EG-u-nu-latn", "\u200e-1,234.5", {.format.count = 15}},
+        {"1234567.5", "en", "1234567.5", {.format.count = 2, .format.option = FD_GROUP_NEVER}},
+        {"1234.5", "..de", "1.234,5", {.format.start = 2, .format.count = 2}},
+        {"1.234,565", "de", "1234.565", {.read.count = 2}},
+        {"-1'234'567.50", "de-CH", "-1234567.50", {.read.count = 5, .read.option = FD_LENIENT}},
+        {"1.234,5", "deen-IN", "1,234.5", {.read.count = 2, .format.start = 2, .format.count = 5}},
     };
-    for (size_t i = 0; i < sizeof rows / sizeof *rows; i++)
-        at_all_sizes(rows[i].text, &rows[i].forms, FD_NONE(fd_call), 0, rows[i].texts, rows[i].result);
+    for (size_t i = 0; i < sizeof rows / sizeof *rows; i++) {
+        const char *texts = rows[i].texts;
+        fd_forms numbered = {by_number(rows[i].forms.read, texts), by_number(rows[i].forms.format, texts)};
+        at_all_sizes(rows[i].text, &rows[i].forms, FD_NONE(fd_call), 0, texts, rows[i].result);
+        at_all_sizes(rows[i].text, &numbered, FD_NONE(fd_call), 0, "", rows[i].result);
+    }
     static const struct {
         const char *text, *texts;
         fd_forms forms;
         uint32_t status;
     } errors[] = {
-        {"1", "tlh", {.format_count = 3}, FD_UNKNOWN_LOCALE},
-        {"1", "tlh", {.read_count = 3}, FD_UNKNOWN_LOCALE},
-        {"1", "\xff", {.format_count = 1}, FD_UNKNOWN_LOCALE},
-        {"1", "de", {.format_start = 1, .format_count = 2}, FD_UNKNOWN_LOCALE},
-        {"1", "de", {.format_count = 2, .grouping = 4}, FD_UNKNOWN_OPTION},
-        {"1", "de", {.read_count = 2, .reading = 2}, FD_UNKNOWN_OPTION},
-        {"1,23", "en", {.read_count = 2}, FD_SYNTAX},
-        {"\xff", "en", {.read_count = 2, .reading = FD_LENIENT}, FD_SYNTAX},
-        {"1,5", "de", {.format_count = 2}, FD_SYNTAX},
+        {"1", "tlh", {.format.count = 3}, FD_UNKNOWN_LOCALE},
+        {"1", "tlh", {.read.count = 3}, FD_UNKNOWN_LOCALE},
+        {"1", "\xff", {.format.count = 1}, FD_UNKNOWN_LOCALE},
+        {"1", "de", {.format.start = 1, .format.count = 2}, FD_UNKNOWN_LOCALE},
+        {"1", "de", {.format.count = 2, .format.option = 4}, FD_UNKNOWN_OPTION},
+        {"1", "de", {.read.count = 2, .read.option = 2}, FD_UNKNOWN_OPTION},
+        {"1,23", "en", {.read.count = 2}, FD_SYNTAX},
+        {"\xff", "en", {.read.count = 2, .read.option = FD_LENIENT}, FD_SYNTAX},
+        {"1,5", "de", {.format.count = 2}, FD_SYNTAX},
     };
     for (size_t i = 0; i < sizeof errors / sizeof *errors; i++) {
         uint8_t b[32];
@@ -182,6 +196,57 @@ static void test_locales(void) {
         fd_result r = convert(errors[i].text, &errors[i].forms, FD_NONE(fd_call), 0, errors[i].texts, b, 32);
         CHECK(r.status == errors[i].status && r.count == 0 && all(b, 32, 0x3C));
     }
+}
+
+/* A number that is none: of no locale, of no numbering system, of no row of the system, and beyond all. */
+static void test_other_numbers(void) {
+    uint64_t german = fd_locale(B("de")).value;
+    static const uint64_t others[] = {UINT64_MAX, 1ull << 49, 65536, 1 + (65535ull << 16), 1 + (65536ull << 32),
+                                      (65537ull << 32) + 1, 1ull << 63};
+    for (size_t i = 0; i < sizeof others / sizeof *others; i++) {
+        uint8_t b[32];
+        memset(b, 0x3C, 32);
+        fd_forms forms = {.format.locale = others[i], .format.count = 2};
+        fd_result r = convert("1", &forms, FD_NONE(fd_call), 0, "de", b, 32);
+        CHECK(r.status == FD_UNKNOWN_LOCALE && r.at == 0 && r.count == 0 && all(b, 32, 0x3C));
+        forms = (fd_forms){.read.locale = others[i], .format.locale = german};
+        fd_column c = fd_lines(B("1\n"), 1, &forms, FD_NONE(fd_call), 0, B("de"), b, 32);
+        CHECK(c.status == FD_UNKNOWN_LOCALE && c.lines == 0 && c.written == 0 && all(b, 32, 0x3C));
+        fd_number n = fd_category_of(others[i], B("1"));
+        CHECK(n.status == FD_UNKNOWN_LOCALE && n.at == 0 && n.value == 0);
+    }
+    CHECK(fd_category_of(0, B("1")).status == FD_UNKNOWN_LOCALE);
+    CHECK(fd_category_of(131075, B("1")).status == FD_UNKNOWN_LOCALE);
+    CHECK(fd_locale(B("tlh")).status == FD_UNKNOWN_LOCALE && fd_locale(B("tlh")).value == 0);
+    CHECK(fd_locale(FD_NONE(uint8_t), 0).status == FD_UNKNOWN_LOCALE);
+    CHECK(fd_locale(B("\xff")).status == FD_UNKNOWN_LOCALE);
+    CHECK(fd_locale(B("de-u-nu-zzzz")).status == FD_UNKNOWN_LOCALE);
+    CHECK(fd_locale(B("de_DE.UTF-8")).value == german && fd_locale(B("de-CH")).value != german);
+}
+
+/* Categories by CLDR 48. */
+static void test_plural_rules(void) {
+    static const struct {
+        const char *tag, *text;
+        uint32_t type, category;
+    } rows[] = {
+        {"en", "1", FD_CARDINAL, FD_ONE},      {"en", "1.0", FD_CARDINAL, FD_OTHER}, {"en", "22", FD_ORDINAL, FD_TWO},
+        {"ru", "2", FD_CARDINAL, FD_FEW},      {"ru-RU", "5", FD_CARDINAL, FD_MANY}, {"ar", "0", FD_CARDINAL, FD_ZERO},
+        {"en_GB.UTF-8", "3", FD_ORDINAL, FD_FEW}, {"pl", "5", FD_CARDINAL, FD_MANY}, {"ja", "1", FD_CARDINAL, FD_OTHER},
+        {"tl", "4", FD_CARDINAL, FD_OTHER},    {"agq", "1", FD_CARDINAL, FD_OTHER},
+    };
+    for (size_t i = 0; i < sizeof rows / sizeof *rows; i++) {
+        fd_unsigned rules = fd_plural_rules(BYTES(rows[i].tag), rows[i].type);
+        CHECK(rules.status == FD_OK && rules.at == 0 && rules.value > 0 && rules.value < 1u << 18);
+        fd_number n = fd_category_of(rules.value, BYTES(rows[i].text));
+        CHECK(n.status == FD_OK && n.at == 0 && n.value == rows[i].category);
+    }
+    CHECK(fd_plural_rules(B("xx"), FD_CARDINAL).status == FD_UNKNOWN_LOCALE);
+    CHECK(fd_plural_rules(B("\xff"), FD_ORDINAL).status == FD_UNKNOWN_LOCALE);
+    CHECK(fd_plural_rules(B("en"), 2).status == FD_UNKNOWN_OPTION && fd_plural_rules(B("en"), 2).value == 0);
+    uint64_t english = fd_plural_rules(B("en"), FD_CARDINAL).value;
+    CHECK(fd_category_of(english, B("1x")).status == FD_SYNTAX);
+    CHECK(fd_category_of(english, B("1e32768")).status == FD_LIMIT);
 }
 
 /* The column at each capacity: the lines that fit, and from where to go on. */
@@ -206,7 +271,7 @@ static void test_lines(void) {
     fd_column c = fd_lines(B("1\n2\n1e32768\n3"), 0, &own_text, &shift, 1, FD_NONE(uint8_t), 0, b, 64);
     CHECK(c.status == FD_LIMIT && c.lines == 2 && c.read == 4 && c.written == 10 && c.failed == 0);
     CHECK(memcmp(b, "0.01\n0.02\n", 10) == 0 && all(b + 10, 54, 0xA5));
-    fd_forms forms = {.read_count = 2, .format_start = 2, .format_count = 5};
+    fd_forms forms = {.read.count = 2, .format.start = 2, .format.count = 5};
     c = fd_lines(B("1.234,5\n"), 0, &forms, FD_NONE(fd_call), 0, B("deen-IN"), b, 64);
     CHECK(c.status == FD_OK && c.lines == 1 && c.read == 8 && c.written == 8 && memcmp(b, "1,234.5\n", 8) == 0);
     c = fd_lines(FD_NONE(uint8_t), 0, 0, &own_text, &shift, 1, FD_NONE(uint8_t), 0, b, 0);
@@ -244,6 +309,8 @@ int main(void) {
     test_errors();
     test_long_texts();
     test_locales();
+    test_other_numbers();
+    test_plural_rules();
     test_lines();
     test_numbers();
     printf("%d checks, %d failures\n", checks, failures);

@@ -8,14 +8,17 @@ static void *work(void *arg) {
     size_t bad = 0;
     long seed = (long)(size_t)arg;
     fd_call pad = {.kind = FD_PAD_END, .position = -5};
-    fd_forms german = {.format_count = 2};
+    fd_forms by_tag = {.format.count = 2}, by_number = {.format.locale = fd_locale((const uint8_t *)"de", 2).value};
+    uint64_t rules = fd_plural_rules((const uint8_t *)"pl", 2, FD_CARDINAL).value;
     for (long i = 0; i < 50000; i++) {
         char text[40], want[40];
         uint8_t out[40];
         int n = snprintf(text, 40, "%ld.%03ld", seed * 100000 + i, i % 1000);
         int m = snprintf(want, 40, "%ld.%03ld,%03ld00", seed * 100 + i / 1000, i % 1000, i % 1000);
-        fd_result r = fd_convert((uint8_t *)text, (size_t)n, &german, &pad, 1, (const uint8_t *)"de", 2, out, 40);
+        fd_result r = fd_convert((uint8_t *)text, (size_t)n, i % 2 ? &by_tag : &by_number, &pad, 1,
+                                 (const uint8_t *)"de", 2, out, 40);
         bad += r.status != 0 || r.count != (size_t)m || memcmp(out, want, (size_t)m) != 0;
+        bad += fd_category_of(rules, (uint8_t *)text, (size_t)n).value != FD_OTHER;
     }
     return (void *)bad;
 }

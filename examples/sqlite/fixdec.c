@@ -1,4 +1,4 @@
-/* Decimals in SQLite: fixdec(text, call, ..), the collation decimal_compare, and plural(rules, text).
+/* Decimals in SQLite: fixdec(text, call, ..), the collation decimal_compare, and plural(locale or rules, text).
  *
  *   gcc -shared -fPIC -I ../../c fixdec.c ../../c/out/libfixed_decimal.a -o fixdec.so
  *   SELECT fixdec('1234.565', 'round:-2:half-even:1', 'format:de');  -- 1.234,56
@@ -46,8 +46,8 @@ static int parse(job *j, const char *word) {
         memcpy(j->texts + start, rest, count);
         j->used += count;
         if (kind == FD_CONCAT) call->text_start = start, call->text_count = count;
-        else if (kind == READ) j->forms.read_start = start, j->forms.read_count = count;
-        else j->forms.format_start = start, j->forms.format_count = count;
+        else if (kind == READ) j->forms.read.start = start, j->forms.read.count = count;
+        else j->forms.format.start = start, j->forms.format.count = count;
         return 1;
     }
     int option = kind == FD_SIGN ? index_of(signs, rest, strlen(rest)) : index_of(displays, rest, strlen(rest));
@@ -70,10 +70,14 @@ static void fail(sqlite3_context *context, uint32_t status, size_t at) {
     sqlite3_free(line);
 }
 
+static int has_null(int count, sqlite3_value **values) {
+    while (count > 0 && sqlite3_value_type(values[count - 1]) != SQLITE_NULL) count--;
+    return count > 0;
+}
+
 static void fixdec(sqlite3_context *context, int count, sqlite3_value **values) {
     job j = {.count = 0};
-    for (int i = 0; i < count; i++)
-        if (sqlite3_value_type(values[i]) == SQLITE_NULL) return;
+    if (has_null(count, values)) return;
     for (int i = 1; i < count; i++)
         if (!parse(&j, (const char *)sqlite3_value_text(values[i]))) return sqlite3_result_error(context, "no such call", -1);
     uint8_t buffer[128], *out = buffer;
@@ -88,11 +92,20 @@ static void fixdec(sqlite3_context *context, int count, sqlite3_value **values) 
     if (out != buffer) sqlite3_free(out);
 }
 
+/* By a locale, as pl or en:ordinal, or by rules in CLDR's syntax. */
+static fd_number category(const char *word, size_t size, const uint8_t *text, size_t count) {
+    static const char *const types[] = {"", ":cardinal", ":ordinal", NULL};
+    size_t tag = strspn(word, "abcdefghijklmnopqrstuvwxyzABCDEFGHIJKLMNOPQRSTUVWXYZ0123456789-_.@");
+    int type = index_of(types, word + tag, size - tag);
+    if (!tag || strchr("0123456789-_.@", *word) || type < 0) return fd_category((const uint8_t *)word, size, text, count);
+    fd_unsigned rules = fd_plural_rules((const uint8_t *)word, tag, type == 2 ? FD_ORDINAL : FD_CARDINAL);
+    return rules.status ? (fd_number){rules.status, rules.at, 0} : fd_category_of(rules.value, text, count);
+}
+
 static void plural(sqlite3_context *context, int count, sqlite3_value **values) {
     static const char *const names[] = {"zero", "one", "two", "few", "many", "other"};
-    for (int i = 0; i < count; i++)
-        if (sqlite3_value_type(values[i]) == SQLITE_NULL) return;
-    fd_number answer = fd_category(BYTES(values[0]), BYTES(values[1]));
+    if (has_null(count, values)) return;
+    fd_number answer = category((const char *)BYTES(values[0]), BYTES(values[1]));
     if (answer.status == FD_OK) sqlite3_result_text(context, names[answer.value], -1, SQLITE_STATIC);
     else fail(context, answer.status, answer.at);
 }

@@ -170,19 +170,28 @@ static int position_of(PyObject *value, int16_t *position) {
     return 1;
 }
 
-static PyObject *decimal_round(Decimal *self, PyObject *const *arguments, Py_ssize_t count, PyObject *names) {
-    static const char *const words[] = {"position", "mode", "increment"};
-    PyObject *values[3] = {NULL, NULL, NULL};
-    if (count > 3) return PyErr_Format(PyExc_TypeError, "round() takes a position, a mode and an increment");
+/* The arguments of a method by their names; 0 with TypeError. */
+static int bind(const char *method, const char *const *names, PyObject *const *arguments, Py_ssize_t count,
+                PyObject *keywords, PyObject **values) {
+    Py_ssize_t most = 0;
+    while (names[most]) most++;
+    if (count > most) return PyErr_Format(PyExc_TypeError, "%s() takes at most %zd arguments", method, most), 0;
     for (Py_ssize_t i = 0; i < count; i++) values[i] = arguments[i];
-    for (Py_ssize_t i = 0; names && i < PyTuple_GET_SIZE(names); i++) {
-        int at = 0;
-        while (at < 3 && PyUnicode_CompareWithASCIIString(PyTuple_GET_ITEM(names, i), words[at])) at++;
-        if (at == 3 || values[at]) return PyErr_Format(PyExc_TypeError, "round() has no such argument");
+    for (Py_ssize_t i = 0; keywords && i < PyTuple_GET_SIZE(keywords); i++) {
+        Py_ssize_t at = 0;
+        while (at < most && PyUnicode_CompareWithASCIIString(PyTuple_GET_ITEM(keywords, i), names[at])) at++;
+        if (at == most || values[at]) return PyErr_Format(PyExc_TypeError, "%s() has no such argument", method), 0;
         values[at] = arguments[count + i];
     }
+    if (!values[0]) return PyErr_Format(PyExc_TypeError, "%s() takes a %s", method, names[0]), 0;
+    return 1;
+}
+
+static PyObject *decimal_round(Decimal *self, PyObject *const *arguments, Py_ssize_t count, PyObject *keywords) {
+    static const char *const names[] = {"position", "mode", "increment", NULL};
+    PyObject *values[3] = {NULL, NULL, NULL};
+    if (!bind("round", names, arguments, count, keywords, values)) return NULL;
     fd_call call = {.kind = FD_ROUND, .option = FD_HALF_EVEN, .increment = 1};
-    if (!values[0]) return PyErr_Format(PyExc_TypeError, "round() takes a position");
     if (!position_of(values[0], &call.position)) return NULL;
     if (values[1]) {
         const char *word = PyUnicode_AsUTF8(values[1]);
@@ -231,20 +240,37 @@ static PyObject *decimal_sign(Decimal *self, PyObject *value) {
     return display < 0 ? NULL : run(BYTES(self), &call, 1);
 }
 
-static PyObject *decimal_format(Decimal *self, PyObject *arguments, PyObject *keywords) {
-    static char *names[] = {"locale", "grouping", NULL};
-    const char *tag, *word = "auto";
-    Py_ssize_t tag_count;
-    if (!PyArg_ParseTupleAndKeywords(arguments, keywords, "s#|s:format", names, &tag, &tag_count, &word)) return NULL;
-    int grouping = index_of(groupings, word, "grouping");
-    if (grouping < 0) return NULL;
-    if (tag_count == 0) return fail(FD_UNKNOWN_LOCALE, 0);
-    fd_forms forms = {.format_count = (size_t)tag_count, .grouping = (uint8_t)grouping};
+/* The number of the locale of a tag; 0 with an error. That of the last tag is kept. */
+static uint64_t locale_of(PyObject *tag) {
+    static PyObject *last;
+    static uint64_t number;
+    if (tag == last) return number;
+    Py_ssize_t count;
+    const char *bytes = PyUnicode_AsUTF8AndSize(tag, &count);
+    if (!bytes) return 0;
+    fd_unsigned answer = fd_locale((const uint8_t *)bytes, (size_t)count);
+    if (answer.status != FD_OK) return fail(answer.status, answer.at), 0;
+    number = answer.value;
+    Py_XSETREF(last, Py_NewRef(tag));
+    return number;
+}
+
+static PyObject *decimal_format(Decimal *self, PyObject *const *arguments, Py_ssize_t count, PyObject *keywords) {
+    static const char *const names[] = {"locale", "grouping", NULL};
+    PyObject *values[2] = {NULL, NULL};
+    if (!bind("format", names, arguments, count, keywords, values)) return NULL;
+    fd_forms forms = {.format.option = FD_GROUP_AUTO};
+    if (values[1]) {
+        const char *word = PyUnicode_AsUTF8(values[1]);
+        int grouping = word ? index_of(groupings, word, "grouping") : -1;
+        if (grouping < 0) return NULL;
+        forms.format.option = (uint8_t)grouping;
+    }
+    if (!(forms.format.locale = locale_of(values[0]))) return NULL;
     uint8_t buffer[ROOM], *bytes = buffer;
     size_t room = ROOM;
     for (;;) {
-        fd_result answer = fd_convert(BYTES(self), &forms, FD_NONE(fd_call), 0, (const uint8_t *)tag,
-                                      (size_t)tag_count, bytes, room);
+        fd_result answer = fd_convert(BYTES(self), &forms, FD_NONE(fd_call), 0, FD_NONE(uint8_t), 0, bytes, room);
         PyObject *made = NULL;
         if (answer.status == FD_BUFFER_TOO_SMALL && bytes == buffer) {
             room = answer.count;
@@ -259,11 +285,33 @@ static PyObject *decimal_format(Decimal *self, PyObject *arguments, PyObject *ke
     }
 }
 
+/* The type of rules after a tag, of which count becomes the number of bytes; -1: the word is no tag, so it is rules. */
+static int rule_type_of(const char *word, size_t *count) {
+    static const char form[] = "abcdefghijklmnopqrstuvwxyzABCDEFGHIJKLMNOPQRSTUVWXYZ0123456789-_.@";
+    size_t whole = *count, tag = 0;
+    while (tag < whole && memchr(form, word[tag], sizeof form - 1)) tag++;
+    if (tag == 0 || !Py_ISALPHA(word[0])) return -1;
+    *count = tag;
+    if (tag == whole) return FD_CARDINAL;
+    if (whole - tag == 9 && memcmp(word + tag, ":cardinal", 9) == 0) return FD_CARDINAL;
+    return whole - tag == 8 && memcmp(word + tag, ":ordinal", 8) == 0 ? FD_ORDINAL : -1;
+}
+
+/* By a locale, as `pl` or `en:ordinal`, or by rules in CLDR's syntax. */
 static PyObject *decimal_plural(Decimal *self, PyObject *value) {
-    Py_ssize_t count;
-    const char *rules = PyUnicode_AsUTF8AndSize(value, &count);
-    if (!rules) return NULL;
-    fd_number answer = fd_category((const uint8_t *)rules, (size_t)count, BYTES(self));
+    Py_ssize_t size;
+    const char *word = PyUnicode_AsUTF8AndSize(value, &size);
+    if (!word) return NULL;
+    size_t count = (size_t)size;
+    int type = rule_type_of(word, &count);
+    fd_number answer;
+    if (type < 0) {
+        answer = fd_category((const uint8_t *)word, (size_t)size, BYTES(self));
+    } else {
+        fd_unsigned rules = fd_plural_rules((const uint8_t *)word, count, (uint32_t)type);
+        if (rules.status != FD_OK) return fail(rules.status, rules.at);
+        answer = fd_category_of(rules.value, BYTES(self));
+    }
     return answer.status == FD_OK ? PyUnicode_FromString(categories[answer.value]) : fail(answer.status, answer.at);
 }
 
@@ -345,8 +393,8 @@ static PyObject *native_column(PyObject *module, PyObject *arguments) {
     if (!PyArg_ParseTuple(arguments, "O!y#y#nn", &PyList_Type, &list, &calls, &calls_size, &texts, &texts_size,
                           &read_count, &format_count))
         return NULL;
-    fd_forms forms = {.read_count = (size_t)read_count, .format_start = (size_t)read_count,
-                      .format_count = (size_t)format_count};
+    fd_forms forms = {.read.count = (size_t)read_count, .format.start = (size_t)read_count,
+                      .format.count = (size_t)format_count};
     Py_ssize_t lines = PyList_GET_SIZE(list), total = 0, count;
     for (Py_ssize_t i = 0; i < lines; i++) {
         if (!PyUnicode_AsUTF8AndSize(PyList_GET_ITEM(list, i), &count)) return NULL;
@@ -388,9 +436,9 @@ static PyMethodDef decimal_methods[] = {
      "Shows zeros below the position start, and down to the position end."},
     {"sign", (PyCFunction)decimal_sign, METH_O, "Sets the sign that a display shows."},
     {"compare", (PyCFunction)decimal_compare, METH_O, "Returns the order of two numbers: -1, 0 or 1."},
-    {"format", (PyCFunction)(void (*)(void))decimal_format, METH_VARARGS | METH_KEYWORDS,
+    {"format", (PyCFunction)(void (*)(void))decimal_format, METH_FASTCALL | METH_KEYWORDS,
      "Returns the text in the form of a locale."},
-    {"plural", (PyCFunction)decimal_plural, METH_O, "Returns the plural category by rules in CLDR's syntax."},
+    {"plural", (PyCFunction)decimal_plural, METH_O, "Returns the plural category by a locale, or by rules in CLDR's syntax."},
     {"__format__", (PyCFunction)decimal_dunder_format, METH_O, "Formats as decimal.Decimal does."},
     {"__reduce__", (PyCFunction)decimal_reduce, METH_NOARGS, NULL},
     {NULL, NULL, 0, NULL}};

@@ -92,6 +92,9 @@ def test_class():
         (Decimal("1234567.5").format("en-IN"), "12,34,567.5"), (Decimal("1234.5").format("de"), "1.234,5"),
         (Decimal("1234.5").format("de", grouping="never"), "1234,5"), (Decimal("1234").format("hi-u-nu-deva"), "१,२३४"),
         (Decimal("1").plural("one: i = 1 and v = 0"), "one"), (Decimal("1.0").plural("one: i = 1 and v = 0"), "other"),
+        (Decimal("2").plural("ru"), "few"), (Decimal("22").plural("en:ordinal"), "two"), (Decimal("1").plural("ja"), "other"),
+        (Decimal("1.0").plural("en_GB.UTF-8:cardinal"), "other"), (Decimal("1").plural("other:"), "other"),
+        (Decimal("1234.5").format(locale="de"), "1.234,5"), (Decimal("1234.5").format("de-" + "CH"), "1'234.5"),
         (len(str(Decimal("1").pad(end=-32768))), 32770), (len(Decimal("1" * 300).format("de")), 399),
         (pickle.loads(pickle.dumps(Decimal("1.50"))), Decimal("1.50")), (f"{Decimal('1234.565'):,.2f}", "1,234.56"),
         (len({Decimal("1.0"), Decimal("1"), Decimal("1.0")}), 2), (Decimal("1.0") == 1, False),
@@ -117,6 +120,13 @@ def test_class():
     raises(DecimalError, lambda: Decimal("10").shift(32767), "overflow")
     raises(DecimalError, lambda: Decimal("1").round(0, increment=3), "unknown call")
     raises(DecimalError, lambda: Decimal("1").plural("n ="), "rules syntax")
+    raises(DecimalError, lambda: Decimal("1").plural("xx"), "unknown locale")
+    raises(DecimalError, lambda: Decimal("1").plural("tlh:ordinal"), "unknown locale")
+    raises(DecimalError, lambda: Decimal("1").plural("en:nominal"), "rules syntax")
+    raises(DecimalError, lambda: Decimal("1").plural("en\0"), "rules syntax")
+    raises(TypeError, lambda: Decimal("1").format())
+    raises(TypeError, lambda: Decimal("1").format("de", locale="de"))
+    raises(TypeError, lambda: Decimal("1").format(1))
 
 
 def test_column(cases):

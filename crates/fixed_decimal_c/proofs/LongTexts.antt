@@ -1,5 +1,5 @@
 -- The length of a text that a full block holds a prefix of.
-use Rattle.std.proofs.Common.{◌≡◌, ℕ, ◌≤◌, List, [], ◌++◌, length, Some, length-append, arith, ap}
+use Rattle.std.proofs.Common.{◌≡◌, ℕ, ◌≤◌, List, [], length, Some, length-append, arith, ap}
 use Rattle.decimal_digits.specs.AppendsPrefix.{AppendsPrefix}
 
 pub long_text : (bytes text : List ℕ) → length bytes ≡ 64 → AppendsPrefix (Some []) (Some bytes) text

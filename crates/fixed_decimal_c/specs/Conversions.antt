@@ -17,17 +17,17 @@ use Rattle.fixed_decimal_c.specs.declared.error.FdError.TheVariants.{BufferTooSm
 use Rattle.fixed_decimal_c.specs.declared.forms.FdForms.{FdForms}
 use Rattle.fixed_decimal_c.specs.Calls.{AreCalls, DecodeFails}
 use Rattle.fixed_decimal_c.specs.Errors.{error_of_parsing, error_of_run}
-use Rattle.fixed_decimal_c.specs.Forms.{IsReaderOf, ReaderFails, IsFormatterOf, FormatterFails}
+use Rattle.fixed_decimal_c.specs.Forms.{reading_code, grouping_code, IsReaderOf, IsFormatterOf, FormFails}
 use Rattle.fixed_decimal_c.specs.Texts.{IsWritten, IsTooLong, IsLongText}
 
 -- the forms that C passes
 pub record AreForms (forms : FdForms) (texts : List ℕ) (f : Forms) : Type 0 where
-  pub reader : IsReaderOf forms texts f.reader
-  pub formatter : IsFormatterOf forms texts f.formatter
+  pub reader : IsReaderOf forms.read texts f.reader
+  pub formatter : IsFormatterOf forms.format texts f.formatter
 
 -- there are no such forms
 abbrev pub FormsFail : FdError → FdForms → List ℕ → Type 0
-FormsFail error forms texts = ReaderFails error forms texts ⊎ FormatterFails error forms texts
+FormsFail error forms texts = FormFails reading_code error forms.read texts ⊎ FormFails grouping_code error forms.format texts
 
 -- a text that is read, changed by the calls and formatted has this result
 pub record IsConverted (f : Forms) (calls : List Call) (text : List ℕ) (result : Result (List ℕ) OutcomeError) : Type 0

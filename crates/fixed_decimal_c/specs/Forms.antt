@@ -1,5 +1,5 @@
 -- The forms in which a text is read and written.
-use Rattle.std.specs.Prelude.{◌≡◌, ◌≢◌, ℕ, List, Option, Some, None}
+use Rattle.std.specs.Prelude.{◌≡◌, ◌≢◌, ℕ, ◌⊎◌, List, Option, Some, None}
 use Rattle.std.specs.Str.{IsUtf8}
 use Rattle.decimal_format.specs.Symbols.{Symbols}
 use Rattle.decimal_format.specs.Formatted.{Formatter}
@@ -11,8 +11,9 @@ use Rattle.cli.specs.declared.reader.ParseMode.{ParseMode}
 use Rattle.cli.specs.declared.reader.ParseMode.TheVariants.{Strict, Lenient}
 use Rattle.fixed_decimal_c.specs.declared.error.FdError.{FdError}
 use Rattle.fixed_decimal_c.specs.declared.error.FdError.TheVariants.{UnknownLocale, UnknownOption}
-use Rattle.fixed_decimal_c.specs.declared.forms.FdForms.{FdForms}
+use Rattle.fixed_decimal_c.specs.declared.forms.FdForm.{FdForm}
 use Rattle.fixed_decimal_c.specs.Calls.{IsPart}
+use Rattle.fixed_decimal_c.specs.Locales.{symbols_of_number}
 
 abbrev pub grouping_code : GroupingStrategy → ℕ
 grouping_code Auto = 0
@@ -32,32 +33,34 @@ IsLocaleAt texts start count s = (tag : List ℕ) × IsPart texts start count ta
 abbrev pub HasNoLocale : List ℕ → ℕ → ℕ → Type 0
 HasNoLocale texts start count = (tag : List ℕ) → IsPart texts start count tag → IsUtf8 tag → IsUnknown tag
 
--- the reader by the symbols of the tag and in the mode; no tag, no reader
-abbrev pub IsReaderOf : FdForms → List ℕ → Option DecimalReader → Type 0
-IsReaderOf forms texts None = forms.read_count ≡ 0
-IsReaderOf forms texts (Some reader) =
-    (forms.read_count ≢ 0) × IsLocaleAt texts forms.read_start forms.read_count reader.symbols
-    × (forms.reading ≡ reading_code reader.mode)
+-- the symbols of a form: of the locale with its number, or with its tag, or none
+abbrev pub AreSymbolsOf : FdForm → List ℕ → Option Symbols → Type 0
+AreSymbolsOf form texts None = (form.locale ≡ 0) × (form.count ≡ 0)
+AreSymbolsOf form texts (Some s) =
+    ((form.locale ≢ 0) × (symbols_of_number form.locale ≡ Some s))
+    ⊎ ((form.locale ≡ 0) × (form.count ≢ 0) × IsLocaleAt texts form.start form.count s)
 
--- there is no such reader
-abbrev pub ReaderFails : FdError → FdForms → List ℕ → Type 0
-ReaderFails UnknownLocale forms texts =
-    (forms.read_count ≢ 0) × HasNoLocale texts forms.read_start forms.read_count
-ReaderFails UnknownOption forms texts =
-    (forms.read_count ≢ 0) × ((mode : ParseMode) → forms.reading ≡ reading_code mode → ⊥)
-ReaderFails error forms texts = ⊥
+-- the locale of a form is unknown
+abbrev pub HasNoSymbols : FdForm → List ℕ → Type 0
+HasNoSymbols form texts =
+    ((form.locale ≢ 0) × (symbols_of_number form.locale ≡ None))
+    ⊎ ((form.locale ≡ 0) × (form.count ≢ 0) × HasNoLocale texts form.start form.count)
 
--- the formatter by the symbols of the tag and the strategy; no tag, no formatter
-abbrev pub IsFormatterOf : FdForms → List ℕ → Option Formatter → Type 0
-IsFormatterOf forms texts None = forms.format_count ≡ 0
-IsFormatterOf forms texts (Some formatter) =
-    (forms.format_count ≢ 0) × IsLocaleAt texts forms.format_start forms.format_count formatter.symbols
-    × (forms.grouping ≡ grouping_code formatter.strategy)
+-- the locale of a form is unknown, or no option has its code
+abbrev pub FormFails : {A : Type 0} → (A → ℕ) → FdError → FdForm → List ℕ → Type 0
+FormFails code UnknownLocale form texts = HasNoSymbols form texts
+FormFails {A} code UnknownOption form texts =
+    ((s : Symbols) × AreSymbolsOf form texts (Some s)) × ((option : A) → form.option ≡ code option → ⊥)
+FormFails code error form texts = ⊥
 
--- there is no such formatter
-abbrev pub FormatterFails : FdError → FdForms → List ℕ → Type 0
-FormatterFails UnknownLocale forms texts =
-    (forms.format_count ≢ 0) × HasNoLocale texts forms.format_start forms.format_count
-FormatterFails UnknownOption forms texts =
-    (forms.format_count ≢ 0) × ((strategy : GroupingStrategy) → forms.grouping ≡ grouping_code strategy → ⊥)
-FormatterFails error forms texts = ⊥
+-- the reader by the symbols of a form, in its mode; no symbols, no reader
+abbrev pub IsReaderOf : FdForm → List ℕ → Option DecimalReader → Type 0
+IsReaderOf form texts None = AreSymbolsOf form texts None
+IsReaderOf form texts (Some reader) =
+    AreSymbolsOf form texts (Some reader.symbols) × (form.option ≡ reading_code reader.mode)
+
+-- the formatter by the symbols of a form, with its strategy; no symbols, no formatter
+abbrev pub IsFormatterOf : FdForm → List ℕ → Option Formatter → Type 0
+IsFormatterOf form texts None = AreSymbolsOf form texts None
+IsFormatterOf form texts (Some formatter) =
+    AreSymbolsOf form texts (Some formatter.symbols) × (form.option ≡ grouping_code formatter.strategy)

@@ -3,7 +3,9 @@ pub mod Encodings
 pub mod Texts
 pub mod Calls
 pub mod Runs
+pub mod Locales
 pub mod Forms
 pub mod Conversions
 pub mod Lines
 pub mod Numbers
+pub mod Categories

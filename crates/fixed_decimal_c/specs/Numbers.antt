@@ -13,14 +13,8 @@ use Rattle.fixed_decimal.specs.declared.variations.Sign.TheVariants as sign
 use Rattle.fixed_decimal.specs.Decimal.{Decimal, signed_number}
 use Rattle.fixed_decimal.specs.DecimalText.{read_decimal, IsLong}
 use Rattle.fixed_decimal.specs.ToInteger.{as_signed, as_unsigned}
-use Rattle.plural_rules.specs.declared.rules.PluralCategory.{PluralCategory}
-use Rattle.plural_rules.specs.declared.rules.PluralCategory.TheVariants as category
-use Rattle.plural_rules.specs.Operands.{plain}
-use Rattle.plural_rules.specs.Rules.{RuleValue, category_of}
-use Rattle.plural_rules.specs.RulesGrammar.{Grammar}
-use Rattle.plural_rules.specs.RulesParseResult.{IsSyntaxErrorAt, IsLimitErrorAt}
 use Rattle.fixed_decimal_c.specs.declared.error.FdError.{FdError}
-use Rattle.fixed_decimal_c.specs.declared.error.FdError.TheVariants.{Memory, NotWhole, OutOfRange, RulesSyntax, RulesLimit}
+use Rattle.fixed_decimal_c.specs.declared.error.FdError.TheVariants.{NotWhole, OutOfRange}
 use Rattle.fixed_decimal_c.specs.Errors.{error_of_parsing}
 
 -- parsing the text with this number fails
@@ -79,25 +73,3 @@ HasI64 (Err error) text = ConversionFails error (as_signed (2 ^ 63)) text ⊎ Pa
 abbrev pub HasU64 : Result ℕ FdError → List ℕ → Type 0
 HasU64 (Ok n) text = IsOkAnd (read_decimal text) (λ v. as_unsigned (2 ^ 64) v ≡ Ok n)
 HasU64 (Err error) text = ConversionFails error (as_unsigned (2 ^ 64)) text ⊎ ParsingFails error text 0
-
-abbrev pub category_code : PluralCategory → ℤ
-category_code category.Zero = pos 0
-category_code category.One = pos 1
-category_code category.Two = pos 2
-category_code category.Few = pos 3
-category_code category.Many = pos 4
-category_code category.Other = pos 5
-
--- why rules are rejected; out of memory only for rules
-abbrev pub RulesFail : FdError → List ℕ → Type 0
-RulesFail (RulesSyntax at) rules = IsSyntaxErrorAt rules at
-RulesFail (RulesLimit at) rules = IsLimitErrorAt rules at
-RulesFail Memory rules = (list : List RuleValue) × Grammar rules list
-RulesFail _ rules = ⊥
-
--- the category of a text by rules
-abbrev pub HasCategory : Result ℤ FdError → List ℕ → List ℕ → Type 0
-HasCategory (Ok n) rules text =
-    (list : List RuleValue) × Grammar rules list
-    × IsOkAnd (read_decimal text) (λ v. n ≡ category_code (category_of list (plain v.absolute)))
-HasCategory (Err error) rules text = RulesFail error rules ⊎ ParsingFails error text 0

@@ -7,7 +7,7 @@ use crate::lines::Progress;
 
 /// An answer that is a text in a buffer.
 #[repr(C)]
-#[derive(Clone, Copy, Debug, PartialEq)]
+#[derive(Clone, Copy)]
 pub struct FdResult {
     /// 0, or the number of the error.
     pub status: u32,
@@ -19,7 +19,7 @@ pub struct FdResult {
 
 /// An answer that is a number.
 #[repr(C)]
-#[derive(Clone, Copy, Debug, PartialEq)]
+#[derive(Clone, Copy)]
 pub struct FdNumber {
     /// 0, or the number of the error.
     pub status: u32,
@@ -31,7 +31,7 @@ pub struct FdNumber {
 
 /// An answer that is an unsigned number.
 #[repr(C)]
-#[derive(Clone, Copy, Debug, PartialEq)]
+#[derive(Clone, Copy)]
 pub struct FdUnsigned {
     /// 0, or the number of the error.
     pub status: u32,
@@ -43,7 +43,7 @@ pub struct FdUnsigned {
 
 /// An answer that is a column.
 #[repr(C)]
-#[derive(Clone, Copy, Debug, PartialEq)]
+#[derive(Clone, Copy)]
 pub struct FdColumn {
     /// 0, or the number of the error of the next line.
     pub status: u32,

@@ -20,7 +20,7 @@ pub(crate) const INLINE_CALLS: usize = 8;
 
 /// A call of a run, with its arguments. Arguments that the call does not have are ignored.
 #[repr(C)]
-#[derive(Clone, Copy, Debug, PartialEq)]
+#[derive(Clone, Copy)]
 pub struct FdCall {
     /// The number of the call.
     pub kind: u8,

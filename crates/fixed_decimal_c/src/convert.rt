@@ -14,7 +14,7 @@ use fixed_decimal::{Call, Decimal, ParseError, RunError, apply_calls};
 use std::alloc::Global;
 
 /// How a text is read and how the result is written. `None`: as the decimal's own text.
-#[derive(Debug, Drop)]
+#[derive(Drop)]
 pub(crate) struct Forms {
     pub(crate) reader: Option<DecimalReader<'static>>,
     pub(crate) formatter: Option<DecimalFormatter<'static>>,
@@ -25,8 +25,8 @@ impl Forms {
         ensures ok { IfOk result (AreForms forms.now texts.now) }
         ensures err { IfErr result (λ error. FormsFail error forms.now texts.now) }
     {
-        let reader = reader(forms, texts)?;
-        let formatter = formatter(forms, texts)?;
+        let reader = reader(&forms.read, texts)?;
+        let formatter = formatter(&forms.format, texts)?;
         Ok(Forms { reader, formatter })
     }
 

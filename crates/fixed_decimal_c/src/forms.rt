@@ -1,33 +1,40 @@
 //! The forms in which a text is read and written: a locale's, or the decimal's own.
-ghost use Rattle.std.specs.Prelude.{◌≡◌, List, ℕ, IfSome, IfNone, IfOk, IfErr};
+ghost use Rattle.std.specs.Prelude.{◌≡◌, IfSome, IfNone, IfOk, IfErr};
 ghost use Rattle.decimal_format.specs.declared.grouping.GroupingStrategy.{GroupingStrategy};
 ghost use Rattle.decimal_format.specs.Readable.{IsReadable};
 ghost use Rattle.cli.specs.declared.reader.ParseMode.{ParseMode};
-ghost use Rattle.fixed_decimal_c.specs.Forms.{grouping_code, reading_code, IsLocaleAt, HasNoLocale, IsReaderOf, ReaderFails, IsFormatterOf, FormatterFails};
+ghost use Rattle.fixed_decimal_c.specs.Forms.{grouping_code, reading_code, IsLocaleAt, HasNoLocale, AreSymbolsOf, HasNoSymbols, IsReaderOf, IsFormatterOf, FormFails};
 
 use crate::calls::part;
 use crate::error::FdError;
+use crate::locales::symbols_of_number;
 use cli::{DecimalReader, ParseMode};
 use decimal_format::{DecimalFormatter, DecimalSymbols, GroupingStrategy};
 use locale_data::locale;
 use std::str;
 
-/// The forms of a conversion. The tags are parts of the texts; one of no bytes is the decimal's own text.
+/// The form of a text: that of a locale, or with neither a number nor a tag the decimal's own.
 #[repr(C)]
-#[derive(Clone, Copy, Debug, PartialEq)]
+#[derive(Clone, Copy)]
+pub struct FdForm {
+    /// The number of the locale, or 0.
+    pub locale: u64,
+    /// Where the tag of the locale begins in the texts, if its number is 0.
+    pub start: usize,
+    /// The number of bytes of the tag.
+    pub count: usize,
+    /// How strictly a text is read, or where separators are written.
+    pub option: u8,
+}
+
+/// The forms of a conversion.
+#[repr(C)]
+#[derive(Clone, Copy)]
 pub struct FdForms {
-    /// Where the tag of the locale that the text is read in begins.
-    pub read_start: usize,
-    /// The number of bytes of that tag.
-    pub read_count: usize,
-    /// Where the tag of the locale that the result is written in begins.
-    pub format_start: usize,
-    /// The number of bytes of that tag.
-    pub format_count: usize,
-    /// How strictly the text is read.
-    pub reading: u8,
-    /// Where separators are written.
-    pub grouping: u8,
+    /// The form that the text is read in.
+    pub read: FdForm,
+    /// The form that the result is written in.
+    pub format: FdForm,
 }
 
 fn grouping(code: u8) -> Option<GroupingStrategy>
@@ -55,7 +62,7 @@ fn reading(code: u8) -> Option<ParseMode>
 }
 
 /// Returns the symbols of the locale whose tag is a part of the texts.
-fn symbols(texts: &[u8], start: usize, count: usize) -> Option<DecimalSymbols<'static>>
+fn symbols_of_tag(texts: &[u8], start: usize, count: usize) -> Option<DecimalSymbols<'static>>
     ensures some { IfSome result (IsLocaleAt texts.now start count) }
     ensures readable { IfSome result (λ s. IsReadable s) }
     ensures none { IfNone result (HasNoLocale texts.now start count) }
@@ -69,40 +76,53 @@ fn symbols(texts: &[u8], start: usize, count: usize) -> Option<DecimalSymbols<'s
     }
 }
 
-pub(crate) fn reader(
-    forms: &FdForms,
-    texts: &[u8],
-) -> Result<Option<DecimalReader<'static>>, FdError>
-    ensures ok { IfOk result (λ reader. IsReaderOf forms.now texts.now reader) }
-    ensures err { IfErr result (λ error. ReaderFails error forms.now texts.now) }
+/// Returns the symbols of the locale of a form, if it has one.
+fn symbols(form: &FdForm, texts: &[u8]) -> Result<Option<DecimalSymbols<'static>>, FdError>
+    ensures ok { IfOk result (AreSymbolsOf form.now texts.now) }
+    ensures readable { IfOk result (λ symbols. IfSome symbols (λ s. IsReadable s)) }
+    ensures err { IfErr result (λ error. (error ≡ FdError.UnknownLocale) × HasNoSymbols form.now texts.now) }
 {
-    if forms.read_count == 0 {
+    if form.locale == 0 && form.count == 0 {
         return Ok(None);
     }
-    let Some(symbols) = symbols(texts, forms.read_start, forms.read_count) else {
-        return Err(FdError::UnknownLocale);
+    let found = if form.locale == 0 {
+        symbols_of_tag(texts, form.start, form.count)
+    } else {
+        symbols_of_number(form.locale)
     };
-    match reading(forms.reading) {
-        Some(mode) => Ok(Some(DecimalReader { symbols, mode })),
-        None => Err(FdError::UnknownOption),
+    match found {
+        Some(symbols) => Ok(Some(symbols)),
+        None => Err(FdError::UnknownLocale),
+    }
+}
+
+pub(crate) fn reader(form: &FdForm, texts: &[u8]) -> Result<Option<DecimalReader<'static>>, FdError>
+    ensures ok { IfOk result (IsReaderOf form.now texts.now) }
+    ensures err { IfErr result (λ error. FormFails reading_code error form.now texts.now) }
+{
+    match symbols(form, texts) {
+        Err(error) => Err(error),
+        Ok(None) => Ok(None),
+        Ok(Some(symbols)) => match reading(form.option) {
+            Some(mode) => Ok(Some(DecimalReader { symbols, mode })),
+            None => Err(FdError::UnknownOption),
+        },
     }
 }
 
 pub(crate) fn formatter(
-    forms: &FdForms,
+    form: &FdForm,
     texts: &[u8],
 ) -> Result<Option<DecimalFormatter<'static>>, FdError>
-    ensures ok { IfOk result (λ formatter. IsFormatterOf forms.now texts.now formatter) }
-    ensures err { IfErr result (λ error. FormatterFails error forms.now texts.now) }
+    ensures ok { IfOk result (IsFormatterOf form.now texts.now) }
+    ensures err { IfErr result (λ error. FormFails grouping_code error form.now texts.now) }
 {
-    if forms.format_count == 0 {
-        return Ok(None);
-    }
-    let Some(symbols) = symbols(texts, forms.format_start, forms.format_count) else {
-        return Err(FdError::UnknownLocale);
-    };
-    match grouping(forms.grouping) {
-        Some(strategy) => Ok(Some(DecimalFormatter::new(symbols, strategy))),
-        None => Err(FdError::UnknownOption),
+    match symbols(form, texts) {
+        Err(error) => Err(error),
+        Ok(None) => Ok(None),
+        Ok(Some(symbols)) => match grouping(form.option) {
+            Some(strategy) => Ok(Some(DecimalFormatter::new(symbols, strategy))),
+            None => Err(FdError::UnknownOption),
+        },
     }
 }

@@ -9,15 +9,19 @@ ghost use Rattle.fixed_decimal_c.specs.Encodings.{Encodes, EncodesNumber, Encode
 ghost use Rattle.fixed_decimal_c.specs.Runs.{Runs};
 ghost use Rattle.fixed_decimal_c.specs.Conversions.{ConvertsCalls};
 ghost use Rattle.fixed_decimal_c.specs.Lines.{ConvertsColumn};
-ghost use Rattle.fixed_decimal_c.specs.Numbers.{Compares, Equates, HasSign, HasI64, HasU64, HasCategory};
+ghost use Rattle.fixed_decimal_c.specs.Numbers.{Compares, Equates, HasSign, HasI64, HasU64};
+ghost use Rattle.fixed_decimal_c.specs.Locales.{IsLocaleNumber, IsRulesNumber};
+ghost use Rattle.fixed_decimal_c.specs.Categories.{HasCategory, HasCategoryOf};
 
 mod answer;
 mod block;
 mod calls;
+mod categories;
 mod convert;
 mod error;
 mod forms;
 mod lines;
+mod locales;
 mod numbers;
 mod texts;
 
@@ -25,19 +29,21 @@ pub use answer::{FdColumn, FdNumber, FdResult, FdUnsigned};
 use answer::{encode, encode_number, encode_unsigned};
 pub use calls::FdCall;
 use calls::run_calls;
+use categories::{category_by, category_of};
 use convert::convert;
 pub use error::FdError;
-pub use forms::FdForms;
+pub use forms::{FdForm, FdForms};
 pub use lines::Progress;
 use lines::convert_column;
-use numbers::{category_of, compare_texts, equal_texts, sign_of, to_i64, to_u64};
+use locales::{number_of_locale, number_of_plural_rules};
+use numbers::{compare_texts, equal_texts, sign_of, to_i64, to_u64};
 use std::alloc::Global;
 
 /// Returns the version of the interface. It grows when a number, a struct or a meaning changes.
 pub fn fd_version() -> u32
-    ensures { result ≡ 1 }
+    ensures { result ≡ 2 }
 {
-    1
+    2
 }
 
 /// Makes calls in order on the decimal that `start` writes, and writes the text of the result.
@@ -130,4 +136,27 @@ pub fn fd_category(alloc: Global, rules: &[u8], text: &[u8]) -> FdNumber
     ensures { EncodesNumber result (λ answer. HasCategory answer rules.now text.now) }
 {
     encode_number(category_of(alloc, rules, text))
+}
+
+/// Returns the number of the locale of a tag, for the forms of [`fd_convert`] and [`fd_lines`]: at least 1, and the same
+/// in this process.
+pub fn fd_locale(tag: &[u8]) -> FdUnsigned
+    ensures { EncodesUnsigned result (λ answer. IsLocaleNumber answer tag.now) }
+{
+    encode_unsigned(number_of_locale(tag))
+}
+
+/// Returns the number of the plural rules of a tag, for [`fd_category_of`]: at least 1, and the same in this process.
+/// `rule_type` is 0 for numbers of things and 1 for places in an order.
+pub fn fd_plural_rules(tag: &[u8], rule_type: u32) -> FdUnsigned
+    ensures { EncodesUnsigned result (λ answer. IsRulesNumber answer tag.now rule_type) }
+{
+    encode_unsigned(number_of_plural_rules(tag, rule_type))
+}
+
+/// Returns the plural category of a decimal, as [`fd_category`], by the rules with a number.
+pub fn fd_category_of(alloc: Global, rules: u64, text: &[u8]) -> FdNumber
+    ensures { EncodesNumber result (λ answer. HasCategoryOf answer rules text.now) }
+{
+    encode_number(category_by(alloc, rules, text))
 }

@@ -14,7 +14,7 @@ use memchr::memchr;
 use std::alloc::Global;
 
 /// How far a column has come.
-#[derive(Clone, Copy, Debug, PartialEq)]
+#[derive(Clone, Copy)]
 pub struct Progress {
     /// The number of lines that were converted.
     pub lines: usize,

@@ -1,16 +1,15 @@
 //! What one learns of a decimal as a number.
 ghost use Rattle.std.specs.Prelude.{◌≡◌, Ok, IfOk, IfErr, ◌↔◌, IsTrue};
 ghost use Rattle.fixed_decimal.specs.DecimalText.{read_decimal};
-ghost use Rattle.fixed_decimal_c.specs.Numbers.{error_of_integer, ParsingFails, order_code, sign_number, category_code, Compares, Equates, HasSign, HasI64, HasU64, HasCategory};
+ghost use Rattle.fixed_decimal_c.specs.Numbers.{error_of_integer, ParsingFails, order_code, sign_number, Compares, Equates, HasSign, HasI64, HasU64};
 
 use crate::error::{FdError, error_of_parsing};
 use fixed_decimal::{Decimal, IntegerError, Sign};
-use plural_rules::{PluralCategory, PluralOperands, PluralRules, RulesError};
 use std::alloc::Global;
 use std::cmp::Ordering;
 
 /// Reads the text with this number.
-fn read(alloc: Global, text: &[u8], at: usize) -> Result<Decimal, FdError>
+pub(crate) fn read(alloc: Global, text: &[u8], at: usize) -> Result<Decimal, FdError>
     ensures found { IfOk result (λ v. read_decimal text.now ≡ Ok v) }
     ensures fails { IfErr result (λ error. ParsingFails error text.now at) }
 {
@@ -91,33 +90,4 @@ pub(crate) fn to_u64(alloc: Global, text: &[u8]) -> Result<u64, FdError>
         Ok(integer) => Ok(integer),
         Err(error) => Err(error_of_integer(error)),
     }
-}
-
-/// Returns the number of a category.
-fn category_number(category: PluralCategory) -> i64
-    ensures { result ≡ category_code category }
-{
-    match category {
-        PluralCategory::Zero => 0,
-        PluralCategory::One => 1,
-        PluralCategory::Two => 2,
-        PluralCategory::Few => 3,
-        PluralCategory::Many => 4,
-        PluralCategory::Other => 5,
-    }
-}
-
-/// Returns the number of the plural category of a decimal by rules.
-pub(crate) fn category_of(alloc: Global, rules: &[u8], text: &[u8]) -> Result<i64, FdError>
-    ensures { HasCategory result rules.now text.now }
-{
-    let rules = match PluralRules::try_from_utf8(alloc, rules) {
-        Ok(rules) => rules,
-        Err(RulesError::Syntax { at }) => return Err(FdError::RulesSyntax { at }),
-        Err(RulesError::Limit { at }) => return Err(FdError::RulesLimit { at }),
-        Err(RulesError::Memory) => return Err(FdError::Memory),
-    };
-    let value = read(alloc, text, 0)?;
-    let category = rules.category(&PluralOperands::of_decimal(&value));
-    Ok(category_number(category))
 }

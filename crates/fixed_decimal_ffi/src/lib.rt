@@ -6,14 +6,16 @@ ghost use Rattle.fixed_decimal_c.specs.Encodings.{Encodes, EncodesNumber, Encode
 ghost use Rattle.fixed_decimal_c.specs.Runs.{Runs};
 ghost use Rattle.fixed_decimal_c.specs.Conversions.{ConvertsCalls};
 ghost use Rattle.fixed_decimal_c.specs.Lines.{ConvertsColumn};
-ghost use Rattle.fixed_decimal_c.specs.Numbers.{Compares, Equates, HasSign, HasI64, HasU64, HasCategory};
+ghost use Rattle.fixed_decimal_c.specs.Numbers.{Compares, Equates, HasSign, HasI64, HasU64};
+ghost use Rattle.fixed_decimal_c.specs.Locales.{IsLocaleNumber, IsRulesNumber};
+ghost use Rattle.fixed_decimal_c.specs.Categories.{HasCategory, HasCategoryOf};
 
 use fixed_decimal_c::{FdCall, FdColumn, FdForms, FdNumber, FdResult, FdUnsigned};
 use std::alloc::Global;
 
 #[unsafe(no_mangle)]
 pub extern "C" fn fd_version() -> u32
-    ensures { result ≡ 1 }
+    ensures { result ≡ 2 }
 {
     fixed_decimal_c::fd_version()
 }
@@ -101,4 +103,25 @@ pub extern "C" fn fd_category(alloc: Global, rules: &[u8], text: &[u8]) -> FdNum
     ensures { EncodesNumber result (λ answer. HasCategory answer rules.now text.now) }
 {
     fixed_decimal_c::fd_category(alloc, rules, text)
+}
+
+#[unsafe(no_mangle)]
+pub extern "C" fn fd_locale(tag: &[u8]) -> FdUnsigned
+    ensures { EncodesUnsigned result (λ answer. IsLocaleNumber answer tag.now) }
+{
+    fixed_decimal_c::fd_locale(tag)
+}
+
+#[unsafe(no_mangle)]
+pub extern "C" fn fd_plural_rules(tag: &[u8], rule_type: u32) -> FdUnsigned
+    ensures { EncodesUnsigned result (λ answer. IsRulesNumber answer tag.now rule_type) }
+{
+    fixed_decimal_c::fd_plural_rules(tag, rule_type)
+}
+
+#[unsafe(no_mangle)]
+pub extern "C" fn fd_category_of(alloc: Global, rules: u64, text: &[u8]) -> FdNumber
+    ensures { EncodesNumber result (λ answer. HasCategoryOf answer rules text.now) }
+{
+    fixed_decimal_c::fd_category_of(alloc, rules, text)
 }

@@ -1,9 +1,10 @@
 -- What is true of each row of the tables, by computation, and of the texts of symbols.
-use Rattle.std.proofs.Common.{◌≡◌, ℕ, ◌≤◌, ◌==◌, ◌&&◌, Bool, true, List, length, Some, None, refl, ap, lit≤, arith}
+use Rattle.std.proofs.Common.{◌≡◌, ℕ, ◌<◌, ◌≤◌, ◌==◌, ◌&&◌, Bool, true, List, length, slice_get, Some, None, refl, ap, sym, ◌∙◌, inl, inr, lit≤, arith}
 use Rattle.std.proofs.lemmas.Bool.{and_parts}
 use Rattle.std.proofs.lemmas.Bool.Decides.{nat_tests}
 use Rattle.std.proofs.lemmas.List.Elements.{All-contains}
 use Rattle.std.proofs.lemmas.List.Sums.{AllPass-from_list_all}
+use Rattle.std.proofs.lemmas.Option.{slice_get_within, slice_get_cases, get_or_from_slice_get, none-some}
 use Rattle.std.specs.Prelude.{encode_utf8, slice_index, is_some}
 use Rattle.std.specs.List.{list_all, Contains}
 use Rattle.std.specs.Str.{bytes_eq}
@@ -28,6 +29,16 @@ use Rattle.locale_data.proofs.SortedRows.{find_some}
 pub passes : {X : Type 0} (q : X → Bool) (xs : List X) (x : X) → list_all q xs ≡ true → Contains xs x → q x ≡ true
 passes q xs x all is = All-contains (λ x. q x ≡ true) xs x (AllPass-from_list_all q xs all) is
 
+-- a row with an index is in the table
+pub contains_at : {X : Type 0} (xs : List X) (k : ℕ) (x : X) → slice_get xs k ≡ Some x → Contains xs x
+contains_at xs k x e = (k, slice_get_within xs k x e, get_or_from_slice_get xs k x x e)
+
+pub not_past : {X : Type 0} (xs : List X) (k : ℕ) → k < length xs → slice_get xs k ≡ None → ⊥
+not_past xs k inside none = elim ((slice_get_cases xs k).1) [
+  | inl at ↦ none-some at.0 (sym none ∙ at.2)
+  | inr past ↦ omega (arith, past.0)
+]
+
 -- ---- The digits of a numbering system.
 
 -- the length of a digit
@@ -49,9 +60,9 @@ unfolding system_named
 listed_by_name name s found =
     (find_some (λ s. bytes_eq (unpadded s.name) (compared name)) NUMBERING_SYSTEMS s found).0
 
-pub system_named-width : (name : List ℕ) (s : NumberingSystem) → system_named name ≡ Some s → HasOneWidth s.digits
-system_named-width name s found = λ d few.
-    let both = passes has_one_width NUMBERING_SYSTEMS s systems_have_one_width (listed_by_name name s found) in
+pub listed-width : (s : NumberingSystem) → Contains NUMBERING_SYSTEMS s → HasOneWidth s.digits
+listed-width s listed = λ d few.
+    let both = passes has_one_width NUMBERING_SYSTEMS s systems_have_one_width listed in
     let has = has_width (width s.digits 0) in
     let parts = and_parts (length s.digits == 10) (list_all has s.digits) both in
     let ten : length s.digits ≡ 10 = grind (arith, nat_tests, parts.0) in

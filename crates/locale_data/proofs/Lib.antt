@@ -1,6 +1,8 @@
 pub mod Tags
 pub mod SortedRows
+pub mod PrefixNumbers
 pub mod LongestRow
+pub mod Searches
 pub mod EachRow
 pub mod Unknown
 pub mod ReadableRows
@@ -10,3 +12,4 @@ pub mod TableTexts
 pub mod FormatRows
 pub mod CurrencyRows
 pub mod CompactRows
+pub mod NumberedRows

@@ -1,5 +1,5 @@
 -- The row with the longest name that is a prefix of a tag, one prefix more at a time.
-use Rattle.std.proofs.Common.{◌≡◌, ◌≢◌, ℕ, ◌+◌, ◌<◌, ◌≤◌, ◌==◌, ◌&&◌, ◌||◌, nat_eq, Bool, true, false, cond, List, ◌++◌, length, take, drop, get_or, Option, Some, None, refl, ap, sym, ◌∙◌, bytes_eq, arith, length-append}
+use Rattle.std.proofs.Common.{◌≡◌, ◌≢◌, ℕ, ◌+◌, ◌<◌, ◌≤◌, ◌&&◌, nat_eq, Bool, true, false, List, ◌++◌, length, take, drop, get_or, Option, Some, None, refl, ap, sym, ◌∙◌, bytes_eq, arith, length-append}
 use Rattle.std.proofs.lemmas.Bool.{and_parts}
 use Rattle.std.proofs.lemmas.Bool.Decides.{Decides-eqb}
 use Rattle.std.proofs.lemmas.List.Elements.{Contains-get_or}
@@ -10,7 +10,7 @@ use Rattle.std.specs.List.{find, All, Contains, starts_with}
 use Rattle.std.specs.Option.{option_or}
 use Rattle.locale_data.specs.Tag.{tag_byte, compared, is_tag_prefix}
 use Rattle.locale_data.specs.Rows.{unpadded, row_named, is_candidate, IsRowOf}
-use Rattle.locale_data.specs.SortedRows.{longer}
+use Rattle.locale_data.specs.SortedRows.{ends_at, HasNoLonger}
 use Rattle.locale_data.proofs.SortedRows.{find_some, find_none_is}
 use Rattle.locale_data.proofs.Tags.{hyphen}
 
@@ -18,10 +18,6 @@ and_true : (a b : Bool) → a ≡ true → b ≡ true → a && b ≡ true
 and_true a b p q = cc
 
 -- ---- Prefixes of a tag.
-
--- a prefix of a tag may end at an index
-abbrev pub ends_at : List ℕ → ℕ → Bool
-ends_at tag end = (length tag == end) || (tag_byte (get_or tag end 0) == 45)
 
 starts : (part whole : List ℕ) → starts_with nat_eq whole part ≡ true → whole ≡ part ++ drop (length part) whole
 starts part whole h = (starts_is Decides-eqb whole part (starts_with nat_eq whole part) refl).0 h
@@ -122,39 +118,41 @@ module _ {R : Type 0} (name_of : R → List ℕ) (rows : List R) (tag : List ℕ
     abbrev found_here : Option R
     found_here = row_named name_of rows (compared (take end tag))
 
-    -- one prefix more
-    pub longer_below : (found : Option R) → IsLongestBelow end found
-        → IsLongestBelow (end + 1) (longer name_of rows tag end found)
-    longer_below found h = by (ends_at tag end) refl
+    -- one prefix more: there is none, or it is searched for
+    pub passed_below : (found : Option R) → ends_at tag end ≡ false → IsLongestBelow end found
+        → IsLongestBelow (end + 1) found
+    passed_below found none h =
+        kept found (λ row listed is long.
+        let prefix = prefix_is (unpadded (name_of row)) tag is in
+        absurd (cc (none, prefix.ends, long))) h
+
+    pub searched_below : (found : Option R) → ends_at tag end ≡ true → IsLongestBelow end found
+        → IsLongestBelow (end + 1) (option_or found_here found)
+    searched_below found ends h = by found_here refl
       where
-        at_end : (o : Option R) → found_here ≡ o → ends_at tag end ≡ true → IsLongestBelow (end + 1) (option_or o found)
-        at_end (Some row) e ends =
+        by : (o : Option R) → found_here ≡ o → IsLongestBelow (end + 1) (option_or o found)
+        by (Some row) e =
             let is = named_is end row inside ends e in
             replaced found row is.0 is.1 is.2
-        at_end None e ends = kept found (λ row listed is long.
+        by None e = kept found (λ row listed is long.
             let has_name = λ (r : R). bytes_eq (unpadded (name_of r)) (compared (take end tag)) in
             let fails = find_none_is has_name rows e row listed in
             absurd (cc (fails, candidate_named end row is long))) h
 
-        by : (b : Bool) → ends_at tag end ≡ b
-            → IsLongestBelow (end + 1) (cond b (option_or found_here found) found)
-        by true ends = at_end found_here refl ends
-        by false ends = kept found (λ row listed is long.
-            let prefix = prefix_is (unpadded (name_of row)) tag is in
-            absurd (cc (ends, prefix.ends, long))) h
+  pub none_beyond_tag : HasNoLonger name_of rows tag (length tag)
+  none_beyond_tag = λ k d in_range is. (prefix_is (unpadded (name_of (get_or rows k d))) tag is).inside
 
-  -- below one more than the length of the tag is all
-  pub longest : (found : Option R) → IsLongestBelow (length tag + 1) found → IsRowOf name_of rows tag found
-  longest None h = λ k d in_range. by (is_candidate name_of tag (get_or rows k d)) (h k d in_range)
-      (λ is. (prefix_is (unpadded (name_of (get_or rows k d))) tag is).inside)
+  -- where no name is longer, the longest is found
+  pub longest : (n : ℕ) (found : Option R) → IsLongestBelow (n + 1) found → HasNoLonger name_of rows tag n
+      → IsRowOf name_of rows tag found
+  longest n None h none = λ k d in_range.
+      by (is_candidate name_of tag (get_or rows k d)) (h k d in_range) (none k d in_range)
     where
-      by : (b : Bool) → {n : ℕ} → (b ≡ true → length tag + 1 ≤ n) → (b ≡ true → n ≤ length tag) → b ≡ false
+      by : (b : Bool) → {m : ℕ} → (b ≡ true → n + 1 ≤ m) → (b ≡ true → m ≤ n) → b ≡ false
       by true above below = absurd (omega (arith, above refl, below refl))
       by false above below = refl
-  longest (Some best) h = (
+  longest n (Some best) h none = (
     h.0,
     h.1,
-    λ k d in_range is.
-        let prefix = prefix_is (unpadded (name_of (get_or rows k d))) tag is in
-        h.2 k d in_range is (omega (arith, prefix.inside)),
+    λ k d in_range is. h.2 k d in_range is (omega (arith, none k d in_range is)),
   )

@@ -1,15 +1,17 @@
 -- The symbols of each row are readable, by computation.
-use Rattle.std.proofs.Common.{◌≡◌, ℕ, ◌+◌, ◌-◌, ◌<◌, ◌≤◌, ◌==◌, ◌&&◌, nat_lt, Bool, true, false, cond, List, [], ◌∷◌, ◌++◌, map, get_or, Option, Some, None, unwrap_or, inl, inr, refl, ap, lit≤, subst, ◌∙◌, sym, rules, add-sub_of_le, arith}
+use Rattle.std.proofs.Common.{◌≡◌, ℕ, ◌+◌, ◌-◌, ◌<◌, ◌≤◌, ◌==◌, ◌&&◌, nat_lt, Bool, true, false, cond, List, [], ◌∷◌, ◌++◌, map, get_or, slice_get, Option, Some, None, unwrap_or, inl, inr, refl, ap, lit≤, subst, ◌∙◌, sym, rules, add-sub_of_le, arith}
 use Rattle.std.proofs.lemmas.Bool.{cases_lt, and_parts}
 use Rattle.std.proofs.lemmas.List.Sums.{AllPass-from_list_all}
-use Rattle.std.specs.Prelude.{encode_utf8, slice_index}
+use Rattle.std.proofs.lemmas.Option.{option_and_then_some, same_Some}
+use Rattle.std.specs.Prelude.{encode_utf8, slice_index, IfSome}
 use Rattle.std.specs.List.{list_all, position, Contains}
-use Rattle.std.specs.Option.{option_map_or}
+use Rattle.std.specs.Option.{option_map, option_map_or}
 use Rattle.std.specs.Str.{bytes_eq}
 use Rattle.decimal_format.specs.declared.grouping.GroupingSizes.{GroupingSizes}
 use Rattle.decimal_format.specs.Symbols.{Symbols}
 use Rattle.decimal_format.proofs.Apart.{are_apart, each_below, passes_below, texts_are_apart, other, texts_apart}
 use Rattle.decimal_format.specs.Readable.{BeginsWith, code, IsOther, IsReadable}
+use Rattle.locale_data.specs.declared.lookup.LocaleNumbers.{LocaleNumbers}
 use Rattle.locale_data.specs.declared.symbols.LocaleSymbols.{LocaleSymbols}
 use Rattle.locale_data.specs.declared.symbols.NumberingSystem.{NumberingSystem}
 use Rattle.locale_data.specs.declared.symbols.Symbol.{Symbol}
@@ -17,10 +19,8 @@ use Rattle.locale_data.specs.declared.symbols.Symbol.TheVariants.{Period, Comma,
 use Rattle.locale_data.specs.declared.symbols.SymbolSet.{SymbolSet}
 use Rattle.locale_data.specs.declared.symbols_table.TheConstants.{LOCALES, NUMBERING_SYSTEMS}
 use Rattle.locale_data.specs.Symbol.{symbol_text}
-use Rattle.locale_data.specs.Tag.{requested_system}
-use Rattle.locale_data.specs.Rows.{unpadded}
-use Rattle.locale_data.specs.Locales.{own_rows, symbols_of, symbols_in, IsListed, IsLocale}
-use Rattle.locale_data.proofs.EachRow.{passes, listed_by_name}
+use Rattle.locale_data.specs.Locales.{own_rows, symbols_of, symbols_in, own_symbols_at, symbols_at}
+use Rattle.locale_data.proofs.EachRow.{passes, contains_at}
 
 moved : {a b c d : List ℕ} → a ≡ c → b ≡ d → BeginsWith a b → BeginsWith c d
 moved e f begins = (begins.0, sym e ∙ (begins.1 ∙ ap (λ t. t ++ begins.0) f))
@@ -155,22 +155,41 @@ chosen_marks system locale if_any default = each system.symbols if_any
     each None h = default
     each (Some set) h = h
 
-in_system : (tag : List ℕ) (system : NumberingSystem) (locale : LocaleSymbols) (own : Option LocaleSymbols)
-    → digits_are_apart system ≡ true → if_any_are_apart system ≡ true → Contains LOCALES locale
-    → own_marks_are_apart system ≡ true → IsListed (own_rows system) tag own → IsReadable (symbols_in system locale own)
-in_system tag system locale None digits if_any listed own_marks chooses =
+in_system : (system : NumberingSystem) (locale : LocaleSymbols) (own : Option LocaleSymbols)
+    → Contains NUMBERING_SYSTEMS system → Contains LOCALES locale
+    → IfSome own (λ row. Contains (own_rows system) row) → IsReadable (symbols_in system locale own)
+in_system system locale None known listed own =
     let default = passes (λ l. marks_are_apart l.symbols) LOCALES locale locales_have_marks_apart listed in
-    readable_of system (unwrap_or system.symbols locale.symbols) locale.sizes digits
-    (chosen_marks system locale if_any default)
-in_system tag system locale (Some own) digits if_any listed own_marks chooses =
-    readable_of system own.symbols own.sizes digits
-    (passes (λ l. marks_are_apart l.symbols) (own_rows system) own own_marks chooses.0)
+    readable_of system (unwrap_or system.symbols locale.symbols) locale.sizes
+    (passes digits_are_apart NUMBERING_SYSTEMS system systems_have_digits_apart known)
+    (chosen_marks system locale (passes if_any_are_apart NUMBERING_SYSTEMS system systems_have_marks_apart known)
+    default)
+in_system system locale (Some row) known listed own =
+    readable_of system row.symbols row.sizes
+    (passes digits_are_apart NUMBERING_SYSTEMS system systems_have_digits_apart known)
+    (passes (λ l. marks_are_apart l.symbols) (own_rows system) row
+    (passes own_marks_are_apart NUMBERING_SYSTEMS system systems_have_own_marks_apart known) own)
 
-pub locale_is_readable : (tag : List ℕ) (s : Symbols) → IsLocale tag s → IsReadable s
-locale_is_readable tag s l =
-    let named = listed_by_name (unwrap_or (requested_system tag) (unpadded l.locale.system)) l.system l.named in
-    subst IsReadable (sym l.value)
-    (in_system tag l.system l.locale l.own
-    (passes digits_are_apart NUMBERING_SYSTEMS l.system systems_have_digits_apart named)
-    (passes if_any_are_apart NUMBERING_SYSTEMS l.system systems_have_marks_apart named) l.listed.0
-    (passes own_marks_are_apart NUMBERING_SYSTEMS l.system systems_have_own_marks_apart named) l.in_system)
+own_are_readable : (system : NumberingSystem) (locale : LocaleSymbols) (own : Option ℕ) (s : Symbols)
+    → Contains NUMBERING_SYSTEMS system → Contains LOCALES locale → own_symbols_at system locale own ≡ Some s
+    → IsReadable s
+own_are_readable system locale None s known listed e =
+    subst IsReadable (same_Some (symbols_in system locale None) s e) (in_system system locale None known listed tt)
+own_are_readable system locale (Some own) s known listed e =
+    by (slice_get (own_rows system) own) refl e
+  where
+    by : (o : Option LocaleSymbols) → slice_get (own_rows system) own ≡ o
+        → option_map (λ row. symbols_in system locale (Some row)) o ≡ Some s → IsReadable s
+    by None at e = absurd (cc)
+    by (Some row) at e =
+        subst IsReadable (same_Some (symbols_in system locale (Some row)) s e)
+        (in_system system locale (Some row) known listed (contains_at (own_rows system) own row at))
+
+-- the symbols that rows make are readable
+pub rows_are_readable : (numbers : LocaleNumbers) (s : Symbols) → symbols_at numbers ≡ Some s → IsReadable s
+unfolding symbols_at
+rows_are_readable numbers s e =
+    option_and_then_some _ (slice_get LOCALES numbers.locale) s e (λ locale at_locale then.
+    option_and_then_some _ (slice_get NUMBERING_SYSTEMS numbers.system) s then (λ system at_system made.
+    own_are_readable system locale numbers.own s (contains_at NUMBERING_SYSTEMS numbers.system system at_system)
+    (contains_at LOCALES numbers.locale locale at_locale) made))

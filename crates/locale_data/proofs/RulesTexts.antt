@@ -1,7 +1,9 @@
 -- The texts of the tables are rules, by computation.
-use Rattle.std.proofs.Common.{◌≡◌, ℕ, ◌&&◌, Bool, true, List, Option, Some, None, Err, refl, ap, subst, ◌∙◌}
+use Rattle.std.proofs.Common.{◌≡◌, ℕ, ◌<◌, ◌&&◌, Bool, true, List, length, codes, Option, Some, None, Result, Ok, Err, slice_get, refl, ap, subst, sym, ◌∙◌}
 use Rattle.std.proofs.lemmas.Bool.{and_parts}
-use Rattle.std.specs.Prelude.{is_some}
+use Rattle.std.proofs.lemmas.Option.{same_Some}
+use Rattle.std.specs.Prelude.{is_some, IsSomeAnd}
+use Rattle.std.specs.Option.{option_map}
 use Rattle.std.specs.List.{list_all}
 use Rattle.plural_rules.specs.declared.parse.RulesError.{RulesError}
 use Rattle.plural_rules.specs.declared.parse.RulesError.TheVariants.{Syntax, Limit, Memory}
@@ -16,10 +18,15 @@ use Rattle.locale_data.specs.declared.plurals.LanguageRules.{LanguageRules}
 use Rattle.locale_data.specs.declared.plurals.PluralRuleType.{PluralRuleType}
 use Rattle.locale_data.specs.declared.plurals.PluralRuleType.TheVariants.{Cardinal, Ordinal}
 use Rattle.locale_data.specs.declared.plurals_table.TheConstants.{PLURAL_RULES, PLURAL_RULES_TEXTS}
-use Rattle.locale_data.specs.Rows.{part}
-use Rattle.locale_data.specs.Plurals.{IsRulesText}
+use Rattle.locale_data.specs.declared.symbols.LocaleSymbols.{LocaleSymbols}
+use Rattle.locale_data.specs.declared.symbols_table.TheConstants.{LOCALES}
+use Rattle.locale_data.specs.Rows.{part, row_at}
+use Rattle.locale_data.specs.declared.plurals.PluralRulesError.{PluralRulesError}
+use Rattle.locale_data.specs.declared.plurals.PluralRulesError.TheVariants as errors
+use Rattle.locale_data.specs.declared.plurals.RulesNumber.{RulesNumber}
 use Rattle.locale_data.specs.Plurals.IsRulesText.{of_language, of_locale}
-use Rattle.locale_data.proofs.EachRow.{passes}
+use Rattle.locale_data.specs.Plurals.{rules_text, indexed_text, rules_text_at, IsLanguageOf, IsLocaleOf, IsRulesText, IsRulesAt, IsRulesOf}
+use Rattle.locale_data.proofs.EachRow.{passes, contains_at, not_past}
 
 -- a text is rules whose numbers fit
 abbrev are_rules : List ℕ → Bool
@@ -31,21 +38,28 @@ has_rules l = are_rules (part PLURAL_RULES_TEXTS l.cardinal) && are_rules (part 
 languages_have_rules : list_all has_rules PLURAL_RULES ≡ true
 languages_have_rules = refl
 
-listed_rules : (tag : List ℕ) (rule_type : PluralRuleType) (text : List ℕ) → IsRulesText tag rule_type text
-    → are_rules text ≡ true
-listed_rules tag rule_type text (of_locale locale none listed is) = ap are_rules is
-listed_rules tag Cardinal text (of_language language listed is) =
-    ap are_rules is ∙ (and_parts _ (are_rules (part PLURAL_RULES_TEXTS language.ordinal))
-    (passes has_rules PLURAL_RULES language languages_have_rules listed.0)).0
-listed_rules tag Ordinal text (of_language language listed is) =
-    ap are_rules is ∙ (and_parts (are_rules (part PLURAL_RULES_TEXTS language.cardinal)) _
-    (passes has_rules PLURAL_RULES language languages_have_rules listed.0)).1
+numbered_rules : (number : RulesNumber) (text : List ℕ) → rules_text_at number ≡ Some text → are_rules text ≡ true
+numbered_rules number text at = by number.language number.rule_type at
+  where
+    each : (index : ℕ) (rule_type : PluralRuleType) (o : Option LanguageRules) → slice_get PLURAL_RULES index ≡ o
+        → option_map (λ language. rules_text (Some language) rule_type) o ≡ Some text → are_rules text ≡ true
+    each index rule_type None at e = absurd (cc)
+    each index Cardinal (Some language) at e =
+        ap are_rules (sym (same_Some _ text e)) ∙ (and_parts _ (are_rules (part PLURAL_RULES_TEXTS language.ordinal))
+        (passes has_rules PLURAL_RULES language languages_have_rules (contains_at PLURAL_RULES index language at))).0
+    each index Ordinal (Some language) at e =
+        ap are_rules (sym (same_Some _ text e)) ∙ (and_parts (are_rules (part PLURAL_RULES_TEXTS language.cardinal)) _
+        (passes has_rules PLURAL_RULES language languages_have_rules (contains_at PLURAL_RULES index language at))).1
+
+    by : (o : Option ℕ) (rule_type : PluralRuleType) → indexed_text o rule_type ≡ Some text → are_rules text ≡ true
+    by None rule_type e = ap are_rules (sym (same_Some _ text e))
+    by (Some index) rule_type e = each index rule_type (slice_get PLURAL_RULES index) refl e
 
 -- so parsing one fails only out of memory
-pub parsing_succeeds : (tag : List ℕ) (rule_type : PluralRuleType) (text : List ℕ) → IsRulesText tag rule_type text
-    → (e : RulesError) → IsParseResult text (Err e) → e ≡ Memory
-parsing_succeeds tag rule_type text is e fails =
-    by (read true state.Category no_rules text) refl (listed_rules tag rule_type text is) e fails
+pub parsing_succeeds : (number : RulesNumber) (text : List ℕ) → rules_text_at number ≡ Some text → (e : RulesError)
+    → IsParseResult text (Err e) → e ≡ Memory
+parsing_succeeds number text at e fails =
+    by (read true state.Category no_rules text) refl (numbered_rules number text at) e fails
   where
     by : (o : Option (List RuleValue)) → read true state.Category no_rules text ≡ o → is_some o ≡ true
         → (e : RulesError) → IsParseResult text (Err e) → e ≡ Memory
@@ -56,3 +70,35 @@ parsing_succeeds tag rule_type text is e fails =
     by (Some rules) read some (Limit at) fails =
         let fits = read_fits text rules read in
         absurd (fails.beyond_limits (subst Fits (grammar-unique (read-sound fits.1) fails.grammar) fits.0))
+
+-- the rules of the number that a tag has are those of the tag
+pub rules_of_tag : (tag : List ℕ) (rule_type : PluralRuleType) (number : RulesNumber)
+    → IsSomeAnd (rules_text_at number) (IsRulesText tag rule_type)
+    → (result : Result (List RuleValue) PluralRulesError) → IsRulesAt number result → IsRulesOf tag rule_type result
+rules_of_tag tag rule_type number of_tag (Ok found) at =
+    (at.0, subst (λ o. IsSomeAnd o (IsRulesText tag rule_type)) at.1 of_tag, at.2)
+rules_of_tag tag rule_type number of_tag (Err errors.UnknownLocale) at =
+    absurd (subst (λ o. IsSomeAnd o (IsRulesText tag rule_type)) at of_tag)
+rules_of_tag tag rule_type number of_tag (Err errors.Memory) at =
+    (at.0, subst (λ o. IsSomeAnd o (IsRulesText tag rule_type)) at.1 of_tag, at.2)
+
+-- the text of the rules of a tag's language, and of a tag that has only symbols
+pub language_found : (tag : List ℕ) (rule_type : PluralRuleType) (index : ℕ)
+    → IsLanguageOf tag (row_at PLURAL_RULES (Some index)) → index < length PLURAL_RULES
+    → IsSomeAnd (indexed_text (Some index) rule_type) (IsRulesText tag rule_type)
+language_found tag rule_type index of_tag inside = by rule_type (slice_get PLURAL_RULES index) refl of_tag
+  where
+    by : (rule_type : PluralRuleType) (o : Option LanguageRules) → slice_get PLURAL_RULES index ≡ o → IsLanguageOf tag o
+        → IsSomeAnd (option_map (λ language. rules_text (Some language) rule_type) o) (IsRulesText tag rule_type)
+    by rule_type None at of_tag = absurd (not_past PLURAL_RULES index inside at)
+    by rule_type (Some language) at of_tag = of_language language of_tag refl
+
+pub locale_found : (tag : List ℕ) (rule_type : PluralRuleType) (index : ℕ) → IsLanguageOf tag None
+    → IsLocaleOf tag (row_at LOCALES (Some index)) → index < length LOCALES
+    → IsRulesText tag rule_type (codes "other:")
+locale_found tag rule_type index none of_tag inside = by (slice_get LOCALES index) refl of_tag
+  where
+    by : (o : Option LocaleSymbols) → slice_get LOCALES index ≡ o → IsLocaleOf tag o
+        → IsRulesText tag rule_type (codes "other:")
+    by None at of_tag = absurd (not_past LOCALES index inside at)
+    by (Some locale) at of_tag = of_locale locale none of_tag refl

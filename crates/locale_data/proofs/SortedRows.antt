@@ -122,7 +122,7 @@ module _ {R : Type 0} (name_of : R → List ℕ) (rows : List R) (table : is_tab
       is_number ∙ ap number ((bytes_eq-Decides _ name).0 same)
 
   -- the comparisons with a number rise
-  comparisons_rise : (k : ℕ) (d : R) → IsNonDecreasingBy (λ row. ordering_index (nat_cmp (number_at row) k)) rows
+  pub comparisons_rise : (k : ℕ) (d : R) → IsNonDecreasingBy (λ row. ordering_index (nat_cmp (number_at row) k)) rows
   comparisons_rise k d =
       IsNonDecreasingBy-from_default (λ row. ordering_index (nat_cmp (number_at row) k)) rows d (λ i j le inside.
       let equal = λ (same : i ≡ j). ap (λ n. number_at (get_or rows n d)) same in

@@ -1,7 +1,9 @@
 -- The locales and numbering systems of tags.
-use Rattle.std.specs.Prelude.{◌≡◌, ℕ, List, [], length, Option, None, Some, unwrap_or, encode_utf8, slice_index, ◌⊎◌}
+use Rattle.std.specs.Prelude.{◌≡◌, ℕ, List, [], length, Option, None, Some, unwrap_or, encode_utf8, slice_get, slice_index, ◌⊎◌}
+use Rattle.std.specs.Option.{option_map, option_and_then}
 use Rattle.decimal_format.specs.declared.grouping.GroupingSizes.{GroupingSizes}
 use Rattle.decimal_format.specs.Symbols.{Symbols, symbols, affixes, HaveWidth}
+use Rattle.locale_data.specs.declared.lookup.LocaleNumbers.{LocaleNumbers}
 use Rattle.locale_data.specs.declared.symbols.LocaleSymbols.{LocaleSymbols}
 use Rattle.locale_data.specs.declared.symbols.NumberingSystem.{NumberingSystem}
 use Rattle.locale_data.specs.declared.symbols.SymbolSet.{SymbolSet}
@@ -40,6 +42,18 @@ symbols_in system locale (Some own) = symbols_of system own.symbols own.sizes
 -- the name of the numbering system that a tag names, or else of the default one of a locale
 abbrev pub name_of : List ℕ → LocaleSymbols → List ℕ
 name_of tag locale = unwrap_or (requested_system tag) (unpadded locale.system)
+
+-- those of a locale in a numbering system, whose own symbols are a row with a number, or None
+abbrev pub own_symbols_at : NumberingSystem → LocaleSymbols → Option ℕ → Option Symbols
+own_symbols_at system locale None = Some (symbols_in system locale None)
+own_symbols_at system locale (Some own) =
+    option_map (λ row. symbols_in system locale (Some row)) (slice_get (own_rows system) own)
+
+-- the symbols that rows with numbers make, if there are such rows
+unfoldable pub symbols_at : LocaleNumbers → Option Symbols
+symbols_at numbers =
+    option_and_then (λ locale. option_and_then (λ system. own_symbols_at system locale numbers.own)
+    (slice_get NUMBERING_SYSTEMS numbers.system)) (slice_get LOCALES numbers.locale)
 
 -- the symbols are those of the listed locale with the longest tag, in the numbering system of the tag or its default
 pub record IsLocale (tag : List ℕ) (s : Symbols) : Type 0 where

@@ -1,5 +1,6 @@
 -- The plural rules of tags.
-use Rattle.std.specs.Prelude.{◌≡◌, ℕ, List, Option, None, Some, Result, Ok, Err, codes}
+use Rattle.std.specs.Prelude.{◌≡◌, ℕ, List, Option, None, Some, Result, Ok, Err, codes, slice_get}
+use Rattle.std.specs.Option.{option_map}
 use Rattle.plural_rules.specs.Rules.{RuleValue}
 use Rattle.plural_rules.specs.RulesGrammar.{Grammar}
 use Rattle.plural_rules.specs.RulesParseResult.{IsParseResult}
@@ -9,6 +10,7 @@ use Rattle.locale_data.specs.declared.plurals.PluralRulesError.TheVariants.{Unkn
 use Rattle.locale_data.specs.declared.plurals.PluralRuleType.{PluralRuleType}
 use Rattle.locale_data.specs.declared.plurals.PluralRuleType.TheVariants.{Cardinal, Ordinal}
 use Rattle.locale_data.specs.declared.plurals.LanguageRules.{LanguageRules}
+use Rattle.locale_data.specs.declared.plurals.RulesNumber.{RulesNumber}
 use Rattle.locale_data.specs.declared.plurals_table.TheConstants.{PLURAL_RULES, PLURAL_RULES_TEXTS}
 use Rattle.locale_data.specs.declared.symbols.LocaleSymbols.{LocaleSymbols}
 use Rattle.locale_data.specs.declared.symbols_table.TheConstants.{LOCALES}
@@ -19,6 +21,15 @@ abbrev pub rules_text : Option LanguageRules → PluralRuleType → List ℕ
 rules_text None rule_type = codes "other:"
 rules_text (Some language) Cardinal = part PLURAL_RULES_TEXTS language.cardinal
 rules_text (Some language) Ordinal = part PLURAL_RULES_TEXTS language.ordinal
+
+-- the text of the rules of the language with an index, if there is one, or of those without a language
+abbrev pub indexed_text : Option ℕ → PluralRuleType → Option (List ℕ)
+indexed_text None rule_type = Some (rules_text None rule_type)
+indexed_text (Some index) rule_type =
+    option_map (λ language. rules_text (Some language) rule_type) (slice_get PLURAL_RULES index)
+
+abbrev pub rules_text_at : RulesNumber → Option (List ℕ)
+rules_text_at number = indexed_text number.language number.rule_type
 
 -- the language with the longest tag that is a prefix of a tag, or None
 abbrev pub IsLanguageOf : List ℕ → Option LanguageRules → Type 0
@@ -40,6 +51,13 @@ abbrev pub HasNoRules : List ℕ → Type 0
 HasNoRules tag = IsLanguageOf tag None × IsLocaleOf tag None
 
 -- the rules by the grammar of texts, or why there are none; out of memory only for a text of rules
+abbrev pub IsRulesAt : RulesNumber → Result (List RuleValue) PluralRulesError → Type 0
+IsRulesAt number (Ok found) = (text : List ℕ) × (rules_text_at number ≡ Some text) × Grammar text found
+IsRulesAt number (Err UnknownLocale) = rules_text_at number ≡ None
+IsRulesAt number (Err Memory) =
+    (text : List ℕ) × (rules_text_at number ≡ Some text) × IsParseResult text (Err rules.Memory)
+
+-- the same of a tag
 abbrev pub IsRulesOf : List ℕ → PluralRuleType → Result (List RuleValue) PluralRulesError → Type 0
 IsRulesOf tag rule_type (Ok found) = (text : List ℕ) × IsRulesText tag rule_type text × Grammar text found
 IsRulesOf tag rule_type (Err UnknownLocale) = HasNoRules tag

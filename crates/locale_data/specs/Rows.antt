@@ -1,6 +1,7 @@
 -- Tables whose rows are sorted by name.
-use Rattle.std.specs.Prelude.{◌≡◌, ◌≤◌, ℕ, ◌==◌, ◌&&◌, nat_le, Bool, true, false, List, length, slice_range, find, All, Contains, Option, None, Some}
+use Rattle.std.specs.Prelude.{◌≡◌, ◌≤◌, ℕ, ◌==◌, ◌&&◌, nat_le, Bool, true, false, List, length, slice_range, find, slice_get, All, Contains, Option, None, Some}
 use Rattle.std.specs.List.{before_first}
+use Rattle.std.specs.Option.{option_and_then}
 use Rattle.std.specs.Str.{bytes_eq}
 use Rattle.locale_data.specs.declared.rows.TableRange.{TableRange}
 use Rattle.locale_data.specs.Tag.{is_tag_prefix}
@@ -16,6 +17,10 @@ is_inside range size = nat_le range.0 range.1 && nat_le range.1 size
 -- a text without the spaces after it
 abbrev pub unpadded : List ℕ → List ℕ
 unpadded padded = before_first (λ b. b == 32) padded
+
+-- the row with a number, from 0
+abbrev pub row_at : {R : Type 0} → List R → Option ℕ → Option R
+row_at rows number = option_and_then (slice_get rows) number
 
 -- the row with a name
 abbrev pub row_named : {R : Type 0} → (R → List ℕ) → List R → List ℕ → Option R

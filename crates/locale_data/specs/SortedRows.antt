@@ -1,10 +1,9 @@
 -- How rows are sorted, so that a name is found by a binary search.
-use Rattle.std.specs.Prelude.{ℕ, zero, suc, ◌+◌, ◌*◌, ◌%◌, ◌^◌, ◌==◌, ◌||◌, ◌&&◌, if◌then◌else◌, Bool, true, nat_lt, List, [], ◌∷◌, length, take, map, Option, slice_index}
+use Rattle.std.specs.Prelude.{◌≡◌, ℕ, zero, suc, ◌+◌, ◌-◌, ◌*◌, ◌%◌, ◌^◌, ◌<◌, ◌≤◌, ◌==◌, ◌||◌, ◌&&◌, if◌then◌else◌, Bool, true, nat_lt, List, [], ◌∷◌, length, map, slice_index, slice_index_or, All}
 use Rattle.std.specs.Int.{from_be_bytes, w128}
 use Rattle.std.specs.List.{list_all}
-use Rattle.std.specs.Option.{option_or}
-use Rattle.locale_data.specs.Tag.{tag_byte, compared}
-use Rattle.locale_data.specs.Rows.{unpadded, row_named}
+use Rattle.locale_data.specs.Tag.{tag_byte}
+use Rattle.locale_data.specs.Rows.{unpadded, is_candidate}
 
 -- a byte of a text with spaces after it
 abbrev pub padded_byte : List ℕ → ℕ → ℕ
@@ -33,9 +32,17 @@ abbrev pub is_table : {R : Type 0} → (R → List ℕ) → List R → Bool
 is_table name_of rows =
     list_all (λ row. is_padded (name_of row)) rows && increases (map (λ row. from_be_bytes w128 (name_of row)) rows)
 
--- the row that a part of a tag names, if the part ends at a hyphen or with the tag, or else the one found before
-abbrev pub longer : {R : Type 0} → (R → List ℕ) → List R → List ℕ → ℕ → Option R → Option R
-longer name_of rows tag end found =
-    if (length tag == end) || (tag_byte (slice_index tag end) == 45)
-    then option_or (row_named name_of rows (compared (take end tag))) found
-    else found
+-- a part of a tag ends at an index: at a hyphen, or with the tag
+abbrev pub ends_at : List ℕ → ℕ → Bool
+ends_at tag end = (length tag == end) || (tag_byte (slice_index tag end) == 45)
+
+-- no row's name is a prefix of a tag with more bytes than `end`
+abbrev pub HasNoLonger : {R : Type 0} → (R → List ℕ) → List R → List ℕ → ℕ → Type 0
+HasNoLonger name_of rows tag end =
+    All (λ row. is_candidate name_of tag row ≡ true → length (unpadded (name_of row)) ≤ end) rows
+
+-- there is no row at an index, or its number is at least 256 ^ (16 - end) above another
+abbrev pub IsFar : {R : Type 0} → (R → List ℕ) → List R → ℕ → ℕ → ℕ → Type 0
+IsFar {R} name_of rows index n end =
+    (end < 16) × ((row : R) → index < length rows
+    → n + 2 ^ (8 * (16 - end)) ≤ from_be_bytes w128 (name_of (slice_index_or rows index row)))

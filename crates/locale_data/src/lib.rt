@@ -35,14 +35,15 @@ pub use currency::{
     currency_symbol,
 };
 pub use formats::{FormatSystem, LocaleFormats, SystemFormats, formats_of};
-pub use lookup::locale;
+pub use lookup::{LocaleNumbers, locale, locale_numbers, symbols_at};
 pub use number_formats::NumberFormats;
 pub use patterns::{
     Affix, AffixPair, CurrencyOverride, ExponentSeparator, MoneyFormat, MoneySeparator,
     NumberSigns, Pattern, PercentSign, Piece,
 };
 pub use plurals::{
-    LanguageRules, PluralRuleType, PluralRulesError, plural_rules_of, plural_rules_text,
+    LanguageRules, PluralRuleType, PluralRulesError, RulesNumber, plural_rules_at,
+    plural_rules_number, plural_rules_of, plural_rules_text, rules_text_at,
 };
 pub use plurals_table::{PLURAL_RULES, PLURAL_RULES_TEXTS};
 pub use rows::{Name, Row, TableRange};

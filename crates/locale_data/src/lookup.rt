@@ -1,25 +1,28 @@
 //! The symbols of a tag.
-ghost use Rattle.std.specs.Prelude.{◌≡◌, ◌↔◌, IsNone, IfSome, Contains};
+ghost use Rattle.std.specs.Prelude.{◌≡◌, ◌↔◌, ◌<◌, ◌^◌, length, IsNone, IfSome, IsSomeAnd, Contains};
 ghost use Rattle.std.specs.Option.{option_copied};
-ghost use Rattle.locale_data.specs.Locales.{name_of, system_named, own_rows, symbols_of, symbols_in, HasOneWidth, IsLocale, IsUnknown};
+ghost use Rattle.locale_data.specs.Rows.{row_at};
+ghost use Rattle.locale_data.specs.Locales.{name_of, system_named, own_rows, symbols_of, symbols_in, symbols_at, HasOneWidth, IsLocale, IsUnknown};
 ghost use Rattle.decimal_format.specs.Readable.{IsReadable};
 
-use crate::rows::{part, row_named, row_of, unpadded};
+use crate::rows::{indexed_row, number_named, part, row_number, unpadded};
 use crate::symbols::{LocaleSymbols, NumberingSystem, SymbolSet};
 use crate::symbols_table::{LOCALES, LOCALES_BY_SYSTEM, NUMBERING_SYSTEMS};
 use crate::tag::requested_system;
 use decimal_format::{Affixes, DecimalSymbols, GroupingSizes};
 
 #[tactic(auto, unfolding(crate::specs::Locales::system_named))]
-fn system_named(name: &[u8]) -> Option<&'static NumberingSystem>
-    ensures { option_copied result ≡ system_named name.now }
+fn system_named(name: &[u8]) -> Option<usize>
+    ensures value { row_at NUMBERING_SYSTEMS result ≡ system_named name.now }
+    ensures inside { IfSome result (λ i. i < length NUMBERING_SYSTEMS) }
 {
-    row_named(&NUMBERING_SYSTEMS, name)
+    number_named(&NUMBERING_SYSTEMS, name)
 }
 
 #[tactic(auto, using(crate::proofs::Unknown::named_by))]
-fn system_of(tag: &[u8], locale: &LocaleSymbols) -> Option<&'static NumberingSystem>
-    ensures { option_copied result ≡ system_named (name_of tag.now locale.now) }
+fn system_of(tag: &[u8], locale: &LocaleSymbols) -> Option<usize>
+    ensures value { row_at NUMBERING_SYSTEMS result ≡ system_named (name_of tag.now locale.now) }
+    ensures inside { IfSome result (λ i. i < length NUMBERING_SYSTEMS) }
 {
     system_named(requested_system(tag).unwrap_or(unpadded(&locale.system)))
 }
@@ -72,6 +75,57 @@ fn symbols_in(
     }
 }
 
+/// The rows of a tag in the tables of symbols, by their indices. They are the same as long as the tables are.
+#[derive(Clone, Copy)]
+pub struct LocaleNumbers {
+    /// The row of the locale in `LOCALES`.
+    pub locale: u16,
+    /// The numbering system in `NUMBERING_SYSTEMS`.
+    pub system: u16,
+    /// The row of the symbols among those of the numbering system, if it has some for the locale.
+    pub own: Option<u16>,
+}
+
+fn in_16_bits(number: Option<usize>) -> Option<u16>
+    requires { IfSome number (λ n. n < 2 ^ 16) }
+    ensures { result ≡ number }
+{
+    match number {
+        Some(number) => Some(number as u16),
+        None => None,
+    }
+}
+
+/// Returns the rows of a tag, from which [`symbols_at`] makes its symbols. Returns `None` where [`locale`] does.
+pub fn locale_numbers(tag: &str) -> Option<LocaleNumbers>
+    ensures found { IfSome result (λ n. IsSomeAnd (symbols_at n) (IsLocale tag.now)) }
+    ensures unknown { IsNone result ↔ IsUnknown tag.now }
+{
+    let tag = tag.as_bytes();
+    let locale = row_number(&LOCALES, tag)?;
+    let system = system_of(tag, indexed_row(&LOCALES, locale))?;
+    let own = row_number(own_rows(indexed_row(&NUMBERING_SYSTEMS, system)), tag);
+    Some(LocaleNumbers {
+        locale: locale as u16,
+        system: system as u16,
+        own: in_16_bits(own),
+    })
+}
+
+/// Returns the symbols of a locale from its rows, and `None` if there are no such rows.
+pub fn symbols_at(numbers: LocaleNumbers) -> Option<DecimalSymbols<'static>>
+    ensures value { result ≡ symbols_at numbers }
+    ensures readable { IfSome result (λ s. IsReadable s) }
+{
+    let locale = LOCALES.get(numbers.locale as usize)?;
+    let system = NUMBERING_SYSTEMS.get(numbers.system as usize)?;
+    let Some(own) = numbers.own else {
+        return Some(symbols_in(system, locale, None));
+    };
+    let own = own_rows(system).get(own as usize)?;
+    Some(symbols_in(system, locale, Some(own)))
+}
+
 /// Returns the symbols of a locale.
 ///
 /// `tag` is a tag of BCP 47, as `de-CH` or `hi-u-nu-deva`, or the name of a locale in a shell, as `de_CH.UTF-8`.
@@ -91,9 +145,8 @@ pub fn locale(tag: &str) -> Option<DecimalSymbols<'static>>
     ensures readable { IfSome result (λ s. IsReadable s) }
     ensures unknown { IsNone result ↔ IsUnknown tag.now }
 {
-    let tag = tag.as_bytes();
-    let locale = row_of(&LOCALES, tag)?;
-    let system = system_of(tag, locale)?;
-    let own = row_of(own_rows(system), tag);
-    Some(symbols_in(system, locale, own))
+    match locale_numbers(tag) {
+        Some(numbers) => symbols_at(numbers),
+        None => None,
+    }
 }

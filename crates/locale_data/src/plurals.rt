@@ -1,9 +1,10 @@
 //! The plural rules of a tag.
-ghost use Rattle.std.specs.Prelude.{◌≡◌, Some, IfSome, IfNone, Contains};
-ghost use Rattle.locale_data.specs.Plurals.{rules_text, IsRulesText, HasNoRules, IsRulesOf};
+ghost use Rattle.std.specs.Prelude.{◌≡◌, Some, IfSome, IfNone, IsSomeAnd, Contains};
+ghost use Rattle.std.specs.Option.{option_copied};
+ghost use Rattle.locale_data.specs.Plurals.{rules_text, rules_text_at, IsRulesText, HasNoRules, IsRulesAt, IsRulesOf};
 
 use crate::plurals_table::{PLURAL_RULES, PLURAL_RULES_TEXTS};
-use crate::rows::{Name, Row, TableRange, part, row_of};
+use crate::rows::{Name, Row, TableRange, part, row_number};
 use crate::symbols_table::LOCALES;
 use plural_rules::PluralRules;
 use std::alloc::Global;
@@ -46,6 +47,51 @@ fn rules_text(language: &LanguageRules, rule_type: PluralRuleType) -> &'static [
     }
 }
 
+/// The plural rules of a tag: the index of its language in `PLURAL_RULES`, and the type. A tag that has no rules but
+/// symbols has no index, and the rules `other:`.
+#[derive(Clone, Copy)]
+pub struct RulesNumber {
+    /// The index of the language.
+    pub language: Option<u16>,
+    /// What the rules are for.
+    pub rule_type: PluralRuleType,
+}
+
+/// Returns the plural rules of a tag, as [`rules_text_at`] and [`plural_rules_at`] take them. Returns `None` where
+/// [`plural_rules_text`] does.
+pub fn plural_rules_number(tag: &str, rule_type: PluralRuleType) -> Option<RulesNumber>
+    ensures found { IfSome result (λ n. IsSomeAnd (rules_text_at n) (IsRulesText tag.now rule_type)) }
+    ensures unknown { IfNone result (HasNoRules tag.now) }
+{
+    let tag = tag.as_bytes();
+    if let Some(index) = row_number(&PLURAL_RULES, tag) {
+        return Some(RulesNumber {
+            language: Some(index as u16),
+            rule_type,
+        });
+    }
+    match row_number(&LOCALES, tag) {
+        Some(_) => Some(RulesNumber {
+            language: None,
+            rule_type,
+        }),
+        None => None,
+    }
+}
+
+/// Returns the text of plural rules, and `None` if no language has the index.
+pub fn rules_text_at(number: RulesNumber) -> Option<&'static [u8]>
+    ensures { option_copied result ≡ rules_text_at number }
+{
+    let Some(index) = number.language else {
+        return Some(b"other:");
+    };
+    match PLURAL_RULES.get(index as usize) {
+        Some(language) => Some(rules_text(language, number.rule_type)),
+        None => None,
+    }
+}
+
 /// Returns the text of the plural rules of a tag, as `PluralRules` parses it.
 ///
 /// The rules are those of the listed language with the longest tag that is `tag` or has a hyphen after it there;
@@ -59,13 +105,9 @@ pub fn plural_rules_text(tag: &str, rule_type: PluralRuleType) -> Option<&'stati
     ensures found { IfSome result (λ text. IsRulesText tag.now rule_type text.now) }
     ensures unknown { IfNone result (HasNoRules tag.now) }
 {
-    let tag = tag.as_bytes();
-    match row_of(&PLURAL_RULES, tag) {
-        Some(language) => Some(rules_text(language, rule_type)),
-        None => match row_of(&LOCALES, tag) {
-            Some(_) => Some(b"other:"),
-            None => None,
-        },
+    match plural_rules_number(tag, rule_type) {
+        Some(number) => rules_text_at(number),
+        None => None,
     }
 }
 
@@ -76,6 +118,24 @@ pub enum PluralRulesError {
     UnknownLocale,
     /// Out of memory.
     Memory,
+}
+
+/// Returns plural rules: those of `rules_text_at`.
+///
+/// # Errors
+///
+/// No language has the index, or the program is out of memory.
+pub fn plural_rules_at(alloc: Global, number: RulesNumber) -> Result<PluralRules, PluralRulesError>
+    ensures { IsRulesAt number result }
+{
+    let Some(text) = rules_text_at(number) else {
+        return Err(PluralRulesError::UnknownLocale);
+    };
+    match PluralRules::try_from_utf8(alloc, text) {
+        Ok(rules) => Ok(rules),
+        // The texts of the table are rules.
+        Err(_) => Err(PluralRulesError::Memory),
+    }
 }
 
 /// Returns the plural rules of a tag: those of `plural_rules_text`.
@@ -95,12 +155,8 @@ pub fn plural_rules_of(
 ) -> Result<PluralRules, PluralRulesError>
     ensures { IsRulesOf tag.now rule_type result }
 {
-    let Some(text) = plural_rules_text(tag, rule_type) else {
-        return Err(PluralRulesError::UnknownLocale);
-    };
-    match PluralRules::try_from_utf8(alloc, text) {
-        Ok(rules) => Ok(rules),
-        // The texts of the table are rules.
-        Err(_) => Err(PluralRulesError::Memory),
+    match plural_rules_number(tag, rule_type) {
+        Some(number) => plural_rules_at(alloc, number),
+        None => Err(PluralRulesError::UnknownLocale),
     }
 }

@@ -1,9 +1,9 @@
 //! Tables whose rows are sorted by name.
-ghost use Rattle.std.specs.Prelude.{◌≡◌, ◌≤◌, ℕ, List, length, true};
+ghost use Rattle.std.specs.Prelude.{◌≡◌, ◌≤◌, ◌<◌, ℕ, List, length, take, slice_get, Some, true, false, IfSome};
 ghost use Rattle.std.specs.Option.{option_copied};
 ghost use Rattle.locale_data.specs.Tag.{compared};
-ghost use Rattle.locale_data.specs.Rows.{part, is_inside, unpadded, row_named, IsRowOf};
-ghost use Rattle.locale_data.specs.SortedRows.{number, is_table, longer};
+ghost use Rattle.locale_data.specs.Rows.{part, is_inside, unpadded, row_at, row_named, IsRowOf};
+ghost use Rattle.locale_data.specs.SortedRows.{number, is_table, ends_at, IsFar, HasNoLonger};
 
 use crate::tag::{is_named, tag_byte};
 
@@ -28,6 +28,14 @@ pub fn part<'a, T>(table: &'a [T], range: TableRange) -> &'a [T]
     ensures { result.now ≡ part table.now range }
 {
     &table[range.0 as usize..range.1 as usize]
+}
+
+/// Returns the row with an index.
+pub fn indexed_row<R>(rows: &[R], index: usize) -> &R
+    requires { index < length rows.now }
+    ensures { slice_get rows.now index ≡ Some result.now }
+{
+    &rows[index]
 }
 
 pub fn unpadded(padded: &[u8]) -> &[u8]
@@ -57,31 +65,91 @@ fn number(name: &[u8]) -> u128
     number
 }
 
+/// Returns whether the number of the row at an index is less than 256^(16 - end) above another.
+fn is_near<R: Row>(rows: &[R], index: usize, number: u128, end: usize) -> bool
+    ensures { result ≡ false → IsFar R.name rows.now index number end }
+{
+    if end == 0 || end >= 16 {
+        return true;
+    }
+    match rows.get(index) {
+        Some(row) => {
+            u128::from_be_bytes(row.name()).saturating_sub(number) < 1u128 << (8 * (16 - end))
+        }
+        None => false,
+    }
+}
+
+/// What a search for a part of a tag finds.
+#[derive(Clone, Copy)]
+struct Found {
+    /// The index of the row that it names.
+    row: Option<usize>,
+    /// Whether a longer part may name a row.
+    may_be_longer: bool,
+}
+
+/// Searches for the row that the first bytes of a tag name.
+fn search<R: Row>(rows: &[R], tag: &[u8], end: usize) -> Found
+    requires table { is_table R.name rows.now ≡ true }
+    requires inside { end ≤ length tag.now }
+    requires ends { ends_at tag.now end ≡ true }
+    ensures row { row_at rows.now result.row ≡ row_named R.name rows.now (compared (take end tag.now)) }
+    ensures inside { IfSome result.row (λ i. i < length rows.now) }
+    ensures longer { result.may_be_longer ≡ false → HasNoLonger R.name rows.now tag.now end }
+{
+    let name = &tag[..end];
+    let number = number(name);
+    match rows.binary_search_by_key(&number, |row| u128::from_be_bytes(row.name())) {
+        Ok(index) => Found {
+            row: is_named(unpadded(&rows[index].name()), name).then_some(index),
+            may_be_longer: is_near(rows, index + 1, number, end),
+        },
+        Err(index) => Found {
+            row: None,
+            may_be_longer: is_near(rows, index, number, end),
+        },
+    }
+}
+
+/// Returns the index of the row with a name.
+pub fn number_named<R: Row>(rows: &[R], name: &[u8]) -> Option<usize>
+    requires { is_table R.name rows.now ≡ true }
+    ensures value { row_at rows.now result ≡ row_named R.name rows.now (compared name.now) }
+    ensures inside { IfSome result (λ i. i < length rows.now) }
+{
+    search(rows, name, name.len()).row
+}
+
 /// Returns the row with a name.
 pub fn row_named<'a, R: Row>(rows: &'a [R], name: &[u8]) -> Option<&'a R>
     requires { is_table R.name rows.now ≡ true }
     ensures { option_copied result ≡ row_named R.name rows.now (compared name.now) }
 {
-    let number = number(name);
-    match rows.binary_search_by_key(&number, |row| u128::from_be_bytes(row.name())) {
-        Ok(index) => {
-            let row = &rows[index];
-            is_named(unpadded(&row.name()), name).then_some(row)
-        }
-        Err(_) => None,
+    match number_named(rows, name) {
+        Some(index) => Some(indexed_row(rows, index)),
+        None => None,
     }
 }
 
-fn longer<'a, R: Row>(rows: &'a [R], tag: &[u8], end: usize, found: Option<&'a R>) -> Option<&'a R>
-    requires table { is_table R.name rows.now ≡ true }
-    requires inside { end ≤ length tag.now }
-    ensures { option_copied result ≡ longer R.name rows.now tag.now end (option_copied found.entry) }
+/// Returns the index of the row with the longest name that is a tag, or has a hyphen after it there.
+pub fn row_number<R: Row>(rows: &[R], tag: &[u8]) -> Option<usize>
+    requires { is_table R.name rows.now ≡ true }
+    ensures value { IsRowOf R.name rows.now tag.now (row_at rows.now result) }
+    ensures inside { IfSome result (λ i. i < length rows.now) }
 {
-    if end == tag.len() || tag_byte(tag[end]) == b'-' {
-        row_named(rows, &tag[..end]).or(found)
-    } else {
-        found
+    let mut found = None;
+    for end in 0..tag.len() {
+        if tag_byte(tag[end]) != b'-' {
+            continue;
+        }
+        let part = search(rows, tag, end);
+        found = part.row.or(found);
+        if !part.may_be_longer {
+            return found;
+        }
     }
+    search(rows, tag, tag.len()).row.or(found)
 }
 
 /// Returns the row with the longest name that is a tag, or has a hyphen after it there.
@@ -89,9 +157,8 @@ pub fn row_of<'a, R: Row>(rows: &'a [R], tag: &[u8]) -> Option<&'a R>
     requires { is_table R.name rows.now ≡ true }
     ensures { IsRowOf R.name rows.now tag.now (option_copied result) }
 {
-    let mut found: Option<&'a R> = None;
-    for end in 0..tag.len() {
-        found = longer(rows, tag, end, found);
+    match row_number(rows, tag) {
+        Some(index) => Some(indexed_row(rows, index)),
+        None => None,
     }
-    longer(rows, tag, tag.len(), found)
 }

@@ -1,0 +1,54 @@
+-- Plural categories.
+use Rattle.std.specs.Prelude.{◌≡◌, ℕ, ℤ, pos, ◌⊎◌, List, Some, None, Result, Ok, Err, IsOkAnd}
+use Rattle.fixed_decimal.specs.DecimalText.{read_decimal}
+use Rattle.plural_rules.specs.declared.rules.PluralCategory.{PluralCategory}
+use Rattle.plural_rules.specs.declared.rules.PluralCategory.TheVariants as category
+use Rattle.plural_rules.specs.Operands.{plain}
+use Rattle.plural_rules.specs.Rules.{RuleValue, category_of}
+use Rattle.plural_rules.specs.RulesGrammar.{Grammar}
+use Rattle.plural_rules.specs.RulesParseResult.{IsSyntaxErrorAt, IsLimitErrorAt}
+use Rattle.fixed_decimal_c.specs.declared.error.FdError.{FdError}
+use Rattle.fixed_decimal_c.specs.declared.error.FdError.TheVariants.{Memory, UnknownLocale, RulesSyntax, RulesLimit}
+use Rattle.fixed_decimal_c.specs.Locales.{rules_of_number}
+use Rattle.fixed_decimal_c.specs.Numbers.{ParsingFails}
+
+abbrev pub category_code : PluralCategory → ℤ
+category_code category.Zero = pos 0
+category_code category.One = pos 1
+category_code category.Two = pos 2
+category_code category.Few = pos 3
+category_code category.Many = pos 4
+category_code category.Other = pos 5
+
+-- the category of a text by rules
+abbrev pub HasCategoryIn : Result ℤ FdError → List RuleValue → List ℕ → Type 0
+HasCategoryIn (Ok n) rules text =
+    IsOkAnd (read_decimal text) (λ v. n ≡ category_code (category_of rules (plain v.absolute)))
+HasCategoryIn (Err error) rules text = ParsingFails error text 0
+
+-- why rules are rejected; out of memory only for rules
+abbrev pub RulesFail : FdError → List ℕ → Type 0
+RulesFail (RulesSyntax at) rules = IsSyntaxErrorAt rules at
+RulesFail (RulesLimit at) rules = IsLimitErrorAt rules at
+RulesFail Memory rules = (list : List RuleValue) × Grammar rules list
+RulesFail _ rules = ⊥
+
+-- the category of a text by the text of rules
+abbrev pub HasCategory : Result ℤ FdError → List ℕ → List ℕ → Type 0
+HasCategory answer rules text =
+    ((list : List RuleValue) × Grammar rules list × HasCategoryIn answer list text)
+    ⊎ ((error : FdError) × (answer ≡ Err error) × RulesFail error rules)
+
+-- no rules have the number, or out of memory for them
+abbrev pub RulesNumberFails : FdError → ℕ → Type 0
+RulesNumberFails UnknownLocale number = rules_of_number number ≡ None
+RulesNumberFails Memory number =
+    (rules : List ℕ) × (list : List RuleValue) × (rules_of_number number ≡ Some rules) × Grammar rules list
+RulesNumberFails _ number = ⊥
+
+-- the category of a text by the rules with a number
+abbrev pub HasCategoryOf : Result ℤ FdError → ℕ → List ℕ → Type 0
+HasCategoryOf answer number text =
+    ((rules : List ℕ) × (list : List RuleValue) × (rules_of_number number ≡ Some rules) × Grammar rules list
+    × HasCategoryIn answer list text)
+    ⊎ ((error : FdError) × (answer ≡ Err error) × RulesNumberFails error number)

@@ -1,0 +1,59 @@
+//! Plural categories.
+ghost use Rattle.std.specs.Prelude.{◌≡◌};
+ghost use Rattle.fixed_decimal_c.specs.Categories.{category_code, HasCategoryIn, HasCategory, HasCategoryOf};
+
+use crate::error::FdError;
+use crate::locales::rules_of_number;
+use crate::numbers::read;
+use locale_data::PluralRulesError;
+use plural_rules::{PluralCategory, PluralOperands, PluralRules, RulesError};
+use std::alloc::Global;
+
+/// Returns the number of a category.
+fn category_number(category: PluralCategory) -> i64
+    ensures { result ≡ category_code category }
+{
+    match category {
+        PluralCategory::Zero => 0,
+        PluralCategory::One => 1,
+        PluralCategory::Two => 2,
+        PluralCategory::Few => 3,
+        PluralCategory::Many => 4,
+        PluralCategory::Other => 5,
+    }
+}
+
+/// Returns the number of the plural category of a decimal by rules.
+fn category_in(alloc: Global, rules: &PluralRules, text: &[u8]) -> Result<i64, FdError>
+    ensures { HasCategoryIn result rules.now text.now }
+{
+    let value = read(alloc, text, 0)?;
+    let category = rules.category(&PluralOperands::of_decimal(&value));
+    Ok(category_number(category))
+}
+
+/// Returns the number of the plural category of a decimal by the text of rules.
+pub(crate) fn category_of(alloc: Global, rules: &[u8], text: &[u8]) -> Result<i64, FdError>
+    ensures { HasCategory result rules.now text.now }
+{
+    match PluralRules::try_from_utf8(alloc, rules) {
+        Ok(rules) => category_in(alloc, &rules, text),
+        Err(RulesError::Syntax { at }) => Err(FdError::RulesSyntax { at }),
+        Err(RulesError::Limit { at }) => Err(FdError::RulesLimit { at }),
+        Err(RulesError::Memory) => Err(FdError::Memory),
+    }
+}
+
+/// Returns the number of the plural category of a decimal by the rules with a number.
+pub(crate) fn category_by(alloc: Global, number: u64, text: &[u8]) -> Result<i64, FdError>
+    ensures { HasCategoryOf result number text.now }
+{
+    let Some(rules) = rules_of_number(number) else {
+        return Err(FdError::UnknownLocale);
+    };
+    match locale_data::plural_rules_at(alloc, rules) {
+        Ok(rules) => category_in(alloc, &rules, text),
+        Err(PluralRulesError::UnknownLocale) => Err(FdError::UnknownLocale),
+        Err(PluralRulesError::Memory) => Err(FdError::Memory),
+    }
+}

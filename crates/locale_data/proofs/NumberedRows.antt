@@ -1,0 +1,73 @@
+-- The symbols and the rules that rows make, by their indices.
+use Rattle.std.proofs.Common.{◌≡◌, ℕ, ◌<◌, List, length, Option, Some, None, slice_get, refl, ap, sym, ◌∙◌, subst, inl, inr, arith}
+use Rattle.std.proofs.lemmas.Option.{slice_get_cases, slice_get_past, slice_get_read}
+use Rattle.std.specs.Prelude.{IfSome, IsSomeAnd}
+use Rattle.std.specs.Borrow.{Bor}
+use Rattle.std.specs.Slice.{IsItemAt}
+use Rattle.std.specs.Option.{option_map, option_and_then}
+use Rattle.locale_data.specs.declared.lookup.LocaleNumbers.{LocaleNumbers}
+use Rattle.locale_data.specs.declared.symbols.LocaleSymbols.{LocaleSymbols}
+use Rattle.locale_data.specs.declared.symbols.NumberingSystem.{NumberingSystem}
+use Rattle.locale_data.specs.declared.symbols_table.TheConstants.{LOCALES, NUMBERING_SYSTEMS}
+use Rattle.locale_data.specs.Rows.{row_at}
+use Rattle.locale_data.specs.Locales.{name_of, system_named, own_rows, symbols_in, own_symbols_at, symbols_at, IsListed, IsLocale}
+
+own_symbols : (system : NumberingSystem) (locale : LocaleSymbols) (own : Option ℕ)
+    → IfSome own (λ i. i < length (own_rows system))
+    → own_symbols_at system locale own ≡ Some (symbols_in system locale (row_at (own_rows system) own))
+own_symbols system locale None inside = refl
+own_symbols system locale (Some own) inside = elim ((slice_get_cases (own_rows system) own).1) [
+  | inl at ↦
+      ap (option_map (λ row. symbols_in system locale (Some row))) at.2
+      ∙ ap (λ o. Some (symbols_in system locale o)) (sym at.2)
+  | inr past ↦ absurd (omega (arith, past.0))
+]
+
+-- a row that is looked up by its index
+pub at_some : {X : Type 0} (xs : List X) (i : ℕ) (r : Bor X) → IsItemAt xs i (Some r) → slice_get xs i ≡ Some r.now
+at_some xs i r h = slice_get_read xs (length xs) i r.now refl h.3.0 h.1
+
+pub at_none : {X : Type 0} (xs : List X) (i : ℕ) → IsItemAt xs i None → slice_get xs i ≡ None
+at_none xs i h = slice_get_past xs i h.3
+
+module _ (numbers : LocaleNumbers) where
+  pub no_locale : slice_get LOCALES numbers.locale ≡ None → symbols_at numbers ≡ None
+  unfolding symbols_at
+  no_locale none =
+      ap (option_and_then (λ locale. option_and_then (λ system. own_symbols_at system locale numbers.own)
+      (slice_get NUMBERING_SYSTEMS numbers.system))) none
+
+  module _ (locale : LocaleSymbols) (at_locale : slice_get LOCALES numbers.locale ≡ Some locale) where
+    pub no_system : slice_get NUMBERING_SYSTEMS numbers.system ≡ None → symbols_at numbers ≡ None
+    unfolding symbols_at
+    no_system none =
+        ap (option_and_then (λ locale. option_and_then (λ system. own_symbols_at system locale numbers.own)
+        (slice_get NUMBERING_SYSTEMS numbers.system))) at_locale
+        ∙ ap (option_and_then (λ system. own_symbols_at system locale numbers.own)) none
+
+    pub with_system : (system : NumberingSystem) → slice_get NUMBERING_SYSTEMS numbers.system ≡ Some system
+        → symbols_at numbers ≡ own_symbols_at system locale numbers.own
+    unfolding symbols_at
+    with_system system at_system =
+        ap (option_and_then (λ locale. option_and_then (λ system. own_symbols_at system locale numbers.own)
+        (slice_get NUMBERING_SYSTEMS numbers.system))) at_locale
+        ∙ ap (option_and_then (λ system. own_symbols_at system locale numbers.own)) at_system
+
+-- the rows of a tag make its symbols
+pub symbols_found : (tag : List ℕ) (numbers : LocaleNumbers) (locale : LocaleSymbols) (system : NumberingSystem)
+    → slice_get LOCALES numbers.locale ≡ Some locale → slice_get NUMBERING_SYSTEMS numbers.system ≡ Some system
+    → IsListed LOCALES tag (Some locale) → system_named (name_of tag locale) ≡ Some system
+    → IfSome numbers.own (λ i. i < length (own_rows system))
+    → IsListed (own_rows system) tag (row_at (own_rows system) numbers.own)
+    → IsSomeAnd (symbols_at numbers) (IsLocale tag)
+symbols_found tag numbers locale system at_locale at_system listed named inside own =
+    let found = with_system numbers locale at_locale system at_system ∙ own_symbols system locale numbers.own inside in
+    subst (λ o. IsSomeAnd o (IsLocale tag)) (sym found) (record {
+      locale = locale;
+      system = system;
+      own = row_at (own_rows system) numbers.own;
+      listed = listed;
+      named = named;
+      in_system = own;
+      value = refl;
+    })

@@ -1,0 +1,170 @@
+-- The numbers of parts of a tag: where one part is a prefix of another, their numbers are near.
+use Rattle.std.proofs.Common.{◌≡◌, ℕ, zero, suc, ◌+◌, ◌-◌, ◌*◌, ◌%◌, ◌^◌, ◌<◌, ◌≤◌, nat_lt, true, false, cond, List, length, take, get_or, refl, ap, ap₂, sym, ◌∙◌, subst, inl, inr, lit≤, mod-eq_of_lt, mul_assoc, arith}
+use Rattle.std.proofs.Math.Nat.{pow-le-pow_right, mul-le-mul_right, mul_comm}
+use Rattle.std.proofs.lemmas.Bool.{cases_lt}
+use Rattle.std.proofs.lemmas.Bool.Decides.{nat_tests}
+use Rattle.std.proofs.lemmas.List.{get_or-map, get_or-take, length-map, length-take-le}
+use Rattle.std.proofs.lemmas.Nat.{pow-add}
+use Rattle.locale_data.specs.Tag.{tag_byte, compared}
+use Rattle.locale_data.specs.SortedRows.{padded_byte, number_of_first, number}
+
+plus_one : (n p : ℕ) → (n + 1) * p ≡ n * p + p
+plus_one n p = grind arith
+
+-- ---- One byte more.
+
+power_more : (k : ℕ) → 2 ^ (8 * suc k) ≡ 2 ^ (8 * k) * 256
+power_more k = let e : 8 * suc k ≡ 8 * k + 8 = omega arith in ap (λ i. 2 ^ i) e ∙ pow-add 2 (8 * k) 8
+
+fits : (n b k : ℕ) → n < 2 ^ (8 * k) → b < 256 → n * 256 + b < 2 ^ (8 * suc k)
+fits n b k below byte =
+    let more : suc n * 256 ≤ 2 ^ (8 * k) * 256 = mul-le-mul_right 256 below in
+    subst (λ m. n * 256 + b < m) (sym (power_more k)) (omega arith)
+
+one_more : (text : List ℕ) (k : ℕ) → k < 16 → padded_byte text k < 256 → number_of_first text k < 2 ^ (8 * k)
+    → number_of_first text (suc k) ≡ number_of_first text k * 256 + padded_byte text k
+one_more text k inside byte below =
+    let n = number_of_first text k in
+    let b = padded_byte text k in
+    let fit = fits n b k below byte in
+    let low : 8 * suc k ≤ 128 = omega arith in
+    let cap : 2 ^ (8 * suc k) ≤ 2 ^ 128 = pow-le-pow_right (lit≤ tt) low in
+    let inner : n * 256 % 2 ^ 128 ≡ n * 256 = mod-eq_of_lt (omega arith) in
+    let outer : (n * 256 + b) % 2 ^ 128 ≡ n * 256 + b = mod-eq_of_lt (omega arith) in
+    ap (λ m. (m + b) % 2 ^ 128) inner ∙ outer
+
+same_first : (s t : List ℕ) (k : ℕ) → ((j : ℕ) → j < k → padded_byte s j ≡ padded_byte t j)
+    → number_of_first s k ≡ number_of_first t k
+same_first s t zero same = refl
+same_first s t (suc k) same =
+    ap₂ (λ n b. (n * 256 % 2 ^ 128 + b) % 2 ^ 128) (same_first s t k (λ j lt. same j (omega arith)))
+    (same k (omega arith))
+
+-- ---- The number by that of the first bytes.
+
+module _ (text : List ℕ) (bytes : (j : ℕ) → padded_byte text j < 256) where
+  first_below : (k : ℕ) → k ≤ 16 → number_of_first text k < 2 ^ (8 * k)
+  first_below zero inside = lit≤ tt
+  first_below (suc k) inside =
+      let below = first_below k (omega arith) in
+      subst (λ m. m < 2 ^ (8 * suc k)) (sym (one_more text k inside (bytes k) below))
+      (fits (number_of_first text k) (padded_byte text k) k below (bytes k))
+
+  next_of : (k : ℕ) → k < 16 → number_of_first text (suc k) ≡ number_of_first text k * 256 + padded_byte text k
+  next_of k inside = one_more text k inside (bytes k) (first_below k (omega arith))
+
+  at_least : (m k top : ℕ) → k + m ≡ top → top ≤ 16
+      → number_of_first text k * 2 ^ (8 * m) ≤ number_of_first text top
+  at_least zero k top e inside =
+      let same : k ≡ top = omega arith in
+      subst (λ i. number_of_first text k * 1 ≤ number_of_first text i) same (omega arith)
+  at_least (suc m) k top e inside =
+      let n = number_of_first text k in
+      let p = 2 ^ (8 * m) in
+      let rest = at_least m (suc k) top (omega arith) inside in
+      let next = subst (λ x. x * p ≤ number_of_first text top) (next_of k (omega arith)) rest in
+      let less : n * 256 * p ≤ (n * 256 + padded_byte text k) * p = mul-le-mul_right p (omega arith) in
+      let whole : n * 2 ^ (8 * suc m) ≡ n * 256 * p =
+      ap (λ x. n * x) (power_more m ∙ mul_comm p 256) ∙ sym (mul_assoc n 256 p) in
+      omega arith
+
+  at_most : (m k top : ℕ) → k + m ≡ top → top ≤ 16
+      → number_of_first text top < (number_of_first text k + 1) * 2 ^ (8 * m)
+  at_most zero k top e inside =
+      let same : k ≡ top = omega arith in
+      subst (λ i. number_of_first text i < (number_of_first text k + 1) * 1) same (omega arith)
+  at_most (suc m) k top e inside =
+      let n = number_of_first text k in
+      let p = 2 ^ (8 * m) in
+      let rest = at_most m (suc k) top (omega arith) inside in
+      let next = subst (λ x. number_of_first text top < (x + 1) * p) (next_of k (omega arith)) rest in
+      let small = bytes k in
+      let more : (n * 256 + padded_byte text k + 1) * p ≤ (n + 1) * 256 * p = mul-le-mul_right p (omega arith) in
+      let whole : (n + 1) * 2 ^ (8 * suc m) ≡ (n + 1) * 256 * p =
+      ap (λ x. (n + 1) * x) (power_more m ∙ mul_comm p 256) ∙ sym (mul_assoc (n + 1) 256 p) in
+      omega arith
+
+number_at_top : (text : List ℕ) (top : ℕ) → top ≡ 16 → number_of_first text top ≡ number text
+unfolding number
+number_at_top text top e = ap (number_of_first text) e
+
+-- ---- Parts of a tag.
+
+tag_byte-small : (b : ℕ) → b < 256 → tag_byte b < 256
+tag_byte-small b small = grind (arith, nat_tests)
+
+module _ (tag : List ℕ) (bytes : (j : ℕ) → get_or tag j 0 < 256) where
+  -- the first bytes of the tag, as they are compared
+  abbrev pub first_bytes : ℕ → List ℕ
+  first_bytes n = compared (take n tag)
+
+  first_bytes-length : (n : ℕ) → n ≤ length tag → length (first_bytes n) ≡ n
+  first_bytes-length n inside = length-map (take n tag) tag_byte ∙ length-take-le n tag inside
+
+  byte_inside : (n j : ℕ) → n ≤ length tag → j < n → padded_byte (first_bytes n) j ≡ tag_byte (get_or tag j 0)
+  byte_inside n j inside lt =
+      let long = first_bytes-length n inside in
+      let taken = length-take-le n tag inside in
+      let in_text : nat_lt j (length (first_bytes n)) ≡ true = grind (arith, nat_tests) in
+      ap (λ b. cond b (get_or (first_bytes n) j 0) 32) in_text
+      ∙ (get_or-map tag_byte (take n tag) j 0 0 (omega arith) ∙ ap tag_byte (get_or-take n tag j 0 lt))
+
+  byte_after : (n j : ℕ) → n ≤ length tag → n ≤ j → padded_byte (first_bytes n) j ≡ 32
+  byte_after n j inside ge =
+      let long = first_bytes-length n inside in
+      let past : nat_lt j (length (first_bytes n)) ≡ false = grind (arith, nat_tests) in
+      ap (λ b. cond b (get_or (first_bytes n) j 0) 32) past
+
+  are_bytes : (n : ℕ) → n ≤ length tag → (j : ℕ) → padded_byte (first_bytes n) j < 256
+  are_bytes n inside j = elim (cases_lt j n) [
+    | inl lt ↦ subst (λ b. b < 256) (sym (byte_inside n j inside lt)) (tag_byte-small (get_or tag j 0) (bytes j))
+    | inr ge ↦ subst (λ b. b < 256) (sym (byte_after n j inside ge)) (lit≤ tt)
+  ]
+
+  module _ (end long : ℕ) (longer : end < long) (inside : long ≤ length tag) (short : end < 16) where
+    same_number : number_of_first (first_bytes end) end ≡ number_of_first (first_bytes long) end
+    same_number =
+        same_first (first_bytes end) (first_bytes long) end (λ j lt.
+        byte_inside end j (omega arith) lt ∙ sym (byte_inside long j inside (omega arith)))
+
+    -- a part that goes on with a hyphen has a greater number
+    pub part_below : tag_byte (get_or tag end 0) ≡ 45 → number (first_bytes end) < number (first_bytes long)
+    part_below hyphen = ordered 16 refl
+      where
+        ordered : (top : ℕ) → top ≡ 16 → number (first_bytes end) < number (first_bytes long)
+        ordered top e =
+            let s = first_bytes end in
+            let t = first_bytes long in
+            let m = 15 - end in
+            let p = 2 ^ (8 * m) in
+            let less = at_most s (are_bytes end (omega arith)) m (suc end) top (omega arith) (omega arith) in
+            let more = at_least t (are_bytes long inside) m (suc end) top (omega arith) (omega arith) in
+            let s_next = next_of s (are_bytes end (omega arith)) end short in
+            let t_next = next_of t (are_bytes long inside) end short in
+            let s_byte = byte_after end end (omega arith) (omega arith) in
+            let t_byte = byte_inside long end inside longer in
+            let same = same_number in
+            let step : number_of_first s (suc end) + 1 ≤ number_of_first t (suc end) = omega arith in
+            let scaled : (number_of_first s (suc end) + 1) * p ≤ number_of_first t (suc end) * p =
+            mul-le-mul_right p step in
+            let s_top = number_at_top s top e in
+            let t_top = number_at_top t top e in
+            omega arith
+
+    -- a longer part has a number that is less than 256 ^ (16 - end) above
+    pub part_near : number (first_bytes long) < number (first_bytes end) + 2 ^ (8 * (16 - end))
+    part_near = near 16 refl
+      where
+        near : (top : ℕ) → top ≡ 16 → number (first_bytes long) < number (first_bytes end) + 2 ^ (8 * (16 - end))
+        near top e =
+            let s = first_bytes end in
+            let t = first_bytes long in
+            let p = 2 ^ (8 * (16 - end)) in
+            let n = number_of_first t end in
+            let less = at_most t (are_bytes long inside) (16 - end) end top (omega arith) (omega arith) in
+            let more = at_least s (are_bytes end (omega arith)) (16 - end) end top (omega arith) (omega arith) in
+            let same = subst (λ x. x * p ≤ number_of_first s top) same_number more in
+            let s_top = number_at_top s top e in
+            let t_top = number_at_top t top e in
+            let both : (n + 1) * p ≡ n * p + p = plus_one n p in
+            omega arith

@@ -1,0 +1,82 @@
+use Rattle.std.proofs.Common.{◌≡◌, Some, None, ap, sym, ◌∙◌, subst}
+use Rattle.std.specs.Prelude.{slice_get}
+use Rattle.std.specs.Option.{option_map}
+use Rattle.locale_data.specs.declared.symbols_table.TheConstants.{LOCALES, NUMBERING_SYSTEMS}
+use Rattle.locale_data.specs.Locales.{symbols_in, own_symbols_at}
+use Rattle.locale_data.proofs.EachRow.{contains_at, listed-width}
+use Rattle.locale_data.proofs.NumberedRows.{at_some, at_none, no_locale, no_system, with_system}
+use Rattle.locale_data.proofs.ReadableRows.{rows_are_readable}
+use Rattle.locale_data.proofs.lookup.symbols_at.Goals as goal
+
+pub returns-in_err-locale-clause-value : goal.returns-in_err-locale-clause-value
+returns-in_err-locale-clause-value c =
+    c.from_residual.ensures
+    ∙ sym (no_locale c.args.numbers (at_none LOCALES c.args.numbers.locale c.in_err-locale.ensures.lookup))
+
+pub returns-in_err-system-clause-value : goal.returns-in_err-system-clause-value
+returns-in_err-system-clause-value c =
+    c.from_residual-in_err-system.ensures
+    ∙ sym (no_system c.args.numbers c.in_ok-locale.locale.now
+    (at_some LOCALES c.args.numbers.locale c.in_ok-locale.locale c.in_ok-locale.ensures.lookup)
+    (at_none NUMBERING_SYSTEMS c.args.numbers.system c.in_err-system.ensures.lookup))
+
+pub symbols_in-requires : goal.symbols_in-requires
+symbols_in-requires c =
+    let system = c.in_ok-system.system in
+    listed-width system.now (contains_at NUMBERING_SYSTEMS c.args.numbers.system system.now
+    (at_some NUMBERING_SYSTEMS c.args.numbers.system system c.in_ok-system.ensures.lookup))
+
+pub returns-in_default-clause-value : goal.returns-in_default-clause-value
+returns-in_default-clause-value c =
+    let locale = c.in_ok-locale.locale in
+    let system = c.in_ok-system.system in
+    let made = with_system c.args.numbers locale.now
+    (at_some LOCALES c.args.numbers.locale locale c.in_ok-locale.ensures.lookup) system.now
+    (at_some NUMBERING_SYSTEMS c.args.numbers.system system c.in_ok-system.ensures.lookup) in
+    ap Some c.symbols_in.ensures ∙ sym (made ∙ ap (own_symbols_at system.now locale.now) c.in_default.is)
+
+pub returns-in_default-clause-readable : goal.returns-in_default-clause-readable
+returns-in_default-clause-readable c =
+    rows_are_readable c.args.numbers c.symbols_in.result (sym (returns-in_default-clause-value c))
+
+pub own_rows-requires : goal.own_rows-requires
+own_rows-requires c =
+    let system = c.in_ok-system.system in
+    contains_at NUMBERING_SYSTEMS c.args.numbers.system system.now
+    (at_some NUMBERING_SYSTEMS c.args.numbers.system system c.in_ok-system.ensures.lookup)
+
+pub returns-in_err-own-clause-value : goal.returns-in_err-own-clause-value
+returns-in_err-own-clause-value c =
+    let locale = c.in_ok-locale.locale in
+    let system = c.in_ok-system.system in
+    let made = with_system c.args.numbers locale.now
+    (at_some LOCALES c.args.numbers.locale locale c.in_ok-locale.ensures.lookup) system.now
+    (at_some NUMBERING_SYSTEMS c.args.numbers.system system c.in_ok-system.ensures.lookup) in
+    let none = at_none c.own_rows.result.now c.in-Some.own c.in_err-own.ensures.lookup in
+    let own = subst (λ rows. slice_get rows c.in-Some.own ≡ None) c.own_rows.ensures none in
+    c.from_residual-in_err-own.ensures
+    ∙ sym (made ∙ ap (own_symbols_at system.now locale.now) c.in-Some.is
+    ∙ ap (option_map (λ row. symbols_in system.now locale.now (Some row))) own)
+
+pub symbols_in-requires-2 : goal.symbols_in-requires-2
+symbols_in-requires-2 c =
+    let system = c.in_ok-system.system in
+    listed-width system.now (contains_at NUMBERING_SYSTEMS c.args.numbers.system system.now
+    (at_some NUMBERING_SYSTEMS c.args.numbers.system system c.in_ok-system.ensures.lookup))
+
+pub returns-clause-value : goal.returns-clause-value
+returns-clause-value c =
+    let locale = c.in_ok-locale.locale in
+    let system = c.in_ok-system.system in
+    let made = with_system c.args.numbers locale.now
+    (at_some LOCALES c.args.numbers.locale locale c.in_ok-locale.ensures.lookup) system.now
+    (at_some NUMBERING_SYSTEMS c.args.numbers.system system c.in_ok-system.ensures.lookup) in
+    let some = at_some c.own_rows.result.now c.in-Some.own c.in_ok-own.own c.in_ok-own.ensures.lookup in
+    let own = subst (λ rows. slice_get rows c.in-Some.own ≡ Some c.in_ok-own.own.now) c.own_rows.ensures some in
+    ap Some c.symbols_in-2.ensures
+    ∙ sym (made ∙ ap (own_symbols_at system.now locale.now) c.in-Some.is
+    ∙ ap (option_map (λ row. symbols_in system.now locale.now (Some row))) own)
+
+pub returns-clause-readable : goal.returns-clause-readable
+returns-clause-readable c =
+    rows_are_readable c.args.numbers c.symbols_in-2.result (sym (returns-clause-value c))
