@@ -224,7 +224,7 @@ skipped=$'line 2: start: syntax\nline 3: start: syntax\nline 4: start: limit\nli
 lines 1 '250\n7\r\nx\n10e32767\n-12\n1e-32767\n4' $'2.50\n\n\n\n-0.12\n\n0.04\n' "$skipped" skip shift:-2
 
 # Status 2: a word names no call or is not UTF-8; nothing is read.
-lines 2 '1\n' '' "$usage" trim
+lines 2 '1\n' '' "$usage" trimm
 lines 2 '1\n' '' "$usage" ''
 lines 2 '1\n' '' "$usage" --
 lines 2 '1\n' '' "$usage" skip skip
@@ -258,6 +258,14 @@ lines 1 'x\nx\n7' $'x\n\n7\n' $'line 2: start: syntax\n' skip header
 lines 0 '\0377' $'\xff\n' '' header
 lines 0 '' '' '' header
 lines 2 'x\n' '' "$usage" header header
+
+# `keep` copies a line that fails.
+lines 1 '250\nx\r\n\n7' $'2.50\nx\r\n\n0.07\n' $'line 2: start: syntax\nline 3: start: syntax\n' keep shift:-2
+lines 1 'a,1\nb\n"c,3\n' $'a,10\nb\n"c,3\n' $'line 2: field\nline 3: quote\n' csv keep field:2 shift:1
+lines 0 '1\n' $'1\n' '' keep
+lines 2 '1\n' '' "$usage" keep skip
+lines 2 '1\n' '' "$usage" skip keep
+lines 2 '1\n' '' "$usage" keep keep
 lines 2 'x\n' '' "$usage" shift:1 header
 lines 2 '1\n' '' "$usage" $'concat:\xc3\x28'
 printf '1\n2\n' > "$room/in"

@@ -14,9 +14,8 @@ use Rattle.cli.specs.Conversion.{IsOutcome, OperationsFail}
 use Rattle.cli.specs.Fields.{Holds, located, within}
 use Rattle.cli.specs.Error.{status_of_operation}
 use Rattle.cli.proofs.Conversions.{error_is_outcome}
-use Rattle.cli.specs.declared.error.ProgramError.TheVariants.{Line}
 use Rattle.cli.specs.declared.filter.Filter.{Filter}
-use Rattle.cli.specs.Filter.{ConversionFails, IsResultOfLine}
+use Rattle.cli.specs.Filter.{ConversionFails, IsResultOfLine, filtered_line}
 use Rattle.cli.specs.FieldConversion.{IsFieldResult, IsLineResult, LineFails, with_text}
 
 -- the bytes from an index to the end
@@ -94,6 +93,7 @@ error_is_result (Some field) conversion line error one h = h
 -- and of the line with this number
 pub rejected_line :
     (filter : Filter) (number : ℕ) (line : List ℕ) (error : OperationError) → status_of_operation error ≡ 1
-    → ConversionFails filter number line error → IsResultOfLine filter number line (Err (Line number error))
+    → ConversionFails filter number line error
+    → IsResultOfLine filter number line (filtered_line filter number line (Err error))
 rejected_line filter number line error one (other, fails) =
     (Err error, inr (other, error_is_result filter.field filter.conversion line error one fails), refl)

@@ -6,7 +6,7 @@ use Rattle.std.specs.declared.alloc.Global.{Global}
 use Rattle.cli.specs.Calls.{HasNumber}
 use Rattle.cli.specs.declared.fields.Field.{Field}
 use Rattle.cli.specs.Fields.{quote}
-use Rattle.cli.specs.declared.filter.OnError.TheVariants.{Stop, Skip}
+use Rattle.cli.specs.declared.filter.OnError.TheVariants.{Stop, Skip, Keep}
 use Rattle.cli.specs.declared.options.Options.{Options}
 
 -- the options of no words
@@ -34,6 +34,7 @@ AddsParameter word old new =
 abbrev pub Adds : List ℕ → Options → Options → Type 0
 Adds word old new =
     ((word ≡ codes "skip") × (old.on_error ≡ Stop) × (new ≡ record old { on_error = Skip }))
+    ⊎ ((word ≡ codes "keep") × (old.on_error ≡ Stop) × (new ≡ record old { on_error = Keep }))
     ⊎ ((word ≡ codes "csv") × (old.is_csv ≡ false) × (new ≡ record old { is_csv = true }))
     ⊎ ((word ≡ codes "header") × (old.has_header ≡ false) × (new ≡ record old { has_header = true }))
     ⊎ AddsParameter word old new

@@ -2,7 +2,7 @@
 ghost use Rattle.std.specs.Prelude.{◌≡◌, ◌≢◌, ◌∷◌, ◌++◌, [], Ok, Err, Some, true, IfErr, IfSome, OnOk, OnErr};
 ghost use Rattle.std.specs.Io.KnownBytes.{Appends, IsAtEnd};
 ghost use Rattle.decimal_digits.specs.AppendsPrefix.{AppendsPrefix};
-ghost use Rattle.cli.specs.Filter.{HasText, ConversionFails, IsErrorOfReading, FiltersLine, FiltersNext};
+ghost use Rattle.cli.specs.Filter.{replacement, HasText, ConversionFails, IsErrorOfReading, FiltersLine, FiltersNext};
 ghost use Rattle.cli.specs.Input.{bytes_left};
 ghost use Rattle.cli.specs.Lines.{Filters, IsConsumed};
 
@@ -25,6 +25,8 @@ pub enum OnError {
     Stop,
     /// It reports the error, writes an empty line, and goes on.
     Skip,
+    /// It reports the error, copies the line, and goes on.
+    Keep,
 }
 
 /// What a filter does to each line of an input.
@@ -41,6 +43,16 @@ pub struct Filter<'a> {
 }
 
 impl Filter<'_> {
+    /// Returns what is written instead of the text of a line that has none.
+    fn replacement<'a>(&self, line: &'a [u8]) -> &'a [u8]
+        ensures { result.now ≡ replacement self.now.on_error line.now }
+    {
+        match self.on_error {
+            OnError::Keep => line,
+            OnError::Stop | OnError::Skip => &[],
+        }
+    }
+
     #[inline(always)]
     fn print<W: Sink>(
         &self,
@@ -88,8 +100,8 @@ fn error_of_reading(line: u64, kind: ErrorKind) -> ProgramError
     }
 }
 
-/// Writes the text of a line and a line feed, and returns whether it has a text. With `Skip` an error of the conversion
-/// is reported, and an empty line is written.
+/// Writes the text of a line and a line feed, and returns whether it has a text. With `Skip` and `Keep` an error of the
+/// conversion is reported, and an empty line or the line itself is written.
 #[inline(always)]
 fn filter_line<W: Sink, D: Diagnostics<ProgramError>>(
     alloc: Global,
@@ -118,7 +130,7 @@ fn filter_line<W: Sink, D: Diagnostics<ProgramError>>(
         return Err(error);
     }
     diagnostics.report(&error);
-    match out.put_byte(b'\n') {
+    match copy_line(filter.replacement(line), out) {
         Ok(()) => Ok(false),
         Err(_) => Err(ProgramError::Output),
     }
@@ -174,11 +186,11 @@ fn filter_next<R: Read, W: Sink, D: Diagnostics<ProgramError>>(
 /// each line has a text.
 ///
 /// A line is all bytes up to a line feed; the bytes after the last line feed are a line if there are any. A header is
-/// copied. With `Skip` the error of a line is reported, and an empty line is written.
+/// copied. With `Skip` and `Keep` the error of a line is reported, and an empty line or the line itself is written.
 ///
 /// # Errors
 ///
-/// - `Operation`: with `Stop`, the run of a line fails; with either, it is out of memory.
+/// - `Line`: with `Stop`, the conversion of a line fails; otherwise, it is out of memory.
 /// - `LongLine`: the reader has failed, out of memory for the line.
 /// - `Input`: the reader has failed otherwise, or there are more lines than a `u64` counts.
 /// - `Output`: the sink failed, after a prefix of the texts of some lines.

@@ -1,6 +1,7 @@
 //! The options that the first words of `fixdec_lines` name.
-ghost use Rattle.std.specs.Prelude.{◌≡◌, ℕ, List, Option, Some, None, IfSome};
+ghost use Rattle.std.specs.Prelude.{◌≡◌, ◌≢◌, ℕ, List, Option, Some, None, IfSome};
 ghost use Rattle.cli.specs.declared.fields.Field.{Field};
+ghost use Rattle.cli.specs.declared.filter.OnError.TheVariants.{Stop};
 ghost use Rattle.cli.specs.declared.options.Options.{Options};
 ghost use Rattle.cli.specs.Options.{IsField, IsDelimiter, none, Adds, AddsParameter, AreOptions, HasField};
 
@@ -11,7 +12,7 @@ use crate::filter::OnError;
 /// The options of a filter, each of which a word names at most once.
 #[derive(Clone, Copy, Debug)]
 pub struct Options<'a> {
-    /// `skip`: what the filter does at a line that fails.
+    /// `skip` or `keep`: what the filter does at a line that fails.
     pub on_error: OnError,
     /// `field:N`: the 0-based index of the field.
     pub index: Option<usize>,
@@ -58,6 +59,17 @@ impl<'a> Options<'a> {
         }
     }
 
+    fn with_on_error(self, on_error: OnError) -> Option<Options<'a>>
+        ensures some { IfSome result (λ next. (self.entry.on_error ≡ Stop)
+            × (next ≡ record self.entry { on_error = on_error })) }
+        ensures none { result ≡ None → self.entry.on_error ≢ Stop }
+    {
+        match self.on_error {
+            OnError::Stop => Some(Options { on_error, ..self }),
+            OnError::Skip | OnError::Keep => None,
+        }
+    }
+
     fn with_parameter(self, word: &'a str) -> Option<Options<'a>>
         ensures some { IfSome result (Adds word.now self.entry) }
         ensures none { result ≡ None → (next : Options) → AddsParameter word.now self.entry next → ⊥ }
@@ -89,13 +101,8 @@ impl<'a> Options<'a> {
         ensures none { result ≡ None → (next : Options) → ¬ Adds word.now self.entry next }
     {
         match word {
-            "skip" => match self.on_error {
-                OnError::Stop => Some(Options {
-                    on_error: OnError::Skip,
-                    ..self
-                }),
-                OnError::Skip => None,
-            },
+            "skip" => self.with_on_error(OnError::Skip),
+            "keep" => self.with_on_error(OnError::Keep),
             "csv" if self.is_csv => None,
             "csv" => Some(Options {
                 is_csv: true,
