@@ -13,7 +13,8 @@ use Rattle.cli.specs.declared.filter.Filter.{Filter}
 use Rattle.cli.specs.declared.filter.OnError.{OnError}
 use Rattle.cli.specs.declared.filter.OnError.TheVariants.{Stop, Keep}
 use Rattle.cli.specs.Error.{status_of_operation}
-use Rattle.cli.specs.FieldConversion.{IsLineResult, LineFails}
+use Rattle.cli.specs.FieldConversion.{IsLineResult, LineFails, map_text}
+use Rattle.cli.specs.Trim.{body_of, with_body_of}
 use Rattle.cli.specs.Input.{IsRead}
 
 -- ---- The result of a line.
@@ -22,20 +23,42 @@ use Rattle.cli.specs.Input.{IsRead}
 abbrev pub IsHeader : Filter → ℕ → Type 0
 IsHeader filter number = (filter.has_header ≡ true) × (number ≡ 1)
 
+-- the result of converting the line with this number: with `trim` what is around its bytes is copied
+abbrev pub IsConvertedLine : Filter → ℕ → List ℕ → Result (List ℕ) OperationError → Type 0
+IsConvertedLine filter number line result =
+    (converted : Result (List ℕ) OperationError)
+    × IsLineResult filter.trims filter.field filter.conversion (body_of filter.trims number line) converted
+    × (result ≡ map_text (with_body_of filter.trims number line) converted)
+
+-- P holds of the text of converting the line with this number
+abbrev pub HasConvertedLine : Filter → ℕ → List ℕ → (List ℕ → Type 0) → Type 0
+HasConvertedLine filter number line P = (text : List ℕ) × IsConvertedLine filter number line (Ok text) × P text
+
 -- the result of the line with this number: a header is its own text, and each other line is converted
 abbrev pub IsTextOrError : Filter → ℕ → List ℕ → Result (List ℕ) OperationError → Type 0
 IsTextOrError filter number line result =
     (IsHeader filter number × (result ≡ Ok line))
-    ⊎ (¬ IsHeader filter number × IsLineResult filter.field filter.conversion line result)
+    ⊎ (¬ IsHeader filter number × IsConvertedLine filter number line result)
 
 -- P holds of the text of the line with this number
 abbrev pub HasText : Filter → ℕ → List ℕ → (List ℕ → Type 0) → Type 0
 HasText filter number line P = (text : List ℕ) × IsTextOrError filter number line (Ok text) × P text
 
+-- an error with `trim`: a line is converted in memory, whose failed output is out of memory
+abbrev pub in_memory : Bool → OperationError → OperationError
+in_memory true operation.Output = operation.Memory
+in_memory trims error = error
+
+-- converting the line with this number fails with this error
+unfoldable pub ConvertingFails : Filter → ℕ → List ℕ → OperationError → Type 0
+ConvertingFails filter number line error =
+    (why : OperationError)
+    × LineFails filter.trims filter.field filter.conversion (body_of filter.trims number line) why
+    × (error ≡ in_memory filter.trims why)
+
 -- the conversion of the line with this number fails with this error; a header has none
 abbrev pub ConversionFails : Filter → ℕ → List ℕ → OperationError → Type 0
-ConversionFails filter number line error =
-    ¬ IsHeader filter number × LineFails filter.field filter.conversion line error
+ConversionFails filter number line error = ¬ IsHeader filter number × ConvertingFails filter number line error
 
 -- what is written instead of the text of a line that has none: the line itself with `Keep`, and otherwise nothing
 abbrev pub replacement : OnError → List ℕ → List ℕ

@@ -15,4 +15,5 @@ pub mod Lines
 pub mod Options
 pub mod Plural
 pub mod Reader
+pub mod Trim
 pub mod Words

@@ -11,7 +11,14 @@ use Rattle.cli.specs.declared.options.Options.{Options}
 
 -- the options of no words
 abbrev pub none : Options
-none = record { on_error = Stop; index = None; delimiter = None; is_csv = false; has_header = false }
+none = record {
+  on_error = Stop;
+  index = None;
+  delimiter = None;
+  is_csv = false;
+  has_header = false;
+  trims = false;
+}
 
 -- ---- One word.
 
@@ -37,6 +44,7 @@ Adds word old new =
     ⊎ ((word ≡ codes "keep") × (old.on_error ≡ Stop) × (new ≡ record old { on_error = Keep }))
     ⊎ ((word ≡ codes "csv") × (old.is_csv ≡ false) × (new ≡ record old { is_csv = true }))
     ⊎ ((word ≡ codes "header") × (old.has_header ≡ false) × (new ≡ record old { has_header = true }))
+    ⊎ ((word ≡ codes "trim") × (old.trims ≡ false) × (new ≡ record old { trims = true }))
     ⊎ AddsParameter word old new
 
 -- ---- Lists of words.

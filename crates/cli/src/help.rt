@@ -34,6 +34,7 @@ csv                     fields may be in quotes, as in RFC 4180
 header                  the first line is copied
 skip                    reports a line that fails, and writes an empty line
 keep                    reports a line that fails, and copies it
+trim                    blanks and tabs around a text are no part of it
 ";
 
 const RULES: &str = "

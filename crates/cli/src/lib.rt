@@ -21,6 +21,7 @@ mod line_feed;
 mod options;
 pub mod plural;
 mod reader;
+mod trim;
 mod words;
 
 pub use calls::parse_calls;

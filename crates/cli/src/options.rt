@@ -22,6 +22,8 @@ pub struct Options<'a> {
     pub is_csv: bool,
     /// `header`: whether the first line is copied.
     pub has_header: bool,
+    /// `trim`: whether what is around a text and around a line is no part of them.
+    pub trims: bool,
 }
 
 fn field_index(word: &str) -> Option<usize>
@@ -56,6 +58,7 @@ impl<'a> Options<'a> {
             delimiter: None,
             is_csv: false,
             has_header: false,
+            trims: false,
         }
     }
 
@@ -111,6 +114,11 @@ impl<'a> Options<'a> {
             "header" if self.has_header => None,
             "header" => Some(Options {
                 has_header: true,
+                ..self
+            }),
+            "trim" if self.trims => None,
+            "trim" => Some(Options {
+                trims: true,
                 ..self
             }),
             _ => self.with_parameter(word),

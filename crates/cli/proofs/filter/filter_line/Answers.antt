@@ -1,5 +1,4 @@
-use Rattle.std.proofs.Common.{◌≡◌, ◌≢◌, [], Ok, Err, refl, ap, arith, rules}
-use Rattle.std.proofs.KnownBytes.{Appends-kept, Appends-nil}
+use Rattle.std.proofs.Common.{◌≡◌, ◌≢◌, Ok, Err, refl, ap, arith, rules}
 use Rattle.cli.specs.declared.error.OperationError.TheVariants.{Output}
 use Rattle.cli.specs.Error.{status_of_operation}
 use Rattle.cli.specs.Filter.{filtered_line}
