@@ -276,6 +276,22 @@ lines 0 '\0377' $'\xff\n' '' header
 lines 0 '' '' '' header
 wrong 'header is not in its place (--help lists all)' header header
 wrong 'header stands after a call' shift:1 header
+
+# `keep` copies a line that fails.
+lines 1 '250\nx\r\n\n7' $'2.50\nx\r\n\n0.07\n' $'line 2: start: syntax\nline 3: start: syntax\n' keep shift:-2
+lines 1 'a,1\nb\n"c,3\n' $'a,10\nb\n"c,3\n' $'line 2: field\nline 3: quote\n' csv keep field:2 shift:1
+lines 0 '1\n' $'1\n' '' keep
+wrong 'skip is not in its place (--help lists all)' keep skip
+wrong 'keep is not in its place (--help lists all)' skip keep
+wrong 'keep is not in its place (--help lists all)' keep keep
+
+# `trim` leaves out blanks and tabs around a text, a carriage return and a byte order mark.
+lines 0 '\ufeff250\r\n\t7 \r\n' $'\ufeff2.50\r\n0.07\r\n' '' trim shift:-2
+lines 0 '\ufeffa; b\r\n1; 250\r\n' $'\ufeffa; b\r\n1; 2.50\r\n' '' trim header field:2 delimiter:; shift:-2
+lines 0 'a, 250 ,"b"\r\n' $'a," 2,500 ","b"\r\n' '' trim csv field:2 shift:1 format:en
+lines 1 'a," 250"\n' '' $'line 1: start: syntax\n' trim csv field:2
+lines 1 '1\n\ufeff1\n' $'1\n' $'line 2: start: syntax\n' trim
+wrong 'trim is not in its place (--help lists all)' trim trim
 printf '1\n2\n' > "$room/in"
 { "$room/fixdec_lines" up > /dev/null 2>&1; [ "$(cat)" = $'1\n2' ]; } < "$room/in"
 judge $? 'the input is not read where a word names no call'

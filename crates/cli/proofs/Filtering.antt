@@ -16,7 +16,7 @@ use Rattle.cli.specs.declared.error.ProgramError.{ProgramError}
 use Rattle.cli.specs.declared.error.ProgramError.TheVariants.{Line, LongLine, Input, Output}
 use Rattle.cli.specs.declared.filter.Filter.{Filter}
 use Rattle.cli.specs.declared.filter.OnError.TheVariants.{Stop}
-use Rattle.cli.specs.Filter.{Effects, IsErrorOfReading, IsResultOfLine, FiltersLine, FiltersNext, output_of_line, errors_of_line}
+use Rattle.cli.specs.Filter.{Effects, FilteredLine, IsErrorOfReading, IsResultOfLine, FiltersLine, FiltersNext, output_of_line, errors_of_line}
 use Rattle.cli.specs.Input.{IsRead}
 use Rattle.cli.specs.Lines.{lines_of, AreRead, AreResults, output_of, errors_of, have_texts, Returns, Filters, IsConsumed}
 use Rattle.cli.proofs.FirstLine.{lines_first}
@@ -46,8 +46,8 @@ read_all a b c lines h is = grind (arith, common_steps)
 -- ---- The results of one line more.
 
 results_more :
-    (filter : Filter) (number : ℕ) (lines : List (List ℕ)) (results : List (Result (List ℕ) ProgramError))
-    (line : List ℕ) (r : Result (List ℕ) ProgramError) → AreResults filter number lines results
+    (filter : Filter) (number : ℕ) (lines : List (List ℕ)) (results : List FilteredLine)
+    (line : List ℕ) (r : FilteredLine) → AreResults filter number lines results
     → IsResultOfLine filter (number + length lines) line r
     → AreResults filter number (lines ++ (line ∷ [])) (results ++ (r ∷ []))
 results_more filter number [] [] line r h is =
@@ -59,7 +59,7 @@ results_more filter number (x ∷ xs) (y ∷ ys) line r (first, rest) is =
 results_more filter number lines results line r never is = absurd never
 
 -- lines that have texts have no errors
-no_errors : (results : List (Result (List ℕ) ProgramError)) → have_texts results ≡ true → errors_of results ≡ []
+no_errors : (results : List FilteredLine) → have_texts results ≡ true → errors_of results ≡ []
 no_errors [] h = refl
 no_errors (r ∷ results) h = grind (arith, h, no_errors results)
 
@@ -103,7 +103,7 @@ pub record Filtered
     : Type 0
   where
     pub lines : List (List ℕ)
-    pub results : List (Result (List ℕ) ProgramError)
+    pub results : List FilteredLine
     pub are_results : AreResults filter 1 lines results
     pub read : AreRead e.input.before lines e.input.after
     pub number : length lines ≡ count
@@ -141,13 +141,13 @@ module _
     -- ---- One more line.
 
     results_next :
-        (line : List ℕ) (r : Result (List ℕ) ProgramError) → IsResultOfLine filter (count + 1) line r
+        (line : List ℕ) (r : FilteredLine) → IsResultOfLine filter (count + 1) line r
         → AreResults filter 1 (h.lines ++ (line ∷ [])) (h.results ++ (r ∷ []))
     results_next line r is =
         let number : count + 1 ≡ 1 + length h.lines = omega (arith, h.number) in
         results_more filter 1 h.lines h.results line r h.are_results (rw number at is)
 
-    module _ (r : Result (List ℕ) ProgramError) where
+    module _ (r : FilteredLine) where
       output_next :
           (q : Option (List ℕ)) → Appends e.output.after q (output_of_line r)
           → Appends e.output.before q (output_of (h.results ++ (r ∷ [])))

@@ -84,6 +84,10 @@ Holds field bytes text =
     ((bytes ≡ text) × (field.is_csv ≡ true → list_any is_quote text ≡ false))
     ⊎ ((field.is_csv ≡ true) × (bytes ≡ quoted text))
 
+-- whether the bytes of a field have quotes, which only CSV has
+abbrev pub is_quoted : Field → List ℕ → Bool
+is_quoted field bytes = field.is_csv && list_any is_quote bytes
+
 -- whether a byte needs quotes around the text: a quote, a carriage return or a line feed
 abbrev pub is_special : ℕ → Bool
 is_special byte = is_quote byte || byte == 13 || byte == 10

@@ -10,9 +10,11 @@ use Rattle.cli.specs.declared.error.OperationError.TheVariants as operation
 use Rattle.cli.specs.declared.error.ProgramError.{ProgramError}
 use Rattle.cli.specs.declared.error.ProgramError.TheVariants.{Line, LongLine, Input, Output}
 use Rattle.cli.specs.declared.filter.Filter.{Filter}
-use Rattle.cli.specs.declared.filter.OnError.TheVariants.{Stop, Skip}
+use Rattle.cli.specs.declared.filter.OnError.{OnError}
+use Rattle.cli.specs.declared.filter.OnError.TheVariants.{Stop, Keep}
 use Rattle.cli.specs.Error.{status_of_operation}
-use Rattle.cli.specs.FieldConversion.{IsLineResult, LineFails}
+use Rattle.cli.specs.FieldConversion.{IsLineResult, LineFails, map_text}
+use Rattle.cli.specs.Trim.{body_of, with_body_of}
 use Rattle.cli.specs.Input.{IsRead}
 
 -- ---- The result of a line.
@@ -21,40 +23,78 @@ use Rattle.cli.specs.Input.{IsRead}
 abbrev pub IsHeader : Filter → ℕ → Type 0
 IsHeader filter number = (filter.has_header ≡ true) × (number ≡ 1)
 
+-- the result of converting the line with this number: with `trim` what is around its bytes is copied
+abbrev pub IsConvertedLine : Filter → ℕ → List ℕ → Result (List ℕ) OperationError → Type 0
+IsConvertedLine filter number line result =
+    (converted : Result (List ℕ) OperationError)
+    × IsLineResult filter.trims filter.field filter.conversion (body_of filter.trims number line) converted
+    × (result ≡ map_text (with_body_of filter.trims number line) converted)
+
+-- P holds of the text of converting the line with this number
+abbrev pub HasConvertedLine : Filter → ℕ → List ℕ → (List ℕ → Type 0) → Type 0
+HasConvertedLine filter number line P = (text : List ℕ) × IsConvertedLine filter number line (Ok text) × P text
+
 -- the result of the line with this number: a header is its own text, and each other line is converted
 abbrev pub IsTextOrError : Filter → ℕ → List ℕ → Result (List ℕ) OperationError → Type 0
 IsTextOrError filter number line result =
     (IsHeader filter number × (result ≡ Ok line))
-    ⊎ (¬ IsHeader filter number × IsLineResult filter.field filter.conversion line result)
+    ⊎ (¬ IsHeader filter number × IsConvertedLine filter number line result)
 
 -- P holds of the text of the line with this number
 abbrev pub HasText : Filter → ℕ → List ℕ → (List ℕ → Type 0) → Type 0
 HasText filter number line P = (text : List ℕ) × IsTextOrError filter number line (Ok text) × P text
 
+-- an error with `trim`: a line is converted in memory, whose failed output is out of memory
+abbrev pub in_memory : Bool → OperationError → OperationError
+in_memory true operation.Output = operation.Memory
+in_memory trims error = error
+
+-- converting the line with this number fails with this error
+unfoldable pub ConvertingFails : Filter → ℕ → List ℕ → OperationError → Type 0
+ConvertingFails filter number line error =
+    (why : OperationError)
+    × LineFails filter.trims filter.field filter.conversion (body_of filter.trims number line) why
+    × (error ≡ in_memory filter.trims why)
+
 -- the conversion of the line with this number fails with this error; a header has none
 abbrev pub ConversionFails : Filter → ℕ → List ℕ → OperationError → Type 0
-ConversionFails filter number line error =
-    ¬ IsHeader filter number × LineFails filter.field filter.conversion line error
+ConversionFails filter number line error = ¬ IsHeader filter number × ConvertingFails filter number line error
 
--- a result with the number of the line in its error
-abbrev pub numbered : ℕ → Result (List ℕ) OperationError → Result (List ℕ) ProgramError
-numbered number (Ok text) = Ok text
-numbered number (Err error) = Err (Line number error)
+-- what is written instead of the text of a line that has none: the line itself with `Keep`, and otherwise nothing
+abbrev pub replacement : OnError → List ℕ → List ℕ
+replacement Keep line = line
+replacement _ line = []
 
--- the same with the number of the line in its error
-abbrev pub IsResultOfLine : Filter → ℕ → List ℕ → Result (List ℕ) ProgramError → Type 0
+-- a line that has no text: its error, and what is written instead
+pub record Rejected : Type 0 where
+  pub error : ProgramError
+  pub output : List ℕ
+
+-- the result of a line: its text, or that it has none
+abbrev pub FilteredLine : Type 0
+FilteredLine = Result (List ℕ) Rejected
+
+-- a text or an error as the result of the line with this number
+abbrev pub filtered_line : Filter → ℕ → List ℕ → Result (List ℕ) OperationError → FilteredLine
+filtered_line filter number line (Ok text) = Ok text
+filtered_line filter number line (Err error) =
+    Err (record { error = Line number error; output = replacement filter.on_error line })
+
+-- the result of the line with this number
+abbrev pub IsResultOfLine : Filter → ℕ → List ℕ → FilteredLine → Type 0
 IsResultOfLine filter number line result =
-    (found : Result (List ℕ) OperationError) × IsTextOrError filter number line found × (result ≡ numbered number found)
+    (found : Result (List ℕ) OperationError) × IsTextOrError filter number line found
+    × (result ≡ filtered_line filter number line found)
 
--- the output of a line: its text and a line feed, or an empty line if it has none
-abbrev pub output_of_line : Result (List ℕ) ProgramError → List ℕ
+-- the output of a line: its text, or what is written instead, and a line feed
+abbrev pub output_of_line : FilteredLine → List ℕ
 output_of_line (Ok text) = text ++ (10 ∷ [])
-output_of_line (Err error) = 10 ∷ []
+output_of_line (Err rejected) = rejected.output ++ (10 ∷ [])
 
 -- the errors of a line: one if it has no text
-abbrev pub errors_of_line : Result (List ℕ) ProgramError → List ProgramError
+abbrev pub errors_of_line : FilteredLine → List ProgramError
 errors_of_line (Ok text) = []
-errors_of_line (Err error) = error ∷ []
+errors_of_line (Err rejected) = rejected.error ∷ []
 
 -- ---- What a filter changes.
 
@@ -88,10 +128,10 @@ IsErrorOfReading number failure (LongLine at) = (at ≡ number) × (failure ≡ 
 IsErrorOfReading number failure Input = IsSomeAnd failure (λ kind. kind ≢ OutOfMemory)
 IsErrorOfReading number failure _ = ⊥
 
--- the error is that of the line with this number, with `Skip` only out of memory
+-- the error is that of the line with this number, with `Skip` and `Keep` only out of memory
 abbrev pub IsErrorOfLine : Filter → ℕ → List ℕ → ProgramError → Type 0
 IsErrorOfLine filter number line (Line at error) =
-    (at ≡ number) × (filter.on_error ≡ Skip → status_of_operation error ≢ 1) × (error ≢ operation.Output)
+    (at ≡ number) × (filter.on_error ≢ Stop → status_of_operation error ≢ 1) × (error ≢ operation.Output)
     × ConversionFails filter number line error
 IsErrorOfLine filter number line _ = ⊥
 
@@ -102,12 +142,12 @@ module _ {D : Type 0} (reports : D → ProgramError → D → Type 0) (filter : 
   -- errors; or `Output`, after a prefix of its output; or another error, and nothing was written and reported
   abbrev pub FiltersLine : List ℕ → Change (Option (List ℕ)) → Change D → Result Bool ProgramError → Type 0
   FiltersLine line output diagnostics (Ok has_text) =
-      (result : Result (List ℕ) ProgramError) × IsResultOfLine filter number line result
+      (result : FilteredLine) × IsResultOfLine filter number line result
       × Appends output.before output.after (output_of_line result)
       × FoldsTo reports diagnostics.before (errors_of_line result) diagnostics.after
       × (has_text ≡ is_ok result) × (filter.on_error ≡ Stop → has_text ≡ true)
   FiltersLine line output diagnostics (Err Output) =
-      (result : Result (List ℕ) ProgramError) × IsResultOfLine filter number line result
+      (result : FilteredLine) × IsResultOfLine filter number line result
       × AppendsPrefix output.before output.after (output_of_line result)
       × FoldsTo reports diagnostics.before (errors_of_line result) diagnostics.after
       × (filter.on_error ≡ Stop → is_ok result ≡ true)

@@ -28,7 +28,7 @@ abbrev pub NamesFilter : List (String Global) → Filter → Type 0
 NamesFilter words filter =
     HasWords words
     (λ options others. (filter.on_error ≡ options.on_error) × (filter.has_header ≡ options.has_header)
-    × HasField options filter.field × NamesConversion others filter.conversion)
+    × (filter.trims ≡ options.trims) × HasField options filter.field × NamesConversion others filter.conversion)
 
 -- they are not, for this error: the options have no field; or they have one, and the other words name no conversion
 abbrev pub FilterFails : List (String Global) → ProgramError → Type 0

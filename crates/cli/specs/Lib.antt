@@ -17,4 +17,5 @@ pub mod Options
 pub mod Plural
 pub mod Reader
 pub mod ShownWord
+pub mod Trim
 pub mod Words

@@ -8,7 +8,7 @@ use Rattle.cli.specs.declared.error.ProgramError.{ProgramError}
 use Rattle.cli.specs.declared.error.ProgramError.TheVariants.{Line, LongLine, Input, Output}
 use Rattle.cli.specs.declared.filter.Filter.{Filter}
 use Rattle.cli.specs.declared.filter.OnError.TheVariants.{Stop}
-use Rattle.cli.specs.Filter.{Change, Effects, IsResultOfLine, output_of_line, errors_of_line, IsErrorOfReading, IsErrorOfLine}
+use Rattle.cli.specs.Filter.{Change, Effects, FilteredLine, IsResultOfLine, output_of_line, errors_of_line, IsErrorOfReading, IsErrorOfLine}
 
 -- ---- The lines of an input.
 
@@ -32,22 +32,22 @@ AreFirst input lines = (left : Option (List ℕ)) × AreRead input lines left
 -- ---- The results of lines.
 
 -- the result of each line, in order; the first has this number
-abbrev pub AreResults : Filter → ℕ → List (List ℕ) → List (Result (List ℕ) ProgramError) → Type 0
+abbrev pub AreResults : Filter → ℕ → List (List ℕ) → List FilteredLine → Type 0
 AreResults filter number [] [] = ⊤
 AreResults filter number (line ∷ lines) (result ∷ results) =
     IsResultOfLine filter number line result × AreResults filter (number + 1) lines results
 AreResults filter number _ _ = ⊥
 
 -- the output of lines with these results
-abbrev pub output_of : List (Result (List ℕ) ProgramError) → List ℕ
+abbrev pub output_of : List FilteredLine → List ℕ
 output_of results = flat_map output_of_line results
 
 -- the errors of lines with these results
-abbrev pub errors_of : List (Result (List ℕ) ProgramError) → List ProgramError
+abbrev pub errors_of : List FilteredLine → List ProgramError
 errors_of results = flat_map errors_of_line results
 
 -- whether each line has a text
-abbrev pub have_texts : List (Result (List ℕ) ProgramError) → Bool
+abbrev pub have_texts : List FilteredLine → Bool
 have_texts results = list_all is_ok results
 
 -- ---- What a filter returns.
@@ -67,7 +67,7 @@ EndsWith filter input failure lines _ = ⊥
 -- the filter returns this after these lines with these results: whether each has a text, after all lines; or an error,
 -- after some
 abbrev pub Returns :
-    Filter → Option (List ℕ) → Option ErrorKind → List (List ℕ) → List (Result (List ℕ) ProgramError)
+    Filter → Option (List ℕ) → Option ErrorKind → List (List ℕ) → List FilteredLine
     → Result Bool ProgramError → Type 0
 Returns filter input failure lines results (Ok texts) = AreAll input lines × (texts ≡ have_texts results)
 Returns filter input failure lines results (Err error) =
@@ -82,7 +82,7 @@ pub record Filters
     : Type 0
   where
     pub lines : List (List ℕ)
-    pub results : List (Result (List ℕ) ProgramError)
+    pub results : List FilteredLine
     pub are_results : AreResults filter 1 lines results
     pub returns : Returns filter effects.input.before effects.failure lines results returned
     pub stop : filter.on_error ≡ Stop → have_texts results ≡ true

@@ -6,14 +6,21 @@ use Rattle.std.specs.declared.alloc.Global.{Global}
 use Rattle.cli.specs.Calls.{HasNumber}
 use Rattle.cli.specs.declared.fields.Field.{Field}
 use Rattle.cli.specs.Fields.{quote}
-use Rattle.cli.specs.declared.filter.OnError.TheVariants.{Stop, Skip}
+use Rattle.cli.specs.declared.filter.OnError.TheVariants.{Stop, Skip, Keep}
 use Rattle.cli.specs.declared.options.Options.{Options}
 use Rattle.cli.specs.declared.error.WordsError.{WordsError}
 use Rattle.cli.specs.declared.error.WordsError.TheVariants.{NoField, QuoteDelimiter}
 
 -- the options of no words
 abbrev pub none : Options
-none = record { on_error = Stop; index = None; delimiter = None; is_csv = false; has_header = false }
+none = record {
+  on_error = Stop;
+  index = None;
+  delimiter = None;
+  is_csv = false;
+  has_header = false;
+  trims = false;
+}
 
 -- ---- One word.
 
@@ -36,8 +43,10 @@ AddsParameter word old new =
 abbrev pub Adds : List ℕ → Options → Options → Type 0
 Adds word old new =
     ((word ≡ codes "skip") × (old.on_error ≡ Stop) × (new ≡ record old { on_error = Skip }))
+    ⊎ ((word ≡ codes "keep") × (old.on_error ≡ Stop) × (new ≡ record old { on_error = Keep }))
     ⊎ ((word ≡ codes "csv") × (old.is_csv ≡ false) × (new ≡ record old { is_csv = true }))
     ⊎ ((word ≡ codes "header") × (old.has_header ≡ false) × (new ≡ record old { has_header = true }))
+    ⊎ ((word ≡ codes "trim") × (old.trims ≡ false) × (new ≡ record old { trims = true }))
     ⊎ AddsParameter word old new
 
 -- the word names an option

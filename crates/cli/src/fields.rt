@@ -5,9 +5,10 @@ ghost use Rattle.std.specs.Cow.{cow_slice_items};
 ghost use Rattle.std.specs.Io.KnownBytes.{Appends};
 ghost use Rattle.decimal_digits.specs.AppendsPrefix.{AppendsPrefix};
 ghost use Rattle.cli.specs.Fields.{is_quote, are_closed, is_outside, bounds, double, doubled, between_quotes, quoted, Holds};
-ghost use Rattle.cli.specs.Fields.{is_special, needs_quotes, bytes_of, record_of, located};
+ghost use Rattle.cli.specs.Fields.{is_quoted, is_special, needs_quotes, bytes_of, record_of, located};
 
 use crate::error::OperationError;
+use crate::trim::without_return;
 use decimal_digits::sink::{Sink, SinkFault};
 use memchr::memmem;
 use std::alloc::{AllocError, Global};
@@ -172,11 +173,11 @@ impl Field<'_> {
     fn record<'a>(&self, line: &'a [u8]) -> &'a [u8]
         ensures { result.now ≡ record_of self.now line.now }
     {
-        let len = line.len();
-        if self.is_csv && len > 0 && line[len - 1] == b'\r' {
-            return &line[..len - 1];
+        if self.is_csv {
+            without_return(line)
+        } else {
+            line
         }
-        line
     }
 
     /// Returns the start and the end of the field in a line.
@@ -208,7 +209,7 @@ impl Field<'_> {
         ensures some { IfOk result (λ found. IfSome found (λ text. Holds self.now bytes.now (cow_slice_items text))) }
         ensures none { result ≡ Ok None → (text : List ℕ) → ¬ Holds self.now bytes.now text }
     {
-        if !self.is_csv || !has_quote(bytes) {
+        if !self.is_quoted(bytes) {
             return Ok(Some(CowSlice::Borrowed(bytes)));
         }
         let Some(inner) = between_quotes(bytes) else {
@@ -221,6 +222,13 @@ impl Field<'_> {
             Some(text) => Ok(Some(CowSlice::Owned(text))),
             None => Ok(None),
         }
+    }
+
+    /// Returns whether the bytes of a field have quotes, which only CSV has.
+    pub fn is_quoted(&self, bytes: &[u8]) -> bool
+        ensures { result ≡ is_quoted self.now bytes.now }
+    {
+        self.is_csv && has_quote(bytes)
     }
 
     fn needs_quotes(&self, text: &[u8]) -> bool

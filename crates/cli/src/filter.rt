@@ -1,20 +1,20 @@
 //! The filter: the conversion of each line of an input.
-ghost use Rattle.std.specs.Prelude.{◌≡◌, ◌≢◌, ◌∷◌, ◌++◌, [], Ok, Err, Some, true, IfErr, IfSome, OnOk, OnErr};
+ghost use Rattle.std.specs.Prelude.{◌≡◌, ◌≢◌, ◌∷◌, ◌++◌, [], Ok, Err, Some, true, false, IfErr, IfSome, OnOk, OnErr};
 ghost use Rattle.std.specs.Io.KnownBytes.{Appends, IsAtEnd};
 ghost use Rattle.decimal_digits.specs.AppendsPrefix.{AppendsPrefix};
-ghost use Rattle.cli.specs.Filter.{HasText, ConversionFails, IsErrorOfReading, FiltersLine, FiltersNext};
+ghost use Rattle.cli.specs.Filter.{IsHeader, replacement, HasConvertedLine, ConvertingFails, HasText, ConversionFails, IsErrorOfReading, FiltersLine, FiltersNext};
 ghost use Rattle.cli.specs.Input.{bytes_left};
 ghost use Rattle.cli.specs.Lines.{Filters, IsConsumed};
 
 use crate::conversion::Conversion;
 use crate::diagnostics::Diagnostics;
 use crate::error::{OperationError, ProgramError};
-use crate::field_conversion::print_field_line;
+use crate::field_conversion::{convert_line, error_in_memory, write_replaced};
 use crate::fields::Field;
-use crate::fixdec::print_line;
 use crate::input::LineReader;
 use crate::line_feed::find_line_feed;
-use fixed_decimal::{Sink, SinkFault};
+use crate::trim::body_bounds;
+use fixed_decimal::{Sink, SinkFault, TextBuf};
 use std::alloc::Global;
 use std::io::{ErrorKind, Read};
 
@@ -25,6 +25,8 @@ pub enum OnError {
     Stop,
     /// It reports the error, writes an empty line, and goes on.
     Skip,
+    /// It reports the error, copies the line, and goes on.
+    Keep,
 }
 
 /// What a filter does to each line of an input.
@@ -38,9 +40,82 @@ pub struct Filter<'a> {
     pub field: Option<Field<'a>>,
     /// Whether the first line is a header, which is copied.
     pub has_header: bool,
+    /// Whether blanks and tabs around a text, a carriage return at the end of a line and a byte order mark at the start
+    /// of the input are no part of what is converted. All but blanks and tabs around a whole line are copied.
+    pub trims: bool,
 }
 
 impl Filter<'_> {
+    /// Returns what is written instead of the text of a line that has none.
+    fn replacement<'a>(&self, line: &'a [u8]) -> &'a [u8]
+        ensures { result.now ≡ replacement self.now.on_error line.now }
+    {
+        match self.on_error {
+            OnError::Keep => line,
+            OnError::Stop | OnError::Skip => &[],
+        }
+    }
+
+    #[inline(always)]
+    fn is_header(&self, number: u64) -> bool
+        ensures yes { result ≡ true → IsHeader self.now number }
+        ensures no { result ≡ false → ¬ IsHeader self.now number }
+    {
+        self.has_header && number == 1
+    }
+
+    /// Converts a line without what is around its bytes, which is copied.
+    fn convert_body<W: Sink>(
+        &self,
+        alloc: Global,
+        number: u64,
+        line: &[u8],
+        sink: &mut W,
+    ) -> Result<(), OperationError>
+        requires { self.now.trims ≡ true }
+        ensures printed { OnOk result (HasConvertedLine self.now number line.now
+            (Appends (W.contents sink.old) (W.contents sink.new))) }
+        ensures fails_with { IfErr result (λ error. error ≢ OperationError.Output
+            → ConvertingFails self.now number line.now error) }
+        ensures unchanged_on_error { IfErr result (λ error. error ≢ OperationError.Output → sink.new ≡ sink.old) }
+        ensures failed { result ≡ Err OperationError.Output → W.has_failed sink.new ≡ true }
+        ensures prefix { result ≡ Err OperationError.Output → HasConvertedLine self.now number line.now
+            (AppendsPrefix (W.contents sink.old) (W.contents sink.new)) }
+    {
+        let bounds = body_bounds(number, line);
+        let body = &line[bounds.0..bounds.1];
+        let mut text = TextBuf::new(alloc);
+        match convert_line(alloc, true, &self.conversion, &self.field, body, &mut text) {
+            Ok(()) => {}
+            Err(error) => return Err(error_in_memory(error)),
+        }
+        write_replaced(line, bounds, text.as_bytes(), sink)?;
+        Ok(())
+    }
+
+    #[inline(always)]
+    fn convert<W: Sink>(
+        &self,
+        alloc: Global,
+        number: u64,
+        line: &[u8],
+        sink: &mut W,
+    ) -> Result<(), OperationError>
+        ensures printed { OnOk result (HasConvertedLine self.now number line.now
+            (Appends (W.contents sink.old) (W.contents sink.new))) }
+        ensures fails_with { IfErr result (λ error. error ≢ OperationError.Output
+            → ConvertingFails self.now number line.now error) }
+        ensures unchanged_on_error { IfErr result (λ error. error ≢ OperationError.Output → sink.new ≡ sink.old) }
+        ensures failed { result ≡ Err OperationError.Output → W.has_failed sink.new ≡ true }
+        ensures prefix { result ≡ Err OperationError.Output → HasConvertedLine self.now number line.now
+            (AppendsPrefix (W.contents sink.old) (W.contents sink.new)) }
+    {
+        if self.trims {
+            return self.convert_body(alloc, number, line, sink);
+        }
+        convert_line(alloc, false, &self.conversion, &self.field, line, sink)
+    }
+
     #[inline(always)]
     fn print<W: Sink>(
         &self,
@@ -58,14 +133,13 @@ impl Filter<'_> {
         ensures prefix { result ≡ Err OperationError.Output → HasText self.now number line.now
             (λ text. AppendsPrefix (W.contents sink.old) (W.contents sink.new) (text ++ 10 ∷ [])) }
     {
-        if self.has_header && number == 1 {
+        if self.is_header(number) {
             copy_line(line, sink)?;
             return Ok(());
         }
-        match &self.field {
-            None => print_line(alloc, &self.conversion, line, sink),
-            Some(field) => print_field_line(alloc, &self.conversion, field, line, sink),
-        }
+        self.convert(alloc, number, line, sink)?;
+        sink.put_byte(b'\n')?;
+        Ok(())
     }
 }
 
@@ -88,8 +162,8 @@ fn error_of_reading(line: u64, kind: ErrorKind) -> ProgramError
     }
 }
 
-/// Writes the text of a line and a line feed, and returns whether it has a text. With `Skip` an error of the conversion
-/// is reported, and an empty line is written.
+/// Writes the text of a line and a line feed, and returns whether it has a text. With `Skip` and `Keep` an error of the
+/// conversion is reported, and an empty line or the line itself is written.
 #[inline(always)]
 fn filter_line<W: Sink, D: Diagnostics<ProgramError>>(
     alloc: Global,
@@ -118,7 +192,7 @@ fn filter_line<W: Sink, D: Diagnostics<ProgramError>>(
         return Err(error);
     }
     diagnostics.report(&error);
-    match out.put_byte(b'\n') {
+    match copy_line(filter.replacement(line), out) {
         Ok(()) => Ok(false),
         Err(_) => Err(ProgramError::Output),
     }
@@ -174,11 +248,11 @@ fn filter_next<R: Read, W: Sink, D: Diagnostics<ProgramError>>(
 /// each line has a text.
 ///
 /// A line is all bytes up to a line feed; the bytes after the last line feed are a line if there are any. A header is
-/// copied. With `Skip` the error of a line is reported, and an empty line is written.
+/// copied. With `Skip` and `Keep` the error of a line is reported, and an empty line or the line itself is written.
 ///
 /// # Errors
 ///
-/// - `Operation`: with `Stop`, the run of a line fails; with either, it is out of memory.
+/// - `Line`: with `Stop`, the conversion of a line fails; otherwise, it is out of memory.
 /// - `LongLine`: the reader has failed, out of memory for the line.
 /// - `Input`: the reader has failed otherwise, or there are more lines than a `u64` counts.
 /// - `Output`: the sink failed, after a prefix of the texts of some lines.

@@ -39,6 +39,7 @@ fn parse_filter(alloc: Global, words: &[String]) -> Result<Filter<'_>, ProgramEr
             conversion,
             field,
             has_header: options.has_header,
+            trims: options.trims,
         }),
         Err(why) => Err(ProgramError::start(Program::FixdecLines, why)),
     }

@@ -63,6 +63,8 @@ delimiter:C             C is between two fields: by default a tab, with csv a co
 csv                     fields may be in quotes, as in RFC 4180
 header                  the first line is copied
 skip                    reports a line that fails, and writes an empty line
+keep                    reports a line that fails, and copies it
+trim                    blanks and tabs around a text are no part of it
 ";
 
 /// What `plural` does, and its words.

@@ -23,6 +23,7 @@ mod options;
 pub mod plural;
 mod reader;
 mod shown_word;
+mod trim;
 mod words;
 
 pub use calls::parse_calls;

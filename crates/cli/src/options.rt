@@ -1,6 +1,7 @@
 //! The options that the first words of `fixdec_lines` name.
-ghost use Rattle.std.specs.Prelude.{◌≡◌, ℕ, List, Option, Some, None, IfSome, true, false};
+ghost use Rattle.std.specs.Prelude.{◌≡◌, ◌≢◌, ℕ, List, Option, Some, None, IfSome, true, false};
 ghost use Rattle.cli.specs.declared.fields.Field.{Field};
+ghost use Rattle.cli.specs.declared.filter.OnError.TheVariants.{Stop};
 ghost use Rattle.cli.specs.declared.options.Options.{Options};
 ghost use Rattle.cli.specs.Options.{IsField, IsDelimiter, none, Adds, AddsParameter, IsOption, AreOptions, HasField, field_error};
 
@@ -12,7 +13,7 @@ use crate::filter::OnError;
 /// The options of a filter, each of which a word names at most once.
 #[derive(Clone, Copy, Debug)]
 pub struct Options<'a> {
-    /// `skip`: what the filter does at a line that fails.
+    /// `skip` or `keep`: what the filter does at a line that fails.
     pub on_error: OnError,
     /// `field:N`: the 0-based index of the field.
     pub index: Option<usize>,
@@ -22,6 +23,8 @@ pub struct Options<'a> {
     pub is_csv: bool,
     /// `header`: whether the first line is copied.
     pub has_header: bool,
+    /// `trim`: whether what is around a text and around a line is no part of them.
+    pub trims: bool,
 }
 
 fn field_index(word: &str) -> Option<usize>
@@ -56,6 +59,18 @@ impl<'a> Options<'a> {
             delimiter: None,
             is_csv: false,
             has_header: false,
+            trims: false,
+        }
+    }
+
+    fn with_on_error(self, on_error: OnError) -> Option<Options<'a>>
+        ensures some { IfSome result (λ next. (self.entry.on_error ≡ Stop)
+            × (next ≡ record self.entry { on_error = on_error })) }
+        ensures none { result ≡ None → self.entry.on_error ≢ Stop }
+    {
+        match self.on_error {
+            OnError::Stop => Some(Options { on_error, ..self }),
+            OnError::Skip | OnError::Keep => None,
         }
     }
 
@@ -90,13 +105,8 @@ impl<'a> Options<'a> {
         ensures none { result ≡ None → (next : Options) → ¬ Adds word.now self.entry next }
     {
         match word {
-            "skip" => match self.on_error {
-                OnError::Stop => Some(Options {
-                    on_error: OnError::Skip,
-                    ..self
-                }),
-                OnError::Skip => None,
-            },
+            "skip" => self.with_on_error(OnError::Skip),
+            "keep" => self.with_on_error(OnError::Keep),
             "csv" if self.is_csv => None,
             "csv" => Some(Options {
                 is_csv: true,
@@ -105,6 +115,11 @@ impl<'a> Options<'a> {
             "header" if self.has_header => None,
             "header" => Some(Options {
                 has_header: true,
+                ..self
+            }),
+            "trim" if self.trims => None,
+            "trim" => Some(Options {
+                trims: true,
                 ..self
             }),
             _ => self.with_parameter(word),

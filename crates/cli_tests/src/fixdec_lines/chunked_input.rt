@@ -79,6 +79,20 @@ const ROWS: &[Row] = &[
         2,
     ),
     (
+        "skip keep",
+        b"1\n",
+        b"",
+        b"fixdec_lines: keep is not in its place (--help lists all)\n",
+        2,
+    ),
+    (
+        "keep skip",
+        b"1\n",
+        b"",
+        b"fixdec_lines: skip is not in its place (--help lists all)\n",
+        2,
+    ),
+    (
         " ",
         b"1\n",
         b"",
@@ -89,6 +103,13 @@ const ROWS: &[Row] = &[
         "skip shift:-2",
         b"250\n\nx\n7",
         b"2.50\n\n\n0.07\n",
+        b"line 2: start: syntax\nline 3: start: syntax\n",
+        1,
+    ),
+    (
+        "keep shift:-2",
+        b"250\n\nx\r\n7",
+        b"2.50\n\nx\r\n0.07\n",
         b"line 2: start: syntax\nline 3: start: syntax\n",
         1,
     ),
@@ -110,6 +131,56 @@ const ROWS: &[Row] = &[
         b"line 3: quote\n",
         1,
     ),
+];
+
+/// Blanks and tabs around a text, carriage returns and a byte order mark.
+const TRIMMED: &[Row] = &[
+    ("trim shift:-2", b" 250\t\r\n7", b"2.50\r\n0.07\n", b"", 0),
+    (
+        "trim shift:-2",
+        b"\xef\xbb\xbf\t250\r\n7 \r",
+        b"\xef\xbb\xbf2.50\r\n0.07\r\n",
+        b"",
+        0,
+    ),
+    (
+        "trim skip",
+        b"\xef\xbb\xbf\r\n\xef\xbb\xbf1\n\xef\xbb\n \t\n1\r\r\n1 2\n\x0b1",
+        b"\n\n\n\n\n\n\n",
+        b"line 1: start: syntax\nline 2: start: syntax\nline 3: start: syntax\nline 4: start: syntax\nline 5: start: syntax\nline 6: start: syntax\nline 7: start: syntax\n",
+        1,
+    ),
+    (
+        "trim keep",
+        b"\xef\xbb\xbf x \r\n 1 \r\n",
+        b"\xef\xbb\xbf x \r\n1\r\n",
+        b"line 1: start: syntax\n",
+        1,
+    ),
+    (
+        "trim header field:2 delimiter:; shift:-2",
+        b"\xef\xbb\xbf a ; b \r\n1; 250\t\r\n2;7\r\n",
+        b"\xef\xbb\xbf a ; b \r\n1; 2.50\t\r\n2;0.07\r\n",
+        b"",
+        0,
+    ),
+    (
+        "trim field:1 shift:-2",
+        b"\xef\xbb\xbf 250 \t\r\n 7\r\n",
+        b"\xef\xbb\xbf 2.50 \t\r\n 0.07\r\n",
+        b"",
+        0,
+    ),
+    (
+        "trim skip csv field:2 shift:1 format:en",
+        b"a, 250 ,\"b\r\na,\t250,\"b\"\r\na,\"250\"\r\na,\" 250\"\na, \"250\"\na, \na,25 ",
+        b"\na,\"\t2,500\",\"b\"\r\na,\"2,500\"\r\n\n\n\na,250 \n",
+        b"line 1: quote\nline 4: start: syntax\nline 5: quote\nline 6: start: syntax\n",
+        1,
+    ),
+    ("trim", b"", b"", b"", 0),
+    ("trim trim", b"1\n", b"", USAGE, 2),
+    ("", b"\xef\xbb\xbf1\n", b"", b"line 1: start: syntax\n", 1),
 ];
 
 /// Fields of lines: all other bytes are copied.
@@ -252,6 +323,7 @@ fn assert_rows(
 fn filters_chunked_input(rt: HostRuntime) -> Result<(), Fail> {
     let alloc = rt.alloc();
     assert_rows(&rt, alloc, ROWS, None)?;
+    assert_rows(&rt, alloc, TRIMMED, None)?;
     assert_rows(&rt, alloc, FIELDS, None)?;
     assert_rows(&rt, alloc, BROKEN, Some(ErrorKind::BrokenPipe))?;
     assert_rows(&rt, alloc, NO_MEMORY, Some(ErrorKind::OutOfMemory))

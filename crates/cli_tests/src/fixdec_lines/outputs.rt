@@ -68,6 +68,13 @@ const ROWS: &[Row] = &[
         (b"line 1: start: syntax\noutput\n", 29),
         3,
     ),
+    (
+        "keep",
+        b"xy\n7\n",
+        (b"xy\n7\n", 2),
+        (b"line 1: start: syntax\noutput\n", 29),
+        3,
+    ),
     ("header", b"x\nx\n", (b"x\n", 1), (b"output\n", 7), 3),
     (
         "up",

@@ -1,8 +1,7 @@
-use Rattle.std.proofs.Common.{◌≡◌, ◌≢◌, [], Ok, Err, refl, ap, arith, rules}
-use Rattle.std.proofs.KnownBytes.{Appends-kept, Appends-nil}
-use Rattle.cli.specs.declared.error.ProgramError.TheVariants.{Line}
+use Rattle.std.proofs.Common.{◌≡◌, ◌≢◌, Ok, Err, refl, ap, arith, rules}
 use Rattle.cli.specs.declared.error.OperationError.TheVariants.{Output}
 use Rattle.cli.specs.Error.{status_of_operation}
+use Rattle.cli.specs.Filter.{filtered_line}
 use Rattle.cli.proofs.FieldLines.{rejected_line}
 use Rattle.cli.proofs.filter.filter_line.Goals as goal
 
@@ -16,27 +15,27 @@ returns-in-Err-Output-clause-filtered g c =
     let (written, is, put) = c.in-Err-Output.ensures.prefix (ap Err c.in-Err-Output.field-0-is) in
     (Ok written, (Ok written, is, refl), put, refl, λ _. refl)
 
-pub returns-in-Ok-put_byte-clause-filtered : goal.returns-in-Ok-put_byte-clause-filtered
-returns-in-Ok-put_byte-clause-filtered g c =
+pub returns-in-Ok-copy_line-clause-filtered : goal.returns-in-Ok-copy_line-clause-filtered
+returns-in-Ok-copy_line-clause-filtered g c =
     let one : status_of_operation c.in-Err.error ≡ 1 = search rules in
-    let real : c.in-Err.error ≢ Output = λ is. absurd (omega (arith, ap status_of_operation is, one)) in (
-      Err (Line c.args.number c.in-Err.error),
+    let real : c.in-Err.error ≢ Output = λ is. absurd (omega (arith, ap status_of_operation is, one)) in
+    let appends = rw (c.replacement.ensures, c.in-Err.ensures.unchanged_on_error real) at c.in-Ok-copy_line.ensures.ok in (
+      filtered_line c.args.filter.now c.args.number c.args.line.now (Err c.in-Err.error),
       rejected_line c.args.filter.now c.args.number c.args.line.now _ one (c.in-Err.ensures.fails_with real),
-      rw (c.in-Err.ensures.unchanged_on_error real) at c.in-Ok-put_byte.ensures.appends,
+      appends,
       (c.report.new.self, c.report.ensures, refl),
       refl,
       search rules,
     )
 
-pub returns-in-Err-put_byte-clause-filtered : goal.returns-in-Err-put_byte-clause-filtered
-returns-in-Err-put_byte-clause-filtered g c =
+pub returns-in-Err-copy_line-clause-filtered : goal.returns-in-Err-copy_line-clause-filtered
+returns-in-Err-copy_line-clause-filtered g c =
     let one : status_of_operation c.in-Err.error ≡ 1 = search rules in
     let real : c.in-Err.error ≢ Output = λ is. absurd (omega (arith, ap status_of_operation is, one)) in
-    let still : c.print.new.sink ≡ c.args.out.now = c.in-Err.ensures.unchanged_on_error real in
-    let none = Appends-nil (g.W.Sink.contents c.print.new.sink) in (
-      Err (Line c.args.number c.in-Err.error),
+    let prefix = rw (c.replacement.ensures, c.in-Err.ensures.unchanged_on_error real) at c.in-Err-copy_line.ensures.err in (
+      filtered_line c.args.filter.now c.args.number c.args.line.now (Err c.in-Err.error),
       rejected_line c.args.filter.now c.args.number c.args.line.now _ one (c.in-Err.ensures.fails_with real),
-      ([], _, refl, rw still at (Appends-kept _ _ _ [] none c.in-Err-put_byte.ensures.keeps)),
+      prefix,
       (c.report.new.self, c.report.ensures, refl),
       search rules,
     )

@@ -5,7 +5,7 @@ use Rattle.decimal_digits.specs.AppendsPrefix.{AppendsPrefix}
 use Rattle.cli.specs.declared.error.ProgramError.{ProgramError}
 use Rattle.cli.specs.declared.error.ProgramError.TheVariants.{Start, Output}
 use Rattle.cli.specs.declared.filter.Filter.{Filter}
-use Rattle.cli.specs.Filter.{Effects}
+use Rattle.cli.specs.Filter.{Effects, FilteredLine}
 use Rattle.cli.specs.Lines.{AreFirst, Returns, Filters, AppendsUnwritten}
 use Rattle.cli.specs.FixdecLines.{IsEarly}
 use Rattle.cli.proofs.Buffers.{append_known-nil}
@@ -21,7 +21,7 @@ abbrev ending : {D : Type 0} → Effects D → Option (List ℕ) → Effects D
 ending e output = record e { output = record { before = e.output.before; after = output } }
 
 are_first :
-    (filter : Filter) (lines : List (List ℕ)) (results : List (Result (List ℕ) ProgramError))
+    (filter : Filter) (lines : List (List ℕ)) (results : List FilteredLine)
     {D : Type 0} (e : Effects D) (r : Result Bool ProgramError)
     → Returns filter e.input.before e.failure lines results r → AreFirst e.input.before lines
 are_first filter lines results e (Ok texts) (all, same) = (Some [], all)
