@@ -12,8 +12,10 @@ pub mod FixdecLines
 pub mod Help
 pub mod Input
 pub mod Lines
+pub mod NamedRules
 pub mod Options
 pub mod Plural
 pub mod Reader
+pub mod ShownWord
 pub mod Trim
 pub mod Words

@@ -57,12 +57,48 @@ const ROWS: &[Row] = &[
     ("", b"1 \n", b"", b"line 1: start: syntax\n", 1),
     ("", b"1\n10e32767\n", b"1\n", b"line 2: start: limit\n", 1),
     ("concat:x", b"0\n", b"", b"line 1: call 0: syntax\n", 1),
-    ("up", b"1\n", b"", USAGE, 2),
-    ("shift:-2 skip", b"1\n", b"", USAGE, 2),
-    ("skip skip", b"1\n", b"", USAGE, 2),
-    ("skip keep", b"1\n", b"", USAGE, 2),
-    ("keep skip", b"1\n", b"", USAGE, 2),
-    (" ", b"1\n", b"", USAGE, 2),
+    (
+        "up",
+        b"1\n",
+        b"",
+        b"fixdec_lines: no such word: up (--help lists all)\n",
+        2,
+    ),
+    (
+        "shift:-2 skip",
+        b"1\n",
+        b"",
+        b"fixdec_lines: skip stands after a call\n",
+        2,
+    ),
+    (
+        "skip skip",
+        b"1\n",
+        b"",
+        b"fixdec_lines: skip is not in its place (--help lists all)\n",
+        2,
+    ),
+    (
+        "skip keep",
+        b"1\n",
+        b"",
+        b"fixdec_lines: keep is not in its place (--help lists all)\n",
+        2,
+    ),
+    (
+        "keep skip",
+        b"1\n",
+        b"",
+        b"fixdec_lines: skip is not in its place (--help lists all)\n",
+        2,
+    ),
+    (
+        " ",
+        b"1\n",
+        b"",
+        b"fixdec_lines: no such word:  (--help lists all)\n",
+        2,
+    ),
     (
         "skip shift:-2",
         b"250\n\nx\n7",
@@ -143,7 +179,13 @@ const TRIMMED: &[Row] = &[
         1,
     ),
     ("trim", b"", b"", b"", 0),
-    ("trim trim", b"1\n", b"", USAGE, 2),
+    (
+        "trim trim",
+        b"1\n",
+        b"",
+        b"fixdec_lines: trim is not in its place (--help lists all)\n",
+        2,
+    ),
     ("", b"\xef\xbb\xbf1\n", b"", b"line 1: start: syntax\n", 1),
 ];
 
@@ -228,10 +270,14 @@ const BROKEN: &[Row] = &[
         b"line 1: start: syntax\ninput\n",
         3,
     ),
-    ("up", b"", b"", USAGE, 2),
+    (
+        "up",
+        b"",
+        b"",
+        b"fixdec_lines: no such word: up (--help lists all)\n",
+        2,
+    ),
 ];
-
-const USAGE: &[u8] = b"usage: fixdec_lines [OPTION].. [read:LOCALE] [CALL].. [format:LOCALE]\n";
 
 /// The reader is out of memory after the input.
 const NO_MEMORY: &[Row] = &[
