@@ -284,10 +284,11 @@ lines 0 '1\n' $'1\n' '' keep
 wrong 'skip is not in its place (--help lists all)' keep skip
 wrong 'keep is not in its place (--help lists all)' skip keep
 wrong 'keep is not in its place (--help lists all)' keep keep
+wrong 'keep stands after a call' shift:1 keep
 
 # `trim` leaves out blanks and tabs around a text, a carriage return and a byte order mark.
 lines 0 '\ufeff250\r\n\t7 \r\n' $'\ufeff2.50\r\n0.07\r\n' '' trim shift:-2
-lines 0 '\ufeffa; b\r\n1; 250\r\n' $'\ufeffa; b\r\n1; 2.50\r\n' '' trim header field:2 delimiter:; shift:-2
+lines 0 '\ufeffa; b\r\n1; 250\r\n' $'\ufeffa; b\r\n1; 2.50\r\n' '' trim header field:2 'delimiter:;' shift:-2
 lines 0 'a, 250 ,"b"\r\n' $'a," 2,500 ","b"\r\n' '' trim csv field:2 shift:1 format:en
 lines 1 'a," 250"\n' '' $'line 1: start: syntax\n' trim csv field:2
 lines 1 '1\n\ufeff1\n' $'1\n' $'line 2: start: syntax\n' trim

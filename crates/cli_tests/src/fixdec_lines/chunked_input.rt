@@ -179,7 +179,13 @@ const TRIMMED: &[Row] = &[
         1,
     ),
     ("trim", b"", b"", b"", 0),
-    ("trim trim", b"1\n", b"", USAGE, 2),
+    (
+        "trim trim",
+        b"1\n",
+        b"",
+        b"fixdec_lines: trim is not in its place (--help lists all)\n",
+        2,
+    ),
     ("", b"\xef\xbb\xbf1\n", b"", b"line 1: start: syntax\n", 1),
 ];
 
