@@ -38,14 +38,14 @@ fail_each() {
   read -r all _ < 0.end
   words="$*"
   [ -n "$all" ] && [ "$all" -gt 10 ]
-  judge "$words: $all allocations"
+  judge $? "$words: $all allocations"
   seq 1 "${all:-0}" | xargs -P "$(nproc)" -I{} bash -c "fail_at ${1@Q} {} ${*:2}"
 }
 
 fail_each /dev/null allocation_failures
 for ((at = 1; at <= ${all:-0}; at++)); do
   [ "$(cat "$at.out")" = 'right when asked again' ]
-  judge "allocation $at of $all: $(cat "$at.out")"
+  judge $? "allocation $at of $all: $(cat "$at.out")"
 done
 
 # No allocation more for more lines.
@@ -57,7 +57,7 @@ read -r few _ < 0.end
 fail_at many 0 fixdec_lines "$call"
 read -r all _ < 0.end
 [ -n "$few" ] && [ "$all" = "$few" ]
-judge "$few allocations for one line, and $all for a thousand"
+judge $? "$few allocations for one line, and $all for a thousand"
 
 # Those of the words, of their calls, of the buffers, of lines that get longer, of long numbers and of concatenations.
 printf '70\n12345678901234567890.125\nx\n1e20\n%0200d\n' 5 > in
@@ -71,7 +71,7 @@ for mode in '' skip; do
     else
       [ "$status" = 3 ] && [ -n "$line" ] && cmp -s "$at.out" <(head -n $((line - 1)) 0.out)
     fi
-    judge "$words, allocation $at of $all: status $status, $(head -c 100 "$at.err" | tr '\n' '|')"
+    judge $? "$words, allocation $at of $all: status $status, $(head -c 100 "$at.err" | tr '\n' '|')"
   done
 done
 
