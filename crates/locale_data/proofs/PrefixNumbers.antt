@@ -1,12 +1,13 @@
 -- The numbers of parts of a tag: where one part is a prefix of another, their numbers are near.
-use Rattle.std.proofs.Common.{◌≡◌, ℕ, zero, suc, ◌+◌, ◌-◌, ◌*◌, ◌%◌, ◌^◌, ◌<◌, ◌≤◌, nat_lt, true, false, cond, List, length, take, get_or, refl, ap, ap₂, sym, ◌∙◌, subst, inl, inr, lit≤, mod-eq_of_lt, mul_assoc, arith}
+use Rattle.std.proofs.Common.{◌≡◌, ℕ, zero, suc, ◌+◌, ◌-◌, ◌*◌, ◌%◌, ◌^◌, ◌<◌, ◌≤◌, ◌⊎◌, nat_lt, true, false, cond, List, length, length-set, set, replicate, slice_index, take, get_or, refl, ap, ap₂, sym, ◌∙◌, subst, inl, inr, lit≤, mod-eq_of_lt, mul_assoc, arith}
 use Rattle.std.proofs.Math.Nat.{pow-le-pow_right, mul-le-mul_right, mul_comm}
 use Rattle.std.proofs.lemmas.Bool.{cases_lt}
 use Rattle.std.proofs.lemmas.Bool.Decides.{nat_tests}
-use Rattle.std.proofs.lemmas.List.{get_or-map, get_or-take, length-map, length-take-le}
+use Rattle.std.proofs.lemmas.List.{get_or-set_same, get_or-set_other, get_or-map, get_or-take, get_or-replicate, length-map, length-take-le}
 use Rattle.std.proofs.lemmas.Nat.{pow-add}
+use Rattle.std.specs.Int.{from_be_bytes, w128}
 use Rattle.locale_data.specs.Tag.{tag_byte, compared}
-use Rattle.locale_data.specs.SortedRows.{padded_byte, number_of_first, number}
+use Rattle.locale_data.specs.SortedRows.{padded_byte, IsPadded, number_of_first, number}
 
 plus_one : (n p : ℕ) → (n + 1) * p ≡ n * p + p
 plus_one n p = grind arith
@@ -88,6 +89,53 @@ number_at_top : (text : List ℕ) (top : ℕ) → top ≡ 16 → number_of_first
 unfolding number
 number_at_top text top e = ap (number_of_first text) e
 
+-- the digits of a number to base 256
+digits_16 : (f b : ℕ → ℕ) → f 0 ≡ 0 → ((k : ℕ) → k < 16 → f (suc k) ≡ f k * 256 + b k) → (p : List ℕ)
+    → ((k : ℕ) → k < 16 → slice_index p k ≡ b k) → from_be_bytes w128 p ≡ f 16
+digits_16 f b none more p is =
+    omega (
+      arith,
+      none,
+      more 0 (lit≤ tt),
+      more 1 (lit≤ tt),
+      more 2 (lit≤ tt),
+      more 3 (lit≤ tt),
+      more 4 (lit≤ tt),
+      more 5 (lit≤ tt),
+      more 6 (lit≤ tt),
+      more 7 (lit≤ tt),
+      more 8 (lit≤ tt),
+      more 9 (lit≤ tt),
+      more 10 (lit≤ tt),
+      more 11 (lit≤ tt),
+      more 12 (lit≤ tt),
+      more 13 (lit≤ tt),
+      more 14 (lit≤ tt),
+      more 15 (lit≤ tt),
+      is 0 (lit≤ tt),
+      is 1 (lit≤ tt),
+      is 2 (lit≤ tt),
+      is 3 (lit≤ tt),
+      is 4 (lit≤ tt),
+      is 5 (lit≤ tt),
+      is 6 (lit≤ tt),
+      is 7 (lit≤ tt),
+      is 8 (lit≤ tt),
+      is 9 (lit≤ tt),
+      is 10 (lit≤ tt),
+      is 11 (lit≤ tt),
+      is 12 (lit≤ tt),
+      is 13 (lit≤ tt),
+      is 14 (lit≤ tt),
+      is 15 (lit≤ tt),
+    )
+
+pub padded_number : (padded text : List ℕ) → ((j : ℕ) → padded_byte text j < 256) → IsPadded padded text
+    → from_be_bytes w128 padded ≡ number text
+padded_number padded text bytes is =
+    digits_16 (number_of_first text) (padded_byte text) refl (next_of text bytes) padded is.1
+    ∙ number_at_top text 16 refl
+
 -- ---- Parts of a tag.
 
 tag_byte-small : (b : ℕ) → b < 256 → tag_byte b < 256
@@ -115,11 +163,39 @@ module _ (tag : List ℕ) (bytes : (j : ℕ) → get_or tag j 0 < 256) where
       let past : nat_lt j (length (first_bytes n)) ≡ false = grind (arith, nat_tests) in
       ap (λ b. cond b (get_or (first_bytes n) j 0) 32) past
 
-  are_bytes : (n : ℕ) → n ≤ length tag → (j : ℕ) → padded_byte (first_bytes n) j < 256
+  pub are_bytes : (n : ℕ) → n ≤ length tag → (j : ℕ) → padded_byte (first_bytes n) j < 256
   are_bytes n inside j = elim (cases_lt j n) [
     | inl lt ↦ subst (λ b. b < 256) (sym (byte_inside n j inside lt)) (tag_byte-small (get_or tag j 0) (bytes j))
     | inr ge ↦ subst (λ b. b < 256) (sym (byte_after n j inside ge)) (lit≤ tt)
   ]
+
+  -- one byte more of the tag
+  pub padded_more : (padded : List ℕ) (end : ℕ) → end < length tag → IsPadded padded (first_bytes end)
+      → IsPadded (set padded end (tag_byte (get_or tag end 0))) (first_bytes (end + 1))
+  padded_more padded end inside (long, is) = (
+    length-set padded end (tag_byte (get_or tag end 0)) ∙ long,
+    λ k short. at k short (cases_lt k end) (cases_lt end k),
+  )
+    where
+      at : (k : ℕ) → k < 16 → (k < end) ⊎ (end ≤ k) → (end < k) ⊎ (k ≤ end)
+          → get_or (set padded end (tag_byte (get_or tag end 0))) k 0 ≡ padded_byte (first_bytes (end + 1)) k
+      at k short (inl lt) other =
+          get_or-set_other padded end k (tag_byte (get_or tag end 0)) 0 (λ e. absurd (omega arith))
+          ∙ (is k short ∙ (byte_inside end k (omega arith) lt ∙ sym (byte_inside (end + 1) k (omega arith) (omega arith))))
+      at k short (inr ge) (inl gt) =
+          get_or-set_other padded end k (tag_byte (get_or tag end 0)) 0 (λ e. absurd (omega arith))
+          ∙ (is k short ∙ (byte_after end k (omega arith) (omega arith)
+          ∙ sym (byte_after (end + 1) k (omega arith) (omega arith))))
+      at k short (inr ge) (inr le) =
+          let same : k ≡ end = omega arith in
+          let within : end < length padded = omega (arith, long) in
+          ap (λ i. get_or (set padded end (tag_byte (get_or tag end 0))) i 0) same
+          ∙ (get_or-set_same padded end (tag_byte (get_or tag end 0)) 0 within
+          ∙ (sym (byte_inside (end + 1) end (omega arith) (omega arith))
+          ∙ ap (padded_byte (first_bytes (end + 1))) (sym same)))
+
+  pub padded_none : IsPadded (replicate 16 32) (first_bytes 0)
+  padded_none = (refl, λ k short. get_or-replicate 16 k 32 0 short ∙ sym (byte_after 0 k (omega arith) (omega arith)))
 
   module _ (end long : ℕ) (longer : end < long) (inside : long ≤ length tag) (short : end < 16) where
     same_number : number_of_first (first_bytes end) end ≡ number_of_first (first_bytes long) end

@@ -9,6 +9,10 @@ use Rattle.locale_data.specs.Rows.{unpadded, is_candidate}
 abbrev pub padded_byte : List ℕ → ℕ → ℕ
 padded_byte text k = if nat_lt k (length text) then slice_index text k else 32
 
+-- 16 bytes: those of a text with spaces after it, or its first
+abbrev pub IsPadded : List ℕ → List ℕ → Type 0
+IsPadded padded text = (length padded ≡ 16) × ((k : ℕ) → k < 16 → slice_index padded k ≡ padded_byte text k)
+
 -- the number whose digits to base 256 are the first bytes of a text with spaces after it, in 128 bits
 abbrev pub number_of_first : List ℕ → ℕ → ℕ
 number_of_first text zero = 0

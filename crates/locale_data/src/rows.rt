@@ -1,9 +1,9 @@
 //! Tables whose rows are sorted by name.
-ghost use Rattle.std.specs.Prelude.{◌≡◌, ◌≤◌, ◌<◌, ℕ, List, length, take, slice_get, Some, true, false, IfSome};
+ghost use Rattle.std.specs.Prelude.{◌≡◌, ◌≤◌, ◌<◌, ℕ, List, length, take, set, slice_get, Some, true, false, IfSome};
 ghost use Rattle.std.specs.Option.{option_copied};
 ghost use Rattle.locale_data.specs.Tag.{compared};
 ghost use Rattle.locale_data.specs.Rows.{part, is_inside, unpadded, row_at, row_named, IsRowOf};
-ghost use Rattle.locale_data.specs.SortedRows.{number, is_table, ends_at, IsFar, HasNoLonger};
+ghost use Rattle.locale_data.specs.SortedRows.{IsPadded, is_table, ends_at, IsFar, HasNoLonger};
 
 use crate::tag::{is_named, tag_byte};
 
@@ -49,20 +49,27 @@ pub fn unpadded(padded: &[u8]) -> &[u8]
     padded
 }
 
-#[tactic(auto, unfolding(crate::specs::SortedRows::number))]
-fn number(name: &[u8]) -> u128
-    ensures { result ≡ number (compared name.now) }
+/// Writes a byte to a name, if it is one of the first 16.
+fn with_byte(padded: Name, index: usize, byte: u8) -> Name
+    ensures { result ≡ set padded index byte }
 {
-    let mut number = 0u128;
-    for index in 0..16 {
-        let byte = if index < name.len() {
-            tag_byte(name[index])
-        } else {
-            b' '
-        };
-        number = number.wrapping_mul(256).wrapping_add(byte as u128);
+    let mut padded = padded;
+    if index < 16 {
+        padded[index] = byte;
     }
-    number
+    padded
+}
+
+/// Returns the bytes of a name as they are compared, with spaces after them: of more than 16, the first 16.
+fn padded(name: &[u8]) -> Name
+    ensures { IsPadded result (compared name.now) }
+{
+    let mut padded = [b' '; 16];
+    for index in 0..name.len() {
+        let before = padded;
+        padded = with_byte(before, index, tag_byte(name[index]));
+    }
+    padded
 }
 
 /// Returns whether the number of the row at an index is less than 256^(16 - end) above another.
@@ -89,17 +96,18 @@ struct Found {
     may_be_longer: bool,
 }
 
-/// Searches for the row that the first bytes of a tag name.
-fn search<R: Row>(rows: &[R], tag: &[u8], end: usize) -> Found
+/// Searches for the row that the first bytes of a tag name, which are passed padded too.
+fn search<R: Row>(rows: &[R], tag: &[u8], end: usize, padded: Name) -> Found
     requires table { is_table R.name rows.now ≡ true }
     requires inside { end ≤ length tag.now }
     requires ends { ends_at tag.now end ≡ true }
+    requires padded { IsPadded padded (compared (take end tag.now)) }
     ensures row { row_at rows.now result.row ≡ row_named R.name rows.now (compared (take end tag.now)) }
     ensures inside { IfSome result.row (λ i. i < length rows.now) }
     ensures longer { result.may_be_longer ≡ false → HasNoLonger R.name rows.now tag.now end }
 {
     let name = &tag[..end];
-    let number = number(name);
+    let number = u128::from_be_bytes(padded);
     match rows.binary_search_by_key(&number, |row| u128::from_be_bytes(row.name())) {
         Ok(index) => Found {
             row: is_named(unpadded(&rows[index].name()), name).then_some(index),
@@ -118,7 +126,7 @@ pub fn number_named<R: Row>(rows: &[R], name: &[u8]) -> Option<usize>
     ensures value { row_at rows.now result ≡ row_named R.name rows.now (compared name.now) }
     ensures inside { IfSome result (λ i. i < length rows.now) }
 {
-    search(rows, name, name.len()).row
+    search(rows, name, name.len(), padded(name)).row
 }
 
 /// Returns the row with a name.
@@ -139,17 +147,21 @@ pub fn row_number<R: Row>(rows: &[R], tag: &[u8]) -> Option<usize>
     ensures inside { IfSome result (λ i. i < length rows.now) }
 {
     let mut found = None;
+    let mut padded = [b' '; 16];
     for end in 0..tag.len() {
-        if tag_byte(tag[end]) != b'-' {
+        let before = padded;
+        let byte = tag_byte(tag[end]);
+        padded = with_byte(before, end, byte);
+        if byte != b'-' {
             continue;
         }
-        let part = search(rows, tag, end);
+        let part = search(rows, tag, end, before);
         found = part.row.or(found);
         if !part.may_be_longer {
             return found;
         }
     }
-    search(rows, tag, tag.len()).row.or(found)
+    search(rows, tag, tag.len(), padded).row.or(found)
 }
 
 /// Returns the row with the longest name that is a tag, or has a hyphen after it there.
