@@ -18,8 +18,7 @@ use Rattle.number_format.specs.declared.notation.Notation.TheVariants.{Standard,
 use Rattle.number_format.specs.declared.precision.Precision.{Precision}
 use Rattle.number_format.specs.declared.precision.Precision.TheVariants.{Fraction, Multiples, Significant, MorePrecision, LessPrecision}
 use Rattle.number_format.specs.ShownDigits.{rounded_at, base_of, position_at}
-use Rattle.number_format.specs.Scaled.{exponent_at, whole_exponent, Settled, settled, compact_exponent, base_exponent, raised}
-use Rattle.number_format.specs.DigitLaws.{HasNoIncrement, IsOrdered, KeepsExponent}
+use Rattle.number_format.specs.Scaled.{exponent_at, whole_exponent, Settled, settled, compact_exponent, base_exponent, raised, HasNoIncrement, IsOrdered, KeepsExponent}
 use Rattle.number_format.proofs.Chosen.{chosen}
 use Rattle.number_format.proofs.Coarser.{carry_coarser}
 use Rattle.number_format.proofs.FirstDigits.{unit_some, kept, limited, IsNear, first_near, order}

@@ -15,8 +15,7 @@ use Rattle.fixed_decimal.proofs.Calling.{extent, first_of, last_of, offset_is, t
 use Rattle.number_format.specs.declared.digit_options.DigitOptions.{DigitOptions}
 use Rattle.number_format.specs.declared.notation.Notation.{Notation}
 use Rattle.number_format.specs.ShownDigits.{Rounded, position_at, rounded_at, rounded_within, shown}
-use Rattle.number_format.specs.Scaled.{whole_exponent, base_exponent, raised, Settled, settled_with, settled, ScaledValue, scaled_value, written, scaled}
-use Rattle.number_format.specs.DigitLaws.{KeepsValueOf}
+use Rattle.number_format.specs.Scaled.{whole_exponent, base_exponent, raised, Settled, settled_with, settled, ScaledValue, scaled_value, written, scaled, KeepsValueOf}
 use Rattle.number_format.proofs.Applied.{shown_number}
 
 -- ---- Shifts.

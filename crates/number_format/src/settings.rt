@@ -1,6 +1,6 @@
 //! The numbers of digits as ECMA-402 reads them.
 ghost use Rattle.std.specs.Prelude.{◌≡◌, ◌≤◌, true, false, not, ◌||◌, ◌&&◌, Some, None, unwrap_or, IfOk, MatchResult};
-ghost use Rattle.number_format.specs.Resolved.{counts, is_auto, has_significant, needs_significant, needs_fraction, significant_of, fraction_of, are_within, are_fraction, IsNamed, IsResolved, first_error, increment_tests, resolve_error};
+ghost use Rattle.number_format.specs.Resolved.{counts, is_auto, given, needs_significant, needs_fraction, significant_of, fraction_of, are_within, are_fraction, IsNamed, IsResolved, first_error, increment_tests, resolve_error};
 ghost use Rattle.number_format.specs.ShownDigits.{increment_of};
 
 use crate::digit_options::{DigitOptions, TrailingZeros};
@@ -77,7 +77,7 @@ impl DigitSettings {
     }
 
     fn has_significant(&self) -> bool
-        ensures { result ≡ has_significant self.now }
+        ensures { result ≡ given self.now.minimum_significant_digits self.now.maximum_significant_digits }
     {
         self.minimum_significant_digits.is_some() || self.maximum_significant_digits.is_some()
     }
@@ -90,7 +90,6 @@ impl DigitSettings {
         !self.is_auto() || !(self.has_significant() || (defaults.is_compact && !has_fraction))
     }
 
-    /// Returns whether only fraction digits apply.
     fn is_fraction(&self, defaults: &DigitDefaults) -> bool
         ensures value { result ≡ (not (needs_significant self.now) && needs_fraction self.now defaults.now) }
         ensures auto { result ≡ true → self.now.rounding_priority ≡ RoundingPriority.Auto }
@@ -148,7 +147,6 @@ impl DigitSettings {
         }
     }
 
-    /// Returns the precision of the numbers of digits.
     fn precision(
         &self,
         defaults: &DigitDefaults,
