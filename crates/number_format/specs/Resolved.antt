@@ -41,20 +41,14 @@ significant_of s =
     if needs_significant s then (unwrap_or s.minimum_significant_digits 1, unwrap_or s.maximum_significant_digits 21)
     else (1, 2)
 
--- of a number of fraction digits that is given alone the other one is the default, if that does not contradict it
-abbrev pub fraction_counts : ℕ → ℕ → Option ℕ → Option ℕ → ℕ × ℕ
-fraction_counts least greatest None None = (least, greatest)
-fraction_counts least greatest None (Some b) = (min least b, b)
-fraction_counts least greatest (Some a) None = (a, max greatest a)
-fraction_counts least greatest (Some a) (Some b) = (a, b)
-
--- the numbers of fraction digits; with an increment the greatest one is by default the least one
+-- the numbers of fraction digits; one that is not given is the default, if that does not contradict the other one; with an
+-- increment the greatest one is by default the least one
 abbrev pub fraction_of : DigitSettings → DigitDefaults → ℕ × ℕ
 fraction_of s d =
-    if needs_fraction s d then
-    fraction_counts d.fraction.min (if s.rounding_increment == 1 then d.fraction.max else d.fraction.min)
-    s.minimum_fraction_digits s.maximum_fraction_digits
-    else (0, 0)
+    let least =
+    unwrap_or s.minimum_fraction_digits (min d.fraction.min (unwrap_or s.maximum_fraction_digits d.fraction.min)) in
+    let most = if s.rounding_increment == 1 then d.fraction.max else d.fraction.min in
+    if needs_fraction s d then (least, unwrap_or s.maximum_fraction_digits (max most least)) else (0, 0)
 
 -- ---- The options.
 abbrev pub counts : ℕ → ℕ → ℕ × ℕ

@@ -123,28 +123,18 @@ impl DigitSettings {
         if !self.needs_fraction(defaults) {
             return Ok(FractionDigits { min: 0, max: 0 });
         }
-        let least = defaults.fraction.min;
-        let most = if self.rounding_increment == 1 {
-            defaults.fraction.max
-        } else {
-            least
-        };
-        match (self.minimum_fraction_digits, self.maximum_fraction_digits) {
-            (None, None) => Ok(FractionDigits {
-                min: least,
-                max: most,
-            }),
-            (None, Some(max)) if max <= 100 => Ok(FractionDigits {
-                min: least.min(max),
-                max,
-            }),
-            (Some(min), None) if min <= 100 => Ok(FractionDigits {
-                min,
-                max: most.max(min),
-            }),
-            (Some(min), Some(max)) if min <= max && max <= 100 => Ok(FractionDigits { min, max }),
-            _ => Err(DigitOptionsError::FractionDigits),
+        let (given_min, given_max) = (self.minimum_fraction_digits, self.maximum_fraction_digits);
+        if given_min.unwrap_or(0) > 100 || given_max.unwrap_or(0) > 100 {
+            return Err(DigitOptionsError::FractionDigits);
         }
+        let least = defaults.fraction.min;
+        let most = if self.rounding_increment == 1 { defaults.fraction.max } else { least };
+        let min = given_min.unwrap_or(least.min(given_max.unwrap_or(least)));
+        let max = given_max.unwrap_or(most.max(min));
+        if min > max {
+            return Err(DigitOptionsError::FractionDigits);
+        }
+        Ok(FractionDigits { min, max })
     }
 
     fn precision(
