@@ -23,7 +23,7 @@ use Rattle.number_format.specs.declared.digit_options.TrailingZeros.{TrailingZer
 use Rattle.number_format.specs.declared.digit_options.TrailingZeros.TheVariants.{Auto, StripIfInteger}
 use Rattle.number_format.specs.declared.precision.Precision.{Precision}
 use Rattle.number_format.specs.declared.precision.Precision.TheVariants.{Fraction, Multiples, Significant, MorePrecision, LessPrecision}
-use Rattle.number_format.specs.ShownDigits.{rounded_with, rounded, padded, stripped, shown, base_of, position_of, position_at, last_shown_of, ApplyFails, IsRoundedAt, RoundingFailsAt}
+use Rattle.number_format.specs.ShownDigits.{rounded_with, padded, stripped, shown, base_of, position_of, position_at, last_shown_of, ApplyFails, IsRoundedAt, RoundingFailsAt}
 use Rattle.number_format.proofs.Chosen.{IsChosen, chosen}
 
 -- at a position below the lowest magnitude the unit is that of the lowest one
@@ -169,7 +169,7 @@ pub apply_fails : (held : ℕ) (e : RoundError) (o : DigitOptions) (v : Decimal)
     → ApplyFails held e o v
 apply_fails held Limit o v (low, none) =
     let below = position_within o.precision v.absolute.number low in
-    elim (cases_Bool (reaches_limit (rounded o v).number)) [
+    elim (cases_Bool (reaches_limit (rounded_with o 0 v).number)) [
       | inl full ↦ rw full refl
       | inr fits ↦ absurd (let some = rw (or_from _ _ (within _ below) fits) at none in cc)
     ]

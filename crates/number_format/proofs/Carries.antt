@@ -4,7 +4,7 @@ use Rattle.std.specs.Prelude.{◌⊎◌, Some, unsigned_abs, ℤ, pos, negsuc, �
 use Rattle.std.specs.Int.{int_max, int_min}
 use Rattle.std.proofs.Math.Nat.{pow-le-pow_right, le-mul_of_pos_right, eq_of_mul-eq-mul_right}
 use Rattle.std.proofs.lemmas.Int.{ints, clamps}
-use Rattle.std.proofs.lemmas.Bool.{cases_lt, cases_Bool}
+use Rattle.std.proofs.lemmas.Bool.{cases_eq, cases_lt, cases_Bool}
 use Rattle.decimal_digits.specs.Number.{offset, number_limit, weight, first}
 use Rattle.decimal_digits.specs.Rounding.{unit_at, rounded_number}
 use Rattle.decimal_digits.specs.declared.rounding.RoundingIncrement.TheVariants.{MultiplesOf1}
@@ -18,16 +18,18 @@ use Rattle.number_format.specs.declared.notation.Notation.TheVariants.{Standard,
 use Rattle.number_format.specs.declared.precision.Precision.{Precision}
 use Rattle.number_format.specs.declared.precision.Precision.TheVariants.{Fraction, Multiples, Significant, MorePrecision, LessPrecision}
 use Rattle.number_format.specs.ShownDigits.{rounded_at, base_of, position_at}
-use Rattle.number_format.specs.Scaled.{exponent_at, whole_exponent, Settled, settled, compact_exponent, base_exponent, raised}
-use Rattle.number_format.specs.DigitLaws.{HasNoIncrement, IsOrdered, KeepsExponent}
+use Rattle.number_format.specs.Scaled.{exponent_at, whole_exponent, Settled, settled, compact_exponent, base_exponent, raised, HasNoIncrement, IsOrdered, KeepsExponent}
 use Rattle.number_format.proofs.Chosen.{chosen}
-use Rattle.number_format.proofs.Coarser.{carry_coarser}
-use Rattle.number_format.proofs.FirstDigits.{unit_some, kept, limited, IsNear, first_near, order}
-use Rattle.number_format.proofs.Scales.{once_or_twice, first_shifted, raised_below, settled_below, keeps_value_of}
+use Rattle.number_format.proofs.FirstDigits.{carry_coarser, unit_some, kept, limited, IsNear, first_near, order}
+use Rattle.number_format.proofs.Scales.{once_or_twice, first_shifted, raised_below, keeps_value_of}
 use Rattle.fixed_decimal.specs.Decimal.{Decimal}
 use Rattle.number_format.specs.declared.notation.CompactExponents.{CompactExponents}
 
 -- ---- The exponents of magnitudes.
+-- a compact exponent is not below 0
+compact_some : (table : CompactExponents) (m : ℤ) → pos 0 ≤ℤ compact_exponent table m
+compact_some table m = grind (arith, ints)
+
 -- the exponent of a magnitude, and 0 if it is below 0
 abbrev pub exponent_from_0 : Notation → ℤ → ℕ
 exponent_from_0 notation m = unsigned_abs (int_max (pos 0) (exponent_at notation m))
@@ -95,14 +97,17 @@ below_weight n m few above = elim (cases_lt 0 n) [
 carry_higher : (mode : UnsignedRoundingMode) (n : ℕ) (p q : ℤ) (k : ℕ) → offset p ≤ offset q → offset q ≤ k
     → n < 10 ^ k → rounded_number mode (unit_at MultiplesOf1 p) n ≡ 10 ^ k
     → rounded_number mode (unit_at MultiplesOf1 q) n ≡ 10 ^ k
-carry_higher mode n p q k h l less made =
-    let split = powers (offset q - offset p) (offset p) (offset q) (omega (arith, h)) in
-    let factor : 10 ^ (k - offset q) ≡ 10 ^ (k - offset q) - 1 + 1 = omega (arith, ten_pos (k - offset q)) in
-    let end : 10 ^ k ≡ (10 ^ (k - offset q) - 1 + 1) * 10 ^ offset q =
-    powers (k - offset q) (offset q) k (omega (arith, l)) ∙ ap (λ x. x * 10 ^ offset q) factor in
-    carry_coarser mode (unit_at MultiplesOf1 p) (10 ^ (offset q - offset p)) (unit_at MultiplesOf1 q) n
-    (10 ^ (k - offset q) - 1) (10 ^ k) (unit_some mode p) (ten_pos (offset q - offset p)) (omega (arith, split))
-    (omega (arith, end)) less made
+carry_higher mode n p q k h l less made = elim (cases_eq (offset p) (offset q)) [
+  | inl same ↦ ap (λ o. rounded_number mode (1 * 10 ^ o) n) (sym same) ∙ made
+  | inr differ ↦
+      let next = powers (offset p) 1 (offset p + 1) refl in
+      let much : 10 ^ (offset p + 1) ≤ 10 ^ offset q = pow-le-pow_right (omega arith) (omega (arith, h, differ)) in
+      let factor : 10 ^ (k - offset q) ≡ 10 ^ (k - offset q) - 1 + 1 = omega (arith, ten_pos (k - offset q)) in
+      let end : 10 ^ k ≡ (10 ^ (k - offset q) - 1 + 1) * 10 ^ offset q =
+      powers (k - offset q) (offset q) k (omega (arith, l)) ∙ ap (λ x. x * 10 ^ offset q) factor in
+      carry_coarser mode (unit_at MultiplesOf1 p) (unit_at MultiplesOf1 q) n (10 ^ (k - offset q) - 1) (10 ^ k)
+      (unit_some mode p) (omega (arith, next, much)) (omega (arith, end)) less made
+]
 
 -- ---- A number that is rounded once, or twice.
 -- its exponent is that of its magnitude; one rounding with it makes the same number; it is another exponent than that of
@@ -221,7 +226,7 @@ module _ (notation : Notation) (o : DigitOptions) (sign : Sign) (n : ℕ) (plain
   -- each settled number
   module _ (s : Settled) (is : settled notation o sign n ≡ Some s) where
     pub settles : (m : ℤ) → first n ≡ m → Settles notation o sign n s
-    settles (negsuc k) at = elim (once_or_twice notation o sign n s is).1 [
+    settles (negsuc k) at = elim (once_or_twice notation o sign n s is).2 [
       | inl kept ↦
           subst (Settles notation o sign n) (sym kept.0)
           (record {
@@ -232,7 +237,7 @@ module _ (notation : Notation) (o : DigitOptions) (sign : Sign) (n : ℕ) (plain
           })
       | inr twice ↦ absurd (omega (arith, none_after k at, twice.1))
     ]
-    settles (pos k) at = elim (once_or_twice notation o sign n s is).1 [
+    settles (pos k) at = elim (once_or_twice notation o sign n s is).2 [
       | inl kept ↦
           subst (Settles notation o sign n) (sym kept.0)
           (record {
@@ -261,17 +266,7 @@ exponent_least Standard m = omega (arith, ints, clamps)
 exponent_least Scientific m = omega (arith, ints, clamps)
 exponent_least Engineering (pos m) = omega (arith, ints, clamps)
 exponent_least Engineering (negsuc m) = omega (arith, ints, clamps)
-exponent_least (Compact table) m = elim (cases_Bool (int_lt m (pos 3))) [
-  | inl t ↦ rw t (omega (arith, ints, clamps))
-  | inr t ↦ rw t (omega (arith, ints, clamps))
-]
-
--- a compact exponent is not below 0
-compact_some : (table : CompactExponents) (m : ℤ) → pos 0 ≤ℤ compact_exponent table m
-compact_some table m = elim (cases_Bool (int_lt m (pos 3))) [
-  | inl t ↦ rw t (omega (arith, ints))
-  | inr t ↦ rw t (omega (arith, ints))
-]
+exponent_least (Compact table) m = omega (arith, ints, clamps, compact_some table m)
 
 -- the multiple of 3 below a number
 engineering_is : (z : ℤ) (a b rest : ℕ) → z +ℤ pos (3 * a) ≡ pos (3 * b + rest) → rest < 3
@@ -341,7 +336,7 @@ keeps_exponent notation o v plain ordered few all s is =
     (omega (arith, ints, clamps, exponent_least notation (first v.absolute.number))) in
     let law = settles notation o v.sign n plain ordered below t made.1 (first n) refl in
     let quotient =
-    first_of_quotient s.significand.absolute.number t.exponent t.number made.2 (settled_below notation o v.sign n t made.1)
+    first_of_quotient s.significand.absolute.number t.exponent t.number made.2 ((once_or_twice notation o v.sign n t made.1).1)
     (λ zero. law.own ∙ exponent_low notation (first t.number) (omega (arith, ints, ap first zero, first_zero))) in (
       made.3 ∙ ap (λ e. base_exponent notation v.absolute.number +ℤ pos e) law.own
           ∙ moved notation (first v.absolute.number) (first t.number) (λ h.

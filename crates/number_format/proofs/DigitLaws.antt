@@ -18,8 +18,7 @@ use Rattle.number_format.specs.declared.digit_options.DigitOptions.{DigitOptions
 use Rattle.number_format.specs.declared.digit_ranges.FractionDigits.{FractionDigits}
 use Rattle.number_format.specs.declared.precision.Precision.{Precision}
 use Rattle.number_format.specs.declared.precision.Precision.TheVariants.{Fraction, Multiples, Significant, MorePrecision, LessPrecision}
-use Rattle.number_format.specs.ShownDigits.{fraction_end, increment_of, Rounded, to_fixed, rounded_by, rounded, shown, applied}
-use Rattle.number_format.specs.DigitLaws.{IsFractional, KeepsNumber, KeepsValue, IsMonotone, AppliesOnce}
+use Rattle.number_format.specs.ShownDigits.{fraction_end, increment_of, Rounded, to_fixed, rounded_by, rounded_with, shown, applied, IsFractional, KeepsNumber, KeepsValue, IsMonotone, AppliesOnce}
 use Rattle.number_format.proofs.Applied.{shown_number}
 
 -- ---- A rounding to fraction digits is one to multiples of a unit.
@@ -76,7 +75,7 @@ module _ (o : DigitOptions) (f : FractionDigits) (v : Decimal) where
       ∙ subst (λ m. rounded_number mode unit m ≡ m) (sym multiple)
       (rounded_number-multiple mode unit (n / unit) (ten_pos (offset (fraction_end f.max))))
 
-  last_shown_is : o.precision ≡ Fraction f → (rounded o v).last_shown ≡ fraction_end f.min
+  last_shown_is : o.precision ≡ Fraction f → (rounded_with o 0 v).last_shown ≡ fraction_end f.min
   unfolding rounded_by to_fixed
   last_shown_is is = ap (λ p. (rounded_by p (mode_at o.mode v.sign) 0 v.absolute.number).last_shown) is
 
@@ -84,7 +83,7 @@ module _ (o : DigitOptions) (f : FractionDigits) (v : Decimal) where
   keeps_value is divides few range =
       let number = keeps_number is divides in
       let end = last_shown_is is in
-      let fits : reaches_limit (rounded o v).number ≡ false =
+      let fits : reaches_limit (rounded_with o 0 v).number ≡ false =
       ap reaches_limit number
       ∙ (let t : nat_le number_limit v.absolute.number ≡ false = grind (arith, nat_tests) in t) in
       rw fits (λ i. Some (record v { absolute = ((λ j. shown o (number j) (end j)) ∙ sym range) i }))
@@ -94,13 +93,13 @@ pub is_monotone : (o : DigitOptions) (v w : Decimal) → IsMonotone o v w
 is_monotone o v w is sign h =
     let mode = mode_at o.mode v.sign in
     let u = by_unit o.precision mode is in
-    subst (λ s. (rounded o v).number ≤ (rounded_by o.precision (mode_at o.mode s) 0 w.absolute.number).number) sign
+    subst (λ s. (rounded_with o 0 v).number ≤ (rounded_by o.precision (mode_at o.mode s) 0 w.absolute.number).number) sign
     (rw (u.number v.absolute.number, u.number w.absolute.number)
     (rounded_number-monotone mode u.unit v.absolute.number w.absolute.number u.some h))
 
 module _ (o : DigitOptions) (v : Decimal) (is : IsFractional o.precision) (all : o.integer.max ≡ 32768) where
   abbrev made : Rounded
-  made = rounded o v
+  made = rounded_with o 0 v
 
   abbrev whole : Decimal
   whole = record v { absolute = shown o made.number made.last_shown }
@@ -111,19 +110,19 @@ module _ (o : DigitOptions) (v : Decimal) (is : IsFractional o.precision) (all :
       let u = by_unit o.precision mode is in
       let few : made.number < number_limit = grind (arith, nat_tests) in
       let same : whole.absolute.number ≡ made.number = shown_number o made.number made.last_shown all few in
-      let number : (rounded o whole).number ≡ made.number =
+      let number : (rounded_with o 0 whole).number ≡ made.number =
       u.number whole.absolute.number ∙ ap (rounded_number mode u.unit) (same ∙ u.number v.absolute.number)
       ∙ rounded_number-idempotent mode u.unit v.absolute.number u.some ∙ sym (u.number v.absolute.number) in
-      let end : (rounded o whole).last_shown ≡ made.last_shown =
+      let end : (rounded_with o 0 whole).last_shown ≡ made.last_shown =
       u.shown whole.absolute.number ∙ sym (u.shown v.absolute.number) in
       rw (ap reaches_limit number ∙ fits)
       (λ i. Some (record v { absolute = shown o (number i) (end i) }))
 
 pub applies_once : (o : DigitOptions) (v : Decimal) → AppliesOnce o v
-applies_once o v is all w makes = elim (cases_Bool (reaches_limit (rounded o v).number)) [
+applies_once o v is all w makes = elim (cases_Bool (reaches_limit (rounded_with o 0 v).number)) [
   | inl full ↦ absurd (let none = rw full at makes in cc)
   | inr fits ↦
       let w_is = rw fits at makes in
-      let same : record v { absolute = shown o (rounded o v).number (rounded o v).last_shown } ≡ w = cc in
+      let same : record v { absolute = shown o (rounded_with o 0 v).number (rounded_with o 0 v).last_shown } ≡ w = cc in
       subst (λ x. applied o x ≡ Some x) same (once o v is all fits)
 ]

@@ -1,13 +1,17 @@
 -- The first digit of a number before and after a rounding.
-use Rattle.std.proofs.Common.{◌≡◌, ℕ, zero, suc, ◌+◌, ◌-◌, ◌*◌, ◌^◌, ◌<◌, ◌≤◌, inl, inr, refl, sym, ◌∙◌, ap, subst, arith, rules}
-use Rattle.std.specs.Prelude.{◌⊎◌, nat_le, ℤ, pos, ◌+ℤ◌, ◌≤ℤ◌, ◌<ℤ◌, int_lt}
+use Rattle.std.proofs.Common.{◌≡◌, ℕ, zero, suc, ◌+◌, ◌-◌, ◌*◌, ◌^◌, ◌<◌, ◌≤◌, inl, inr, refl, sym, ◌∙◌, ap, subst, arith, rules, ◌%◌, true, false}
+use Rattle.std.specs.Prelude.{◌⊎◌, nat_le, ℤ, pos, ◌+ℤ◌, ◌≤ℤ◌, ◌<ℤ◌, int_lt, ◌==◌, nat_lt}
 use Rattle.std.proofs.lemmas.Int.{ints}
-use Rattle.std.proofs.lemmas.Bool.{cases_lt, cases_Bool}
+use Rattle.std.proofs.lemmas.Bool.{cases_lt, cases_Bool, cases_eq}
 use Rattle.decimal_digits.specs.Number.{offset, number_limit, magnitude_at, weight, first}
-use Rattle.decimal_digits.specs.Rounding.{unit_at, rounded_number}
+use Rattle.decimal_digits.specs.Rounding.{unit_at, rounded_number, above}
 use Rattle.decimal_digits.specs.declared.rounding.RoundingIncrement.TheVariants.{MultiplesOf1}
 use Rattle.decimal_digits.specs.declared.rounding.UnsignedRoundingMode.{UnsignedRoundingMode}
 use Rattle.fixed_decimal.proofs.Calling.{Extent, extent, first_of, offset_is, ten_pos, powers, first_is, greatest_is, rounded_number-multiple, rounded_number-monotone}
+use Rattle.std.proofs.Math.Nat.{mul-le-mul_right}
+use Rattle.std.proofs.lemmas.Nat.{mod-mul-add}
+use Rattle.std.proofs.lemmas.Bool.Decides.{nat_tests}
+use Rattle.decimal_digits.specs.declared.rounding.UnsignedRoundingMode.TheVariants.{Expand, Trunc, HalfExpand, HalfTrunc, HalfEven}
 
 -- no search for the first digit goes above 65535
 first_highest : (n k : ℕ) → k + 1 ≡ 65536 → 10 ^ k ≤ n → first n ≡ magnitude_at k
@@ -113,3 +117,41 @@ module _ (mode : UnsignedRoundingMode) (n : ℕ) (position : ℤ) (few : n < num
           carried = λ h. absurd (omega (arith, ints, e, h));
         }
   ]
+
+-- ---- A carry.
+-- a number is rounded to less than one unit more
+less_up : (mode : UnsignedRoundingMode) (u n : ℕ) → 0 < u → rounded_number mode u n < n + u
+unfolding rounded_number
+less_up Trunc u n some = omega arith
+less_up Expand u n some = grind (arith, nat_tests)
+less_up HalfExpand u n some = grind (arith, nat_tests)
+less_up HalfTrunc u n some = grind (arith, nat_tests)
+less_up HalfEven u n some = grind (arith, nat_tests)
+
+module _ (u n j : ℕ) (less : n < j * u + u) (high : 2 * (j * u) + u < 2 * n) where
+  rest : n % u ≡ n - j * u
+  rest =
+      let split : n ≡ j * u + (n - j * u) = omega (arith, high) in
+      ap (λ m. m % u) split ∙ mod-mul-add j u (n - j * u) (omega (arith, less, high))
+
+  -- a number that is less than half a unit below a multiple is rounded to it
+  rounds_up : (mode : UnsignedRoundingMode) → (mode ≡ Trunc → ⊥) → rounded_number mode u n ≡ j * u + u
+  unfolding rounded_number
+  rounds_up Trunc not = absurd (not refl)
+  rounds_up Expand not = let r = rest in grind (arith, nat_tests)
+  rounds_up HalfExpand not = let r = rest in grind (arith, nat_tests)
+  rounds_up HalfTrunc not = let r = rest in grind (arith, nat_tests)
+  rounds_up HalfEven not = let r = rest in grind (arith, nat_tests)
+
+-- and by `Trunc` to no more
+trunc_low : (mode : UnsignedRoundingMode) (u n : ℕ) → mode ≡ Trunc → rounded_number mode u n ≤ n
+unfolding rounded_number
+trunc_low mode u n is = subst (λ m. rounded_number m u n ≤ n) (sym is) (omega arith)
+
+-- a carry to a multiple by one unit is one by a unit that is at least twice as great
+pub carry_coarser : (mode : UnsignedRoundingMode) (u coarse n j end : ℕ) → 0 < u → 2 * u ≤ coarse
+    → end ≡ j * coarse + coarse → n < end → rounded_number mode u n ≡ end → rounded_number mode coarse n ≡ end
+carry_coarser mode u coarse n j end some much is less e =
+    rounds_up coarse n j (omega (arith, is, less)) (omega (arith, is, e, less_up mode u n some, much)) mode
+    (λ trunc. absurd (omega (arith, trunc_low mode u n trunc, e, less)))
+    ∙ sym is

@@ -1,7 +1,6 @@
 pub mod FirstDigits
 pub mod Chosen
 pub mod Applied
-pub mod Coarser
 pub mod Scales
 pub mod Carries
 pub mod DigitLaws

@@ -7,7 +7,6 @@ use Rattle.std.proofs.lemmas.Int.{ints, clamps}
 use Rattle.std.proofs.lemmas.Bool.{cases_Bool, cases_lt, or_parts}
 use Rattle.std.proofs.lemmas.Bool.Decides.{nat_tests}
 use Rattle.decimal_digits.specs.Number.{offset, number_limit, first, last, lowest_magnitude, highest_magnitude}
-use Rattle.decimal_unsigned.specs.Edits.{times_power}
 use Rattle.decimal_unsigned.specs.Rounded.{reaches_limit}
 use Rattle.fixed_decimal.specs.Decimal.{Decimal}
 use Rattle.fixed_decimal.specs.declared.variations.Sign.{Sign}
@@ -15,16 +14,10 @@ use Rattle.fixed_decimal.proofs.Calling.{extent, first_of, last_of, offset_is, t
 use Rattle.number_format.specs.declared.digit_options.DigitOptions.{DigitOptions}
 use Rattle.number_format.specs.declared.notation.Notation.{Notation}
 use Rattle.number_format.specs.ShownDigits.{Rounded, position_at, rounded_at, rounded_within, shown}
-use Rattle.number_format.specs.Scaled.{whole_exponent, base_exponent, raised, Settled, settled_with, settled, ScaledValue, scaled_value, written, scaled}
-use Rattle.number_format.specs.DigitLaws.{KeepsValueOf}
+use Rattle.number_format.specs.Scaled.{whole_exponent, base_exponent, raised, Settled, settled_with, settled, ScaledValue, scaled_value, written, scaled, KeepsValueOf}
 use Rattle.number_format.proofs.Applied.{shown_number}
 
 -- ---- Shifts.
--- a division by a power of ten
-pub lowered : (n count : ℕ) → times_power n (neg_ℤ (pos count)) ≡ n / 10 ^ count
-lowered n zero = omega arith
-lowered n (suc count) = refl
-
 -- a multiplication moves the first digit up
 pub first_shifted : (n e : ℕ) → 0 < n → n * 10 ^ e < number_limit → first (n * 10 ^ e) ≡ first n +ℤ pos e
 first_shifted n e some few =
@@ -110,12 +103,11 @@ module _ (notation : Notation) (o : DigitOptions) (sign : Sign) (n : ℕ) (s : S
         inr (rw within refl, below _ (or_parts _ _ within).1)
   ]
 
-  -- the number that is rounded once, or twice if the exponent grows
+  -- the number that is rounded once, or twice if the exponent grows; both are below the limit
   abbrev pub IsOnceOrTwice : Type 0
   IsOnceOrTwice =
-      (once.number < number_limit)
-      × (((s ≡ settled_with own once) × (after ≤ own))
-      ⊎ ((s ≡ settled_with after twice) × (own < after) × (twice.number < number_limit)))
+      (once.number < number_limit) × (s.number < number_limit)
+      × (((s ≡ settled_with own once) × (after ≤ own)) ⊎ ((s ≡ settled_with after twice) × (own < after)))
 
   pub once_or_twice : settled notation o sign n ≡ Some s → IsOnceOrTwice
   once_or_twice is = elim (within_or_none own n) [
@@ -124,26 +116,19 @@ module _ (notation : Notation) (o : DigitOptions) (sign : Sign) (n : ℕ) (s : S
       | inr whole ↦
           let t : nat_lt own after ≡ false = grind (arith, nat_tests) in
           let e = rw (some, t) at is in
-          (few, inl (let same : s ≡ settled_with own once = cc in same, whole))
+          let same : s ≡ settled_with own once = cc in
+          (few, subst (λ (s : Settled). s.number < number_limit) (sym same) few, inl (same, whole))
       | inl more ↦
           let t : nat_lt own after ≡ true = grind (arith, nat_tests) in
           elim (within_or_none after once.number) [
             | inl none ↦ absurd (let e = rw (some, t, none) at is in cc)
             | inr (again, less) ↦
                 let e = rw (some, t, again) at is in
-                (few, inr (let same : s ≡ settled_with after twice = cc in same, more, less))
+                let same : s ≡ settled_with after twice = cc in
+                (few, subst (λ (s : Settled). s.number < number_limit) (sym same) less, inr (same, more))
           ]
     ]
   ]
-
-  -- its number is below the limit
-  pub settled_below : settled notation o sign n ≡ Some s → s.number < number_limit
-  settled_below is =
-      let which = once_or_twice is in
-      elim (which.1) [
-        | inl kept ↦ subst (λ (s : Settled). s.number < number_limit) (sym kept.0) which.0
-        | inr again ↦ subst (λ (s : Settled). s.number < number_limit) (sym again.0) again.2
-      ]
 
 -- ---- The value of the significand and the exponent.
 at_lowest : (z : ℤ) → int_lt z lowest_magnitude ≡ false → negsuc 32767 ≤ℤ z
@@ -178,7 +163,7 @@ module _ (notation : Notation) (o : DigitOptions) (v : Decimal) (all : o.integer
     | inl low ↦ absurd (let none = rw low at some in cc)
     | inr fits ↦
         let made = rw fits at some in
-        let few = settled_below notation o v.sign (raised notation v.absolute.number) t is in
+        let few = (once_or_twice notation o v.sign (raised notation v.absolute.number) t is).1 in
         let power = 10 ^ t.exponent in
         let same : scaled_value (record { sign = v.sign; absolute = shown o (t.number / power) t.last_shown })
         (base +ℤ pos t.exponent) ≡ s = cc in

@@ -2,4 +2,3 @@ pub mod Increments
 pub mod ShownDigits
 pub mod Resolved
 pub mod Scaled
-pub mod DigitLaws

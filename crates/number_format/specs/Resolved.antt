@@ -15,52 +15,42 @@ use Rattle.number_format.specs.Increments.{is_increment}
 use Rattle.number_format.specs.ShownDigits.{increment_of}
 
 -- ---- Which roundings apply.
-
 abbrev pub is_auto : RoundingPriority → Bool
 is_auto Auto = true
 is_auto priority = false
 
--- a number of significant digits is given, or of fraction digits
-abbrev pub has_significant : DigitSettings → Bool
-has_significant s = is_some s.minimum_significant_digits || is_some s.maximum_significant_digits
-
-abbrev pub has_fraction : DigitSettings → Bool
-has_fraction s = is_some s.minimum_fraction_digits || is_some s.maximum_fraction_digits
+-- a number of digits is given
+abbrev pub given : Option ℕ → Option ℕ → Bool
+given least greatest = is_some least || is_some greatest
 
 -- with a priority both apply; otherwise significant digits if a number of them is given, and else fraction digits, but
 -- in compact notation only if a number of them is given
 abbrev pub needs_significant : DigitSettings → Bool
-needs_significant s = not (is_auto s.rounding_priority) || has_significant s
+needs_significant s =
+    not (is_auto s.rounding_priority) || given s.minimum_significant_digits s.maximum_significant_digits
 
 abbrev pub needs_fraction : DigitSettings → DigitDefaults → Bool
 needs_fraction s d =
-    not (is_auto s.rounding_priority) || not (has_significant s || (d.is_compact && not (has_fraction s)))
+    not (is_auto s.rounding_priority)
+    || not (needs_significant s || (d.is_compact && not (given s.minimum_fraction_digits s.maximum_fraction_digits)))
 
 -- ---- The least and the greatest numbers of digits.
-
 -- the numbers of significant digits; where they do not apply, those of compact notation
 abbrev pub significant_of : DigitSettings → ℕ × ℕ
 significant_of s =
     if needs_significant s then (unwrap_or s.minimum_significant_digits 1, unwrap_or s.maximum_significant_digits 21)
     else (1, 2)
 
--- of a number of fraction digits that is given alone the other one is the default, if that does not contradict it
-abbrev pub fraction_counts : ℕ → ℕ → Option ℕ → Option ℕ → ℕ × ℕ
-fraction_counts least greatest None None = (least, greatest)
-fraction_counts least greatest None (Some b) = (min least b, b)
-fraction_counts least greatest (Some a) None = (a, max greatest a)
-fraction_counts least greatest (Some a) (Some b) = (a, b)
-
--- the numbers of fraction digits; with an increment the greatest one is by default the least one
+-- the numbers of fraction digits; one that is not given is the default, if that does not contradict the other one; with an
+-- increment the greatest one is by default the least one
 abbrev pub fraction_of : DigitSettings → DigitDefaults → ℕ × ℕ
 fraction_of s d =
-    if needs_fraction s d then
-    fraction_counts d.fraction.min (if s.rounding_increment == 1 then d.fraction.max else d.fraction.min)
-    s.minimum_fraction_digits s.maximum_fraction_digits
-    else (0, 0)
+    let least =
+    unwrap_or s.minimum_fraction_digits (min d.fraction.min (unwrap_or s.maximum_fraction_digits d.fraction.min)) in
+    let most = if s.rounding_increment == 1 then d.fraction.max else d.fraction.min in
+    if needs_fraction s d then (least, unwrap_or s.maximum_fraction_digits (max most least)) else (0, 0)
 
 -- ---- The options.
-
 abbrev pub counts : ℕ → ℕ → ℕ × ℕ
 counts least greatest = (least, greatest)
 
@@ -90,7 +80,6 @@ pub record IsResolved (s : DigitSettings) (d : DigitDefaults) (o : DigitOptions)
   pub trailing_zeros : o.trailing_zeros ≡ s.trailing_zeros
 
 -- ---- The error.
-
 -- two numbers are in order, and within a range
 abbrev pub are_within : ℕ → ℕ → ℕ × ℕ → Bool
 are_within low high c = nat_le low c.0 && (nat_le c.0 c.1 && nat_le c.1 high)

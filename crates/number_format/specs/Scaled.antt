@@ -1,7 +1,7 @@
 -- The significand and the exponent that a notation writes for a number.
-use Rattle.std.specs.Prelude.{◌≡◌, ℕ, ◌*◌, ◌/◌, ◌^◌, nat_lt, if◌then◌else◌, slice_index, Option, Some, None, option_map, option_and_then, unsigned_abs, ℤ, pos, ◌+ℤ◌, ◌-ℤ◌, int_lt}
+use Rattle.std.specs.Prelude.{◌≡◌, ℕ, ◌+◌, ◌*◌, ◌/◌, ◌^◌, ◌<◌, ◌⊎◌, nat_lt, if◌then◌else◌, slice_index, Option, Some, None, option_map, option_and_then, unsigned_abs, ℤ, pos, ◌+ℤ◌, ◌-ℤ◌, ◌≤ℤ◌, int_lt}
 use Rattle.std.specs.Int.{int_max, int_min, int_rem_euclid}
-use Rattle.decimal_digits.specs.Number.{first, last, lowest_magnitude}
+use Rattle.decimal_digits.specs.Number.{number_limit, weight, first, last, lowest_magnitude}
 use Rattle.decimal_digits.specs.declared.rounding.RoundError.{RoundError}
 use Rattle.decimal_digits.specs.declared.rounding.RoundError.TheVariants.{Limit, Memory}
 use Rattle.decimal_digits.specs.declared.rounding.RoundingIncrement.TheVariants.{MultiplesOf25}
@@ -11,10 +11,11 @@ use Rattle.number_format.specs.declared.digit_options.DigitOptions.{DigitOptions
 use Rattle.number_format.specs.declared.notation.CompactExponents.{CompactExponents}
 use Rattle.number_format.specs.declared.notation.Notation.{Notation}
 use Rattle.number_format.specs.declared.notation.Notation.TheVariants.{Standard, Scientific, Engineering, Compact}
-use Rattle.number_format.specs.ShownDigits.{Rounded, shown, base_of, rounded_within}
+use Rattle.number_format.specs.declared.precision.Precision.{Precision}
+use Rattle.number_format.specs.declared.precision.Precision.TheVariants.{Multiples}
+use Rattle.number_format.specs.ShownDigits.{Rounded, rounded_at, shown, base_of, rounded_within}
 
 -- ---- The exponent of a number whose first digit is at a magnitude.
-
 -- the row of a magnitude: the rows are for 3 to 14
 abbrev pub row_of : ℤ → ℕ
 row_of m = unsigned_abs (int_min (int_max m (pos 3)) (pos 14) -ℤ pos 3)
@@ -43,7 +44,6 @@ abbrev pub raised : Notation → ℕ → ℕ
 raised notation n = n * 10 ^ unsigned_abs (base_exponent notation n)
 
 -- ---- The rounding.
-
 -- a rounded number, its exponent, and the magnitude of its quotient down to which zeros are shown
 pub record Settled : Type 0 where
   pub exponent : ℕ
@@ -68,7 +68,6 @@ settled notation o sign n =
     option_and_then (settled_after notation o sign exponent) (rounded_within o sign exponent n)
 
 -- ---- The significand and the exponent.
-
 pub record ScaledValue : Type 0 where
   pub significand : Decimal
   pub exponent : ℤ
@@ -90,8 +89,40 @@ scaled notation o v =
     option_and_then (written o v.sign (base_exponent notation v.absolute.number))
     (settled notation o v.sign (raised notation v.absolute.number))
 
--- ---- Private: used only in the contract of a private function.
+-- ---- Laws.
+-- the precision has no increment
+abbrev pub HasNoIncrement : Precision → Type 0
+HasNoIncrement (Multiples m) = ⊥
+HasNoIncrement precision = Unit {0}
 
+-- from 1 up no exponent of a compact pattern is above its magnitude, or above the exponent of the next magnitude
+abbrev pub IsOrdered : Notation → Type 0
+IsOrdered (Compact table) =
+    (m : ℕ) → (compact_exponent table (pos m) ≤ℤ pos m)
+    × (compact_exponent table (pos m) ≤ℤ compact_exponent table (pos (m + 1)))
+IsOrdered notation = Unit {0}
+
+-- without an increment, if no integer digit is cut off, the exponent is that of the first digit of the result; one
+-- rounding with it makes the same number; and the rounding changes it only by a carry to a power of ten
+abbrev pub KeepsExponent : Notation → DigitOptions → Decimal → Type 0
+KeepsExponent notation o v =
+    HasNoIncrement o.precision → IsOrdered notation → v.absolute.number < number_limit → o.integer.max ≡ 32768
+    → (s : ScaledValue) → scaled notation o v ≡ Some s
+    → (s.exponent ≡ exponent_at notation (first s.significand.absolute.number +ℤ s.exponent))
+    × ((e r : ℕ) → s.exponent ≡ base_exponent notation v.absolute.number +ℤ pos e
+    → r ≡ s.significand.absolute.number * 10 ^ e
+    → (r ≡ (rounded_at o v.sign e (raised notation v.absolute.number)).number)
+    × ((e ≡ whole_exponent notation (raised notation v.absolute.number)) ⊎ (r ≡ weight (first r))))
+
+-- the significand times the power of ten is the rounded number, if no integer digit is cut off
+abbrev pub KeepsValueOf : Notation → DigitOptions → Decimal → Type 0
+KeepsValueOf notation o v =
+    o.integer.max ≡ 32768 → (s : ScaledValue) → scaled notation o v ≡ Some s
+    → (t : Settled) × (settled notation o v.sign (raised notation v.absolute.number) ≡ Some t)
+    × (s.significand.absolute.number * 10 ^ t.exponent ≡ t.number)
+    × (s.exponent ≡ base_exponent notation v.absolute.number +ℤ pos t.exponent)
+
+-- ---- Private: used only in the contract of a private function.
 abbrev pub SettlingFails : RoundError → Notation → DigitOptions → Decimal → Type 0
 SettlingFails Limit notation o v = settled notation o v.sign v.absolute.number ≡ None
 SettlingFails Memory notation o v = base_of o.precision ≡ MultiplesOf25

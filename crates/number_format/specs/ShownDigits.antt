@@ -1,9 +1,9 @@
 -- The digits that ECMA-402's FormatNumericToString shows of a number that is written with an exponent: of its quotient
 -- by 10^exponent. Numbers are in units of 10^-32768; magnitudes are those of the quotient. The weight of a magnitude
 -- below -32768 is 1 unit: at such a position nothing is rounded.
-use Rattle.std.specs.Prelude.{◌≡◌, ℕ, ◌*◌, ◌%◌, ◌^◌, Bool, true, false, not, ◌||◌, if◌then◌else◌, Option, Some, None, ℤ, pos, ◌+ℤ◌, ◌-ℤ◌, ◌≤ℤ◌, int_lt, int_le}
+use Rattle.std.specs.Prelude.{◌≡◌, ℕ, ◌*◌, ◌%◌, ◌^◌, ◌<◌, ◌≤◌, Bool, true, false, not, ◌||◌, if◌then◌else◌, Option, Some, None, ℤ, pos, ◌+ℤ◌, ◌-ℤ◌, ◌≤ℤ◌, int_lt, int_le}
 use Rattle.std.specs.Int.{int_max, int_min}
-use Rattle.decimal_digits.specs.Number.{weight, first, last, size, lowest_magnitude, highest_magnitude}
+use Rattle.decimal_digits.specs.Number.{number_limit, weight, first, last, size, lowest_magnitude, highest_magnitude}
 use Rattle.decimal_digits.specs.Rounding.{step_of, unit_at, rounded_number, DigitRoundingNeedsMemory}
 use Rattle.decimal_digits.specs.declared.rounding.RoundError.{RoundError}
 use Rattle.decimal_digits.specs.declared.rounding.RoundError.TheVariants.{Limit, Memory}
@@ -19,6 +19,7 @@ use Rattle.fixed_decimal.specs.declared.variations.Sign.{Sign}
 use Rattle.number_format.specs.declared.digit_options.DigitOptions.{DigitOptions}
 use Rattle.number_format.specs.declared.digit_options.TrailingZeros.{TrailingZeros}
 use Rattle.number_format.specs.declared.digit_options.TrailingZeros.TheVariants.{Auto, StripIfInteger}
+use Rattle.number_format.specs.declared.digit_ranges.FractionDigits.{FractionDigits}
 use Rattle.number_format.specs.declared.digit_ranges.Increment.{Increment}
 use Rattle.number_format.specs.declared.digit_ranges.SignificantDigits.{SignificantDigits}
 use Rattle.number_format.specs.declared.precision.BothDigits.{BothDigits}
@@ -28,7 +29,6 @@ use Rattle.number_format.specs.declared.precision.Precision.{Precision}
 use Rattle.number_format.specs.declared.precision.Precision.TheVariants.{Fraction, Multiples, Significant, MorePrecision, LessPrecision}
 
 -- ---- Magnitudes.
-
 -- the magnitude of the last of the given number of digits, from a first one down
 abbrev pub last_at : ℕ → ℤ → ℤ
 last_at count first = first +ℤ pos 1 -ℤ pos count
@@ -42,7 +42,6 @@ abbrev pub first_by : ℕ → ℕ → ℤ
 first_by exponent n = first n -ℤ pos exponent
 
 -- ---- The two roundings.
-
 -- the increment as a number
 abbrev pub increment_of : Increment → ℕ
 increment_of i = step_of i.base * 10 ^ i.zeros
@@ -79,7 +78,6 @@ to_fixed mode min max increment exponent n =
     }
 
 -- ---- The one that is shown.
-
 -- the magnitude down to which the least numbers of digits show zeros, if the rounding to significant digits is chosen
 abbrev pub zeros_end : BothDigits → Minimum → Bool → ℤ → ℤ
 zeros_end b Chosen true first = last_at b.significant.min first
@@ -130,28 +128,24 @@ stripped StripIfInteger v = trimmed_end_if_integer v
 abbrev pub shown : DigitOptions → ℕ → ℤ → Unsigned
 shown o rounded end = stripped o.trailing_zeros (padded o rounded end)
 
--- the rounding of a decimal, with an exponent or without one
+-- the rounding of a decimal
 abbrev pub rounded_with : DigitOptions → ℕ → Decimal → Rounded
 rounded_with o exponent v = rounded_at o v.sign exponent v.absolute.number
-
-abbrev pub rounded : DigitOptions → Decimal → Rounded
-rounded o v = rounded_with o 0 v
 
 -- FormatNumericToString: the decimal with the digits that the options show, or none if the rounded number would be
 -- 10^32768 or more
 abbrev pub applied : DigitOptions → Decimal → Option Decimal
 applied o v =
-    let r = rounded o v in
+    let r = rounded_with o 0 v in
     if reaches_limit r.number then None else Some (record v { absolute = shown o r.number r.last_shown })
 
 -- `new` is the old decimal by the options, and the rounded number is the multiple that the mode names among all
 -- multiples of the unit, positive and negative ones
 pub record IsApplied (o : DigitOptions) (old new : Decimal) : Type 0 where
   pub value : applied o old ≡ Some new
-  pub named : NamedSigned o.mode (rounded o old).unit (signed_number old) (rounded o old).number
+  pub named : NamedSigned o.mode (rounded_with o 0 old).unit (signed_number old) (rounded_with o 0 old).number
 
 -- ---- The position of the rounding.
-
 -- the increment, without zeros
 abbrev pub base_of : Precision → RoundingIncrement
 base_of (Multiples m) = m.increment.base
@@ -176,7 +170,6 @@ rounded_within o sign exponent n =
     if int_lt highest_magnitude (position_at o.precision exponent n) || reaches_limit r.number then None else Some r
 
 -- ---- Errors.
-
 -- a rounding needs memory for one more digit than the `held` ones that fit without an allocation, by 25 with or without
 -- zeros, and only below the limit
 abbrev pub NeedsMemory : ℕ → DigitOptions → ℕ → Decimal → Type 0
@@ -188,8 +181,39 @@ abbrev pub ApplyFails : ℕ → RoundError → DigitOptions → Decimal → Type
 ApplyFails held Limit o v = applied o v ≡ None
 ApplyFails held Memory o v = NeedsMemory held o 0 v
 
--- ---- Private: used only in the contracts of private functions, which make one rounding.
+-- ---- Laws.
+-- the precision is a number of fraction digits, by 1 or by an increment
+abbrev pub IsFractional : Precision → Type 0
+IsFractional (Fraction f) = Unit {0}
+IsFractional (Multiples m) = Unit {0}
+IsFractional precision = ⊥
 
+-- a number with at most the greatest number of fraction digits is kept
+abbrev pub KeepsNumber : DigitOptions → FractionDigits → Decimal → Type 0
+KeepsNumber o f v =
+    o.precision ≡ Fraction f → v.absolute.number % weight (fraction_end f.max) ≡ 0
+    → (rounded_with o 0 v).number ≡ v.absolute.number
+
+-- and so is the whole value, if it has the range that the options show
+abbrev pub KeepsValue : DigitOptions → FractionDigits → Decimal → Type 0
+KeepsValue o f v =
+    o.precision ≡ Fraction f → v.absolute.number % weight (fraction_end f.max) ≡ 0
+    → v.absolute.number < number_limit → v.absolute ≡ shown o v.absolute.number (fraction_end f.min)
+    → applied o v ≡ Some v
+
+-- with fraction digits the greater of two absolute values of one sign is rounded to no less
+abbrev pub IsMonotone : DigitOptions → Decimal → Decimal → Type 0
+IsMonotone o v w =
+    IsFractional o.precision → v.sign ≡ w.sign → v.absolute.number ≤ w.absolute.number
+    → (rounded_with o 0 v).number ≤ (rounded_with o 0 w).number
+
+-- with fraction digits the options change a value that they made no more, if no integer digit is cut off
+abbrev pub AppliesOnce : DigitOptions → Decimal → Type 0
+AppliesOnce o v =
+    IsFractional o.precision → o.integer.max ≡ 32768
+    → (w : Decimal) → applied o v ≡ Some w → applied o w ≡ Some w
+
+-- ---- Private: used only in the contracts of private functions, which make one rounding.
 -- the rounding to significant digits keeps a digit at least as low as that to fraction digits, if the first digit is at
 -- one magnitude before the rounding, and at another after it
 abbrev pub is_finer : BothDigits → ℤ → ℤ → Bool

@@ -3,7 +3,7 @@ ghost use Rattle.std.specs.Prelude.{◌≡◌, ◌+◌, ◌%◌, ◌≤◌, pos,
 ghost use Rattle.decimal_digits.specs.Number.{weight, size};
 ghost use Rattle.decimal_digits.specs.Rounding.{unit_at};
 ghost use Rattle.decimal_unsigned.specs.Rounded.{ChangesInPlace};
-ghost use Rattle.number_format.specs.ShownDigits.{base_of, rounded, stripped, shown, IsApplied, ApplyFails, IsRoundedAt, RoundingFailsAt};
+ghost use Rattle.number_format.specs.ShownDigits.{base_of, rounded_with, stripped, shown, IsApplied, ApplyFails, IsRoundedAt, RoundingFailsAt};
 
 use crate::digit_options::{DigitOptions, TrailingZeros};
 use fixed_decimal::{DigitStore, RoundError, Signed, Steps, UnsignedOver};
@@ -11,7 +11,7 @@ use fixed_decimal::{DigitStore, RoundError, Signed, Steps, UnsignedOver};
 impl DigitOptions {
     /// Returns the position at which [`apply`](Self::apply) rounds: the unit is the increment times its power of ten.
     pub fn position_of<D: DigitStore>(&self, value: &Signed<UnsignedOver<D>>) -> i16
-        ensures unit { (rounded self.now value.now).unit ≡ unit_at (base_of self.now.precision) result }
+        ensures unit { (rounded_with self.now 0 value.now).unit ≡ unit_at (base_of self.now.precision) result }
     {
         let first = value.absolute.nonzero_magnitude_start();
         match self.precision.position_at(0, first) {

@@ -1,6 +1,7 @@
 //! Laws of digit options and of notations.
 ghost use Rattle.fixed_decimal.specs.Decimal.{Decimal};
-ghost use Rattle.number_format.specs.DigitLaws.{KeepsNumber, KeepsValue, IsMonotone, AppliesOnce, KeepsExponent, KeepsValueOf};
+ghost use Rattle.number_format.specs.ShownDigits.{KeepsNumber, KeepsValue, IsMonotone, AppliesOnce};
+ghost use Rattle.number_format.specs.Scaled.{KeepsExponent, KeepsValueOf};
 
 use crate::digit_options::DigitOptions;
 use crate::digit_ranges::FractionDigits;

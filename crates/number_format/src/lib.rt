@@ -17,7 +17,6 @@
 #![tactic(auto)]
 
 mod apply;
-mod conversions;
 mod digit_options;
 mod digit_ranges;
 mod error;

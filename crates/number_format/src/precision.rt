@@ -41,10 +41,9 @@ pub enum Precision {
     LessPrecision(BothDigits),
 }
 
-// The magnitudes that these functions return are those of the quotient by 10^`exponent`, and their arguments those of
-// the number.
+// `exponent` is that of the notation. The functions return magnitudes of the quotient by its power of ten, and take those
+// of the number before and after the rounding.
 
-/// Returns the magnitude of the last of `count` digits, of which the first is at a magnitude.
 fn last_at(count: u32, exponent: u16, first: i16) -> i32
     requires { count ≤ 65536 }
     ensures { result ≡ last_at count (first -ℤ pos exponent) }
@@ -52,7 +51,6 @@ fn last_at(count: u32, exponent: u16, first: i16) -> i32
     first as i32 - exponent as i32 + 1 - count as i32
 }
 
-/// Returns the magnitude of the last of `count` fraction digits.
 fn fraction_end(count: u16) -> i32
     ensures { result ≡ fraction_end count }
 {
@@ -60,9 +58,6 @@ fn fraction_end(count: u16) -> i32
 }
 
 impl BothDigits {
-    /// Returns whether the rounding to significant digits keeps a digit at least as low as that to fraction digits.
-    ///
-    /// `before` and `after` are the magnitudes of the first digit before and after the rounding.
     fn is_finer(self, exponent: u16, before: i16, after: i16) -> bool
         ensures { result ≡ is_finer self (before -ℤ pos exponent) (after -ℤ pos exponent) }
     {
@@ -71,7 +66,6 @@ impl BothDigits {
         last_at(digits, exponent, before) < end || last_at(digits, exponent, after) <= end
     }
 
-    /// Returns the magnitude down to which zeros are shown, if the rounding to significant digits is chosen or is not.
     fn zeros_end(self, exponent: u16, after: i16, is_significant: bool) -> i32
         ensures { result ≡ zeros_end self self.minimum is_significant (after -ℤ pos exponent) }
     {
@@ -86,7 +80,6 @@ impl BothDigits {
 }
 
 impl Precision {
-    /// Returns the increment of the rounding, without its zeros.
     pub(crate) fn base(self) -> RoundingIncrement
         ensures { result ≡ base_of self }
     {
@@ -96,7 +89,6 @@ impl Precision {
         }
     }
 
-    /// Returns the position of the rounding of a number whose first digit is at a magnitude.
     fn position(self, exponent: u16, first: i16) -> i32
         ensures position { result ≡ position_of self (first -ℤ pos exponent) }
         ensures at_most { result ≤ℤ int_max (first -ℤ pos exponent) (pos 3) }
@@ -117,11 +109,6 @@ impl Precision {
         }
     }
 
-    /// Returns the position as a magnitude of the number, or the lowest one.
-    ///
-    /// # Errors
-    ///
-    /// `Limit`: it is above the highest one.
     pub(crate) fn position_at(self, exponent: u16, first: i16) -> Result<i16, RoundError>
         ensures position { MatchResult result
             (λ p. (p ≡ int_max (pos exponent +ℤ position_of self (first -ℤ pos exponent)) (negsuc 32767))
@@ -137,9 +124,6 @@ impl Precision {
         Ok(position.max(-32768) as i16)
     }
 
-    /// Returns the magnitude down to which zeros are shown.
-    ///
-    /// `before` and `after` are the magnitudes of the first digit before and after the rounding.
     pub(crate) fn last_shown(self, exponent: u16, before: i16, after: i16) -> i32
         ensures { result ≡ last_shown_of self (before -ℤ pos exponent) (after -ℤ pos exponent) }
     {

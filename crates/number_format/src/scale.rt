@@ -1,14 +1,18 @@
 //! The significand and the exponent of a number.
-ghost use Rattle.std.specs.Prelude.{◌≡◌, ◌+◌, ◌*◌, ◌/◌, ◌^◌, ◌≤◌, Some, None, IfOk, OnOk, IfErr, IsErrOf, MatchResult, pos, ◌+ℤ◌, ◌-ℤ◌, ◌≤ℤ◌, ◌<ℤ◌, negsuc, unsigned_abs};
+ghost use Rattle.std.specs.Prelude.{◌≡◌, ◌+◌, ◌*◌, ◌/◌, ◌^◌, ◌≤◌, Some, None, IsOk, IfOk, OnOk, IfErr, IsErrOf, MatchResult, MatchOption, ◌⊎◌, pos, ◌+ℤ◌, ◌-ℤ◌, ◌≤ℤ◌, ◌<ℤ◌, negsuc, unsigned_abs};
 ghost use Rattle.std.specs.Int.{int_min};
-ghost use Rattle.decimal_digits.specs.Number.{first, last};
+ghost use Rattle.decimal_digits.specs.Number.{first, last, size};
+ghost use Rattle.fixed_decimal.specs.Decimal.{integer_decimal};
+ghost use Rattle.fixed_decimal.specs.Scientific.{scientific};
 ghost use Rattle.decimal_digits.specs.declared.rounding.RoundingIncrement.TheVariants.{MultiplesOf25};
 ghost use Rattle.number_format.specs.ShownDigits.{base_of};
 ghost use Rattle.number_format.specs.Scaled.{whole_exponent, base_exponent, settled, scaled, SettlingFails};
 
 use crate::digit_options::DigitOptions;
 use crate::notation::Notation;
+use fixed_decimal::{CompactDecimal, DecimalStore, FixedInteger, INLINE_DIGITS, ScientificDecimal};
 use fixed_decimal::{DigitStore, RoundError, Signed, Steps, UnsignedOver};
+use std::alloc::{AllocError, Global};
 use std::marker::Model;
 
 /// A significand and an exponent: the significand times 10 to the power of the exponent.
@@ -37,7 +41,6 @@ impl<D: DigitStore> Drop for Scaled<D> {
     }
 }
 
-/// Returns two numbers of at most 16,385 whose sum is the absolute value of an exponent below 0, and 0 for any other.
 fn halves(exponent: i32) -> (u16, u16)
     requires { negsuc 32769 ≤ℤ exponent }
     ensures sum { result.0 + result.1 ≡ unsigned_abs (int_min (pos 0) exponent) }
@@ -47,7 +50,6 @@ fn halves(exponent: i32) -> (u16, u16)
     (count / 2, count - count / 2)
 }
 
-/// Multiplies by 10^`count`, without the leading zeros that are shown.
 fn raise<D: DigitStore>(value: &mut UnsignedOver<D>, count: u16)
     requires few { count ≤ 16385 }
     requires low { (first value.old.number +ℤ pos count) ≤ℤ pos 32767 }
@@ -57,11 +59,6 @@ fn raise<D: DigitStore>(value: &mut UnsignedOver<D>, count: u16)
     value.multiply_pow10(count as i16).unwrap();
 }
 
-/// Divides by 10^`count`, without the trailing zeros that are shown.
-///
-/// # Errors
-///
-/// `Limit`: a digit would be below 10^-32768.
 fn lower<D: DigitStore>(value: &mut UnsignedOver<D>, count: u16) -> Result<(), RoundError>
     requires { count ≤ 32767 }
     ensures ok { OnOk result (value.new.number ≡ value.old.number / 10 ^ count) }
@@ -90,7 +87,6 @@ impl Notation {
         exponent.min(0)
     }
 
-    /// Returns the exponent of a number, and 0 if it is below 0.
     fn whole_exponent<D: DigitStore>(&self, value: &UnsignedOver<D>) -> u16
         ensures value { result ≡ whole_exponent self.now value.now.number }
         ensures at_most { result ≤ 32767 }
@@ -179,5 +175,35 @@ impl<D: DigitStore> Scaled<D> {
             exponent: _,
         } = self;
         significand
+    }
+}
+
+impl Scaled<DecimalStore> {
+    /// Makes the value of the significand and the exponent, which prints `1.2e6`.
+    ///
+    /// # Errors
+    ///
+    /// Out of memory for the exponent, only for more than `INLINE_DIGITS` digits.
+    pub fn into_scientific(self, alloc: Global) -> Result<ScientificDecimal, AllocError>
+        ensures value { IfOk result (λ s. s ≡ scientific self.significand (integer_decimal self.exponent)) }
+        ensures succeeds { size (integer_decimal self.exponent).absolute.number ≤ INLINE_DIGITS → IsOk result }
+    {
+        let exponent = FixedInteger::try_from_i32(alloc, self.exponent())?;
+        Ok(ScientificDecimal::from(self.into_significand(), exponent))
+    }
+
+    /// Makes the value of the significand and the exponent, which prints `1.2c6`, if the exponent is from 0 to 255.
+    pub fn into_compact(self) -> Option<CompactDecimal>
+        ensures { MatchOption result ((self.exponent <ℤ pos 0) ⊎ (pos 255 <ℤ self.exponent))
+            (λ c. (c.significand ≡ self.significand) × (pos c.exponent ≡ self.exponent)) }
+    {
+        let exponent = self.exponent();
+        if exponent < 0 {
+            return None;
+        }
+        if exponent > 255 {
+            return None;
+        }
+        Some(CompactDecimal::from_significand_and_exponent(self.into_significand(), exponent as u8))
     }
 }

@@ -1,6 +1,6 @@
 //! The numbers of digits as ECMA-402 reads them.
 ghost use Rattle.std.specs.Prelude.{◌≡◌, ◌≤◌, true, false, not, ◌||◌, ◌&&◌, Some, None, unwrap_or, IfOk, MatchResult};
-ghost use Rattle.number_format.specs.Resolved.{counts, is_auto, has_significant, needs_significant, needs_fraction, significant_of, fraction_of, are_within, are_fraction, IsNamed, IsResolved, first_error, increment_tests, resolve_error};
+ghost use Rattle.number_format.specs.Resolved.{counts, is_auto, given, needs_significant, needs_fraction, significant_of, fraction_of, are_within, are_fraction, IsNamed, IsResolved, first_error, increment_tests, resolve_error};
 ghost use Rattle.number_format.specs.ShownDigits.{increment_of};
 
 use crate::digit_options::{DigitOptions, TrailingZeros};
@@ -77,7 +77,7 @@ impl DigitSettings {
     }
 
     fn has_significant(&self) -> bool
-        ensures { result ≡ has_significant self.now }
+        ensures { result ≡ given self.now.minimum_significant_digits self.now.maximum_significant_digits }
     {
         self.minimum_significant_digits.is_some() || self.maximum_significant_digits.is_some()
     }
@@ -90,7 +90,6 @@ impl DigitSettings {
         !self.is_auto() || !(self.has_significant() || (defaults.is_compact && !has_fraction))
     }
 
-    /// Returns whether only fraction digits apply.
     fn is_fraction(&self, defaults: &DigitDefaults) -> bool
         ensures value { result ≡ (not (needs_significant self.now) && needs_fraction self.now defaults.now) }
         ensures auto { result ≡ true → self.now.rounding_priority ≡ RoundingPriority.Auto }
@@ -124,31 +123,20 @@ impl DigitSettings {
         if !self.needs_fraction(defaults) {
             return Ok(FractionDigits { min: 0, max: 0 });
         }
-        let least = defaults.fraction.min;
-        let most = if self.rounding_increment == 1 {
-            defaults.fraction.max
-        } else {
-            least
-        };
-        match (self.minimum_fraction_digits, self.maximum_fraction_digits) {
-            (None, None) => Ok(FractionDigits {
-                min: least,
-                max: most,
-            }),
-            (None, Some(max)) if max <= 100 => Ok(FractionDigits {
-                min: least.min(max),
-                max,
-            }),
-            (Some(min), None) if min <= 100 => Ok(FractionDigits {
-                min,
-                max: most.max(min),
-            }),
-            (Some(min), Some(max)) if min <= max && max <= 100 => Ok(FractionDigits { min, max }),
-            _ => Err(DigitOptionsError::FractionDigits),
+        let (given_min, given_max) = (self.minimum_fraction_digits, self.maximum_fraction_digits);
+        if given_min.unwrap_or(0) > 100 || given_max.unwrap_or(0) > 100 {
+            return Err(DigitOptionsError::FractionDigits);
         }
+        let least = defaults.fraction.min;
+        let most = if self.rounding_increment == 1 { defaults.fraction.max } else { least };
+        let min = given_min.unwrap_or(least.min(given_max.unwrap_or(least)));
+        let max = given_max.unwrap_or(most.max(min));
+        if min > max {
+            return Err(DigitOptionsError::FractionDigits);
+        }
+        Ok(FractionDigits { min, max })
     }
 
-    /// Returns the precision of the numbers of digits.
     fn precision(
         &self,
         defaults: &DigitDefaults,
