@@ -11,6 +11,7 @@ use Rattle.decimal_format.specs.Parts.{digits_text}
 use Rattle.decimal_format.proofs.Apart.{passes_below}
 use Rattle.decimal_format.specs.Symbols.{Symbols, digit_text}
 use Rattle.decimal_format.proofs.Rules.{steps}
+use Rattle.std.proofs.Common.{rules}
 
 -- the bytes of the ASCII digits
 pub ten_digits : (d : ℕ) → d < 10 → encode_utf8 (slice_index ascii_digits d) ≡ (48 + d) ∷ []
@@ -27,9 +28,7 @@ pub digits_text-ascii : (s : Symbols) (bytes : List ℕ) → s.digits ≡ ascii_
 digits_text-ascii s [] e h = refl
 digits_text-ascii s (byte ∷ rest) e h =
     let range = h 0 (omega arith) in
-    let here : digit_text s (byte - 48) ≡ byte ∷ [] =
-    digit_text-ascii s (byte - 48) e (omega (arith, range.0, range.1))
-    ∙ ap (λ b. b ∷ []) (let same : 48 + (byte - 48) ≡ byte = omega (arith, range.0) in same) in
+    let here : digit_text s (byte - 48) ≡ byte ∷ [] = search (rules, arith, digit_text-ascii) in
     flat_map-cons (λ b. digit_text s (b - 48)) byte rest
     ∙ (λ i. here i ++ digits_text-ascii s rest e (λ k l. h (suc k) (omega (arith, l))) i)
 

@@ -1,6 +1,6 @@
 -- The text by other symbols, or under another strategy.
-use Rattle.std.proofs.Common.{◌≡◌, ℕ, zero, suc, Bool, List, [], ◌++◌, refl, append-nil}
-use Rattle.std.specs.Prelude.{if◌then◌else◌, ℤ, pos, ◌-ℤ◌}
+use Rattle.std.proofs.Common.{◌≡◌, ℕ, zero, suc, List, [], ◌++◌, refl, append-nil}
+use Rattle.std.specs.Prelude.{ℤ, pos, ◌-ℤ◌}
 use Rattle.decimal_digits.specs.Number.{digit}
 use Rattle.decimal_unsigned.specs.Text.{dot_before, text_down}
 use Rattle.fixed_decimal.specs.Decimal.{Decimal}
@@ -15,9 +15,6 @@ use Rattle.decimal_format.specs.Formatted.{separator_before, separator_after, fo
 use Rattle.decimal_format.proofs.AsciiDigits.{ten_digits}
 use Rattle.decimal_format.proofs.Magnitudes.{digit_below}
 use Rattle.std.proofs.Common.{arith}
-
-either : (b : Bool) (xs : List ℕ) → (if b then xs else xs) ≡ xs
-either b xs = grind arith
 
 -- under `Never` there is no separator
 never_separates : (s : Symbols) (hi m : ℤ) → separator_after s Never hi m ≡ []

@@ -17,6 +17,7 @@ use Rattle.decimal_format.specs.Reading.{digits_text, fraction_text}
 use Rattle.decimal_format.specs.Scanning.{separator_if}
 use Rattle.decimal_format.proofs.NumeralTexts.{digits_of_value, absolute_is}
 use Rattle.decimal_format.proofs.Separators.{separators_below-suc, separators_below-zero}
+use Rattle.std.proofs.Common.{rules}
 
 module _ (s : Symbols) (w : ℕ) (width : HaveWidth s.digits w) where
   length-separator : (b : Bool) → length (separator_if s b) ≡ (if b then 1 else 0) * length s.grouping
@@ -53,14 +54,12 @@ length-absolute s g v valid w width separator fraction whole =
     let j = length d.0.fraction in
     let size = length-append d.0.whole d.0.fraction in
     let hi : v.hi ≡ pos (n - 1) = ap (λ (u : Unsigned). u.hi) d.2.absolute in
-    let lo : v.lo ≡ int_min (pos n -ℤ pos (length (d.0.whole ++ d.0.fraction))) (pos 0) =
-    ap (λ (u : Unsigned). u.lo) d.2.absolute in
+    let lo : v.lo ≡ int_min (pos n -ℤ pos (length (d.0.whole ++ d.0.fraction))) (pos 0) = search (rules, arith) in
     let integers : int_gap (pos 0) v.hi + 1 ≡ n = omega (arith, ints, gap_is (pos 0) v.hi, hi, d.1.some) in
     let count : shown_count v ≡ n + j = omega (arith, ints, clamps, gap_is v.lo v.hi, hi, lo, size, d.1.some) in
     let text = ap (absolute_text s g) d.2.absolute ∙ absolute_is d.0 d.1 d.2.few s g in
     let separators : separators_below g s.sizes v.hi (int_gap (pos 0) v.hi + 1) * length s.grouping
-    ≡ separators_below g s.sizes (pos (n - 1)) n * length s.grouping =
-    λ i. separators_below g s.sizes (hi i) (integers i) * length s.grouping in
+    ≡ separators_below g s.sizes (pos (n - 1)) n * length s.grouping = search (rules, arith) in
     let separated = λ (m : ℕ). separates g s.sizes (pos (n - 1)) (pos m) in
     omega (
       arith,

@@ -1,5 +1,5 @@
 -- A text is that of one numeral, and of one decimal.
-use Rattle.std.proofs.Common.{◌≡◌, ◌≢◌, ℕ, ◌-◌, inl, inr, Bool, true, false, List, [], ◌∷◌, ◌++◌, length, refl, sym, ◌∙◌, ap, subst, append-nil}
+use Rattle.std.proofs.Common.{◌≡◌, ◌≢◌, ℕ, ◌-◌, inl, inr, Bool, true, false, List, [], ◌∷◌, ◌++◌, length, refl, sym, ◌∙◌, subst, append-nil}
 use Rattle.std.specs.Prelude.{Result, Ok, Err, IfOk, MatchResult, ◌↔◌, pos}
 use Rattle.std.specs.Int.Digits.{AllBelowBase}
 use Rattle.std.proofs.Math.Bool.{and-false}
@@ -55,8 +55,7 @@ module _ (s : Symbols) (readable : IsReadable s) where
       let signs = sign-unique s readable w.sign u.sign (a ++ x) (b ++ y)
       (λ _. begins-append s a x (number_begins s f w p)) (λ _. begins-append s b y (number_begins s g u q))
       (sym e ∙ h) in
-      let numbers : a ≡ b =
-      append_cancel_right a b x (signs.1 ∙ ap (λ z. b ++ (sign_affixes s z).suffix) (sym signs.0)) in
+      let numbers : a ≡ b = search (rules, arith, append_cancel_right) in
       let wholes = digits-unique s readable f g w.whole u.whole (fraction_text s w.fraction) (fraction_text s
       u.fraction) p.whole q.whole (ends_integer (fraction_ends s readable w.fraction))
       (ends_integer (fraction_ends s readable u.fraction)) numbers in
@@ -75,9 +74,7 @@ module _ (s : Symbols) (readable : IsReadable s) where
     λ uniform. record {
       digits = digits;
       strategy = strategy_if uniform.0;
-      text = e ∙ ap (λ l. affixes.prefix ++ ((l ++ fraction_text s w.fraction) ++ affixes.suffix))
-          (digits_text-cong s f (separated_by s (strategy_if uniform.0) (length w.whole)) w.whole
-          (λ m inside. uniform.1 m inside ∙ strategy_separates s uniform.0 (length w.whole) m inside));
+      text = search (rules, arith, digits_text-cong, strategy_if, strategy_separates);
     },
     λ numeral. (
       is_grouped numeral.strategy s.sizes (pos (length w.whole - 1)),
@@ -132,10 +129,7 @@ module _ {is_numeral : Numeral → Type 0} {is_written : Decimal → Type 0} (te
     found = found result is;
     reads_back = λ v valid written. back result is v (texts.reads v valid written);
     syntax = (λ h. absurd (is.syntax h), λ none. absurd (none w numeral));
-    limit = (
-      λ h. (w, numeral, is.limit.0 h),
-      λ x. is.limit.1 (subst IsBeyondLimits (texts.unique x.0 w x.1 numeral) x.2),
-    );
+    limit = search (rules, arith);
     memory = λ h.
         let v : Decimal = record { sign = w.sign; absolute = value_of w } in
         let written = texts.writes v w numeral (record {
@@ -225,13 +219,7 @@ module _ {inline : ℕ} {s : Symbols} {text : List ℕ} {result : Result Decimal
       | inr x ↦ absurd (other (read.syntax.1 x.0))
     ];
     syntax = (λ h. absurd (other h), λ none. read.syntax.1 (λ w numeral. none w (inl numeral)));
-    limit = (
-      λ h. let x = read.limit.0 h in (x.0, inl x.1, x.2),
-      λ x. elim x.1 [
-        | inl numeral ↦ read.limit.1 (x.0, numeral, x.2)
-        | inr y ↦ absurd (other (read.syntax.1 y.0))
-      ],
-    );
+    limit = search (rules, arith);
     memory = λ h. let x = read.memory h in (x.0, x.1, inl x.2, x.3);
   }
 

@@ -1,5 +1,5 @@
 -- The digits of a value, and the value of digits.
-use Rattle.std.proofs.Common.{◌≡◌, ℕ, zero, suc, ◌+◌, ◌-◌, ◌*◌, ◌/◌, ◌%◌, ◌^◌, ◌<◌, ◌≤◌, false, inl, inr, List, [], ◌∷◌, ◌++◌, length, take, drop, refl, sym, ◌∙◌, ap, subst, arith, append_assoc, append-nil, length-append, length-drop, take-append-drop}
+use Rattle.std.proofs.Common.{◌≡◌, ℕ, zero, suc, ◌+◌, ◌-◌, ◌*◌, ◌/◌, ◌%◌, ◌^◌, ◌<◌, ◌≤◌, false, List, [], ◌∷◌, ◌++◌, length, take, drop, refl, sym, ◌∙◌, ap, subst, arith, append_assoc, append-nil, length-append, length-drop, take-append-drop}
 use Rattle.std.specs.Int.Digits.{AllBelowBase, number_from_digits}
 use Rattle.std.specs.Prelude.{ℤ, pos, negsuc, ◌-ℤ◌}
 use Rattle.std.specs.Int.{int_gap, int_min}
@@ -22,6 +22,7 @@ use Rattle.decimal_format.specs.Reading.{Numeral, AreDigits, IsBeyondLimits, dig
 use Rattle.decimal_format.specs.Scanning.{value_of}
 use Rattle.decimal_format.proofs.Bcd.{below_append, below_first, below_rest}
 use Rattle.decimal_format.proofs.DigitTexts.{digits_text-first}
+use Rattle.std.proofs.Common.{rules}
 
 -- ---- The digits of a number.
 -- those at the given number of magnitudes, from m down
@@ -69,8 +70,7 @@ digits_of_number (x ∷ ds) (y ∷ es) p q size e =
     let b = number_from_digits 10 es in
     let a_lt = number_lt 10 ds p.1 in
     let b_lt : b < w = subst (λ k. b < 10 ^ k) (sym same) (number_lt 10 es q.1) in
-    let both : x * w + a ≡ y * w + b =
-    sym (number_first 10 x ds) ∙ e ∙ number_first 10 y es ∙ ap (λ k. y * 10 ^ k + b) (sym same) in
+    let both : x * w + a ≡ y * w + b = search (rules, arith, number_first) in
     let first : x ≡ y = sym (div-mul-add x w a a_lt) ∙ ap (λ n. n / w) both ∙ div-mul-add y w b b_lt in
     let others : a ≡ b = sym (mod-mul-add x w a a_lt) ∙ ap (λ n. n % w) both ∙ mod-mul-add y w b b_lt in
     (λ i. first i ∷ digits_of_number ds es p.1 q.1 same others i)
@@ -132,10 +132,7 @@ module _ (w : Numeral) (digits : AreDigits w) (few : ¬ IsBeyondLimits w) where
       let low = length w.whole + 32768 - length all in
       let number = (value_of w).number in
       let below = below_append w.whole w.fraction digits.whole digits.fraction in
-      let at_most : length all ≤ length w.whole + 32768 = elim (cases_lt 32768 (length w.fraction)) [
-        | inl h ↦ absurd (few (inr h))
-        | inr h ↦ omega (arith, h, length-append w.whole w.fraction)
-      ] in
+      let at_most : length all ≤ length w.whole + 32768 = search (rules, arith, cases_lt, length-append) in
       digits_of_number (digit_list number top (length all)) all (digit_list-digits number top (length all)) below
       (length-digit_list number top (length all))
       (digit_list-number number low top (length all) (λ h. omega (arith, offset_is top, at_most, digits.some))
@@ -172,20 +169,16 @@ digits_of_value v valid =
     let split : take n ds ++ drop n ds ≡ ds = take-append-drop n ds in
     let below = subst (AllBelowBase 10) (sym split) (digit_list-digits u.number u.hi count) in
     let size : length (take n ds ++ drop n ds) ≡ count = ap length split ∙ length-digit_list u.number u.hi count in
-    let rest : length (drop n ds) ≡ count - n =
-    omega (arith, length-digit_list u.number u.hi count, length-drop n ds) in
-    let within : n ≤ count =
-    omega (arith, ints, gap_is (pos 0) u.hi, gap_is u.lo u.hi, valid.hi_in, valid.lo_in) in
+    let rest : length (drop n ds) ≡ count - n = search (rules, arith, length-digit_list, length-drop) in
+    let within : n ≤ count = search (rules, arith, ints, gap_is) in
     let whole : length (take n ds) ≡ n = omega (arith, size, length-append (take n ds) (drop n ds), rest, within) in
-    let top : offset u.hi + 1 ≡ count + low =
-    omega (arith, ints, gap_is u.lo u.hi, offset_is u.hi, offset_is u.lo, valid.hi_in, valid.lo_in) in
+    let top : offset u.hi + 1 ≡ count + low = search (rules, arith, ints, gap_is, offset_is) in
     let less : u.number / 10 ^ low < 10 ^ count =
     (div-lt_iff_lt-mul (ten_pos low)).1 (subst (λ x. u.number < x) (powers count low _ top) valid.below) in
     let number : u.number / 10 ^ low ≡ number_from_digits 10 (take n ds ++ drop n ds) =
     sym (ap (number_from_digits 10) split ∙ digit_list-number u.number low u.hi count (λ some. omega (arith, top))
     ∙ mod-eq_of_lt less) in
-    let units : u.number ≡ u.number / 10 ^ low * 10 ^ low =
-    omega (arith, div-add-mod' u.number (10 ^ low), valid.whole) in
+    let units : u.number ≡ u.number / 10 ^ low * 10 ^ low = search (rules, arith, div-add-mod') in
     let place : low ≡ length (take n ds) + 32768 - length (take n ds ++ drop n ds) =
     omega (arith, ints, whole, size, gap_is (pos 0) u.hi, gap_is u.lo u.hi, offset_is u.lo, valid.hi_in, valid.lo_in) in
     let hi : u.hi ≡ pos (length (take n ds) - 1) = omega (arith, ints, whole, gap_is (pos 0) u.hi, valid.hi_in) in
@@ -200,9 +193,6 @@ digits_of_value v valid =
       record {
         sign = refl;
         absolute = λ i. record { number = (units ∙ (λ j. number j * 10 ^ place j)) i; hi = hi i; lo = lo i };
-        few = elim [
-          | inl h ↦ omega (arith, ints, h, whole, gap_is (pos 0) u.hi, valid.hi_in)
-          | inr h ↦ omega (arith, ints, h, rest, gap_is (pos 0) u.hi, gap_is u.lo u.hi, valid.hi_in, valid.lo_in)
-        ];
+        few = search (rules, arith, ints, gap_is);
       },
     )

@@ -15,6 +15,7 @@ use Rattle.decimal_format.specs.Formatted.{Formatted, separator_before, separato
 use Rattle.decimal_format.specs.Parts.{magnitude_of, part_text, AreDigits, IsRun, digits_text, run_text}
 use Rattle.decimal_format.proofs.Magnitudes.{formatted_down-add, digit_below}
 use Rattle.decimal_format.proofs.Rules.{steps}
+use Rattle.std.proofs.Common.{rules}
 
 -- the digits of two pieces without a separator between them
 regroup : (a d t z : List ℕ) → (a ++ (d ++ [])) ++ ([] ++ (t ++ z)) ≡ a ++ ((d ++ t) ++ z)
@@ -52,8 +53,7 @@ module _ (f : Formatted) where
   run_is below (d ∷ []) some digits run =
       let first : below + 0 ≡ below = omega arith in
       let last : below ≡ below + length (d ∷ []) - 1 = omega arith in
-      let here : d - 48 ≡ digit number (magnitude_of f below) =
-      omega (arith, digits 0 (omega arith), ap (λ k. digit number (magnitude_of f k)) first) in
+      let here : d - 48 ≡ digit number (magnitude_of f below) = search (rules, arith) in
       part_text-suc below 0
       ∙ (λ i. (before below ++ (digit_text f.symbols (sym here i) ++ after (last i))) ++ [])
       ∙ append-nil _
@@ -61,8 +61,7 @@ module _ (f : Formatted) where
       (sym (flat_map-cons (λ byte. digit_text f.symbols (byte - 48)) d [] ∙ append-nil _))
   run_is below (d ∷ (e ∷ es)) some digits run =
       let first : below + 0 ≡ below = omega arith in
-      let here : d - 48 ≡ digit number (magnitude_of f below) =
-      omega (arith, digits 0 (omega arith), ap (λ k. digit number (magnitude_of f k)) first) in
+      let here : d - 48 ≡ digit number (magnitude_of f below) = search (rules, arith) in
       let next : (k : ℕ) → below + 1 + k ≡ below + (k + 1) = λ k. omega arith in
       let last : below + 1 + length (e ∷ es) - 1 ≡ below + length (d ∷ (e ∷ es)) - 1 = omega arith in
       let end = after (below + length (d ∷ (e ∷ es)) - 1) in
@@ -96,9 +95,7 @@ module _ (f : Formatted) where
         let at : magnitude_of f (below + k) ≡ pos (m - k) = omega (arith, ints, is, h, within) in
         ap (separator_after f.symbols f.strategy f.value.absolute.hi) at
         ∙ ap (λ b. if b then f.symbols.grouping else []) (none k h);
-    none_before = λ k h.
-        let at : magnitude_of f (below + (k + 1)) ≡ pos (m - (k + 1)) = omega (arith, ints, is, h, within) in
-        ap (separator_before f.symbols) at;
+    none_before = search (rules, arith, ints);
   }
 
   -- the text of the digits from one to another is what a run writes

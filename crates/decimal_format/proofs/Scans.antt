@@ -96,8 +96,7 @@ module _ (s : Symbols) (readable : IsReadable s) (rest : List ℕ) where
         record {
           first = read.first ++ d ∷ [];
           others = step.0;
-          all =
-              read.all ∙ ap (λ l. read.first ++ l) step.1 ∙ sym (append_assoc read.first (d ∷ []) step.0);
+          all = search (rules, arith, append_assoc);
           bcd = last_push n k d read.first below read.bcd;
           at_most = omega arith;
           spelled = step.2;
@@ -357,11 +356,7 @@ module _ {s : Symbols} {may : ℕ → Bool} {n : ℕ} {bytes : List ℕ} where
       chosen = so_far.chosen;
       count = omega (arith, so_far.count, last);
       are_digits = so_far.are_digits;
-      text =
-          so_far.text
-          ∙ (λ i. digits_text s
-          (λ m. ((let z : m + left ≡ m = omega (arith, last) in ap so_far.chosen z) ∙ ap (λ f. f m) same) i) digits
-          ++ rest);
+      text = search (rules, arith);
       uniform = either_is may so_far.chosen n all none (to_last true all so_far.all) (to_last false none so_far.none);
     }
       where

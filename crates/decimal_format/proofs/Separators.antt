@@ -9,6 +9,7 @@ use Rattle.decimal_format.specs.declared.grouping.GroupingSizes.{GroupingSizes}
 use Rattle.decimal_format.specs.declared.grouping.GroupingStrategy.{GroupingStrategy}
 use Rattle.decimal_format.specs.Grouping.{reaches, is_grouped, secondary_size, ends_group, separates}
 use Rattle.decimal_format.specs.Parts.{separators_below}
+use Rattle.std.proofs.Common.{rules}
 
 -- ---- Quotients and remainders.
 -- subtracting less than the remainder leaves the rest of the remainder
@@ -20,17 +21,12 @@ div-add_one : (x d : ℕ) → 0 < d → (x + 1) / d ≡ x / d + (if (x + 1) % d 
 div-add_one x d some = elim (cases_lt (x % d + 1) d) [
   | inl less ↦
       let split : x + 1 ≡ (x % d + 1) + x / d * d = omega (arith, mod-add-div' x d) in
-      let quotient : (x + 1) / d ≡ x / d =
-      ap (λ y. y / d) split ∙ add-mul-div_right (x % d + 1) (x / d) some
-      ∙ ap (λ y. y + x / d) (div-eq_of_lt less) ∙ (omega arith) in
-      let rest : (x + 1) % d ≡ x % d + 1 =
-      ap (λ y. y % d) split ∙ add-mul-mod_self_right (x % d + 1) (x / d) d ∙ mod-eq_of_lt less in
+      let quotient : (x + 1) / d ≡ x / d = search (rules, arith, add-mul-div_right, div-eq_of_lt) in
+      let rest : (x + 1) % d ≡ x % d + 1 = search (rules, arith, add-mul-mod_self_right, mod-eq_of_lt) in
       grind (arith, nat_tests, quotient, rest)
   | inr last ↦
       let split : x + 1 ≡ d + x / d * d = omega (arith, mod-add-div' x d, mod-lt x some) in
-      let quotient : (x + 1) / d ≡ x / d + 1 =
-      ap (λ y. y / d) split ∙ add-mul-div_right d (x / d) some
-      ∙ ap (λ y. y + x / d) (div_self some) ∙ (omega arith) in
+      let quotient : (x + 1) / d ≡ x / d + 1 = search (rules, arith, add-mul-div_right, div_self) in
       let rest : (x + 1) % d ≡ 0 = ap (λ y. y % d) split ∙ add-mul-mod_self_right d (x / d) d ∙ mod_self d in
       grind (arith, nat_tests, quotient, rest)
 ]
@@ -52,9 +48,7 @@ module _ (sizes : GroupingSizes) where
         let x = m - sizes.primary in
         let order : m - k - sizes.primary ≡ x - k = omega arith in
         let test : ((m - k - sizes.primary) % d == 0) ≡ false =
-        ap (λ y. y % d == 0) order
-        ∙ ap (λ y. y == 0) (mod-sub_less x d k (secondary_some some) h)
-        ∙ (let e : (x % d - k == 0) ≡ false = grind (arith, nat_tests, h) in e) in
+        search (rules, arith, nat_tests, mod-sub_less, secondary_some) in
         ap (λ b. nat_lt 0 sizes.primary && (nat_le sizes.primary (m - k) && b)) test
         ∙ ends_false (nat_lt 0 sizes.primary) (nat_le sizes.primary (m - k))
       where
@@ -68,11 +62,9 @@ module _ (sizes : GroupingSizes) where
         let x = m - sizes.primary in
         let split : x ≡ x % d + x / d * d = omega (arith, mod-add-div' x d) in
         let order : m - x % d - sizes.primary ≡ x / d * d = omega (arith, split, least) in
-        let reached : nat_le sizes.primary (m - x % d) ≡ true =
-        let h : sizes.primary ≤ m - x % d = omega (arith, split, least) in grind (arith, nat_tests, h) in
+        let reached : nat_le sizes.primary (m - x % d) ≡ true = search (rules, arith, nat_tests) in
         let first : nat_lt 0 sizes.primary ≡ true = grind (arith, nat_tests, some) in
-        let test : ((m - x % d - sizes.primary) % d == 0) ≡ true =
-        ap (λ y. y % d == 0) order ∙ ap (λ y. y == 0) (mul-mod_left (x / d) d) in
+        let test : ((m - x % d - sizes.primary) % d == 0) ≡ true = search (rules, arith, mul-mod_left) in
         (λ i. first i && (reached i && test i))
 
 module _ (strategy : GroupingStrategy) (sizes : GroupingSizes) (hi : ℤ) where
@@ -144,6 +136,5 @@ module _ (strategy : GroupingStrategy) (sizes : GroupingSizes) (hi : ℤ) where
           ∙ (λ i. (ap (separators_below strategy sizes hi) order ∙ go x) i + (if here (suc x) i then 1 else 0))
           ∙ ap (λ y. x / secondary_size sizes + 1 + (if y % secondary_size sizes == 0 then 1 else 0)) step
           ∙ (let e : x / secondary_size sizes + 1 + (if (x + 1) % secondary_size sizes == 0 then 1 else 0)
-          ≡ (x + 1) / secondary_size sizes + 1 =
-          omega (arith, div-add_one x (secondary_size sizes) (secondary_some sizes some)) in e)
+          ≡ (x + 1) / secondary_size sizes + 1 = search (rules, arith, div-add_one, secondary_some) in e)
           ∙ ap (λ y. y / secondary_size sizes + 1) (sym step)

@@ -20,6 +20,7 @@ use Rattle.decimal_unsigned.specs.DigitValues.{IsBcd, value_of_first}
 use Rattle.decimal_format.specs.Symbols.{Symbols}
 use Rattle.decimal_format.specs.Scanning.{HasBcd, IsSpelled, ReadsSpelled, HoldsDigits}
 use Rattle.decimal_format.proofs.Bcd.{below_append, below_rest, last_is_bcd}
+use Rattle.decimal_format.proofs.Rules.{steps}
 
 -- ---- Numbers of digits.
 -- the number of digits and then others
@@ -176,16 +177,7 @@ module _ {whole k word j : ℕ} {v : Unsigned} {ds es : List ℕ} {position : �
     joined_is =
         let number : v.number + moved.number ≡ number_at t (ds ++ es) =
         (λ i. v_number i + moved_number i) ∙ sum_is in
-        let hi : int_max v.hi moved.hi ≡ pos (whole - 1) =
-        omega (
-          arith,
-          ints,
-          clamps,
-          ap (λ (u : Unsigned). u.hi) moved_is,
-          ap (λ (u : Unsigned). u.hi) holds.value,
-          next_is.at,
-          next_is.some,
-        ) in
+        let hi : int_max v.hi moved.hi ≡ pos (whole - 1) = grind (steps, moved_is) in
         let lo : int_min v.lo moved.lo ≡ int_min (pos whole -ℤ pos (length (ds ++ es))) (pos 0) =
         omega (
           arith,

@@ -6,17 +6,7 @@ use Rattle.decimal_format.proofs.Parts.{digits_from}
 use Rattle.decimal_format.proofs.formatter.FormattedDecimal.copy_digits.Goals as goal
 
 pub write_digits-requires : goal.write_digits-requires
-write_digits-requires g c =
-    let v = c.args.self.now.value.absolute in
-    omega (
-      arith,
-      ints,
-      narrow_kept {z = c.magnitude.result} c.magnitude.type_inv,
-      gap_is v.lo v.hi,
-      c.magnitude.ensures.value,
-      c.magnitude.ensures.valid.lo_in,
-      c.requires.shown,
-    )
+write_digits-requires g c = grind (arith, ints, narrow_kept, gap_is)
 
 pub returns : goal.returns
 returns g c =

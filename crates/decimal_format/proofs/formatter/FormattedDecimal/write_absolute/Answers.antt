@@ -1,5 +1,4 @@
-use Rattle.std.proofs.Common.{◌≡◌, ◌+◌, ◌≤◌, ◌∙◌, ap, subst, arith}
-use Rattle.std.specs.Io.KnownBytes.{Appends}
+use Rattle.std.proofs.Common.{◌≡◌, ◌+◌, ◌≤◌, ap, subst, arith}
 use Rattle.decimal_digits.specs.AppendsPrefix.{AppendsPrefix}
 use Rattle.fixed_decimal.proofs.Calling.{on_err}
 use Rattle.decimal_format.specs.Formatted.{shown_count}
@@ -37,9 +36,4 @@ loop-written-preserved g c =
     }
 
 pub returns-clause-ok : goal.returns-clause-ok
-returns-clause-ok g c =
-    let f = c.args.self.now in
-    let all : c.loop-written.written ≡ shown_count f.value.absolute =
-    omega (arith, c.loop-written-test.false, c.loop-written.invariant.within, c.shown_count-count.ensures.value) in
-    subst (Appends (g.W.Sink.contents c.args.sink.now) (g.W.Sink.contents c.loop-written.sink))
-    (ap (part_text f 0) all ∙ whole_part f) c.loop-written.invariant.appended
+returns-clause-ok g c = grind (arith, whole_part)

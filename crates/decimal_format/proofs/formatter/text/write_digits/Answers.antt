@@ -5,9 +5,7 @@ use Rattle.decimal_format.proofs.AsciiDigits.{digits_text-ascii, digits_text-par
 use Rattle.decimal_format.proofs.formatter.text.write_digits.Goals as goal
 
 pub returns-then-has_ascii_digits-clause-ok : goal.returns-then-has_ascii_digits-clause-ok
-returns-then-has_ascii_digits-clause-ok g c =
-    let ascii = c.has_ascii_digits.ensures c.if-has_ascii_digits.true in
-    rw (digits_text-ascii c.args.symbols.now c.args.digits.now ascii c.requires) c.put_bytes.ensures.appends
+returns-then-has_ascii_digits-clause-ok g c = grind (arith, digits_text-ascii)
 
 pub returns-then-has_ascii_digits-clause-err : goal.returns-then-has_ascii_digits-clause-err
 returns-then-has_ascii_digits-clause-err g c =

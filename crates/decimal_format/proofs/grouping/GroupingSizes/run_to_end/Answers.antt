@@ -4,21 +4,13 @@ use Rattle.decimal_format.proofs.Separators.{ends_none, ends_last}
 use Rattle.decimal_format.proofs.grouping.GroupingSizes.run_to_end.Goals as goal
 
 pub returns-then-before_last-most-clause-none_between : goal.returns-then-before_last-most-clause-none_between
-returns-then-before_last-most-clause-none_between c = λ k h.
-    let rest = rw c.secondary_size.ensures at c.remainder-before_last.ensures in
-    ends_none c.args.self c.args.magnitude (omega arith) (omega arith) k
-    (omega (arith, rest, h, c.if-before_last-most.true))
+returns-then-before_last-most-clause-none_between c = grind (arith, ends_none)
 
 pub returns-then-before_last-most-clause-last : goal.returns-then-before_last-most-clause-last
-returns-then-before_last-most-clause-last c =
-    let rest = rw c.secondary_size.ensures at c.remainder-before_last.ensures in
-    ends_none c.args.self c.args.magnitude (omega arith) (omega arith) (c.args.most - 1)
-    (omega (arith, rest, c.if-before_last-most.true, c.requires.some))
+returns-then-before_last-most-clause-last c = grind (arith, ends_none)
 
 pub returns-clause-none_between : goal.returns-clause-none_between
-returns-clause-none_between c = λ k h.
-    let rest = rw c.secondary_size.ensures at c.remainder-before_last.ensures in
-    ends_none c.args.self c.args.magnitude (omega arith) (omega arith) k (omega (arith, rest, h))
+returns-clause-none_between c = grind (arith, ends_none)
 
 pub returns-clause-last : goal.returns-clause-last
 returns-clause-last c =

@@ -1,5 +1,5 @@
-use Rattle.std.proofs.Common.{◌≡◌, ◌+◌, ◌-◌, ◌/◌, false, true, sym, ◌∙◌, ap, arith}
-use Rattle.std.specs.Prelude.{◌&&◌, nat_lt, nat_abs, pos}
+use Rattle.std.proofs.Common.{◌≡◌, ◌+◌, ◌-◌, ◌/◌, true, sym, ◌∙◌, ap, arith}
+use Rattle.std.specs.Prelude.{nat_abs, pos}
 use Rattle.std.specs.Int.{int_gap}
 use Rattle.std.proofs.lemmas.Int.{ints}
 use Rattle.std.proofs.lemmas.Bool.Decides.{nat_tests}
@@ -11,20 +11,7 @@ use Rattle.decimal_format.proofs.grouping.GroupingSizes.separator_count.Goals.{t
 use Rattle.decimal_format.proofs.grouping.GroupingSizes.separator_count.Goals as goal
 
 pub returns-then-self-eq0-clause-value : goal.returns-then-self-eq0-clause-value
-returns-then-self-eq0-clause-value c =
-    let sizes = c.args.self in
-    let grouped = is_grouped c.args.strategy sizes c.args.hi in
-    let none : (grouped && nat_lt 0 sizes.primary) ≡ false = elim c.then-self-eq0.branch [
-      | then-self-eq0-via-then-self-eq0 w ↦
-          let test : nat_lt 0 sizes.primary ≡ false = grind (arith, nat_tests, w.if-self-eq0.true) in
-          grind (arith, test)
-      | then-self-eq0-via-else-self-eq0+then-not-is_grouped w ↦
-          let test : grouped ≡ false =
-          ap (is_grouped c.args.strategy sizes) (sym (narrow_kept c.ranges.hi.sfits))
-          ∙ sym w.is_grouped.ensures ∙ w.if-not-is_grouped.true in
-          grind (arith, test)
-    ] in
-    sym (count-none c.args.strategy sizes c.args.hi (int_gap (pos 0) c.args.hi + 1) none)
+returns-then-self-eq0-clause-value c = grind (arith, nat_tests, narrow_kept, count-none)
 
 pub returns-clause-value : goal.returns-clause-value
 returns-clause-value c =

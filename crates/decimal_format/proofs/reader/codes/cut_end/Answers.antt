@@ -1,4 +1,4 @@
-use Rattle.std.proofs.Common.{◌≡◌, ◌+◌, ◌++◌, length, sym, ◌∙◌, ap, arith}
+use Rattle.std.proofs.Common.{◌≡◌, ◌+◌, length, ◌∙◌, arith}
 use Rattle.decimal_format.proofs.NormalForms.{end_cut, end_fails}
 use Rattle.decimal_format.proofs.reader.codes.cut_end.Goals as goal
 
@@ -11,10 +11,4 @@ returns-in_err-cut g c = rw c.from_residual-in_err-cut.ensures
     c.in_err-cut.ensures after (c.skip.ensures ∙ e)))
 
 pub returns : goal.returns
-returns g c =
-    let text = g.T.Input.bytes c.args.text in
-    let size : length text ≡ c.in_ok-front.front + length c.args.code.now =
-    omega (arith, c.in_ok-front.ensures, c.count.ensures) in
-    end_cut c.in_ok-front.front text c.args.code.now size (g.T.Input.bytes c.in_ok-cut.field-0)
-    (sym c.skip.ensures ∙ c.in_ok-cut.ensures)
-    ∙ ap (λ l. l ++ c.args.code.now) (sym c.first.ensures)
+returns g c = grind (arith, end_cut)

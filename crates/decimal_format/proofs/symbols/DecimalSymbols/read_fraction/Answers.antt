@@ -1,16 +1,11 @@
-use Rattle.std.proofs.Common.{◌<◌, false, [], ◌++◌, length, refl, sym, ◌∙◌, ap, arith, append-nil}
-use Rattle.decimal_format.specs.Reading.{digits_text}
+use Rattle.std.proofs.Common.{refl, arith, append-nil}
 use Rattle.decimal_format.proofs.Bcd.{last_none}
 use Rattle.decimal_format.proofs.DigitTexts.{digits_text-nil}
 use Rattle.decimal_format.proofs.Scans.{spelled_plain, fraction_is, fraction_read}
 use Rattle.decimal_format.proofs.symbols.DecimalSymbols.read_fraction.Goals as goal
 
 pub returns-then-is_empty-clause-found : goal.returns-then-is_empty-clause-found
-returns-then-is_empty-clause-found g c =
-    let s = c.args.self.now in
-    let empty = c.if-is_empty.ensures.yes refl in
-    let plain = spelled_plain s c.requires _ [] tt (empty ∙ sym (digits_text-nil s _)) in
-    ([], empty, record { spelled = plain; bcd = last_none })
+returns-then-is_empty-clause-found g c = grind (arith, spelled_plain, digits_text-nil, last_none)
 
 pub returns-then-count-eq0-clause-none : goal.returns-then-count-eq0-clause-none
 returns-then-count-eq0-clause-none g c = λ ds all e.
@@ -27,15 +22,4 @@ returns-then-not-is_empty-clause-none g c = λ ds all e.
     c.is_empty-2.ensures.no c.if-not-is_empty.true read.1
 
 pub returns-clause-found : goal.returns-clause-found
-returns-clause-found g c =
-    let s = c.args.self.now in
-    let begins = rw (c.as_bytes.ensures.value, c.decimal_separator.ensures.value) at c.in_ok-digits.ensures in
-    let run = c.read_run-number.ensures in
-    let plain = run.text
-    ∙ ap (λ l. digits_text s (λ _. false) run.digits ++ l) (c.is_empty-2.ensures.yes c.if-not-is_empty.false)
-    ∙ append-nil _ in
-    let some : 0 < length run.digits = omega (arith, run.bcd.count, c.if-count-eq0.false) in (
-      run.digits,
-      begins ∙ ap (λ l. s.decimal ++ l) plain ∙ fraction_is s run.digits some,
-      record { spelled = spelled_plain s c.requires _ run.digits run.bcd.digits plain; bcd = run.bcd },
-    )
+returns-clause-found g c = grind (arith, append-nil, fraction_is, spelled_plain)

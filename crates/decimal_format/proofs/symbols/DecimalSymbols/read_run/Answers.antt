@@ -6,17 +6,10 @@ pub loop-count-init : goal.loop-count-init
 loop-count-init g c = record { at_most = omega arith; read = run_none c.args.self.now (g.T.Input.bytes c.args.text) }
 
 pub loop-count-preserved : goal.loop-count-preserved
-loop-count-preserved g c =
-    let next = rw (← c.from.ensures) at c.in-Some.ensures in
-    record {
-      at_most = omega (arith, c.loop-count-test.true);
-      read = run_push (g.T.Input.bytes c.in-Some.next.1) c.from.result next.0 next.1 c.loop-count.invariant.read;
-    }
+loop-count-preserved g c = grind (arith, run_push)
 
 pub returns : goal.returns
-returns g c =
-    run_most c.loop-count.invariant.read c.loop-count.invariant.at_most
-    (λ few. absurd (omega (arith, few, c.loop-count-test.false)))
+returns g c = grind (arith, run_most)
 
 pub returns-in_default : goal.returns-in_default
 returns-in_default g c =

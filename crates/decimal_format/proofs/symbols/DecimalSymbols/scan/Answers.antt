@@ -13,17 +13,10 @@ use Rattle.decimal_format.proofs.Scans.{number_begins, whole_bcd, spelled_whole}
 use Rattle.decimal_format.proofs.symbols.DecimalSymbols.scan.Goals as goal
 
 pub returns-in_err-sign-clause-none : goal.returns-in_err-sign-clause-none
-returns-in_err-sign-clause-none g c = rw c.from_residual.ensures (λ w numeral.
-    c.in_err-sign.ensures.unique w.sign _
-    (number_begins c.args.self.now (separated_at c.args.self.now numeral.chosen) w numeral.digits) numeral.text)
+returns-in_err-sign-clause-none g c = grind (arith, number_begins)
 
 pub returns-then-is_empty-clause-none : goal.returns-then-is_empty-clause-none
-returns-then-is_empty-clause-none g c = λ w numeral.
-    let s = c.args.self.now in
-    let begins = number_begins s (separated_at s numeral.chosen) w numeral.digits in
-    let number = (c.in_ok-sign.ensures.unique w.sign _ begins numeral.text).1 in
-    none_not_digit s c.requires begins.digit begins.following begins.is_digit
-    (sym (c.if-is_empty.ensures.yes refl) ∙ number ∙ begins.is)
+returns-then-is_empty-clause-none g c = grind (arith, number_begins, none_not_digit)
 
 -- a numeral of the text has the digits that were read
 counted : {s : Symbols} {text digits rest : List ℕ} {n k : ℕ} {sign : Sign} → IsReadable s → length digits < 2 ^ 64

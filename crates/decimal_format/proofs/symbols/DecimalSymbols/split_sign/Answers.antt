@@ -1,4 +1,4 @@
-use Rattle.std.proofs.Common.{◌≡◌, ◌++◌, sym, ◌∙◌, ap, append-nil}
+use Rattle.std.proofs.Common.{◌++◌, sym, ◌∙◌, ap, append-nil}
 use Rattle.fixed_decimal.specs.declared.variations.Sign.TheVariants.{None}
 use Rattle.decimal_format.specs.Scanning.{BeginsWithDigit}
 use Rattle.decimal_format.proofs.AsciiDigits.{digit_text-ascii}
@@ -6,6 +6,7 @@ use Rattle.std.proofs.lemmas.List.{append_cancel_right}
 use Rattle.decimal_format.specs.Symbols.{sign_affixes}
 use Rattle.decimal_format.proofs.Scans.{begins-append, sign-unique}
 use Rattle.decimal_format.proofs.symbols.DecimalSymbols.split_sign.Goals as goal
+use Rattle.std.proofs.Common.{arith}
 
 pub returns-in-Some-clause-unique : goal.returns-in-Some-clause-unique
 returns-in-Some-clause-unique g c = λ sign number begins e.
@@ -27,13 +28,4 @@ returns-in-Some-clause-unique g c = λ sign number begins e.
     (u.0, u.1 ∙ ap (λ x. number ++ (sign_affixes s x).suffix) (sym u.0) ∙ append-nil number)
 
 pub returns-clause-unique : goal.returns-clause-unique
-returns-clause-unique g c = λ sign number begins e.
-    let s = c.args.self.now in
-    let suffix = (sign_affixes s sign).suffix in
-    let u = c.split_prefix-sign.ensures.unique sign (number ++ suffix) (begins-append s number suffix begins) e in
-    let code : c.as_bytes.result.now ≡ suffix =
-    c.as_bytes.ensures.value ∙ c.affixes.ensures.suffix ∙ ap (λ x. (sign_affixes s x).suffix) u.0 in (
-      u.0,
-      append_cancel_right (g.T.Input.bytes c.in_ok-number.number) number suffix
-          (ap (λ l. (g.T.Input.bytes c.in_ok-number.number) ++ l) (sym code) ∙ sym c.in_ok-number.ensures ∙ u.1),
-    )
+returns-clause-unique g c = grind (arith, begins-append, append_cancel_right)

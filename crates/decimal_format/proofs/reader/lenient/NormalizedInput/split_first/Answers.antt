@@ -1,13 +1,11 @@
-use Rattle.std.proofs.Common.{◌≡◌, ℕ, suc, ◌+◌, ◌-◌, ◌<◌, List, ◌∷◌, take, drop, ◌∙◌, ap, arith}
+use Rattle.std.proofs.Common.{◌≡◌, ℕ, ◌+◌, ◌-◌, ◌<◌, List, ◌∷◌, take, drop, ◌∙◌, arith}
 use Rattle.decimal_format.specs.Lenient.{replaced}
 use Rattle.decimal_format.proofs.NormalForms.{byte_read, character_read}
 use Rattle.decimal_format.proofs.reader.lenient.NormalizedInput.split_first.Goals as goal
 
 -- the first of a number of elements, and then one fewer
 take_first : (n x : ℕ) (all after : List ℕ) → 0 < n → all ≡ x ∷ after → take n all ≡ x ∷ take (n - 1) after
-take_first n x all after some e =
-    let k : n ≡ suc (n - 1) = omega (arith, some) in
-    ap (take n) e ∙ ap (λ m. take m (x ∷ after)) k
+take_first n x all after some e = grind arith
 
 pub returns-then-read-bytes : goal.returns-then-read-bytes
 returns-then-read-bytes c =
@@ -21,11 +19,4 @@ returns-then-read-bytes c =
     (c.loop-c.invariant.1 ∙ byte_read s text c.in-Some.rest.now c.in-Some.c c.in-Some.ensures.0 c.loop-c.read inside))
 
 pub loop-c-preserved : goal.loop-c-preserved
-loop-c-preserved c =
-    let s = c.args.self.symbols.now in
-    let bytes = c.replacement-bytes.ensures in
-    let past = rw bytes at c.if-read-bytes.false in (
-      c.in-Some.ensures.1,
-      rw bytes (c.loop-c.invariant.1 ∙ character_read s c.loop-c.text.now c.in-Some.rest.now c.in-Some.c
-          c.in-Some.ensures.0 c.loop-c.read past),
-    )
+loop-c-preserved c = grind (arith, character_read)
