@@ -46,7 +46,6 @@ memory, or the output fails. Errors are lines of standard error; call 0 is the f
 
 /// What `fixdec_lines` does, and its options.
 const OPTIONS: &str = "
-   or: fixdec_lines --locales
    or: fixdec_lines --version
 
 Reads lines of standard input, makes the calls on each, and writes a line for each to standard output.
