@@ -34,11 +34,13 @@ lines() {
   compare "$1" "$3" "$4"
 }
 
-# help PROGRAM LINE: the only words `--help` and `-h` print the usage line and a table.
+# help PROGRAM LINE: the only words `--help` and `-h` print the usage line, a table, and last the line of the version.
+version='0.7.3+2 (CLDR 48)'
 help() {
   for word in --help -h; do
     "$room/$1" "$word" > "$room/out" 2> "$room/err" < /dev/null \
-      && [ "$(head -n 1 "$room/out")" = "$2" ] && [ "$(wc -l < "$room/out")" -gt 5 ] && [ ! -s "$room/err" ]
+      && [ "$(head -n 1 "$room/out")" = "$2" ] && [ "$(tail -n 1 "$room/out")" = "$1 $version" ] \
+      && [ "$(wc -l < "$room/out")" -gt 20 ] && [ ! -s "$room/err" ]
     judge $? "$1 $word"
   done
 }
@@ -189,6 +191,7 @@ found=$?
 compare 3 '' $'output\n'
 row fixdec 1 '' $'start: syntax\n' --help shift:1
 row fixdec 2 '' "$usage" --help 5
+row fixdec 1 '' $'start: syntax\n' --version
 
 # ---- fixdec_lines
 
@@ -390,6 +393,8 @@ if command -v parallel > /dev/null; then
 fi
 
 help fixdec_lines 'usage: fixdec_lines [OPTION].. [read:LOCALE] [CALL].. [format:LOCALE]'
+lines 0 '1\n' "fixdec_lines $version"$'\n' '' --version
+wrong 'no such word: --version (--help lists all)' --version skip
 
 # ---- plural
 
@@ -466,5 +471,7 @@ done 2> /dev/null
 judge $? "with little memory it reported memory $reported times and printed $printed times"
 
 help plural 'usage: plural RULES TEXT..'
+row plural 0 "plural $version"$'\n' '' --version
+row plural 1 '' $'rules: syntax at 0\n' --version 1
 
 finish

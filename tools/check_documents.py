@@ -177,6 +177,14 @@ def specs_of_run():
     return found
 
 
+def check_help():
+    """PROGRAMS and `--help` say the same of each call."""
+    calls = re.search(r'const CALLS: &str = "\n(.*?)\n\n', CODE["crates/cli/src/help.rt"], re.S)[1]
+    table = re.search(r"## Calls\n(.*?)\n\nP is", read("docs/PROGRAMS.md"), re.S)[1]
+    rows = re.findall(r"^\| `(.*?)` \| (.*?) \|", table, re.M)
+    check(rows == re.findall(r"^(\S+) +(.*)", calls, re.M), f"PROGRAMS: the calls are not those of --help: {rows}")
+
+
 def check_counts():
     """The documents count lines of definitions and wrong bodies as they are, and keep to their lengths."""
     specs = [path for path in CODE if re.match(rf"crates/(?:{'|'.join(CRATES)})/specs/(?!Lib)", path)]
@@ -238,7 +246,7 @@ def check_examples():
                         check(written == wanted, f"{document}: `{command}` writes {written!r}")
 
 
-for part in [check_names, check_links, check_quotes, check_proved, check_public, check_code, check_counts, check_modules,
+for part in [check_names, check_links, check_quotes, check_proved, check_public, check_code, check_help, check_counts, check_modules,
              check_examples]:
     part()
 print("\n".join([*failures, f"{passes} passed, {len(failures)} failed"]))

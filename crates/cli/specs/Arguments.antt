@@ -12,7 +12,10 @@ use Rattle.cli.specs.declared.error.WordsError.TheVariants.{NotText, Memory, Out
 use Rattle.cli.specs.declared.error.ProgramError.{ProgramError}
 use Rattle.cli.specs.declared.error.ProgramError.TheVariants.{Start}
 use Rattle.cli.specs.declared.help.Program.{Program}
-use Rattle.cli.specs.Help.{help_of}
+use Rattle.cli.specs.declared.help.Program.TheVariants.{Fixdec}
+use Rattle.cli.specs.declared.help.Request.{Request}
+use Rattle.cli.specs.declared.help.Request.TheVariants.{Help, Version}
+use Rattle.cli.specs.Help.{answer_of}
 
 -- the arguments, or the error of reading them
 abbrev pub Arguments : Type 0
@@ -43,33 +46,41 @@ AreUnreadable arguments NotText = IsNotText arguments
 AreUnreadable arguments Memory = IsOutOfMemory arguments
 AreUnreadable arguments _ = ⊥
 
--- the only word is --help or -h
-abbrev pub IsHelp : List (String Global) → Type 0
-IsHelp [] = ⊥
-IsHelp (word ∷ []) = (string_bytes word ≡ codes "--help") ⊎ (string_bytes word ≡ codes "-h")
-IsHelp (word ∷ next ∷ rest) = ⊥
+-- the only word asks for this: --help or -h for the help; --version for the version, but of fixdec
+abbrev pub Asks : Program → List (String Global) → Request → Type 0
+Asks program (word ∷ []) Help = (string_bytes word ≡ codes "--help") ⊎ (string_bytes word ≡ codes "-h")
+Asks program (word ∷ []) Version = (program ≢ Fixdec) × (string_bytes word ≡ codes "--version")
+Asks program words request = ⊥
+
+abbrev pub IsRequest : Program → List (String Global) → Type 0
+IsRequest program words = (request : Request) × Asks program words request
+
+-- the words ask for this, which is appended
+abbrev pub Answers : Program → List (String Global) → Option (List ℕ) → Option (List ℕ) → Type 0
+Answers program words old new =
+    (request : Request) × Asks program words request × Appends old new (answer_of program request)
 
 -- ---- A program ends before its work.
 
--- a program ends before its work: its words cannot be read, or the output of its help failed
-abbrev pub StartFails : {O : Type 0} → Arguments → O → O × Bool → WordsError → Type 0
-StartFails arguments out closed Output = HaveWords arguments IsHelp × (closed.1 ≡ true)
-StartFails arguments out closed why = AreUnreadable arguments why × (closed ≡ (out, false))
+-- a program ends before its work: its words cannot be read, or the output of its help or version failed
+abbrev pub StartFails : {O : Type 0} → Program → Arguments → O → O × Bool → WordsError → Type 0
+StartFails program arguments out closed Output = HaveWords arguments (IsRequest program) × (closed.1 ≡ true)
+StartFails program arguments out closed why = AreUnreadable arguments why × (closed ≡ (out, false))
 
--- a program ends before its work: it has printed its help, or with this error
+-- a program ends before its work: it has printed its help or version, or with this error
 abbrev pub Ends :
     {O : Type 0} → Program → (O → Option (List ℕ)) → Arguments → O → O × Bool → Result Unit ProgramError → Type 0
 Ends program contents arguments out closed (Ok done) =
-    HaveWords arguments IsHelp × (closed.1 ≡ false) × Appends (contents out) (contents closed.0) (help_of program)
+    HaveWords arguments (λ words. Answers program words (contents out) (contents closed.0)) × (closed.1 ≡ false)
 Ends program contents arguments out closed (Err (Start error)) =
-    (error.program ≡ program) × StartFails arguments out closed error.why
+    (error.program ≡ program) × StartFails program arguments out closed error.why
 Ends program contents arguments out closed (Err error) = ⊥
 
--- what a program prints: its help if it is asked for, and else what P says of the words
+-- what a program prints: its help or version if it is asked for, and else what P says of the words
 abbrev pub PrintsFor :
     Program → Arguments → Option (List ℕ) → Option (List ℕ) → (List (String Global) → Type 0) → Type 0
 PrintsFor program arguments old new P =
-    HaveWords arguments (λ words. (IsHelp words × Appends old new (help_of program)) ⊎ (¬ IsHelp words × P words))
+    HaveWords arguments (λ words. Answers program words old new ⊎ (¬ IsRequest program words × P words))
 
 -- a program ends with an error: before its work; or P holds of the words and of the writer that is returned, which is
 -- none where the block before it cannot be allocated
@@ -78,4 +89,4 @@ abbrev pub ArgumentsFail :
     → (List (String Global) → Option (O × Bool) → ProgramError → Type 0) → ProgramError → Type 0
 ArgumentsFail program contents arguments out back P error =
     IsSomeAnd back (λ closed. Ends program contents arguments out closed (Err error))
-    ⊎ HaveWords arguments (λ words. ¬ IsHelp words × P words back error)
+    ⊎ HaveWords arguments (λ words. ¬ IsRequest program words × P words back error)

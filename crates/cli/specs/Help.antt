@@ -1,8 +1,15 @@
--- The texts of `--help`.
-use Rattle.std.specs.Prelude.{ℕ, List, ◌++◌}
+-- The texts of `--help` and `--version`.
+use Rattle.std.specs.Prelude.{ℕ, List, [], ◌∷◌, ◌++◌, codes}
 use Rattle.cli.specs.declared.help.Program.{Program}
 use Rattle.cli.specs.declared.help.Program.TheVariants.{Fixdec, FixdecLines, Plural}
-use Rattle.cli.specs.declared.help.TheConstants.{FIXDEC, FIXDEC_LINES, PLURAL, LOCALES, OPTIONS, RULES, CALLS, OPERANDS}
+use Rattle.cli.specs.declared.help.Request.{Request}
+use Rattle.cli.specs.declared.help.Request.TheVariants.{Help, Version}
+use Rattle.cli.specs.declared.help.TheConstants.{VERSION, FIXDEC, FIXDEC_LINES, PLURAL, TEXT, OPTIONS, RULES, CALLS, OPERANDS}
+
+unfoldable pub name_of : Program → List ℕ
+name_of Fixdec = codes "fixdec"
+name_of FixdecLines = codes "fixdec_lines"
+name_of Plural = codes "plural"
 
 unfoldable pub usage_of : Program → List ℕ
 usage_of Fixdec = FIXDEC.now
@@ -11,9 +18,18 @@ usage_of Plural = PLURAL.now
 
 -- what follows the usage line
 unfoldable pub words_and_table_of : Program → List ℕ
-words_and_table_of Fixdec = LOCALES.now ++ CALLS.now
+words_and_table_of Fixdec = TEXT.now ++ CALLS.now
 words_and_table_of FixdecLines = OPTIONS.now ++ CALLS.now
 words_and_table_of Plural = RULES.now ++ OPERANDS.now
 
+-- the name, a space, the version and a line feed
+abbrev pub version_of : Program → List ℕ
+version_of program = name_of program ++ (32 ∷ VERSION.now) ++ (10 ∷ [])
+
 abbrev pub help_of : Program → List ℕ
-help_of program = usage_of program ++ words_and_table_of program
+help_of program = (usage_of program ++ words_and_table_of program) ++ version_of program
+
+-- what a request asks for
+abbrev pub answer_of : Program → Request → List ℕ
+answer_of program Help = help_of program
+answer_of program Version = version_of program

@@ -1,9 +1,9 @@
 //! The words of a command line.
-ghost use Rattle.std.specs.Prelude.{◌≡◌, IfOk, IfErr, OnErr, IsTrue, ◌↔◌};
-ghost use Rattle.cli.specs.Arguments.{HaveWords, AreUnreadable, IsHelp, Ends};
+ghost use Rattle.std.specs.Prelude.{◌≡◌, IfOk, IfErr, IfSome, IfNone};
+ghost use Rattle.cli.specs.Arguments.{HaveWords, AreUnreadable, Asks, IsRequest, Ends};
 
 use crate::error::{ProgramError, WordsError};
-use crate::help::Program;
+use crate::help::{Program, Request};
 use fixed_decimal::Closed;
 use std::alloc::Global;
 use std::env::Args;
@@ -25,12 +25,17 @@ fn words(alloc: Global, arguments: io::Result<Args>) -> Result<Vec<String>, Word
     }
 }
 
-fn is_help(words: &[String]) -> bool
-    ensures { IsTrue result ↔ IsHelp words.now }
+fn request(program: Program, words: &[String]) -> Option<Request>
+    ensures some { IfSome result (Asks program words.now) }
+    ensures none { IfNone result (¬ IsRequest program words.now) }
 {
-    match words {
-        [word] => word.as_str() == "--help" || word.as_str() == "-h",
-        _ => false,
+    let [word] = words else {
+        return None;
+    };
+    match (program, word.as_str()) {
+        (_, "--help" | "-h") => Some(Request::Help),
+        (Program::FixdecLines | Program::Plural, "--version") => Some(Request::Version),
+        _ => None,
     }
 }
 
@@ -38,7 +43,8 @@ fn is_help(words: &[String]) -> bool
 ///
 /// # Errors
 ///
-/// The program has ended: its help was printed, or there is an error. The writer is returned after its last call.
+/// The program has ended: its help or version was printed, or there is an error. The writer is returned after its last
+/// call.
 pub fn start<O: Write>(
     alloc: Global,
     program: Program,
@@ -46,7 +52,7 @@ pub fn start<O: Write>(
     mut out: O,
 ) -> Result<(Vec<String>, O), (Result<(), ProgramError>, Closed<O>)>
     ensures words { IfOk result (λ started. HaveWords arguments
-        (λ all. (started.0.items ≡ all) × ¬ IsHelp started.0.items)) }
+        (λ all. (started.0.items ≡ all) × ¬ IsRequest program started.0.items)) }
     ensures out { IfOk result (λ started. started.1 ≡ out) }
     ensures ended { IfErr result (λ ended. Ends program O.contents arguments out ended.1 ended.0) }
 {
@@ -57,10 +63,10 @@ pub fn start<O: Write>(
             Closed::new(out, None),
         )),
     };
-    if !is_help(words.as_slice()) {
+    let Some(request) = request(program, words.as_slice()) else {
         return Ok((words, out));
-    }
-    match program.print_help(&mut out) {
+    };
+    match program.print(request, &mut out) {
         Ok(()) => Err((Ok(()), Closed::new(out, None))),
         Err(error) => Err((
             Err(ProgramError::start(program, WordsError::Output)),

@@ -128,7 +128,7 @@ pub fn program<O: Write, E: Write>(
 }
 
 /// Runs `program` on the arguments of the process, with a buffer before `out`, which is returned after its last call.
-/// The only word `--help` or `-h` prints the help.
+/// The only word `--help` or `-h` prints the help and the version.
 pub fn run_arguments<O: Write + Drop, E: Write>(
     alloc: Global,
     arguments: io::Result<Args>,

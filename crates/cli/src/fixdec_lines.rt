@@ -4,7 +4,7 @@ ghost use Rattle.std.specs.Prelude.{◌≡◌, ◌≤◌, ◌<◌, ◌⊎◌, Ok
 ghost use Rattle.std.specs.Process.{exit_status};
 ghost use Rattle.decimal_digits.specs.Buffered.{buffered_contents};
 ghost use Rattle.cli.specs.declared.error.ProgramError.{ProgramError};
-ghost use Rattle.cli.specs.Arguments.{HaveWords, IsHelp, PrintsFor, ArgumentsFail};
+ghost use Rattle.cli.specs.Arguments.{HaveWords, IsRequest, PrintsFor, ArgumentsFail};
 ghost use Rattle.cli.specs.declared.help.Program.TheVariants.{FixdecLines};
 ghost use Rattle.cli.specs.Error.{status_of};
 ghost use Rattle.cli.specs.FixdecLines.{NamesFilter, FilterFails, IsEarly, Process, effects, WordsFilter, LinesFail};
@@ -115,14 +115,14 @@ pub fn run_arguments<R: Read, O: Write + Drop, D: Diagnostics<ProgramError>>(
       diagnostics = record { before = diagnostics.old; after = last };
     } in
         0 < result.0 →
-        ((result.0 ≡ 1) × HaveWords arguments (λ words. ¬ IsHelp words × IsSomeAnd result.1 (λ closed.
+        ((result.0 ≡ 1) × HaveWords arguments (λ words. ¬ IsRequest FixdecLines words × IsSomeAnd result.1 (λ closed.
         WordsFilter D.reports words (effects (process diagnostics.new) closed.0) (Ok false) × (closed.1 ≡ false))))
         ⊎ ((error : ProgramError) × (before : D) × (result.0 ≡ status_of error)
         × ArgumentsFail FixdecLines O.contents arguments out result.1
         (LinesFail D.reports (process before)) error
         × D.reports before error diagnostics.new
         × (IsEarly error → (before ≡ diagnostics.old) × (input.new ≡ input.old))) }
-    ensures unread_for_help { HaveWords arguments IsHelp → input.new ≡ input.old }
+    ensures unread_for_request { HaveWords arguments (IsRequest FixdecLines) → input.new ≡ input.old }
     ensures unchanged_on_error { result.0 ≡ 2 → (input.new ≡ input.old)
         × IfSome result.1 (λ closed. closed ≡ (out, false)) }
 {

@@ -1,7 +1,7 @@
-//! The texts of `--help`.
+//! The texts of `--help` and `--version`.
 ghost use Rattle.std.specs.Prelude.{◌≡◌, ◌++◌, OnOk};
 ghost use Rattle.std.specs.Io.KnownBytes.{Appends};
-ghost use Rattle.cli.specs.Help.{usage_of, words_and_table_of, help_of};
+ghost use Rattle.cli.specs.Help.{name_of, usage_of, words_and_table_of, version_of, help_of, answer_of};
 
 use fixed_decimal::{WriteError, write_whole};
 use std::io::Write;
@@ -14,19 +14,48 @@ pub enum Program {
     Plural,
 }
 
+/// What an only word asks for, instead of the work of a program.
+#[derive(Clone, Copy, Debug, PartialEq)]
+pub enum Request {
+    Help,
+    Version,
+}
+
+/// The version of the programs, and that of their data.
+const VERSION: &str = "0.7.3+2 (CLDR 48)";
+
 const FIXDEC: &str = "usage: fixdec TEXT [CALL]..";
 
 const FIXDEC_LINES: &str = "usage: fixdec_lines [OPTION].. [read:LOCALE] [CALL].. [format:LOCALE]";
 
 const PLURAL: &str = "usage: plural RULES TEXT..";
 
-/// All words of `fixdec`.
-const LOCALES: &str = "
+/// What `fixdec` does, and all its words.
+const TEXT: &str = "
 
 All words: TEXT [read:LOCALE[:lenient]] [CALL].. [format:LOCALE[:GROUPING]]
+Reads TEXT as a decimal, makes the calls in order, and writes the result and a line feed.
+
+fixdec 250 shift:-2                              2.50
+fixdec 1.234,565 read:de round:-2:half-even:1    1234.56
+fixdec 1234567.5 format:en-IN                    12,34,567.5
+
+Status 0: the result is on standard output. 1: TEXT or a call is rejected. 2: a word is wrong. 3: out of
+memory, or the output fails. Errors are lines of standard error; call 0 is the first call.
 ";
 
+/// What `fixdec_lines` does, and its options.
 const OPTIONS: &str = "
+   or: fixdec_lines --version
+
+Reads lines of standard input, makes the calls on each, and writes a line for each to standard output.
+
+printf '250\\n7\\n' | fixdec_lines shift:-2
+fixdec_lines header csv field:2 round:-2:half-even:1 < prices.csv
+fixdec_lines skip read:de:lenient format:en < amounts.txt
+
+Status 0: each line has a result. 1: a line is rejected. 2: a word is wrong. 3: out of memory, or the input
+or the output fails. Errors are lines of standard error; line 1 is the first line, call 0 the first call.
 
 field:N                 converts field N of each line, from 1, and copies the other bytes
 delimiter:C             C is between two fields: by default a tab, with csv a comma
@@ -37,23 +66,41 @@ keep                    reports a line that fails, and copies it
 trim                    blanks and tabs around a text are no part of it
 ";
 
+/// What `plural` does, and its words.
 const RULES: &str = "
+   or: plural LOCALE[:cardinal|:ordinal] TEXT..
+   or: plural --version
 
-RULES are rules between semicolons, as 'one: i = 1 and v = 0; many: e != 0..5'.
+Writes the plural category of each TEXT to standard output: zero, one, two, few, many or other.
+
+plural ru 1 2 5                           one, few, many
+plural en:ordinal 22                      two
+plural 'one: i = 1 and v = 0' 1 1.0       one, other
+
+Status 0: each TEXT has a category. 1: RULES or a TEXT is rejected. 2: a word is wrong. 3: out of memory, or
+the output fails. Errors are lines of standard error; text 1 is the first TEXT.
+
+LOCALE is a tag as pt-PT, or a name as pt_PT.UTF-8, and its rules are those of CLDR. RULES are rules between
+semicolons, as 'one: i = 1 and v = 0; many: e != 0..5', with the operands
 ";
 
 const CALLS: &str = "
-shift:D                 multiplies by 10 to the D
-trim-start, trim-end    removes leading, trailing zeros
-trim-end-if-integer     removes the fraction digits if all are zeros
-pad-start:P             pads with leading zeros to the magnitude P - 1, or removes those above it
-pad-end:P               pads with trailing zeros to the magnitude P, or removes those below it
-max:P                   keeps the digits below the magnitude P, and pads with leading zeros to it
-round:P:MODE:INC        rounds to a multiple of INC times 10 to the P
-sign:SIGN               sets the sign: none, minus, plus
-display:DISPLAY         shows a sign: auto, never, always, except-zero, negative
-concat:TEXT             joins the digits of TEXT at the end
+shift:D                 multiplies by 10^D
+trim-start              removes leading zeros
+trim-end                removes trailing zeros among the fraction digits
+trim-end-if-integer     removes the fraction digits if all of them are 0
+pad-start:P             shows leading zeros up to P integer digits, and no others; P is above 0
+pad-end:P               shows trailing zeros down to the position P, and no others; P is not above 0
+max:P                   shows exactly the digits below the position P, with leading zeros
+round:P:MODE:INC        rounds to a multiple of INC times 10^P
+sign:SIGN               sets the sign: none, minus or plus
+display:DISPLAY         changes the sign: auto, never, always, except-zero or negative
+concat:TEXT             adds a number without a sign whose first nonzero digit is below the last one
 
+P is a position: 0 is at the decimal point, -2 two digits to the right of it, and 2 two digits to the left.
+So round:-2:half-even:1 keeps two decimals, and round:2:half-even:1 rounds to hundreds.
+
+D and P: from -32768 to 32767
 MODE: ceil, floor, expand, trunc, half-ceil, half-floor, half-expand, half-trunc, half-even
 INC: 1, 2, 5, 25
 
@@ -62,6 +109,7 @@ format:LOCALE[:GROUPING]  writes the result as the locale does
 
 LOCALE: a tag as de-CH, or a name as de_CH.UTF-8
 GROUPING: auto, never, always, min2
+
 ";
 
 const OPERANDS: &str = "\
@@ -69,12 +117,16 @@ n     the absolute value
 i     the integer digits
 v, w  the number of fraction digits, with and without trailing zeros
 f, t  the fraction digits as an integer, with and without trailing zeros
-c, e  the exponent of a compact decimal
+c, e  the exponent of a compact decimal, as 6 of 1.2c6
+
 ";
 
 impl Program {
-    /// Returns the name of the program.
-    pub fn name(self) -> &'static str {
+    /// Returns the name.
+    #[tactic(auto, unfolding(crate::specs::Help::name_of))]
+    pub fn name(self) -> &'static str
+        ensures { result.now ≡ name_of self }
+    {
         match self {
             Program::Fixdec => "fixdec",
             Program::FixdecLines => "fixdec_lines",
@@ -100,19 +152,40 @@ impl Program {
         ensures { (result.0.now ++ result.1.now) ≡ words_and_table_of self }
     {
         match self {
-            Program::Fixdec => (LOCALES, CALLS),
+            Program::Fixdec => (TEXT, CALLS),
             Program::FixdecLines => (OPTIONS, CALLS),
             Program::Plural => (RULES, OPERANDS),
         }
     }
 
-    /// Writes the text of `--help`.
+    /// Writes the line of `--version`.
+    pub fn print_version<W: Write>(self, out: &mut W) -> Result<(), WriteError<W>>
+        ensures { OnOk result (Appends (W.contents out.old) (W.contents out.new) (version_of self)) }
+    {
+        write_whole(out, self.name().as_bytes())?;
+        write_whole(out, b" ")?;
+        write_whole(out, VERSION.as_bytes())?;
+        write_whole(out, b"\n")
+    }
+
+    /// Writes the text of `--help`, which ends with the line of `--version`.
     pub fn print_help<W: Write>(self, out: &mut W) -> Result<(), WriteError<W>>
         ensures { OnOk result (Appends (W.contents out.old) (W.contents out.new) (help_of self)) }
     {
         let (words, table) = self.words_and_table();
         write_whole(out, self.usage().as_bytes())?;
         write_whole(out, words.as_bytes())?;
-        write_whole(out, table.as_bytes())
+        write_whole(out, table.as_bytes())?;
+        self.print_version(out)
+    }
+
+    /// Writes what a request asks for.
+    pub fn print<W: Write>(self, request: Request, out: &mut W) -> Result<(), WriteError<W>>
+        ensures { OnOk result (Appends (W.contents out.old) (W.contents out.new) (answer_of self request)) }
+    {
+        match request {
+            Request::Help => self.print_help(out),
+            Request::Version => self.print_version(out),
+        }
     }
 }

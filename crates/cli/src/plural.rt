@@ -72,7 +72,7 @@ fn print<O: Write + Drop>(
 ///
 /// The first word names rules, as [`parse_rules`] has it, and each other word is a text: a compact decimal where it has
 /// a `c`, and else a decimal. The words `ru`, `1` and `2` print `one` and `few`; `one: i = 1 and v = 0`, `1` and `1.0`
-/// print `one` and `other`. The only word `--help` or `-h` prints the help.
+/// print `one` and `other`. The only word `--help` or `-h` prints the help, and `--version` the version.
 ///
 /// # Errors
 ///

@@ -37,34 +37,35 @@ fn is_reported(error: &ProgramError, line: &str) -> bool {
     err.has_all() && err.writes() == 1
 }
 
-/// The longest lines; shorter ones are those of the programs.
-const FILTER: &[(ProgramError, &str)] = &[
-    (
-        ProgramError::Line {
-            line: 18_446_744_073_709_551_615,
-            error: OperationError::Overflow {
-                at: 18_446_744_073_709_551_615,
-            },
-        },
-        "line 18446744073709551615: call 18446744073709551615: overflow\n",
-    ),
-    (ProgramError::LongLine { line: 7 }, "line 7: memory\n"),
-];
-
 #[test]
 fn reports_a_line_in_one_write(rt: HostRuntime) -> Result<(), Fail> {
-    for (error, line) in FILTER {
-        assert!(rt; is_reported(error, line), "{line}");
-    }
     let word = ShownWord::of("0123456789\u{1b}123456789\u{9b}123456789\n123456789+");
-    let misplaced = ProgramError::start(Program::FixdecLines, WordsError::Misplaced(word));
-    let line = "fixdec_lines: 0123456789?123456789?123456789?123456789 is not in its place (--help lists all)\n";
-    assert!(rt; is_reported(&misplaced, line));
-    let text = ProgramError::Text {
-        number: 18_446_744_073_709_551_615,
-        reason: Reason::Limit,
-    };
-    assert!(rt; is_reported(&text, "text 18446744073709551615: limit\n"));
+    let lines = [
+        (
+            ProgramError::start(Program::FixdecLines, WordsError::Misplaced(word)),
+            "fixdec_lines: 0123456789?123456789?123456789?123456789 is not in its place (--help lists all)\n",
+        ),
+        (
+            ProgramError::Line {
+                line: 18_446_744_073_709_551_615,
+                error: OperationError::Overflow {
+                    at: 18_446_744_073_709_551_615,
+                },
+            },
+            "line 18446744073709551615: call 18446744073709551615: overflow\n",
+        ),
+        (ProgramError::LongLine { line: 7 }, "line 7: memory\n"),
+        (
+            ProgramError::Text {
+                number: 18_446_744_073_709_551_615,
+                reason: Reason::Limit,
+            },
+            "text 18446744073709551615: limit\n",
+        ),
+    ];
+    for (error, line) in lines {
+        assert!(rt; is_reported(&error, line), "{line}");
+    }
     Ok(())
 }
 

@@ -80,10 +80,7 @@ const ROWS: &[Row] = &[
         "up",
         b"7\n",
         (b"", 0),
-        (
-            b"fixdec_lines: no such word: up (--help lists all)\n",
-            0,
-        ),
+        (b"fixdec_lines: no such word: up (--help lists all)\n", 0),
         2,
     ),
 ];

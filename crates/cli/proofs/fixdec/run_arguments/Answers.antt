@@ -3,6 +3,7 @@ use Rattle.std.specs.Io.Buffered.{writer_contents, writer_inner, writer_buffer}
 use Rattle.std.specs.Io.KnownBytes.{append_known}
 use Rattle.cli.specs.Fixdec.{PrintsPrefix}
 use Rattle.cli.specs.declared.error.ProgramError.TheVariants.{Output}
+use Rattle.cli.specs.declared.help.Program.TheVariants.{Fixdec}
 use Rattle.cli.specs.Error.{status_of}
 use Rattle.cli.proofs.Buffers.{new_writer}
 use Rattle.cli.proofs.Programs.{prints_kept, unwritten_fails}
@@ -26,7 +27,7 @@ returns-then-has_failed-clause-reported g c = λ _.
     let is : c.conclude_on-then-has_failed.result ≡ status_of Output = search rules in (
       Output,
       is,
-      inr (have_words c.args.arguments words _ c.in-Ok.ensures.words
+      inr (have_words Fixdec c.args.arguments words _ c.in-Ok.ensures.words
           (fails, (λ other. absurd (other refl)), λ _. (failed, (unwritten, prefix)))),
       reported,
     )
@@ -42,7 +43,7 @@ returns-clause-printed g c = λ _.
     rw (c.new-buffered.ensures, empty, c.as_slice.ensures.value) at (c.program-status.ensures.printed zero) in
     let written : c.close-closed.result.1 ≡ false = search rules in
     let kept = prints_kept words _ _ _ printed (c.close-closed.ensures.written written) in
-    (written, prints_for c.args.arguments words _ c.in-Ok.ensures.words kept _ _ _)
+    (written, prints_for Fixdec c.args.arguments words _ c.in-Ok.ensures.words kept _ _)
 
 pub returns-then-status-ne0-clause-reported : goal.returns-then-status-ne0-clause-reported
 returns-then-status-ne0-clause-reported g c = λ some.
@@ -64,7 +65,7 @@ returns-then-status-ne0-clause-reported g c = λ some.
     (failed, (writer_buffer out.0, rw (c.new-buffered.ensures, empty) at begun)) in (
       error,
       status,
-      inr (have_words c.args.arguments words _ c.in-Ok.ensures.words
+      inr (have_words Fixdec c.args.arguments words _ c.in-Ok.ensures.words
           (has, rw c.abandon.ensures closed, rw c.abandon.ensures prefix)),
       reported,
     )

@@ -1,6 +1,9 @@
 use Rattle.std.proofs.Common.{◌≡◌, Ok, Err, inl, inr, ap, refl, true, false, ◌∙◌, rules}
 use Rattle.cli.specs.declared.error.ProgramError.TheVariants.{Output}
-use Rattle.cli.proofs.Starting.{have_words, prints_for, no_help}
+use Rattle.cli.specs.declared.help.Program.TheVariants.{FixdecLines}
+use Rattle.cli.specs.declared.error.WordsError.TheVariants.{Memory}
+use Rattle.cli.specs.Error.{start_error}
+use Rattle.cli.proofs.Starting.{have_words, prints_for, no_request}
 use Rattle.cli.proofs.fixdec_lines.run_arguments.Goals as goal
 
 pub returns-clause-reported : goal.returns-clause-reported
@@ -19,14 +22,15 @@ returns-clause-reported g c = λ _.
       error,
       c.filter_words-filtered.new.diagnostics,
       h.1,
-      inr (have_words c.args.arguments c.in-Ok.started.0.items _ c.in-Ok.ensures.words
+      inr (have_words FixdecLines c.args.arguments c.in-Ok.started.0.items _ c.in-Ok.ensures.words
           (fails, failed, λ e. (early e).0)),
       h.2,
       λ e. ((early e).2, (early e).1),
     )
 
-pub returns-clause-unread_for_help : goal.returns-clause-unread_for_help
-returns-clause-unread_for_help g c = λ asked. absurd (no_help c.args.arguments _ c.in-Ok.ensures.words asked)
+pub returns-clause-unread_for_request : goal.returns-clause-unread_for_request
+returns-clause-unread_for_request g c = λ asked.
+    absurd (no_request FixdecLines c.args.arguments _ c.in-Ok.ensures.words asked)
 
 pub returns-in-Ok-true-clause-printed : goal.returns-in-Ok-true-clause-printed
 returns-in-Ok-true-clause-printed g c = λ _.
@@ -35,11 +39,11 @@ returns-in-Ok-true-clause-printed g c = λ _.
     rw (c.in-Ok-open.ensures.contents, c.in-Ok.ensures.out, c.as_slice.ensures.value, is) at
     c.filter_words-filtered.ensures.filtered in
     let written = rw is at c.filter_words-filtered.ensures.has_not_failed in
-    (written, prints_for c.args.arguments c.in-Ok.started.0.items _ c.in-Ok.ensures.words filtered _ _ _)
+    (written, prints_for FixdecLines c.args.arguments c.in-Ok.started.0.items _ c.in-Ok.ensures.words filtered _ _)
 
-pub returns-in-Ok-true-clause-unread_for_help : goal.returns-in-Ok-true-clause-unread_for_help
-returns-in-Ok-true-clause-unread_for_help g c = λ asked.
-    absurd (no_help c.args.arguments _ c.in-Ok.ensures.words asked)
+pub returns-in-Ok-true-clause-unread_for_request : goal.returns-in-Ok-true-clause-unread_for_request
+returns-in-Ok-true-clause-unread_for_request g c = λ asked.
+    absurd (no_request FixdecLines c.args.arguments _ c.in-Ok.ensures.words asked)
 
 pub returns-in-Ok-false-clause-reported : goal.returns-in-Ok-false-clause-reported
 returns-in-Ok-false-clause-reported g c = λ _.
@@ -48,8 +52,22 @@ returns-in-Ok-false-clause-reported g c = λ _.
     rw (c.in-Ok-open.ensures.contents, c.in-Ok.ensures.out, c.as_slice.ensures.value, is) at
     c.filter_words-filtered.ensures.filtered in
     let written = rw is at c.filter_words-filtered.ensures.has_not_failed in
-    inl (refl, have_words c.args.arguments c.in-Ok.started.0.items _ c.in-Ok.ensures.words (filtered, written))
+    let words = c.in-Ok.started.0.items in
+    inl (refl, have_words FixdecLines c.args.arguments words _ c.in-Ok.ensures.words (filtered, written))
 
-pub returns-in-Ok-false-clause-unread_for_help : goal.returns-in-Ok-false-clause-unread_for_help
-returns-in-Ok-false-clause-unread_for_help g c = λ asked.
-    absurd (no_help c.args.arguments _ c.in-Ok.ensures.words asked)
+pub returns-in-Ok-false-clause-unread_for_request : goal.returns-in-Ok-false-clause-unread_for_request
+returns-in-Ok-false-clause-unread_for_request g c = λ asked.
+    absurd (no_request FixdecLines c.args.arguments _ c.in-Ok.ensures.words asked)
+
+pub returns-in_default-clause-reported : goal.returns-in_default-clause-reported
+returns-in_default-clause-reported g c = λ _.
+    let (positive, status, reports) =
+    rw c.start-in_default.ensures at c.conclude-in_default.ensures.reported in
+    inr (
+      start_error FixdecLines Memory,
+      c.args.diagnostics.now,
+      status,
+      inr (have_words FixdecLines c.args.arguments c.in-Ok.started.0.items _ c.in-Ok.ensures.words (refl, refl)),
+      reports,
+      λ _. (refl, refl),
+    )

@@ -1,4 +1,5 @@
 use Rattle.std.proofs.Common.{Option, Some, None, IsSomeAnd, inr}
+use Rattle.cli.specs.declared.help.Program.TheVariants.{Plural}
 use Rattle.cli.specs.Plural.{Prints}
 use Rattle.cli.proofs.Programs.{at_ok, err_map, some_error}
 use Rattle.cli.proofs.Starting.{have_words, prints_for}
@@ -18,8 +19,8 @@ returns-clause-printed g c = λ zero.
     some_map c.print-printed.result.1
     (λ closed h. (
       h.1,
-      prints_for c.args.arguments c.in-Ok.started.0.items
-          (λ words. Prints words (contents c.args.out) (contents closed.0)) c.in-Ok.ensures.words h.0 _ _ _,
+      prints_for Plural c.args.arguments c.in-Ok.started.0.items
+          (λ words. Prints words (contents c.args.out) (contents closed.0)) c.in-Ok.ensures.words h.0 _ _,
     ))
     printed
 
@@ -31,6 +32,6 @@ returns-clause-reported g c = λ some.
     let fails = rw (c.in-Ok.ensures.out, c.as_slice.ensures.value, is) at c.print-printed.ensures.error in (
       error,
       status,
-      inr (have_words c.args.arguments c.in-Ok.started.0.items _ c.in-Ok.ensures.words fails),
+      inr (have_words Plural c.args.arguments c.in-Ok.started.0.items _ c.in-Ok.ensures.words fails),
       reports,
     )

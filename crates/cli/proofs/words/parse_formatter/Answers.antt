@@ -12,5 +12,5 @@ returns-in-None-clause-err c =
     c.split_parameters.ensures.option ∙ ap option_of c.parameters.ensures in
     let names : IsStrategyOption (locale_option word) c.in-Some-parse_strategy.strategy =
     rw option at c.in-Some-parse_strategy.ensures.some in
-    rw c.in-Some.is
-    ((c.in-Some-parse_strategy.strategy, names), rw tag at (c.in-None.ensures.unknown.0 refl), rw tag at c.of-in-None.ensures)
+    let unknown = rw tag at (c.in-None.ensures.unknown.0 refl) in
+    rw c.in-Some.is ((c.in-Some-parse_strategy.strategy, names), unknown, rw tag at c.of-in-None.ensures)
