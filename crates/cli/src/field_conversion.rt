@@ -154,8 +154,8 @@ fn convert_field<W: Sink>(
     Ok(())
 }
 
-/// Converts a line, or the field of it if there is one, and writes the line to a sink. If it is trimmed, blanks and tabs
-/// around the text are no part of it: they are copied with a field, and otherwise dropped.
+/// Converts a line, or the field of it if there is one, and writes the line to a sink. If it is trimmed, blanks and
+/// tabs around the text are no part of it: they are copied with a field, and otherwise dropped.
 #[inline(always)]
 pub fn convert_line<W: Sink>(
     alloc: Global,

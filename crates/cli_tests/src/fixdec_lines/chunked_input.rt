@@ -145,9 +145,16 @@ const TRIMMED: &[Row] = &[
     ),
     (
         "trim skip",
-        b"\xef\xbb\xbf\r\n\xef\xbb\xbf1\n\xef\xbb\n \t\n1\r\r\n1 2\n\x0b1",
-        b"\n\n\n\n\n\n\n",
-        b"line 1: start: syntax\nline 2: start: syntax\nline 3: start: syntax\nline 4: start: syntax\nline 5: start: syntax\nline 6: start: syntax\nline 7: start: syntax\n",
+        b"\xef\xbb\xbf\r\n\xef\xbb\xbf1\n\xef\xbb\n",
+        b"\n\n\n",
+        b"line 1: start: syntax\nline 2: start: syntax\nline 3: start: syntax\n",
+        1,
+    ),
+    (
+        "trim skip",
+        b" \t\n1\r\r\n1 2\n\x0b1",
+        b"\n\n\n\n",
+        b"line 1: start: syntax\nline 2: start: syntax\nline 3: start: syntax\nline 4: start: syntax\n",
         1,
     ),
     (

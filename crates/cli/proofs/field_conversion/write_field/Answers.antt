@@ -9,13 +9,15 @@ pub returns-in_err-put_bytes-clause-err : goal.returns-in_err-put_bytes-clause-e
 returns-in_err-put_bytes-clause-err g c =
     let line = c.args.line.now in
     on_err c.from_residual.result _
-    (first_of_three (take c.args.bounds.0 line) (bytes_of c.args.field.now c.args.text.now) (drop c.args.bounds.1 line) _ _ c.in_err-put_bytes.ensures.prefix)
+    (first_of_three (take c.args.bounds.0 line) (bytes_of c.args.field.now c.args.text.now)
+    (drop c.args.bounds.1 line) _ _ c.in_err-put_bytes.ensures.prefix)
 
 pub returns-in_err-write-clause-err : goal.returns-in_err-write-clause-err
 returns-in_err-write-clause-err g c =
     let line = c.args.line.now in
     on_err c.from_residual-in_err-write.result _
-    (second_of_three (take c.args.bounds.0 line) (bytes_of c.args.field.now c.args.text.now) (drop c.args.bounds.1 line) _ _ _
+    (second_of_three (take c.args.bounds.0 line) (bytes_of c.args.field.now c.args.text.now)
+    (drop c.args.bounds.1 line) _ _ _
     c.in_ok-put_bytes.ensures.appends c.in_err-write.ensures.err)
 
 pub returns-clause-err : goal.returns-clause-err
@@ -23,5 +25,6 @@ returns-clause-err g c =
     let line = c.args.line.now in
     let first = c.in_ok-put_bytes.ensures.appends in
     let second = c.in_ok-write.ensures.ok in
-    on_err_weaker c.put_bytes-2.result (λ third. third_of_three (take c.args.bounds.0 line) (bytes_of c.args.field.now c.args.text.now)
-    (drop c.args.bounds.1 line) _ _ _ _ first second (rw (all_after c.args.bounds.1 line) at third)) c.put_bytes-2.ensures.prefix
+    on_err_weaker c.put_bytes-2.result (λ third. third_of_three (take c.args.bounds.0 line)
+    (bytes_of c.args.field.now c.args.text.now) (drop c.args.bounds.1 line) _ _ _ _ first second
+    (rw (all_after c.args.bounds.1 line) at third)) c.put_bytes-2.ensures.prefix

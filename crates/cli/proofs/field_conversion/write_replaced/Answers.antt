@@ -8,7 +8,8 @@ pub returns-in_err-put_bytes-clause-err : goal.returns-in_err-put_bytes-clause-e
 returns-in_err-put_bytes-clause-err g c =
     let bytes = c.args.bytes.now in
     on_err c.from_residual.result _
-    (first_of_three (take c.args.bounds.0 bytes) c.args.others.now (drop c.args.bounds.1 bytes) _ _ c.in_err-put_bytes.ensures.prefix)
+    (first_of_three (take c.args.bounds.0 bytes) c.args.others.now (drop c.args.bounds.1 bytes) _ _
+    c.in_err-put_bytes.ensures.prefix)
 
 pub returns-in_err-put_bytes-2-clause-err : goal.returns-in_err-put_bytes-2-clause-err
 returns-in_err-put_bytes-2-clause-err g c =
@@ -23,4 +24,5 @@ returns-clause-err g c =
     let first = c.in_ok-put_bytes.ensures.appends in
     let second = c.in_ok-put_bytes-2.ensures.appends in
     on_err_weaker c.put_bytes-3.result (λ third. third_of_three (take c.args.bounds.0 bytes) c.args.others.now
-    (drop c.args.bounds.1 bytes) _ _ _ _ first second (rw (all_after c.args.bounds.1 bytes) at third)) c.put_bytes-3.ensures.prefix
+    (drop c.args.bounds.1 bytes) _ _ _ _ first second (rw (all_after c.args.bounds.1 bytes) at third))
+    c.put_bytes-3.ensures.prefix

@@ -19,7 +19,8 @@ pub returns-in-Ok-copy_line-clause-filtered : goal.returns-in-Ok-copy_line-claus
 returns-in-Ok-copy_line-clause-filtered g c =
     let one : status_of_operation c.in-Err.error ≡ 1 = search rules in
     let real : c.in-Err.error ≢ Output = λ is. absurd (omega (arith, ap status_of_operation is, one)) in
-    let appends = rw (c.replacement.ensures, c.in-Err.ensures.unchanged_on_error real) at c.in-Ok-copy_line.ensures.ok in (
+    let appends =
+    rw (c.replacement.ensures, c.in-Err.ensures.unchanged_on_error real) at c.in-Ok-copy_line.ensures.ok in (
       filtered_line c.args.filter.now c.args.number c.args.line.now (Err c.in-Err.error),
       rejected_line c.args.filter.now c.args.number c.args.line.now _ one (c.in-Err.ensures.fails_with real),
       appends,
@@ -32,7 +33,8 @@ pub returns-in-Err-copy_line-clause-filtered : goal.returns-in-Err-copy_line-cla
 returns-in-Err-copy_line-clause-filtered g c =
     let one : status_of_operation c.in-Err.error ≡ 1 = search rules in
     let real : c.in-Err.error ≢ Output = λ is. absurd (omega (arith, ap status_of_operation is, one)) in
-    let prefix = rw (c.replacement.ensures, c.in-Err.ensures.unchanged_on_error real) at c.in-Err-copy_line.ensures.err in (
+    let prefix =
+    rw (c.replacement.ensures, c.in-Err.ensures.unchanged_on_error real) at c.in-Err-copy_line.ensures.err in (
       filtered_line c.args.filter.now c.args.number c.args.line.now (Err c.in-Err.error),
       rejected_line c.args.filter.now c.args.number c.args.line.now _ one (c.in-Err.ensures.fails_with real),
       prefix,

@@ -7,7 +7,8 @@ use Rattle.cli.proofs.trim.text_end.Goals as goal
 pub returns-then-not-is_blank-clause-value : goal.returns-then-not-is_blank-clause-value
 returns-then-not-is_blank-clause-value c =
     let bytes = c.args.bytes.now in
-    let other : is_blank (get_or bytes (c.loop-end.end - 1) 0) ≡ false = sym c.is_blank.ensures ∙ c.if-not-is_blank.true in
+    let other : is_blank (get_or bytes (c.loop-end.end - 1) 0) ≡ false =
+    sym c.is_blank.ensures ∙ c.if-not-is_blank.true in
     let blanks : suffix_len is_blank bytes ≡ length bytes - c.loop-end.end =
     suffix_len_is is_blank bytes c.loop-end.end 0 c.loop-end.invariant.inside c.loop-end.invariant.blank (λ _. other) in
     omega (arith, blanks, c.loop-end.invariant.inside)

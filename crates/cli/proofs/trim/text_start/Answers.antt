@@ -5,7 +5,8 @@ use Rattle.cli.proofs.trim.text_start.Goals as goal
 
 pub returns-then-not-is_blank-clause-value : goal.returns-then-not-is_blank-clause-value
 returns-then-not-is_blank-clause-value c =
-    let other : is_blank (get_or c.args.bytes.now c.loop-at.at 0) ≡ false = sym c.is_blank.ensures ∙ c.if-not-is_blank.true in
+    let other : is_blank (get_or c.args.bytes.now c.loop-at.at 0) ≡ false =
+    sym c.is_blank.ensures ∙ c.if-not-is_blank.true in
     sym (prefix_len_is is_blank c.args.bytes.now c.loop-at.at 0 (omega arith) c.loop-at.invariant (λ _. other))
 
 pub returns-clause-value : goal.returns-clause-value

@@ -9,8 +9,9 @@ returns-clause-printed g c =
     let (text, is, put) = c.in-Ok.ensures.printed in
     let all : c.convert_line.new.sink.0 ≡ text = put ∙ ap (λ sink. sink.0 ++ text) c.new-text.ensures in
     converted_body c.args.self.now c.args.number c.args.line.now c.requires c.body_bounds-bounds.result
-    c.body_bounds-bounds.ensures.value (Appends (g.W.Sink.contents c.args.sink.now) (g.W.Sink.contents c.write_replaced.new.sink))
-    text is (rw (c.as_bytes.ensures, all) at c.in_ok-write_replaced.ensures.ok)
+    c.body_bounds-bounds.ensures.value
+    (Appends (g.W.Sink.contents c.args.sink.now) (g.W.Sink.contents c.write_replaced.new.sink)) text is
+    (rw (c.as_bytes.ensures, all) at c.in_ok-write_replaced.ensures.ok)
 
 pub returns-in_err-write_replaced-clause-prefix : goal.returns-in_err-write_replaced-clause-prefix
 returns-in_err-write_replaced-clause-prefix g c = λ _.
