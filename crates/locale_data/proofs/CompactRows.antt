@@ -35,10 +35,12 @@ sets_have_long = refl
 sets_have_currency : list_all (λ set. has_runs set Currency) COMPACT_SETS ≡ true
 sets_have_currency = refl
 
-pub has_runs_if_listed : (set : CompactSet) (style : CompactStyle) → Contains COMPACT_SETS set → has_runs set style ≡ true
+pub has_runs_if_listed : (set : CompactSet) (style : CompactStyle) → Contains COMPACT_SETS set
+    → has_runs set style ≡ true
 has_runs_if_listed set Short listed = passes (λ set. has_runs set Short) COMPACT_SETS set sets_have_short listed
 has_runs_if_listed set Long listed = passes (λ set. has_runs set Long) COMPACT_SETS set sets_have_long listed
-has_runs_if_listed set Currency listed = passes (λ set. has_runs set Currency) COMPACT_SETS set sets_have_currency listed
+has_runs_if_listed set Currency listed =
+    passes (λ set. has_runs set Currency) COMPACT_SETS set sets_have_currency listed
 
 abbrev has_patterns : CompactRun → Bool
 has_patterns run = is_inside run.patterns (length COMPACT_PATTERNS)
@@ -59,7 +61,8 @@ patterns_have_affixes = refl
 pub has_affixes_if_listed : (p : CompactPattern) → Contains COMPACT_PATTERNS p
     → (has_texts p.prefix ≡ true) × (has_texts p.suffix ≡ true)
 has_affixes_if_listed p listed =
-    and_parts (has_texts p.prefix) (has_texts p.suffix) (passes has_affixes COMPACT_PATTERNS p patterns_have_affixes listed)
+    and_parts (has_texts p.prefix) (has_texts p.suffix)
+    (passes has_affixes COMPACT_PATTERNS p patterns_have_affixes listed)
 
 abbrev has_units : PercentUnit → Bool
 has_units unit = has_unit_texts unit.one && has_unit_texts unit.other

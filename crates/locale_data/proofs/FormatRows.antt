@@ -168,9 +168,11 @@ formats-below name tag own root latin is are =
     record {
       percent = chosen-below (length PATTERNS) own.percent root.percent latin.percent o.0 r.0 l.0;
       standard = chosen-below (length PATTERNS) own.standard root.standard latin.standard o.1.0 r.1.0 l.1.0;
-      accounting = chosen-below (length PATTERNS) own.accounting root.accounting latin.accounting o.1.1.0 r.1.1.0 l.1.1.0;
+      accounting = chosen-below (length PATTERNS) own.accounting root.accounting latin.accounting o.1.1.0 r.1.1.0
+          l.1.1.0;
       signs = chosen-below (length NUMBER_SIGNS) own.signs root.signs latin.signs o.1.1.1.0 r.1.1.1.0 l.1.1.1.0;
-      compact = chosen-below (length COMPACT_SETS) own.compact root.compact latin.compact o.1.1.1.1 r.1.1.1.1 l.1.1.1.1.0;
+      compact = chosen-below (length COMPACT_SETS) own.compact root.compact latin.compact o.1.1.1.1 r.1.1.1.1
+          l.1.1.1.1.0;
       unit = below latin.unit (length PERCENT_UNITS) l.1.1.1.1.1.0;
       money = below latin.money (length MONEY_FORMATS) l.1.1.1.1.1.1;
     }

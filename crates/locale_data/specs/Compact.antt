@@ -103,8 +103,8 @@ AreAffixesOf (Some pattern) None = ⊥
 AreAffixesOf (Some pattern) (Some shown) = AreAffixes pattern shown
 
 -- the affixes of the pattern for a number in the run of its magnitude, or None if there is none
-pub record HasAffixes (f : NumberFormats) (style : CompactStyle) (magnitude : ℤ) (category : PluralCategory) (is_one : Bool)
-    (shown : Option CompactAffixes) : Type 0 where
+pub record HasAffixes (f : NumberFormats) (style : CompactStyle) (magnitude : ℤ) (category : PluralCategory)
+    (is_one : Bool) (shown : Option CompactAffixes) : Type 0 where
   pub run : Option CompactRun
   pub of_magnitude : IsRun f style magnitude run
   pub value : AreAffixesOf (pattern_in run category is_one) shown

@@ -11,7 +11,8 @@ use Rattle.locale_data.specs.Rows.{part, row_named, IsRowOf}
 use Rattle.locale_data.specs.Tag.{compared}
 
 -- what a table has for a tag: the row with the longest name that is a prefix of it, or else the usual row
-pub record IsRowElse {R : Type 0} (name_of : R → List ℕ) (rows : List R) (usual : R) (tag : List ℕ) (found : R) : Type 0 where
+pub record IsRowElse {R : Type 0} (name_of : R → List ℕ) (rows : List R) (usual : R) (tag : List ℕ)
+    (found : R) : Type 0 where
   pub row : Option R
   pub listed : IsRowOf name_of rows tag row
   pub value : found ≡ unwrap_or row usual

@@ -38,8 +38,8 @@ separator_text separator.NoBreakSpace = 194 ∷ 160 ∷ []
 separator_text separator.NarrowNoBreakSpace = 226 ∷ 128 ∷ 175 ∷ []
 separator_text separator.Dollar = 36 ∷ []
 
--- the bytes of an exponent separator in UTF-8: `E`, `e`, `^`, `×10^`, `·10^`, that with U+06F1 and U+06F0, U+0623 or U+0627
--- before U+0633, U+0415, U+1E909
+-- the bytes of an exponent separator in UTF-8: `E`, `e`, `^`, `×10^`, `·10^`, that with U+06F1 and U+06F0, U+0623 or
+-- U+0627 before U+0633, U+0415, U+1E909
 abbrev pub exponent_text : ExponentSeparator → List ℕ
 exponent_text exponent.LatinCapitalE = 69 ∷ []
 exponent_text exponent.LatinSmallE = 101 ∷ []

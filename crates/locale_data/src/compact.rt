@@ -105,8 +105,7 @@ pub struct PercentUnit {
 }
 
 impl CompactCount {
-    /// Returns the pattern's count of a plural category.
-    pub fn of_category(category: PluralCategory) -> CompactCount
+    fn of_category(category: PluralCategory) -> CompactCount
         ensures { result ≡ count_of category }
     {
         match category {

@@ -126,8 +126,8 @@ fn system_formats(tag: &[u8], system: &[u8]) -> (SystemFormats, SystemFormats)
 
 /// Returns the formats of a tag, as `locale` has it, in a numbering system, as `latn`.
 ///
-/// Of each format it is that of the listed locale with the longest tag that is `tag` or has a hyphen after it there, and
-/// without one that of root: in the numbering system, or else in `latn`. Every tag and every system have formats;
+/// Of each format it is that of the listed locale with the longest tag that is `tag` or has a hyphen after it there,
+/// and without one that of root: in the numbering system, or else in `latn`. Every tag and every system have formats;
 /// `locale` decides which are known.
 ///
 /// ```

@@ -6,7 +6,7 @@ ghost use Rattle.locale_data.specs.Texts.{is_text};
 use crate::rows::{TableRange, part};
 
 /// Returns the row at an index.
-pub fn row_at<'a, T>(table: &'a [T], index: usize) -> &'a T
+pub(crate) fn row_at<'a, T>(table: &'a [T], index: usize) -> &'a T
     requires { index < length table.now }
     ensures { slice_get table.now index ≡ Some result.now }
 {
@@ -14,7 +14,7 @@ pub fn row_at<'a, T>(table: &'a [T], index: usize) -> &'a T
 }
 
 /// Returns the text in a range of bytes.
-pub fn text_in(bytes: &'static [u8], range: TableRange) -> &'static str
+pub(crate) fn text_in(bytes: &'static [u8], range: TableRange) -> &'static str
     requires { is_text bytes.now range ≡ true }
     ensures value { result.now ≡ part bytes.now range }
     ensures short { length result.now ≤ 255 }

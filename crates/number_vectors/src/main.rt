@@ -1,10 +1,10 @@
 //! Checks the digits and the exponents that options show against `Intl.NumberFormat`.
 //!
 //! Each line of standard input is a row of three fields with tabs between them: options, which are words `name=value`,
-//! mostly by the names of ECMA-402; a number; and its text in English, or the name of the error. Of options that are
-//! rejected the number is empty, and the text may also be the class of ECMA-402's error. In numbers and texts `0*3`
-//! after a space is `000`. Blank lines and lines that start with `#` are not rows. Each row that fails is printed with
-//! its line number; the last line counts the rows.
+//! mostly by the names of ECMA-402; a number; and its text in English, or the name of the error; or a row of four, the
+//! first of which is the tag of another locale. Of options that are rejected the number is empty, and the text may also
+//! be the class of ECMA-402's error. In numbers and texts `0*3` after a space is `000`. Blank lines and lines that
+//! start with `#` are not rows. Each row that fails is printed with its line number; the last line counts the rows.
 #![tactic(auto)]
 
 mod words;
@@ -108,11 +108,12 @@ fn scales<D: DigitStore>(
 /// Whether a number has this text over a store.
 fn has_text<D: DigitStore>(
     alloc: Global,
+    tag: &str,
     options: &Options,
     digits: &DigitOptions,
     (number, text): (&str, &str),
 ) -> Option<bool> {
-    let formatter = DecimalFormatter::new(locale("en")?, options.grouping);
+    let formatter = DecimalFormatter::new(locale(tag)?, options.grouping);
     if let Notation::Standard = options.notation {
         let value: Signed<UnsignedOver<D>> = Signed::try_from_str(alloc, number).ok()?;
         if !applies(alloc, &formatter, options, digits, value, (number, text)) {
@@ -125,8 +126,12 @@ fn has_text<D: DigitStore>(
 
 /// Whether a row holds.
 fn holds(alloc: Global, row: &str) -> Option<bool> {
-    let (words, row) = row.split_once('\t')?;
-    let (number, text) = row.split_once('\t')?;
+    let (first, row) = row.split_once('\t')?;
+    let (second, row) = row.split_once('\t')?;
+    let (tag, words, number, text) = match row.split_once('\t') {
+        Some((number, text)) => (first, second, number, text),
+        None => ("en", first, second, row),
+    };
     let options = parse_options(words)?;
     let digits = match options.digits() {
         Ok(digits) => digits,
@@ -139,10 +144,12 @@ fn holds(alloc: Global, row: &str) -> Option<bool> {
     let text = expand_runs(alloc, text).ok()?;
     let row = (number.as_str(), text.as_str());
     if options.is_limited {
-        return has_text::<LimitedStore<PackedDigits, SixteenDigits>>(alloc, &options, &digits, row);
+        return has_text::<LimitedStore<PackedDigits, SixteenDigits>>(
+            alloc, tag, &options, &digits, row,
+        );
     }
-    let packed = has_text::<PackedDigits>(alloc, &options, &digits, row)?;
-    Some(packed && has_text::<DigitList>(alloc, &options, &digits, row)?)
+    let packed = has_text::<PackedDigits>(alloc, tag, &options, &digits, row)?;
+    Some(packed && has_text::<DigitList>(alloc, tag, &options, &digits, row)?)
 }
 
 /// Checks the rows of a text, and prints their numbers.

@@ -29,7 +29,8 @@ returns c =
       root = c.system_formats.result.1;
       of_latin = subst (λ t. IsLatinFormats t c.latin_formats-latin.result) at_tag c.latin_formats-latin.ensures;
       of_system = subst (λ n. AreOfSystem (format_system n) c.args.tag.now own root) at_system
-          (subst (λ t. AreOfSystem (format_system c.as_bytes-system.result.now) t own root) at_tag c.system_formats.ensures);
+          (subst (λ t. AreOfSystem (format_system c.as_bytes-system.result.now) t own root) at_tag
+          c.system_formats.ensures);
       percent = c.chosen.ensures;
       standard = c.chosen-2.ensures;
       accounting = c.chosen-3.ensures;

@@ -15,7 +15,8 @@ returns-in-Some c =
     let tag_of = λ (l : SystemFormats). l.tag in
     record {
       row = Some c.in-Some.own.now;
-      listed = subst (λ rows. IsRowOf tag_of rows c.args.tag.now (Some c.in-Some.own.now)) c.part.ensures c.in-Some.ensures;
+      listed = subst (λ rows. IsRowOf tag_of rows c.args.tag.now (Some c.in-Some.own.now)) c.part.ensures
+          c.in-Some.ensures;
       value = refl;
     }
 
