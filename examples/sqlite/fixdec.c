@@ -104,7 +104,7 @@ static int compare(void *ignored, int left_count, const void *left, int right_co
     (void)ignored;
     fd_number order = fd_compare(left, (size_t)left_count, right, (size_t)right_count);
     if (order.status == FD_OK) return (int)order.value;
-    int apart = (fd_sign(right, (size_t)right_count).status == FD_OK) - (fd_sign(left, (size_t)left_count).status == FD_OK);
+    int apart = !fd_sign(right, (size_t)right_count).status - !fd_sign(left, (size_t)left_count).status;
     if (apart) return apart;
     int bytes = memcmp(left, right, (size_t)(left_count < right_count ? left_count : right_count));
     return bytes ? bytes : left_count - right_count;
