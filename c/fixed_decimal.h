@@ -207,8 +207,8 @@ fd_number fd_category(const uint8_t *rules, size_t rules_count, const uint8_t *t
  * 2^49. Errors: FD_UNKNOWN_LOCALE. */
 fd_unsigned fd_locale(const uint8_t *tag, size_t count);
 
-/* The number of the plural rules of a tag, of an fd_rule_type. It is at least 1, and below 2^18. A tag without rules for
- * which fd_locale has a number has rules by which each number is FD_OTHER.
+/* The number of the plural rules of a tag, of an fd_rule_type. It is at least 1, and below 2^18. A tag without rules
+ * for which fd_locale has a number has rules by which each number is FD_OTHER.
  * Errors: FD_UNKNOWN_LOCALE, FD_UNKNOWN_OPTION. */
 fd_unsigned fd_plural_rules(const uint8_t *tag, size_t count, uint32_t type);
 

@@ -1,15 +1,13 @@
 /* Decimals in SQLite: fixdec(text, call, ..), the collation decimal_compare, and plural(locale or rules, text).
- *
  *   gcc -shared -fPIC -I ../../c fixdec.c ../../c/out/libfixed_decimal.a -o fixdec.so
  *   SELECT fixdec('1234.565', 'round:-2:half-even:1', 'format:de');  -- 1.234,56
- *
  * NULL in, NULL out. A text, a call or rules that are rejected are an SQL error. */
+#include <ctype.h>
 #include <fixed_decimal.h>
 #include <sqlite3ext.h>
 #include <stdio.h>
 #include <string.h>
 SQLITE_EXTENSION_INIT1
-
 #define BYTES(value) (const uint8_t *)sqlite3_value_text(value), (size_t)sqlite3_value_bytes(value)
 enum { READ = FD_CONCAT + 1, MAX_CALLS = 32, MAX_TEXTS = 1000 };
 static const char *const modes[] = {"ceil", "floor", "expand", "trunc", "half-ceil", "half-floor", "half-expand",
@@ -70,42 +68,33 @@ static void fail(sqlite3_context *context, uint32_t status, size_t at) {
     sqlite3_free(line);
 }
 
-static int has_null(int count, sqlite3_value **values) {
-    while (count > 0 && sqlite3_value_type(values[count - 1]) != SQLITE_NULL) count--;
-    return count > 0;
-}
-
 static void fixdec(sqlite3_context *context, int count, sqlite3_value **values) {
     job j = {.count = 0};
-    if (has_null(count, values)) return;
+    for (int i = 0; i < count; i++) if (sqlite3_value_type(values[i]) == SQLITE_NULL) return;
     for (int i = 1; i < count; i++)
         if (!parse(&j, (const char *)sqlite3_value_text(values[i]))) return sqlite3_result_error(context, "no such call", -1);
     uint8_t buffer[128], *out = buffer;
-    const uint8_t *text = sqlite3_value_text(values[0]);
-    size_t bytes = (size_t)sqlite3_value_bytes(values[0]);
-    fd_result answer = fd_convert(text, bytes, &j.forms, j.calls, j.count, j.texts, j.used, out, sizeof buffer);
+    fd_result answer = fd_convert(BYTES(values[0]), &j.forms, j.calls, j.count, j.texts, j.used, out, sizeof buffer);
     if (answer.status == FD_BUFFER_TOO_SMALL && (out = sqlite3_malloc64(answer.count)))
-        answer = fd_convert(text, bytes, &j.forms, j.calls, j.count, j.texts, j.used, out, answer.count);
+        answer = fd_convert(BYTES(values[0]), &j.forms, j.calls, j.count, j.texts, j.used, out, answer.count);
     if (answer.status == FD_OK) sqlite3_result_text(context, (char *)out, (int)answer.count, SQLITE_TRANSIENT);
     else if (!out) sqlite3_result_error_nomem(context);
     else fail(context, answer.status, answer.at);
     if (out != buffer) sqlite3_free(out);
 }
 
-/* By a locale, as pl or en:ordinal, or by rules in CLDR's syntax. */
-static fd_number category(const char *word, size_t size, const uint8_t *text, size_t count) {
-    static const char *const types[] = {"", ":cardinal", ":ordinal", NULL};
-    size_t tag = strspn(word, "abcdefghijklmnopqrstuvwxyzABCDEFGHIJKLMNOPQRSTUVWXYZ0123456789-_.@");
-    int type = index_of(types, word + tag, size - tag);
-    if (!tag || strchr("0123456789-_.@", *word) || type < 0) return fd_category((const uint8_t *)word, size, text, count);
-    fd_unsigned rules = fd_plural_rules((const uint8_t *)word, tag, type == 2 ? FD_ORDINAL : FD_CARDINAL);
-    return rules.status ? (fd_number){rules.status, rules.at, 0} : fd_category_of(rules.value, text, count);
-}
-
 static void plural(sqlite3_context *context, int count, sqlite3_value **values) {
     static const char *const names[] = {"zero", "one", "two", "few", "many", "other"};
-    if (has_null(count, values)) return;
-    fd_number answer = category((const char *)BYTES(values[0]), BYTES(values[1]));
+    static const char *const types[] = {"", ":cardinal", ":ordinal", NULL};
+    for (int i = 0; i < count; i++) if (sqlite3_value_type(values[i]) == SQLITE_NULL) return;
+    const char *word = (const char *)sqlite3_value_text(values[0]);
+    size_t tag = strspn(word, "abcdefghijklmnopqrstuvwxyzABCDEFGHIJKLMNOPQRSTUVWXYZ0123456789-_.@");
+    int type = index_of(types, word + tag, (size_t)sqlite3_value_bytes(values[0]) - tag);
+    if (!isalpha((unsigned char)*word)) type = -1;
+    fd_unsigned rules = fd_plural_rules((const uint8_t *)word, tag, type == 2 ? FD_ORDINAL : FD_CARDINAL);
+    if (type >= 0 && rules.status != FD_OK) return fail(context, rules.status, rules.at);
+    fd_number answer = fd_category_of(rules.value, BYTES(values[1]));
+    if (type < 0) answer = fd_category(BYTES(values[0]), BYTES(values[1]));
     if (answer.status == FD_OK) sqlite3_result_text(context, names[answer.value], -1, SQLITE_STATIC);
     else fail(context, answer.status, answer.at);
 }
@@ -115,9 +104,8 @@ static int compare(void *ignored, int left_count, const void *left, int right_co
     (void)ignored;
     fd_number order = fd_compare(left, (size_t)left_count, right, (size_t)right_count);
     if (order.status == FD_OK) return (int)order.value;
-    int left_is = fd_sign(left, (size_t)left_count).status == FD_OK;
-    int right_is = fd_sign(right, (size_t)right_count).status == FD_OK;
-    if (left_is != right_is) return right_is - left_is;
+    int apart = !fd_sign(right, (size_t)right_count).status - !fd_sign(left, (size_t)left_count).status;
+    if (apart) return apart;
     int bytes = memcmp(left, right, (size_t)(left_count < right_count ? left_count : right_count));
     return bytes ? bytes : left_count - right_count;
 }

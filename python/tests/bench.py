@@ -17,7 +17,7 @@ NAMES = {"D": Decimal, "P": decimal.Decimal, "t": "1234.5650", "cent": decimal.D
 
 def beside(ours, theirs):
     timers = [timeit.Timer(code, globals=NAMES) for code in (ours, theirs)]
-    counts = [timer.autorange()[0] // 4 for timer in timers]
+    counts = [timer.timeit(1) and max(1, timer.autorange()[0] // 4) for timer in timers]
     best = [float("inf")] * 2
     for _ in range(ROUNDS):
         for i, timer in enumerate(timers):
