@@ -2,9 +2,9 @@
 use Rattle.std.proofs.Common.{◌≡◌, ℕ, ◌+◌, ◌-◌, ◌*◌, ◌^◌, ◌<◌, ◌≤◌, true, inl, inr, refl, sym, ◌∙◌, ap, subst, arith, ◌/◌, ◌%◌}
 use Rattle.std.specs.Prelude.{◌⊎◌, Some, unsigned_abs, ℤ, pos, negsuc, ◌+ℤ◌, ◌≤ℤ◌, ◌<ℤ◌, int_lt, ◌-ℤ◌}
 use Rattle.std.specs.Int.{int_max, int_min}
-use Rattle.std.proofs.Math.Nat.{pow-le-pow_right, le-mul_of_pos_right, eq_of_mul-eq-mul_right}
+use Rattle.std.proofs.Math.Nat.{pow-le-pow_right}
 use Rattle.std.proofs.lemmas.Int.{ints, clamps}
-use Rattle.std.proofs.lemmas.Bool.{cases_eq, cases_lt, cases_Bool}
+use Rattle.std.proofs.lemmas.Bool.{cases_eq, cases_lt}
 use Rattle.decimal_digits.specs.Number.{offset, number_limit, weight, first}
 use Rattle.decimal_digits.specs.Rounding.{unit_at, rounded_number}
 use Rattle.decimal_digits.specs.declared.rounding.RoundingIncrement.TheVariants.{MultiplesOf1}
@@ -340,8 +340,8 @@ keeps_exponent notation o v plain ordered few all s is =
     (λ zero. law.own ∙ exponent_low notation (first t.number) (omega (arith, ints, ap first zero, first_zero))) in (
       made.3 ∙ ap (λ e. base_exponent notation v.absolute.number +ℤ pos e) law.own
           ∙ moved notation (first v.absolute.number) (first t.number) (λ h.
-              let up = first_raised notation v.absolute.number below h in
-              omega (arith, ints, up, law.least up))
+          let up = first_raised notation v.absolute.number below h in
+          omega (arith, ints, up, law.least up))
           ∙ ap (exponent_at notation) (omega (arith, ints, made.3, quotient)),
       λ e r at number.
           let same : t.exponent ≡ e = omega (arith, ints, made.3, at) in
