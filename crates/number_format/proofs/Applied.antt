@@ -96,7 +96,8 @@ module _ (o : DigitOptions) (exponent : ℕ) (old : Decimal) (before position : 
         sign = sym (ap (λ (v : Decimal). v.sign) new_is);
         shown =
             end
-            ∙ (λ i. last_shown_of o.precision (starts i -ℤ pos exponent) ((ends ∙ ap first (sym number)) i -ℤ pos exponent))
+            ∙ (λ i. last_shown_of o.precision (starts i -ℤ pos exponent)
+            ((ends ∙ ap first (sym number)) i -ℤ pos exponent))
             ∙ sym is.last_shown;
         named =
             subst (λ m. NamedSigned o.mode (rounded_with o exponent old).unit (signed_number old) m) multiple

@@ -2,9 +2,9 @@
 use Rattle.std.proofs.Common.{◌≡◌, ℕ, ◌+◌, ◌-◌, ◌*◌, ◌^◌, ◌<◌, ◌≤◌, true, inl, inr, refl, sym, ◌∙◌, ap, subst, arith, ◌/◌, ◌%◌}
 use Rattle.std.specs.Prelude.{◌⊎◌, Some, unsigned_abs, ℤ, pos, negsuc, ◌+ℤ◌, ◌≤ℤ◌, ◌<ℤ◌, int_lt, ◌-ℤ◌}
 use Rattle.std.specs.Int.{int_max, int_min}
-use Rattle.std.proofs.Math.Nat.{pow-le-pow_right, le-mul_of_pos_right, eq_of_mul-eq-mul_right}
+use Rattle.std.proofs.Math.Nat.{pow-le-pow_right}
 use Rattle.std.proofs.lemmas.Int.{ints, clamps}
-use Rattle.std.proofs.lemmas.Bool.{cases_eq, cases_lt, cases_Bool}
+use Rattle.std.proofs.lemmas.Bool.{cases_eq, cases_lt}
 use Rattle.decimal_digits.specs.Number.{offset, number_limit, weight, first}
 use Rattle.decimal_digits.specs.Rounding.{unit_at, rounded_number}
 use Rattle.decimal_digits.specs.declared.rounding.RoundingIncrement.TheVariants.{MultiplesOf1}
@@ -110,8 +110,8 @@ carry_higher mode n p q k h l less made = elim (cases_eq (offset p) (offset q)) 
 ]
 
 -- ---- A number that is rounded once, or twice.
--- its exponent is that of its magnitude; one rounding with it makes the same number; it is another exponent than that of
--- the number before only after a carry to a power of ten; and no rounding removes the digits from magnitude 0 up
+-- its exponent is that of its magnitude; one rounding with it makes the same number; it is another one than that of the
+-- number before only after a carry to a power of ten; and the first digit from magnitude 0 up moves no lower
 pub record Settles (notation : Notation) (o : DigitOptions) (sign : Sign) (n : ℕ) (s : Settled) : Type 0 where
   pub own : s.exponent ≡ whole_exponent notation s.number
   pub once : s.number ≡ (rounded_at o sign s.exponent n).number
@@ -134,6 +134,9 @@ module _ (notation : Notation) (o : DigitOptions) (sign : Sign) (n : ℕ) (plain
   abbrev exponent : ℕ
   exponent = whole_exponent notation n
 
+  abbrev position : ℤ
+  position = position_at o.precision exponent n
+
   abbrev made : ℕ
   made = (rounded_at o sign exponent n).number
 
@@ -147,16 +150,16 @@ module _ (notation : Notation) (o : DigitOptions) (sign : Sign) (n : ℕ) (plain
 
     none_after : next ≡ 0
     none_after =
-        let low = position_most o.precision plain exponent n (pos 0) (omega (arith, ints, at)) (omega (arith, ints, none)) in
+        let low =
+        position_most o.precision plain exponent n (pos 0) (omega (arith, ints, at)) (omega (arith, ints, none)) in
         let most =
-        limited mode (position_at o.precision exponent n) n (offset (pos 0))
-        (omega (arith, ints, low, offset_is (pos 0), offset_is (position_at o.precision exponent n)))
+        limited mode position n (offset (pos 0)) (omega (arith, ints, low, offset_is (pos 0), offset_is position))
         (omega (arith, below_weight n (pos 0) few (omega (arith, ints, at)))) in
         let up : 10 ^ (offset (pos 0) + 1) ≡ 10 ^ offset (pos 0) * 10 ^ 1 =
         powers (offset (pos 0)) 1 (offset (pos 0) + 1) refl in
         exponent_low notation (first made)
-        (first_le made (pos 0) (omega (arith, by_1 exponent n few, most, up, ten_pos (offset (pos 0)))) (omega (arith, ints))
-        (omega (arith, ints)))
+        (first_le made (pos 0) (omega (arith, by_1 exponent n few, most, up, ten_pos (offset (pos 0))))
+        (omega (arith, ints)) (omega (arith, ints)))
 
   -- from magnitude 0 up
   module _ (k : ℕ) (at : first n ≡ pos k) where
@@ -166,7 +169,7 @@ module _ (notation : Notation) (o : DigitOptions) (sign : Sign) (n : ℕ) (plain
     near : IsNear n made
     near =
         subst (IsNear n) (sym (by_1 exponent n few))
-        (first_near mode n (position_at o.precision exponent n) few
+        (first_near mode n position few
         (position_most o.precision plain exponent n (first n) (omega (arith, ints)) (omega (arith, ints, low, at))))
 
     -- after a carry a second rounding keeps the number, and a first one with the new exponent makes it
@@ -195,14 +198,16 @@ module _ (notation : Notation) (o : DigitOptions) (sign : Sign) (n : ℕ) (plain
           let is = near.carried grown in
           by_1 next made fits
           ∙ subst (λ m. rounded_number mode (unit_at MultiplesOf1 (position_at o.precision next made)) m ≡ m) (sym is)
-          (kept mode (position_at o.precision next made) (offset (first made)) (above made (omega (arith, ints, there))))
+          (kept mode (position_at o.precision next made) (offset (first made))
+          (above made (omega (arith, ints, there))))
 
       directly : (rounded_at o sign next n).number ≡ made
       directly =
+          let higher = position_at o.precision next n in
           let up = position_up o.precision plain exponent next n (omega (arith, more)) in
           by_1 next n few
-          ∙ carry_higher mode n (position_at o.precision exponent n) (position_at o.precision next n) (offset (first made))
-          (omega (arith, ints, up, offset_is (position_at o.precision exponent n), offset_is (position_at o.precision next n)))
+          ∙ carry_higher mode n position higher (offset (first made))
+          (omega (arith, ints, up, offset_is position, offset_is higher))
           (above n (omega (arith, ints, at))) (below_weight n (first made) few grown)
           (sym (by_1 exponent n few) ∙ near.carried grown)
           ∙ sym (near.carried grown)
@@ -335,16 +340,18 @@ keeps_exponent notation o v plain ordered few all s is =
     raised_below v.absolute.number (unsigned_abs (base_exponent notation v.absolute.number)) few
     (omega (arith, ints, clamps, exponent_least notation (first v.absolute.number))) in
     let law = settles notation o v.sign n plain ordered below t made.1 (first n) refl in
+    let less = (once_or_twice notation o v.sign n t made.1).1 in
     let quotient =
-    first_of_quotient s.significand.absolute.number t.exponent t.number made.2 ((once_or_twice notation o v.sign n t made.1).1)
+    first_of_quotient s.significand.absolute.number t.exponent t.number made.2 less
     (λ zero. law.own ∙ exponent_low notation (first t.number) (omega (arith, ints, ap first zero, first_zero))) in (
       made.3 ∙ ap (λ e. base_exponent notation v.absolute.number +ℤ pos e) law.own
           ∙ moved notation (first v.absolute.number) (first t.number) (λ h.
-              let up = first_raised notation v.absolute.number below h in
-              omega (arith, ints, up, law.least up))
+          let up = first_raised notation v.absolute.number below h in
+          omega (arith, ints, up, law.least up))
           ∙ ap (exponent_at notation) (omega (arith, ints, made.3, quotient)),
       λ e r at number.
           let same : t.exponent ≡ e = omega (arith, ints, made.3, at) in
           let r_is : t.number ≡ r = sym made.2 ∙ ap (λ e. s.significand.absolute.number * 10 ^ e) same ∙ sym number in
-          subst (λ r. Law notation o v.sign n e r) r_is (subst (λ e. Law notation o v.sign n e t.number) same (law.once, law.carry)),
+          subst (λ r. Law notation o v.sign n e r) r_is
+          (subst (λ e. Law notation o v.sign n e t.number) same (law.once, law.carry)),
     )

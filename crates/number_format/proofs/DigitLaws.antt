@@ -93,7 +93,8 @@ pub is_monotone : (o : DigitOptions) (v w : Decimal) → IsMonotone o v w
 is_monotone o v w is sign h =
     let mode = mode_at o.mode v.sign in
     let u = by_unit o.precision mode is in
-    subst (λ s. (rounded_with o 0 v).number ≤ (rounded_by o.precision (mode_at o.mode s) 0 w.absolute.number).number) sign
+    subst
+    (λ s. (rounded_with o 0 v).number ≤ (rounded_by o.precision (mode_at o.mode s) 0 w.absolute.number).number) sign
     (rw (u.number v.absolute.number, u.number w.absolute.number)
     (rounded_number-monotone mode u.unit v.absolute.number w.absolute.number u.some h))
 

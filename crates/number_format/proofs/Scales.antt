@@ -1,6 +1,6 @@
 -- The significand and the exponent of a number.
-use Rattle.std.proofs.Common.{◌≡◌, ℕ, zero, suc, ◌+◌, ◌-◌, ◌*◌, ◌/◌, ◌%◌, ◌^◌, ◌<◌, ◌≤◌, true, false, inl, inr, refl, sym, ◌∙◌, ap, subst, arith}
-use Rattle.std.specs.Prelude.{◌⊎◌, ◌||◌, Option, Some, None, option_and_then, nat_lt, unsigned_abs, ℤ, pos, negsuc, neg_ℤ, ◌+ℤ◌, ◌-ℤ◌, ◌≤ℤ◌, int_lt}
+use Rattle.std.proofs.Common.{◌≡◌, ℕ, ◌+◌, ◌-◌, ◌*◌, ◌/◌, ◌%◌, ◌^◌, ◌<◌, ◌≤◌, Bool, true, false, inl, inr, refl, sym, ◌∙◌, ap, subst, arith}
+use Rattle.std.specs.Prelude.{◌⊎◌, ◌||◌, Option, Some, None, option_and_then, nat_lt, unsigned_abs, ℤ, pos, negsuc, ◌+ℤ◌, ◌-ℤ◌, ◌≤ℤ◌, int_lt}
 use Rattle.std.specs.Int.{int_max}
 use Rattle.std.proofs.Math.Nat.{mul_assoc, le-mul_of_pos_right, mul-lt-mul_of_pos_right, mul-mod_left, div-add-mod', div-le_self, pow-le-pow_right}
 use Rattle.std.proofs.lemmas.Int.{ints, clamps}
@@ -95,12 +95,15 @@ module _ (notation : Notation) (o : DigitOptions) (sign : Sign) (n : ℕ) (s : S
   below : (r : ℕ) → reaches_limit r ≡ false → r < number_limit
   below r h = grind (arith, nat_tests)
 
+  abbrev exceeds : ℕ → ℕ → Bool
+  exceeds e m =
+      int_lt highest_magnitude (position_at o.precision e m) || reaches_limit (rounded_at o sign e m).number
+
   within_or_none : (e m : ℕ) → (rounded_within o sign e m ≡ None)
       ⊎ ((rounded_within o sign e m ≡ Some (rounded_at o sign e m)) × ((rounded_at o sign e m).number < number_limit))
-  within_or_none e m = elim (cases_Bool (int_lt highest_magnitude (position_at o.precision e m) || reaches_limit (rounded_at o sign e m).number)) [
+  within_or_none e m = elim (cases_Bool (exceeds e m)) [
     | inl over ↦ inl (rw over refl)
-    | inr within ↦
-        inr (rw within refl, below _ (or_parts _ _ within).1)
+    | inr within ↦ inr (rw within refl, below _ (or_parts _ _ within).1)
   ]
 
   -- the number that is rounded once, or twice if the exponent grows; both are below the limit

@@ -41,8 +41,8 @@ significant_of s =
     if needs_significant s then (unwrap_or s.minimum_significant_digits 1, unwrap_or s.maximum_significant_digits 21)
     else (1, 2)
 
--- the numbers of fraction digits; one that is not given is the default, if that does not contradict the other one; with an
--- increment the greatest one is by default the least one
+-- the numbers of fraction digits: one that is not given is the default, if that does not contradict the other one;
+-- with an increment the greatest one is by default the least one
 abbrev pub fraction_of : DigitSettings → DigitDefaults → ℕ × ℕ
 fraction_of s d =
     let least =

@@ -41,8 +41,8 @@ pub enum Precision {
     LessPrecision(BothDigits),
 }
 
-// `exponent` is that of the notation. The functions return magnitudes of the quotient by its power of ten, and take those
-// of the number before and after the rounding.
+// These functions take magnitudes of the number, before and after the rounding, and return those of its quotient by
+// 10^`exponent`.
 
 fn last_at(count: u32, exponent: u16, first: i16) -> i32
     requires { count ≤ 65536 }

@@ -10,8 +10,10 @@ ghost use Rattle.number_format.specs.Scaled.{whole_exponent, base_exponent, sett
 
 use crate::digit_options::DigitOptions;
 use crate::notation::Notation;
-use fixed_decimal::{CompactDecimal, DecimalStore, FixedInteger, INLINE_DIGITS, ScientificDecimal};
-use fixed_decimal::{DigitStore, RoundError, Signed, Steps, UnsignedOver};
+use fixed_decimal::{
+    CompactDecimal, DecimalStore, DigitStore, FixedInteger, INLINE_DIGITS, RoundError,
+    ScientificDecimal, Signed, Steps, UnsignedOver,
+};
 use std::alloc::{AllocError, Global};
 use std::marker::Model;
 

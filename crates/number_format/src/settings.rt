@@ -128,7 +128,11 @@ impl DigitSettings {
             return Err(DigitOptionsError::FractionDigits);
         }
         let least = defaults.fraction.min;
-        let most = if self.rounding_increment == 1 { defaults.fraction.max } else { least };
+        let most = if self.rounding_increment == 1 {
+            defaults.fraction.max
+        } else {
+            least
+        };
         let min = given_min.unwrap_or(least.min(given_max.unwrap_or(least)));
         let max = given_max.unwrap_or(most.max(min));
         if min > max {

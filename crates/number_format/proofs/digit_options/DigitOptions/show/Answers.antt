@@ -21,8 +21,9 @@ end_is last end fits is = omega (arith, ints, clamps, is, fits)
 pub returns-clause-value : goal.returns-clause-value
 returns-clause-value g c =
     let o = c.args.self.now in
+    let cut = c.cut_integer_digits in
     let start =
-    subst (λ z. c.pad_start.new.self ≡ padded_start c.cut_integer_digits.new.value z)
+    subst (λ z. c.pad_start.new.self ≡ padded_start cut.new.value z)
     (least_is o.integer.min o.integer.few) c.pad_start.ensures in
     let end =
     subst (λ z. c.pad_end.new.self ≡ padded_end c.pad_start.new.self z)
@@ -30,7 +31,7 @@ returns-clause-value g c =
     c.strip.ensures.value
     ∙ ap (stripped o.trailing_zeros)
     (end ∙ ap (λ v. padded_end v (int_min (int_max c.args.last (negsuc 32767)) (pos 0))) start
-    ∙ padded_is o c.cut_integer_digits.new.value c.args.value.now.number c.args.last c.cut_integer_digits.ensures.number)
+    ∙ padded_is o cut.new.value c.args.value.now.number c.args.last cut.ensures.number)
 
 pub returns-clause-size : goal.returns-clause-size
 returns-clause-size g c =
