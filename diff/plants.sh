@@ -8,7 +8,7 @@ set -euo pipefail
 . "$(dirname "$0")/common.sh"
 export RUSTFLAGS="$RUSTFLAGS -A warnings"
 seconds=${1:-8} threads=${2:-$(nproc)}
-export LIBRARY=$work/decimal_calls
+export LIBRARY=$work/decimal_calls LD_LIBRARY_PATH=$project/c/out FIXED_DECIMAL_LIB=$project/c/out/libfixed_decimal.so
 unnoticed=0
 
 # plant NAME OLD NEW [FILE]: in that file of rust/src, where OLD occurs once.

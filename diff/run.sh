@@ -21,5 +21,6 @@ build decimal_calls src/lib.rt "$here/library/" std decimal_digits decimal_unsig
 build fixdec src/main.rt "$project/crates/fixdec/src/" std cli
 export LIBRARY=$work/decimal_calls
 copy_original
+copy_host
 build_driver diff
 exec "$work/target/release/diff" "$work/fixdec/fixdec" "$seconds" "$threads" "$seed"

@@ -1,6 +1,6 @@
 #!/usr/bin/env bash
-# All tests: the gate, the built programs as a shell runs them, failing allocations, the C library, setting up, and the
-# documents. The last line is `N passed, M failed`; the status is 0 if M is 0.
+# All tests: the gate, the built programs as a shell runs them, failing allocations, the C library, Rust and Dask,
+# setting up, and the documents. The last line is `N passed, M failed`; the status is 0 if M is 0.
 set -u
 cd "$(dirname "$0")/.." || exit 1
 log=$(mktemp) || exit 1
@@ -27,6 +27,7 @@ export BUILT_BY_GATE=1
 run bash tests/end_to_end.sh
 run bash tests/allocation_failures.sh
 run bash tests/c.sh
+run bash tests/hosts.sh
 run bash tests/setting_up.sh
 run python3 tools/check_documents.py
 

@@ -4,7 +4,8 @@
 # - `allocation_failures` makes each kind of call that allocates. It has to print `right when asked again`: the call
 #   reported that it is out of memory, changed nothing, and succeeded when it was made again.
 # - `fixdec_lines` has to end with status 3, and `memory` with nothing written, or `line N: memory` with the lines
-#   before; and it allocates no more for a thousand lines of at most 16 digits than for one.
+#   before, or as ever where it asked again, for less; and it allocates no more for a thousand lines of at most 16
+#   digits than for one.
 #
 # Needs bash and gdb, which it installs where it may. The last line is `N passed, M failed`; the status is 0 if M is 0.
 set -u
@@ -38,14 +39,14 @@ fail_each() {
   read -r all _ < 0.end
   words="$*"
   [ -n "$all" ] && [ "$all" -gt 10 ]
-  judge "$words: $all allocations"
+  judge $? "$words: $all allocations"
   seq 1 "${all:-0}" | xargs -P "$(nproc)" -I{} bash -c "fail_at ${1@Q} {} ${*:2}"
 }
 
 fail_each /dev/null allocation_failures
 for ((at = 1; at <= ${all:-0}; at++)); do
   [ "$(cat "$at.out")" = 'right when asked again' ]
-  judge "allocation $at of $all: $(cat "$at.out")"
+  judge $? "allocation $at of $all: $(cat "$at.out")"
 done
 
 # No allocation more for more lines.
@@ -57,21 +58,24 @@ read -r few _ < 0.end
 fail_at many 0 fixdec_lines "$call"
 read -r all _ < 0.end
 [ -n "$few" ] && [ "$all" = "$few" ]
-judge "$few allocations for one line, and $all for a thousand"
+judge $? "$few allocations for one line, and $all for a thousand"
 
 # Those of the words, of their calls, of the buffers, of lines that get longer, of long numbers and of concatenations.
 printf '70\n12345678901234567890.125\nx\n1e20\n%0200d\n' 5 > in
 for mode in '' skip; do
   fail_each in fixdec_lines $mode concat:0.12345678901234567 round:-2:half-even:25
   for ((at = 1; at <= ${all:-0}; at++)); do
-    read -r _ status < "$at.end"
+    read -r count status < "$at.end"
     line=$(sed -n 's/^line \([0-9]*\): memory$/\1/p' "$at.err")
-    if [ "$(cat "$at.err")" = memory ]; then
+    if [ "$count" -gt "$all" ]; then
+      # A list that grows asks again, for less.
+      cmp -s "$at.out" 0.out && cmp -s "$at.err" 0.err
+    elif [ "$(cat "$at.err")" = memory ]; then
       [ "$status" = 3 ] && [ ! -s "$at.out" ]
     else
       [ "$status" = 3 ] && [ -n "$line" ] && cmp -s "$at.out" <(head -n $((line - 1)) 0.out)
     fi
-    judge "$words, allocation $at of $all: status $status, $(head -c 100 "$at.err" | tr '\n' '|')"
+    judge $? "$words, allocation $at of $all: status $status, $(head -c 100 "$at.err" | tr '\n' '|')"
   done
 done
 

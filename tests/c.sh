@@ -6,17 +6,10 @@ set -u
 cd "$(dirname "$0")/.." || exit 1
 . tests/programs.sh
 
-# missing NAME: what is not there is not run.
-missing() {
-  echo "not run: $1"
-  [ -z "${ALL:-}" ]
-  judge "$1"
-}
-
 # try NAME COMMAND..: the command succeeds; its output is shown if not.
 try() {
   "${@:2}" > "$room/log" 2>&1 || { tail -n 20 "$room/log"; false; }
-  judge "$1"
+  judge $? "$1"
 }
 
 # compile NAME FLAG..: compiles a test over the static library.
@@ -26,7 +19,7 @@ compile() {
 
 for tool in gcc python3; do
   command -v $tool > /dev/null
-  judge "$tool is there"
+  judge $? "$tool is there"
 done
 try 'c/build.sh' bash c/build.sh
 PREFIX=$room/prefix BUILT_BY_GATE=1 try 'c/build.sh install' bash c/build.sh install
@@ -51,12 +44,12 @@ try 'four threads' "$room/threads"
 try 'the example' gcc -std=c99 -Wall -Wextra -Werror c/example.c "-I$room/prefix/include" "-L$room/prefix/lib" \
   -lfixed_decimal -o "$room/example"
 [ "$("$room/example")" = 1.234,56 ]
-judge 'the example writes 1.234,56'
+judge $? 'the example writes 1.234,56'
 nm -D --defined-only c/out/libfixed_decimal.so | awk '{ print $3 }' | grep -v '^fd_' > "$room/others"
 [ ! -s "$room/others" ]
-judge 'the shared library exports no other names'
+judge $? 'the shared library exports no other names'
 readelf -d c/out/libfixed_decimal.so | grep -q 'SONAME.*libfixed_decimal.so.1'
-judge 'the shared library has a soname'
+judge $? 'the shared library has a soname'
 
 # ---- Python
 if python3 -c 'import sysconfig, os; assert os.path.exists(sysconfig.get_path("include") + "/Python.h")' 2> /dev/null &&
@@ -75,7 +68,7 @@ if command -v sqlite3 > /dev/null && echo '#include <sqlite3ext.h>' | gcc -E -x 
   row() {
     found=$(sqlite3 -cmd ".load $room/fixdec" :memory: "$1" 2>&1)
     [ "$found" = "$2" ]
-    judge "$1: $found"
+    judge $? "$1: $found"
   }
   row "SELECT fixdec('1234.565', 'round:-2:half-even:1', 'format:de')" 1.234,56
   row "SELECT fixdec('1.234,5', 'read:de', 'shift:2', 'pad-end:-1', 'sign:minus', 'format:en-IN')" -1,23,450.0
@@ -90,11 +83,11 @@ if command -v sqlite3 > /dev/null && echo '#include <sqlite3ext.h>' | gcc -E -x 
     "'1', 'round:0:ceil:3'|no such call: 0" "'12', 'concat:25'|call 0: overlap"; do
     found=$(sqlite3 -cmd ".load $room/fixdec" :memory: "SELECT fixdec(${call%|*})" 2>&1)
     [[ $found == *"${call#*|}"* ]]
-    judge "fixdec(${call%|*}): $found"
+    judge $? "fixdec(${call%|*}): $found"
   done
   found=$(sqlite3 -cmd ".load $room/fixdec" :memory: "SELECT plural('one: n =', '1')" 2>&1)
   [[ $found == *'rules: syntax at 8'* ]]
-  judge "plural('one: n =', '1'): $found"
+  judge $? "plural('one: n =', '1'): $found"
 else
   missing 'sqlite3 and its headers'
 fi

@@ -13,7 +13,7 @@ compare() {
   printf '%s' "$2" > "$room/text"
   printf '%s' "$3" > "$room/lines"
   [ "$found" = "$1" ] && cmp -s "$room/out" "$room/text" && cmp -s "$room/err" "$room/lines"
-  judge "$name: status $found, $(head -c 200 "$room/out" | tr '\n' '|'), $(head -c 200 "$room/err" | tr '\n' '|')"
+  judge $? "$name: status $found, $(head -c 200 "$room/out" | tr '\n' '|'), $(head -c 200 "$room/err" | tr '\n' '|')"
 }
 
 # row PROGRAM STATUS TEXT LINES WORD..: the result of the words is this.
@@ -39,7 +39,7 @@ help() {
   for word in --help -h; do
     "$room/$1" "$word" > "$room/out" 2> "$room/err" < /dev/null \
       && [ "$(head -n 1 "$room/out")" = "$2" ] && [ "$(wc -l < "$room/out")" -gt 5 ] && [ ! -s "$room/err" ]
-    judge "$1 $word"
+    judge $? "$1 $word"
   done
 }
 
@@ -123,9 +123,10 @@ row fixdec 2 '' "$usage" 5 trim-end read:de
 row fixdec 2 '' "$usage" 5 format:de:fast
 row fixdec 2 '' "$usage" 5 format:de trim-end
 row fixdec 2 '' "$usage" 5 foo format:tlh
-row fixdec 2 '' $'unknown locale\n' 5 read:tlh foo
-row fixdec 2 '' $'unknown locale\n' 5 read:tlh
-row fixdec 2 '' $'unknown locale\n' 5 format:tlh
+row fixdec 2 '' $'unknown locale: tlh\n' 5 read:tlh foo
+row fixdec 2 '' $'unknown locale: tlh\n' 5 read:tlh
+row fixdec 2 '' $'unknown locale: tlh\n' 5 format:tlh
+row fixdec 2 '' $'unknown locale: \n' 5 format:
 row fixdec 2 '' "$usage" $'5\xff'
 row fixdec 2 '' "$usage" 5 $'concat:\xc3\x28'
 
@@ -178,7 +179,7 @@ for ((limit = 4000; limit <= 64000; limit += 4000)); do
   fi
 done 2> /dev/null
 [ "$reported" != 0 ] && [ "$printed" != 0 ]
-judge "with little memory it reported memory $reported times and printed $printed times"
+judge $? "with little memory it reported memory $reported times and printed $printed times"
 
 help fixdec 'usage: fixdec TEXT [CALL]..'
 name='fixdec --help > /dev/full'
@@ -190,8 +191,6 @@ row fixdec 1 '' $'start: syntax\n' --help shift:1
 row fixdec 2 '' "$usage" --help 5
 
 # ---- fixdec_lines
-
-usage=$'usage: fixdec_lines [OPTION].. [read:LOCALE] [CALL].. [format:LOCALE]\n'
 
 # Status 0.
 lines 0 '250\n7\n' $'2.50\n0.07\n' '' shift:-2
@@ -223,15 +222,29 @@ lines 1 '250\n\nx\n7' $'2.50\n\n\n0.07\n' $'line 2: start: syntax\nline 3: start
 skipped=$'line 2: start: syntax\nline 3: start: syntax\nline 4: start: limit\nline 6: call 0: overflow\n'
 lines 1 '250\n7\r\nx\n10e32767\n-12\n1e-32767\n4' $'2.50\n\n\n\n-0.12\n\n0.04\n' "$skipped" skip shift:-2
 
-# Status 2: a word names no call or is not UTF-8; nothing is read.
-lines 2 '1\n' '' "$usage" trim
-lines 2 '1\n' '' "$usage" ''
-lines 2 '1\n' '' "$usage" --
-lines 2 '1\n' '' "$usage" skip skip
-lines 2 '1\n' '' "$usage" format:de trim-end
-lines 2 '1\n' '' "$usage" read:de read:de
-lines 2 '1\n' '' $'unknown locale\n' read:tlh
-lines 2 '1\n' '' $'unknown locale\n' format:tlh
+# Status 2: the first wrong word is named, at most 40 bytes of it and its controls as question marks; nothing is read.
+# wrong TEXT WORD..: fixdec_lines reports this of the words.
+wrong() {
+  lines 2 '1\n' '' "fixdec_lines: $1"$'\n' "${@:2}"
+}
+wrong 'no such word: trimm (--help lists all)' trimm
+wrong 'no such word:  (--help lists all)' ''
+wrong 'no such word: -- (--help lists all)' --
+wrong 'no such word: a (--help lists all)' shift:1 a b skip
+wrong 'no such word: read:de:strict (--help lists all)' read:de:strict format:tlh
+wrong 'no such word: format:de:fast (--help lists all)' read:de format:de:fast
+wrong 'no such word: round:0:up:1 (--help lists all)' round:0:up:1 format:tlh
+wrong "no such word: $(printf '%040d' 0) (--help lists all)" "$(printf '%050d' 0)"
+wrong "no such word: $(printf '%039d' 0) (--help lists all)" "$(printf '%039d' 0)€"
+wrong 'no such word: a?b?c?€ (--help lists all)' $'a\nb\xc2\x9bc\x7f€'
+wrong 'skip is not in its place (--help lists all)' skip skip
+wrong 'format:de is not in its place (--help lists all)' format:de trim-end
+wrong 'read:de is not in its place (--help lists all)' read:de read:de
+wrong 'read:de stands after a call' trim-end read:de
+wrong 'field:2 stands after a call' trim-end field:2
+wrong 'a word is not UTF-8' $'concat:\xc3\x28'
+lines 2 '1\n' '' $'unknown locale: tlh\n' read:tlh trimm
+lines 2 '1\n' '' $'unknown locale: tlh\n' format:tlh:never
 
 # A field of each line: all other bytes are copied.
 lines 0 'a\t2.345\tb\n\t-1\n' $'a\t2.34\tb\n\t-1.00\n' '' field:2 round:-2:half-even:1
@@ -243,13 +256,14 @@ lines 0 '"250",x\n' $'2.50,x\n' '' field:1 csv shift:-2
 lines 1 '1\t2\n3\n' $'1\t20\n' $'line 2: field\n' field:2 shift:1
 lines 1 '1,"2\n' '' $'line 1: quote\n' csv field:1
 lines 1 '1,x\n3,4\n' $'\n3,40\n' $'line 1: start: syntax\n' skip csv field:2 shift:1
-lines 2 '1\n' '' "$usage" field:0
-lines 2 '1\n' '' "$usage" csv
-lines 2 '1\n' '' "$usage" delimiter:,
-lines 2 '1\n' '' "$usage" field:1 delimiter:ab
-lines 2 '1\n' '' "$usage" field:1 field:2
-lines 2 '1\n' '' "$usage" shift:1 field:1
-lines 2 '250\n' '' "$usage" shift:-2 skip
+wrong 'no such word: field:0 (--help lists all)' field:0
+wrong 'csv and delimiter:C need field:N' csv
+wrong 'csv and delimiter:C need field:N' delimiter:,
+wrong 'no such word: delimiter:ab (--help lists all)' field:1 delimiter:ab
+wrong 'field:2 is not in its place (--help lists all)' field:1 field:2
+wrong 'field:1 stands after a call' shift:1 field:1
+wrong 'skip stands after a call' shift:-2 skip
+wrong 'a quote is no delimiter of csv' csv field:1 'delimiter:"'
 
 # A header is copied; the line after it is line 2.
 lines 0 'price\n250\n' $'price\n2.50\n' '' header shift:-2
@@ -257,12 +271,11 @@ lines 0 'a,"b\r\n"x,y",250\r\n' $'a,"b\r\n"x,y",2.50\r\n' '' csv header field:2 
 lines 1 'x\nx\n7' $'x\n\n7\n' $'line 2: start: syntax\n' skip header
 lines 0 '\0377' $'\xff\n' '' header
 lines 0 '' '' '' header
-lines 2 'x\n' '' "$usage" header header
-lines 2 'x\n' '' "$usage" shift:1 header
-lines 2 '1\n' '' "$usage" $'concat:\xc3\x28'
+wrong 'header is not in its place (--help lists all)' header header
+wrong 'header stands after a call' shift:1 header
 printf '1\n2\n' > "$room/in"
 { "$room/fixdec_lines" up > /dev/null 2>&1; [ "$(cat)" = $'1\n2' ]; } < "$room/in"
-judge 'the input is not read where a word names no call'
+judge $? 'the input is not read where a word names no call'
 
 # Status 3: standard output or standard input fails.
 printf '250\n' > "$room/in"
@@ -283,7 +296,7 @@ name='fixdec_lines <&-'
 "$room/fixdec_lines" > "$room/out" 2> "$room/err" <&-
 found=$?
 [ "$found" = 0 ] || [ "$found" = 3 ]
-judge "$name: status $found"
+judge $? "$name: status $found"
 
 # A failed standard error changes no status.
 name='fixdec_lines skip 2> /dev/full'
@@ -326,7 +339,7 @@ lines 1 "$quotes\",250\n" '' $'line 1: quote\n' csv field:2 shift:-2
 for ((i = 0; i < 20000; i++)); do echo "$i.125"; done > "$room/many"
 "$room/fixdec_lines" round:-2:half-even:1 < "$room/many" > "$room/out" 2> "$room/err"
 [ $? = 0 ] && [ "$(wc -l < "$room/out")" = 20000 ] && [ "$(tail -n 1 "$room/out")" = 19999.12 ]
-judge 'many lines'
+judge $? 'many lines'
 
 # Little memory: the system cannot start the program; it reports `memory`, or `line 2: memory` with the line before; or
 # it prints. Some limits are of the last two kinds.
@@ -350,21 +363,20 @@ for ((limit = 2000; limit <= 130000; limit += 4000)); do
   fi
 done 2> /dev/null
 [ "$reported" != 0 ] && [ "$printed" != 0 ]
-judge "with little memory it reported memory $early times, that of a line $reported times, and read it $printed times"
+judge $? "with little memory it reported memory $early times, that of a line $reported times, and read it $printed times"
 
 # Blocks of lines on many processors, where Debian's parallel is installed.
 if command -v parallel > /dev/null; then
   seq -f %.3f 1 0.377 40000 > "$room/in"
   cmp -s <("$room/fixdec_lines" round:-2:half-even:1 < "$room/in") \
     <(parallel --pipepart -a "$room/in" --block -1 -k "$room/fixdec_lines" round:-2:half-even:1 2> /dev/null)
-  judge 'parallel writes other bytes'
+  judge $? 'parallel writes other bytes'
 fi
 
 help fixdec_lines 'usage: fixdec_lines [OPTION].. [read:LOCALE] [CALL].. [format:LOCALE]'
 
 # ---- plural
 
-usage=$'usage: plural RULES TEXT..\n'
 one='one: i = 1 and v = 0'
 
 # Status 0.
@@ -380,9 +392,25 @@ row plural 1 $'one\nother\n' $'text 3: limit\n' "$one" 1 2 1e99999 1
 row plural 1 '' $'text 1: limit\n' "$one" 1c256
 
 # Status 2: no rules or no text, or a word is not UTF-8.
-row plural 2 '' "$usage"
-row plural 2 '' "$usage" "$one"
-row plural 2 '' "$usage" "$one" $'1\xff'
+row plural 2 '' $'plural: no TEXT\n'
+row plural 2 '' $'plural: no TEXT\n' "$one"
+row plural 2 '' $'plural: no TEXT\n' xx
+row plural 2 '' $'plural: a word is not UTF-8\n' "$one" $'1\xff'
+
+# The rules of locales: also of tags without symbols, and of tags that have symbols and no rules.
+row plural 0 $'few\n' '' ru 2
+row plural 0 $'few\n' '' ru_RU.UTF-8:cardinal 2
+row plural 0 $'two\n' '' en:ordinal 22
+row plural 0 $'one\n' '' tl 1
+row plural 0 $'other\n' '' agq 1
+row plural 2 '' $'unknown locale: xx\n' xx 1
+row plural 2 '' $'unknown locale: one\n' one:ordinal 1
+row plural 1 '' $'rules: syntax at 0\n' ru:few 2
+row plural 1 '' $'rules: syntax at 0\n' '' 2
+while IFS=$'\t' read -r word texts categories; do
+  # shellcheck disable=SC2086
+  [ "${word:0:1}" = '#' ] || row plural 0 "${categories// /$'\n'}"$'\n' '' "$word" $texts
+done < tests/plural_rows.tsv
 
 # Status 3: standard output fails.
 : > "$room/out"
@@ -419,7 +447,7 @@ for ((limit = 1000; limit <= 64000; limit += 250)); do
   fi
 done 2> /dev/null
 [ "$reported" != 0 ] && [ "$printed" != 0 ]
-judge "with little memory it reported memory $reported times and printed $printed times"
+judge $? "with little memory it reported memory $reported times and printed $printed times"
 
 help plural 'usage: plural RULES TEXT..'
 

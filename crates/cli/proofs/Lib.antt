@@ -12,3 +12,4 @@ pub mod Separators
 pub mod Quotes
 pub mod FieldLines
 pub mod OptionWords
+pub mod ShownWords

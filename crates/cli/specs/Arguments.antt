@@ -8,7 +8,7 @@ use Rattle.std.specs.declared.vec.IntoIter.{IntoIter}
 use Rattle.std.specs.declared.io.Error.{Error}
 use Rattle.std.specs.declared.io.ErrorKind.TheVariants.{OutOfMemory}
 use Rattle.cli.specs.declared.error.WordsError.{WordsError}
-use Rattle.cli.specs.declared.error.WordsError.TheVariants.{Usage, Memory, Output}
+use Rattle.cli.specs.declared.error.WordsError.TheVariants.{NotText, Memory, Output}
 use Rattle.cli.specs.declared.error.ProgramError.{ProgramError}
 use Rattle.cli.specs.declared.error.ProgramError.TheVariants.{Start}
 use Rattle.cli.specs.declared.help.Program.{Program}
@@ -39,7 +39,7 @@ IsOutOfMemory (Err error) = error_kind error ≡ OutOfMemory
 
 -- the words cannot be read: an argument is not UTF-8, or the program is out of memory
 abbrev pub AreUnreadable : Arguments → WordsError → Type 0
-AreUnreadable arguments Usage = IsNotText arguments
+AreUnreadable arguments NotText = IsNotText arguments
 AreUnreadable arguments Memory = IsOutOfMemory arguments
 AreUnreadable arguments _ = ⊥
 

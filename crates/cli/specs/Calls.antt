@@ -1,5 +1,5 @@
 -- The call that each word of a command line names, by its bytes.
-use Rattle.std.specs.Prelude.{◌≡◌, ℕ, ◌==◌, ◌&&◌, ⊤, Bool, nat_le, nat_lt, if◌then◌else◌, ℤ, pos, neg_ℤ, List, [], ◌∷◌, ◌++◌, length, drop, slice_index, codes, String, string_bytes, Option, Some, None, option_map}
+use Rattle.std.specs.Prelude.{◌≡◌, ℕ, ◌==◌, ◌&&◌, ⊤, Bool, nat_le, nat_lt, if◌then◌else◌, ℤ, pos, neg_ℤ, List, [], ◌∷◌, ◌++◌, length, take, drop, slice_index, slice_get, codes, String, string_bytes, Option, Some, None, option_map}
 use Rattle.std.specs.Str.{all_ascii_digits}
 use Rattle.std.specs.Str.Parse.{digits_value}
 use Rattle.std.specs.declared.alloc.Global.{Global}
@@ -110,3 +110,7 @@ AreCalls words = (calls : List Call) × NameAll words calls
 -- the word names no call
 abbrev pub IsUnknown : String Global → Type 0
 IsUnknown word = (call : Call) → Names (string_bytes word) call → ⊥
+
+-- this word, at this index, is the first that names no call
+abbrev pub IsFirstUnknown : List (String Global) → ℕ → String Global → Type 0
+IsFirstUnknown words at word = (slice_get words at ≡ Some word) × AreCalls (take at words) × IsUnknown word

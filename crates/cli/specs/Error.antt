@@ -2,7 +2,6 @@
 use Rattle.std.specs.Prelude.{ℕ}
 use Rattle.decimal_unsigned.specs.declared.error.ParseError.TheVariants as parse
 use Rattle.decimal_unsigned.specs.Reading.{ReadError, syntax, limit}
-use Rattle.plural_rules.specs.declared.parse.RulesError.{RulesError}
 use Rattle.plural_rules.specs.declared.parse.RulesError.TheVariants as rules
 use Rattle.fixed_decimal.specs.declared.runs.RunError.{RunError}
 use Rattle.fixed_decimal.specs.declared.runs.RunError.TheVariants as run
@@ -14,6 +13,8 @@ use Rattle.cli.specs.declared.error.ProgramError.{ProgramError}
 use Rattle.cli.specs.declared.error.ProgramError.TheVariants as program
 use Rattle.cli.specs.declared.error.WordsError.{WordsError}
 use Rattle.cli.specs.declared.error.WordsError.TheVariants as words
+use Rattle.cli.specs.declared.named_rules.NamedRulesError.{NamedRulesError}
+use Rattle.cli.specs.declared.named_rules.NamedRulesError.TheVariants.{UnknownLocale, Rules}
 use Rattle.cli.specs.declared.help.Program.{Program}
 use Rattle.cli.specs.declared.help.Program.TheVariants.{Plural}
 
@@ -42,12 +43,11 @@ status_of_operation (Overflow at) = 1
 status_of_operation Memory = 3
 status_of_operation Output = 3
 
--- the status of an error before the work: 2 of wrong words, 3 of out of memory and of failed output
+-- the status of an error before the work: 3 of out of memory and of failed output, 2 of wrong words
 abbrev pub status_of_words : WordsError → ℕ
-status_of_words words.Usage = 2
-status_of_words words.UnknownLocale = 2
 status_of_words words.Memory = 3
 status_of_words words.Output = 3
+status_of_words _ = 2
 
 -- the status of an error of a program
 abbrev pub status_of : ProgramError → ℕ
@@ -69,11 +69,12 @@ abbrev pub conversion_error : OperationError → ProgramError
 conversion_error Output = program.Output
 conversion_error error = program.Operation error
 
--- the error of rules that are rejected
-abbrev pub error_of_rules : RulesError → ProgramError
-error_of_rules (rules.Syntax at) = program.Rules at Syntax
-error_of_rules (rules.Limit at) = program.Rules at Limit
-error_of_rules rules.Memory = start_error Plural words.Memory
+-- the error of a word that names no rules
+abbrev pub error_of_rules : NamedRulesError → ProgramError
+error_of_rules (UnknownLocale tag) = start_error Plural (words.UnknownLocale tag)
+error_of_rules (Rules (rules.Syntax at)) = program.Rules at Syntax
+error_of_rules (Rules (rules.Limit at)) = program.Rules at Limit
+error_of_rules (Rules rules.Memory) = start_error Plural words.Memory
 
 -- a reason as an error of the libraries
 abbrev pub read_error_of : Reason → ReadError

@@ -6,7 +6,7 @@ use Rattle.std.specs.declared.alloc.Global.{Global}
 use Rattle.decimal_digits.specs.AppendsPrefix.{AppendsPrefix}
 use Rattle.cli.specs.Words.{NamesConversion, ConversionFails}
 use Rattle.cli.specs.declared.error.WordsError.{WordsError}
-use Rattle.cli.specs.declared.error.WordsError.TheVariants.{Usage, Memory}
+use Rattle.cli.specs.declared.error.WordsError.TheVariants.{NoText, Memory}
 use Rattle.cli.specs.declared.conversion.Conversion.{Conversion}
 use Rattle.cli.specs.declared.error.ProgramError.{ProgramError}
 use Rattle.cli.specs.declared.error.ProgramError.TheVariants.{Start, Operation, Output}
@@ -22,7 +22,7 @@ NamesRun (first ∷ others) conversion text = (text ≡ string_bytes first) × N
 
 -- they are not, for this reason
 abbrev pub RunFails : List (String Global) → WordsError → Type 0
-RunFails [] error = error ≡ Usage
+RunFails [] error = error ≡ NoText
 RunFails (first ∷ others) error = ConversionFails others error
 
 -- the words name a conversion and a text, and P holds of these

@@ -3,11 +3,11 @@ use Rattle.std.specs.Prelude.{◌≡◌, ◌⊎◌, ℕ, ⊤, Bool, true, false,
 use Rattle.std.specs.declared.alloc.Global.{Global}
 use Rattle.std.specs.declared.io.ErrorKind.{ErrorKind}
 use Rattle.cli.specs.Words.{NamesConversion, ConversionFails}
-use Rattle.cli.specs.Options.{none, AreOptions, HasField}
+use Rattle.cli.specs.Options.{none, AreOptions, HasField, field_error}
 use Rattle.cli.specs.declared.options.Options.{Options}
 use Rattle.cli.specs.declared.fields.Field.{Field}
 use Rattle.cli.specs.declared.error.WordsError.{WordsError}
-use Rattle.cli.specs.declared.error.WordsError.TheVariants.{Usage, Memory}
+use Rattle.cli.specs.declared.error.WordsError.TheVariants.{Memory}
 use Rattle.cli.specs.declared.help.Program.TheVariants.{FixdecLines}
 use Rattle.cli.specs.Error.{start_error}
 use Rattle.cli.specs.declared.error.ProgramError.{ProgramError}
@@ -34,7 +34,8 @@ NamesFilter words filter =
 abbrev pub FilterFails : List (String Global) → ProgramError → Type 0
 FilterFails words error =
     HasWords words
-    (λ options others. (((field : Option Field) → ¬ HasField options field) × (error ≡ start_error FixdecLines Usage))
+    (λ options others. (((field : Option Field) → ¬ HasField options field)
+    × (error ≡ start_error FixdecLines (field_error options)))
     ⊎ (((field : Option Field) × HasField options field)
     × ((why : WordsError) × (error ≡ start_error FixdecLines why) × ConversionFails others why)))
 

@@ -12,7 +12,9 @@ pub mod FixdecLines
 pub mod Help
 pub mod Input
 pub mod Lines
+pub mod NamedRules
 pub mod Options
 pub mod Plural
 pub mod Reader
+pub mod ShownWord
 pub mod Words

@@ -1,5 +1,5 @@
 -- The options that the first words of `fixdec_lines` name.
-use Rattle.std.specs.Prelude.{◌≡◌, ◌≢◌, ◌⊎◌, ℕ, ◌+◌, if◌then◌else◌, Bool, true, false, pos, List, [], ◌∷◌, ◌++◌, length, codes, String, string_bytes, Option, Some, None}
+use Rattle.std.specs.Prelude.{◌≡◌, ◌≢◌, ◌⊎◌, ℕ, ◌+◌, if◌then◌else◌, Bool, true, false, pos, List, [], ◌∷◌, ◌++◌, length, codes, String, string_bytes, Option, Some, None, is_some}
 use Rattle.std.specs.Borrow.{Bor}
 use Rattle.std.specs.Str.{chars}
 use Rattle.std.specs.declared.alloc.Global.{Global}
@@ -8,6 +8,8 @@ use Rattle.cli.specs.declared.fields.Field.{Field}
 use Rattle.cli.specs.Fields.{quote}
 use Rattle.cli.specs.declared.filter.OnError.TheVariants.{Stop, Skip}
 use Rattle.cli.specs.declared.options.Options.{Options}
+use Rattle.cli.specs.declared.error.WordsError.{WordsError}
+use Rattle.cli.specs.declared.error.WordsError.TheVariants.{NoField, QuoteDelimiter}
 
 -- the options of no words
 abbrev pub none : Options
@@ -38,6 +40,10 @@ Adds word old new =
     ⊎ ((word ≡ codes "header") × (old.has_header ≡ false) × (new ≡ record old { has_header = true }))
     ⊎ AddsParameter word old new
 
+-- the word names an option
+abbrev pub IsOption : List ℕ → Type 0
+IsOption word = (next : Options) × Adds word none next
+
 -- ---- Lists of words.
 
 -- after these options the words name these as well, and the others are these: the first of them names no option that is
@@ -49,6 +55,10 @@ AreOptions options (word ∷ words) last others =
     ⊎ (((next : Options) → ¬ Adds (string_bytes word) options next) × (last ≡ options) × (others ≡ word ∷ words))
 
 -- ---- The field.
+
+-- why options have no field: a word needs one; or the delimiter of CSV is a quote
+abbrev pub field_error : Options → WordsError
+field_error options = if is_some options.index then QuoteDelimiter else NoField
 
 -- the bytes between two fields: a tab, or in CSV a comma, if no word names others
 abbrev pub delimiter_of : Bool → Option (Bor (List ℕ)) → List ℕ

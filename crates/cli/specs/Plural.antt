@@ -1,17 +1,16 @@
 -- The rules and the texts that the words of `plural` name, and its result.
-use Rattle.std.specs.Prelude.{◌≡◌, ◌≢◌, ℕ, ◌<◌, ◌⊎◌, Bool, true, false, List, [], ◌∷◌, length, String, string_bytes, Option, MatchOption, Err}
+use Rattle.std.specs.Prelude.{◌≡◌, ◌≢◌, ℕ, ◌<◌, ◌⊎◌, Bool, true, false, List, [], ◌∷◌, length, String, string_bytes, Option, MatchOption}
 use Rattle.std.specs.Io.KnownBytes.{append_known}
 use Rattle.std.specs.declared.alloc.Global.{Global}
-use Rattle.plural_rules.specs.declared.parse.RulesError.{RulesError}
 use Rattle.plural_rules.specs.Rules.{RuleValue}
-use Rattle.plural_rules.specs.RulesGrammar.{Grammar}
-use Rattle.plural_rules.specs.RulesParseResult.{IsParseResult}
 use Rattle.cli.specs.declared.error.ProgramError.{ProgramError}
 use Rattle.cli.specs.declared.error.ProgramError.TheVariants.{Output}
-use Rattle.cli.specs.declared.error.WordsError.TheVariants.{Usage, Memory}
+use Rattle.cli.specs.declared.error.WordsError.TheVariants.{NoText, Memory}
 use Rattle.cli.specs.declared.help.Program.TheVariants.{Plural}
 use Rattle.cli.specs.Error.{start_error, error_of_rules}
 use Rattle.cli.specs.Categories.{PrintsAll, StopsAt}
+use Rattle.cli.specs.declared.named_rules.NamedRulesError.{NamedRulesError}
+use Rattle.cli.specs.NamedRules.{NamesRules, NamesNoRules}
 
 -- the first word is followed by others, and P holds of its bytes and of these
 abbrev pub HasTexts : List (String Global) → (List ℕ → List (String Global) → Type 0) → Type 0
@@ -19,16 +18,16 @@ HasTexts words P =
     (first : String Global) × (texts : List (String Global)) × (words ≡ first ∷ texts) × (texts ≢ [])
     × P (string_bytes first) texts
 
--- the first word is rules, and P holds of these and of the other words, of which there is one at least
+-- the first word names rules, and P holds of these and of the other words, of which there is one at least
 abbrev pub HasRules : List (String Global) → (List RuleValue → List (String Global) → Type 0) → Type 0
 HasRules words P =
-    HasTexts words (λ bytes texts. (rules : List RuleValue) × Grammar bytes rules × P rules texts)
+    HasTexts words (λ bytes texts. (rules : List RuleValue) × NamesRules bytes rules × P rules texts)
 
--- the error before a text is read: there are no rules or no texts, or the rules are rejected
+-- the error before a text is read: there are no rules or no texts, or the first word names no rules
 abbrev pub RulesFail : List (String Global) → ProgramError → Type 0
 RulesFail words error =
-    ((length words < 2) × (error ≡ start_error Plural Usage))
-    ⊎ HasTexts words (λ bytes _. (why : RulesError) × (error ≡ error_of_rules why) × IsParseResult bytes (Err why))
+    ((length words < 2) × (error ≡ start_error Plural NoText))
+    ⊎ HasTexts words (λ bytes _. (why : NamedRulesError) × (error ≡ error_of_rules why) × NamesNoRules bytes why)
 
 -- the categories of all texts are printed
 abbrev pub Prints : List (String Global) → Option (List ℕ) → Option (List ℕ) → Type 0

@@ -17,7 +17,7 @@ fn words(alloc: Global, arguments: io::Result<Args>) -> Result<Vec<String>, Word
     let arguments = match arguments {
         Ok(arguments) => arguments,
         Err(error) if error.kind() == ErrorKind::OutOfMemory => return Err(WordsError::Memory),
-        Err(_) => return Err(WordsError::Usage),
+        Err(_) => return Err(WordsError::NotText),
     };
     match arguments.skip(1).collect(alloc) {
         Ok(words) => Ok(words),

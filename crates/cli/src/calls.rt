@@ -1,15 +1,18 @@
 //! The calls that the words of a command line name.
-ghost use Rattle.std.specs.Prelude.{◌≡◌, ◌≢◌, [], ℤ, IfSome, IfNone, IfOk, IfErr, Ok, Some, None, Any, true, false};
+ghost use Rattle.std.specs.Prelude.{◌≡◌, ℤ, IfSome, IfNone, IfOk, IfErr, Some, None};
 ghost use Rattle.fixed_decimal.specs.declared.rounding.SignedRoundingMode.{SignedRoundingMode};
 ghost use Rattle.decimal_digits.specs.declared.rounding.RoundingIncrement.{RoundingIncrement};
 ghost use Rattle.fixed_decimal.specs.declared.runs.Call.{Call};
 ghost use Rattle.fixed_decimal.specs.declared.runs.Call.TheVariants.{Round};
-ghost use Rattle.cli.specs.Calls.{number, mode_word, increment_word, HasNumber, Names, IsSame, NameAll, AreCalls, IsUnknown};
+ghost use Rattle.cli.specs.Calls.{number, mode_word, increment_word, HasNumber, Names, IsSame, NameAll, AreCalls};
+ghost use Rattle.cli.specs.Words.{CallsFail, AreNoCalls};
 
+use crate::error::WordsError;
+use crate::words::error_of_word;
 use fixed_decimal::{
     Call, RoundingIncrement, Sign, SignDisplay, SignedRoundingMode, UnsignedRoundingMode,
 };
-use std::alloc::{AllocError, Global};
+use std::alloc::Global;
 
 fn number(word: &str) -> Option<i16>
     ensures { result ≡ number word.now }
@@ -112,43 +115,39 @@ fn call(word: &str) -> Option<Call<'_>>
     }
 }
 
-fn are_calls(words: &[String]) -> bool
-    ensures known { result ≡ true → AreCalls words.now }
-    ensures unknown { result ≡ false → Any IsUnknown words.now }
+/// Returns the error of the first word that names no call.
+fn first_error(words: &[String]) -> Option<WordsError>
+    ensures some { IfSome result (CallsFail words.now) }
+    ensures none { result ≡ None → AreCalls words.now }
 {
-    for word in words {
+    for (index, word) in words.iter().enumerate() {
         let Some(_) = call(word.as_str()) else {
-            return false;
+            return Some(error_of_word(index, word.as_str()));
         };
     }
-    true
+    None
 }
 
-/// Parses words as calls, in order. None: a word names no call.
+/// Parses words as calls, in order.
 ///
 /// # Errors
 ///
-/// Out of memory for the list; each word names a call.
-pub fn parse_calls<'a>(
-    alloc: Global,
-    words: &'a [String],
-) -> Result<Option<Vec<Call<'a>>>, AllocError>
-    ensures some { IfOk result (λ found. IfSome found (λ calls. NameAll words.now calls.items)) }
-    ensures none { result ≡ Ok None → Any IsUnknown words.now }
-    ensures err { IfErr result (λ _. AreCalls words.now × (words.now ≢ [])) }
+/// That of the first word that names no call, or `Memory`: out of memory for the list, and each word names a call.
+pub fn parse_calls<'a>(alloc: Global, words: &'a [String]) -> Result<Vec<Call<'a>>, WordsError>
+    ensures some { IfOk result (λ calls. NameAll words.now calls.items) }
+    ensures err { IfErr result (AreNoCalls words.now) }
 {
     let Ok(mut calls) = Vec::with_capacity(alloc, words.len()) else {
-        return if are_calls(words) {
-            Err(AllocError)
-        } else {
-            Ok(None)
-        };
+        if let Some(error) = first_error(words) {
+            return Err(error);
+        }
+        return Err(WordsError::Memory);
     };
-    for word in words {
+    for (index, word) in words.iter().enumerate() {
         let Some(call) = call(word.as_str()) else {
-            return Ok(None);
+            return Err(error_of_word(index, word.as_str()));
         };
         calls.push_reserved(call);
     }
-    Ok(Some(calls))
+    Ok(calls)
 }

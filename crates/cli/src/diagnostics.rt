@@ -9,8 +9,8 @@ use fixed_decimal::{WriteError, write_whole};
 use std::fmt::{Display, InlineText};
 use std::io::Write;
 
-/// A line of at most 80 bytes and its line feed. The longest text of an error has 69 bytes.
-type Line = ArrayString<81>;
+/// A line of at most 120 bytes and its line feed. The longest text of an error has 93 bytes.
+type Line = ArrayString<121>;
 
 /// Takes reports of errors.
 ///
@@ -27,7 +27,7 @@ pub trait Diagnostics<E> {
 fn error_line<E: Display>(error: &E) -> Line
     ensures { IsErrorLine (E.output error.now) result.bytes }
 {
-    let text = InlineText::<80>::of(error);
+    let text = InlineText::<120>::of(error);
     let mut line = Line::new();
     line.push_str(text.as_str());
     line.push_str("\n");

@@ -3,6 +3,8 @@ ghost use Rattle.std.specs.Prelude.{◌≡◌, ◌<◌, ◌≤◌};
 ghost use Rattle.cli.specs.Error.{status_of_words, status_of_operation, status_of, start_error};
 
 use crate::help::Program;
+use crate::named_rules::NamedRulesError;
+use crate::shown_word::ShownWord;
 use fixed_decimal::{ParseError, RunError, SinkFault};
 use plural_rules::RulesError;
 use std::{error, fmt};
@@ -11,10 +13,22 @@ use thiserror::Error;
 /// Why a program ends before its work.
 #[derive(Clone, Copy, Debug, PartialEq)]
 pub enum WordsError {
-    /// A word is missing, names nothing, is not in its place, or is not UTF-8.
-    Usage,
-    /// The locale of `read:` or `format:` is unknown.
-    UnknownLocale,
+    /// A word is not UTF-8.
+    NotText,
+    /// `fixdec` has no TEXT; or `plural` has none, or no rules.
+    NoText,
+    /// The word names nothing.
+    NoSuchWord(ShownWord),
+    /// The word is an option or `read:LOCALE`, and follows a call.
+    AfterCall(ShownWord),
+    /// The word is an option, `read:LOCALE` or `format:LOCALE`, and is not in its place.
+    Misplaced(ShownWord),
+    /// `csv` or `delimiter:C` has no `field:N`.
+    NoField,
+    /// A quote is the delimiter of CSV.
+    QuoteDelimiter,
+    /// The locale with this tag is unknown.
+    UnknownLocale(ShownWord),
     /// Out of memory for the words, for the calls or rules that they name, or for the block.
     Memory,
     /// A write of the help failed.
@@ -30,12 +44,24 @@ pub struct StartError {
 
 impl fmt::Display for StartError {
     fn fmt<W: fmt::Write>(&self, f: &mut fmt::Formatter<W>) -> fmt::Result {
-        f.write_str(match self.why {
-            WordsError::Usage => self.program.usage(),
-            WordsError::UnknownLocale => "unknown locale",
-            WordsError::Memory => "memory",
-            WordsError::Output => "output",
-        })
+        let name = self.program.name();
+        match self.why {
+            WordsError::UnknownLocale(tag) => write!(f, "unknown locale: {tag}"),
+            WordsError::Memory => f.write_str("memory"),
+            WordsError::Output => f.write_str("output"),
+            _ if self.program == Program::Fixdec => f.write_str(self.program.usage()),
+            WordsError::NotText => write!(f, "{name}: a word is not UTF-8"),
+            WordsError::NoText => write!(f, "{name}: no TEXT"),
+            WordsError::NoSuchWord(word) => {
+                write!(f, "{name}: no such word: {word} (--help lists all)")
+            }
+            WordsError::AfterCall(word) => write!(f, "{name}: {word} stands after a call"),
+            WordsError::Misplaced(word) => {
+                write!(f, "{name}: {word} is not in its place (--help lists all)")
+            }
+            WordsError::NoField => write!(f, "{name}: csv and delimiter:C need field:N"),
+            WordsError::QuoteDelimiter => write!(f, "{name}: a quote is no delimiter of csv"),
+        }
     }
 }
 
@@ -48,8 +74,8 @@ impl WordsError {
         ensures at_most { result ≤ 3 }
     {
         match self {
-            WordsError::Usage | WordsError::UnknownLocale => 2,
             WordsError::Memory | WordsError::Output => 3,
+            _ => 2,
         }
     }
 }
@@ -224,16 +250,21 @@ impl From<OperationError> for ProgramError {
     }
 }
 
-impl From<RulesError> for ProgramError {
+impl From<NamedRulesError> for ProgramError {
     ghost use Rattle.cli.specs.Error.{error_of_rules};
 
     ghost from_gives = { λ error result. result ≡ error_of_rules error };
 
-    fn from(error: RulesError) -> ProgramError {
+    fn from(error: NamedRulesError) -> ProgramError {
         let (at, reason) = match error {
-            RulesError::Syntax { at } => (at, Reason::Syntax),
-            RulesError::Limit { at } => (at, Reason::Limit),
-            RulesError::Memory => return ProgramError::start(Program::Plural, WordsError::Memory),
+            NamedRulesError::Rules(RulesError::Syntax { at }) => (at, Reason::Syntax),
+            NamedRulesError::Rules(RulesError::Limit { at }) => (at, Reason::Limit),
+            NamedRulesError::Rules(RulesError::Memory) => {
+                return ProgramError::start(Program::Plural, WordsError::Memory);
+            }
+            NamedRulesError::UnknownLocale(tag) => {
+                return ProgramError::start(Program::Plural, WordsError::UnknownLocale(tag));
+            }
         };
         ProgramError::Rules { at, reason }
     }

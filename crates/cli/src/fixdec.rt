@@ -54,7 +54,7 @@ fn parse_words(alloc: Global, words: &[String]) -> Result<(&[u8], Conversion<'_>
     ensures no_output { IfErr result (λ error. error ≢ ProgramError.Output) }
 {
     match words.split_first() {
-        None => Err(ProgramError::start(Program::Fixdec, WordsError::Usage)),
+        None => Err(ProgramError::start(Program::Fixdec, WordsError::NoText)),
         Some((text, words)) => match parse_conversion(alloc, words) {
             Ok(conversion) => Ok((text.as_bytes(), conversion)),
             Err(why) => Err(ProgramError::start(Program::Fixdec, why)),

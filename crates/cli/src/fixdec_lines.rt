@@ -31,7 +31,7 @@ fn parse_filter(alloc: Global, words: &[String]) -> Result<Filter<'_>, ProgramEr
 {
     let (options, words) = split_options(words);
     let Some(field) = options.field() else {
-        return Err(ProgramError::start(Program::FixdecLines, WordsError::Usage));
+        return Err(ProgramError::start(Program::FixdecLines, options.field_error()));
     };
     match parse_conversion(alloc, words) {
         Ok(conversion) => Ok(Filter {
@@ -133,10 +133,11 @@ pub fn run_arguments<R: Read, O: Write + Drop, D: Diagnostics<ProgramError>>(
         let no_memory = Err(ProgramError::start(Program::FixdecLines, WordsError::Memory));
         return (conclude(no_memory, diagnostics), None);
     };
-    match filter_words(alloc, words.as_slice(), input, buffered, diagnostics) {
-        (Ok(true), closed) => (0, Some(closed)),
-        (Ok(false), closed) => (1, Some(closed)),
-        (Err(error), closed) => (conclude(Err(error), diagnostics), Some(closed)),
+    let (filtered, closed) = filter_words(alloc, words.as_slice(), input, buffered, diagnostics);
+    match filtered {
+        Ok(true) => (0, Some(closed)),
+        Ok(false) => (1, Some(closed)),
+        Err(error) => (conclude(Err(error), diagnostics), Some(closed)),
     }
 }
 

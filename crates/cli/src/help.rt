@@ -71,6 +71,15 @@ c, e  the exponent of a compact decimal
 ";
 
 impl Program {
+    /// Returns the name of the program.
+    pub fn name(self) -> &'static str {
+        match self {
+            Program::Fixdec => "fixdec",
+            Program::FixdecLines => "fixdec_lines",
+            Program::Plural => "plural",
+        }
+    }
+
     /// Returns the usage line.
     #[tactic(auto, unfolding(crate::specs::Help::usage_of))]
     pub fn usage(self) -> &'static str

@@ -18,9 +18,11 @@ mod help;
 mod input;
 pub mod laws;
 mod line_feed;
+mod named_rules;
 mod options;
 pub mod plural;
 mod reader;
+mod shown_word;
 mod words;
 
 pub use calls::parse_calls;
@@ -31,4 +33,6 @@ pub use fields::Field;
 pub use filter::{Filter, OnError, filter_lines};
 pub use help::Program;
 pub use input::LineReader;
+pub use named_rules::{NamedRulesError, parse_rules};
 pub use reader::{DecimalReader, ParseMode};
+pub use shown_word::ShownWord;

@@ -1,10 +1,11 @@
 //! The options that the first words of `fixdec_lines` name.
-ghost use Rattle.std.specs.Prelude.{◌≡◌, ℕ, List, Option, Some, None, IfSome};
+ghost use Rattle.std.specs.Prelude.{◌≡◌, ℕ, List, Option, Some, None, IfSome, true, false};
 ghost use Rattle.cli.specs.declared.fields.Field.{Field};
 ghost use Rattle.cli.specs.declared.options.Options.{Options};
-ghost use Rattle.cli.specs.Options.{IsField, IsDelimiter, none, Adds, AddsParameter, AreOptions, HasField};
+ghost use Rattle.cli.specs.Options.{IsField, IsDelimiter, none, Adds, AddsParameter, IsOption, AreOptions, HasField, field_error};
 
 use crate::calls::number_after;
+use crate::error::WordsError;
 use crate::fields::Field;
 use crate::filter::OnError;
 
@@ -110,6 +111,17 @@ impl<'a> Options<'a> {
         }
     }
 
+    /// Returns why these options have no field.
+    pub fn field_error(self) -> WordsError
+        ensures { result ≡ field_error self.entry }
+    {
+        if self.index.is_some() {
+            WordsError::QuoteDelimiter
+        } else {
+            WordsError::NoField
+        }
+    }
+
     /// Returns the field of these options. None: a delimiter or `csv` has no field, or the delimiter of CSV is a quote.
     pub fn field(self) -> Option<Option<Field<'a>>>
         ensures some { IfSome result (HasField self.entry) }
@@ -135,6 +147,17 @@ impl<'a> Options<'a> {
             delimiter,
             is_csv: self.is_csv,
         }))
+    }
+}
+
+/// Returns whether a word names an option.
+pub fn is_option(word: &str) -> bool
+    ensures yes { result ≡ true → IsOption word.now }
+    ensures no { result ≡ false → ¬ IsOption word.now }
+{
+    match Options::none().with(word) {
+        Some(_) => true,
+        None => false,
     }
 }
 

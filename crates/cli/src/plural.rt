@@ -1,4 +1,4 @@
-//! `plural RULES TEXT..`: reads plural rules, and prints the category of each text on a line.
+//! `plural LOCALE[:TYPE] TEXT..` and `plural RULES TEXT..`: prints the plural category of each text on a line.
 ghost use Rattle.std.specs.Prelude.{◌≡◌, ◌<◌, ◌≤◌, IfOk, IfErr, OnOk, IsSomeAnd, false};
 ghost use Rattle.std.specs.Process.{exit_status};
 ghost use Rattle.cli.specs.declared.error.ProgramError.{ProgramError};
@@ -12,6 +12,7 @@ use crate::categories::print_categories;
 use crate::diagnostics::{Diagnostics, ErrorLines, conclude};
 use crate::error::{ProgramError, WordsError};
 use crate::help::Program;
+use crate::named_rules::parse_rules;
 use fixed_decimal::{BufferedOut, Closed};
 use plural_rules::PluralRules;
 use std::alloc::Global;
@@ -29,12 +30,12 @@ fn rules_and_texts(
     ensures error { IfErr result (RulesFail words.now) }
 {
     let Some((rules, texts)) = words.split_first() else {
-        return Err(ProgramError::start(Program::Plural, WordsError::Usage));
+        return Err(ProgramError::start(Program::Plural, WordsError::NoText));
     };
     if texts.is_empty() {
-        return Err(ProgramError::start(Program::Plural, WordsError::Usage));
+        return Err(ProgramError::start(Program::Plural, WordsError::NoText));
     }
-    let rules = PluralRules::try_from_str(alloc, rules.as_str())?;
+    let rules = parse_rules(alloc, rules.as_str())?;
     Ok((rules, texts))
 }
 
@@ -69,15 +70,16 @@ fn print<O: Write + Drop>(
 /// Runs the program on the arguments of the process, over any diagnostics, with a block before `out`, which is returned
 /// after its last call.
 ///
-/// The first word is rules, and each other word a text: a compact decimal where it has a `c`, and else a decimal. The
-/// words `one: i = 1 and v = 0`, `1` and `1.0` print `one` and `other`. The only word `--help` or `-h` prints the help.
+/// The first word names rules, as [`parse_rules`] has it, and each other word is a text: a compact decimal where it has
+/// a `c`, and else a decimal. The words `ru`, `1` and `2` print `one` and `few`; `one: i = 1 and v = 0`, `1` and `1.0`
+/// print `one` and `other`. The only word `--help` or `-h` prints the help.
 ///
 /// # Errors
 ///
 /// The categories of the texts before the error are printed, and the error is reported, once:
 ///
 /// - Status 1: the rules or a text are rejected, as `rules: syntax at 4` and `text 2: limit`.
-/// - Status 2: no rules or no text.
+/// - Status 2: no text, or `unknown locale: xx`.
 /// - Status 3: `memory`, or `output` where a write or the flush of `out` fails.
 pub fn run_arguments<O: Write + Drop, D: Diagnostics<ProgramError>>(
     alloc: Global,

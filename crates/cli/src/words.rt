@@ -1,26 +1,43 @@
 //! The conversion that words name: `[read:LOCALE[:lenient]] [CALL].. [format:LOCALE[:GROUPING]]`.
-ghost use Rattle.std.specs.Prelude.{◌≡◌, ◌≢◌, IfOk, IfErr, IfSome, IfNone, Some, None};
+ghost use Rattle.std.specs.Prelude.{◌≡◌, ◌≢◌, IfOk, IfErr, IfSome, IfNone, Some, None, true, false};
 ghost use Rattle.std.specs.Option.{option_copied};
 ghost use Rattle.decimal_format.specs.declared.grouping.GroupingStrategy.{GroupingStrategy};
 ghost use Rattle.cli.specs.declared.reader.ParseMode.{ParseMode};
-ghost use Rattle.cli.specs.Words.{IsReadSplit, IsFormatSplit, tag_of, option_of, mode_option};
-ghost use Rattle.cli.specs.Words.{IsStrategyOption, NamesReader, NamesFormatter, NamesConversion};
-ghost use Rattle.cli.specs.Words.{ReaderFails, FormatterFails, ConversionFails};
+ghost use Rattle.cli.specs.Words.{IsReadWord, IsFormatWord, IsReadSplit, IsFormatSplit, tag_of, option_of, parameters_of};
+ghost use Rattle.cli.specs.Words.{mode_option, IsStrategyOption, NamesReader, NamesFormatter, NamesConversion};
+ghost use Rattle.cli.specs.Words.{ReaderFails, FormatterFails, ConversionFails, StandsFirst, IsErrorOfWord};
 
 use crate::calls::parse_calls;
 use crate::conversion::Conversion;
 use crate::error::WordsError;
+use crate::options::is_option;
 use crate::reader::{DecimalReader, ParseMode};
+use crate::shown_word::ShownWord;
 use decimal_format::{DecimalFormatter, DecimalSymbols, GroupingStrategy};
 use locale_data::locale;
 use std::alloc::Global;
+
+fn is_read_word(word: &str) -> bool
+    ensures yes { result ≡ true → IsReadWord word.now }
+    ensures no { result ≡ false → ¬ IsReadWord word.now }
+{
+    word.strip_prefix("read:").is_some()
+}
+
+fn is_format_word(word: &str) -> bool
+    ensures yes { result ≡ true → IsFormatWord word.now }
+    ensures no { result ≡ false → ¬ IsFormatWord word.now }
+{
+    word.strip_prefix("format:").is_some()
+}
 
 fn split_read(words: &[String]) -> (Option<&str>, &[String])
     ensures { IsReadSplit words.now (option_copied result.0) result.1.now }
 {
     if let Some((first, rest)) = words.split_first() {
-        if let Some(parameters) = first.as_str().strip_prefix("read:") {
-            return (Some(parameters), rest);
+        let word = first.as_str();
+        if is_read_word(word) {
+            return (Some(word), rest);
         }
     }
     (None, words)
@@ -30,20 +47,31 @@ fn split_format(words: &[String]) -> (Option<&str>, &[String])
     ensures { IsFormatSplit words.now (option_copied result.0) result.1.now }
 {
     if let Some((last, rest)) = words.split_last() {
-        if let Some(parameters) = last.as_str().strip_prefix("format:") {
-            return (Some(parameters), rest);
+        let word = last.as_str();
+        if is_format_word(word) {
+            return (Some(word), rest);
         }
     }
     (None, words)
 }
 
-fn split_parameters(parameters: &str) -> (&str, Option<&str>)
+/// Splits a text at its first colon.
+pub fn split_parameters(parameters: &str) -> (&str, Option<&str>)
     ensures tag { result.0.now ≡ tag_of parameters.now }
     ensures option { option_copied result.1 ≡ option_of parameters.now }
 {
     match parameters.split_once(':') {
         Some((tag, option)) => (tag, Some(option)),
         None => (parameters, None),
+    }
+}
+
+fn parameters(word: &str) -> &str
+    ensures { result.now ≡ parameters_of word.now }
+{
+    match split_parameters(word).1 {
+        Some(parameters) => parameters,
+        None => "",
     }
 }
 
@@ -72,39 +100,62 @@ fn parse_strategy(option: Option<&str>) -> Option<GroupingStrategy>
     }
 }
 
-fn parse_reader(parameters: Option<&str>) -> Result<Option<DecimalReader<'static>>, WordsError>
-    ensures some { IfOk result (NamesReader (option_copied parameters.entry)) }
-    ensures err { IfErr result (ReaderFails (option_copied parameters.entry)) }
+fn parse_reader(word: Option<&str>) -> Result<Option<DecimalReader<'static>>, WordsError>
+    ensures some { IfOk result (NamesReader (option_copied word.entry)) }
+    ensures err { IfErr result (ReaderFails (option_copied word.entry)) }
 {
-    let Some(parameters) = parameters else {
+    let Some(word) = word else {
         return Ok(None);
     };
-    let (tag, option) = split_parameters(parameters);
+    let (tag, option) = split_parameters(parameters(word));
     let Some(mode) = parse_mode(option) else {
-        return Err(WordsError::Usage);
+        return Err(WordsError::NoSuchWord(ShownWord::of(word)));
     };
     match locale(tag) {
         Some(symbols) => Ok(Some(DecimalReader { symbols, mode })),
-        None => Err(WordsError::UnknownLocale),
+        None => Err(WordsError::UnknownLocale(ShownWord::of(tag))),
     }
 }
 
-fn parse_formatter(
-    parameters: Option<&str>,
-) -> Result<Option<DecimalFormatter<'static>>, WordsError>
-    ensures some { IfOk result (NamesFormatter (option_copied parameters.entry)) }
-    ensures err { IfErr result (FormatterFails (option_copied parameters.entry)) }
+fn parse_formatter(word: Option<&str>) -> Result<Option<DecimalFormatter<'static>>, WordsError>
+    ensures some { IfOk result (NamesFormatter (option_copied word.entry)) }
+    ensures err { IfErr result (FormatterFails (option_copied word.entry)) }
 {
-    let Some(parameters) = parameters else {
+    let Some(word) = word else {
         return Ok(None);
     };
-    let (tag, option) = split_parameters(parameters);
+    let (tag, option) = split_parameters(parameters(word));
     let Some(strategy) = parse_strategy(option) else {
-        return Err(WordsError::Usage);
+        return Err(WordsError::NoSuchWord(ShownWord::of(word)));
     };
     match locale(tag) {
         Some(symbols) => Ok(Some(DecimalFormatter::new(symbols, strategy))),
-        None => Err(WordsError::UnknownLocale),
+        None => Err(WordsError::UnknownLocale(ShownWord::of(tag))),
+    }
+}
+
+fn stands_first(word: &str) -> bool
+    ensures yes { result ≡ true → StandsFirst word.now }
+    ensures no { result ≡ false → ¬ StandsFirst word.now }
+{
+    is_option(word) || is_read_word(word)
+}
+
+/// Returns the error of a word that names no call, after this number of calls.
+pub fn error_of_word(calls: usize, word: &str) -> WordsError
+    ensures { IsErrorOfWord calls word.now result }
+{
+    let shown = ShownWord::of(word);
+    if is_format_word(word) {
+        return WordsError::Misplaced(shown);
+    }
+    if !stands_first(word) {
+        return WordsError::NoSuchWord(shown);
+    }
+    if calls == 0 {
+        WordsError::Misplaced(shown)
+    } else {
+        WordsError::AfterCall(shown)
     }
 }
 
@@ -114,7 +165,8 @@ fn parse_formatter(
 ///
 /// Of several wrong words the first one decides:
 ///
-/// - `Usage`: a word names no call, or an option is unknown.
+/// - `NoSuchWord`: a word names no call, or its option is unknown.
+/// - `AfterCall`, `Misplaced`: an option of a filter or `read:` is not before the calls, or `format:` not after them.
 /// - `UnknownLocale`: the locale of `read:` or `format:` is unknown.
 /// - `Memory`: out of memory for the list of the calls; no word is wrong.
 pub fn parse_conversion(alloc: Global, words: &[String]) -> Result<Conversion<'_>, WordsError>
@@ -124,15 +176,16 @@ pub fn parse_conversion(alloc: Global, words: &[String]) -> Result<Conversion<'_
     let (read, words) = split_read(words);
     let (format, words) = split_format(words);
     let reader = parse_reader(read)?;
-    let calls = match parse_calls(alloc, words) {
-        Ok(Some(calls)) => Ok(calls),
-        Ok(None) => return Err(WordsError::Usage),
-        Err(_) => Err(WordsError::Memory),
-    };
-    let formatter = parse_formatter(format)?;
-    Ok(Conversion {
-        reader,
-        calls: calls?,
-        formatter,
-    })
+    match parse_calls(alloc, words) {
+        Ok(calls) => Ok(Conversion {
+            reader,
+            calls,
+            formatter: parse_formatter(format)?,
+        }),
+        Err(WordsError::Memory) => {
+            parse_formatter(format)?;
+            Err(WordsError::Memory)
+        }
+        Err(error) => Err(error),
+    }
 }

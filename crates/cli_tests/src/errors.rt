@@ -3,7 +3,7 @@ ghost use Rattle.std.specs.Prelude.{◌≡◌, true, [], ◌∷◌, ◌++◌};
 
 use cli::{
     Conversion, Diagnostics, ErrorLines, Filter, LineReader, OnError, OperationError, Program,
-    ProgramError, Reason, StartError, WordsError, filter_lines,
+    ProgramError, Reason, ShownWord, WordsError, filter_lines,
 };
 use fixed_decimal::{Call, TextBuf};
 use std::alloc::Global;
@@ -40,13 +40,6 @@ fn is_reported(error: &ProgramError, line: &str) -> bool {
 /// The longest lines; shorter ones are those of the programs.
 const FILTER: &[(ProgramError, &str)] = &[
     (
-        ProgramError::Start(StartError {
-            program: Program::FixdecLines,
-            why: WordsError::Usage,
-        }),
-        "usage: fixdec_lines [OPTION].. [read:LOCALE] [CALL].. [format:LOCALE]\n",
-    ),
-    (
         ProgramError::Line {
             line: 18_446_744_073_709_551_615,
             error: OperationError::Overflow {
@@ -63,6 +56,10 @@ fn reports_a_line_in_one_write(rt: HostRuntime) -> Result<(), Fail> {
     for (error, line) in FILTER {
         assert!(rt; is_reported(error, line), "{line}");
     }
+    let word = ShownWord::of("0123456789\u{1b}123456789\u{9b}123456789\n123456789+");
+    let misplaced = ProgramError::start(Program::FixdecLines, WordsError::Misplaced(word));
+    let line = "fixdec_lines: 0123456789?123456789?123456789?123456789 is not in its place (--help lists all)\n";
+    assert!(rt; is_reported(&misplaced, line));
     let text = ProgramError::Text {
         number: 18_446_744_073_709_551_615,
         reason: Reason::Limit,

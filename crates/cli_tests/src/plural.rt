@@ -22,7 +22,19 @@ const LINES: &[(&str, &str)] = &[
         "one: i = 0,1; many: e = 0 and i != 0 and i % 1000000 = 0 and v = 0 or e != 0..5|1.5|1000000|1c6|1.1c6|1c3",
         "one\nmany\nmany\nmany\nother\n0 ",
     ),
-    ("one: i = 1 and v = 0", "2 usage: plural RULES TEXT..\n"),
+    ("ru|1|2|5|1.5", "one\nfew\nmany\nother\n0 "),
+    ("ru_RU.UTF-8:cardinal|2", "few\n0 "),
+    ("en:ordinal|1|22|3|4|11", "one\ntwo\nfew\nother\nother\n0 "),
+    ("one: i = 1 and v = 0", "2 plural: no TEXT\n"),
+    ("", "2 plural: no TEXT\n"),
+    ("xx|1", "2 unknown locale: xx\n"),
+    ("one:ordinal|1", "2 unknown locale: one\n"),
+    ("ru:few|2", "1 rules: syntax at 0\n"),
+    ("ru:|2", "1 rules: syntax at 0\n"),
+    ("ru-\u{e9}|2", "1 rules: syntax at 0\n"),
+    ("-ru|2", "1 rules: syntax at 0\n"),
+    ("|2", "1 rules: syntax at 0\n"),
+    ("other:|2", "other\n0 "),
     ("one i = 1|1", "1 rules: syntax at 4\n"),
     ("one: n = 18446744073709551616|1", "1 rules: limit at 9\n"),
     ("one: i = 1|1|x|1", "one\n1 text 2: syntax\n"),
@@ -82,7 +94,7 @@ fn reports_why_there_are_no_words(rt: HostRuntime) -> Result<(), Fail> {
     assert_prints(
         &rt,
         printed(rt.alloc(), not_text)?,
-        "2 usage: plural RULES TEXT..\n",
+        "2 plural: a word is not UTF-8\n",
     );
     Ok(())
 }

@@ -2,6 +2,7 @@
 
 use crate::cases::{Case, Dice};
 use crate::counts::{shortened, Counts};
+use crate::host;
 use crate::library::{compare, Library, RawCalls, Shown};
 use crate::memory::refusing;
 use crate::original::{self, asked, unclaimed, unclaimed_call, PLUS, ROUNDING, SHIFT};
@@ -68,11 +69,12 @@ impl Comparison {
         around.iter().map(|place| (*place).clamp(LOWEST, HIGHEST) as i16).collect()
     }
 
-    /// Compares a list of calls: as a run, one by one, and by the original.
+    /// Compares a list of calls: as a run, one by one, by the Rust crate, and by the original.
     pub fn calls(&mut self, family: &'static str, case: &Case) {
         let wanted = made(&case.start, &case.calls, Rules::Library);
         self.run(family, case, &wanted);
         self.single(case, &wanted);
+        self.host(case, &wanted);
         self.original(case);
     }
 
@@ -111,6 +113,16 @@ impl Comparison {
                 self.counts.check("single calls", (answers, found, text), wanted, || told(case));
             }
         }
+    }
+
+    fn host(&mut self, case: &Case, wanted: &Result<(Vec<Answer>, Value), Answer>) {
+        let magnitudes = wanted.as_ref().map_or(Vec::new(), |(_, value)| self.magnitudes(value));
+        let wanted = wanted.as_ref().map_err(|fault| *fault).map(|(answers, value)| {
+            let text = String::from_utf8(value.text()).expect("digits");
+            (answers.clone(), shown(value, &magnitudes), text)
+        });
+        let found = host::single(&case.start, &case.calls, &magnitudes);
+        self.counts.check("the Rust crate", found, wanted, || told(case));
     }
 
     /// Returns the calls before the first that is not claimed, and its claim. Notes where the two rules differ.

@@ -7,6 +7,7 @@
 mod cases;
 mod compare;
 mod counts;
+mod host;
 mod library;
 mod memory;
 mod original;

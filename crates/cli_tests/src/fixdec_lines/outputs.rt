@@ -74,7 +74,7 @@ const ROWS: &[Row] = &[
         b"7\n",
         (b"", 0),
         (
-            b"usage: fixdec_lines [OPTION].. [read:LOCALE] [CALL].. [format:LOCALE]\n",
+            b"fixdec_lines: no such word: up (--help lists all)\n",
             0,
         ),
         2,

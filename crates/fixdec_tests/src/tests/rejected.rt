@@ -52,10 +52,10 @@ const OVERFLOWS: &[(&str, &str)] = &[
 
 /// Lines of several wrong words: the first of them decides, before the text and the calls.
 const LOCALES: &[(&str, &str)] = &[
-    ("5 read:tlh", "2 unknown locale\n"),
-    ("x format:tlh", "2 unknown locale\n"),
-    ("5 read:tlh foo", "2 unknown locale\n"),
-    ("5 read:tlh format:de:fast", "2 unknown locale\n"),
+    ("5 read:tlh", "2 unknown locale: tlh\n"),
+    ("x format:tlh", "2 unknown locale: tlh\n"),
+    ("5 read:tlh foo", "2 unknown locale: tlh\n"),
+    ("5 read:tlh format:de:fast", "2 unknown locale: tlh\n"),
     ("5 foo format:tlh", USAGE),
     ("5 read:de:strict format:tlh", USAGE),
     ("5 shift:40000 format:tlh", USAGE),

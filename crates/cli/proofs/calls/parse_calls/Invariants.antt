@@ -3,9 +3,9 @@ use Rattle.cli.specs.Calls.{NameAll}
 use Rattle.cli.proofs.calls.parse_calls.Given as goal
 
 -- the words so far name the calls, and there is room for those of all words
-abbrev pub invariant-loop-word : goal.invariant-loop-word
-invariant-loop-word l = record {
-  names : NameAll (take l.word-index l.words) l.calls.items;
-  count : vec_len l.calls ≡ l.word-index;
+abbrev pub invariant-loop-index : goal.invariant-loop-index
+invariant-loop-index l = record {
+  names : NameAll (take l.index l.words) l.calls.items;
+  count : vec_len l.calls ≡ l.index;
   room : length l.words ≤ vec_capacity l.calls;
 }

@@ -1,12 +1,12 @@
 use Rattle.std.proofs.Common.{◌≡◌, List, String, [], ◌∷◌, length, refl, rules, arith}
 use Rattle.std.specs.declared.alloc.Global.{Global}
-use Rattle.cli.specs.declared.error.WordsError.TheVariants.{Usage}
+use Rattle.cli.specs.declared.error.WordsError.TheVariants.{NoText}
 use Rattle.cli.specs.declared.help.Program.TheVariants.{Fixdec}
 use Rattle.cli.specs.Error.{start_error}
 use Rattle.cli.specs.Fixdec.{HasError}
 use Rattle.cli.proofs.fixdec.parse_words.Goals as goal
 
-no_text : (words : List (String Global)) → length words ≡ 0 → HasError words (start_error Fixdec Usage)
+no_text : (words : List (String Global)) → length words ≡ 0 → HasError words (start_error Fixdec NoText)
 no_text [] none = (refl, refl)
 no_text (w ∷ ws) none = absurd (omega (arith, none))
 

@@ -1,5 +1,7 @@
-use Rattle.std.proofs.Common.{◌≡◌, inr, refl, true, false, rules}
-use Rattle.std.specs.Io.Buffered.{writer_contents}
+use Rattle.std.proofs.Common.{◌≡◌, ◌≢◌, ◌∙◌, ℕ, List, inr, refl, true, false, rules}
+use Rattle.std.specs.Io.Buffered.{writer_contents, writer_inner, writer_buffer}
+use Rattle.std.specs.Io.KnownBytes.{append_known}
+use Rattle.cli.specs.Fixdec.{PrintsPrefix}
 use Rattle.cli.specs.declared.error.ProgramError.TheVariants.{Output}
 use Rattle.cli.specs.Error.{status_of}
 use Rattle.cli.proofs.Buffers.{new_writer}
@@ -41,3 +43,28 @@ returns-clause-printed g c = λ _.
     let written : c.close-closed.result.1 ≡ false = search rules in
     let kept = prints_kept words _ _ _ printed (c.close-closed.ensures.written written) in
     (written, prints_for c.args.arguments words _ c.in-Ok.ensures.words kept _ _ _)
+
+pub returns-then-status-ne0-clause-reported : goal.returns-then-status-ne0-clause-reported
+returns-then-status-ne0-clause-reported g c = λ some.
+    let words = c.in-Ok.started.0.items in
+    let buffer = c.in-Ok-with_capacity in
+    let contents = g.O.Write.contents in
+    let inner : writer_inner buffer.buffer ≡ c.args.out = search rules in
+    let empty : writer_contents contents buffer.buffer ≡ contents c.args.out =
+    new_writer contents buffer.buffer c.args.out inner buffer.ensures.empty in
+    let out = c.program-status.new.out in
+    let (error, status, has, reported, same, output) =
+    rw c.as_slice.ensures.value at (c.program-status.ensures.reported some) in
+    let closed : error ≢ Output → (writer_inner out.0, out.1) ≡ (c.args.out, false) = λ other.
+    rw (same other ∙ c.new-buffered.ensures, inner) refl in
+    let prefix : error ≡ Output → (out.1 ≡ true)
+    × ((unwritten : List ℕ)
+    × PrintsPrefix words (contents c.args.out) (append_known (contents (writer_inner out.0)) unwritten)) = λ is.
+    let (failed, begun) = output is in
+    (failed, (writer_buffer out.0, rw (c.new-buffered.ensures, empty) at begun)) in (
+      error,
+      status,
+      inr (have_words c.args.arguments words _ c.in-Ok.ensures.words
+          (has, rw c.abandon.ensures closed, rw c.abandon.ensures prefix)),
+      reported,
+    )

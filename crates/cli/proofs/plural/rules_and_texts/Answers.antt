@@ -1,7 +1,6 @@
-use Rattle.std.proofs.Common.{◌≡◌, ◌≢◌, ◌<◌, [], ◌∷◌, length, string_bytes, Err, inr, refl, ap, subst, arith, rules}
-use Rattle.plural_rules.specs.RulesGrammar.{Grammar}
-use Rattle.plural_rules.specs.RulesParseResult.{IsParseResult}
+use Rattle.std.proofs.Common.{◌≡◌, ◌≢◌, ◌<◌, [], ◌∷◌, length, string_bytes, inr, refl, ap, subst, arith, rules}
 use Rattle.cli.specs.Error.{error_of_rules}
+use Rattle.cli.specs.NamedRules.{NamesRules, NamesNoRules}
 use Rattle.cli.specs.Plural.{RulesFail}
 use Rattle.cli.proofs.Programs.{err_with}
 use Rattle.cli.proofs.plural.rules_and_texts.Goals as goal
@@ -14,8 +13,8 @@ returns-in_err-rules-clause-error c =
     let is : c.args.words.now ≡ first ∷ texts = search rules in
     let some : 0 < length texts = search rules in
     let others : texts ≢ [] = λ none. absurd (omega (arith, some, ap length none)) in
-    let answers : IsParseResult (string_bytes first) (Err error) =
-    subst (λ text. IsParseResult text (Err error)) c.as_str.ensures.value c.in_err-rules.ensures in
+    let answers : NamesNoRules (string_bytes first) error =
+    subst (λ text. NamesNoRules text error) c.as_str.ensures.value c.in_err-rules.ensures.err in
     err_with (RulesFail c.args.words.now) c.from_residual.result (error_of_rules error) c.from_residual.ensures.1
     (inr (first, texts, is, others, (error, refl, answers)))
 
@@ -27,5 +26,5 @@ returns-clause-found c =
     let is : c.args.words.now ≡ first ∷ texts = search rules in
     let some : 0 < length texts = search rules in
     let others : texts ≢ [] = λ none. absurd (omega (arith, some, ap length none)) in
-    let grammar : Grammar (string_bytes first) meaning = rw c.as_str.ensures.value at c.in_ok-rules.ensures in
-    (first, texts, is, others, (meaning, grammar, (refl, refl)))
+    let names : NamesRules (string_bytes first) meaning = rw c.as_str.ensures.value at c.in_ok-rules.ensures.ok in
+    (first, texts, is, others, (meaning, names, (refl, refl)))

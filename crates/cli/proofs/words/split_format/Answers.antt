@@ -1,9 +1,8 @@
-use Rattle.std.proofs.Common.{◌≡◌, [], ◌∷◌, ◌++◌, codes, string_bytes, rules}
+use Rattle.std.proofs.Common.{◌≡◌, [], ◌∷◌, ◌++◌, rules}
 use Rattle.cli.proofs.words.split_format.Goals as goal
 
-pub returns-in-Some-strip_prefix : goal.returns-in-Some-strip_prefix
-returns-in-Some-strip_prefix c =
+pub returns-then-is_format_word : goal.returns-then-is_format_word
+returns-then-is_format_word c =
     let last = c.in-Some.last.now in
     let split : c.args.words.now ≡ c.in-Some.rest.now ++ (last ∷ []) = search rules in
-    let is : string_bytes last ≡ codes "format:" ++ c.in-Some-strip_prefix.parameters.now = search rules in
-    (last, split, is)
+    (last, split, c.as_str-word.ensures.value, c.is_format_word.ensures.yes c.if-is_format_word.true)

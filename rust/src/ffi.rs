@@ -1,0 +1,116 @@
+//! The functions of `c/fixed_decimal.h` that the crate calls, behind safe ones. This is the only module with `unsafe`.
+#![allow(unsafe_code)]
+use crate::error::Failure;
+
+const OK: u32 = 0;
+const BUFFER_TOO_SMALL: u32 = 8;
+
+/// How many bytes more than its operands most results have at most.
+const ROOM: usize = 24;
+
+#[repr(C)]
+struct FdResult {
+    status: u32,
+    at: usize,
+    count: usize,
+}
+
+#[repr(C)]
+struct FdNumber {
+    status: u32,
+    at: usize,
+    value: i64,
+}
+
+#[repr(C)]
+#[derive(Clone, Copy, Default)]
+pub(crate) struct FdCall {
+    pub(crate) kind: u8,
+    pub(crate) option: u8,
+    pub(crate) increment: u8,
+    pub(crate) position: i16,
+    pub(crate) text_start: usize,
+    pub(crate) text_count: usize,
+}
+
+#[repr(C)]
+#[derive(Clone, Copy, Default)]
+pub(crate) struct FdForms {
+    pub(crate) read_start: usize,
+    pub(crate) read_count: usize,
+    pub(crate) format_start: usize,
+    pub(crate) format_count: usize,
+    pub(crate) reading: u8,
+    pub(crate) grouping: u8,
+}
+
+extern "C" {
+    #[rustfmt::skip]
+    fn fd_run(
+        start: *const u8, start_count: usize, calls: *const FdCall, call_count: usize,
+        texts: *const u8, texts_count: usize, buffer: *mut u8, capacity: usize,
+    ) -> FdResult;
+    #[rustfmt::skip]
+    fn fd_convert(
+        text: *const u8, count: usize, forms: *const FdForms, calls: *const FdCall, call_count: usize,
+        texts: *const u8, texts_count: usize, buffer: *mut u8, capacity: usize,
+    ) -> FdResult;
+    fn fd_compare(left: *const u8, left_count: usize, right: *const u8, right_count: usize) -> FdNumber;
+    fn fd_category(rules: *const u8, rules_count: usize, text: *const u8, count: usize) -> FdNumber;
+}
+
+/// Makes calls on the decimal that `start` writes; operands are parts of `texts`.
+pub(crate) fn run(start: &[u8], calls: &[FdCall], texts: &[u8]) -> Result<String, Failure> {
+    text(start.len() + texts.len() + ROOM, |buffer, capacity| {
+        // SAFETY: each pointer is that of a slice of the length beside it, and the buffer has the capacity.
+        unsafe {
+            let (calls, call_count) = (calls.as_ptr(), calls.len());
+            fd_run(start.as_ptr(), start.len(), calls, call_count, texts.as_ptr(), texts.len(), buffer, capacity)
+        }
+    })
+}
+
+/// Reads a text in one form, and writes it in another; the tags are parts of `texts`.
+pub(crate) fn convert(start: &[u8], forms: &FdForms, texts: &[u8]) -> Result<String, Failure> {
+    text(4 * start.len() + ROOM, |buffer, capacity| {
+        let none: &[FdCall] = &[];
+        // SAFETY: as in `run`; `forms` is borrowed.
+        unsafe {
+            let (texts, texts_count) = (texts.as_ptr(), texts.len());
+            fd_convert(start.as_ptr(), start.len(), forms, none.as_ptr(), 0, texts, texts_count, buffer, capacity)
+        }
+    })
+}
+
+pub(crate) fn compare(left: &str, right: &str) -> Result<i64, Failure> {
+    // SAFETY: each pointer is that of a slice of the length beside it.
+    number(unsafe { fd_compare(left.as_ptr(), left.len(), right.as_ptr(), right.len()) })
+}
+
+pub(crate) fn category(rules: &str, text: &str) -> Result<i64, Failure> {
+    // SAFETY: as in `compare`.
+    number(unsafe { fd_category(rules.as_ptr(), rules.len(), text.as_ptr(), text.len()) })
+}
+
+fn number(answer: FdNumber) -> Result<i64, Failure> {
+    match answer.status {
+        OK => Ok(answer.value),
+        status => Err(Failure::new(status, answer.at)),
+    }
+}
+
+/// The text that a function writes into a buffer, which is made again where it is too small.
+fn text(room: usize, write: impl Fn(*mut u8, usize) -> FdResult) -> Result<String, Failure> {
+    let mut buffer = Vec::with_capacity(room);
+    let mut answer = write(buffer.as_mut_ptr(), buffer.capacity());
+    if answer.status == BUFFER_TOO_SMALL {
+        buffer.reserve(answer.count);
+        answer = write(buffer.as_mut_ptr(), buffer.capacity());
+    }
+    if answer.status != OK {
+        return Err(Failure::new(answer.status, answer.at));
+    }
+    // SAFETY: the function has written the first `count` bytes, and `count` is at most the capacity.
+    unsafe { buffer.set_len(answer.count) };
+    Ok(String::from_utf8(buffer).expect("a text of the library is UTF-8"))
+}

@@ -1,0 +1,18 @@
+//! Exact decimals for display: ICU4X's `fixed_decimal`, formally verified, for Rust.
+//!
+//! A [`Decimal`] is a number of up to 65,536 digits as it is shown: `2.50` is not `2.5`. Each method is a call of the C
+//! library, whose functions are proved; methods have the names of the original. What passes the limits, magnitudes
+//! -32768 to 32767, is an error, and the value is unchanged. Out of memory ends the program, as with a `Vec`.
+//!
+//! The crate links the library, `.a` or `.so`, that the environment's `FIXED_DECIMAL_LIB` names, else the static one that
+//! `c/build.sh` makes, which needs the Rattle kit.
+#![deny(unsafe_code, unsafe_op_in_unsafe_fn, missing_debug_implementations)]
+
+mod decimal;
+mod error;
+mod ffi;
+mod options;
+
+pub use decimal::Decimal;
+pub use error::{IntegerError, LimitError, OverlapError, ParseError, ReadError, RulesError, UnknownLocale};
+pub use options::{PluralCategory, RoundingIncrement, Sign, SignDisplay, SignedRoundingMode, UnsignedRoundingMode};

@@ -1,0 +1,233 @@
+//! Worked rows of the original's documentation and tests, each error, the limits, and threads.
+use fixed_decimal_proved::SignedRoundingMode::{Ceil, Floor, HalfCeil, HalfFloor};
+use fixed_decimal_proved::UnsignedRoundingMode::{Expand, HalfEven, HalfExpand, HalfTrunc, Trunc};
+use fixed_decimal_proved::{
+    Decimal, IntegerError, LimitError, OverlapError, ParseError, PluralCategory, ReadError, RoundingIncrement, RulesError,
+    Sign, SignDisplay, SignedRoundingMode, UnknownLocale,
+};
+use std::cmp::Ordering;
+use std::error::Error;
+
+fn decimal(text: &str) -> Decimal {
+    text.parse().unwrap_or_else(|error| panic!("{text}: {error}"))
+}
+
+#[test]
+fn nine_modes() {
+    let modes: [SignedRoundingMode; 9] = [
+        Ceil, Expand.into(), Floor, Trunc.into(), HalfCeil, HalfExpand.into(), HalfFloor, HalfTrunc.into(), HalfEven.into(),
+    ];
+    for (text, results) in [
+        ("1.8", "2 2 1 1 2 2 2 2 2"),
+        ("1.5", "2 2 1 1 2 2 1 1 2"),
+        ("0.5", "1 1 0 0 1 1 0 0 0"),
+        ("0.2", "1 1 0 0 0 0 0 0 0"),
+        ("-0.5", "-0 -1 -1 -0 -0 -1 -1 -0 -0"),
+        ("-1.2", "-1 -2 -2 -1 -1 -1 -1 -1 -1"),
+        ("-1.5", "-1 -2 -2 -1 -1 -2 -2 -1 -2"),
+    ] {
+        for (mode, result) in modes.into_iter().zip(results.split(' ')) {
+            assert_eq!(decimal(text).rounded_with_mode(0, mode), Ok(decimal(result)), "{text} {mode:?}");
+        }
+    }
+}
+
+#[test]
+fn roundings() {
+    use RoundingIncrement::{MultiplesOf1, MultiplesOf2, MultiplesOf25, MultiplesOf5};
+    for (text, position, mode, increment, result) in [
+        ("-7.266", -2, Expand, MultiplesOf1, "-7.27"),
+        ("-7.266", -2, Expand, MultiplesOf2, "-7.28"),
+        ("-7.266", -2, Expand, MultiplesOf5, "-7.30"),
+        ("-7.266", -2, Expand, MultiplesOf25, "-7.50"),
+        ("5.455", -2, HalfExpand, MultiplesOf5, "5.45"),
+        ("9.75", -1, HalfEven, MultiplesOf1, "9.8"),
+        ("1.75", -1, HalfEven, MultiplesOf5, "2.0"),
+        ("0.60", -2, Trunc, MultiplesOf25, "0.50"),
+        ("0.7000000099", -3, Expand, MultiplesOf2, "0.702"),
+        ("99.999", -2, Expand, MultiplesOf1, "100.00"),
+        ("99.999", -5, Expand, MultiplesOf1, "99.99900"),
+        ("12.34", 1, Trunc, MultiplesOf1, "10"),
+    ] {
+        let rounded = decimal(text).rounded_with_mode_and_increment(position, mode.into(), increment);
+        assert_eq!(rounded, Ok(decimal(result)), "{text} {position} {mode:?} {increment:?}");
+    }
+    let value = decimal("-2.45");
+    assert_eq!(value.clone().rounded(-1), Ok(decimal("-2.4")));
+    assert_eq!(value.clone().ceiled(0), Ok(decimal("-2")));
+    assert_eq!(value.clone().floored(0), Ok(decimal("-3")));
+    assert_eq!(value.clone().expanded(-1), Ok(decimal("-2.5")));
+    assert_eq!(value.trunced(-1), decimal("-2.4"));
+}
+
+#[test]
+fn shown_range() {
+    assert_eq!(decimal("51423").multiplied_pow10(-8), Ok(decimal("0.00051423")));
+    assert_eq!(decimal("0").multiplied_pow10(3), Ok(decimal("0000")));
+    assert_eq!(decimal("0012.3400").trimmed_start(), decimal("12.3400"));
+    assert_eq!(decimal("0012.3400").trimmed_end(), decimal("0012.34"));
+    assert_eq!(decimal("0012.3400").trimmed_end_if_integer(), decimal("0012.3400"));
+    assert_eq!(decimal("123400.00").trimmed_end_if_integer(), decimal("123400"));
+    assert_eq!(decimal("0000.42").padded_start(2), decimal("00.42"));
+    assert_eq!(decimal("123.456").padded_end(-6), decimal("123.456000"));
+    assert_eq!(decimal("123.000").padded_end(0), decimal("123"));
+    assert_eq!(decimal("4235.970").with_max_position(2), decimal("35.970"));
+    assert_eq!(decimal("4235.970").with_max_position(-4), decimal("0.0000"));
+}
+
+#[test]
+fn concatenation() {
+    for (left, right, result) in [
+        ("123", "0.456", "123.456"),
+        ("123000", "456", "123456"),
+        ("0", "222", "222"),
+        ("000", "0", "000"),
+        ("-12", "0.5", "-12.5"),
+    ] {
+        assert_eq!(decimal(left).concatenated_end(&decimal(right)), Ok(decimal(result)), "{left} {right}");
+    }
+    for (left, right) in [("0.456", "123"), ("5", "5"), ("1.1", "0.2")] {
+        let mut value = decimal(left);
+        assert_eq!(value.concatenate_end(&decimal(right)), Err(OverlapError));
+        assert_eq!(value, decimal(left));
+    }
+}
+
+#[test]
+fn signs() {
+    use SignDisplay::{Always, Auto, ExceptZero, Negative, Never};
+    for (text, results) in [("-0", "-0 -0 0 0 0"), ("+0", "0 +0 0 0 0"), ("-5", "-5 -5 5 -5 -5"), ("5", "5 +5 5 +5 5")] {
+        for (display, result) in [Auto, Always, Never, ExceptZero, Negative].into_iter().zip(results.split(' ')) {
+            assert_eq!(decimal(text).with_sign_display(display), decimal(result), "{text} {display:?}");
+        }
+    }
+    for (sign, text) in [(Sign::None, "5"), (Sign::Negative, "-5"), (Sign::Positive, "+5")] {
+        assert_eq!(decimal("5").with_sign(sign), decimal(text));
+        assert_eq!(decimal(text).sign(), sign);
+    }
+}
+
+#[test]
+fn digits() {
+    for (text, highest, first, last, lowest) in [
+        ("00123400", 7, 5, 2, 0),
+        ("0012.3400", 3, 1, -2, -4),
+        ("000", 2, 0, 0, 0),
+        (".000000001", 0, -9, -9, -9),
+        ("5.4e-2", 0, -2, -3, -3),
+        ("0.009E10", 7, 7, 7, 0),
+        ("-01.2e0", 1, 0, -1, -1),
+    ] {
+        let value = decimal(text);
+        assert_eq!(value.magnitude_range(), lowest..=highest, "{text}");
+        assert_eq!((value.nonzero_magnitude_start(), value.nonzero_magnitude_end()), (first, last), "{text}");
+        assert_eq!(value.is_zero(), text == "000");
+    }
+    let value = decimal("-12.50");
+    let digits: Vec<u8> = (-3..=2).rev().map(|magnitude| value.digit_at(magnitude)).collect();
+    assert_eq!(digits, [0, 1, 2, 5, 0, 0]);
+}
+
+#[test]
+fn texts() {
+    for (text, own) in [("1e+5", "100000"), (".5", "0.5"), ("1.20e1", "12.0"), ("-00.0", "-00.0"), ("+1", "+1")] {
+        assert_eq!(decimal(text).as_str(), own);
+    }
+    for text in ["", "-", "+-5", "0.012.3400", "5.", "123_456", "1e", "1e--5", " 1", "½"] {
+        assert_eq!(Decimal::try_from_str(text), Err(ParseError::Syntax), "{text}");
+    }
+    for text in ["1e99999", "1.5e-32768", &"0".repeat(32769)] {
+        assert_eq!(Decimal::try_from_str(text), Err(ParseError::Limit), "{text}");
+    }
+    assert_eq!(Decimal::try_from_utf8(b"1\xff"), Err(ParseError::Syntax));
+    let value = decimal("-2.50");
+    assert_eq!(format!("{value}|{value:>7}|{value:*<7}|{value:.1}|{value:?}"), "-2.50|  -2.50|-2.50**|-2.50|Decimal(-2.50)");
+    assert_eq!(Decimal::default(), decimal("0"));
+}
+
+#[test]
+fn equality_and_order() {
+    assert_ne!(decimal("1.0"), decimal("1"));
+    assert_ne!(decimal("-0"), decimal("0"));
+    for (left, right, order) in [
+        ("1.0", "1", Ordering::Equal),
+        ("-0", "0", Ordering::Equal),
+        ("-2", "1", Ordering::Less),
+        ("1e100", "99", Ordering::Greater),
+    ] {
+        assert_eq!(decimal(left).compare(&decimal(right)), order, "{left} {right}");
+    }
+}
+
+#[test]
+fn integers() {
+    assert_eq!(Decimal::from(i128::MIN).as_str(), "-170141183460469231731687303715884105728");
+    assert_eq!(i128::try_from(&Decimal::from(i128::MIN)), Ok(i128::MIN));
+    assert_eq!(u64::try_from(&decimal("0018446744073709551615.00")), Ok(u64::MAX));
+    assert_eq!(u8::try_from(&decimal("-0")), Ok(0));
+    assert_eq!(i8::try_from(&decimal("+127")), Ok(127));
+    assert_eq!(i8::try_from(&decimal("128")), Err(IntegerError::OutOfRange));
+    assert_eq!(u8::try_from(&decimal("-1.0")), Err(IntegerError::OutOfRange));
+    assert_eq!(i64::try_from(&decimal("1.5")), Err(IntegerError::NotWhole));
+}
+
+#[test]
+fn locales() {
+    for (locale, text, written) in [
+        ("en-IN", "1234567.50", "12,34,567.50"),
+        ("de-CH", "-1234.5", "-1’234.5"),
+        ("ar-EG", "12345", "١٢٬٣٤٥"),
+        ("hi-u-nu-deva", "1.5", "१.५"),
+        ("fr", "1234.5", "1\u{202f}234,5"),
+    ] {
+        let value = decimal(text);
+        let found = value.format(locale).map(|found| found.replace('\'', "’"));
+        assert_eq!(found.as_deref(), Ok(written), "{locale}");
+        assert_eq!(Decimal::read(locale, &value.format(locale).unwrap()), Ok(value), "{locale}");
+    }
+    assert_eq!(Decimal::read("de", "1,234.5"), Err(ReadError::Text(ParseError::Syntax)));
+    assert_eq!(Decimal::read("de", &"1".repeat(32769)), Err(ReadError::Text(ParseError::Limit)));
+    for locale in ["", "tlh", "en-u-nu-xxxx"] {
+        assert_eq!(Decimal::read_lenient(locale, "1"), Err(ReadError::UnknownLocale));
+        assert_eq!(Decimal::from(1).format(locale), Err(UnknownLocale));
+    }
+}
+
+#[test]
+fn plural_rules() {
+    let rules = "one: n = 1; few: n = 2..4";
+    for (text, category) in [("1", PluralCategory::One), ("3", PluralCategory::Few), ("1.5", PluralCategory::Other)] {
+        assert_eq!(decimal(text).category(rules), Ok(category), "{text}");
+    }
+    assert_eq!(decimal("1").category("one n = 1"), Err(RulesError::Syntax(4)));
+    assert_eq!(decimal("1").category("one: n = 99999999999999999999"), Err(RulesError::Limit(9)));
+}
+
+#[test]
+fn limits() {
+    let most = format!("{0}.{0}", "9".repeat(32768));
+    let mut value = decimal(&most);
+    assert_eq!(value.magnitude_range(), -32768..=32767);
+    assert_eq!(value.round(-1), Err(LimitError));
+    assert_eq!(value.multiply_pow10(1), Err(LimitError));
+    assert_eq!(value.as_str(), most);
+    value.trunc(-32767);
+    assert_eq!(value.as_str(), &most[..most.len() - 1]);
+    let error: Box<dyn Error> = LimitError.into();
+    assert_eq!(error.to_string(), "beyond the limits of a decimal");
+}
+
+#[test]
+fn four_threads() {
+    std::thread::scope(|scope| {
+        for start in 0..4i64 {
+            scope.spawn(move || {
+                for integer in (start..40_000).step_by(4) {
+                    let rounded = Decimal::from(integer).multiplied_pow10(-2).unwrap().rounded(0).unwrap();
+                    let expected = (integer + 49 + (integer / 100) % 2) / 100;
+                    assert_eq!(i64::try_from(&rounded), Ok(expected), "{integer}");
+                }
+            });
+        }
+    });
+}
