@@ -43,19 +43,9 @@ digit_list-number : (number low : ℕ) (m : ℤ) (n : ℕ) → (0 < n → offset
     → number_from_digits 10 (digit_list number m n) ≡ number / 10 ^ low % 10 ^ n
 digit_list-number number low m zero at = sym (mod-one (number / 10 ^ low))
 digit_list-number number low m (suc n) at =
-    grind (
-      arith,
-      ints,
-      powers,
-      div-div-eq-div-mul,
-      number_first,
-      length-digit_list,
-      mod-mul,
-      ten_pos,
-      pow-suc,
-      offset_is,
-      digit_list-number number low (m -ℤ pos 1) n,
-    )
+    let rest = digit_list-number number low (m -ℤ pos 1) n in
+    let ten = ten_pos n in
+    grind (arith, ints, powers, div-div-eq-div-mul, number_first, length-digit_list, mod-mul, ten, pow-suc, offset_is)
 
 -- equally long lists of digits that write the same number are the same
 digits_of_number : (ds es : List ℕ) → AllBelowBase 10 ds → AllBelowBase 10 es → length ds ≡ length es

@@ -178,18 +178,10 @@ module _ {whole k word j : ℕ} {v : Unsigned} {ds es : List ℕ} {position : �
         let number : v.number + moved.number ≡ number_at t (ds ++ es) =
         (λ i. v_number i + moved_number i) ∙ sum_is in
         let hi : int_max v.hi moved.hi ≡ pos (whole - 1) = grind (steps, moved_is) in
+        let low = ap (λ (u : Unsigned). u.lo) moved_is in
+        let old = ap (λ (u : Unsigned). u.lo) holds.value in
         let lo : int_min v.lo moved.lo ≡ int_min (pos whole -ℤ pos (length (ds ++ es))) (pos 0) =
-        omega (
-          arith,
-          ints,
-          clamps,
-          ap (λ (u : Unsigned). u.lo) moved_is,
-          ap (λ (u : Unsigned). u.lo) holds.value,
-          next_is.at,
-          all_count,
-          holds.count,
-          bcd.count,
-        ) in
+        omega (arith, ints, clamps, low, old, next_is.at, all_count, holds.count, bcd.count) in
         λ i. record { number = number i; hi = hi i; lo = lo i }
 
     -- the joined digits that need memory are those of the sum
@@ -238,11 +230,9 @@ module _ {s : Symbols} {whole written : ℕ} {ds es : List ℕ} where
 
       -- there are some digits, and no more than are left
       pub next_word : done < length es → (0 < k) × (done + k ≤ length es) × IsBcd n k read.first
-      next_word more = (
-        grind (arith, length-append, cases_lt),
-        grind (arith, length-append),
-        last_is_bcd n k read.first read.bcd read.at_most,
-      )
+      next_word more =
+          let word = last_is_bcd n k read.first read.bcd read.at_most in
+          (grind (arith, length-append, cases_lt), grind (arith, length-append), word)
 
       pub appended_more : (new : Unsigned) → new ≡ value_of_first whole joined
           → IsAppended s whole written (done + k) after new ds es

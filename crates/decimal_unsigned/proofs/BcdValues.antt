@@ -32,6 +32,7 @@ use Rattle.decimal_unsigned.proofs.Middle.{number_zeros, middle_length, middle_b
 use Rattle.decimal_unsigned.proofs.Plans.{read_some, digits_some, all_digits, length_digits, value_scaled}
 use Rattle.decimal_unsigned.proofs.GrammarParts.{value_of_digit, prefix_len-run, digits_left, digits_right}
 use Rattle.decimal_unsigned.proofs.PlainTexts.{after_append, digits_fit}
+use Rattle.std.proofs.Common.{rules}
 
 -- ---- The loop over a text.
 -- one digit more
@@ -426,11 +427,7 @@ module _ (text : List ℕ) (p : PlainText ℕ) (plain : IsPlainText text p) wher
 
   -- its digits
   pub plain_bcd : IsBcd p.number (p.whole + p.fraction) plain_digits
-  plain_bcd = record {
-    digits = all_digits w digits;
-    count = omega (arith, length_digits w, plain.whole, plain.fraction);
-    number = plain.number ∙ digits_value_is 16 (w.whole ++ w.fraction);
-  }
+  plain_bcd = search (rules, arith, digits, all_digits, length_digits, digits_value_is)
 
   pub few_digits : p.whole + p.fraction ≤ 32
   few_digits = omega (arith, plain.few, plain.whole, plain.fraction, length-append w.whole w.fraction)

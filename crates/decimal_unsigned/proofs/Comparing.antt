@@ -2,12 +2,11 @@
 use Rattle.decimal_unsigned.proofs.Common.{nat_tests, ◌≡◌, ℕ, zero, suc, ◌+◌, ◌-◌, ◌*◌, ◌^◌, ◌<◌, ◌≤◌, ◌%◌, ◌/◌, List, [], ◌∷◌, ◌++◌, length, get_or, drop, take, replicate, refl, sym, ◌∙◌, ap, arith, ◌⊎◌, inl, inr, min, ℤ, ◌<ℤ◌, nat_cmp, mul-le-mul_right, pow-le-pow_right, ints, recursion_from_All, number_lt, number_from_digits, AllBelowBase, offset, offset_is, IsStored, All, slice_cmp, below_sixteen, below_take, below_drop, length-drop, length-take-le, length-append, length-replicate, take-append-drop, Unsigned, IsValue, common_steps, steps, subst, pos, negsuc, ◌+ℤ◌, ◌-ℤ◌, ◌≤ℤ◌, cases_lt, Bool, true, false, text, read, digit, first, last}
 use Rattle.std.specs.declared.cmp.Ordering.{Ordering}
 use Rattle.std.specs.declared.cmp.Ordering.TheVariants.{Less, Equal, Greater}
-use Rattle.std.specs.Ordering.{MatchOrdering, ordering_then, ordering_reverse, int_cmp}
-use Rattle.std.specs.Cmp.{ranked, nat_cmp_is, IsEquivalence, and_equiv, on_equiv, nat_eq_equiv, int_eq_equiv}
+use Rattle.std.specs.Ordering.{ordering_then, ordering_reverse, int_cmp}
+use Rattle.std.specs.Cmp.{nat_cmp_is, IsEquivalence, and_equiv, on_equiv, nat_eq_equiv, int_eq_equiv}
 use Rattle.std.proofs.lemmas.Grind.{same_number_lists}
 use Rattle.std.proofs.lemmas.Cmp.{nat_list_cmp_total, tied_itself}
 use Rattle.std.proofs.lemmas.List.{take-take, ext_get_or}
-use Rattle.std.proofs.lemmas.List.Elements.{All-append, All-replicate, All-from_recursion}
 use Rattle.decimal_digits.specs.Digits.{number_of, number_at}
 use Rattle.decimal_digits.specs.Nibbles.{nibbles, digits_in, bcd_number, padded, IsPacked}
 use Rattle.decimal_digits.proofs.DigitLists.{number_first, number_pad}
@@ -17,6 +16,7 @@ use Rattle.decimal_unsigned.proofs.Values.{value_of_view, number_of-lt, number_o
 use Rattle.std.proofs.Common.{IsTrue, ◌↔◌}
 use Rattle.decimal_unsigned.proofs.ReadBack.{read_text}
 use Rattle.decimal_unsigned.specs.Unsigned.{same}
+use Rattle.std.proofs.Common.{rules}
 
 -- two numbers compare as two others if each order implies the same order
 pub same_order : (a b x y : ℕ) → (a < b → x < y) → (a ≡ b → x ≡ y) → (b < a → y < x) → nat_cmp a b ≡ nat_cmp x y
@@ -48,13 +48,7 @@ lengths_decide xs ys i e =
 -- sums whose second parts are below p compare as their first parts, and if these are equal, as their second parts
 sums_order : (p a b r s : ℕ) → r < p → s < p
     → nat_cmp (a * p + r) (b * p + s) ≡ ordering_then (nat_cmp a b) (nat_cmp r s)
-sums_order p a b r s l m = sym (go (nat_cmp a b) (ranked a b _ refl))
-  where
-    go : (o : Ordering) → MatchOrdering o (a < b) (a ≡ b) (b < a)
-        → ordering_then o (nat_cmp r s) ≡ nat_cmp (a * p + r) (b * p + s)
-    go Less h = let n = mul-le-mul_right p h in nat_cmp_is (a * p + r) (b * p + s) Less (omega arith)
-    go Equal e = rw e (same_order r s (b * p + r) (b * p + s) (λ h. omega arith) (λ h. omega arith) (λ h. omega arith))
-    go Greater h = let n = mul-le-mul_right p h in nat_cmp_is (a * p + r) (b * p + s) Greater (omega arith)
+sums_order p a b r s l m = search (rules, arith, nat_cmp, mul-le-mul_right, same_order)
 
 then_assoc : (q r s : Ordering) → ordering_then (ordering_then q r) s ≡ ordering_then q (ordering_then r s)
 then_assoc Less r s = refl
@@ -77,12 +71,7 @@ numbers_decide base [] [] b c e = nat_cmp_is 0 0 Equal refl
 numbers_decide base [] (y ∷ es) b c e = absurd (omega (arith, e))
 numbers_decide base (x ∷ ds) [] b c e = absurd (omega (arith, e))
 numbers_decide base (x ∷ ds) (y ∷ es) b c e =
-    let same : length es ≡ length ds = omega (arith, e) in
-    let right = rw same at (number_first base y es) in
-    let fits = rw same at (number_lt base es c.1) in
-    ap (ordering_then (nat_cmp x y)) (numbers_decide base ds es b.1 c.1 (sym same))
-    ∙ sym (sums_order (base ^ length ds) x y _ _ (number_lt base ds b.1) fits)
-    ∙ (λ k. nat_cmp (sym (number_first base x ds) k) (sym right k))
+    grind (arith, number_first, number_lt, sums_order, numbers_decide base ds es b.1 c.1)
 
 -- ---- lists of digits whose last digit is not 0
 abbrev EndsInDigit : List ℕ → Type 0
@@ -96,8 +85,7 @@ zeros_less : (i j d : ℕ) (ds : List ℕ) → EndsInDigit (d ∷ ds)
 zeros_less zero j d ds ends = refl
 zeros_less (suc i) j d [] ends = let some : 0 < d = ends (omega arith) in grind (arith, nat_tests, some)
 zeros_less (suc i) j d (e ∷ ds) ends =
-    let rest = zeros_less i j e ds (others_end d (e ∷ ds) ends) in
-    rw rest (grind (arith, nat_tests))
+    grind (arith, nat_tests, others_end, (zeros_less i j e ds (others_end d (e ∷ ds) ends)))
 
 -- trailing zeros do not change their order
 zeros_after : (i j : ℕ) (ds es : List ℕ) → EndsInDigit ds → EndsInDigit es → (length ds ≡ length es → i ≡ j)
@@ -113,9 +101,7 @@ zeros_after i j (d ∷ ds) (c ∷ es) p q e =
 
 -- digits, with zeros up to `top` of them, are digits
 below_padded : (base k : ℕ) (ds : List ℕ) → 0 < base → AllBelowBase base ds → AllBelowBase base (ds ++ replicate k 0)
-below_padded base k ds some b =
-    let P = λ (d : ℕ). d < base in
-    recursion_from_All P _ (All-append P ds _ (All-from_recursion P ds b) (All-replicate P k 0 some))
+below_padded base k ds some b = grind (steps, recursion_from_All)
 
 -- they compare as the numbers that they write, the first digits in the same place
 digits_order : (base top : ℕ) (ds es : List ℕ) → 0 < base → AllBelowBase base ds → AllBelowBase base es
@@ -138,15 +124,7 @@ front_ties zero xs ys e = refl
 front_ties (suc k) [] [] e = refl
 front_ties (suc k) [] (y ∷ ys) e = absurd (cc)
 front_ties (suc k) (x ∷ xs) [] e = absurd (cc)
-front_ties (suc k) (x ∷ xs) (y ∷ ys) e = both (nat_cmp x y) (front_ties k xs ys) e
-  where
-    both : (r : Ordering)
-        → (slice_cmp nat_cmp xs ys ≡ Equal → slice_cmp nat_cmp (take k xs) (take k ys) ≡ Equal)
-        → ordering_then r (slice_cmp nat_cmp xs ys) ≡ Equal
-        → ordering_then r (slice_cmp nat_cmp (take k xs) (take k ys)) ≡ Equal
-    both Less f h = absurd (cc)
-    both Equal f h = f h
-    both Greater f h = absurd (cc)
+front_ties (suc k) (x ∷ xs) (y ∷ ys) e = grind (arith, nat_cmp, slice_cmp, (front_ties k xs ys))
 
 -- lists of 8 to 16 bytes with the same first eight have the order of their last eight
 pub ends_order : (xs ys : List ℕ) → AllBelowBase 256 xs → AllBelowBase 256 ys → length xs ≡ length ys → 8 ≤ length xs
@@ -172,12 +150,7 @@ ends_order xs ys b c same enough few fronts =
 byte_order : (b c : ℕ) (r : Ordering)
     → ordering_then (nat_cmp b c) r
     ≡ ordering_then (nat_cmp (b / 16) (c / 16)) (ordering_then (nat_cmp (b % 16) (c % 16)) r)
-byte_order b c r =
-    ap (λ o. ordering_then o r)
-    ((let e : b ≡ b / 16 * 16 + b % 16 = omega arith in let f : c ≡ c / 16 * 16 + c % 16 = omega arith in
-    (λ k. nat_cmp (e k) (f k)))
-    ∙ sums_order 16 (b / 16) (c / 16) (b % 16) (c % 16) (omega arith) (omega arith))
-    ∙ then_assoc (nat_cmp (b / 16) (c / 16)) _ _
+byte_order b c r = search (rules, arith, nat_cmp, sums_order, then_assoc)
 
 -- bytes compare as their nibbles
 nibbles_order : (bs cs : List ℕ) → slice_cmp nat_cmp bs cs ≡ slice_cmp nat_cmp (nibbles bs) (nibbles cs)

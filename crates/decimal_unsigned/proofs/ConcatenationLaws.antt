@@ -4,6 +4,7 @@ use Rattle.decimal_unsigned.specs.Concatenation.{overlaps, concatenated_end}
 use Rattle.decimal_unsigned.specs.ConcatenationLaws.{ConcatenationIsAssociative}
 use Rattle.decimal_unsigned.proofs.Concatenations.{overlaps_first_zero, overlaps_second_zero, disjoint, not_overlapping}
 use Rattle.decimal_unsigned.proofs.FirstLast.{Extent, extent, first_of, last_of, first_sum, last_sum, first_le, parts_sum, parts_apart}
+use Rattle.std.proofs.Common.{rules}
 
 -- a value other than 0 has a first and a last digit
 pub extent_of : (v : Unsigned) → IsValue v → 0 < v.number → Extent v.number
@@ -81,9 +82,7 @@ module _ (v t : Unsigned) (p : ℤ) (valid : IsValue v) (e : t.number ≡ v.numb
 
   -- the two parts do not overlap
   pub parts_join : overlaps t (with_max_position v p) ≡ false
-  parts_join = not_overlapping t (with_max_position v p) (λ some more.
-      let l = parts_apart v.number (offset p) (offset v.hi + 1) valid.below high (rw (← e) some) more in
-      rw e l)
+  parts_join = search (rules, arith, not_overlapping, with_max_position, parts_apart, offset, high)
 
   -- together they have the number
   pub parts_number : (concatenated_end t (with_max_position v p)).number ≡ v.number

@@ -74,17 +74,20 @@ module _ {ds : List ℕ} {m hi lo p m' hi' lo' : ℤ} {start : ℕ} (t : IsStore
 
   -- the remaining digits keep their magnitudes
   rest_is : number_of (drop start ds) m' ≡ rest_value * 10 ^ ends
-  rest_is = elim (cases_lt start (length ds)) [
-    | inl h ↦
-        number_of_is (drop start ds) m'
-        ∙ ap (λ k. rest_value * 10 ^ k)
-        (let k : offset m' + 1 - length (drop start ds) ≡ ends =
-        omega (arith, ints, left, h, c.some h, t.fits, offset_is m, offset_is m', offset_is lo, lowest t, t.in_range) in
-        k)
-    | inr h ↦
-        let z = rest_none h in
-        number_of-none stored_cut (omega (arith, left)) ∙ (rw z (omega arith))
-  ]
+  rest_is =
+      grind (
+        arith,
+        ints,
+        cases_lt,
+        number_of_is,
+        offset,
+        left,
+        offset_is,
+        lowest,
+        rest_none,
+        number_of-none,
+        stored_cut,
+      )
 
   whole : (a : ℕ) → a ≡ min (int_gap p (m +ℤ pos 1)) (length ds)
       → number_of ds m ≡ number_from_digits 10 (take a ds) * 10 ^ (length ds - a + ends) + rest_value * 10 ^ ends

@@ -247,8 +247,4 @@ module _ (v : Unsigned) (valid : IsValue v) (dot : ℕ) (dot_is : dot ≡ int_ga
     pub short_text_is : (block : List ℕ) → block ≡ text_of (take dot ns) ++ 46 ∷ text_of (drop dot ns)
         → take (length (text v)) block ≡ text v
     short_text_is block e =
-        let long : length (text v) ≡ dot + length (fraction_text v.number v.lo) = grind (arith, length-text) in
-        ap (take (length (text v))) (e ∙ (λ i. integer_bytes i ++ 46 ∷ fraction_bytes i))
-        ∙ cut v.lo refl (length (text v)) long
-        ∙ sym (text_is v valid.hi_in.0 valid.lo_in.1
-        ∙ ap (λ n. bytes_down v.number v.hi n ++ fraction_text v.number v.lo) (sym dot_is))
+        grind (arith, text, fraction_text, length-text, integer_bytes, fraction_bytes, cut, text_is, bytes_down)

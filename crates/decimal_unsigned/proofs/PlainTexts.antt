@@ -12,7 +12,7 @@ use Rattle.decimal_unsigned.proofs.Comparing.{all_below}
 use Rattle.decimal_unsigned.proofs.Plans.{append_digits}
 use Rattle.std.specs.Prelude.{bit_and, bit_or}
 use Rattle.std.proofs.Math.Nat.{div-eq_of_lt-le}
-use Rattle.std.proofs.lemmas.List.Elements.{All-append, All-from_recursion, All-replicate, recursion_from_All}
+use Rattle.std.proofs.lemmas.List.Elements.{All-from_recursion, All-replicate, recursion_from_All}
 use Rattle.std.proofs.lemmas.Str.{digit_value_digit}
 use Rattle.decimal_unsigned.proofs.BcdNumber.{Lanes, joined, value, value_front, mask, top, stepped, value_joined}
 
@@ -214,9 +214,7 @@ module _ (text : List ℕ) (word n : ℕ) (h : AllBelowBase 256 text) (few : len
   last = omega (arith, within)
 
   front_digits : front ≡ number_from_digits 256 (take (length text - n) text)
-  front_digits =
-      ap (λ p. word / p) (byte_pow n) ∙ ap (λ w. w / 256 ^ n) is
-      ∙ rw last at (number-div 256 (length text - n) text h (omega arith))
+  front_digits = grind (arith, byte_pow, last, number-div)
 
   front_is : front ≡ number_from_digits 256 (take j text) * 256 + get_or text j 0
   front_is = grind (steps, front_digits, number_more)
@@ -228,9 +226,7 @@ module _ (text : List ℕ) (word n : ℕ) (h : AllBelowBase 256 text) (few : len
   point_is = omega (arith, front_is, below, byte)
 
   split : word ≡ front * 256 ^ n + number_from_digits 256 back
-  split =
-      is ∙ rw last at (number_split 256 (length text - n) text (omega arith))
-      ∙ ap (λ m. m * 256 ^ n + number_from_digits 256 back) (sym front_digits)
+  split = grind (arith, last, number_split, number_from_digits, front_digits)
 
   pub others_is : word - (front - front / 2 ^ 8) * 2 ^ (8 * n) % 2 ^ 64
       ≡ number_from_digits 256 (without (Some n) text)
@@ -250,16 +246,10 @@ module _ (text : List ℕ) (word n : ℕ) (h : AllBelowBase 256 text) (few : len
       omega (arith, moved, sum, all)
 
   pub others_below : AllBelowBase 256 (without (Some n) text)
-  others_below =
-      let P = λ (d : ℕ). d < 256 in
-      recursion_from_All P _
-      (All-append P (take j text) back (All-from_recursion P _ (below_take 256 j text h))
-      (All-from_recursion P _ (below_drop 256 (length text - n) text h)))
+  others_below = grind (steps, recursion_from_All, below_take, below_drop)
 
   pub length-others : length (without (Some n) text) + 1 ≡ length text
-  length-others =
-      let front_size = length-take-le j text (omega (arith, within)) in
-      omega (arith, within, length-append (take j text) back, length-back, front_size)
+  length-others = grind (arith, length-take-le, within, length-append, length-back)
 
 -- the bytes `0` of a text that is one byte shorter
 pub zeros_shorter : (k i : ℕ) → k ≤ 8 → i + 1 ≡ k → zeros k / 2 ^ 8 ≡ zeros i

@@ -12,6 +12,7 @@ use Rattle.decimal_unsigned.proofs.Middle.{number_zeros, middle_length, number_o
 use Rattle.decimal_unsigned.specs.Parts.{saturated, saturated_parts, IsSaturated, views}
 use Rattle.decimal_unsigned.specs.declared.decimal.parse.parts.Parts.{Parts}
 use Rattle.decimal_unsigned.proofs.GrammarParts.{parts-sound}
+use Rattle.std.proofs.Common.{rules}
 
 -- ---- An exponent of any length, and the saturated exponent that the code stores.
 scaled_outside : (v : Unsigned) (e : ℤ) → (pos 32767 <ℤ e) ⊎ (e <ℤ negsuc 32767)
@@ -173,9 +174,7 @@ module _ (w : Literal) (digits : AllDigits 10 (w.whole ++ w.fraction)) (few : le
   module _ (start end : ℕ) (n : IsNonzeroRange (digits_of w) start end) (m : ℤ)
       (at : m ≡ (pos (length w.whole) -ℤ pos 1) -ℤ pos start) where
     stored : IsStored (middle start end (digits_of w)) m (pos (length w.whole - 1)) (pos 0 -ℤ pos (length w.fraction))
-    stored =
-        stored_middle (digits_of w) start end (length w.whole) (length w.fraction) m n (all_digits w digits)
-        (length_digits w) few short at
+    stored = search (rules, arith, stored_middle, all_digits, length_digits)
 
     number_is : number_of (middle start end (digits_of w)) m ≡ (mantissa w.whole w.fraction).number
     number_is =
@@ -203,12 +202,7 @@ module _ (w : Literal) (digits : AllDigits 10 (w.whole ++ w.fraction)) (few : le
     pub makes_plain : w.exponent ≡ None
         → IsPlan w (plan_at start end m (pos (length w.whole - 1)) (pos 0 -ℤ pos (length w.fraction)))
     unfolding scaled
-    makes_plain e = record {
-      ordered = omega (arith, n.ordered);
-      within = n.within;
-      stored = stored;
-      value = value_scaled ∙ (rw e (ap Ok (sym mantissa_is)));
-    }
+    makes_plain e = grind (steps, stored, value_scaled, mantissa_is)
 
     -- ---- an exponent
     -- an exponent that moves the written range past a limit is rejected with `limit`

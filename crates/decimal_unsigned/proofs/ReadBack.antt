@@ -19,10 +19,7 @@ low_digit number m = mod-lt (number / weight m) (omega arith)
 
 bytes_digits : (number : ℕ) (m : ℤ) (n : ℕ) → AllDigits 10 (bytes_down number m n)
 bytes_digits number m zero = tt
-bytes_digits number m (suc n) = (
-  let l = low_digit number m in omega (arith, digit_byte (digit number m) l, l),
-  bytes_digits number (m -ℤ pos 1) n,
-)
+bytes_digits number m (suc n) = grind (arith, low_digit, digit_byte, digit, (bytes_digits number (m -ℤ pos 1) n))
 
 bytes_worth : (number low : ℕ) (m : ℤ) (n : ℕ) → (0 < n → low + n ≡ offset m + 1)
     → digits_value 10 (bytes_down number m n) ≡ number / 10 ^ low % 10 ^ n

@@ -12,6 +12,7 @@ use Rattle.decimal_unsigned.specs.ValueLaws.{after_rounding, TruncationsCompose,
 use Rattle.decimal_unsigned.proofs.ValueLaws.{below_limit}
 use Rattle.decimal_unsigned.proofs.FirstLast.{first_le}
 use Rattle.decimal_unsigned.proofs.Roundings.{rounded_to-large}
+use Rattle.std.proofs.Common.{rules}
 
 -- ---- The result of a rounding.
 
@@ -164,10 +165,4 @@ module _ (mode : UnsignedRoundingMode) (u : ℕ) (pos_u : 0 < u) where
 
 -- rounding is monotone: the value after rounding a greater number is no less
 pub rounding_is_monotone : (v w : Unsigned) (r : Rounding UnsignedRoundingMode) → RoundingIsMonotone v w r
-rounding_is_monotone v w r l =
-    omega (
-      arith,
-      number-after_rounding v r,
-      number-after_rounding w r,
-      new_number-monotone r.mode (unit_of r) (unit_pos r.increment r.position) v.number w.number l,
-    )
+rounding_is_monotone v w r l = search (rules, arith, number-after_rounding, new_number-monotone, unit_pos)

@@ -9,6 +9,7 @@ use Rattle.decimal_digits.proofs.NumberAt.{number_of-none}
 use Rattle.decimal_unsigned.specs.Rounded.{rounding, rounding_by_1, rounded_to, UpdatesInPlace, RoundsInPlace, Rounding, IsBelowLimit, HasCapacity, RoundingNeedsMemory}
 use Rattle.decimal_unsigned.proofs.Values.{size-number_of, stored_as}
 use Rattle.decimal_digits.specs.declared.rounding.RoundingIncrement.TheVariants.{MultiplesOf2, MultiplesOf5, MultiplesOf25}
+use Rattle.std.proofs.Common.{rules}
 
 -- a rounding to a multiple below the limit results in the value of that multiple
 pub rounded_to-small : (v : Unsigned) (p : ℤ) (n : ℕ) → n < number_limit → rounded_to v p n ≡ Some (with_number v p n)
@@ -51,14 +52,7 @@ module _ {ds : List ℕ} {m : ℤ} {n : ℕ} (s : Represents ds m n) (p hi : ℤ
   pub stored_left : NoDigitsBelow p ds m → AllBelowBase 10 ds → pos 0 ≤ℤ hi → hi ≤ℤ pos 32767 → negsuc 32767 ≤ℤ p
       → p ≤ℤ pos 32767
       → IsStored ds m' hi' lo'
-  stored_left above b z g l t =
-      rw f (stored_as b s.stripped.front s.stripped.back (unspelled s)
-      (λ some. (
-        omega (arith, ints, clamps, h),
-        omega (arith, ints, clamps, o, above some, some, l, s.least, offset_is p, offset_is m),
-      ))
-      (omega (arith, ints, clamps, h, z), omega (arith, ints, clamps, h, g, t, s.greatest))
-      (omega (arith, ints, clamps, o, l), omega (arith, ints, clamps, o)))
+  stored_left above b z g l t = search (rules, arith, ints, clamps, stored_as, unspelled, offset_is)
 
   -- their value is the rounded value
   pub rounded_left : (v : Unsigned) → v.hi ≡ hi

@@ -1,5 +1,5 @@
 -- A value times a power of ten.
-use Rattle.decimal_unsigned.proofs.Common.{◌≡◌, ℕ, suc, ◌+◌, ◌-◌, ◌*◌, ◌/◌, ◌^◌, ◌<◌, ◌≤◌, false, List, length, sym, ◌∙◌, ap, arith, inl, inr, ◌⊎◌, Some, None, ℤ, pos, negsuc, ◌+ℤ◌, ◌≤ℤ◌, ◌<ℤ◌, int_max, int_min, pow-add, ints, clamps, cases_lt, number_from_digits, offset, Unsigned, IsStored, leaves_limits, multiplied, offset_is, steps}
+use Rattle.decimal_unsigned.proofs.Common.{◌≡◌, ℕ, ◌+◌, ◌-◌, ◌*◌, ◌/◌, ◌^◌, ◌<◌, ◌≤◌, false, List, length, sym, ◌∙◌, ap, arith, ◌⊎◌, Some, None, ℤ, pos, negsuc, ◌+ℤ◌, ◌≤ℤ◌, ◌<ℤ◌, int_max, int_min, pow-add, ints, clamps, cases_lt, number_from_digits, offset, Unsigned, IsStored, leaves_limits, multiplied, offset_is, steps}
 use Rattle.std.proofs.Math.Nat.{zero-div}
 use Rattle.decimal_digits.specs.Digits.{number_of, number_at}
 use Rattle.decimal_unsigned.specs.Edits.{multiplied_pow10}
@@ -47,16 +47,7 @@ pub multiplied_is : {ds : List ℕ} {m hi lo m' hi' lo' : ℤ} (d : ℤ) → IsS
 multiplied_is {ds} {m} {hi} {lo} {m'} {hi'} {lo'} (pos n) t s =
     grind (steps, moved, cases_lt, number_up, offset_is, lowest, number_of-none)
 multiplied_is {ds} {m} {hi} {lo} {m'} {hi'} {lo'} (negsuc n) t s =
-    let w = moved t s in
-    let a : number_of ds m' ≡ number_of ds m / 10 ^ suc n = elim (cases_lt 0 (length ds)) [
-      | inl h ↦
-          number_down ds m m' (suc n) (omega (arith, w.fits))
-          (omega (arith, ints, s.some h, offset_is m, offset_is m', lowest w, lowest t))
-      | inr h ↦
-          let z : length ds ≡ 0 = omega arith in
-          rw (number_of-none w z, number_of-none t z) (sym (zero-div (10 ^ suc n)))
-    ] in
-    cc
+    grind (steps, moved, cases_lt, number_down, offset_is, lowest, number_of-none, zero-div)
 
 -- a shifted range within the limits does not leave the limits
 pub stays_in : (v : Unsigned) (d : ℤ) → (v.hi +ℤ d) ≤ℤ pos 32767 → negsuc 32767 ≤ℤ (v.lo +ℤ d)

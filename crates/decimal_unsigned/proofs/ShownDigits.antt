@@ -1,7 +1,6 @@
 -- The digits that a value shows.
 use Rattle.decimal_unsigned.proofs.Common.{◌≡◌, ℕ, zero, suc, ◌+◌, ◌-◌, ◌*◌, ◌/◌, ◌%◌, ◌^◌, ◌<◌, List, [], ◌∷◌, ◌++◌, length, drop, min, get_or, refl, inl, inr, sym, ◌∙◌, ap, arith, w16, to_z, of_z, ℤ, pos, negsuc, ◌+ℤ◌, ◌-ℤ◌, ◌≤ℤ◌, ◌<ℤ◌, int_gap, All, ints, by_lt_z, cases_lt, to_z-of_z, digit, length-append, elements, gap_is, IsStored, ◌≤◌}
 use Rattle.std.proofs.lemmas.Grind.{same_number_lists}
-use Rattle.std.proofs.lemmas.List.Elements.{All-drop}
 use Rattle.std.proofs.lemmas.List.{get_or_past, nil_from_length}
 use lib.Signed.{mag}
 use Rattle.decimal_digits.specs.Digits.{number_of}
@@ -32,17 +31,11 @@ module _ (word ready : ℕ) (fits : word < 2 ^ 64) where
   digit_of : (k : ℕ) → k < ready
       → get_or (padded ready (word_nibbles word)) k 0 ≡ get_or (word / 2 ^ 60 ∷ padded (ready - 1) others) k 0
   digit_of zero h = get_or-padded ready (word_nibbles word) 0 h ∙ first_at
-  digit_of (suc k) h =
-      get_or-padded ready (word_nibbles word) (suc k) h
-      ∙ other_at k
-      ∙ sym (get_or-padded (ready - 1) others k (omega arith))
+  digit_of (suc k) h = grind (arith, get_or-padded, other_at)
 
   -- its first digit, and the word of the others
   pub word_next : 0 < ready → padded ready (word_nibbles word) ≡ word / 2 ^ 60 ∷ padded (ready - 1) others
-  word_next some =
-      let size = length-padded ready (word_nibbles word) in
-      let fewer = length-padded (ready - 1) others in
-      same_number_lists _ _ (omega (arith, size, fewer)) (λ k h. digit_of k (omega arith))
+  word_next some = grind (arith, length-padded, same_number_lists, digit_of)
 
 -- the first sixteen digits of a list, in a word, and the others
 pub word_front : (ds : List ℕ) (index rest : ℕ) → All (λ d. d < 10) ds
@@ -50,16 +43,7 @@ pub word_front : (ds : List ℕ) (index rest : ℕ) → All (λ d. d < 10) ds
     ≡ padded (min rest 16) (word_nibbles (bcd_number (drop index ds)))
     ++ padded (rest - min rest 16) (drop (index + 16) ds)
 word_front ds index rest h =
-    let word = word_nibbles (bcd_number (drop index ds)) in
-    let ys = drop (index + 16) ds in
-    let below = All-drop (λ d. d < 10) index ds h in
-    let size = length-padded rest (drop index ds) in
-    let both = length-append (padded (min rest 16) word) (padded (rest - min rest 16) ys) in
-    same_number_lists _ _
-    (omega (arith, size, both, length-padded (min rest 16) word, length-padded (rest - min rest 16) ys))
-    (λ k k_lt.
-    let l : k < rest = omega arith in
-    grind (arith, elements, get_or-padded, length-padded, bcd_nibble (drop index ds) k below, l))
+    grind (arith, length-padded, length-append, same_number_lists, elements, get_or-padded, bcd_nibble)
 
 -- ---- The digits of a number.
 module _ {ds : List ℕ} {m hi lo : ℤ} (t : IsStored ds m hi lo) where
@@ -98,8 +82,7 @@ unfolding digits_down
 get_or-digits_down number m zero k h = elim h [ ]
 get_or-digits_down number m (suc n) zero h = ap (digit number) (let e : m ≡ m -ℤ pos 0 = omega (arith, ints) in e)
 get_or-digits_down number m (suc n) (suc k) h =
-    get_or-digits_down number (m -ℤ pos 1) n k (omega arith)
-    ∙ ap (digit number) (let e : (m -ℤ pos 1) -ℤ pos k ≡ m -ℤ pos (suc k) = omega (arith, ints) in e)
+    grind (arith, ints, digit, (get_or-digits_down number (m -ℤ pos 1) n k (omega arith)))
 
 -- zeros above the first digit, and then the stored digits with zeros after them, are the digits that are shown
 pub stored_shown : {ds : List ℕ} {m hi lo : ℤ} → IsStored ds m hi lo → (above rest : ℕ) → above ≡ int_gap m hi
@@ -143,13 +126,7 @@ stored_shown {ds} {m} {hi} {lo} t above rest a b =
 -- their number
 pub length-left : (ready word index rest : ℕ) (ds : List ℕ)
     → ready + rest ≡ length (padded ready (word_nibbles word) ++ padded rest (drop index ds))
-length-left ready word index rest ds =
-    omega (
-      arith,
-      length-append (padded ready (word_nibbles word)) (padded rest (drop index ds)),
-      length-padded ready (word_nibbles word),
-      length-padded rest (drop index ds),
-    )
+length-left ready word index rest ds = simp (length-append, length-padded)
 
 -- where no digit is ready, the next one is the first of a word
 pub refilled : (ready old word count index rest : ℕ) (ds : List ℕ) → All (λ d. d < 10) ds → ready ≡ 0 → 0 < rest

@@ -1,5 +1,5 @@
 -- Laws of trims, and of the parts of a value at a position.
-use Rattle.decimal_unsigned.proofs.Common.{◌≡◌, ℕ, ◌+◌, ◌-◌, ◌*◌, ◌%◌, ◌^◌, ◌<◌, ◌≤◌, length, sym, ◌∙◌, ap, subst, arith, inl, inr, None, ℤ, pos, ◌≤ℤ◌, unwrap_or, int_max, int_min, pow-le-pow_right, ints, clamps, cases_lt, offset, weight, first, last, number_limit, unit_at, RoundingIncrement, MultiplesOf1, Trunc, no_more_zeros, offset_is, gap_is, Unsigned, IsValue, with_max_position, rounded, text, none-some, with_number, trunced, SplitsAt, steps}
+use Rattle.decimal_unsigned.proofs.Common.{◌≡◌, ℕ, ◌-◌, ◌*◌, ◌%◌, ◌<◌, ◌≤◌, length, sym, ◌∙◌, ap, subst, arith, inl, inr, None, ℤ, pos, ◌≤ℤ◌, unwrap_or, int_max, int_min, pow-le-pow_right, ints, clamps, cases_lt, offset, weight, first, last, number_limit, unit_at, RoundingIncrement, MultiplesOf1, Trunc, no_more_zeros, offset_is, gap_is, Unsigned, IsValue, with_max_position, rounded, text, none-some, with_number, trunced, SplitsAt, steps}
 use Rattle.decimal_digits.specs.Rounding.{rounded_number}
 use Rattle.decimal_digits.proofs.Ends.{last_zero}
 use Rattle.decimal_unsigned.specs.ValueLaws.{trimmed, TrimmedIsNormalForm, IsShortest}
@@ -10,6 +10,7 @@ use Rattle.decimal_unsigned.proofs.FirstLast.{last_of, first_le}
 use Rattle.decimal_unsigned.proofs.ConcatenationLaws.{extent_of, parts_join, parts_number, parts_value}
 use Rattle.decimal_unsigned.proofs.Roundings.{trunc_makes}
 use Rattle.decimal_unsigned.proofs.Lengths.{length-text_whole, length-text_dotted}
+use Rattle.std.proofs.Common.{rules}
 
 -- ---- Trims.
 
@@ -67,10 +68,7 @@ shortest v w valid e =
 module _ (v : Unsigned) (p : ℤ) (valid : IsValue v) where
   -- a value is below 10 to the 32768
   pub below_limit : v.number < number_limit
-  below_limit =
-      let k : offset v.hi + 1 ≤ offset (pos 32768) = grind (arith, offset_is) in
-      let m : 10 ^ (offset v.hi + 1) ≤ number_limit = pow-le-pow_right (omega arith) k in
-      omega (arith, valid.below, m)
+  below_limit = search (rules, arith, offset, offset_is, number_limit, pow-le-pow_right)
 
   -- a rounding toward zero always succeeds
   pub trunc_succeeds : (increment : RoundingIncrement) → rounded v (rounding p Trunc increment) ≡ None → ⊥

@@ -6,7 +6,6 @@ use Rattle.decimal_digits.proofs.Sinks.{prefix_more, then_prefix}
 use Rattle.decimal_unsigned.specs.Text.{dot_before, text_down}
 use Rattle.std.specs.Prelude.{EachIndex, slice_index}
 use Rattle.std.specs.Str.{IsAscii}
-use Rattle.std.proofs.lemmas.Str.{IsAscii-append}
 use Rattle.std.proofs.lemmas.Str.Ascii.{IsAscii-nil, IsAscii-cons}
 
 -- the text of n + 1 magnitudes is that of the first and that of the other n
@@ -61,9 +60,7 @@ pub bytes_down-at : (number : ℕ) (m : ℤ) (n i : ℕ) → i < n
     → get_or (bytes_down number m n) i 0 ≡ byte number (m -ℤ pos i)
 bytes_down-at number m zero i h = absurd (omega arith)
 bytes_down-at number m (suc n) zero h = ap (byte number) (let e : m ≡ m -ℤ pos 0 = omega (arith, ints) in e)
-bytes_down-at number m (suc n) (suc i) h =
-    bytes_down-at number (m -ℤ pos 1) n i (omega arith)
-    ∙ ap (byte number) (let e : (m -ℤ pos 1) -ℤ pos i ≡ m -ℤ pos (suc i) = omega (arith, ints) in e)
+bytes_down-at number m (suc n) (suc i) h = grind (arith, ints, (bytes_down-at number (m -ℤ pos 1) n i (omega arith)))
 
 -- a list with these bytes at each index is this list
 pub bytes_are : (number : ℕ) (m top : ℤ) (n : ℕ) (xs : List ℕ)
@@ -99,11 +96,7 @@ text_above number (suc h) n =
 
 text_below : (number k n : ℕ) → text_down number (negsuc (suc k)) n ≡ bytes_down number (negsuc (suc k)) n
 text_below number k zero = text_down-zero number (negsuc (suc k))
-text_below number k (suc n) =
-    let s : negsuc (suc k) -ℤ pos 1 ≡ negsuc (suc (suc k)) = omega (arith, ints) in
-    text_down-suc number (negsuc (suc k)) n
-    ∙ ap (λ l. byte number (negsuc (suc k)) ∷ l)
-    (ap (λ m. text_down number m n) s ∙ text_below number (suc k) n ∙ ap (λ m. bytes_down number m n) (sym s))
+text_below number k (suc n) = grind (arith, ints, text_down-suc, (text_below number (suc k) n))
 
 text_dot : (number b : ℕ) → text_down number (negsuc 0) (suc b) ≡ 46 ∷ bytes_down number (negsuc 0) (suc b)
 text_dot number b = grind (steps, text_down-suc, text_below)
@@ -143,12 +136,7 @@ dot_ascii (negsuc (suc k)) = IsAscii-nil
 
 down_ascii : (number : ℕ) (m : ℤ) (n : ℕ) → IsAscii (text_down number m n)
 down_ascii number m zero = subst IsAscii (sym (text_down-zero number m)) IsAscii-nil
-down_ascii number m (suc n) =
-    let one = IsAscii-append (dot_before m) (byte number m ∷ []) (dot_ascii m)
-    (IsAscii-cons (byte number m) [] (omega arith) IsAscii-nil) in
-    subst IsAscii (sym (text_down-suc number m n))
-    (IsAscii-append (dot_before m ++ byte number m ∷ []) (text_down number (m -ℤ pos 1) n) one
-    (down_ascii number (m -ℤ pos 1) n))
+down_ascii number m (suc n) = grind (arith, dot_ascii, text_down-suc, (down_ascii number (m -ℤ pos 1) n))
 
 -- the text of a value is ASCII
 pub text_ascii : (v : Unsigned) → IsAscii (text v)

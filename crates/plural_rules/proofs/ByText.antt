@@ -1,5 +1,5 @@
 -- The operands are those of the digits of the text.
-use Rattle.std.proofs.Common.{◌≡◌, ℕ, ◌+◌, ◌-◌, ◌*◌, ◌/◌, ◌%◌, ◌^◌, ◌<◌, ◌≤◌, List, ◌++◌, length, sym, ◌∙◌, ap, subst, arith}
+use Rattle.std.proofs.Common.{◌≡◌, ℕ, ◌+◌, ◌-◌, ◌*◌, ◌^◌, ◌<◌, ◌≤◌, List, ◌++◌, length, sym, ◌∙◌, subst, arith}
 use Rattle.std.specs.Prelude.{None, Ok, pos, ◌-ℤ◌}
 use Rattle.std.specs.Int.{int_gap}
 use Rattle.std.specs.Str.Parse.{AllDigits, digits_value}
@@ -16,6 +16,7 @@ use Rattle.decimal_unsigned.specs.Unsigned.{Unsigned}
 use Rattle.decimal_unsigned.specs.Text.{text}
 use Rattle.fixed_decimal.proofs.Calling.{ten_pos, offset_is, gap_is, powers, number-append}
 use Rattle.plural_rules.specs.Operands.{MatchesDigits}
+use Rattle.std.proofs.Common.{rules}
 
 -- the value of two lists of digits, one after the other
 numeral_append : (xs ys : List ℕ)
@@ -43,16 +44,9 @@ of_mantissa w digits h =
     let one : weight (pos 0) ≡ 10 ^ n * 10 ^ (32768 - n) = powers n (32768 - n) (offset (pos 0)) zero_place in
     let d = digits_value 10 (w.whole ++ w.fraction) in
     record {
-      i_is =
-          ap (λ k. d * 10 ^ (32768 - n) / k) one
-          ∙ mul-div-mul_right d (10 ^ n) (ten_pos (32768 - n))
-          ∙ ap (λ k. k / 10 ^ n) both
-          ∙ div-mul-add a (10 ^ n) b few;
+      i_is = search (rules, arith, mul-div-mul_right, ten_pos, div-mul-add);
       v_is = shown;
-      f_is =
-          (λ i. d * 10 ^ (32768 - n) / 10 ^ low i % 10 ^ shown i)
-          ∙ ap (λ k. k % 10 ^ n) (mul-div_cancel d (ten_pos (32768 - n)) ∙ both)
-          ∙ mod-mul-add a (10 ^ n) b few;
+      f_is = search (rules, arith, mul-div_cancel, ten_pos, mod-mul-add);
     }
 
 -- the operands are those of the digits of the text, however the grammar splits it

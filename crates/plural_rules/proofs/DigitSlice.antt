@@ -9,6 +9,7 @@ use Rattle.std.proofs.lemmas.Int.{ints}
 use Rattle.decimal_digits.specs.Number.{offset, digit}
 use Rattle.fixed_decimal.proofs.Calling.{ten_pos, offset_is, powers}
 use Rattle.plural_rules.specs.DigitSlice.{digit_slice}
+use Rattle.std.proofs.Common.{rules}
 
 -- no digits have the value 0
 pub digit_slice-zero : (n top : ℕ) → digit_slice n top 0 ≡ 0
@@ -44,8 +45,7 @@ pub digit_slice-monotone : (n top k j : ℕ) → k + j ≤ top → digit_slice n
 digit_slice-monotone n top k zero h = grind arith
 digit_slice-monotone n top k (suc j) h =
     let more = digit_slice-suc n top (k + j) _ (omega arith) refl in
-    let e : digit_slice n top (k + suc j) ≡ digit_slice n top (k + j + 1) =
-    ap (digit_slice n top) (let i : k + suc j ≡ k + j + 1 = omega arith in i) in
+    let e : digit_slice n top (k + suc j) ≡ digit_slice n top (k + j + 1) = search (rules, arith) in
     omega (arith, digit_slice-monotone n top k j (omega arith), more, e)
 
 -- all digits together

@@ -23,6 +23,7 @@ use Rattle.plural_rules.specs.RulesGrammar.{is_blank, operand_word, HasNoLeading
 use Rattle.plural_rules.specs.RulesParseResult.{RangeFits, RelationFits, AndConditionFits, RuleFits, Fits}
 use Rattle.plural_rules.specs.RulesReader.{has, with, is_full, no_categories, Partial, no_rules, end_range, end_relation, end_alternative, after, next, follows_range, at_end, condition_of, limit}
 use Rattle.plural_rules.proofs.RulesRun.{allowed, finish, finished, transitions, run, read, read_text}
+use Rattle.std.proofs.Common.{rules}
 
 -- ---- Bytes.
 
@@ -391,11 +392,9 @@ module _ (strict : Bool) where
   all_rules (g.semicolon {r} {rs} {suffix = suffix} one semicolon others) p fits new_category =
       let new = new_category.0 in
       let none = new_category.1 in
-      let later : AreNewCategories (with p.seen r.category) rs =
-      (all_stay_new p.seen r.category rs none.0 new.1, none.1) in
+      let later : AreNewCategories (with p.seen r.category) rs = search (rules, arith, all_stay_new) in
       one_rule one p _ (λ e. (fits e).0) new.0 (λ s e q ends all same.
-      let full : is_full q.seen ≡ false =
-      ap is_full same ∙ first_fresh (with p.seen r.category) suffix rs others later in
+      let full : is_full q.seen ≡ false = search (rules, arith, first_fresh) in
       let to : next q.seen s 59 ≡ Some (state.Category, e) = ends.1 q.seen ∙ rw full refl in
       let seen : (after e q).seen ≡ with p.seen r.category = ends.3 q ∙ same in
       token s state.Category q (after e q) (λ more. step s q 59 more state.Category e to (ends.2 strict q))

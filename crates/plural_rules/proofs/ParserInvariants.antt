@@ -21,6 +21,7 @@ use Rattle.plural_rules.specs.Rules.{RuleValue}
 use Rattle.plural_rules.specs.RulesBuilder.{partial, IsSmall}
 use Rattle.plural_rules.specs.declared.parse.state.State.TheVariants as state
 use Rattle.plural_rules.specs.declared.parse.state.Event.TheVariants as event
+use Rattle.std.proofs.Common.{rules}
 
 -- a number starts at `begin`, where the text before it is a prefix of rules that fit, and its digits reach to `end`
 pub record Begun (text : List ℕ) (begin end : ℕ) : Type 0 where
@@ -145,8 +146,7 @@ pub checked_more :
     × ((seen : Categories) → partial (seen_after e seen) b2 ≡ after e (partial seen b)))
     → Checked text (i + 1) s2 (seen_after e seen) (numbers_after numbers i e) b2 is_built2
 checked_more {text} {i} {s} {seen} {numbers} s2 e less h to taken =
-    let to2 : next h.p.seen s (get_or text i 0) ≡ Some (s2, e) =
-    ap (λ x. next x s (get_or text i 0)) h.seen_is ∙ to in
+    let to2 : next h.p.seen s (get_or text i 0) ≡ Some (s2, e) = search (rules, arith) in
     let so = transition_is_valid h.p.seen s (get_or text i 0) s2 e to2 in
     let same : i + 1 - 1 ≡ i = omega arith in
     record {
@@ -156,9 +156,7 @@ checked_more {text} {i} {s} {seen} {numbers} s2 e less h to taken =
           ∙ ap (λ b. cond b (Some (s2, after e h.p)) None) (any_allowed e h.p);
       seen_is = seen_after_is e h.p ∙ ap (seen_after e) h.seen_is;
       opens = ap (λ x. is_open x s2) (seen_after_is e h.p) ∙ so.1 h.opens;
-      front = λ starts some.
-          ap (λ n. is_ascii_digit (get_or text n 0)) same
-          ∙ (grind (arith, so.0, starts));
+      front = search (rules, arith);
       numbers_are = numbers_more text i s h.p s2 less h.front e numbers to2 h.numbers_are;
       built = λ now. let took = taken now in took.1 seen ∙ ap (after e) (h.built took.0);
     }

@@ -23,6 +23,7 @@ use Rattle.plural_rules.specs.RulesReader as reader
 use Rattle.plural_rules.specs.RulesReader.{has, with, is_full, Transition, Partial, no_rules, after, next, follows_range, condition_of, modulus_state}
 use Rattle.plural_rules.proofs.RulesRun.{any_allowed, apply_transition, finish, run, read, read_text}
 use Rattle.plural_rules.proofs.ParserComplete.{IsNewCategory, AreNewCategories, digit_is, grows, read_any-complete}
+use Rattle.std.proofs.Common.{rules}
 
 -- ---- What may follow each form, by what it makes of the form before it.
 
@@ -473,8 +474,7 @@ read-sound {text} {meaning} h =
     let i = found meaning text state.Category no_rules h in
     let r = i.2 in
     let new = r.2 in
-    let grammar : Grammar text r.0 =
-    record { begin = i.0; blanks = blanks_of i.1; rules = r.1; distinct = new.1 } in
+    let grammar : Grammar text r.0 = search (rules, arith) in
     let all = read_any-complete grammar in
     let same : r.0 ≡ meaning = cc in
     rw (← same) grammar

@@ -29,8 +29,7 @@ integer_digits_of o x m c count is first_is low high small e =
     ap (λ p. i p.value) (sym is) ∙ shift_down n c (offset (pos 0)) (omega (arith, ints, offset_is (pos 0))) in
     elim (cases_lt 0 count) [
       | inl p ↦
-          let q : offset m + 1 - count ≡ offset (pos 0) - c =
-          omega (arith, ints, clamps, e, offset_is m, offset_is (pos 0)) in
+          let q : offset m + 1 - count ≡ offset (pos 0) - c = search (rules, arith, ints, clamps, offset_is) in
           digit_slice-all n (offset m + 1) count few (below_first n m first_is) ∙ ap (λ k. n / 10 ^ k) q ∙ sym down
       | inr z ↦
           let none : count ≡ 0 = omega arith in
@@ -93,11 +92,7 @@ last-shifted n c m l low high small = elim (cases_lt 0 n) [
       elim (cases_lt (offset m + c) 65536) [
         | inl h ↦
             let k : offset m + c - c ≡ offset m = omega arith in
-            let d : n * 10 ^ c % 10 ^ (offset m + c) ≡ 0 =
-            mod_powers n c (offset m + c) (omega arith)
-            ∙ ap (λ j. n % 10 ^ j * 10 ^ c) k
-            ∙ ap (λ y. y * 10 ^ c) (l.divides p)
-            ∙ (omega arith) in
+            let d : n * 10 ^ c % 10 ^ (offset m + c) ≡ 0 = search (rules, arith, mod_powers) in
             let e = last_at (n * 10 ^ c) (offset m + c) more d (no_more p) h in
             omega (arith, ints, clamps, e, offset_is m)
         | inr h ↦ high_last 65535 refl h more
@@ -114,7 +109,6 @@ last-shifted n c m l low high small = elim (cases_lt 0 n) [
     high_last k e h more =
         let p : 0 < n = some n c more in
         let here : n % 10 ^ (k - c) ≡ 0 = fewer n (k - c) (offset m) (omega arith) (l.divides p) in
-        let d : n * 10 ^ c % 10 ^ k ≡ 0 =
-        mod_powers n c k (omega arith) ∙ ap (λ y. y * 10 ^ c) here ∙ (omega arith) in
+        let d : n * 10 ^ c % 10 ^ k ≡ 0 = search (rules, arith, mod_powers) in
         let top = last_top (n * 10 ^ c) k e more d in
         omega (arith, ints, clamps, top, offset_is m)

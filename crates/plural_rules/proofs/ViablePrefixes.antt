@@ -1,5 +1,5 @@
 -- A text at which the reader does not stop is a prefix of rules: each state that it reaches has bytes that complete it.
-use Rattle.std.proofs.Common.{◌≡◌, ℕ, suc, zero, ◌+◌, ◌<◌, ◌≤◌, ◌==◌, nat_le, nat_lt, Bool, true, false, not, ◌&&◌, List, [], ◌∷◌, ◌++◌, length, take, drop, get_or, refl, sym, ◌∙◌, ap, arith}
+use Rattle.std.proofs.Common.{◌≡◌, ℕ, suc, zero, ◌+◌, ◌<◌, ◌≤◌, ◌==◌, nat_le, nat_lt, Bool, true, false, not, ◌&&◌, List, [], ◌∷◌, ◌++◌, length, take, drop, get_or, refl, ◌∙◌, ap, arith}
 use Rattle.std.specs.Prelude.{Option, Some, None, codes, is_some}
 use Rattle.std.proofs.lemmas.Bool.{false≢true}
 use Rattle.std.proofs.lemmas.Bool.Decides.{nat_tests}
@@ -17,6 +17,7 @@ use Rattle.plural_rules.proofs.ParserSound.{read-sound}
 use Rattle.plural_rules.specs.declared.rules.PluralCategory.TheVariants as category
 use Rattle.plural_rules.specs.declared.parse.state.State.TheVariants as state
 use Rattle.plural_rules.specs.declared.parse.state.Event.TheVariants as event
+use Rattle.std.proofs.Common.{rules}
 
 -- ---- Completions of a state.
 
@@ -135,16 +136,14 @@ pub stopped : (strict : Bool) (text more : List ℕ) (rules : List RuleValue)
     → run_text strict text ≡ None → Grammar (text ++ more) rules → (strict ≡ true → Fits rules) → ⊥
 stopped strict text more rules none grammar fits =
     let is : read_text strict (text ++ more) ≡ Some rules = read-complete strict grammar fits in
-    let stops : read_text strict (text ++ more) ≡ None =
-    ap finish (run_append strict text more _ _ ∙ ap (λ x. bind x (λ s q. run strict s q more)) none) in
+    let stops : read_text strict (text ++ more) ≡ None = search (rules, arith, finish, run_append, bind, run) in
     absurd (cc)
 
 -- a text that may not end in its state
 pub unended_text : (text : List ℕ) (i : ℕ) (s : State) (p : Partial) → length text ≤ i → run_text false (take i text)
     ≡ Some (s, p) → is_open p.seen s ≡ true → at_end s ≡ None → IsSyntaxErrorAt text (length text)
 unended_text text i s p least h opens e =
-    let runs : run_text false text ≡ Some (s, p) =
-    ap (run_text false) (sym (take_all i text least)) ∙ h in
+    let runs : run_text false text ≡ Some (s, p) = search (rules, arith, run_text, take_all) in
     record {
       within = omega arith;
       rejected = λ rules grammar.

@@ -1,30 +1,26 @@
-use Rattle.std.proofs.Common.{◌≡◌, ◌∙◌, ap, arith}
-use Rattle.std.specs.Prelude.{Some}
-use Rattle.plural_rules.specs.RulesReader.{at_end, seen_after}
+use Rattle.std.proofs.Common.{◌∙◌, ap, arith}
+use Rattle.plural_rules.specs.RulesReader.{seen_after}
 use Rattle.plural_rules.proofs.ViablePrefixes.{stopped_text, unended_text}
 use Rattle.plural_rules.proofs.ParserInvariants.{checked_first, checked_more, checked_whole, built_whole, small}
 use Rattle.plural_rules.proofs.parse.read.Goals as goal
+use Rattle.std.proofs.lemmas.Grind.{common_steps}
+use Rattle.std.proofs.lemmas.Int.{ints, clamps}
+use Rattle.std.proofs.lemmas.Bool.Decides.{nat_tests}
 
 pub loop-at-init : goal.loop-at-init
 loop-at-init c = rw c.none-seen.ensures (checked_first c.args.text.now c.new-builder.result c.new-builder.ensures)
 
 pub returns-in_default : goal.returns-in_default
-returns-in_default c =
-    let h = c.loop-at.invariant in
-    stopped_text c.args.text.now c.loop-at.at c.loop-at.state h.p c.loop-at-test.true h.runs h.opens (cc h.seen_is)
+returns-in_default c = grind (arith, stopped_text)
 
 pub take_if-is_built-requires : goal.take_if-is_built-requires
 take_if-is_built-requires c = rw c.after-numbers.ensures (small c.in-Some.event c.loop-at.invariant)
 
 pub loop-at-preserved : goal.loop-at-preserved
-loop-at-preserved c =
-    rw (c.after-seen.ensures, c.after-numbers.ensures)
-    (checked_more c.in-Some.next c.in-Some.event c.loop-at-test.true c.loop-at.invariant (cc) c.take_if-is_built.ensures)
+loop-at-preserved c = grind (arith, checked_more)
 
 pub returns-in_default-at_end : goal.returns-in_default-at_end
-returns-in_default-at_end c =
-    let h = c.loop-at.invariant in
-    unended_text c.args.text.now c.loop-at.at c.loop-at.state h.p c.loop-at-test.false h.runs h.opens (cc)
+returns-in_default-at_end c = grind (arith, ints, clamps, nat_tests, common_steps, unended_text)
 
 pub returns-in-TooLarge : goal.returns-in-TooLarge
 returns-in-TooLarge c =
@@ -32,9 +28,7 @@ returns-in-TooLarge c =
     (checked_whole c.in-Some-at_end.event c.loop-at-test.false c.loop-at.invariant (cc))
 
 pub take_if-requires : goal.take_if-requires
-take_if-requires c =
-    let some : at_end c.loop-at.state ≡ Some c.in-Some-at_end.event = cc in
-    λ built fit. grind (arith, some)
+take_if-requires c = grind arith
 
 pub returns-then-not-take_if : goal.returns-then-not-take_if
 returns-then-not-take_if c =

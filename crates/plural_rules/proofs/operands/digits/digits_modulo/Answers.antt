@@ -7,16 +7,10 @@ use Rattle.plural_rules.proofs.DigitSlice.{digit_slice-last}
 use Rattle.plural_rules.proofs.operands.digits.digits_modulo.Goals as goal
 
 pub magnitude_below-requires : goal.magnitude_below-requires
-magnitude_below-requires g c =
-    let kept : to_z w16 (of_z w16 c.args.top) ≡ c.args.top = to_z-of_z w16 c.args.top c.ranges.top in
-    omega (arith, ints, offset_is c.args.top, c.requires.in_limits, kept)
+magnitude_below-requires g c = grind (arith, ints, to_z-of_z, offset_is)
 
 pub horner_modulo-requires-clause-in_limits : goal.horner_modulo-requires-clause-in_limits
-horner_modulo-requires-clause-in_limits g c =
-    let kept : to_z w16 (of_z w16 c.args.top) ≡ c.args.top = to_z-of_z w16 c.args.top c.ranges.top in
-    let m = to_z w16 (of_z w16 c.magnitude_below.result) in
-    let is : m ≡ c.magnitude_below.result = narrow_kept c.magnitude_below.type_inv in
-    omega (arith, ints, offset_is c.args.top, offset_is m, is, c.requires.in_limits, kept, c.magnitude_below.ensures)
+horner_modulo-requires-clause-in_limits g c = grind (arith, ints, to_z-of_z, narrow_kept, offset_is)
 
 pub returns-in-Some : goal.returns-in-Some
 returns-in-Some g c =

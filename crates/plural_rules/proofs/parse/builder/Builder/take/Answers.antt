@@ -1,17 +1,13 @@
-use Rattle.std.proofs.Common.{◌+◌, ◌*◌, ◌<◌, ◌^◌, ◌∙◌, ap, arith}
+use Rattle.std.proofs.Common.{◌∙◌, ap, arith}
 use Rattle.plural_rules.specs.RulesReader.{end_relation, end_alternative, end_rule}
 use Rattle.std.proofs.lemmas.Result.{on_ok_weaker}
 use Rattle.plural_rules.proofs.parse.builder.Builder.take.Goals as goal
 
 pub overflow_mul-self : goal.overflow_mul-self
-overflow_mul-self c =
-    let fits : c.args.self.now.number * 10 + c.in-Digit.digit < 2 ^ 64 = rw c.in-Digit.is at c.requires in
-    omega arith
+overflow_mul-self c = grind arith
 
 pub overflow_add-self : goal.overflow_add-self
-overflow_add-self c =
-    let fits : c.args.self.now.number * 10 + c.in-Digit.digit < 2 ^ 64 = rw c.in-Digit.is at c.requires in
-    omega arith
+overflow_add-self c = grind arith
 
 pub returns-in-Operand : goal.returns-in-Operand
 returns-in-Operand c = rw c.in-Operand.is c.begin_relation.ensures
