@@ -27,7 +27,8 @@ pub record AreForms (forms : FdForms) (texts : List ℕ) (f : Forms) : Type 0 wh
 
 -- there are no such forms
 abbrev pub FormsFail : FdError → FdForms → List ℕ → Type 0
-FormsFail error forms texts = FormFails reading_code error forms.read texts ⊎ FormFails grouping_code error forms.format texts
+FormsFail error forms texts = FormFails reading_code error forms.read texts
+    ⊎ FormFails grouping_code error forms.format texts
 
 -- a text that is read, changed by the calls and formatted has this result
 pub record IsConverted (f : Forms) (calls : List Call) (text : List ℕ) (result : Result (List ℕ) OutcomeError) : Type 0

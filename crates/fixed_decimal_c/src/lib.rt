@@ -138,8 +138,8 @@ pub fn fd_category(alloc: Global, rules: &[u8], text: &[u8]) -> FdNumber
     encode_number(category_of(alloc, rules, text))
 }
 
-/// Returns the number of the locale of a tag, for the forms of [`fd_convert`] and [`fd_lines`]: at least 1, and the same
-/// in this process.
+/// Returns the number of the locale of a tag, for the forms of [`fd_convert`] and [`fd_lines`]: at least 1, and the
+/// same in this process.
 pub fn fd_locale(tag: &[u8]) -> FdUnsigned
     ensures { EncodesUnsigned result (λ answer. IsLocaleNumber answer tag.now) }
 {

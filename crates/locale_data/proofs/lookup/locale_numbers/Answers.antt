@@ -28,7 +28,8 @@ returns-in_err-system-clause-unknown c =
     )
 
 pub own_rows-requires : goal.own_rows-requires
-own_rows-requires c = contains_at NUMBERING_SYSTEMS c.in_ok-system.system c.indexed_row-2.result.now c.indexed_row-2.ensures
+own_rows-requires c = contains_at NUMBERING_SYSTEMS c.in_ok-system.system c.indexed_row-2.result.now
+    c.indexed_row-2.ensures
 
 pub row_number-own-requires : goal.row_number-own-requires
 row_number-own-requires c =
@@ -52,7 +53,8 @@ returns-clause-found c =
       system = c.in_ok-system.system;
       own = o;
     } in
-    let found = symbols_found tag (numbers_of c.row_number-own.result) locale system c.indexed_row.ensures c.indexed_row-2.ensures
+    let found = symbols_found tag (numbers_of c.row_number-own.result) locale system c.indexed_row.ensures
+        c.indexed_row-2.ensures
     listed named inside own in
     subst (λ t. IsSomeAnd (symbols_at (numbers_of c.in_16_bits.result)) (IsLocale t)) c.as_bytes-tag.ensures.value
     (subst (λ o. IsSomeAnd (symbols_at (numbers_of o)) (IsLocale tag)) (sym c.in_16_bits.ensures) found)
