@@ -396,6 +396,9 @@ fi
 help fixdec_lines 'usage: fixdec_lines [OPTION].. [read:LOCALE] [CALL].. [format:LOCALE]'
 lines 0 '1\n' "fixdec_lines $version"$'\n' '' --version
 wrong 'no such word: --version (--help lists all)' --version skip
+sed -n '/static LOCALES:/,/^];/s/.*tag: \*b"\([a-z0-9-]*\) *".*/\1/p' crates/locale_data/src/symbols_table.rt > "$room/tags"
+"$room/fixdec_lines" --locales < /dev/null | cmp -s - "$room/tags" && [ "$(wc -l < "$room/tags")" -gt 300 ]
+judge $? 'fixdec_lines --locales'
 
 # ---- plural
 

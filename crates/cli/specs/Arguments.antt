@@ -12,9 +12,9 @@ use Rattle.cli.specs.declared.error.WordsError.TheVariants.{NotText, Memory, Out
 use Rattle.cli.specs.declared.error.ProgramError.{ProgramError}
 use Rattle.cli.specs.declared.error.ProgramError.TheVariants.{Start}
 use Rattle.cli.specs.declared.help.Program.{Program}
-use Rattle.cli.specs.declared.help.Program.TheVariants.{Fixdec}
+use Rattle.cli.specs.declared.help.Program.TheVariants.{Fixdec, FixdecLines}
 use Rattle.cli.specs.declared.help.Request.{Request}
-use Rattle.cli.specs.declared.help.Request.TheVariants.{Help, Version}
+use Rattle.cli.specs.declared.help.Request.TheVariants.{Help, Version, Locales}
 use Rattle.cli.specs.Help.{answer_of}
 
 -- the arguments, or the error of reading them
@@ -46,10 +46,12 @@ AreUnreadable arguments NotText = IsNotText arguments
 AreUnreadable arguments Memory = IsOutOfMemory arguments
 AreUnreadable arguments _ = ⊥
 
--- the only word asks for this: --help or -h for the help; --version for the version, but of fixdec
+-- the only word asks for this: --help or -h for the help; --version for the version, but of fixdec; --locales of
+-- fixdec_lines for the tags of locales
 abbrev pub Asks : Program → List (String Global) → Request → Type 0
 Asks program (word ∷ []) Help = (string_bytes word ≡ codes "--help") ⊎ (string_bytes word ≡ codes "-h")
 Asks program (word ∷ []) Version = (program ≢ Fixdec) × (string_bytes word ≡ codes "--version")
+Asks program (word ∷ []) Locales = (program ≡ FixdecLines) × (string_bytes word ≡ codes "--locales")
 Asks program words request = ⊥
 
 abbrev pub IsRequest : Program → List (String Global) → Type 0

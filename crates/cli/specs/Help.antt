@@ -3,7 +3,8 @@ use Rattle.std.specs.Prelude.{ℕ, List, [], ◌∷◌, ◌++◌, codes}
 use Rattle.cli.specs.declared.help.Program.{Program}
 use Rattle.cli.specs.declared.help.Program.TheVariants.{Fixdec, FixdecLines, Plural}
 use Rattle.cli.specs.declared.help.Request.{Request}
-use Rattle.cli.specs.declared.help.Request.TheVariants.{Help, Version}
+use Rattle.cli.specs.declared.help.Request.TheVariants.{Help, Version, Locales}
+use Rattle.cli.specs.LocaleList.{locales_text}
 use Rattle.cli.specs.declared.help.TheConstants.{VERSION, FIXDEC, FIXDEC_LINES, PLURAL, TEXT, OPTIONS, RULES, CALLS, OPERANDS}
 
 unfoldable pub name_of : Program → List ℕ
@@ -33,3 +34,4 @@ help_of program = (usage_of program ++ words_and_table_of program) ++ version_of
 abbrev pub answer_of : Program → Request → List ℕ
 answer_of program Help = help_of program
 answer_of program Version = version_of program
+answer_of program Locales = locales_text

@@ -12,6 +12,7 @@ pub mod FixdecLines
 pub mod Help
 pub mod Input
 pub mod Lines
+pub mod LocaleList
 pub mod NamedRules
 pub mod Options
 pub mod Plural

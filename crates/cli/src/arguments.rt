@@ -35,6 +35,7 @@ fn request(program: Program, words: &[String]) -> Option<Request>
     match (program, word.as_str()) {
         (_, "--help" | "-h") => Some(Request::Help),
         (Program::FixdecLines | Program::Plural, "--version") => Some(Request::Version),
+        (Program::FixdecLines, "--locales") => Some(Request::Locales),
         _ => None,
     }
 }

@@ -3,6 +3,7 @@ ghost use Rattle.std.specs.Prelude.{◌≡◌, ◌++◌, OnOk};
 ghost use Rattle.std.specs.Io.KnownBytes.{Appends};
 ghost use Rattle.cli.specs.Help.{name_of, usage_of, words_and_table_of, version_of, help_of, answer_of};
 
+use crate::locale_list::print_locales;
 use fixed_decimal::{WriteError, write_whole};
 use std::io::Write;
 
@@ -19,6 +20,7 @@ pub enum Program {
 pub enum Request {
     Help,
     Version,
+    Locales,
 }
 
 /// The version of the programs, and that of their data.
@@ -46,6 +48,7 @@ memory, or the output fails. Errors are lines of standard error; call 0 is the f
 
 /// What `fixdec_lines` does, and its options.
 const OPTIONS: &str = "
+   or: fixdec_lines --locales
    or: fixdec_lines --version
 
 Reads lines of standard input, makes the calls on each, and writes a line for each to standard output.
@@ -186,6 +189,7 @@ impl Program {
         match request {
             Request::Help => self.print_help(out),
             Request::Version => self.print_version(out),
+            Request::Locales => print_locales(out),
         }
     }
 }

@@ -18,6 +18,7 @@ mod help;
 mod input;
 pub mod laws;
 mod line_feed;
+mod locale_list;
 mod named_rules;
 mod options;
 pub mod plural;
