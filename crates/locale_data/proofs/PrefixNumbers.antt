@@ -182,7 +182,7 @@ module _ (tag : List ℕ) (bytes : (j : ℕ) → get_or tag j 0 < 256) where
       at k short (inl lt) other =
           get_or-set_other padded end k (tag_byte (get_or tag end 0)) 0 (λ e. absurd (omega arith))
           ∙ (is k short ∙ (byte_inside end k (omega arith) lt ∙ sym (byte_inside (end + 1) k (omega arith)
-              (omega arith))))
+          (omega arith))))
       at k short (inr ge) (inl gt) =
           get_or-set_other padded end k (tag_byte (get_or tag end 0)) 0 (λ e. absurd (omega arith))
           ∙ (is k short ∙ (byte_after end k (omega arith) (omega arith)

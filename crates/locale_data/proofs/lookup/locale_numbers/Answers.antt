@@ -54,7 +54,7 @@ returns-clause-found c =
       own = o;
     } in
     let found = symbols_found tag (numbers_of c.row_number-own.result) locale system c.indexed_row.ensures
-        c.indexed_row-2.ensures
+    c.indexed_row-2.ensures
     listed named inside own in
     subst (λ t. IsSomeAnd (symbols_at (numbers_of c.in_16_bits.result)) (IsLocale t)) c.as_bytes-tag.ensures.value
     (subst (λ o. IsSomeAnd (symbols_at (numbers_of o)) (IsLocale tag)) (sym c.in_16_bits.ensures) found)

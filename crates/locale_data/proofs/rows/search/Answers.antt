@@ -30,7 +30,7 @@ returns-in-Ok-clause-row g c =
     let found = searched g.R.Row.name c.args.rows.now c.requires.table name c.from_be_bytes-number.result
     (is_number c.args.tag.now (are_bytes_of c.args.tag.now c.type_inv.tag) c.args.end c.requires.inside
     c.args.padded c.requires.padded c.from_be_bytes-number.result c.from_be_bytes-number.ensures)
-        (Ok c.in-Ok.index) c.in-Ok.ensures.bound by_number row c.index-rows-index.is in
+    (Ok c.in-Ok.index) c.in-Ok.ensures.bound by_number row c.index-rows-index.is in
     let named = c.is_named.ensures ∙ ap (λ t. bytes_eq t name) (c.unpadded.ensures ∙ ap unpadded c.name.ensures) in
     ap (row_at c.args.rows.now) c.then_some.ensures
     ∙ row_at-then_some c.args.rows.now c.is_named.result c.in-Ok.index row c.in-Ok.ensures.bound
@@ -44,18 +44,18 @@ returns-in-Ok-clause-longer g c = λ none.
     let by_number = c.in-Ok.ensures.position (λ row. from_be_bytes w128 (name_of row))
     (answers_always _ _ _ (λ f a r next called. search rules)) in
     let before = at_most_ok name_of rows c.requires.table c.from_be_bytes-number.result c.in-Ok.index
-        c.in-Ok.ensures.bound
+    c.in-Ok.ensures.bound
     by_number in
     none_longer name_of rows c.requires.table c.args.tag.now (are_bytes_of c.args.tag.now c.type_inv.tag) c.args.end
-        (c.in-Ok.index + 1)
+    (c.in-Ok.index + 1)
     c.requires.inside c.requires.ends
     (subst (λ k. AreAtMost name_of rows c.requires.table k (c.in-Ok.index + 1)) (is_number c.args.tag.now
-        (are_bytes_of c.args.tag.now c.type_inv.tag) c.args.end c.requires.inside
+    (are_bytes_of c.args.tag.now c.type_inv.tag) c.args.end c.requires.inside
     c.args.padded c.requires.padded c.from_be_bytes-number.result c.from_be_bytes-number.ensures) before)
     (subst (λ k. IsFar name_of rows (c.in-Ok.index + 1) k c.args.end) (is_number c.args.tag.now
-        (are_bytes_of c.args.tag.now c.type_inv.tag) c.args.end c.requires.inside
+    (are_bytes_of c.args.tag.now c.type_inv.tag) c.args.end c.requires.inside
     c.args.padded c.requires.padded c.from_be_bytes-number.result c.from_be_bytes-number.ensures)
-        (c.is_near.ensures none))
+    (c.is_near.ensures none))
 
 pub returns-in-Err-clause-row : goal.returns-in-Err-clause-row
 returns-in-Err-clause-row g c =
@@ -63,9 +63,9 @@ returns-in-Err-clause-row g c =
     (answers_always _ _ _ (λ f a r next called. search rules)) in
     sym (searched g.R.Row.name c.args.rows.now c.requires.table (compared (take c.args.end c.args.tag.now))
     c.from_be_bytes-number.result (is_number c.args.tag.now (are_bytes_of c.args.tag.now c.type_inv.tag) c.args.end
-        c.requires.inside
+    c.requires.inside
     c.args.padded c.requires.padded c.from_be_bytes-number.result c.from_be_bytes-number.ensures)
-        (Err c.in-Err.index) c.in-Err.ensures.bound by_number)
+    (Err c.in-Err.index) c.in-Err.ensures.bound by_number)
 
 pub returns-in-Err-clause-longer : goal.returns-in-Err-clause-longer
 returns-in-Err-clause-longer g c = λ none.
@@ -74,15 +74,15 @@ returns-in-Err-clause-longer g c = λ none.
     let by_number = c.in-Err.ensures.position (λ row. from_be_bytes w128 (name_of row))
     (answers_always _ _ _ (λ f a r next called. search rules)) in
     let before = at_most_err name_of rows c.requires.table c.from_be_bytes-number.result c.in-Err.index
-        c.in-Err.ensures.bound
+    c.in-Err.ensures.bound
     by_number in
     none_longer name_of rows c.requires.table c.args.tag.now
-        (are_bytes_of c.args.tag.now c.type_inv.tag) c.args.end c.in-Err.index
+    (are_bytes_of c.args.tag.now c.type_inv.tag) c.args.end c.in-Err.index
     c.requires.inside c.requires.ends
     (subst (λ k. AreAtMost name_of rows c.requires.table k c.in-Err.index) (is_number c.args.tag.now
-        (are_bytes_of c.args.tag.now c.type_inv.tag) c.args.end c.requires.inside
+    (are_bytes_of c.args.tag.now c.type_inv.tag) c.args.end c.requires.inside
     c.args.padded c.requires.padded c.from_be_bytes-number.result c.from_be_bytes-number.ensures) before)
     (subst (λ k. IsFar name_of rows c.in-Err.index k c.args.end) (is_number c.args.tag.now
-        (are_bytes_of c.args.tag.now c.type_inv.tag) c.args.end c.requires.inside
+    (are_bytes_of c.args.tag.now c.type_inv.tag) c.args.end c.requires.inside
     c.args.padded c.requires.padded c.from_be_bytes-number.result c.from_be_bytes-number.ensures)
-        (c.is_near-in-Err.ensures none))
+    (c.is_near-in-Err.ensures none))
