@@ -1,6 +1,6 @@
 //! The decimal.
 use crate::error::{Failure, IntegerError, LimitError, OverlapError, ParseError, ReadError, RulesError, UnknownLocale};
-use crate::ffi::{self, FdCall, FdForms};
+use crate::ffi::{self, FdCall, FdForm, FdForms};
 use crate::options::{PluralCategory, RoundingIncrement, Sign, SignDisplay, SignedRoundingMode, UnsignedRoundingMode};
 use std::cmp::Ordering;
 use std::fmt;
@@ -101,7 +101,8 @@ impl Decimal {
     /// # Ok::<(), UnknownLocale>(())
     /// ```
     pub fn format(&self, locale: &str) -> Result<String, UnknownLocale> {
-        let forms = FdForms { format_count: locale.len(), ..FdForms::default() };
+        let format = FdForm { count: locale.len(), ..FdForm::default() };
+        let forms = FdForms { format, ..FdForms::default() };
         if locale.is_empty() {
             return Err(UnknownLocale);
         }
@@ -146,7 +147,8 @@ impl Decimal {
         if locale.is_empty() {
             return Err(ReadError::UnknownLocale);
         }
-        let forms = FdForms { read_count: locale.len(), reading, ..FdForms::default() };
+        let read = FdForm { count: locale.len(), option: reading, ..FdForm::default() };
+        let forms = FdForms { read, ..FdForms::default() };
         match ffi::convert(text.as_bytes(), &forms, locale.as_bytes()) {
             Ok(text) => Ok(Decimal { text }),
             Err(failure) if failure.status == 10 => Err(ReadError::UnknownLocale),

@@ -35,16 +35,23 @@ pub(crate) struct FdCall {
 
 #[repr(C)]
 #[derive(Clone, Copy, Default)]
+pub(crate) struct FdForm {
+    pub(crate) locale: u64,
+    pub(crate) start: usize,
+    pub(crate) count: usize,
+    pub(crate) option: u8,
+}
+
+#[repr(C)]
+#[derive(Clone, Copy, Default)]
 pub(crate) struct FdForms {
-    pub(crate) read_start: usize,
-    pub(crate) read_count: usize,
-    pub(crate) format_start: usize,
-    pub(crate) format_count: usize,
-    pub(crate) reading: u8,
-    pub(crate) grouping: u8,
+    pub(crate) read: FdForm,
+    pub(crate) format: FdForm,
 }
 
 extern "C" {
+    #[cfg(test)]
+    fn fd_version() -> u32;
     #[rustfmt::skip]
     fn fd_run(
         start: *const u8, start_count: usize, calls: *const FdCall, call_count: usize,
@@ -113,4 +120,13 @@ fn text(room: usize, write: impl Fn(*mut u8, usize) -> FdResult) -> Result<Strin
     // SAFETY: the function has written the first `count` bytes, and `count` is at most the capacity.
     unsafe { buffer.set_len(answer.count) };
     Ok(String::from_utf8(buffer).expect("a text of the library is UTF-8"))
+}
+
+#[cfg(test)]
+mod tests {
+    #[test]
+    fn structs_are_those_of_the_library() {
+        // SAFETY: the function takes nothing.
+        assert_eq!(unsafe { super::fd_version() }, 2);
+    }
 }
