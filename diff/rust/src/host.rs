@@ -1,6 +1,7 @@
-//! The same calls of the Rust crate that stands on the C library.
+//! The same calls of the Rust crate over the C library.
 
 use crate::library::Shown;
+use crate::names::names_of;
 use crate::reference::{Call, Display, Mode, Sign};
 use crate::shared::Answer;
 use fixed_decimal_proved::{
@@ -29,46 +30,7 @@ impl From<OverlapError> for Answer {
     }
 }
 
-fn sign(sign: Sign) -> fixed_decimal_proved::Sign {
-    match sign {
-        Sign::None => fixed_decimal_proved::Sign::None,
-        Sign::Minus => fixed_decimal_proved::Sign::Negative,
-        Sign::Plus => fixed_decimal_proved::Sign::Positive,
-    }
-}
-
-fn display(display: Display) -> SignDisplay {
-    match display {
-        Display::Auto => SignDisplay::Auto,
-        Display::Never => SignDisplay::Never,
-        Display::Always => SignDisplay::Always,
-        Display::ExceptZero => SignDisplay::ExceptZero,
-        Display::Negative => SignDisplay::Negative,
-    }
-}
-
-fn mode(mode: Mode) -> SignedRoundingMode {
-    match mode {
-        Mode::Ceil => SignedRoundingMode::Ceil,
-        Mode::Floor => SignedRoundingMode::Floor,
-        Mode::HalfCeil => SignedRoundingMode::HalfCeil,
-        Mode::HalfFloor => SignedRoundingMode::HalfFloor,
-        Mode::Expand => UnsignedRoundingMode::Expand.into(),
-        Mode::Trunc => UnsignedRoundingMode::Trunc.into(),
-        Mode::HalfExpand => UnsignedRoundingMode::HalfExpand.into(),
-        Mode::HalfTrunc => UnsignedRoundingMode::HalfTrunc.into(),
-        Mode::HalfEven => UnsignedRoundingMode::HalfEven.into(),
-    }
-}
-
-fn increment(increment: u32) -> RoundingIncrement {
-    match increment {
-        2 => RoundingIncrement::MultiplesOf2,
-        5 => RoundingIncrement::MultiplesOf5,
-        25 => RoundingIncrement::MultiplesOf25,
-        _ => RoundingIncrement::MultiplesOf1,
-    }
-}
+names_of!(fixed_decimal_proved);
 
 fn change(value: &mut Decimal, call: &Call) -> Result<(), Answer> {
     match *call {

@@ -10,6 +10,7 @@ mod counts;
 mod host;
 mod library;
 mod memory;
+mod names;
 mod original;
 mod program;
 mod reference;

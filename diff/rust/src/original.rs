@@ -1,6 +1,7 @@
 //! The same calls of the original.
 
 use crate::library::Shown;
+use crate::names::names_of;
 use crate::reference::{Call, Display, Mode, Sign, Value, HIGHEST, LOWEST};
 use crate::shared::{Answer, Kind};
 use fixed_decimal::{
@@ -46,47 +47,7 @@ fn of_fault(fault: ParseError) -> Answer {
     }
 }
 
-fn sign(sign: Sign) -> fixed_decimal::Sign {
-    match sign {
-        Sign::None => fixed_decimal::Sign::None,
-        Sign::Minus => fixed_decimal::Sign::Negative,
-        Sign::Plus => fixed_decimal::Sign::Positive,
-    }
-}
-
-fn display(display: Display) -> SignDisplay {
-    match display {
-        Display::Auto => SignDisplay::Auto,
-        Display::Never => SignDisplay::Never,
-        Display::Always => SignDisplay::Always,
-        Display::ExceptZero => SignDisplay::ExceptZero,
-        Display::Negative => SignDisplay::Negative,
-    }
-}
-
-fn mode(mode: Mode) -> SignedRoundingMode {
-    let unsigned = match mode {
-        Mode::Ceil => return SignedRoundingMode::Ceil,
-        Mode::Floor => return SignedRoundingMode::Floor,
-        Mode::HalfCeil => return SignedRoundingMode::HalfCeil,
-        Mode::HalfFloor => return SignedRoundingMode::HalfFloor,
-        Mode::Expand => UnsignedRoundingMode::Expand,
-        Mode::Trunc => UnsignedRoundingMode::Trunc,
-        Mode::HalfExpand => UnsignedRoundingMode::HalfExpand,
-        Mode::HalfTrunc => UnsignedRoundingMode::HalfTrunc,
-        Mode::HalfEven => UnsignedRoundingMode::HalfEven,
-    };
-    SignedRoundingMode::Unsigned(unsigned)
-}
-
-fn increment(increment: u32) -> RoundingIncrement {
-    match increment {
-        2 => RoundingIncrement::MultiplesOf2,
-        5 => RoundingIncrement::MultiplesOf5,
-        25 => RoundingIncrement::MultiplesOf25,
-        _ => RoundingIncrement::MultiplesOf1,
-    }
-}
+names_of!(fixed_decimal);
 
 /// Makes a call in place.
 fn change(value: &mut Decimal, call: &Call) -> Answer {
