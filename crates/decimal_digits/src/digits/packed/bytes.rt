@@ -166,7 +166,7 @@ fn equal_in_two_words(left: &[u8], right: &[u8]) -> bool
 {
     // The last eight bytes may overlap the first.
     let end = left.len() - 8;
-    have_equal_fronts(left, right) && (end == 0 || have_equal_fronts(&left[end..], &right[end..]))
+    have_equal_fronts(left, right) && have_equal_fronts(&left[end..], &right[end..])
 }
 
 // Up to 64 bytes need no call.

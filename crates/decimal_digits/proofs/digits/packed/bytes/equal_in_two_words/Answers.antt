@@ -3,7 +3,7 @@ use Rattle.std.proofs.lemmas.List.{take_rest}
 use Rattle.decimal_digits.proofs.Overlaps.{by_ends}
 use Rattle.decimal_digits.proofs.digits.packed.bytes.equal_in_two_words.Goals as goal
 
-pub returns-else-end-eq0 : goal.returns-else-end-eq0
-returns-else-end-eq0 c =
+pub returns-then-have_equal_fronts : goal.returns-then-have_equal_fronts
+returns-then-have_equal_fronts c =
     by_ends _ 8 8 c.args.left.now c.args.right.now c.requires.same_length c.requires.enough c.requires.few
-    (c.if-have_equal_fronts.ensures.0 (search rules)) (simp take_rest at c.have_equal_fronts-else-end-eq0.ensures)
+    (c.if-have_equal_fronts.ensures.0 (search rules)) (simp take_rest at c.have_equal_fronts-then-have_equal_fronts.ensures)
