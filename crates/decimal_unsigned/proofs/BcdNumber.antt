@@ -149,5 +149,4 @@ module _ (n : ℕ) (h : n < 2 ^ 64) where
       → all ≡ number_from_digits 10 ds
   joined_all ds b few is =
       let whole = take_all (length ds) ds (omega arith) in
-      result ∙ ap (value 16 10 16) (is ∙ ap (number_from_digits 16) (sym whole))
-      ∙ value_front 16 10 ds b (length ds) 16 (omega arith) few ∙ ap (number_from_digits 10) whole
+      grind (arith, result, value_front)

@@ -132,9 +132,7 @@ inner_bits ds n top low below is first above last none =
             ∙ clear_nibble n (len - 1 - k)
             (λ i l. bit_at_above n (suc top) (4 * (len - 1 - k) + i) above (omega arith));
         after = λ k h. elim (cases_lt k len) [
-          | inl l ↦
-              at k (len - 1 - k) l refl
-              ∙ clear_nibble n (len - 1 - k) (λ i m. none (4 * (len - 1 - k) + i) (omega arith))
+          | inl l ↦ grind (arith, ints, nat_tests, clear_nibble)
           | inr l ↦ get_or-eq_default ds 0 l
         ];
         front = rw (at (len - (top / 4 + 1)) (top / 4) (omega arith) (omega arith)) (some_nibble n top first);
@@ -214,8 +212,7 @@ module _ (text : List ℕ) (whole number : ℕ) (few : length text ≤ 17) (shor
   exact n parts e =
       let w = plain_parts text whole in
       let found = digits_some text w (sym (ap (option_map saturated_parts) parts)) in
-      number_written w.whole w.fraction n found at_most e
-      ∙ sym (digits_value_is 16 (w.whole ++ w.fraction))
+      grind (arith, ints, nat_tests, number_written, at_most, digits_value_is)
 
   pub plain_whole : 0 < whole → drop whole text ≡ []
       → IsPlainText text (record { whole = whole; fraction = 0; number = number })
@@ -281,13 +278,7 @@ plain_prefix_point text number n p some few =
       long,
     ) in
     let size : length (take whole text ++ drop (whole + 1) text) ≤ 32 = grind (arith, length-append, long) in
-    record {
-      parts = grind (arith, parts_point, all_counted, digits_right);
-      whole = long;
-      fraction = back;
-      few = size;
-      number = (rw last at p.number) ∙ mod-eq_of_lt (digits_fit (take whole text ++ drop (whole + 1) text) digits size);
-    }
+    grind (arith, ints, nat_tests, parts_point, all_counted, digits_right, long, mod-eq_of_lt, digits_fit)
 
 -- a value of more digits than fit in place allocates
 pub wide_allocates : (reading : Result Unsigned ReadError) (bytes : List ℕ) (len most : ℕ) (b : Bounds)
@@ -357,8 +348,7 @@ module _ (whole fraction number : ℕ) (ds : List ℕ) (bcd : IsBcd number (whol
           middle_number ds k number zeros start end bcd.digits bcd.number n (omega (arith, places, most))
           (omega (arith, places, most)) in
           let long : end - start ≡ len = omega (arith, l, n.ordered, n.within, places) in
-          holds inner (middle_length ds start end n ∙ long) (omega (arith, l)) (middle_below ds start end n bcd.digits)
-          (moved ∙ ap (λ i. number_from_digits 16 inner * 16 ^ (k - i)) long)
+          grind (arith, ints, nat_tests, middle_length, long, middle_below)
 
       pub bcd_value : (zeros len : ℕ) (bytes : List ℕ) (b : Bounds) → zeros ≡ leading_zeros width number / 4
           → len ≡ (k - zeros) - trailing_zeros width number / 4
@@ -379,11 +369,7 @@ module _ (whole fraction number : ℕ) (ds : List ℕ) (bcd : IsBcd number (whol
           number_of-middle ds start end whole fraction b.magnitude n bcd.count (omega (arith, few))
           (omega (arith, ints, at, offset_is b.magnitude, n.ordered, n.within, bcd.count)) in
           let packed = bcd_inner (Encodes bytes len) zeros len z l encoded in
-          record {
-            packed = packed.packed;
-            stored = rw (packed.digits, hi, lo) stored;
-            value = grind (arith, value_is);
-          }
+          grind (arith, ints, nat_tests, value_is)
 
 -- up to sixteen digits, in 64 bits
 module _ (whole fraction number : ℕ) (fits : number < 2 ^ 64) (some : 0 < number) (few : whole + fraction ≤ 16)

@@ -1,5 +1,5 @@
 -- Laws of concatenation.
-use Rattle.decimal_unsigned.proofs.Common.{◌≡◌, ℕ, ◌+◌, ◌-◌, ◌%◌, ◌<◌, ◌≤◌, Bool, true, false, nat_lt, ◌||◌, refl, sym, ◌∙◌, ap, arith, inl, inr, ℤ, pos, ◌+ℤ◌, ◌-ℤ◌, ◌≤ℤ◌, int_max, int_min, ints, clamps, cases_lt, nat_tests, offset, weight, first, last, offset_is, Unsigned, IsValue, with_max_position}
+use Rattle.decimal_unsigned.proofs.Common.{◌≡◌, ℕ, ◌+◌, ◌-◌, ◌%◌, ◌<◌, ◌≤◌, false, nat_lt, ◌||◌, refl, ◌∙◌, ap, arith, inl, inr, ℤ, pos, ◌+ℤ◌, ◌-ℤ◌, ◌≤ℤ◌, int_max, int_min, ints, clamps, cases_lt, nat_tests, offset, weight, first, last, offset_is, Unsigned, IsValue, with_max_position}
 use Rattle.decimal_unsigned.specs.Concatenation.{overlaps, concatenated_end}
 use Rattle.decimal_unsigned.specs.ConcatenationLaws.{ConcatenationIsAssociative}
 use Rattle.decimal_unsigned.proofs.Concatenations.{overlaps_first_zero, overlaps_second_zero, disjoint, not_overlapping}
@@ -52,21 +52,18 @@ module _ (u v w : Unsigned) (p : IsValue u) (q : IsValue v) (r : IsValue w) wher
   overlaps_associative : (overlaps u v || overlaps (concatenated_end u v) w)
       ≡ (overlaps v w || overlaps u (concatenated_end v w))
   unfolding overlaps
-  overlaps_associative = elim (cases_lt 0 v.number) [
-    | inl n ↦ go n (overlaps u v) refl (overlaps v w) refl
-    | inr n ↦
-        let z : v.number ≡ 0 = omega arith in
-        let a : u.number + v.number ≡ u.number = omega arith in
-        let b : v.number + w.number ≡ w.number = omega arith in
-        rw (overlaps_second_zero u v z, overlaps_first_zero v w z, a, b) refl
-  ]
-    where
-      go : 0 < v.number → (a : Bool) → overlaps u v ≡ a → (b : Bool) → overlaps v w ≡ b
-          → (a || overlaps (concatenated_end u v) w) ≡ (b || overlaps u (concatenated_end v w))
-      go n true e true f = refl
-      go n true e false f = sym (back_absorbed u v w q r n f ∙ e)
-      go n false e true f = front_absorbed u v w p q n e ∙ f
-      go n false e false f = front_absorbed u v w p q n e ∙ f ∙ sym (back_absorbed u v w q r n f ∙ e)
+  overlaps_associative =
+      search (
+        rules,
+        arith,
+        ints,
+        clamps,
+        nat_tests,
+        overlaps_second_zero,
+        overlaps_first_zero,
+        back_absorbed,
+        front_absorbed,
+      )
 
   concatenated_end-assoc : concatenated_end (concatenated_end u v) w ≡ concatenated_end u (concatenated_end v w)
   concatenated_end-assoc = grind (arith, ints, clamps)

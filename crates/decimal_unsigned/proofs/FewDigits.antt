@@ -93,8 +93,7 @@ module _ (w : Literal) (digits : AllDigits 10 (w.whole ++ w.fraction)) (few : le
       go false z true e = absurd (let k = rw (z, e) at is in cc)
       go false z false e =
           let same : zeros_trimmed (multiplied (mantissa w.whole w.fraction) d) ≡ v = (let k = rw (z, e) at is in cc) in
-          subst (λ (x : Unsigned). size x.number ≤ length w.whole + length w.fraction) same
-          (size_times d (or_parts (is_outside d) _ e).1)
+          grind (arith, ints, size_times, or_parts)
 
 -- the value of the parts has no more digits than they have
 size_value : (w : Literal) (v : Unsigned) → AllDigits 10 (w.whole ++ w.fraction) → value_of w ≡ Ok v

@@ -1,5 +1,5 @@
 -- Each number other than 0 has a first and a last digit.
-use Rattle.decimal_unsigned.proofs.Common.{◌≡◌, ℕ, zero, suc, ◌+◌, ◌-◌, ◌*◌, ◌/◌, ◌%◌, ◌^◌, ◌<◌, ◌≤◌, sym, ◌∙◌, ap, subst, arith, inl, inr, pow-le-pow_right, mul-le-mul_right, ints, ℤ, pos, ◌<ℤ◌, ◌≤ℤ◌, pow-add, cases_lt, offset, first, last, ten_pos, offset_is, pow-suc, mod-lt, magnitude_at, first_is, first_zero, steps}
+use Rattle.decimal_unsigned.proofs.Common.{◌≡◌, ℕ, zero, suc, ◌+◌, ◌-◌, ◌*◌, ◌/◌, ◌%◌, ◌^◌, ◌<◌, ◌≤◌, sym, ◌∙◌, ap, subst, arith, inl, inr, pow-le-pow_right, mul-le-mul_right, ints, ℤ, pos, ◌<ℤ◌, ◌≤ℤ◌, pow-add, cases_lt, offset, first, last, ten_pos, offset_is, pow-suc, mod-lt, magnitude_at, first_is, first_zero, steps, rules}
 use Rattle.std.proofs.Math.Nat.{mul_assoc, div-add-mod', le-mul_of_pos_right, lt_of_mul-lt-mul_right, mul-add-mod_self_right, mod-le, div-le_self}
 use Rattle.decimal_digits.proofs.Ends.{last_is}
 
@@ -71,9 +71,7 @@ first_le n hi few low high = elim (cases_lt 0 n) [
   | inl some ↦
       let e = extent (offset hi + 1) n some few (omega (arith, ints, offset_is hi)) in
       omega (arith, ints, first_of e, top_lt e (offset hi + 1) few, offset_is hi)
-  | inr none ↦
-      let z : first n ≡ pos 0 = ap first (let y : n ≡ 0 = omega arith in y) ∙ first_zero in
-      omega (arith, ints, z)
+  | inr none ↦ grind (arith, ints, first_zero)
 ]
 
 last_digit : (x y d : ℕ) → 0 < d → (x * 10 ^ d + y) % 10 ≡ y % 10
@@ -134,15 +132,7 @@ module _ (n q b : ℕ) (few : n < 10 ^ b) (high : b ≤ 65536) where
     above_factor = above_is ∙ ap (λ x. x * 10 ^ q) quotient.is ∙ (rw (pow-add 10 quotient.bottom q) (omega arith))
 
     above_limit : quotient.bottom + q < 65536
-    above_limit = elim (cases_lt (quotient.bottom + q) b) [
-      | inl h ↦ omega (arith, high)
-      | inr h ↦
-          let f : 0 < quotient.factor = omega (arith, quotient.odd) in
-          let p : 10 ^ (quotient.bottom + q) ≤ 10 ^ (quotient.bottom + q) * quotient.factor =
-          le-mul_of_pos_right (10 ^ (quotient.bottom + q)) f in
-          let r : 10 ^ b ≤ 10 ^ (quotient.bottom + q) = pow-le-pow_right (omega arith) h in
-          absurd (omega (arith, p, r, few, above_factor))
-    ]
+    above_limit = search (rules, arith, ints, le-mul_of_pos_right, pow-le-pow_right, above_factor)
 
     last_above : last (n - n % 10 ^ q) ≡ magnitude_at (quotient.bottom + q)
     last_above = ap last above_factor ∙ last_is quotient.factor (quotient.bottom + q) quotient.odd above_limit

@@ -150,10 +150,7 @@ not_sign c h = grind (arith, nat_tests, digit_from_value)
 -- an exponent of the grammar is found
 pub exponent-complete : (text : List ℕ) (e : ℤ) → IsExponent text e → exponent_of text ≡ Some e
 unfolding exponent_of
-exponent-complete [] e (unsigned n v) = absurd (omega (arith, n.0))
-exponent-complete (c ∷ rest) e (unsigned n v) = grind (arith, not_sign, numeral-complete)
-exponent-complete text e (plus ds t n v) = ap exponent_of t ∙ (rw (numeral-complete ds n, v) refl)
-exponent-complete text e (minus ds t n v) = ap exponent_of t ∙ (rw (numeral-complete ds n, v) refl)
+exponent-complete text e is = grind (arith, nat_tests, not_sign, numeral-complete)
 
 -- an exponent that is found is one of the grammar
 pub exponent-sound : (text : List ℕ) (e : ℤ) → exponent_of text ≡ Some e → IsExponent text e

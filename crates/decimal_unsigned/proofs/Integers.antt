@@ -100,8 +100,7 @@ shown_from n d few small =
     let k : offset (pos d) + 1 ≡ (d + 1) + offset (pos 0) = omega (arith, ints, offset_is (pos d), offset_is (pos 0)) in
     let split : 10 ^ (offset (pos d) + 1) ≡ 10 ^ (d + 1) * weight (pos 0) = grind (arith, pow-add) in
     let more : (n + 1) * weight (pos 0) ≤ 10 ^ (d + 1) * weight (pos 0) = grind (arith, mul-le-mul_right) in
-    first_le (n * weight (pos 0)) (pos d) (omega (arith, more, split, ten_pos (offset (pos 0)))) (omega (arith, ints))
-    (omega (arith, ints))
+    grind (arith, ints, first_le, ten_pos)
 
 -- its value is shown from there to magnitude 0
 pub shown_at_most : {v : Unsigned} (n d : ℕ) → n < 10 ^ (d + 1) → d < 32768 → v ≡ integer_value n

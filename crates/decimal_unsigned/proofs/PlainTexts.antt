@@ -166,8 +166,7 @@ module _ (n : ℕ) (h : n < 2 ^ 64) where
       → packed ≡ number_from_digits 16 ds
   packed_digits ds b few is =
       let whole = take_all (length ds) ds (omega arith) in
-      packed_is ∙ ap (value 256 16 8) (is ∙ ap (number_from_digits 256) (sym whole))
-      ∙ value_front 256 16 ds (bytes_wider ds b) (length ds) 8 (omega arith) few ∙ ap (number_from_digits 16) whole
+      grind (arith, packed_is, value_front, bytes_wider)
 
 -- up to 32 digits fit into 128 bits
 pub digits_fit : (cs : List ℕ) → AllDigits 10 cs → length cs ≤ 32 → digits_value 16 cs < 2 ^ 128
@@ -316,11 +315,7 @@ module _ (text group : List ℕ) (p g : Dotted ℕ) (front : IsDotted text p) (b
       let all : without (Some n) (text ++ group) ≡ text ++ without (Some n) group =
       grind (arith, take_over, drop_over, append_assoc) in
       let seven : length (without (Some n) group) ≡ 7 = grind (arith, length-append, length-take-le, length-drop) in
-      record {
-        point = grind (arith, get_or-append_right);
-        digits = rw all (append_digits _ _ (rw e at front.digits) (rw f at back.digits));
-        number = grind (arith, joined_number);
-      }
+      grind (arith, get_or-append_right, append_digits, joined_number)
 
 -- ---- The first bytes of a text.
 eight_bytes : (bs : List ℕ) → length bs ≡ 8 → from_be_bytes w64 bs ≡ number_from_digits 256 bs

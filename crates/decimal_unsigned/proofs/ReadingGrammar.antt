@@ -1,5 +1,5 @@
 -- Reading and the grammar.
-use Rattle.decimal_unsigned.proofs.Common.{◌≡◌, ℕ, Bool, true, false, cond, ◌⊎◌, inl, inr, List, refl, sym, ◌∙◌, ap, arith, ℤ, Option, Some, None, Result, Ok, Err, Unsigned, Literal, parts_of, limit, Grammar, mantissa, steps}
+use Rattle.decimal_unsigned.proofs.Common.{◌≡◌, ℕ, Bool, cond, ◌⊎◌, inl, inr, List, refl, sym, ◌∙◌, ap, arith, ℤ, Option, Some, None, Result, Ok, Err, Unsigned, Literal, parts_of, limit, Grammar, mantissa, steps}
 use Rattle.std.specs.Prelude.{IfOk, ◌↔◌}
 use Rattle.decimal_unsigned.specs.declared.error.ParseError.{ParseError}
 use Rattle.decimal_unsigned.specs.declared.error.ParseError.TheVariants.{Limit, Syntax}
@@ -12,13 +12,11 @@ abbrev Values : Result Unsigned ReadError → Type 0
 Values r = ((v : Unsigned) × (r ≡ Ok v)) ⊎ (r ≡ Err limit)
 
 tested : (b : Bool) (x y : Result Unsigned ReadError) → Values x → Values y → Values (cond b x y)
-tested true x y p q = p
-tested false x y p q = q
+tested x0 x y p q = grind arith
 
 scaled_values : (v : Unsigned) (e : Option ℤ) → Values (scaled v e)
 unfolding scaled
-scaled_values v None = inl (v, refl)
-scaled_values v (Some e) = grind (steps, tested)
+scaled_values v x1 = grind (arith, steps, tested)
 
 value_of_values : (w : Literal) → Values (value_of w)
 unfolding value_of
@@ -84,8 +82,7 @@ result_limit allocates r q a = grind arith
 result_value : (allocates : Unsigned → Type 0) (text : List ℕ) (r : Result Unsigned ParseError)
     → IsParseResult allocates r (read text)
     → IfOk r (λ v. (w : Literal) × Grammar text w × (value_of w ≡ Ok v))
-result_value allocates text (Ok v) a = value_is text v a
-result_value allocates text (Err e) a = tt
+result_value allocates text x2 a = grind (arith, value_is)
 
 -- a result that follows reading follows the grammar
 pub result_follows_grammar : (allocates : Unsigned → Type 0) (text : List ℕ) (r : Result Unsigned ParseError)

@@ -25,8 +25,7 @@ is_rounded v r valid e = grind (steps, rounded_number_is_named, unit_pos)
 pub fails : (held : ℕ) (e : RoundError) (v : Unsigned) (r : Rounding UnsignedRoundingMode) → IsValue v
     → DigitRoundingFails e r.increment (size v.number) (rounded_number r.mode (unit_of r) v.number) held
     → RoundingFails held e v r
-fails held Limit v r valid h =
-    is_rounded v r valid (rounded_to-large v r.position (rounded_number r.mode (unit_of r) v.number) h)
+fails held Limit v r valid h = search (rules, arith, ints, clamps, nat_tests, is_rounded, rounded_to-large)
 fails held Memory v r valid h = h
 
 -- ---- The same rounding again.

@@ -1,8 +1,8 @@
 -- Roundings: the values of the fields afterwards, and when each multiple that a mode names is below the limit.
-use Rattle.decimal_unsigned.proofs.Common.{◌≡◌, ℕ, ◌<◌, ◌≤◌, List, length, sym, ◌∙◌, ap, arith, Option, Some, None, Result, Ok, Err, ℤ, pos, negsuc, ◌-ℤ◌, ◌≤ℤ◌, int_max, int_min, AllBelowBase, ints, clamps, nat_tests, first, size, number_limit, number_of, unit_at, rounded_number, RoundingIncrement, Trunc, offset_is, Unsigned, IsStored, rounded, IsRounded, RoundError, UnsignedRoundingMode, unit_pos, first_zero, with_number, steps, ◌+◌, ◌-◌, ◌*◌, ◌^◌, refl, inl, inr, ◌+ℤ◌, ◌<ℤ◌, pow-le-pow_right, mul-le-mul_right, pow-add, cases_lt, offset, weight, MultiplesOf1, ten_pos, IsValue, none-some}
+use Rattle.decimal_unsigned.proofs.Common.{◌≡◌, ℕ, ◌<◌, ◌≤◌, List, length, sym, ◌∙◌, ap, arith, Option, Some, None, Result, ℤ, pos, negsuc, ◌-ℤ◌, ◌≤ℤ◌, int_max, int_min, AllBelowBase, ints, clamps, nat_tests, first, size, number_limit, number_of, unit_at, rounded_number, RoundingIncrement, Trunc, offset_is, Unsigned, IsStored, rounded, IsRounded, RoundError, UnsignedRoundingMode, unit_pos, first_zero, with_number, steps, ◌+◌, ◌-◌, ◌*◌, ◌^◌, refl, inl, inr, ◌+ℤ◌, ◌<ℤ◌, pow-le-pow_right, mul-le-mul_right, pow-add, cases_lt, offset, weight, MultiplesOf1, ten_pos, IsValue, none-some}
 use Rattle.std.specs.Prelude.{IsOk, IsErrOf}
 use Rattle.decimal_digits.specs.RoundedDigits.{Represents, NoDigitsBelow}
-use Rattle.decimal_digits.specs.declared.rounding.RoundError.TheVariants.{Limit, Memory}
+use Rattle.decimal_digits.specs.declared.rounding.RoundError.TheVariants.{Limit}
 use Rattle.std.specs.Result.{is_ok}
 use Rattle.decimal_digits.proofs.RoundingLaws.{trunc_le, rounded_number-multiple, rounded_number-monotone}
 use Rattle.decimal_digits.proofs.NumberAt.{number_of-none}
@@ -36,11 +36,7 @@ pub updates_by_1 : {A B E : Type 0} (held : ℕ) (v : Unsigned) (p : ℤ) (mode 
     (r : Result A RoundError) (s : Result B E) → is_ok s ≡ is_ok r
     → RoundsInPlace held v (rounding_by_1 p mode) new r
     → UpdatesInPlace (IsRounded v (rounding_by_1 p mode)) v new s
-updates_by_1 held v p mode new (Ok x) (Ok y) e a = a
-updates_by_1 held v p mode new (Ok x) (Err y) e a = absurd (cc)
-updates_by_1 held v p mode new (Err x) (Ok y) e a = absurd (cc)
-updates_by_1 held v p mode new (Err Limit) (Err y) e a = a
-updates_by_1 held v p mode new (Err Memory) (Err y) e a = absurd (let by_25 = a.0.by_25 in cc)
+updates_by_1 held v p mode new x5 x6 e a = grind (arith, ints, clamps, nat_tests)
 
 -- if no digits represent a number, it is 0 and its magnitude is 0
 unspelled : {ds : List ℕ} {m : ℤ} {n : ℕ} → Represents ds m n → length ds ≡ 0 → m ≡ pos 0
@@ -117,13 +113,7 @@ module _ (v : Unsigned) (q : ℤ) (least : negsuc 32767 ≤ℤ q) (greatest : q 
         let top : 10 ^ (offset v.hi + 1 + 1) ≤ number_limit =
         pow-le-pow_right (omega arith) (omega (arith, ints, offset_is v.hi, offset_is (pos 32768), valid.hi_in)) in
         let ten : 10 ^ (offset v.hi + 1 + 1) ≡ 10 ^ (offset v.hi + 1) * 10 = pow-add 10 (offset v.hi + 1) 1 in
-        omega (
-          arith,
-          above_unit mode v.number s t d (offset q) (offset v.hi) whole low high some valid.below h,
-          top,
-          ten,
-          ten_pos (offset v.hi + 1),
-        )
+        grind (arith, ints, clamps, nat_tests, above_unit, ten_pos)
   ]
 
   -- under `IsBelowLimit` each multiple is below the limit
@@ -155,14 +145,10 @@ module _ (held : ℕ) (v : Unsigned) (r : Rounding UnsignedRoundingMode) (least 
   pub not_limit_error : {A : Type 0} (new : Unsigned) (answer : Result A RoundError)
       → RoundsInPlace held v r new answer → IsBelowLimit v r.position r.increment
       → IsErrOf answer Limit → ⊥
-  not_limit_error new (Ok x) rounds room e = cc
-  not_limit_error new (Err Limit) rounds room e = rounding_is_some room rounds.0
-  not_limit_error new (Err Memory) rounds room e = cc
+  not_limit_error new x1 rounds room e = grind (arith, ints, clamps, nat_tests, rounding_is_some)
 
   -- nor with `Memory`, if the store has the capacity for one more digit
   pub rounding_is_ok : {A : Type 0} (new : Unsigned) (answer : Result A RoundError)
       → RoundsInPlace held v r new answer → IsBelowLimit v r.position r.increment
       → HasCapacity held v r.increment → IsOk answer
-  rounding_is_ok new (Ok x) rounds room more = refl
-  rounding_is_ok new (Err Limit) rounds room more = absurd (rounding_is_some room rounds.0)
-  rounding_is_ok new (Err Memory) rounds room more = absurd (no_memory held v r rounds.0 more)
+  rounding_is_ok new x1 rounds room more = grind (arith, ints, clamps, nat_tests, rounding_is_some, no_memory)

@@ -1,5 +1,5 @@
 -- The digits that a value shows.
-use Rattle.decimal_unsigned.proofs.Common.{◌≡◌, ℕ, zero, suc, ◌+◌, ◌-◌, ◌*◌, ◌/◌, ◌%◌, ◌^◌, ◌<◌, List, [], ◌∷◌, ◌++◌, length, drop, min, get_or, refl, inl, inr, sym, ◌∙◌, ap, arith, w16, to_z, of_z, ℤ, pos, negsuc, ◌+ℤ◌, ◌-ℤ◌, ◌≤ℤ◌, ◌<ℤ◌, int_gap, All, ints, by_lt_z, cases_lt, to_z-of_z, digit, length-append, elements, gap_is, IsStored, ◌≤◌}
+use Rattle.decimal_unsigned.proofs.Common.{◌≡◌, ℕ, zero, suc, ◌+◌, ◌-◌, ◌*◌, ◌/◌, ◌%◌, ◌^◌, ◌<◌, List, [], ◌∷◌, ◌++◌, length, drop, min, get_or, refl, inl, inr, sym, ◌∙◌, ap, arith, w16, to_z, of_z, ℤ, pos, negsuc, ◌+ℤ◌, ◌-ℤ◌, ◌≤ℤ◌, ◌<ℤ◌, int_gap, All, ints, by_lt_z, cases_lt, to_z-of_z, digit, length-append, elements, gap_is, IsStored, ◌≤◌, rules}
 use Rattle.std.proofs.lemmas.Grind.{same_number_lists}
 use Rattle.std.proofs.lemmas.List.{get_or_past, nil_from_length}
 use lib.Signed.{mag}
@@ -30,8 +30,7 @@ module _ (word ready : ℕ) (fits : word < 2 ^ 64) where
 
   digit_of : (k : ℕ) → k < ready
       → get_or (padded ready (word_nibbles word)) k 0 ≡ get_or (word / 2 ^ 60 ∷ padded (ready - 1) others) k 0
-  digit_of zero h = get_or-padded ready (word_nibbles word) 0 h ∙ first_at
-  digit_of (suc k) h = grind (arith, get_or-padded, other_at)
+  digit_of k h = grind (arith, ints, get_or-padded, first_at, other_at)
 
   -- its first digit, and the word of the others
   pub word_next : 0 < ready → padded ready (word_nibbles word) ≡ word / 2 ^ 60 ∷ padded (ready - 1) others
@@ -94,18 +93,7 @@ stored_shown {ds} {m} {hi} {lo} t above rest a b =
     let fewer = length-padded above (word_nibbles 0) in
     let both = length-append (padded above (word_nibbles 0)) (padded rest ds) in
     let all : length (padded above (word_nibbles 0) ++ padded rest ds) ≡ int_gap lo hi + 1 =
-    omega (
-      arith,
-      ints,
-      t.hi_covers,
-      t.lo_covers,
-      gap_is m hi,
-      gap_is lo m,
-      gap_is lo hi,
-      both,
-      fewer,
-      length-padded rest ds,
-    ) in
+    grind (arith, ints, gap_is, length-padded) in
     same_number_lists _ _ (omega (arith, size, all))
     (λ k k_lt.
     let l : k < int_gap lo hi + 1 = omega (arith, all) in
@@ -136,8 +124,7 @@ pub refilled : (ready old word count index rest : ℕ) (ds : List ℕ) → All (
     ++ padded (rest - count) (drop (index + 16) ds))
 refilled ready old word count index rest ds h none some is fits by =
     let ys = padded (rest - count) (drop (index + 16) ds) in
-    let empty : padded ready (word_nibbles old) ≡ [] =
-    nil_from_length _ (length-padded ready (word_nibbles old) ∙ none) in
+    let empty : padded ready (word_nibbles old) ≡ [] = search (rules, arith, ints, nil_from_length, length-padded) in
     ap (λ xs. xs ++ padded rest (drop index ds)) empty
     ∙ word_front ds index rest h
     ∙ (λ i. padded (sym by i) (word_nibbles (sym is i)) ++ padded (rest - sym by i) (drop (index + 16) ds))
@@ -167,8 +154,7 @@ shifted_zero zeros k n h l m =
     let high : 2 ^ 64 ≤ 2 ^ (4 * zeros + 4 * (15 - k)) =
     pow-le-pow_right {n = 2} (omega arith) {i = 64} {j = 4 * zeros + 4 * (15 - k)} (omega arith) in
     let none : n / 2 ^ (4 * zeros + 4 * (15 - k)) ≡ 0 = div-eq_of_lt (omega (arith, high)) in
-    ap (λ x. x % 16) (div-div-eq-div-mul n (2 ^ (4 * zeros)) (2 ^ (4 * (15 - k)))
-    ∙ ap (λ x. n / x) (sym (pow-add 2 (4 * zeros) (4 * (15 - k)))) ∙ none)
+    grind (arith, ints, div-div-eq-div-mul, pow-add)
 
 module _ {ds : List ℕ} {m hi lo : ℤ} (t : IsStored ds m hi lo) where
   -- a nibble of the number of the first digits, after a right shift by the zeros before them

@@ -33,14 +33,10 @@ module _ (w : Unsigned) (valid : IsValue w) where
     | inl some ↦
         let e = extent_of w valid some in
         elim (cases_lt e.bottom (offset w.lo)) [
-          | inl h ↦
-              absurd (no_more_zeros e.factor e.bottom (offset w.lo) e.odd h
-              (ap (λ n. n % weight w.lo) (sym e.is) ∙ valid.whole))
+          | inl h ↦ grind (arith, ints, clamps, no_more_zeros)
           | inr h ↦ omega (arith, ints, last_of e, h, offset_is w.lo, valid.lo_in)
         ]
-    | inr none ↦
-        let z : last w.number ≡ pos 0 = ap last (let y : w.number ≡ 0 = omega arith in y) ∙ last_zero in
-        omega (arith, ints, z, valid.lo_in)
+    | inr none ↦ grind (arith, ints, clamps, last_zero)
   ]
 
 -- trimming leading zeros makes the greatest magnitude the least possible

@@ -124,9 +124,7 @@ text_is v h l = go v.hi v.lo h l
     go (pos h) (negsuc b) p q =
         let n : int_gap (negsuc b) (pos h) + 1 ≡ suc h + suc b = omega (arith, ints) in
         let dot : int_gap (pos 0) (pos h) + 1 ≡ suc h = omega (arith, ints) in
-        ap (text_down v.number (pos h)) n
-        ∙ text_above v.number h (suc b)
-        ∙ (λ i. bytes_down v.number (pos h) (sym dot i) ++ text_dot v.number b i)
+        grind (arith, ints, text_above, text_dot)
 
 -- ---- Each byte is ASCII.
 dot_ascii : (m : ℤ) → IsAscii (dot_before m)

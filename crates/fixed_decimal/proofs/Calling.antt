@@ -98,8 +98,7 @@ pub first_down : (n top k : ℕ) → 10 ^ top ≤ n → n < 10 ^ (top + 1) → k
 first_down n top k h l fits few =
     let low : 10 ^ top ≡ 10 ^ (top - k) * 10 ^ k = powers (top - k) k top (omega arith) in
     let high : 10 ^ (top + 1) ≡ 10 ^ (top - k + 1) * 10 ^ k = powers (top - k + 1) k (top + 1) (omega arith) in
-    first_is (n / 10 ^ k) (top - k) (le-div _ n _ (ten_pos k) (omega (arith, low)))
-    (div_below n _ _ (ten_pos k) (omega (arith, high))) (omega arith)
+    grind (arith, ints, clamps, nat_tests, first_is, le-div, ten_pos, div_below)
 
 -- and the last digit down by k, if the number has at least k trailing zeros
 pub last_down : (v e k : ℕ) → 0 < v % 10 → k ≤ e → e < 65536 → last (v * 10 ^ e / 10 ^ k) ≡ magnitude_at (e - k)
@@ -122,10 +121,7 @@ module _ (m n cut b : ℕ) (divides : m % 10 ^ cut ≡ 0) (less : n < 10 ^ cut) 
   apart some more =
       let u = upper some in
       let top = top_lt (lower more) cut less in
-      elim (cases_lt u.bottom cut) [
-        | inl h ↦ absurd (no_more_zeros u.factor u.bottom cut u.odd h (ap (λ x. x % 10 ^ cut) (sym u.is) ∙ divides))
-        | inr h ↦ omega (arith, top, h)
-      ]
+      grind (arith, ints, clamps, nat_tests, no_more_zeros)
 
   -- n begins below the end of m
   pub first_below_last : 0 < m → 0 < n → first n <ℤ last m
@@ -142,13 +138,9 @@ module _ (m n cut b : ℕ) (divides : m % 10 ^ cut ≡ 0) (less : n < 10 ^ cut) 
   -- so it has no fewer digits than either of them
   pub size_left : size m ≤ size (m + n)
   size_left = elim (cases_lt 0 m) [
-    | inr none ↦
-        let e : size m ≡ 0 = ap size (let z : m ≡ 0 = omega arith in z) in
-        omega (arith, e)
+    | inr none ↦ grind (arith, ints, clamps, nat_tests)
     | inl some ↦ elim (cases_lt 0 n) [
-      | inr none ↦
-          let e : size (m + n) ≡ size m = ap size (let z : m + n ≡ m = omega arith in z) in
-          omega (arith, e)
+      | inr none ↦ grind (arith, ints, clamps, nat_tests)
       | inl more ↦
           let u = upper some in
           let l = lower more in
@@ -171,13 +163,9 @@ module _ (m n cut b : ℕ) (divides : m % 10 ^ cut ≡ 0) (less : n < 10 ^ cut) 
 
   pub size_right : size n ≤ size (m + n)
   size_right = elim (cases_lt 0 n) [
-    | inr none ↦
-        let e : size n ≡ 0 = ap size (let z : n ≡ 0 = omega arith in z) in
-        omega (arith, e)
+    | inr none ↦ grind (arith, ints, clamps, nat_tests)
     | inl more ↦ elim (cases_lt 0 m) [
-      | inr none ↦
-          let e : size (m + n) ≡ size n = ap size (let z : m + n ≡ n = omega arith in z) in
-          omega (arith, e)
+      | inr none ↦ grind (arith, ints, clamps, nat_tests)
       | inl some ↦
           let u = upper some in
           let l = lower more in
@@ -205,41 +193,25 @@ module _ (n i : ℕ) (e : Extent n) where
       omega (arith, low, mul-le-mul_right (10 ^ i) e.reaches)
 
   limit_up : (b : ℕ) → n * 10 ^ i < 10 ^ b → b ≤ 65536 → e.top + i < 65536
-  limit_up b few limit = elim (cases_lt (e.top + i) b) [
-    | inl h ↦ omega (arith, limit, h)
-    | inr h ↦
-        let up : 10 ^ b ≤ 10 ^ (e.top + i) = pow-le-pow_right (omega arith) h in
-        absurd (omega (arith, reaches_up, few, up))
-  ]
+  limit_up b few limit = grind (arith, ints, clamps, nat_tests, pow-le-pow_right, reaches_up)
 
   module _ (b : ℕ) (few : n * 10 ^ i < 10 ^ b) (limit : b ≤ 65536) where
     first_at : first (n * 10 ^ i) ≡ magnitude_at (e.top + i)
     first_at =
         let high : 10 ^ (e.top + i + 1) ≡ 10 ^ (e.top + 1) * 10 ^ i =
         powers (e.top + 1) i (e.top + i + 1) (omega arith) in
-        first_is (n * 10 ^ i) (e.top + i) reaches_up
-        (omega (arith, high, mul-lt-mul_of_pos_right e.below (ten_pos i))) (limit_up b few limit)
+        grind (arith, ints, clamps, nat_tests, first_is, reaches_up, mul-lt-mul_of_pos_right, ten_pos, limit_up)
 
     last_at_up : last (n * 10 ^ i) ≡ magnitude_at (e.bottom + i)
     last_at_up =
         let split : n * 10 ^ i ≡ e.factor * 10 ^ (e.bottom + i) =
-        ap (λ x. x * 10 ^ i) e.is ∙ mul_assoc e.factor (10 ^ e.bottom) (10 ^ i)
-        ∙ ap (λ x. e.factor * x) (sym (powers e.bottom i (e.bottom + i) refl)) in
+        grind (arith, ints, clamps, nat_tests, mul_assoc, powers) in
         ap last split
         ∙ last_is e.factor (e.bottom + i) e.odd (omega (arith, limit_up b few limit, ordered e))
 
     size_at : 0 < n → size (n * 10 ^ i) ≡ e.top - e.bottom + 1
     size_at some =
-        let more : 0 < n * 10 ^ i = omega (arith, reaches_up, ten_pos (e.top + i)) in
-        omega (
-          arith,
-          ints,
-          size_some (n * 10 ^ i) more,
-          first_at,
-          last_at_up,
-          ordered e,
-          gap_is (last (n * 10 ^ i)) (first (n * 10 ^ i)),
-        )
+        grind (arith, ints, clamps, nat_tests, reaches_up, ten_pos, size_some, first_at, last_at_up, gap_is)
 
 -- a number times two powers of ten
 module _ (n i j b c : ℕ) (few : n * 10 ^ i < 10 ^ b) (less : n * 10 ^ j < 10 ^ c) (limit : b ≤ 65536)
@@ -259,10 +231,7 @@ module _ (n i j b c : ℕ) (few : n * 10 ^ i < 10 ^ b) (less : n * 10 ^ j < 10 ^
     | inl some ↦
         let e = both some in
         size_at n i e b few limit some ∙ sym (size_at n j e c less limits some)
-    | inr none ↦
-        let left : n * 10 ^ i ≡ 0 = (let z : n ≡ 0 = omega arith in ap (λ x. x * 10 ^ i) z ∙ (omega arith)) in
-        let right : n * 10 ^ j ≡ 0 = (let z : n ≡ 0 = omega arith in ap (λ x. x * 10 ^ j) z ∙ (omega arith)) in
-        ap size (left ∙ sym right)
+    | inr none ↦ grind (arith, ints, clamps, nat_tests)
   ]
 
 -- ---- Integers.
@@ -283,8 +252,7 @@ pub first_of_integer : (n k : ℕ) → 10 ^ k ≤ n → n < 10 ^ (k + 1) → k <
 first_of_integer n k least most few =
     let top = k + offset (pos 0) in
     let low : 10 ^ top ≡ 10 ^ k * weight (pos 0) = powers k (offset (pos 0)) top refl in
-    let high : 10 ^ (top + 1) ≡ 10 ^ (k + 1) * weight (pos 0) =
-    powers (k + 1) (offset (pos 0)) (top + 1) (omega arith) in
+    let high : 10 ^ (top + 1) ≡ 10 ^ (k + 1) * weight (pos 0) = grind (arith, ints, clamps, nat_tests, powers) in
     let reaches = mul-le-mul_right (weight (pos 0)) least in
     let below = mul-lt-mul_of_pos_right most (ten_pos (offset (pos 0))) in
     first_is (n * weight (pos 0)) top (omega (arith, low, reaches)) (omega (arith, high, below))
@@ -295,8 +263,7 @@ first_of_integer n k least most few =
 pub integer_down : (n k : ℕ) → k < 32768 → n * weight (pos 0) / 10 ^ suc k ≡ n * weight (negsuc k)
 integer_down n k h =
     let split : weight (pos 0) ≡ weight (negsuc k) * 10 ^ suc k =
-    powers (offset (negsuc k)) (suc k) (offset (pos 0))
-    (omega (arith, ints, offset_is (negsuc k), offset_is (pos 0))) in
+    grind (arith, ints, clamps, nat_tests, powers, offset_is) in
     (rw (split, ← mul_assoc n (weight (negsuc k)) (10 ^ suc k))
     (mul-div_cancel (n * weight (negsuc k)) (ten_pos (suc k))))
 
@@ -333,8 +300,7 @@ unfolding worth_down
 digits_worth number zero p m at h = let e : p - 0 ≡ p = omega arith in rw e (omega arith)
 digits_worth number (suc k) p m at h =
     let here : offset m ≡ p - 1 = omega (arith, at (omega arith)) in
-    let below : 0 < k → offset (m -ℤ pos 1) + 1 ≡ p - 1 =
-    λ some. omega (arith, ints, here, offset_is m, offset_is (m -ℤ pos 1)) in
+    let below : 0 < k → offset (m -ℤ pos 1) + 1 ≡ p - 1 = grind (arith, ints, clamps, nat_tests, offset_is) in
     let rest = digits_worth number k (p - 1) (m -ℤ pos 1) below (omega arith) in
     let last : p - 1 - k ≡ p - suc k = omega arith in
     let split : 10 ^ p ≡ 10 * 10 ^ (p - 1) = powers 1 (p - 1) p (omega arith) in
@@ -346,8 +312,7 @@ digits_worth number (suc k) p m at h =
 pub digits_make_number : (v : Unsigned) → IsValue v → worth_down v.number v.hi (int_gap v.lo v.hi + 1) ≡ v.number
 digits_make_number v valid =
     let count = int_gap v.lo v.hi + 1 in
-    let rest : offset v.hi + 1 - count ≡ offset v.lo =
-    omega (arith, ints, gap_is v.lo v.hi, offset_is v.hi, offset_is v.lo, valid.hi_in, valid.lo_in) in
+    let rest : offset v.hi + 1 - count ≡ offset v.lo = grind (arith, ints, clamps, nat_tests, gap_is, offset_is) in
     let all = digits_worth v.number count (offset v.hi + 1) v.hi (λ h. refl)
     (omega (arith, ints, gap_is v.lo v.hi, offset_is v.hi, offset_is v.lo, valid.hi_in, valid.lo_in)) in
     omega (arith, rw rest at all, valid.whole, mod-eq_of_lt valid.below)
@@ -369,8 +334,7 @@ text_of_literal n hi lo low order = down (int_gap lo hi + 1) hi (omega (arith, i
     down (suc k) m e =
         let height : offset m - offset lo ≡ k = omega (arith, ints, offset_is m, offset_is lo) in
         let above : offset lo ≤ offset m = omega (arith, ints, offset_is m, offset_is lo) in
-        let here : digit (n * weight lo) m ≡ n / 10 ^ k % 10 =
-        ap (λ i. i % 10) (shift_down n (offset lo) (offset m) above ∙ ap (λ i. n / 10 ^ i) height) in
+        let here : digit (n * weight lo) m ≡ n / 10 ^ k % 10 = grind (arith, ints, clamps, nat_tests, shift_down) in
         text_down-suc (n * weight lo) m k
         ∙ ap (λ d. (dot_before m ++ (48 + d) ∷ []) ++ text_down (n * weight lo) (m -ℤ pos 1) k) here
         ∙ ap (λ rest. (dot_before m ++ (48 + n / 10 ^ k % 10) ∷ []) ++ rest)
@@ -379,11 +343,7 @@ text_of_literal n hi lo low order = down (int_gap lo hi + 1) hi (omega (arith, i
 -- the text of i + j magnitudes is that of the first i and that of the other j
 pub text_down-add : (number : ℕ) (m : ℤ) (i j : ℕ)
     → text_down number m (i + j) ≡ text_down number m i ++ text_down number (m -ℤ pos i) j
-text_down-add number m zero j =
-    let same : m ≡ m -ℤ pos zero = omega (arith, ints) in
-    ap (text_down number m) (let e : zero + j ≡ j = omega arith in e)
-    ∙ ap (λ x. text_down number x j) same
-    ∙ ap (λ l. l ++ text_down number (m -ℤ pos zero) j) (sym (text_down-zero number m))
+text_down-add number m zero j = grind (arith, ints, clamps, nat_tests, text_down-zero)
 text_down-add number m (suc i) j =
     let here = dot_before m ++ (48 + digit number m) ∷ [] in
     let next : (m -ℤ pos 1) -ℤ pos i ≡ m -ℤ pos (suc i) = omega (arith, ints) in
@@ -451,15 +411,7 @@ trimmed_valid v valid =
             below = omega (arith, e.below, top);
             whole = ends_low e.factor e.bottom (offset (trimmed v).lo) low e.is;
           }
-      | inr none ↦
-          let zero : v.number ≡ 0 * 10 ^ offset (trimmed v).lo = omega arith in
-          let end : last v.number ≡ pos 0 = ap last (let z : v.number ≡ 0 = omega arith in z) ∙ last_zero in
-          record {
-            hi_in = omega (arith, ints, clamps, few, valid.hi_in);
-            lo_in = omega (arith, ints, clamps, end);
-            below = omega (arith, ten_pos (offset (trimmed v).hi + 1));
-            whole = ap (λ n. n % 10 ^ offset (trimmed v).lo) zero ∙ mul-mod_left 0 (10 ^ offset (trimmed v).lo);
-          }
+      | inr none ↦ grind (arith, ints, clamps, nat_tests, last_zero, ten_pos, mul-mod_left)
     ]
   where
     ends_low : (factor bottom low : ℕ) → low ≤ bottom → v.number ≡ factor * 10 ^ bottom → v.number % 10 ^ low ≡ 0

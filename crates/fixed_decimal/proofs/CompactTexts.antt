@@ -1,9 +1,9 @@
 -- The text of a compact value: its exponent's digits, and that it reads as the value.
-use Rattle.std.proofs.Common.{◌≡◌, ℕ, zero, suc, ◌+◌, ◌/◌, ◌%◌, ◌^◌, ◌<◌, ◌≤◌, Bool, true, false, append-nil, List, [], ◌∷◌, ◌++◌, get_or, refl, sym, ◌∙◌, ap, arith}
+use Rattle.std.proofs.Common.{◌≡◌, ℕ, zero, suc, ◌+◌, ◌/◌, ◌%◌, ◌^◌, ◌<◌, ◌≤◌, Bool, true, false, append-nil, List, [], ◌∷◌, get_or, refl, sym, ◌∙◌, ap, arith}
 use Rattle.std.specs.Prelude.{Option, Some, None, Ok, Err}
 use Rattle.std.specs.Fmt.{decimal}
 use Rattle.std.specs.List.{list_any}
-use Rattle.std.specs.Str.{IsAscii, IsUtf8}
+use Rattle.std.specs.Str.{IsUtf8}
 use Rattle.std.specs.Str.Parse.{AllDigits, IsNumeral, digits_value}
 use Rattle.std.proofs.Math.Dec.{eqb-suc-zero}
 use Rattle.std.proofs.lemmas.Bool.Decides.{nat_tests}
@@ -14,8 +14,6 @@ use Rattle.std.proofs.lemmas.Str.Parse.{digit_from_value}
 use Rattle.decimal_unsigned.specs.Reading.{syntax, is_letter}
 use Rattle.decimal_unsigned.proofs.GrammarParts.{numeral-complete}
 use Rattle.fixed_decimal.specs.DecimalText.{decimal_text, read_decimal, and_then}
-use Rattle.fixed_decimal.specs.Letters.{is_c}
-use Rattle.fixed_decimal.specs.Split.{split_once}
 use Rattle.fixed_decimal.specs.Compact.{split_at_c, IsSplitAtC, ReadsCompact, Compact, exponent_text, compact_text, exponent_number_of, read_exponent, read_fields, read_compact, with_c}
 use Rattle.fixed_decimal.proofs.DecimalBytes.{PassesNone, decimal_text-lacks, letter-none, c-none}
 use Rattle.fixed_decimal.proofs.Splitting.{split_none, split_at}
@@ -40,15 +38,8 @@ three_digits n l h = grind (arith, nat_tests, decimal_digit, decimal_step)
 
 -- it is ASCII
 pub exponent_utf8 : (n : ℕ) → n < 256 → IsUtf8 (exponent_text n)
-exponent_utf8 zero h = IsUtf8-nil
-exponent_utf8 (suc n) h =
-    rw (eqb-suc-zero n)
-    (IsUtf8-from_ascii (99 ∷ decimal (suc n)) (IsAscii-append (99 ∷ []) (decimal (suc n)) c-ascii
-    (IsAscii-decimal (suc n) (below_64 (suc n) h))))
-  where
-    c-ascii : IsAscii (99 ∷ [])
-    c-ascii zero = omega arith
-    c-ascii (suc i) = omega arith
+exponent_utf8 n h =
+    grind (arith, nat_tests, IsUtf8-nil, eqb-suc-zero, IsUtf8-from_ascii, IsAscii-append, IsAscii-decimal, below_64)
 
 -- the text of an exponent, by the number of its digits
 pub ruleset exponents = (one_digit, two_digits, three_digits)
@@ -60,10 +51,7 @@ split_is : (text front : List ℕ) (suffix : Option (List ℕ)) → list_any is_
     → IsSplitAtC text front suffix
     → split_at_c text ≡ Ok (front, suffix)
 unfolding split_at_c
-split_is text front None h c =
-    let e = c.is ∙ append-nil front in
-    rw (h, split_none 99 text (ap (list_any is_c) e ∙ c.first)) (λ i. Ok (e i, None))
-split_is text front (Some suffix) h c = rw (h, ap (split_once 99) c.is ∙ split_at 99 front suffix c.first) refl
+split_is text front suffix h c = grind (arith, nat_tests, append-nil, split_none, split_at)
 
 -- a text with an e or E has no parts
 unsplit_is : (text : List ℕ) → list_any is_letter text ≡ true → split_at_c text ≡ Err syntax
@@ -72,10 +60,7 @@ unsplit_is text h = rw h refl
 
 -- reading is reading the parts
 pub compact_reads : (text : List ℕ) → ReadsCompact text (read_compact text)
-compact_reads text = record {
-  fails_with = λ h. ap (λ r. and_then r read_fields) (unsplit_is text h);
-  split = λ h s x c. ap (λ r. and_then r read_fields) (split_is text s x h c);
-}
+compact_reads text = grind (arith, nat_tests, unsplit_is, split_is)
 
 digits-lacks : (p : ℕ → Bool) → PassesNone p → (ds : List ℕ) → AllDigits 10 ds → list_any p ds ≡ false
 digits-lacks p h [] d = refl
@@ -90,8 +75,7 @@ exponent_number-complete ds n h l = grind (arith, nat_tests, numeral-complete)
 
 exponent_number_reads_back : (n : ℕ) → 0 < n → n < 256 → exponent_number_of (decimal n) ≡ Ok n
 exponent_number_reads_back n h l =
-    let d = decimal_is_IsNumeral n (below_64 n l) in
-    exponent_number-complete (decimal n) d.0 (first_decimal n h (below_64 n l)) (omega (arith, d.1)) ∙ ap Ok d.1
+    grind (arith, nat_tests, decimal_is_IsNumeral, below_64, exponent_number-complete, first_decimal)
 
 -- the part after the significand, or none: it makes the text, has no e and no E, and reads as the exponent
 record Part (n : ℕ) (part : Option (List ℕ)) : Type 0 where
@@ -115,13 +99,7 @@ part_of (suc n) h = (
 split_between : (v : Compact) (l : v.exponent < 256)
     → split_at_c (compact_text v) ≡ Ok (decimal_text v.significand, (part_of v.exponent l).0)
 split_between v l =
-    let (part, k) = part_of v.exponent l in
-    let plain : list_any is_letter (compact_text v) ≡ false =
-    list_any-append is_letter (decimal_text v.significand) (exponent_text v.exponent)
-    ∙ (rw (decimal_text-lacks is_letter letter-none v.significand, k.is, k.plain) refl) in
-    let is = ap (λ t. decimal_text v.significand ++ t) k.is in
-    let first = decimal_text-lacks _ c-none v.significand in
-    split_is (compact_text v) (decimal_text v.significand) part plain (record { is = is; first = first })
+    grind (arith, nat_tests, part_of, list_any-append, decimal_text-lacks, letter-none, c-none, split_is)
 
 -- equal texts have equal parts
 pub same_fields : (v w : Compact) → v.exponent < 256 → w.exponent < 256 → compact_text v ≡ compact_text w

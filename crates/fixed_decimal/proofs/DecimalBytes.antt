@@ -2,7 +2,6 @@
 use Rattle.std.proofs.Common.{◌≡◌, ℕ, zero, suc, ◌+◌, ◌/◌, ◌<◌, ◌≤◌, Bool, false, [], ◌∷◌, ◌++◌, length, refl, ◌∙◌, ap, arith}
 use Rattle.std.specs.Prelude.{ℤ, pos, ◌-ℤ◌}
 use Rattle.std.specs.List.{list_any}
-use Rattle.std.specs.Int.{int_gap}
 use Rattle.std.proofs.lemmas.Int.{ints}
 use Rattle.std.proofs.lemmas.Bool.Decides.{nat_tests}
 use Rattle.std.proofs.lemmas.List.{length-append}
@@ -11,7 +10,7 @@ use Rattle.std.proofs.Math.Nat.{mod-lt}
 use Rattle.decimal_digits.specs.Number.{digit, weight}
 use Rattle.decimal_digits.proofs.Offsets.{gap_is}
 use Rattle.decimal_unsigned.specs.Unsigned.{IsValue}
-use Rattle.decimal_unsigned.specs.Text.{dot_before, text_down, text}
+use Rattle.decimal_unsigned.specs.Text.{dot_before, text_down}
 use Rattle.decimal_unsigned.specs.Reading.{is_letter}
 use Rattle.decimal_unsigned.proofs.Lengths.{length-text_whole}
 use Rattle.decimal_unsigned.proofs.Writing.{text_down-suc, text_down-zero}
@@ -47,9 +46,7 @@ sign-lacks p h sign = grind (arith, h 45, h 43)
 
 -- the text of a decimal is made of digits, a decimal point and a sign
 pub decimal_text-lacks : (p : ℕ → Bool) → PassesNone p → (v : Decimal) → list_any p (decimal_text v) ≡ false
-decimal_text-lacks p h v =
-    let t = text_down-lacks p h v.absolute.number v.absolute.hi (int_gap v.absolute.lo v.absolute.hi + 1) in
-    list_any-append p (sign_text v.sign) (text v.absolute) ∙ (rw (sign-lacks p h v.sign, t) refl)
+decimal_text-lacks p h v = grind (arith, ints, nat_tests, text_down-lacks, list_any-append, sign-lacks)
 
 -- the test for e and E passes none of them
 pub letter-none : PassesNone is_letter
@@ -63,16 +60,7 @@ c-none c h = grind (arith, nat_tests)
 
 -- the text of an integer has at most a sign and 32768 digits
 pub length-integer_most : (v : Decimal) → IsValue v.absolute → v.absolute.lo ≡ pos 0 → length (decimal_text v) ≤ 32769
-length-integer_most v h e =
-    omega (
-      arith,
-      ints,
-      h.hi_in,
-      gap_is v.absolute.lo v.absolute.hi,
-      length-append (sign_text v.sign) (text v.absolute),
-      sign_text_short v.sign,
-      length-text_whole v.absolute h.hi_in.0 e,
-    )
+length-integer_most v h e = grind (arith, ints, nat_tests, gap_is, length-append, sign_text_short, length-text_whole)
 
 -- the length of the text of an integer
 pub ruleset integer_lengths = (length-integer_most)

@@ -1,5 +1,5 @@
 -- The reading of an integer, by the grammar and of its text.
-use Rattle.std.proofs.Common.{◌≡◌, ℕ, List, refl, ap}
+use Rattle.std.proofs.Common.{◌≡◌, ℕ, List, refl, arith}
 use Rattle.std.specs.Prelude.{Ok, pos}
 use Rattle.decimal_unsigned.specs.Unsigned.{IsValue}
 use Rattle.decimal_unsigned.specs.Grammar.{Literal}
@@ -7,8 +7,8 @@ use Rattle.decimal_unsigned.specs.Reading.{value_of}
 use Rattle.decimal_unsigned.proofs.ReadingGrammar.{read_grammar}
 use Rattle.fixed_decimal.specs.declared.variations.Sign.{Sign}
 use Rattle.fixed_decimal.specs.Decimal.{Decimal}
-use Rattle.fixed_decimal.specs.DecimalText.{decimal_text, Grammar, after_sign, with_sign, read_decimal, and_then}
-use Rattle.fixed_decimal.specs.Integer.{integer_or_limit, read_integer, ReadsInteger}
+use Rattle.fixed_decimal.specs.DecimalText.{decimal_text, Grammar, after_sign, with_sign, read_decimal}
+use Rattle.fixed_decimal.specs.Integer.{read_integer, ReadsInteger}
 use Rattle.fixed_decimal.proofs.DecimalTexts.{decimal_syntax, grammar_splits, read_decimal_text}
 
 decimal_found : (bytes : List ℕ) (s : Sign) (w : Literal) → Grammar bytes s w
@@ -20,10 +20,7 @@ decimal_found bytes s w g =
 
 -- reading is reading the parts that the grammar finds
 pub integer_reads : (bytes : List ℕ) → ReadsInteger bytes (read_integer bytes)
-integer_reads bytes = record {
-  found = λ s w g. ap (λ r. and_then r integer_or_limit) (decimal_found bytes s w g);
-  none = λ n. ap (λ r. and_then r integer_or_limit) ((decimal_syntax bytes).1 n);
-}
+integer_reads bytes = grind (arith, decimal_found, decimal_syntax)
 
 -- the text of an integer reads as the integer
 pub integer_reads_back : (v : Decimal) → IsValue v.absolute → v.absolute.lo ≡ pos 0

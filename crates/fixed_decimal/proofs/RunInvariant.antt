@@ -61,10 +61,7 @@ module _ {first v : Decimal} {calls : List Call} {at : ℕ} (i : IsAt first call
   continues w s = record { before = before_next w s; rest = rest_next w s }
 
   stops : (k : ℕ) (e : OutcomeError) → k ≡ at → step k v (get_or calls at d) ≡ Err e → after_calls 0 first calls ≡ Err e
-  stops k e same s =
-      sym i.rest ∙ next
-      ∙ ap (λ r. and_then r (λ u. after_calls (at + 1) u (drop (at + 1) calls)))
-      (ap (λ n. step n v (get_or calls at d)) (sym same) ∙ s)
+  stops k e same s = grind (arith, next)
 
   next_call : (k : ℕ) → k ≡ at → IsReached first calls k v (get_or calls at d)
   next_call k same = rw same (record { before = i.before; next_call = slice_get-get_or calls at d h })
@@ -86,9 +83,4 @@ module _ {first v : Decimal} {calls : List Call} {at : ℕ} (i : IsAt first call
 -- the first error of the calls of a run is that of the run
 pub run_fails : (held : ℕ) (e : CallError) (bytes : List ℕ) (first : Decimal) (calls : List Call)
     → read_decimal bytes ≡ Ok first → CallsFail held e first calls → RunFails held (run_error e) bytes calls
-run_fails held (Operand k parse.Limit) bytes first calls is r = rw (is, r) refl
-run_fails held (Operand k parse.Syntax) bytes first calls is r = rw (is, r) refl
-run_fails held (Operand k parse.Memory) bytes first calls is r = rw is r
-run_fails held (Overlap k) bytes first calls is r = rw (is, r) refl
-run_fails held (Limit k) bytes first calls is r = rw (is, r) refl
-run_fails held (Memory k) bytes first calls is r = rw is r
+run_fails held e bytes first calls is r = grind arith

@@ -1,5 +1,5 @@
 -- Laws of sequences of roundings, and of runs.
-use Rattle.std.proofs.Common.{◌≡◌, ℕ, ◌+◌, ◌<◌, List, [], ◌∷◌, map, refl, sym, ◌∙◌, ap, arith}
+use Rattle.std.proofs.Common.{◌≡◌, ℕ, ◌+◌, ◌<◌, List, [], ◌∷◌, map, sym, ◌∙◌, ap, arith, rules}
 use Rattle.std.specs.Prelude.{Option, Some, None, option_map, option_and_then, Err, if◌then◌else◌, ℤ}
 use Rattle.std.specs.Option.{unwrap_or}
 use Rattle.std.specs.List.{All, fold}
@@ -130,9 +130,7 @@ module _ (mode : UnsignedRoundingMode) where
       regroup o = grind arith
 
   rounds_once : ((v : Decimal) → IsValue v.absolute → Absorbs v.absolute.number) → RoundsOnce mode
-  rounds_once absorbs v p others valid all at =
-      come_to v v (p ∷ others) at (unsigned.rounded v.absolute (rounding_by_1 (fold int_max p others) mode)) refl
-      (once v.absolute.number (absorbs v valid) p others all ∙ sym (by_number v.absolute (fold int_max p others)))
+  rounds_once absorbs v p others valid all at = search (rules, arith, ints, clamps, come_to, once, by_number)
 
 -- a sequence of roundings toward zero is one rounding at the greatest position
 pub truncations_are_one : RoundsOnce Trunc
@@ -143,8 +141,7 @@ truncations_are_one = rounds_once Trunc (λ v valid p q low low'.
     let h = below_limit a p valid in
     let n : t.number ≡ rounded_number Trunc (unit_at MultiplesOf1 p) a.number =
     ap (λ o. (unwrap_or o a).number) (trunc_makes a p MultiplesOf1 h) in
-    let k : t.number < number_limit =
-    omega (arith, n, trunc_le (unit_at MultiplesOf1 p) a.number (unit_pos MultiplesOf1 p)) in
+    let k : t.number < number_limit = grind (arith, ints, clamps, trunc_le, unit_pos) in
     ap (option_and_then (number_after Trunc q)) (after_trunc a p h)
     ∙ after_trunc t q k
     ∙ ap Some ((unsigned_proofs.truncations_compose a p low valid).number q low')

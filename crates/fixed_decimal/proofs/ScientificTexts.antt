@@ -4,8 +4,8 @@ use Rattle.std.specs.Prelude.{pos, Option, Some, None, Ok, Err}
 use Rattle.std.specs.List.{list_any}
 use Rattle.decimal_unsigned.specs.Reading.{syntax, is_letter}
 use Rattle.decimal_unsigned.specs.Unsigned.{IsValue}
-use Rattle.fixed_decimal.specs.DecimalText.{decimal_text, read_decimal, and_then}
-use Rattle.fixed_decimal.specs.Scientific.{Scientific, scientific_text, plain_parts, split_at_e, read_fields, read_scientific, IsSplitAtE, ReadsScientific}
+use Rattle.fixed_decimal.specs.DecimalText.{decimal_text, read_decimal}
+use Rattle.fixed_decimal.specs.Scientific.{Scientific, scientific_text, plain_parts, split_at_e, read_scientific, IsSplitAtE, ReadsScientific}
 use Rattle.fixed_decimal.specs.Split.{split_once}
 use Rattle.fixed_decimal.proofs.DecimalBytes.{decimal_text-lacks, letter-none}
 use Rattle.fixed_decimal.proofs.IntegerTexts.{integer_reads_back}
@@ -34,27 +34,17 @@ unsplit_is text n = go (split_once 101 text) refl
     go None e = refl
     go (Some parts) e =
         let is = split_parts 101 text parts e in
-        let never : list_any is_letter parts.0 ≡ false → list_any is_letter parts.1 ≡ false → ⊥ =
-        λ f g. n parts.0 parts.1 (record { is = is; plain_significand = f; plain_exponent = g }) in
+        let never : list_any is_letter parts.0 ≡ false → list_any is_letter parts.1 ≡ false → ⊥ = grind arith in
         grind arith
 
 -- reading is reading the parts of the split, or there is none
 pub scientific_reads : (text : List ℕ) → ReadsScientific text (read_scientific text)
-scientific_reads text = record {
-  split = λ a b c. ap (λ r. and_then r read_fields) (split_is text a b c);
-  unsplit = λ n. ap (λ r. and_then r read_fields) (unsplit_is text n);
-}
+scientific_reads text = grind (arith, split_is, unsplit_is)
 
 -- the text of a value is split between its parts
 split_between : (v : Scientific)
     → split_at_e (scientific_text v) ≡ Ok (decimal_text v.significand, decimal_text v.exponent)
-split_between v =
-    split_is (scientific_text v) (decimal_text v.significand) (decimal_text v.exponent)
-    (record {
-      is = refl;
-      plain_significand = decimal_text-lacks _ letter-none v.significand;
-      plain_exponent = decimal_text-lacks _ letter-none v.exponent;
-    })
+split_between v = grind (arith, split_is, decimal_text-lacks, letter-none)
 
 -- equal texts have equal parts
 pub same_fields : (v w : Scientific) → scientific_text v ≡ scientific_text w
@@ -70,9 +60,7 @@ pub scientific_reads_back : (v : Scientific) → read_decimal (decimal_text v.si
     → IsValue v.exponent.absolute
     → v.exponent.absolute.lo ≡ pos 0
     → read_scientific (scientific_text v) ≡ Ok v
-scientific_reads_back v h k e =
-    ap (λ r. and_then r read_fields) (split_between v)
-    ∙ (rw (h, integer_reads_back v.exponent k e) refl)
+scientific_reads_back v h k e = grind (arith, split_between, integer_reads_back)
 
 -- the lemmas for writing a scientific value
 pub ruleset writing = (first_fails, second_fails, scientific_reads_back)

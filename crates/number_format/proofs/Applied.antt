@@ -1,12 +1,12 @@
 -- A decimal that is rounded at the position of a precision, with the digits that are shown then, is the one that the
 -- options make.
-use Rattle.std.proofs.Common.{◌≡◌, ℕ, ◌+◌, ◌-◌, ◌*◌, ◌/◌, ◌%◌, ◌^◌, ◌<◌, ◌≤◌, true, false, inl, inr, refl, sym, ◌∙◌, ap, subst, arith}
+use Rattle.std.proofs.Common.{◌≡◌, ℕ, ◌*◌, ◌/◌, ◌%◌, ◌^◌, ◌<◌, ◌≤◌, true, false, refl, sym, ◌∙◌, ap, subst, arith}
 use Rattle.std.specs.Prelude.{Some, None, ℤ, pos, negsuc, ◌+ℤ◌, ◌-ℤ◌, ◌≤ℤ◌, int_lt}
 use Rattle.std.specs.Int.{int_max, int_min}
 use Rattle.std.proofs.Math.Nat.{mod-lt, mod-eq_of_lt, div-add-mod', mul-mod_left}
 use Rattle.std.proofs.lemmas.Int.{ints, clamps}
-use Rattle.std.proofs.lemmas.Bool.{cases_Bool, or_from, or_right}
-use Rattle.decimal_digits.specs.Number.{number_limit, offset, weight, first, last, size, highest_magnitude}
+use Rattle.std.proofs.lemmas.Bool.{or_from}
+use Rattle.decimal_digits.specs.Number.{number_limit, offset, weight, first, size, highest_magnitude}
 use Rattle.decimal_digits.specs.Rounding.{step_of, unit_at, rounded_number}
 use Rattle.decimal_digits.specs.declared.rounding.RoundError.{RoundError}
 use Rattle.decimal_digits.specs.declared.rounding.RoundError.TheVariants.{Limit, Memory}
@@ -20,19 +20,16 @@ use Rattle.fixed_decimal.specs.SignedRounding.{NamedSigned, mode_at, IsRounded, 
 use Rattle.fixed_decimal.proofs.Calling.{signed_rounded_to-some, below_limit, offset_is, size_right, ten_pos}
 use Rattle.number_format.specs.declared.digit_options.DigitOptions.{DigitOptions}
 use Rattle.number_format.specs.declared.digit_options.TrailingZeros.{TrailingZeros}
-use Rattle.number_format.specs.declared.digit_options.TrailingZeros.TheVariants.{Auto, StripIfInteger}
 use Rattle.number_format.specs.declared.precision.Precision.{Precision}
-use Rattle.number_format.specs.declared.precision.Precision.TheVariants.{Fraction, Multiples, Significant, MorePrecision, LessPrecision}
 use Rattle.number_format.specs.ShownDigits.{rounded_with, padded, stripped, shown, base_of, position_of, position_at, last_shown_of, ApplyFails, IsRoundedAt, RoundingFailsAt}
-use Rattle.number_format.proofs.Chosen.{IsChosen, chosen}
+use Rattle.number_format.proofs.Roundings.{IsChosen, chosen}
 
 -- at a position below the lowest magnitude the unit is that of the lowest one
 unit_clamped : (increment : RoundingIncrement) (p : ℤ)
     → unit_at increment (int_max p (negsuc 32767)) ≡ unit_at increment p
 unit_clamped increment p =
-    let same : offset (int_max p (negsuc 32767)) ≡ offset p =
-    omega (arith, ints, clamps, offset_is p, offset_is (int_max p (negsuc 32767))) in
-    ap (λ k. step_of increment * 10 ^ k) same
+    ap (λ k. step_of increment * 10 ^ k)
+    (omega (arith, ints, clamps, offset_is p, offset_is (int_max p (negsuc 32767))))
 
 below_limit_if_some : (v new : Decimal) (position : ℤ) (multiple : ℕ)
     → with_absolute v (rounded_to v.absolute position multiple) ≡ Some new → reaches_limit multiple ≡ false
@@ -109,47 +106,28 @@ module _ (o : DigitOptions) (exponent : ℕ) (old : Decimal) (before position : 
       → RoundingFails held e old (rounding position o.mode increment) → RoundingFailsAt held e o exponent old
   rounding_fails held Limit low fails = (
     subst (λ z. z ≤ℤ pos 32767) starts low,
-    rw (or_right (int_lt highest_magnitude (position_at o.precision exponent n)) _
-        (ap reaches_limit number_is ∙ limit_if_none old position _ fails.value)) refl,
+    let t = limit_if_none old position _ fails.value in let u = number_is in grind arith,
   )
-  rounding_fails held Memory low fails = record {
-    by_25 = sym base ∙ fails.by_25;
-    below_limit = subst (λ n. n < number_limit) (sym number_is) fails.below_limit;
-    longer = ap size number_is ∙ fails.longer;
-    full = fails.full;
-  }
+  rounding_fails held Memory low fails = let u = number_is in grind (arith, fails)
 
 -- ---- The digits that are shown.
 -- the digits of a number below 10 to a power are no more than those of the number
 pub size_of_remainder : (n k : ℕ) → n < number_limit → size (n % 10 ^ k) ≤ size n
 size_of_remainder n k few =
     let whole = div-add-mod' n (10 ^ k) in
-    let all : n - n % 10 ^ k + n % 10 ^ k ≡ n = omega (arith, whole) in
-    let multiple : n - n % 10 ^ k ≡ n / 10 ^ k * 10 ^ k = omega (arith, whole) in
-    let divides : (n - n % 10 ^ k) % 10 ^ k ≡ 0 =
-    ap (λ m. m % 10 ^ k) multiple ∙ mul-mod_left (n / 10 ^ k) (10 ^ k) in
-    subst (λ m. size (n % 10 ^ k) ≤ size m) all
-    (size_right (n - n % 10 ^ k) (n % 10 ^ k) k (offset (pos 32768)) divides (mod-lt n (ten_pos k))
-    (omega (arith, all, few)) (omega (arith, ints, offset_is (pos 32768))))
+    subst (λ m. size (n % 10 ^ k) ≤ size m) whole
+    (size_right (n / 10 ^ k * 10 ^ k) (n % 10 ^ k) k (offset (pos 32768)) (mul-mod_left (n / 10 ^ k) (10 ^ k))
+    (mod-lt n (ten_pos k)) (omega (arith, whole, few)) (omega (arith, ints, offset_is (pos 32768))))
 
 -- the value with the given least number of integer digits, and zeros down to a magnitude or to 0
 pub padded_is : (o : DigitOptions) (cut : Unsigned) (rounded : ℕ) (end : ℤ)
     → cut.number ≡ rounded % weight (pos o.integer.max)
     → padded_end (padded_start cut (pos o.integer.min)) (int_min (int_max end (negsuc 32767)) (pos 0))
     ≡ padded o rounded end
-padded_is o cut rounded end number =
-    let some = o.integer.some in
-    let start : int_lt (pos 0) (pos o.integer.min) ≡ true = grind (arith, ints) in
-    let low : int_lt (pos 0) (int_min (int_max end (negsuc 32767)) (pos 0)) ≡ false = grind (arith, ints, clamps) in
-    rw (start, low) (λ i. record {
-      number = number i;
-      hi = int_max (pos o.integer.min -ℤ pos 1) (first (number i));
-      lo = int_min (int_min (int_max end (negsuc 32767)) (pos 0)) (last (number i));
-    })
+padded_is o cut rounded end number = grind (arith, ints, clamps)
 
 pub stripped_number : (zeros : TrailingZeros) (v : Unsigned) → (stripped zeros v).number ≡ v.number
-stripped_number Auto v = refl
-stripped_number StripIfInteger v = grind arith
+stripped_number zeros v = grind arith
 
 -- and all of the number is shown, if no integer digit is cut off
 pub shown_number : (o : DigitOptions) (r : ℕ) (end : ℤ) → o.integer.max ≡ 32768 → r < number_limit
@@ -160,18 +138,11 @@ shown_number o r end all few =
 -- ---- The errors of the whole call.
 -- the position of a rounding without an exponent is within the limits
 position_within : (p : Precision) (n : ℕ) → first n ≤ℤ pos 32767 → position_at p 0 n ≤ℤ pos 32767
-position_within (Fraction f) n h = omega (arith, ints)
-position_within (Multiples x) n h = omega (arith, ints, x.increment.few_zeros)
-position_within (Significant s) n h = omega (arith, ints, s.some, s.ordered)
-position_within (MorePrecision b) n h = omega (arith, ints, clamps)
-position_within (LessPrecision b) n h = omega (arith, ints, clamps, b.significant.some, b.significant.ordered)
+position_within p n h = grind (arith, ints, clamps)
 
 pub apply_fails : (held : ℕ) (e : RoundError) (o : DigitOptions) (v : Decimal) → RoundingFailsAt held e o 0 v
     → ApplyFails held e o v
 apply_fails held Limit o v (low, none) =
-    let below = position_within o.precision v.absolute.number low in
-    elim (cases_Bool (reaches_limit (rounded_with o 0 v).number)) [
-      | inl full ↦ rw full refl
-      | inr fits ↦ absurd (let some = rw (or_from _ _ (within _ below) fits) at none in cc)
-    ]
+    let below = within _ (position_within o.precision v.absolute.number low) in
+    grind arith
 apply_fails held Memory o v fails = fails

@@ -1,14 +1,12 @@
 -- Laws of digit options.
-use Rattle.std.proofs.Common.{◌≡◌, ℕ, ◌*◌, ◌/◌, ◌<◌, ◌≤◌, false, inl, inr, refl, sym, ◌∙◌, ap, subst, arith}
-use Rattle.std.specs.Prelude.{Some, nat_le, ℤ, pos, ◌+ℤ◌}
+use Rattle.std.proofs.Common.{◌≡◌, ℕ, ◌*◌, ◌/◌, ◌<◌, false, refl, sym, ◌∙◌, ap, subst, arith}
+use Rattle.std.specs.Prelude.{Some, ℤ, pos, ◌+ℤ◌}
 use Rattle.std.proofs.Math.Nat.{div-add-mod'}
 use Rattle.std.proofs.lemmas.Int.{ints}
-use Rattle.std.proofs.lemmas.Bool.{cases_Bool}
 use Rattle.std.proofs.lemmas.Bool.Decides.{nat_tests}
 use Rattle.decimal_digits.specs.Number.{number_limit, offset, weight}
 use Rattle.decimal_digits.specs.Rounding.{step_of, rounded_number}
 use Rattle.decimal_digits.specs.declared.rounding.RoundingIncrement.{RoundingIncrement}
-use Rattle.decimal_digits.specs.declared.rounding.RoundingIncrement.TheVariants.{MultiplesOf1, MultiplesOf2, MultiplesOf5, MultiplesOf25}
 use Rattle.decimal_digits.specs.declared.rounding.UnsignedRoundingMode.{UnsignedRoundingMode}
 use Rattle.decimal_unsigned.specs.Rounded.{reaches_limit}
 use Rattle.fixed_decimal.specs.Decimal.{Decimal}
@@ -18,15 +16,12 @@ use Rattle.number_format.specs.declared.digit_options.DigitOptions.{DigitOptions
 use Rattle.number_format.specs.declared.digit_ranges.FractionDigits.{FractionDigits}
 use Rattle.number_format.specs.declared.precision.Precision.{Precision}
 use Rattle.number_format.specs.declared.precision.Precision.TheVariants.{Fraction, Multiples, Significant, MorePrecision, LessPrecision}
-use Rattle.number_format.specs.ShownDigits.{fraction_end, increment_of, Rounded, to_fixed, rounded_by, rounded_with, shown, applied, IsFractional, KeepsNumber, KeepsValue, IsMonotone, AppliesOnce}
+use Rattle.number_format.specs.ShownDigits.{fraction_end, Rounded, to_fixed, rounded_by, rounded_with, shown, applied, IsFractional, KeepsNumber, KeepsValue, IsMonotone, AppliesOnce}
 use Rattle.number_format.proofs.Applied.{shown_number}
 
 -- ---- A rounding to fraction digits is one to multiples of a unit.
 step_some : (increment : RoundingIncrement) → 0 < step_of increment
-step_some MultiplesOf1 = omega arith
-step_some MultiplesOf2 = omega arith
-step_some MultiplesOf5 = omega arith
-step_some MultiplesOf25 = omega arith
+step_some increment = grind arith
 
 product_some : (a b : ℕ) → 0 < a → 0 < b → 0 < a * b
 product_some a b p q = grind arith
@@ -41,18 +36,18 @@ record IsByUnit (p : Precision) (mode : UnsignedRoundingMode) : Type 0 where
 by_unit : (p : Precision) (mode : UnsignedRoundingMode) → IsFractional p → IsByUnit p mode
 unfolding rounded_by to_fixed
 by_unit (Fraction f) mode is = record {
-  unit = 1 * weight (pos 0 +ℤ fraction_end f.max);
+  unit = _;
   some = omega (arith, ten_pos (offset (pos 0 +ℤ fraction_end f.max)));
-  end = fraction_end f.min;
+  end = _;
   number = λ n. refl;
   shown = λ n. refl;
 }
 by_unit (Multiples m) mode is = record {
-  unit = increment_of m.increment * weight (pos 0 +ℤ fraction_end m.digits);
+  unit = _;
   some =
       product_some _ _ (product_some _ _ (step_some m.increment.base) (ten_pos m.increment.zeros))
       (ten_pos (offset (pos 0 +ℤ fraction_end m.digits)));
-  end = fraction_end m.digits;
+  end = _;
   number = λ n. refl;
   shown = λ n. refl;
 }
@@ -70,9 +65,9 @@ module _ (o : DigitOptions) (f : FractionDigits) (v : Decimal) where
       let unit = weight (fraction_end f.max) in
       let same : pos 0 +ℤ fraction_end f.max ≡ fraction_end f.max = omega (arith, ints) in
       let one : 1 * weight (pos 0 +ℤ fraction_end f.max) ≡ unit = omega (arith, ap weight same) in
-      let multiple : n ≡ n / unit * unit = omega (arith, divides, div-add-mod' n unit) in
+      let multiple : n / unit * unit ≡ n = omega (arith, divides, div-add-mod' n unit) in
       ap (λ p. (rounded_by p mode 0 n).number) is ∙ ap (λ u. rounded_number mode u n) one
-      ∙ subst (λ m. rounded_number mode unit m ≡ m) (sym multiple)
+      ∙ subst (λ m. rounded_number mode unit m ≡ m) multiple
       (rounded_number-multiple mode unit (n / unit) (ten_pos (offset (fraction_end f.max))))
 
   last_shown_is : o.precision ≡ Fraction f → (rounded_with o 0 v).last_shown ≡ fraction_end f.min
@@ -80,23 +75,14 @@ module _ (o : DigitOptions) (f : FractionDigits) (v : Decimal) where
   last_shown_is is = ap (λ p. (rounded_by p (mode_at o.mode v.sign) 0 v.absolute.number).last_shown) is
 
   pub keeps_value : KeepsValue o f v
-  keeps_value is divides few range =
-      let number = keeps_number is divides in
-      let end = last_shown_is is in
-      let fits : reaches_limit (rounded_with o 0 v).number ≡ false =
-      ap reaches_limit number
-      ∙ (let t : nat_le number_limit v.absolute.number ≡ false = grind (arith, nat_tests) in t) in
-      rw fits (λ i. Some (record v { absolute = ((λ j. shown o (number j) (end j)) ∙ sym range) i }))
+  keeps_value is divides few range = grind (arith, nat_tests, keeps_number, last_shown_is)
 
 -- ---- Order, and a second rounding.
 pub is_monotone : (o : DigitOptions) (v w : Decimal) → IsMonotone o v w
 is_monotone o v w is sign h =
-    let mode = mode_at o.mode v.sign in
-    let u = by_unit o.precision mode is in
-    subst
-    (λ s. (rounded_with o 0 v).number ≤ (rounded_by o.precision (mode_at o.mode s) 0 w.absolute.number).number) sign
-    (rw (u.number v.absolute.number, u.number w.absolute.number)
-    (rounded_number-monotone mode u.unit v.absolute.number w.absolute.number u.some h))
+    let u = by_unit o.precision (mode_at o.mode v.sign) is in
+    rw (sym sign, u.number v.absolute.number, u.number w.absolute.number)
+    (rounded_number-monotone (mode_at o.mode v.sign) u.unit v.absolute.number w.absolute.number u.some h)
 
 module _ (o : DigitOptions) (v : Decimal) (is : IsFractional o.precision) (all : o.integer.max ≡ 32768) where
   abbrev made : Rounded
@@ -120,10 +106,4 @@ module _ (o : DigitOptions) (v : Decimal) (is : IsFractional o.precision) (all :
       (λ i. Some (record v { absolute = shown o (number i) (end i) }))
 
 pub applies_once : (o : DigitOptions) (v : Decimal) → AppliesOnce o v
-applies_once o v is all w makes = elim (cases_Bool (reaches_limit (rounded_with o 0 v).number)) [
-  | inl full ↦ absurd (let none = rw full at makes in cc)
-  | inr fits ↦
-      let w_is = rw fits at makes in
-      let same : record v { absolute = shown o (rounded_with o 0 v).number (rounded_with o 0 v).last_shown } ≡ w = cc in
-      subst (λ x. applied o x ≡ Some x) same (once o v is all fits)
-]
+applies_once o v is all w makes = let f = once o v is all in grind arith

@@ -1,6 +1,4 @@
-pub mod FirstDigits
-pub mod Chosen
+pub mod Roundings
 pub mod Applied
 pub mod Scales
-pub mod Carries
 pub mod DigitLaws

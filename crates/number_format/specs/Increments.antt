@@ -1,12 +1,9 @@
 -- The increments of ECMA-402.
-use Rattle.std.specs.Prelude.{ℕ, ◌==◌, Bool, List, [], ◌∷◌}
+use Rattle.std.specs.Prelude.{ℕ, ◌==◌, Bool, [], ◌∷◌}
 use Rattle.std.specs.List.{list_any}
-
--- the increments that ECMA-402 allows
-abbrev pub increments : List ℕ
-increments =
-    1 ∷ 2 ∷ 5 ∷ 10 ∷ 20 ∷ 25 ∷ 50 ∷ 100 ∷ 200 ∷ 250 ∷ 500 ∷ 1000 ∷ 2000 ∷ 2500 ∷ 5000 ∷ []
 
 -- the number is one of them
 abbrev pub is_increment : ℕ → Bool
-is_increment n = list_any (λ i. i == n) increments
+is_increment n =
+    list_any (λ i. i == n)
+    (1 ∷ 2 ∷ 5 ∷ 10 ∷ 20 ∷ 25 ∷ 50 ∷ 100 ∷ 200 ∷ 250 ∷ 500 ∷ 1000 ∷ 2000 ∷ 2500 ∷ 5000 ∷ [])

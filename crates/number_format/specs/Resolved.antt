@@ -84,11 +84,12 @@ pub record IsResolved (s : DigitSettings) (d : DigitDefaults) (o : DigitOptions)
 abbrev pub are_within : ℕ → ℕ → ℕ × ℕ → Bool
 are_within low high c = nat_le low c.0 && (nat_le c.0 c.1 && nat_le c.1 high)
 
--- the numbers of fraction digits that are given are at most 100, and the two are in order
+-- the numbers of fraction digits that are given are at most 100, and the two are in order, if they apply
 abbrev pub are_fraction : DigitSettings → DigitDefaults → Bool
 are_fraction s d =
-    nat_le (unwrap_or s.minimum_fraction_digits 0) 100 && nat_le (unwrap_or s.maximum_fraction_digits 0) 100
-    && nat_le (fraction_of s d).0 (fraction_of s d).1
+    not (needs_fraction s d)
+    || (nat_le (unwrap_or s.minimum_fraction_digits 0) 100 && nat_le (unwrap_or s.maximum_fraction_digits 0) 100
+    && nat_le (fraction_of s d).0 (fraction_of s d).1)
 
 -- the error of the first test that fails
 abbrev pub first_error : List (Bool × DigitOptionsError) → Option DigitOptionsError
@@ -107,4 +108,4 @@ resolve_error s d =
     first_error ((are_within 1 21 (unwrap_or s.minimum_integer_digits 1, 21), error.IntegerDigits)
     ∷ (is_increment s.rounding_increment, error.Increment)
     ∷ (are_within 1 21 (significant_of s), error.SignificantDigits)
-    ∷ (not (needs_fraction s d) || are_fraction s d, error.FractionDigits) ∷ increment_tests s d)
+    ∷ (are_fraction s d, error.FractionDigits) ∷ increment_tests s d)

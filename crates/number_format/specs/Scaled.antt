@@ -2,9 +2,6 @@
 use Rattle.std.specs.Prelude.{◌≡◌, ℕ, ◌+◌, ◌*◌, ◌/◌, ◌^◌, ◌<◌, ◌⊎◌, nat_lt, if◌then◌else◌, slice_index, Option, Some, None, option_map, option_and_then, unsigned_abs, ℤ, pos, ◌+ℤ◌, ◌-ℤ◌, ◌≤ℤ◌, int_lt}
 use Rattle.std.specs.Int.{int_max, int_min, int_rem_euclid}
 use Rattle.decimal_digits.specs.Number.{number_limit, weight, first, last, lowest_magnitude}
-use Rattle.decimal_digits.specs.declared.rounding.RoundError.{RoundError}
-use Rattle.decimal_digits.specs.declared.rounding.RoundError.TheVariants.{Limit, Memory}
-use Rattle.decimal_digits.specs.declared.rounding.RoundingIncrement.TheVariants.{MultiplesOf25}
 use Rattle.fixed_decimal.specs.Decimal.{Decimal}
 use Rattle.fixed_decimal.specs.declared.variations.Sign.{Sign}
 use Rattle.number_format.specs.declared.digit_options.DigitOptions.{DigitOptions}
@@ -13,16 +10,14 @@ use Rattle.number_format.specs.declared.notation.Notation.{Notation}
 use Rattle.number_format.specs.declared.notation.Notation.TheVariants.{Standard, Scientific, Engineering, Compact}
 use Rattle.number_format.specs.declared.precision.Precision.{Precision}
 use Rattle.number_format.specs.declared.precision.Precision.TheVariants.{Multiples}
-use Rattle.number_format.specs.ShownDigits.{Rounded, rounded_at, shown, base_of, rounded_within}
+use Rattle.number_format.specs.ShownDigits.{Rounded, rounded_at, shown, rounded_within}
 
 -- ---- The exponent of a number whose first digit is at a magnitude.
--- the row of a magnitude: the rows are for 3 to 14
-abbrev pub row_of : ℤ → ℕ
-row_of m = unsigned_abs (int_min (int_max m (pos 3)) (pos 14) -ℤ pos 3)
-
--- the exponent of a compact pattern: 0 below 1000, and above 10^14 that of 10^14
+-- the exponent of a compact pattern, from the rows of the magnitudes 3 to 14: 0 below 3, and above 14 that of 14
 abbrev pub compact_exponent : CompactExponents → ℤ → ℤ
-compact_exponent table m = if int_lt m (pos 3) then pos 0 else pos (slice_index table.rows (row_of m))
+compact_exponent table m =
+    if int_lt m (pos 3) then pos 0
+    else pos (slice_index table.rows (unsigned_abs (int_min (int_max m (pos 3)) (pos 14) -ℤ pos 3)))
 
 -- the exponent for a magnitude: by `Engineering` the greatest multiple of 3 that is at most the magnitude
 abbrev pub exponent_at : Notation → ℤ → ℤ
@@ -121,8 +116,3 @@ KeepsValueOf notation o v =
     → (t : Settled) × (settled notation o v.sign (raised notation v.absolute.number) ≡ Some t)
     × (s.significand.absolute.number * 10 ^ t.exponent ≡ t.number)
     × (s.exponent ≡ base_exponent notation v.absolute.number +ℤ pos t.exponent)
-
--- ---- Private: used only in the contract of a private function.
-abbrev pub SettlingFails : RoundError → Notation → DigitOptions → Decimal → Type 0
-SettlingFails Limit notation o v = settled notation o v.sign v.absolute.number ≡ None
-SettlingFails Memory notation o v = base_of o.precision ≡ MultiplesOf25

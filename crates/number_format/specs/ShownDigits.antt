@@ -170,16 +170,12 @@ rounded_within o sign exponent n =
     if int_lt highest_magnitude (position_at o.precision exponent n) || reaches_limit r.number then None else Some r
 
 -- ---- Errors.
--- a rounding needs memory for one more digit than the `held` ones that fit without an allocation, by 25 with or without
--- zeros, and only below the limit
-abbrev pub NeedsMemory : ℕ → DigitOptions → ℕ → Decimal → Type 0
-NeedsMemory held o exponent v =
-    DigitRoundingNeedsMemory (base_of o.precision) (size v.absolute.number) (rounded_with o exponent v).number held
-
--- the error: the rounded number would be 10^32768 or more; or out of memory
+-- the error: the rounded number is 10^32768 or more, or out of memory for one digit more than the `held` ones that
+-- fit without an allocation, by 25 with or without zeros, and only below the limit
 abbrev pub ApplyFails : ℕ → RoundError → DigitOptions → Decimal → Type 0
 ApplyFails held Limit o v = applied o v ≡ None
-ApplyFails held Memory o v = NeedsMemory held o 0 v
+ApplyFails held Memory o v =
+    DigitRoundingNeedsMemory (base_of o.precision) (size v.absolute.number) (rounded_with o 0 v).number held
 
 -- ---- Laws.
 -- the precision is a number of fraction digits, by 1 or by an increment
@@ -242,4 +238,5 @@ pub record IsRoundedAt (o : DigitOptions) (exponent : ℕ) (old new : Decimal) (
 abbrev pub RoundingFailsAt : ℕ → RoundError → DigitOptions → ℕ → Decimal → Type 0
 RoundingFailsAt held Limit o exponent v =
     (first v.absolute.number ≤ℤ highest_magnitude) × (rounded_within o v.sign exponent v.absolute.number ≡ None)
-RoundingFailsAt held Memory o exponent v = NeedsMemory held o exponent v
+RoundingFailsAt held Memory o exponent v =
+    DigitRoundingNeedsMemory (base_of o.precision) (size v.absolute.number) (rounded_with o exponent v).number held

@@ -1,7 +1,7 @@
 //! The exponent that a notation writes for a magnitude.
-ghost use Rattle.std.specs.Prelude.{◌≡◌, ◌<◌, ◌≤◌, pos, ◌≤ℤ◌, ◌-ℤ◌};
+ghost use Rattle.std.specs.Prelude.{◌≡◌, pos, ◌≤ℤ◌, ◌-ℤ◌};
 ghost use Rattle.std.specs.Int.{int_max, int_min};
-ghost use Rattle.number_format.specs.Scaled.{row_of, compact_exponent, exponent_at};
+ghost use Rattle.number_format.specs.Scaled.{compact_exponent, exponent_at};
 
 /// The exponents of a locale's compact patterns, for the magnitudes 3 to 14.
 ///
@@ -26,13 +26,6 @@ pub enum Notation {
     Compact(CompactExponents),
 }
 
-fn row_of(magnitude: i16) -> usize
-    ensures value { result ≡ row_of magnitude }
-    ensures at_most { result < 12 }
-{
-    (magnitude.clamp(3, 14) - 3) as usize
-}
-
 impl CompactExponents {
     /// Returns the exponent of a magnitude.
     pub fn at(&self, magnitude: i16) -> u8
@@ -41,7 +34,7 @@ impl CompactExponents {
         if magnitude < 3 {
             return 0;
         }
-        self.rows[row_of(magnitude)]
+        self.rows[(magnitude.clamp(3, 14) - 3) as usize]
     }
 }
 

@@ -1,12 +1,12 @@
 //! The significand and the exponent of a number.
-ghost use Rattle.std.specs.Prelude.{◌≡◌, ◌+◌, ◌*◌, ◌/◌, ◌^◌, ◌≤◌, Some, None, IsOk, IfOk, OnOk, IfErr, IsErrOf, MatchResult, MatchOption, ◌⊎◌, pos, ◌+ℤ◌, ◌-ℤ◌, ◌≤ℤ◌, ◌<ℤ◌, negsuc, unsigned_abs};
+ghost use Rattle.std.specs.Prelude.{◌≡◌, ◌+◌, ◌*◌, ◌/◌, ◌^◌, ◌≤◌, Some, None, IsOk, IfOk, OnOk, IfErr, IsErrOf, MatchOption, ◌⊎◌, pos, ◌+ℤ◌, ◌-ℤ◌, ◌≤ℤ◌, ◌<ℤ◌, negsuc, unsigned_abs};
 ghost use Rattle.std.specs.Int.{int_min};
 ghost use Rattle.decimal_digits.specs.Number.{first, last, size};
 ghost use Rattle.fixed_decimal.specs.Decimal.{integer_decimal};
 ghost use Rattle.fixed_decimal.specs.Scientific.{scientific};
 ghost use Rattle.decimal_digits.specs.declared.rounding.RoundingIncrement.TheVariants.{MultiplesOf25};
 ghost use Rattle.number_format.specs.ShownDigits.{base_of};
-ghost use Rattle.number_format.specs.Scaled.{whole_exponent, base_exponent, settled, scaled, SettlingFails};
+ghost use Rattle.number_format.specs.Scaled.{whole_exponent, base_exponent, settled, scaled};
 
 use crate::digit_options::DigitOptions;
 use crate::notation::Notation;
@@ -103,10 +103,11 @@ impl Notation {
         options: &DigitOptions,
         value: &mut Signed<UnsignedOver<D>>,
     ) -> Result<(u16, i32), RoundError>
-        ensures settles { MatchResult result
-            (λ r. settled self.now options.now value.old.sign value.old.absolute.number
-            ≡ Some (record { exponent = r.0; number = value.new.absolute.number; last_shown = r.1 }))
-            (λ e. SettlingFails e self.now options.now value.old) }
+        ensures settles { IfOk result (λ r. settled self.now options.now value.old.sign value.old.absolute.number
+            ≡ Some (record { exponent = r.0; number = value.new.absolute.number; last_shown = r.1 })) }
+        ensures limit { IsErrOf result RoundError.Limit
+            → settled self.now options.now value.old.sign value.old.absolute.number ≡ None }
+        ensures memory { IsErrOf result RoundError.Memory → base_of options.now.precision ≡ MultiplesOf25 }
         ensures sign { OnOk result (value.new.sign ≡ value.old.sign) }
         ensures at_most { IfOk result (λ r. r.0 ≤ 32767) }
     {
@@ -139,8 +140,7 @@ impl Notation {
     ) -> Result<Scaled<D>, RoundError>
         ensures ok { IfOk result (λ s. scaled self.now options.now value ≡ Some s) }
         ensures limit { IsErrOf result RoundError.Limit → scaled self.now options.now value ≡ None }
-        ensures memory { IsErrOf result RoundError.Memory
-            → base_of options.now.precision ≡ MultiplesOf25 }
+        ensures memory { IsErrOf result RoundError.Memory → base_of options.now.precision ≡ MultiplesOf25 }
     {
         let base = self.raise(&mut value.absolute);
         let (exponent, last) = self.settle(options, &mut value)?;
@@ -200,10 +200,7 @@ impl Scaled<DecimalStore> {
             (λ c. (c.significand ≡ self.significand) × (pos c.exponent ≡ self.exponent)) }
     {
         let exponent = self.exponent();
-        if exponent < 0 {
-            return None;
-        }
-        if exponent > 255 {
+        if exponent < 0 || exponent > 255 {
             return None;
         }
         Some(CompactDecimal::from_significand_and_exponent(self.into_significand(), exponent as u8))

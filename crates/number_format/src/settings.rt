@@ -1,6 +1,6 @@
 //! The numbers of digits as ECMA-402 reads them.
 ghost use Rattle.std.specs.Prelude.{◌≡◌, ◌≤◌, true, false, not, ◌||◌, ◌&&◌, Some, None, unwrap_or, IfOk, MatchResult};
-ghost use Rattle.number_format.specs.Resolved.{counts, is_auto, given, needs_significant, needs_fraction, significant_of, fraction_of, are_within, are_fraction, IsNamed, IsResolved, first_error, increment_tests, resolve_error};
+ghost use Rattle.number_format.specs.Resolved.{counts, needs_significant, needs_fraction, significant_of, fraction_of, are_within, are_fraction, IsNamed, IsResolved, first_error, increment_tests, resolve_error};
 ghost use Rattle.number_format.specs.ShownDigits.{increment_of};
 
 use crate::digit_options::{DigitOptions, TrailingZeros};
@@ -70,16 +70,12 @@ impl DigitSettings {
         Ok(IntegerDigits { min, max: 32768 })
     }
 
-    fn is_auto(&self) -> bool
-        ensures { result ≡ is_auto self.now.rounding_priority }
+    fn needs_significant(&self) -> bool
+        ensures { result ≡ needs_significant self.now }
     {
-        matches!(self.rounding_priority, RoundingPriority::Auto)
-    }
-
-    fn has_significant(&self) -> bool
-        ensures { result ≡ given self.now.minimum_significant_digits self.now.maximum_significant_digits }
-    {
-        self.minimum_significant_digits.is_some() || self.maximum_significant_digits.is_some()
+        !matches!(self.rounding_priority, RoundingPriority::Auto)
+            || self.minimum_significant_digits.is_some()
+            || self.maximum_significant_digits.is_some()
     }
 
     fn needs_fraction(&self, defaults: &DigitDefaults) -> bool
@@ -87,14 +83,8 @@ impl DigitSettings {
     {
         let has_fraction = self.minimum_fraction_digits.is_some()
             || self.maximum_fraction_digits.is_some();
-        !self.is_auto() || !(self.has_significant() || (defaults.is_compact && !has_fraction))
-    }
-
-    fn is_fraction(&self, defaults: &DigitDefaults) -> bool
-        ensures value { result ≡ (not (needs_significant self.now) && needs_fraction self.now defaults.now) }
-        ensures auto { result ≡ true → self.now.rounding_priority ≡ RoundingPriority.Auto }
-    {
-        self.is_auto() && !self.has_significant() && self.needs_fraction(defaults)
+        !matches!(self.rounding_priority, RoundingPriority::Auto)
+            || !(self.needs_significant() || (defaults.is_compact && !has_fraction))
     }
 
     fn significant(&self) -> Result<SignificantDigits, DigitOptionsError>
@@ -102,7 +92,7 @@ impl DigitSettings {
             (λ x. (are_within 1 21 (significant_of self.now) ≡ true) × (counts x.min x.max ≡ significant_of self.now))
             (λ e. (are_within 1 21 (significant_of self.now) ≡ false) × (e ≡ DigitOptionsError.SignificantDigits)) }
     {
-        if self.is_auto() && !self.has_significant() {
+        if !self.needs_significant() {
             return Ok(SignificantDigits { min: 1, max: 2 });
         }
         let min = self.minimum_significant_digits.unwrap_or(1) as u32;
@@ -115,10 +105,9 @@ impl DigitSettings {
 
     fn fraction(&self, defaults: &DigitDefaults) -> Result<FractionDigits, DigitOptionsError>
         ensures { MatchResult result
-            (λ x. ((not (needs_fraction self.now defaults.now) || are_fraction self.now defaults.now) ≡ true)
+            (λ x. (are_fraction self.now defaults.now ≡ true)
             × (counts x.min x.max ≡ fraction_of self.now defaults.now))
-            (λ e. ((not (needs_fraction self.now defaults.now) || are_fraction self.now defaults.now) ≡ false)
-            × (e ≡ DigitOptionsError.FractionDigits)) }
+            (λ e. (are_fraction self.now defaults.now ≡ false) × (e ≡ DigitOptionsError.FractionDigits)) }
     {
         if !self.needs_fraction(defaults) {
             return Ok(FractionDigits { min: 0, max: 0 });
@@ -128,10 +117,9 @@ impl DigitSettings {
             return Err(DigitOptionsError::FractionDigits);
         }
         let least = defaults.fraction.min;
-        let most = if self.rounding_increment == 1 {
-            defaults.fraction.max
-        } else {
-            least
+        let most = match self.rounding_increment {
+            1 => defaults.fraction.max,
+            _ => least,
         };
         let min = given_min.unwrap_or(least.min(given_max.unwrap_or(least)));
         let max = given_max.unwrap_or(most.max(min));
@@ -159,7 +147,7 @@ impl DigitSettings {
     {
         let digits = both.fraction;
         if self.rounding_increment != 1 {
-            if !self.is_fraction(defaults) {
+            if self.needs_significant() || !self.needs_fraction(defaults) {
                 return Err(DigitOptionsError::IncrementPrecision);
             }
             if digits.min != digits.max {
@@ -173,10 +161,10 @@ impl DigitSettings {
         Ok(match self.rounding_priority {
             RoundingPriority::MorePrecision => Precision::MorePrecision(both),
             RoundingPriority::LessPrecision => Precision::LessPrecision(both),
-            RoundingPriority::Auto if self.has_significant() => Precision::Significant(
+            RoundingPriority::Auto if self.needs_significant() => Precision::Significant(
                 both.significant,
             ),
-            RoundingPriority::Auto if self.is_fraction(defaults) => Precision::Fraction(digits),
+            RoundingPriority::Auto if self.needs_fraction(defaults) => Precision::Fraction(digits),
             RoundingPriority::Auto => Precision::MorePrecision(both),
         })
     }

@@ -1,7 +1,7 @@
-use Rattle.std.proofs.Common.{◌%◌, ◌≤◌, sym, ◌∙◌, ap, subst}
+use Rattle.std.proofs.Common.{◌≤◌, sym, ap, subst}
 use Rattle.std.specs.Prelude.{pos}
 use Rattle.std.proofs.Math.Nat.{mod-eq_of_lt}
-use Rattle.decimal_digits.specs.Number.{weight, size}
+use Rattle.decimal_digits.specs.Number.{size}
 use Rattle.decimal_unsigned.specs.Unsigned.{Unsigned}
 use Rattle.fixed_decimal.proofs.Calling.{below_limit}
 use Rattle.number_format.proofs.Applied.{size_of_remainder}
@@ -9,9 +9,7 @@ use Rattle.number_format.proofs.digit_options.DigitOptions.cut_integer_digits.Go
 
 pub returns-then-self-clause-number : goal.returns-then-self-clause-number
 returns-then-self-clause-number g c =
-    let n = c.args.value.now.number in
-    sym (ap (λ m. n % weight (pos m)) c.if-self.true
-    ∙ mod-eq_of_lt (below_limit c.args.value.now (pos 0) c.magnitude_range-range.ensures.valid))
+    rw c.if-self.true (sym (mod-eq_of_lt (below_limit c.args.value.now (pos 0) c.magnitude_range-range.ensures.valid)))
 
 pub returns-clause-size : goal.returns-clause-size
 returns-clause-size g c =

@@ -1,12 +1,7 @@
-use Rattle.std.proofs.Common.{Ok, arith, rules, w16, w32, FitsSigned}
-use Rattle.std.specs.Prelude.{IsErrOf}
+use Rattle.std.proofs.Common.{arith, rules, w16, w32, FitsSigned}
 use Rattle.std.proofs.lemmas.Int.{ints, to_z-of_z}
-use Rattle.decimal_digits.specs.declared.rounding.RoundError.{RoundError}
 use Rattle.number_format.proofs.Applied.{rounded_there, rounding_fails}
 use Rattle.number_format.proofs.digit_options.DigitOptions.round_at.Goals as goal
-
-no_error : (x : Unit {0}) (e : RoundError) → IsErrOf {T = Unit {0}} (Ok x) e → ⊥
-no_error x e h = absurd (cc)
 
 pub returns-in-Err-clause-rounds : goal.returns-in-Err-clause-rounds
 returns-in-Err-clause-rounds g c =
@@ -35,4 +30,4 @@ returns-clause-rounds g c =
     (simp to_z-of_z at c.in_default.ensures.rounds) after.ensures.value (simp to_z-of_z at c.last_shown.ensures))
 
 pub returns-clause-accesses : goal.returns-clause-accesses
-returns-clause-accesses g c = λ h. c.in_default.ensures.accesses (no_error _ _)
+returns-clause-accesses g c = λ h. c.in_default.ensures.accesses (λ e. absurd cc)

@@ -1,5 +1,4 @@
-use Rattle.std.proofs.Common.{◌≡◌, ◌∙◌, ap, arith, rules, w32, to_z, of_z, FitsSigned}
-use Rattle.std.specs.Prelude.{pos, ◌+ℤ◌}
+use Rattle.std.proofs.Common.{◌∙◌, ap, arith, rules, w32, FitsSigned}
 use Rattle.std.proofs.lemmas.Int.{ints, to_z-of_z}
 use Rattle.number_format.specs.ShownDigits.{shown}
 use Rattle.number_format.proofs.Scales.{scaled-some}
@@ -12,20 +11,13 @@ overflow_add-result g c =
 pub returns-clause-ok : goal.returns-clause-ok
 returns-clause-ok g c =
     let o = c.args.options.now in
-    let v = c.args.value in
     let base = c.raise-base.result in
     let last_fits : FitsSigned w32 c.in_ok-exponent.last = search rules in
-    let sum : to_z w32 (of_z w32 (to_z w32 (of_z w32 base) +ℤ to_z w32 c.in_ok-exponent.exponent))
-    ≡ base +ℤ pos c.in_ok-exponent.exponent =
-    omega (
-      arith,
-      ints,
-      c.raise-base.ensures.at_least,
-      c.raise-base.ensures.at_most,
-      c.in_ok-exponent.ensures.at_most,
-    ) in
-    let digits = simp to_z-of_z at c.show.ensures.value in
-    scaled-some c.args.self.now o v base c.raise-base.new.value.number _ c.raise-base.ensures.exponent
+    let least = c.raise-base.ensures.at_least in
+    let most = c.raise-base.ensures.at_most in
+    let few = c.in_ok-exponent.ensures.at_most in
+    scaled-some c.args.self.now o c.args.value base c.raise-base.new.value.number _ c.raise-base.ensures.exponent
     c.raise-base.ensures.number c.in_ok-exponent.ensures.settles c.in_ok-lower.ensures.fits
     (record { sign = c.settle.new.value.sign; absolute = c.show.new.value }) _ c.in_ok-exponent.ensures.sign
-    (digits ∙ ap (λ n. shown o n c.in_ok-exponent.last) c.in_ok-lower.ensures.ok) sum
+    (simp to_z-of_z at c.show.ensures.value ∙ ap (λ n. shown o n c.in_ok-exponent.last) c.in_ok-lower.ensures.ok)
+    (omega (arith, ints))
