@@ -25,6 +25,8 @@ pub enum WordsError {
     Misplaced(ShownWord),
     /// `csv` or `delimiter:C` has no `field:N`.
     NoField,
+    /// `records` has no `csv`.
+    NoCsv,
     /// A quote is the delimiter of CSV.
     QuoteDelimiter,
     /// The locale with this tag is unknown.
@@ -60,6 +62,7 @@ impl fmt::Display for StartError {
                 write!(f, "{name}: {word} is not in its place (--help lists all)")
             }
             WordsError::NoField => write!(f, "{name}: csv and delimiter:C need field:N"),
+            WordsError::NoCsv => write!(f, "{name}: records needs csv"),
             WordsError::QuoteDelimiter => write!(f, "{name}: a quote is no delimiter of csv"),
         }
     }

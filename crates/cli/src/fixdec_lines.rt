@@ -30,6 +30,9 @@ fn parse_filter(alloc: Global, words: &[String]) -> Result<Filter<'_>, ProgramEr
     ensures err { IfErr result (FilterFails words.now) }
 {
     let (options, words) = split_options(words);
+    if options.lacks_csv() {
+        return Err(ProgramError::start(Program::FixdecLines, WordsError::NoCsv));
+    }
     let Some(field) = options.field() else {
         return Err(ProgramError::start(Program::FixdecLines, options.field_error()));
     };
@@ -39,6 +42,7 @@ fn parse_filter(alloc: Global, words: &[String]) -> Result<Filter<'_>, ProgramEr
             conversion,
             field,
             has_header: options.has_header,
+            has_records: options.has_records,
             trims: options.trims,
         }),
         Err(why) => Err(ProgramError::start(Program::FixdecLines, why)),
