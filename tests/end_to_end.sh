@@ -288,7 +288,7 @@ lines 1 '\n' '' $'line 1: start: syntax\n' records csv field:1
 wrong 'records needs csv' records
 wrong 'records needs csv' records field:2 up
 wrong 'csv and delimiter:C need field:N' records csv
-wrong 'records is not in its place (--help lists all)' records csv records
+wrong 'records is not in its place (--help lists all)' records csv field:1 records
 wrong 'records stands after a call' csv field:1 shift:1 records
 
 # A header is copied; the line after it is line 2.
@@ -355,6 +355,19 @@ slowly() { printf '1'; sleep 0.2; printf '2\n3'; sleep 0.2; printf '4\n'; }
 slowly | "$room/fixdec_lines" shift:-1 > "$room/out" 2> "$room/err"
 found=$?
 compare 0 $'1.2\n3.4\n' ''
+
+# A closed pipe ends a program without a line, with status 3.
+closes() {
+  "$@" < "$room/in" 2> "$room/err" | head -n 1 > "$room/out"
+  found=${PIPESTATUS[0]}
+}
+name='fixdec_lines in a pipe that head closes'
+seq 100000 > "$room/in"
+closes "$room/fixdec_lines" shift:1
+compare 3 $'10\n' ''
+name='plural in a pipe that head closes'
+closes "$room/plural" ru $(seq 100000)
+compare 3 $'one\n' ''
 
 # A column cut out of a table, rounded and pasted back.
 name='a column of a table'

@@ -60,7 +60,9 @@ from_line row (x ∷ xs) some =
           let not_feed = ne_eqb x 10 other in
           let next =
           from_line (row ++ (x ∷ [])) xs (λ none. some (sym (append_assoc row (x ∷ []) xs) ∙ none)) in
-          rw not_feed (next ∙ ap (λ r. records_from r (drop_through 10 xs)) (append_assoc row (x ∷ []) (take_through 10 xs)))
+          rw not_feed
+          (next
+          ∙ ap (λ r. records_from r (drop_through 10 xs)) (append_assoc row (x ∷ []) (take_through 10 xs)))
     ]
 
 -- ---- The lines of a record.

@@ -1,4 +1,4 @@
-//! The filter: the conversion of each line of an input.
+//! The filter: the conversion of each line, or record, of an input.
 ghost use Rattle.std.specs.Prelude.{◌≡◌, ◌≢◌, ◌<◌, ◌∷◌, ◌++◌, [], Ok, Err, Some, true, false, IsSome, IfErr, IfOk, IfSome, OnOk, OnErr};
 ghost use Rattle.std.specs.Io.KnownBytes.{Appends, IsAtEnd};
 ghost use Rattle.decimal_digits.specs.AppendsPrefix.{AppendsPrefix};
@@ -167,7 +167,8 @@ impl Filter<'_> {
     ) -> Result<(), OperationError>
         ensures printed { OnOk result (HasRowText self.now number row.now
             (λ text. Appends (W.contents sink.old) (W.contents sink.new) (text ++ 10 ∷ []))) }
-        ensures fails_with { IfErr result (λ error. error ≢ OperationError.Output → RowFails self.now number row.now error) }
+        ensures fails_with { IfErr result (λ error. error ≢ OperationError.Output
+            → RowFails self.now number row.now error) }
         ensures unchanged_on_error { IfErr result (λ error. error ≢ OperationError.Output → sink.new ≡ sink.old) }
         ensures failed { result ≡ Err OperationError.Output → W.has_failed sink.new ≡ true }
         ensures prefix { result ≡ Err OperationError.Output → HasRowText self.now number row.now
@@ -254,8 +255,8 @@ fn filter_line<W: Sink, D: Diagnostics<ProgramError>>(
     }
 }
 
-/// Filters the next row. None: there is none. A record, or a line that is not whole in the block of the reader, is copied
-/// into `copy` first.
+/// Filters the next row. None: there is none. A record, or a line that is not whole in the block of the reader, is
+/// copied into `copy` first.
 #[inline]
 fn filter_next<R: Read, W: Sink, D: Diagnostics<ProgramError>>(
     alloc: Global,
@@ -307,7 +308,8 @@ fn filter_next<R: Read, W: Sink, D: Diagnostics<ProgramError>>(
 /// Makes the calls on each line of the input, writes the texts to `out`, each with a line feed, and returns whether
 /// each line has a text.
 ///
-/// A line is all bytes up to a line feed; the bytes after the last line feed are a line if there are any. A header is
+/// A line is all bytes up to a line feed; the bytes after the last line feed are a line if there are any. Where the
+/// filter has records, each of these takes the place of a line, and its number is that of its first line. A header is
 /// copied. With `Skip` and `Keep` the error of a line is reported, and an empty line or the line itself is written.
 ///
 /// # Errors
@@ -333,8 +335,8 @@ pub fn filter_lines<R: Read, W: Sink, D: Diagnostics<ProgramError>>(
     }) result }
     ensures silent { result ≡ Ok true → diagnostics.new ≡ diagnostics.old }
     ensures failed { result ≡ Err ProgramError.Output → W.has_failed out.new ≡ true }
-    ensures consumed { IfErr result
-        (IsConsumed filter.now (record { before = bytes_left R.remaining input.old; after = bytes_left R.remaining input.new })) }
+    ensures consumed { IfErr result (IsConsumed filter.now
+        (record { before = bytes_left R.remaining input.old; after = bytes_left R.remaining input.new })) }
     ensures at_end { OnOk result (IfSome (bytes_left R.remaining input.old)
         (λ _. IsAtEnd (bytes_left R.remaining input.new))) }
 {

@@ -1,4 +1,4 @@
-//! Records of CSV: lines that go on while a quote is open.
+//! Records of CSV: rows that go on to the next line while a quote is open.
 ghost use Rattle.std.specs.Prelude.{◌≡◌, ◌<◌, count_by};
 ghost use Rattle.cli.specs.Records.{is_line_feed, is_broken, lines_in};
 
