@@ -102,7 +102,8 @@ lines_of_row filter row = if filter.has_records then lines_in row else 1
 abbrev pub HasRowText : Filter → ℕ → List ℕ → (List ℕ → Type 0) → Type 0
 HasRowText filter number row P = (is_broken_row filter row ≡ false) × HasText filter number row P
 
--- the row that begins at the line with this number fails with this error: it is a broken record, or its conversion fails
+-- the row that begins at the line with this number fails with this error: it is a broken record, or its conversion
+-- fails
 abbrev pub RowFails : Filter → ℕ → List ℕ → OperationError → Type 0
 RowFails filter number row error =
     MatchBool (is_broken_row filter row) (error ≡ operation.Quote) (ConversionFails filter number row error)

@@ -77,8 +77,8 @@ fn print<O: Write + Drop>(
 ///
 /// # Errors
 ///
-/// The categories of the texts before the error are printed, and the error is reported, once, but for `output` to a closed
-/// pipe:
+/// The categories of the texts before the error are printed, and the error is reported, once, but for `output` to a
+/// closed pipe:
 ///
 /// - Status 1: the rules or a text are rejected, as `rules: syntax at 4` and `text 2: limit`.
 /// - Status 2: no text, or `unknown locale: xx`.
