@@ -268,6 +268,29 @@ wrong 'field:1 stands after a call' shift:1 field:1
 wrong 'skip stands after a call' shift:-2 skip
 wrong 'a quote is no delimiter of csv' csv field:1 'delimiter:"'
 
+# With `records` a line feed in quotes is part of the field.
+lines 0 '"Main St 7\nflat\r\n""b""",250\n"a\n\nb",7' $'"Main St 7\nflat\r\n""b""",2.50\n"a\n\nb",0.07\n' '' \
+  records csv field:2 shift:-2
+lines 1 '"a\n\nb",1\n1,x\n2,3' $'"a\n\nb",10\n' $'line 4: start: syntax\n' csv records field:2 shift:1
+lines 1 '"a\nb",x\n1,2\n' $'\n1,20\n' $'line 1: start: syntax\n' skip records csv field:2 shift:1
+lines 1 '"a\nb",x\n1,2\n' $'"a\nb",x\n1,20\n' $'line 1: start: syntax\n' keep records csv field:2 shift:1
+lines 0 '"a\nb",c\n1,2\n' $'"a\nb",c\n1,20\n' '' header records csv field:2 shift:1
+lines 0 '\ufeff"a\nb", 2 \r\n' $'\ufeff"a\nb", 20 \r\n' '' trim records csv field:2 shift:1
+lines 1 '1,2\n"1\n2",3\n' $'1,2\n' $'line 2: start: syntax\n' records csv field:1
+lines 1 '1,2\n1,"2\n3\n4' $'1,2\n' $'line 2: quote\n' records csv field:1
+lines 1 '1,2\n1,"2\n3\n' $'1,2\n1,"2\n3\n' $'line 2: quote\n' keep records csv field:1
+lines 1 '1,"2\n3\n4\n' $'\n' $'line 1: quote\n' skip records csv field:1
+lines 1 'a,"b\n1,2\n' '' $'line 1: quote\n' header records csv field:1
+lines 0 'a"b\nc"d,1\n' $'a"b\nc"d,10\n' '' records csv field:2 shift:1
+lines 1 'a"b"c"\nd,1\n2,3\n' '' $'line 1: quote\n' records csv field:2
+lines 0 '' '' '' records csv field:1
+lines 1 '\n' '' $'line 1: start: syntax\n' records csv field:1
+wrong 'records needs csv' records
+wrong 'records needs csv' records field:2 up
+wrong 'csv and delimiter:C need field:N' records csv
+wrong 'records is not in its place (--help lists all)' records csv field:1 records
+wrong 'records stands after a call' csv field:1 shift:1 records
+
 # A header is copied; the line after it is line 2.
 lines 0 'price\n250\n' $'price\n2.50\n' '' header shift:-2
 lines 0 'a,"b\r\n"x,y",250\r\n' $'a,"b\r\n"x,y",2.50\r\n' '' csv header field:2 shift:-2
@@ -333,6 +356,19 @@ slowly | "$room/fixdec_lines" shift:-1 > "$room/out" 2> "$room/err"
 found=$?
 compare 0 $'1.2\n3.4\n' ''
 
+# A closed pipe ends a program without a line, with status 3.
+closes() {
+  "$@" < "$room/in" 2> "$room/err" | head -n 1 > "$room/out"
+  found=${PIPESTATUS[0]}
+}
+name='fixdec_lines in a pipe that head closes'
+seq 100000 > "$room/in"
+closes "$room/fixdec_lines" shift:1
+compare 3 $'10\n' ''
+name='plural in a pipe that head closes'
+closes "$room/plural" ru $(seq 100000)
+compare 3 $'one\n' ''
+
 # A column cut out of a table, rounded and pasted back.
 name='a column of a table'
 printf 'tea,2.345\nmilk,0.995\n' > "$room/table"
@@ -354,6 +390,12 @@ lines 0 "${commas}250\n" "${commas}2.50"$'\n' '' field:32767 delimiter:, shift:-
 quotes=$(printf '%0200000d' 0 | tr 0 '"')
 lines 0 "$quotes,250\n" "$quotes"$',2.50\n' '' csv field:2 shift:-2
 lines 1 "$quotes\",250\n" '' $'line 1: quote\n' csv field:2 shift:-2
+
+# A record of 1 MiB, one of a byte more, and a quote that is never closed.
+most=$(printf '%01048571d' 0)
+lines 0 "\"$most\n\",1\n2,3" "\"$most"$'\n",10\n2,30\n' '' records csv field:2 shift:1
+lines 1 "\"0$most\n\",1\n2,3" $'\n2,30\n' $'line 1: quote\n' skip records csv field:2 shift:1
+lines 1 "\"$most\n0000\n2,3\n4,5" $'\n2,30\n4,50\n' $'line 1: quote\n' skip records csv field:2 shift:1
 
 # Many lines.
 for ((i = 0; i < 20000; i++)); do echo "$i.125"; done > "$room/many"

@@ -1,18 +1,18 @@
 -- The result of a line, and of its field.
 use Rattle.std.proofs.Common.{◌≡◌, ◌≢◌, ℕ, inl, inr, refl, sym, Some, None, Ok, Err, Result, Bool, true, false, List, ◌-◌, length, take, drop, Option, ap, subst, ◌∙◌, arith}
-use Rattle.std.specs.Prelude.{IfErr}
+use Rattle.std.specs.Prelude.{IfErr, MatchBool}
 use Rattle.std.proofs.lemmas.List.{length-drop}
 use Rattle.std.proofs.Math.Seq.{take-length}
 use Rattle.cli.specs.declared.conversion.Conversion.{Conversion}
 use Rattle.cli.specs.declared.error.OperationError.{OperationError}
-use Rattle.cli.specs.declared.error.OperationError.TheVariants.{Memory, Output}
+use Rattle.cli.specs.declared.error.OperationError.TheVariants.{Quote, Memory, Output}
 use Rattle.cli.specs.declared.fields.Field.{Field}
 use Rattle.cli.specs.declared.filter.Filter.{Filter}
 use Rattle.cli.specs.Conversion.{HasOutcome, OperationsFail}
 use Rattle.cli.specs.Error.{status_of_operation}
 use Rattle.cli.specs.FieldConversion.{IsTextResult, IsResultBetween, is_trimmed, IsFieldResult, IsLineResult, HasLineText, LineFails, map_text, with_text}
 use Rattle.cli.specs.Fields.{Holds, located, within, replaced}
-use Rattle.cli.specs.Filter.{HasConvertedLine, ConvertingFails, ConversionFails, IsResultOfLine, filtered_line, in_memory}
+use Rattle.cli.specs.Filter.{HasConvertedLine, ConvertingFails, ConversionFails, IsResultOfLine, filtered_line, in_memory, is_broken_row, RowFails, IsResultOfRow}
 use Rattle.cli.specs.Trim.{text_of, body_of, body_bounds}
 use Rattle.cli.proofs.Conversions.{error_is_outcome}
 
@@ -102,7 +102,7 @@ rejected_in_memory trims why one = refl
 
 module _ (filter : Filter) (number : ℕ) (line : List ℕ) where
   -- the result of the line with this number
-  pub rejected_line :
+  rejected_line :
       (error : OperationError) → status_of_operation error ≡ 1 → ConversionFails filter number line error
       → IsResultOfLine filter number line (filtered_line filter number line (Err error))
   unfolding ConvertingFails
@@ -113,6 +113,20 @@ module _ (filter : Filter) (number : ℕ) (line : List ℕ) where
       error_is_result filter.trims filter.field filter.conversion (body_of filter.trims number line) error one
       (subst (LineFails filter.trims filter.field filter.conversion (body_of filter.trims number line)) same fails) in
       (Err error, inr (other, (Err error, result, refl)), refl)
+
+  -- the result of the row that begins at the line with this number
+  rejected_either :
+      (error : OperationError) → status_of_operation error ≡ 1 → (broken : Bool)
+      → MatchBool broken (error ≡ Quote) (ConversionFails filter number line error)
+      → MatchBool broken (filtered_line filter number line (Err error) ≡ filtered_line filter number line (Err Quote))
+      (IsResultOfLine filter number line (filtered_line filter number line (Err error)))
+  rejected_either error one true is = ap (λ e. filtered_line filter number line (Err e)) is
+  rejected_either error one false fails = rejected_line error one fails
+
+  pub rejected_row :
+      (error : OperationError) → status_of_operation error ≡ 1 → RowFails filter number line error
+      → IsResultOfRow filter number line (filtered_line filter number line (Err error))
+  rejected_row error one fails = rejected_either error one (is_broken_row filter line) fails
 
   -- without `trim` all bytes are converted
   module _ (off : filter.trims ≡ false) where

@@ -1,6 +1,6 @@
 -- The state of a filter after some lines, and its result.
-use Rattle.std.proofs.Common.{◌≡◌, ℕ, suc, ◌+◌, ◌-◌, ◌^◌, List, [], ◌∷◌, ◌++◌, length, append_assoc, Option, Some, None, Ok, Err, Result, Bool, true, false, ◌&&◌, inl, inr, length-append, refl, sym, ap, subst, ◌∙◌, arith}
-use Rattle.std.specs.Prelude.{is_ok, IfSome}
+use Rattle.std.proofs.Common.{◌≡◌, ℕ, ◌+◌, ◌≤◌, ◌^◌, List, [], ◌∷◌, ◌++◌, append_assoc, Option, Some, None, Ok, Err, Result, Bool, true, false, ◌&&◌, inl, inr, refl, sym, ap, subst, ◌∙◌, arith}
+use Rattle.std.specs.Prelude.{is_ok, IfSome, IsSomeAnd}
 use Rattle.std.proofs.lemmas.Bool.{and_from}
 use Rattle.std.proofs.lemmas.List.{append-nil, flat_map_more}
 use Rattle.std.proofs.lemmas.List.Folds.{list_all-append}
@@ -15,50 +15,71 @@ use Rattle.fixed_decimal.proofs.Calling.{then_prefix}
 use Rattle.cli.specs.declared.error.ProgramError.{ProgramError}
 use Rattle.cli.specs.declared.error.ProgramError.TheVariants.{Line, LongLine, Input, Output}
 use Rattle.cli.specs.declared.filter.Filter.{Filter}
+use Rattle.cli.specs.declared.filter.FilteredRow.{FilteredRow}
 use Rattle.cli.specs.declared.filter.OnError.TheVariants.{Stop}
-use Rattle.cli.specs.Filter.{Effects, FilteredLine, IsErrorOfReading, IsResultOfLine, FiltersLine, FiltersNext, output_of_line, errors_of_line}
-use Rattle.cli.specs.Input.{IsRead}
-use Rattle.cli.specs.Lines.{lines_of, AreRead, AreResults, output_of, errors_of, have_texts, Returns, Filters, IsConsumed}
+use Rattle.cli.specs.Filter.{Effects, FilteredLine, IsErrorOfReading, IsResultOfRow, lines_of_row, FiltersLine, FiltersNext, output_of_line, errors_of_line}
+use Rattle.cli.specs.Input.{IsRowRead}
+use Rattle.cli.specs.Lines.{lines_of, rows_of, AreRead, number_after, AreResults, output_of, errors_of, have_texts, Returns, Filters, IsConsumed}
 use Rattle.cli.proofs.FirstLine.{lines_first}
 
 -- ---- What was read.
 
-read_none : (a : Option (List ℕ)) → AreRead a [] a
-read_none a = grind (arith, common_steps)
+-- the first row is the one that was read
+row_first :
+    (has_records : Bool) (rest row : List ℕ) (c : Option (List ℕ)) → IsRowRead has_records true rest row c
+    → IsSomeAnd c (λ left. rows_of has_records rest ≡ row ∷ rows_of has_records left)
+row_first true rest row c read = read
+row_first false rest row c (some, is, left) =
+    rw left (lines_first rest some ∙ ap (λ l. l ∷ lines_of (drop_through 10 rest)) (sym is))
 
--- one more line was read
-read_more :
-    (a b c : Option (List ℕ)) (lines : List (List ℕ)) (line : List ℕ) → AreRead a lines b
-    → IfSome b (λ rest. IsRead true rest line c) → AreRead a (lines ++ (line ∷ [])) c
-read_more None b c lines line h is = tt
-read_more (Some bytes) None c lines line h is = absurd h
-read_more (Some bytes) (Some rest) c lines line h (some, is, left) =
-    let next : lines_of rest ≡ line ∷ lines_of (drop_through 10 rest) =
-    lines_first rest some ∙ ap (λ l. l ∷ lines_of (drop_through 10 rest)) (sym is) in
-    rw left (h ∙ ap (λ l. lines ++ l) next ∙ sym (append_assoc lines (line ∷ []) (lines_of (drop_through 10 rest))))
+-- no byte is left
+no_row : (has_records : Bool) (rest : List ℕ) (c : Option (List ℕ)) → IsRowRead has_records false rest [] c → rest ≡ []
+no_row true rest c none = none.0
+no_row false rest c none = none.0
 
--- no line is left
-read_all :
-    (a b c : Option (List ℕ)) (lines : List (List ℕ)) → AreRead a lines b → IfSome b (λ rest. IsRead false rest [] c)
-    → AreRead a lines (Some [])
-read_all a b c lines h is = grind (arith, common_steps)
+module _ (filter : Filter) where
+  read_none : (a : Option (List ℕ)) → AreRead filter a [] a
+  read_none None = tt
+  read_none (Some bytes) = refl
 
--- ---- The results of one line more.
+  -- one more row was read
+  read_more :
+      (a b c : Option (List ℕ)) (rows : List (List ℕ)) (row : List ℕ) → AreRead filter a rows b
+      → IfSome b (λ rest. IsRowRead filter.has_records true rest row c) → AreRead filter a (rows ++ (row ∷ [])) c
+  read_more None b c rows row h is = tt
+  read_more (Some bytes) None c rows row h is = absurd h
+  read_more (Some bytes) (Some rest) None rows row h is = absurd (row_first filter.has_records rest row None is)
+  read_more (Some bytes) (Some rest) (Some left) rows row h is =
+      h
+      ∙ ap (λ l. rows ++ l) (row_first filter.has_records rest row (Some left) is)
+      ∙ sym (append_assoc rows (row ∷ []) (rows_of filter.has_records left))
 
-results_more :
-    (filter : Filter) (number : ℕ) (lines : List (List ℕ)) (results : List FilteredLine)
-    (line : List ℕ) (r : FilteredLine) → AreResults filter number lines results
-    → IsResultOfLine filter (number + length lines) line r
-    → AreResults filter number (lines ++ (line ∷ [])) (results ++ (r ∷ []))
-results_more filter number [] [] line r h is =
-    let e : number + 0 ≡ number = omega arith in
-    (rw e at is, tt)
-results_more filter number (x ∷ xs) (y ∷ ys) line r (first, rest) is =
-    let e : number + suc (length xs) ≡ number + 1 + length xs = omega arith in
-    (first, results_more filter (number + 1) xs ys line r rest (rw e at is))
-results_more filter number lines results line r never is = absurd never
+  -- no row is left
+  read_all :
+      (a b c : Option (List ℕ)) (rows : List (List ℕ)) → AreRead filter a rows b
+      → IfSome b (λ rest. IsRowRead filter.has_records false rest [] c) → AreRead filter a rows (Some [])
+  read_all None b c rows h is = tt
+  read_all (Some bytes) None c rows h is = absurd h
+  read_all (Some bytes) (Some rest) c rows h is = rw (no_row filter.has_records rest c is) at h
 
--- lines that have texts have no errors
+  -- ---- The results of one row more.
+
+  results_more :
+      (number : ℕ) (rows : List (List ℕ)) (results : List FilteredLine) (row : List ℕ) (r : FilteredLine)
+      → AreResults filter number rows results → IsResultOfRow filter (number_after filter number rows) row r
+      → AreResults filter number (rows ++ (row ∷ [])) (results ++ (r ∷ []))
+  results_more number [] [] row r h is = (is, tt)
+  results_more number (x ∷ xs) (y ∷ ys) row r (first, rest) is =
+      (first, results_more (number + lines_of_row filter x) xs ys row r rest is)
+  results_more number rows results row r never is = absurd never
+
+  number_more :
+      (number : ℕ) (rows : List (List ℕ)) (row : List ℕ)
+      → number_after filter number (rows ++ (row ∷ [])) ≡ number_after filter number rows + lines_of_row filter row
+  number_more number [] row = refl
+  number_more number (x ∷ xs) row = number_more (number + lines_of_row filter x) xs row
+
+-- rows that have texts have no errors
 no_errors : (results : List FilteredLine) → have_texts results ≡ true → errors_of results ≡ []
 no_errors [] h = refl
 no_errors (r ∷ results) h = grind (arith, h, no_errors results)
@@ -96,38 +117,39 @@ from_start e input failure output diagnostics = record {
   diagnostics = record { before = e.diagnostics.before; after = diagnostics };
 }
 
--- the lines were read, the output of their results was appended, and their errors were reported
+-- the rows up to the line with this number were read, the output of their results was appended, and their errors were
+-- reported
 pub record Filtered
-    {D : Type 0} (reports : D → ProgramError → D → Type 0) (filter : Filter) (count : ℕ) (texts : Bool)
+    {D : Type 0} (reports : D → ProgramError → D → Type 0) (filter : Filter) (number : ℕ) (texts : Bool)
     (e : Effects D)
     : Type 0
   where
-    pub lines : List (List ℕ)
+    pub rows : List (List ℕ)
     pub results : List FilteredLine
-    pub are_results : AreResults filter 1 lines results
-    pub read : AreRead e.input.before lines e.input.after
-    pub number : length lines ≡ count
+    pub are_results : AreResults filter 1 rows results
+    pub read : AreRead filter e.input.before rows e.input.after
+    pub counted : number_after filter 1 rows ≡ number
     pub output : Appends e.output.before e.output.after (output_of results)
     pub reported : FoldsTo reports e.diagnostics.before (errors_of results) e.diagnostics.after
     pub texts_of : texts ≡ have_texts results
     pub stop : filter.on_error ≡ Stop → have_texts results ≡ true
 
--- before the first line
+-- before the first row
 pub filtered_start :
     {D : Type 0} (reports : D → ProgramError → D → Type 0) (filter : Filter) (a : Option (List ℕ))
     (f : Option ErrorKind) (o : Option (List ℕ)) (d : D)
-    → Filtered reports filter 0 true (record {
+    → Filtered reports filter 1 true (record {
       input = record { before = a; after = a };
       failure = f;
       output = record { before = o; after = o };
       diagnostics = record { before = d; after = d };
     })
 filtered_start reports filter a f o d = record {
-  lines = [];
+  rows = [];
   results = [];
   are_results = tt;
-  read = read_none a;
-  number = refl;
+  read = read_none filter a;
+  counted = refl;
   output = Appends-nil o;
   reported = refl;
   texts_of = refl;
@@ -135,17 +157,15 @@ filtered_start reports filter a f o d = record {
 }
 
 module _
-    {D : Type 0} {reports : D → ProgramError → D → Type 0} {filter : Filter} {count : ℕ} {t : Bool} {e : Effects D}
-    (h : Filtered reports filter count t e)
+    {D : Type 0} {reports : D → ProgramError → D → Type 0} {filter : Filter} {number : ℕ} {t : Bool} {e : Effects D}
+    (h : Filtered reports filter number t e)
   where
-    -- ---- One more line.
+    -- ---- One more row.
 
     results_next :
-        (line : List ℕ) (r : FilteredLine) → IsResultOfLine filter (count + 1) line r
-        → AreResults filter 1 (h.lines ++ (line ∷ [])) (h.results ++ (r ∷ []))
-    results_next line r is =
-        let number : count + 1 ≡ 1 + length h.lines = omega (arith, h.number) in
-        results_more filter 1 h.lines h.results line r h.are_results (rw number at is)
+        (row : List ℕ) (r : FilteredLine) → IsResultOfRow filter number row r
+        → AreResults filter 1 (h.rows ++ (row ∷ [])) (h.results ++ (r ∷ []))
+    results_next row r is = results_more filter 1 h.rows h.results row r h.are_results (rw (← h.counted) at is)
 
     module _ (r : FilteredLine) where
       output_next :
@@ -178,19 +198,19 @@ module _
           → have_texts (h.results ++ (r ∷ [])) ≡ true
       stop_next text stop = texts_next ∙ and_from _ _ (h.stop stop) (text stop)
 
-    -- ---- The input, the failure of the reader, the output and the diagnostics after the next line.
+    -- ---- The input, the failure of the reader, the output and the diagnostics after the next row.
 
     module _ (c : Option (List ℕ)) (f : Option ErrorKind) (q : Option (List ℕ)) (g : D) where
       -- it was filtered
       pub filtered_more :
-          (u : Bool) → FiltersNext reports filter (count + 1) (from_end e c f q g) (Ok (Some u))
-          → Filtered reports filter (count + 1) (t && u) (from_start e c f q g)
-      filtered_more u (line, is, (r, of_line, put, more, text, stop)) = record {
-        lines = h.lines ++ (line ∷ []);
+          (next : FilteredRow) → FiltersNext reports filter number (from_end e c f q g) (Ok (Some next))
+          → Filtered reports filter (number + next.lines) (t && next.has_text) (from_start e c f q g)
+      filtered_more next (row, is, lines, (r, of_row, put, more, text, stop)) = record {
+        rows = h.rows ++ (row ∷ []);
         results = h.results ++ (r ∷ []);
-        are_results = results_next line r of_line;
-        read = read_more e.input.before e.input.after c h.lines line h.read is;
-        number = length-append h.lines (line ∷ []) ∙ ap (λ n. n + 1) h.number;
+        are_results = results_next row r of_row;
+        read = read_more filter e.input.before e.input.after c h.rows row h.read is;
+        counted = rw (h.counted, ← lines) at (number_more filter 1 h.rows row);
         output = output_next r q put;
         reported = reported_next r g more;
         texts_of = rw (h.texts_of, text) (sym (texts_next r));
@@ -199,11 +219,11 @@ module _
 
       -- nothing was written, and the filter returned this
       filters :
-          (result : Result Bool ProgramError) → Returns filter e.input.before f h.lines h.results result
+          (result : Result Bool ProgramError) → Returns filter e.input.before f h.rows h.results result
           → q ≡ e.output.after → g ≡ e.diagnostics.after
           → Filters AppendsPrefix reports filter (from_start e c f q g) result
       filters result how out err = record {
-        lines = h.lines;
+        rows = h.rows;
         results = h.results;
         are_results = h.are_results;
         returns = how;
@@ -215,14 +235,14 @@ module _
 
       -- there is none
       pub filters_all :
-          FiltersNext reports filter (count + 1) (from_end e c f q g) (Ok None)
+          FiltersNext reports filter number (from_end e c f q g) (Ok None)
           → Filters AppendsPrefix reports filter (from_start e c f q g) (Ok t)
       filters_all (none, (out, err)) =
-          filters (Ok t) (read_all e.input.before e.input.after c h.lines h.read none, h.texts_of) out err
+          filters (Ok t) (read_all filter e.input.before e.input.after c h.rows h.read none, h.texts_of) out err
 
-      -- and where each line has a text, nothing was reported
+      -- and where each row has a text, nothing was reported
       pub silent_all :
-          FiltersNext reports filter (count + 1) (from_end e c f q g) (Ok None) → t ≡ true
+          FiltersNext reports filter number (from_end e c f q g) (Ok None) → t ≡ true
           → g ≡ e.diagnostics.before
       silent_all (none, (out, err)) texts =
           err ∙ sym (subst (λ errors. FoldsTo reports e.diagnostics.before errors e.diagnostics.after)
@@ -230,62 +250,55 @@ module _
 
       -- it could not be read
       filters_reading :
-          (error : ProgramError) → IsErrorOfReading (count + 1) f error → q ≡ e.output.after
+          (error : ProgramError) → IsErrorOfReading number f error → q ≡ e.output.after
           → g ≡ e.diagnostics.after → Filters AppendsPrefix reports filter (from_start e c f q g) (Err error)
       filters_reading (LongLine at) (same, memory) out err =
-          filters (Err (LongLine at))
-          ((e.input.after, h.read), (same ∙ ap (λ n. n + 1) (sym h.number), memory)) out err
+          filters (Err (LongLine at)) ((e.input.after, h.read), (same ∙ sym h.counted, memory)) out err
       filters_reading Input failed out err = filters (Err Input) ((e.input.after, h.read), inl failed) out err
       filters_reading error never out err = absurd never
 
       -- it was read, and it has this error
       filters_line :
-          (line : List ℕ) (error : ProgramError) → IfSome e.input.after (λ rest. IsRead true rest line c)
-          → FiltersLine reports filter (count + 1) line (from_end e c f q g).output
+          (row : List ℕ) (error : ProgramError)
+          → IfSome e.input.after (λ rest. IsRowRead filter.has_records true rest row c)
+          → FiltersLine reports filter number row (from_end e c f q g).output
           (from_end e c f q g).diagnostics (Err error)
           → Filters AppendsPrefix reports filter (from_start e c f q g) (Err error)
-      filters_line line (Line at error) is (why, out, err) =
+      filters_line row (Line at error) is (why, out, err) =
           filters (Err (Line at error)) (
             (e.input.after, h.read),
-            (
-              line,
-              (c, read_more e.input.before e.input.after c h.lines line h.read is),
-              rw h.number why,
-            ),
+            (row, (c, read_more filter e.input.before e.input.after c h.rows row h.read is), rw h.counted why),
           ) out err
-      filters_line line Output is (r, of_line, put, more, text) = record {
-        lines = h.lines ++ (line ∷ []);
+      filters_line row Output is (r, of_row, put, more, text) = record {
+        rows = h.rows ++ (row ∷ []);
         results = h.results ++ (r ∷ []);
-        are_results = results_next line r of_line;
-        returns = ((c, read_more e.input.before e.input.after c h.lines line h.read is), tt);
+        are_results = results_next row r of_row;
+        returns = ((c, read_more filter e.input.before e.input.after c h.rows row h.read is), tt);
         stop = stop_next r text;
         whole = λ other. absurd (other refl);
         part = prefix_next r q put;
         reported = reported_next r g more;
       }
-      filters_line line error is h = absurd h.0
+      filters_line row error is h = absurd h.0
 
       -- it has this error, or could not be read
       pub filters_error :
-          (error : ProgramError) → FiltersNext reports filter (count + 1) (from_end e c f q g) (Err error)
+          (error : ProgramError) → FiltersNext reports filter number (from_end e c f q g) (Err error)
           → Filters AppendsPrefix reports filter (from_start e c f q g) (Err error)
-      filters_error error (inl (line, is, fails)) = filters_line line error is fails
+      filters_error error (inl (row, is, fails)) = filters_line row error is fails
       filters_error error (inr (reading, (out, err))) = filters_reading error reading out err
 
       -- what is left after it
       pub consumed_next :
-          (error : ProgramError) → FiltersNext reports filter (count + 1) (from_end e c f q g) (Err error)
-          → IsConsumed (record { before = e.input.before; after = c }) error
-      consumed_next (Line at error) (inl (line, is, ((same, other, real, fails), out, err))) = (
-        h.lines ++ (line ∷ []),
-        length-append h.lines (line ∷ []) ∙ (ap (λ n. n + 1) h.number ∙ sym same),
-        read_more e.input.before e.input.after c h.lines line h.read is,
-      )
+          (error : ProgramError) → FiltersNext reports filter number (from_end e c f q g) (Err error)
+          → IsConsumed filter (record { before = e.input.before; after = c }) error
+      consumed_next (Line at error) (inl (row, is, ((same, other, real, fails), out, err))) =
+          (h.rows, row, same ∙ sym h.counted, read_more filter e.input.before e.input.after c h.rows row h.read is)
       consumed_next (Line at error) (inr (never, silent)) = absurd never
       consumed_next error fails = tt
 
     -- after all lines that a `u64` counts
-    pub filters_many : count ≡ 2 ^ 64 - 1 → Filters AppendsPrefix reports filter e (Err Input)
+    pub filters_many : 2 ^ 64 ≤ number → Filters AppendsPrefix reports filter e (Err Input)
     filters_many all =
         filters e.input.after e.failure e.output.after e.diagnostics.after (Err Input)
-        ((e.input.after, h.read), inr (h.number ∙ all)) refl refl
+        ((e.input.after, h.read), inr (rw h.counted all)) refl refl

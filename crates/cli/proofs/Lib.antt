@@ -10,6 +10,7 @@ pub mod FirstLine
 pub mod Printing
 pub mod Separators
 pub mod Quotes
+pub mod FirstRecord
 pub mod FieldLines
 pub mod OptionWords
 pub mod ShownWords

@@ -1,8 +1,12 @@
 -- What a report of an error writes.
-use Rattle.std.specs.Prelude.{◌≡◌, ℕ, List, [], ◌∷◌, ◌++◌, Option, Bool, true, false, IfSome}
+use Rattle.std.specs.Prelude.{◌≡◌, ℕ, ◌&&◌, List, [], ◌∷◌, ◌++◌, Option, Some, None, is_some, Bool, true, false, IfSome, MatchBool, MatchOption}
 use Rattle.std.specs.Fmt.Cut.{IsTextOrCut}
 use Rattle.std.specs.Io.KnownBytes.{Keeps, Appends}
+use Rattle.std.specs.declared.io.ErrorKind.{ErrorKind}
+use Rattle.std.specs.declared.io.ErrorKind.TheVariants.{BrokenPipe}
 use Rattle.decimal_digits.specs.AppendsPrefix.{AppendsPrefix}
+use Rattle.cli.specs.declared.error.ProgramError.{ProgramError}
+use Rattle.cli.specs.Error.{is_output}
 
 -- a line is a text and a line feed: the text that the error's `Display` states, cut after 120 bytes, if it states one
 abbrev pub IsErrorLine : Option (List ℕ) → List ℕ → Type 0
@@ -18,3 +22,20 @@ Reports output old had_failed new failed =
 -- one line is written to a writer that has not failed, or a prefix of it
 abbrev pub IsReported : Option (List ℕ) → Option (List ℕ) → Option (List ℕ) → Type 0
 IsReported output old new = (failed : Bool) × Reports output old false new failed
+
+-- whether an error of a writer, if there is one, is that of a closed pipe
+abbrev pub is_closed_pipe : Option ErrorKind → Bool
+is_closed_pipe (Some BrokenPipe) = true
+is_closed_pipe _ = false
+
+-- the writer that was returned, if one was, failed with an error of this kind, if one is there
+abbrev pub IsFailure : {O : Type 0} → Option (O × Bool) → Option ErrorKind → Type 0
+IsFailure back kind = MatchOption back (kind ≡ None) (λ closed. is_some kind ≡ closed.1)
+
+-- the error of a program was reported, after which this writer is returned; but a failed output to a closed pipe was
+-- not
+abbrev pub Concludes :
+    {O D : Type 0} → (D → ProgramError → D → Type 0) → Option (O × Bool) → ProgramError → D → D → Type 0
+Concludes reports back error old new =
+    (kind : Option ErrorKind) × IsFailure back kind
+    × MatchBool (is_closed_pipe kind && is_output error) (new ≡ old) (reports old error new)

@@ -1,5 +1,5 @@
 -- The errors of the programs, and the exit status that goes with each.
-use Rattle.std.specs.Prelude.{ℕ}
+use Rattle.std.specs.Prelude.{ℕ, Bool, true, false}
 use Rattle.decimal_unsigned.specs.declared.error.ParseError.TheVariants as parse
 use Rattle.decimal_unsigned.specs.Reading.{ReadError, syntax, limit}
 use Rattle.plural_rules.specs.declared.parse.RulesError.TheVariants as rules
@@ -49,6 +49,11 @@ status_of_words words.Memory = 3
 status_of_words words.Output = 3
 status_of_words _ = 2
 
+-- whether the output of a help or a version failed
+abbrev pub is_output_of_words : WordsError → Bool
+is_output_of_words words.Output = true
+is_output_of_words _ = false
+
 -- the status of an error of a program
 abbrev pub status_of : ProgramError → ℕ
 status_of (program.Start error) = status_of_words error.why
@@ -59,6 +64,12 @@ status_of program.Input = 3
 status_of (program.Rules at reason) = 1
 status_of (program.Text at reason) = 1
 status_of program.Output = 3
+
+-- whether the output failed
+abbrev pub is_output : ProgramError → Bool
+is_output program.Output = true
+is_output (program.Start error) = is_output_of_words error.why
+is_output _ = false
 
 -- an error before the work of a program
 abbrev pub start_error : Program → WordsError → ProgramError

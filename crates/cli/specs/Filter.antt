@@ -1,5 +1,5 @@
 -- One line: its result, how it is read, and its errors.
-use Rattle.std.specs.Prelude.{◌≡◌, ◌≢◌, ◌⊎◌, ℕ, Bool, true, false, List, [], ◌∷◌, ◌++◌, Option, Some, None, Result, Ok, Err, is_ok, IfSome, IsSomeAnd}
+use Rattle.std.specs.Prelude.{◌≡◌, ◌≢◌, ◌⊎◌, ℕ, Bool, true, false, List, [], ◌∷◌, ◌++◌, Option, Some, None, Result, Ok, Err, is_ok, IfSome, IsSomeAnd, MatchBool, ◌&&◌, if◌then◌else◌}
 use Rattle.std.specs.List.{FoldsTo}
 use Rattle.std.specs.Io.KnownBytes.{Appends}
 use Rattle.std.specs.declared.io.ErrorKind.{ErrorKind}
@@ -10,12 +10,14 @@ use Rattle.cli.specs.declared.error.OperationError.TheVariants as operation
 use Rattle.cli.specs.declared.error.ProgramError.{ProgramError}
 use Rattle.cli.specs.declared.error.ProgramError.TheVariants.{Line, LongLine, Input, Output}
 use Rattle.cli.specs.declared.filter.Filter.{Filter}
+use Rattle.cli.specs.declared.filter.FilteredRow.{FilteredRow}
 use Rattle.cli.specs.declared.filter.OnError.{OnError}
 use Rattle.cli.specs.declared.filter.OnError.TheVariants.{Stop, Keep}
 use Rattle.cli.specs.Error.{status_of_operation}
 use Rattle.cli.specs.FieldConversion.{IsLineResult, LineFails, map_text}
 use Rattle.cli.specs.Trim.{body_of, with_body_of}
-use Rattle.cli.specs.Input.{IsRead}
+use Rattle.cli.specs.Input.{IsRowRead}
+use Rattle.cli.specs.Records.{is_broken, lines_in}
 
 -- ---- The result of a line.
 
@@ -86,6 +88,32 @@ IsResultOfLine filter number line result =
     (found : Result (List ℕ) OperationError) × IsTextOrError filter number line found
     × (result ≡ filtered_line filter number line found)
 
+-- ---- The result of a row: of a line, or with `records` of a record.
+
+-- with `records` the row is a broken record
+abbrev pub is_broken_row : Filter → List ℕ → Bool
+is_broken_row filter row = filter.has_records && is_broken row
+
+-- the number of lines of a row
+abbrev pub lines_of_row : Filter → List ℕ → ℕ
+lines_of_row filter row = if filter.has_records then lines_in row else 1
+
+-- the row has fields, and P holds of the text of the row that begins at the line with this number
+abbrev pub HasRowText : Filter → ℕ → List ℕ → (List ℕ → Type 0) → Type 0
+HasRowText filter number row P = (is_broken_row filter row ≡ false) × HasText filter number row P
+
+-- the row that begins at the line with this number fails with this error: it is a broken record, or its conversion
+-- fails
+abbrev pub RowFails : Filter → ℕ → List ℕ → OperationError → Type 0
+RowFails filter number row error =
+    MatchBool (is_broken_row filter row) (error ≡ operation.Quote) (ConversionFails filter number row error)
+
+-- the result of the row that begins at the line with this number
+abbrev pub IsResultOfRow : Filter → ℕ → List ℕ → FilteredLine → Type 0
+IsResultOfRow filter number row result =
+    MatchBool (is_broken_row filter row) (result ≡ filtered_line filter number row (Err operation.Quote))
+    (IsResultOfLine filter number row result)
+
 -- the output of a line: its text, or what is written instead, and a line feed
 abbrev pub output_of_line : FilteredLine → List ℕ
 output_of_line (Ok text) = text ++ (10 ∷ [])
@@ -111,15 +139,15 @@ pub record Effects (D : Type 0) : Type 0 where
   pub output : Change (Option (List ℕ))
   pub diagnostics : Change D
 
--- ---- The next line.
+-- ---- The next row.
 
--- the next line of an input whose bytes are known is this
-abbrev pub IsNextLine : Change (Option (List ℕ)) → List ℕ → Type 0
-IsNextLine input line = IfSome input.before (λ bytes. IsRead true bytes line input.after)
+-- the next row of an input whose bytes are known is this
+abbrev pub IsNextRow : Filter → Change (Option (List ℕ)) → List ℕ → Type 0
+IsNextRow filter input row = IfSome input.before (λ bytes. IsRowRead filter.has_records true bytes row input.after)
 
--- an input whose bytes are known has no next line
-abbrev pub HasNoLine : Change (Option (List ℕ)) → Type 0
-HasNoLine input = IfSome input.before (λ bytes. IsRead false bytes [] input.after)
+-- an input whose bytes are known has no next row
+abbrev pub HasNoRow : Filter → Change (Option (List ℕ)) → Type 0
+HasNoRow filter input = IfSome input.before (λ bytes. IsRowRead filter.has_records false bytes [] input.after)
 
 -- a reader with this failure cannot read the line with this number: it is out of memory for it, or else the input
 -- failed
@@ -132,7 +160,7 @@ IsErrorOfReading number failure _ = ⊥
 abbrev pub IsErrorOfLine : Filter → ℕ → List ℕ → ProgramError → Type 0
 IsErrorOfLine filter number line (Line at error) =
     (at ≡ number) × (filter.on_error ≢ Stop → status_of_operation error ≢ 1) × (error ≢ operation.Output)
-    × ConversionFails filter number line error
+    × RowFails filter number line error
 IsErrorOfLine filter number line _ = ⊥
 
 -- ---- What a filter does to a line.
@@ -142,12 +170,12 @@ module _ {D : Type 0} (reports : D → ProgramError → D → Type 0) (filter : 
   -- errors; or `Output`, after a prefix of its output; or another error, and nothing was written and reported
   abbrev pub FiltersLine : List ℕ → Change (Option (List ℕ)) → Change D → Result Bool ProgramError → Type 0
   FiltersLine line output diagnostics (Ok has_text) =
-      (result : FilteredLine) × IsResultOfLine filter number line result
+      (result : FilteredLine) × IsResultOfRow filter number line result
       × Appends output.before output.after (output_of_line result)
       × FoldsTo reports diagnostics.before (errors_of_line result) diagnostics.after
       × (has_text ≡ is_ok result) × (filter.on_error ≡ Stop → has_text ≡ true)
   FiltersLine line output diagnostics (Err Output) =
-      (result : FilteredLine) × IsResultOfLine filter number line result
+      (result : FilteredLine) × IsResultOfRow filter number line result
       × AppendsPrefix output.before output.after (output_of_line result)
       × FoldsTo reports diagnostics.before (errors_of_line result) diagnostics.after
       × (filter.on_error ≡ Stop → is_ok result ≡ true)
@@ -160,13 +188,13 @@ module _ {D : Type 0} (reports : D → ProgramError → D → Type 0) (filter : 
   IsSilent effects =
       (effects.output.after ≡ effects.output.before) × (effects.diagnostics.after ≡ effects.diagnostics.before)
 
-  -- the next line was filtered; or there is none; or it could not be read
-  abbrev pub FiltersNext : Effects D → Result (Option Bool) ProgramError → Type 0
-  FiltersNext effects (Ok None) = HasNoLine effects.input × IsSilent effects
-  FiltersNext effects (Ok (Some has_text)) =
-      (line : List ℕ) × IsNextLine effects.input line
-      × FiltersLine line effects.output effects.diagnostics (Ok has_text)
+  -- the next row was filtered; or there is none; or it could not be read
+  abbrev pub FiltersNext : Effects D → Result (Option FilteredRow) ProgramError → Type 0
+  FiltersNext effects (Ok None) = HasNoRow filter effects.input × IsSilent effects
+  FiltersNext effects (Ok (Some row)) =
+      (line : List ℕ) × IsNextRow filter effects.input line × (row.lines ≡ lines_of_row filter line)
+      × FiltersLine line effects.output effects.diagnostics (Ok row.has_text)
   FiltersNext effects (Err error) =
-      ((line : List ℕ) × IsNextLine effects.input line
+      ((line : List ℕ) × IsNextRow filter effects.input line
       × FiltersLine line effects.output effects.diagnostics (Err error))
       ⊎ (IsErrorOfReading number effects.failure error × IsSilent effects)

@@ -1,13 +1,13 @@
 -- The filter that the words of `fixdec_lines` name, and its result on an input.
-use Rattle.std.specs.Prelude.{◌≡◌, ◌⊎◌, ℕ, ⊤, Bool, true, false, List, String, Option, MatchOption, Result, Err, IsErrAnd}
+use Rattle.std.specs.Prelude.{◌≡◌, ◌⊎◌, ℕ, ⊤, Bool, true, false, List, String, Option, MatchBool, MatchOption, Result, Err, IsErrAnd}
 use Rattle.std.specs.declared.alloc.Global.{Global}
 use Rattle.std.specs.declared.io.ErrorKind.{ErrorKind}
 use Rattle.cli.specs.Words.{NamesConversion, ConversionFails}
-use Rattle.cli.specs.Options.{none, AreOptions, HasField, field_error}
+use Rattle.cli.specs.Options.{none, AreOptions, HasField, lacks_csv, field_error}
 use Rattle.cli.specs.declared.options.Options.{Options}
 use Rattle.cli.specs.declared.fields.Field.{Field}
 use Rattle.cli.specs.declared.error.WordsError.{WordsError}
-use Rattle.cli.specs.declared.error.WordsError.TheVariants.{Memory}
+use Rattle.cli.specs.declared.error.WordsError.TheVariants.{Memory, NoCsv}
 use Rattle.cli.specs.declared.help.Program.TheVariants.{FixdecLines}
 use Rattle.cli.specs.Error.{start_error}
 use Rattle.cli.specs.declared.error.ProgramError.{ProgramError}
@@ -27,17 +27,23 @@ pub record HasWords (words : List (String Global)) (P : Options → List (String
 abbrev pub NamesFilter : List (String Global) → Filter → Type 0
 NamesFilter words filter =
     HasWords words
-    (λ options others. (filter.on_error ≡ options.on_error) × (filter.has_header ≡ options.has_header)
+    (λ options others. (lacks_csv options ≡ false) × (filter.on_error ≡ options.on_error)
+    × (filter.has_header ≡ options.has_header) × (filter.has_records ≡ options.has_records)
     × (filter.trims ≡ options.trims) × HasField options filter.field × NamesConversion others filter.conversion)
 
--- they are not, for this error: the options have no field; or they have one, and the other words name no conversion
+-- the options have no field, for this error; or they have one, and the other words name no conversion
+abbrev pub OthersFail : Options → List (String Global) → ProgramError → Type 0
+OthersFail options others error =
+    (((field : Option Field) → ¬ HasField options field) × (error ≡ start_error FixdecLines (field_error options)))
+    ⊎ (((field : Option Field) × HasField options field)
+    × ((why : WordsError) × (error ≡ start_error FixdecLines why) × ConversionFails others why))
+
+-- they are not, for this error: `records` has no `csv`; or it has, and the other words fail
 abbrev pub FilterFails : List (String Global) → ProgramError → Type 0
 FilterFails words error =
     HasWords words
-    (λ options others. (((field : Option Field) → ¬ HasField options field)
-    × (error ≡ start_error FixdecLines (field_error options)))
-    ⊎ (((field : Option Field) × HasField options field)
-    × ((why : WordsError) × (error ≡ start_error FixdecLines why) × ConversionFails others why)))
+    (λ options others. MatchBool (lacks_csv options) (error ≡ start_error FixdecLines NoCsv)
+    (OthersFail options others error))
 
 -- the error comes before the first line
 abbrev pub IsEarly : ProgramError → Type 0

@@ -17,6 +17,7 @@ pub mod NamedRules
 pub mod Options
 pub mod Plural
 pub mod Reader
+pub mod Records
 pub mod ShownWord
 pub mod Trim
 pub mod Words

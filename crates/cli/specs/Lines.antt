@@ -1,5 +1,5 @@
 -- What is written and what is reported for the lines of an input.
-use Rattle.std.specs.Prelude.{◌≡◌, ◌≢◌, ◌⊎◌, ℕ, ◌+◌, ◌-◌, ◌^◌, ◌==◌, if◌then◌else◌, List, [], ◌∷◌, ◌++◌, length, flat_map, Bool, true, ⊤, Option, Some, Result, Ok, Err, is_ok, IfSome, IsSomeAnd}
+use Rattle.std.specs.Prelude.{◌≡◌, ◌≢◌, ◌⊎◌, ℕ, ◌+◌, ◌≤◌, ◌^◌, ◌==◌, if◌then◌else◌, List, [], ◌∷◌, ◌++◌, flat_map, Bool, true, false, ⊤, Option, Some, Result, Ok, Err, is_ok, IfSome, IsSomeAnd}
 use Rattle.std.specs.List.{FoldsTo, list_all, onto_first}
 use Rattle.std.specs.Io.KnownBytes.{Appends, append_known}
 use Rattle.std.specs.declared.io.ErrorKind.{ErrorKind}
@@ -8,7 +8,8 @@ use Rattle.cli.specs.declared.error.ProgramError.{ProgramError}
 use Rattle.cli.specs.declared.error.ProgramError.TheVariants.{Line, LongLine, Input, Output}
 use Rattle.cli.specs.declared.filter.Filter.{Filter}
 use Rattle.cli.specs.declared.filter.OnError.TheVariants.{Stop}
-use Rattle.cli.specs.Filter.{Change, Effects, FilteredLine, IsResultOfLine, output_of_line, errors_of_line, IsErrorOfReading, IsErrorOfLine}
+use Rattle.cli.specs.Filter.{Change, Effects, FilteredLine, lines_of_row, IsResultOfRow, output_of_line, errors_of_line, IsErrorOfReading, IsErrorOfLine}
+use Rattle.cli.specs.Records.{records_of}
 
 -- ---- The lines of an input.
 
@@ -17,63 +18,76 @@ abbrev pub lines_of : List ℕ → List (List ℕ)
 lines_of [] = []
 lines_of (byte ∷ bytes) = if byte == 10 then [] ∷ lines_of bytes else onto_first byte (lines_of bytes)
 
--- these are the first lines of an input whose bytes are known, and the others are the lines of the bytes that are left
-abbrev pub AreRead : Option (List ℕ) → List (List ℕ) → Option (List ℕ) → Type 0
-AreRead input lines left = IfSome input (λ bytes. IsSomeAnd left (λ rest. lines_of bytes ≡ lines ++ lines_of rest))
+-- the rows of an input: with `records` its records, and otherwise its lines
+abbrev pub rows_of : Bool → List ℕ → List (List ℕ)
+rows_of true bytes = records_of bytes
+rows_of false bytes = lines_of bytes
 
--- these are all lines of an input: no byte is left
-abbrev pub AreAll : Option (List ℕ) → List (List ℕ) → Type 0
-AreAll input lines = AreRead input lines (Some [])
+-- these are the first rows of an input whose bytes are known, and the others are the rows of the bytes that are left
+abbrev pub AreRead : Filter → Option (List ℕ) → List (List ℕ) → Option (List ℕ) → Type 0
+AreRead filter input rows left =
+    IfSome input (λ bytes. IsSomeAnd left
+    (λ rest. rows_of filter.has_records bytes ≡ rows ++ rows_of filter.has_records rest))
 
--- these are the first lines of an input
-abbrev pub AreFirst : Option (List ℕ) → List (List ℕ) → Type 0
-AreFirst input lines = (left : Option (List ℕ)) × AreRead input lines left
+-- these are all rows of an input: no byte is left
+abbrev pub AreAll : Filter → Option (List ℕ) → List (List ℕ) → Type 0
+AreAll filter input rows = AreRead filter input rows (Some [])
 
--- ---- The results of lines.
+-- these are the first rows of an input
+abbrev pub AreFirst : Filter → Option (List ℕ) → List (List ℕ) → Type 0
+AreFirst filter input rows = (left : Option (List ℕ)) × AreRead filter input rows left
 
--- the result of each line, in order; the first has this number
+-- the number of the line after these rows, the first of which begins at the line with this number
+abbrev pub number_after : Filter → ℕ → List (List ℕ) → ℕ
+number_after filter number [] = number
+number_after filter number (row ∷ rows) = number_after filter (number + lines_of_row filter row) rows
+
+-- ---- The results of rows.
+
+-- the result of each row, in order; the first begins at the line with this number
 abbrev pub AreResults : Filter → ℕ → List (List ℕ) → List FilteredLine → Type 0
 AreResults filter number [] [] = ⊤
-AreResults filter number (line ∷ lines) (result ∷ results) =
-    IsResultOfLine filter number line result × AreResults filter (number + 1) lines results
+AreResults filter number (row ∷ rows) (result ∷ results) =
+    IsResultOfRow filter number row result × AreResults filter (number + lines_of_row filter row) rows results
 AreResults filter number _ _ = ⊥
 
--- the output of lines with these results
+-- the output of rows with these results
 abbrev pub output_of : List FilteredLine → List ℕ
 output_of results = flat_map output_of_line results
 
--- the errors of lines with these results
+-- the errors of rows with these results
 abbrev pub errors_of : List FilteredLine → List ProgramError
 errors_of results = flat_map errors_of_line results
 
--- whether each line has a text
+-- whether each row has a text
 abbrev pub have_texts : List FilteredLine → Bool
 have_texts results = list_all is_ok results
 
 -- ---- What a filter returns.
 
--- the error ends the filter after these lines: the run of the next line has it; or the reader, with this failure,
--- cannot read the next line; or a `u64` counts no more lines; or the output failed
+-- the error ends the filter after these rows: the run of the next row has it; or the reader, with this failure, cannot
+-- read the next row; or a `u64` counts no more lines; or the output failed
 abbrev pub EndsWith : Filter → Option (List ℕ) → Option ErrorKind → List (List ℕ) → ProgramError → Type 0
-EndsWith filter input failure lines (Line number error) =
-    (line : List ℕ) × AreFirst input (lines ++ (line ∷ []))
-    × IsErrorOfLine filter (length lines + 1) line (Line number error)
-EndsWith filter input failure lines (LongLine number) = IsErrorOfReading (length lines + 1) failure (LongLine number)
-EndsWith filter input failure lines Input =
-    IsErrorOfReading (length lines + 1) failure Input ⊎ (length lines ≡ 2 ^ 64 - 1)
-EndsWith filter input failure lines Output = ⊤
-EndsWith filter input failure lines _ = ⊥
+EndsWith filter input failure rows (Line number error) =
+    (row : List ℕ) × AreFirst filter input (rows ++ (row ∷ []))
+    × IsErrorOfLine filter (number_after filter 1 rows) row (Line number error)
+EndsWith filter input failure rows (LongLine number) =
+    IsErrorOfReading (number_after filter 1 rows) failure (LongLine number)
+EndsWith filter input failure rows Input =
+    IsErrorOfReading (number_after filter 1 rows) failure Input ⊎ (2 ^ 64 ≤ number_after filter 1 rows)
+EndsWith filter input failure rows Output = ⊤
+EndsWith filter input failure rows _ = ⊥
 
--- the filter returns this after these lines with these results: whether each has a text, after all lines; or an error,
+-- the filter returns this after these rows with these results: whether each has a text, after all rows; or an error,
 -- after some
 abbrev pub Returns :
     Filter → Option (List ℕ) → Option ErrorKind → List (List ℕ) → List FilteredLine
     → Result Bool ProgramError → Type 0
-Returns filter input failure lines results (Ok texts) = AreAll input lines × (texts ≡ have_texts results)
-Returns filter input failure lines results (Err error) =
-    AreFirst input lines × EndsWith filter input failure lines error
+Returns filter input failure rows results (Ok texts) = AreAll filter input rows × (texts ≡ have_texts results)
+Returns filter input failure rows results (Err error) =
+    AreFirst filter input rows × EndsWith filter input failure rows error
 
--- lines with these results were filtered, and this was returned: their output was appended, at a failed output a part
+-- rows with these results were filtered, and this was returned: their output was appended, at a failed output a part
 -- of it, and their errors were reported in order
 pub record Filters
     {D : Type 0} (AppendsPart : Option (List ℕ) → Option (List ℕ) → List ℕ → Type 0)
@@ -81,10 +95,10 @@ pub record Filters
     (returned : Result Bool ProgramError)
     : Type 0
   where
-    pub lines : List (List ℕ)
+    pub rows : List (List ℕ)
     pub results : List FilteredLine
-    pub are_results : AreResults filter 1 lines results
-    pub returns : Returns filter effects.input.before effects.failure lines results returned
+    pub are_results : AreResults filter 1 rows results
+    pub returns : Returns filter effects.input.before effects.failure rows results returned
     pub stop : filter.on_error ≡ Stop → have_texts results ≡ true
     pub whole : returned ≢ Err Output → Appends effects.output.before effects.output.after (output_of results)
     pub part : AppendsPart effects.output.before effects.output.after (output_of results)
@@ -94,8 +108,9 @@ pub record Filters
 abbrev pub AppendsUnwritten : Option (List ℕ) → Option (List ℕ) → List ℕ → Type 0
 AppendsUnwritten old new text = (missing : List ℕ) × AppendsPrefix old (append_known new missing) text
 
--- after an error of the run of a line, the lines up to it are read, and the others are left
-abbrev pub IsConsumed : Change (Option (List ℕ)) → ProgramError → Type 0
-IsConsumed input (Line number error) =
-    (lines : List (List ℕ)) × (length lines ≡ number) × AreRead input.before lines input.after
-IsConsumed input _ = ⊤
+-- after an error of the run of a row, the rows up to it are read, and the others are left
+abbrev pub IsConsumed : Filter → Change (Option (List ℕ)) → ProgramError → Type 0
+IsConsumed filter input (Line number error) =
+    (rows : List (List ℕ)) × (row : List ℕ) × (number ≡ number_after filter 1 rows)
+    × AreRead filter input.before (rows ++ (row ∷ [])) input.after
+IsConsumed filter input _ = ⊤

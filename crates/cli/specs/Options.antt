@@ -1,5 +1,5 @@
 -- The options that the first words of `fixdec_lines` name.
-use Rattle.std.specs.Prelude.{◌≡◌, ◌≢◌, ◌⊎◌, ℕ, ◌+◌, if◌then◌else◌, Bool, true, false, pos, List, [], ◌∷◌, ◌++◌, length, codes, String, string_bytes, Option, Some, None, is_some}
+use Rattle.std.specs.Prelude.{◌≡◌, ◌≢◌, ◌⊎◌, ℕ, ◌+◌, ◌&&◌, not, if◌then◌else◌, Bool, true, false, pos, List, [], ◌∷◌, ◌++◌, length, codes, String, string_bytes, Option, Some, None, is_some}
 use Rattle.std.specs.Borrow.{Bor}
 use Rattle.std.specs.Str.{chars}
 use Rattle.std.specs.declared.alloc.Global.{Global}
@@ -19,6 +19,7 @@ none = record {
   delimiter = None;
   is_csv = false;
   has_header = false;
+  has_records = false;
   trims = false;
 }
 
@@ -46,6 +47,7 @@ Adds word old new =
     ⊎ ((word ≡ codes "keep") × (old.on_error ≡ Stop) × (new ≡ record old { on_error = Keep }))
     ⊎ ((word ≡ codes "csv") × (old.is_csv ≡ false) × (new ≡ record old { is_csv = true }))
     ⊎ ((word ≡ codes "header") × (old.has_header ≡ false) × (new ≡ record old { has_header = true }))
+    ⊎ ((word ≡ codes "records") × (old.has_records ≡ false) × (new ≡ record old { has_records = true }))
     ⊎ ((word ≡ codes "trim") × (old.trims ≡ false) × (new ≡ record old { trims = true }))
     ⊎ AddsParameter word old new
 
@@ -62,6 +64,10 @@ AreOptions options [] last others = (last ≡ options) × (others ≡ [])
 AreOptions options (word ∷ words) last others =
     ((next : Options) × Adds (string_bytes word) options next × AreOptions next words last others)
     ⊎ (((next : Options) → ¬ Adds (string_bytes word) options next) × (last ≡ options) × (others ≡ word ∷ words))
+
+-- whether `records` has no `csv`
+abbrev pub lacks_csv : Options → Bool
+lacks_csv options = options.has_records && not options.is_csv
 
 -- ---- The field.
 

@@ -142,7 +142,7 @@ FormatterFails (Some format) (UnknownLocale tag) =
     × locales.IsUnknown (locale_tag format) × IsShown (locale_tag format) tag
 FormatterFails _ _ = ⊥
 
--- the word stands before the calls: it is an option of a filter, or `read:..`
+-- the word is one that comes before all calls: an option of a filter, or `read:..`
 abbrev pub StandsFirst : List ℕ → Type 0
 StandsFirst word = IsOption word ⊎ IsReadWord word
 

@@ -1,13 +1,13 @@
 //! Reports of errors.
 ghost use Rattle.std.specs.Prelude.{◌≡◌, ◌<◌, ◌≤◌, None, is_some, IfErr, OnOk};
-ghost use Rattle.cli.specs.Diagnostics.{IsErrorLine, Reports};
+ghost use Rattle.cli.specs.Diagnostics.{IsErrorLine, Reports, is_closed_pipe, IsFailure, Concludes};
 ghost use Rattle.cli.specs.Error.{status_of};
 
 use crate::error::ProgramError;
 use arrayvec::ArrayString;
-use fixed_decimal::{WriteError, write_whole};
+use fixed_decimal::{Closed, WriteError, write_whole};
 use std::fmt::{Display, InlineText};
-use std::io::Write;
+use std::io::{ErrorKind, Write};
 
 /// A line of at most 120 bytes and its line feed. The longest text of an error has 93 bytes.
 type Line = ArrayString<121>;
@@ -69,21 +69,39 @@ impl<W: Write, E: Display> Diagnostics<E> for ErrorLines<'_, W> {
     }
 }
 
-/// Reports the error, if there is one, and returns the exit status.
-pub fn conclude<D: Diagnostics<ProgramError>>(
+fn is_closed_pipe(kind: Option<ErrorKind>) -> bool
+    ensures { result ≡ is_closed_pipe kind }
+{
+    kind == Some(ErrorKind::BrokenPipe)
+}
+
+fn failure<O>(back: &Option<Closed<O>>) -> Option<ErrorKind>
+    ensures { IsFailure back.now result }
+{
+    match back {
+        Some(closed) => closed.error(),
+        None => None,
+    }
+}
+
+/// Reports the error, if there is one, and returns the exit status. A failed output of the writer that is returned is
+/// not reported where its pipe is closed.
+pub fn conclude<O, D: Diagnostics<ProgramError>>(
     done: Result<(), ProgramError>,
+    back: &Option<Closed<O>>,
     diagnostics: &mut D,
 ) -> u8
     ensures at_most { result ≤ 3 }
     ensures done { OnOk done ((result ≡ 0) × (diagnostics.new ≡ diagnostics.old)) }
     ensures reported { IfErr done (λ error. (0 < result) × (result ≡ status_of error)
-        × D.reports diagnostics.old error diagnostics.new) }
+        × Concludes D.reports back.now error diagnostics.old diagnostics.new) }
 {
-    match done {
-        Ok(()) => 0,
-        Err(error) => {
-            diagnostics.report(&error);
-            error.status()
-        }
+    let Err(error) = done else {
+        return 0;
+    };
+    let is_silent = is_closed_pipe(failure(back)) && error.is_output();
+    if !is_silent {
+        diagnostics.report(&error);
     }
+    error.status()
 }

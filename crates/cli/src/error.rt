@@ -1,6 +1,6 @@
 //! The errors of the programs: a line on standard error and an exit status each.
 ghost use Rattle.std.specs.Prelude.{◌≡◌, ◌<◌, ◌≤◌};
-ghost use Rattle.cli.specs.Error.{status_of_words, status_of_operation, status_of, start_error};
+ghost use Rattle.cli.specs.Error.{status_of_words, status_of_operation, status_of, is_output, start_error};
 
 use crate::help::Program;
 use crate::named_rules::NamedRulesError;
@@ -25,6 +25,8 @@ pub enum WordsError {
     Misplaced(ShownWord),
     /// `csv` or `delimiter:C` has no `field:N`.
     NoField,
+    /// `records` has no `csv`.
+    NoCsv,
     /// A quote is the delimiter of CSV.
     QuoteDelimiter,
     /// The locale with this tag is unknown.
@@ -60,6 +62,7 @@ impl fmt::Display for StartError {
                 write!(f, "{name}: {word} is not in its place (--help lists all)")
             }
             WordsError::NoField => write!(f, "{name}: csv and delimiter:C need field:N"),
+            WordsError::NoCsv => write!(f, "{name}: records needs csv"),
             WordsError::QuoteDelimiter => write!(f, "{name}: a quote is no delimiter of csv"),
         }
     }
@@ -220,6 +223,17 @@ impl ProgramError {
         ensures { result ≡ start_error program why }
     {
         ProgramError::Start(StartError { program, why })
+    }
+
+    /// Returns whether a write or the flush of the output failed.
+    pub fn is_output(&self) -> bool
+        ensures { result ≡ is_output self.now }
+    {
+        match self {
+            ProgramError::Output => true,
+            ProgramError::Start(error) => error.why == WordsError::Output,
+            _ => false,
+        }
     }
 
     /// Returns the exit status.

@@ -25,7 +25,8 @@ pub struct Field<'a> {
     pub is_csv: bool,
 }
 
-fn are_closed(bytes: &[u8]) -> bool
+/// Returns whether each quote that opens is closed.
+pub fn are_closed(bytes: &[u8]) -> bool
     ensures { result ≡ are_closed bytes.now }
 {
     bytes.iter().filter(|byte| **byte == b'"').count() % 2 == 0

@@ -1,8 +1,10 @@
-//! The filter: the conversion of each line of an input.
-ghost use Rattle.std.specs.Prelude.{◌≡◌, ◌≢◌, ◌∷◌, ◌++◌, [], Ok, Err, Some, true, false, IfErr, IfSome, OnOk, OnErr};
+//! The filter: the conversion of each line, or record, of an input.
+ghost use Rattle.std.specs.Prelude.{◌≡◌, ◌≢◌, ◌<◌, ◌∷◌, ◌++◌, [], Ok, Err, Some, true, false, IsSome, IfErr, IfOk, IfSome, OnOk, OnErr};
 ghost use Rattle.std.specs.Io.KnownBytes.{Appends, IsAtEnd};
 ghost use Rattle.decimal_digits.specs.AppendsPrefix.{AppendsPrefix};
+ghost use Rattle.memchr.specs.Find.{IsFirstByte, is_byte};
 ghost use Rattle.cli.specs.Filter.{IsHeader, replacement, HasConvertedLine, ConvertingFails, HasText, ConversionFails, IsErrorOfReading, FiltersLine, FiltersNext};
+ghost use Rattle.cli.specs.Filter.{HasRowText, RowFails, lines_of_row};
 ghost use Rattle.cli.specs.Input.{bytes_left};
 ghost use Rattle.cli.specs.Lines.{Filters, IsConsumed};
 
@@ -13,6 +15,7 @@ use crate::field_conversion::{convert_line, error_in_memory, write_replaced};
 use crate::fields::Field;
 use crate::input::LineReader;
 use crate::line_feed::find_line_feed;
+use crate::records::{is_broken, lines_in};
 use crate::trim::body_bounds;
 use fixed_decimal::{Sink, SinkFault, TextBuf};
 use std::alloc::Global;
@@ -29,6 +32,15 @@ pub enum OnError {
     Keep,
 }
 
+/// A row of an input that was filtered: a line, or a record of CSV.
+#[derive(Clone, Copy)]
+pub struct FilteredRow {
+    /// Whether it has a text.
+    pub has_text: bool,
+    /// The number of its lines.
+    pub lines: u64,
+}
+
 /// What a filter does to each line of an input.
 #[derive(Debug, Drop)]
 pub struct Filter<'a> {
@@ -40,6 +52,8 @@ pub struct Filter<'a> {
     pub field: Option<Field<'a>>,
     /// Whether the first line is a header, which is copied.
     pub has_header: bool,
+    /// Whether a line goes on while a quote is open, as in RFC 4180: the rows that are converted are records of CSV.
+    pub has_records: bool,
     /// Whether blanks and tabs around a text, a carriage return at the end of a line and a byte order mark at the start
     /// of the input are no part of what is converted. All but blanks and tabs around a whole line are copied.
     pub trims: bool,
@@ -141,6 +155,49 @@ impl Filter<'_> {
         sink.put_byte(b'\n')?;
         Ok(())
     }
+
+    /// Writes the text of the row that begins at the line with this number, and a line feed.
+    #[inline(always)]
+    fn print_row<W: Sink>(
+        &self,
+        alloc: Global,
+        number: u64,
+        row: &[u8],
+        sink: &mut W,
+    ) -> Result<(), OperationError>
+        ensures printed { OnOk result (HasRowText self.now number row.now
+            (λ text. Appends (W.contents sink.old) (W.contents sink.new) (text ++ 10 ∷ []))) }
+        ensures fails_with { IfErr result (λ error. error ≢ OperationError.Output
+            → RowFails self.now number row.now error) }
+        ensures unchanged_on_error { IfErr result (λ error. error ≢ OperationError.Output → sink.new ≡ sink.old) }
+        ensures failed { result ≡ Err OperationError.Output → W.has_failed sink.new ≡ true }
+        ensures prefix { result ≡ Err OperationError.Output → HasRowText self.now number row.now
+            (λ text. AppendsPrefix (W.contents sink.old) (W.contents sink.new) (text ++ 10 ∷ [])) }
+    {
+        if self.has_records && is_broken(row) {
+            return Err(OperationError::Quote);
+        }
+        self.print(alloc, number, row, sink)
+    }
+
+    /// Returns where the first line of a block ends. None: it is not whole in it, or it may be a part of a record.
+    #[inline(always)]
+    fn end_in_block(&self, block: &[u8]) -> Option<usize>
+        ensures end { IfSome result (λ end. IsFirstByte (is_byte 10) block.now (Some end)) }
+        ensures is_line { IsSome result → self.now.has_records ≡ false }
+    {
+        if self.has_records {
+            return None;
+        }
+        find_line_feed(block)
+    }
+
+    fn lines_of_row(&self, row: &[u8]) -> u64
+        ensures value { result ≡ lines_of_row self.now row.now }
+        ensures some { 0 < result }
+    {
+        if self.has_records { lines_in(row) } else { 1 }
+    }
 }
 
 fn copy_line<W: Sink>(line: &[u8], sink: &mut W) -> Result<(), SinkFault>
@@ -178,7 +235,7 @@ fn filter_line<W: Sink, D: Diagnostics<ProgramError>>(
         (record { before = diagnostics.old; after = diagnostics.new }) result }
     ensures failed { result ≡ Err ProgramError.Output → W.has_failed out.new ≡ true }
 {
-    let error = match filter.print(alloc, number, line, out) {
+    let error = match filter.print_row(alloc, number, line, out) {
         Ok(()) => return Ok(true),
         Err(OperationError::Output) => return Err(ProgramError::Output),
         Err(error) => error,
@@ -198,8 +255,8 @@ fn filter_line<W: Sink, D: Diagnostics<ProgramError>>(
     }
 }
 
-/// Filters the next line, and returns whether it has a text. None: there is no line. A line that is not whole in the
-/// block of the reader is copied into `copy` first.
+/// Filters the next row. None: there is none. A record, or a line that is not whole in the block of the reader, is
+/// copied into `copy` first.
 #[inline]
 fn filter_next<R: Read, W: Sink, D: Diagnostics<ProgramError>>(
     alloc: Global,
@@ -209,25 +266,26 @@ fn filter_next<R: Read, W: Sink, D: Diagnostics<ProgramError>>(
     input: &mut LineReader<R>,
     out: &mut W,
     diagnostics: &mut D,
-) -> Result<Option<bool>, ProgramError>
+) -> Result<Option<FilteredRow>, ProgramError>
     ensures filtered { FiltersNext D.reports filter.now number (record {
       input = record { before = bytes_left R.remaining input.old; after = bytes_left R.remaining input.new };
       failure = input.new.1;
       output = record { before = W.contents out.old; after = W.contents out.new };
       diagnostics = record { before = diagnostics.old; after = diagnostics.new };
     }) result }
+    ensures some_lines { IfOk result (λ next. IfSome next (λ row. 0 < row.lines)) }
     ensures failed { result ≡ Err ProgramError.Output → W.has_failed out.new ≡ true }
 {
-    let Some(end) = find_line_feed(input.block()) else {
-        return match input.read_line(copy) {
-            Ok(true) => Ok(Some(filter_line(
-                alloc,
-                filter,
-                number,
-                copy.as_slice(),
-                out,
-                diagnostics,
-            )?)),
+    let Some(end) = filter.end_in_block(input.block()) else {
+        return match input.read_row(filter.has_records, copy) {
+            Ok(true) => {
+                let row = copy.as_slice();
+                let has_text = filter_line(alloc, filter, number, row, out, diagnostics)?;
+                Ok(Some(FilteredRow {
+                    has_text,
+                    lines: filter.lines_of_row(row),
+                }))
+            }
             Ok(false) => Ok(None),
             Err(kind) => Err(error_of_reading(number, kind)),
         };
@@ -241,13 +299,17 @@ fn filter_next<R: Read, W: Sink, D: Diagnostics<ProgramError>>(
         diagnostics,
     );
     input.consume(end + 1);
-    Ok(Some(filtered?))
+    Ok(Some(FilteredRow {
+        has_text: filtered?,
+        lines: 1,
+    }))
 }
 
 /// Makes the calls on each line of the input, writes the texts to `out`, each with a line feed, and returns whether
 /// each line has a text.
 ///
-/// A line is all bytes up to a line feed; the bytes after the last line feed are a line if there are any. A header is
+/// A line is all bytes up to a line feed; the bytes after the last line feed are a line if there are any. Where the
+/// filter has records, each of these takes the place of a line, and its number is that of its first line. A header is
 /// copied. With `Skip` and `Keep` the error of a line is reported, and an empty line or the line itself is written.
 ///
 /// # Errors
@@ -273,18 +335,23 @@ pub fn filter_lines<R: Read, W: Sink, D: Diagnostics<ProgramError>>(
     }) result }
     ensures silent { result ≡ Ok true → diagnostics.new ≡ diagnostics.old }
     ensures failed { result ≡ Err ProgramError.Output → W.has_failed out.new ≡ true }
-    ensures consumed { IfErr result
-        (IsConsumed (record { before = bytes_left R.remaining input.old; after = bytes_left R.remaining input.new })) }
+    ensures consumed { IfErr result (IsConsumed filter.now
+        (record { before = bytes_left R.remaining input.old; after = bytes_left R.remaining input.new })) }
     ensures at_end { OnOk result (IfSome (bytes_left R.remaining input.old)
         (λ _. IsAtEnd (bytes_left R.remaining input.new))) }
 {
     let mut copy = Vec::new(alloc);
     let mut have_texts = true;
-    for count in 0..u64::MAX {
-        match filter_next(alloc, filter, count + 1, &mut copy, input, out, diagnostics)? {
-            Some(has_text) => have_texts = have_texts & has_text,
-            None => return Ok(have_texts),
-        }
+    let mut number: u64 = 1;
+    'rows: loop {
+        let next = filter_next(alloc, filter, number, &mut copy, input, out, diagnostics)?;
+        let Some(row) = next else {
+            return Ok(have_texts);
+        };
+        have_texts = have_texts & row.has_text;
+        let Some(after) = number.checked_add(row.lines) else {
+            return Err(ProgramError::Input);
+        };
+        number = after;
     }
-    Err(ProgramError::Input)
 }

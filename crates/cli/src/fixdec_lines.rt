@@ -6,6 +6,7 @@ ghost use Rattle.decimal_digits.specs.Buffered.{buffered_contents};
 ghost use Rattle.cli.specs.declared.error.ProgramError.{ProgramError};
 ghost use Rattle.cli.specs.Arguments.{HaveWords, IsRequest, PrintsFor, ArgumentsFail};
 ghost use Rattle.cli.specs.declared.help.Program.TheVariants.{FixdecLines};
+ghost use Rattle.cli.specs.Diagnostics.{Concludes};
 ghost use Rattle.cli.specs.Error.{status_of};
 ghost use Rattle.cli.specs.FixdecLines.{NamesFilter, FilterFails, IsEarly, Process, effects, WordsFilter, LinesFail};
 ghost use Rattle.cli.specs.Input.{bytes_left};
@@ -21,7 +22,7 @@ use crate::words::parse_conversion;
 use fixed_decimal::{BufferedOut, Closed};
 use std::alloc::Global;
 use std::env::Args;
-use std::io::{Read, Write};
+use std::io::{Read, Stdout, Write};
 use std::process::ExitCode;
 use std::{env, io};
 
@@ -30,6 +31,9 @@ fn parse_filter(alloc: Global, words: &[String]) -> Result<Filter<'_>, ProgramEr
     ensures err { IfErr result (FilterFails words.now) }
 {
     let (options, words) = split_options(words);
+    if options.lacks_csv() {
+        return Err(ProgramError::start(Program::FixdecLines, WordsError::NoCsv));
+    }
     let Some(field) = options.field() else {
         return Err(ProgramError::start(Program::FixdecLines, options.field_error()));
     };
@@ -39,6 +43,7 @@ fn parse_filter(alloc: Global, words: &[String]) -> Result<Filter<'_>, ProgramEr
             conversion,
             field,
             has_header: options.has_header,
+            has_records: options.has_records,
             trims: options.trims,
         }),
         Err(why) => Err(ProgramError::start(Program::FixdecLines, why)),
@@ -83,7 +88,7 @@ fn filter_words<R: Read, O: Write + Drop, D: Diagnostics<ProgramError>>(
 ///
 /// # Errors
 ///
-/// The last report is the error:
+/// The last report is the error, but for `output` to a closed pipe:
 ///
 /// - Status 1: `line 3: call 1: overflow` and others of [`ProgramError::Operation`].
 /// - Status 2: a word names nothing, or `unknown locale`; nothing is read.
@@ -120,7 +125,7 @@ pub fn run_arguments<R: Read, O: Write + Drop, D: Diagnostics<ProgramError>>(
         ⊎ ((error : ProgramError) × (before : D) × (result.0 ≡ status_of error)
         × ArgumentsFail FixdecLines O.contents arguments out result.1
         (LinesFail D.reports (process before)) error
-        × D.reports before error diagnostics.new
+        × Concludes D.reports result.1 error before diagnostics.new
         × (IsEarly error → (before ≡ diagnostics.old) × (input.new ≡ input.old))) }
     ensures unread_for_request { HaveWords arguments (IsRequest FixdecLines) → input.new ≡ input.old }
     ensures unchanged_on_error { result.0 ≡ 2 → (input.new ≡ input.old)
@@ -128,17 +133,23 @@ pub fn run_arguments<R: Read, O: Write + Drop, D: Diagnostics<ProgramError>>(
 {
     let (words, out) = match start(alloc, Program::FixdecLines, arguments, out) {
         Ok(started) => started,
-        Err((ended, closed)) => return (conclude(ended, diagnostics), Some(closed)),
+        Err((ended, closed)) => {
+            let back = Some(closed);
+            return (conclude(ended, &back, diagnostics), back);
+        }
     };
     let Ok(buffered) = BufferedOut::open(alloc, out) else {
         let no_memory = Err(ProgramError::start(Program::FixdecLines, WordsError::Memory));
-        return (conclude(no_memory, diagnostics), None);
+        return (conclude(no_memory, &None::<Closed<O>>, diagnostics), None);
     };
     let (filtered, closed) = filter_words(alloc, words.as_slice(), input, buffered, diagnostics);
     match filtered {
         Ok(true) => (0, Some(closed)),
         Ok(false) => (1, Some(closed)),
-        Err(error) => (conclude(Err(error), diagnostics), Some(closed)),
+        Err(error) => {
+            let back = Some(closed);
+            (conclude(Err(error), &back, diagnostics), back)
+        }
     }
 }
 
@@ -150,7 +161,7 @@ pub fn execute(rt: HostRuntime) -> ExitCode
     let mut diagnostics = ErrorLines::new(&mut err);
     let Ok(mut input) = LineReader::open(rt.alloc(), rt.stdin()) else {
         let no_memory = Err(ProgramError::start(Program::FixdecLines, WordsError::Memory));
-        return ExitCode::from(conclude(no_memory, &mut diagnostics));
+        return ExitCode::from(conclude(no_memory, &None::<Closed<Stdout>>, &mut diagnostics));
     };
     let arguments = env::args(&rt);
     let (status, _out) = run_arguments(

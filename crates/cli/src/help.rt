@@ -63,6 +63,7 @@ or the output fails. Errors are lines of standard error; line 1 is the first lin
 field:N                 converts field N of each line, from 1, and copies the other bytes
 delimiter:C             C is between two fields: by default a tab, with csv a comma
 csv                     fields may be in quotes, as in RFC 4180
+records                 with csv, fields may have line feeds in quotes, in records of at most 1 MiB
 header                  the first line is copied
 skip                    reports a line that fails, and writes an empty line
 keep                    reports a line that fails, and copies it

@@ -1,10 +1,12 @@
 //! Input in blocks.
-ghost use Rattle.std.specs.Prelude.{◌≡◌, length, Some, None, OnOk, IfOk, IfErr, IfSome};
+ghost use Rattle.std.specs.Prelude.{◌≡◌, ◌<◌, [], length, Ok, Some, None, true, false, OnOk, IfOk, IfErr, IfSome};
 ghost use Rattle.std.specs.Io.{StartsWith};
 ghost use Rattle.std.specs.Io.BufRead.{DropsConsumable, strip_last};
 ghost use Rattle.std.specs.Io.Buffered.{reader_buffer, reader_inner};
-ghost use Rattle.cli.specs.Input.{bytes_left, IsRead};
+ghost use Rattle.cli.specs.Input.{bytes_left, IsRead, IsAppended, IsRecordRead, IsRowRead};
 
+use crate::fields::are_closed;
+use crate::records::LONGEST_RECORD;
 use std::alloc::{AllocError, Global};
 use std::io::{BufRead, BufReader, ErrorKind, Read};
 use std::marker::Model;
@@ -97,16 +99,83 @@ impl<R: Read> LineReader<R> {
         ensures has_not_failed { OnOk result (self.new.1 ≡ None) }
         ensures failed { IfErr result (λ kind. self.new.1 ≡ Some kind) }
     {
+        line.clear();
+        let is_line = self.append_line(line)?;
+        pop_line_feed(line);
+        Ok(is_line)
+    }
+
+    /// Reads the next record into `row`, without a line feed at its end, and returns whether there is one.
+    ///
+    /// # Errors
+    ///
+    /// The kind of the first error, which is `OutOfMemory` where `row` has no room for the record.
+    fn read_record(&mut self, row: &mut Vec<u8>) -> Result<bool, ErrorKind>
+        ensures read { IfOk result (λ some. IfSome (bytes_left R.remaining self.old)
+            (λ bytes. IsRecordRead some bytes row.new.items (bytes_left R.remaining self.new))) }
+        ensures has_not_failed { OnOk result (self.new.1 ≡ None) }
+        ensures failed { IfErr result (λ kind. self.new.1 ≡ Some kind) }
+    {
+        row.clear();
+        let some = self.append_record(row)?;
+        pop_line_feed(row);
+        Ok(some)
+    }
+
+    /// Appends the lines of the next record, with their line feeds, and returns whether there is one.
+    fn append_record(&mut self, row: &mut Vec<u8>) -> Result<bool, ErrorKind>
+        requires { row.old.items ≡ [] }
+        ensures read { IfOk result (λ some. IfSome (bytes_left R.remaining self.old)
+            (λ bytes. IsRecordRead some bytes (strip_last 10 row.new.items) (bytes_left R.remaining self.new))) }
+        ensures has_not_failed { OnOk result (self.new.1 ≡ None) }
+        ensures failed { IfErr result (λ kind. self.new.1 ≡ Some kind) }
+    {
+        if !self.append_line(row)? {
+            return Ok(false);
+        }
+        let mut is_closed = are_closed(row.as_slice());
+        while !is_closed && row.len() <= LONGEST_RECORD {
+            let start = row.len();
+            if !self.append_line(row)? {
+                return Ok(true);
+            }
+            is_closed = !are_closed(&row[start..]);
+        }
+        Ok(true)
+    }
+
+    /// Reads the next row, a line or a record, into `row`, and returns whether there is one.
+    ///
+    /// # Errors
+    ///
+    /// The kind of the first error, which is `OutOfMemory` where `row` has no room for the row.
+    pub fn read_row(&mut self, is_record: bool, row: &mut Vec<u8>) -> Result<bool, ErrorKind>
+        ensures read { IfOk result (λ some. IfSome (bytes_left R.remaining self.old)
+            (λ bytes. IsRowRead is_record some bytes row.new.items (bytes_left R.remaining self.new))) }
+        ensures has_not_failed { OnOk result (self.new.1 ≡ None) }
+        ensures failed { IfErr result (λ kind. self.new.1 ≡ Some kind) }
+    {
+        if is_record {
+            self.read_record(row)
+        } else {
+            self.read_line(row)
+        }
+    }
+
+    /// Appends the next line, with its line feed, and returns whether there is one.
+    fn append_line(&mut self, bytes: &mut Vec<u8>) -> Result<bool, ErrorKind>
+        ensures read { IfOk result (λ is_line. IfSome (bytes_left R.remaining self.old)
+            (λ left. IsAppended is_line left bytes.old.items bytes.new.items (bytes_left R.remaining self.new))) }
+        ensures longer { result ≡ Ok true → length bytes.old.items < length bytes.new.items }
+        ensures appends { StartsWith bytes.new.items bytes.old.items }
+        ensures has_not_failed { OnOk result (self.new.1 ≡ None) }
+        ensures failed { IfErr result (λ kind. self.new.1 ≡ Some kind) }
+    {
         if let Some(kind) = self.error {
             return Err(kind);
         }
-        line.clear();
-        match self.reader.read_until(b'\n', line) {
-            Ok(0) => Ok(false),
-            Ok(_) => {
-                pop_line_feed(line);
-                Ok(true)
-            }
+        match self.reader.read_until(b'\n', bytes) {
+            Ok(count) => Ok(count > 0),
             Err(error) => {
                 let kind = error.kind();
                 self.error = Some(kind);

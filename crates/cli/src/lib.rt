@@ -23,6 +23,7 @@ mod named_rules;
 mod options;
 pub mod plural;
 mod reader;
+mod records;
 mod shown_word;
 mod trim;
 mod words;

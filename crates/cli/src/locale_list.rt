@@ -1,23 +1,11 @@
 //! The list of `--locales`.
 ghost use Rattle.std.specs.Prelude.{◌≡◌, OnOk};
 ghost use Rattle.std.specs.Io.KnownBytes.{Appends};
-ghost use Rattle.locale_data.specs.Rows.{unpadded};
 ghost use Rattle.cli.specs.LocaleList.{tag_line, tag_lines, locales_text};
 
 use fixed_decimal::{WriteError, write_whole};
-use locale_data::{LOCALES, LocaleSymbols};
+use locale_data::{LOCALES, LocaleSymbols, unpadded};
 use std::io::Write;
-
-fn unpadded(padded: &[u8]) -> &[u8]
-    ensures { result.now ≡ unpadded padded.now }
-{
-    for (index, byte) in padded.iter().enumerate() {
-        if *byte == b' ' {
-            return &padded[..index];
-        }
-    }
-    padded
-}
 
 fn print_tag<W: Write>(locale: &LocaleSymbols, out: &mut W) -> Result<(), WriteError<W>>
     ensures { OnOk result (Appends (W.contents out.old) (W.contents out.new) (tag_line locale.now)) }

@@ -3,7 +3,7 @@ ghost use Rattle.std.specs.Prelude.{◌≡◌, ◌≢◌, ℕ, List, Option, Som
 ghost use Rattle.cli.specs.declared.fields.Field.{Field};
 ghost use Rattle.cli.specs.declared.filter.OnError.TheVariants.{Stop};
 ghost use Rattle.cli.specs.declared.options.Options.{Options};
-ghost use Rattle.cli.specs.Options.{IsField, IsDelimiter, none, Adds, AddsParameter, IsOption, AreOptions, HasField, field_error};
+ghost use Rattle.cli.specs.Options.{IsField, IsDelimiter, none, Adds, AddsParameter, IsOption, AreOptions, HasField, lacks_csv, field_error};
 
 use crate::calls::number_after;
 use crate::error::WordsError;
@@ -23,6 +23,8 @@ pub struct Options<'a> {
     pub is_csv: bool,
     /// `header`: whether the first line is copied.
     pub has_header: bool,
+    /// `records`: whether a field may have line feeds in quotes.
+    pub has_records: bool,
     /// `trim`: whether what is around a text and around a line is no part of them.
     pub trims: bool,
 }
@@ -59,6 +61,7 @@ impl<'a> Options<'a> {
             delimiter: None,
             is_csv: false,
             has_header: false,
+            has_records: false,
             trims: false,
         }
     }
@@ -117,6 +120,11 @@ impl<'a> Options<'a> {
                 has_header: true,
                 ..self
             }),
+            "records" if self.has_records => None,
+            "records" => Some(Options {
+                has_records: true,
+                ..self
+            }),
             "trim" if self.trims => None,
             "trim" => Some(Options {
                 trims: true,
@@ -124,6 +132,13 @@ impl<'a> Options<'a> {
             }),
             _ => self.with_parameter(word),
         }
+    }
+
+    /// Returns whether `records` has no `csv`.
+    pub fn lacks_csv(self) -> bool
+        ensures { result ≡ lacks_csv self.entry }
+    {
+        self.has_records && !self.is_csv
     }
 
     /// Returns why these options have no field.

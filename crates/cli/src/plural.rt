@@ -3,6 +3,7 @@ ghost use Rattle.std.specs.Prelude.{◌≡◌, ◌<◌, ◌≤◌, IfOk, IfErr, 
 ghost use Rattle.std.specs.Process.{exit_status};
 ghost use Rattle.cli.specs.declared.error.ProgramError.{ProgramError};
 ghost use Rattle.cli.specs.declared.help.Program.TheVariants.{Plural};
+ghost use Rattle.cli.specs.Diagnostics.{Concludes};
 ghost use Rattle.cli.specs.Error.{status_of};
 ghost use Rattle.cli.specs.Plural.{HasRules, RulesFail, Prints, PluralFails};
 ghost use Rattle.cli.specs.Arguments.{PrintsFor, ArgumentsFail};
@@ -76,7 +77,8 @@ fn print<O: Write + Drop>(
 ///
 /// # Errors
 ///
-/// The categories of the texts before the error are printed, and the error is reported, once:
+/// The categories of the texts before the error are printed, and the error is reported, once, but for `output` to a
+/// closed pipe:
 ///
 /// - Status 1: the rules or a text are rejected, as `rules: syntax at 4` and `text 2: limit`.
 /// - Status 2: no text, or `unknown locale: xx`.
@@ -94,15 +96,18 @@ pub fn run_arguments<O: Write + Drop, D: Diagnostics<ProgramError>>(
     ensures silent { result.0 ≡ 0 → diagnostics.new ≡ diagnostics.old }
     ensures reported { 0 < result.0 → (error : ProgramError) × (result.0 ≡ status_of error)
         × ArgumentsFail Plural O.contents arguments out result.1 (PluralFails O.contents out) error
-        × D.reports diagnostics.old error diagnostics.new }
+        × Concludes D.reports result.1 error diagnostics.old diagnostics.new }
 {
     let (words, out) = match start(alloc, Program::Plural, arguments, out) {
         Ok(started) => started,
-        Err((ended, closed)) => return (conclude(ended, diagnostics), Some(closed)),
+        Err((ended, closed)) => {
+            let back = Some(closed);
+            return (conclude(ended, &back, diagnostics), back);
+        }
     };
-    let (printed, closed) = print(alloc, words.as_slice(), out);
-    let status = conclude(printed, diagnostics);
-    (status, closed)
+    let (printed, back) = print(alloc, words.as_slice(), out);
+    let status = conclude(printed, &back, diagnostics);
+    (status, back)
 }
 
 /// Runs the process: `run_arguments` on its arguments, standard output and standard error.

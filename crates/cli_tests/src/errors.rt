@@ -87,6 +87,7 @@ fn a_skipping_filter_reports_each_refusal(rt: HostRuntime) -> Result<(), Fail> {
         },
         field: None,
         has_header: false,
+        has_records: false,
         trims: false,
     };
     let answer = filter_lines(alloc, &filter, &mut reader, &mut out, &mut log);

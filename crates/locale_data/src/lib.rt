@@ -46,6 +46,6 @@ pub use plurals::{
     plural_rules_number, plural_rules_of, plural_rules_text, rules_text_at,
 };
 pub use plurals_table::{PLURAL_RULES, PLURAL_RULES_TEXTS};
-pub use rows::{Name, Row, TableRange};
+pub use rows::{Name, Row, TableRange, unpadded};
 pub use symbols::{LocaleSymbols, NumberingSystem, Symbol, SymbolSet};
 pub use symbols_table::{LOCALES, LOCALES_BY_SYSTEM, NUMBERING_SYSTEMS};

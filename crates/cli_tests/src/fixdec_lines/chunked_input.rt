@@ -264,6 +264,40 @@ const FIELDS: &[Row] = &[
     ),
 ];
 
+/// Records of CSV.
+const RECORDS: &[Row] = &[
+    (
+        "records skip csv field:2 shift:-2",
+        b"\"a\nb\",250\r\n\"\n\n\",x\nc,7\n\"\"\"\n\"\"\",\"2\"\nd,\"2\n\"\ne",
+        b"\"a\nb\",2.50\r\n\nc,0.07\n\"\"\"\n\"\"\",0.02\n\n\n",
+        b"line 3: start: syntax\nline 9: start: syntax\nline 11: field\n",
+        1,
+    ),
+    (
+        "records keep csv field:1",
+        b"1,\"\r\n\"\n\"\n1\n2\n",
+        b"1,\"\r\n\"\n\"\n1\n2\n",
+        b"line 3: quote\n",
+        1,
+    ),
+    (
+        "records header csv field:2 shift:-2",
+        b"\"a\nb\",c\n\n\n",
+        b"\"a\nb\",c\n",
+        b"line 3: field\n",
+        1,
+    ),
+    ("records csv header field:1", b"\"\n1\n", b"", b"line 1: quote\n", 1),
+    ("records csv field:1", b"", b"", b"", 0),
+    (
+        "records",
+        b"1\n",
+        b"",
+        b"fixdec_lines: records needs csv\n",
+        2,
+    ),
+];
+
 /// The reader fails after the input.
 const BROKEN: &[Row] = &[
     ("shift:-2", b"250\n7\n", b"2.50\n0.07\n", b"input\n", 3),
@@ -338,6 +372,7 @@ fn filters_chunked_input(rt: HostRuntime) -> Result<(), Fail> {
     assert_rows(&rt, alloc, ROWS, None)?;
     assert_rows(&rt, alloc, TRIMMED, None)?;
     assert_rows(&rt, alloc, FIELDS, None)?;
+    assert_rows(&rt, alloc, RECORDS, None)?;
     assert_rows(&rt, alloc, BROKEN, Some(ErrorKind::BrokenPipe))?;
     assert_rows(&rt, alloc, NO_MEMORY, Some(ErrorKind::OutOfMemory))
 }

@@ -100,6 +100,21 @@ fn holds(alloc: Global, row: Row, write_failure: WriteFailure) -> Result<bool, F
     Ok(status == row.4 && has_taken && err.has_taken(err_capacity))
 }
 
+/// The flush fails as that of a closed pipe does, and is not reported. A write that takes no byte is.
+const CLOSED: &[Row] = &[
+    ("", b"7\n", (b"7\n", 2), (b"", 0), 3),
+    ("skip", b"x\n", (b"\n", 1), (b"line 1: start: syntax\n", 22), 3),
+    ("--version", b"", (b"fixdec_lines", 12), (b"output\n", 7), 3),
+];
+
+#[test]
+fn reports_no_closed_pipe(rt: HostRuntime) -> Result<(), Fail> {
+    for row in CLOSED {
+        assert!(rt; holds(rt.alloc(), *row, WriteFailure::Flush)?, "{}", row.0);
+    }
+    Ok(())
+}
+
 #[test]
 fn returns_status_with_full_outputs(rt: HostRuntime) -> Result<(), Fail> {
     for write_failure in [WriteFailure::Zero, WriteFailure::StorageFull] {

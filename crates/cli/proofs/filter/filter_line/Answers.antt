@@ -2,18 +2,18 @@ use Rattle.std.proofs.Common.{◌≡◌, ◌≢◌, Ok, Err, refl, ap, arith, ru
 use Rattle.cli.specs.declared.error.OperationError.TheVariants.{Output}
 use Rattle.cli.specs.Error.{status_of_operation}
 use Rattle.cli.specs.Filter.{filtered_line}
-use Rattle.cli.proofs.FieldLines.{rejected_line}
+use Rattle.cli.proofs.FieldLines.{rejected_row}
 use Rattle.cli.proofs.filter.filter_line.Goals as goal
 
 pub returns-in-Ok-clause-filtered : goal.returns-in-Ok-clause-filtered
 returns-in-Ok-clause-filtered g c =
-    let (written, is, put) = c.in-Ok.ensures.printed in
-    (Ok written, (Ok written, is, refl), put, refl, refl, λ _. refl)
+    let (has_fields, (written, is, put)) = c.in-Ok.ensures.printed in
+    (Ok written, rw has_fields (Ok written, is, refl), put, refl, refl, λ _. refl)
 
 pub returns-in-Err-Output-clause-filtered : goal.returns-in-Err-Output-clause-filtered
 returns-in-Err-Output-clause-filtered g c =
-    let (written, is, put) = c.in-Err-Output.ensures.prefix (ap Err c.in-Err-Output.field-0-is) in
-    (Ok written, (Ok written, is, refl), put, refl, λ _. refl)
+    let (has_fields, (written, is, put)) = c.in-Err-Output.ensures.prefix (ap Err c.in-Err-Output.field-0-is) in
+    (Ok written, rw has_fields (Ok written, is, refl), put, refl, λ _. refl)
 
 pub returns-in-Ok-copy_line-clause-filtered : goal.returns-in-Ok-copy_line-clause-filtered
 returns-in-Ok-copy_line-clause-filtered g c =
@@ -22,7 +22,7 @@ returns-in-Ok-copy_line-clause-filtered g c =
     let appends =
     rw (c.replacement.ensures, c.in-Err.ensures.unchanged_on_error real) at c.in-Ok-copy_line.ensures.ok in (
       filtered_line c.args.filter.now c.args.number c.args.line.now (Err c.in-Err.error),
-      rejected_line c.args.filter.now c.args.number c.args.line.now _ one (c.in-Err.ensures.fails_with real),
+      rejected_row c.args.filter.now c.args.number c.args.line.now _ one (c.in-Err.ensures.fails_with real),
       appends,
       (c.report.new.self, c.report.ensures, refl),
       refl,
@@ -36,7 +36,7 @@ returns-in-Err-copy_line-clause-filtered g c =
     let prefix =
     rw (c.replacement.ensures, c.in-Err.ensures.unchanged_on_error real) at c.in-Err-copy_line.ensures.err in (
       filtered_line c.args.filter.now c.args.number c.args.line.now (Err c.in-Err.error),
-      rejected_line c.args.filter.now c.args.number c.args.line.now _ one (c.in-Err.ensures.fails_with real),
+      rejected_row c.args.filter.now c.args.number c.args.line.now _ one (c.in-Err.ensures.fails_with real),
       prefix,
       (c.report.new.self, c.report.ensures, refl),
       search rules,

@@ -21,11 +21,11 @@ abbrev ending : {D : Type 0} → Effects D → Option (List ℕ) → Effects D
 ending e output = record e { output = record { before = e.output.before; after = output } }
 
 are_first :
-    (filter : Filter) (lines : List (List ℕ)) (results : List FilteredLine)
+    (filter : Filter) (rows : List (List ℕ)) (results : List FilteredLine)
     {D : Type 0} (e : Effects D) (r : Result Bool ProgramError)
-    → Returns filter e.input.before e.failure lines results r → AreFirst e.input.before lines
-are_first filter lines results e (Ok texts) (all, same) = (Some [], all)
-are_first filter lines results e (Err error) (first, how) = first
+    → Returns filter e.input.before e.failure rows results r → AreFirst filter e.input.before rows
+are_first filter rows results e (Ok texts) (all, same) = (Some [], all)
+are_first filter rows results e (Err error) (first, how) = first
 
 module _
     {D : Type 0} (reports : D → ProgramError → D → Type 0) (filter : Filter) (e : Effects D) (d : Option (List ℕ))
@@ -36,7 +36,7 @@ module _
     filters_kept k =
         let all : Keeps e.output.after (append_known d []) = rw (append_known-nil d) k in
         record {
-          lines = h.lines;
+          rows = h.rows;
           results = h.results;
           are_results = h.are_results;
           returns = h.returns;
@@ -51,10 +51,10 @@ module _
         (missing : List ℕ) × Keeps e.output.after (append_known d missing)
         → Filters AppendsUnwritten reports filter (ending e d) (Err Output)
     filters_missing (missing, k) = record {
-      lines = h.lines;
+      rows = h.rows;
       results = h.results;
       are_results = h.are_results;
-      returns = (are_first filter h.lines h.results e r h.returns, tt);
+      returns = (are_first filter h.rows h.results e r h.returns, tt);
       stop = h.stop;
       whole = λ other. absurd (other refl);
       part = unwritten e.output.before e.output.after d _ missing h.part k;
