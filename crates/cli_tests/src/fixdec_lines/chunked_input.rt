@@ -287,7 +287,13 @@ const RECORDS: &[Row] = &[
         b"line 3: field\n",
         1,
     ),
-    ("records csv header field:1", b"\"\n1\n", b"", b"line 1: quote\n", 1),
+    (
+        "records csv header field:1",
+        b"\"\n1\n",
+        b"",
+        b"line 1: quote\n",
+        1,
+    ),
     ("records csv field:1", b"", b"", b"", 0),
     (
         "records",

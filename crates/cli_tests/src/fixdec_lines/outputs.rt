@@ -103,7 +103,13 @@ fn holds(alloc: Global, row: Row, write_failure: WriteFailure) -> Result<bool, F
 /// The flush fails as that of a closed pipe does, and is not reported. A write that takes no byte is.
 const CLOSED: &[Row] = &[
     ("", b"7\n", (b"7\n", 2), (b"", 0), 3),
-    ("skip", b"x\n", (b"\n", 1), (b"line 1: start: syntax\n", 22), 3),
+    (
+        "skip",
+        b"x\n",
+        (b"\n", 1),
+        (b"line 1: start: syntax\n", 22),
+        3,
+    ),
     ("--version", b"", (b"fixdec_lines", 12), (b"output\n", 7), 3),
 ];
 
