@@ -35,7 +35,7 @@ pub use currency::{
     currency_symbol,
 };
 pub use formats::{FormatSystem, LocaleFormats, SystemFormats, formats_of};
-pub use lookup::{LocaleNumbers, locale, locale_numbers, symbols_at};
+pub use lookup::{LocaleNumbers, locale, locale_numbers, symbols_at, system_of};
 pub use number_formats::NumberFormats;
 pub use patterns::{
     Affix, AffixPair, CurrencyOverride, ExponentSeparator, MoneyFormat, MoneySeparator,
@@ -46,6 +46,6 @@ pub use plurals::{
     plural_rules_number, plural_rules_of, plural_rules_text, rules_text_at,
 };
 pub use plurals_table::{PLURAL_RULES, PLURAL_RULES_TEXTS};
-pub use rows::{Name, Row, TableRange};
+pub use rows::{Name, Row, TableRange, unpadded};
 pub use symbols::{LocaleSymbols, NumberingSystem, Symbol, SymbolSet};
 pub use symbols_table::{LOCALES, LOCALES_BY_SYSTEM, NUMBERING_SYSTEMS};
