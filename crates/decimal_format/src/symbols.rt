@@ -114,9 +114,7 @@ impl<'a> DecimalSymbols<'a> {
         check_length(minus.suffix, SymbolsError::MinusSuffixTooLong)?;
         check_length(plus.prefix, SymbolsError::PlusPrefixTooLong)?;
         check_length(plus.suffix, SymbolsError::PlusSuffixTooLong)?;
-        Ok(Self::of_valid(
-            digits, decimal, grouping, minus, plus, sizes,
-        ))
+        Ok(Self::of_valid(digits, decimal, grouping, minus, plus, sizes))
     }
 
     /// Makes the symbols of a locale from digits and texts for which [`new`](Self::new) has no error.

@@ -187,7 +187,8 @@ tag_byte-small : (b : ℕ) → b < 256 → tag_byte b < 256
 tag_byte-small b small = grind (arith, nat_tests)
 
 -- the bytes of a text, as they are compared, are bytes
-pub compared_are_bytes : (text : List ℕ) → ((j : ℕ) → get_or text j 0 < 256) → (j : ℕ) → padded_byte (compared text) j < 256
+pub compared_are_bytes : (text : List ℕ) → ((j : ℕ) → get_or text j 0 < 256) → (j : ℕ)
+    → padded_byte (compared text) j < 256
 compared_are_bytes text bytes j = by (nat_lt j (length (compared text))) refl
   where
     by : (b : Bool) → nat_lt j (length (compared text)) ≡ b → cond b (get_or (compared text) j 0) 32 < 256

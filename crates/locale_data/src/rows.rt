@@ -1,9 +1,9 @@
 //! Tables whose rows are sorted by name.
 ghost use Rattle.std.specs.Prelude.{◌≡◌, ◌≤◌, ◌<◌, ℕ, List, length, take, set, slice_get, Some, true, false, IfSome};
 ghost use Rattle.std.specs.Option.{option_copied};
+ghost use Rattle.std.specs.Str.{bytes_eq};
 ghost use Rattle.locale_data.specs.Tag.{compared};
 ghost use Rattle.locale_data.specs.Rows.{part, is_inside, unpadded, row_at, row_named, IsRowOf};
-ghost use Rattle.std.specs.Str.{bytes_eq};
 ghost use Rattle.locale_data.specs.SortedRows.{number, IsPadded, is_table, is_table_part, ends_at, IsFar, HasNoLonger};
 
 use crate::tag::tag_byte;
@@ -39,6 +39,7 @@ pub fn indexed_row<R>(rows: &[R], index: usize) -> &R
     &rows[index]
 }
 
+/// Returns a name without the spaces after it.
 pub fn unpadded(padded: &[u8]) -> &[u8]
     ensures { result.now ≡ unpadded padded.now }
 {

@@ -11,4 +11,5 @@ indexed_row-requires c =
     c.args.width c.in_ok-currency.ensures.listed c.own_symbols-own.ensures)
 
 pub symbol_of-requires : goal.symbol_of-requires
-symbol_of-requires c = contains_at CURRENCY_TEXTS c.symbol_index-index.result c.indexed_row.result.now c.indexed_row.ensures
+symbol_of-requires c =
+    contains_at CURRENCY_TEXTS c.symbol_index-index.result c.indexed_row.result.now c.indexed_row.ensures

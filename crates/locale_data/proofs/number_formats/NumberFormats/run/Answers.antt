@@ -4,7 +4,8 @@ use Rattle.locale_data.proofs.TableTexts.{contains_at}
 use Rattle.locale_data.proofs.number_formats.NumberFormats.run.Goals as goal
 
 pub runs_of-requires : goal.runs_of-requires
-runs_of-requires c = contains_at COMPACT_SETS c.args.self.now.compact c.indexed_row-set.result.now c.indexed_row-set.ensures
+runs_of-requires c =
+    contains_at COMPACT_SETS c.args.self.now.compact c.indexed_row-set.result.now c.indexed_row-set.ensures
 
 pub returns-clause-listed : goal.returns-clause-listed
 returns-clause-listed c =
