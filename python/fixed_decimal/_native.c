@@ -287,33 +287,15 @@ static PyObject *decimal_format(Decimal *self, PyObject *const *arguments, Py_ss
     }
 }
 
-/* The type of rules after a tag, of which count becomes the number of bytes; -1: the word is no tag, so it is rules. */
-static int rule_type_of(const char *word, size_t *count) {
-    static const char form[] = "abcdefghijklmnopqrstuvwxyzABCDEFGHIJKLMNOPQRSTUVWXYZ0123456789-_.@";
-    size_t whole = *count, tag = 0;
-    while (tag < whole && memchr(form, word[tag], sizeof form - 1)) tag++;
-    if (tag == 0 || !Py_ISALPHA(word[0])) return -1;
-    *count = tag;
-    if (tag == whole) return FD_CARDINAL;
-    if (whole - tag == 9 && memcmp(word + tag, ":cardinal", 9) == 0) return FD_CARDINAL;
-    return whole - tag == 8 && memcmp(word + tag, ":ordinal", 8) == 0 ? FD_ORDINAL : -1;
-}
-
 /* By a locale, as `pl` or `en:ordinal`, or by rules in CLDR's syntax. */
 static PyObject *decimal_plural(Decimal *self, PyObject *value) {
-    Py_ssize_t size;
-    const char *word = PyUnicode_AsUTF8AndSize(value, &size);
+    Py_ssize_t count;
+    const uint8_t *word = (const uint8_t *)PyUnicode_AsUTF8AndSize(value, &count);
     if (!word) return NULL;
-    size_t count = (size_t)size;
-    int type = rule_type_of(word, &count);
-    fd_number answer;
-    if (type < 0) {
-        answer = fd_category((const uint8_t *)word, (size_t)size, BYTES(self));
-    } else {
-        fd_unsigned rules = fd_plural_rules((const uint8_t *)word, count, (uint32_t)type);
-        if (rules.status != FD_OK) return fail(rules.status, rules.at);
-        answer = fd_category_of(rules.value, BYTES(self));
-    }
+    fd_unsigned rules = fd_rules(word, (size_t)count);
+    if (rules.status != FD_OK) return fail(rules.status, rules.at);
+    fd_number answer = rules.value ? fd_category_of(rules.value, BYTES(self))
+                                   : fd_category(word, (size_t)count, BYTES(self));
     return answer.status == FD_OK ? PyUnicode_FromString(categories[answer.value]) : fail(answer.status, answer.at);
 }
 
