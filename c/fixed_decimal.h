@@ -212,7 +212,11 @@ fd_unsigned fd_locale(const uint8_t *tag, size_t count);
  * Errors: FD_UNKNOWN_LOCALE, FD_UNKNOWN_OPTION. */
 fd_unsigned fd_plural_rules(const uint8_t *tag, size_t count, uint32_t type);
 
-/* As fd_category, by the rules with a number that fd_plural_rules returned.
+/* The number of the plural rules of the locale that a word names: a tag, or a tag and ":cardinal" or ":ordinal". Of each
+ * other word it is 0: the word is a text of rules, or none. Errors: FD_UNKNOWN_LOCALE. */
+fd_unsigned fd_rules(const uint8_t *word, size_t count);
+
+/* As fd_category, by the rules with a number that fd_plural_rules or fd_rules returned.
  * Errors: as fd_compare; FD_UNKNOWN_LOCALE if no rules have the number. */
 fd_number fd_category_of(uint64_t rules, const uint8_t *text, size_t count);
 

@@ -245,6 +245,12 @@ static void test_plural_rules(void) {
     CHECK(fd_plural_rules(B("\xff"), FD_ORDINAL).status == FD_UNKNOWN_LOCALE);
     CHECK(fd_plural_rules(B("en"), 2).status == FD_UNKNOWN_OPTION && fd_plural_rules(B("en"), 2).value == 0);
     uint64_t english = fd_plural_rules(B("en"), FD_CARDINAL).value;
+    CHECK(fd_rules(B("en_GB.UTF-8")).value == english && fd_rules(B("en:cardinal")).value == english);
+    CHECK(fd_rules(B("en:ordinal")).value == fd_plural_rules(B("en"), FD_ORDINAL).value);
+    CHECK(fd_rules(B("xx")).status == FD_UNKNOWN_LOCALE && fd_rules(B("xx:ordinal")).status == FD_UNKNOWN_LOCALE);
+    const char *others[] = {"", "one: i = 1", "en:nominal", "en:", "1", "e\xff", "en:ordinal:"};
+    for (size_t i = 0; i < sizeof others / sizeof *others; i++)
+        CHECK(fd_rules(BYTES(others[i])).status == FD_OK && fd_rules(BYTES(others[i])).value == 0);
     CHECK(fd_category_of(english, B("1x")).status == FD_SYNTAX);
     CHECK(fd_category_of(english, B("1e32768")).status == FD_LIMIT);
 }

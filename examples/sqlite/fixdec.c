@@ -2,7 +2,6 @@
  *   gcc -shared -fPIC -I ../../c fixdec.c ../../c/out/libfixed_decimal.a -o fixdec.so
  *   SELECT fixdec('1234.565', 'round:-2:half-even:1', 'format:de');  -- 1.234,56
  * NULL in, NULL out. A text, a call or rules that are rejected are an SQL error. */
-#include <ctype.h>
 #include <fixed_decimal.h>
 #include <sqlite3ext.h>
 #include <stdio.h>
@@ -85,16 +84,11 @@ static void fixdec(sqlite3_context *context, int count, sqlite3_value **values) 
 
 static void plural(sqlite3_context *context, int count, sqlite3_value **values) {
     static const char *const names[] = {"zero", "one", "two", "few", "many", "other"};
-    static const char *const types[] = {"", ":cardinal", ":ordinal", NULL};
     for (int i = 0; i < count; i++) if (sqlite3_value_type(values[i]) == SQLITE_NULL) return;
-    const char *word = (const char *)sqlite3_value_text(values[0]);
-    size_t tag = strspn(word, "abcdefghijklmnopqrstuvwxyzABCDEFGHIJKLMNOPQRSTUVWXYZ0123456789-_.@");
-    int type = index_of(types, word + tag, (size_t)sqlite3_value_bytes(values[0]) - tag);
-    if (!isalpha((unsigned char)*word)) type = -1;
-    fd_unsigned rules = fd_plural_rules((const uint8_t *)word, tag, type == 2 ? FD_ORDINAL : FD_CARDINAL);
-    if (type >= 0 && rules.status != FD_OK) return fail(context, rules.status, rules.at);
-    fd_number answer = fd_category_of(rules.value, BYTES(values[1]));
-    if (type < 0) answer = fd_category(BYTES(values[0]), BYTES(values[1]));
+    fd_unsigned rules = fd_rules(BYTES(values[0]));
+    if (rules.status != FD_OK) return fail(context, rules.status, rules.at);
+    fd_number answer = rules.value ? fd_category_of(rules.value, BYTES(values[1]))
+                                   : fd_category(BYTES(values[0]), BYTES(values[1]));
     if (answer.status == FD_OK) sqlite3_result_text(context, names[answer.value], -1, SQLITE_STATIC);
     else fail(context, answer.status, answer.at);
 }

@@ -36,6 +36,6 @@ pub use fields::Field;
 pub use filter::{Filter, OnError, filter_lines};
 pub use help::Program;
 pub use input::LineReader;
-pub use named_rules::{NamedRulesError, parse_rules};
+pub use named_rules::{NamedRulesError, locale_and_type, parse_rules};
 pub use reader::{DecimalReader, ParseMode};
 pub use shown_word::ShownWord;

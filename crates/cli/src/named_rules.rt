@@ -54,8 +54,8 @@ fn parse_type(option: Option<&str>) -> Option<PluralRuleType>
     }
 }
 
-/// Splits `LOCALE`, `LOCALE:cardinal` or `LOCALE:ordinal`.
-fn locale_and_type(word: &str) -> Option<(&str, PluralRuleType)>
+/// Splits `LOCALE`, `LOCALE:cardinal` or `LOCALE:ordinal`. Returns `None` for other words.
+pub fn locale_and_type(word: &str) -> Option<(&str, PluralRuleType)>
     ensures some { IfSome result (λ found. (found.0.now ≡ tag_of word.now) × NamesLocale word.now found.1) }
     ensures none { IfNone result ((rule_type : PluralRuleType) → ¬ NamesLocale word.now rule_type) }
 {

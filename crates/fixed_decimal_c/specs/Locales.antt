@@ -3,6 +3,8 @@ use Rattle.std.specs.Prelude.{◌≡◌, ℕ, zero, suc, ◌-◌, ◌*◌, ◌/�
 use Rattle.std.specs.Option.{option_and_then}
 use Rattle.std.specs.Str.{IsUtf8}
 use Rattle.decimal_format.specs.Symbols.{Symbols}
+use Rattle.cli.specs.NamedRules.{NamesLocale}
+use Rattle.cli.specs.Words.{tag_of}
 use Rattle.locale_data.specs.Locales.{symbols_at, IsLocale, IsUnknown}
 use Rattle.locale_data.specs.Plurals.{rules_text_at, IsRulesText, HasNoRules}
 use Rattle.locale_data.specs.declared.lookup.LocaleNumbers.{LocaleNumbers}
@@ -64,3 +66,13 @@ IsRulesNumber (Ok number) tag code =
 IsRulesNumber (Err UnknownLocale) tag code = IsUtf8 tag → HasNoRules tag
 IsRulesNumber (Err UnknownOption) tag code = (rule_type : PluralRuleType) → code ≡ rule_type_code rule_type → ⊥
 IsRulesNumber (Err error) tag code = ⊥
+
+-- the number of the plural rules of the locale that a word names, as `en:ordinal`; 0 if it names none
+abbrev pub IsNamedRulesNumber : Result ℕ FdError → List ℕ → Type 0
+IsNamedRulesNumber (Ok zero) word = IsUtf8 word → (rule_type : PluralRuleType) → ¬ NamesLocale word rule_type
+IsNamedRulesNumber (Ok (suc index)) word =
+    (rule_type : PluralRuleType) × (text : List ℕ) × NamesLocale word rule_type
+    × IsRulesText (tag_of word) rule_type text × (rules_of_number (suc index) ≡ Some text)
+IsNamedRulesNumber (Err UnknownLocale) word =
+    (rule_type : PluralRuleType) × NamesLocale word rule_type × HasNoRules (tag_of word)
+IsNamedRulesNumber (Err error) word = ⊥

@@ -10,7 +10,7 @@ ghost use Rattle.fixed_decimal_c.specs.Runs.{Runs};
 ghost use Rattle.fixed_decimal_c.specs.Conversions.{ConvertsCalls};
 ghost use Rattle.fixed_decimal_c.specs.Lines.{ConvertsColumn};
 ghost use Rattle.fixed_decimal_c.specs.Numbers.{Compares, Equates, HasSign, HasI64, HasU64};
-ghost use Rattle.fixed_decimal_c.specs.Locales.{IsLocaleNumber, IsRulesNumber};
+ghost use Rattle.fixed_decimal_c.specs.Locales.{IsLocaleNumber, IsRulesNumber, IsNamedRulesNumber};
 ghost use Rattle.fixed_decimal_c.specs.Categories.{HasCategory, HasCategoryOf};
 
 mod answer;
@@ -35,7 +35,7 @@ pub use error::FdError;
 pub use forms::{FdForm, FdForms};
 pub use lines::Progress;
 use lines::convert_column;
-use locales::{number_of_locale, number_of_plural_rules};
+use locales::{number_of_locale, number_of_named_rules, number_of_plural_rules};
 use numbers::{compare_texts, equal_texts, sign_of, to_i64, to_u64};
 use std::alloc::Global;
 
@@ -152,6 +152,14 @@ pub fn fd_plural_rules(tag: &[u8], rule_type: u32) -> FdUnsigned
     ensures { EncodesUnsigned result (λ answer. IsRulesNumber answer tag.now rule_type) }
 {
     encode_unsigned(number_of_plural_rules(tag, rule_type))
+}
+
+/// Returns the number of the plural rules that a word names, for [`fd_category_of`], if it is a tag, or a tag with
+/// `:cardinal` or `:ordinal`: as `fd_plural_rules`. For each other word, which is a text of rules or none, it is 0.
+pub fn fd_rules(word: &[u8]) -> FdUnsigned
+    ensures { EncodesUnsigned result (λ answer. IsNamedRulesNumber answer word.now) }
+{
+    encode_unsigned(number_of_named_rules(word))
 }
 
 /// Returns the plural category of a decimal, as [`fd_category`], by the rules with a number.

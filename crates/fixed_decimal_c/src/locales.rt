@@ -2,9 +2,10 @@
 ghost use Rattle.std.specs.Prelude.{◌≡◌, ◌≤◌, ◌^◌, Some, IfSome, IfNone};
 ghost use Rattle.decimal_format.specs.Readable.{IsReadable};
 ghost use Rattle.locale_data.specs.declared.plurals.PluralRuleType.{PluralRuleType};
-ghost use Rattle.fixed_decimal_c.specs.Locales.{index_of, rows_of, symbols_of_number, IsLocaleNumber, rule_type_code, rules_of, IsRulesNumber};
+ghost use Rattle.fixed_decimal_c.specs.Locales.{index_of, rows_of, symbols_of_number, IsLocaleNumber, rule_type_code, rules_of, IsRulesNumber, IsNamedRulesNumber};
 
 use crate::error::FdError;
+use cli::locale_and_type;
 use decimal_format::DecimalSymbols;
 use locale_data::{LocaleNumbers, PluralRuleType, RulesNumber};
 use std::str;
@@ -131,6 +132,22 @@ pub(crate) fn number_of_plural_rules(tag: &[u8], code: u32) -> Result<u64, FdErr
     };
     let Ok(tag) = str::from_utf8(tag) else {
         return Err(FdError::UnknownLocale);
+    };
+    match locale_data::plural_rules_number(tag, rule_type) {
+        Some(rules) => Ok(number_of_rules(rules)),
+        None => Err(FdError::UnknownLocale),
+    }
+}
+
+/// Returns the number of the plural rules of the locale that a word names, or 0 if it names none.
+pub(crate) fn number_of_named_rules(word: &[u8]) -> Result<u64, FdError>
+    ensures { IsNamedRulesNumber result word.now }
+{
+    let Ok(word) = str::from_utf8(word) else {
+        return Ok(0);
+    };
+    let Some((tag, rule_type)) = locale_and_type(word) else {
+        return Ok(0);
     };
     match locale_data::plural_rules_number(tag, rule_type) {
         Some(rules) => Ok(number_of_rules(rules)),

@@ -7,7 +7,7 @@ ghost use Rattle.fixed_decimal_c.specs.Runs.{Runs};
 ghost use Rattle.fixed_decimal_c.specs.Conversions.{ConvertsCalls};
 ghost use Rattle.fixed_decimal_c.specs.Lines.{ConvertsColumn};
 ghost use Rattle.fixed_decimal_c.specs.Numbers.{Compares, Equates, HasSign, HasI64, HasU64};
-ghost use Rattle.fixed_decimal_c.specs.Locales.{IsLocaleNumber, IsRulesNumber};
+ghost use Rattle.fixed_decimal_c.specs.Locales.{IsLocaleNumber, IsRulesNumber, IsNamedRulesNumber};
 ghost use Rattle.fixed_decimal_c.specs.Categories.{HasCategory, HasCategoryOf};
 
 use fixed_decimal_c::{FdCall, FdColumn, FdForms, FdNumber, FdResult, FdUnsigned};
@@ -117,6 +117,13 @@ pub extern "C" fn fd_plural_rules(tag: &[u8], rule_type: u32) -> FdUnsigned
     ensures { EncodesUnsigned result (λ answer. IsRulesNumber answer tag.now rule_type) }
 {
     fixed_decimal_c::fd_plural_rules(tag, rule_type)
+}
+
+#[unsafe(no_mangle)]
+pub extern "C" fn fd_rules(word: &[u8]) -> FdUnsigned
+    ensures { EncodesUnsigned result (λ answer. IsNamedRulesNumber answer word.now) }
+{
+    fixed_decimal_c::fd_rules(word)
 }
 
 #[unsafe(no_mangle)]
