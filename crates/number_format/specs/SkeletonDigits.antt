@@ -150,7 +150,8 @@ default_precision (Some (Currency code, stem)) = currency_of (Some (Currency cod
 default_precision unit = Ok (Fraction (0, 6))
 
 -- in compact notation two significant digits, or all integer digits
-abbrev pub precision_by : Option (ChosenPrecision × Span) → Bool → Option (ChosenUnit × Span) → Result PrecisionValue SkeletonError
+abbrev pub precision_by :
+    Option (ChosenPrecision × Span) → Bool → Option (ChosenUnit × Span) → Result PrecisionValue SkeletonError
 precision_by (Some (p, stem)) compact unit = chosen_precision unit p stem
 precision_by None true unit = Ok (More (0, 0) (1, 2) Chosen)
 precision_by None false unit = default_precision unit

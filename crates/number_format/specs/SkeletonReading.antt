@@ -28,7 +28,8 @@ from_end text k = slice_index text (length text - k)
 unfoldable pub separator_length : List ℕ → ℕ
 separator_length text =
     if length text == 0 then 0
-    else if (nat_le 9 (from_end text 1) && nat_le (from_end text 1) 13) || from_end text 1 == 32 || from_end text 1 == 47
+    else if (nat_le 9 (from_end text 1) && nat_le (from_end text 1) 13)
+    || from_end text 1 == 32 || from_end text 1 == 47
     then 1
     else if (from_end text 1 == 133) && nat_lt 1 (length text) && (from_end text 2 == 194) then 2
     else if (from_end text 1 == 142 || from_end text 1 == 143 || from_end text 1 == 168 || from_end text 1 == 169)

@@ -1,5 +1,5 @@
 //! Number skeletons, the texts for formats of ICU.
-ghost use Rattle.std.specs.Prelude.{◌≡◌, Ok, Err, MatchResult};
+ghost use Rattle.std.specs.Prelude.{◌≡◌, Ok, Err, IfOk, IfSome, MatchResult, string_bytes};
 ghost use Rattle.number_format.specs.SkeletonMeaning.{skeleton_options, options_value};
 ghost use Rattle.number_format.specs.SkeletonReading.{choices_of};
 
@@ -9,11 +9,16 @@ mod decimal;
 mod options;
 mod reading;
 mod resolve;
+mod same;
 mod stems;
+mod text;
 
 use crate::number_options::NumberOptions;
 use choices::Choices;
 use reading::{Reading, separator_length};
+use same::same_options;
+use std::alloc::{AllocError, Global};
+use text::push_skeleton;
 
 /// The reason for which a text is no skeleton, or none of this library.
 #[derive(Clone, Copy, Debug, PartialEq)]
@@ -25,7 +30,6 @@ pub enum SkeletonError {
     Unsupported { start: usize, end: usize },
 }
 
-/// Reads the stems of a skeleton and their options.
 fn read_choices(text: &[u8]) -> Result<Choices, SkeletonError>
     ensures { result ≡ choices_of text.now }
 {
@@ -43,16 +47,40 @@ fn read_choices(text: &[u8]) -> Result<Choices, SkeletonError>
 }
 
 impl NumberOptions {
-    /// Reads a number skeleton of ICU, as `currency/EUR .00`, with ICU's defaults.
+    /// Reads a number skeleton of ICU, with ICU's defaults: half-even, and without a stem six fraction digits, or those
+    /// of the currency or of compact notation. `.+` keeps all digits.
     ///
     /// # Errors
     ///
     /// - `Syntax`: the text is no skeleton.
-    /// - `Unsupported`: it is, but one of its stems is none of this library.
+    /// - `Unsupported`: it is, but one of its stems is none of this library, or has more digits than the options can.
+    ///
+    /// ```
+    /// NumberOptions::try_from_skeleton("currency/EUR .00")
+    /// NumberOptions::try_from_skeleton("K group-auto")
+    /// NumberOptions::try_from_skeleton("percent/w") // Syntax { at: 7 }
+    /// ```
     pub fn try_from_skeleton(text: &str) -> Result<NumberOptions, SkeletonError>
         ensures { MatchResult result (λ o. skeleton_options text.now ≡ Ok (options_value o))
             (λ e. skeleton_options text.now ≡ Err e) }
     {
         read_choices(text.as_bytes())?.options()
+    }
+
+    /// Returns a short skeleton that reads as these options, or `None` if none is found, as of digits without a stem.
+    ///
+    /// # Errors
+    ///
+    /// Out of memory.
+    pub fn to_skeleton(&self, alloc: Global) -> Result<Option<String>, AllocError>
+        ensures { IfOk result (λ found. IfSome found
+            (λ text. skeleton_options (string_bytes text) ≡ Ok (options_value self.now))) }
+    {
+        let mut text = String::new(alloc);
+        push_skeleton(&mut text, self)?;
+        match NumberOptions::try_from_skeleton(text.as_str()) {
+            Ok(options) if same_options(self, &options) => Ok(Some(text)),
+            _ => Ok(None),
+        }
     }
 }

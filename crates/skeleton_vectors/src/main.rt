@@ -1,10 +1,10 @@
 //! Checks the options that number skeletons name, and their errors, against ICU.
 //!
 //! Each line of standard input is a row of two fields with a tab between them: a skeleton, and `syntax K` with the
-//! offset of the error, `unsupported STEM`, the words of its options, or `=` and another skeleton with the same options.
-//! In a skeleton `␉`, `␊` and `␍` are a tab, a line feed and a carriage return, and `«@*3»` is `@@@`. Blank lines and
-//! lines that start with `#` are not rows. Each row that fails is printed with its line number; the last line counts the
-//! rows.
+//! offset of the error, `unsupported STEM`, the words of its options, or `=` and another skeleton that has the same
+//! options. In a skeleton `␉`, `␊` and `␍` are a tab, a line feed and a carriage return, and `«@*3»` is `@@@`. Blank
+//! lines, and lines that start with `#` and have no tab, are not rows. Each row that fails is printed with its line
+//! number; the last line counts the rows.
 #![tactic(auto)]
 
 mod words;
@@ -45,10 +45,24 @@ fn skeleton_words(alloc: Global, text: &str) -> Result<String, AllocError> {
     }
 }
 
+/// Whether the options of a skeleton are printed as a skeleton that is not longer, nor its own skeleton longer.
+fn prints_shorter(alloc: Global, text: &str) -> Option<bool> {
+    let Ok(options) = NumberOptions::try_from_skeleton(text) else {
+        return Some(true);
+    };
+    let shorter = options.to_skeleton(alloc).ok()??;
+    let again = NumberOptions::try_from_skeleton(shorter.as_str()).ok()?;
+    let same = again.to_skeleton(alloc).ok()??;
+    Some(shorter.as_str().len() <= text.len() && shorter.as_str() == same.as_str())
+}
+
 /// Whether a row holds.
 fn holds(alloc: Global, row: &str) -> Option<bool> {
     let (skeleton, expected) = row.split_once('\t')?;
     let skeleton = expanded(alloc, skeleton).ok()?;
+    if prints_shorter(alloc, skeleton.as_str()) != Some(true) {
+        return Some(false);
+    }
     let words = skeleton_words(alloc, skeleton.as_str()).ok()?;
     match expected.strip_prefix('=') {
         Some(other) => {

@@ -13,27 +13,27 @@ use locale_data::{CurrencyCode, CurrencySign, Name};
 
 /// The bytes of a stem, from an offset up to, and without, another.
 #[derive(Clone, Copy)]
-pub struct Span {
+pub(crate) struct Span {
     pub start: usize,
     pub end: usize,
 }
 
 #[derive(Clone, Copy)]
-pub struct Exponent {
+pub(crate) struct Exponent {
     pub is_engineering: bool,
     pub digits: usize,
     pub sign: ExponentSign,
 }
 
 #[derive(Clone, Copy)]
-pub enum ChosenNotation {
+pub(crate) enum ChosenNotation {
     Simple,
     Exponent(Exponent),
     Compact(CompactLength),
 }
 
 #[derive(Clone, Copy)]
-pub enum ChosenUnit {
+pub(crate) enum ChosenUnit {
     Base,
     Percent,
     Permille,
@@ -43,7 +43,7 @@ pub enum ChosenUnit {
 
 /// Fraction and significant digits together.
 #[derive(Clone, Copy)]
-pub struct TwoCounts {
+pub(crate) struct TwoCounts {
     pub fraction: Counts,
     pub significant: Counts,
     pub priority: RoundingPriority,
@@ -51,7 +51,7 @@ pub struct TwoCounts {
 }
 
 #[derive(Clone, Copy)]
-pub enum ChosenPrecision {
+pub(crate) enum ChosenPrecision {
     Unlimited,
     Fraction(Counts),
     Significant(Counts),
@@ -62,7 +62,7 @@ pub enum ChosenPrecision {
 
 /// What a stem or its option chooses; `None` is what ICU knows and this library does not.
 #[derive(Clone, Copy)]
-pub enum Choice {
+pub(crate) enum Choice {
     Nothing,
     Notation(ChosenNotation),
     Unit(ChosenUnit),
@@ -86,7 +86,7 @@ pub enum Choice {
 
 /// The choices of a skeleton by their groups, each with its stem.
 #[derive(Clone, Copy)]
-pub struct Choices {
+pub(crate) struct Choices {
     pub notation: Option<(ChosenNotation, Span)>,
     pub unit: Option<(ChosenUnit, Span)>,
     pub per_unit: Option<Span>,
@@ -104,7 +104,7 @@ pub struct Choices {
 }
 
 impl Choices {
-    pub fn none() -> Self
+    pub(crate) fn none() -> Self
         ensures { result ≡ no_choices }
     {
         Choices {
@@ -126,7 +126,7 @@ impl Choices {
     }
 
     /// Returns whether the group of a choice has one.
-    pub fn has(&self, choice: Choice) -> bool
+    pub(crate) fn has(&self, choice: Choice) -> bool
         ensures { result ≡ has self.now choice }
     {
         match choice {
@@ -150,7 +150,7 @@ impl Choices {
     }
 
     /// Returns the choices with one more, or with another one of its group.
-    pub fn with(self, choice: Choice, stem: Span) -> Self
+    pub(crate) fn with(self, choice: Choice, stem: Span) -> Self
         ensures { result ≡ with stem choice self }
     {
         match choice {

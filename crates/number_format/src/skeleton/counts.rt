@@ -4,13 +4,13 @@ ghost use Rattle.number_format.specs.SkeletonCounts.{is_outside, run, is_byte, i
 
 /// A least and a greatest number of digits; without a greatest one there is no limit.
 #[derive(Clone, Copy)]
-pub struct Counts {
+pub(crate) struct Counts {
     pub min: usize,
     pub max: Option<usize>,
 }
 
 /// Returns the byte at an index, or 0 after the end.
-pub fn byte_at(text: &[u8], index: usize) -> u8
+pub(crate) fn byte_at(text: &[u8], index: usize) -> u8
     ensures { result ≡ slice_index text.now index }
 {
     match text.get(index) {
@@ -20,7 +20,7 @@ pub fn byte_at(text: &[u8], index: usize) -> u8
 }
 
 /// Returns the bytes before an index.
-pub fn before(text: &[u8], index: usize) -> &[u8]
+pub(crate) fn before(text: &[u8], index: usize) -> &[u8]
     ensures { result.now ≡ take index text.now }
 {
     if index < text.len() {
@@ -30,7 +30,7 @@ pub fn before(text: &[u8], index: usize) -> &[u8]
     }
 }
 
-pub fn after(text: &[u8], index: usize) -> &[u8]
+pub(crate) fn after(text: &[u8], index: usize) -> &[u8]
     ensures { result.now ≡ drop index text.now }
 {
     if index < text.len() {
@@ -47,7 +47,7 @@ fn is_outside(byte: u8, low: u8, high: u8) -> bool
 }
 
 /// Returns the number of bytes from `low` to `high` that a text begins with.
-pub fn run(text: &[u8], low: u8, high: u8) -> usize
+pub(crate) fn run(text: &[u8], low: u8, high: u8) -> usize
     ensures value { result ≡ run low high text.now }
     ensures within { result ≤ length text.now }
 {
@@ -59,20 +59,20 @@ pub fn run(text: &[u8], low: u8, high: u8) -> usize
     text.len()
 }
 
-pub fn is_byte(text: &[u8], byte: u8) -> bool
+pub(crate) fn is_byte(text: &[u8], byte: u8) -> bool
     ensures { result ≡ is_byte byte text.now }
 {
     text.len() == 1 && byte_at(text, 0) == byte
 }
 
-pub fn is_wild(text: &[u8]) -> bool
+pub(crate) fn is_wild(text: &[u8]) -> bool
     ensures { result ≡ is_wild text.now }
 {
     is_byte(text, b'*') || is_byte(text, b'+')
 }
 
 /// Reads `00`, `00*` or `00##`, by these two bytes.
-pub fn digit_counts(text: &[u8], least: u8, more: u8) -> Option<Counts>
+pub(crate) fn digit_counts(text: &[u8], least: u8, more: u8) -> Option<Counts>
     ensures { result ≡ counts least more text.now }
 {
     let min = run(text, least, least);

@@ -6,7 +6,7 @@ use crate::skeleton::counts::{after, before, byte_at, run};
 
 /// The significant digits of a number, and how many zeros follow them.
 #[derive(Clone, Copy)]
-pub struct Significand {
+pub(crate) struct Significand {
     /// The significant digits as an integer; 100 if they are more than two.
     pub digits: u16,
     pub zeros: usize,
@@ -14,7 +14,7 @@ pub struct Significand {
 
 /// A decimal of a skeleton: `digits` times 10 to the power of `power`.
 #[derive(Clone, Copy)]
-pub struct SkeletonDecimal {
+pub(crate) struct SkeletonDecimal {
     pub is_negative: bool,
     /// The significant digits as an integer; 100 if they are more than two.
     pub digits: u16,
@@ -160,7 +160,7 @@ fn scaled(
 }
 
 /// Reads a decimal, as `0.05`, `+5.` or `1e-2`.
-pub fn decimal(text: &[u8]) -> Option<SkeletonDecimal>
+pub(crate) fn decimal(text: &[u8]) -> Option<SkeletonDecimal>
     ensures { result ≡ decimal text.now }
 {
     let unsigned = after(text, sign_length(text));
@@ -178,7 +178,7 @@ pub fn decimal(text: &[u8]) -> Option<SkeletonDecimal>
 }
 
 impl SkeletonDecimal {
-    pub fn hundred() -> Self
+    pub(crate) fn hundred() -> Self
         ensures { result ≡ hundred }
     {
         SkeletonDecimal {

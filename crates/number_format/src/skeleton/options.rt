@@ -118,7 +118,7 @@ fn decimal_system(text: &[u8]) -> Option<Name>
 
 /// The numbering systems of CLDR whose numbers are not digits from 0 to 9.
 #[rattlefmt::skip]
-pub static ALGORITHMIC: [Name; 18] = [
+pub(crate) static ALGORITHMIC: [Name; 18] = [
     *b"armn            ", *b"armnlow         ", *b"cyrl            ", *b"ethi            ",
     *b"geor            ", *b"grek            ", *b"greklow         ", *b"hanidays        ",
     *b"hans            ", *b"hansfin         ", *b"hant            ", *b"hantfin         ",
@@ -244,7 +244,7 @@ fn significant_option(fraction: Counts, text: &[u8]) -> Option<Meaning>
 }
 
 /// Returns the meaning of an option, or `None` if it is none of those that are expected.
-pub fn option(expected: Expected, text: &[u8]) -> Option<Meaning>
+pub(crate) fn option(expected: Expected, text: &[u8]) -> Option<Meaning>
     ensures { result ≡ option expected text.now }
 {
     match expected {

@@ -10,7 +10,7 @@ use crate::skeleton::stems::{Expected, stem};
 
 /// What the pieces so far have chosen.
 #[derive(Clone, Copy)]
-pub struct Reading {
+pub(crate) struct Reading {
     pub choices: Choices,
     /// What the next piece may be.
     pub expected: Expected,
@@ -41,7 +41,7 @@ impl Expected {
 }
 
 impl Reading {
-    pub fn new() -> Self
+    pub(crate) fn new() -> Self
         ensures { result ≡ no_stems }
     {
         Reading {
@@ -115,7 +115,12 @@ impl Reading {
 
     /// Reads the piece from an offset, which a slash ends, or a white space or the end of the text.
     #[tactic(auto, unfolding(crate::specs::SkeletonReading::next))]
-    pub fn next(self, start: usize, text: &[u8], ends_in_slash: bool) -> Result<Self, SkeletonError>
+    pub(crate) fn next(
+        self,
+        start: usize,
+        text: &[u8],
+        ends_in_slash: bool,
+    ) -> Result<Self, SkeletonError>
         requires { start + length text.now < 2 ^ 64 }
         ensures { result ≡ next self start text.now ends_in_slash }
     {
@@ -128,7 +133,7 @@ impl Reading {
 
 /// Returns the number of bytes of the slash or the white space that a text ends in, or 0.
 #[tactic(auto, unfolding(crate::specs::SkeletonReading::separator_length))]
-pub fn separator_length(text: &[u8]) -> usize
+pub(crate) fn separator_length(text: &[u8]) -> usize
     ensures value { result ≡ separator_length text.now }
     ensures within { result ≤ length text.now }
 {

@@ -72,7 +72,8 @@ fn scale_power(scale: SkeletonDecimal, stem: Span) -> Result<i16, SkeletonError>
 }
 
 fn fraction(counts: Counts, stem: Span) -> Result<FractionDigits, SkeletonError>
-    ensures { MatchResult result (λ f. fraction_of counts stem ≡ Ok (f.min, f.max)) (λ e. fraction_of counts stem ≡ Err e) }
+    ensures { MatchResult result (λ f. fraction_of counts stem ≡ Ok (f.min, f.max))
+        (λ e. fraction_of counts stem ≡ Err e) }
 {
     let min = counts.min.min(65535) as u16;
     let max = counts.max.unwrap_or(65535).min(65535) as u16;
@@ -152,7 +153,8 @@ fn increment(decimal: SkeletonDecimal, stem: Span) -> Result<FractionMultiples, 
 
 /// Returns the cash digits of a currency, without a zero at the end of the increment.
 fn cash(digits: CurrencyDigits, stem: Span) -> Result<Precision, SkeletonError>
-    ensures { MatchResult result (λ p. cash_of digits stem ≡ Ok (precision_value p)) (λ e. cash_of digits stem ≡ Err e) }
+    ensures { MatchResult result (λ p. cash_of digits stem ≡ Ok (precision_value p))
+        (λ e. cash_of digits stem ≡ Err e) }
 {
     let (count, increment) = (digits.cash_digits as u16, digits.cash_increment as u16);
     if increment == 0 {
@@ -381,9 +383,9 @@ impl Choices {
         }
     }
 
-    #[tactic(auto, unfolding(crate::specs::SkeletonDigits::precision_of))]
     /// Returns the precision: without a stem two significant digits or the integer digits in compact notation, the
     /// digits of a currency, and else six fraction digits.
+    #[tactic(auto, unfolding(crate::specs::SkeletonDigits::precision_of))]
     fn number_precision(&self) -> Result<Precision, SkeletonError>
         ensures { MatchResult result (λ p. precision_of self.now ≡ Ok (precision_value p))
             (λ e. precision_of self.now ≡ Err e) }
@@ -423,14 +425,11 @@ impl Choices {
         })
     }
 
+    /// Returns the options, or the stem that this library has not.
     #[tactic(auto, unfolding(crate::specs::SkeletonMeaning::options_of))]
-    /// Returns the options.
-    ///
-    /// # Errors
-    ///
-    /// `Unsupported`: a choice is none of this library.
-    pub fn options(&self) -> Result<NumberOptions, SkeletonError>
-        ensures { MatchResult result (λ o. options_of self.now ≡ Ok (options_value o)) (λ e. options_of self.now ≡ Err e) }
+    pub(crate) fn options(&self) -> Result<NumberOptions, SkeletonError>
+        ensures { MatchResult result (λ o. options_of self.now ≡ Ok (options_value o))
+            (λ e. options_of self.now ≡ Err e) }
     {
         self.others()?;
         Ok(NumberOptions {

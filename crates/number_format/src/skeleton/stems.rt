@@ -13,7 +13,7 @@ use locale_data::CurrencySign;
 
 /// What may follow the bytes that have been read.
 #[derive(Clone, Copy)]
-pub enum Expected {
+pub(crate) enum Expected {
     /// A stem.
     Stem,
     /// Options of an exponent.
@@ -38,14 +38,14 @@ pub enum Expected {
 
 /// What a stem or an option chooses, and what may follow it.
 #[derive(Clone, Copy)]
-pub struct Meaning {
+pub(crate) struct Meaning {
     pub choice: Choice,
     pub expected: Expected,
 }
 
 /// A stem that is a word, and what it means.
 #[derive(Clone, Copy)]
-pub struct StemWord {
+pub(crate) struct StemWord {
     /// The word, padded with spaces.
     pub text: [u8; 28],
     pub choice: Choice,
@@ -84,7 +84,7 @@ macro_rules! stems {
 
 /// The stems that are words.
 #[rattlefmt::skip]
-pub static STEMS: [StemWord; 72] = stems! {
+pub(crate) static STEMS: [StemWord; 72] = stems! {
     b"notation-simple             " Choice::Notation(ChosenNotation::Simple), Expected::Stem;
     b"compact-short               " Choice::Notation(ChosenNotation::Compact(CompactLength::Short)), Expected::Stem;
     b"K                           " Choice::Notation(ChosenNotation::Compact(CompactLength::Short)), Expected::Stem;
@@ -168,14 +168,14 @@ pub static STEMS: [StemWord; 72] = stems! {
 };
 
 /// Returns whether a name that is padded with spaces is a text.
-pub fn is_name(padded: &[u8], text: &[u8]) -> bool
+pub(crate) fn is_name(padded: &[u8], text: &[u8]) -> bool
     ensures { result ≡ is_name padded.now text.now }
 {
     padded.starts_with(text) && byte_at(padded, text.len()) == b' '
 }
 
 /// Returns the meaning of a stem that is a word.
-pub fn named(text: &[u8]) -> Option<Meaning>
+pub(crate) fn named(text: &[u8]) -> Option<Meaning>
     ensures { result ≡ named text.now }
 {
     match STEMS.iter().find(|stem| is_name(&stem.text, text)) {
@@ -272,7 +272,7 @@ fn integer_stem(text: &[u8]) -> Option<Meaning>
 }
 
 /// Returns the meaning of a stem.
-pub fn stem(text: &[u8]) -> Option<Meaning>
+pub(crate) fn stem(text: &[u8]) -> Option<Meaning>
     ensures { result ≡ stem text.now }
 {
     match byte_at(text, 0) {

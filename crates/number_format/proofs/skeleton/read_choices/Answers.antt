@@ -9,14 +9,15 @@ pub returns-in_err-reading : goal.returns-in_err-reading
 returns-in_err-reading c =
     let p = err_from_is_err_and c.from_residual.result c.from_residual.ensures.1 in
     rw (p.1, p.2) (error_at_next c.args.text.now c.loop-index.reading _ c.loop-index.start c.loop-index.index
-    c.separator_length-length.result c.loop-index.invariant c.loop-index-test.true c.separator_length-length.ensures.value
-    c.if-length-gt0.true (sym c.next.ensures ∙ c.in_err-reading.was))
+    c.separator_length-length.result c.loop-index.invariant c.loop-index-test.true
+    c.separator_length-length.ensures.value c.if-length-gt0.true (sym c.next.ensures ∙ c.in_err-reading.was))
 
 pub loop-index-preserved : goal.loop-index-preserved
 loop-index-preserved c = elim c.if-length-gt0.branch [
   | then-length-gt0+in_ok-reading w ↦ rw (w.reading-is, w.start-is) (read_to_next c.args.text.now c.loop-index.reading _
-      c.loop-index.start c.loop-index.index c.separator_length-length.result c.loop-index.invariant c.loop-index-test.true
-      c.separator_length-length.ensures.value w.if-length-gt0.true (sym w.next.ensures ∙ w.in_ok-reading.was))
+      c.loop-index.start c.loop-index.index c.separator_length-length.result c.loop-index.invariant
+      c.loop-index-test.true c.separator_length-length.ensures.value w.if-length-gt0.true
+      (sym w.next.ensures ∙ w.in_ok-reading.was))
   | else-length-gt0 w ↦ rw (w.reading-is, w.start-is) (read_more c.args.text.now c.loop-index.reading c.loop-index.start
       c.loop-index.index c.separator_length-length.result c.loop-index.invariant c.loop-index-test.true
       c.separator_length-length.ensures.value w.if-length-gt0.false)
