@@ -1,5 +1,5 @@
 -- What the stems of a skeleton choose, by groups.
-use Rattle.std.specs.Prelude.{Bool, true, false, ◌||◌, is_some, Option, Some, None}
+use Rattle.std.specs.Prelude.{Bool, true, false, ◌||◌, is_some, Some, None}
 use Rattle.number_format.specs.declared.skeleton.choices.Span.{Span}
 use Rattle.number_format.specs.declared.skeleton.choices.ChosenUnit.TheVariants as unit
 use Rattle.number_format.specs.declared.skeleton.choices.Choice.{Choice}

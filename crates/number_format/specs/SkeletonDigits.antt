@@ -1,5 +1,5 @@
 -- The digits that the choices of a skeleton show, by ICU's defaults. An error names the stem that this library has not.
-use Rattle.std.specs.Prelude.{ℕ, ◌+◌, ◌-◌, ◌*◌, ◌/◌, ◌%◌, ◌==◌, nat_lt, min, Bool, true, false, ◌||◌, ◌&&◌, not, if◌then◌else◌, ℤ, pos, negsuc, ◌+ℤ◌, int_lt, nat_abs, Option, Some, None, unwrap_or, Result, Ok, Err}
+use Rattle.std.specs.Prelude.{ℕ, ◌-◌, ◌*◌, ◌/◌, ◌%◌, ◌==◌, nat_lt, min, Bool, true, false, ◌||◌, ◌&&◌, not, if◌then◌else◌, ℤ, pos, negsuc, ◌+ℤ◌, int_lt, nat_abs, Option, Some, None, unwrap_or, Result, Ok, Err}
 use Rattle.std.specs.Ordering.{int_eq}
 use Rattle.fixed_decimal.specs.declared.rounding.SignedRoundingMode.{SignedRoundingMode}
 use Rattle.fixed_decimal.specs.declared.rounding.SignedRoundingMode.TheVariants.{Unsigned}
@@ -11,7 +11,6 @@ use Rattle.number_format.specs.declared.digit_options.TrailingZeros.{TrailingZer
 use Rattle.number_format.specs.declared.digit_options.TrailingZeros.TheVariants.{Auto, StripIfInteger}
 use Rattle.number_format.specs.declared.number_options.CurrencyUsage.{CurrencyUsage}
 use Rattle.number_format.specs.declared.number_options.CurrencyUsage.TheVariants.{Standard, Cash}
-use Rattle.number_format.specs.declared.precision.BothDigits.{BothDigits}
 use Rattle.number_format.specs.declared.precision.Minimum.{Minimum}
 use Rattle.number_format.specs.declared.precision.Minimum.TheVariants.{Chosen}
 use Rattle.number_format.specs.declared.precision.Precision.{Precision}

@@ -1,5 +1,5 @@
 -- The stems of skeletons: words, by the table `STEMS`, and those that are numbers of digits.
-use Rattle.std.specs.Prelude.{ℕ, ◌+◌, ◌==◌, nat_eq, nat_lt, Bool, true, false, ◌||◌, ◌&&◌, if◌then◌else◌, List, length, drop, slice_index, find, is_none, is_some, Option, Some, None, unwrap_or}
+use Rattle.std.specs.Prelude.{ℕ, ◌==◌, nat_eq, nat_lt, Bool, ◌||◌, ◌&&◌, if◌then◌else◌, List, length, drop, slice_index, find, is_none, is_some, Option, Some, None, unwrap_or}
 use Rattle.std.specs.Option.{option_map}
 use Rattle.std.specs.List.{starts_with}
 use Rattle.number_format.specs.declared.number_options.ExponentSign.{ExponentSign}

@@ -1,6 +1,5 @@
-use Rattle.std.proofs.Common.{◌≡◌, ◌∙◌, ap, sym, arith}
+use Rattle.std.proofs.Common.{◌∙◌, sym, arith}
 use Rattle.std.proofs.lemmas.Result.{err_from_is_err_and}
-use Rattle.number_format.specs.SkeletonReading.{choices_of}
 use Rattle.number_format.proofs.SkeletonPieces.{read_to_next, read_more, error_at_next, error_at_end, read_whole}
 use Rattle.number_format.proofs.skeleton.read_choices.Goals as goal
 use Rattle.number_format.proofs.skeleton.read_choices.Goals.{then-length-gt0+in_ok-reading, else-length-gt0}
