@@ -2,3 +2,11 @@ pub mod Increments
 pub mod ShownDigits
 pub mod Resolved
 pub mod Scaled
+pub mod SkeletonCounts
+pub mod SkeletonDecimals
+pub mod SkeletonChoices
+pub mod SkeletonStems
+pub mod SkeletonOptions
+pub mod SkeletonReading
+pub mod SkeletonDigits
+pub mod SkeletonMeaning

@@ -22,9 +22,11 @@ mod digit_ranges;
 mod error;
 pub mod laws;
 mod notation;
+mod number_options;
 mod precision;
 mod scale;
 mod settings;
+mod skeleton;
 
 pub use digit_options::{DigitOptions, TrailingZeros};
 pub use digit_ranges::{
@@ -32,6 +34,11 @@ pub use digit_ranges::{
 };
 pub use error::DigitOptionsError;
 pub use notation::{CompactExponents, Notation};
+pub use number_options::{
+    CompactLength, CurrencyDisplay, CurrencyStyle, CurrencyUsage, ExponentOptions, ExponentSign,
+    NumberNotation, NumberOptions, NumberStyle,
+};
 pub use precision::{BothDigits, Minimum, Precision};
 pub use scale::Scaled;
 pub use settings::{DigitDefaults, DigitSettings, RoundingPriority};
+pub use skeleton::SkeletonError;

@@ -1,0 +1,226 @@
+//! What the stems of a skeleton choose.
+ghost use Rattle.std.specs.Prelude.{◌≡◌};
+ghost use Rattle.number_format.specs.SkeletonChoices.{has, with, no_choices};
+
+use crate::number_options::{CompactLength, CurrencyDisplay, CurrencyUsage, ExponentSign};
+use crate::precision::Minimum;
+use crate::settings::RoundingPriority;
+use crate::skeleton::counts::Counts;
+use crate::skeleton::decimal::SkeletonDecimal;
+use decimal_format::GroupingStrategy;
+use fixed_decimal::{SignDisplay, SignedRoundingMode};
+use locale_data::{CurrencyCode, CurrencySign, Name};
+
+/// The bytes of a stem, from an offset up to, and without, another.
+#[derive(Clone, Copy)]
+pub(crate) struct Span {
+    pub start: usize,
+    pub end: usize,
+}
+
+#[derive(Clone, Copy)]
+pub(crate) struct Exponent {
+    pub is_engineering: bool,
+    pub digits: usize,
+    pub sign: ExponentSign,
+}
+
+#[derive(Clone, Copy)]
+pub(crate) enum ChosenNotation {
+    Simple,
+    Exponent(Exponent),
+    Compact(CompactLength),
+}
+
+#[derive(Clone, Copy)]
+pub(crate) enum ChosenUnit {
+    Base,
+    Percent,
+    Permille,
+    Currency(CurrencyCode),
+    Other,
+}
+
+/// Fraction and significant digits together.
+#[derive(Clone, Copy)]
+pub(crate) struct TwoCounts {
+    pub fraction: Counts,
+    pub significant: Counts,
+    pub priority: RoundingPriority,
+    pub minimum: Minimum,
+}
+
+#[derive(Clone, Copy)]
+pub(crate) enum ChosenPrecision {
+    Unlimited,
+    Fraction(Counts),
+    Significant(Counts),
+    Both(TwoCounts),
+    Currency(CurrencyUsage),
+    Increment(SkeletonDecimal),
+}
+
+/// What a stem or its option chooses; `None` is what ICU knows and this library does not.
+#[derive(Clone, Copy)]
+pub(crate) enum Choice {
+    Nothing,
+    Notation(ChosenNotation),
+    Unit(ChosenUnit),
+    /// Percent and a scale of 100.
+    PercentTimes100,
+    /// A unit and the unit that divides it.
+    UnitPerUnit,
+    PerUnit,
+    Usage,
+    Precision(ChosenPrecision),
+    StripIfInteger,
+    Mode(Option<SignedRoundingMode>),
+    Grouping(Option<GroupingStrategy>),
+    Integer(Counts),
+    System(Option<Name>),
+    Width(Option<CurrencyDisplay>),
+    Sign(SignDisplay, CurrencySign),
+    IsDecimalAlways(bool),
+    Scale(SkeletonDecimal),
+}
+
+/// The choices of a skeleton by their groups, each with its stem.
+#[derive(Clone, Copy)]
+pub(crate) struct Choices {
+    pub notation: Option<(ChosenNotation, Span)>,
+    pub unit: Option<(ChosenUnit, Span)>,
+    pub per_unit: Option<Span>,
+    pub usage: Option<Span>,
+    pub precision: Option<(ChosenPrecision, Span)>,
+    pub strips_if_integer: bool,
+    pub mode: Option<(Option<SignedRoundingMode>, Span)>,
+    pub grouping: Option<(Option<GroupingStrategy>, Span)>,
+    pub integer: Option<(Counts, Span)>,
+    pub system: Option<(Option<Name>, Span)>,
+    pub width: Option<(Option<CurrencyDisplay>, Span)>,
+    pub sign: Option<(SignDisplay, CurrencySign)>,
+    pub decimal: Option<(bool, Span)>,
+    pub scale: Option<(SkeletonDecimal, Span)>,
+}
+
+impl Choices {
+    pub(crate) fn none() -> Self
+        ensures { result ≡ no_choices }
+    {
+        Choices {
+            notation: None,
+            unit: None,
+            per_unit: None,
+            usage: None,
+            precision: None,
+            strips_if_integer: false,
+            mode: None,
+            grouping: None,
+            integer: None,
+            system: None,
+            width: None,
+            sign: None,
+            decimal: None,
+            scale: None,
+        }
+    }
+
+    /// Returns whether the group of a choice has one.
+    pub(crate) fn has(&self, choice: Choice) -> bool
+        ensures { result ≡ has self.now choice }
+    {
+        match choice {
+            Choice::Nothing | Choice::StripIfInteger => false,
+            Choice::Notation(_) => self.notation.is_some(),
+            Choice::Unit(_) => self.unit.is_some(),
+            Choice::PercentTimes100 => self.scale.is_some() || self.unit.is_some(),
+            Choice::UnitPerUnit => self.unit.is_some() || self.per_unit.is_some(),
+            Choice::PerUnit => self.per_unit.is_some(),
+            Choice::Usage => self.usage.is_some(),
+            Choice::Precision(_) => self.precision.is_some(),
+            Choice::Mode(_) => self.mode.is_some(),
+            Choice::Grouping(_) => self.grouping.is_some(),
+            Choice::Integer(_) => self.integer.is_some(),
+            Choice::System(_) => self.system.is_some(),
+            Choice::Width(_) => self.width.is_some(),
+            Choice::Sign(_, _) => self.sign.is_some(),
+            Choice::IsDecimalAlways(_) => self.decimal.is_some(),
+            Choice::Scale(_) => self.scale.is_some(),
+        }
+    }
+
+    /// Returns the choices with one more, or with another one of its group.
+    pub(crate) fn with(self, choice: Choice, stem: Span) -> Self
+        ensures { result ≡ with stem choice self }
+    {
+        match choice {
+            Choice::Nothing => self,
+            Choice::Notation(notation) => Choices {
+                notation: Some((notation, stem)),
+                ..self
+            },
+            Choice::Unit(unit) => Choices {
+                unit: Some((unit, stem)),
+                ..self
+            },
+            Choice::PercentTimes100 => Choices {
+                unit: Some((ChosenUnit::Percent, stem)),
+                scale: Some((SkeletonDecimal::hundred(), stem)),
+                ..self
+            },
+            Choice::UnitPerUnit => Choices {
+                unit: Some((ChosenUnit::Other, stem)),
+                per_unit: Some(stem),
+                ..self
+            },
+            Choice::PerUnit => Choices {
+                per_unit: Some(stem),
+                ..self
+            },
+            Choice::Usage => Choices {
+                usage: Some(stem),
+                ..self
+            },
+            Choice::Precision(precision) => Choices {
+                precision: Some((precision, stem)),
+                ..self
+            },
+            Choice::StripIfInteger => Choices {
+                strips_if_integer: true,
+                ..self
+            },
+            Choice::Mode(mode) => Choices {
+                mode: Some((mode, stem)),
+                ..self
+            },
+            Choice::Grouping(grouping) => Choices {
+                grouping: Some((grouping, stem)),
+                ..self
+            },
+            Choice::Integer(counts) => Choices {
+                integer: Some((counts, stem)),
+                ..self
+            },
+            Choice::System(system) => Choices {
+                system: Some((system, stem)),
+                ..self
+            },
+            Choice::Width(width) => Choices {
+                width: Some((width, stem)),
+                ..self
+            },
+            Choice::Sign(display, sign) => Choices {
+                sign: Some((display, sign)),
+                ..self
+            },
+            Choice::IsDecimalAlways(always) => Choices {
+                decimal: Some((always, stem)),
+                ..self
+            },
+            Choice::Scale(scale) => Choices {
+                scale: Some((scale, stem)),
+                ..self
+            },
+        }
+    }
+}

@@ -1,0 +1,102 @@
+//! Checks the options that number skeletons name, and their errors, against ICU.
+//!
+//! Each line of standard input is a row of two fields with a tab between them: a skeleton, and `syntax K` with the
+//! offset of the error, `unsupported STEM`, the words of its options, or `=` and another skeleton that has the same
+//! options. In a skeleton `␉`, `␊` and `␍` are a tab, a line feed and a carriage return, and `«@*3»` is `@@@`. Blank
+//! lines, and lines that start with `#` and have no tab, are not rows. Each row that fails is printed with its line
+//! number; the last line counts the rows.
+#![tactic(auto)]
+
+mod words;
+
+use number_format::{NumberOptions, SkeletonError};
+use std::alloc::{AllocError, Global};
+use std::io;
+use std::process::ExitCode;
+use words::options_words;
+
+/// Returns the text of a skeleton without escapes and repetitions.
+fn expanded(alloc: Global, escaped: &str) -> Result<String, AllocError> {
+    let mut text = String::new(alloc);
+    for part in escaped.split('«') {
+        let (repeated, rest) = part.split_once('»').unwrap_or(("*1", part));
+        let (piece, count) = repeated.rsplit_once('*').unwrap_or((repeated, "1"));
+        text.push_str(piece.repeat(alloc, count.parse().unwrap_or(1))?.as_str())?;
+        for character in rest.chars() {
+            text.push(match character {
+                '␉' => '\t',
+                '␊' => '\n',
+                '␍' => '\r',
+                _ => character,
+            })?;
+        }
+    }
+    Ok(text)
+}
+
+/// Returns the words of a skeleton: those of its options, or of its error.
+fn skeleton_words(alloc: Global, text: &str) -> Result<String, AllocError> {
+    match NumberOptions::try_from_skeleton(text) {
+        Ok(options) => options_words(alloc, &options),
+        Err(SkeletonError::Syntax { at }) => format!(in alloc; "syntax {at}"),
+        Err(SkeletonError::Unsupported { start, end }) => {
+            format!(in alloc; "unsupported {}", text.get(start..end).unwrap_or("?"))
+        }
+    }
+}
+
+/// Whether the options of a skeleton are printed as a skeleton that is not longer, nor its own skeleton longer.
+fn prints_shorter(alloc: Global, text: &str) -> Option<bool> {
+    let Ok(options) = NumberOptions::try_from_skeleton(text) else {
+        return Some(true);
+    };
+    let shorter = options.to_skeleton(alloc).ok()??;
+    let again = NumberOptions::try_from_skeleton(shorter.as_str()).ok()?;
+    let same = again.to_skeleton(alloc).ok()??;
+    Some(shorter.as_str().len() <= text.len() && shorter.as_str() == same.as_str())
+}
+
+/// Whether a row holds.
+fn holds(alloc: Global, row: &str) -> Option<bool> {
+    let (skeleton, expected) = row.split_once('\t')?;
+    let skeleton = expanded(alloc, skeleton).ok()?;
+    if prints_shorter(alloc, skeleton.as_str()) != Some(true) {
+        return Some(false);
+    }
+    let words = skeleton_words(alloc, skeleton.as_str()).ok()?;
+    match expected.strip_prefix('=') {
+        Some(other) => {
+            let other = expanded(alloc, other).ok()?;
+            Some(words.as_str() == skeleton_words(alloc, other.as_str()).ok()?.as_str())
+        }
+        None => Some(words.as_str() == expected),
+    }
+}
+
+/// Checks the rows of a text, and prints those that fail.
+fn check_lines<R: AllocGlobal + Print>(rt: &R, text: &str) -> ExitCode {
+    let (mut hold, mut fail) = (0u64, 0u64);
+    for (index, line) in text.split('\n').enumerate() {
+        if line.is_empty() || line.starts_with('#') && !line.contains('\t') {
+            continue;
+        }
+        if holds(rt.alloc(), line) == Some(true) {
+            hold = hold.saturating_add(1);
+        } else {
+            fail = fail.saturating_add(1);
+            let _ = println!(rt; "line {}: {line}", index.saturating_add(1));
+        }
+    }
+    if println!(rt; "{hold} rows hold, {fail} fail").is_ok() && fail == 0 {
+        ExitCode::SUCCESS
+    } else {
+        ExitCode::FAILURE
+    }
+}
+
+fn main(rt: HostRuntime) -> ExitCode {
+    match io::read_to_string(rt.alloc(), rt.reader()) {
+        Ok(text) => check_lines(&rt, text.as_str()),
+        Err(_) => ExitCode::FAILURE,
+    }
+}

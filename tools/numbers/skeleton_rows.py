@@ -1,0 +1,183 @@
+#!/usr/bin/env python3
+"""Writes rows of `skeleton_vectors`: skeletons, and the options or the error that ICU has for each.
+
+    python3 tools/numbers/skeleton_rows.py SKELETONS MODEL > crates/skeleton_vectors/stdin
+
+SKELETONS has `skeleton_errors.tsv` and `normal.tsv`, which ICU wrote, `readings.tsv`, and `skeleton.py`, a reader that says
+a skeleton in the options of ECMA-402; MODEL has its tables. Of `unit/` and the like the library does not read the names,
+so that a wrong name is unsupported. Normal forms are those of ICU; it loses `group-auto` of compact notation.
+"""
+import os
+import re
+import sys
+
+WHITE = "\t\n\v\f\r \x85\u200e\u200f\u2028\u2029"
+
+
+def rows(path):
+    with open(path, encoding="utf-8", newline="\n") as file:
+        for line in file:
+            if not line.startswith("# "):
+                yield line.rstrip("\n").split("\t")
+
+
+def escaped(text):
+    """A skeleton of a row as `skeleton_vectors` reads it: only `\\\\{TEXT*COUNT}` stays short."""
+    def one(match):
+        code = match.group(0)
+        if code[1] == "u":
+            return chr(int(code[2:], 16))
+        if code[1] == "{":
+            return "«" + code[2:-1] + "»"
+        return {"t": "␉", "n": "␊", "r": "␍"}.get(code[1], code[1])
+    return re.sub(r"\\(?:u[0-9a-fA-F]{4}|\{[^}]*\}|.)", one, text).encode("utf-16", "surrogatepass").decode("utf-16")
+
+
+def stems(text):
+    return [token.split("/")[0] for token in re.split("[" + WHITE + "]+", text) if token]
+
+
+def first(text, names):
+    """The first stem that is one of these."""
+    return next(stem for stem in stems(text) if re.fullmatch(names, stem))
+
+
+def unsupported(text, reading, said):
+    """The stem that the library has not, in the order in which it looks for them."""
+    kinds = set(said.kinds)
+    tokens = stems(text)
+    width = r"unit-width-(?:full-name|formal|variant)"
+    if "decimal-always" in kinds:
+        return "decimal-always"
+    if any(re.fullmatch(width, stem) for stem in tokens):
+        return first(text, width)
+    if "unit text" in kinds:
+        return first(text, r"%|percent|permille|%x100")
+    if "scale" in kinds or not -32768 <= said.scale <= 32767:
+        return "scale"
+    if reading.notation in ("scientific", "engineering") and not 1 <= reading.exponent_digits <= 65535:
+        return first(text, r"scientific|engineering|E.*")
+    if "no integer digit" in kinds or reading.integer and reading.integer[0] > 32767:
+        return first(text, r"integer-width(?:-trunc)?|0+")
+    if precision(text, reading, said) is None:
+        return first(text, r"precision-increment|@.*|\..*")
+    if kinds & {"halfOdd", "unnecessary"}:
+        return first(text, r"rounding-mode-(?:half-odd|unnecessary)")
+    if "thousands" in kinds:
+        return "group-thousands"
+    if "algorithmic" in kinds:
+        return "numbering-system"
+    return None
+
+
+def precision(text, reading, said):
+    """The words of the precision, or None if the library has not such an increment or number of digits."""
+    options, chosen = said.options, reading.precision
+    if chosen is None and "compact" in options.get("notation", ""):
+        return "more:0:0:1:2:chosen"
+    if chosen is None and options.get("style") == "currency":
+        count, _ = skeleton.currency_digits(options["currency"], "standard")
+        return f"fraction:{count}:{count}"
+    if chosen is None:
+        return f"fraction:0:{options['maximumFractionDigits']}"
+    if chosen[0] in ("increment", "currency"):
+        if "increment" in said.kinds or reading.bounds:
+            return None
+        count = options["maximumFractionDigits"]
+        increment = options.get("roundingIncrement", 1)
+        return f"fraction:{count}:{count}" if increment == 1 else f"multiples:{count}:{increment}"
+    if chosen[0] == "unlimited":
+        return "fraction:0:65535"
+    if chosen[0] == "fraction":
+        low, high = chosen[1], min(65535, 65535 if chosen[2] is None else chosen[2])
+        return f"fraction:{low}:{high}" if low <= 32768 else None
+    if chosen[0] == "significant":
+        return f"significant:{chosen[1]}:{65536 if chosen[2] is None else chosen[2]}"
+    _, low, high, least, most, priority, both = chosen
+    name = {"relaxed": "more", "strict": "less"}[priority]
+    return f"{name}:{low}:{65535 if high is None else high}:{least}:{most}:{'both' if both else 'chosen'}"
+
+
+def words(text):
+    """The words of a valid skeleton."""
+    reading = read(text)
+    if isinstance(reading, str):
+        return "unsupported " + reading
+    said = skeleton.say(reading)
+    stem = unsupported(text, reading, said)
+    if stem is not None:
+        return "unsupported " + stem
+    options = said.options
+    style = "permille" if "permille" in said.kinds else options.get("style", "decimal")
+    if style == "currency":
+        display = "hidden" if "hidden" in said.kinds else options.get("currencyDisplay", "symbol").removesuffix("Symbol")
+        usage = "cash" if reading.precision == ("currency", "cash") else "standard"
+        style = f"currency:{options['currency']}:{display}:{options.get('currencySign', 'standard')}:{usage}"
+    notation = options.get("notation", "standard")
+    if notation == "compact":
+        notation += ":" + options["compactDisplay"]
+    elif notation != "standard":
+        sign = reading.exponent_sign if reading.exponent_sign in ("always", "never") else "auto"
+        notation += f":{reading.exponent_digits}:{sign}"
+    low, high = reading.integer or (1, None)
+    strip = " strip" if "trailingZeroDisplay" in options else ""
+    return (f"{style} {said.scale} {notation} {precision(text, reading, said)} {options['roundingMode']} "
+            f"integer:{low}:{32768 if high is None else high}{strip} sign:{options.get('signDisplay', 'auto')} "
+            f"grouping:{str(options.get('useGrouping', 'auto')).lower()} {reading.system or 'none'}")
+
+
+def read(text):
+    """The reading of a valid skeleton with counts of any size, or the stem of a unit."""
+    try:
+        skeleton.LIMIT = 10**9
+        return skeleton.read(text)
+    except skeleton.OutOfBounds:
+        return bounded(text)
+    except skeleton.Unsupported as error:
+        name = str(error)
+        if name == "increment":
+            return "precision-increment"
+        return first(text, r"per-measure-unit|unit") if "unit" in stems(text) or "per-measure-unit" in stems(text) \
+            else first(text, r"usage|measure-unit") if "usage" not in stems(text) else "usage"
+
+
+def bounded(text):
+    """The reading of a skeleton whose counts ICU accepts only as a text: no exponent digit, or no increment."""
+    return first(text, r"scientific|engineering|precision-increment")
+
+
+def bytes_before(text, units):
+    return len(text.encode("utf-16-le", "surrogatepass")[:2 * units].decode("utf-16-le").encode())
+
+
+def main(folder, model):
+    sys.path.insert(0, folder)
+    sys.dont_write_bytecode = True
+    global skeleton
+    import skeleton
+    skeleton.use_model(model)
+    print("# The options of skeletons.")
+    seen = set()
+
+    def put(text, expected):
+        if text not in seen:
+            seen.add(text)
+            print(escaped(text) + "\t" + expected)
+
+    for row in rows(os.path.join(folder, "readings.tsv")):
+        put(row[0], words(skeleton.unescape(row[0])))
+    print("# Errors.")
+    for text, error, offset in rows(os.path.join(folder, "skeleton_errors.tsv")):
+        plain = skeleton.unescape(text)
+        if error == "U_NUMBER_SKELETON_SYNTAX_ERROR" and not re.match(r"(?:measure-)?unit/(?:length-)?foo$", plain):
+            put(text, f"syntax {bytes_before(plain, int(offset))}")
+        else:
+            put(text, words(plain))
+    print("# Normal forms have the options of their skeletons.")
+    for text, normal in rows(os.path.join(folder, "normal.tsv")):
+        if text != normal and "group-auto" not in text and "error " not in normal and "unit/" not in normal:
+            print(escaped(text) + "\t=" + escaped(normal))
+
+
+if __name__ == "__main__":
+    main(*sys.argv[1:])
