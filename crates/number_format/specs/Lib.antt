@@ -2,3 +2,4 @@ pub mod Increments
 pub mod ShownDigits
 pub mod Resolved
 pub mod Scaled
+pub mod AffixedTexts

@@ -16,6 +16,7 @@
 //! ```
 #![tactic(auto)]
 
+mod affixes;
 mod apply;
 mod digit_options;
 mod digit_ranges;
@@ -26,6 +27,7 @@ mod precision;
 mod scale;
 mod settings;
 
+pub use affixes::SignAffixes;
 pub use digit_options::{DigitOptions, TrailingZeros};
 pub use digit_ranges::{
     FractionDigits, FractionMultiples, Increment, IntegerDigits, SignificantDigits,
