@@ -5,3 +5,5 @@ pub mod Scales
 pub mod Carries
 pub mod DigitLaws
 pub mod NamedAffixes
+pub mod AffixedNumbers
+pub mod ShiftedReads

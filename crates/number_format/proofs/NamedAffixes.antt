@@ -1,7 +1,7 @@
 -- Affixes that name the sign of a number.
-use Rattle.std.proofs.Common.{◌≡◌, ◌≢◌, ℕ, ◌%◌, zero, suc, ◌+◌, ◌<◌, ◌≤◌, ◌⊎◌, inl, inr, List, [], ◌∷◌, ◌++◌, length, get_or, Bool, true, false, refl, sym, ◌∙◌, ap, subst, arith, rules, append_assoc, append-nil, length-append}
+use Rattle.std.proofs.Common.{◌≡◌, ◌≢◌, ℕ, ◌%◌, suc, ◌+◌, ◌<◌, ◌≤◌, inl, inr, List, [], ◌∷◌, ◌++◌, length, get_or, refl, sym, ◌∙◌, ap, subst, arith, append_assoc, append-nil, length-append}
 use Rattle.std.specs.Prelude.{encode_utf8, slice_index}
-use Rattle.std.specs.Str.{IsUtf8, IsCharBoundary}
+use Rattle.std.specs.Str.{IsUtf8}
 use Rattle.std.proofs.Math.Utf8.{encode}
 use Rattle.std.proofs.lemmas.Str.{encode_same, IsCharBoundary-at_seam}
 use Rattle.std.proofs.lemmas.List.{append_cancel_left, append_cancel_right}
@@ -76,13 +76,13 @@ module _ (s : Symbols) where
               is = sym (digit ∙ ap (λ t. t ++ r) none);
             }
         | inr shorter ↦ record {
-            digit = ends.digit;
-            before = shorter.0;
-            is_digit = ends.is_digit;
-            is = append_cancel_left a _ _
-                (ends.is ∙ ap (λ t. t ++ digit_text s ends.digit) shorter.1
-                ∙ append_assoc a shorter.0 (digit_text s ends.digit));
-          }
+          digit = ends.digit;
+          before = shorter.0;
+          is_digit = ends.is_digit;
+          is = append_cancel_left a _ _
+              (ends.is ∙ ap (λ t. t ++ digit_text s ends.digit) shorter.1
+              ∙ append_assoc a shorter.0 (digit_text s ends.digit));
+        }
       ]
 
   -- ---- Two prefixes.
@@ -107,7 +107,7 @@ module _ (s : Symbols) where
 
   pub neither_prefix : (p q : List ℕ) → ((r : List ℕ) → p ≢ q ++ r) → ((r : List ℕ) → q ≢ p ++ r)
       → ArePrefixesApart s p q
-  neither_prefix p q f g a b x y e = elim (meet p q a b e) [ | inl l ↦ g l.0 l.1 | inr r ↦ f r.0 r.1 ]
+  neither_prefix p q f g a b x y e = elim (meet p q a b e) [ inl l ↦ g l.0 l.1 | inr r ↦ f r.0 r.1 ]
 
   -- ---- Two suffixes.
 

@@ -1,7 +1,5 @@
 -- Texts of decimals between affixes.
-use Rattle.std.specs.Prelude.{◌≡◌, ◌≢◌, ℕ, ◌⊎◌, Bool, List, ◌++◌, length, ℤ, Some, None}
-use Rattle.decimal_unsigned.specs.Edits.{multiplied_pow10}
-use Rattle.decimal_unsigned.specs.Unsigned.{IsValue}
+use Rattle.std.specs.Prelude.{◌≡◌, ◌≢◌, ℕ, ◌⊎◌, List, ◌++◌, length, ℤ}
 use Rattle.fixed_decimal.specs.Decimal.{Decimal}
 use Rattle.fixed_decimal.specs.declared.variations.Sign.{Sign}
 use Rattle.fixed_decimal.specs.declared.variations.Sign.TheVariants as sign
@@ -10,6 +8,8 @@ use Rattle.decimal_format.specs.Readable.{IsReadable, BeginsWithDigit, EndsWithD
 use Rattle.decimal_format.specs.Reading.{Numeral, AreDigits, absolute_numeral_text, separated_by}
 use Rattle.decimal_format.specs.Symbols.{Symbols, Affixes}
 use Rattle.decimal_format.specs.declared.grouping.GroupingStrategy.{GroupingStrategy}
+use Rattle.number_format.specs.declared.reader.AffixError.{AffixError}
+use Rattle.number_format.specs.declared.reader.AffixError.TheVariants as error
 
 -- ---- Affixes.
 
@@ -64,3 +64,34 @@ pub record IsNumeralWith (s : Symbols) (by : Sign → Affixes) (bytes : List ℕ
   pub text : bytes
       ≡ (by w.sign).prefix ++ (absolute_numeral_text s (separated_by s strategy (length w.whole)) w ++ (by
       w.sign).suffix)
+
+-- ---- Reading.
+
+-- what texts are read with: symbols, affixes, and the power of ten by which the number shown is multiplied
+pub record Reader : Type 0 where
+  pub symbols : Symbols
+  pub affixes : AffixTable
+  pub shift : ℤ
+
+abbrev pub reader : Symbols → AffixTable → ℤ → Reader
+reader symbols affixes shift = record { symbols = symbols; affixes = affixes; shift = shift }
+
+-- the text is that of the decimal, or of the digits, between the affixes
+abbrev pub IsShown : Reader → List ℕ → Decimal → Type 0
+IsShown r bytes v = IsWrittenWith r.symbols (by_sign r.affixes) v bytes
+
+abbrev pub IsShownNumeral : Reader → List ℕ → Numeral → Type 0
+IsShownNumeral r bytes w = IsNumeralWith r.symbols (by_sign r.affixes) bytes w
+
+-- what an error says of symbols and affixes
+abbrev pub Rejects : AffixError → Symbols → AffixTable → Type 0
+Rejects error.Symbols s t = ¬ IsReadable s
+Rejects error.Affixes s t = IsReadable s × ¬ AreNamed s (by_sign t)
+
+-- ---- Private: used only in the contracts of private functions.
+
+-- the text is this one between the affixes of the sign, and this one begins and ends with a digit
+pub record IsBetween (r : Reader) (bytes : List ℕ) (sign : Sign) (middle : List ℕ) : Type 0 where
+  pub begins : BeginsWithDigit r.symbols middle
+  pub ends : EndsWithDigit r.symbols middle
+  pub is : bytes ≡ (by_sign r.affixes sign).prefix ++ (middle ++ (by_sign r.affixes sign).suffix)

@@ -3,3 +3,4 @@ pub mod ShownDigits
 pub mod Resolved
 pub mod Scaled
 pub mod AffixedTexts
+pub mod ShiftedReading

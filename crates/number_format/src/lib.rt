@@ -24,6 +24,7 @@ mod error;
 pub mod laws;
 mod notation;
 mod precision;
+mod reader;
 mod scale;
 mod settings;
 
@@ -35,5 +36,6 @@ pub use digit_ranges::{
 pub use error::DigitOptionsError;
 pub use notation::{CompactExponents, Notation};
 pub use precision::{BothDigits, Minimum, Precision};
+pub use reader::{AffixError, AffixReader};
 pub use scale::Scaled;
 pub use settings::{DigitDefaults, DigitSettings, RoundingPriority};
