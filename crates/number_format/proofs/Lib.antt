@@ -7,3 +7,4 @@ pub mod DigitLaws
 pub mod NamedAffixes
 pub mod AffixedNumbers
 pub mod ShiftedReads
+pub mod ReadBack

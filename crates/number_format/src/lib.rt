@@ -16,6 +16,7 @@
 //! ```
 #![tactic(auto)]
 
+pub mod affix_laws;
 mod affixes;
 mod apply;
 mod digit_options;
