@@ -10,7 +10,7 @@ use fixed_decimal::Sign;
 
 /// Returns what follows a byte at the start of a text.
 #[inline]
-fn cut_byte<T: Input>(text: T, byte: u8) -> Option<T>
+pub fn cut_byte<T: Input>(text: T, byte: u8) -> Option<T>
     ensures { MatchOption result ((rest : List ℕ) → T.bytes text ≢ byte ∷ rest)
         (λ r. T.bytes text ≡ byte ∷ T.bytes r) }
 {
