@@ -1,11 +1,11 @@
 -- From the text between the affixes to the whole text.
 use Rattle.std.proofs.Common.{◌≡◌, ◌≢◌, ℕ, ◌<◌, Bool, false, ◌&&◌, List, [], ◌∷◌, ◌++◌, length, refl, sym, ◌∙◌, ap, subst, arith, append_assoc, append-nil, inl, inr}
-use Rattle.std.specs.Prelude.{Result, Ok, Err, if◌then◌else◌, pos, ◌-◌}
+use Rattle.std.specs.Prelude.{Result, Err, if◌then◌else◌, pos, ◌-◌}
 use Rattle.std.specs.Int.Digits.{AllBelowBase}
 use Rattle.std.proofs.lemmas.List.{append_cancel_left, append_cancel_right}
 use Rattle.decimal_unsigned.specs.Unsigned.{IsValue}
 use Rattle.decimal_unsigned.specs.declared.error.ParseError.{ParseError}
-use Rattle.decimal_unsigned.specs.declared.error.ParseError.TheVariants.{Limit, Syntax}
+use Rattle.decimal_unsigned.specs.declared.error.ParseError.TheVariants.{Syntax}
 use Rattle.fixed_decimal.specs.Decimal.{Decimal}
 use Rattle.fixed_decimal.specs.declared.variations.Sign.{Sign}
 use Rattle.fixed_decimal.specs.declared.variations.Sign.TheVariants.{None, Negative, Positive}
@@ -15,9 +15,10 @@ use Rattle.decimal_format.specs.Grouping.{is_grouped}
 use Rattle.decimal_format.specs.Readable.{IsReadable, BeginsWithDigit, EndsWithDigit}
 use Rattle.decimal_format.specs.Reading.{Numeral, AreDigits, IsNumeral, IsWritten, IsRead, digits_text, fraction_text, absolute_numeral_text, separated_by}
 use Rattle.decimal_format.specs.Symbols.{Symbols, Affixes, digit_text, sign_affixes}
-use Rattle.decimal_format.proofs.NumeralLaws.{texts_are_unique}
+use Rattle.decimal_format.proofs.NumeralLaws.{texts_are_unique, none_read, with_sign, read_inside}
+use Rattle.decimal_format.proofs.Around.{no_sign}
 use Rattle.decimal_format.proofs.NumeralTexts.{digits_of_value, absolute_is}
-use Rattle.decimal_format.proofs.Scans.{begins-append, number_begins, sign-unique, none_after_last, strategy_is}
+use Rattle.decimal_format.proofs.Scans.{begins-append, number_begins, none_after_last, strategy_is}
 use Rattle.number_format.specs.AffixedTexts.{Reader, AreNamed, ArePairApart, by_sign, text_with, IsShown, IsShownNumeral, IsBetween}
 use Rattle.number_format.proofs.NamedAffixes.{ends-append}
 
@@ -75,13 +76,6 @@ value_text_is s g v valid =
     subst (IsNumberText s) (sym (ap (absolute_text s g) d.2.absolute ∙ absolute_is d.0 d.1 d.2.few s g))
     (numeral_text_is s g d.0 d.1)
 
--- a text that begins with a digit shows no sign
-no_sign : (s : Symbols) → IsReadable s → (sign : Sign) (middle rest : List ℕ) → BeginsWithDigit s middle
-    → middle ≡ (sign_affixes s sign).prefix ++ rest → None ≡ sign
-no_sign s readable sign middle rest begins e =
-    (sign-unique s readable None sign middle rest (λ _. begins)
-    (λ none. subst (BeginsWithDigit s) (e ∙ ap (λ z. (sign_affixes s z).prefix ++ rest) none) begins) e).0
-
 -- ---- One sign.
 
 module _ (s : Symbols) where
@@ -130,11 +124,6 @@ module _ (s : Symbols) where
 
 -- ---- What is read between the affixes.
 
--- the result with another sign
-abbrev pub with_sign : Sign → Result Decimal ParseError → Result Decimal ParseError
-with_sign sign (Ok v) = Ok (record v { sign = sign })
-with_sign sign (Err e) = Err e
-
 module _ (r : Reader) (bytes : List ℕ) where
   numeral_between : (w : Numeral) (n : IsShownNumeral r bytes w) → IsBetween r bytes w.sign
       (absolute_numeral_text r.symbols (separated_by r.symbols n.strategy (length w.whole)) w)
@@ -151,13 +140,9 @@ module _ (r : Reader) (bytes : List ℕ) where
   -- the text is between the affixes of no sign
   pub none_between : (inline : ℕ) → ((sign : Sign) (middle : List ℕ) → ¬ IsBetween r bytes sign middle)
       → IsRead inline (IsShownNumeral r bytes) (IsShown r bytes) (Err Syntax)
-  none_between inline none = record {
-    found = tt;
-    reads_back = λ v valid written. absurd (none v.sign _ (value_between v valid written));
-    syntax = (λ h w n. none w.sign _ (numeral_between w n), λ h. refl);
-    limit = (λ h. absurd (cc), λ x. absurd (none x.0.sign _ (numeral_between x.0 x.1)));
-    memory = λ h. absurd (cc);
-  }
+  none_between inline none =
+      none_read (λ w n. none w.sign _ (numeral_between w n))
+      (λ v valid written. none v.sign _ (value_between v valid written))
 
   module _ (readable : IsReadable r.symbols) (named : AreNamed r.symbols (by_sign r.affixes)) (sign : Sign)
       (middle : List ℕ) (between : IsBetween r bytes sign middle) where
@@ -178,7 +163,7 @@ module _ (r : Reader) (bytes : List ℕ) where
         → middle ≡ (sign_affixes r.symbols x).prefix ++ (text ++ (sign_affixes r.symbols x).suffix) → middle ≡ text
     plain x text e =
         let none = no_sign r.symbols readable x middle (text ++ (sign_affixes r.symbols x).suffix) between.begins e in
-        e ∙ ap (λ z. (sign_affixes r.symbols z).prefix ++ (text ++ (sign_affixes r.symbols z).suffix)) (sym none)
+        e ∙ ap (λ z. (sign_affixes r.symbols z).prefix ++ (text ++ (sign_affixes r.symbols z).suffix)) none
         ∙ append-nil text
 
     numeral_up : (w : Numeral) → IsNumeral r.symbols middle w → IsShownNumeral r bytes (record w { sign = sign })
@@ -195,8 +180,9 @@ module _ (r : Reader) (bytes : List ℕ) where
       text = (only_middle w.sign _ (numeral_between w n)).1 ∙ sym (append-nil _);
     }
 
-    value_up : (v : Decimal) → IsWritten r.symbols v middle → IsShown r bytes (record v { sign = sign })
-    value_up v written = (written.0, whole_text _ (plain v.sign _ written.1))
+    value_up : (v : Decimal) → IsValue v.absolute → IsWritten r.symbols v middle
+        → IsShown r bytes (record v { sign = sign })
+    value_up v valid written = (written.0, whole_text _ (plain v.sign _ written.1))
 
     value_down : (v : Decimal) → IsValue v.absolute → IsShown r bytes v
         → (v.sign ≡ sign) × IsWritten r.symbols (record v { sign = None }) middle
@@ -204,41 +190,7 @@ module _ (r : Reader) (bytes : List ℕ) where
         let same = only_middle v.sign _ (value_between v valid written) in
         (same.0, (written.0, same.1 ∙ sym (append-nil _)))
 
-    none_up : ((w : Numeral) → ¬ IsShownNumeral r bytes w) → (w : Numeral) → ¬ IsNumeral r.symbols middle w
-    none_up none w n = none (record w { sign = sign }) (numeral_up w n)
-
     pub read_between : (inline : ℕ) (result : Result Decimal ParseError)
         → IsRead inline (IsNumeral r.symbols middle) (λ v. IsWritten r.symbols v middle) result
         → IsRead inline (IsShownNumeral r bytes) (IsShown r bytes) (with_sign sign result)
-    read_between inline (Ok u) is = record {
-      found = (is.found.0, value_up u is.found.1);
-      reads_back = λ v valid written.
-          let d = value_down v valid written in
-          let e : u ≡ record v { sign = None } = is.reads_back (record v { sign = None }) valid d.1 in
-          let absolute = ap (λ (z : Decimal). z.absolute) e in
-          λ i. record { sign = (sym d.0) i; absolute = absolute i };
-      syntax = (
-        λ h. absurd (cc),
-        λ none. let k : Ok u ≡ Err Syntax = is.syntax.1 (none_up none) in absurd (cc),
-      );
-      limit = (
-        λ h. absurd (cc),
-        λ x. let k : Ok u ≡ Err Limit = is.limit.1 (record x.0 { sign = None }, numeral_down x.0 x.1, x.2) in
-            absurd (cc),
-      );
-      memory = λ h. absurd (cc);
-    }
-    read_between inline (Err e) is = record {
-      found = tt;
-      reads_back = λ v valid written.
-          is.reads_back (record v { sign = None }) valid (value_down v valid written).1;
-      syntax = (
-        λ h w n. is.syntax.0 h (record w { sign = None }) (numeral_down w n),
-        λ none. is.syntax.1 (none_up none),
-      );
-      limit = (
-        λ h. let x = is.limit.0 h in (record x.0 { sign = sign }, numeral_up x.0 x.1, x.2),
-        λ x. is.limit.1 (record x.0 { sign = None }, numeral_down x.0 x.1, x.2),
-      );
-      memory = λ h. let x = is.memory h in (record x.0 { sign = sign }, x.1, value_up x.0 x.2, x.3);
-    }
+    read_between inline result is = read_inside sign numeral_up numeral_down value_up value_down result is

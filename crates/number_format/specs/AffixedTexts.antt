@@ -3,11 +3,14 @@ use Rattle.std.specs.Prelude.{◌≡◌, ◌≢◌, ℕ, ◌⊎◌, List, ◌++�
 use Rattle.fixed_decimal.specs.Decimal.{Decimal}
 use Rattle.fixed_decimal.specs.declared.variations.Sign.{Sign}
 use Rattle.fixed_decimal.specs.declared.variations.Sign.TheVariants as sign
+use Rattle.decimal_format.specs.Alternatives.{IsNumeralOfFirst, IsWrittenOfFirst}
 use Rattle.decimal_format.specs.Formatted.{absolute_text}
+use Rattle.decimal_format.specs.Lenient.{normalized}
 use Rattle.decimal_format.specs.Readable.{IsReadable, BeginsWithDigit, EndsWithDigit}
 use Rattle.decimal_format.specs.Reading.{Numeral, AreDigits, absolute_numeral_text, separated_by}
 use Rattle.decimal_format.specs.Symbols.{Symbols, Affixes}
 use Rattle.decimal_format.specs.declared.grouping.GroupingStrategy.{GroupingStrategy}
+use Rattle.decimal_format.specs.declared.reader.alternatives.Alternative.{Alternative}
 use Rattle.number_format.specs.declared.reader.AffixError.{AffixError}
 use Rattle.number_format.specs.declared.reader.AffixError.TheVariants as error
 
@@ -82,6 +85,23 @@ IsShown r bytes v = IsWrittenWith r.symbols (by_sign r.affixes) v bytes
 
 abbrev pub IsShownNumeral : Reader → List ℕ → Numeral → Type 0
 IsShownNumeral r bytes w = IsNumeralWith r.symbols (by_sign r.affixes) bytes w
+
+-- ---- Lenient reading.
+
+-- the text is that of the digits between the affixes; or it is that of none, and the first alternative with a numeral
+-- has these digits
+abbrev pub IsTypedNumeralWith : Reader → List Alternative → List ℕ → Numeral → Type 0
+IsTypedNumeralWith r alternatives text w =
+    IsShownNumeral r text w ⊎ (((u : Numeral) → ¬ IsShownNumeral r text u)
+    × IsNumeralOfFirst r.symbols (normalized r.symbols text) alternatives w)
+
+-- and the decimal
+abbrev pub IsTypedWith : Reader → List Alternative → List ℕ → Decimal → Type 0
+IsTypedWith r alternatives text v =
+    IsShown r text v ⊎ (((u : Numeral) → ¬ IsShownNumeral r text u)
+    × IsWrittenOfFirst r.symbols (normalized r.symbols text) alternatives v)
+
+-- ---- Errors.
 
 -- what an error says of symbols and affixes
 abbrev pub Rejects : AffixError → Symbols → AffixTable → Type 0

@@ -2,11 +2,11 @@
 ghost use Rattle.std.specs.Prelude.{◌≡◌, ◌≢◌, ℕ, List, ◌++◌, pos, IfOk, IfErr, MatchOption};
 ghost use Rattle.decimal_format.specs.Readable.{IsReadable, BeginsWithDigit, EndsWithDigit};
 ghost use Rattle.decimal_format.specs.Reading.{IsRead};
-ghost use Rattle.number_format.specs.AffixedTexts.{by_sign, AreNamed, reader, Rejects, IsShown, IsShownNumeral, IsBetween};
+ghost use Rattle.number_format.specs.AffixedTexts.{by_sign, AreNamed, reader, Rejects, IsShown, IsShownNumeral, IsTypedWith, IsTypedNumeralWith, IsBetween};
 ghost use Rattle.number_format.specs.ShiftedReading.{IsReadShifted, IsShiftOf};
 
 use crate::affixes::SignAffixes;
-use decimal_format::DecimalSymbols;
+use decimal_format::{Alternative, DecimalSymbols};
 use fixed_decimal::{DigitStore, ParseError, Sign, Signed, UnsignedOver};
 use std::alloc::Global;
 use std::marker::Model;
@@ -189,5 +189,44 @@ impl<'a> AffixReader<'a> {
             (IsShown self.now text.now) result }
     {
         shifted(self.read_shown(alloc, text), self.shift)
+    }
+
+    fn read_typed<D: DigitStore>(
+        &self,
+        alloc: Global,
+        alternatives: &[Alternative<'_>],
+        text: &str,
+    ) -> Result<Signed<UnsignedOver<D>>, ParseError>
+        ensures { IsRead D.L (IsTypedNumeralWith self.now alternatives.now text.now)
+            (IsTypedWith self.now alternatives.now text.now) result }
+    {
+        match self.read_shown(alloc, text.as_bytes()) {
+            Ok(value) => Ok(value),
+            Err(ParseError::Syntax) => self.symbols.read_alternatives(alloc, alternatives, text),
+            Err(ParseError::Limit) => Err(ParseError::Limit),
+            Err(ParseError::Memory) => Err(ParseError::Memory),
+        }
+    }
+
+    /// Reads a number as people type it: between the affixes of its sign, or by the first alternative that
+    /// [reads](DecimalSymbols::read_alternatives) the text.
+    ///
+    /// A text that [`read`](Self::read) accepts has the same value. The alternatives of an amount of money are the
+    /// symbol, the narrow symbol, the code of its currency, or nothing, before the number and after it, with a space
+    /// and without: another currency, two symbols and two signs are `Syntax`.
+    ///
+    /// # Errors
+    ///
+    /// As for [`read`](Self::read).
+    pub fn read_lenient<D: DigitStore>(
+        &self,
+        alloc: Global,
+        alternatives: &[Alternative<'_>],
+        text: &str,
+    ) -> Result<Signed<UnsignedOver<D>>, ParseError>
+        ensures { IsReadShifted D.L self.now.shift (IsTypedNumeralWith self.now alternatives.now text.now)
+            (IsTypedWith self.now alternatives.now text.now) result }
+    {
+        shifted(self.read_typed(alloc, alternatives, text), self.shift)
     }
 }
