@@ -10,6 +10,9 @@ returns g c =
     let fits : FitsSigned w16 c.self.inside.shift = search rules in
     let same : to_z w16 (of_z w16 c.self.inside.shift) ≡ c.self.inside.shift = omega (arith, ints, fits) in
     let shift : c.self.inside.shift ≡ c.args.self.now.shift = cc in
-    shift_read g.D.DigitStore.L c.args.self.now.shift (IsTypedNumeralWith c.args.self.now c.args.alternatives.now c.args.text.now)
-    (IsTypedWith c.args.self.now c.args.alternatives.now c.args.text.now) c.read_typed.result c.shifted.result c.read_typed.ensures
+    let r = c.args.self.now in
+    let all = c.args.alternatives.now in
+    let text = c.args.text.now in
+    shift_read g.D.DigitStore.L r.shift (IsTypedNumeralWith r all text) (IsTypedWith r all text) c.read_typed.result
+    c.shifted.result c.read_typed.ensures
     (subst (λ z. IsShiftOf c.read_typed.result z c.shifted.result) (same ∙ shift) c.shifted.ensures)
