@@ -15,3 +15,4 @@ pub mod NumeralLaws
 pub mod NormalForms
 pub mod Apart
 pub mod Values
+pub mod Around

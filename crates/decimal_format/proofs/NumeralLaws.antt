@@ -1,6 +1,6 @@
 -- A text is that of one numeral, and of one decimal.
-use Rattle.std.proofs.Common.{◌≡◌, ◌≢◌, ℕ, ◌-◌, inl, inr, Bool, true, false, List, [], ◌∷◌, ◌++◌, length, refl, sym, ◌∙◌, subst, append-nil}
-use Rattle.std.specs.Prelude.{Result, Ok, Err, IfOk, MatchResult, ◌↔◌, pos}
+use Rattle.std.proofs.Common.{◌≡◌, ◌≢◌, ℕ, ◌-◌, inl, inr, Bool, true, false, List, [], ◌∷◌, ◌++◌, length, refl, sym, ◌∙◌, ap, subst, append-nil}
+use Rattle.std.specs.Prelude.{◌⊎◌, Result, Ok, Err, IfOk, MatchResult, ◌↔◌, pos}
 use Rattle.std.specs.Int.Digits.{AllBelowBase}
 use Rattle.std.proofs.Math.Bool.{and-false}
 use Rattle.std.proofs.lemmas.Result.{IfOk-weaker}
@@ -9,6 +9,8 @@ use Rattle.decimal_unsigned.specs.declared.error.ParseError.{ParseError}
 use Rattle.decimal_unsigned.specs.declared.error.ParseError.TheVariants.{Limit, Syntax, Memory}
 use Rattle.decimal_unsigned.specs.Unsigned.{IsValue}
 use Rattle.fixed_decimal.specs.Decimal.{Decimal}
+use Rattle.fixed_decimal.specs.declared.variations.Sign.{Sign}
+use Rattle.fixed_decimal.specs.declared.variations.Sign.TheVariants.{None}
 use Rattle.decimal_format.specs.declared.grouping.GroupingStrategy.{GroupingStrategy}
 use Rattle.decimal_format.specs.declared.grouping.GroupingStrategy.TheVariants.{Never}
 use Rattle.decimal_format.specs.Symbols.{Symbols, Affixes, sign_affixes}
@@ -16,7 +18,7 @@ use Rattle.decimal_format.specs.Formatted.{formatted}
 use Rattle.decimal_format.specs.Grouping.{is_grouped, ends_group}
 use Rattle.decimal_format.specs.Readable.{IsReadable}
 use Rattle.decimal_format.specs.Reading.{Numeral, AreDigits, IsNumeral, IsBeyondLimits, IsWritten, IsRead, digits_text, fraction_text, absolute_numeral_text, numeral_text, separated_by}
-use Rattle.decimal_format.specs.Lenient.{separated_at, normalized, IsLenientNumeral, IsLenientlyWritten, IsTyped, IsTypedNumeral}
+use Rattle.decimal_format.specs.Lenient.{separated_at, normalized, IsLenientNumeral, IsLenientlyWritten, IsTyped}
 use Rattle.decimal_format.specs.Scanning.{IsUniform, value_of, IsValueOf, IsNumeralBy, IsWrittenBy}
 use Rattle.decimal_format.proofs.Codes.{none_not_decimal}
 use Rattle.decimal_format.proofs.DigitTexts.{digits_text-cong, nil_ends, fraction_ends, digits-unique, ends_integer}
@@ -207,12 +209,14 @@ pub none_by : (strict : Bool) (s : Symbols) (bytes : List ℕ) → strict ≡ tr
 none_by true s bytes h none = none
 none_by false s bytes h none = absurd (cc)
 
--- ---- What people type.
-module _ {inline : ℕ} {s : Symbols} {text : List ℕ} {result : Result Decimal ParseError} where
-  -- the text is that of a number
-  pub read_as_written : IsRead inline (IsNumeral s text) (λ v. IsWritten s v text) result → result ≢ Err Syntax
-      → IsRead inline (IsTypedNumeral s text) (λ v. IsTyped s v text) result
-  read_as_written read other = record {
+-- ---- Two ways to read a text, of which the second is tried where the first reads nothing.
+module _ {inline : ℕ} {is_numeral other_numeral : Numeral → Type 0} {is_written other_written : Decimal → Type 0}
+    {result : Result Decimal ParseError} where
+  -- the first reads it
+  pub read_first : IsRead inline is_numeral is_written result → result ≢ Err Syntax
+      → IsRead inline (λ w. is_numeral w ⊎ (((u : Numeral) → ¬ is_numeral u) × other_numeral w))
+      (λ v. is_written v ⊎ (((u : Numeral) → ¬ is_numeral u) × other_written v)) result
+  read_first read other = record {
     found = IfOk-weaker result _ _ (λ v h. (h.0, inl h.1)) read.found;
     reads_back = λ v valid. elim [
       | inl written ↦ read.reads_back v valid written
@@ -223,25 +227,87 @@ module _ {inline : ℕ} {s : Symbols} {text : List ℕ} {result : Result Decimal
     memory = λ h. let x = read.memory h in (x.0, x.1, inl x.2, x.3);
   }
 
-  -- it is that of no number, and its normal form is read
-  pub read_normalized : ((w : Numeral) → ¬ IsNumeral s text w)
-      → IsRead inline (IsLenientNumeral s (normalized s text)) (λ v. IsLenientlyWritten s v (normalized s text)) result
-      → IsRead inline (IsTypedNumeral s text) (λ v. IsTyped s v text) result
-  read_normalized none read = record {
-    found = IfOk-weaker result _ _ (λ v h. (h.0, inr (none, h.1))) read.found;
-    reads_back = λ v valid. elim [
-      | inl written ↦ let w = written_digits s text v valid written in absurd (none w.0 w.1)
-      | inr x ↦ read.reads_back v valid x.1
-    ];
+  -- it reads nothing
+  pub read_next : IsRead inline is_numeral is_written (Err Syntax) → IsRead inline other_numeral other_written result
+      → IsRead inline (λ w. is_numeral w ⊎ (((u : Numeral) → ¬ is_numeral u) × other_numeral w))
+      (λ v. is_written v ⊎ (((u : Numeral) → ¬ is_numeral u) × other_written v)) result
+  read_next first read =
+      let none = first.syntax.0 refl in record {
+        found = IfOk-weaker result _ _ (λ v h. (h.0, inr (none, h.1))) read.found;
+        reads_back = λ v valid. elim [
+          | inl written ↦ let no : Syntax ≡ Memory = first.reads_back v valid written in absurd (cc)
+          | inr x ↦ read.reads_back v valid x.1
+        ];
+        syntax = (
+          λ h w. elim [ inl numeral ↦ none w numeral | inr x ↦ read.syntax.0 h w x.1 ],
+          λ all. read.syntax.1 (λ w numeral. all w (inr (none, numeral))),
+        );
+        limit = (
+          λ h. let x = read.limit.0 h in (x.0, inr (none, x.1), x.2),
+          λ x. elim x.1 [ inl numeral ↦ absurd (none x.0 numeral) | inr y ↦ read.limit.1 (x.0, y.1, x.2) ],
+        );
+        memory = λ h. let x = read.memory h in (x.0, x.1, inr (none, x.2), x.3);
+      }
+
+-- nothing is to be read
+pub none_read : {inline : ℕ} {is_numeral : Numeral → Type 0} {is_written : Decimal → Type 0}
+    → ((w : Numeral) → ¬ is_numeral w) → ((v : Decimal) → IsValue v.absolute → ¬ is_written v)
+    → IsRead inline is_numeral is_written (Err Syntax)
+none_read none never = record {
+  found = tt;
+  reads_back = λ v valid written. absurd (never v valid written);
+  syntax = (λ h. none, λ h. refl);
+  limit = (λ h. absurd (cc), λ x. absurd (none x.0 x.1));
+  memory = λ h. absurd (cc);
+}
+
+-- ---- A text without a sign, in a text that shows one.
+-- the result with another sign
+abbrev pub with_sign : Sign → Result Decimal ParseError → Result Decimal ParseError
+with_sign sign (Ok v) = Ok (record v { sign = sign })
+with_sign sign (Err e) = Err e
+
+module _ {is_numeral outer_numeral : Numeral → Type 0} {is_written outer_written : Decimal → Type 0}
+    (sign : Sign) (numeral_up : (w : Numeral) → is_numeral w → outer_numeral (record w { sign = sign }))
+    (numeral_down : (w : Numeral) → outer_numeral w → is_numeral (record w { sign = None }))
+    (value_up : (v : Decimal) → IsValue v.absolute → is_written v → outer_written (record v { sign = sign }))
+    (value_down : (v : Decimal) → IsValue v.absolute → outer_written v
+    → (v.sign ≡ sign) × is_written (record v { sign = None })) where
+  none_up : ((w : Numeral) → ¬ outer_numeral w) → (w : Numeral) → ¬ is_numeral w
+  none_up none w n = none (record w { sign = sign }) (numeral_up w n)
+
+  pub read_inside : {inline : ℕ} (result : Result Decimal ParseError) → IsRead inline is_numeral is_written result
+      → IsRead inline outer_numeral outer_written (with_sign sign result)
+  read_inside (Ok u) is = record {
+    found = (is.found.0, value_up u is.found.0 is.found.1);
+    reads_back = λ v valid written.
+        let d = value_down v valid written in
+        let e : u ≡ record v { sign = None } = is.reads_back (record v { sign = None }) valid d.1 in
+        let absolute = ap (λ (z : Decimal). z.absolute) e in
+        λ i. record { sign = (sym d.0) i; absolute = absolute i };
     syntax = (
-      λ h w. elim [ inl numeral ↦ none w numeral | inr x ↦ read.syntax.0 h w x.1 ],
-      λ all. read.syntax.1 (λ w numeral. all w (inr (none, numeral))),
+      λ h. absurd (cc),
+      λ none. let k : Ok u ≡ Err Syntax = is.syntax.1 (none_up none) in absurd (cc),
     );
     limit = (
-      λ h. let x = read.limit.0 h in (x.0, inr (none, x.1), x.2),
-      λ x. elim x.1 [ inl numeral ↦ absurd (none x.0 numeral) | inr y ↦ read.limit.1 (x.0, y.1, x.2) ],
+      λ h. absurd (cc),
+      λ x. let k : Ok u ≡ Err Limit = is.limit.1 (record x.0 { sign = None }, numeral_down x.0 x.1, x.2) in
+          absurd (cc),
     );
-    memory = λ h. let x = read.memory h in (x.0, x.1, inr (none, x.2), x.3);
+    memory = λ h. absurd (cc);
+  }
+  read_inside (Err e) is = record {
+    found = tt;
+    reads_back = λ v valid written. is.reads_back (record v { sign = None }) valid (value_down v valid written).1;
+    syntax = (
+      λ h w n. is.syntax.0 h (record w { sign = None }) (numeral_down w n),
+      λ none. is.syntax.1 (none_up none),
+    );
+    limit = (
+      λ h. let x = is.limit.0 h in (record x.0 { sign = sign }, numeral_up x.0 x.1, x.2),
+      λ x. is.limit.1 (record x.0 { sign = None }, numeral_down x.0 x.1, x.2),
+    );
+    memory = λ h. let x = is.memory h in (record x.0 { sign = sign }, x.1, value_up x.0 x.1 x.2, x.3);
   }
 
 -- ---- Laws.

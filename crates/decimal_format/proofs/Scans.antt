@@ -13,9 +13,9 @@ use Rattle.decimal_format.specs.declared.grouping.GroupingStrategy.{GroupingStra
 use Rattle.decimal_format.specs.declared.grouping.GroupingStrategy.TheVariants.{Never, Always}
 use Rattle.decimal_format.specs.Symbols.{Symbols, digit_text, sign_affixes}
 use Rattle.decimal_format.specs.Grouping.{is_grouped, ends_group}
-use Rattle.decimal_format.specs.Readable.{IsReadable}
+use Rattle.decimal_format.specs.Readable.{IsReadable, BeginsWithDigit}
 use Rattle.decimal_format.specs.Reading.{Numeral, AreDigits, digits_text, fraction_text, absolute_numeral_text, separated_by}
-use Rattle.decimal_format.specs.Scanning.{separator_if, separated_if, SkipsSeparator, BeginsWithDigit, HasBcd, IsUniform, IsSpelled, ReadsSpelled, ReadsRun, ReadsDigits}
+use Rattle.decimal_format.specs.Scanning.{separator_if, separated_if, SkipsSeparator, HasBcd, IsUniform, IsSpelled, ReadsSpelled, ReadsRun, ReadsDigits}
 use Rattle.decimal_format.proofs.Bcd.{below_append, below_first, below_rest, last_none, last_push}
 use Rattle.decimal_format.proofs.Codes.{same_digit, digit_not_grouping, digit_not_minus, digit_not_plus, plus_not_minus, none_not_decimal, none_not_digit, none_not_grouping}
 use Rattle.decimal_format.proofs.DigitTexts.{digits_text-nil, digits_text-first, digits_text-cong, digits_text-append, digits_text-run, digits_not_grouping, digits-unique, ends_integer, nil_ends, fraction_ends}

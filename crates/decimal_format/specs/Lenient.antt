@@ -1,5 +1,5 @@
 -- Numbers as people type them.
-use Rattle.std.specs.Prelude.{◌≡◌, ℕ, ◌-◌, ◌^◌, ◌==◌, ◌⊎◌, Bool, false, ◌&&◌, ◌||◌, if◌then◌else◌, List, [], take, encode_utf8}
+use Rattle.std.specs.Prelude.{◌≡◌, ℕ, ◌-◌, ◌^◌, ◌==◌, ◌⊎◌, Bool, false, ◌&&◌, ◌||◌, if◌then◌else◌, List, [], ◌∷◌, take, encode_utf8}
 use Rattle.std.specs.Char.{is_ascii_digit}
 use Rattle.std.specs.List.{flat_map, list_any}
 use Rattle.std.specs.Str.{chars}
@@ -41,13 +41,14 @@ is_separator s c =
 
 -- ---- Normal forms.
 
--- the bytes that a character stands for
+-- the bytes that a character stands for; a space that is no separator is U+0020
 abbrev pub replacement : Symbols → ℕ → List ℕ
 replacement s c =
     if is_mark c then []
     else if is_minus c then s.minus.prefix
     else if is_plus c then s.plus.prefix
     else if is_separator s c then s.grouping
+    else if is_space c then 32 ∷ []
     else if is_ascii_digit c then digit_text s (c - 48)
     else encode_utf8 c
 

@@ -6,6 +6,7 @@ pub mod Ascii
 pub mod Readable
 pub mod Reading
 pub mod Lenient
+pub mod Alternatives
 -- Private: used only in the contracts of private functions.
 pub mod Parts
 pub mod Scanning

@@ -26,3 +26,17 @@ IsApart s j = (k : ℕ) → k < 14 → IsOther s j k
 -- no code begins with another one; so none is empty
 pub record IsReadable (s : Symbols) : Type 0 where
   pub apart : (j : ℕ) → j < 14 → IsApart s j
+
+-- a text begins with a digit
+pub record BeginsWithDigit (s : Symbols) (bytes : List ℕ) : Type 0 where
+  pub digit : ℕ
+  pub following : List ℕ
+  pub is_digit : digit < 10
+  pub is : bytes ≡ digit_text s digit ++ following
+
+-- a text ends with a digit
+pub record EndsWithDigit (s : Symbols) (bytes : List ℕ) : Type 0 where
+  pub digit : ℕ
+  pub before : List ℕ
+  pub is_digit : digit < 10
+  pub is : bytes ≡ before ++ digit_text s digit

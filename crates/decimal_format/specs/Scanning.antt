@@ -50,13 +50,6 @@ pub record HasBcd (n k : ℕ) (ds : List ℕ) : Type 0 where
   pub count : length ds ≡ k
   pub number : n ≡ number_from_digits 16 ds % 2 ^ 64
 
--- a text begins with a digit
-pub record BeginsWithDigit (s : Symbols) (bytes : List ℕ) : Type 0 where
-  pub digit : ℕ
-  pub following : List ℕ
-  pub is_digit : digit < 10
-  pub is : bytes ≡ digit_text s digit ++ following
-
 -- a text begins with a number of digits, at most n, and the rest follows them, which begins with no digit if there are
 -- fewer than n
 pub record ReadsRun (s : Symbols) (n : ℕ) (bytes rest : List ℕ) (number count : ℕ) : Type 0 where

@@ -19,4 +19,5 @@ mod symbols;
 pub use error::SymbolsError;
 pub use formatter::{DecimalFormatter, FormattedDecimal};
 pub use grouping::{GroupingSizes, GroupingStrategy};
+pub use reader::alternatives::Alternative;
 pub use symbols::{Affixes, DecimalSymbols};

@@ -3,3 +3,7 @@ pub mod Applied
 pub mod Scales
 pub mod DigitLaws
 pub mod SkeletonPieces
+pub mod NamedAffixes
+pub mod AffixedNumbers
+pub mod ShiftedReads
+pub mod ReadBack

@@ -10,3 +10,5 @@ pub mod SkeletonOptions
 pub mod SkeletonReading
 pub mod SkeletonDigits
 pub mod SkeletonMeaning
+pub mod AffixedTexts
+pub mod ShiftedReading

@@ -16,6 +16,8 @@
 //! ```
 #![tactic(auto)]
 
+pub mod affix_laws;
+mod affixes;
 mod apply;
 mod digit_options;
 mod digit_ranges;
@@ -24,10 +26,12 @@ pub mod laws;
 mod notation;
 mod number_options;
 mod precision;
+mod reader;
 mod scale;
 mod settings;
 mod skeleton;
 
+pub use affixes::SignAffixes;
 pub use digit_options::{DigitOptions, TrailingZeros};
 pub use digit_ranges::{
     FractionDigits, FractionMultiples, Increment, IntegerDigits, SignificantDigits,
@@ -39,6 +43,7 @@ pub use number_options::{
     NumberNotation, NumberOptions, NumberStyle,
 };
 pub use precision::{BothDigits, Minimum, Precision};
+pub use reader::{AffixError, AffixReader};
 pub use scale::Scaled;
 pub use settings::{DigitDefaults, DigitSettings, RoundingPriority};
 pub use skeleton::SkeletonError;

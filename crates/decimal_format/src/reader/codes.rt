@@ -1,8 +1,8 @@
 //! The codes that a text consists of: digits, separators and the prefixes of signs.
 ghost use Rattle.std.specs.Prelude.{◌≡◌, ◌≢◌, ℕ, ◌+◌, ◌<◌, ◌≤◌, List, ◌∷◌, ◌++◌, ◌↔◌, IfSome, IsSomeAnd, MatchOption, IsTrue, true};
 ghost use Rattle.decimal_format.specs.Symbols.{digit_text, sign_affixes};
-ghost use Rattle.decimal_format.specs.Readable.{code, BeginsWith, IsOther, IsApart, IsReadable};
-ghost use Rattle.decimal_format.specs.Scanning.{BeginsWithDigit, ReadsRun};
+ghost use Rattle.decimal_format.specs.Readable.{code, BeginsWith, IsOther, IsApart, IsReadable, BeginsWithDigit, EndsWithDigit};
+ghost use Rattle.decimal_format.specs.Scanning.{ReadsRun};
 
 use crate::reader::input::{Input, count, skip};
 use crate::symbols::DecimalSymbols;
@@ -10,7 +10,7 @@ use fixed_decimal::Sign;
 
 /// Returns what follows a byte at the start of a text.
 #[inline]
-fn cut_byte<T: Input>(text: T, byte: u8) -> Option<T>
+pub fn cut_byte<T: Input>(text: T, byte: u8) -> Option<T>
     ensures { MatchOption result ((rest : List ℕ) → T.bytes text ≢ byte ∷ rest)
         (λ r. T.bytes text ≡ byte ∷ T.bytes r) }
 {
@@ -194,6 +194,25 @@ impl<'a> DecimalSymbols<'a> {
             }
         }
         None
+    }
+
+    /// Returns whether a text begins with a digit. Requires readable symbols.
+    pub fn begins_with_digit(&self, text: &[u8]) -> bool
+        requires { IsReadable self.now }
+        ensures { IsTrue result ↔ BeginsWithDigit self.now text.now }
+    {
+        self.next_digit(text).is_some()
+    }
+
+    /// Returns whether a text ends with a digit. Requires readable symbols.
+    pub fn ends_with_digit(&self, text: &[u8]) -> bool
+        requires { IsReadable self.now }
+        ensures { IsTrue result ↔ EndsWithDigit self.now text.now }
+    {
+        match text.len().checked_sub(self.digit_width()) {
+            Some(front) => self.begins_with_digit(&text[front..]),
+            None => false,
+        }
     }
 
     /// Reads up to `most` digits that follow each other: returns the last sixteen as packed BCD, their number, and what

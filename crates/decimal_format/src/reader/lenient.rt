@@ -62,7 +62,7 @@ fn split_first_char(text: &str) -> Option<(char, &str)>
 
 /// The bytes of a normal form that are left to read. They are made as they are read, without memory.
 #[derive(Clone, Copy)]
-struct Normalized<'t, 'a> {
+pub(crate) struct Normalized<'t, 'a> {
     symbols: &'t DecimalSymbols<'a>,
     text: &'t str,
     /// The number of bytes of the normal form of `text` that were read.
@@ -73,7 +73,7 @@ struct Normalized<'t, 'a> {
 
 impl<'t, 'a> Normalized<'t, 'a> {
     /// Makes the normal form of a text.
-    fn new(symbols: &'t DecimalSymbols<'a>, text: &'t str) -> Self
+    pub fn new(symbols: &'t DecimalSymbols<'a>, text: &'t str) -> Self
         ensures { left_of result ≡ normalized symbols.now text.now }
     {
         Normalized {
@@ -170,6 +170,9 @@ impl<'a> DecimalSymbols<'a> {
         if self.is_separator(c) {
             return self.grouping_separator().as_bytes();
         }
+        if is_space(c) {
+            return b" ";
+        }
         if c.is_ascii_digit() {
             let digit = (c as u32 - 48) as u8;
             return self.digit(digit).encode_utf8(buffer).as_bytes();
@@ -178,7 +181,7 @@ impl<'a> DecimalSymbols<'a> {
     }
 
     /// Puts the normal form of a text into a block, if it fits.
-    fn normal_block(&self, text: &str) -> Option<Block>
+    pub(crate) fn normal_block(&self, text: &str) -> Option<Block>
         ensures { IfSome result (λ b. (b.0 ≡ replaced self.now text.now) × (length b.0 ≤ 192)) }
     {
         let mut block = Block::new();

@@ -4,9 +4,9 @@ use Rattle.fixed_decimal.specs.declared.variations.Sign.{Sign}
 use Rattle.decimal_format.specs.Symbols.{Symbols, sign_affixes}
 use Rattle.decimal_format.specs.Grouping.{ends_group}
 use Rattle.decimal_format.specs.Lenient.{separated_at, IsLenientNumeral}
-use Rattle.decimal_format.specs.Readable.{IsReadable}
+use Rattle.decimal_format.specs.Readable.{IsReadable, BeginsWithDigit}
 use Rattle.decimal_format.specs.Reading.{Numeral, AreDigits, absolute_numeral_text, digits_text}
-use Rattle.decimal_format.specs.Scanning.{BeginsWithDigit, HasBcd, IsSpelled, ReadsSpelled, IsUniform}
+use Rattle.decimal_format.specs.Scanning.{HasBcd, IsSpelled, ReadsSpelled, IsUniform}
 use Rattle.decimal_format.proofs.Codes.{none_not_digit}
 use Rattle.decimal_format.proofs.NumeralLaws.{numeral_if_uniform}
 use Rattle.decimal_format.proofs.Scans.{number_begins, whole_bcd, spelled_whole}

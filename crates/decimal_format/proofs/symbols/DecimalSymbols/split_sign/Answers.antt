@@ -1,6 +1,6 @@
 use Rattle.std.proofs.Common.{◌++◌, sym, ◌∙◌, ap, append-nil}
 use Rattle.fixed_decimal.specs.declared.variations.Sign.TheVariants.{None}
-use Rattle.decimal_format.specs.Scanning.{BeginsWithDigit}
+use Rattle.decimal_format.specs.Readable.{BeginsWithDigit}
 use Rattle.decimal_format.proofs.AsciiDigits.{digit_text-ascii}
 use Rattle.std.proofs.lemmas.List.{append_cancel_right}
 use Rattle.decimal_format.specs.Symbols.{sign_affixes}

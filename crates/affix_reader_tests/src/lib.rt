@@ -1,0 +1,7 @@
+//! The tests of reading between affixes: texts of ICU 78, texts as people type them, and texts cut and changed.
+//!
+//! A separate crate, so that the library is not proved a second time with them.
+#![tactic(auto)]
+
+#[cfg(test)]
+mod reading;

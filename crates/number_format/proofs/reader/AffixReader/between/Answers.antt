@@ -1,0 +1,47 @@
+use Rattle.std.proofs.Common.{◌≡◌, ◌++◌, List, ℕ, sym, ◌∙◌, subst}
+use Rattle.std.specs.Prelude.{IsTrue}
+use Rattle.std.proofs.lemmas.List.{append_cancel_left, append_cancel_right}
+use Rattle.fixed_decimal.specs.declared.variations.Sign.{Sign}
+use Rattle.decimal_format.specs.Readable.{BeginsWithDigit, EndsWithDigit}
+use Rattle.number_format.specs.AffixedTexts.{Reader, reader, by_sign, IsBetween}
+use Rattle.number_format.proofs.reader.AffixReader.between.Goals as goal
+
+-- only what was cut out can be between the affixes
+module _ (r inside : Reader) (text : List ℕ) (sign : Sign) (p q m : List ℕ) (view : inside ≡ r)
+    (prefix : p ≡ (by_sign inside.affixes sign).prefix) (suffix : q ≡ (by_sign inside.affixes sign).suffix)
+    (cut : text ≡ p ++ (m ++ q)) (n : List ℕ) (b : IsBetween r text sign n) where
+  here : IsBetween inside text sign n
+  here = subst (λ (x : Reader). IsBetween x text sign n) (sym view) b
+
+  same : n ≡ m
+  same =
+      let a = by_sign inside.affixes sign in
+      append_cancel_right n m a.suffix
+      (append_cancel_left a.prefix (n ++ a.suffix) (m ++ a.suffix)
+      (sym here.is ∙ cut ∙ (λ i. prefix i ++ (m ++ suffix i))))
+
+  begins : BeginsWithDigit inside.symbols m
+  begins = subst (BeginsWithDigit inside.symbols) same here.begins
+
+  ends : EndsWithDigit inside.symbols m
+  ends = subst (EndsWithDigit inside.symbols) same here.ends
+
+pub returns-then-not-begins_with_digit : goal.returns-then-not-begins_with_digit
+returns-then-not-begins_with_digit c = λ middle b.
+    let inside = reader c.self.inside.symbols c.self.inside.affixes c.self.inside.shift in
+    let t : IsTrue c.begins_with_digit.result =
+    c.begins_with_digit.ensures.1
+    (begins c.args.self.now inside c.args.text.now c.args.sign _ _ c.in_ok-middle.middle.now (cc)
+    (c.as_bytes.ensures.value ∙ c.of_sign-affixes.ensures.prefix)
+    (c.as_bytes-2.ensures.value ∙ c.of_sign-affixes.ensures.suffix) c.in_ok-middle.ensures middle b) in
+    absurd (cc (t, c.if-not-begins_with_digit.true))
+
+pub returns-then-not-ends_with_digit : goal.returns-then-not-ends_with_digit
+returns-then-not-ends_with_digit c = λ middle b.
+    let inside = reader c.self.inside.symbols c.self.inside.affixes c.self.inside.shift in
+    let t : IsTrue c.ends_with_digit.result =
+    c.ends_with_digit.ensures.1
+    (ends c.args.self.now inside c.args.text.now c.args.sign _ _ c.in_ok-middle.middle.now (cc)
+    (c.as_bytes.ensures.value ∙ c.of_sign-affixes.ensures.prefix)
+    (c.as_bytes-2.ensures.value ∙ c.of_sign-affixes.ensures.suffix) c.in_ok-middle.ensures middle b) in
+    absurd (cc (t, c.if-not-ends_with_digit.true))

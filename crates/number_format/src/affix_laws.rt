@@ -1,0 +1,30 @@
+//! Laws of texts between affixes: the contract of each function states a law.
+ghost use Rattle.std.specs.Prelude.{◌≡◌, ◌*◌, ◌^◌, ℕ, suc, pos, negsuc};
+ghost use Rattle.decimal_unsigned.specs.Unsigned.{IsValue};
+ghost use Rattle.fixed_decimal.specs.Decimal.{Decimal};
+ghost use Rattle.decimal_format.specs.Readable.{IsReadable};
+ghost use Rattle.decimal_format.specs.declared.grouping.GroupingStrategy.{GroupingStrategy};
+ghost use Rattle.number_format.specs.AffixedTexts.{Reader, by_sign, AreNamed, text_with, IsShown};
+ghost use Rattle.number_format.specs.ShiftedReading.{IsShiftOfShown};
+
+/// With readable symbols, and affixes that name the sign, two values have different texts.
+pub fn affixed_texts_are_unique()
+    ensures { (r : Reader) (g h : GroupingStrategy) (v w : Decimal) → IsReadable r.symbols
+        → AreNamed r.symbols (by_sign r.affixes) → IsValue v.absolute → IsValue w.absolute
+        → text_with r.symbols (by_sign r.affixes) g v ≡ text_with r.symbols (by_sign r.affixes) h w → v ≡ w }
+{}
+
+/// The text of a value, by any strategy, reads back as that value if there is no shift.
+pub fn texts_read_back()
+    ensures { (r : Reader) (g : GroupingStrategy) (v : Decimal) → IsValue v.absolute → r.shift ≡ pos 0
+        → IsShiftOfShown (IsShown r (text_with r.symbols (by_sign r.affixes) g v)) r.shift v }
+{}
+
+/// The text of 10^n times a number, read with the shift -n, is that number with its sign: `50%` is 0.50.
+pub fn scaled_texts_read_back()
+    ensures { (r : Reader) (g : GroupingStrategy) (n : ℕ) (v u w : Decimal) → IsReadable r.symbols
+        → AreNamed r.symbols (by_sign r.affixes) → IsValue u.absolute → r.shift ≡ negsuc n → u.sign ≡ v.sign
+        → u.absolute.number ≡ v.absolute.number * 10 ^ suc n
+        → IsShiftOfShown (IsShown r (text_with r.symbols (by_sign r.affixes) g u)) r.shift w
+        → (w.sign ≡ v.sign) × (w.absolute.number ≡ v.absolute.number) }
+{}

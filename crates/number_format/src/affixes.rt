@@ -1,0 +1,147 @@
+//! The texts around numbers, by sign.
+ghost use Rattle.std.specs.Prelude.{◌≡◌, ◌≢◌, ℕ, List, [], ◌++◌, ◌↔◌, MatchOption, IsTrue};
+ghost use Rattle.std.specs.Str.{IsUtf8};
+ghost use Rattle.decimal_format.specs.Readable.{IsReadable, BeginsWithDigit, EndsWithDigit};
+ghost use Rattle.decimal_format.specs.Symbols.{affixes};
+ghost use Rattle.number_format.specs.AffixedTexts.{affix_table, by_sign, ArePrefixesApart, AreSuffixesApart, ArePairApart, AreNamed};
+
+use decimal_format::{Affixes, DecimalSymbols};
+use fixed_decimal::Sign;
+use std::marker::Model;
+
+/// The texts before and after a number, by its sign.
+#[derive(Debug, Drop)]
+pub struct SignAffixes<'a> {
+    none: Affixes<'a>,
+    negative: Affixes<'a>,
+    positive: Affixes<'a>,
+}
+
+impl<'a> Model for SignAffixes<'a> {
+    ghost use Rattle.decimal_format.specs.Symbols.{affixes};
+    ghost use Rattle.number_format.specs.AffixedTexts.{AffixTable, affix_table};
+
+    ghost Value = { AffixTable };
+
+    ghost view = { λ s. affix_table (affixes s.none.prefix.now s.none.suffix.now)
+        (affixes s.negative.prefix.now s.negative.suffix.now) (affixes s.positive.prefix.now s.positive.suffix.now) };
+}
+
+fn cut<'t>(text: &'t str, prefix: &str) -> Option<&'t str>
+    ensures { MatchOption result ((rest : List ℕ) → text.now ≢ prefix.now ++ rest)
+        (λ rest. text.now ≡ prefix.now ++ rest.now) }
+{
+    text.strip_prefix(prefix)
+}
+
+fn cut_end<'t>(text: &'t str, suffix: &str) -> Option<&'t str>
+    ensures { MatchOption result ((rest : List ℕ) → text.now ≢ rest ++ suffix.now)
+        (λ rest. text.now ≡ rest.now ++ suffix.now) }
+{
+    text.strip_suffix(suffix)
+}
+
+fn is_apart_after(symbols: &DecimalSymbols<'_>, rest: &str) -> bool
+    requires { IsReadable symbols.now }
+    ensures apart { IsTrue result ↔ ((rest.now ≢ []) × ¬ BeginsWithDigit symbols.now rest.now) }
+    ensures utf8 { IsUtf8 rest.now }
+{
+    if rest.is_empty() {
+        return false;
+    }
+    !symbols.begins_with_digit(rest.as_bytes())
+}
+
+fn is_apart_before(symbols: &DecimalSymbols<'_>, rest: &str) -> bool
+    requires { IsReadable symbols.now }
+    ensures apart { IsTrue result ↔ ((rest.now ≢ []) × ¬ EndsWithDigit symbols.now rest.now) }
+    ensures utf8 { IsUtf8 rest.now }
+{
+    if rest.is_empty() {
+        return false;
+    }
+    !symbols.ends_with_digit(rest.as_bytes())
+}
+
+fn are_prefixes_apart(symbols: &DecimalSymbols<'_>, first: &str, second: &str) -> bool
+    requires { IsReadable symbols.now }
+    ensures { IsTrue result ↔ ArePrefixesApart symbols.now first.now second.now }
+{
+    if let Some(rest) = cut(first, second) {
+        return is_apart_after(symbols, rest);
+    }
+    if let Some(rest) = cut(second, first) {
+        return is_apart_after(symbols, rest);
+    }
+    true
+}
+
+fn are_suffixes_apart(symbols: &DecimalSymbols<'_>, first: &str, second: &str) -> bool
+    requires { IsReadable symbols.now }
+    ensures { IsTrue result ↔ AreSuffixesApart symbols.now first.now second.now }
+{
+    if let Some(rest) = cut_end(first, second) {
+        return is_apart_before(symbols, rest);
+    }
+    if let Some(rest) = cut_end(second, first) {
+        return is_apart_before(symbols, rest);
+    }
+    true
+}
+
+impl<'a> SignAffixes<'a> {
+    /// Makes the affixes of the three signs: `none` are those of a number without a sign.
+    pub fn new(none: Affixes<'a>, negative: Affixes<'a>, positive: Affixes<'a>) -> Self
+        ensures { result ≡ affix_table (affixes none.entry.prefix.now none.entry.suffix.now)
+            (affixes negative.entry.prefix.now negative.entry.suffix.now)
+            (affixes positive.entry.prefix.now positive.entry.suffix.now) }
+    {
+        SignAffixes {
+            none,
+            negative,
+            positive,
+        }
+    }
+
+    /// Returns the texts before and after a number with this sign.
+    pub fn of_sign(&self, sign: Sign) -> Affixes<'_>
+        ensures prefix { result.prefix.now ≡ (by_sign self.now sign).prefix }
+        ensures suffix { result.suffix.now ≡ (by_sign self.now sign).suffix }
+    {
+        let _ = &self.none;
+        match sign {
+            Sign::None => self.none,
+            Sign::Negative => self.negative,
+            Sign::Positive => self.positive,
+        }
+    }
+
+    fn is_pair_apart(&self, symbols: &DecimalSymbols<'_>, first: Sign, second: Sign) -> bool
+        requires { IsReadable symbols.now }
+        ensures { IsTrue result ↔ ArePairApart symbols.now (by_sign self.now first) (by_sign self.now second) }
+    {
+        let one = self.of_sign(first);
+        let two = self.of_sign(second);
+        if are_prefixes_apart(symbols, one.prefix, two.prefix) {
+            return true;
+        }
+        are_suffixes_apart(symbols, one.suffix, two.suffix)
+    }
+
+    /// Returns whether the prefix before a number or the suffix after it names its sign, so that no text is that of
+    /// two decimals.
+    ///
+    /// This holds for percent and all currencies in all locales of CLDR. Requires readable symbols.
+    pub fn are_apart(&self, symbols: &DecimalSymbols<'_>) -> bool
+        requires { IsReadable symbols.now }
+        ensures { IsTrue result ↔ AreNamed symbols.now (by_sign self.now) }
+    {
+        if !self.is_pair_apart(symbols, Sign::None, Sign::Negative) {
+            return false;
+        }
+        if !self.is_pair_apart(symbols, Sign::None, Sign::Positive) {
+            return false;
+        }
+        self.is_pair_apart(symbols, Sign::Negative, Sign::Positive)
+    }
+}

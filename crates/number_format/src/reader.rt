@@ -1,0 +1,232 @@
+//! Reading of numbers between affixes.
+ghost use Rattle.std.specs.Prelude.{◌≡◌, ◌≢◌, ℕ, List, ◌++◌, pos, IfOk, IfErr, MatchOption};
+ghost use Rattle.decimal_format.specs.Readable.{IsReadable, BeginsWithDigit, EndsWithDigit};
+ghost use Rattle.decimal_format.specs.Reading.{IsRead};
+ghost use Rattle.number_format.specs.AffixedTexts.{by_sign, AreNamed, reader, Rejects, IsShown, IsShownNumeral, IsTypedWith, IsTypedNumeralWith, IsBetween};
+ghost use Rattle.number_format.specs.ShiftedReading.{IsReadShifted, IsShiftOf};
+
+use crate::affixes::SignAffixes;
+use decimal_format::{Alternative, DecimalSymbols};
+use fixed_decimal::{DigitStore, ParseError, Sign, Signed, UnsignedOver};
+use std::alloc::Global;
+use std::marker::Model;
+
+/// Why numbers between affixes cannot be read.
+#[derive(Clone, Copy, Debug, PartialEq, Eq)]
+pub enum AffixError {
+    /// The symbols are not readable: of two digits, separators or prefixes of signs one begins with the other.
+    Symbols,
+    /// Neither the prefixes nor the suffixes of two signs can be told apart.
+    Affixes,
+}
+
+/// Reads numbers between the affixes of their signs: percentages and amounts of money.
+///
+/// ```
+/// let affixes = SignAffixes::new(
+///     Affixes { prefix: "$", suffix: "" },
+///     Affixes { prefix: "($", suffix: ")" },
+///     Affixes { prefix: "+$", suffix: "" },
+/// );
+/// let reader = AffixReader::new(DecimalSymbols::ascii(), affixes)?;
+/// reader.read(alloc, b"($1,234.50)")?; // -1234.50
+/// ```
+#[derive(Debug, Drop)]
+pub struct AffixReader<'a> {
+    symbols: DecimalSymbols<'a>,
+    affixes: SignAffixes<'a>,
+    shift: i16,
+}
+
+impl<'a> Model for AffixReader<'a> {
+    ghost use Rattle.decimal_format.specs.Readable.{IsReadable};
+    ghost use Rattle.number_format.specs.AffixedTexts.{Reader, reader, by_sign, AreNamed};
+
+    ghost Value = { Reader };
+
+    ghost view = { λ s. reader s.symbols s.affixes s.shift };
+
+    ghost invariant = { λ s. IsReadable s.symbols × AreNamed s.symbols (by_sign s.affixes) };
+}
+
+fn cut<'t>(text: &'t [u8], prefix: &[u8]) -> Option<&'t [u8]>
+    ensures { MatchOption result ((rest : List ℕ) → text.now ≢ prefix.now ++ rest)
+        (λ rest. text.now ≡ prefix.now ++ rest.now) }
+{
+    text.strip_prefix(prefix)
+}
+
+fn cut_end<'t>(text: &'t [u8], suffix: &[u8]) -> Option<&'t [u8]>
+    ensures { MatchOption result ((rest : List ℕ) → text.now ≢ rest ++ suffix.now)
+        (λ rest. text.now ≡ rest.now ++ suffix.now) }
+{
+    text.strip_suffix(suffix)
+}
+
+fn cut_affixes<'t>(text: &'t [u8], prefix: &[u8], suffix: &[u8]) -> Option<&'t [u8]>
+    ensures { MatchOption result ((middle : List ℕ) → text.now ≢ prefix.now ++ (middle ++ suffix.now))
+        (λ middle. text.now ≡ prefix.now ++ (middle.now ++ suffix.now)) }
+{
+    match cut(text, prefix) {
+        Some(rest) => cut_end(rest, suffix),
+        None => None,
+    }
+}
+
+fn shifted<D: DigitStore>(
+    read: Result<Signed<UnsignedOver<D>>, ParseError>,
+    shift: i16,
+) -> Result<Signed<UnsignedOver<D>>, ParseError>
+    ensures { IsShiftOf read shift result }
+{
+    let mut value = read?;
+    match value.absolute.multiply_pow10(shift) {
+        Ok(()) => Ok(value),
+        Err(_) => Err(ParseError::Limit),
+    }
+}
+
+impl<'a> AffixReader<'a> {
+    /// Makes a reader of numbers with these symbols between these affixes.
+    ///
+    /// # Errors
+    ///
+    /// - `Symbols`: the symbols are not [readable](DecimalSymbols::is_readable).
+    /// - `Affixes`: they are, and the affixes do not [name the sign](SignAffixes::are_apart).
+    pub fn new(symbols: DecimalSymbols<'a>, affixes: SignAffixes<'a>) -> Result<Self, AffixError>
+        ensures ok { IfOk result (λ r. r ≡ reader symbols.entry affixes.entry (pos 0)) }
+        ensures err { IfErr result (λ e. Rejects e symbols.entry affixes.entry) }
+    {
+        if !symbols.is_readable() {
+            return Err(AffixError::Symbols);
+        }
+        if !affixes.are_apart(&symbols) {
+            return Err(AffixError::Affixes);
+        }
+        Ok(AffixReader {
+            symbols,
+            affixes,
+            shift: 0,
+        })
+    }
+
+    /// Returns the reader that multiplies what it reads by 10^shift, and so undoes the scale of a formatter: by -2,
+    /// `12.5%` is 0.125.
+    pub fn with_shift(self, shift: i16) -> Self
+        ensures { result ≡ record self.entry { shift = shift } }
+    {
+        AffixReader {
+            symbols: self.symbols,
+            affixes: self.affixes,
+            shift,
+        }
+    }
+
+    fn between<'t>(&self, sign: Sign, text: &'t [u8]) -> Option<&'t [u8]>
+        ensures { MatchOption result
+            ((middle : List ℕ) → ¬ IsBetween self.now text.now sign middle)
+            (λ r. IsBetween self.now text.now sign r.now) }
+    {
+        let affixes = self.affixes.of_sign(sign);
+        let middle = cut_affixes(text, affixes.prefix.as_bytes(), affixes.suffix.as_bytes())?;
+        if !self.symbols.begins_with_digit(middle) {
+            return None;
+        }
+        if !self.symbols.ends_with_digit(middle) {
+            return None;
+        }
+        Some(middle)
+    }
+
+    fn split<'t>(&self, text: &'t [u8]) -> Option<(Sign, &'t [u8])>
+        ensures { MatchOption result
+            ((sign : Sign) (middle : List ℕ) → ¬ IsBetween self.now text.now sign middle)
+            (λ r. IsBetween self.now text.now r.0 r.1.now) }
+    {
+        if let Some(middle) = self.between(Sign::None, text) {
+            return Some((Sign::None, middle));
+        }
+        if let Some(middle) = self.between(Sign::Negative, text) {
+            return Some((Sign::Negative, middle));
+        }
+        if let Some(middle) = self.between(Sign::Positive, text) {
+            return Some((Sign::Positive, middle));
+        }
+        None
+    }
+
+    fn read_shown<D: DigitStore>(
+        &self,
+        alloc: Global,
+        text: &[u8],
+    ) -> Result<Signed<UnsignedOver<D>>, ParseError>
+        ensures { IsRead D.L (IsShownNumeral self.now text.now) (IsShown self.now text.now) result }
+    {
+        let Some((sign, middle)) = self.split(text) else {
+            return Err(ParseError::Syntax);
+        };
+        match self.symbols.read(alloc, middle) {
+            Ok(value) => Ok(value.with_sign(sign)),
+            Err(error) => Err(error),
+        }
+    }
+
+    /// Reads a number between the affixes of its sign, in exactly one of the forms that a formatter writes.
+    ///
+    /// The number is as [`DecimalSymbols::read`] accepts it: with all grouping separators, or none.
+    ///
+    /// # Errors
+    ///
+    /// - `Syntax`: no decimal has this text, of any number of digits.
+    /// - `Limit`: there are more than 32,768 integer or fraction digits, or the shift leaves these limits.
+    /// - `Memory`: out of memory; possible only with more than `L` digits.
+    pub fn read<D: DigitStore>(
+        &self,
+        alloc: Global,
+        text: &[u8],
+    ) -> Result<Signed<UnsignedOver<D>>, ParseError>
+        ensures { IsReadShifted D.L self.now.shift (IsShownNumeral self.now text.now)
+            (IsShown self.now text.now) result }
+    {
+        shifted(self.read_shown(alloc, text), self.shift)
+    }
+
+    fn read_typed<D: DigitStore>(
+        &self,
+        alloc: Global,
+        alternatives: &[Alternative<'_>],
+        text: &str,
+    ) -> Result<Signed<UnsignedOver<D>>, ParseError>
+        ensures { IsRead D.L (IsTypedNumeralWith self.now alternatives.now text.now)
+            (IsTypedWith self.now alternatives.now text.now) result }
+    {
+        match self.read_shown(alloc, text.as_bytes()) {
+            Ok(value) => Ok(value),
+            Err(ParseError::Syntax) => self.symbols.read_alternatives(alloc, alternatives, text),
+            Err(ParseError::Limit) => Err(ParseError::Limit),
+            Err(ParseError::Memory) => Err(ParseError::Memory),
+        }
+    }
+
+    /// Reads a number as people type it: between the affixes of its sign, or by the first alternative that
+    /// [reads](DecimalSymbols::read_alternatives) the text.
+    ///
+    /// A text that [`read`](Self::read) accepts has the same value. The alternatives of an amount of money are the
+    /// symbol, the narrow symbol, the code of its currency, or nothing, before the number and after it, with a space
+    /// and without: another currency, two symbols and two signs are `Syntax`.
+    ///
+    /// # Errors
+    ///
+    /// As for [`read`](Self::read).
+    pub fn read_lenient<D: DigitStore>(
+        &self,
+        alloc: Global,
+        alternatives: &[Alternative<'_>],
+        text: &str,
+    ) -> Result<Signed<UnsignedOver<D>>, ParseError>
+        ensures { IsReadShifted D.L self.now.shift (IsTypedNumeralWith self.now alternatives.now text.now)
+            (IsTypedWith self.now alternatives.now text.now) result }
+    {
+        shifted(self.read_typed(alloc, alternatives, text), self.shift)
+    }
+}
