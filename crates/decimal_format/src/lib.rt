@@ -17,6 +17,6 @@ mod reader;
 mod symbols;
 
 pub use error::SymbolsError;
-pub use formatter::{DecimalFormatter, FormattedDecimal};
+pub use formatter::{DecimalFormatter, FormattedAbsolute, FormattedDecimal};
 pub use grouping::{GroupingSizes, GroupingStrategy};
 pub use symbols::{Affixes, DecimalSymbols};

@@ -3,7 +3,7 @@ use Rattle.fixed_decimal.proofs.Calling.{narrow_kept}
 use Rattle.decimal_format.specs.Formatted.{formatted_down}
 use Rattle.decimal_format.proofs.Magnitudes.{first_magnitudes, one_more}
 use Rattle.decimal_format.proofs.ShortTexts.{separates_if, pushed}
-use Rattle.decimal_format.proofs.formatter.FormattedDecimal.push_digits.Goals as goal
+use Rattle.decimal_format.proofs.formatter.FormattedAbsolute.push_digits.Goals as goal
 
 pub loop-below-init : goal.loop-below-init
 unfolding formatted_down

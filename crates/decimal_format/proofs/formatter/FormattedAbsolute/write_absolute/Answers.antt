@@ -4,7 +4,7 @@ use Rattle.fixed_decimal.proofs.Calling.{on_err}
 use Rattle.decimal_format.specs.Formatted.{shown_count}
 use Rattle.decimal_format.specs.Parts.{part_text}
 use Rattle.decimal_format.proofs.Parts.{part_none, part_more, part_failed, whole_part}
-use Rattle.decimal_format.proofs.formatter.FormattedDecimal.write_absolute.Goals as goal
+use Rattle.decimal_format.proofs.formatter.FormattedAbsolute.write_absolute.Goals as goal
 
 pub loop-written-init : goal.loop-written-init
 loop-written-init g c = record { within = omega arith; appended = part_none c.args.self.now 0 _ }
@@ -14,7 +14,7 @@ returns-in_err-put_part-clause-err g c =
     let f = c.args.self.now in
     let i = c.loop-written.written in
     let n = c.min-part.result in
-    let all = shown_count f.value.absolute in
+    let all = shown_count f.value in
     let inside : i + n ≤ all = omega (arith, c.min-part.ensures, c.shown_count-count.ensures.value) in
     let here : part_text f i n ≡ part_text f (0 + i) n =
     ap (λ b. part_text f b n) (let e : i ≡ 0 + i = omega arith in e) in

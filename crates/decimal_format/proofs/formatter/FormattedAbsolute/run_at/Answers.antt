@@ -6,7 +6,7 @@ use Rattle.decimal_format.specs.Formatted.{separator_before}
 use Rattle.decimal_format.specs.Parts.{magnitude_of}
 use Rattle.decimal_format.specs.Scanning.{separator_if}
 use Rattle.decimal_format.proofs.Parts.{integer_run, after_run}
-use Rattle.decimal_format.proofs.formatter.FormattedDecimal.run_at.Goals as goal
+use Rattle.decimal_format.proofs.formatter.FormattedAbsolute.run_at.Goals as goal
 
 pub returns : goal.returns
 returns g c =

@@ -2,7 +2,7 @@ use Rattle.std.proofs.Common.{◌≡◌, ℕ, length, replicate, arith}
 use Rattle.std.proofs.lemmas.List.{length-take}
 use Rattle.fixed_decimal.proofs.Calling.{on_err}
 use Rattle.decimal_format.proofs.Parts.{ascii_between, run_between, part_none, part_more, part_failed}
-use Rattle.decimal_format.proofs.formatter.FormattedDecimal.write_part.Goals as goal
+use Rattle.decimal_format.proofs.formatter.FormattedAbsolute.write_part.Goals as goal
 use Rattle.decimal_format.proofs.Rules.{steps}
 
 pub loop-written-init : goal.loop-written-init

@@ -2,7 +2,7 @@ use Rattle.std.proofs.Common.{arith}
 use Rattle.std.proofs.Output.{has_written_styled_nil, has_written_styled_append, has_written_styled_of_eq}
 use Rattle.decimal_format.specs.Formatted.{formatted_down}
 use Rattle.decimal_format.proofs.Magnitudes.{first_magnitudes, one_more}
-use Rattle.decimal_format.proofs.formatter.FormattedDecimal.fmt_absolute.Goals as goal
+use Rattle.decimal_format.proofs.formatter.FormattedAbsolute.fmt_absolute.Goals as goal
 
 pub loop-below-init : goal.loop-below-init
 unfolding formatted_down

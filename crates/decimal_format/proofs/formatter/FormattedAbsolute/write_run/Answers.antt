@@ -1,7 +1,7 @@
 use Rattle.std.proofs.Common.{◌≡◌}
 use Rattle.std.proofs.lemmas.Result.{on_err_weaker, on_ok_weaker}
 use Rattle.fixed_decimal.proofs.Calling.{on_err, first_of_three, second_of_three, third_of_three}
-use Rattle.decimal_format.proofs.formatter.FormattedDecimal.write_run.Goals as goal
+use Rattle.decimal_format.proofs.formatter.FormattedAbsolute.write_run.Goals as goal
 use Rattle.decimal_format.proofs.Rules.{steps}
 use Rattle.std.proofs.Common.{arith}
 
