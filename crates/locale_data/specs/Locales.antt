@@ -65,6 +65,24 @@ pub record IsLocale (tag : List ℕ) (s : Symbols) : Type 0 where
   pub in_system : IsListed (own_rows system) tag own
   pub value : s ≡ symbols_in system locale own
 
+-- the symbols are those of the listed locale with the longest tag, in the numbering system with a name
+pub record IsLocaleIn (tag name : List ℕ) (s : Symbols) : Type 0 where
+  pub locale : LocaleSymbols
+  pub system : NumberingSystem
+  pub own : Option LocaleSymbols
+  pub listed : IsListed LOCALES tag (Some locale)
+  pub named : system_named name ≡ Some system
+  pub in_system : IsListed (own_rows system) tag own
+  pub value : s ≡ symbols_in system locale own
+
+-- the name is that of the numbering system
+pub record IsSystemName (tag name : List ℕ) : Type 0 where
+  pub locale : LocaleSymbols
+  pub system : NumberingSystem
+  pub listed : IsListed LOCALES tag (Some locale)
+  pub named : system_named (name_of tag locale) ≡ Some system
+  pub value : name ≡ unpadded system.name
+
 -- the numbering system of the tag is not listed
 pub record HasUnknownSystem (tag : List ℕ) : Type 0 where
   pub name : List ℕ

@@ -13,6 +13,7 @@ mod currency;
 mod currency_table;
 mod formats;
 mod formats_table;
+mod in_system;
 pub mod laws;
 mod lookup;
 mod number_formats;
@@ -35,6 +36,7 @@ pub use currency::{
     currency_symbol,
 };
 pub use formats::{FormatSystem, LocaleFormats, SystemFormats, formats_of};
+pub use in_system::{locale_in, system_of};
 pub use lookup::{LocaleNumbers, locale, locale_numbers, symbols_at};
 pub use number_formats::NumberFormats;
 pub use patterns::{
@@ -46,6 +48,6 @@ pub use plurals::{
     plural_rules_number, plural_rules_of, plural_rules_text, rules_text_at,
 };
 pub use plurals_table::{PLURAL_RULES, PLURAL_RULES_TEXTS};
-pub use rows::{Name, Row, TableRange};
+pub use rows::{Name, Row, TableRange, unpadded};
 pub use symbols::{LocaleSymbols, NumberingSystem, Symbol, SymbolSet};
 pub use symbols_table::{LOCALES, LOCALES_BY_SYSTEM, NUMBERING_SYSTEMS};

@@ -12,7 +12,7 @@ use crate::tag::requested_system;
 use decimal_format::{Affixes, DecimalSymbols, GroupingSizes};
 
 #[tactic(auto, unfolding(crate::specs::Locales::system_named))]
-fn system_named(name: &[u8]) -> Option<usize>
+pub(crate) fn system_named(name: &[u8]) -> Option<usize>
     ensures value { row_at NUMBERING_SYSTEMS result ≡ system_named name.now }
     ensures inside { IfSome result (λ i. i < length NUMBERING_SYSTEMS) }
 {
@@ -20,14 +20,14 @@ fn system_named(name: &[u8]) -> Option<usize>
 }
 
 #[tactic(auto, using(crate::proofs::Unknown::named_by))]
-fn system_of(tag: &[u8], locale: &LocaleSymbols) -> Option<usize>
+pub(crate) fn system_of(tag: &[u8], locale: &LocaleSymbols) -> Option<usize>
     ensures value { row_at NUMBERING_SYSTEMS result ≡ system_named (name_of tag.now locale.now) }
     ensures inside { IfSome result (λ i. i < length NUMBERING_SYSTEMS) }
 {
     system_named(requested_system(tag).unwrap_or(unpadded(&locale.system)))
 }
 
-fn own_rows(system: &NumberingSystem) -> &'static [LocaleSymbols]
+pub(crate) fn own_rows(system: &NumberingSystem) -> &'static [LocaleSymbols]
     requires { Contains NUMBERING_SYSTEMS system.now }
     ensures { result.now ≡ own_rows system.now }
 {
@@ -57,7 +57,7 @@ fn symbols_of(
     }
 }
 
-fn symbols_in(
+pub(crate) fn symbols_in(
     system: &NumberingSystem,
     locale: &LocaleSymbols,
     own: Option<&LocaleSymbols>,

@@ -4,3 +4,4 @@ pub mod Applied
 pub mod Scales
 pub mod Carries
 pub mod DigitLaws
+pub mod PartTexts

@@ -2,3 +2,9 @@ pub mod Increments
 pub mod ShownDigits
 pub mod Resolved
 pub mod Scaled
+pub mod TextParts
+pub mod DefaultDigits
+pub mod NumberStyles
+pub mod FormattedNumbers
+pub mod NumberText
+pub mod Formatters

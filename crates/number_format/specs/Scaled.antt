@@ -16,11 +16,11 @@ use Rattle.number_format.specs.declared.precision.Precision.TheVariants.{Multipl
 use Rattle.number_format.specs.ShownDigits.{Rounded, rounded_at, shown, base_of, rounded_within}
 
 -- ---- The exponent of a number whose first digit is at a magnitude.
--- the row of a magnitude: the rows are for 3 to 14
+-- the row of a magnitude: the rows are for 3 to 19
 abbrev pub row_of : ℤ → ℕ
-row_of m = unsigned_abs (int_min (int_max m (pos 3)) (pos 14) -ℤ pos 3)
+row_of m = unsigned_abs (int_min (int_max m (pos 3)) (pos 19) -ℤ pos 3)
 
--- the exponent of a compact pattern: 0 below 1000, and above 10^14 that of 10^14
+-- the exponent of a compact pattern: 0 below 1000, and above 10^19 that of 10^19
 abbrev pub compact_exponent : CompactExponents → ℤ → ℤ
 compact_exponent table m = if int_lt m (pos 3) then pos 0 else pos (slice_index table.rows (row_of m))
 
