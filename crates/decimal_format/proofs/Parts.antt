@@ -11,7 +11,7 @@ use Rattle.fixed_decimal.proofs.Calling.{second_of_three}
 use Rattle.decimal_digits.specs.Number.{digit}
 use Rattle.decimal_format.specs.Grouping.{separates}
 use Rattle.decimal_format.specs.Symbols.{digit_text}
-use Rattle.decimal_format.specs.Formatted.{Formatted, separator_before, separator_after, formatted_down, shown_count, absolute_text}
+use Rattle.decimal_format.specs.Formatted.{FormattedAbsolute, separator_before, separator_after, formatted_down, shown_count, absolute_text}
 use Rattle.decimal_format.specs.Parts.{magnitude_of, part_text, AreDigits, IsRun, digits_text, run_text}
 use Rattle.decimal_format.proofs.Magnitudes.{formatted_down-add, digit_below}
 use Rattle.decimal_format.proofs.Rules.{steps}
@@ -21,15 +21,15 @@ use Rattle.std.proofs.Common.{rules}
 regroup : (a d t z : List ℕ) → (a ++ (d ++ [])) ++ ([] ++ (t ++ z)) ≡ a ++ ((d ++ t) ++ z)
 regroup a d t z = simp (append_assoc, append-nil)
 
-module _ (f : Formatted) where
+module _ (f : FormattedAbsolute) where
   abbrev number : ℕ
-  number = f.value.absolute.number
+  number = f.value.number
 
   abbrev before : ℕ → List ℕ
   before below = separator_before f.symbols (magnitude_of f below)
 
   abbrev after : ℕ → List ℕ
-  after below = separator_after f.symbols f.strategy f.value.absolute.hi (magnitude_of f below)
+  after below = separator_after f.symbols f.strategy f.value.hi (magnitude_of f below)
 
   below_more : (below k : ℕ) → magnitude_of f below -ℤ pos k ≡ magnitude_of f (below + k)
   below_more below k = omega (arith, ints)
@@ -88,12 +88,12 @@ module _ (f : Formatted) where
 
   -- the integer digits down to the next separator
   pub integer_run : (below m n : ℕ) → magnitude_of f below ≡ pos m → n ≤ m + 1
-      → ((k : ℕ) → k + 1 < n → separates f.strategy f.symbols.sizes f.value.absolute.hi (pos (m - k)) ≡ false)
+      → ((k : ℕ) → k + 1 < n → separates f.strategy f.symbols.sizes f.value.hi (pos (m - k)) ≡ false)
       → IsRun f below n
   integer_run below m n is within none = record {
     none_after = λ k h.
         let at : magnitude_of f (below + k) ≡ pos (m - k) = omega (arith, ints, is, h, within) in
-        ap (separator_after f.symbols f.strategy f.value.absolute.hi) at
+        ap (separator_after f.symbols f.strategy f.value.hi) at
         ∙ ap (λ b. if b then f.symbols.grouping else []) (none k h);
     none_before = search (rules, arith, ints);
   }
@@ -118,7 +118,7 @@ module _ (f : Formatted) where
 
   -- the grouping separator after a run of integer digits, or none
   pub after_run : (below m n : ℕ) (b : Bool) → magnitude_of f below ≡ pos m → 0 < n → n ≤ m + 1
-      → separates f.strategy f.symbols.sizes f.value.absolute.hi (pos (m - (n - 1))) ≡ b
+      → separates f.strategy f.symbols.sizes f.value.hi (pos (m - (n - 1))) ≡ b
       → (if b then f.symbols.grouping else []) ≡ after (below + n - 1)
   after_run below m n b is some within test = grind (arith, ints)
 
@@ -148,5 +148,5 @@ module _ (f : Formatted) where
       (second_of_three (part_text f below i) (part_text f (below + i) n) _ a b c p (subst (AppendsPrefix b c) is q))
 
   -- the part of all magnitudes is the text without the sign
-  pub whole_part : part_text f 0 (shown_count f.value.absolute) ≡ absolute_text f.symbols f.strategy f.value.absolute
+  pub whole_part : part_text f 0 (shown_count f.value) ≡ absolute_text f.symbols f.strategy f.value
   whole_part = grind (arith, ints)

@@ -4,6 +4,7 @@ use Rattle.std.specs.Int.{int_gap}
 use Rattle.decimal_digits.specs.Number.{digit}
 use Rattle.decimal_unsigned.specs.Unsigned.{Unsigned}
 use Rattle.fixed_decimal.specs.Decimal.{Decimal}
+use Rattle.fixed_decimal.specs.declared.variations.Sign.{Sign}
 use Rattle.decimal_format.specs.declared.grouping.GroupingStrategy.{GroupingStrategy}
 use Rattle.decimal_format.specs.Symbols.{Symbols, digit_text, sign_affixes}
 use Rattle.decimal_format.specs.Grouping.{separates}
@@ -23,6 +24,19 @@ pub record Formatted : Type 0 where
   pub symbols : Symbols
   pub strategy : GroupingStrategy
   pub value : Decimal
+
+-- an absolute value, the symbols and the strategy
+pub record FormattedAbsolute : Type 0 where
+  pub symbols : Symbols
+  pub strategy : GroupingStrategy
+  pub value : Unsigned
+
+abbrev pub formatted_absolute : Symbols → GroupingStrategy → Unsigned → FormattedAbsolute
+formatted_absolute symbols strategy value = record { symbols = symbols; strategy = strategy; value = value }
+
+abbrev pub with_sign : FormattedAbsolute → Sign → Formatted
+with_sign f sign =
+    record { symbols = f.symbols; strategy = f.strategy; value = record { sign = sign; absolute = f.value } }
 
 abbrev pub formatted_by : Formatter → Decimal → Formatted
 formatted_by f value = record { symbols = f.symbols; strategy = f.strategy; value = value }
@@ -61,6 +75,9 @@ nth_text s strategy v below = magnitude_text s strategy v.hi v.number (v.hi -ℤ
 -- the bytes of each magnitude that is shown, the highest first: 1,234.50 of 1234.5 with hi 3 and lo -2
 abbrev pub absolute_text : Symbols → GroupingStrategy → Unsigned → List ℕ
 absolute_text s strategy v = formatted_down s strategy v.hi v.number v.hi (shown_count v)
+
+abbrev pub formatted_absolute_text : FormattedAbsolute → List ℕ
+formatted_absolute_text f = absolute_text f.symbols f.strategy f.value
 
 -- the same between the prefix and the suffix of the sign
 abbrev pub formatted : Symbols → GroupingStrategy → Decimal → List ℕ

@@ -7,26 +7,26 @@ use Rattle.decimal_format.specs.declared.grouping.GroupingStrategy.{GroupingStra
 use Rattle.decimal_format.specs.Grouping.{ends_group, separates}
 use Rattle.decimal_format.specs.Symbols.{Symbols, digit_text}
 use Rattle.decimal_format.specs.Ascii.{ascii_digits}
-use Rattle.decimal_format.specs.Formatted.{Formatted, formatted_down, separator_before, separator_after}
+use Rattle.decimal_format.specs.Formatted.{FormattedAbsolute, formatted_down, separator_before, separator_after}
 
 -- the magnitude that is the given number below the highest
-abbrev pub magnitude_of : Formatted → ℕ → ℤ
-magnitude_of f below = f.value.absolute.hi -ℤ pos below
+abbrev pub magnitude_of : FormattedAbsolute → ℕ → ℤ
+magnitude_of f below = f.value.hi -ℤ pos below
 
 -- the bytes of `count` magnitudes, the first of which is `below` below the highest
-abbrev pub part_text : Formatted → ℕ → ℕ → List ℕ
+abbrev pub part_text : FormattedAbsolute → ℕ → ℕ → List ℕ
 part_text f below count =
-    formatted_down f.symbols f.strategy f.value.absolute.hi f.value.absolute.number (magnitude_of f below) count
+    formatted_down f.symbols f.strategy f.value.hi f.value.number (magnitude_of f below) count
 
 -- the bytes of ASCII digits are the digits of the value from this magnitude down
-abbrev pub AreDigits : Formatted → ℕ → List ℕ → Type 0
+abbrev pub AreDigits : FormattedAbsolute → ℕ → List ℕ → Type 0
 AreDigits f below bytes =
-    EachIndex bytes (λ k. slice_index bytes k ≡ 48 + digit f.value.absolute.number (magnitude_of f (below + k)))
+    EachIndex bytes (λ k. slice_index bytes k ≡ 48 + digit f.value.number (magnitude_of f (below + k)))
 
 -- no separator is between these magnitudes
-pub record IsRun (f : Formatted) (below count : ℕ) : Type 0 where
+pub record IsRun (f : FormattedAbsolute) (below count : ℕ) : Type 0 where
   pub none_after : (k : ℕ) → k + 1 < count
-      → separator_after f.symbols f.strategy f.value.absolute.hi (magnitude_of f (below + k)) ≡ []
+      → separator_after f.symbols f.strategy f.value.hi (magnitude_of f (below + k)) ≡ []
   pub none_before : (k : ℕ) → k + 1 < count → separator_before f.symbols (magnitude_of f (below + (k + 1))) ≡ []
 
 -- the bytes of ASCII digits, by the symbols

@@ -3,7 +3,7 @@ ghost use Rattle.std.specs.Prelude.{◌≡◌, ◌<◌, ◌≤◌, ◌-ℤ◌, p
 ghost use Rattle.decimal_digits.specs.Number.{digit};
 ghost use Rattle.decimal_unsigned.specs.Unsigned.{IsValue};
 ghost use Rattle.decimal_format.specs.Symbols.{digit_text, sign_affixes};
-ghost use Rattle.decimal_format.specs.Formatted.{formatter, formatted_by, shown_count, separator_before, separator_after};
+ghost use Rattle.decimal_format.specs.Formatted.{formatter, formatted_by, formatted_absolute, shown_count, separator_before, separator_after};
 
 mod display;
 mod short;
@@ -12,7 +12,7 @@ mod text;
 use crate::grouping::GroupingStrategy;
 use crate::symbols::DecimalSymbols;
 use decimal_digits::ops::{count_between, magnitude_below};
-use fixed_decimal::{DigitStore, Signed, UnsignedOver};
+use fixed_decimal::{DigitStore, Sign, Signed, UnsignedOver};
 use std::marker::Model;
 
 /// Formats decimals by the symbols of a locale.
@@ -32,22 +32,37 @@ impl<'a> Model for DecimalFormatter<'a> {
     ghost view = { λ s. formatter s.symbols s.strategy };
 }
 
+/// An absolute value that is written by the symbols of a locale. It borrows the value.
+#[derive(Debug, Drop)]
+pub struct FormattedAbsolute<'f, D: DigitStore> {
+    symbols: &'f DecimalSymbols<'f>,
+    strategy: GroupingStrategy,
+    value: &'f UnsignedOver<D>,
+}
+
+impl<'f, D: DigitStore> Model for FormattedAbsolute<'f, D> {
+    ghost use Rattle.decimal_format.specs.Formatted.{FormattedAbsolute, formatted_absolute};
+
+    ghost Value = { FormattedAbsolute };
+
+    ghost view = { λ s. formatted_absolute s.symbols.now s.strategy s.value.now };
+}
+
 /// A decimal that is written by the symbols of a locale. It borrows the decimal.
 ///
 /// `FormattedDecimal` of ICU4X.
 #[derive(Debug, Drop)]
 pub struct FormattedDecimal<'f, D: DigitStore> {
-    symbols: &'f DecimalSymbols<'f>,
-    strategy: GroupingStrategy,
-    value: &'f Signed<UnsignedOver<D>>,
+    absolute: FormattedAbsolute<'f, D>,
+    sign: Sign,
 }
 
 impl<'f, D: DigitStore> Model for FormattedDecimal<'f, D> {
-    ghost use Rattle.decimal_format.specs.Formatted.{Formatted};
+    ghost use Rattle.decimal_format.specs.Formatted.{Formatted, with_sign};
 
     ghost Value = { Formatted };
 
-    ghost view = { λ s. record { symbols = s.symbols.now; strategy = s.strategy; value = s.value.now } };
+    ghost view = { λ s. with_sign s.absolute s.sign };
 }
 
 impl<'a> DecimalFormatter<'a> {
@@ -75,42 +90,58 @@ impl<'a> DecimalFormatter<'a> {
     ) -> FormattedDecimal<'f, D>
         ensures { result ≡ formatted_by self.now value.now }
     {
+        let absolute = FormattedAbsolute::new(&self.symbols, self.strategy, &value.absolute);
         FormattedDecimal {
-            symbols: &self.symbols,
-            strategy: self.strategy,
-            value,
+            absolute,
+            sign: value.sign,
         }
     }
 }
 
-impl<'f, D: DigitStore> FormattedDecimal<'f, D> {
+impl<'f, D: DigitStore> FormattedAbsolute<'f, D> {
+    /// Formats an absolute value over any store of digits. It does not allocate.
+    #[inline]
+    pub fn new(
+        symbols: &'f DecimalSymbols<'f>,
+        strategy: GroupingStrategy,
+        value: &'f UnsignedOver<D>,
+    ) -> Self
+        ensures { result ≡ formatted_absolute symbols.now strategy value.now }
+    {
+        FormattedAbsolute {
+            symbols,
+            strategy,
+            value,
+        }
+    }
+
     /// Returns the highest magnitude that is shown.
     #[inline]
     fn highest(&self) -> i16
-        ensures value { result ≡ self.now.value.absolute.hi }
-        ensures valid { IsValue self.now.value.absolute }
+        ensures value { result ≡ self.now.value.hi }
+        ensures valid { IsValue self.now.value }
     {
-        *self.value.absolute.magnitude_range().end()
+        *self.value.magnitude_range().end()
     }
 
     /// Returns the number of magnitudes that are shown.
     #[inline]
     fn shown_count(&self) -> u32
-        ensures value { result ≡ shown_count self.now.value.absolute }
+        ensures value { result ≡ shown_count self.now.value }
         ensures at_most { result ≤ 65536 }
     {
-        let range = self.value.absolute.magnitude_range();
+        let range = self.value.magnitude_range();
         count_between(*range.start(), *range.end())
     }
 
     /// Returns the magnitude that is the given number below the highest. Requires one that is shown.
     #[inline]
     fn magnitude(&self, below: u32) -> i16
-        requires { below < shown_count self.now.value.absolute }
-        ensures value { result ≡ self.now.value.absolute.hi -ℤ pos below }
-        ensures valid { IsValue self.now.value.absolute }
+        requires { below < shown_count self.now.value }
+        ensures value { result ≡ self.now.value.hi -ℤ pos below }
+        ensures valid { IsValue self.now.value }
     {
-        let range = self.value.absolute.magnitude_range();
+        let range = self.value.magnitude_range();
         prove!(*range.start() <= 0);
         magnitude_below(*range.end(), below)
     }
@@ -118,9 +149,9 @@ impl<'f, D: DigitStore> FormattedDecimal<'f, D> {
     /// Returns whether the decimal separator is before the digit of a magnitude.
     #[inline]
     fn has_separator_before(&self, below: u32) -> bool
-        requires { below < shown_count self.now.value.absolute }
+        requires { below < shown_count self.now.value }
         ensures { (if result then self.now.symbols.decimal else [])
-            ≡ separator_before self.now.symbols (self.now.value.absolute.hi -ℤ pos below) }
+            ≡ separator_before self.now.symbols (self.now.value.hi -ℤ pos below) }
     {
         self.magnitude(below) == -1
     }
@@ -128,8 +159,8 @@ impl<'f, D: DigitStore> FormattedDecimal<'f, D> {
     /// Returns the text before the digit of a magnitude: the decimal separator or nothing.
     #[inline]
     fn separator_before(&self, below: u32) -> &str
-        requires { below < shown_count self.now.value.absolute }
-        ensures value { result.now ≡ separator_before self.now.symbols (self.now.value.absolute.hi -ℤ pos below) }
+        requires { below < shown_count self.now.value }
+        ensures value { result.now ≡ separator_before self.now.symbols (self.now.value.hi -ℤ pos below) }
         ensures at_most { length result.now ≤ 255 }
     {
         if self.has_separator_before(below) {
@@ -142,20 +173,20 @@ impl<'f, D: DigitStore> FormattedDecimal<'f, D> {
     /// Returns the digit of a magnitude.
     #[inline]
     fn digit(&self, below: u32) -> char
-        requires { below < shown_count self.now.value.absolute }
+        requires { below < shown_count self.now.value }
         ensures { encode_utf8 result ≡ digit_text self.now.symbols
-            (digit self.now.value.absolute.number (self.now.value.absolute.hi -ℤ pos below)) }
+            (digit self.now.value.number (self.now.value.hi -ℤ pos below)) }
     {
-        let digit = self.value.absolute.digit_at(self.magnitude(below));
+        let digit = self.value.digit_at(self.magnitude(below));
         self.symbols.digit(digit)
     }
 
     /// Returns the text after the digit of a magnitude: a grouping separator or nothing.
     #[inline]
     fn separator_after(&self, below: u32) -> &str
-        requires { below < shown_count self.now.value.absolute }
-        ensures value { result.now ≡ separator_after self.now.symbols self.now.strategy self.now.value.absolute.hi
-            (self.now.value.absolute.hi -ℤ pos below) }
+        requires { below < shown_count self.now.value }
+        ensures value { result.now ≡ separator_after self.now.symbols self.now.strategy self.now.value.hi
+            (self.now.value.hi -ℤ pos below) }
         ensures at_most { length result.now ≤ 255 }
     {
         let symbols = self.symbols;
@@ -168,14 +199,16 @@ impl<'f, D: DigitStore> FormattedDecimal<'f, D> {
             ""
         }
     }
+}
 
+impl<'f, D: DigitStore> FormattedDecimal<'f, D> {
     /// Returns the text before the number.
     #[inline]
     fn prefix(&self) -> &str
         ensures value { result.now ≡ (sign_affixes self.now.symbols self.now.value.sign).prefix }
         ensures at_most { length result.now ≤ 255 }
     {
-        self.symbols.affixes(self.value.sign()).prefix
+        self.absolute.symbols.affixes(self.sign).prefix
     }
 
     /// Returns the text after the number.
@@ -184,6 +217,6 @@ impl<'f, D: DigitStore> FormattedDecimal<'f, D> {
         ensures value { result.now ≡ (sign_affixes self.now.symbols self.now.value.sign).suffix }
         ensures at_most { length result.now ≤ 255 }
     {
-        self.symbols.affixes(self.value.sign()).suffix
+        self.absolute.symbols.affixes(self.sign).suffix
     }
 }

@@ -17,7 +17,7 @@ mod reader;
 mod symbols;
 
 pub use error::SymbolsError;
-pub use formatter::{DecimalFormatter, FormattedDecimal};
+pub use formatter::{DecimalFormatter, FormattedAbsolute, FormattedDecimal};
 pub use grouping::{GroupingSizes, GroupingStrategy};
 pub use reader::alternatives::Alternative;
 pub use symbols::{Affixes, DecimalSymbols};

@@ -172,6 +172,29 @@ impl<'a> DecimalSymbols<'a> {
         }
     }
 
+    /// Returns the symbols with other sizes of groups.
+    pub fn with_sizes(self, sizes: GroupingSizes) -> Self
+        ensures { result ≡ record self.entry { sizes = sizes } }
+    {
+        DecimalSymbols { sizes, ..self }
+    }
+
+    /// Returns the symbols with another decimal separator. Requires one of at most 255 bytes.
+    pub fn with_decimal_separator(self, decimal: &'a str) -> Self
+        requires { length decimal.now ≤ 255 }
+        ensures { result ≡ record self.entry { decimal = decimal.entry.now } }
+    {
+        DecimalSymbols { decimal, ..self }
+    }
+
+    /// Returns the symbols with another separator of groups. Requires one of at most 255 bytes.
+    pub fn with_grouping_separator(self, grouping: &'a str) -> Self
+        requires { length grouping.now ≤ 255 }
+        ensures { result ≡ record self.entry { grouping = grouping.entry.now } }
+    {
+        DecimalSymbols { grouping, ..self }
+    }
+
     /// Returns the character of a digit. Requires a digit below 10.
     #[inline]
     pub fn digit(&self, digit: u8) -> char

@@ -70,6 +70,16 @@ pub record IsLocale (tag : List ℕ) (s : Symbols) : Type 0 where
   pub in_system : IsListed (own_rows system) tag own
   pub value : s ≡ symbols_in system locale own
 
+-- the symbols are those of the listed locale with the longest tag, in the numbering system with a name
+pub record IsLocaleIn (tag name : List ℕ) (s : Symbols) : Type 0 where
+  pub locale : LocaleSymbols
+  pub system : NumberingSystem
+  pub own : Option LocaleSymbols
+  pub listed : IsListed LOCALES tag (Some locale)
+  pub named : system_named name ≡ Some system
+  pub in_system : IsListed (own_rows system) tag own
+  pub value : s ≡ symbols_in system locale own
+
 -- the rows with these indices are the listed locale with the longest tag, and its numbering system
 pub record AreRowsOf (tag : List ℕ) (locale_index system_index : ℕ) : Type 0 where
   pub locale : LocaleSymbols

@@ -13,6 +13,7 @@ mod currency;
 mod currency_table;
 mod formats;
 mod formats_table;
+mod in_system;
 pub mod laws;
 mod lookup;
 mod number_formats;
@@ -35,6 +36,7 @@ pub use currency::{
     currency_symbol,
 };
 pub use formats::{FormatSystem, LocaleFormats, SystemFormats, formats_of};
+pub use in_system::locale_in;
 pub use lookup::{LocaleNumbers, locale, locale_numbers, symbols_at, system_of};
 pub use number_formats::NumberFormats;
 pub use patterns::{

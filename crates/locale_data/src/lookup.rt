@@ -13,7 +13,7 @@ use decimal_format::{Affixes, DecimalSymbols, GroupingSizes};
 use std::str;
 
 #[tactic(auto, unfolding(crate::specs::Locales::system_named))]
-fn system_named(name: &[u8]) -> Option<usize>
+pub(crate) fn system_named(name: &[u8]) -> Option<usize>
     ensures value { row_at NUMBERING_SYSTEMS result ≡ system_named name.now }
     ensures inside { IfSome result (λ i. i < length NUMBERING_SYSTEMS) }
 {
@@ -31,7 +31,7 @@ fn system_number(tag: &[u8], locale: &LocaleSymbols) -> Option<usize>
     }
 }
 
-fn own_rows(system: &NumberingSystem) -> &'static [LocaleSymbols]
+pub(crate) fn own_rows(system: &NumberingSystem) -> &'static [LocaleSymbols]
     requires { Contains NUMBERING_SYSTEMS system.now }
     ensures { result.now ≡ own_rows system.now }
 {
@@ -58,7 +58,7 @@ fn symbols_of(
     DecimalSymbols::of_valid(system.digits, decimal, grouping, minus, plus, sizes)
 }
 
-fn symbols_in(
+pub(crate) fn symbols_in(
     system: &NumberingSystem,
     locale: &LocaleSymbols,
     own: Option<&LocaleSymbols>,

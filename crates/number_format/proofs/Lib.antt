@@ -7,3 +7,4 @@ pub mod NamedAffixes
 pub mod AffixedNumbers
 pub mod ShiftedReads
 pub mod ReadBack
+pub mod PartTexts

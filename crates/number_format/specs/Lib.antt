@@ -12,3 +12,9 @@ pub mod SkeletonDigits
 pub mod SkeletonMeaning
 pub mod AffixedTexts
 pub mod ShiftedReading
+pub mod TextParts
+pub mod DefaultDigits
+pub mod NumberStyles
+pub mod FormattedNumbers
+pub mod NumberText
+pub mod Formatters

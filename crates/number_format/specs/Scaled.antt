@@ -13,11 +13,11 @@ use Rattle.number_format.specs.declared.precision.Precision.TheVariants.{Multipl
 use Rattle.number_format.specs.ShownDigits.{Rounded, rounded_at, shown, rounded_within}
 
 -- ---- The exponent of a number whose first digit is at a magnitude.
--- the exponent of a compact pattern, from the rows of the magnitudes 3 to 14: 0 below 3, and above 14 that of 14
+-- the exponent of a compact pattern, from the rows of the magnitudes 3 to 19: 0 below 3, and above 19 that of 19
 abbrev pub compact_exponent : CompactExponents → ℤ → ℤ
 compact_exponent table m =
     if int_lt m (pos 3) then pos 0
-    else pos (slice_index table.rows (unsigned_abs (int_min (int_max m (pos 3)) (pos 14) -ℤ pos 3)))
+    else pos (slice_index table.rows (unsigned_abs (int_min (int_max m (pos 3)) (pos 19) -ℤ pos 3)))
 
 -- the exponent for a magnitude: by `Engineering` the greatest multiple of 3 that is at most the magnitude
 abbrev pub exponent_at : Notation → ℤ → ℤ

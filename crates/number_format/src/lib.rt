@@ -19,17 +19,26 @@
 pub mod affix_laws;
 mod affixes;
 mod apply;
+mod default_digits;
 mod digit_options;
 mod digit_ranges;
 mod error;
+mod for_locale;
+mod format;
+mod formatted_number;
 pub mod laws;
 mod notation;
+mod number_around;
+mod number_formatter;
 mod number_options;
+mod number_style;
+mod parts;
 mod precision;
 mod reader;
 mod scale;
 mod settings;
 mod skeleton;
+mod text_part;
 
 pub use affixes::SignAffixes;
 pub use digit_options::{DigitOptions, TrailingZeros};
@@ -37,7 +46,10 @@ pub use digit_ranges::{
     FractionDigits, FractionMultiples, Increment, IntegerDigits, SignificantDigits,
 };
 pub use error::DigitOptionsError;
+pub use format::FormatError;
+pub use formatted_number::FormattedNumber;
 pub use notation::{CompactExponents, Notation};
+pub use number_formatter::{NumberFormatError, NumberFormatter};
 pub use number_options::{
     CompactLength, CurrencyDisplay, CurrencyStyle, CurrencyUsage, ExponentOptions, ExponentSign,
     NumberNotation, NumberOptions, NumberStyle,
@@ -47,3 +59,4 @@ pub use reader::{AffixError, AffixReader};
 pub use scale::Scaled;
 pub use settings::{DigitDefaults, DigitSettings, RoundingPriority};
 pub use skeleton::SkeletonError;
+pub use text_part::{PartKind, TextPart};

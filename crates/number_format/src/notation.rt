@@ -3,14 +3,14 @@ ghost use Rattle.std.specs.Prelude.{◌≡◌, pos, ◌≤ℤ◌, ◌-ℤ◌};
 ghost use Rattle.std.specs.Int.{int_max, int_min};
 ghost use Rattle.number_format.specs.Scaled.{compact_exponent, exponent_at};
 
-/// The exponents of a locale's compact patterns, for the magnitudes 3 to 14.
+/// The exponents of a locale's compact patterns, for the magnitudes 3 to 19.
 ///
 /// A pattern with `n` integer digits for the magnitude `m` has the exponent `m + 1 - n`: that of `00K` is 3 for the
-/// magnitude 4. Where a locale has no pattern the exponent is 0. Below 3 it is 0, and above 14 that of 14.
+/// magnitude 4. Where a locale has no pattern the exponent is 0. Below 3 it is 0, and above 19 that of 19.
 #[derive(Clone, Copy, Debug)]
 pub struct CompactExponents {
     /// The exponents, from the magnitude 3 up.
-    pub rows: [u8; 12],
+    pub rows: [u8; 17],
 }
 
 /// How a number is written as a significand and an exponent.
@@ -34,7 +34,7 @@ impl CompactExponents {
         if magnitude < 3 {
             return 0;
         }
-        self.rows[(magnitude.clamp(3, 14) - 3) as usize]
+        self.rows[(magnitude.clamp(3, 19) - 3) as usize]
     }
 }
 

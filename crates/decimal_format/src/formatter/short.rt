@@ -3,7 +3,7 @@ ghost use Rattle.std.specs.Prelude.{◌≡◌, ◌+◌, ◌≤◌, ◌++◌, len
 ghost use Rattle.decimal_format.specs.Formatted.{shown_count, absolute_text};
 ghost use Rattle.decimal_format.specs.Parts.{AreBytes};
 
-use super::FormattedDecimal;
+use super::FormattedAbsolute;
 use crate::block::Block;
 use fixed_decimal::DigitStore;
 
@@ -13,7 +13,7 @@ pub(super) const SHORT: u32 = 16;
 /// The number of bytes that a short text has room in, three for each digit.
 pub(super) const SHORT_ROOM: usize = 48;
 
-impl<'f, D: DigitStore> FormattedDecimal<'f, D> {
+impl<'f, D: DigitStore> FormattedAbsolute<'f, D> {
     /// Returns the separators if each has one byte and the digits are the ASCII digits.
     #[inline]
     pub(super) fn byte_separators(&self) -> Option<(u8, u8)>
@@ -32,18 +32,18 @@ impl<'f, D: DigitStore> FormattedDecimal<'f, D> {
     /// Appends the text without the sign, of up to 16 magnitudes.
     #[inline]
     pub(super) fn push_digits(&self, decimal: u8, grouping: u8, block: &mut Block)
-        requires few { shown_count self.now.value.absolute ≤ 16 }
+        requires few { shown_count self.now.value ≤ 16 }
         requires bytes { AreBytes self.now.symbols decimal grouping }
         requires room { length block.old.0 + 48 ≤ 192 }
         ensures { block.new ≡ (
           block.old.0
-              ++ absolute_text self.now.symbols self.now.strategy self.now.value.absolute,
+              ++ absolute_text self.now.symbols self.now.strategy self.now.value,
           block.old.1,
         ) }
     {
         let sizes = self.symbols.sizes();
         let is_grouped = sizes.is_grouped(self.strategy, self.highest());
-        let digits = self.value.absolute.leading_bcd();
+        let digits = self.value.leading_bcd();
         for below in 0..self.shown_count() {
             let digit = (digits >> (4 * (15 - below))) % 16;
             block.push_if(decimal, self.has_separator_before(below));

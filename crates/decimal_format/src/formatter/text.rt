@@ -4,12 +4,12 @@ ghost use Rattle.std.specs.Int.{int_gap};
 ghost use Rattle.std.specs.Io.KnownBytes.{Keeps, Appends};
 ghost use Rattle.decimal_digits.specs.AppendsPrefix.{AppendsPrefix};
 ghost use Rattle.decimal_unsigned.specs.Unsigned.{IsValue};
-ghost use Rattle.decimal_format.specs.Formatted.{shown_count, separator_before, separator_after, absolute_text, formatted_text};
+ghost use Rattle.decimal_format.specs.Formatted.{shown_count, separator_before, separator_after, absolute_text, formatted_absolute_text, formatted_text};
 ghost use Rattle.decimal_format.specs.Parts.{magnitude_of, part_text, AreDigits, IsRun, digits_text, run_text, separators_below};
 ghost use Rattle.decimal_format.specs.Scanning.{separator_if};
 
-use super::FormattedDecimal;
 use super::short::{SHORT, SHORT_ROOM};
+use super::{FormattedAbsolute, FormattedDecimal};
 use crate::block::Block;
 use crate::symbols::DecimalSymbols;
 use fixed_decimal::{DigitStore, Sink, SinkFault, Writeable};
@@ -61,17 +61,17 @@ fn grouping_if<'s>(symbols: &'s DecimalSymbols<'_>, separated: bool) -> &'s str
     }
 }
 
-impl<'f, D: DigitStore> FormattedDecimal<'f, D> {
+impl<'f, D: DigitStore> FormattedAbsolute<'f, D> {
     /// Returns the run of up to `most` digits that begins at a magnitude.
     #[inline]
     fn run_at(&self, below: u32, most: u32) -> Run<'_>
         requires some { 0 < most }
-        requires shown { below + most ≤ shown_count self.now.value.absolute }
+        requires shown { below + most ≤ shown_count self.now.value }
         ensures some { 0 < result.count }
         ensures at_most { result.count ≤ most }
         ensures run { IsRun self.now below result.count }
         ensures before { result.before.now ≡ separator_before self.now.symbols (magnitude_of self.now below) }
-        ensures after { result.after.now ≡ separator_after self.now.symbols self.now.strategy self.now.value.absolute.hi
+        ensures after { result.after.now ≡ separator_after self.now.symbols self.now.strategy self.now.value.hi
             (magnitude_of self.now (below + result.count - 1)) }
     {
         let magnitude = self.magnitude(below);
@@ -114,19 +114,17 @@ impl<'f, D: DigitStore> FormattedDecimal<'f, D> {
     #[inline]
     fn copy_digits(&self, below: u32, buffer: &mut [u8])
         requires some { 0 < length buffer.old }
-        requires shown { below + length buffer.old ≤ shown_count self.now.value.absolute }
+        requires shown { below + length buffer.old ≤ shown_count self.now.value }
         ensures { AreDigits self.now below buffer.new }
     {
-        self.value
-            .absolute
-            .write_digits(self.magnitude(below), buffer);
+        self.value.write_digits(self.magnitude(below), buffer);
     }
 
     /// Appends the text of up to 32 magnitudes.
     fn write_part<W: Sink>(&self, below: u32, count: u32, sink: &mut W) -> Result<(), SinkFault>
         requires some { 0 < count }
         requires at_most { count ≤ 32 }
-        requires shown { below + count ≤ shown_count self.now.value.absolute }
+        requires shown { below + count ≤ shown_count self.now.value }
         requires in_limits { below + count ≤ 65536 }
         ensures ok { OnOk result
             (Appends (W.contents sink.old) (W.contents sink.new) (part_text self.now below count)) }
@@ -151,7 +149,7 @@ impl<'f, D: DigitStore> FormattedDecimal<'f, D> {
     fn put_part<W: Sink>(&self, below: u32, count: u32, sink: &mut W) -> Result<(), SinkFault>
         requires some { 0 < count }
         requires at_most { count ≤ 32 }
-        requires shown { below + count ≤ shown_count self.now.value.absolute }
+        requires shown { below + count ≤ shown_count self.now.value }
         requires in_limits { below + count ≤ 65536 }
         ensures ok { OnOk result
             (Appends (W.contents sink.old) (W.contents sink.new) (part_text self.now below count)) }
@@ -169,9 +167,9 @@ impl<'f, D: DigitStore> FormattedDecimal<'f, D> {
     /// Appends the text of up to 32 magnitudes without the sign, if it fits the block.
     #[inline]
     fn put_absolute(&self, block: &mut Block) -> Result<(), SinkFault>
-        requires { shown_count self.now.value.absolute ≤ 32 }
+        requires { shown_count self.now.value ≤ 32 }
         ensures { OnOk result (block.new.0
-            ≡ block.old.0 ++ absolute_text self.now.symbols self.now.strategy self.now.value.absolute) }
+            ≡ block.old.0 ++ absolute_text self.now.symbols self.now.strategy self.now.value) }
     {
         let count = self.shown_count();
         if count <= SHORT && block.has_room(SHORT_ROOM) {
@@ -183,23 +181,12 @@ impl<'f, D: DigitStore> FormattedDecimal<'f, D> {
         self.write_part(0, count, block)
     }
 
-    /// Appends the text of up to 32 magnitudes with the sign, if it fits the block.
-    #[inline]
-    fn write_short(&self, block: &mut Block) -> Result<(), SinkFault>
-        requires { shown_count self.now.value.absolute ≤ 32 }
-        ensures { OnOk result (block.new.0 ≡ block.old.0 ++ formatted_text self.now) }
-    {
-        block.put_bytes(self.prefix().as_bytes())?;
-        self.put_absolute(block)?;
-        block.put_bytes(self.suffix().as_bytes())
-    }
-
     /// Appends the text without the sign.
     fn write_absolute<W: Sink>(&self, sink: &mut W) -> Result<(), SinkFault>
         ensures ok { OnOk result (Appends (W.contents sink.old) (W.contents sink.new)
-            (absolute_text self.now.symbols self.now.strategy self.now.value.absolute)) }
+            (absolute_text self.now.symbols self.now.strategy self.now.value)) }
         ensures err { OnErr result (AppendsPrefix (W.contents sink.old) (W.contents sink.new)
-            (absolute_text self.now.symbols self.now.strategy self.now.value.absolute)) }
+            (absolute_text self.now.symbols self.now.strategy self.now.value)) }
         ensures failed { OnErr result (W.has_failed sink.new ≡ true) }
     {
         let count = self.shown_count();
@@ -213,15 +200,15 @@ impl<'f, D: DigitStore> FormattedDecimal<'f, D> {
     }
 }
 
-impl<'f, D: DigitStore> FormattedDecimal<'f, D> {
+impl<'f, D: DigitStore> FormattedAbsolute<'f, D> {
     /// Returns the decimal separator if there are fraction digits.
     fn fraction_separator(&self) -> &str
-        ensures fraction { self.now.value.absolute.lo <ℤ pos 0 → result.now ≡ self.now.symbols.decimal }
-        ensures whole { pos 0 ≤ℤ self.now.value.absolute.lo → result.now ≡ [] }
+        ensures fraction { self.now.value.lo <ℤ pos 0 → result.now ≡ self.now.symbols.decimal }
+        ensures whole { pos 0 ≤ℤ self.now.value.lo → result.now ≡ [] }
         ensures at_most { length result.now ≤ 255 }
-        ensures valid { IsValue self.now.value.absolute }
+        ensures valid { IsValue self.now.value }
     {
-        if *self.value.absolute.magnitude_range().start() < 0 {
+        if *self.value.magnitude_range().start() < 0 {
             self.symbols.decimal_separator()
         } else {
             ""
@@ -230,8 +217,8 @@ impl<'f, D: DigitStore> FormattedDecimal<'f, D> {
 
     /// Returns the number of bytes of all grouping separators.
     fn separators_length(&self) -> usize
-        ensures value { result ≡ separators_below self.now.strategy self.now.symbols.sizes self.now.value.absolute.hi
-            (int_gap (pos 0) self.now.value.absolute.hi + 1) * length self.now.symbols.grouping }
+        ensures value { result ≡ separators_below self.now.strategy self.now.symbols.sizes self.now.value.hi
+            (int_gap (pos 0) self.now.value.hi + 1) * length self.now.symbols.grouping }
         ensures at_most { result ≤ 8355840 }
     {
         let symbols = self.symbols;
@@ -239,6 +226,44 @@ impl<'f, D: DigitStore> FormattedDecimal<'f, D> {
             .sizes()
             .separator_count(self.strategy, self.highest());
         count as usize * symbols.grouping_separator().len()
+    }
+}
+
+impl<'f, D: DigitStore> Writeable for FormattedAbsolute<'f, D> {
+    ghost text = { formatted_absolute_text };
+
+    /// Appends the text: the digits of the locale with its separators, without a sign.
+    ///
+    /// # Errors
+    ///
+    /// As [`Writeable::write_to`].
+    fn write_to<W: Sink>(&self, sink: &mut W) -> Result<(), SinkFault> {
+        if sink.failed() {
+            return Err(SinkFault);
+        }
+        self.write_absolute(sink)
+    }
+
+    /// Returns the exact number of bytes of the text, in constant time: 11 for `1,234,567.5`.
+    fn writeable_length_hint(&self) -> usize
+        ensures value { result ≡ length (formatted_absolute_text self.now) }
+        ensures at_most { result ≤ 8618239 }
+    {
+        let digits = self.shown_count() as usize * self.symbols.digit_width();
+        digits + self.separators_length() + self.fraction_separator().len()
+    }
+}
+
+impl<'f, D: DigitStore> FormattedDecimal<'f, D> {
+    /// Appends the text of up to 32 magnitudes with the sign, if it fits the block.
+    #[inline]
+    fn write_short(&self, block: &mut Block) -> Result<(), SinkFault>
+        requires { shown_count self.now.value.absolute ≤ 32 }
+        ensures { OnOk result (block.new.0 ≡ block.old.0 ++ formatted_text self.now) }
+    {
+        block.put_bytes(self.prefix().as_bytes())?;
+        self.absolute.put_absolute(block)?;
+        block.put_bytes(self.suffix().as_bytes())
     }
 }
 
@@ -251,24 +276,22 @@ impl<'f, D: DigitStore> Writeable for FormattedDecimal<'f, D> {
     ///
     /// As [`Writeable::write_to`].
     fn write_to<W: Sink>(&self, sink: &mut W) -> Result<(), SinkFault> {
-        if self.shown_count() <= PART {
+        if self.absolute.shown_count() <= PART {
             let mut block = Block::new();
             if let Ok(()) = self.write_short(&mut block) {
                 return sink.put_bytes(block.as_bytes());
             }
         }
         sink.put_bytes(self.prefix().as_bytes())?;
-        self.write_absolute(sink)?;
+        self.absolute.write_absolute(sink)?;
         sink.put_bytes(self.suffix().as_bytes())
     }
 
     /// Returns the exact number of bytes of the text, in constant time: 12 for `-1,234,567.5`.
-    fn writeable_length_hint(&self) -> usize {
-        let digits = self.shown_count() as usize * self.symbols.digit_width();
-        self.prefix().len()
-            + digits
-            + self.separators_length()
-            + self.fraction_separator().len()
-            + self.suffix().len()
+    fn writeable_length_hint(&self) -> usize
+        ensures value { result ≡ length (formatted_text self.now) }
+        ensures at_most { result ≤ 8618749 }
+    {
+        self.prefix().len() + self.absolute.writeable_length_hint() + self.suffix().len()
     }
 }

@@ -1,0 +1,11 @@
+use Rattle.std.proofs.Common.{arith, rules, w16, FitsSigned}
+use Rattle.std.proofs.lemmas.Int.{ints, clamps, to_z-of_z}
+use Rattle.number_format.proofs.format.magnitude_of.Goals as goal
+
+pub returns : goal.returns
+returns c =
+    let first = c.nonzero_magnitude_start in
+    let first_fits : FitsSigned w16 first.result = search rules in
+    let value = first.ensures.value in
+    let min = simp to_z-of_z at c.min.ensures.value in
+    omega (arith, ints, clamps)

@@ -1,0 +1,36 @@
+use Rattle.std.proofs.Common.{refl, ◌∙◌, ap, rules, w16, FitsSigned}
+use Rattle.std.proofs.lemmas.Int.{to_z-of_z}
+use Rattle.number_format.specs.Formatters.{style_sizes}
+use Rattle.number_format.specs.NumberStyles.{percent_text}
+use Rattle.number_format.proofs.number_formatter.NumberFormatter.in_system.Goals as goal
+
+pub returns : goal.returns
+returns c =
+    let o = c.args.options.now in
+    let style = c.of-style.result in
+    let sizes = c.style_sizes-sizes.ensures ∙ ap (style_sizes style.pattern o.grouping) c.sizes.ensures in
+    record {
+      signs = c.signs-signs.result;
+      style_parts = style;
+      formats = c.formats_of-formats.ensures;
+      signs_are = c.signs-signs.ensures;
+      rules = c.in-Some.ensures.found;
+      style_is = c.of-style.ensures;
+      symbols =
+          c.with_sizes-symbols.ensures
+          ∙ (λ i. record (c.with_separators.ensures i) { sizes = sizes i });
+      strategy = c.strategy.ensures;
+      pattern = refl;
+      currency = refl;
+      percent =
+          c.new.ensures ∙ c.percent_text.ensures.value
+          ∙ ap (percent_text c.signs-signs.result.percent) c.is_permille.ensures;
+      separator = c.new-2.ensures ∙ c.text.ensures;
+      unit_is = c.compact_unit.ensures;
+      scale = let fits : FitsSigned w16 o.scale = search rules in simp to_z-of_z;
+      notation_is = c.notation.ensures;
+      compact_is = c.compact_style.ensures;
+      exponent = c.exponent_options.ensures;
+      digits = c.shown_digits.ensures;
+      sign_display = refl;
+    }

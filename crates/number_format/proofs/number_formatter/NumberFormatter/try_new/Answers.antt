@@ -1,0 +1,24 @@
+use Rattle.std.proofs.Common.{List, ℕ, subst, sym}
+use Rattle.std.specs.Prelude.{Result, Ok, Err, IfOk}
+use Rattle.decimal_format.specs.Symbols.{Symbols}
+use Rattle.number_format.specs.declared.number_formatter.NumberFormatError.{NumberFormatError}
+use Rattle.number_format.specs.declared.number_formatter.NumberFormatter.{NumberFormatter}
+use Rattle.number_format.specs.declared.number_options.NumberOptions.{NumberOptions}
+use Rattle.number_format.specs.Formatters.{IsInSystem, IsFormatterIn, IsFormatter}
+use Rattle.number_format.proofs.number_formatter.NumberFormatter.try_new.Goals as goal
+
+formatter_by : (r : Result NumberFormatter NumberFormatError) (tag system : List ℕ) (own : Symbols) (o : NumberOptions)
+    → IsInSystem tag o.numbering_system system own → IfOk r (λ f. IsFormatterIn tag system own o f)
+    → IfOk r (λ f. IsFormatter tag o f)
+formatter_by (Ok f) tag system own o known made =
+    record { system = system; own = own; in_system_of = known; made = made }
+formatter_by (Err e) tag system own o known made = made
+
+pub returns-in-Some-locale : goal.returns-in-Some-locale
+returns-in-Some-locale c =
+    let tag = c.args.tag.now in
+    let system = c.in-Some.system.now in
+    let own = c.in-Some-locale.symbols in
+    formatter_by c.in_system.result tag system own c.args.options
+    (subst (λ n. IsInSystem tag n system own) (sym c.in-None.is) (c.in-Some-locale.ensures.found, c.in-Some.ensures))
+    c.in_system.ensures

@@ -1,0 +1,30 @@
+use Rattle.std.proofs.Common.{subst, sym, ◌∙◌, ap, inr}
+use Rattle.number_format.specs.DefaultDigits.{no_settings}
+use Rattle.number_format.specs.Resolved.{IsResolved, resolve_error}
+use Rattle.number_format.proofs.number_options.NumberOptions.default_digits.Goals as goal
+use Rattle.std.specs.Prelude.{◌≡◌, Some}
+
+pub returns-in-Ok : goal.returns-in-Ok
+returns-in-Ok c =
+    let d = c.defaults-defaults.result in
+    let settings = c.no_settings.ensures ∙ ap no_settings c.increment.ensures in (
+      sym c.shows_all_digits.ensures ∙ c.if-shows_all_digits.false,
+      (
+        d,
+        c.defaults-defaults.ensures,
+        subst (λ s. IsResolved s d c.in-Ok.digits) settings c.in-Ok.ensures.ok,
+      ),
+    )
+
+pub returns-in-Err : goal.returns-in-Err
+returns-in-Err c =
+    let d = c.defaults-defaults.result in
+    let settings = c.no_settings.ensures ∙ ap no_settings c.increment.ensures in
+    inr (
+      d,
+      c.defaults-defaults.ensures,
+      (
+        c.in-Err.field-0,
+        subst (λ s. resolve_error s d ≡ Some c.in-Err.field-0) settings c.in-Err.ensures.error,
+      ),
+    )

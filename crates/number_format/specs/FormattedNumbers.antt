@@ -1,0 +1,30 @@
+-- The text of a formatted number.
+use Rattle.std.specs.Prelude.{ℕ, if◌then◌else◌, List, [], ◌++◌, Option, Some, None}
+use Rattle.decimal_format.specs.declared.grouping.GroupingStrategy.TheVariants.{Never}
+use Rattle.decimal_format.specs.Formatted.{absolute_text}
+use Rattle.decimal_format.specs.Symbols.{Symbols}
+use Rattle.number_format.specs.declared.formatted_number.FormattedNumber.{FormattedNumber}
+use Rattle.number_format.specs.declared.formatted_number.WrittenExponent.{WrittenExponent}
+use Rattle.number_format.specs.TextParts.{parts_text}
+
+-- an exponent: its separator, its sign and its digits, which are not grouped
+abbrev pub exponent_text : Symbols → WrittenExponent → List ℕ
+exponent_text s e = e.separator.text.now ++ (e.sign.text.now ++ absolute_text s Never e.digits)
+
+abbrev pub exponent_text_if : Symbols → Option WrittenExponent → List ℕ
+exponent_text_if s None = []
+exponent_text_if s (Some e) = exponent_text s e
+
+-- the digits of the significand, and the exponent
+abbrev pub written_number_text : FormattedNumber → List ℕ
+written_number_text f =
+    absolute_text f.symbols.now f.strategy f.significand ++ exponent_text_if f.symbols.now f.exponent
+
+-- the same, if the text has a number
+abbrev pub number_text_if : FormattedNumber → List ℕ
+number_text_if f = if f.affixes.has_number then written_number_text f else []
+
+-- the number, if there is one, between the parts before and after it
+abbrev pub formatted_number_text : FormattedNumber → List ℕ
+formatted_number_text f =
+    parts_text f.affixes.prefix ++ (number_text_if f ++ parts_text f.affixes.suffix)

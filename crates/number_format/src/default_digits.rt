@@ -1,0 +1,110 @@
+//! The digits that ECMA-402 has for a style and a notation.
+ghost use Rattle.std.specs.Prelude.{◌≡◌};
+ghost use Rattle.number_format.specs.DefaultDigits.{shows_all_digits, is_compact, fraction_digits, increment_or_1, increment, no_settings, IsDefault, AreDefaultDigits};
+
+use crate::digit_options::{DigitOptions, TrailingZeros};
+use crate::digit_ranges::{FractionDigits, Increment};
+use crate::number_options::{CurrencyUsage, NumberNotation, NumberOptions, NumberStyle};
+use crate::settings::{DigitDefaults, DigitSettings, RoundingPriority};
+use fixed_decimal::{SignedRoundingMode, UnsignedRoundingMode};
+use locale_data::currency_digits;
+
+fn no_settings(rounding_increment: u16) -> DigitSettings
+    ensures { result ≡ no_settings rounding_increment }
+{
+    DigitSettings {
+        minimum_integer_digits: None,
+        minimum_fraction_digits: None,
+        maximum_fraction_digits: None,
+        minimum_significant_digits: None,
+        maximum_significant_digits: None,
+        rounding_increment,
+        rounding_mode: SignedRoundingMode::Unsigned(UnsignedRoundingMode::HalfExpand),
+        rounding_priority: RoundingPriority::Auto,
+        trailing_zeros: TrailingZeros::Auto,
+    }
+}
+
+fn increment_or_1(increment: u16) -> u16
+    ensures { result ≡ increment_or_1 increment }
+{
+    match Increment::new(increment) {
+        Ok(_) => increment,
+        Err(_) => 1,
+    }
+}
+
+impl NumberOptions {
+    fn is_compact(&self) -> bool
+        ensures { result ≡ is_compact self.now.notation }
+    {
+        matches!(self.notation, NumberNotation::Compact(_))
+    }
+
+    fn shows_all_digits(&self) -> bool
+        ensures { result ≡ shows_all_digits self.now }
+    {
+        match (self.style, self.notation) {
+            (NumberStyle::Decimal, NumberNotation::Standard) => true,
+            _ => false,
+        }
+    }
+
+    /// Returns the least and the greatest number of fraction digits.
+    fn fraction_digits(&self) -> (u8, u8)
+        ensures { result ≡ fraction_digits self.now.style }
+    {
+        match self.style {
+            NumberStyle::Decimal => (0, 3),
+            NumberStyle::Percent | NumberStyle::Permille => (0, 0),
+            NumberStyle::Currency(style) => {
+                let digits = currency_digits(style.code);
+                let count = match style.usage {
+                    CurrencyUsage::Standard => digits.digits,
+                    CurrencyUsage::Cash => digits.cash_digits,
+                };
+                (count, count)
+            }
+        }
+    }
+
+    /// Returns the increment of cash.
+    fn increment(&self) -> u16
+        ensures { result ≡ increment self.now }
+    {
+        match self.style {
+            NumberStyle::Currency(style)
+                if style.usage == CurrencyUsage::Cash && !self.is_compact() => {
+                increment_or_1(currency_digits(style.code).cash_increment as u16)
+            }
+            _ => 1,
+        }
+    }
+
+    fn defaults(&self) -> DigitDefaults
+        ensures { IsDefault self.now result }
+    {
+        let (min, max) = self.fraction_digits();
+        DigitDefaults {
+            fraction: FractionDigits {
+                min: min as u16,
+                max: max as u16,
+            },
+            is_compact: self.is_compact(),
+        }
+    }
+
+    /// Returns the digits that ECMA-402 has for the style and the notation, and `None` if all digits are shown.
+    pub(crate) fn default_digits(&self) -> Option<DigitOptions>
+        ensures { AreDefaultDigits self.now result }
+    {
+        if self.shows_all_digits() {
+            return None;
+        }
+        let defaults = self.defaults();
+        match no_settings(self.increment()).resolve(&defaults) {
+            Ok(digits) => Some(digits),
+            Err(_) => None,
+        }
+    }
+}

@@ -1,0 +1,266 @@
+//! Formatters by locale and options.
+ghost use Rattle.std.specs.Prelude.{◌≡◌, IfOk};
+ghost use Rattle.locale_data.specs.Formats.{AreFormatsOf};
+ghost use Rattle.number_format.specs.Formatters.{style_sizes, strategy_of, compact_style, compact_unit, exponent_options, currency_sign, is_permille, with_separators, IsWithoutCurrency, IsMoney, IsStyle, IsNotationBy, HasDigits, AreExponents, IsFormatterIn, IsFormatter};
+
+use crate::digit_options::DigitOptions;
+use crate::notation::{CompactExponents, Notation};
+use crate::number_formatter::{CompactUnit, NumberFormatError, NumberFormatter};
+use crate::number_options::{
+    CompactLength, CurrencyStyle, ExponentOptions, NumberNotation, NumberOptions, NumberStyle,
+};
+use crate::number_style::{ShownCurrency, percent_text, plain_pattern, text_or_nothing};
+use crate::text_part::{PartKind, TextPart};
+use decimal_format::{DecimalSymbols, GroupingSizes, GroupingStrategy};
+use fixed_decimal::SignDisplay;
+use locale_data::{
+    CompactStyle, CurrencySign, MoneySeparator, NumberFormats, Pattern, PluralRuleType,
+    currency_pattern, formats_of, locale, locale_in, plural_rules_number, system_of, unpadded,
+};
+
+fn style_sizes(pattern: &Pattern, strategy: GroupingStrategy, own: GroupingSizes) -> GroupingSizes
+    ensures { result ≡ style_sizes pattern.now strategy own }
+{
+    let is_always = matches!(strategy, GroupingStrategy::Always);
+    GroupingSizes {
+        primary: if is_always && pattern.primary == 0 {
+            3
+        } else {
+            pattern.primary
+        },
+        secondary: pattern.secondary,
+        min_grouping: own.min_grouping,
+    }
+}
+
+fn is_permille(style: NumberStyle) -> bool
+    ensures { result ≡ is_permille style }
+{
+    match style {
+        NumberStyle::Permille => true,
+        _ => false,
+    }
+}
+
+impl NumberOptions {
+    // Node differs from ECMA-402: in compact notation `Auto` is `Min2`.
+    fn strategy(&self) -> GroupingStrategy
+        ensures { result ≡ strategy_of self.now.notation self.now.grouping }
+    {
+        match (self.notation, self.grouping) {
+            (NumberNotation::Compact(_), GroupingStrategy::Auto) => GroupingStrategy::Min2,
+            (_, strategy) => strategy,
+        }
+    }
+
+    fn compact_style(&self) -> Option<CompactStyle>
+        ensures { result ≡ compact_style self.now.style self.now.notation }
+    {
+        match (self.style, self.notation) {
+            (NumberStyle::Currency(_), NumberNotation::Compact(_)) => Some(CompactStyle::Currency),
+            (_, NumberNotation::Compact(CompactLength::Short)) => Some(CompactStyle::Short),
+            (_, NumberNotation::Compact(CompactLength::Long)) => Some(CompactStyle::Long),
+            _ => None,
+        }
+    }
+
+    fn compact_unit(&self) -> CompactUnit
+        ensures { result ≡ compact_unit self.now.style self.now.notation }
+    {
+        match (self.style, self.notation) {
+            (NumberStyle::Percent, NumberNotation::Compact(_)) => CompactUnit::Percent,
+            (NumberStyle::Permille, NumberNotation::Compact(_)) => CompactUnit::Permille,
+            _ => CompactUnit::Nothing,
+        }
+    }
+
+    fn exponent_options(&self) -> Option<ExponentOptions>
+        ensures { result ≡ exponent_options self.now.notation }
+    {
+        match self.notation {
+            NumberNotation::Scientific(options) | NumberNotation::Engineering(options) => {
+                Some(options)
+            }
+            _ => None,
+        }
+    }
+
+    fn notation(&self, formats: &NumberFormats) -> Notation
+        ensures { IsNotationBy formats.now self.now.notation (compact_style self.now.style self.now.notation) result }
+    {
+        match (self.notation, self.compact_style()) {
+            (_, Some(style)) => Notation::Compact(compact_exponents(formats, style)),
+            (NumberNotation::Scientific(_), None) => Notation::Scientific,
+            (NumberNotation::Engineering(_), None) => Notation::Engineering,
+            _ => Notation::Standard,
+        }
+    }
+
+    // Node differs from ECMA-402: without a sign the pattern of accounts is not used.
+    fn currency_sign(&self, sign: CurrencySign) -> CurrencySign
+        ensures { result ≡ currency_sign self.now.sign_display sign }
+    {
+        match self.sign_display {
+            SignDisplay::Never => CurrencySign::Standard,
+            _ => sign,
+        }
+    }
+
+    fn shown_digits(&self) -> Option<DigitOptions>
+        ensures { HasDigits self.now self.now.digits result }
+    {
+        match self.digits {
+            Some(digits) => Some(digits),
+            None => self.default_digits(),
+        }
+    }
+}
+
+fn compact_exponents(formats: &NumberFormats, style: CompactStyle) -> CompactExponents
+    ensures { AreExponents formats.now style result.rows }
+{
+    let mut rows = [0; 17];
+    for index in 0..17 {
+        rows[index] = formats.compact_exponent(style, index as i16 + 3);
+    }
+    CompactExponents { rows }
+}
+
+fn with_separators(
+    symbols: DecimalSymbols<'static>,
+    decimal: Option<MoneySeparator>,
+    grouping: Option<MoneySeparator>,
+) -> DecimalSymbols<'static>
+    ensures { result ≡ with_separators symbols.entry decimal grouping }
+{
+    let symbols = match decimal {
+        Some(separator) => symbols.with_decimal_separator(separator.text()),
+        None => symbols,
+    };
+    match grouping {
+        Some(separator) => symbols.with_grouping_separator(separator.text()),
+        None => symbols,
+    }
+}
+
+impl NumberFormatter {
+    /// Makes the formatter of a locale and options. It does not allocate.
+    ///
+    /// `tag` is a tag as [`locale`] has it. The rows of the tables are looked up once.
+    ///
+    /// # Errors
+    ///
+    /// - `UnknownLocale`: [`locale`] returns `None`.
+    /// - `UnknownNumberingSystem`: no numbering system has the name that the options have.
+    pub fn try_new(tag: &str, options: NumberOptions) -> Result<NumberFormatter, NumberFormatError>
+        ensures { IfOk result (λ f. IsFormatter tag.now options f) }
+    {
+        let Some(system) = system_of(tag) else {
+            return Err(NumberFormatError::UnknownLocale);
+        };
+        match &options.numbering_system {
+            None => match locale(tag) {
+                Some(symbols) => Self::in_system(tag, system, symbols, &options),
+                None => Err(NumberFormatError::UnknownLocale),
+            },
+            Some(name) => {
+                let system = text_or_nothing(unpadded(name));
+                match locale_in(tag, system) {
+                    Some(symbols) => Self::in_system(tag, system, symbols, &options),
+                    None => Err(NumberFormatError::UnknownNumberingSystem),
+                }
+            }
+        }
+    }
+
+    fn in_system(
+        tag: &str,
+        system: &str,
+        symbols: DecimalSymbols<'static>,
+        options: &NumberOptions,
+    ) -> Result<NumberFormatter, NumberFormatError>
+        ensures { IfOk result (λ f. IsFormatterIn tag.now system.now symbols.entry options.now f) }
+    {
+        let Some(rules) = plural_rules_number(tag, PluralRuleType::Cardinal) else {
+            return Err(NumberFormatError::UnknownLocale);
+        };
+        let formats = formats_of(tag, system);
+        let style = StyleParts::of(tag, system, &symbols, &formats, options);
+        let sizes = style_sizes(&style.pattern, options.grouping, symbols.sizes());
+        let symbols = with_separators(symbols, style.decimal, style.grouping).with_sizes(sizes);
+        let signs = formats.signs();
+        Ok(NumberFormatter {
+            symbols,
+            strategy: options.strategy(),
+            pattern: style.pattern,
+            percent: TextPart::new(
+                PartKind::PercentSign,
+                percent_text(signs.percent, is_permille(options.style)),
+            ),
+            separator: TextPart::new(PartKind::ExponentSeparator, signs.exponent.text()),
+            currency: style.currency,
+            formats,
+            rules,
+            unit: options.compact_unit(),
+            scale: options.scale,
+            notation: options.notation(&formats),
+            compact: options.compact_style(),
+            exponent: options.exponent_options(),
+            digits: options.shown_digits(),
+            sign_display: options.sign_display,
+        })
+    }
+}
+
+/// What a style has in a locale.
+#[derive(Clone, Copy)]
+struct StyleParts {
+    pattern: Pattern,
+    decimal: Option<MoneySeparator>,
+    grouping: Option<MoneySeparator>,
+    currency: ShownCurrency,
+}
+
+impl StyleParts {
+    fn without_currency(pattern: Pattern) -> Self
+        ensures { IsWithoutCurrency pattern result }
+    {
+        StyleParts {
+            pattern,
+            decimal: None,
+            grouping: None,
+            currency: ShownCurrency::none(),
+        }
+    }
+
+    fn of(
+        tag: &str,
+        system: &str,
+        symbols: &DecimalSymbols<'static>,
+        formats: &NumberFormats,
+        options: &NumberOptions,
+    ) -> Self
+        requires { AreFormatsOf tag.now system.now formats.now }
+        ensures { IsStyle tag.now system.now symbols.now formats.now options.now result }
+    {
+        match (options.style, options.compact_style()) {
+            (NumberStyle::Decimal, _) => Self::without_currency(plain_pattern(symbols.sizes())),
+            (NumberStyle::Currency(style), _) => Self::of_currency(tag, system, options, &style),
+            (_, None) => Self::without_currency(*formats.percent()),
+            (_, Some(_)) => Self::without_currency(plain_pattern(symbols.sizes())),
+        }
+    }
+
+    fn of_currency(tag: &str, system: &str, options: &NumberOptions, style: &CurrencyStyle) -> Self
+        ensures { IsMoney tag.now system.now options.now style.now result }
+    {
+        let sign = options.currency_sign(style.sign);
+        let written = currency_pattern(tag, system, style.code, sign);
+        StyleParts {
+            pattern: written.pattern,
+            decimal: written.decimal,
+            grouping: written.grouping,
+            currency: ShownCurrency::of(tag, style).in_system(system),
+        }
+    }
+}

@@ -1,0 +1,202 @@
+//! What is written before and after the digits of a number.
+ghost use Rattle.std.specs.Prelude.{◌≡◌, ◌≤◌, ◌&&◌, length, IfSome};
+ghost use Rattle.locale_data.specs.Compact.{IsShortAffix};
+ghost use Rattle.number_format.specs.NumberText.{sign_text, piece_text, currency_if, space_if, is_plain, is_empty, has_number, first_sign_text, last_sign_text, pattern_around, compact_around, around_by, AreParts};
+
+use crate::number_formatter::NumberFormatter;
+use crate::number_style::{begins_with_currency, ends_with_currency};
+use crate::text_part::{PartKind, TextPart};
+use fixed_decimal::Sign;
+use locale_data::{
+    Affix, AffixPair, CompactAffix, CompactAffixes, CompactForm, Piece, UnitAffixes,
+};
+
+/// The parts before and after a number.
+#[derive(Clone, Copy)]
+pub(crate) struct NumberAffixes<'f> {
+    pub(crate) prefix: [TextPart<'f>; 7],
+    pub(crate) has_number: bool,
+    pub(crate) suffix: [TextPart<'f>; 6],
+}
+
+fn is_plain(form: CompactForm) -> bool
+    ensures { result ≡ is_plain form }
+{
+    matches!(form, CompactForm::Plain)
+}
+
+fn has_number(form: CompactForm) -> bool
+    ensures { result ≡ has_number form }
+{
+    match form {
+        CompactForm::Literal => false,
+        _ => true,
+    }
+}
+
+fn is_empty(text: &str) -> bool
+    ensures { result ≡ is_empty text.now }
+{
+    text.len() == 0
+}
+
+fn space_if(condition: bool) -> TextPart<'static>
+    ensures { result.text.now ≡ space_if condition }
+{
+    let text = if condition { "\u{a0}" } else { "" };
+    TextPart::new(PartKind::Literal, text)
+}
+
+impl NumberFormatter {
+    pub(crate) fn sign_part(&self, sign: Sign) -> TextPart<'_>
+        ensures { result.text.now ≡ sign_text self.now sign }
+    {
+        let kind = match sign {
+            Sign::Positive => PartKind::PlusSign,
+            _ => PartKind::MinusSign,
+        };
+        TextPart::new(kind, self.symbols.affixes(sign).prefix)
+    }
+
+    fn piece(&self, piece: Piece) -> TextPart<'_>
+        ensures { result.text.now ≡ piece_text self.now piece }
+    {
+        match piece {
+            Piece::Minus => self.sign_part(Sign::Negative),
+            Piece::Plus => self.sign_part(Sign::Positive),
+            Piece::Percent => self.percent,
+            Piece::Currency => self.currency.part(),
+            _ => TextPart::new(PartKind::Literal, piece.text()),
+        }
+    }
+
+    fn currency_if(&self, has_currency: bool) -> TextPart<'_>
+        ensures { result.text.now ≡ currency_if self.now has_currency }
+    {
+        if has_currency {
+            self.currency.part()
+        } else {
+            TextPart::empty()
+        }
+    }
+
+    /// Returns the parts of the pattern for a sign.
+    fn pattern_affixes(&self, sign: Sign, unit: UnitAffixes) -> NumberAffixes<'_>
+        requires prefix { length unit.prefix.now ≤ 255 }
+        requires suffix { length unit.suffix.now ≤ 255 }
+        ensures { AreParts (pattern_around self.now sign) unit result }
+    {
+        let AffixPair { prefix, suffix } = self.pattern.affixes(sign);
+        NumberAffixes {
+            prefix: [
+                TextPart::new(PartKind::Literal, unit.prefix),
+                self.piece(prefix.first),
+                self.piece(prefix.second),
+                self.piece(prefix.third),
+                self.piece(prefix.fourth),
+                space_if(ends_with_currency(prefix) && self.currency.space_after),
+                TextPart::empty(),
+            ],
+            has_number: true,
+            suffix: [
+                space_if(begins_with_currency(suffix) && self.currency.space_before),
+                self.piece(suffix.first),
+                self.piece(suffix.second),
+                self.piece(suffix.third),
+                self.piece(suffix.fourth),
+                TextPart::new(PartKind::Literal, unit.suffix),
+            ],
+        }
+    }
+
+    fn first_sign(&self, sign: Sign, form: CompactForm) -> TextPart<'_>
+        ensures { result.text.now ≡ first_sign_text self.now sign form }
+    {
+        match form {
+            CompactForm::SignLast => TextPart::empty(),
+            _ => self.sign_part(sign),
+        }
+    }
+
+    fn last_sign(&self, sign: Sign, form: CompactForm) -> TextPart<'_>
+        ensures { result.text.now ≡ last_sign_text self.now sign form }
+    {
+        match form {
+            CompactForm::SignLast => self.sign_part(sign),
+            _ => TextPart::empty(),
+        }
+    }
+
+    fn space_after(&self, affix: CompactAffix) -> bool
+        ensures { result ≡ (affix.has_currency && (is_empty affix.after.now && self.now.currency.space_after)) }
+    {
+        affix.has_currency && is_empty(affix.after) && self.currency.space_after
+    }
+
+    fn space_before(&self, affix: CompactAffix) -> bool
+        ensures { result ≡ (affix.has_currency && (is_empty affix.before.now && self.now.currency.space_before)) }
+    {
+        affix.has_currency && is_empty(affix.before) && self.currency.space_before
+    }
+
+    /// Returns the parts of a compact pattern for a sign.
+    fn compact_affixes(
+        &self,
+        sign: Sign,
+        compact: CompactAffixes,
+        unit: UnitAffixes,
+    ) -> NumberAffixes<'_>
+        requires prefix { length unit.prefix.now ≤ 255 }
+        requires suffix { length unit.suffix.now ≤ 255 }
+        requires compact_prefix { IsShortAffix compact.prefix }
+        requires compact_suffix { IsShortAffix compact.suffix }
+        ensures { AreParts (compact_around self.now sign compact) unit result }
+    {
+        let CompactAffixes {
+            form,
+            prefix,
+            suffix,
+        } = compact;
+        NumberAffixes {
+            prefix: [
+                TextPart::new(PartKind::Literal, unit.prefix),
+                self.first_sign(sign, form),
+                TextPart::new(PartKind::Compact, prefix.before),
+                self.currency_if(prefix.has_currency),
+                TextPart::new(PartKind::Compact, prefix.after),
+                space_if(self.space_after(prefix)),
+                self.last_sign(sign, form),
+            ],
+            has_number: has_number(form),
+            suffix: [
+                space_if(self.space_before(suffix)),
+                TextPart::new(PartKind::Compact, suffix.before),
+                self.currency_if(suffix.has_currency),
+                TextPart::new(PartKind::Compact, suffix.after),
+                TextPart::empty(),
+                TextPart::new(PartKind::Literal, unit.suffix),
+            ],
+        }
+    }
+
+    /// Returns the parts for a sign, by a compact pattern or else by that of the style.
+    pub(crate) fn affixes(
+        &self,
+        sign: Sign,
+        compact: Option<CompactAffixes>,
+        unit: UnitAffixes,
+    ) -> NumberAffixes<'_>
+        requires prefix { length unit.prefix.now ≤ 255 }
+        requires suffix { length unit.suffix.now ≤ 255 }
+        requires short { IfSome compact (λ shown. IsShortAffix shown.prefix × IsShortAffix shown.suffix) }
+        ensures { AreParts (around_by self.now sign compact) unit result }
+    {
+        let Some(shown) = compact else {
+            return self.pattern_affixes(sign, unit);
+        };
+        if is_plain(shown.form) {
+            return self.pattern_affixes(sign, unit);
+        }
+        self.compact_affixes(sign, shown, unit)
+    }
+}

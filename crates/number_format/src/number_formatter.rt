@@ -1,0 +1,49 @@
+//! The formatter of numbers.
+use crate::digit_options::DigitOptions;
+use crate::notation::Notation;
+use crate::number_options::ExponentOptions;
+use crate::number_style::ShownCurrency;
+use crate::text_part::TextPart;
+use decimal_format::{DecimalSymbols, GroupingStrategy};
+use fixed_decimal::SignDisplay;
+use locale_data::{CompactStyle, NumberFormats, Pattern, RulesNumber};
+
+/// Why there is no formatter.
+#[derive(Clone, Copy, Debug, PartialEq)]
+pub enum NumberFormatError {
+    /// No tag of the locale is listed, or the numbering system that it names is not.
+    UnknownLocale,
+    /// The numbering system of the options is not listed.
+    UnknownNumberingSystem,
+}
+
+/// What is written around a number in compact notation.
+#[derive(Clone, Copy, Debug)]
+pub enum CompactUnit {
+    /// Nothing.
+    Nothing,
+    /// The percent sign, as the locale has it for the number.
+    Percent,
+    /// The per mille sign.
+    Permille,
+}
+
+/// Formats numbers as `Intl.NumberFormat` of ECMA-402 does, with the data of CLDR 48, on decimals of any length.
+#[derive(Drop)]
+pub struct NumberFormatter {
+    pub(crate) symbols: DecimalSymbols<'static>,
+    pub(crate) strategy: GroupingStrategy,
+    pub(crate) pattern: Pattern,
+    pub(crate) percent: TextPart<'static>,
+    pub(crate) separator: TextPart<'static>,
+    pub(crate) currency: ShownCurrency,
+    pub(crate) formats: NumberFormats,
+    pub(crate) rules: RulesNumber,
+    pub(crate) unit: CompactUnit,
+    pub(crate) scale: i16,
+    pub(crate) notation: Notation,
+    pub(crate) compact: Option<CompactStyle>,
+    pub(crate) exponent: Option<ExponentOptions>,
+    pub(crate) digits: Option<DigitOptions>,
+    pub(crate) sign_display: SignDisplay,
+}

@@ -1,0 +1,65 @@
+//! Parts of the text of a number, and their kinds.
+ghost use Rattle.std.specs.Prelude.{◌≡◌, ◌≤◌, [], length};
+
+/// What a part of the text of a number is, as `formatToParts` of ECMA-402 names it.
+#[derive(Clone, Copy, Debug, PartialEq)]
+pub enum PartKind {
+    /// Integer digits.
+    Integer,
+    /// A separator of groups.
+    Group,
+    /// The decimal separator.
+    Decimal,
+    /// Fraction digits.
+    Fraction,
+    /// A minus sign before or after the number.
+    MinusSign,
+    /// A plus sign.
+    PlusSign,
+    /// A percent sign.
+    PercentSign,
+    /// The symbol or the code of a currency.
+    Currency,
+    /// Spaces, parentheses and marks.
+    Literal,
+    /// The word of a power of ten in compact notation.
+    Compact,
+    /// The separator before an exponent.
+    ExponentSeparator,
+    /// The minus sign of an exponent.
+    ExponentMinusSign,
+    /// The plus sign of an exponent.
+    ExponentPlusSign,
+    /// The digits of an exponent.
+    ExponentInteger,
+}
+
+/// A part of the text of a number: at most 255 bytes.
+#[derive(Clone, Copy, Debug)]
+pub struct TextPart<'f> {
+    /// What it is.
+    pub kind: PartKind,
+    /// The text, which may be empty.
+    pub text: &'f str,
+    pub ghost short: { length text.now ≤ 255 },
+}
+
+impl<'f> TextPart<'f> {
+    /// Makes a part of a text of at most 255 bytes.
+    pub(crate) fn new(kind: PartKind, text: &'f str) -> Self
+        requires { length text.now ≤ 255 }
+        ensures { result.text.now ≡ text.now }
+    {
+        TextPart { kind, text }
+    }
+
+    /// Makes an empty part.
+    pub(crate) fn empty() -> Self
+        ensures { result.text.now ≡ [] }
+    {
+        TextPart {
+            kind: PartKind::Literal,
+            text: "",
+        }
+    }
+}
