@@ -52,7 +52,7 @@ def column(texts, *calls, read=None, format=None):
     """Makes the calls on each text, and returns the texts of the results.
 
     The calls are words of the programs, as `round:-2:half-even:1`. With `read` the texts are as a locale writes them,
-    and with `format` the results. Raises `DecimalError` for the first text that fails.
+    and with `format` the results. Raises `DecimalError` for the first text that fails. Long lists take several threads.
     """
     read_tag, format_tag = (read or "").encode(), (format or "").encode()
     parts = bytearray(read_tag + format_tag)

@@ -380,13 +380,14 @@ static void *convert(void *argument) {
     Block *block = argument;
     const Work *work = block->work;
     Buffer *output = &block->output;
+    const uint8_t *input = block->input.bytes ? (const uint8_t *)block->input.bytes : FD_NONE(uint8_t);
     size_t read = 0;
     output->count = block->converted = 0;
     for (size_t more = block->input.count + 64;; more *= 2) {
         block->answer = (fd_column){.status = FD_MEMORY};
         if (!reserve(output, more)) return NULL;
-        block->answer = fd_lines((uint8_t *)block->input.bytes + read, block->input.count - read, 0, &work->forms,
-                                 work->calls, work->call_count, work->texts, work->texts_count,
+        block->answer = fd_lines(input + read, block->input.count - read, 0, &work->forms, work->calls,
+                                 work->call_count, work->texts, work->texts_count,
                                  (uint8_t *)output->bytes + output->count, output->room - output->count);
         read += block->answer.read;
         output->count += block->answer.written;
