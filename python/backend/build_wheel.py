@@ -23,7 +23,8 @@ def native(folder):
         raise SystemExit("libfixed_decimal.a is missing: run `bash c/build.sh` first")
     path = os.path.join(folder, "_native" + sysconfig.get_config_var("EXT_SUFFIX"))
     subprocess.run([
-        *shlex.split(sysconfig.get_config_var("CC") or "gcc"), "-shared", "-fPIC", "-O2", "-fvisibility=hidden",
+        *shlex.split(sysconfig.get_config_var("CC") or "gcc"), "-shared", "-fPIC", "-O2", "-pthread",
+        "-fvisibility=hidden",
         "-I" + home, "-I" + sysconfig.get_path("include"), os.path.join(HERE, NAME, "_native.c"), archive,
         "-Wl,--exclude-libs,ALL", "-o", path,
     ], check=True)

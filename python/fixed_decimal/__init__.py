@@ -57,4 +57,4 @@ def column(texts, *calls, read=None, format=None):
     read_tag, format_tag = (read or "").encode(), (format or "").encode()
     parts = bytearray(read_tag + format_tag)
     packed = b"".join([_call(word, parts) for word in calls])
-    return _column(list(texts), packed, bytes(parts), len(read_tag), len(format_tag))
+    return _column(texts if type(texts) is list else list(texts), packed, bytes(parts), len(read_tag), len(format_tag))

@@ -1,7 +1,9 @@
 /* The class Decimal and columns, over fixed_decimal.h: an extension module of CPython. */
 #define PY_SSIZE_T_CLEAN
 #include <Python.h>
+#include <pthread.h>
 #include <string.h>
+#include <unistd.h>
 #include <fixed_decimal.h>
 
 /* An immutable decimal: its text. */
@@ -332,98 +334,188 @@ static PyObject *decimal_reduce(Decimal *self, PyObject *ignored) {
     return Py_BuildValue("O(N)", &DecimalType, decimal_str(self));
 }
 
-/* The lines of an output, as a list of str. */
-static PyObject *split_lines(const char *bytes, size_t count, Py_ssize_t lines) {
-    PyObject *made = PyList_New(lines);
-    for (Py_ssize_t i = 0; made && i < lines; i++) {
-        const char *end = memchr(bytes, '\n', count);
-        size_t length = (size_t)(end - bytes);
-        PyObject *text = PyUnicode_DecodeUTF8(bytes, (Py_ssize_t)length, NULL);
-        if (!text) Py_CLEAR(made);
-        else PyList_SET_ITEM(made, i, text);
-        bytes = end + 1;
-        count -= length + 1;
+/* The number of texts of a block, and the greatest number of blocks at a time. */
+#define BLOCK_TEXTS 16384
+#define MOST_BLOCKS 17
+
+/* What a column does with each text. */
+typedef struct {
+    fd_forms forms;
+    const fd_call *calls;
+    size_t call_count;
+    const uint8_t *texts;
+    size_t texts_count;
+} Work;
+
+/* Bytes that grow. */
+typedef struct {
+    char *bytes;
+    size_t count, room;
+} Buffer;
+
+/* Texts of a column from an index on, as lines, and the lines of their results. */
+typedef struct {
+    const Work *work;
+    Py_ssize_t first;
+    Buffer input, output;
+    fd_column answer;
+    size_t converted;
+    pthread_t thread;
+    enum { EMPTY, RUNNING, CONVERTED } state;
+} Block;
+
+/* Makes room for a number of bytes more; 0 if out of memory. */
+static int reserve(Buffer *buffer, size_t more) {
+    if (more <= buffer->room - buffer->count) return 1;
+    size_t room = 2 * buffer->room + more;
+    char *bytes = PyMem_RawRealloc(buffer->bytes, room);
+    if (!bytes) return 0;
+    buffer->bytes = bytes;
+    buffer->room = room;
+    return 1;
+}
+
+/* Makes lines of the next texts of a list; 0 with an exception at the first that is none, which ends the lines. */
+static int fill(Block *block, PyObject *list, Py_ssize_t size) {
+    Py_ssize_t end = size - block->first < BLOCK_TEXTS ? size : block->first + BLOCK_TEXTS, count;
+    Buffer *input = &block->input;
+    input->count = 0;
+    if (PyList_GET_SIZE(list) != size) return PyErr_SetString(PyExc_RuntimeError, "the list has changed"), 0;
+    for (Py_ssize_t i = block->first; i < end; i++) {
+        const char *text = PyUnicode_AsUTF8AndSize(PyList_GET_ITEM(list, i), &count);
+        if (!text) return 0;
+        if (memchr(text, '\n', (size_t)count)) return PyErr_Format(PyExc_ValueError, "text %zd has a line feed", i), 0;
+        if (!reserve(input, (size_t)count + 1)) return PyErr_NoMemory(), 0;
+        memcpy(input->bytes + input->count, text, (size_t)count);
+        input->count += (size_t)count;
+        input->bytes[input->count++] = '\n';
+    }
+    return 1;
+}
+
+/* Converts the lines of a block. It does not use Python. */
+static void *convert(void *argument) {
+    Block *block = argument;
+    const Work *work = block->work;
+    Buffer *output = &block->output;
+    size_t read = 0;
+    output->count = block->converted = 0;
+    for (size_t more = block->input.count + 64;; more *= 2) {
+        block->answer = (fd_column){.status = FD_MEMORY};
+        if (!reserve(output, more)) return NULL;
+        block->answer = fd_lines((uint8_t *)block->input.bytes + read, block->input.count - read, 0, &work->forms,
+                                 work->calls, work->call_count, work->texts, work->texts_count,
+                                 (uint8_t *)output->bytes + output->count, output->room - output->count);
+        read += block->answer.read;
+        output->count += block->answer.written;
+        block->converted += block->answer.lines;
+        if (block->answer.status != FD_BUFFER_TOO_SMALL) return NULL;
+    }
+}
+
+/* Begins to convert a block, in another thread unless it is the only one. */
+static void start(Block *block, int is_only) {
+    int is_running = !is_only && pthread_create(&block->thread, NULL, convert, block) == 0;
+    block->state = is_running ? RUNNING : CONVERTED;
+    if (is_running) return;
+    Py_BEGIN_ALLOW_THREADS
+    convert(block);
+    Py_END_ALLOW_THREADS
+}
+
+/* Raises DecimalError with the index of the text, or MemoryError. */
+static void fail_at(const Block *block) {
+    fail(block->answer.status, block->answer.at);
+    if (block->answer.status == FD_MEMORY) return;
+    PyObject *type, *value, *trace, *index = PyLong_FromSize_t((size_t)block->first + block->converted);
+    PyErr_Fetch(&type, &value, &trace);
+    PyErr_NormalizeException(&type, &value, &trace);
+    if (index && value) PyObject_SetAttrString(value, "line", index);
+    Py_XDECREF(index);
+    PyErr_Restore(type, value, trace);
+}
+
+/* Puts the results of a converted block into a list; 0 with an exception. Only with a format are they not ASCII. */
+static int take_results(const Block *block, PyObject *made) {
+    if (block->answer.status != FD_OK) return fail_at(block), 0;
+    const char *bytes = block->output.bytes, *end = bytes + block->output.count;
+    int is_ascii = block->work->forms.format.count == 0;
+    for (Py_ssize_t i = block->first; bytes < end; i++) {
+        Py_ssize_t count = (const char *)memchr(bytes, '\n', (size_t)(end - bytes)) - bytes;
+        PyObject *text = is_ascii ? PyUnicode_New(count, 127) : PyUnicode_DecodeUTF8(bytes, count, NULL);
+        if (!text) return 0;
+        if (is_ascii) memcpy(PyUnicode_1BYTE_DATA(text), bytes, (size_t)count);
+        PyList_SET_ITEM(made, i, text);
+        bytes += count + 1;
+    }
+    return 1;
+}
+
+/* Waits for a block, and takes its results, if none failed before it. */
+static void finish(Block *block, PyObject **made) {
+    if (block->state == RUNNING) {
+        Py_BEGIN_ALLOW_THREADS
+        pthread_join(block->thread, NULL);
+        Py_END_ALLOW_THREADS
+    }
+    if (block->state != EMPTY && *made && !take_results(block, *made)) Py_CLEAR(*made);
+    block->state = EMPTY;
+}
+
+/* Converts the texts of a list. Each block is filled, begins, and is finished when its turn comes again. */
+static PyObject *convert_list(PyObject *list, Block *blocks, size_t count) {
+    Py_ssize_t size = PyList_GET_SIZE(list), next = 0;
+    PyObject *made = PyList_New(size), *type = NULL, *value = NULL, *trace = NULL;
+    size_t turn = 0;
+    while (made && !type && (next < size || next == 0)) {
+        Block *block = &blocks[turn++ % count];
+        finish(block, &made);
+        if (!made) break;
+        block->first = next;
+        next += BLOCK_TEXTS;
+        /* An exception waits: a text before may fail. */
+        if (!fill(block, list, size)) PyErr_Fetch(&type, &value, &trace);
+        start(block, size <= BLOCK_TEXTS);
+    }
+    for (size_t i = 0; i < count; i++) finish(&blocks[turn++ % count], &made);
+    if (made && type) {
+        Py_CLEAR(made);
+        PyErr_Restore(type, value, trace);
+    } else {
+        Py_XDECREF(type), Py_XDECREF(value), Py_XDECREF(trace);
     }
     return made;
 }
 
-/* Converts all lines; the output is in *out, which the caller frees. */
-static int convert_lines(const uint8_t *input, size_t count, const fd_forms *forms, const fd_call *calls,
-                         size_t call_count, const uint8_t *texts, size_t texts_count, uint8_t **out, size_t *written) {
-    size_t room = count + count / 2 + 64, line = 0;
-    *written = 0;
-    *out = PyMem_Malloc(room);
-    while (*out) {
-        fd_column column;
-        Py_BEGIN_ALLOW_THREADS
-        column = fd_lines(input, count, 0, forms, calls, call_count, texts, texts_count, *out + *written,
-                          room - *written);
-        Py_END_ALLOW_THREADS
-        line += column.lines;
-        *written += column.written;
-        if (column.status == FD_OK) return 1;
-        if (column.status != FD_BUFFER_TOO_SMALL) {
-            if (!fail(column.status, column.at) && column.status != FD_MEMORY) {
-                PyObject *type, *value, *trace, *number = PyLong_FromSize_t(line);
-                PyErr_Fetch(&type, &value, &trace);
-                PyErr_NormalizeException(&type, &value, &trace);
-                if (number && value) PyObject_SetAttrString(value, "line", number);
-                Py_XDECREF(number);
-                PyErr_Restore(type, value, trace);
-            }
-            return 0;
-        }
-        input += column.read;
-        count -= column.read;
-        room *= 2;
-        uint8_t *more = PyMem_Realloc(*out, room);
-        if (!more) break;
-        *out = more;
-    }
-    PyErr_NoMemory();
-    return 0;
-}
-
-/* column(list of str, calls, texts, read_count, format_start, format_count, reading, grouping) */
+/* column(list of str, calls, texts, bytes of the tag to read by, bytes of the tag to format by) */
 static PyObject *native_column(PyObject *module, PyObject *arguments) {
-    PyObject *list;
+    PyObject *list, *made;
     const char *calls, *texts;
     Py_ssize_t calls_size, texts_size, read_count, format_count;
     (void)module;
     if (!PyArg_ParseTuple(arguments, "O!y#y#nn", &PyList_Type, &list, &calls, &calls_size, &texts, &texts_size,
                           &read_count, &format_count))
         return NULL;
-    fd_forms forms = {.read.count = (size_t)read_count, .format.start = (size_t)read_count,
-                      .format.count = (size_t)format_count};
-    Py_ssize_t lines = PyList_GET_SIZE(list), total = 0, count;
-    for (Py_ssize_t i = 0; i < lines; i++) {
-        if (!PyUnicode_AsUTF8AndSize(PyList_GET_ITEM(list, i), &count)) return NULL;
-        total += count + 1;
-    }
-    char *input = PyMem_Malloc((size_t)total + 1), *end = input;
-    if (!input) return PyErr_NoMemory();
-    for (Py_ssize_t i = 0; i < lines; i++) {
-        const char *text = PyUnicode_AsUTF8AndSize(PyList_GET_ITEM(list, i), &count);
-        if (memchr(text, '\n', (size_t)count)) {
-            PyMem_Free(input);
-            return PyErr_Format(PyExc_ValueError, "text %zd has a line feed", i);
-        }
-        memcpy(end, text, (size_t)count);
-        end += count;
-        *end++ = '\n';
-    }
-    uint8_t *out;
-    size_t written;
-    PyObject *made = NULL;
     fd_call *aligned = PyMem_Malloc((size_t)calls_size + 1);
-    if (aligned) memcpy(aligned, calls, (size_t)calls_size);
-    if (!aligned) out = NULL, PyErr_NoMemory();
-    else if (convert_lines((uint8_t *)input, (size_t)total, &forms, aligned, (size_t)calls_size / sizeof(fd_call),
-                           (const uint8_t *)texts, (size_t)texts_size, &out, &written))
-        made = split_lines((char *)out, written, lines);
+    Block *blocks = PyMem_Calloc(MOST_BLOCKS, sizeof(Block));
+    if (aligned && blocks) {
+        memcpy(aligned, calls, (size_t)calls_size);
+        Work work = {.forms = {.read.count = (size_t)read_count, .format.start = (size_t)read_count,
+                               .format.count = (size_t)format_count},
+                     .calls = aligned, .call_count = (size_t)calls_size / sizeof(fd_call),
+                     .texts = (const uint8_t *)texts, .texts_count = (size_t)texts_size};
+        for (size_t i = 0; i < MOST_BLOCKS; i++) blocks[i].work = &work;
+        long processors = sysconf(_SC_NPROCESSORS_ONLN);
+        made = convert_list(list, blocks, processors < 1 ? 1 : processors < MOST_BLOCKS ? processors + 1 : MOST_BLOCKS);
+        for (size_t i = 0; i < MOST_BLOCKS; i++) {
+            PyMem_RawFree(blocks[i].input.bytes);
+            PyMem_RawFree(blocks[i].output.bytes);
+        }
+    } else {
+        made = PyErr_NoMemory();
+    }
+    PyMem_Free(blocks);
     PyMem_Free(aligned);
-    PyMem_Free(out);
-    PyMem_Free(input);
     return made;
 }
 

@@ -146,11 +146,15 @@ def test_column(cases):
     ):
         raises(error, call)
     raises(DecimalError, lambda: column(["1"], read="tlh"), "unknown locale")
-    try:
-        column(["1", "2", "x", "y"], "trim-end")
-        check(False, "a text that fails")
-    except DecimalError as error:
-        check((error.reason, error.line) == ("syntax", 2), error.reason, error.line)
+    raises(DecimalError, lambda: column([], read="tlh"), "unknown locale")
+    # The first text that fails, in the same block or in one before.
+    for before, after in ((2, ["y"]), (2, ["1\n2"]), (50000, ["y"]), (50000, ["2"] * 50000 + ["1\n2"])):
+        try:
+            column(["1"] * before + ["x"] + after, "trim-end")
+            check(False, "a text that fails")
+        except DecimalError as error:
+            check((error.reason, error.line) == ("syntax", before), error.reason, error.line)
+    raises(ValueError, lambda: column(["1"] * 50000 + ["1\n2", "x"]))
 
 
 if __name__ == "__main__":

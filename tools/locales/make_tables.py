@@ -89,6 +89,7 @@ def fields_of(symbols):
 def symbol_tables():
     """The text of symbols_table.rt."""
     default, fields, own = fields_of(rows("symbols.tsv"))
+    numbers = {name: number for number, (name, _) in enumerate(rows("systems.tsv"))}
     sets = {}
 
     def set_name(symbols, name):
@@ -96,7 +97,7 @@ def symbol_tables():
 
     def row_text(tag, system, symbols, sizes):
         name = set_name(symbols, tag if fields[tag, "latn"][0] == symbols else f"{tag}_{system}")
-        return (f'    LocaleSymbols {{ tag: *b"{tag:16}", system: *b"{system:8}", '
+        return (f'    LocaleSymbols {{ tag: *b"{tag:16}", system: {numbers[system]}, '
                 f"symbols: {name}, sizes: {SIZES[sizes]} }},\n")
 
     locales = listed_tags(default, lambda tag: (default[tag], *fields[tag, "latn"]), lambda tag: None)

@@ -114,7 +114,25 @@ impl<'a> DecimalSymbols<'a> {
         check_length(minus.suffix, SymbolsError::MinusSuffixTooLong)?;
         check_length(plus.prefix, SymbolsError::PlusPrefixTooLong)?;
         check_length(plus.suffix, SymbolsError::PlusSuffixTooLong)?;
-        Ok(DecimalSymbols {
+        Ok(Self::of_valid(digits, decimal, grouping, minus, plus, sizes))
+    }
+
+    /// Makes the symbols of a locale from digits and texts for which [`new`](Self::new) has no error.
+    pub fn of_valid(
+        digits: [char; 10],
+        decimal: &'a str,
+        grouping: &'a str,
+        minus: Affixes<'a>,
+        plus: Affixes<'a>,
+        sizes: GroupingSizes,
+    ) -> Self
+        requires { AreValid (symbols digits decimal.now grouping.now (affixes minus.prefix.now minus.suffix.now)
+            (affixes plus.prefix.now plus.suffix.now) sizes) }
+        ensures { result ≡ symbols digits decimal.entry.now grouping.entry.now
+            (affixes minus.entry.prefix.now minus.entry.suffix.now)
+            (affixes plus.entry.prefix.now plus.entry.suffix.now) sizes }
+    {
+        DecimalSymbols {
             digits,
             has_ascii_digits: digits == ASCII_DIGITS,
             decimal,
@@ -122,7 +140,7 @@ impl<'a> DecimalSymbols<'a> {
             minus,
             plus,
             sizes,
-        })
+        }
     }
 
     /// Returns the symbols of a decimal's own text: `0` to `9`, `.`, `,` between groups of three, `-` and `+`.

@@ -1,7 +1,6 @@
 -- The tables of currencies are sorted, and their indices are those of rows, by computation.
-use Rattle.std.proofs.Common.{◌≡◌, ℕ, ◌<◌, ◌&&◌, nat_lt, Bool, true, List, length, Option, Some, None, refl, sym, arith}
+use Rattle.std.proofs.Common.{◌≡◌, ℕ, ◌<◌, ◌&&◌, nat_lt, Bool, true, List, length, Option, Some, None, refl, sym}
 use Rattle.std.proofs.lemmas.Bool.{and_parts}
-use Rattle.std.proofs.lemmas.Bool.Decides.{nat_tests}
 use Rattle.std.specs.Prelude.{IfSome, slice_get}
 use Rattle.std.specs.Borrow.{Bor}
 use Rattle.std.specs.List.{list_all, Contains}
@@ -17,16 +16,13 @@ use Rattle.locale_data.specs.declared.currency_table.TheConstants.{CURRENCIES, C
 use Rattle.locale_data.specs.declared.formats_table.TheConstants.{CURRENCY_OVERRIDES, PATTERNS}
 use Rattle.locale_data.specs.declared.patterns.CurrencyOverride.{CurrencyOverride}
 use Rattle.locale_data.specs.Currencies.{currency_with, symbol_index, IsSymbolRow, IsOverrideRow}
-use Rattle.locale_data.specs.Rows.{part, is_inside, unpadded}
-use Rattle.locale_data.specs.SortedRows.{number, is_table}
+use Rattle.locale_data.specs.Rows.{part, unpadded}
+use Rattle.locale_data.specs.SortedRows.{number, is_table, is_table_part}
 use Rattle.locale_data.specs.Tag.{compared}
 use Rattle.locale_data.specs.Texts.{is_text}
-use Rattle.locale_data.proofs.EachRow.{passes}
+use Rattle.locale_data.proofs.EachRow.{passes, below}
 use Rattle.locale_data.proofs.SortedRows.{find_some}
 use Rattle.locale_data.proofs.TableTexts.{passes_at}
-
-below : (i n : ℕ) → nat_lt i n ≡ true → i < n
-below i n h = grind (arith, nat_tests, h)
 
 -- ---- The tables are sorted.
 
@@ -40,40 +36,25 @@ listed_currency code None e = tt
 listed_currency code (Some c) e =
     (find_some (λ c. bytes_eq (unpadded c.code) (compared code)) CURRENCIES c.now (sym e)).0
 
--- the rows of a currency are a part of a table, and sorted
 abbrev has_symbols : Currency → Bool
-has_symbols c =
-    is_inside c.symbols (length CURRENCY_SYMBOLS)
-    && is_table (λ (l : LocaleCurrency). l.tag) (part CURRENCY_SYMBOLS c.symbols)
+has_symbols c = is_table_part (λ (l : LocaleCurrency). l.tag) CURRENCY_SYMBOLS c.symbols
 
 currencies_have_symbols : list_all has_symbols CURRENCIES ≡ true
 unfolding number
 currencies_have_symbols = refl
 
-pub has_symbols_if_listed : (c : Currency) → Contains CURRENCIES c
-    → (is_inside c.symbols (length CURRENCY_SYMBOLS) ≡ true)
-    × (is_table (λ (l : LocaleCurrency). l.tag) (part CURRENCY_SYMBOLS c.symbols) ≡ true)
-has_symbols_if_listed c listed =
-    and_parts (is_inside c.symbols (length CURRENCY_SYMBOLS))
-    (is_table (λ (l : LocaleCurrency). l.tag) (part CURRENCY_SYMBOLS c.symbols))
-    (passes has_symbols CURRENCIES c currencies_have_symbols listed)
+pub has_symbols_if_listed : (c : Currency) → Contains CURRENCIES c → has_symbols c ≡ true
+has_symbols_if_listed c listed = passes has_symbols CURRENCIES c currencies_have_symbols listed
 
 abbrev has_overrides : Currency → Bool
-has_overrides c =
-    is_inside c.overrides (length OVERRIDES_BY_CURRENCY)
-    && is_table (λ (l : LocaleOverride). l.tag) (part OVERRIDES_BY_CURRENCY c.overrides)
+has_overrides c = is_table_part (λ (l : LocaleOverride). l.tag) OVERRIDES_BY_CURRENCY c.overrides
 
 currencies_have_overrides : list_all has_overrides CURRENCIES ≡ true
 unfolding number
 currencies_have_overrides = refl
 
-pub has_overrides_if_listed : (c : Currency) → Contains CURRENCIES c
-    → (is_inside c.overrides (length OVERRIDES_BY_CURRENCY) ≡ true)
-    × (is_table (λ (l : LocaleOverride). l.tag) (part OVERRIDES_BY_CURRENCY c.overrides) ≡ true)
-has_overrides_if_listed c listed =
-    and_parts (is_inside c.overrides (length OVERRIDES_BY_CURRENCY))
-    (is_table (λ (l : LocaleOverride). l.tag) (part OVERRIDES_BY_CURRENCY c.overrides))
-    (passes has_overrides CURRENCIES c currencies_have_overrides listed)
+pub has_overrides_if_listed : (c : Currency) → Contains CURRENCIES c → has_overrides c ≡ true
+has_overrides_if_listed c listed = passes has_overrides CURRENCIES c currencies_have_overrides listed
 
 -- ---- The indices are those of rows.
 

@@ -1,33 +1,35 @@
 -- What is true of each row of the tables, by computation, and of the texts of symbols.
-use Rattle.std.proofs.Common.{◌≡◌, ℕ, ◌<◌, ◌≤◌, ◌==◌, ◌&&◌, Bool, true, List, length, slice_get, Some, None, refl, ap, sym, ◌∙◌, inl, inr, lit≤, arith}
+use Rattle.std.proofs.Common.{◌≡◌, ℕ, ◌<◌, ◌≤◌, ◌==◌, ◌&&◌, nat_lt, Bool, true, List, length, slice_get, Some, None, refl, sym, ◌∙◌, inl, inr, lit≤, arith}
 use Rattle.std.proofs.lemmas.Bool.{and_parts}
 use Rattle.std.proofs.lemmas.Bool.Decides.{nat_tests}
 use Rattle.std.proofs.lemmas.List.Elements.{All-contains}
 use Rattle.std.proofs.lemmas.List.Sums.{AllPass-from_list_all}
 use Rattle.std.proofs.lemmas.Option.{slice_get_within, slice_get_cases, get_or_from_slice_get, none-some}
-use Rattle.std.specs.Prelude.{encode_utf8, slice_index, is_some}
+use Rattle.std.proofs.lemmas.Str.{IsUtf8-from_is_utf8}
+use Rattle.std.specs.Prelude.{encode_utf8, slice_index}
 use Rattle.std.specs.List.{list_all, Contains}
-use Rattle.std.specs.Str.{bytes_eq}
+use Rattle.std.specs.Str.{IsUtf8, bytes_eq, is_utf8, chars}
 use Rattle.locale_data.specs.declared.symbols.Symbol.{Symbol}
 use Rattle.locale_data.specs.declared.symbols.Symbol.TheVariants.{Period, Comma}
 use Rattle.locale_data.specs.declared.symbols.NumberingSystem.{NumberingSystem}
 use Rattle.locale_data.specs.declared.symbols.LocaleSymbols.{LocaleSymbols}
 use Rattle.locale_data.specs.declared.symbols_table.TheConstants.{LOCALES, LOCALES_BY_SYSTEM, NUMBERING_SYSTEMS}
-use Rattle.decimal_format.specs.Symbols.{Symbols, AreValid, Rejects}
-use Rattle.decimal_format.specs.declared.error.SymbolsError.{SymbolsError}
-use Rattle.decimal_format.specs.declared.error.SymbolsError.TheVariants.{DigitWidths, DecimalTooLong, GroupingTooLong, MinusPrefixTooLong, MinusSuffixTooLong, PlusPrefixTooLong, PlusSuffixTooLong}
 use Rattle.locale_data.specs.Symbol.{symbol_text}
 use Rattle.locale_data.specs.Tag.{compared}
 use Rattle.locale_data.specs.declared.plurals.LanguageRules.{LanguageRules}
 use Rattle.locale_data.specs.declared.plurals_table.TheConstants.{PLURAL_RULES, PLURAL_RULES_TEXTS}
 use Rattle.locale_data.specs.Rows.{is_inside, unpadded}
-use Rattle.locale_data.specs.SortedRows.{number, is_table}
+use Rattle.locale_data.specs.SortedRows.{number, is_table, is_table_part}
 use Rattle.locale_data.specs.Locales.{own_rows, system_named, HasOneWidth}
 use Rattle.locale_data.proofs.SortedRows.{find_some}
 
 -- a test that passes for each element of a list passes for those in it
 pub passes : {X : Type 0} (q : X → Bool) (xs : List X) (x : X) → list_all q xs ≡ true → Contains xs x → q x ≡ true
 passes q xs x all is = All-contains (λ x. q x ≡ true) xs x (AllPass-from_list_all q xs all) is
+
+-- an index that passes the test is below a length
+pub below : (i n : ℕ) → nat_lt i n ≡ true → i < n
+below i n h = grind (arith, nat_tests, h)
 
 -- a row with an index is in the table
 pub contains_at : {X : Type 0} (xs : List X) (k : ℕ) (x : X) → slice_get xs k ≡ Some x → Contains xs x
@@ -81,7 +83,7 @@ systems_are_table = refl
 
 -- the rows of a numbering system are a part of the table, and sorted
 abbrev has_rows : NumberingSystem → Bool
-has_rows s = is_inside s.rows (length LOCALES_BY_SYSTEM) && is_table (λ (l : LocaleSymbols). l.tag) (own_rows s)
+has_rows s = is_table_part (λ (l : LocaleSymbols). l.tag) LOCALES_BY_SYSTEM s.rows
 
 systems_have_rows : list_all has_rows NUMBERING_SYSTEMS ≡ true
 unfolding number
@@ -116,17 +118,25 @@ has_texts_if_listed l listed =
 -- ---- The default numbering system of a locale.
 
 abbrev has_system : LocaleSymbols → Bool
-has_system l = is_some (system_named (unpadded l.system))
+has_system l = nat_lt l.system (length NUMBERING_SYSTEMS)
 
 locales_have_systems : list_all has_system LOCALES ≡ true
-unfolding system_named
 locales_have_systems = refl
 
-pub listed_system : (l : LocaleSymbols) → Contains LOCALES l → system_named (unpadded l.system) ≡ None → ⊥
-listed_system l listed none =
-    let found = passes has_system LOCALES l locales_have_systems listed in
-    let absent = ap is_some none in
-    cc
+pub has_system_if_listed : (l : LocaleSymbols) → Contains LOCALES l → l.system < length NUMBERING_SYSTEMS
+has_system_if_listed l listed = below l.system _ (passes has_system LOCALES l locales_have_systems listed)
+
+-- the names of numbering systems are texts
+abbrev has_text : NumberingSystem → Bool
+has_text s = is_utf8 (unpadded s.name)
+
+systems_have_texts : list_all has_text NUMBERING_SYSTEMS ≡ true
+unfolding is_utf8 chars lib.Utf8.encode
+systems_have_texts = refl
+
+pub has_text_if_listed : (s : NumberingSystem) → Contains NUMBERING_SYSTEMS s → IsUtf8 (unpadded s.name)
+has_text_if_listed s listed =
+    IsUtf8-from_is_utf8 (unpadded s.name) (passes has_text NUMBERING_SYSTEMS s systems_have_texts listed)
 
 -- ---- The texts of symbols.
 
@@ -137,14 +147,3 @@ symbol_text-short _ = lit≤ tt
 
 pub short_text : (text : List ℕ) (s : Symbol) → text ≡ symbol_text s → length text ≤ 255
 short_text text s e = rw e (symbol_text-short s)
-
--- ---- Valid symbols are not rejected.
-
-pub not_rejected : (e : SymbolsError) (s : Symbols) → AreValid s → Rejects e s → ⊥
-not_rejected DigitWidths s valid r = r valid.one_width
-not_rejected DecimalTooLong s valid r = omega arith
-not_rejected GroupingTooLong s valid r = omega arith
-not_rejected MinusPrefixTooLong s valid r = omega arith
-not_rejected MinusSuffixTooLong s valid r = omega arith
-not_rejected PlusPrefixTooLong s valid r = omega arith
-not_rejected PlusSuffixTooLong s valid r = omega arith

@@ -1,7 +1,6 @@
 -- The tables of formats are sorted, and their indices are those of rows, by computation.
-use Rattle.std.proofs.Common.{◌≡◌, ℕ, ◌<◌, ◌&&◌, nat_lt, Bool, true, List, length, Option, Some, None, refl, ap, ◌∙◌, arith}
+use Rattle.std.proofs.Common.{◌≡◌, ℕ, ◌<◌, ◌&&◌, nat_lt, Bool, true, List, length, Option, Some, None, refl, ap, ◌∙◌}
 use Rattle.std.proofs.lemmas.Bool.{and_parts}
-use Rattle.std.proofs.lemmas.Bool.Decides.{nat_tests}
 use Rattle.std.specs.Prelude.{unwrap_or}
 use Rattle.std.specs.Str.{bytes_eq}
 use Rattle.std.specs.List.{list_all, Contains}
@@ -13,10 +12,10 @@ use Rattle.locale_data.specs.declared.formats.SystemFormats.{SystemFormats}
 use Rattle.locale_data.specs.declared.formats.TheConstants.{NO_FORMATS}
 use Rattle.locale_data.specs.declared.formats_table.TheConstants.{PATTERNS, NUMBER_SIGNS, MONEY_FORMATS, LOCALE_FORMATS, ROOT_FORMATS, FORMATS_BY_SYSTEM, FORMAT_SYSTEMS}
 use Rattle.locale_data.specs.Formats.{chosen, format_system, IsRowElse, IsLatinFormats, AreOfSystem}
-use Rattle.locale_data.specs.Rows.{part, is_inside, unpadded, IsRowOf}
-use Rattle.locale_data.specs.SortedRows.{number, is_table}
+use Rattle.locale_data.specs.Rows.{part, unpadded, IsRowOf}
+use Rattle.locale_data.specs.SortedRows.{number, is_table, is_table_part}
 use Rattle.locale_data.specs.Tag.{compared}
-use Rattle.locale_data.proofs.EachRow.{passes}
+use Rattle.locale_data.proofs.EachRow.{passes, below}
 use Rattle.locale_data.proofs.SortedRows.{find_some}
 
 -- ---- The tables are sorted.
@@ -29,32 +28,21 @@ pub format_systems_are_table : is_table (λ s. s.name) FORMAT_SYSTEMS ≡ true
 unfolding number
 format_systems_are_table = refl
 
--- the rows of a numbering system are a part of the table, and sorted
 abbrev has_formats : FormatSystem → Bool
-has_formats s =
-    is_inside s.rows (length FORMATS_BY_SYSTEM)
-    && is_table (λ (l : SystemFormats). l.tag) (part FORMATS_BY_SYSTEM s.rows)
+has_formats s = is_table_part (λ (l : SystemFormats). l.tag) FORMATS_BY_SYSTEM s.rows
 
 systems_have_formats : list_all has_formats FORMAT_SYSTEMS ≡ true
 unfolding number
 systems_have_formats = refl
 
-pub has_formats_if_listed : (s : FormatSystem) → Contains FORMAT_SYSTEMS s
-    → (is_inside s.rows (length FORMATS_BY_SYSTEM) ≡ true)
-    × (is_table (λ (l : SystemFormats). l.tag) (part FORMATS_BY_SYSTEM s.rows) ≡ true)
-has_formats_if_listed s listed =
-    and_parts (is_inside s.rows (length FORMATS_BY_SYSTEM))
-    (is_table (λ (l : SystemFormats). l.tag) (part FORMATS_BY_SYSTEM s.rows))
-    (passes has_formats FORMAT_SYSTEMS s systems_have_formats listed)
+pub has_formats_if_listed : (s : FormatSystem) → Contains FORMAT_SYSTEMS s → has_formats s ≡ true
+has_formats_if_listed s listed = passes has_formats FORMAT_SYSTEMS s systems_have_formats listed
 
 -- ---- The indices are those of rows.
 
 -- an index, if there is one, is below a length
 abbrev is_below : ℕ → Option ℕ → Bool
 is_below n index = option_map_or (λ i. nat_lt i n) index true
-
-below : (i n : ℕ) → nat_lt i n ≡ true → i < n
-below i n h = grind (arith, nat_tests, h)
 
 chosen-below : (n : ℕ) (own root : Option ℕ) (latin : ℕ) → is_below n own ≡ true → is_below n root ≡ true
     → nat_lt latin n ≡ true → chosen own root latin < n

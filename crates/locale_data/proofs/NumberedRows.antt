@@ -10,7 +10,8 @@ use Rattle.locale_data.specs.declared.symbols.LocaleSymbols.{LocaleSymbols}
 use Rattle.locale_data.specs.declared.symbols.NumberingSystem.{NumberingSystem}
 use Rattle.locale_data.specs.declared.symbols_table.TheConstants.{LOCALES, NUMBERING_SYSTEMS}
 use Rattle.locale_data.specs.Rows.{row_at}
-use Rattle.locale_data.specs.Locales.{name_of, system_named, own_rows, symbols_in, own_symbols_at, symbols_at, IsListed, IsLocale}
+use Rattle.locale_data.specs.Locales.{system_of, own_rows, symbols_in, own_symbols_at, symbols_at, IsListed, IsLocale, AreRowsOf}
+use Rattle.locale_data.proofs.EachRow.{not_past}
 
 own_symbols : (system : NumberingSystem) (locale : LocaleSymbols) (own : Option ℕ)
     → IfSome own (λ i. i < length (own_rows system))
@@ -53,21 +54,40 @@ module _ (numbers : LocaleNumbers) where
         (slice_get NUMBERING_SYSTEMS numbers.system))) at_locale
         ∙ ap (option_and_then (λ system. own_symbols_at system locale numbers.own)) at_system
 
+-- the rows of a locale and of a numbering system are those of a tag
+pub rows_found : (tag : List ℕ) (locale : LocaleSymbols) (i j : ℕ) → slice_get LOCALES i ≡ Some locale
+    → IsListed LOCALES tag (Some locale) → slice_get NUMBERING_SYSTEMS j ≡ system_of tag locale
+    → j < length NUMBERING_SYSTEMS → AreRowsOf tag i j
+rows_found tag locale i j at listed named inside = by (slice_get NUMBERING_SYSTEMS j) refl
+  where
+    by : (o : Option NumberingSystem) → slice_get NUMBERING_SYSTEMS j ≡ o → AreRowsOf tag i j
+    by None none = absurd (not_past NUMBERING_SYSTEMS j inside none)
+    by (Some system) at_system = record {
+      locale = locale;
+      system = system;
+      at_locale = at;
+      at_system = at_system;
+      listed = listed;
+      named = sym named ∙ at_system;
+    }
+
 -- the rows of a tag make its symbols
-pub symbols_found : (tag : List ℕ) (numbers : LocaleNumbers) (locale : LocaleSymbols) (system : NumberingSystem)
-    → slice_get LOCALES numbers.locale ≡ Some locale → slice_get NUMBERING_SYSTEMS numbers.system ≡ Some system
-    → IsListed LOCALES tag (Some locale) → system_named (name_of tag locale) ≡ Some system
+pub symbols_found : (tag : List ℕ) (numbers : LocaleNumbers) (system : NumberingSystem)
+    → AreRowsOf tag numbers.locale numbers.system → slice_get NUMBERING_SYSTEMS numbers.system ≡ Some system
     → IfSome numbers.own (λ i. i < length (own_rows system))
     → IsListed (own_rows system) tag (row_at (own_rows system) numbers.own)
     → IsSomeAnd (symbols_at numbers) (IsLocale tag)
-symbols_found tag numbers locale system at_locale at_system listed named inside own =
-    let found = with_system numbers locale at_locale system at_system ∙ own_symbols system locale numbers.own inside in
+symbols_found tag numbers system rows at_system inside own =
+    let locale = rows.locale in
+    let found = with_system numbers locale rows.at_locale system at_system
+    ∙ own_symbols system locale numbers.own inside in
+    let same : rows.system ≡ system = cc (rows.at_system, at_system) in
     subst (λ o. IsSomeAnd o (IsLocale tag)) (sym found) (record {
       locale = locale;
       system = system;
       own = row_at (own_rows system) numbers.own;
-      listed = listed;
-      named = named;
+      listed = rows.listed;
+      named = rows.named ∙ ap Some same;
       in_system = own;
       value = refl;
     })

@@ -1,9 +1,9 @@
 -- The numbers of parts of a tag: where one part is a prefix of another, their numbers are near.
-use Rattle.std.proofs.Common.{◌≡◌, ℕ, zero, suc, ◌+◌, ◌-◌, ◌*◌, ◌%◌, ◌^◌, ◌<◌, ◌≤◌, ◌⊎◌, nat_lt, true, false, cond, List, length, length-set, set, replicate, slice_index, take, get_or, refl, ap, ap₂, sym, ◌∙◌, subst, inl, inr, lit≤, mod-eq_of_lt, mul_assoc, arith}
+use Rattle.std.proofs.Common.{◌≡◌, ℕ, zero, suc, ◌+◌, ◌-◌, ◌*◌, ◌%◌, ◌^◌, ◌<◌, ◌≤◌, ◌⊎◌, nat_lt, Bool, true, false, cond, List, length, length-set, set, replicate, slice_index, take, get_or, refl, ap, ap₂, sym, ◌∙◌, subst, inl, inr, lit≤, mod-eq_of_lt, mul_assoc, arith}
 use Rattle.std.proofs.Math.Nat.{pow-le-pow_right, mul-le-mul_right, mul_comm}
 use Rattle.std.proofs.lemmas.Bool.{cases_lt}
 use Rattle.std.proofs.lemmas.Bool.Decides.{nat_tests}
-use Rattle.std.proofs.lemmas.List.{get_or-set_same, get_or-set_other, get_or-map, get_or-take, get_or-replicate, length-map, length-take-le}
+use Rattle.std.proofs.lemmas.List.{ext_get_or, length-take, get_or-set_same, get_or-set_other, get_or-map, get_or-take, get_or-replicate, length-map, length-take-le}
 use Rattle.std.proofs.lemmas.Nat.{pow-add}
 use Rattle.std.specs.Int.{from_be_bytes, w128}
 use Rattle.locale_data.specs.Tag.{tag_byte, compared}
@@ -85,9 +85,54 @@ module _ (text : List ℕ) (bytes : (j : ℕ) → padded_byte text j < 256) wher
       ap (λ x. (n + 1) * x) (power_more m ∙ mul_comm p 256) ∙ sym (mul_assoc (n + 1) 256 p) in
       omega arith
 
+-- texts with equal numbers have equal bytes
+same_bytes : (s t : List ℕ) → ((j : ℕ) → padded_byte s j < 256) → ((j : ℕ) → padded_byte t j < 256) → (k : ℕ) → k ≤ 16
+    → number_of_first s k ≡ number_of_first t k → (j : ℕ) → j < k → padded_byte s j ≡ padded_byte t j
+same_bytes s t s_bytes t_bytes zero inside e j lt = absurd (omega arith)
+same_bytes s t s_bytes t_bytes (suc k) inside e j lt =
+    let m = number_of_first s k in
+    let n = number_of_first t k in
+    let s_next = next_of s s_bytes k inside in
+    let t_next = next_of t t_bytes k inside in
+    let s_byte = s_bytes k in
+    let t_byte = t_bytes k in
+    let front : m ≡ n = omega arith in
+    let last : padded_byte s k ≡ padded_byte t k = omega arith in
+    elim (cases_lt j k) [
+      | inl before ↦ same_bytes s t s_bytes t_bytes k (omega arith) front j before
+      | inr ge ↦
+          let here : j ≡ k = omega arith in
+          ap (padded_byte s) here ∙ (last ∙ sym (ap (padded_byte t) here))
+    ]
+
 number_at_top : (text : List ℕ) (top : ℕ) → top ≡ 16 → number_of_first text top ≡ number text
 unfolding number
 number_at_top text top e = ap (number_of_first text) e
+
+-- texts of one length, of at most 16 bytes, with equal numbers are equal
+pub same_text : (s t : List ℕ) → ((j : ℕ) → padded_byte s j < 256) → ((j : ℕ) → padded_byte t j < 256)
+    → length s ≡ length t → length s ≤ 16 → number s ≡ number t → s ≡ t
+same_text s t s_bytes t_bytes long short e = ext_get_or 0 s t long (λ j inside. at j inside)
+  where
+    at : (j : ℕ) → j < length s → get_or s j 0 ≡ get_or t j 0
+    at j inside =
+        let first = number_at_top s 16 refl ∙ (e ∙ sym (number_at_top t 16 refl)) in
+        let same = same_bytes s t s_bytes t_bytes 16 (lit≤ tt) first j (omega arith) in
+        let in_s : nat_lt j (length s) ≡ true = grind (arith, nat_tests) in
+        let in_t : nat_lt j (length t) ≡ true = grind (arith, nat_tests) in
+        sym (ap (λ b. cond b (get_or s j 0) 32) in_s) ∙ (same ∙ ap (λ b. cond b (get_or t j 0) 32) in_t)
+
+-- the first bytes of a text are bytes
+pub first_are_bytes : (text : List ℕ) → ((j : ℕ) → get_or text j 0 < 256) → (n j : ℕ)
+    → padded_byte (take n text) j < 256
+first_are_bytes text bytes n j = by (nat_lt j (length (take n text))) refl
+  where
+    by : (b : Bool) → nat_lt j (length (take n text)) ≡ b → cond b (get_or (take n text) j 0) 32 < 256
+    by false e = lit≤ tt
+    by true e =
+        let inside : j < length (take n text) = grind (arith, nat_tests, e) in
+        let below : j < n = omega (arith, length-take n text) in
+        subst (λ b. b < 256) (sym (get_or-take n text j 0 below)) (bytes j)
 
 -- the digits of a number to base 256
 digits_16 : (f b : ℕ → ℕ) → f 0 ≡ 0 → ((k : ℕ) → k < 16 → f (suc k) ≡ f k * 256 + b k) → (p : List ℕ)
@@ -140,6 +185,19 @@ padded_number padded text bytes is =
 
 tag_byte-small : (b : ℕ) → b < 256 → tag_byte b < 256
 tag_byte-small b small = grind (arith, nat_tests)
+
+-- the bytes of a text, as they are compared, are bytes
+pub compared_are_bytes : (text : List ℕ) → ((j : ℕ) → get_or text j 0 < 256) → (j : ℕ)
+    → padded_byte (compared text) j < 256
+compared_are_bytes text bytes j = by (nat_lt j (length (compared text))) refl
+  where
+    by : (b : Bool) → nat_lt j (length (compared text)) ≡ b → cond b (get_or (compared text) j 0) 32 < 256
+    by false e = lit≤ tt
+    by true e =
+        let long = length-map text tag_byte in
+        let inside : j < length (compared text) = grind (arith, nat_tests, e) in
+        let here = get_or-map tag_byte text j 0 0 (omega arith) in
+        subst (λ b. b < 256) (sym here) (tag_byte-small (get_or text j 0) (bytes j))
 
 module _ (tag : List ℕ) (bytes : (j : ℕ) → get_or tag j 0 < 256) where
   -- the first bytes of the tag, as they are compared

@@ -6,7 +6,8 @@ use Rattle.std.proofs.lemmas.Cmp.{ranked}
 use Rattle.std.proofs.lemmas.Nat.{one_shl, pow_pos}
 use Rattle.std.proofs.lemmas.Option.{slice_get-get_or, slice_get_cases}
 use Rattle.std.proofs.lemmas.Slice.Eq.{bytes_eq-Decides}
-use Rattle.std.specs.Prelude.{IfSome}
+use Rattle.std.specs.Prelude.{IfSome, ◌==◌}
+use Rattle.std.specs.Str.{bytes_eq}
 use Rattle.std.specs.Bool.{then_some}
 use Rattle.std.specs.Int.{from_be_bytes, w128}
 use Rattle.std.specs.List.Sorted.{IsBinarySearchResult}
@@ -14,9 +15,9 @@ use Rattle.std.specs.Option.{option_or}
 use Rattle.std.specs.Ordering.{nat_cmp}
 use Rattle.locale_data.specs.Tag.{tag_byte, compared}
 use Rattle.locale_data.specs.Rows.{unpadded, row_at, row_named, is_candidate}
-use Rattle.locale_data.specs.SortedRows.{number, is_table, ends_at, IsFar, HasNoLonger}
+use Rattle.locale_data.specs.SortedRows.{number, padded_byte, is_table, ends_at, IsFar, HasNoLonger}
 use Rattle.locale_data.proofs.LongestRow.{prefix_is, IsLongestBelow, searched_below}
-use Rattle.locale_data.proofs.PrefixNumbers.{part_below, part_near}
+use Rattle.locale_data.proofs.PrefixNumbers.{part_below, part_near, same_text}
 use Rattle.locale_data.proofs.SortedRows.{numbers_increase, number_of_named, comparisons_rise}
 
 -- the row at the index that is found
@@ -41,6 +42,22 @@ pub inside-or : (a b : Option ℕ) (n : ℕ) → IfSome a (λ k. k < n) → IfSo
     → IfSome (option_or a b) (λ k. k < n)
 inside-or None b n p q = q
 inside-or (Some i) b n p q = p
+
+-- a text with the number of a name is the name if both have one length
+pub named_by_length : (u name : List ℕ) (n : ℕ) → n ≡ length name → ((j : ℕ) → padded_byte u j < 256)
+    → ((j : ℕ) → padded_byte name j < 256) → length u ≤ 16 → number u ≡ number name → (length u == n) ≡ bytes_eq u name
+named_by_length u name n long u_bytes name_bytes short e = by (length u == n) refl (bytes_eq u name) refl
+  where
+    by : (a : Bool) → (length u == n) ≡ a → (b : Bool) → bytes_eq u name ≡ b → a ≡ b
+    by true f true h = refl
+    by false f false h = refl
+    by true f false h =
+        let same : length u ≡ length name = grind (arith, nat_tests, f) in
+        let equal = (bytes_eq-Decides u name).1 (same_text u name u_bytes name_bytes same short e) in
+        cc
+    by false f true h =
+        let same = ap length ((bytes_eq-Decides u name).0 h) in
+        grind (arith, nat_tests)
 
 -- a row that is far from a number
 pub far_from : (n m end : ℕ) → end ≢ 0 → end < 16 → nat_lt (m - n) (1 * 2 ^ (8 * (16 - end)) % 2 ^ 128) ≡ false
@@ -93,12 +110,18 @@ module _ {R : Type 0} (name_of : R → List ℕ) (rows : List R) (table : is_tab
       omega arith
 
   -- a far row after a part: no name that begins with the part is longer
-  pub none_longer : (tag : List ℕ) → ((j : ℕ) → get_or tag j 0 < 256) → (end index : ℕ) → end ≤ length tag
-      → ends_at tag end ≡ true → AreAtMost (number (compared (take end tag))) index
-      → IsFar name_of rows index (number (compared (take end tag))) end → HasNoLonger name_of rows tag end
-  none_longer tag bytes end index inside ends before far = λ k d in_range is.
+  pub none_longer : (tag : List ℕ) → ((j : ℕ) → get_or tag j 0 < 256) → (end index n : ℕ) → end ≤ length tag
+      → ends_at tag end ≡ true → n ≡ number (compared (take end tag)) → AreAtMost n index
+      → IsFar name_of rows index n end → HasNoLonger name_of rows tag end
+  none_longer tag bytes end index n inside ends e at_most is_far = λ k d in_range is.
       by k d in_range is (cases_lt end (size (get_or rows k d))) (cases_lt k index)
     where
+      before : AreAtMost (number (compared (take end tag))) index
+      before = subst (λ m. AreAtMost m index) e at_most
+
+      far : IsFar name_of rows index (number (compared (take end tag))) end
+      far = subst (λ m. IsFar name_of rows index m end) e is_far
+
       size : R → ℕ
       size row = length (unpadded (name_of row))
 

@@ -121,6 +121,16 @@ module _ {R : Type 0} (name_of : R → List ℕ) (rows : List R) (table : is_tab
       grind (arith, nat_tests, padded) in
       is_number ∙ ap number ((bytes_eq-Decides _ name).0 same)
 
+  -- the name of a row that a binary search finds has the number
+  pub number_of_found : (k i : ℕ) (row : R) → i < length rows → row ≡ get_or rows i row
+      → IsBinarySearchResult (λ row. nat_cmp (number_at row) k) rows (Ok i) → number (unpadded (name_of row)) ≡ k
+  number_of_found k i row inside is equal =
+      let here : number_at (get_or rows i row) ≡ k = ranked _ k _ (sym (equal row)) in
+      let padded = AllPass-from_list_all (λ row. is_padded (name_of row)) rows parts.0 i row inside in
+      let is_number : number_at (get_or rows i row) ≡ number (unpadded (name_of (get_or rows i row))) =
+      grind (arith, nat_tests, padded) in
+      ap (λ r. number (unpadded (name_of r))) is ∙ (sym is_number ∙ here)
+
   -- the comparisons with a number rise
   pub comparisons_rise : (k : ℕ) (d : R) → IsNonDecreasingBy (λ row. ordering_index (nat_cmp (number_at row) k)) rows
   comparisons_rise k d =

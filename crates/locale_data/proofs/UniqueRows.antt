@@ -15,7 +15,8 @@ use Rattle.locale_data.specs.SortedRows.{is_table}
 use Rattle.locale_data.specs.Locales.{own_rows, IsListed, IsLocale}
 use Rattle.locale_data.proofs.SortedRows.{numbers_increase, number_of_named}
 use Rattle.locale_data.proofs.LongestRow.{prefix_is}
-use Rattle.locale_data.proofs.EachRow.{locales_are_table, listed_by_name, has_rows_if_listed}
+use Rattle.locale_data.proofs.EachRow.{locales_are_table, has_rows_if_listed}
+use Rattle.locale_data.proofs.Unknown.{system_is_listed}
 
 module _ {R : Type 0} (name_of : R → List ℕ) (rows : List R) (table : is_table name_of rows ≡ true) where
   -- rows with one name are one row
@@ -63,7 +64,7 @@ locale_is_unique tag s t a b =
     let locale : Some a.locale ≡ Some b.locale =
     row_is_unique tag_of LOCALES locales_are_table tag _ _ a.listed b.listed in
     let system : a.system ≡ b.system = cc (locale, a.named, b.named) in
-    let rows = has_rows_if_listed a.system (listed_by_name _ a.system a.named) in
+    let rows = has_rows_if_listed a.system (system_is_listed tag a.locale a.system a.named) in
     let in_system = subst (λ (n : NumberingSystem). IsListed (own_rows n) tag b.own) (sym system) b.in_system in
     let own = row_is_unique tag_of (own_rows a.system) rows.1 tag a.own b.own a.in_system in_system in
     cc (a.value, b.value)

@@ -39,9 +39,14 @@ abbrev pub symbols_in : NumberingSystem → LocaleSymbols → Option LocaleSymbo
 symbols_in system locale None = symbols_of system (unwrap_or system.symbols locale.symbols) locale.sizes
 symbols_in system locale (Some own) = symbols_of system own.symbols own.sizes
 
--- the name of the numbering system that a tag names, or else of the default one of a locale
-abbrev pub name_of : List ℕ → LocaleSymbols → List ℕ
-name_of tag locale = unwrap_or (requested_system tag) (unpadded locale.system)
+-- the numbering system with a name, and without a name the default one of a locale
+abbrev pub system_by : Option (List ℕ) → LocaleSymbols → Option NumberingSystem
+system_by None locale = slice_get NUMBERING_SYSTEMS locale.system
+system_by (Some name) locale = system_named name
+
+-- the numbering system that a tag names, or else the default one of a locale
+unfoldable pub system_of : List ℕ → LocaleSymbols → Option NumberingSystem
+system_of tag locale = system_by (requested_system tag) locale
 
 -- those of a locale in a numbering system, whose own symbols are a row with a number, or None
 abbrev pub own_symbols_at : NumberingSystem → LocaleSymbols → Option ℕ → Option Symbols
@@ -61,7 +66,7 @@ pub record IsLocale (tag : List ℕ) (s : Symbols) : Type 0 where
   pub system : NumberingSystem
   pub own : Option LocaleSymbols
   pub listed : IsListed LOCALES tag (Some locale)
-  pub named : system_named (name_of tag locale) ≡ Some system
+  pub named : system_of tag locale ≡ Some system
   pub in_system : IsListed (own_rows system) tag own
   pub value : s ≡ symbols_in system locale own
 
@@ -75,12 +80,21 @@ pub record IsLocaleIn (tag name : List ℕ) (s : Symbols) : Type 0 where
   pub in_system : IsListed (own_rows system) tag own
   pub value : s ≡ symbols_in system locale own
 
+-- the rows with these indices are the listed locale with the longest tag, and its numbering system
+pub record AreRowsOf (tag : List ℕ) (locale_index system_index : ℕ) : Type 0 where
+  pub locale : LocaleSymbols
+  pub system : NumberingSystem
+  pub at_locale : slice_get LOCALES locale_index ≡ Some locale
+  pub at_system : slice_get NUMBERING_SYSTEMS system_index ≡ Some system
+  pub listed : IsListed LOCALES tag (Some locale)
+  pub named : system_of tag locale ≡ Some system
+
 -- the name is that of the numbering system
 pub record IsSystemName (tag name : List ℕ) : Type 0 where
   pub locale : LocaleSymbols
   pub system : NumberingSystem
   pub listed : IsListed LOCALES tag (Some locale)
-  pub named : system_named (name_of tag locale) ≡ Some system
+  pub named : system_of tag locale ≡ Some system
   pub value : name ≡ unpadded system.name
 
 -- the numbering system of the tag is not listed

@@ -9,8 +9,8 @@ use crate::compact_table::{
     COMPACT_BYTES, COMPACT_PATTERNS, COMPACT_RUNS, COMPACT_SETS, PERCENT_UNITS,
 };
 use crate::number_formats::NumberFormats;
-use crate::rows::{TableRange, part};
-use crate::texts::{row_at, text_in};
+use crate::rows::{TableRange, indexed_row, part};
+use crate::texts::text_in;
 use plural_rules::PluralCategory;
 
 /// The compact patterns of a locale, as parts of a table of runs.
@@ -287,7 +287,7 @@ impl NumberFormats {
         ensures value { IsRun self.now style magnitude (option_copied result) }
         ensures listed { IfSome result (λ run. Contains COMPACT_RUNS run.now) }
     {
-        let set = row_at(&COMPACT_SETS, self.compact as usize);
+        let set = indexed_row(&COMPACT_SETS, self.compact as usize);
         run_at(runs_of(set, style), magnitude)
     }
 
@@ -339,7 +339,7 @@ impl NumberFormats {
         ensures value { IsUnit self.now category result }
         ensures short { (length result.prefix.now ≤ 255) × (length result.suffix.now ≤ 255) }
     {
-        let unit = row_at(&PERCENT_UNITS, self.unit as usize);
+        let unit = indexed_row(&PERCENT_UNITS, self.unit as usize);
         unit_of(unit_for(unit, category))
     }
 }

@@ -12,8 +12,8 @@ use crate::formats::formats_of;
 use crate::formats_table::{CURRENCY_OVERRIDES, MONEY_FORMATS, PATTERNS};
 use crate::number_formats::NumberFormats;
 use crate::patterns::{MoneySeparator, Pattern};
-use crate::rows::{Name, Row, TableRange, part, row_named, row_of};
-use crate::texts::{row_at, text_in};
+use crate::rows::{Name, Row, TableRange, indexed_row, row_in, row_named};
+use crate::texts::text_in;
 
 /// A code of ISO 4217, as `*b"USD"`. Letters may be of either case.
 pub type CurrencyCode = [u8; 3];
@@ -158,7 +158,7 @@ fn own_symbols(currency: &Currency, tag: &[u8]) -> Option<&'static LocaleCurrenc
     requires { Contains CURRENCIES currency.now }
     ensures { IsSymbolRow currency.now tag.now (option_copied result) }
 {
-    row_of(part(&CURRENCY_SYMBOLS, currency.symbols), tag)
+    row_in(&CURRENCY_SYMBOLS, currency.symbols, tag)
 }
 
 fn symbol_index(currency: &Currency, own: Option<&LocaleCurrency>, width: SymbolWidth) -> u16
@@ -201,7 +201,7 @@ pub fn currency_symbol(tag: &str, code: CurrencyCode, width: SymbolWidth) -> Opt
     let currency = currency_with(code)?;
     let own = own_symbols(currency, tag.as_bytes());
     let index = symbol_index(currency, own, width);
-    Some(symbol_of(row_at(&CURRENCY_TEXTS, index as usize)))
+    Some(symbol_of(indexed_row(&CURRENCY_TEXTS, index as usize)))
 }
 
 /// Which pattern of a currency.
@@ -228,7 +228,7 @@ fn override_row(currency: &Currency, tag: &[u8]) -> Option<&'static LocaleOverri
     requires { Contains CURRENCIES currency.now }
     ensures { IsOverrideRow currency.now tag.now (option_copied result) }
 {
-    row_of(part(&OVERRIDES_BY_CURRENCY, currency.overrides), tag)
+    row_in(&OVERRIDES_BY_CURRENCY, currency.overrides, tag)
 }
 
 fn override_of(tag: &[u8], code: CurrencyCode) -> Option<u8>
@@ -248,9 +248,9 @@ fn overridden(index: u8) -> CurrencyPattern
     requires { index < length CURRENCY_OVERRIDES }
     ensures { overridden index ≡ Some result }
 {
-    let replaced = row_at(&CURRENCY_OVERRIDES, index as usize);
+    let replaced = indexed_row(&CURRENCY_OVERRIDES, index as usize);
     CurrencyPattern {
-        pattern: *row_at(&PATTERNS, replaced.pattern as usize),
+        pattern: *indexed_row(&PATTERNS, replaced.pattern as usize),
         decimal: Some(replaced.decimal),
         grouping: Some(replaced.grouping),
     }
@@ -283,11 +283,11 @@ pub fn currency_pattern(
     ensures { IsCurrencyPattern tag.now system.now code sign result }
 {
     let formats = formats_of(tag, system);
-    let money = row_at(&MONEY_FORMATS, formats.money as usize);
+    let money = indexed_row(&MONEY_FORMATS, formats.money as usize);
     match override_of(tag.as_bytes(), code).or(money.replaced) {
         Some(index) => overridden(index),
         None => CurrencyPattern {
-            pattern: *row_at(&PATTERNS, pattern_index(&formats, sign) as usize),
+            pattern: *indexed_row(&PATTERNS, pattern_index(&formats, sign) as usize),
             decimal: money.decimal,
             grouping: money.grouping,
         },

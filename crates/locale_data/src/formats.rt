@@ -5,7 +5,7 @@ ghost use Rattle.locale_data.specs.Formats.{chosen, format_system, IsOwnFormats,
 
 use crate::formats_table::{FORMAT_SYSTEMS, FORMATS_BY_SYSTEM, LOCALE_FORMATS, ROOT_FORMATS};
 use crate::number_formats::NumberFormats;
-use crate::rows::{Name, Row, TableRange, part, row_named, row_of};
+use crate::rows::{Name, Row, TableRange, row_in, row_named, row_of};
 
 /// What a locale has in the numbering system `latn`, as indices of tables.
 #[derive(Clone, Copy, Debug)]
@@ -100,7 +100,7 @@ fn own_formats(system: &FormatSystem, tag: &[u8]) -> SystemFormats
     requires { Contains FORMAT_SYSTEMS system.now }
     ensures { IsOwnFormats tag.now system.now result }
 {
-    match row_of(part(&FORMATS_BY_SYSTEM, system.rows), tag) {
+    match row_in(&FORMATS_BY_SYSTEM, system.rows, tag) {
         Some(own) => *own,
         None => NO_FORMATS,
     }

@@ -1,16 +1,14 @@
 //! The symbols of a tag in a numbering system.
-ghost use Rattle.std.specs.Prelude.{◌≡◌, ◌↔◌, ◌⊎◌, None, IsNone, IfSome, IfNone};
+ghost use Rattle.std.specs.Prelude.{◌≡◌, ◌⊎◌, None, IfSome, IfNone};
 ghost use Rattle.std.specs.Option.{option_copied};
 ghost use Rattle.locale_data.specs.declared.symbols_table.TheConstants.{LOCALES};
-ghost use Rattle.locale_data.specs.Locales.{system_named, IsListed, IsLocaleIn, IsSystemName, IsUnknown};
+ghost use Rattle.locale_data.specs.Locales.{system_named, IsListed, IsLocaleIn};
 ghost use Rattle.decimal_format.specs.Readable.{IsReadable};
 
-use crate::lookup;
 use crate::lookup::{own_rows, symbols_in, system_named};
-use crate::rows::{indexed_row, row_of, unpadded};
+use crate::rows::{indexed_row, row_of};
 use crate::symbols_table::{LOCALES, NUMBERING_SYSTEMS};
 use decimal_format::DecimalSymbols;
-use std::str;
 
 /// Returns the symbols of a locale in a numbering system, as `latn`, whichever the tag names.
 ///
@@ -27,19 +25,4 @@ pub fn locale_in(tag: &str, system: &str) -> Option<DecimalSymbols<'static>>
     let locale = row_of(&LOCALES, tag.as_bytes())?;
     let system = indexed_row(&NUMBERING_SYSTEMS, system_named(system.as_bytes())?);
     Some(symbols_in(system, locale, row_of(own_rows(system), tag.as_bytes())))
-}
-
-/// Returns the name of the numbering system of a tag, as `latn`, which [`formats_of`](crate::formats_of) takes.
-///
-/// It is the one that `nu` names, or the default one of the locale. Returns `None` where [`locale`](crate::locale) does.
-pub fn system_of(tag: &str) -> Option<&'static str>
-    ensures { IfSome result (λ name. IsSystemName tag.now name.now) }
-{
-    let tag = tag.as_bytes();
-    let locale = row_of(&LOCALES, tag)?;
-    let number = lookup::system_of(tag, locale)?;
-    match str::from_utf8(unpadded(&indexed_row(&NUMBERING_SYSTEMS, number).name)) {
-        Ok(name) => Some(name),
-        Err(_) => None,
-    }
 }

@@ -36,8 +36,8 @@ pub use currency::{
     currency_symbol,
 };
 pub use formats::{FormatSystem, LocaleFormats, SystemFormats, formats_of};
-pub use in_system::{locale_in, system_of};
-pub use lookup::{LocaleNumbers, locale, locale_numbers, symbols_at};
+pub use in_system::locale_in;
+pub use lookup::{LocaleNumbers, locale, locale_numbers, symbols_at, system_of};
 pub use number_formats::NumberFormats;
 pub use patterns::{
     Affix, AffixPair, CurrencyOverride, ExponentSeparator, MoneyFormat, MoneySeparator,

@@ -2,7 +2,7 @@
 ghost use Rattle.std.specs.Prelude.{◌≡◌, ◌↔◌, ◌<◌, ◌^◌, length, IsNone, IfSome, IsSomeAnd, Contains};
 ghost use Rattle.std.specs.Option.{option_copied};
 ghost use Rattle.locale_data.specs.Rows.{row_at};
-ghost use Rattle.locale_data.specs.Locales.{name_of, system_named, own_rows, symbols_of, symbols_in, symbols_at, HasOneWidth, IsLocale, IsUnknown};
+ghost use Rattle.locale_data.specs.Locales.{system_named, system_of, own_rows, symbols_of, symbols_in, symbols_at, HasOneWidth, IsLocale, AreRowsOf, IsSystemName, IsUnknown};
 ghost use Rattle.decimal_format.specs.Readable.{IsReadable};
 
 use crate::rows::{indexed_row, number_named, part, row_number, unpadded};
@@ -10,6 +10,7 @@ use crate::symbols::{LocaleSymbols, NumberingSystem, SymbolSet};
 use crate::symbols_table::{LOCALES, LOCALES_BY_SYSTEM, NUMBERING_SYSTEMS};
 use crate::tag::requested_system;
 use decimal_format::{Affixes, DecimalSymbols, GroupingSizes};
+use std::str;
 
 #[tactic(auto, unfolding(crate::specs::Locales::system_named))]
 pub(crate) fn system_named(name: &[u8]) -> Option<usize>
@@ -19,12 +20,15 @@ pub(crate) fn system_named(name: &[u8]) -> Option<usize>
     number_named(&NUMBERING_SYSTEMS, name)
 }
 
-#[tactic(auto, using(crate::proofs::Unknown::named_by))]
-pub(crate) fn system_of(tag: &[u8], locale: &LocaleSymbols) -> Option<usize>
-    ensures value { row_at NUMBERING_SYSTEMS result ≡ system_named (name_of tag.now locale.now) }
+fn system_number(tag: &[u8], locale: &LocaleSymbols) -> Option<usize>
+    requires { Contains LOCALES locale.now }
+    ensures value { row_at NUMBERING_SYSTEMS result ≡ system_of tag.now locale.now }
     ensures inside { IfSome result (λ i. i < length NUMBERING_SYSTEMS) }
 {
-    system_named(requested_system(tag).unwrap_or(unpadded(&locale.system)))
+    match requested_system(tag) {
+        Some(name) => system_named(name),
+        None => Some(locale.system as usize),
+    }
 }
 
 pub(crate) fn own_rows(system: &NumberingSystem) -> &'static [LocaleSymbols]
@@ -51,10 +55,7 @@ fn symbols_of(
         suffix: "",
     };
     let (decimal, grouping) = (set.decimal.text(), set.grouping.text());
-    match DecimalSymbols::new(system.digits, decimal, grouping, minus, plus, sizes) {
-        Ok(symbols) => symbols,
-        Err(_) => unreachable!(),
-    }
+    DecimalSymbols::of_valid(system.digits, decimal, grouping, minus, plus, sizes)
 }
 
 pub(crate) fn symbols_in(
@@ -96,20 +97,49 @@ fn in_16_bits(number: Option<usize>) -> Option<u16>
     }
 }
 
+/// Returns the row of a tag in `LOCALES`, and its numbering system in `NUMBERING_SYSTEMS`.
+fn locale_and_system(tag: &[u8]) -> Option<(usize, usize)>
+    ensures found { IfSome result (λ found. AreRowsOf tag.now found.0 found.1) }
+    ensures inside { IfSome result (λ found. (found.0 < length LOCALES) × (found.1 < length NUMBERING_SYSTEMS)) }
+    ensures unknown { IsNone result ↔ IsUnknown tag.now }
+{
+    let locale = row_number(&LOCALES, tag)?;
+    let system = system_number(tag, indexed_row(&LOCALES, locale))?;
+    Some((locale, system))
+}
+
 /// Returns the rows of a tag, from which [`symbols_at`] makes its symbols. Returns `None` where [`locale`] does.
 pub fn locale_numbers(tag: &str) -> Option<LocaleNumbers>
     ensures found { IfSome result (λ n. IsSomeAnd (symbols_at n) (IsLocale tag.now)) }
     ensures unknown { IsNone result ↔ IsUnknown tag.now }
 {
     let tag = tag.as_bytes();
-    let locale = row_number(&LOCALES, tag)?;
-    let system = system_of(tag, indexed_row(&LOCALES, locale))?;
+    let (locale, system) = locale_and_system(tag)?;
     let own = row_number(own_rows(indexed_row(&NUMBERING_SYSTEMS, system)), tag);
     Some(LocaleNumbers {
         locale: locale as u16,
         system: system as u16,
         own: in_16_bits(own),
     })
+}
+
+/// Returns the name of the numbering system of a tag, as `latn`, which [`formats_of`](crate::formats_of) takes.
+///
+/// It is the one that `nu` names, or the default one of the locale. Returns `None` where [`locale`] does.
+///
+/// ```
+/// system_of("ar-EG") // arab
+/// system_of("hi-u-nu-deva") // deva
+/// ```
+pub fn system_of(tag: &str) -> Option<&'static str>
+    ensures found { IfSome result (λ name. IsSystemName tag.now name.now) }
+    ensures unknown { IsNone result ↔ IsUnknown tag.now }
+{
+    let (_, system) = locale_and_system(tag.as_bytes())?;
+    match str::from_utf8(unpadded(&indexed_row(&NUMBERING_SYSTEMS, system).name)) {
+        Ok(name) => Some(name),
+        Err(_) => unreachable!(),
+    }
 }
 
 /// Returns the symbols of a locale from its rows, and `None` if there are no such rows.

@@ -5,7 +5,7 @@ ghost use Rattle.locale_data.specs.declared.formats_table.TheConstants.{PATTERNS
 
 use crate::formats_table::{NUMBER_SIGNS, PATTERNS};
 use crate::patterns::{NumberSigns, Pattern};
-use crate::texts::row_at;
+use crate::rows::indexed_row;
 
 /// The formats of numbers in a locale and a numbering system.
 #[derive(Clone, Copy, Debug)]
@@ -31,13 +31,13 @@ impl NumberFormats {
     pub fn percent(&self) -> &'static Pattern
         ensures { slice_get PATTERNS self.now.percent ≡ Some result.now }
     {
-        row_at(&PATTERNS, self.percent as usize)
+        indexed_row(&PATTERNS, self.percent as usize)
     }
 
     /// Returns the exponent separator and the percent sign.
     pub fn signs(&self) -> NumberSigns
         ensures { slice_get NUMBER_SIGNS self.now.signs ≡ Some result }
     {
-        *row_at(&NUMBER_SIGNS, self.signs as usize)
+        *indexed_row(&NUMBER_SIGNS, self.signs as usize)
     }
 }

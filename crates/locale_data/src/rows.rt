@@ -1,11 +1,12 @@
 //! Tables whose rows are sorted by name.
 ghost use Rattle.std.specs.Prelude.{◌≡◌, ◌≤◌, ◌<◌, ℕ, List, length, take, set, slice_get, Some, true, false, IfSome};
 ghost use Rattle.std.specs.Option.{option_copied};
+ghost use Rattle.std.specs.Str.{bytes_eq};
 ghost use Rattle.locale_data.specs.Tag.{compared};
 ghost use Rattle.locale_data.specs.Rows.{part, is_inside, unpadded, row_at, row_named, IsRowOf};
-ghost use Rattle.locale_data.specs.SortedRows.{IsPadded, is_table, ends_at, IsFar, HasNoLonger};
+ghost use Rattle.locale_data.specs.SortedRows.{number, IsPadded, is_table, is_table_part, ends_at, IsFar, HasNoLonger};
 
-use crate::tag::{is_named, tag_byte};
+use crate::tag::tag_byte;
 
 /// A name in lower case, or the tag of a locale, padded with spaces: `de-ch`.
 pub type Name = [u8; 16];
@@ -38,6 +39,7 @@ pub fn indexed_row<R>(rows: &[R], index: usize) -> &R
     &rows[index]
 }
 
+/// Returns a name without the spaces after it.
 pub fn unpadded(padded: &[u8]) -> &[u8]
     ensures { result.now ≡ unpadded padded.now }
 {
@@ -49,15 +51,13 @@ pub fn unpadded(padded: &[u8]) -> &[u8]
     padded
 }
 
-/// Writes a byte to a name, if it is one of the first 16.
-fn with_byte(padded: Name, index: usize, byte: u8) -> Name
-    ensures { result ≡ set padded index byte }
+/// Writes a byte of a name, if it is one of the first 16.
+fn set_byte(padded: &mut Name, index: usize, byte: u8)
+    ensures { padded.new ≡ set padded.old index byte }
 {
-    let mut padded = padded;
     if index < 16 {
         padded[index] = byte;
     }
-    padded
 }
 
 /// Returns the bytes of a name as they are compared, with spaces after them: of more than 16, the first 16.
@@ -66,10 +66,18 @@ fn padded(name: &[u8]) -> Name
 {
     let mut padded = [b' '; 16];
     for index in 0..name.len() {
-        let before = padded;
-        padded = with_byte(before, index, tag_byte(name[index]));
+        set_byte(&mut padded, index, tag_byte(name[index]));
     }
     padded
+}
+
+/// Returns whether a name is this text. Of texts with one number those of one length are equal.
+fn is_named(padded: &[u8], text: &[u8]) -> bool
+    requires number { number (unpadded padded.now) ≡ number (compared text.now) }
+    requires short { length padded.now ≤ 16 }
+    ensures { result ≡ bytes_eq (unpadded padded.now) (compared text.now) }
+{
+    unpadded(padded).len() == text.len()
 }
 
 /// Returns whether the number of the row at an index is less than 256^(16 - end) above another.
@@ -110,7 +118,7 @@ fn search<R: Row>(rows: &[R], tag: &[u8], end: usize, padded: Name) -> Found
     let number = u128::from_be_bytes(padded);
     match rows.binary_search_by_key(&number, |row| u128::from_be_bytes(row.name())) {
         Ok(index) => Found {
-            row: is_named(unpadded(&rows[index].name()), name).then_some(index),
+            row: is_named(&rows[index].name(), name).then_some(index),
             may_be_longer: is_near(rows, index + 1, number, end),
         },
         Err(index) => Found {
@@ -149,19 +157,27 @@ pub fn row_number<R: Row>(rows: &[R], tag: &[u8]) -> Option<usize>
     let mut found = None;
     let mut padded = [b' '; 16];
     for end in 0..tag.len() {
-        let before = padded;
         let byte = tag_byte(tag[end]);
-        padded = with_byte(before, end, byte);
         if byte != b'-' {
+            set_byte(&mut padded, end, byte);
             continue;
         }
-        let part = search(rows, tag, end, before);
+        let part = search(rows, tag, end, padded);
         found = part.row.or(found);
         if !part.may_be_longer {
             return found;
         }
+        set_byte(&mut padded, end, byte);
     }
     search(rows, tag, tag.len(), padded).row.or(found)
+}
+
+/// Returns the row of a part of a table with the longest name that is a tag, or has a hyphen after it there.
+pub fn row_in<'a, R: Row>(table: &'a [R], range: TableRange, tag: &[u8]) -> Option<&'a R>
+    requires { is_table_part R.name table.now range ≡ true }
+    ensures { IsRowOf R.name (part table.now range) tag.now (option_copied result) }
+{
+    row_of(part(table, range), tag)
 }
 
 /// Returns the row with the longest name that is a tag, or has a hyphen after it there.

@@ -114,8 +114,8 @@ impl Row for NumberingSystem {
 pub struct LocaleSymbols {
     /// The tag of the locale: `de-ch`.
     pub tag: Name,
-    /// The name of the numbering system, padded with spaces.
-    pub system: [u8; 8],
+    /// The index of the numbering system in `NUMBERING_SYSTEMS`.
+    pub system: u8,
     /// The symbols.
     pub symbols: SymbolSet,
     /// The sizes of groups.

@@ -2,7 +2,6 @@
 ghost use Rattle.std.specs.Prelude.{◌≡◌, ◌≤◌, length, nat_eq, IfSome, IsTrue};
 ghost use Rattle.std.specs.Option.{option_copied};
 ghost use Rattle.std.specs.List.{starts_with};
-ghost use Rattle.std.specs.Str.{bytes_eq};
 ghost use Rattle.locale_data.specs.Tag.{tag_byte, compared, from_first, first_subtag, requested_system};
 
 /// Returns how a byte is compared: letters in lower case, `_`, `.` and `@` as hyphens.
@@ -57,11 +56,4 @@ pub fn requested_system(tag: &[u8]) -> Option<&[u8]>
     let extension = from_first(b"-u-", tag)?;
     let keyword = from_first(b"-nu-", &extension[2..])?;
     Some(first_subtag(&keyword[4..]))
-}
-
-/// Returns whether a name in a tag is this one.
-pub fn is_named(name: &[u8], in_tag: &[u8]) -> bool
-    ensures { result ≡ bytes_eq name.now (compared in_tag.now) }
-{
-    in_tag.len() == name.len() && begins_with(in_tag, name)
 }

@@ -1,17 +1,9 @@
-//! Rows and texts of tables by index.
-ghost use Rattle.std.specs.Prelude.{◌≡◌, ◌<◌, ◌≤◌, length, slice_get, Some, true};
+//! Texts as ranges of a table of bytes.
+ghost use Rattle.std.specs.Prelude.{◌≡◌, ◌≤◌, length, true};
 ghost use Rattle.locale_data.specs.Rows.{part};
 ghost use Rattle.locale_data.specs.Texts.{is_text};
 
 use crate::rows::{TableRange, part};
-
-/// Returns the row at an index.
-pub(crate) fn row_at<'a, T>(table: &'a [T], index: usize) -> &'a T
-    requires { index < length table.now }
-    ensures { slice_get table.now index ≡ Some result.now }
-{
-    &table[index]
-}
 
 /// Returns the text in a range of bytes.
 pub(crate) fn text_in(bytes: &'static [u8], range: TableRange) -> &'static str

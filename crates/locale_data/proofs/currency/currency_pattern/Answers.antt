@@ -1,34 +1,42 @@
-use Rattle.std.proofs.Common.{refl, subst, sym, ap, ◌∙◌}
-use Rattle.locale_data.specs.Currencies.{currency_with, pattern_by, IsOverride}
+use Rattle.std.proofs.Common.{◌≡◌, ℕ, List, Option, Some, refl, subst, sym, ap, ◌∙◌, slice_get}
+use Rattle.std.specs.Option.{option_or}
+use Rattle.locale_data.specs.declared.currency.CurrencyPattern.{CurrencyPattern}
+use Rattle.locale_data.specs.declared.currency.CurrencySign.{CurrencySign}
+use Rattle.locale_data.specs.declared.formats_table.TheConstants.{MONEY_FORMATS}
+use Rattle.locale_data.specs.declared.number_formats.NumberFormats.{NumberFormats}
+use Rattle.locale_data.specs.declared.patterns.MoneyFormat.{MoneyFormat}
+use Rattle.locale_data.specs.Currencies.{currency_with, pattern_by, IsCurrencyPattern, IsOverride}
+use Rattle.locale_data.specs.Formats.{AreFormatsOf}
 use Rattle.locale_data.proofs.currency.currency_pattern.Goals as goal
+
+-- the pattern by the index of an override, or none
+pattern_is : (tag system code : List ℕ) (sign : CurrencySign) (p : CurrencyPattern) (formats : NumberFormats)
+    (money : MoneyFormat) (own index : Option ℕ) (bytes : List ℕ) → AreFormatsOf tag system formats
+    → slice_get MONEY_FORMATS formats.money ≡ Some money → bytes ≡ tag → IsOverride (currency_with code) bytes own
+    → index ≡ option_or own money.replaced → pattern_by formats money sign index ≡ Some p
+    → IsCurrencyPattern tag system code sign p
+pattern_is tag system code sign p formats money own index bytes of_tag of_money same of_currency chosen value = record {
+  formats = formats;
+  money = money;
+  own = own;
+  of_tag = of_tag;
+  of_money = of_money;
+  of_currency = subst (λ t. IsOverride (currency_with code) t own) same of_currency;
+  value = ap (pattern_by formats money sign) (sym chosen) ∙ value;
+}
 
 pub returns-in-Some : goal.returns-in-Some
 returns-in-Some c =
-    let formats = c.formats_of-formats.result in
-    let money = c.row_at-money.result.now in
-    record {
-      formats = formats;
-      money = money;
-      own = c.override_of.result;
-      of_tag = c.formats_of-formats.ensures;
-      of_money = c.row_at-money.ensures;
-      of_currency = subst (λ t. IsOverride (currency_with c.args.code) t c.override_of.result) c.as_bytes.ensures.value
-          c.override_of.ensures.value;
-      value = ap (pattern_by formats money c.args.sign) (sym c.or.ensures ∙ c.in-Some.is) ∙ c.overridden.ensures;
-    }
+    pattern_is c.args.tag.now c.args.system.now c.args.code c.args.sign _ c.formats_of-formats.result
+    c.indexed_row-money.result.now c.override_of.result c.or.result c.as_bytes.result.now c.formats_of-formats.ensures
+    c.indexed_row-money.ensures c.as_bytes.ensures.value c.override_of.ensures.value c.or.ensures
+    (ap (pattern_by c.formats_of-formats.result c.indexed_row-money.result.now c.args.sign) c.in-Some.is
+    ∙ c.overridden.ensures)
 
 pub returns-in-None : goal.returns-in-None
 returns-in-None c =
-    let formats = c.formats_of-formats.result in
-    let money = c.row_at-money.result.now in
-    record {
-      formats = formats;
-      money = money;
-      own = c.override_of.result;
-      of_tag = c.formats_of-formats.ensures;
-      of_money = c.row_at-money.ensures;
-      of_currency = subst (λ t. IsOverride (currency_with c.args.code) t c.override_of.result) c.as_bytes.ensures.value
-          c.override_of.ensures.value;
-      value = ap (pattern_by formats money c.args.sign) (sym c.or.ensures ∙ c.in-None.is)
-          ∙ (rw (sym c.pattern_index.ensures, c.row_at.ensures) refl);
-    }
+    pattern_is c.args.tag.now c.args.system.now c.args.code c.args.sign _ c.formats_of-formats.result
+    c.indexed_row-money.result.now c.override_of.result c.or.result c.as_bytes.result.now c.formats_of-formats.ensures
+    c.indexed_row-money.ensures c.as_bytes.ensures.value c.override_of.ensures.value c.or.ensures
+    (ap (pattern_by c.formats_of-formats.result c.indexed_row-money.result.now c.args.sign) c.in-None.is
+    ∙ (rw (sym c.pattern_index.ensures, c.indexed_row.ensures) refl))

@@ -4,11 +4,12 @@ use Rattle.locale_data.proofs.CurrencyRows.{symbol-below}
 use Rattle.locale_data.proofs.TableTexts.{contains_at}
 use Rattle.locale_data.proofs.currency.currency_symbol.Goals as goal
 
-pub row_at-requires : goal.row_at-requires
-row_at-requires c =
+pub indexed_row-requires : goal.indexed_row-requires
+indexed_row-requires c =
     rw c.symbol_index-index.ensures
     (symbol-below c.in_ok-currency.currency.now c.as_bytes.result.now (option_copied c.own_symbols-own.result)
     c.args.width c.in_ok-currency.ensures.listed c.own_symbols-own.ensures)
 
 pub symbol_of-requires : goal.symbol_of-requires
-symbol_of-requires c = contains_at CURRENCY_TEXTS c.symbol_index-index.result c.row_at.result.now c.row_at.ensures
+symbol_of-requires c =
+    contains_at CURRENCY_TEXTS c.symbol_index-index.result c.indexed_row.result.now c.indexed_row.ensures

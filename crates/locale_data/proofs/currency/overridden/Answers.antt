@@ -1,5 +1,5 @@
 use Rattle.locale_data.proofs.CurrencyRows.{overridden-below}
 use Rattle.locale_data.proofs.currency.overridden.Goals as goal
 
-pub row_at-requires : goal.row_at-requires
-row_at-requires c = overridden-below c.args.index c.row_at-replaced.result.now c.row_at-replaced.ensures
+pub indexed_row-requires : goal.indexed_row-requires
+indexed_row-requires c = overridden-below c.args.index c.indexed_row-replaced.result.now c.indexed_row-replaced.ensures

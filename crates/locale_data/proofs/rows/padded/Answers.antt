@@ -18,7 +18,7 @@ loop-index-preserved c =
     let name = c.args.name.now in
     let index = c.loop-index.index in
     subst (λ p. IsPadded p (compared (take (index + 1) name)))
-    (sym (c.with_byte-padded.ensures ∙ ap (set c.loop-index.padded index) c.tag_byte.ensures))
+    (sym (c.set_byte.ensures ∙ ap (set c.loop-index.padded index) c.tag_byte.ensures))
     (padded_more name (are_bytes_of name c.type_inv.name) c.loop-index.padded index c.loop-index-test.true
     c.loop-index.invariant)
 

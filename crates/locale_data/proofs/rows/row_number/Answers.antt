@@ -33,8 +33,8 @@ loop-end-preserved-then-byte-ne45 g c =
       longest = passed_below g.R.Row.name c.args.rows.now c.args.tag.now c.loop-end.end (omega arith) _ none
           c.loop-end.invariant.longest;
       padded = padded_next c.args.tag.now (are_bytes_of c.args.tag.now c.type_inv.tag) c.loop-end.padded c.loop-end.end
-          c.loop-end-test.true c.loop-end.invariant.padded c.with_byte-padded.result c.tag_byte-byte.result
-          c.with_byte-padded.ensures c.tag_byte-byte.ensures;
+          c.loop-end-test.true c.loop-end.invariant.padded c.set_byte.new.padded c.tag_byte-byte.result
+          c.set_byte.ensures c.tag_byte-byte.ensures;
       inside = c.loop-end.invariant.inside;
     }
 
@@ -51,8 +51,8 @@ loop-end-preserved g c =
       longest = subst (λ o. IsLongestBelow g.R.Row.name rows c.args.tag.now (c.loop-end.end + 1) (row_at rows o))
           (sym c.or-found.ensures) more;
       padded = padded_next c.args.tag.now (are_bytes_of c.args.tag.now c.type_inv.tag) c.loop-end.padded c.loop-end.end
-          c.loop-end-test.true c.loop-end.invariant.padded c.with_byte-padded.result c.tag_byte-byte.result
-          c.with_byte-padded.ensures c.tag_byte-byte.ensures;
+          c.loop-end-test.true c.loop-end.invariant.padded c.set_byte-in-loop-end.new.padded c.tag_byte-byte.result
+          c.set_byte-in-loop-end.ensures c.tag_byte-byte.ensures;
       inside = subst (λ o. IfSome o (λ i. i < length rows)) (sym c.or-found.ensures) inside;
     }
 

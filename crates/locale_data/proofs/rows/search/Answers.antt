@@ -1,14 +1,14 @@
 use mir.Syntax.{w8}
 use mir.Val.{Fits}
-use Rattle.std.proofs.Common.{◌≡◌, ℕ, ◌+◌, ◌<◌, ◌≤◌, List, length, Ok, Err, Some, None, cond, bytes_eq, sym, ap, ◌∙◌, take, get_or, subst, arith, rules}
+use Rattle.std.proofs.Common.{◌≡◌, ℕ, ◌+◌, ◌<◌, ◌≤◌, List, length, Ok, Err, Some, None, cond, bytes_eq, sym, ap, ◌∙◌, take, get_or, arith, rules}
 use Rattle.std.specs.Int.{from_be_bytes, w128}
 use Rattle.std.proofs.lemmas.List.Sorted.{answers_always}
 use Rattle.locale_data.specs.Rows.{unpadded, row_at}
-use Rattle.locale_data.specs.SortedRows.{IsPadded, IsFar, number}
+use Rattle.locale_data.specs.SortedRows.{IsPadded, number}
 use Rattle.locale_data.specs.Tag.{compared}
 use Rattle.locale_data.proofs.PrefixNumbers.{are_bytes, padded_number}
-use Rattle.locale_data.proofs.SortedRows.{searched}
-use Rattle.locale_data.proofs.Searches.{AreAtMost, row_at-then_some, at_most_ok, at_most_err, none_longer}
+use Rattle.locale_data.proofs.SortedRows.{searched, number_of_found}
+use Rattle.locale_data.proofs.Searches.{row_at-then_some, at_most_ok, at_most_err, none_longer}
 use Rattle.locale_data.proofs.rows.search.Goals as goal
 
 -- the padded name has the number of the part
@@ -21,19 +21,38 @@ is_number tag bytes end inside padded is n e =
 are_bytes_of : (tag : List ℕ) → ((i : ℕ) → Fits w8 (get_or tag i 0)) → (i : ℕ) → get_or tag i 0 < 256
 are_bytes_of tag fit i = let h = fit i in omega arith
 
+pub is_named-requires-clause-number : goal.is_named-requires-clause-number
+is_named-requires-clause-number g c =
+    let name_of = g.R.Row.name in
+    let rows = c.args.rows.now in
+    let tag = c.args.tag.now in
+    let row = c.index-rows-index.result in
+    let by_number = c.in-Ok.ensures.position (λ row. from_be_bytes w128 (name_of row))
+    (answers_always _ _ _ (λ f a r next called. search rules)) in
+    ap (λ t. number (unpadded t)) c.name.ensures
+    ∙ number_of_found name_of rows c.requires.table c.from_be_bytes-number.result c.in-Ok.index row
+    c.in-Ok.ensures.bound c.index-rows-index.is by_number
+    ∙ is_number tag (are_bytes_of tag c.type_inv.tag) c.args.end c.requires.inside c.args.padded c.requires.padded
+    c.from_be_bytes-number.result c.from_be_bytes-number.ensures
+
 pub returns-in-Ok-clause-row : goal.returns-in-Ok-clause-row
 returns-in-Ok-clause-row g c =
-    let name = compared (take c.args.end c.args.tag.now) in
+    let name_of = g.R.Row.name in
+    let rows = c.args.rows.now in
+    let tag = c.args.tag.now in
+    let name = compared (take c.args.end tag) in
     let row = c.index-rows-index.result in
-    let by_number = c.in-Ok.ensures.position (λ row. from_be_bytes w128 (g.R.Row.name row))
+    let bytes = are_bytes_of tag c.type_inv.tag in
+    let bound = c.in-Ok.ensures.bound in
+    let by_number = c.in-Ok.ensures.position (λ row. from_be_bytes w128 (name_of row))
     (answers_always _ _ _ (λ f a r next called. search rules)) in
-    let found = searched g.R.Row.name c.args.rows.now c.requires.table name c.from_be_bytes-number.result
-    (is_number c.args.tag.now (are_bytes_of c.args.tag.now c.type_inv.tag) c.args.end c.requires.inside
-    c.args.padded c.requires.padded c.from_be_bytes-number.result c.from_be_bytes-number.ensures)
-    (Ok c.in-Ok.index) c.in-Ok.ensures.bound by_number row c.index-rows-index.is in
-    let named = c.is_named.ensures ∙ ap (λ t. bytes_eq t name) (c.unpadded.ensures ∙ ap unpadded c.name.ensures) in
-    ap (row_at c.args.rows.now) c.then_some.ensures
-    ∙ row_at-then_some c.args.rows.now c.is_named.result c.in-Ok.index row c.in-Ok.ensures.bound
+    let number_of_name = is_number tag bytes c.args.end c.requires.inside c.args.padded c.requires.padded
+    c.from_be_bytes-number.result c.from_be_bytes-number.ensures in
+    let found = searched name_of rows c.requires.table name c.from_be_bytes-number.result number_of_name
+    (Ok c.in-Ok.index) bound by_number row c.index-rows-index.is in
+    let named = c.is_named.ensures ∙ ap (λ t. bytes_eq (unpadded t) name) c.name.ensures in
+    ap (row_at rows) c.then_some.ensures
+    ∙ row_at-then_some rows c.is_named.result c.in-Ok.index row bound
     ∙ ap (λ r. cond c.is_named.result (Some r) None) (sym c.index-rows-index.is)
     ∙ ap (λ b. cond b (Some row) None) named ∙ sym found
 
@@ -41,48 +60,40 @@ pub returns-in-Ok-clause-longer : goal.returns-in-Ok-clause-longer
 returns-in-Ok-clause-longer g c = λ none.
     let name_of = g.R.Row.name in
     let rows = c.args.rows.now in
+    let tag = c.args.tag.now in
+    let bytes = are_bytes_of tag c.type_inv.tag in
+    let number = c.from_be_bytes-number.result in
     let by_number = c.in-Ok.ensures.position (λ row. from_be_bytes w128 (name_of row))
     (answers_always _ _ _ (λ f a r next called. search rules)) in
-    let before = at_most_ok name_of rows c.requires.table c.from_be_bytes-number.result c.in-Ok.index
-    c.in-Ok.ensures.bound
-    by_number in
-    none_longer name_of rows c.requires.table c.args.tag.now (are_bytes_of c.args.tag.now c.type_inv.tag) c.args.end
-    (c.in-Ok.index + 1)
-    c.requires.inside c.requires.ends
-    (subst (λ k. AreAtMost name_of rows c.requires.table k (c.in-Ok.index + 1)) (is_number c.args.tag.now
-    (are_bytes_of c.args.tag.now c.type_inv.tag) c.args.end c.requires.inside
-    c.args.padded c.requires.padded c.from_be_bytes-number.result c.from_be_bytes-number.ensures) before)
-    (subst (λ k. IsFar name_of rows (c.in-Ok.index + 1) k c.args.end) (is_number c.args.tag.now
-    (are_bytes_of c.args.tag.now c.type_inv.tag) c.args.end c.requires.inside
-    c.args.padded c.requires.padded c.from_be_bytes-number.result c.from_be_bytes-number.ensures)
-    (c.is_near.ensures none))
+    none_longer name_of rows c.requires.table tag bytes c.args.end (c.in-Ok.index + 1) number c.requires.inside
+    c.requires.ends (is_number tag bytes c.args.end c.requires.inside c.args.padded c.requires.padded number
+    c.from_be_bytes-number.ensures)
+    (at_most_ok name_of rows c.requires.table number c.in-Ok.index c.in-Ok.ensures.bound by_number)
+    (c.is_near.ensures none)
 
 pub returns-in-Err-clause-row : goal.returns-in-Err-clause-row
 returns-in-Err-clause-row g c =
+    let tag = c.args.tag.now in
+    let bytes = are_bytes_of tag c.type_inv.tag in
+    let number = c.from_be_bytes-number.result in
     let by_number = c.in-Err.ensures.position (λ row. from_be_bytes w128 (g.R.Row.name row))
     (answers_always _ _ _ (λ f a r next called. search rules)) in
-    sym (searched g.R.Row.name c.args.rows.now c.requires.table (compared (take c.args.end c.args.tag.now))
-    c.from_be_bytes-number.result (is_number c.args.tag.now (are_bytes_of c.args.tag.now c.type_inv.tag) c.args.end
-    c.requires.inside
-    c.args.padded c.requires.padded c.from_be_bytes-number.result c.from_be_bytes-number.ensures)
+    sym (searched g.R.Row.name c.args.rows.now c.requires.table (compared (take c.args.end tag)) number
+    (is_number tag bytes c.args.end c.requires.inside c.args.padded c.requires.padded number
+    c.from_be_bytes-number.ensures)
     (Err c.in-Err.index) c.in-Err.ensures.bound by_number)
 
 pub returns-in-Err-clause-longer : goal.returns-in-Err-clause-longer
 returns-in-Err-clause-longer g c = λ none.
     let name_of = g.R.Row.name in
     let rows = c.args.rows.now in
+    let tag = c.args.tag.now in
+    let bytes = are_bytes_of tag c.type_inv.tag in
+    let number = c.from_be_bytes-number.result in
     let by_number = c.in-Err.ensures.position (λ row. from_be_bytes w128 (name_of row))
     (answers_always _ _ _ (λ f a r next called. search rules)) in
-    let before = at_most_err name_of rows c.requires.table c.from_be_bytes-number.result c.in-Err.index
-    c.in-Err.ensures.bound
-    by_number in
-    none_longer name_of rows c.requires.table c.args.tag.now
-    (are_bytes_of c.args.tag.now c.type_inv.tag) c.args.end c.in-Err.index
-    c.requires.inside c.requires.ends
-    (subst (λ k. AreAtMost name_of rows c.requires.table k c.in-Err.index) (is_number c.args.tag.now
-    (are_bytes_of c.args.tag.now c.type_inv.tag) c.args.end c.requires.inside
-    c.args.padded c.requires.padded c.from_be_bytes-number.result c.from_be_bytes-number.ensures) before)
-    (subst (λ k. IsFar name_of rows c.in-Err.index k c.args.end) (is_number c.args.tag.now
-    (are_bytes_of c.args.tag.now c.type_inv.tag) c.args.end c.requires.inside
-    c.args.padded c.requires.padded c.from_be_bytes-number.result c.from_be_bytes-number.ensures)
-    (c.is_near-in-Err.ensures none))
+    none_longer name_of rows c.requires.table tag bytes c.args.end c.in-Err.index number c.requires.inside
+    c.requires.ends (is_number tag bytes c.args.end c.requires.inside c.args.padded c.requires.padded number
+    c.from_be_bytes-number.ensures)
+    (at_most_err name_of rows c.requires.table number c.in-Err.index c.in-Err.ensures.bound by_number)
+    (c.is_near-in-Err.ensures none)

@@ -4,4 +4,4 @@ use Rattle.locale_data.proofs.number_formats.NumberFormats.percent_unit.Goals as
 pub unit_of-requires : goal.unit_of-requires
 unit_of-requires c =
     rw c.unit_for.ensures
-    (has_unit_at c.args.self.now.unit c.row_at-unit.result.now c.args.category c.row_at-unit.ensures)
+    (has_unit_at c.args.self.now.unit c.indexed_row-unit.result.now c.args.category c.indexed_row-unit.ensures)
