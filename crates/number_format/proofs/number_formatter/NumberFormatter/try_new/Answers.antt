@@ -21,7 +21,8 @@ returns-in-Some-locale-clause-ok c =
     let system = c.in-Some.system.now in
     let own = c.in-Some-locale.symbols in
     formatter_by c.in_system.result tag system own c.args.options
-    (subst (λ n. IsInSystem tag n system own) (sym c.in-None.is) (c.in-Some-locale.ensures.found, c.in-Some.ensures.found))
+    (subst (λ n. IsInSystem tag n system own) (sym c.in-None.is)
+    (c.in-Some-locale.ensures.found, c.in-Some.ensures.found))
     c.in_system.ensures.ok
 
 pub returns-in-Some-locale_in-clause-ok : goal.returns-in-Some-locale_in-clause-ok
