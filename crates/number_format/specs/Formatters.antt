@@ -1,5 +1,5 @@
 -- The formatter that a tag and options name.
-use Rattle.std.specs.Prelude.{◌≡◌, ℕ, ◌+◌, ◌<◌, ◌==◌, Bool, true, false, ◌&&◌, if◌then◌else◌, List, slice_get, slice_index, Option, Some, None, IsSomeAnd, pos, ⊤}
+use Rattle.std.specs.Prelude.{◌≡◌, ℕ, ◌+◌, ◌<◌, ◌==◌, Bool, true, false, ◌⊎◌, ◌&&◌, if◌then◌else◌, List, slice_get, slice_index, Option, Some, None, IsSomeAnd, pos, ⊤}
 use Rattle.fixed_decimal.specs.declared.variations.SignDisplay.{SignDisplay}
 use Rattle.fixed_decimal.specs.declared.variations.SignDisplay.TheVariants as display
 use Rattle.decimal_format.specs.declared.grouping.GroupingSizes.{GroupingSizes}
@@ -16,13 +16,14 @@ use Rattle.locale_data.specs.declared.number_formats.NumberFormats.{NumberFormat
 use Rattle.locale_data.specs.declared.patterns.MoneySeparator.{MoneySeparator}
 use Rattle.locale_data.specs.declared.patterns.NumberSigns.{NumberSigns}
 use Rattle.locale_data.specs.declared.patterns.Pattern.{Pattern}
+use Rattle.locale_data.specs.declared.symbols_table.TheConstants.{LOCALES}
 use Rattle.locale_data.specs.declared.plurals.PluralRuleType.TheVariants.{Cardinal}
 use Rattle.locale_data.specs.Compact.{IsExponent}
 use Rattle.locale_data.specs.Currencies.{IsCurrencyPattern}
 use Rattle.locale_data.specs.Formats.{AreFormatsOf}
-use Rattle.locale_data.specs.Locales.{IsLocale, IsLocaleIn, IsSystemName}
+use Rattle.locale_data.specs.Locales.{IsListed, IsLocale, IsLocaleIn, IsSystemName, IsUnknown, system_named}
 use Rattle.locale_data.specs.Patterns.{separator_text, exponent_text}
-use Rattle.locale_data.specs.Plurals.{rules_text_at, IsRulesText}
+use Rattle.locale_data.specs.Plurals.{rules_text_at, IsRulesText, HasNoRules}
 use Rattle.locale_data.specs.Rows.{unpadded}
 use Rattle.number_format.specs.declared.digit_options.DigitOptions.{DigitOptions}
 use Rattle.number_format.specs.declared.for_locale.StyleParts.{StyleParts}
@@ -30,6 +31,8 @@ use Rattle.number_format.specs.declared.notation.Notation.{Notation}
 use Rattle.number_format.specs.declared.notation.Notation.TheVariants as shown
 use Rattle.number_format.specs.declared.number_formatter.CompactUnit.{CompactUnit}
 use Rattle.number_format.specs.declared.number_formatter.CompactUnit.TheVariants as unit
+use Rattle.number_format.specs.declared.number_formatter.NumberFormatError.{NumberFormatError}
+use Rattle.number_format.specs.declared.number_formatter.NumberFormatError.TheVariants as error
 use Rattle.number_format.specs.declared.number_formatter.NumberFormatter.{NumberFormatter}
 use Rattle.number_format.specs.declared.number_options.CompactLength.TheVariants as length
 use Rattle.number_format.specs.declared.number_options.CurrencyStyle.{CurrencyStyle}
@@ -182,3 +185,16 @@ pub record IsFormatter (tag : List ℕ) (o : NumberOptions) (f : NumberFormatter
   pub own : Symbols
   pub in_system_of : IsInSystem tag o.numbering_system system own
   pub made : IsFormatterIn tag system own o f
+
+-- ---- The errors.
+
+-- the tag has no plural rules, which each listed locale has
+abbrev pub HasNoRulesFor : List ℕ → NumberFormatError → Type 0
+HasNoRulesFor tag e = (e ≡ error.UnknownLocale) × HasNoRules tag
+
+-- the tag is unknown, or the numbering system of the options is not listed
+abbrev pub IsFormatterError : List ℕ → Option (List ℕ) → NumberFormatError → Type 0
+IsFormatterError tag name error.UnknownLocale = IsUnknown tag ⊎ HasNoRules tag
+IsFormatterError tag None error.UnknownNumberingSystem = ⊥
+IsFormatterError tag (Some name) error.UnknownNumberingSystem =
+    IsListed LOCALES tag None ⊎ (system_named (text_or_nothing (unpadded name)) ≡ None)

@@ -1,7 +1,7 @@
 //! Formatters by locale and options.
-ghost use Rattle.std.specs.Prelude.{◌≡◌, IfOk};
+ghost use Rattle.std.specs.Prelude.{◌≡◌, IfOk, IfErr};
 ghost use Rattle.locale_data.specs.Formats.{AreFormatsOf};
-ghost use Rattle.number_format.specs.Formatters.{style_sizes, strategy_of, compact_style, compact_unit, exponent_options, currency_sign, is_permille, with_separators, IsWithoutCurrency, IsMoney, IsStyle, IsNotationBy, HasDigits, AreExponents, IsFormatterIn, IsFormatter};
+ghost use Rattle.number_format.specs.Formatters.{style_sizes, strategy_of, compact_style, compact_unit, exponent_options, currency_sign, is_permille, with_separators, IsWithoutCurrency, IsMoney, IsStyle, IsNotationBy, HasDigits, AreExponents, IsFormatterIn, IsFormatter, HasNoRulesFor, IsFormatterError};
 
 use crate::digit_options::DigitOptions;
 use crate::notation::{CompactExponents, Notation};
@@ -153,7 +153,8 @@ impl NumberFormatter {
     /// - `UnknownLocale`: [`locale`] returns `None`.
     /// - `UnknownNumberingSystem`: no numbering system has the name that the options have.
     pub fn try_new(tag: &str, options: NumberOptions) -> Result<NumberFormatter, NumberFormatError>
-        ensures { IfOk result (λ f. IsFormatter tag.now options f) }
+        ensures ok { IfOk result (λ f. IsFormatter tag.now options f) }
+        ensures err { IfErr result (λ e. IsFormatterError tag.now options.numbering_system e) }
     {
         let Some(system) = system_of(tag) else {
             return Err(NumberFormatError::UnknownLocale);
@@ -179,7 +180,8 @@ impl NumberFormatter {
         symbols: DecimalSymbols<'static>,
         options: &NumberOptions,
     ) -> Result<NumberFormatter, NumberFormatError>
-        ensures { IfOk result (λ f. IsFormatterIn tag.now system.now symbols.entry options.now f) }
+        ensures ok { IfOk result (λ f. IsFormatterIn tag.now system.now symbols.entry options.now f) }
+        ensures err { IfErr result (λ e. HasNoRulesFor tag.now e) }
     {
         let Some(rules) = plural_rules_number(tag, PluralRuleType::Cardinal) else {
             return Err(NumberFormatError::UnknownLocale);

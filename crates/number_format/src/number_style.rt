@@ -57,7 +57,7 @@ pub(crate) fn percent_text(sign: PercentSign, is_permille: bool) -> &'static str
 
 /// A currency as it is shown.
 #[derive(Clone, Copy, Debug)]
-pub struct ShownCurrency {
+pub(crate) struct ShownCurrency {
     /// Its symbol, if not its code is shown.
     pub(crate) symbol: TextPart<'static>,
     /// Its code, in capitals.

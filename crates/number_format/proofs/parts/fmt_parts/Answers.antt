@@ -5,5 +5,6 @@ use Rattle.number_format.proofs.parts.fmt_parts.Goals as goal
 
 pub loop-part-preserved : goal.loop-part-preserved
 loop-part-preserved g c =
-    let more = parts_text-more c.args.parts.now c.loop-part.part-index c.part-item.result (omega arith) c.part-item.is in
+    let more =
+    parts_text-more c.args.parts.now c.loop-part.part-index c.part-item.result (omega arith) c.part-item.is in
     grind (arith, has_written_styled_append, more)

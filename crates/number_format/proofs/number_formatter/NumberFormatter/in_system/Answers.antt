@@ -4,8 +4,8 @@ use Rattle.number_format.specs.Formatters.{style_sizes}
 use Rattle.number_format.specs.NumberStyles.{percent_text}
 use Rattle.number_format.proofs.number_formatter.NumberFormatter.in_system.Goals as goal
 
-pub returns : goal.returns
-returns c =
+pub returns-clause-ok : goal.returns-clause-ok
+returns-clause-ok c =
     let o = c.args.options.now in
     let style = c.of-style.result in
     let sizes = c.style_sizes-sizes.ensures ∙ ap (style_sizes style.pattern o.grouping) c.sizes.ensures in

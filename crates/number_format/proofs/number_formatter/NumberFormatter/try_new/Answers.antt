@@ -1,10 +1,11 @@
-use Rattle.std.proofs.Common.{List, ℕ, subst, sym}
+use Rattle.std.proofs.Common.{List, ℕ, subst, sym, ◌∙◌, ap}
 use Rattle.std.specs.Prelude.{Result, Ok, Err, IfOk}
 use Rattle.decimal_format.specs.Symbols.{Symbols}
 use Rattle.number_format.specs.declared.number_formatter.NumberFormatError.{NumberFormatError}
 use Rattle.number_format.specs.declared.number_formatter.NumberFormatter.{NumberFormatter}
 use Rattle.number_format.specs.declared.number_options.NumberOptions.{NumberOptions}
 use Rattle.number_format.specs.Formatters.{IsInSystem, IsFormatterIn, IsFormatter}
+use Rattle.number_format.specs.NumberStyles.{text_or_nothing}
 use Rattle.number_format.proofs.number_formatter.NumberFormatter.try_new.Goals as goal
 
 formatter_by : (r : Result NumberFormatter NumberFormatError) (tag system : List ℕ) (own : Symbols) (o : NumberOptions)
@@ -14,11 +15,22 @@ formatter_by (Ok f) tag system own o known made =
     record { system = system; own = own; in_system_of = known; made = made }
 formatter_by (Err e) tag system own o known made = made
 
-pub returns-in-Some-locale : goal.returns-in-Some-locale
-returns-in-Some-locale c =
+pub returns-in-Some-locale-clause-ok : goal.returns-in-Some-locale-clause-ok
+returns-in-Some-locale-clause-ok c =
     let tag = c.args.tag.now in
     let system = c.in-Some.system.now in
     let own = c.in-Some-locale.symbols in
     formatter_by c.in_system.result tag system own c.args.options
-    (subst (λ n. IsInSystem tag n system own) (sym c.in-None.is) (c.in-Some-locale.ensures.found, c.in-Some.ensures))
-    c.in_system.ensures
+    (subst (λ n. IsInSystem tag n system own) (sym c.in-None.is)
+    (c.in-Some-locale.ensures.found, c.in-Some.ensures.found))
+    c.in_system.ensures.ok
+
+pub returns-in-Some-locale_in-clause-ok : goal.returns-in-Some-locale_in-clause-ok
+returns-in-Some-locale_in-clause-ok c =
+    let tag = c.args.tag.now in
+    let system = c.text_or_nothing-system.result.now in
+    let own = c.in-Some-locale_in.symbols in
+    formatter_by c.in_system-in-Some-locale_in.result tag system own c.args.options
+    (subst (λ n. IsInSystem tag n system own) (sym c.in-Some-numbering_system.is)
+    (c.in-Some-locale_in.ensures.found, c.text_or_nothing-system.ensures.value ∙ ap text_or_nothing c.unpadded.ensures))
+    c.in_system-in-Some-locale_in.ensures.ok
