@@ -6,15 +6,15 @@ ghost use Rattle.cli.specs.Filter.{IsHeader, replacement, HasConvertedLine, Conv
 ghost use Rattle.cli.specs.Input.{bytes_left};
 ghost use Rattle.cli.specs.Lines.{Filters, IsConsumed};
 
-use crate::conversion::Conversion;
+use crate::conversion::{Conversion, convert};
 use crate::diagnostics::Diagnostics;
 use crate::error::{OperationError, ProgramError};
-use crate::field_conversion::{convert_line, error_in_memory, write_replaced};
+use crate::field_conversion::{convert_field, convert_trimmed};
 use crate::fields::Field;
 use crate::input::LineReader;
 use crate::line_feed::find_line_feed;
 use crate::trim::body_bounds;
-use fixed_decimal::{Sink, SinkFault, TextBuf};
+use fixed_decimal::{Sink, SinkFault};
 use std::alloc::Global;
 use std::io::{ErrorKind, Read};
 
@@ -64,35 +64,6 @@ impl Filter<'_> {
         self.has_header && number == 1
     }
 
-    /// Converts a line without what is around its bytes, which is copied.
-    fn convert_body<W: Sink>(
-        &self,
-        alloc: Global,
-        number: u64,
-        line: &[u8],
-        sink: &mut W,
-    ) -> Result<(), OperationError>
-        requires { self.now.trims ≡ true }
-        ensures printed { OnOk result (HasConvertedLine self.now number line.now
-            (Appends (W.contents sink.old) (W.contents sink.new))) }
-        ensures fails_with { IfErr result (λ error. error ≢ OperationError.Output
-            → ConvertingFails self.now number line.now error) }
-        ensures unchanged_on_error { IfErr result (λ error. error ≢ OperationError.Output → sink.new ≡ sink.old) }
-        ensures failed { result ≡ Err OperationError.Output → W.has_failed sink.new ≡ true }
-        ensures prefix { result ≡ Err OperationError.Output → HasConvertedLine self.now number line.now
-            (AppendsPrefix (W.contents sink.old) (W.contents sink.new)) }
-    {
-        let bounds = body_bounds(number, line);
-        let body = &line[bounds.0..bounds.1];
-        let mut text = TextBuf::new(alloc);
-        match convert_line(alloc, true, &self.conversion, &self.field, body, &mut text) {
-            Ok(()) => {}
-            Err(error) => return Err(error_in_memory(error)),
-        }
-        write_replaced(line, bounds, text.as_bytes(), sink)?;
-        Ok(())
-    }
-
     #[inline(always)]
     fn convert<W: Sink>(
         &self,
@@ -110,10 +81,20 @@ impl Filter<'_> {
         ensures prefix { result ≡ Err OperationError.Output → HasConvertedLine self.now number line.now
             (AppendsPrefix (W.contents sink.old) (W.contents sink.new)) }
     {
-        if self.trims {
-            return self.convert_body(alloc, number, line, sink);
+        let body = body_bounds(self.trims, number, line);
+        match &self.field {
+            Some(field) => convert_field(
+                alloc,
+                self.trims,
+                &self.conversion,
+                field,
+                line,
+                body,
+                sink,
+            ),
+            None if self.trims => convert_trimmed(alloc, &self.conversion, line, body, sink),
+            None => convert(alloc, &self.conversion, line, sink),
         }
-        convert_line(alloc, false, &self.conversion, &self.field, line, sink)
     }
 
     #[inline(always)]

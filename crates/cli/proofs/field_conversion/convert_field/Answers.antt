@@ -1,7 +1,10 @@
-use Rattle.std.proofs.Common.{Ok, sym, ◌∙◌}
+use Rattle.std.proofs.Common.{Ok, sym, subst, ◌∙◌}
 use Rattle.std.proofs.lemmas.Result.{err_from_is_err_and}
+use Rattle.std.specs.Io.KnownBytes.{Appends}
+use Rattle.decimal_digits.specs.AppendsPrefix.{AppendsPrefix}
+use Rattle.cli.specs.Fields.{bytes_of, within}
 use Rattle.cli.specs.FieldConversion.{with_text}
-use Rattle.cli.proofs.FieldLines.{line_result}
+use Rattle.cli.proofs.FieldLines.{line_result, replaced_within}
 use Rattle.cli.proofs.field_conversion.convert_field.Goals as goal
 
 pub returns-in_err-write_field-clause-fails_with : goal.returns-in_err-write_field-clause-fails_with
@@ -9,12 +12,12 @@ returns-in_err-write_field-clause-fails_with g c =
     let residual = c.from_residual-in_err-write_field in
     let p = err_from_is_err_and residual.result residual.ensures.1 in
     let field = c.args.field.now in
-    let line = c.args.line.now in
+    let bytes = within c.args.line.now c.args.body in
     let bounds = c.in_ok-bounds.bounds in
     let text = c.in_ok-text.text.0 in
     rw (p.1, p.2) (
-      with_text field line bounds text,
-      line_result c.args.trims field c.args.conversion.now line bounds
+      with_text field bytes bounds text,
+      line_result c.args.trims field c.args.conversion.now bytes bounds
           (sym c.locate.ensures.value ∙ c.in_ok-bounds.was) (Ok text) c.in_ok-text.ensures.ok,
     )
 
@@ -22,10 +25,34 @@ pub returns-in_err-write_field-clause-prefix : goal.returns-in_err-write_field-c
 returns-in_err-write_field-clause-prefix g c = λ _.
     let field = c.args.field.now in
     let line = c.args.line.now in
+    let body = c.args.body in
+    let bytes = within line body in
     let bounds = c.in_ok-bounds.bounds in
-    let text = c.in_ok-text.text.0 in (
-      with_text field line bounds text,
-      line_result c.args.trims field c.args.conversion.now line bounds
+    let text = c.in_ok-text.text.0 in
+    let same =
+    replaced_within line (bytes_of field text) body bounds c.requires.ordered c.requires.inside
+    c.in_ok-bounds.ensures.ordered c.in_ok-bounds.ensures.inside in (
+      with_text field bytes bounds text,
+      line_result c.args.trims field c.args.conversion.now bytes bounds
           (sym c.locate.ensures.value ∙ c.in_ok-bounds.was) (Ok text) c.in_ok-text.ensures.ok,
-      rw c.as_bytes.ensures at c.in_err-write_field.ensures.err,
+      subst (AppendsPrefix (g.W.Sink.contents c.args.sink.now) (g.W.Sink.contents c.write_field.new.sink)) (sym same)
+          (rw c.as_bytes.ensures at c.in_err-write_field.ensures.err),
+    )
+
+pub returns-clause-printed : goal.returns-clause-printed
+returns-clause-printed g c =
+    let field = c.args.field.now in
+    let line = c.args.line.now in
+    let body = c.args.body in
+    let bytes = within line body in
+    let bounds = c.in_ok-bounds.bounds in
+    let text = c.in_ok-text.text.0 in
+    let same =
+    replaced_within line (bytes_of field text) body bounds c.requires.ordered c.requires.inside
+    c.in_ok-bounds.ensures.ordered c.in_ok-bounds.ensures.inside in (
+      with_text field bytes bounds text,
+      line_result c.args.trims field c.args.conversion.now bytes bounds
+          (sym c.locate.ensures.value ∙ c.in_ok-bounds.was) (Ok text) c.in_ok-text.ensures.ok,
+      subst (Appends (g.W.Sink.contents c.args.sink.now) (g.W.Sink.contents c.write_field.new.sink)) (sym same)
+          (rw c.as_bytes.ensures at c.in_ok-write_field.ensures.ok),
     )
