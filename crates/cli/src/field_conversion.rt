@@ -82,7 +82,8 @@ fn is_trimmed(trims: bool, field: &Field<'_>, bytes: &[u8]) -> bool
     trims && !field.is_quoted(bytes)
 }
 
-fn converted(
+/// Converts the text of a field.
+pub fn converted(
     alloc: Global,
     trims: bool,
     conversion: &Conversion<'_>,
@@ -107,7 +108,8 @@ fn converted(
     Ok(written)
 }
 
-fn write_field<W: Sink>(
+/// Writes a line with a text as the field between these bounds.
+pub fn write_field<W: Sink>(
     field: &Field<'_>,
     line: &[u8],
     bounds: (usize, usize),
@@ -125,36 +127,6 @@ fn write_field<W: Sink>(
     sink.put_bytes(&line[..bounds.0])?;
     field.write(text, sink)?;
     sink.put_bytes(&line[bounds.1..])
-}
-
-/// Converts the field of a line between these bounds, and writes the line with it to a sink.
-#[inline(never)]
-pub fn convert_field<W: Sink>(
-    alloc: Global,
-    trims: bool,
-    conversion: &Conversion<'_>,
-    field: &Field<'_>,
-    line: &[u8],
-    body: (usize, usize),
-    sink: &mut W,
-) -> Result<(), OperationError>
-    requires ordered { body.0 ≤ body.1 }
-    requires inside { body.1 ≤ length line.now }
-    ensures printed { OnOk result (HasLineText trims (Some field.now) conversion.now (within line.now body)
-        (λ text. Appends (W.contents sink.old) (W.contents sink.new) (replaced line.now body text))) }
-    ensures fails_with { IfErr result (LineFails trims (Some field.now) conversion.now (within line.now body)) }
-    ensures unchanged_on_error { IfErr result (λ error. error ≢ OperationError.Output → sink.new ≡ sink.old) }
-    ensures failed { result ≡ Err OperationError.Output → W.has_failed sink.new ≡ true }
-    ensures prefix { result ≡ Err OperationError.Output →
-        HasLineText trims (Some field.now) conversion.now (within line.now body)
-        (λ text. AppendsPrefix (W.contents sink.old) (W.contents sink.new) (replaced line.now body text)) }
-{
-    let bytes = &line[body.0..body.1];
-    let bounds = field.locate(bytes)?;
-    let text = converted(alloc, trims, conversion, field, &bytes[bounds.0..bounds.1])?;
-    let bounds = (body.0 + bounds.0, body.0 + bounds.1);
-    write_field(field, line, bounds, text.as_bytes(), sink)?;
-    Ok(())
 }
 
 /// Converts the text between the blanks and tabs of a line between these bounds, and writes the text instead of what is
