@@ -155,10 +155,10 @@ module _ (filter : Filter) (number : ℕ) (line : List ℕ) where
           let (text, is, p) =
           subst (λ b. HasLineText trims field filter.conversion (within line b) (λ text. P (replaced line b text)))
           is_body h in
+          let bytes = body_of filter number line in
           let is_result =
-          subst (λ t. IsLineResult t filter.field filter.conversion (body_of filter number line) (Ok text)) (sym trimmed)
-          (subst (λ f. IsLineResult trims f filter.conversion (body_of filter number line) (Ok text)) (sym is_field) is)
-          in
+          subst (λ t. IsLineResult t filter.field filter.conversion bytes (Ok text)) (sym trimmed)
+          (subst (λ f. IsLineResult trims f filter.conversion bytes (Ok text)) (sym is_field) is) in
           (replaced line (body_bounds filter.trims number line) text, (Ok text, is_result, refl), p)
 
       pub converting_fails :

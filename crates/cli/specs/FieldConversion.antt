@@ -60,7 +60,7 @@ abbrev pub HasLineText : Bool → Option Field → Conversion → List ℕ → (
 HasLineText trims field conversion line P =
     (text : List ℕ) × IsLineResult trims field conversion line (Ok text) × P text
 
--- a line fails with this error: that of its result; or out of memory, which each field needs, and with `trim` each text;
+-- a line fails with this error: that of its result; or out of memory, which each field and with `trim` each text needs;
 -- or a failed output of its text
 abbrev pub LineFails : Bool → Option Field → Conversion → List ℕ → OperationError → Type 0
 LineFails true None conversion line Memory =

@@ -1,4 +1,4 @@
-//! The conversion of a line without what is around its bytes, or of a field of it.
+//! The conversion of a field of a line, and of a whole line that is trimmed.
 ghost use Rattle.std.specs.Prelude.{◌≡◌, ◌≢◌, ◌≤◌, length, Ok, Err, Some, None, true, IfOk, IfErr, OnOk, OnErr};
 ghost use Rattle.std.specs.Io.KnownBytes.{Appends};
 ghost use Rattle.decimal_digits.specs.AppendsPrefix.{AppendsPrefix};
@@ -129,8 +129,8 @@ pub fn write_field<W: Sink>(
     sink.put_bytes(&line[bounds.1..])
 }
 
-/// Converts the text between the blanks and tabs of a line between these bounds, and writes the text instead of what is
-/// between them to a sink.
+/// Converts what a line has between these bounds, without the blanks and tabs around it, and writes the line with the
+/// result instead.
 #[inline(never)]
 pub fn convert_trimmed<W: Sink>(
     alloc: Global,
