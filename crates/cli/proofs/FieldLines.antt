@@ -1,8 +1,8 @@
 -- The result of a line, and of its field.
-use Rattle.std.proofs.Common.{◌≡◌, ◌≢◌, ℕ, inl, inr, refl, sym, Some, None, Ok, Err, Result, Bool, true, false, List, ◌-◌, length, take, drop, Option, ap, subst, ◌∙◌, arith}
+use Rattle.std.proofs.Common.{◌≡◌, ◌≢◌, ◌≤◌, ◌+◌, ◌++◌, ℕ, inl, inr, refl, sym, Some, None, Ok, Err, Result, Bool, true, false, List, ◌-◌, length, take, drop, Option, ap, subst, append_assoc, take-append-drop, ◌∙◌, arith}
 use Rattle.std.specs.Prelude.{IfErr, MatchBool}
-use Rattle.std.proofs.lemmas.List.{length-drop}
-use Rattle.std.proofs.Math.Seq.{take-length}
+use Rattle.std.proofs.lemmas.List.{append-nil, length-drop, length-take-le, drop-drop, drop-take, take-take, take_rest}
+use Rattle.std.proofs.Math.Seq.{drop-length, take-add, take-length}
 use Rattle.cli.specs.declared.conversion.Conversion.{Conversion}
 use Rattle.cli.specs.declared.error.OperationError.{OperationError}
 use Rattle.cli.specs.declared.error.OperationError.TheVariants.{Quote, Memory, Output}
@@ -10,10 +10,10 @@ use Rattle.cli.specs.declared.fields.Field.{Field}
 use Rattle.cli.specs.declared.filter.Filter.{Filter}
 use Rattle.cli.specs.Conversion.{HasOutcome, OperationsFail}
 use Rattle.cli.specs.Error.{status_of_operation}
-use Rattle.cli.specs.FieldConversion.{IsTextResult, IsResultBetween, is_trimmed, IsFieldResult, IsLineResult, HasLineText, LineFails, map_text, with_text}
+use Rattle.cli.specs.FieldConversion.{IsTextResult, is_trimmed, IsFieldResult, IsLineResult, HasLineText, LineFails, map_text, with_text}
 use Rattle.cli.specs.Fields.{Holds, located, within, replaced}
-use Rattle.cli.specs.Filter.{HasConvertedLine, ConvertingFails, ConversionFails, IsResultOfLine, filtered_line, in_memory, is_broken_row, RowFails, IsResultOfRow}
-use Rattle.cli.specs.Trim.{text_of, body_of, body_bounds}
+use Rattle.cli.specs.Filter.{body_of, HasConvertedLine, ConvertingFails, ConversionFails, IsResultOfLine, filtered_line, is_broken_row, RowFails, IsResultOfRow}
+use Rattle.cli.specs.Trim.{text_of, with_text_of, body_bounds}
 use Rattle.cli.proofs.Conversions.{error_is_outcome}
 
 -- the bytes from an index to the end
@@ -40,19 +40,14 @@ text_error conversion text error result fails output same other =
     let (why, is_error, is) = error_is_outcome conversion text error refl fails in
     rw (same (λ is. cc)) (Err why, is, ap Err is_error)
 
--- without blanks and tabs around the text
-pub result_between :
-    (conversion : Conversion) (text : List ℕ) (result : Result (List ℕ) OperationError)
-    → IsTextResult conversion text result → IsResultBetween false conversion text result
-result_between conversion text (Ok written) is = (Ok written, is, refl)
-result_between conversion text (Err error) is = (Err error, is, refl)
-
 -- of a field that holds the text
 pub field_result :
     (trims : Bool) (field : Field) (conversion : Conversion) (bytes text : List ℕ) → Holds field bytes text
-    → (trimmed : Bool) → is_trimmed trims field bytes ≡ trimmed → (result : Result (List ℕ) OperationError)
-    → IsResultBetween trimmed conversion text result → IsFieldResult trims field conversion bytes result
-field_result trims field conversion bytes text holds trimmed is result h = inl (text, holds, rw is h)
+    → (trimmed : Bool) → is_trimmed trims field bytes ≡ trimmed → (converted result : Result (List ℕ) OperationError)
+    → IsTextResult conversion (text_of trimmed text) converted
+    → result ≡ map_text (with_text_of trimmed text) converted → IsFieldResult trims field conversion bytes result
+field_result trims field conversion bytes text holds trimmed is converted result is_text same =
+    inl (text, holds, rw is (converted, is_text, same))
 
 -- ---- The result of a line.
 
@@ -86,6 +81,7 @@ error_is_result :
     (trims : Bool) (field : Option Field) (conversion : Conversion) (line : List ℕ) (error : OperationError)
     → status_of_operation error ≡ 1 → LineFails trims field conversion line error
     → IsLineResult trims field conversion line (Err error)
+error_is_result true None conversion line Memory one h = absurd (omega (arith, one))
 error_is_result trims None conversion line error one h =
     let (why, same, is) = error_is_outcome conversion (text_of trims line) error one h in
     (Err why, is, ap Err same)
@@ -93,27 +89,59 @@ error_is_result trims (Some field) conversion line Memory one h = absurd (omega 
 error_is_result trims (Some field) conversion line Output one h = absurd (omega (arith, one))
 error_is_result trims (Some field) conversion line error one h = h
 
--- an error with status 1 does not come from memory
-rejected_in_memory :
-    (trims : Bool) (why : OperationError) → status_of_operation (in_memory trims why) ≡ 1
-    → why ≡ in_memory trims why
-rejected_in_memory true Output one = absurd (omega (arith, one))
-rejected_in_memory trims why one = refl
+-- the result of the line with this number
+pub rejected_line :
+    (filter : Filter) (number : ℕ) (line : List ℕ) (error : OperationError) → status_of_operation error ≡ 1
+    → ConversionFails filter number line error
+    → IsResultOfLine filter number line (filtered_line filter number line (Err error))
+rejected_line filter number line error one (other, fails) =
+    let result =
+    error_is_result filter.trims filter.field filter.conversion (body_of filter number line) error one fails in
+    (Err error, inr (other, (Err error, result, refl)), refl)
+
+-- ---- What is around the bytes of a line.
+
+-- of all bytes
+all_within : (line : List ℕ) → within line (0, length line) ≡ line
+all_within line = take_rest line 0
+
+all_replaced : (line bytes : List ℕ) → replaced line (0, length line) bytes ≡ bytes
+all_replaced line bytes = ap (λ rest. bytes ++ rest) (drop-length line) ∙ append-nil bytes
+
+-- bytes within others that are within a line
+pub replaced_within :
+    (line bytes : List ℕ) (body bounds : ℕ × ℕ) → body.0 ≤ body.1 → body.1 ≤ length line → bounds.0 ≤ bounds.1
+    → bounds.1 ≤ length (within line body)
+    → replaced line body (replaced (within line body) bounds bytes)
+    ≡ replaced line (body.0 + bounds.0, body.0 + bounds.1) bytes
+replaced_within line bytes (start, end) (first, last) ordered inside within_ordered within_inside =
+    let len = end - start in
+    let rest = drop start line in
+    let part = take len rest in
+    let room : len ≤ length rest = omega (arith, ordered, inside, length-drop start line) in
+    let fits : last ≤ len = omega (arith, within_inside, length-take-le len rest room) in
+    let left = len - last in
+    let after = drop (start + last) line in
+    let front : take start line ++ take first part ≡ take (start + first) line =
+    ap (λ t. take start line ++ t) (take-take first len rest (omega (arith, within_ordered, fits)))
+    ∙ sym (take-add start first line) in
+    let tail : drop last part ≡ take left after =
+    ap (λ n. drop last (take n rest)) (omega (arith, fits))
+    ∙ drop-take last left rest
+    ∙ ap (take left) (drop-drop last start line) in
+    let end_is : drop end line ≡ drop left after =
+    ap (λ n. drop n line) (omega (arith, fits, ordered)) ∙ sym (drop-drop left (start + last) line) in
+    let back : drop last part ++ drop end line ≡ after =
+    ap (λ t. t ++ drop end line) tail
+    ∙ ap (λ t. take left after ++ t) end_is
+    ∙ take-append-drop left after in
+    ap (λ t. take start line ++ t) (append_assoc (take first part) (bytes ++ drop last part) (drop end line))
+    ∙ sym (append_assoc (take start line) (take first part) ((bytes ++ drop last part) ++ drop end line))
+    ∙ ap (λ t. t ++ ((bytes ++ drop last part) ++ drop end line)) front
+    ∙ ap (λ t. take (start + first) line ++ t)
+    (append_assoc bytes (drop last part) (drop end line) ∙ ap (λ t. bytes ++ t) back)
 
 module _ (filter : Filter) (number : ℕ) (line : List ℕ) where
-  -- the result of the line with this number
-  rejected_line :
-      (error : OperationError) → status_of_operation error ≡ 1 → ConversionFails filter number line error
-      → IsResultOfLine filter number line (filtered_line filter number line (Err error))
-  unfolding ConvertingFails
-  rejected_line error one (other, (why, fails, is)) =
-      let same : why ≡ error =
-      rejected_in_memory filter.trims why (ap status_of_operation (sym is) ∙ one) ∙ sym is in
-      let result =
-      error_is_result filter.trims filter.field filter.conversion (body_of filter.trims number line) error one
-      (subst (LineFails filter.trims filter.field filter.conversion (body_of filter.trims number line)) same fails) in
-      (Err error, inr (other, (Err error, result, refl)), refl)
-
   -- the result of the row that begins at the line with this number
   rejected_either :
       (error : OperationError) → status_of_operation error ≡ 1 → (broken : Bool)
@@ -121,50 +149,53 @@ module _ (filter : Filter) (number : ℕ) (line : List ℕ) where
       → MatchBool broken (filtered_line filter number line (Err error) ≡ filtered_line filter number line (Err Quote))
       (IsResultOfLine filter number line (filtered_line filter number line (Err error)))
   rejected_either error one true is = ap (λ e. filtered_line filter number line (Err e)) is
-  rejected_either error one false fails = rejected_line error one fails
+  rejected_either error one false fails = rejected_line filter number line error one fails
 
   pub rejected_row :
       (error : OperationError) → status_of_operation error ≡ 1 → RowFails filter number line error
       → IsResultOfRow filter number line (filtered_line filter number line (Err error))
   rejected_row error one fails = rejected_either error one (is_broken_row filter line) fails
 
-  -- without `trim` all bytes are converted
-  module _ (off : filter.trims ≡ false) where
-    pub converted_all :
-        (P : List ℕ → Type 0) → HasLineText false filter.field filter.conversion line P
-        → HasConvertedLine filter number line P
-    converted_all P (text, is, p) = (text, (Ok text, rw off is, rw off refl), p)
+  -- with these options the bytes between these bounds are converted
+  module _
+      (trims : Bool) (field : Option Field) (body : ℕ × ℕ) (trimmed : filter.trims ≡ trims)
+      (is_field : filter.field ≡ field) (is_body : body ≡ body_bounds filter.trims number line)
+    where
+      pub converted_line :
+          (P : List ℕ → Type 0)
+          → HasLineText trims field filter.conversion (within line body) (λ text. P (replaced line body text))
+          → HasConvertedLine filter number line P
+      converted_line P h =
+          let (text, is, p) =
+          subst (λ b. HasLineText trims field filter.conversion (within line b) (λ text. P (replaced line b text)))
+          is_body h in
+          let bytes = body_of filter number line in
+          let is_result =
+          subst (λ t. IsLineResult t filter.field filter.conversion bytes (Ok text)) (sym trimmed)
+          (subst (λ f. IsLineResult trims f filter.conversion bytes (Ok text)) (sym is_field) is) in
+          (replaced line (body_bounds filter.trims number line) text, (Ok text, is_result, refl), p)
 
-    pub all_fails :
-        (error : OperationError) → LineFails false filter.field filter.conversion line error
+      pub converting_fails :
+          (error : OperationError) → LineFails trims field filter.conversion (within line body) error
+          → ConvertingFails filter number line error
+      converting_fails error fails =
+          subst (λ t. LineFails t filter.field filter.conversion (body_of filter number line) error) (sym trimmed)
+          (subst (λ f. LineFails trims f filter.conversion (body_of filter number line) error) (sym is_field)
+          (subst (λ b. LineFails trims field filter.conversion (within line b) error) is_body fails))
+
+  -- without `trim` and a field all bytes are converted
+  module _ (off : filter.trims ≡ false) (none : filter.field ≡ None) where
+    pub plain_line :
+        (P : List ℕ → Type 0) → HasOutcome filter.conversion line P → HasConvertedLine filter number line P
+    plain_line P (written, is, p) =
+        converted_line false None (0, length line) off none (rw off refl) P
+        (outcome_line false filter.conversion (within line (0, length line)) line
+        (λ text. P (replaced line (0, length line) text)) (sym (all_within line))
+        (written, is, subst P (sym (all_replaced line written)) p))
+
+    pub plain_fails :
+        (error : OperationError) → OperationsFail error filter.conversion line
         → ConvertingFails filter number line error
-    unfolding ConvertingFails
-    all_fails error fails = (error, rw off fails, rw off refl)
-
-  -- with `trim` the bytes between these bounds
-  module _ (on : filter.trims ≡ true) (bounds : ℕ × ℕ) (is_body : bounds ≡ body_bounds number line) where
-    pub converted_body :
-        (P : List ℕ → Type 0) (text : List ℕ)
-        → IsLineResult true filter.field filter.conversion (within line bounds) (Ok text)
-        → P (replaced line bounds text) → HasConvertedLine filter number line P
-    converted_body P text is p =
-        let body =
-        subst (λ b. IsLineResult true filter.field filter.conversion (within line b) (Ok text)) is_body is in (
-          replaced line bounds text,
-          (Ok text, rw on body, rw on (ap (λ b. Ok (replaced line b text)) is_body)),
-          p,
-        )
-
-    body_why :
-        (why : OperationError) → LineFails true filter.field filter.conversion (within line bounds) why
-        → (error : OperationError) → error ≡ in_memory true why → ConvertingFails filter number line error
-    unfolding ConvertingFails
-    body_why why fails error is =
-        let body = subst (λ b. LineFails true filter.field filter.conversion (within line b) why) is_body fails in
-        (why, rw on body, rw on is)
-
-    pub body_fails :
-        (why error : OperationError) → LineFails true filter.field filter.conversion (within line bounds) why
-        → (why ≡ Output → error ≡ Memory) → (why ≢ Output → error ≡ why) → ConvertingFails filter number line error
-    body_fails Output error fails output other = body_why Output fails error (output refl)
-    body_fails why error fails output other = body_why why fails error (other (λ is. cc))
+    plain_fails error fails =
+        converting_fails false None (0, length line) off none (rw off refl) error
+        (subst (λ l. OperationsFail error filter.conversion l) (sym (all_within line)) fails)

@@ -1,5 +1,5 @@
 -- The result of a line: its conversion, or that of one of its fields.
-use Rattle.std.specs.Prelude.{◌≡◌, ◌⊎◌, ℕ, ◌&&◌, not, Bool, List, Option, Some, None, Result, Ok, Err, MatchResult}
+use Rattle.std.specs.Prelude.{◌≡◌, ◌⊎◌, ℕ, ◌&&◌, not, Bool, true, List, Option, Some, None, Result, Ok, Err, MatchResult}
 use Rattle.fixed_decimal.specs.Outcome.{OutcomeError}
 use Rattle.cli.specs.declared.conversion.Conversion.{Conversion}
 use Rattle.cli.specs.declared.error.OperationError.{OperationError}
@@ -60,9 +60,11 @@ abbrev pub HasLineText : Bool → Option Field → Conversion → List ℕ → (
 HasLineText trims field conversion line P =
     (text : List ℕ) × IsLineResult trims field conversion line (Ok text) × P text
 
--- a line fails with this error: that of its result; or out of memory, which each field needs; or a failed output of
--- its text
+-- a line fails with this error: that of its result; or out of memory, which each field and with `trim` each text needs;
+-- or a failed output of its text
 abbrev pub LineFails : Bool → Option Field → Conversion → List ℕ → OperationError → Type 0
+LineFails true None conversion line Memory =
+    OperationsFail Memory conversion (text_of true line) ⊎ OperationsFail Output conversion (text_of true line)
 LineFails trims None conversion line error = OperationsFail error conversion (text_of trims line)
 LineFails trims (Some field) conversion line Memory = (bounds : ℕ × ℕ) × (located field line ≡ Ok bounds)
 LineFails trims (Some field) conversion line Output =

@@ -15,7 +15,8 @@ use Rattle.cli.specs.declared.filter.OnError.{OnError}
 use Rattle.cli.specs.declared.filter.OnError.TheVariants.{Stop, Keep}
 use Rattle.cli.specs.Error.{status_of_operation}
 use Rattle.cli.specs.FieldConversion.{IsLineResult, LineFails, map_text}
-use Rattle.cli.specs.Trim.{body_of, with_body_of}
+use Rattle.cli.specs.Fields.{within, replaced}
+use Rattle.cli.specs.Trim.{body_bounds}
 use Rattle.cli.specs.Input.{IsRowRead}
 use Rattle.cli.specs.Records.{is_broken, lines_in}
 
@@ -25,12 +26,16 @@ use Rattle.cli.specs.Records.{is_broken, lines_in}
 abbrev pub IsHeader : Filter → ℕ → Type 0
 IsHeader filter number = (filter.has_header ≡ true) × (number ≡ 1)
 
--- the result of converting the line with this number: with `trim` what is around its bytes is copied
+-- the bytes of the line with this number that are converted
+abbrev pub body_of : Filter → ℕ → List ℕ → List ℕ
+body_of filter number line = within line (body_bounds filter.trims number line)
+
+-- the result of converting the line with this number: what is around these bytes is copied
 abbrev pub IsConvertedLine : Filter → ℕ → List ℕ → Result (List ℕ) OperationError → Type 0
 IsConvertedLine filter number line result =
     (converted : Result (List ℕ) OperationError)
-    × IsLineResult filter.trims filter.field filter.conversion (body_of filter.trims number line) converted
-    × (result ≡ map_text (with_body_of filter.trims number line) converted)
+    × IsLineResult filter.trims filter.field filter.conversion (body_of filter number line) converted
+    × (result ≡ map_text (replaced line (body_bounds filter.trims number line)) converted)
 
 -- P holds of the text of converting the line with this number
 abbrev pub HasConvertedLine : Filter → ℕ → List ℕ → (List ℕ → Type 0) → Type 0
@@ -46,17 +51,10 @@ IsTextOrError filter number line result =
 abbrev pub HasText : Filter → ℕ → List ℕ → (List ℕ → Type 0) → Type 0
 HasText filter number line P = (text : List ℕ) × IsTextOrError filter number line (Ok text) × P text
 
--- an error with `trim`: a line is converted in memory, whose failed output is out of memory
-abbrev pub in_memory : Bool → OperationError → OperationError
-in_memory true operation.Output = operation.Memory
-in_memory trims error = error
-
 -- converting the line with this number fails with this error
-unfoldable pub ConvertingFails : Filter → ℕ → List ℕ → OperationError → Type 0
+abbrev pub ConvertingFails : Filter → ℕ → List ℕ → OperationError → Type 0
 ConvertingFails filter number line error =
-    (why : OperationError)
-    × LineFails filter.trims filter.field filter.conversion (body_of filter.trims number line) why
-    × (error ≡ in_memory filter.trims why)
+    LineFails filter.trims filter.field filter.conversion (body_of filter number line) error
 
 -- the conversion of the line with this number fails with this error; a header has none
 abbrev pub ConversionFails : Filter → ℕ → List ℕ → OperationError → Type 0

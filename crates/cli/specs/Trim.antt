@@ -30,17 +30,11 @@ with_text_of trims bytes text = if trims then replaced bytes (trimmed_bounds byt
 abbrev pub byte_order_mark : List ℕ
 byte_order_mark = 239 ∷ 187 ∷ 191 ∷ []
 
--- the start and the end of the line with this number without a byte order mark at the start of the first line and a
--- carriage return at its end
-abbrev pub body_bounds : ℕ → List ℕ → ℕ × ℕ
-body_bounds number line =
+-- the start and the end of the bytes of the line with this number that are converted: with `trim` without a byte order
+-- mark at the start of the first line and a carriage return at its end
+abbrev pub body_bounds : Bool → ℕ → List ℕ → ℕ × ℕ
+body_bounds trims number line =
     let bytes = strip_last 13 line in
-    (if number == 1 && starts_with nat_eq bytes byte_order_mark then 3 else 0, length bytes)
-
--- the bytes of the line with this number that are converted: with `trim` without what is around them
-abbrev pub body_of : Bool → ℕ → List ℕ → List ℕ
-body_of trims number line = if trims then within line (body_bounds number line) else line
-
--- the line with other bytes: with `trim` what is around them is copied
-abbrev pub with_body_of : Bool → ℕ → List ℕ → List ℕ → List ℕ
-with_body_of trims number line bytes = if trims then replaced line (body_bounds number line) bytes else bytes
+    if trims
+    then (if number == 1 && starts_with nat_eq bytes byte_order_mark then 3 else 0, length bytes)
+    else (0, length line)

@@ -1,9 +1,10 @@
-//! The conversion of a line, or of a field of it.
-ghost use Rattle.std.specs.Prelude.{◌≡◌, ◌≢◌, ◌≤◌, length, Ok, Err, Some, true, IfOk, IfErr, OnOk, OnErr};
+//! The conversion of a field of a line, and of a whole line that is trimmed.
+ghost use Rattle.std.specs.Prelude.{◌≡◌, ◌≢◌, ◌≤◌, length, Ok, Err, Some, None, true, IfOk, IfErr, OnOk, OnErr};
 ghost use Rattle.std.specs.Io.KnownBytes.{Appends};
 ghost use Rattle.decimal_digits.specs.AppendsPrefix.{AppendsPrefix};
-ghost use Rattle.cli.specs.Fields.{replaced};
-ghost use Rattle.cli.specs.FieldConversion.{IsTextResult, IsResultBetween, is_trimmed, IsFieldResult, with_text, HasLineText, LineFails};
+ghost use Rattle.cli.specs.Fields.{within, replaced};
+ghost use Rattle.cli.specs.FieldConversion.{IsTextResult, is_trimmed, IsFieldResult, with_text, HasLineText, LineFails};
+ghost use Rattle.cli.specs.Trim.{with_text_of};
 
 use crate::conversion::{Conversion, convert};
 use crate::error::OperationError;
@@ -13,7 +14,7 @@ use fixed_decimal::{Sink, SinkFault, TextBuf};
 use std::alloc::Global;
 
 /// Returns the error of a conversion to a sink in memory, which fails only if out of memory.
-pub fn error_in_memory(error: OperationError) -> OperationError
+fn error_in_memory(error: OperationError) -> OperationError
     ensures output { error ≡ OperationError.Output → result ≡ OperationError.Memory }
     ensures other { error ≢ OperationError.Output → result ≡ error }
     ensures no_output { result ≢ OperationError.Output }
@@ -25,7 +26,7 @@ pub fn error_in_memory(error: OperationError) -> OperationError
 }
 
 /// Writes bytes with others between these bounds.
-pub fn write_replaced<W: Sink>(
+fn write_replaced<W: Sink>(
     bytes: &[u8],
     bounds: (usize, usize),
     others: &[u8],
@@ -61,20 +62,14 @@ fn convert_in_memory(
     }
 }
 
-fn convert_between(
-    alloc: Global,
-    conversion: &Conversion<'_>,
-    bytes: &[u8],
-) -> Result<TextBuf, OperationError>
-    ensures ok { IfOk result (λ written. IsResultBetween true conversion.now bytes.now (Ok written.0)) }
-    ensures err { IfErr result (λ error. error ≢ OperationError.Memory
-        → IsResultBetween true conversion.now bytes.now (Err error)) }
-    ensures no_output { IfErr result (λ error. error ≢ OperationError.Output) }
+/// Returns the bytes with another text between the blanks and tabs around their text.
+#[inline(never)]
+fn with_text_between(alloc: Global, bytes: &[u8], text: &[u8]) -> Result<TextBuf, OperationError>
+    ensures ok { IfOk result (λ written. written.0 ≡ with_text_of true bytes.now text.now) }
+    ensures err { IfErr result (λ error. error ≡ OperationError.Memory) }
 {
-    let bounds = trimmed_bounds(bytes);
-    let text = convert_in_memory(alloc, conversion, &bytes[bounds.0..bounds.1])?;
     let mut written = TextBuf::new(alloc);
-    match write_replaced(bytes, bounds, text.as_bytes(), &mut written) {
+    match write_replaced(bytes, trimmed_bounds(bytes), text, &mut written) {
         Ok(()) => Ok(written),
         Err(_) => Err(OperationError::Memory),
     }
@@ -87,7 +82,8 @@ fn is_trimmed(trims: bool, field: &Field<'_>, bytes: &[u8]) -> bool
     trims && !field.is_quoted(bytes)
 }
 
-fn converted(
+/// Converts the text of a field.
+pub fn converted(
     alloc: Global,
     trims: bool,
     conversion: &Conversion<'_>,
@@ -104,13 +100,16 @@ fn converted(
         Ok(None) => return Err(OperationError::Quote),
         Err(_) => return Err(OperationError::Memory),
     };
-    if is_trimmed(trims, field, bytes) {
-        return convert_between(alloc, conversion, text.as_slice());
+    let is_trimmed = is_trimmed(trims, field, bytes);
+    let written = convert_in_memory(alloc, conversion, text_of(is_trimmed, text.as_slice()))?;
+    if is_trimmed {
+        return with_text_between(alloc, text.as_slice(), written.as_bytes());
     }
-    convert_in_memory(alloc, conversion, text.as_slice())
+    Ok(written)
 }
 
-fn write_field<W: Sink>(
+/// Writes a line with a text as the field between these bounds.
+pub fn write_field<W: Sink>(
     field: &Field<'_>,
     line: &[u8],
     bounds: (usize, usize),
@@ -130,51 +129,33 @@ fn write_field<W: Sink>(
     sink.put_bytes(&line[bounds.1..])
 }
 
-/// Converts the field of a line, and writes the line with it to a sink.
+/// Converts what a line has between these bounds, without the blanks and tabs around it, and writes the line with the
+/// result instead.
 #[inline(never)]
-fn convert_field<W: Sink>(
+pub fn convert_trimmed<W: Sink>(
     alloc: Global,
-    trims: bool,
     conversion: &Conversion<'_>,
-    field: &Field<'_>,
     line: &[u8],
+    body: (usize, usize),
     sink: &mut W,
 ) -> Result<(), OperationError>
-    ensures printed { OnOk result (HasLineText trims (Some field.now) conversion.now line.now
-        (Appends (W.contents sink.old) (W.contents sink.new))) }
-    ensures fails_with { IfErr result (LineFails trims (Some field.now) conversion.now line.now) }
+    requires ordered { body.0 ≤ body.1 }
+    requires inside { body.1 ≤ length line.now }
+    ensures printed { OnOk result (HasLineText true None conversion.now (within line.now body)
+        (λ text. Appends (W.contents sink.old) (W.contents sink.new) (replaced line.now body text))) }
+    ensures fails_with { IfErr result (λ error. error ≢ OperationError.Output
+        → LineFails true None conversion.now (within line.now body) error) }
     ensures unchanged_on_error { IfErr result (λ error. error ≢ OperationError.Output → sink.new ≡ sink.old) }
     ensures failed { result ≡ Err OperationError.Output → W.has_failed sink.new ≡ true }
-    ensures prefix { result ≡ Err OperationError.Output → HasLineText trims (Some field.now) conversion.now line.now
-        (AppendsPrefix (W.contents sink.old) (W.contents sink.new)) }
+    ensures prefix { result ≡ Err OperationError.Output → HasLineText true None conversion.now (within line.now body)
+        (λ text. AppendsPrefix (W.contents sink.old) (W.contents sink.new) (replaced line.now body text)) }
 {
-    let bounds = field.locate(line)?;
-    let text = converted(alloc, trims, conversion, field, &line[bounds.0..bounds.1])?;
-    write_field(field, line, bounds, text.as_bytes(), sink)?;
-    Ok(())
-}
-
-/// Converts a line, or the field of it if there is one, and writes the line to a sink. If it is trimmed, blanks and
-/// tabs around the text are no part of it: they are copied with a field, and otherwise dropped.
-#[inline(always)]
-pub fn convert_line<W: Sink>(
-    alloc: Global,
-    trims: bool,
-    conversion: &Conversion<'_>,
-    field: &Option<Field<'_>>,
-    line: &[u8],
-    sink: &mut W,
-) -> Result<(), OperationError>
-    ensures printed { OnOk result (HasLineText trims field.now conversion.now line.now
-        (Appends (W.contents sink.old) (W.contents sink.new))) }
-    ensures fails_with { IfErr result (LineFails trims field.now conversion.now line.now) }
-    ensures unchanged_on_error { IfErr result (λ error. error ≢ OperationError.Output → sink.new ≡ sink.old) }
-    ensures failed { result ≡ Err OperationError.Output → W.has_failed sink.new ≡ true }
-    ensures prefix { result ≡ Err OperationError.Output → HasLineText trims field.now conversion.now line.now
-        (AppendsPrefix (W.contents sink.old) (W.contents sink.new)) }
-{
-    match field {
-        None => convert(alloc, conversion, text_of(trims, line), sink),
-        Some(field) => convert_field(alloc, trims, conversion, field, line, sink),
+    let mut text = TextBuf::new(alloc);
+    let bytes = text_of(true, &line[body.0..body.1]);
+    match convert(alloc, conversion, bytes, &mut text) {
+        Ok(()) => {}
+        Err(error) => return Err(error_in_memory(error)),
     }
+    write_replaced(line, body, text.as_bytes(), sink)?;
+    Ok(())
 }

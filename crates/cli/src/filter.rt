@@ -3,21 +3,23 @@ ghost use Rattle.std.specs.Prelude.{◌≡◌, ◌≢◌, ◌<◌, ◌∷◌, �
 ghost use Rattle.std.specs.Io.KnownBytes.{Appends, IsAtEnd};
 ghost use Rattle.decimal_digits.specs.AppendsPrefix.{AppendsPrefix};
 ghost use Rattle.memchr.specs.Find.{IsFirstByte, is_byte};
-ghost use Rattle.cli.specs.Filter.{IsHeader, replacement, HasConvertedLine, ConvertingFails, HasText, ConversionFails, IsErrorOfReading, FiltersLine, FiltersNext};
-ghost use Rattle.cli.specs.Filter.{HasRowText, RowFails, lines_of_row};
+ghost use Rattle.cli.specs.FieldConversion.{HasLineText, LineFails};
+ghost use Rattle.cli.specs.Fields.{replaced};
+ghost use Rattle.cli.specs.Trim.{body_bounds};
+ghost use Rattle.cli.specs.Filter.{IsHeader, body_of, replacement, HasConvertedLine, ConvertingFails, HasText, ConversionFails, HasRowText, RowFails, lines_of_row, IsErrorOfReading, FiltersLine, FiltersNext};
 ghost use Rattle.cli.specs.Input.{bytes_left};
 ghost use Rattle.cli.specs.Lines.{Filters, IsConsumed};
 
-use crate::conversion::Conversion;
+use crate::conversion::{Conversion, convert};
 use crate::diagnostics::Diagnostics;
 use crate::error::{OperationError, ProgramError};
-use crate::field_conversion::{convert_line, error_in_memory, write_replaced};
+use crate::field_conversion::{convert_trimmed, converted, write_field};
 use crate::fields::Field;
 use crate::input::LineReader;
 use crate::line_feed::find_line_feed;
 use crate::records::{is_broken, lines_in};
 use crate::trim::body_bounds;
-use fixed_decimal::{Sink, SinkFault, TextBuf};
+use fixed_decimal::{Sink, SinkFault};
 use std::alloc::Global;
 use std::io::{ErrorKind, Read};
 
@@ -78,32 +80,35 @@ impl Filter<'_> {
         self.has_header && number == 1
     }
 
-    /// Converts a line without what is around its bytes, which is copied.
-    fn convert_body<W: Sink>(
+    #[inline(never)]
+    fn convert_field<W: Sink>(
         &self,
         alloc: Global,
+        field: &Field<'_>,
         number: u64,
         line: &[u8],
         sink: &mut W,
     ) -> Result<(), OperationError>
-        requires { self.now.trims ≡ true }
-        ensures printed { OnOk result (HasConvertedLine self.now number line.now
-            (Appends (W.contents sink.old) (W.contents sink.new))) }
-        ensures fails_with { IfErr result (λ error. error ≢ OperationError.Output
-            → ConvertingFails self.now number line.now error) }
+        ensures printed { OnOk result
+            (HasLineText self.now.trims (Some field.now) self.now.conversion (body_of self.now number line.now)
+            (λ text. Appends (W.contents sink.old) (W.contents sink.new)
+            (replaced line.now (body_bounds self.now.trims number line.now) text))) }
+        ensures fails_with { IfErr result
+            (LineFails self.now.trims (Some field.now) self.now.conversion (body_of self.now number line.now)) }
         ensures unchanged_on_error { IfErr result (λ error. error ≢ OperationError.Output → sink.new ≡ sink.old) }
         ensures failed { result ≡ Err OperationError.Output → W.has_failed sink.new ≡ true }
-        ensures prefix { result ≡ Err OperationError.Output → HasConvertedLine self.now number line.now
-            (AppendsPrefix (W.contents sink.old) (W.contents sink.new)) }
+        ensures prefix { result ≡ Err OperationError.Output →
+            HasLineText self.now.trims (Some field.now) self.now.conversion (body_of self.now number line.now)
+            (λ text. AppendsPrefix (W.contents sink.old) (W.contents sink.new)
+            (replaced line.now (body_bounds self.now.trims number line.now) text)) }
     {
-        let bounds = body_bounds(number, line);
-        let body = &line[bounds.0..bounds.1];
-        let mut text = TextBuf::new(alloc);
-        match convert_line(alloc, true, &self.conversion, &self.field, body, &mut text) {
-            Ok(()) => {}
-            Err(error) => return Err(error_in_memory(error)),
-        }
-        write_replaced(line, bounds, text.as_bytes(), sink)?;
+        let body = body_bounds(self.trims, number, line);
+        let bytes = &line[body.0..body.1];
+        let bounds = field.locate(bytes)?;
+        let bytes = &bytes[bounds.0..bounds.1];
+        let text = converted(alloc, self.trims, &self.conversion, field, bytes)?;
+        let bounds = (body.0 + bounds.0, body.0 + bounds.1);
+        write_field(field, line, bounds, text.as_bytes(), sink)?;
         Ok(())
     }
 
@@ -124,10 +129,14 @@ impl Filter<'_> {
         ensures prefix { result ≡ Err OperationError.Output → HasConvertedLine self.now number line.now
             (AppendsPrefix (W.contents sink.old) (W.contents sink.new)) }
     {
-        if self.trims {
-            return self.convert_body(alloc, number, line, sink);
+        match &self.field {
+            Some(field) => self.convert_field(alloc, field, number, line, sink),
+            None if self.trims => {
+                let body = body_bounds(true, number, line);
+                convert_trimmed(alloc, &self.conversion, line, body, sink)
+            }
+            None => convert(alloc, &self.conversion, line, sink),
         }
-        convert_line(alloc, false, &self.conversion, &self.field, line, sink)
     }
 
     #[inline(always)]

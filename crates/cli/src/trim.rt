@@ -73,13 +73,17 @@ pub fn without_return(line: &[u8]) -> &[u8]
     line
 }
 
-/// Returns the start and the end of the bytes between what is copied around the line with this number: a byte order
-/// mark at the start of the input, and a carriage return at the end of a line.
-pub fn body_bounds(number: u64, line: &[u8]) -> (usize, usize)
-    ensures value { result ≡ body_bounds number line.now }
+/// Returns the start and the end of the bytes of the line with this number that are converted: if they are trimmed,
+/// without a byte order mark at the start of the input, and without a carriage return at the end of the line.
+#[inline]
+pub fn body_bounds(trims: bool, number: u64, line: &[u8]) -> (usize, usize)
+    ensures value { result ≡ body_bounds trims number line.now }
     ensures ordered { result.0 ≤ result.1 }
     ensures inside { result.1 ≤ length line.now }
 {
+    if !trims {
+        return (0, line.len());
+    }
     let bytes = without_return(line);
     if number == 1 && bytes.starts_with(&BYTE_ORDER_MARK) {
         return (3, bytes.len());
