@@ -2,19 +2,25 @@
 """Writes rows of `number_vectors` of texts and errors of `Intl.NumberFormat`:
 
     python3 tools/numbers/make_rows.py TEXTS ERRORS CURRENCIES > crates/number_vectors/stdin
+    python3 tools/numbers/make_rows.py TEXTS
 
 TEXTS has rows of a locale, options as JSON by the names of ECMA-402, a number and its text; ERRORS has a locale, options
-and the class of the error; both are made with node. CURRENCIES has rows of a code and its number of fraction digits. Rows of texts are those of `en`, style decimal, without an exponent or
-in scientific or engineering notation; rows of errors are those of each distinct choice of digits. `own_rows.txt` has the
-other rows.
+and the class of the error; both are made with node. CURRENCIES has rows of a code and its number of fraction digits.
+`own_rows.txt` has the other rows. Rows of errors are those of each distinct choice of digits. Rows of texts are those of
+`en`, style decimal, not compact; of all others those that are the first with a locale, with a value of an option in a style
+and a notation, with a currency and its display, or with what is written around and between digits, a symbol of a currency
+being any. With TEXTS alone its rows are written, all.
 """
+import collections
 import json
 import os
 import sys
+import unicodedata
 
 COUNTS = ["minimumIntegerDigits", "minimumFractionDigits", "maximumFractionDigits", "minimumSignificantDigits",
           "maximumSignificantDigits", "roundingIncrement", "roundingPriority", "notation"]
-SHOWN = [*COUNTS, "roundingMode", "trailingZeroDisplay", "signDisplay", "useGrouping"]
+SHOWN = ["style", "currency", "currencyDisplay", "currencySign", "compactDisplay", *COUNTS, "roundingMode",
+         "trailingZeroDisplay", "signDisplay", "useGrouping"]
 
 
 def rows(path):
@@ -26,7 +32,8 @@ def rows(path):
 
 def words(options, names):
     values = {name: options[name] for name in names if name in options}
-    return " ".join(f"{name}={str(value).lower() if isinstance(value, bool) else value}" for name, value in values.items())
+    shown = {True: "always", "true": "always", False: "false"}
+    return " ".join(f"{name}={shown.get(value, value) if name == 'useGrouping' else value}" for name, value in values.items())
 
 
 def defaults(options, currencies):
@@ -38,11 +45,50 @@ def defaults(options, currencies):
     return "defaults=0,0" if style == "percent" else ""
 
 
+def row_of(tag, options, number, text):
+    return f"{tag}\t{words(options, SHOWN)}\t{number}\t{text}"
+
+
 def texts(path):
     for tag, options, number, text in rows(path):
-        options = json.loads(options)
-        if tag == "en" and options.get("style", "decimal") == "decimal" and options.get("notation") != "compact":
-            yield f"{words(options, SHOWN)}\t{number}\t{text}"
+        yield tag, json.loads(options), number, text
+
+
+def is_plain(tag, options):
+    return tag == "en" and options.get("style", "decimal") == "decimal" and options.get("notation") != "compact"
+
+
+def symbols_of_currencies():
+    """The symbols and the code of each currency, the longest first."""
+    found = collections.defaultdict(set)
+    path = os.path.join(os.path.dirname(__file__), "..", "locales", "currency_symbols.tsv")
+    for _, code, *symbols in rows(path):
+        found[code].update([code, *symbols])
+    return {code: sorted(symbols - {""}, key=len, reverse=True) for code, symbols in found.items()}
+
+
+def around(text, symbols):
+    """What a text has around its digits, and which marks between them, with one sign for each symbol."""
+    symbol = next((it for it in symbols if it in text), None)
+    text = text.replace(symbol, "\u00a4", 1) if symbol else text
+    at = [index for index, it in enumerate(text) if unicodedata.category(it) == "Nd"]
+    if not at:
+        return text
+    between = {it for it in text[at[0]:at[-1]] if unicodedata.category(it) != "Nd" and it not in ".,"}
+    return f"{text[:at[0]]}0{''.join(sorted(between))}0{text[at[-1] + 1:]}"
+
+
+def cover(path):
+    """The rows of texts that have something as the first."""
+    known, seen = symbols_of_currencies(), set()
+    for tag, options, number, text in texts(path):
+        style, notation, code = (options.get(it) for it in ["style", "notation", "currency"])
+        has = {tag, around(text, known.get(code, [code] if code else [])), (code, options.get("currencyDisplay"))}
+        has |= {(name, str(value), style, notation) for name, value in options.items()
+                if not name.startswith(("minimum", "maximum")) and name != "currency"}
+        if not has <= seen and not is_plain(tag, options):
+            yield row_of(tag, options, number, text)
+        seen |= has
 
 
 def errors(path, currencies):
@@ -82,8 +128,16 @@ def main(texts_path, errors_path, currencies_path):
     with open(os.path.join(os.path.dirname(__file__), "own_rows.txt"), encoding="utf-8") as file:
         sys.stdout.write(file.read())
     print("\n# Both ends.\n" + "\n".join(ends()))
-    print("\n# Texts of node.\n" + "\n".join(texts(texts_path)))
+    plain = (f"{words(options, SHOWN)}\t{number}\t{text}" for tag, options, number, text in texts(texts_path)
+             if is_plain(tag, options))
+    print("\n# Texts of node.\n" + "\n".join(plain))
     print("\n# Errors of node.\n" + "\n".join(dict.fromkeys(errors(errors_path, currencies))))
+    print("\n# Texts of node in each style and notation, under the license in tools/locales/LICENSE.\n"
+          + "\n".join(cover(texts_path)))
 
 
-main(*sys.argv[1:])
+if len(sys.argv) == 2:
+    for row in texts(sys.argv[1]):
+        print(row_of(*row))
+else:
+    main(*sys.argv[1:])

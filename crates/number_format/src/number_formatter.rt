@@ -19,7 +19,7 @@ pub enum NumberFormatError {
 
 /// What is written around a number in compact notation.
 #[derive(Clone, Copy, Debug)]
-pub enum CompactUnit {
+pub(crate) enum CompactUnit {
     /// Nothing.
     Nothing,
     /// The percent sign, as the locale has it for the number.

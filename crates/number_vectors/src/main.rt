@@ -11,11 +11,11 @@ mod words;
 
 use decimal_format::DecimalFormatter;
 use fixed_decimal::{
-    DigitList, DigitStore, FixedInteger, PackedDigits, RoundError, Signed, Sink, UnsignedOver,
-    Writeable,
+    Decimal, DigitList, DigitStore, FixedInteger, PackedDigits, RoundError, Signed, Sink,
+    UnsignedOver, Writeable,
 };
 use locale_data::locale;
-use number_format::{DigitOptions, DigitOptionsError, Notation};
+use number_format::{DigitOptions, DigitOptionsError, Notation, NumberFormatter};
 use std::alloc::Global;
 use std::io;
 use std::process::ExitCode;
@@ -92,9 +92,9 @@ fn scales<D: DigitStore>(
     value: Signed<UnsignedOver<D>>,
     text: &str,
 ) -> bool {
-    match options.notation.scale(digits, value) {
+    match options.notation().scale(digits, value) {
         Ok(scaled) => {
-            let exponent = match options.notation {
+            let exponent = match options.notation() {
                 Notation::Standard => None,
                 _ => Some(scaled.exponent()),
             };
@@ -114,7 +114,7 @@ fn has_text<D: DigitStore>(
     (number, text): (&str, &str),
 ) -> Option<bool> {
     let formatter = DecimalFormatter::new(locale(tag)?, options.grouping);
-    if let Notation::Standard = options.notation {
+    if let Notation::Standard = options.notation() {
         let value: Signed<UnsignedOver<D>> = Signed::try_from_str(alloc, number).ok()?;
         if !applies(alloc, &formatter, options, digits, value, (number, text)) {
             return Some(false);
@@ -122,6 +122,25 @@ fn has_text<D: DigitStore>(
     }
     let value: Signed<UnsignedOver<D>> = Signed::try_from_str(alloc, number).ok()?;
     Some(scales(alloc, &formatter, options, digits, value, text))
+}
+
+/// Whether the format of these options writes a number as this text.
+fn formats(
+    alloc: Global,
+    tag: &str,
+    options: &Options,
+    digits: DigitOptions,
+    (number, text): (&str, &str),
+) -> Option<bool> {
+    let formatter = NumberFormatter::try_new(tag, options.number(digits)).ok()?;
+    let value = Decimal::try_from_str(alloc, number).ok()?;
+    match formatter.format(alloc, value) {
+        Ok(formatted) => {
+            let mut sink = LimitedSink::new(text.as_bytes(), usize::MAX);
+            Some(formatted.write_to(&mut sink).is_ok() && sink.has_all())
+        }
+        Err(_) => Some(text == "Limit"),
+    }
 }
 
 /// Whether a row holds.
@@ -141,12 +160,21 @@ fn holds(alloc: Global, row: &str) -> Option<bool> {
         }
     };
     let number = expand_runs(alloc, number).ok()?;
-    let text = expand_runs(alloc, text).ok()?;
+    // Texts of node have blanks, and no stars.
+    let text = if text.contains('*') {
+        expand_runs(alloc, text).ok()?
+    } else {
+        text.repeat(alloc, 1).ok()?
+    };
     let row = (number.as_str(), text.as_str());
     if options.is_limited {
         return has_text::<LimitedStore<PackedDigits, SixteenDigits>>(
             alloc, tag, &options, &digits, row,
         );
+    }
+    let formatted = formats(alloc, tag, &options, digits, row)?;
+    if !formatted || !options.is_plain(tag) {
+        return Some(formatted);
     }
     let packed = has_text::<PackedDigits>(alloc, tag, &options, &digits, row)?;
     Some(packed && has_text::<DigitList>(alloc, tag, &options, &digits, row)?)

@@ -3,29 +3,128 @@ use decimal_format::GroupingStrategy;
 use fixed_decimal::SignDisplay;
 use fixed_decimal::SignedRoundingMode::{self, Ceil, Floor, HalfCeil, HalfFloor, Unsigned};
 use fixed_decimal::UnsignedRoundingMode::{Expand, HalfEven, HalfExpand, HalfTrunc, Trunc};
+use locale_data::{CurrencyCode, CurrencySign, currency_digits};
 use number_format::{
-    BothDigits, DigitDefaults, DigitOptions, DigitOptionsError, DigitSettings, FractionDigits,
-    FractionMultiples, Increment, IntegerDigits, Minimum, Notation, Precision, RoundingPriority,
-    SignificantDigits, TrailingZeros,
+    BothDigits, CompactLength, CurrencyDisplay, CurrencyStyle, CurrencyUsage, DigitDefaults,
+    DigitOptions, DigitOptionsError, DigitSettings, ExponentOptions, ExponentSign, FractionDigits,
+    FractionMultiples, Increment, IntegerDigits, Minimum, Notation, NumberNotation, NumberOptions,
+    NumberStyle, Precision, RoundingPriority, SignificantDigits, TrailingZeros,
 };
+
+/// The styles by the names of ECMA-402.
+#[derive(Clone, Copy)]
+enum Style {
+    Decimal,
+    Percent,
+    Currency,
+}
+
+/// The notations by the names of ECMA-402.
+#[derive(Clone, Copy)]
+enum NotationName {
+    Standard,
+    Scientific,
+    Engineering,
+    Compact,
+}
 
 /// What the words of a row say.
 #[derive(Clone, Copy)]
 pub struct Options {
-    pub notation: Notation,
-    pub settings: DigitSettings,
-    pub defaults: DigitDefaults,
+    style: Style,
+    currency: CurrencyCode,
+    currency_display: CurrencyDisplay,
+    currency_sign: CurrencySign,
+    notation: NotationName,
+    compact_length: CompactLength,
+    settings: DigitSettings,
+    fraction: Option<FractionDigits>,
     pub display: SignDisplay,
     pub grouping: GroupingStrategy,
-    pub integer: Option<IntegerDigits>,
-    pub precision: Option<Precision>,
+    integer: Option<IntegerDigits>,
+    precision: Option<Precision>,
     pub is_limited: bool,
 }
 
 impl Options {
+    /// Returns the numbers of digits by default; of a currency node takes its digits in each notation.
+    fn defaults(&self) -> DigitDefaults {
+        let digits = currency_digits(self.currency).digits as u16;
+        let fraction = match self.style {
+            Style::Decimal => FractionDigits { min: 0, max: 3 },
+            Style::Percent => FractionDigits { min: 0, max: 0 },
+            Style::Currency => FractionDigits {
+                min: digits,
+                max: digits,
+            },
+        };
+        DigitDefaults {
+            fraction: self.fraction.unwrap_or(fraction),
+            is_compact: self.is_compact(),
+        }
+    }
+
+    fn is_compact(&self) -> bool {
+        matches!(self.notation, NotationName::Compact)
+    }
+
+    /// Whether `scale` and a decimal formatter write the text in this locale.
+    pub fn is_plain(&self, tag: &str) -> bool {
+        matches!(self.style, Style::Decimal)
+            && (matches!(self.notation, NotationName::Standard)
+                || tag == "en" && !self.is_compact())
+    }
+
+    /// Returns the notation of `scale`.
+    pub fn notation(&self) -> Notation {
+        match self.notation {
+            NotationName::Scientific => Notation::Scientific,
+            NotationName::Engineering => Notation::Engineering,
+            NotationName::Standard | NotationName::Compact => Notation::Standard,
+        }
+    }
+
+    /// Returns the options of a format with these digits. In compact notation `auto` is `min2`, as node has it.
+    pub fn number(&self, digits: DigitOptions) -> NumberOptions {
+        const PLAIN: ExponentOptions = ExponentOptions {
+            digits: 1,
+            sign: ExponentSign::Auto,
+        };
+        let (style, scale) = match self.style {
+            Style::Decimal => (NumberStyle::Decimal, 0),
+            Style::Percent => (NumberStyle::Percent, 2),
+            Style::Currency => (
+                NumberStyle::Currency(CurrencyStyle {
+                    code: self.currency,
+                    display: self.currency_display,
+                    sign: self.currency_sign,
+                    usage: CurrencyUsage::Standard,
+                }),
+                0,
+            ),
+        };
+        NumberOptions {
+            style,
+            scale,
+            notation: match self.notation {
+                NotationName::Standard => NumberNotation::Standard,
+                NotationName::Scientific => NumberNotation::Scientific(PLAIN),
+                NotationName::Engineering => NumberNotation::Engineering(PLAIN),
+                NotationName::Compact => NumberNotation::Compact(self.compact_length),
+            },
+            digits: Some(digits),
+            sign_display: self.display,
+            grouping: match self.grouping {
+                GroupingStrategy::Auto if self.is_compact() => GroupingStrategy::Min2,
+                grouping => grouping,
+            },
+            numbering_system: None,
+        }
+    }
+
     /// Returns the digit options: those of the settings, with what the row says beyond them.
     pub fn digits(&self) -> Result<DigitOptions, DigitOptionsError> {
-        let mut digits = self.settings.resolve(&self.defaults)?;
+        let mut digits = self.settings.resolve(&self.defaults())?;
         if let Some(integer) = self.integer {
             digits.integer = integer;
         }
@@ -41,6 +140,11 @@ impl Options {
 /// a store that is out of memory for more than 16 of them.
 #[derive(Clone, Copy)]
 enum Name {
+    Style,
+    Currency,
+    CurrencyDisplay,
+    CurrencySign,
+    CompactDisplay,
     MinimumIntegerDigits,
     MinimumFractionDigits,
     MaximumFractionDigits,
@@ -64,6 +168,11 @@ enum Name {
 }
 
 const NAMES: &[(&str, Name)] = &[
+    ("style", Name::Style),
+    ("currency", Name::Currency),
+    ("currencyDisplay", Name::CurrencyDisplay),
+    ("currencySign", Name::CurrencySign),
+    ("compactDisplay", Name::CompactDisplay),
     ("minimumIntegerDigits", Name::MinimumIntegerDigits),
     ("minimumFractionDigits", Name::MinimumFractionDigits),
     ("maximumFractionDigits", Name::MaximumFractionDigits),
@@ -124,12 +233,33 @@ const GROUPINGS: &[(&str, GroupingStrategy)] = &[
     ("min2", GroupingStrategy::Min2),
 ];
 
-/// Notations, and whether they are compact: of compact notation only the digits are checked, without an exponent.
-const NOTATIONS: &[(&str, (Notation, bool))] = &[
-    ("standard", (Notation::Standard, false)),
-    ("scientific", (Notation::Scientific, false)),
-    ("engineering", (Notation::Engineering, false)),
-    ("compact", (Notation::Standard, true)),
+const STYLES: &[(&str, Style)] = &[
+    ("decimal", Style::Decimal),
+    ("percent", Style::Percent),
+    ("currency", Style::Currency),
+];
+
+const CURRENCY_DISPLAYS: &[(&str, CurrencyDisplay)] = &[
+    ("symbol", CurrencyDisplay::Symbol),
+    ("narrowSymbol", CurrencyDisplay::Narrow),
+    ("code", CurrencyDisplay::Code),
+];
+
+const CURRENCY_SIGNS: &[(&str, CurrencySign)] = &[
+    ("standard", CurrencySign::Standard),
+    ("accounting", CurrencySign::Accounting),
+];
+
+const LENGTHS: &[(&str, CompactLength)] = &[
+    ("short", CompactLength::Short),
+    ("long", CompactLength::Long),
+];
+
+const NOTATIONS: &[(&str, NotationName)] = &[
+    ("standard", NotationName::Standard),
+    ("scientific", NotationName::Scientific),
+    ("engineering", NotationName::Engineering),
+    ("compact", NotationName::Compact),
 ];
 
 const MINIMA: &[(&str, Minimum)] = &[("chosen", Minimum::Chosen), ("both", Minimum::Both)];
@@ -142,6 +272,15 @@ fn named<T: Copy>(table: &[(&str, T)], word: &str) -> Option<T> {
         }
     }
     None
+}
+
+/// Parses a code of three letters.
+fn code(word: &str) -> Option<CurrencyCode> {
+    let bytes = word.as_bytes();
+    if bytes.len() != 3 {
+        return None;
+    }
+    Some([bytes[0], bytes[1], bytes[2]])
 }
 
 /// Parses two numbers, separated by a comma.
@@ -204,12 +343,15 @@ fn with(mut options: Options, name: Name, value: &str) -> Option<Options> {
         Name::TrailingZeroDisplay => {
             options.settings.trailing_zeros = named(TRAILING_ZEROS, value)?;
         }
-        Name::Notation => (options.notation, options.defaults.is_compact) = named(
-            NOTATIONS, value,
-        )?,
+        Name::Style => options.style = named(STYLES, value)?,
+        Name::Currency => options.currency = code(value)?,
+        Name::CurrencyDisplay => options.currency_display = named(CURRENCY_DISPLAYS, value)?,
+        Name::CurrencySign => options.currency_sign = named(CURRENCY_SIGNS, value)?,
+        Name::CompactDisplay => options.compact_length = named(LENGTHS, value)?,
+        Name::Notation => options.notation = named(NOTATIONS, value)?,
         Name::SignDisplay => options.display = named(DISPLAYS, value)?,
         Name::UseGrouping => options.grouping = named(GROUPINGS, value)?,
-        Name::Defaults => options.defaults.fraction = fraction(value)?,
+        Name::Defaults => options.fraction = Some(fraction(value)?),
         Name::Integer => {
             let (min, max) = value.split_once(',')?;
             options.integer = Some(IntegerDigits::new(min.parse().ok()?, max.parse().ok()?).ok()?);
@@ -226,7 +368,12 @@ fn with(mut options: Options, name: Name, value: &str) -> Option<Options> {
 
 /// The options of a decimal, if no word follows.
 const DECIMAL: Options = Options {
-    notation: Notation::Standard,
+    style: Style::Decimal,
+    currency: *b"XXX",
+    currency_display: CurrencyDisplay::Symbol,
+    currency_sign: CurrencySign::Standard,
+    notation: NotationName::Standard,
+    compact_length: CompactLength::Short,
     settings: DigitSettings {
         minimum_integer_digits: None,
         minimum_fraction_digits: None,
@@ -238,10 +385,7 @@ const DECIMAL: Options = Options {
         rounding_priority: RoundingPriority::Auto,
         trailing_zeros: TrailingZeros::Auto,
     },
-    defaults: DigitDefaults {
-        fraction: FractionDigits { min: 0, max: 3 },
-        is_compact: false,
-    },
+    fraction: None,
     display: SignDisplay::Auto,
     grouping: GroupingStrategy::Auto,
     integer: None,

@@ -6,4 +6,5 @@ use Rattle.decimal_digits.proofs.digits.packed.bytes.equal_in_two_words.Goals as
 pub returns-then-have_equal_fronts : goal.returns-then-have_equal_fronts
 returns-then-have_equal_fronts c =
     by_ends _ 8 8 c.args.left.now c.args.right.now c.requires.same_length c.requires.enough c.requires.few
-    (c.if-have_equal_fronts.ensures.0 (search rules)) (simp take_rest at c.have_equal_fronts-then-have_equal_fronts.ensures)
+    (c.if-have_equal_fronts.ensures.0 (search rules))
+    (simp take_rest at c.have_equal_fronts-then-have_equal_fronts.ensures)
