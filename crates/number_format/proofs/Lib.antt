@@ -8,3 +8,4 @@ pub mod AffixedNumbers
 pub mod ShiftedReads
 pub mod ReadBack
 pub mod PartTexts
+pub mod PieceTexts

@@ -1,7 +1,58 @@
 -- The text of parts.
-use Rattle.std.specs.Prelude.{ℕ, List, flat_map}
+use Rattle.std.specs.Prelude.{ℕ, zero, suc, ◌≡◌, List, [], ◌∷◌, ◌++◌, flat_map, Option, Some, None, ⊤, ℤ, pos, negsuc, ◌-ℤ◌}
+use Rattle.decimal_digits.specs.Number.{digit}
+use Rattle.decimal_unsigned.specs.Unsigned.{Unsigned}
+use Rattle.decimal_format.specs.declared.grouping.GroupingStrategy.{GroupingStrategy}
+use Rattle.decimal_format.specs.Formatted.{separator_before, separator_after, shown_count}
+use Rattle.decimal_format.specs.Symbols.{Symbols, digit_text}
+use Rattle.number_format.specs.declared.text_part.PartKind.{PartKind}
+use Rattle.number_format.specs.declared.text_part.PartKind.TheVariants as kind
 use Rattle.number_format.specs.declared.text_part.TextPart.{TextPart}
 
 -- the texts of parts, one after another
 abbrev pub parts_text : List TextPart → List ℕ
 parts_text = flat_map (λ part. part.text.now)
+
+-- a piece of a text
+pub record Piece : Type 0 where
+  pub kind : PartKind
+  pub text : List ℕ
+
+abbrev pub pieces_text : List Piece → List ℕ
+pieces_text = flat_map (λ p. p.text)
+
+-- known pieces grow by others
+abbrev pub Puts : Option (List Piece) → Option (List Piece) → List Piece → Type 0
+Puts None new more = ⊤
+Puts (Some pieces) None more = ⊥
+Puts (Some pieces) (Some others) more = others ≡ pieces ++ more
+
+-- a text as a piece; an empty text is none
+abbrev pub pieces_of : PartKind → List ℕ → List Piece
+pieces_of kind [] = []
+pieces_of kind (b ∷ bytes) = record { kind = kind; text = b ∷ bytes } ∷ []
+
+abbrev pub parts_pieces : List TextPart → List Piece
+parts_pieces = flat_map (λ part. pieces_of part.kind part.text.now)
+
+-- the kind of the digit of a magnitude
+abbrev pub digit_kind : PartKind → ℤ → PartKind
+digit_kind whole (pos k) = whole
+digit_kind whole (negsuc k) = kind.Fraction
+
+-- the digit of a magnitude, between the separators beside it
+abbrev pub magnitude_pieces : PartKind → Symbols → GroupingStrategy → Unsigned → ℤ → List Piece
+magnitude_pieces whole s strategy v m =
+    pieces_of kind.Decimal (separator_before s m)
+    ++ (pieces_of (digit_kind whole m) (digit_text s (digit v.number m))
+    ++ pieces_of kind.Group (separator_after s strategy v.hi m))
+
+-- the given number of magnitudes from the highest
+unfoldable pub first_pieces : PartKind → Symbols → GroupingStrategy → Unsigned → ℕ → List Piece
+first_pieces whole s strategy v zero = []
+first_pieces whole s strategy v (suc n) =
+    first_pieces whole s strategy v n ++ magnitude_pieces whole s strategy v (v.hi -ℤ pos n)
+
+-- the digits and the separators of a value
+abbrev pub digit_pieces : PartKind → Symbols → GroupingStrategy → Unsigned → List Piece
+digit_pieces whole s strategy v = first_pieces whole s strategy v (shown_count v)

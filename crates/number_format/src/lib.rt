@@ -32,7 +32,9 @@ mod number_around;
 mod number_formatter;
 mod number_options;
 mod number_style;
+mod part_sink;
 mod parts;
+mod pieces;
 mod precision;
 mod reader;
 mod scale;
@@ -54,6 +56,7 @@ pub use number_options::{
     CompactLength, CurrencyDisplay, CurrencyStyle, CurrencyUsage, ExponentOptions, ExponentSign,
     NumberNotation, NumberOptions, NumberStyle,
 };
+pub use part_sink::PartSink;
 pub use precision::{BothDigits, Minimum, Precision};
 pub use reader::{AffixError, AffixReader};
 pub use scale::Scaled;

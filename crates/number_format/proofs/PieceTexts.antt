@@ -1,0 +1,126 @@
+-- Pieces of a text, and their texts.
+use Rattle.std.proofs.Common.{◌≡◌, ℕ, zero, suc, ◌+◌, ◌<◌, List, [], ◌∷◌, ◌++◌, length, get_or, take, sym, ◌∙◌, ap, refl, arith, append_assoc, append-nil}
+use Rattle.std.specs.Prelude.{Option, Some, None, ℤ, pos, ◌-ℤ◌, Bool, true, false, if◌then◌else◌}
+use Rattle.std.proofs.lemmas.List.{take_more}
+use Rattle.std.proofs.lemmas.List.Concat.{flat_map-cons}
+use Rattle.std.proofs.lemmas.Grind.{flat_map-append}
+use Rattle.decimal_unsigned.specs.Unsigned.{Unsigned}
+use Rattle.decimal_format.specs.declared.grouping.GroupingStrategy.{GroupingStrategy}
+use Rattle.decimal_digits.specs.Number.{digit}
+use Rattle.decimal_format.specs.declared.grouping.GroupingStrategy.TheVariants.{Never}
+use Rattle.decimal_format.specs.Formatted.{separator_before, separator_after, magnitude_text, formatted_down, absolute_text, shown_count}
+use Rattle.decimal_format.specs.Symbols.{Symbols, digit_text}
+use Rattle.decimal_format.proofs.Magnitudes.{one_more}
+use Rattle.number_format.specs.declared.formatted_number.FormattedNumber.{FormattedNumber}
+use Rattle.number_format.specs.declared.formatted_number.WrittenExponent.{WrittenExponent}
+use Rattle.number_format.specs.declared.text_part.PartKind.{PartKind}
+use Rattle.number_format.specs.declared.text_part.PartKind.TheVariants as kind
+use Rattle.number_format.specs.declared.text_part.TextPart.{TextPart}
+use Rattle.number_format.specs.TextParts.{Piece, Puts, parts_text, pieces_text, pieces_of, parts_pieces, digit_kind, magnitude_pieces, first_pieces, digit_pieces}
+use Rattle.number_format.specs.FormattedNumbers.{exponent_text_if, written_number_text, number_text_if, formatted_number_text, exponent_pieces_if, number_pieces, number_pieces_if, formatted_number_pieces}
+
+pub puts_nil : (a : Option (List Piece)) → Puts a a []
+puts_nil None = tt
+puts_nil (Some x) = sym (append-nil x)
+
+pub puts_trans : (a b c : Option (List Piece)) (ps qs : List Piece) → Puts a b ps → Puts b c qs → Puts a c (ps ++ qs)
+puts_trans None b c ps qs p q = tt
+puts_trans (Some x) None c ps qs p q = absurd p
+puts_trans (Some x) (Some y) None ps qs p q = absurd q
+puts_trans (Some x) (Some y) (Some z) ps qs p q = q ∙ ap (λ l. l ++ qs) p ∙ append_assoc x ps qs
+
+abbrev of_part : TextPart → List Piece
+of_part part = pieces_of part.kind part.text.now
+
+-- one part more
+pub parts_pieces-more : (parts : List TextPart) (i : ℕ) (p : TextPart) → i < length parts → p ≡ get_or parts i p
+    → parts_pieces (take (i + 1) parts) ≡ parts_pieces (take i parts) ++ pieces_of p.kind p.text.now
+parts_pieces-more parts i p h e =
+    ap parts_pieces (take_more parts i p h)
+    ∙ flat_map-append of_part (take i parts) (get_or parts i p ∷ [])
+    ∙ ap (λ l. parts_pieces (take i parts) ++ l)
+    (flat_map-cons of_part (get_or parts i p) [] ∙ append-nil (of_part (get_or parts i p)) ∙ ap of_part (sym e))
+
+-- one magnitude more
+pub first_pieces-more : (k : PartKind) (s : Symbols) (strategy : GroupingStrategy) (v : Unsigned) (i : ℕ)
+    → first_pieces k s strategy v (i + 1)
+    ≡ first_pieces k s strategy v i ++ magnitude_pieces k s strategy v (v.hi -ℤ pos i)
+unfolding first_pieces
+first_pieces-more k s strategy v i =
+    let e : i + 1 ≡ suc i = omega arith in
+    ap (first_pieces k s strategy v) e
+
+abbrev bytes : Piece → List ℕ
+bytes p = p.text
+
+text-append : (a b : List Piece) → pieces_text (a ++ b) ≡ pieces_text a ++ pieces_text b
+text-append a b = flat_map-append bytes a b
+
+text-of : (k : PartKind) (text : List ℕ) → pieces_text (pieces_of k text) ≡ text
+text-of k [] = refl
+text-of k (b ∷ text) = flat_map-cons bytes (record { kind = k; text = b ∷ text }) [] ∙ append-nil (b ∷ text)
+
+text-of_parts : (parts : List TextPart) → pieces_text (parts_pieces parts) ≡ parts_text parts
+text-of_parts [] = refl
+text-of_parts (p ∷ parts) =
+    ap pieces_text (flat_map-cons of_part p parts)
+    ∙ text-append (of_part p) (parts_pieces parts)
+    ∙ (λ i. text-of p.kind p.text.now i ++ text-of_parts parts i)
+    ∙ sym (flat_map-cons (λ (part : TextPart). part.text.now) p parts)
+
+text-three : (a b c : List Piece) (x y z : List ℕ) → pieces_text a ≡ x → pieces_text b ≡ y → pieces_text c ≡ z
+    → pieces_text (a ++ (b ++ c)) ≡ x ++ (y ++ z)
+text-three a b c x y z p q r =
+    text-append a (b ++ c) ∙ (λ i. p i ++ (text-append b c ∙ (λ j. q j ++ r j)) i)
+
+text-of_magnitude : (k : PartKind) (s : Symbols) (strategy : GroupingStrategy) (v : Unsigned) (m : ℤ)
+    → pieces_text (magnitude_pieces k s strategy v m) ≡ magnitude_text s strategy v.hi v.number m
+text-of_magnitude k s strategy v m =
+    let before = separator_before s m in
+    let text = digit_text s (digit v.number m) in
+    let after = separator_after s strategy v.hi m in
+    text-three (pieces_of kind.Decimal before) (pieces_of (digit_kind k m) text) (pieces_of kind.Group after) before
+    text after (text-of kind.Decimal before) (text-of (digit_kind k m) text) (text-of kind.Group after)
+
+text-of_first : (k : PartKind) (s : Symbols) (strategy : GroupingStrategy) (v : Unsigned) (n : ℕ)
+    → pieces_text (first_pieces k s strategy v n) ≡ formatted_down s strategy v.hi v.number v.hi n
+unfolding first_pieces formatted_down
+text-of_first k s strategy v zero = refl
+text-of_first k s strategy v (suc n) =
+    let e : n + 1 ≡ suc n = omega arith in
+    text-append (first_pieces k s strategy v n) (magnitude_pieces k s strategy v (v.hi -ℤ pos n))
+    ∙ (λ i. text-of_first k s strategy v n i ++ text-of_magnitude k s strategy v (v.hi -ℤ pos n) i)
+    ∙ sym (one_more s strategy v n)
+    ∙ ap (formatted_down s strategy v.hi v.number v.hi) e
+
+text-of_digits : (k : PartKind) (s : Symbols) (strategy : GroupingStrategy) (v : Unsigned)
+    → pieces_text (digit_pieces k s strategy v) ≡ absolute_text s strategy v
+text-of_digits k s strategy v = text-of_first k s strategy v (shown_count v)
+
+text-of_exponent : (s : Symbols) (e : Option WrittenExponent) → pieces_text (exponent_pieces_if s e) ≡ exponent_text_if s e
+text-of_exponent s None = refl
+text-of_exponent s (Some e) =
+    text-three (pieces_of e.separator.kind e.separator.text.now) (pieces_of e.sign.kind e.sign.text.now)
+    (digit_pieces kind.ExponentInteger s Never e.digits) e.separator.text.now e.sign.text.now
+    (absolute_text s Never e.digits) (text-of e.separator.kind e.separator.text.now)
+    (text-of e.sign.kind e.sign.text.now) (text-of_digits kind.ExponentInteger s Never e.digits)
+
+text-of_number : (f : FormattedNumber) → pieces_text (number_pieces f) ≡ written_number_text f
+text-of_number f =
+    text-append (digit_pieces kind.Integer f.symbols.now f.strategy f.significand)
+    (exponent_pieces_if f.symbols.now f.exponent)
+    ∙ (λ i. text-of_digits kind.Integer f.symbols.now f.strategy f.significand i
+    ++ text-of_exponent f.symbols.now f.exponent i)
+
+text-if : (b : Bool) (ps : List Piece) (text : List ℕ) → pieces_text ps ≡ text
+    → pieces_text (if b then ps else []) ≡ (if b then text else [])
+text-if true ps text e = e
+text-if false ps text e = refl
+
+-- the texts of the pieces, one after another, are the text
+pub text-of_pieces : (f : FormattedNumber) → pieces_text (formatted_number_pieces f) ≡ formatted_number_text f
+text-of_pieces f =
+    text-three (parts_pieces f.affixes.prefix) (number_pieces_if f) (parts_pieces f.affixes.suffix)
+    (parts_text f.affixes.prefix) (number_text_if f) (parts_text f.affixes.suffix) (text-of_parts f.affixes.prefix)
+    (text-if f.affixes.has_number (number_pieces f) (written_number_text f) (text-of_number f))
+    (text-of_parts f.affixes.suffix)

@@ -1,0 +1,7 @@
+use Rattle.number_format.specs.TextParts.{Puts, first_pieces}
+use Rattle.number_format.proofs.pieces.Digits.put_to.Given as goal
+
+abbrev pub invariant-loop-below : goal.invariant-loop-below
+invariant-loop-below g l =
+    Puts (g.P.PartSink.pieces l.initial.sink) (g.P.PartSink.pieces l.sink)
+    (first_pieces l.self.whole l.self.symbols.now l.self.strategy l.self.value.now l.below)
