@@ -49,7 +49,8 @@ typedef enum fd_status {
     FD_OPERAND_SYNTAX = 4,   /* the operand of call `at` is not in the grammar */
     FD_OPERAND_LIMIT = 5,    /* the operand of call `at` has too many digits */
     FD_OVERLAP = 6,          /* the numbers that call `at` concatenates overlap */
-    FD_OVERFLOW = 7,         /* the result of call `at`, a shift or a rounding, is beyond the limits */
+    FD_OVERFLOW = 7,         /* the result of call `at`, a shift or a rounding, is beyond the limits; or the number that
+                                fd_format_number shows, at 0 */
     FD_BUFFER_TOO_SMALL = 8, /* the text does not fit the rest of the buffer */
     FD_UNKNOWN_CALL = 9,     /* call `at` has an unknown kind, option or increment, or an operand outside the texts */
     FD_UNKNOWN_LOCALE = 10,  /* no locale of the tag is known, or its numbering system is not; or none has the number */
@@ -57,7 +58,10 @@ typedef enum fd_status {
     FD_NOT_WHOLE = 12,       /* a fraction digit is not 0 */
     FD_OUT_OF_RANGE = 13,    /* the integer type does not hold the number */
     FD_RULES_SYNTAX = 14,    /* the text cannot go on as rules at byte `at` */
-    FD_RULES_LIMIT = 15      /* the number at byte `at` of the rules is too great */
+    FD_RULES_LIMIT = 15,     /* the number at byte `at` of the rules is too great */
+    FD_SKELETON_SYNTAX = 16, /* the text is no skeleton from byte `at` on, or not UTF-8, at 0 */
+    FD_SKELETON_UNSUPPORTED = 17,    /* the library has no such option as the stem at byte `at` of the skeleton */
+    FD_UNKNOWN_NUMBERING_SYSTEM = 18 /* no numbering system is known by the name that the skeleton has */
 } fd_status;
 
 /* An answer that is a text: status is an fd_status. */
@@ -175,6 +179,16 @@ fd_result fd_run(const uint8_t *start, size_t start_count, const fd_call *calls,
  * Errors: as fd_run, FD_UNKNOWN_LOCALE, FD_UNKNOWN_OPTION. */
 fd_result fd_convert(const uint8_t *text, size_t count, const fd_forms *forms, const fd_call *calls, size_t call_count,
                      const uint8_t *texts, size_t texts_count, uint8_t *buffer, size_t capacity);
+
+/* Formats a decimal as Intl.NumberFormat does, in the locale of a tag, by a number skeleton of ICU: "currency/EUR .00",
+ * "percent @@", "K". The empty skeleton is ICU's default: at most six fraction digits, half-even.
+ *
+ * The buffer is as after fd_run. Compact notation allocates for its plural rules.
+ * Errors, the first that holds: FD_SKELETON_SYNTAX, FD_SKELETON_UNSUPPORTED; FD_UNKNOWN_LOCALE;
+ * FD_UNKNOWN_NUMBERING_SYSTEM; FD_SYNTAX, FD_LIMIT, FD_MEMORY of the text; FD_OVERFLOW, FD_MEMORY of the format;
+ * FD_BUFFER_TOO_SMALL. */
+fd_result fd_format_number(const uint8_t *text, size_t count, const uint8_t *tag, size_t tag_count,
+                           const uint8_t *skeleton, size_t skeleton_count, uint8_t *buffer, size_t capacity);
 
 /* Converts each line as fd_convert does, and writes the text of each with a line feed. A line is all bytes up to a line
  * feed; the bytes after the last line feed are a line if there are any.

@@ -78,6 +78,8 @@ if command -v sqlite3 > /dev/null && echo '#include <sqlite3ext.h>' | gcc -E -x 
   row "SELECT plural('one: i = 1 and v = 0', '1'), plural('one: i = 1 and v = 0', '1.0')" 'one|other'
   row "SELECT plural('ru', 2), plural('en:ordinal', '22'), plural('en_GB.UTF-8:cardinal', '1.0'), plural('ja', 1)" \
     'few|two|other|other'
+  row "SELECT format_number('de', 'currency/INR', '1234567'), format_number('es', 'KK', '-1234.5')" $'1.234.567,00\u00a0₹|-1,2 mil'
+  row "SELECT format_number('uk', 'percent', 5300000), format_number('uk', NULL, 1) IS NULL" $'5\u00a0300\u00a0000%|1'
   row "SELECT group_concat(x, ' ') FROM (SELECT column1 AS x FROM (VALUES ('b'), ('10'), ('9.50'), ('a'), ('-1e2'), ('9.5')) ORDER BY x COLLATE decimal_compare, x)" \
     '-1e2 9.5 9.50 10 a b'
   for call in "'1x', 'trim-end'|start: syntax" "'10', 'trim-end', 'shift:32767'|call 1: overflow" \
@@ -92,6 +94,12 @@ if command -v sqlite3 > /dev/null && echo '#include <sqlite3ext.h>' | gcc -E -x 
     found=$(sqlite3 -cmd ".load $room/fixdec" :memory: "SELECT plural(${call%|*})" 2>&1)
     [[ $found == *"${call#*|}"* ]]
     judge $? "plural(${call%|*}): $found"
+  done
+  for call in "'tlh', 'percent/w', 'x'|skeleton: syntax at 7" "'en', '.00 measure-unit/length-meter', '1'|skeleton: unsupported at 4" \
+    "'tlh', 'percent', 'x'|unknown locale" "'en', 'percent', '1x'|start: syntax" "'en', 'scale/100', '1e32767'|overflow"; do
+    found=$(sqlite3 -cmd ".load $room/fixdec" :memory: "SELECT format_number(${call%|*})" 2>&1)
+    [[ $found == *"${call#*|}"* ]]
+    judge $? "format_number(${call%|*}): $found"
   done
 else
   missing 'sqlite3 and its headers'

@@ -41,6 +41,9 @@ static uint32_t run(void) {
 static uint32_t convert(void) {
     return fd_convert(BYTES(digits), &german, calls, 1, BYTES("de"), buffer, ROOM).status;
 }
+static uint32_t format_number(void) {
+    return fd_format_number(BYTES(digits), BYTES("de"), BYTES("K precision-increment/25"), buffer, ROOM).status;
+}
 static uint32_t compare(void) {
     return fd_compare(BYTES(digits), (const uint8_t *)digits, 199).status;
 }
@@ -68,6 +71,9 @@ static uint32_t short_numbered(void) {
     fd_forms numbered = {.format.locale = fd_locale(BYTES("hi-u-nu-deva")).value};
     return fd_convert(BYTES("1234.5"), &numbered, calls + 1, 8, BYTES(""), buffer, ROOM).status;
 }
+static uint32_t short_format_number(void) {
+    return fd_format_number(BYTES("-1234567.890123456"), BYTES("de"), BYTES("currency/EUR .00"), buffer, ROOM).status;
+}
 static uint32_t short_column(void) {
     fd_column c = fd_lines(BYTES("1\n22.5\nx\n"), 1, &own_text, calls + 1, 8, BYTES("5"), buffer, ROOM);
     memset(buffer, 0xC3, c.written);
@@ -84,8 +90,9 @@ int main(void) {
         uint32_t (*job)(void);
         int allocates;
     } jobs[] = {{"fd_run", run, 1}, {"fd_convert", convert, 1}, {"fd_compare", compare, 1},
-                {"fd_category", category, 1}, {"fd_category_of", category_by_number, 1}, {"fd_lines", column, 1}, {"fd_run, short", short_run, 0},
-                {"fd_convert, short", short_convert, 0},
+                {"fd_category", category, 1}, {"fd_category_of", category_by_number, 1}, {"fd_lines", column, 1},
+                {"fd_format_number", format_number, 1}, {"fd_run, short", short_run, 0},
+                {"fd_convert, short", short_convert, 0}, {"fd_format_number, short", short_format_number, 0},
                 {"fd_convert, number", short_numbered, 0}, {"fd_lines, short", short_column, 0}};
     int bad = 0;
     for (size_t j = 0; j < sizeof jobs / sizeof *jobs; j++) {
@@ -105,7 +112,7 @@ int main(void) {
             if (done) break;
         }
         if ((n > 0) != jobs[j].allocates) bad++;
-        printf("%-20s %ld allocations, each failed in turn\n", jobs[j].name, n);
+        printf("%-24s %ld allocations, each failed in turn\n", jobs[j].name, n);
     }
     printf("%d failures\n", bad);
     return bad != 0;

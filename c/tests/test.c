@@ -310,6 +310,84 @@ static void test_numbers(void) {
     CHECK(fd_version() == FD_VERSION);
 }
 
+static fd_result format_number(const char *text, const char *tag, const char *skeleton, uint8_t *buffer, size_t room) {
+    return fd_format_number(BYTES(text), BYTES(tag), BYTES(skeleton), buffer, room);
+}
+
+/* Texts of ICU, at each capacity. */
+static void test_format_number(void) {
+    static const char *const rows[][4] = {
+        /* number, tag, skeleton, text */
+        {"1234567", "de", "currency/INR", "1.234.567,00\xc2\xa0" "₹"},
+        {"-1234.5", "de", "currency/USD", "-1.234,50\xc2\xa0" "$"},
+        {"0.045", "it", "currency/USD", "0,04\xc2\xa0" "USD"},
+        {"-1234.5", "tr", "currency/JPY", "-¥1.234"},
+        {"999999", "hi", "currency/JPY", "JP¥9,99,999"},
+        {"5300000", "uk", "percent", "5\xc2\xa0" "300\xc2\xa0" "000%"},
+        {"-2.5", "uk", "K", "-2,5"},
+        {"1000000000000000", "pt-PT", "currency/USD", "1\xc2\xa0" "000\xc2\xa0" "000\xc2\xa0" "000\xc2\xa0" "000\xc2\xa0" "000,00\xc2\xa0" "US$"},
+        {"5300000", "he", "currency/JPY", "\xe2\x80\x8f" "5,300,000\xc2\xa0" "\xe2\x80\x8f" "¥"},
+        {"-1234.5", "es", "KK", "-1,2 mil"},
+        {"999999", "fr", "currency/INR", "999\xe2\x80\xaf" "999,00\xc2\xa0" "₹"},
+        {"-1234.5", "en", "", "-1,234.5"},
+        {"12.345", "en", "compact-long", "12"},
+        {"123456789012345.678", "en", "%x100 scientific", "1.234568E16%"},
+        {"-1234.5", "en", "sign-accounting-always", "-1,234.5"},
+        {"12.345", "en", "precision-increment/0.05 rounding-mode-half-up", "12.35"},
+        {"12.345", "en", ".0 +? unit-width-narrow numbering-system/beng", "+১২.৩"},
+        {"1234567", "en", "+- K", "1.2M"},
+        {"123456789012345.678", "en", "currency/SEK rounding-mode-half-up precision-increment/50", "SEK\xc2\xa0" "123,456,789,012,350"},
+        {"-3.5", "en", "%x100 sign-never numbering-system/arabext", "۳۵۰٪"},
+        {"999999", "en", ".0# K currency/CLF", "CLF\xc2\xa0" "1.0M"},
+        {"123456789012345.678", "en", "@@@/w sign-accounting-always rounding-mode-ceiling", "+124,000,000,000,000"},
+        {"0.045", "ne", "notation-simple", "०.०४५"},
+        {"12.345", "ja", "compact-short", "12"},
+        {"12.345", "ta", "compact-short", "12"},
+        {"1000", "fr-CH", "compact-long", "mille"},
+        {"-3.5", "my", "compact-long", "-၃.၅"},
+        {"-2.5", "zh-Hant", "scientific", "-2.5E0"},
+        {"1500", "is", "scientific", "1,5E3"},
+        {"123456789012345.678", "sw", "scientific/sign-accounting-negative", "1.234568E14"}};
+    for (size_t i = 0; i < sizeof rows / sizeof *rows; i++) {
+        size_t n = strlen(rows[i][3]);
+        for (size_t room = 0; room < n + 9; room++) {
+            uint8_t *buffer = malloc(room ? room : 1);
+            memset(buffer, 0xA5, room ? room : 1);
+            fd_result r = format_number(rows[i][0], rows[i][1], rows[i][2], buffer, room);
+            if (room < n) {
+                CHECK(r.status == FD_BUFFER_TOO_SMALL && r.count == n && r.at == 0 && all(buffer, room, 0xA5));
+            } else {
+                CHECK(gives(r, buffer, rows[i][3]) && all(buffer + n, room - n, 0xA5));
+            }
+            free(buffer);
+        }
+    }
+}
+
+static void test_format_number_errors(void) {
+    static const struct {
+        const char *text, *tag, *skeleton;
+        uint32_t status;
+        size_t at;
+    } rows[] = {
+        {"x", "xx", "percent/w", FD_SKELETON_SYNTAX, 7},
+        {"1", "en", ".00 currency/E", FD_SKELETON_SYNTAX, 13},
+        {"1", "en", "\xff", FD_SKELETON_SYNTAX, 0},
+        {"x", "xx", ".00 measure-unit/length-meter", FD_SKELETON_UNSUPPORTED, 4},
+        {"x", "xx", "percent", FD_UNKNOWN_LOCALE, 0},
+        {"x", "\xff", "", FD_UNKNOWN_LOCALE, 0},
+        {"x", "en", "percent", FD_SYNTAX, 0},
+        {"1e32768", "en", "percent", FD_LIMIT, 0},
+        {"1e32767", "en", "scale/100", FD_OVERFLOW, 0},
+        {"9e32767", "en", "scale/100 scientific", FD_OVERFLOW, 0}};
+    for (size_t i = 0; i < sizeof rows / sizeof *rows; i++) {
+        uint8_t buffer[32];
+        memset(buffer, 0x5A, sizeof buffer);
+        fd_result r = format_number(rows[i].text, rows[i].tag, rows[i].skeleton, buffer, 32);
+        CHECK(r.status == rows[i].status && r.at == rows[i].at && r.count == 0 && all(buffer, 32, 0x5A));
+    }
+}
+
 int main(void) {
     test_calls();
     test_errors();
@@ -319,6 +397,8 @@ int main(void) {
     test_plural_rules();
     test_lines();
     test_numbers();
+    test_format_number();
+    test_format_number_errors();
     printf("%d checks, %d failures\n", checks, failures);
     return failures != 0;
 }

@@ -1,4 +1,5 @@
-/* Decimals in SQLite: fixdec(text, call, ..), the collation decimal_compare, and plural(locale or rules, text).
+/* Decimals in SQLite: fixdec(text, call, ..), the collation decimal_compare, plural(locale or rules, text), and
+ * format_number(locale, skeleton, text).
  *   gcc -shared -fPIC -I ../../c fixdec.c ../../c/out/libfixed_decimal.a -o fixdec.so
  *   SELECT fixdec('1234.565', 'round:-2:half-even:1', 'format:de');  -- 1.234,56
  * NULL in, NULL out. A text, a call or rules that are rejected are an SQL error. */
@@ -17,7 +18,8 @@ static const char *const kinds[] = {"shift", "trim-start", "trim-end", "trim-end
     "max", "round", "sign", "display", "concat", "read", "format", NULL};
 static const char *const reasons[] = {"", "start: syntax", "start: limit", "memory", "call %d: syntax",
     "call %d: limit", "call %d: overlap", "call %d: overflow", "", "no such call: %d", "unknown locale",
-    "unknown option", "", "", "rules: syntax at %d", "rules: limit at %d"};
+    "unknown option", "", "", "rules: syntax at %d", "rules: limit at %d",
+    "skeleton: syntax at %d", "skeleton: unsupported at %d", "unknown numbering system"};
 
 typedef struct { fd_call calls[MAX_CALLS]; size_t count; fd_forms forms; uint8_t texts[MAX_TEXTS]; size_t used; } job;
 
@@ -67,6 +69,14 @@ static void fail(sqlite3_context *context, uint32_t status, size_t at) {
     sqlite3_free(line);
 }
 
+/* The text in a buffer, which is none or one of SQLite's if it is not the first. */
+static void text_or_error(sqlite3_context *context, fd_result answer, uint8_t *out, const uint8_t *first) {
+    if (answer.status == FD_OK) sqlite3_result_text(context, (char *)out, (int)answer.count, SQLITE_TRANSIENT);
+    else if (!out) sqlite3_result_error_nomem(context);
+    else fail(context, answer.status, answer.at);
+    if (out != first) sqlite3_free(out);
+}
+
 static void fixdec(sqlite3_context *context, int count, sqlite3_value **values) {
     job j = {.count = 0};
     for (int i = 0; i < count; i++) if (sqlite3_value_type(values[i]) == SQLITE_NULL) return;
@@ -76,10 +86,7 @@ static void fixdec(sqlite3_context *context, int count, sqlite3_value **values) 
     fd_result answer = fd_convert(BYTES(values[0]), &j.forms, j.calls, j.count, j.texts, j.used, out, sizeof buffer);
     if (answer.status == FD_BUFFER_TOO_SMALL && (out = sqlite3_malloc64(answer.count)))
         answer = fd_convert(BYTES(values[0]), &j.forms, j.calls, j.count, j.texts, j.used, out, answer.count);
-    if (answer.status == FD_OK) sqlite3_result_text(context, (char *)out, (int)answer.count, SQLITE_TRANSIENT);
-    else if (!out) sqlite3_result_error_nomem(context);
-    else fail(context, answer.status, answer.at);
-    if (out != buffer) sqlite3_free(out);
+    text_or_error(context, answer, out, buffer);
 }
 
 static void plural(sqlite3_context *context, int count, sqlite3_value **values) {
@@ -91,6 +98,16 @@ static void plural(sqlite3_context *context, int count, sqlite3_value **values) 
                                    : fd_category(BYTES(values[0]), BYTES(values[1]));
     if (answer.status == FD_OK) sqlite3_result_text(context, names[answer.value], -1, SQLITE_STATIC);
     else fail(context, answer.status, answer.at);
+}
+
+static void format_number(sqlite3_context *context, int count, sqlite3_value **values) {
+    for (int i = 0; i < count; i++) if (sqlite3_value_type(values[i]) == SQLITE_NULL) return;
+    uint8_t buffer[128], *out = buffer;
+    fd_result answer = fd_format_number(BYTES(values[2]), BYTES(values[0]), BYTES(values[1]), out, sizeof buffer);
+    if (answer.status == FD_OVERFLOW) return sqlite3_result_error(context, "overflow", -1);
+    if (answer.status == FD_BUFFER_TOO_SMALL && (out = sqlite3_malloc64(answer.count)))
+        answer = fd_format_number(BYTES(values[2]), BYTES(values[0]), BYTES(values[1]), out, answer.count);
+    text_or_error(context, answer, out, buffer);
 }
 
 /* By value; texts that are no decimals are after all decimals, by bytes. */
@@ -110,5 +127,6 @@ int sqlite3_fixdec_init(sqlite3 *db, char **unused, const sqlite3_api_routines *
     int flags = SQLITE_UTF8 | SQLITE_DETERMINISTIC | SQLITE_INNOCUOUS;
     int status = sqlite3_create_function(db, "fixdec", -1, flags, 0, fixdec, 0, 0);
     if (!status) status = sqlite3_create_function(db, "plural", 2, flags, 0, plural, 0, 0);
+    if (!status) status = sqlite3_create_function(db, "format_number", 3, flags, 0, format_number, 0, 0);
     return status ? status : sqlite3_create_collation(db, "decimal_compare", SQLITE_UTF8, 0, compare);
 }

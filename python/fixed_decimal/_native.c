@@ -21,7 +21,7 @@ static PyObject *decimal_error;
 
 static const char *const reasons[] = {"", "syntax", "limit", "memory", "operand syntax", "operand limit", "overlap",
     "overflow", "", "unknown call", "unknown locale", "unknown option", "not whole", "out of range", "rules syntax",
-    "rules limit"};
+    "rules limit", "skeleton syntax", "skeleton unsupported", "unknown numbering system"};
 static const char *const modes[] = {"ceil", "floor", "expand", "trunc", "half-ceil", "half-floor", "half-expand",
     "half-trunc", "half-even", NULL};
 static const char *const displays[] = {"auto", "never", "always", "except-zero", "negative", NULL};
@@ -257,22 +257,44 @@ static uint64_t locale_of(PyObject *tag) {
     return number;
 }
 
+/* What a text is formatted by: forms, or a tag and a skeleton. */
+typedef struct {
+    fd_forms forms;
+    const char *tag, *skeleton;
+    Py_ssize_t tag_count, skeleton_count;
+} Format;
+
+static fd_result format_into(const Decimal *self, const Format *format, uint8_t *buffer, size_t room) {
+    if (!format->skeleton)
+        return fd_convert(BYTES(self), &format->forms, FD_NONE(fd_call), 0, FD_NONE(uint8_t), 0, buffer, room);
+    return fd_format_number(BYTES(self), (const uint8_t *)format->tag, (size_t)format->tag_count,
+                            (const uint8_t *)format->skeleton, (size_t)format->skeleton_count, buffer, room);
+}
+
+/* By a locale, and separators as grouping says or what a number skeleton says. */
 static PyObject *decimal_format(Decimal *self, PyObject *const *arguments, Py_ssize_t count, PyObject *keywords) {
-    static const char *const names[] = {"locale", "grouping", NULL};
-    PyObject *values[2] = {NULL, NULL};
+    static const char *const names[] = {"locale", "grouping", "skeleton", NULL};
+    PyObject *values[3] = {NULL, NULL, NULL};
     if (!bind("format", names, arguments, count, keywords, values)) return NULL;
-    fd_forms forms = {.format.option = FD_GROUP_AUTO};
-    if (values[1]) {
-        const char *word = PyUnicode_AsUTF8(values[1]);
-        int grouping = word ? index_of(groupings, word, "grouping") : -1;
-        if (grouping < 0) return NULL;
-        forms.format.option = (uint8_t)grouping;
+    Format format = {.forms.format.option = FD_GROUP_AUTO};
+    if (values[2] && values[2] != Py_None) {
+        if (values[1]) return PyErr_Format(PyExc_TypeError, "format() takes a grouping or a skeleton");
+        format.skeleton = PyUnicode_AsUTF8AndSize(values[2], &format.skeleton_count);
+        if (!format.skeleton) return NULL;
+        if (!(format.tag = PyUnicode_AsUTF8AndSize(values[0], &format.tag_count))) return NULL;
+    } else {
+        if (values[1]) {
+            const char *word = PyUnicode_AsUTF8(values[1]);
+            int grouping = word ? index_of(groupings, word, "grouping") : -1;
+            if (grouping < 0) return NULL;
+            format.forms.format.option = (uint8_t)grouping;
+        }
+        if (!(format.forms.format.locale = locale_of(values[0]))) return NULL;
     }
-    if (!(forms.format.locale = locale_of(values[0]))) return NULL;
     uint8_t buffer[ROOM], *bytes = buffer;
     size_t room = ROOM;
     for (;;) {
-        fd_result answer = fd_convert(BYTES(self), &forms, FD_NONE(fd_call), 0, FD_NONE(uint8_t), 0, bytes, room);
+        fd_result answer = format_into(self, &format, bytes, room);
         PyObject *made = NULL;
         if (answer.status == FD_BUFFER_TOO_SMALL && bytes == buffer) {
             room = answer.count;
@@ -512,7 +534,7 @@ static PyMethodDef decimal_methods[] = {
     {"sign", (PyCFunction)decimal_sign, METH_O, "Sets the sign that a display shows."},
     {"compare", (PyCFunction)decimal_compare, METH_O, "Returns the order of two numbers: -1, 0 or 1."},
     {"format", (PyCFunction)(void (*)(void))decimal_format, METH_FASTCALL | METH_KEYWORDS,
-     "Returns the text in the form of a locale."},
+     "Returns the text in the form of a locale, or by a locale and a number skeleton of ICU."},
     {"plural", (PyCFunction)decimal_plural, METH_O, "Returns the plural category by a locale, or by rules in CLDR's syntax."},
     {"__format__", (PyCFunction)decimal_dunder_format, METH_O, "Formats as decimal.Decimal does."},
     {"__reduce__", (PyCFunction)decimal_reduce, METH_NOARGS, NULL},

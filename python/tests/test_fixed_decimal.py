@@ -94,6 +94,11 @@ def test_class():
         (Decimal("1").plural("one: i = 1 and v = 0"), "one"), (Decimal("1.0").plural("one: i = 1 and v = 0"), "other"),
         (Decimal("2").plural("ru"), "few"), (Decimal("22").plural("en:ordinal"), "two"), (Decimal("1").plural("ja"), "other"),
         (Decimal("1.0").plural("en_GB.UTF-8:cardinal"), "other"), (Decimal("1").plural("other:"), "other"),
+        (Decimal("1234567").format("de", skeleton="currency/INR"), "1.234.567,00\xa0₹"),
+        (Decimal("-1234.5").format("es", skeleton="KK"), "-1,2 mil"),
+        (Decimal("1500").format("is", skeleton="scientific"), "1,5E3"),
+        (Decimal("-1234.5").format("en", skeleton=""), "-1,234.5"),
+        (Decimal("1234.5").format("de", skeleton=None), "1.234,5"),
         (Decimal("1234.5").format(locale="de"), "1.234,5"), (Decimal("1234.5").format("de-" + "CH"), "1'234.5"),
         (len(str(Decimal("1").pad(end=-32768))), 32770), (len(Decimal("1" * 300).format("de")), 399),
         (pickle.loads(pickle.dumps(Decimal("1.50"))), Decimal("1.50")), (f"{Decimal('1234.565'):,.2f}", "1,234.56"),
@@ -115,6 +120,10 @@ def test_class():
         (ValueError, lambda: Decimal("1").format("de", "some")), (ValueError, lambda: Decimal("1").sign("plus")),
     ):
         raises(error, call)
+    raises(DecimalError, lambda: Decimal("1").format("tlh", skeleton="percent"), "unknown locale")
+    raises(DecimalError, lambda: Decimal("1").format("tlh", skeleton="percent/w"), "skeleton syntax")
+    raises(DecimalError, lambda: Decimal("1").format("en", skeleton="measure-unit/length-foot"), "skeleton unsupported")
+    raises(TypeError, lambda: Decimal("1").format("en", "auto", "percent"))
     raises(DecimalError, lambda: Decimal("1").format("tlh"), "unknown locale")
     raises(DecimalError, lambda: Decimal("1").format(""), "unknown locale")
     raises(DecimalError, lambda: Decimal("10").shift(32767), "overflow")

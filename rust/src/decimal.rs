@@ -1,5 +1,8 @@
 //! The decimal.
-use crate::error::{Failure, IntegerError, LimitError, OverlapError, ParseError, ReadError, RulesError, UnknownLocale};
+use crate::error::{
+    Failure, IntegerError, LimitError, NumberFormatError, OverlapError, ParseError, ReadError, RulesError,
+    UnknownLocale,
+};
 use crate::ffi::{self, FdCall, FdForm, FdForms};
 use crate::options::{PluralCategory, RoundingIncrement, Sign, SignDisplay, SignedRoundingMode, UnsignedRoundingMode};
 use std::cmp::Ordering;
@@ -108,6 +111,30 @@ impl Decimal {
         }
         ffi::convert(self.text.as_bytes(), &forms, locale.as_bytes()).map_err(|failure| match failure.status {
             10 => UnknownLocale,
+            _ => failure.never(),
+        })
+    }
+
+    /// The number as `Intl.NumberFormat` writes it in a locale, by a number skeleton of ICU.
+    ///
+    /// # Errors
+    ///
+    /// The first that holds: of the skeleton, of the locale, or the number that is shown is beyond the limits.
+    ///
+    /// ```
+    /// # use fixed_decimal_proved::{Decimal, NumberFormatError};
+    /// let value = Decimal::from(1234567);
+    /// assert_eq!(value.format_number("de", "currency/INR")?, "1.234.567,00\u{a0}₹");
+    /// assert_eq!(value.format_number("de", "percent/w"), Err(NumberFormatError::SkeletonSyntax(7)));
+    /// # Ok::<(), NumberFormatError>(())
+    /// ```
+    pub fn format_number(&self, locale: &str, skeleton: &str) -> Result<String, NumberFormatError> {
+        ffi::format_number(&self.text, locale, skeleton).map_err(|failure| match failure.status {
+            7 => NumberFormatError::Limit,
+            10 => NumberFormatError::UnknownLocale,
+            16 => NumberFormatError::SkeletonSyntax(failure.at),
+            17 => NumberFormatError::SkeletonUnsupported(failure.at),
+            18 => NumberFormatError::UnknownNumberingSystem,
             _ => failure.never(),
         })
     }

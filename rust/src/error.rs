@@ -63,6 +63,21 @@ pub enum ReadError {
 #[derive(Clone, Copy, Debug, PartialEq, Eq)]
 pub struct UnknownLocale;
 
+/// Why a number is not formatted by a locale and a skeleton.
+#[derive(Clone, Copy, Debug, PartialEq, Eq)]
+pub enum NumberFormatError {
+    /// The text is no number skeleton from this byte on.
+    SkeletonSyntax(usize),
+    /// The library has no such option as the stem at this byte of the skeleton.
+    SkeletonUnsupported(usize),
+    /// The locale, or its numbering system, is unknown.
+    UnknownLocale,
+    /// The numbering system of the skeleton is unknown.
+    UnknownNumberingSystem,
+    /// The number that is shown would pass magnitude -32768 or 32767.
+    Limit,
+}
+
 /// Why a text is no plural rules.
 #[derive(Clone, Copy, Debug, PartialEq, Eq)]
 pub enum RulesError {
@@ -117,6 +132,18 @@ impl fmt::Display for UnknownLocale {
     }
 }
 
+impl fmt::Display for NumberFormatError {
+    fn fmt(&self, f: &mut fmt::Formatter<'_>) -> fmt::Result {
+        match self {
+            NumberFormatError::SkeletonSyntax(at) => write!(f, "not a number skeleton at byte {at}"),
+            NumberFormatError::SkeletonUnsupported(at) => write!(f, "unsupported stem at byte {at}"),
+            NumberFormatError::UnknownLocale => UnknownLocale.fmt(f),
+            NumberFormatError::UnknownNumberingSystem => f.write_str("unknown numbering system"),
+            NumberFormatError::Limit => LimitError.fmt(f),
+        }
+    }
+}
+
 impl fmt::Display for RulesError {
     fn fmt(&self, f: &mut fmt::Formatter<'_>) -> fmt::Result {
         match self {
@@ -132,4 +159,5 @@ impl Error for OverlapError {}
 impl Error for IntegerError {}
 impl Error for ReadError {}
 impl Error for UnknownLocale {}
+impl Error for NumberFormatError {}
 impl Error for RulesError {}

@@ -62,6 +62,11 @@ extern "C" {
         text: *const u8, count: usize, forms: *const FdForms, calls: *const FdCall, call_count: usize,
         texts: *const u8, texts_count: usize, buffer: *mut u8, capacity: usize,
     ) -> FdResult;
+    #[rustfmt::skip]
+    fn fd_format_number(
+        text: *const u8, count: usize, tag: *const u8, tag_count: usize,
+        skeleton: *const u8, skeleton_count: usize, buffer: *mut u8, capacity: usize,
+    ) -> FdResult;
     fn fd_compare(left: *const u8, left_count: usize, right: *const u8, right_count: usize) -> FdNumber;
     fn fd_category(rules: *const u8, rules_count: usize, text: *const u8, count: usize) -> FdNumber;
 }
@@ -85,6 +90,18 @@ pub(crate) fn convert(start: &[u8], forms: &FdForms, texts: &[u8]) -> Result<Str
         unsafe {
             let (texts, texts_count) = (texts.as_ptr(), texts.len());
             fd_convert(start.as_ptr(), start.len(), forms, none.as_ptr(), 0, texts, texts_count, buffer, capacity)
+        }
+    })
+}
+
+/// Formats a decimal by a locale and a number skeleton.
+pub(crate) fn format_number(start: &str, locale: &str, skeleton: &str) -> Result<String, Failure> {
+    text(4 * start.len() + ROOM, |buffer, capacity| {
+        let (tag, tag_count) = (locale.as_ptr(), locale.len());
+        let (skeleton, skeleton_count) = (skeleton.as_ptr(), skeleton.len());
+        // SAFETY: as in `run`.
+        unsafe {
+            fd_format_number(start.as_ptr(), start.len(), tag, tag_count, skeleton, skeleton_count, buffer, capacity)
         }
     })
 }

@@ -14,5 +14,7 @@ mod ffi;
 mod options;
 
 pub use decimal::Decimal;
-pub use error::{IntegerError, LimitError, OverlapError, ParseError, ReadError, RulesError, UnknownLocale};
+pub use error::{
+    IntegerError, LimitError, NumberFormatError, OverlapError, ParseError, ReadError, RulesError, UnknownLocale,
+};
 pub use options::{PluralCategory, RoundingIncrement, Sign, SignDisplay, SignedRoundingMode, UnsignedRoundingMode};

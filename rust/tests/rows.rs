@@ -2,8 +2,8 @@
 use fixed_decimal_proved::SignedRoundingMode::{Ceil, Floor, HalfCeil, HalfFloor};
 use fixed_decimal_proved::UnsignedRoundingMode::{Expand, HalfEven, HalfExpand, HalfTrunc, Trunc};
 use fixed_decimal_proved::{
-    Decimal, IntegerError, LimitError, OverlapError, ParseError, PluralCategory, ReadError, RoundingIncrement, RulesError,
-    Sign, SignDisplay, SignedRoundingMode, UnknownLocale,
+    Decimal, IntegerError, LimitError, NumberFormatError, OverlapError, ParseError, PluralCategory, ReadError,
+    RoundingIncrement, RulesError, Sign, SignDisplay, SignedRoundingMode, UnknownLocale,
 };
 use std::cmp::Ordering;
 use std::error::Error;
@@ -190,6 +190,28 @@ fn locales() {
     for locale in ["", "tlh", "en-u-nu-xxxx"] {
         assert_eq!(Decimal::read_lenient(locale, "1"), Err(ReadError::UnknownLocale));
         assert_eq!(Decimal::from(1).format(locale), Err(UnknownLocale));
+    }
+}
+
+/// Texts of ICU, and each error.
+#[test]
+fn skeletons() {
+    for (locale, skeleton, text, written) in [
+        ("de", "currency/USD", "-1234.5", "-1.234,50\u{a0}$"),
+        ("es", "KK", "-1234.5", "-1,2 mil"),
+        ("is", "scientific", "1500", "1,5E3"),
+        ("uk", "percent", "5300000", "5\u{a0}300\u{a0}000%"),
+        ("en", "%x100 sign-never numbering-system/arabext", "-3.5", "۳۵۰٪"),
+    ] {
+        assert_eq!(decimal(text).format_number(locale, skeleton).as_deref(), Ok(written), "{locale} {skeleton}");
+    }
+    for (text, locale, skeleton, error) in [
+        ("1", "tlh", "percent/w", NumberFormatError::SkeletonSyntax(7)),
+        ("1", "tlh", ".00 measure-unit/length-meter", NumberFormatError::SkeletonUnsupported(4)),
+        ("1e32767", "tlh", "scale/100", NumberFormatError::UnknownLocale),
+        ("1e32767", "en", "scale/100", NumberFormatError::Limit),
+    ] {
+        assert_eq!(decimal(text).format_number(locale, skeleton), Err(error), "{locale} {skeleton}");
     }
 }
 

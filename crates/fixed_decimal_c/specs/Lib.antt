@@ -8,4 +8,5 @@ pub mod Forms
 pub mod Conversions
 pub mod Lines
 pub mod Numbers
+pub mod NumberTexts
 pub mod Categories

@@ -37,6 +37,12 @@ pub enum FdError {
     RulesSyntax { at: usize },
     /// The number at this byte of rules is too great.
     RulesLimit { at: usize },
+    /// The text is no skeleton, from this byte on.
+    SkeletonSyntax { at: usize },
+    /// The library has no such option as the stem at this byte of the skeleton.
+    SkeletonUnsupported { at: usize },
+    /// The numbering system of the skeleton is unknown.
+    UnknownNumberingSystem,
 }
 
 impl FdError {
@@ -59,6 +65,9 @@ impl FdError {
             FdError::OutOfRange => 13,
             FdError::RulesSyntax { .. } => 14,
             FdError::RulesLimit { .. } => 15,
+            FdError::SkeletonSyntax { .. } => 16,
+            FdError::SkeletonUnsupported { .. } => 17,
+            FdError::UnknownNumberingSystem => 18,
         }
     }
 
@@ -74,7 +83,9 @@ impl FdError {
             | FdError::Overflow { at }
             | FdError::UnknownCall { at }
             | FdError::RulesSyntax { at }
-            | FdError::RulesLimit { at } => at,
+            | FdError::RulesLimit { at }
+            | FdError::SkeletonSyntax { at }
+            | FdError::SkeletonUnsupported { at } => at,
             _ => 0,
         }
     }

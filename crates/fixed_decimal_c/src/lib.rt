@@ -12,6 +12,7 @@ ghost use Rattle.fixed_decimal_c.specs.Lines.{ConvertsColumn};
 ghost use Rattle.fixed_decimal_c.specs.Numbers.{Compares, Equates, HasSign, HasI64, HasU64};
 ghost use Rattle.fixed_decimal_c.specs.Locales.{IsLocaleNumber, IsRulesNumber, IsNamedRulesNumber};
 ghost use Rattle.fixed_decimal_c.specs.Categories.{HasCategory, HasCategoryOf};
+ghost use Rattle.fixed_decimal_c.specs.NumberTexts.{FormatsNumber};
 
 mod answer;
 mod block;
@@ -22,6 +23,7 @@ mod error;
 mod forms;
 mod lines;
 mod locales;
+mod number_text;
 mod numbers;
 mod texts;
 
@@ -36,6 +38,7 @@ pub use forms::{FdForm, FdForms};
 pub use lines::Progress;
 use lines::convert_column;
 use locales::{number_of_locale, number_of_named_rules, number_of_plural_rules};
+use number_text::format_number;
 use numbers::{compare_texts, equal_texts, sign_of, to_i64, to_u64};
 use std::alloc::Global;
 
@@ -94,6 +97,23 @@ pub fn fd_lines(
     ensures { ConvertsColumn result lines.now (nat_lt 0 skip) forms.now calls.now texts.now buffer.old buffer.new }
 {
     convert_column(alloc, lines, skip > 0, forms, calls, texts, buffer)
+}
+
+/// Formats a decimal as `Intl.NumberFormat` does, by the locale of a tag and the options of a number skeleton of ICU.
+///
+/// The errors, the first that holds: of the skeleton, with its byte; `UnknownLocale`; `UnknownNumberingSystem`, of the
+/// skeleton; of the text; `Overflow`, if the number that is shown is beyond the limits; `BufferTooSmall`.
+pub fn fd_format_number(
+    alloc: Global,
+    text: &[u8],
+    locale: &[u8],
+    skeleton: &[u8],
+    buffer: &mut [u8],
+) -> FdResult
+    ensures { Encodes result
+        (λ answer. FormatsNumber answer text.now locale.now skeleton.now buffer.old buffer.new) }
+{
+    encode(format_number(alloc, text, locale, skeleton, buffer))
 }
 
 /// Compares the numbers of two decimals: -1, 0 or 1.

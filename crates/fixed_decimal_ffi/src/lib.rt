@@ -9,6 +9,7 @@ ghost use Rattle.fixed_decimal_c.specs.Lines.{ConvertsColumn};
 ghost use Rattle.fixed_decimal_c.specs.Numbers.{Compares, Equates, HasSign, HasI64, HasU64};
 ghost use Rattle.fixed_decimal_c.specs.Locales.{IsLocaleNumber, IsRulesNumber, IsNamedRulesNumber};
 ghost use Rattle.fixed_decimal_c.specs.Categories.{HasCategory, HasCategoryOf};
+ghost use Rattle.fixed_decimal_c.specs.NumberTexts.{FormatsNumber};
 
 use fixed_decimal_c::{FdCall, FdColumn, FdForms, FdNumber, FdResult, FdUnsigned};
 use std::alloc::Global;
@@ -61,6 +62,20 @@ pub extern "C" fn fd_lines(
     ensures { ConvertsColumn result lines.now (nat_lt 0 skip) forms.now calls.now texts.now buffer.old buffer.new }
 {
     fixed_decimal_c::fd_lines(alloc, lines, skip, forms, calls, texts, buffer)
+}
+
+#[unsafe(no_mangle)]
+pub extern "C" fn fd_format_number(
+    alloc: Global,
+    text: &[u8],
+    locale: &[u8],
+    skeleton: &[u8],
+    buffer: &mut [u8],
+) -> FdResult
+    ensures { Encodes result
+        (λ answer. FormatsNumber answer text.now locale.now skeleton.now buffer.old buffer.new) }
+{
+    fixed_decimal_c::fd_format_number(alloc, text, locale, skeleton, buffer)
 }
 
 #[unsafe(no_mangle)]

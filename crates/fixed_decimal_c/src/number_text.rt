@@ -1,0 +1,106 @@
+//! Numbers as a locale writes them, by a number skeleton.
+ghost use Rattle.std.specs.Prelude.{◌≡◌, Ok, IfOk, IfErr};
+ghost use Rattle.number_format.specs.SkeletonMeaning.{skeleton_options, options_value};
+ghost use Rattle.fixed_decimal_c.specs.NumberTexts.{error_of_skeleton, error_of_formatter, error_of_format, SkeletonFails, IsFormatterFor, FormatterFails, WritesNumber, FormatsNumber};
+
+use crate::error::FdError;
+use crate::numbers::read;
+use crate::texts::write_value;
+use fixed_decimal::RoundError;
+use number_format::{NumberFormatError, NumberFormatter, NumberOptions, SkeletonError};
+use std::alloc::Global;
+use std::str;
+
+fn error_of_skeleton(error: SkeletonError) -> FdError
+    ensures { result ≡ error_of_skeleton error }
+{
+    match error {
+        SkeletonError::Syntax { at } => FdError::SkeletonSyntax { at },
+        SkeletonError::Unsupported { start, .. } => FdError::SkeletonUnsupported { at: start },
+    }
+}
+
+fn error_of_formatter(error: NumberFormatError) -> FdError
+    ensures { result ≡ error_of_formatter error }
+{
+    match error {
+        NumberFormatError::UnknownLocale => FdError::UnknownLocale,
+        NumberFormatError::UnknownNumberingSystem => FdError::UnknownNumberingSystem,
+    }
+}
+
+fn error_of_format(error: RoundError) -> FdError
+    ensures { result ≡ error_of_format error }
+{
+    match error {
+        RoundError::Limit => FdError::Overflow { at: 0 },
+        RoundError::Memory => FdError::Memory,
+    }
+}
+
+/// Returns the options of a skeleton.
+fn options(skeleton: &[u8]) -> Result<NumberOptions, FdError>
+    ensures ok { IfOk result (λ o. skeleton_options skeleton.now ≡ Ok (options_value o)) }
+    ensures err { IfErr result (λ error. SkeletonFails error skeleton.now) }
+{
+    let Ok(skeleton) = str::from_utf8(skeleton) else {
+        return Err(FdError::SkeletonSyntax { at: 0 });
+    };
+    match NumberOptions::try_from_skeleton(skeleton) {
+        Ok(options) => Ok(options),
+        Err(error) => Err(error_of_skeleton(error)),
+    }
+}
+
+/// Returns the formatter of a tag and a skeleton.
+fn formatter(tag: &[u8], skeleton: &[u8]) -> Result<NumberFormatter, FdError>
+    ensures ok { IfOk result (IsFormatterFor tag.now skeleton.now) }
+    ensures err { IfErr result (λ error. FormatterFails error tag.now skeleton.now) }
+{
+    let options = match options(skeleton) {
+        Ok(options) => options,
+        Err(error) => return Err(error),
+    };
+    let Ok(tag) = str::from_utf8(tag) else {
+        return Err(FdError::UnknownLocale);
+    };
+    match NumberFormatter::try_new(tag, options) {
+        Ok(formatter) => Ok(formatter),
+        Err(error) => Err(error_of_formatter(error)),
+    }
+}
+
+/// Writes the text of a decimal by a formatter.
+fn write_number(
+    alloc: Global,
+    formatter: &NumberFormatter,
+    text: &[u8],
+    buffer: &mut [u8],
+) -> Result<usize, FdError>
+    ensures { WritesNumber formatter.now text.now result buffer.old buffer.new }
+{
+    let value = match read(alloc, text, 0) {
+        Ok(value) => value,
+        Err(error) => return Err(error),
+    };
+    match formatter.format(alloc, value) {
+        Ok(number) => write_value(alloc, &number, &[], buffer),
+        Err(failed) => Err(error_of_format(failed.error)),
+    }
+}
+
+/// Reads a decimal, and writes it as the locale of a tag and a skeleton have it.
+pub(crate) fn format_number(
+    alloc: Global,
+    text: &[u8],
+    tag: &[u8],
+    skeleton: &[u8],
+    buffer: &mut [u8],
+) -> Result<usize, FdError>
+    ensures { FormatsNumber result text.now tag.now skeleton.now buffer.old buffer.new }
+{
+    match formatter(tag, skeleton) {
+        Ok(formatter) => write_number(alloc, &formatter, text, buffer),
+        Err(error) => Err(error),
+    }
+}
