@@ -34,7 +34,7 @@ use Rattle.number_format.specs.declared.number_formatter.CompactUnit.TheVariants
 use Rattle.number_format.specs.declared.number_formatter.NumberFormatError.{NumberFormatError}
 use Rattle.number_format.specs.declared.number_formatter.NumberFormatError.TheVariants as error
 use Rattle.number_format.specs.declared.number_formatter.NumberFormatter.{NumberFormatter}
-use Rattle.number_format.specs.declared.number_options.CompactLength.TheVariants as length
+use Rattle.number_format.specs.declared.number_options.CompactLength.TheVariants as compact_length
 use Rattle.number_format.specs.declared.number_options.CurrencyStyle.{CurrencyStyle}
 use Rattle.number_format.specs.declared.number_options.ExponentOptions.{ExponentOptions}
 use Rattle.number_format.specs.declared.number_options.NumberNotation.{NumberNotation}
@@ -56,8 +56,8 @@ strategy_of other strategy = strategy
 -- the compact patterns: those of currencies are short
 abbrev pub compact_style : NumberStyle → NumberNotation → Option CompactStyle
 compact_style (style.Currency c) (notation.Compact words) = Some compact.Currency
-compact_style other (notation.Compact length.Short) = Some compact.Short
-compact_style other (notation.Compact length.Long) = Some compact.Long
+compact_style other (notation.Compact compact_length.Short) = Some compact.Short
+compact_style other (notation.Compact compact_length.Long) = Some compact.Long
 compact_style other standard = None
 
 abbrev pub compact_unit : NumberStyle → NumberNotation → CompactUnit
