@@ -59,7 +59,7 @@ typedef enum fd_status {
     FD_OUT_OF_RANGE = 13,    /* the integer type does not hold the number */
     FD_RULES_SYNTAX = 14,    /* the text cannot go on as rules at byte `at` */
     FD_RULES_LIMIT = 15,     /* the number at byte `at` of the rules is too great */
-    FD_SKELETON_SYNTAX = 16, /* the text is no skeleton from byte `at` on, or not UTF-8, at 0 */
+    FD_SKELETON_SYNTAX = 16, /* the text is no skeleton, or not UTF-8, from byte `at` on */
     FD_SKELETON_UNSUPPORTED = 17,    /* the library has no such option as the stem at byte `at` of the skeleton */
     FD_UNKNOWN_NUMBERING_SYSTEM = 18 /* no numbering system is known by the name that the skeleton has */
 } fd_status;

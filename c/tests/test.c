@@ -373,6 +373,7 @@ static void test_format_number_errors(void) {
         {"x", "xx", "percent/w", FD_SKELETON_SYNTAX, 7},
         {"1", "en", ".00 currency/E", FD_SKELETON_SYNTAX, 13},
         {"1", "en", "\xff", FD_SKELETON_SYNTAX, 0},
+        {"1", "en", "percent/w .00 \xe2\x82", FD_SKELETON_SYNTAX, 14},
         {"x", "xx", ".00 measure-unit/length-meter", FD_SKELETON_UNSUPPORTED, 4},
         {"x", "xx", "percent", FD_UNKNOWN_LOCALE, 0},
         {"x", "\xff", "", FD_UNKNOWN_LOCALE, 0},

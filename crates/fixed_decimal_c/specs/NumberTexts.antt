@@ -1,6 +1,6 @@
 -- Numbers as a locale writes them, by a number skeleton.
 use Rattle.std.specs.Prelude.{◌≡◌, ℕ, ◌⊎◌, List, None, Result, Ok, Err, IsOkAnd}
-use Rattle.std.specs.Str.{IsUtf8}
+use Rattle.std.specs.Str.{IsUtf8, IsValidUpTo}
 use Rattle.decimal_digits.specs.declared.rounding.RoundError.{RoundError}
 use Rattle.decimal_digits.specs.declared.rounding.RoundError.TheVariants as round
 use Rattle.fixed_decimal.specs.Decimal.{Decimal}
@@ -32,28 +32,33 @@ abbrev pub error_of_format : RoundError → FdError
 error_of_format round.Limit = Overflow 0
 error_of_format round.Memory = Memory
 
--- why a text is no skeleton; one that is not UTF-8 is wrong from its first byte on
+-- the options of a skeleton
+abbrev pub AreOptionsOf : List ℕ → NumberOptions → Type 0
+AreOptionsOf skeleton o = IsUtf8 skeleton × (skeleton_options skeleton ≡ Ok (options_value o))
+
+-- why a text is no skeleton; one that is not UTF-8, from the end of its longest prefix that is
 abbrev pub SkeletonFails : FdError → List ℕ → Type 0
 SkeletonFails error text =
-    ((error ≡ SkeletonSyntax 0) × ¬ IsUtf8 text)
-    ⊎ ((e : SkeletonError) × (error ≡ error_of_skeleton e) × (skeleton_options text ≡ Err e))
+    ((at : ℕ) × (error ≡ SkeletonSyntax at) × ¬ IsUtf8 text × IsValidUpTo text at)
+    ⊎ ((e : SkeletonError) × (error ≡ error_of_skeleton e) × IsUtf8 text × (skeleton_options text ≡ Err e))
 
 -- the formatter of a tag and the options of a skeleton
 abbrev pub IsFormatterFor : List ℕ → List ℕ → NumberFormatter → Type 0
 IsFormatterFor tag skeleton f =
-    (o : NumberOptions) × (skeleton_options skeleton ≡ Ok (options_value o)) × IsFormatter tag o f
+    (o : NumberOptions) × AreOptionsOf skeleton o × IsUtf8 tag × IsFormatter tag o f
 
 -- why options have no formatter; a tag that is not UTF-8 is unknown
 abbrev pub OptionsFail : FdError → List ℕ → NumberOptions → Type 0
 OptionsFail error tag o =
     ((error ≡ UnknownLocale) × ¬ IsUtf8 tag)
-    ⊎ ((e : NumberFormatError) × (error ≡ error_of_formatter e) × IsFormatterError tag o.numbering_system e)
+    ⊎ ((e : NumberFormatError) × (error ≡ error_of_formatter e) × IsUtf8 tag
+    × IsFormatterError tag o.numbering_system e)
 
 -- there is no such skeleton, or else no such formatter
 abbrev pub FormatterFails : FdError → List ℕ → List ℕ → Type 0
 FormatterFails error tag skeleton =
     SkeletonFails error skeleton
-    ⊎ ((o : NumberOptions) × (skeleton_options skeleton ≡ Ok (options_value o)) × OptionsFail error tag o)
+    ⊎ ((o : NumberOptions) × AreOptionsOf skeleton o × OptionsFail error tag o)
 
 -- P holds of the text of the number that a text is
 abbrev pub HasNumberText : NumberFormatter → List ℕ → (List ℕ → Type 0) → Type 0

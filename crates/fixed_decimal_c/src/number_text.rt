@@ -1,7 +1,6 @@
 //! Numbers as a locale writes them, by a number skeleton.
-ghost use Rattle.std.specs.Prelude.{◌≡◌, Ok, IfOk, IfErr};
-ghost use Rattle.number_format.specs.SkeletonMeaning.{skeleton_options, options_value};
-ghost use Rattle.fixed_decimal_c.specs.NumberTexts.{error_of_skeleton, error_of_formatter, error_of_format, SkeletonFails, IsFormatterFor, FormatterFails, WritesNumber, FormatsNumber};
+ghost use Rattle.std.specs.Prelude.{◌≡◌, IfOk, IfErr};
+ghost use Rattle.fixed_decimal_c.specs.NumberTexts.{error_of_skeleton, error_of_formatter, error_of_format, AreOptionsOf, SkeletonFails, IsFormatterFor, FormatterFails, WritesNumber, FormatsNumber};
 
 use crate::error::FdError;
 use crate::numbers::read;
@@ -40,11 +39,16 @@ fn error_of_format(error: RoundError) -> FdError
 
 /// Returns the options of a skeleton.
 fn options(skeleton: &[u8]) -> Result<NumberOptions, FdError>
-    ensures ok { IfOk result (λ o. skeleton_options skeleton.now ≡ Ok (options_value o)) }
+    ensures ok { IfOk result (AreOptionsOf skeleton.now) }
     ensures err { IfErr result (λ error. SkeletonFails error skeleton.now) }
 {
-    let Ok(skeleton) = str::from_utf8(skeleton) else {
-        return Err(FdError::SkeletonSyntax { at: 0 });
+    let skeleton = match str::from_utf8(skeleton) {
+        Ok(skeleton) => skeleton,
+        Err(error) => {
+            return Err(FdError::SkeletonSyntax {
+                at: error.valid_up_to(),
+            });
+        }
     };
     match NumberOptions::try_from_skeleton(skeleton) {
         Ok(options) => Ok(options),
