@@ -9,3 +9,4 @@ pub mod ShiftedReads
 pub mod ReadBack
 pub mod PartTexts
 pub mod PieceTexts
+pub mod PlainNumbers

@@ -18,7 +18,7 @@ some_is : (b : Bool) (x w : Unsigned) → (if b then None else Some x) ≡ Some 
 some_is true x w e = absurd (cc)
 some_is false x w e = cc
 
-unshifted : (v : Unsigned) → IsValue v → multiplied_pow10 v (pos 0) ≡ Some v
+pub unshifted : (v : Unsigned) → IsValue v → multiplied_pow10 v (pos 0) ≡ Some v
 unshifted v valid =
     let h = valid.hi_in in
     let l = valid.lo_in in

@@ -18,3 +18,4 @@ pub mod NumberStyles
 pub mod FormattedNumbers
 pub mod NumberText
 pub mod Formatters
+pub mod PlainTexts

@@ -1,11 +1,16 @@
-//! Laws of digit options and of notations.
+//! Laws of digit options, of notations and of plain texts.
+ghost use Rattle.std.specs.Prelude.{ℕ, List, Option};
 ghost use Rattle.fixed_decimal.specs.Decimal.{Decimal};
+ghost use Rattle.decimal_format.specs.declared.grouping.GroupingStrategy.{GroupingStrategy};
+ghost use Rattle.decimal_format.specs.Symbols.{Symbols};
+ghost use Rattle.number_format.specs.PlainTexts.{IsPlainText};
 ghost use Rattle.number_format.specs.ShownDigits.{KeepsNumber, KeepsValue, IsMonotone, AppliesOnce};
 ghost use Rattle.number_format.specs.Scaled.{KeepsExponent, KeepsValueOf};
 
 use crate::digit_options::DigitOptions;
 use crate::digit_ranges::FractionDigits;
 use crate::notation::Notation;
+use crate::number_formatter::NumberFormatter;
 
 /// By `Precision::Fraction` a number with no more than the greatest number of fraction digits is kept, and the whole
 /// value if it shows the digits that the options show.
@@ -44,4 +49,12 @@ pub fn the_exponent_is_of_the_rounded_number()
 #[tactic(auto, using(crate::proofs::Scales::keeps_value_of))]
 pub fn the_value_is_the_rounded_number()
     ensures { (notation : Notation) (o : DigitOptions) (v : Decimal) → KeepsValueOf notation o v }
+{}
+
+/// With style `Decimal`, notation `Standard`, scale 0, sign display `Auto` and no digit options the text is that of
+/// `decimal_format` by the symbols of the locale, by each strategy but `Always`, which may group where the locale does
+/// not.
+pub fn plain_texts_are_decimals()
+    ensures { (tag system : List ℕ) (own : Symbols) (g : GroupingStrategy) (name : Option (List ℕ))
+        (f : NumberFormatter) (v : Decimal) (text : List ℕ) → IsPlainText tag system own g name f v text }
 {}

@@ -1,0 +1,113 @@
+-- Plain numbers are written as decimals are.
+use Rattle.std.proofs.Common.{◌≡◌, ℕ, true, false, List, [], ◌++◌, refl, sym, ◌∙◌, ap, subst, append-nil}
+use Rattle.std.specs.Prelude.{Option, Some, None, pos, option_and_then, if◌then◌else◌, ◌&&◌, ◌==◌}
+use Rattle.decimal_unsigned.specs.Unsigned.{IsValue}
+use Rattle.fixed_decimal.specs.Decimal.{Decimal, with_absolute, negative_or}
+use Rattle.fixed_decimal.specs.declared.variations.Sign.{Sign}
+use Rattle.fixed_decimal.specs.declared.variations.Sign.TheVariants as sign
+use Rattle.fixed_decimal.specs.declared.variations.SignDisplay.TheVariants as display
+use Rattle.decimal_format.specs.declared.grouping.GroupingStrategy.{GroupingStrategy}
+use Rattle.decimal_format.specs.Formatted.{absolute_text, formatted}
+use Rattle.decimal_format.specs.Symbols.{Symbols, sign_affixes}
+use Rattle.number_format.specs.declared.digit_options.DigitOptions.{DigitOptions}
+use Rattle.number_format.specs.declared.number_formatter.NumberFormatter.{NumberFormatter}
+use Rattle.number_format.specs.DefaultDigits.{AreDefaultDigits}
+use Rattle.number_format.specs.Formatters.{IsFormatterIn, is_always, style_sizes, with_separators}
+use Rattle.number_format.specs.NumberStyles.{plain_pattern}
+use Rattle.number_format.specs.NumberText.{IsNumberText, rounded_in, shown_sign, pattern_around, around_by, number_text}
+use Rattle.number_format.specs.PlainTexts.{plain_options, shown_plain, IsPlainText}
+use Rattle.number_format.specs.Scaled.{ScaledValue, scaled_value}
+use Rattle.number_format.proofs.ReadBack.{unshifted}
+
+some_same : (x y : ScaledValue) → Some x ≡ Some y → x ≡ y
+some_same x y e = cc
+
+no_digits : (g : GroupingStrategy) (name : Option (List ℕ)) (d : Option DigitOptions)
+    → AreDefaultDigits (plain_options g name) d → d ≡ None
+no_digits g name None h = refl
+no_digits g name (Some digits) h = absurd (let t : true ≡ false = h.0 in cc)
+
+-- no separators of money, and the sizes of the locale
+own_symbols : (own : Symbols) (g : GroupingStrategy) → is_always g ≡ false
+    → record (with_separators own None None) { sizes = style_sizes (plain_pattern own.sizes) g own.sizes } ≡ own
+own_symbols own g h =
+    ap (λ b. record own {
+      sizes = record own.sizes { primary = if b && own.sizes.primary == 0 then 3 else own.sizes.primary };
+    }) h
+
+-- the formatter with what plain options have
+abbrev plainly : NumberFormatter → Symbols → GroupingStrategy → NumberFormatter
+plainly f own g = record f {
+  symbols = own;
+  strategy = g;
+  pattern = plain_pattern own.sizes;
+  scale = pos 0;
+  compact = None;
+  exponent = None;
+  digits = None;
+  sign_display = display.Auto;
+}
+
+is_plainly : (tag system : List ℕ) (own : Symbols) (g : GroupingStrategy) (name : Option (List ℕ))
+    (f : NumberFormatter) → IsFormatterIn tag system own (plain_options g name) f → is_always g ≡ false
+    → f ≡ plainly f own g
+is_plainly tag system own g name f made not_always =
+    let s = made.style_parts in
+    let same : record (with_separators own s.decimal s.grouping) { sizes = style_sizes s.pattern g own.sizes } ≡ own =
+    (λ i. record (with_separators own (made.style_is.decimal i) (made.style_is.grouping i)) {
+      sizes = style_sizes (made.style_is.pattern_is i) g own.sizes;
+    })
+    ∙ own_symbols own g not_always in
+    let symbols : f.symbols ≡ own = made.symbols ∙ same in
+    let pattern : f.pattern ≡ plain_pattern own.sizes = made.pattern ∙ made.style_is.pattern_is in
+    let digits : f.digits ≡ None = no_digits g name f.digits made.digits in
+    λ i. record f {
+      symbols = symbols i;
+      strategy = made.strategy i;
+      pattern = pattern i;
+      scale = made.scale i;
+      compact = made.compact_is i;
+      exponent = made.exponent i;
+      digits = digits i;
+      sign_display = made.sign_display i;
+    }
+
+-- the sign before the digits
+around_is : (f : NumberFormatter) (own : Symbols) (g : GroupingStrategy) (digits : List ℕ) (s : Sign)
+    → (sign_affixes own (negative_or sign.None s)).suffix ≡ []
+    → ([] ++ (pattern_around (plainly f own g) (negative_or sign.None s)).prefix)
+    ++ ((digits ++ []) ++ ((pattern_around (plainly f own g) (negative_or sign.None s)).suffix ++ []))
+    ≡ (sign_affixes own (negative_or sign.None s)).prefix
+    ++ (digits ++ (sign_affixes own (negative_or sign.None s)).suffix)
+around_is f own g digits sign.None e = simp append-nil
+around_is f own g digits sign.Positive e = simp append-nil
+around_is f own g digits sign.Negative e =
+    let left : ([] ++ (pattern_around (plainly f own g) sign.Negative).prefix)
+    ++ ((digits ++ []) ++ ((pattern_around (plainly f own g) sign.Negative).suffix ++ [])) ≡ own.minus.prefix
+    ++ (digits ++ []) = simp append-nil in
+    left ∙ ap (λ l. own.minus.prefix ++ (digits ++ l)) (sym e)
+
+of_plainly : (f : NumberFormatter) (own : Symbols) (g : GroupingStrategy) (v : Decimal) (text : List ℕ)
+    → IsValue v.absolute → (sign_affixes own (shown_plain v).sign).suffix ≡ []
+    → IsNumberText (plainly f own g) v text → text ≡ formatted own g (shown_plain v)
+of_plainly f own g v text valid no_suffix is =
+    let p = plainly f own g in
+    let shown : Some (scaled_value v (pos 0)) ≡ Some is.number =
+    sym (ap (λ x. option_and_then (rounded_in f.notation None) (with_absolute v x)) (unshifted v.absolute valid))
+    ∙ is.number_is in
+    let number : is.number ≡ scaled_value v (pos 0) = sym (some_same _ _ shown) in
+    let compact : is.compact ≡ None = is.texts.0 in
+    let before : is.unit_of.prefix.now ≡ [] = is.texts.1.0 in
+    let after : is.unit_of.suffix.now ≡ [] = is.texts.1.1 in
+    let s = negative_or sign.None v.sign in
+    is.value
+    ∙ (λ i. number_text p (number i) (around_by p (shown_sign p (number i).significand) (compact i)) is.unit_of)
+    ∙ (λ i. (before i ++ (pattern_around p s).prefix)
+    ++ ((absolute_text own g v.absolute ++ []) ++ ((pattern_around p s).suffix ++ after i)))
+    ∙ around_is f own g (absolute_text own g v.absolute) v.sign no_suffix
+
+pub plain_text : (tag system : List ℕ) (own : Symbols) (g : GroupingStrategy) (name : Option (List ℕ))
+    (f : NumberFormatter) (v : Decimal) (text : List ℕ) → IsPlainText tag system own g name f v text
+plain_text tag system own g name f v text made not_always valid no_suffix is =
+    of_plainly f own g v text valid no_suffix
+    (subst (λ h. IsNumberText h v text) (is_plainly tag system own g name f made not_always) is)

@@ -1,0 +1,5 @@
+use Rattle.number_format.proofs.PlainNumbers.{plain_text}
+use Rattle.number_format.proofs.laws.plain_texts_are_decimals.Goals as goal
+
+pub returns : goal.returns
+returns c = plain_text
