@@ -198,7 +198,7 @@ def check_counts():
         lines = sum(read(document).count("\n") for document in documents)
         check(lines <= most, f"{' and '.join(documents)}: {lines} lines, and at most {most} are allowed")
     words = sum(len(read(document).split()) for document in [*DOCUMENTS, "bench/README.md", "diff/README.md"])
-    check(words <= 16_000, f"the documents have {words:,} words, and at most 16,000 are allowed")
+    check(words <= 17_000, f"the documents have {words:,} words, and at most 17,000 are allowed")
 
 
 def check_modules():

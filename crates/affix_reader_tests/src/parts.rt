@@ -103,7 +103,8 @@ const ROWS: &[(&str, Shape, &str, &str)] = &[
         "fr",
         Shape::Euro,
         "12345678.9",
-        "|integer=12|group=\u{202f}|integer=345|group=\u{202f}|integer=678|decimal=,|fraction=90|literal=\u{a0}|currency=\u{20ac}",
+        "|integer=12|group=\u{202f}|integer=345|group=\u{202f}|integer=678|decimal=,|fraction=90\
+         |literal=\u{a0}|currency=\u{20ac}",
     ),
     (
         "en",

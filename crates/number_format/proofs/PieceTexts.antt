@@ -97,7 +97,8 @@ text-of_digits : (k : PartKind) (s : Symbols) (strategy : GroupingStrategy) (v :
     → pieces_text (digit_pieces k s strategy v) ≡ absolute_text s strategy v
 text-of_digits k s strategy v = text-of_first k s strategy v (shown_count v)
 
-text-of_exponent : (s : Symbols) (e : Option WrittenExponent) → pieces_text (exponent_pieces_if s e) ≡ exponent_text_if s e
+text-of_exponent :
+    (s : Symbols) (e : Option WrittenExponent) → pieces_text (exponent_pieces_if s e) ≡ exponent_text_if s e
 text-of_exponent s None = refl
 text-of_exponent s (Some e) =
     text-three (pieces_of e.separator.kind e.separator.text.now) (pieces_of e.sign.kind e.sign.text.now)
