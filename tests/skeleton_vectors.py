@@ -1,0 +1,54 @@
+"""The rows of `tests/skeleton_vectors.sh`."""
+import collections
+import ctypes
+import re
+import sys
+
+UNSUPPORTED = 17
+
+
+class Result(ctypes.Structure):
+    _fields_ = [("status", ctypes.c_uint32), ("at", ctypes.c_size_t), ("count", ctypes.c_size_t)]
+
+
+library = ctypes.CDLL("c/out/libfixed_decimal.so")
+library.fd_format_number.restype = Result
+room = ctypes.create_string_buffer(1 << 20)
+ESCAPED = re.compile(r"\\(?:\{(.*?)\*(\d+)\}|u([0-9A-Fa-f]{4})|(.))", re.S)
+
+
+def plain(text):
+    """A text without escapes."""
+    named = {"t": "\t", "n": "\n", "r": "\r"}
+
+    def one(found):
+        run, count, unit, other = found.groups()
+        return run * int(count) if run is not None else chr(int(unit, 16)) if unit else named.get(other, other)
+    return ESCAPED.sub(one, text).encode("utf-16", "surrogatepass").decode("utf-16", "replace")
+
+
+def formatted(locale, skeleton, number):
+    words = [it.encode() for it in (number, locale, skeleton)]
+    given = [item for word in words for item in (word, ctypes.c_size_t(len(word)))]
+    return library.fd_format_number(*given, room, ctypes.c_size_t(len(room)))
+
+
+passed, failed, unsupported = 0, 0, collections.Counter()
+with open(sys.argv[1], encoding="utf-8") as file:
+    for line in file:
+        row = [plain(it) for it in line.rstrip("\n").split("\t")]
+        if line.startswith("# ") or len(row) < 4:
+            continue
+        locale, skeleton, number = row[:3]
+        answer = formatted(locale, skeleton, number)
+        if answer.status == UNSUPPORTED:
+            unsupported[re.split(r"[\s/]", skeleton.encode()[answer.at:].decode())[0]] += 1
+        elif answer.status == 0 and ctypes.string_at(room, answer.count).decode() == (row[5] if len(row) > 5 else row[3]):
+            passed += 1
+        else:
+            failed += 1
+            if failed <= 20:
+                print(row, answer.status, answer.at, ctypes.string_at(room, answer.count).decode())
+print("unsupported:", ", ".join(f"{stem} {count}" for stem, count in unsupported.most_common()) or "none")
+print(f"{passed} passed, {failed} failed")
+sys.exit(failed > 0)
