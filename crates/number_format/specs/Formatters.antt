@@ -58,12 +58,12 @@ abbrev pub compact_style : NumberStyle → NumberNotation → Option CompactStyl
 compact_style (style.Currency c) (notation.Compact words) = Some compact.Currency
 compact_style other (notation.Compact compact_length.Short) = Some compact.Short
 compact_style other (notation.Compact compact_length.Long) = Some compact.Long
-compact_style other standard = None
+compact_style other rest = None
 
 abbrev pub compact_unit : NumberStyle → NumberNotation → CompactUnit
 compact_unit style.Percent (notation.Compact words) = unit.Percent
 compact_unit style.Permille (notation.Compact words) = unit.Permille
-compact_unit other standard = unit.Nothing
+compact_unit other rest = unit.Nothing
 
 abbrev pub exponent_options : NumberNotation → Option ExponentOptions
 exponent_options (notation.Scientific o) = Some o
@@ -126,8 +126,8 @@ abbrev pub IsStyleBy : NumberStyle → Option CompactStyle → List ℕ → List
     → StyleParts → Type 0
 IsStyleBy style.Decimal words tag system own formats o s = IsWithoutCurrency (plain_pattern own.sizes) s
 IsStyleBy (style.Currency c) words tag system own formats o s = IsMoney tag system o c s
-IsStyleBy percent None tag system own formats o s = IsPercent formats s
-IsStyleBy percent (Some words) tag system own formats o s = IsWithoutCurrency (plain_pattern own.sizes) s
+IsStyleBy other None tag system own formats o s = IsPercent formats s
+IsStyleBy other (Some words) tag system own formats o s = IsWithoutCurrency (plain_pattern own.sizes) s
 
 abbrev pub IsStyle : List ℕ → List ℕ → Symbols → NumberFormats → NumberOptions → StyleParts → Type 0
 IsStyle tag system own formats o s = IsStyleBy o.style (compact_style o.style o.notation) tag system own formats o s

@@ -62,7 +62,7 @@ abbrev pub permille_text : PercentSign → List ℕ
 permille_text sign.Percent = 226 ∷ 128 ∷ 176 ∷ []
 permille_text sign.Enclosed = 226 ∷ 128 ∷ 176 ∷ []
 permille_text sign.Tilde = 226 ∷ 128 ∷ 176 ∷ []
-permille_text arabic = 216 ∷ 137 ∷ []
+permille_text other = 216 ∷ 137 ∷ []
 
 -- the percent sign, or the per mille sign
 abbrev pub percent_text : PercentSign → Bool → List ℕ
