@@ -20,8 +20,8 @@ FOREIGN = set(
     LocalizedNumberFormatter formatDecimal ghost rejected witness NAME CRATE FUNCTION CLAUSE LOG""".split()
 )
 # Modules and functions that are public for the crates of this repository alone.
-INTERNAL = re.compile(r"/src/(?:rounding/|digits/packed/|decimal/parse/|reader/|laws|reading_laws|rows|tag|\w+_table)")
-HIDDEN = {"from_bcd_digits", "from_short_text", "scan_from"}
+INTERNAL = re.compile(r"/src/(?:rounding/|digits/packed/|digits/steps|ops|uint_iterator|decimal/parse/|reader/|laws|reading_laws|rows|tag|\w+_table)")
+HIDDEN = {"from_bcd_digits", "from_short_text", "scan_from", "lowest_of"}
 NAME = re.compile(r"[A-Za-z_][\w:<>&', ]*(\([\w:<>&', ]*\))?")
 OUTSIDE = re.compile(r"\b(?:document|paper|issue|session|request|promise|definition) \d|\b[DTRW]\d{1,2}\b"
                      r"|/(?:work|tmp|root|home)/")
@@ -143,8 +143,10 @@ def check_code():
     """Lines have their width, callers cite Calling alone, nothing cites what is not in the repository, and the tables of
     locales are what their script writes."""
     for path in FILES:
-        if path != "LICENSE" and not path.startswith("tools/") and not path.endswith("_vectors/stdin"):
-            found = [line.strip()[:80] for line in read(path).splitlines() if OUTSIDE.search(line)]
+        if path != "LICENSE" and not path.startswith("tools/"):
+            rows = path.endswith("_vectors/stdin")
+            found = [line.strip()[:80] for line in read(path).splitlines()
+                     if OUTSIDE.search(line) and (line.startswith("#") or not rows)]
             check(not found, f"{path}: this cites what is not in the repository: {found}")
     for path, text in CODE.items():
         long = [it[:60] for it in text.splitlines()
