@@ -21,7 +21,7 @@ FOREIGN = set(
 )
 # Modules and functions that are public for the crates of this repository alone.
 INTERNAL = re.compile(r"/src/(?:rounding/|digits/packed/|digits/steps|ops|uint_iterator|decimal/parse/|reader/|laws|reading_laws|rows|tag|\w+_table)")
-HIDDEN = {"from_bcd_digits", "from_short_text", "scan_from", "lowest_of"}
+HIDDEN = {"from_bcd_digits", "from_short_text", "scan_from", "lowest_of", "NO_FORMATS"}
 NAME = re.compile(r"[A-Za-z_][\w:<>&', ]*(\([\w:<>&', ]*\))?")
 OUTSIDE = re.compile(r"\b(?:document|paper|issue|session|request|promise|definition) \d|\b[DTRW]\d{1,2}\b"
                      r"|/(?:work|tmp|root|home)/")
@@ -129,9 +129,12 @@ def check_proved():
 
 
 def check_public():
-    """CALLING names each public type and function of the libraries."""
+    """CALLING names each public type and function of the libraries, but for the types of the rows of tables."""
     text = read("CALLING.md")
     named = set(re.findall(r"\w+", " ".join(quoted(text) + re.findall(r"```.*?```", text, re.S))))
+    for path, text in CODE.items():
+        if path.endswith("_table.rt"):
+            named.update(re.findall(r"\b[A-Z]\w+", text))
     for path, text in CODE.items():
         if path.split("/")[1] in LIBRARIES and "/src/" in path and not INTERNAL.search(path):
             names = re.findall(r"^pub (?:struct|enum|trait|type|const) (\w+)", text, re.M)
