@@ -1,5 +1,5 @@
 -- Plain texts: their digits as a number in base 16, and the value of their parts.
-use Rattle.decimal_unsigned.proofs.Common.{nat_tests, ◌≡◌, ℕ, zero, suc, ◌+◌, ◌-◌, ◌*◌, ◌/◌, ◌%◌, ◌^◌, ◌<◌, ◌≤◌, inl, inr, true, false, List, [], ◌∷◌, ◌++◌, length, get_or, take, drop, take_all, map, refl, sym, ◌∙◌, ap, subst, arith, Some, None, option_map, Result, Ok, pos, ◌-ℤ◌, mul-lt-mul_of_pos_right, pow-le-pow_right, cases_lt, ints, pow-add, append-nil, length-append, length-drop, length-take, length-take-le, length-map, number_lt, digits_value_is, is_ascii_digit, prefix_len, digit_value, number_from_digits, AllBelowBase, AllDigits, digits_value, Literal, middle, IsNonzeroRange, pow-suc, mod-eq_of_lt, digits_value_after, below_sixteen, steps, replicate, ℤ, IsStored, number_of, offset_is, int_min}
+use Rattle.decimal_unsigned.proofs.Common.{nat_tests, ◌≡◌, ℕ, zero, suc, ◌+◌, ◌-◌, ◌*◌, ◌/◌, ◌%◌, ◌^◌, ◌<◌, ◌≤◌, inl, inr, true, false, List, [], ◌∷◌, ◌++◌, length, get_or, take, drop, take_all, map, refl, sym, ◌∙◌, ap, subst, arith, Some, None, option_map, Result, Ok, pos, ◌-ℤ◌, mul-lt-mul_of_pos_right, pow-le-pow_right, cases_lt, ints, pow-add, append-nil, length-append, length-drop, length-take, length-take-le, length-map, number_lt, digits_value_is, is_ascii_digit, prefix_len, digit_value, number_from_digits, AllBelowBase, AllDigits, digits_value, Literal, middle, IsNonzeroRange, pow-suc, mod-eq_of_lt, digits_value_after, below_sixteen, steps, replicate, ℤ, IsStored, number_of, offset_is, int_min, size, Unsigned, rules}
 use mir.Val.{bits}
 use Rattle.std.specs.Int.{Width, w64, bit_at, leading_zeros, trailing_zeros}
 use Rattle.std.proofs.Math.Nat.{one-le-pow, div-eq_of_lt-le, zero-div, mod-add-mod}
@@ -19,8 +19,6 @@ use Rattle.decimal_digits.proofs.DigitLists.{below_at, number-div}
 use Rattle.decimal_digits.proofs.LeadingBytes.{hex_pow, leading_bytes_encode}
 use Rattle.decimal_unsigned.specs.Parts.{saturated_parts}
 use Rattle.std.specs.Prelude.{IsOkAnd}
-use Rattle.decimal_digits.specs.Number.{size}
-use Rattle.decimal_unsigned.specs.Unsigned.{Unsigned}
 use Rattle.decimal_unsigned.specs.Reading.{ReadError, scaled, parts_of, after_whole, after_fraction, read}
 use Rattle.decimal_digits.specs.Digits.{number_at}
 use Rattle.decimal_unsigned.specs.DigitValues.{IsBcd, value_of_first}
@@ -32,8 +30,7 @@ use Rattle.decimal_unsigned.specs.declared.decimal.parse.plan.Bounds.{Bounds}
 use Rattle.decimal_unsigned.proofs.Middle.{number_zeros, middle_length, middle_below, number_middle, number_of-middle, stored_middle}
 use Rattle.decimal_unsigned.proofs.Plans.{read_some, digits_some, all_digits, length_digits, value_scaled}
 use Rattle.decimal_unsigned.proofs.GrammarParts.{value_of_digit, count_group, tests_digits}
-use Rattle.decimal_unsigned.proofs.PlainTexts.{after_append, value_after, digits_fit}
-use Rattle.std.proofs.Common.{rules}
+use Rattle.decimal_unsigned.proofs.PlainTexts.{after_append, value_after}
 
 -- ---- The loops over a text.
 -- one digit more
@@ -108,17 +105,13 @@ fraction_numbered p whole fraction number more e f =
     ∙ mod_step n (16 ^ length fraction) (digits_value 16 fraction) p
     ∙ ap (λ m. m % p) (sym (after_append 0 whole fraction ∙ value_after n fraction))
 
--- k digits write their number in 4 * k bits
-number_written : (k : ℕ) (text : List ℕ) (number : ℕ) → AllDigits 10 text → length text ≤ k
-    → number ≡ digits_value 16 text % 2 ^ (4 * k)
-    → number ≡ digits_value 16 text
-number_written k text number h few e =
+-- k digits fit into 4 * k bits
+digits_fit : (k : ℕ) (text : List ℕ) → AllDigits 10 text → length text ≤ k → digits_value 16 text < 2 ^ (4 * k)
+digits_fit k text h few =
     let below = below_sixteen _ (all_below_base_from_digits 10 text h) in
     let lt : digits_value 16 text < 16 ^ length text =
     rw (digits_value_is 16 text, ← length-map text digit_value) (number_lt 16 (map digit_value text) below) in
-    let places : 16 ^ length text ≤ 16 ^ k = pow-le-pow_right (omega arith) few in
-    let fits : digits_value 16 text < 2 ^ (4 * k) = rw (hex_pow k) (omega arith) in
-    e ∙ mod-eq_of_lt fits
+    rw (hex_pow k) (omega (arith, lt, pow-le-pow_right {n = 16} (omega arith) few))
 
 -- ---- The digits between the zeros.
 -- the number without its leading zero nibbles, of k nibbles in all, begins with the digits from `start` to `end`
@@ -243,25 +236,25 @@ module _ (text : List ℕ) (whole number k : ℕ) (most : k ≤ 32) (few : lengt
   at_most : length (take whole text ++ drop (whole + 1) text) ≤ k
   at_most = grind (steps, length-append, long, length-drop)
 
-  exact : (n : ℕ) → parts_of text ≡ Some (plain_parts text whole)
+  plain : (fraction n : ℕ) → parts_of text ≡ Some (plain_parts text whole) → length (drop (whole + 1) text) ≡ fraction
       → n ≡ digits_value 16 (take whole text ++ drop (whole + 1) text) % 2 ^ (4 * k)
-      → n ≡ digits_value 16 (take whole text ++ drop (whole + 1) text)
-  exact n parts e =
-      number_written k _ n
-      (digits_some text (plain_parts text whole) (sym (ap (option_map saturated_parts) parts))) at_most e
+      → IsPlainText text (record { whole = whole; fraction = fraction; number = n })
+  plain fraction n parts size e =
+      let all = digits_some text (plain_parts text whole) (sym (ap (option_map saturated_parts) parts)) in
+      record {
+        parts = parts;
+        whole = long text whole digits;
+        fraction = size;
+        few = omega (arith, at_most);
+        number = e ∙ mod-eq_of_lt (digits_fit k _ all at_most);
+      }
 
   pub plain_whole : 0 < whole → drop whole text ≡ []
       → IsPlainText text (record { whole = whole; fraction = 0; number = number })
   plain_whole some none =
       let following : drop (whole + 1) text ≡ [] = sym (drop-drop 1 whole text) ∙ ap (drop 1) none in
-      let parts = parts_whole text whole digits some none in
-      record {
-        parts = parts;
-        whole = long text whole digits;
-        fraction = rw following refl;
-        few = omega (arith, at_most);
-        number = exact number parts (rw (following, append-nil) numbered);
-      }
+      plain 0 number (parts_whole text whole digits some none) (ap length following)
+      (rw (following, append-nil) numbered)
 
   pub plain_point : (rest : List ℕ) (fraction more : ℕ) → whole < length text → get_or text whole 0 ≡ decimal_point
       → rest ≡ drop (whole + 1) text → fraction ≡ prefix_len is_ascii_digit rest → 0 < fraction → length rest ≤ fraction
@@ -270,20 +263,12 @@ module _ (text : List ℕ) (whole number k : ℕ) (most : k ≤ 32) (few : lengt
   plain_point rest fraction more in_text byte rest_is digits' some all n =
       let following = sym rest_is in
       let size : length rest ≡ fraction = omega (arith, all, digits', prefix_len-le-length is_ascii_digit rest) in
-      let parts =
-      parts_point text whole digits in_text byte (rw following (omega (arith, size, digits')))
-      (rw following (omega (arith, some, size))) in
-      record {
-        parts = parts;
-        whole = long text whole digits;
-        fraction = rw following size;
-        few = omega (arith, at_most);
-        number =
-            exact more parts
-            (rw following
-            (fraction_numbered (2 ^ (4 * k)) (take whole text) rest number more numbered
-            (n ∙ ap (λ t. digits_value_after 16 number t % 2 ^ (4 * k)) (take_all fraction rest all))));
-      }
+      plain fraction more
+      (parts_point text whole digits in_text byte (rw following (omega (arith, size, digits')))
+      (rw following (omega (arith, some, size))))
+      (rw following size)
+      (rw following (fraction_numbered (2 ^ (4 * k)) (take whole text) rest number more numbered
+      (n ∙ ap (λ t. digits_value_after 16 number t % 2 ^ (4 * k)) (take_all fraction rest all))))
 
 -- a value of more digits than fit in place allocates
 pub wide_allocates : (reading : Result Unsigned ReadError) (bytes : List ℕ) (len most : ℕ) (b : Bounds)
@@ -414,7 +399,7 @@ module _ (text : List ℕ) (p : PlainText ℕ) (plain : IsPlainText text p) wher
   few_digits = omega (arith, plain.few, plain.whole, plain.fraction, length-append w.whole w.fraction)
 
   pub number_fits : p.number < 2 ^ 128
-  number_fits = rw plain.number (digits_fit (w.whole ++ w.fraction) digits plain.few)
+  number_fits = rw plain.number (digits_fit 32 (w.whole ++ w.fraction) digits plain.few)
 
   -- reading gives their value
   pub plain_read : read text ≡ Ok (value_of_first p.whole plain_digits)

@@ -1,5 +1,5 @@
 -- Eight bytes of a text at a time.
-use Rattle.decimal_unsigned.proofs.Common.{◌≡◌, ℕ, zero, suc, ◌+◌, ◌-◌, ◌*◌, ◌/◌, ◌%◌, ◌^◌, ◌<◌, ◌≤◌, List, [], ◌∷◌, ◌++◌, length, get_or, take, refl, sym, ◌∙◌, ap, subst, arith, number_from_digits, AllBelowBase, AllDigits, digits_value, digits_value_after, digit_value, pow-suc, pow-le-pow_right, length-map, digits_value_is, number_lt, below_sixteen, steps, rules, take_all, map}
+use Rattle.decimal_unsigned.proofs.Common.{◌≡◌, ℕ, zero, suc, ◌+◌, ◌-◌, ◌*◌, ◌/◌, ◌%◌, ◌^◌, ◌<◌, ◌≤◌, List, [], ◌∷◌, ◌++◌, length, get_or, take, refl, sym, ◌∙◌, ap, subst, arith, number_from_digits, AllBelowBase, AllDigits, digits_value, digits_value_after, digit_value, pow-suc, length-map, digits_value_is, number_lt, below_sixteen, steps, rules, take_all, map}
 use Rattle.std.specs.Int.{w64, from_be_bytes}
 use Rattle.std.proofs.lemmas.Nat.{and_block, and_mask, or_block, or_of_8, le_or_l, le_or_r}
 use Rattle.std.proofs.lemmas.Int.Digits.{all_below_base_from_digits, number_more, digits_value_more, digits_more}
@@ -135,11 +135,6 @@ module _ (n : ℕ) (h : n < 2 ^ 64) where
   packed_digits ds b few is =
       let whole = take_all (length ds) ds (omega arith) in
       grind (arith, packed_is, value_front, bytes_wider)
-
--- up to 32 digits fit into 128 bits
-pub digits_fit : (cs : List ℕ) → AllDigits 10 cs → length cs ≤ 32 → digits_value 16 cs < 2 ^ 128
-digits_fit cs h few =
-    grind (arith, length-map, pow-le-pow_right, digits_value_is, number_lt, below_sixteen, all_below_base_from_digits)
 
 eight_bytes : (bs : List ℕ) → length bs ≡ 8 → from_be_bytes w64 bs ≡ number_from_digits 256 bs
 eight_bytes (a ∷ (b ∷ (c ∷ (d ∷ (e ∷ (f ∷ (g ∷ (h ∷ [])))))))) l = omega arith
