@@ -327,7 +327,7 @@ module _ (whole fraction number : ℕ) (ds : List ℕ) (bcd : IsBcd number (whol
           → ((es : List ℕ) → length es ≡ len → len ≤ k → AllBelowBase 10 es
           → number * 2 ^ (4 * zeros) % 2 ^ (4 * k) ≡ number_from_digits 16 es * 16 ^ (k - len) → F es)
           → F (middle (length ds - (k - zeros)) (length ds - trailing_zeros width number / 4) ds)
-      bcd_inner F zeros len z l holds =
+      bcd_inner F skipped len z l holds =
           grind (steps, found, leading_le, middle_number, within, middle_length, middle_below)
 
       pub bcd_value : (zeros len : ℕ) (bytes : List ℕ) (b : Bounds) → zeros ≡ leading_zeros width number / 4
