@@ -1,5 +1,5 @@
 -- Plain texts: their digits as a number in base 16, and the value of their parts.
-use Rattle.decimal_unsigned.proofs.Common.{nat_tests, ◌≡◌, ℕ, zero, suc, ◌+◌, ◌-◌, ◌*◌, ◌/◌, ◌%◌, ◌^◌, ◌<◌, ◌≤◌, inl, inr, true, false, List, [], ◌∷◌, ◌++◌, length, get_or, take, drop, take_all, map, refl, sym, ◌∙◌, ap, subst, arith, Some, None, option_map, Result, Ok, pos, ◌-ℤ◌, mul-lt-mul_of_pos_right, pow-le-pow_right, cases_lt, ints, pow-add, append-nil, length-append, length-drop, length-take, length-take-le, length-map, number_lt, digits_value_is, is_ascii_digit, prefix_len, digit_value, number_from_digits, AllBelowBase, AllDigits, digits_value, Literal, middle, IsNonzeroRange, pow-suc, mod-eq_of_lt, digits_value_after, below_sixteen, steps, replicate, ℤ, IsStored, number_of, offset_is, int_min, size, Unsigned, rules}
+use Rattle.decimal_unsigned.proofs.Common.{nat_tests, ◌≡◌, ℕ, suc, ◌+◌, ◌-◌, ◌*◌, ◌/◌, ◌%◌, ◌^◌, ◌<◌, ◌≤◌, inl, inr, true, false, List, [], ◌∷◌, ◌++◌, length, get_or, take, drop, take_all, map, refl, sym, ◌∙◌, ap, subst, arith, Some, None, option_map, Result, Ok, pos, ◌-ℤ◌, mul-lt-mul_of_pos_right, pow-le-pow_right, cases_lt, ints, pow-add, append-nil, length-append, length-drop, length-take, length-take-le, length-map, number_lt, digits_value_is, is_ascii_digit, prefix_len, digit_value, number_from_digits, AllBelowBase, AllDigits, digits_value, Literal, middle, IsNonzeroRange, pow-suc, mod-eq_of_lt, digits_value_after, below_sixteen, steps, replicate, ℤ, IsStored, number_of, offset_is, int_min, size, Unsigned, rules}
 use mir.Val.{bits}
 use Rattle.std.specs.Int.{Width, w64, bit_at, leading_zeros, trailing_zeros}
 use Rattle.std.proofs.Math.Nat.{one-le-pow, div-eq_of_lt-le, zero-div, mod-add-mod}
@@ -7,7 +7,7 @@ use Rattle.std.proofs.Math.Seq.{take-add}
 use Rattle.std.proofs.Math.ListN.{get_or-eq_default}
 use Rattle.std.proofs.lemmas.Nat.{mod-mul-add, mul-mod_first, leading_top, leading_le}
 use Rattle.std.proofs.lemmas.Nat.Bits.{bit_at_above, bit_at-trailing_zeros}
-use Rattle.std.proofs.lemmas.List.{drop-drop, drop_all, at_drop_more}
+use Rattle.std.proofs.lemmas.List.{drop-drop, drop_all, at_drop_more, take_more}
 use Rattle.std.proofs.lemmas.List.Sums.{prefix_len-le-length, prefix_len-drop_yes, prefix_len-drop_no, prefix_len-drop_all}
 use Rattle.std.proofs.lemmas.Int.Digits.{number_more as number_more_digits, all_below_base_from_digits}
 use Rattle.decimal_digits.specs.Nibbles.{digits_in, leading_bytes, word_nibbles}
@@ -33,52 +33,42 @@ use Rattle.decimal_unsigned.proofs.GrammarParts.{value_of_digit, count_group, te
 use Rattle.decimal_unsigned.proofs.PlainTexts.{after_append, value_after}
 
 -- ---- The loops over a text.
--- one digit more
-after_more : (n : ℕ) (text : List ℕ) (i : ℕ) → i < length text
-    → digits_value_after 16 n (take (i + 1) text)
-    ≡ digits_value_after 16 n (take i text) * 16 + digit_value (get_or text i 0)
-after_more n [] i h = absurd (omega arith)
-after_more n (c ∷ cs) zero h = refl
-after_more n (c ∷ cs) (suc i) h =
-    let e : suc i + 1 ≡ suc (i + 1) = omega arith in
-    rw e (after_more (n * 16 + digit_value c) cs i (omega arith))
-
 -- a remainder is continued as the number
 mod_step : (n q v p : ℕ) → (n % p * q + v) % p ≡ (n * q + v) % p
 mod_step n q v p =
     sym (mod-add-mod (n % p * q) p v) ∙ ap (λ a. (a + v) % p) (mul-mod_first n q p) ∙ mod-add-mod (n * q) p v
 
 module _ {p before : ℕ} {text : List ℕ} {i number : ℕ} (read : IsReadTo p before text i number) where
+  -- the number after more digits
+  continued : (j q v : ℕ) (more : List ℕ) → take j text ≡ take i text ++ more → q ≡ 16 ^ length more
+      → v ≡ digits_value 16 more → (number * q % p + v) % p ≡ digits_value_after 16 before (take j text) % p
+  continued j q v more all places is =
+      let n = digits_value_after 16 before (take i text) in
+      mod-add-mod (number * q) p v
+      ∙ ap (λ m. (m * q + v) % p) read.value ∙ mod_step n q v p
+      ∙ ap (λ m. m % p) ((λ k. n * places k + is k) ∙ sym (after_append before (take i text) more ∙ value_after n more)
+      ∙ ap (digits_value_after 16 before) (sym all))
+
   -- a digit more
   pub read_digit : i < length text → is_ascii_digit (get_or text i 0) ≡ true
       → IsReadTo p before text (i + 1) ((number * 16 % p + (get_or text i 0 - 48)) % p)
-  read_digit h d =
-      let n = digits_value_after 16 before (take i text) in
-      record {
-        digits = omega (arith, prefix_len-drop_yes is_ascii_digit text i 0 h d, read.digits);
-        value =
-            mod-add-mod (number * 16) p (get_or text i 0 - 48)
-            ∙ ap (λ m. (m * 16 + (get_or text i 0 - 48)) % p) read.value ∙ mod_step n 16 (get_or text i 0 - 48) p
-            ∙ ap (λ m. m % p) (ap (λ v. n * 16 + v) (sym (value_of_digit _ d)) ∙ sym (after_more before text i h));
-      }
+  read_digit h d = record {
+    digits = omega (arith, prefix_len-drop_yes is_ascii_digit text i 0 h d, read.digits);
+    value =
+        continued (i + 1) 16 (get_or text i 0 - 48) (get_or text i 0 ∷ []) (take_more text i 0 h) refl
+        (omega (arith, value_of_digit (get_or text i 0) d));
+  }
 
   -- eight digits more
   pub read_eight : (group : ℕ) → i + 8 ≤ length text → AllDigits 10 (take 8 (drop i text))
       → group ≡ digits_value 16 (take 8 (drop i text))
       → IsReadTo p before text (i + 8) ((number * 2 ^ 32 % p + group) % p)
   read_eight group h d e =
-      let n = digits_value_after 16 before (take i text) in
       let bytes = take 8 (drop i text) in
       let eight : length bytes ≡ 8 = length-take-le 8 (drop i text) (omega (arith, length-drop i text)) in
-      let all = after_append before (take i text) bytes ∙ value_after n bytes in
-      let places : 16 ^ length bytes ≡ 2 ^ 32 = ap (λ k. 16 ^ k) eight in
       record {
         digits = count_group text i 8 (omega arith) (tests_digits.from bytes d) read.digits;
-        value =
-            mod-add-mod (number * 2 ^ 32) p group
-            ∙ (λ j. (read.value j * 2 ^ 32 + e j) % p) ∙ mod_step n (2 ^ 32) (digits_value 16 bytes) p
-            ∙ ap (λ m. m % p) (ap (λ q. n * q + digits_value 16 bytes) (sym places) ∙ sym all
-            ∙ ap (digits_value_after 16 before) (sym (take-add i 8 text)));
+        value = continued (i + 8) (2 ^ 32) group bytes (take-add i 8 text) (ap (λ k. 16 ^ k) (sym eight)) e;
       }
 
   -- a byte that is no digit, and the end of the text
