@@ -71,7 +71,7 @@ module _ {p before : ℕ} {text : List ℕ} {i number : ℕ} (read : IsReadTo p 
         value = continued (i + 8) (2 ^ 32) group bytes (take-add i 8 text) (ap (λ k. 16 ^ k) (sym eight)) e;
       }
 
-  -- a byte that is no digit, and the end of the text
+  -- a byte that is not a digit, and the end of the text
   pub read_stop : i < length text → is_ascii_digit (get_or text i 0) ≡ false → i ≡ prefix_len is_ascii_digit text
   read_stop h d = omega (arith, prefix_len-drop_no is_ascii_digit text i 0 h d, read.digits)
 
