@@ -15,7 +15,6 @@ pub mod Packing
 pub mod Sinks
 pub mod DigitTexts
 pub mod LeadingBytes
-pub mod WideBytes
 pub mod Words
 pub mod Overlaps
 pub mod TrailingNibbles

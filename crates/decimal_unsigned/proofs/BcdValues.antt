@@ -1,13 +1,14 @@
 -- Plain texts: their digits as a number in base 16, and the value of their parts.
-use Rattle.decimal_unsigned.proofs.Common.{nat_tests, ◌≡◌, ℕ, zero, suc, ◌+◌, ◌-◌, ◌*◌, ◌/◌, ◌%◌, ◌^◌, ◌<◌, ◌≤◌, inl, inr, true, List, [], ◌∷◌, ◌++◌, length, get_or, take, drop, take_all, map, refl, sym, ◌∙◌, ap, subst, arith, Some, None, option_map, Result, Ok, pos, ◌-ℤ◌, mul-lt-mul_of_pos_right, pow-le-pow_right, cases_lt, ints, pow-add, append-nil, take-append-drop, length-append, length-drop, length-take, length-take-le, length-map, number_lt, digits_value_is, is_ascii_digit, prefix_len, digit_value, number_from_digits, AllBelowBase, AllDigits, digits_value, Literal, middle, IsNonzeroRange, pow-suc, mod-eq_of_lt, digits_value_after, below_sixteen, steps, replicate, ℤ, IsStored, number_of, offset_is, int_min}
+use Rattle.decimal_unsigned.proofs.Common.{nat_tests, ◌≡◌, ℕ, suc, ◌+◌, ◌-◌, ◌*◌, ◌/◌, ◌%◌, ◌^◌, ◌<◌, ◌≤◌, inl, inr, true, false, List, [], ◌∷◌, ◌++◌, length, get_or, take, drop, take_all, map, refl, sym, ◌∙◌, ap, subst, arith, Some, None, option_map, Result, Ok, pos, ◌-ℤ◌, mul-lt-mul_of_pos_right, pow-le-pow_right, cases_lt, ints, pow-add, append-nil, length-append, length-drop, length-take, length-take-le, length-map, number_lt, digits_value_is, is_ascii_digit, prefix_len, digit_value, number_from_digits, AllBelowBase, AllDigits, digits_value, Literal, middle, IsNonzeroRange, pow-suc, mod-eq_of_lt, digits_value_after, below_sixteen, steps, replicate, ℤ, IsStored, number_of, offset_is, int_min, size, Unsigned, rules}
 use mir.Val.{bits}
 use Rattle.std.specs.Int.{Width, w64, bit_at, leading_zeros, trailing_zeros}
-use Rattle.std.proofs.Math.Nat.{one-le-pow, div-eq_of_lt-le, zero-div}
+use Rattle.std.proofs.Math.Nat.{one-le-pow, div-eq_of_lt-le, zero-div, mod-add-mod}
+use Rattle.std.proofs.Math.Seq.{take-add}
 use Rattle.std.proofs.Math.ListN.{get_or-eq_default}
-use Rattle.std.proofs.lemmas.Nat.{mod-mul-add, leading_top, leading_le}
+use Rattle.std.proofs.lemmas.Nat.{mod-mul-add, mul-mod_first, leading_top, leading_le}
 use Rattle.std.proofs.lemmas.Nat.Bits.{bit_at_above, bit_at-trailing_zeros}
-use Rattle.std.proofs.lemmas.List.{drop-drop, drop_all, at_drop_more}
-use Rattle.std.proofs.lemmas.List.Sums.{prefix_len-le-length, prefix_len-drop_no}
+use Rattle.std.proofs.lemmas.List.{drop-drop, drop_all, at_drop_more, take_more}
+use Rattle.std.proofs.lemmas.List.Sums.{prefix_len-le-length, prefix_len-drop_yes, prefix_len-drop_no, prefix_len-drop_all}
 use Rattle.std.proofs.lemmas.Int.Digits.{number_more as number_more_digits, all_below_base_from_digits}
 use Rattle.decimal_digits.specs.Nibbles.{digits_in, leading_bytes, word_nibbles}
 use Rattle.decimal_digits.proofs.TrailingNibbles.{clear_nibble, some_nibble}
@@ -18,70 +19,89 @@ use Rattle.decimal_digits.proofs.DigitLists.{below_at, number-div}
 use Rattle.decimal_digits.proofs.LeadingBytes.{hex_pow, leading_bytes_encode}
 use Rattle.decimal_unsigned.specs.Parts.{saturated_parts}
 use Rattle.std.specs.Prelude.{IsOkAnd}
-use Rattle.decimal_digits.specs.Number.{size}
-use Rattle.decimal_unsigned.specs.Unsigned.{Unsigned}
 use Rattle.decimal_unsigned.specs.Reading.{ReadError, scaled, parts_of, after_whole, after_fraction, read}
 use Rattle.decimal_digits.specs.Digits.{number_at}
 use Rattle.decimal_unsigned.specs.DigitValues.{IsBcd, value_of_first}
 use Rattle.decimal_unsigned.proofs.Values.{size-number_of, number_of_empty, stored_as}
-use Rattle.decimal_unsigned.specs.PlainTexts.{IsPlainText, IsDotted, plain_parts}
+use Rattle.decimal_unsigned.specs.PlainTexts.{IsPlainText, IsReadTo, plain_parts}
 use Rattle.decimal_unsigned.specs.ScannedDigits.{digits_of, IsBcdValue}
 use Rattle.decimal_unsigned.specs.declared.decimal.parse.fast_path.PlainText.{PlainText}
 use Rattle.decimal_unsigned.specs.declared.decimal.parse.plan.Bounds.{Bounds}
 use Rattle.decimal_unsigned.proofs.Middle.{number_zeros, middle_length, middle_below, number_middle, number_of-middle, stored_middle}
 use Rattle.decimal_unsigned.proofs.Plans.{read_some, digits_some, all_digits, length_digits, value_scaled}
-use Rattle.decimal_unsigned.proofs.GrammarParts.{value_of_digit, prefix_len-run, digits_left, digits_right}
-use Rattle.decimal_unsigned.proofs.PlainTexts.{after_append, digits_fit}
-use Rattle.std.proofs.Common.{rules}
+use Rattle.decimal_unsigned.proofs.GrammarParts.{value_of_digit, count_group, tests_digits}
+use Rattle.decimal_unsigned.proofs.PlainTexts.{after_append, value_after}
 
--- ---- The loop over a text.
--- one digit more
-after_more : (n : ℕ) (text : List ℕ) (i : ℕ) → i < length text
-    → digits_value_after 16 n (take (i + 1) text)
-    ≡ digits_value_after 16 n (take i text) * 16 + digit_value (get_or text i 0)
-after_more n [] i h = absurd (omega arith)
-after_more n (c ∷ cs) zero h = refl
-after_more n (c ∷ cs) (suc i) h =
-    let e : suc i + 1 ≡ suc (i + 1) = omega arith in
-    rw e (after_more (n * 16 + digit_value c) cs i (omega arith))
+-- ---- The loops over a text.
+-- a remainder is continued as the number
+mod_step : (n q v p : ℕ) → (n % p * q + v) % p ≡ (n * q + v) % p
+mod_step n q v p =
+    sym (mod-add-mod (n % p * q) p v) ∙ ap (λ a. (a + v) % p) (mul-mod_first n q p) ∙ mod-add-mod (n * q) p v
 
--- the same in 64 bits
-pub number_more : (before number i : ℕ) (text : List ℕ) → i < length text → is_ascii_digit (get_or text i 0) ≡ true
-    → number ≡ digits_value_after 16 before (take i text) % 2 ^ 64
-    → (number * 16 % 2 ^ 64 + (get_or text i 0 - 48)) % 2 ^ 64
-    ≡ digits_value_after 16 before (take (i + 1) text) % 2 ^ 64
-number_more before number i text h d e = grind (arith, after_more, value_of_digit)
+module _ {p before : ℕ} {text : List ℕ} {i number : ℕ} (read : IsReadTo p before text i number) where
+  -- the number after more digits
+  continued : (j q v : ℕ) (more : List ℕ) → take j text ≡ take i text ++ more → q ≡ 16 ^ length more
+      → v ≡ digits_value 16 more → (number * q % p + v) % p ≡ digits_value_after 16 before (take j text) % p
+  continued j q v more all places is =
+      let n = digits_value_after 16 before (take i text) in
+      mod-add-mod (number * q) p v
+      ∙ ap (λ m. (m * q + v) % p) read.value ∙ mod_step n q v p
+      ∙ ap (λ m. m % p) ((λ k. n * places k + is k) ∙ sym (after_append before (take i text) more ∙ value_after n more)
+      ∙ ap (digits_value_after 16 before) (sym all))
+
+  -- a digit more
+  pub read_digit : i < length text → is_ascii_digit (get_or text i 0) ≡ true
+      → IsReadTo p before text (i + 1) ((number * 16 % p + (get_or text i 0 - 48)) % p)
+  read_digit h d = record {
+    digits = omega (arith, prefix_len-drop_yes is_ascii_digit text i 0 h d, read.digits);
+    value =
+        continued (i + 1) 16 (get_or text i 0 - 48) (get_or text i 0 ∷ []) (take_more text i 0 h) refl
+        (omega (arith, value_of_digit (get_or text i 0) d));
+  }
+
+  -- eight digits more
+  pub read_eight : (group : ℕ) → i + 8 ≤ length text → AllDigits 10 (take 8 (drop i text))
+      → group ≡ digits_value 16 (take 8 (drop i text))
+      → IsReadTo p before text (i + 8) ((number * 2 ^ 32 % p + group) % p)
+  read_eight group h d e =
+      let bytes = take 8 (drop i text) in
+      let eight : length bytes ≡ 8 = length-take-le 8 (drop i text) (omega (arith, length-drop i text)) in
+      record {
+        digits = count_group text i 8 (omega arith) (tests_digits.from bytes d) read.digits;
+        value = continued (i + 8) (2 ^ 32) group bytes (take-add i 8 text) (ap (λ k. 16 ^ k) (sym eight)) e;
+      }
+
+  -- a byte that is not a digit, and the end of the text
+  pub read_stop : i < length text → is_ascii_digit (get_or text i 0) ≡ false → i ≡ prefix_len is_ascii_digit text
+  read_stop h d = omega (arith, prefix_len-drop_no is_ascii_digit text i 0 h d, read.digits)
+
+  pub read_end : length text ≤ i → i ≤ length text
+      → (length text ≡ prefix_len is_ascii_digit text)
+      × (number ≡ digits_value_after 16 before (take (length text) text) % p)
+  read_end h l =
+      let e : i ≡ length text = omega arith in (
+        omega (arith, prefix_len-drop_all is_ascii_digit text i h, read.digits, e),
+        read.value ∙ ap (λ j. digits_value_after 16 before (take j text) % p) e,
+      )
 
 -- ---- The integer digits and the fraction digits.
--- the number of the integer digits and then the fraction digits in base 16, modulo 2 ^ 64
-abbrev in_base_16 : List ℕ → List ℕ → ℕ
-in_base_16 whole fraction = digits_value_after 16 (digits_value 16 whole) fraction % 2 ^ 64
-
-after_mod : (n : ℕ) (text : List ℕ)
-    → digits_value_after 16 (n % 2 ^ 64) text % 2 ^ 64 ≡ digits_value_after 16 n text % 2 ^ 64
-after_mod n [] = omega arith
-after_mod n (c ∷ cs) =
-    let d = digit_value c in
-    let e : ((n % 2 ^ 64) * 16 + d) % 2 ^ 64 ≡ (n * 16 + d) % 2 ^ 64 = omega arith in
-    sym (after_mod ((n % 2 ^ 64) * 16 + d) cs) ∙ ap (λ m. digits_value_after 16 m cs % 2 ^ 64) e
-    ∙ after_mod (n * 16 + d) cs
-
 -- the number of the integer digits continued by the fraction digits is the number of both
-pub fraction_numbered : (whole fraction : List ℕ) (number more : ℕ) → number ≡ digits_value 16 whole % 2 ^ 64
-    → more ≡ digits_value_after 16 number fraction % 2 ^ 64
-    → more ≡ in_base_16 whole fraction
-fraction_numbered whole fraction number more e f = grind (steps, after_mod)
+fraction_numbered : (p : ℕ) (whole fraction : List ℕ) (number more : ℕ) → number ≡ digits_value 16 whole % p
+    → more ≡ digits_value_after 16 number fraction % p → more ≡ digits_value 16 (whole ++ fraction) % p
+fraction_numbered p whole fraction number more e f =
+    let n = digits_value 16 whole in
+    f ∙ ap (λ m. m % p) (value_after number fraction)
+    ∙ ap (λ m. (m * 16 ^ length fraction + digits_value 16 fraction) % p) e
+    ∙ mod_step n (16 ^ length fraction) (digits_value 16 fraction) p
+    ∙ ap (λ m. m % p) (sym (after_append 0 whole fraction ∙ value_after n fraction))
 
--- sixteen digits fit 64 bits
-sixteen_fit : (ds : List ℕ) → AllBelowBase 10 ds → length ds ≤ 16 → number_from_digits 16 ds < 2 ^ 64
-sixteen_fit ds below few = grind (arith, pow-le-pow_right, number_lt, below_sixteen)
-
--- up to sixteen digits write their number
-pub number_written : (whole fraction : List ℕ) (number : ℕ) → AllDigits 10 (whole ++ fraction)
-    → length (whole ++ fraction) ≤ 16 → number ≡ in_base_16 whole fraction
-    → number ≡ number_from_digits 16 (map digit_value (whole ++ fraction))
-number_written whole fraction number h few e =
-    grind (arith, sixteen_fit, all_below_base_from_digits, length-map, after_append, digits_value_is, mod-eq_of_lt)
+-- k digits fit into 4 * k bits
+digits_fit : (k : ℕ) (text : List ℕ) → AllDigits 10 text → length text ≤ k → digits_value 16 text < 2 ^ (4 * k)
+digits_fit k text h few =
+    let below = below_sixteen _ (all_below_base_from_digits 10 text h) in
+    let lt : digits_value 16 text < 16 ^ length text =
+    rw (digits_value_is 16 text, ← length-map text digit_value) (number_lt 16 (map digit_value text) below) in
+    rw (hex_pow k) (omega (arith, lt, pow-le-pow_right {n = 16} (omega arith) few))
 
 -- ---- The digits between the zeros.
 -- the number without its leading zero nibbles, of k nibbles in all, begins with the digits from `start` to `end`
@@ -199,86 +219,46 @@ module _ (text : List ℕ) (whole : ℕ) (digits : whole ≡ prefix_len is_ascii
   unfolding parts_of
   parts_point in_text byte all some = grind (steps, at_drop_more, after_whole_point)
 
--- up to sixteen digits, byte by byte
-module _ (text : List ℕ) (whole number : ℕ) (few : length text ≤ 17) (short : whole ≤ 16)
+-- a text of up to k digits
+module _ (text : List ℕ) (whole number k : ℕ) (most : k ≤ 32) (few : length text ≤ k + 1) (short : whole ≤ k)
     (digits : whole ≡ prefix_len is_ascii_digit text)
-    (numbered : number ≡ digits_value 16 (take whole text) % 2 ^ 64) where
-  at_most : length (take whole text ++ drop (whole + 1) text) ≤ 16
+    (numbered : number ≡ digits_value 16 (take whole text) % 2 ^ (4 * k)) where
+  at_most : length (take whole text ++ drop (whole + 1) text) ≤ k
   at_most = grind (steps, length-append, long, length-drop)
 
-  exact : (n : ℕ) → parts_of text ≡ Some (plain_parts text whole)
-      → n ≡ in_base_16 (take whole text) (drop (whole + 1) text)
-      → n ≡ digits_value 16 (take whole text ++ drop (whole + 1) text)
-  exact n parts e =
-      let w = plain_parts text whole in
-      let found = digits_some text w (sym (ap (option_map saturated_parts) parts)) in
-      grind (arith, ints, nat_tests, number_written, at_most, digits_value_is)
+  plain : (fraction n : ℕ) → parts_of text ≡ Some (plain_parts text whole) → length (drop (whole + 1) text) ≡ fraction
+      → n ≡ digits_value 16 (take whole text ++ drop (whole + 1) text) % 2 ^ (4 * k)
+      → IsPlainText text (record { whole = whole; fraction = fraction; number = n })
+  plain fraction n parts size e =
+      let all = digits_some text (plain_parts text whole) (sym (ap (option_map saturated_parts) parts)) in
+      record {
+        parts = parts;
+        whole = long text whole digits;
+        fraction = size;
+        few = omega (arith, at_most);
+        number = e ∙ mod-eq_of_lt (digits_fit k _ all at_most);
+      }
 
   pub plain_whole : 0 < whole → drop whole text ≡ []
       → IsPlainText text (record { whole = whole; fraction = 0; number = number })
   plain_whole some none =
       let following : drop (whole + 1) text ≡ [] = sym (drop-drop 1 whole text) ∙ ap (drop 1) none in
-      let parts = parts_whole text whole digits some none in
-      record {
-        parts = parts;
-        whole = long text whole digits;
-        fraction = rw following refl;
-        few = omega (arith, at_most);
-        number = exact number parts (rw following numbered);
-      }
+      plain 0 number (parts_whole text whole digits some none) (ap length following)
+      (rw (following, append-nil) numbered)
 
   pub plain_point : (rest : List ℕ) (fraction more : ℕ) → whole < length text → get_or text whole 0 ≡ decimal_point
       → rest ≡ drop (whole + 1) text → fraction ≡ prefix_len is_ascii_digit rest → 0 < fraction → length rest ≤ fraction
-      → more ≡ digits_value_after 16 number (take fraction rest) % 2 ^ 64
+      → more ≡ digits_value_after 16 number (take fraction rest) % 2 ^ (4 * k)
       → IsPlainText text (record { whole = whole; fraction = fraction; number = more })
   plain_point rest fraction more in_text byte rest_is digits' some all n =
       let following = sym rest_is in
-      let most = prefix_len-le-length is_ascii_digit rest in
-      let parts =
-      parts_point text whole digits in_text byte (rw following (omega (arith, all, digits', most)))
-      (rw following (omega (arith, some, digits', most))) in
-      record {
-        parts = parts;
-        whole = long text whole digits;
-        fraction = rw following (omega (arith, all, digits', most));
-        few = omega (arith, at_most);
-        number =
-            exact more parts
-            (rw following
-            (fraction_numbered (take whole text) rest number more numbered
-            (n ∙ ap (λ t. digits_value_after 16 number t % 2 ^ 64) (take_all fraction rest all))));
-      }
-
--- eight bytes at a time
-all_counted : (text : List ℕ) → AllDigits 10 text → prefix_len is_ascii_digit text ≡ length text
-all_counted text h = ap (prefix_len is_ascii_digit) (sym (append-nil text)) ∙ omega (arith, prefix_len-run text [] h)
-
-pub plain_prefix : (text : List ℕ) (number : ℕ) → IsDotted text (record { number = number; fraction = None })
-    → 8 ≤ length text → length text ≤ 32
-    → IsPlainText text (record { whole = length text; fraction = 0; number = number })
-plain_prefix text number p some few =
-    grind (arith, take_all, drop_all, all_counted, parts_whole, long, append-nil, mod-eq_of_lt, digits_fit)
-
-pub plain_prefix_point : (text : List ℕ) (number n : ℕ) → IsDotted text (record { number = number; fraction = Some n })
-    → 0 < n → length text ≤ 33
-    → IsPlainText text (record { whole = length text - (n + 1); fraction = n; number = number })
-plain_prefix_point text number n p some few =
-    let whole = length text - (n + 1) in
-    let last : length text - n ≡ whole + 1 = omega (arith, p.point.0) in
-    let digits : AllDigits 10 (take whole text ++ drop (whole + 1) text) = rw last at p.digits in
-    let long : length (take whole text) ≡ whole = length-take-le whole text (omega arith) in
-    let back : length (drop (whole + 1) text) ≡ n = omega (arith, length-drop (whole + 1) text, p.point.0) in
-    let stop : prefix_len is_ascii_digit (drop whole text) ≡ 0 = grind (arith, prefix_len-drop_no) in
-    let counted : whole ≡ prefix_len is_ascii_digit text =
-    omega (
-      arith,
-      ap (prefix_len is_ascii_digit) (take-append-drop whole text),
-      prefix_len-run (take whole text) (drop whole text) (digits_left (take whole text) (drop (whole + 1) text) digits),
-      stop,
-      long,
-    ) in
-    let size : length (take whole text ++ drop (whole + 1) text) ≤ 32 = grind (arith, length-append, long) in
-    grind (arith, ints, nat_tests, parts_point, all_counted, digits_right, long, mod-eq_of_lt, digits_fit)
+      let size : length rest ≡ fraction = omega (arith, all, digits', prefix_len-le-length is_ascii_digit rest) in
+      plain fraction more
+      (parts_point text whole digits in_text byte (rw following (omega (arith, size, digits')))
+      (rw following (omega (arith, some, size))))
+      (rw following size)
+      (rw following (fraction_numbered (2 ^ (4 * k)) (take whole text) rest number more numbered
+      (n ∙ ap (λ t. digits_value_after 16 number t % 2 ^ (4 * k)) (take_all fraction rest all))))
 
 -- a value of more digits than fit in place allocates
 pub wide_allocates : (reading : Result Unsigned ReadError) (bytes : List ℕ) (len most : ℕ) (b : Bounds)
@@ -337,18 +317,8 @@ module _ (whole fraction number : ℕ) (ds : List ℕ) (bcd : IsBcd number (whol
           → ((es : List ℕ) → length es ≡ len → len ≤ k → AllBelowBase 10 es
           → number * 2 ^ (4 * zeros) % 2 ^ (4 * k) ≡ number_from_digits 16 es * 16 ^ (k - len) → F es)
           → F (middle (length ds - (k - zeros)) (length ds - trailing_zeros width number / 4) ds)
-      bcd_inner F zeros len z l holds =
-          let start = length ds - (k - zeros) in
-          let end = length ds - trailing_zeros width number / 4 in
-          let inner = middle start end ds in
-          let places : k - zeros ≤ length ds = omega (arith, z, found.0) in
-          let n : IsNonzeroRange ds start end = rw z found.1 in
-          let most : zeros ≤ k = omega (arith, z, size, leading_le (bits width) number) in
-          let moved =
-          middle_number ds k number zeros start end bcd.digits bcd.number n (omega (arith, places, most))
-          (omega (arith, places, most)) in
-          let long : end - start ≡ len = omega (arith, l, n.ordered, n.within, places) in
-          grind (arith, ints, nat_tests, middle_length, long, middle_below)
+      bcd_inner F skipped len z l holds =
+          grind (steps, found, leading_le, middle_number, within, middle_length, middle_below)
 
       pub bcd_value : (zeros len : ℕ) (bytes : List ℕ) (b : Bounds) → zeros ≡ leading_zeros width number / 4
           → len ≡ (k - zeros) - trailing_zeros width number / 4
@@ -419,7 +389,7 @@ module _ (text : List ℕ) (p : PlainText ℕ) (plain : IsPlainText text p) wher
   few_digits = omega (arith, plain.few, plain.whole, plain.fraction, length-append w.whole w.fraction)
 
   pub number_fits : p.number < 2 ^ 128
-  number_fits = rw plain.number (digits_fit (w.whole ++ w.fraction) digits plain.few)
+  number_fits = rw plain.number (digits_fit 32 (w.whole ++ w.fraction) digits plain.few)
 
   -- reading gives their value
   pub plain_read : read text ≡ Ok (value_of_first p.whole plain_digits)

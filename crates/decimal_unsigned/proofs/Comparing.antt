@@ -1,5 +1,5 @@
 -- The order and the equality of two numbers, by their digits.
-use Rattle.decimal_unsigned.proofs.Common.{nat_tests, ◌≡◌, ℕ, zero, suc, ◌+◌, ◌-◌, ◌*◌, ◌^◌, ◌<◌, ◌≤◌, ◌%◌, ◌/◌, List, [], ◌∷◌, ◌++◌, length, get_or, drop, take, replicate, refl, sym, ◌∙◌, ap, arith, ◌⊎◌, inl, inr, min, ℤ, ◌<ℤ◌, nat_cmp, mul-le-mul_right, pow-le-pow_right, ints, recursion_from_All, number_lt, number_from_digits, AllBelowBase, offset, offset_is, IsStored, All, slice_cmp, below_sixteen, below_take, below_drop, length-drop, length-take-le, length-append, length-replicate, take-append-drop, Unsigned, IsValue, common_steps, steps, subst, pos, negsuc, ◌+ℤ◌, ◌-ℤ◌, ◌≤ℤ◌, cases_lt, Bool, true, false, text, read, digit, first, last}
+use Rattle.decimal_unsigned.proofs.Common.{nat_tests, ◌≡◌, ℕ, zero, suc, ◌+◌, ◌-◌, ◌*◌, ◌^◌, ◌<◌, ◌≤◌, ◌%◌, ◌/◌, List, [], ◌∷◌, ◌++◌, length, get_or, drop, take, replicate, refl, sym, ◌∙◌, ap, arith, ◌⊎◌, inl, inr, min, ℤ, ◌<ℤ◌, nat_cmp, mul-le-mul_right, pow-le-pow_right, ints, recursion_from_All, number_lt, number_from_digits, AllBelowBase, offset, offset_is, IsStored, All, slice_cmp, below_sixteen, below_take, below_drop, length-drop, length-take-le, length-append, length-replicate, take-append-drop, Unsigned, IsValue, common_steps, steps, subst, pos, negsuc, ◌+ℤ◌, ◌-ℤ◌, ◌≤ℤ◌, cases_lt, Bool, true, false, text, read, digit, first, last, rules}
 use Rattle.std.specs.declared.cmp.Ordering.{Ordering}
 use Rattle.std.specs.declared.cmp.Ordering.TheVariants.{Less, Equal, Greater}
 use Rattle.std.specs.Ordering.{ordering_then, ordering_reverse, int_cmp}
@@ -16,7 +16,6 @@ use Rattle.decimal_unsigned.proofs.Values.{value_of_view, number_of-lt, number_o
 use Rattle.std.proofs.Common.{IsTrue, ◌↔◌}
 use Rattle.decimal_unsigned.proofs.ReadBack.{read_text}
 use Rattle.decimal_unsigned.specs.Unsigned.{same}
-use Rattle.std.proofs.Common.{rules}
 
 -- two numbers compare as two others if each order implies the same order
 pub same_order : (a b x y : ℕ) → (a < b → x < y) → (a ≡ b → x ≡ y) → (b < a → y < x) → nat_cmp a b ≡ nat_cmp x y

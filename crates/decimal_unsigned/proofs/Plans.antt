@@ -1,5 +1,5 @@
 -- The exponent that the code stores, and the value of the parts by the digits that are kept.
-use Rattle.decimal_unsigned.proofs.Common.{◌≡◌, ℕ, ◌+◌, ◌-◌, ◌*◌, ◌^◌, ◌<◌, ◌≤◌, ◌==◌, Bool, true, false, ◌||◌, ◌⊎◌, ◌++◌, length, get_or, refl, sym, ◌∙◌, ap, subst, arith, ℤ, pos, negsuc, ◌+ℤ◌, ◌-ℤ◌, ◌≤ℤ◌, ◌<ℤ◌, int_lt, Option, Some, None, Ok, Err, int_max, int_min, ints, clamps, nat_tests, length-map, length-append, digit_value, AllDigits, digits_value, AllBelowBase, digits_value_is, first, last, Unsigned, number_of, offset_is, IsStored, Literal, limit, multiplied, middle, IsNonzeroRange, mantissa, steps, cond, inl, inr, List, [], ◌∷◌, cases_lt, parts_of, is_outside, view, option_map}
+use Rattle.decimal_unsigned.proofs.Common.{◌≡◌, ℕ, ◌+◌, ◌-◌, ◌*◌, ◌^◌, ◌<◌, ◌≤◌, ◌==◌, Bool, true, false, ◌||◌, ◌⊎◌, ◌++◌, length, get_or, refl, sym, ◌∙◌, ap, subst, arith, ℤ, pos, negsuc, ◌+ℤ◌, ◌-ℤ◌, ◌≤ℤ◌, ◌<ℤ◌, int_lt, Option, Some, None, Ok, Err, int_max, int_min, ints, clamps, nat_tests, length-map, length-append, digit_value, AllDigits, digits_value, AllBelowBase, digits_value_is, first, last, Unsigned, number_of, offset_is, IsStored, Literal, limit, multiplied, middle, IsNonzeroRange, mantissa, steps, cond, inl, inr, List, [], ◌∷◌, cases_lt, parts_of, is_outside, view, option_map, rules}
 use Rattle.std.specs.Prelude.{if◌then◌else◌, IfSome}
 use Rattle.std.proofs.lemmas.Int.Digits.{all_below_base_from_digits}
 use Rattle.decimal_unsigned.proofs.Values.{number_of-pos, first-number_of, last-number_of, number_of_empty, stored_as}
@@ -12,7 +12,6 @@ use Rattle.decimal_unsigned.proofs.Middle.{number_zeros, middle_length, number_o
 use Rattle.decimal_unsigned.specs.Parts.{saturated, saturated_parts, IsSaturated, views}
 use Rattle.decimal_unsigned.specs.declared.decimal.parse.parts.Parts.{Parts}
 use Rattle.decimal_unsigned.proofs.GrammarParts.{parts-sound}
-use Rattle.std.proofs.Common.{rules}
 
 -- ---- An exponent of any length, and the saturated exponent that the code stores.
 scaled_outside : (v : Unsigned) (e : ℤ) → (pos 32767 <ℤ e) ⊎ (e <ℤ negsuc 32767)

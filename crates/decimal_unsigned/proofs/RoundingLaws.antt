@@ -1,5 +1,5 @@
 -- Laws of rounding, on values.
-use Rattle.decimal_unsigned.proofs.Common.{◌≡◌, ℕ, ◌-◌, ◌*◌, ◌^◌, ◌<◌, ◌≤◌, sym, subst, arith, Option, Some, ℤ, negsuc, ◌≤ℤ◌, int_max, ints, clamps, nat_tests, pow-add, offset, first, size, unit_at, rounded_number, MultiplesOf1, Trunc, Unsigned, IsValue, rounded, IsRounded, RoundError, UnsignedRoundingMode, unit_pos, trunced, steps}
+use Rattle.decimal_unsigned.proofs.Common.{◌≡◌, ℕ, ◌-◌, ◌*◌, ◌^◌, ◌<◌, ◌≤◌, sym, subst, arith, Option, Some, ℤ, negsuc, ◌≤ℤ◌, int_max, ints, clamps, nat_tests, pow-add, offset, first, size, unit_at, rounded_number, MultiplesOf1, Trunc, Unsigned, IsValue, rounded, IsRounded, RoundError, UnsignedRoundingMode, unit_pos, trunced, steps, rules}
 use Rattle.std.specs.Prelude.{if◌then◌else◌}
 use Rattle.decimal_digits.specs.Rounding.{DigitRoundingFails}
 use Rattle.decimal_digits.specs.declared.rounding.RoundError.TheVariants.{Limit, Memory}
@@ -12,7 +12,6 @@ use Rattle.decimal_unsigned.specs.ValueLaws.{after_rounding, TruncationsCompose,
 use Rattle.decimal_unsigned.proofs.ValueLaws.{below_limit}
 use Rattle.decimal_unsigned.proofs.FirstLast.{first_le}
 use Rattle.decimal_unsigned.proofs.Roundings.{rounded_to-large}
-use Rattle.std.proofs.Common.{rules}
 
 -- ---- The result of a rounding.
 

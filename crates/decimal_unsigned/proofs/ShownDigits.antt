@@ -1,9 +1,8 @@
 -- The digits that a value shows.
-use Rattle.decimal_unsigned.proofs.Common.{◌≡◌, ℕ, zero, suc, ◌+◌, ◌-◌, ◌*◌, ◌/◌, ◌%◌, ◌^◌, ◌<◌, List, [], ◌∷◌, ◌++◌, length, drop, min, get_or, refl, inl, inr, sym, ◌∙◌, ap, arith, w16, to_z, of_z, ℤ, pos, negsuc, ◌+ℤ◌, ◌-ℤ◌, ◌≤ℤ◌, ◌<ℤ◌, int_gap, All, ints, by_lt_z, cases_lt, to_z-of_z, digit, length-append, elements, gap_is, IsStored, ◌≤◌, rules}
+use Rattle.decimal_unsigned.proofs.Common.{◌≡◌, ℕ, zero, suc, ◌+◌, ◌-◌, ◌*◌, ◌/◌, ◌%◌, ◌^◌, ◌<◌, List, [], ◌∷◌, ◌++◌, length, drop, min, get_or, refl, inl, inr, sym, ◌∙◌, ap, arith, w16, to_z, of_z, ℤ, pos, negsuc, ◌+ℤ◌, ◌-ℤ◌, ◌≤ℤ◌, ◌<ℤ◌, int_gap, All, ints, by_lt_z, cases_lt, to_z-of_z, digit, length-append, elements, gap_is, IsStored, ◌≤◌, rules, number_of, pow-add}
 use Rattle.std.proofs.lemmas.Grind.{same_number_lists}
 use Rattle.std.proofs.lemmas.List.{get_or_past, nil_from_length}
 use lib.Signed.{mag}
-use Rattle.decimal_digits.specs.Digits.{number_of}
 use Rattle.decimal_digits.specs.Nibbles.{bcd_number, padded, word_nibbles}
 use Rattle.decimal_digits.proofs.LeadingBytes.{get_or-padded, length-padded}
 use Rattle.decimal_digits.proofs.Packing.{rest_at}
@@ -11,7 +10,6 @@ use Rattle.decimal_digits.proofs.Words.{bcd_nibble, cut, word_nibble, zero_word}
 use Rattle.decimal_unsigned.specs.ShownDigits.{digits_down}
 use Rattle.decimal_unsigned.proofs.Values.{digit-number_of-above, digit-number_of-in, digit-number_of-below, high, magnitude_kept}
 use Rattle.std.proofs.Math.Nat.{div-div-eq-div-mul, div-eq_of_lt, pow-le-pow_right}
-use Rattle.std.proofs.lemmas.Nat.{pow-add}
 
 -- ---- A word of digits.
 module _ (word ready : ℕ) (fits : word < 2 ^ 64) where

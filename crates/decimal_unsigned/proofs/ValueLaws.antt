@@ -1,5 +1,5 @@
 -- Laws of trims, and of the parts of a value at a position.
-use Rattle.decimal_unsigned.proofs.Common.{◌≡◌, ℕ, ◌-◌, ◌*◌, ◌%◌, ◌<◌, ◌≤◌, length, sym, ◌∙◌, ap, subst, arith, inl, inr, None, ℤ, pos, ◌≤ℤ◌, unwrap_or, int_max, int_min, pow-le-pow_right, ints, clamps, cases_lt, offset, weight, first, last, number_limit, unit_at, RoundingIncrement, MultiplesOf1, Trunc, no_more_zeros, offset_is, gap_is, Unsigned, IsValue, with_max_position, rounded, text, none-some, with_number, trunced, SplitsAt, steps}
+use Rattle.decimal_unsigned.proofs.Common.{◌≡◌, ℕ, ◌-◌, ◌*◌, ◌%◌, ◌<◌, ◌≤◌, length, sym, ◌∙◌, ap, subst, arith, inl, inr, None, ℤ, pos, ◌≤ℤ◌, unwrap_or, int_max, int_min, pow-le-pow_right, ints, clamps, cases_lt, offset, weight, first, last, number_limit, unit_at, RoundingIncrement, MultiplesOf1, Trunc, no_more_zeros, offset_is, gap_is, Unsigned, IsValue, with_max_position, rounded, text, none-some, with_number, trunced, SplitsAt, steps, rules}
 use Rattle.decimal_digits.specs.Rounding.{rounded_number}
 use Rattle.decimal_digits.proofs.Ends.{last_zero}
 use Rattle.decimal_unsigned.specs.ValueLaws.{trimmed, TrimmedIsNormalForm, IsShortest}
@@ -10,7 +10,6 @@ use Rattle.decimal_unsigned.proofs.FirstLast.{last_of, first_le}
 use Rattle.decimal_unsigned.proofs.ConcatenationLaws.{extent_of, parts_join, parts_number, parts_value}
 use Rattle.decimal_unsigned.proofs.Roundings.{trunc_makes}
 use Rattle.decimal_unsigned.proofs.Lengths.{length-text_whole, length-text_dotted}
-use Rattle.std.proofs.Common.{rules}
 
 -- ---- Trims.
 

@@ -1,6 +1,5 @@
 -- What the digits of a value say of its number, and which digits are stored.
-use Rattle.decimal_unsigned.proofs.Common.{◌≡◌, ℕ, ◌+◌, ◌-◌, ◌*◌, ◌^◌, ◌<◌, ◌≤◌, List, [], length, ◌∙◌, ap, arith, w16, to_z, of_z, ℤ, pos, negsuc, ◌+ℤ◌, ◌-ℤ◌, ◌≤ℤ◌, ◌<ℤ◌, mul-le-mul_right, mul-lt-mul_of_pos_right, pow-add, ints, nat_tests, to_z-of_z, int_gap, number_lt, number_from_digits, AllBelowBase, offset, digit, first, last, size, IsStored, ten_pos, offset_is, gap_is, number_back, first_is, first_zero, steps, ◌%◌, subst, pow-le-pow_right, mul-mod_left, Unsigned, IsValue, sym, no_more_zeros, IsLast}
-use Rattle.std.proofs.Common.{w32}
+use Rattle.decimal_unsigned.proofs.Common.{◌≡◌, ℕ, ◌+◌, ◌-◌, ◌*◌, ◌^◌, ◌<◌, ◌≤◌, List, [], length, ◌∙◌, ap, arith, w16, to_z, of_z, ℤ, pos, negsuc, ◌+ℤ◌, ◌-ℤ◌, ◌≤ℤ◌, ◌<ℤ◌, mul-le-mul_right, mul-lt-mul_of_pos_right, pow-add, ints, nat_tests, to_z-of_z, int_gap, number_lt, number_from_digits, AllBelowBase, offset, digit, first, last, size, IsStored, ten_pos, offset_is, gap_is, number_back, first_is, first_zero, steps, ◌%◌, subst, pow-le-pow_right, mul-mod_left, Unsigned, IsValue, sym, no_more_zeros, IsLast, w32}
 use Rattle.std.specs.Prelude.{slice_index}
 use lib.Signed.{mag}
 use Rattle.decimal_digits.specs.Digits.{number_of, number_at}

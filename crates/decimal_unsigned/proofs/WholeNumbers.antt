@@ -1,8 +1,6 @@
 -- The integer that the digits of a value write.
-use Rattle.decimal_unsigned.proofs.Common.{w16, to_z, of_z, zero, suc, ◌≡◌, ℕ, ◌+◌, ◌-◌, ◌*◌, ◌/◌, ◌%◌, ◌^◌, ◌<◌, ◌≤◌, List, length, get_or, take, drop, refl, sym, ◌∙◌, ap, arith, Ok, Err, ℤ, pos, ◌+ℤ◌, ◌<ℤ◌, nat_tests, mul-mod_left, pow-le-pow_right, ints, length-take-le, take_all, recursion_from_All, number_from_digits, AllBelowBase, offset, weight, leading, offset_is, ten_pos, below_take, no_more_zeros, IsStored, Unsigned, IsValue, Result, All, number_back, below_sixteen, leading_none, steps}
+use Rattle.decimal_unsigned.proofs.Common.{w16, to_z, of_z, zero, suc, ◌≡◌, ℕ, ◌+◌, ◌-◌, ◌*◌, ◌/◌, ◌%◌, ◌^◌, ◌<◌, ◌≤◌, List, length, get_or, take, drop, refl, sym, ◌∙◌, ap, arith, Ok, Err, ℤ, pos, ◌+ℤ◌, ◌<ℤ◌, nat_tests, mul-mod_left, pow-le-pow_right, ints, length-take-le, take_all, recursion_from_All, number_from_digits, AllBelowBase, offset, weight, leading, offset_is, ten_pos, below_take, no_more_zeros, IsStored, Unsigned, IsValue, Result, All, number_back, below_sixteen, leading_none, steps, pow-add, get_or-drop}
 use Rattle.std.proofs.Math.Nat.{mul-div_cancel}
-use Rattle.std.proofs.lemmas.Nat.{pow-add}
-use Rattle.std.proofs.lemmas.List.{get_or-drop}
 use Rattle.std.proofs.lemmas.Int.Digits.{number_more as number_more_digits}
 use Rattle.decimal_digits.specs.Nibbles.{bcd_number}
 use Rattle.decimal_digits.specs.Digits.{number_of, number_at}

@@ -136,55 +136,31 @@ module _ (m n cut b : ℕ) (divides : m % 10 ^ cut ≡ 0) (less : n < 10 ^ cut) 
       size_some (m + n) (omega arith) ∙ (λ i. int_gap (z i) (a i) + 1)
 
   -- so it has no fewer digits than either of them
-  pub size_left : size m ≤ size (m + n)
-  size_left = elim (cases_lt 0 m) [
-    | inr none ↦ grind (arith, ints, clamps, nat_tests)
+  sizes : (size m ≤ size (m + n)) × (size n ≤ size (m + n))
+  sizes = elim (cases_lt 0 m) [
+    | inr none ↦ (grind (arith, ints, clamps, nat_tests), grind (arith, ints, clamps, nat_tests))
     | inl some ↦ elim (cases_lt 0 n) [
-      | inr none ↦ grind (arith, ints, clamps, nat_tests)
+      | inr none ↦ (grind (arith, ints, clamps, nat_tests), grind (arith, ints, clamps, nat_tests))
       | inl more ↦
           let u = upper some in
           let l = lower more in
-          omega (
-            arith,
-            ints,
-            size_some m some,
-            size_joined some more,
-            apart some more,
-            ordered u,
-            ordered l,
-            first_of u,
-            last_of u,
-            last_of l,
-            gap_is (last m) (first m),
-            gap_is (last n) (first m),
-          )
+          let first_m = first_of u in
+          let first_n = first_of l in
+          let last_m = last_of u in
+          let last_n = last_of l in
+          let between = apart some more in
+          let joined = size_joined some more in
+          let size_m = size_some m some in
+          let size_n = size_some n more in
+          (omega (arith, ints, gap_is, ordered u, ordered l), omega (arith, ints, gap_is, ordered u, ordered l))
     ]
   ]
 
+  pub size_left : size m ≤ size (m + n)
+  size_left = sizes.0
+
   pub size_right : size n ≤ size (m + n)
-  size_right = elim (cases_lt 0 n) [
-    | inr none ↦ grind (arith, ints, clamps, nat_tests)
-    | inl more ↦ elim (cases_lt 0 m) [
-      | inr none ↦ grind (arith, ints, clamps, nat_tests)
-      | inl some ↦
-          let u = upper some in
-          let l = lower more in
-          omega (
-            arith,
-            ints,
-            size_some n more,
-            size_joined some more,
-            apart some more,
-            ordered u,
-            ordered l,
-            first_of l,
-            first_of u,
-            last_of l,
-            gap_is (last n) (first n),
-            gap_is (last n) (first m),
-          )
-    ]
-  ]
+  size_right = sizes.1
 
 module _ (n i : ℕ) (e : Extent n) where
   reaches_up : 10 ^ (e.top + i) ≤ n * 10 ^ i

@@ -1,15 +1,15 @@
 //! Plain texts: up to 32 digits, with or without a decimal point, as one packed BCD number.
-ghost use Rattle.std.specs.Prelude.{◌≡◌, ℕ, ◌+◌, ◌%◌, ◌^◌, ◌<◌, ◌≤◌, List, ◌++◌, length, take, IfSome};
+ghost use Rattle.std.specs.Prelude.{◌≡◌, ◌+◌, ◌%◌, ◌^◌, ◌<◌, ◌≤◌, length, take, IfSome};
 ghost use Rattle.std.specs.Char.{is_ascii_digit};
 ghost use Rattle.std.specs.List.{prefix_len};
 ghost use Rattle.std.specs.Str.Parse.{digits_value_after};
 ghost use Rattle.decimal_digits.specs.Nibbles.{wide_leading_bytes};
-ghost use Rattle.decimal_unsigned.specs.PlainTexts.{IsDotted, IsPlainText};
+ghost use Rattle.decimal_unsigned.specs.PlainTexts.{IsReadTo, IsPlainText};
 ghost use Rattle.decimal_unsigned.specs.Reading.{read};
 ghost use Rattle.decimal_unsigned.specs.ScannedDigits.{IsBcdValue};
 
 use super::plan::{Bounds, to_bounds};
-use super::words::{Dotted, ZEROS, read_group};
+use super::words::read_group;
 use decimal_digits::ops::subtract_counts;
 
 /// The length of 32 digits and a decimal point.
@@ -86,80 +86,66 @@ pub fn few_digits(text: &[u8], most: usize) -> Option<PlainText<u64>>
 }
 
 #[inline]
-fn first_group(text: &[u8], count: usize) -> Option<Dotted<u128>>
-    requires enough { 8 ≤ length text.now }
-    requires few { count ≤ 8 }
-    requires some { 0 < count }
-    ensures { IfSome result (IsDotted (take count text.now)) }
+fn count_groups(before: u128, text: &[u8]) -> (usize, u128)
+    ensures within { result.0 ≤ length text.now }
+    ensures digits { IsReadTo (2 ^ 128) before text.now result.0 result.1 }
 {
-    let bytes = text.first_chunk::<8>()?;
-    let unused = 8 * (8 - count);
-    let first = read_group(u64::from_be_bytes(*bytes) >> unused, ZEROS >> unused)?;
-    Some(Dotted {
-        number: first.number as u128,
-        fraction: first.fraction,
-    })
-}
-
-/// Appends a group of eight bytes to a prefix. None if there are two decimal points.
-#[inline]
-fn append_group(prefix: Dotted<u128>, next: Dotted<u64>) -> Option<Dotted<u128>>
-    requires fits { IfSome prefix.fraction (λ n. n < 2 ^ 63) }
-    ensures { IfSome result (λ p. (text group : List ℕ) → IsDotted text prefix → IsDotted group next → length group ≡ 8
-        → IsDotted (text ++ group) p) }
-{
-    let digits = next.number as u128;
-    match (prefix.fraction, next.fraction) {
-        (None, None) => Some(Dotted {
-            number: (prefix.number << 32).wrapping_add(digits),
-            fraction: None,
-        }),
-        (Some(fraction), None) => Some(Dotted {
-            number: (prefix.number << 32).wrapping_add(digits),
-            fraction: Some(fraction + 8),
-        }),
-        (None, Some(fraction)) => Some(Dotted {
-            number: (prefix.number << 28).wrapping_add(digits),
-            fraction: Some(fraction),
-        }),
-        (Some(_), Some(_)) => None,
-    }
-}
-
-#[inline]
-fn many_digits(text: &[u8]) -> Option<Dotted<u128>>
-    requires { 8 ≤ length text.now }
-    ensures { IfSome result (IsDotted text.now) }
-{
-    let count = (text.len() - 1) % 8 + 1;
-    let mut prefix = first_group(text, count)?;
-    let mut rest = &text[count..];
+    let mut number = before;
+    let mut rest = text;
     while let Some((bytes, others)) = rest.split_first_chunk::<8>() {
-        let next = read_group(u64::from_be_bytes(*bytes), ZEROS)?;
-        prefix = append_group(prefix, next)?;
+        let Some(group) = read_group(bytes) else {
+            return (text.len() - rest.len(), number);
+        };
+        number = (number << 32).wrapping_add(group as u128);
         rest = others;
     }
-    Some(prefix)
+    (text.len() - rest.len(), number)
 }
 
+/// Counts digits as `count_digits`, first in groups of eight.
+#[inline]
+fn count_wide(before: u128, text: &[u8]) -> (usize, u128)
+    ensures count { result.0 ≡ prefix_len is_ascii_digit text.now }
+    ensures number { result.1 ≡ digits_value_after 16 before (take result.0 text.now) % 2 ^ 128 }
+{
+    let (groups, mut number) = count_groups(before, text);
+    for i in groups..text.len() {
+        let digit = u64::from(text[i]).wrapping_sub(u64::from(b'0'));
+        if digit > 9 {
+            return (i, number);
+        }
+        number = number.wrapping_mul(16).wrapping_add(digit as u128);
+    }
+    (text.len(), number)
+}
+
+/// Returns the digits as `few_digits`, of a text of up to 32.
 #[inline]
 fn plain_text(text: &[u8]) -> Option<PlainText<u128>>
-    requires enough { 8 ≤ length text.now }
-    requires at_most { length text.now ≤ 33 }
+    requires { length text.now ≤ 33 }
     ensures { IfSome result (IsPlainText text.now) }
 {
-    let Dotted { number, fraction } = many_digits(text)?;
-    match fraction {
-        None if text.len() <= 32 => Some(PlainText {
-            whole: text.len(),
+    let (whole, number) = count_wide(0, text);
+    if whole > 32 {
+        return None;
+    }
+    match &text[whole..] {
+        [] if whole > 0 => Some(PlainText {
+            whole,
             fraction: 0,
             number,
         }),
-        Some(fraction) if fraction > 0 => Some(PlainText {
-            whole: text.len() - (fraction + 1),
-            fraction,
-            number,
-        }),
+        [b'.', rest @ ..] => {
+            let (fraction, number) = count_wide(number, rest);
+            if fraction == 0 || fraction < rest.len() {
+                return None;
+            }
+            Some(PlainText {
+                whole,
+                fraction,
+                number,
+            })
+        }
         _ => None,
     }
 }

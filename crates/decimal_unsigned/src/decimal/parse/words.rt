@@ -1,20 +1,10 @@
-//! Up to eight bytes of a text at once, as a big-endian number.
-ghost use Rattle.std.specs.Prelude.{◌≡◌, ℕ, ◌≤◌, ◌<◌, List, length, IfSome};
+//! Eight bytes of a text at once, as a big-endian number.
+ghost use Rattle.std.specs.Prelude.{◌≡◌, ℕ, ◌≤◌, List, length, IfSome};
 ghost use Rattle.std.specs.Int.Digits.{number_from_digits, AllBelowBase};
-ghost use Rattle.decimal_unsigned.specs.PlainTexts.{bytes_below, zeros, IsDotted};
+ghost use Rattle.std.specs.Str.Parse.{AllDigits, digits_value};
+ghost use Rattle.decimal_unsigned.specs.PlainTexts.{bytes_below};
 
-/// Eight bytes `0`.
-pub const ZEROS: u64 = 0x3030_3030_3030_3030;
-
-/// The digits of a text, one of which may be followed by a decimal point: their number in base 16, modulo 2^128, and
-/// how many of them follow the decimal point.
-#[derive(Clone, Copy)]
-pub struct Dotted<N> {
-    pub number: N,
-    pub fraction: Option<usize>,
-}
-
-/// Returns 0 if each byte is below ten. Else the lowest bit of the result is in the last byte that is not.
+/// Returns 0 if each byte is below ten.
 #[inline]
 fn flag_bytes(bytes: u64) -> u64
     ensures { result ≡ 0 → bytes_below 10 8 bytes }
@@ -34,33 +24,16 @@ fn pack_bytes(bytes: u64) -> u64
     fours - (4_294_967_296 - 65_536) * (fours >> 32)
 }
 
-/// Returns the digits of up to eight bytes, of which one may be a decimal point, or None of any other bytes.
+/// Returns the number in base 16 of eight digits, or None if a byte is not a digit.
 #[inline]
-pub fn read_group(word: u64, all_zeros: u64) -> Option<Dotted<u64>>
-    ensures few { IfSome result (λ g. IfSome g.fraction (λ n. n < 8)) }
-    ensures digits { IfSome result (λ g. (text : List ℕ) → AllBelowBase 256 text → length text ≤ 8
-        → word ≡ number_from_digits 256 text → all_zeros ≡ zeros (length text) → IsDotted text g) }
+pub fn read_group(bytes: &[u8; 8]) -> Option<u64>
+    ensures digits { IfSome result (λ n. AllDigits 10 bytes.now) }
+    ensures number { IfSome result (λ n. n ≡ digits_value 16 bytes.now) }
 {
-    let bytes = word.wrapping_sub(all_zeros);
-    let flags = flag_bytes(bytes);
-    if flags == 0 {
-        return Some(Dotted {
-            number: pack_bytes(bytes),
-            fraction: None,
-        });
+    let values = u64::from_be_bytes(*bytes).wrapping_sub(0x3030_3030_3030_3030);
+    if flag_bytes(values) == 0 {
+        Some(pack_bytes(values))
+    } else {
+        None
     }
-    let following = (flags.trailing_zeros() / 8) as usize;
-    let front = word >> (8 * following);
-    if front % 256 != u64::from(b'.') {
-        return None;
-    }
-    // The bytes without the decimal point.
-    let bytes = (word - ((front - (front >> 8)) << (8 * following))).wrapping_sub(all_zeros >> 8);
-    if flag_bytes(bytes) != 0 {
-        return None;
-    }
-    Some(Dotted {
-        number: pack_bytes(bytes),
-        fraction: Some(following),
-    })
 }

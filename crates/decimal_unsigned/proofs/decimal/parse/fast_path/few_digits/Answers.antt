@@ -8,9 +8,9 @@ pub returns-in-empty-clause-plain : goal.returns-in-empty-clause-plain
 returns-in-empty-clause-plain c =
     let text = c.args.text.now in
     let whole = c.count_digits-whole.result.0 in
-    plain_whole text whole _ (omega arith) (omega arith) c.count_digits-whole.ensures.count
-    c.count_digits-whole.ensures.number
-    c.if-whole-gt0.true (drop_all whole text (omega (arith, c.in-empty.len_below, length-drop whole text)))
+    plain_whole text whole _ 16 (omega arith) (omega arith) (omega arith) c.count_digits-whole.ensures.count
+    c.count_digits-whole.ensures.number c.if-whole-gt0.true
+    (drop_all whole text (omega (arith, c.in-empty.len_below, length-drop whole text)))
 
 -- the decimal point is in the text
 in_text : (c : goal.Else-fraction-rest) → c.count_digits-whole.result.0 < length c.args.text.now
@@ -25,9 +25,9 @@ returns-else-fraction-rest-clause-plain c =
     let whole = c.count_digits-whole.result.0 in
     let fraction = c.count_digits-fraction in
     let byte : get_or text whole 0 ≡ 46 = grind (arith, elements) in
-    plain_point text whole _ (omega arith) (omega arith) c.count_digits-whole.ensures.count
-    c.count_digits-whole.ensures.number _
-    fraction.result.0 _ (in_text c) byte (after_byte text whole) fraction.ensures.count (omega arith)
+    plain_point text whole _ 16 (omega arith) (omega arith) (omega arith) c.count_digits-whole.ensures.count
+    c.count_digits-whole.ensures.number _ fraction.result.0 _ (in_text c) byte (after_byte text whole)
+    fraction.ensures.count (omega arith)
     c.if-fraction-rest.false fraction.ensures.number
 
 pub returns-else-fraction-rest-clause-few : goal.returns-else-fraction-rest-clause-few

@@ -1,20 +1,30 @@
-use Rattle.decimal_unsigned.proofs.Common.{arith, subst}
-use Rattle.decimal_unsigned.specs.PlainTexts.{IsDotted}
-use Rattle.decimal_unsigned.proofs.BcdValues.{plain_prefix, plain_prefix_point}
+use Rattle.decimal_unsigned.proofs.Common.{elements, ◌≡◌, ◌-◌, ◌<◌, length, get_or, drop, arith, length-take, length-drop}
+use Rattle.std.proofs.lemmas.List.{drop_all}
+use Rattle.decimal_unsigned.proofs.BcdValues.{plain_whole, plain_point, after_byte}
 use Rattle.decimal_unsigned.proofs.decimal.parse.fast_path.plain_text.Goals as goal
 
-pub returns-in-None : goal.returns-in-None
-returns-in-None c =
-    let p = c.in_ok-number.field-0 in
-    plain_prefix c.args.text.now p.number
-    (subst (λ f. IsDotted c.args.text.now (record { number = p.number; fraction = f })) c.in-None.is
-    c.in_ok-number.ensures)
-    (omega arith) (omega arith)
+pub returns-in-empty : goal.returns-in-empty
+returns-in-empty c =
+    let text = c.args.text.now in
+    let whole = c.count_wide-whole.result.0 in
+    plain_whole text whole _ 32 (omega arith) (omega arith) (omega arith) c.count_wide-whole.ensures.count
+    c.count_wide-whole.ensures.number c.if-whole-gt0.true
+    (drop_all whole text (omega (arith, c.in-empty.len_below, length-drop whole text)))
 
-pub returns-in-Some : goal.returns-in-Some
-returns-in-Some c =
-    let p = c.in_ok-number.field-0 in
-    plain_prefix_point c.args.text.now p.number c.in-Some.fraction
-    (subst (λ f. IsDotted c.args.text.now (record { number = p.number; fraction = f })) c.in-Some.is
-    c.in_ok-number.ensures)
-    (omega arith) (omega arith)
+-- the decimal point is in the text
+in_text : (c : goal.Else-fraction-rest) → c.count_wide-whole.result.0 < length c.args.text.now
+in_text c =
+    let text = c.args.text.now in
+    let whole = c.count_wide-whole.result.0 in
+    omega (arith, c.in-46.len_at_least, length-take (length text - whole) (drop whole text), length-drop whole text)
+
+pub returns-else-fraction-rest : goal.returns-else-fraction-rest
+returns-else-fraction-rest c =
+    let text = c.args.text.now in
+    let whole = c.count_wide-whole.result.0 in
+    let fraction = c.count_wide-fraction in
+    let byte : get_or text whole 0 ≡ 46 = grind (arith, elements) in
+    plain_point text whole _ 32 (omega arith) (omega arith) (omega arith) c.count_wide-whole.ensures.count
+    c.count_wide-whole.ensures.number _ fraction.result.0 _ (in_text c) byte (after_byte text whole)
+    fraction.ensures.count (omega arith)
+    c.if-fraction-rest.false fraction.ensures.number

@@ -1,6 +1,6 @@
 use Rattle.decimal_unsigned.proofs.Common.{arith, refl, ints}
 use Rattle.std.specs.Int.{w128}
-use Rattle.decimal_digits.proofs.WideBytes.{wide_bytes_encode}
+use Rattle.decimal_digits.proofs.LeadingBytes.{wide_bytes_encode}
 use Rattle.decimal_unsigned.proofs.BcdValues.{few_digits, number_fits, plain_bcd, plain_read, bcd_sizes, bcd_value}
 use Rattle.decimal_unsigned.proofs.decimal.parse.fast_path.wide_bcd_value.Goals as goal
 
