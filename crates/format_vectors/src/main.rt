@@ -13,9 +13,8 @@ use fixed_decimal::{Decimal, ParseError, Writeable};
 use locale_data::{PluralRuleType, PluralRulesError, locale, plural_rules_of};
 use plural_rules::PluralOperands;
 use std::alloc::Global;
-use std::io;
 use std::process::ExitCode;
-use test_support::LimitedSink;
+use test_support::{LimitedSink, check_rows};
 
 const STRATEGIES: &[(&str, GroupingStrategy)] = &[
     ("auto", GroupingStrategy::Auto),
@@ -114,30 +113,6 @@ fn holds(alloc: Global, row: &str) -> Option<bool> {
     }
 }
 
-/// Checks the rows of a text, and prints their numbers.
-fn check_lines<R: AllocGlobal + Print>(rt: &R, text: &str) -> ExitCode {
-    let (mut hold, mut fail) = (0u64, 0u64);
-    for (index, line) in text.lines().enumerate() {
-        if line.is_empty() || line.starts_with('#') {
-            continue;
-        }
-        if holds(rt.alloc(), line) == Some(true) {
-            hold = hold.saturating_add(1);
-        } else {
-            fail = fail.saturating_add(1);
-            let _ = println!(rt; "line {}: {line}", index.saturating_add(1));
-        }
-    }
-    if println!(rt; "{hold} rows hold, {fail} fail").is_ok() && fail == 0 {
-        ExitCode::SUCCESS
-    } else {
-        ExitCode::FAILURE
-    }
-}
-
 fn main(rt: HostRuntime) -> ExitCode {
-    match io::read_to_string(rt.alloc(), rt.reader()) {
-        Ok(text) => check_lines(&rt, text.as_str()),
-        Err(_) => ExitCode::FAILURE,
-    }
+    check_rows(&rt, |alloc, row| holds(alloc, row))
 }

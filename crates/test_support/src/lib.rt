@@ -12,6 +12,7 @@ mod joins;
 mod limited_sink;
 mod limited_store;
 mod rounds;
+mod rows;
 mod runs;
 mod value;
 
@@ -25,5 +26,6 @@ pub use joins::{Join, Joined, Joins};
 pub use limited_sink::{LimitedSink, displays, shows};
 pub use limited_store::{CountingStore, LimitedStore};
 pub use rounds::{RoundedResult, Rounding, RoundingMethod, Rounds, rounded, rounding_methods};
+pub use rows::check_rows;
 pub use runs::expand_runs;
 pub use value::{Value, has_text, parse_outcome};
