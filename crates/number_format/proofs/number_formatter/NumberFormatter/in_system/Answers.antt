@@ -19,7 +19,7 @@ returns-clause-ok c =
       symbols =
           c.with_sizes-symbols.ensures
           ∙ (λ i. record (c.with_separators.ensures i) { sizes = sizes i });
-      strategy = c.strategy.ensures;
+      strategy = refl;
       pattern = refl;
       currency = refl;
       percent =
