@@ -23,9 +23,9 @@ returns-clause-ok c =
       pattern = refl;
       currency = refl;
       percent =
-          c.new.ensures ∙ c.percent_text.ensures.value
+          c.new.ensures.text ∙ c.percent_text.ensures.value
           ∙ ap (percent_text c.signs-signs.result.percent) c.is_permille.ensures;
-      separator = c.new-2.ensures ∙ c.text.ensures;
+      separator = c.new-2.ensures.text ∙ c.text.ensures;
       unit_is = c.compact_unit.ensures;
       scale = let fits : FitsSigned w16 o.scale = search rules in simp to_z-of_z;
       notation_is = c.notation.ensures;
