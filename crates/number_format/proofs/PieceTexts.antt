@@ -36,7 +36,9 @@ parts_pieces-more parts i p h e =
     ap parts_pieces (take_more parts i p h)
     ∙ flat_map-append part_pieces (take i parts) (get_or parts i p ∷ [])
     ∙ ap (λ l. parts_pieces (take i parts) ++ l)
-    (flat_map-cons part_pieces (get_or parts i p) [] ∙ append-nil (part_pieces (get_or parts i p)) ∙ ap part_pieces (sym e))
+    (flat_map-cons part_pieces (get_or parts i p) []
+    ∙ append-nil (part_pieces (get_or parts i p))
+    ∙ ap part_pieces (sym e))
 
 -- one magnitude more
 pub first_pieces-more : (k : PartKind) (s : Symbols) (strategy : GroupingStrategy) (v : Unsigned) (i : ℕ)
