@@ -9,7 +9,7 @@ const SIZE: usize = 192;
 
 /// A sink that holds up to 192 bytes, and fails when more are put into it.
 #[derive(Drop)]
-pub(crate) struct Block {
+pub struct Block {
     bytes: [u8; SIZE],
     len: usize,
     failed: bool,
@@ -26,7 +26,7 @@ impl Model for Block {
 impl Block {
     /// Makes an empty block.
     #[inline]
-    pub(crate) fn new() -> Self
+    pub fn new() -> Self
         ensures { result ≡ ([], false) }
     {
         Block {
@@ -38,7 +38,7 @@ impl Block {
 
     /// Returns the bytes that were put, in order.
     #[inline]
-    pub(crate) fn as_bytes(&self) -> &[u8]
+    pub fn as_bytes(&self) -> &[u8]
         ensures { result.now ≡ self.now.0 }
     {
         &self.bytes[..self.len]

@@ -16,6 +16,7 @@ pub mod laws;
 mod reader;
 mod symbols;
 
+pub use block::Block;
 pub use error::SymbolsError;
 pub use formatter::{DecimalFormatter, FormattedAbsolute, FormattedDecimal};
 pub use grouping::{GroupingSizes, GroupingStrategy};

@@ -9,6 +9,7 @@ use Rattle.plural_rules.specs.declared.parse.RulesError.{RulesError}
 use Rattle.plural_rules.specs.declared.parse.RulesError.TheVariants.{Syntax, Limit, Memory}
 use Rattle.plural_rules.specs.declared.parse.state.State.TheVariants as state
 use Rattle.plural_rules.specs.Rules.{RuleValue}
+use Rattle.plural_rules.specs.RulesGrammar.{Grammar}
 use Rattle.plural_rules.specs.RulesParseResult.{Fits, IsParseResult}
 use Rattle.plural_rules.specs.RulesReader.{no_rules}
 use Rattle.plural_rules.proofs.ParserComplete.{grammar-unique}
@@ -55,21 +56,26 @@ numbered_rules number text at = by number.language number.rule_type at
     by None rule_type e = ap are_rules (sym (same_Some _ text e))
     by (Some index) rule_type e = each index rule_type (slice_get PLURAL_RULES index) refl e
 
--- so parsing one fails only out of memory
-pub parsing_succeeds : (number : RulesNumber) (text : List ℕ) → rules_text_at number ≡ Some text → (e : RulesError)
-    → IsParseResult text (Err e) → e ≡ Memory
-parsing_succeeds number text at e fails =
-    by (read true state.Category no_rules text) refl (numbered_rules number text at) e fails
+-- so the text is rules
+pub rules_of_number : (number : RulesNumber) (text : List ℕ) → rules_text_at number ≡ Some text
+    → (rules : List RuleValue) × Grammar text rules × Fits rules
+rules_of_number number text at = by (read true state.Category no_rules text) refl (numbered_rules number text at)
   where
     by : (o : Option (List RuleValue)) → read true state.Category no_rules text ≡ o → is_some o ≡ true
-        → (e : RulesError) → IsParseResult text (Err e) → e ≡ Memory
-    by None read some e fails = absurd (cc)
-    by (Some rules) read some Memory fails = refl
-    by (Some rules) read some (Syntax at) fails =
-        absurd (fails.rejected rules (read-sound (read_fits text rules read).1))
-    by (Some rules) read some (Limit at) fails =
-        let fits = read_fits text rules read in
-        absurd (fails.beyond_limits (subst Fits (grammar-unique (read-sound fits.1) fails.grammar) fits.0))
+        → (rules : List RuleValue) × Grammar text rules × Fits rules
+    by None read some = absurd (cc)
+    by (Some rules) read some = let fits = read_fits text rules read in (rules, read-sound fits.1, fits.0)
+
+-- and parsing it fails only out of memory
+pub parsing_succeeds : (number : RulesNumber) (text : List ℕ) → rules_text_at number ≡ Some text → (e : RulesError)
+    → IsParseResult text (Err e) → e ≡ Memory
+parsing_succeeds number text at e fails = by e fails (rules_of_number number text at)
+  where
+    by : (e : RulesError) → IsParseResult text (Err e) → (rules : List RuleValue) × Grammar text rules × Fits rules
+        → e ≡ Memory
+    by Memory fails is = refl
+    by (Syntax at) fails is = absurd (fails.rejected is.0 is.1)
+    by (Limit at) fails is = absurd (fails.beyond_limits (subst Fits (grammar-unique is.1 fails.grammar) is.2))
 
 -- the rules of the number that a tag has are those of the tag
 pub rules_of_tag : (tag : List ℕ) (rule_type : PluralRuleType) (number : RulesNumber)

@@ -1,10 +1,12 @@
 -- The plural rules of tags.
-use Rattle.std.specs.Prelude.{◌≡◌, ℕ, List, Option, None, Some, Result, Ok, Err, codes, slice_get}
+use Rattle.std.specs.Prelude.{◌≡◌, ℕ, List, Option, None, Some, Result, Ok, Err, IsSomeAnd, codes, slice_get}
 use Rattle.std.specs.Option.{option_map}
+use Rattle.plural_rules.specs.Operands.{Operands}
 use Rattle.plural_rules.specs.Rules.{RuleValue}
-use Rattle.plural_rules.specs.RulesGrammar.{Grammar}
+use Rattle.plural_rules.specs.RulesGrammar.{Grammar, IsCategoryByText}
 use Rattle.plural_rules.specs.RulesParseResult.{IsParseResult}
 use Rattle.plural_rules.specs.declared.parse.RulesError.TheVariants as rules
+use Rattle.plural_rules.specs.declared.rules.PluralCategory.{PluralCategory}
 use Rattle.locale_data.specs.declared.plurals.PluralRulesError.{PluralRulesError}
 use Rattle.locale_data.specs.declared.plurals.PluralRulesError.TheVariants.{UnknownLocale, Memory}
 use Rattle.locale_data.specs.declared.plurals.PluralRuleType.{PluralRuleType}
@@ -57,7 +59,12 @@ IsRulesAt number (Err UnknownLocale) = rules_text_at number ≡ None
 IsRulesAt number (Err Memory) =
     (text : List ℕ) × (rules_text_at number ≡ Some text) × IsParseResult text (Err rules.Memory)
 
--- the same of a tag
+-- the category of a number by those rules
+abbrev pub IsCategoryAt : RulesNumber → Operands → PluralCategory → Type 0
+IsCategoryAt number operands category =
+    IsSomeAnd (rules_text_at number) (λ text. IsCategoryByText text operands category)
+
+-- the rules of a tag, or why there are none
 abbrev pub IsRulesOf : List ℕ → PluralRuleType → Result (List RuleValue) PluralRulesError → Type 0
 IsRulesOf tag rule_type (Ok found) = (text : List ℕ) × IsRulesText tag rule_type text × Grammar text found
 IsRulesOf tag rule_type (Err UnknownLocale) = HasNoRules tag

@@ -44,8 +44,8 @@ pub use patterns::{
     NumberSigns, Pattern, PercentSign, Piece,
 };
 pub use plurals::{
-    LanguageRules, PluralRuleType, PluralRulesError, RulesNumber, plural_rules_at,
-    plural_rules_number, plural_rules_of, plural_rules_text, rules_text_at,
+    LanguageRules, PluralRuleType, PluralRulesError, RulesNumber, plural_category_at,
+    plural_rules_at, plural_rules_number, plural_rules_of, plural_rules_text, rules_text_at,
 };
 pub use plurals_table::{PLURAL_RULES, PLURAL_RULES_TEXTS};
 pub use rows::{Name, Row, TableRange, unpadded};

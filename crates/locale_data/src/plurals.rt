@@ -1,12 +1,13 @@
 //! The plural rules of a tag.
-ghost use Rattle.std.specs.Prelude.{◌≡◌, Some, IfSome, IfNone, IsSomeAnd, Contains};
+ghost use Rattle.std.specs.Prelude.{◌≡◌, Some, None, IfSome, IfNone, IsSomeAnd, Contains};
 ghost use Rattle.std.specs.Option.{option_copied};
-ghost use Rattle.locale_data.specs.Plurals.{rules_text, rules_text_at, IsRulesText, HasNoRules, IsRulesAt, IsRulesOf};
+ghost use Rattle.locale_data.specs.Plurals.{rules_text, rules_text_at, IsRulesText, HasNoRules, IsRulesAt, IsCategoryAt, IsRulesOf};
 
 use crate::plurals_table::{PLURAL_RULES, PLURAL_RULES_TEXTS};
 use crate::rows::{Name, Row, TableRange, part, row_number};
 use crate::symbols_table::LOCALES;
-use plural_rules::PluralRules;
+use fixed_decimal::DigitStore;
+use plural_rules::{PluralCategory, PluralOperands, PluralRules, category_by_text};
 use std::alloc::Global;
 
 /// What plural rules are for.
@@ -135,6 +136,21 @@ pub fn plural_rules_at(alloc: Global, number: RulesNumber) -> Result<PluralRules
         Ok(rules) => Ok(rules),
         // The texts of the table are rules.
         Err(_) => Err(PluralRulesError::Memory),
+    }
+}
+
+/// Returns the plural category of a number by the rules of `rules_text_at`, and `None` if no language has the index. It
+/// does not allocate: the text is read at each call.
+pub fn plural_category_at<D: DigitStore>(
+    rules: RulesNumber,
+    number: &PluralOperands<'_, D>,
+) -> Option<PluralCategory>
+    ensures some { IfSome result (λ category. IsCategoryAt rules number.now category) }
+    ensures none { IfNone result (rules_text_at rules ≡ None) }
+{
+    match rules_text_at(rules) {
+        Some(text) => category_by_text(text, number),
+        None => None,
     }
 }
 

@@ -16,7 +16,7 @@ use Rattle.number_format.specs.declared.formatted_number.WrittenExponent.{Writte
 use Rattle.number_format.specs.declared.text_part.PartKind.{PartKind}
 use Rattle.number_format.specs.declared.text_part.PartKind.TheVariants as kind
 use Rattle.number_format.specs.declared.text_part.TextPart.{TextPart}
-use Rattle.number_format.specs.TextParts.{Piece, Puts, parts_text, pieces_text, pieces_of, parts_pieces, digit_kind, magnitude_pieces, first_pieces, digit_pieces}
+use Rattle.number_format.specs.TextParts.{Piece, Puts, part_pieces, parts_text, pieces_text, pieces_of, parts_pieces, digit_kind, magnitude_pieces, first_pieces, digit_pieces}
 use Rattle.number_format.specs.FormattedNumbers.{exponent_text_if, written_number_text, number_text_if, formatted_number_text, exponent_pieces_if, number_pieces, number_pieces_if, formatted_number_pieces}
 
 pub puts_nil : (a : Option (List Piece)) → Puts a a []
@@ -29,17 +29,16 @@ puts_trans (Some x) None c ps qs p q = absurd p
 puts_trans (Some x) (Some y) None ps qs p q = absurd q
 puts_trans (Some x) (Some y) (Some z) ps qs p q = q ∙ ap (λ l. l ++ qs) p ∙ append_assoc x ps qs
 
-abbrev of_part : TextPart → List Piece
-of_part part = pieces_of part.kind part.text.now
-
 -- one part more
 pub parts_pieces-more : (parts : List TextPart) (i : ℕ) (p : TextPart) → i < length parts → p ≡ get_or parts i p
     → parts_pieces (take (i + 1) parts) ≡ parts_pieces (take i parts) ++ pieces_of p.kind p.text.now
 parts_pieces-more parts i p h e =
     ap parts_pieces (take_more parts i p h)
-    ∙ flat_map-append of_part (take i parts) (get_or parts i p ∷ [])
+    ∙ flat_map-append part_pieces (take i parts) (get_or parts i p ∷ [])
     ∙ ap (λ l. parts_pieces (take i parts) ++ l)
-    (flat_map-cons of_part (get_or parts i p) [] ∙ append-nil (of_part (get_or parts i p)) ∙ ap of_part (sym e))
+    (flat_map-cons part_pieces (get_or parts i p) []
+    ∙ append-nil (part_pieces (get_or parts i p))
+    ∙ ap part_pieces (sym e))
 
 -- one magnitude more
 pub first_pieces-more : (k : PartKind) (s : Symbols) (strategy : GroupingStrategy) (v : Unsigned) (i : ℕ)
@@ -53,18 +52,18 @@ first_pieces-more k s strategy v i =
 abbrev bytes : Piece → List ℕ
 bytes p = p.text
 
-text-append : (a b : List Piece) → pieces_text (a ++ b) ≡ pieces_text a ++ pieces_text b
+pub text-append : (a b : List Piece) → pieces_text (a ++ b) ≡ pieces_text a ++ pieces_text b
 text-append a b = flat_map-append bytes a b
 
-text-of : (k : PartKind) (text : List ℕ) → pieces_text (pieces_of k text) ≡ text
+pub text-of : (k : PartKind) (text : List ℕ) → pieces_text (pieces_of k text) ≡ text
 text-of k [] = refl
 text-of k (b ∷ text) = flat_map-cons bytes (record { kind = k; text = b ∷ text }) [] ∙ append-nil (b ∷ text)
 
 text-of_parts : (parts : List TextPart) → pieces_text (parts_pieces parts) ≡ parts_text parts
 text-of_parts [] = refl
 text-of_parts (p ∷ parts) =
-    ap pieces_text (flat_map-cons of_part p parts)
-    ∙ text-append (of_part p) (parts_pieces parts)
+    ap pieces_text (flat_map-cons part_pieces p parts)
+    ∙ text-append (part_pieces p) (parts_pieces parts)
     ∙ (λ i. text-of p.kind p.text.now i ++ text-of_parts parts i)
     ∙ sym (flat_map-cons (λ (part : TextPart). part.text.now) p parts)
 
@@ -93,7 +92,7 @@ text-of_first k s strategy v (suc n) =
     ∙ sym (one_more s strategy v n)
     ∙ ap (formatted_down s strategy v.hi v.number v.hi) e
 
-text-of_digits : (k : PartKind) (s : Symbols) (strategy : GroupingStrategy) (v : Unsigned)
+pub text-of_digits : (k : PartKind) (s : Symbols) (strategy : GroupingStrategy) (v : Unsigned)
     → pieces_text (digit_pieces k s strategy v) ≡ absolute_text s strategy v
 text-of_digits k s strategy v = text-of_first k s strategy v (shown_count v)
 

@@ -1,7 +1,7 @@
 -- Plain numbers are written as decimals are.
 use Rattle.std.proofs.Common.{◌≡◌, ℕ, true, false, List, [], ◌++◌, refl, sym, ◌∙◌, ap, subst, append-nil}
 use Rattle.std.specs.Prelude.{Option, Some, None, pos, option_and_then, if◌then◌else◌, ◌&&◌, ◌==◌}
-use Rattle.decimal_unsigned.specs.Unsigned.{IsValue}
+use Rattle.decimal_unsigned.specs.Unsigned.{Unsigned, IsValue}
 use Rattle.fixed_decimal.specs.Decimal.{Decimal, with_absolute, negative_or}
 use Rattle.fixed_decimal.specs.declared.variations.Sign.{Sign}
 use Rattle.fixed_decimal.specs.declared.variations.Sign.TheVariants as sign
@@ -11,12 +11,15 @@ use Rattle.decimal_format.specs.Formatted.{absolute_text, formatted}
 use Rattle.decimal_format.specs.Symbols.{Symbols, sign_affixes}
 use Rattle.number_format.specs.declared.digit_options.DigitOptions.{DigitOptions}
 use Rattle.number_format.specs.declared.number_formatter.NumberFormatter.{NumberFormatter}
+use Rattle.number_format.specs.declared.text_part.PartKind.TheVariants as kind
 use Rattle.number_format.specs.DefaultDigits.{AreDefaultDigits}
 use Rattle.number_format.specs.Formatters.{IsFormatterIn, is_always, style_sizes, with_separators}
 use Rattle.number_format.specs.NumberStyles.{plain_pattern}
-use Rattle.number_format.specs.NumberText.{IsNumberText, rounded_in, shown_sign, pattern_around, around_by, number_text}
+use Rattle.number_format.specs.NumberText.{AreNumberPieces, IsNumberText, rounded_in, shown_sign, literal, pattern_around, around_by, pieces_around}
 use Rattle.number_format.specs.PlainTexts.{plain_options, shown_plain, IsPlainText}
 use Rattle.number_format.specs.Scaled.{ScaledValue, scaled_value}
+use Rattle.number_format.specs.TextParts.{Piece, pieces_text, pieces_of, digit_pieces}
+use Rattle.number_format.proofs.PieceTexts.{text-append, text-of, text-of_digits}
 use Rattle.number_format.proofs.ReadBack.{unshifted}
 
 some_same : (x y : ScaledValue) → Some x ≡ Some y → x ≡ y
@@ -73,25 +76,39 @@ is_plainly tag system own g name f made not_always =
     }
 
 -- the sign before the digits
-around_is : (f : NumberFormatter) (own : Symbols) (g : GroupingStrategy) (digits : List ℕ) (s : Sign)
+abbrev pieces_for : NumberFormatter → Symbols → GroupingStrategy → Unsigned → Sign → List Piece
+pieces_for f own g v s =
+    (literal [] ++ (pattern_around (plainly f own g) s).prefix)
+    ++ ((digit_pieces kind.Integer own g v ++ []) ++ ((pattern_around (plainly f own g) s).suffix ++ literal []))
+
+around_is : (f : NumberFormatter) (own : Symbols) (g : GroupingStrategy) (v : Unsigned) (s : Sign)
     → (sign_affixes own (negative_or sign.None s)).suffix ≡ []
-    → ([] ++ (pattern_around (plainly f own g) (negative_or sign.None s)).prefix)
-    ++ ((digits ++ []) ++ ((pattern_around (plainly f own g) (negative_or sign.None s)).suffix ++ []))
+    → pieces_text (pieces_for f own g v (negative_or sign.None s))
     ≡ (sign_affixes own (negative_or sign.None s)).prefix
-    ++ (digits ++ (sign_affixes own (negative_or sign.None s)).suffix)
-around_is f own g digits sign.None e = simp append-nil
-around_is f own g digits sign.Positive e = simp append-nil
-around_is f own g digits sign.Negative e =
-    let left : ([] ++ (pattern_around (plainly f own g) sign.Negative).prefix)
-    ++ ((digits ++ []) ++ ((pattern_around (plainly f own g) sign.Negative).suffix ++ [])) ≡ own.minus.prefix
-    ++ (digits ++ []) = simp append-nil in
-    left ∙ ap (λ l. own.minus.prefix ++ (digits ++ l)) (sym e)
+    ++ (absolute_text own g v ++ (sign_affixes own (negative_or sign.None s)).suffix)
+around_is f own g v sign.None e =
+    let left : pieces_for f own g v sign.None ≡ digit_pieces kind.Integer own g v = simp append-nil in
+    ap pieces_text left ∙ text-of_digits kind.Integer own g v ∙ sym (append-nil (absolute_text own g v))
+around_is f own g v sign.Positive e =
+    let left : pieces_for f own g v sign.None ≡ digit_pieces kind.Integer own g v = simp append-nil in
+    ap pieces_text left ∙ text-of_digits kind.Integer own g v ∙ sym (append-nil (absolute_text own g v))
+around_is f own g v sign.Negative e =
+    let minus = own.minus.prefix in
+    let digits = absolute_text own g v in
+    let left : pieces_for f own g v sign.Negative ≡ pieces_of kind.MinusSign minus
+    ++ digit_pieces kind.Integer own g v = simp append-nil in
+    ap pieces_text left
+    ∙ text-append (pieces_of kind.MinusSign minus) (digit_pieces kind.Integer own g v)
+    ∙ (λ i. text-of kind.MinusSign minus i ++ text-of_digits kind.Integer own g v i)
+    ∙ ap (λ l. minus ++ l) (sym (append-nil digits))
+    ∙ ap (λ l. minus ++ (digits ++ l)) (sym e)
 
 of_plainly : (f : NumberFormatter) (own : Symbols) (g : GroupingStrategy) (v : Decimal) (text : List ℕ)
     → IsValue v.absolute → (sign_affixes own (shown_plain v).sign).suffix ≡ []
     → IsNumberText (plainly f own g) v text → text ≡ formatted own g (shown_plain v)
-of_plainly f own g v text valid no_suffix is =
+of_plainly f own g v text valid no_suffix of_pieces =
     let p = plainly f own g in
+    let is : AreNumberPieces p v of_pieces.0 = of_pieces.1 in
     let shown : Some (scaled_value v (pos 0)) ≡ Some is.number =
     sym (ap (λ x. option_and_then (rounded_in f.notation None) (with_absolute v x)) (unshifted v.absolute valid))
     ∙ is.number_is in
@@ -100,11 +117,12 @@ of_plainly f own g v text valid no_suffix is =
     let before : is.unit_of.prefix.now ≡ [] = is.texts.1.0 in
     let after : is.unit_of.suffix.now ≡ [] = is.texts.1.1 in
     let s = negative_or sign.None v.sign in
-    is.value
-    ∙ (λ i. number_text p (number i) (around_by p (shown_sign p (number i).significand) (compact i)) is.unit_of)
-    ∙ (λ i. (before i ++ (pattern_around p s).prefix)
-    ++ ((absolute_text own g v.absolute ++ []) ++ ((pattern_around p s).suffix ++ after i)))
-    ∙ around_is f own g (absolute_text own g v.absolute) v.sign no_suffix
+    of_pieces.2
+    ∙ ap pieces_text (is.value
+    ∙ (λ i. pieces_around p (number i) (around_by p (shown_sign p (number i).significand) (compact i)) is.unit_of)
+    ∙ (λ i. (literal (before i) ++ (pattern_around p s).prefix)
+    ++ ((digit_pieces kind.Integer own g v.absolute ++ []) ++ ((pattern_around p s).suffix ++ literal (after i)))))
+    ∙ around_is f own g v.absolute v.sign no_suffix
 
 pub plain_text : (tag system : List ℕ) (own : Symbols) (g : GroupingStrategy) (name : Option (List ℕ))
     (f : NumberFormatter) (v : Decimal) (text : List ℕ) → IsPlainText tag system own g name f v text

@@ -1,11 +1,10 @@
 -- The digits that ECMA-402 has for a style and a notation where none are given.
-use Rattle.std.specs.Prelude.{◌≡◌, ℕ, ◌⊎◌, Bool, true, false, if◌then◌else◌, Option, Some, None, List}
+use Rattle.std.specs.Prelude.{◌≡◌, ℕ, Bool, true, false, if◌then◌else◌, Option, Some, None, List}
 use Rattle.decimal_digits.specs.declared.rounding.UnsignedRoundingMode.TheVariants.{HalfExpand}
 use Rattle.fixed_decimal.specs.declared.rounding.SignedRoundingMode.TheVariants.{Unsigned}
 use Rattle.locale_data.specs.Currencies.{currency_with, digits_of}
 use Rattle.number_format.specs.declared.digit_options.DigitOptions.{DigitOptions}
 use Rattle.number_format.specs.declared.digit_options.TrailingZeros.TheVariants as zeros
-use Rattle.number_format.specs.declared.error.DigitOptionsError.{DigitOptionsError}
 use Rattle.number_format.specs.declared.number_options.CurrencyUsage.{CurrencyUsage}
 use Rattle.number_format.specs.declared.number_options.CurrencyUsage.TheVariants as usage
 use Rattle.number_format.specs.declared.number_options.NumberNotation.{NumberNotation}
@@ -17,7 +16,7 @@ use Rattle.number_format.specs.declared.settings.DigitDefaults.{DigitDefaults}
 use Rattle.number_format.specs.declared.settings.DigitSettings.{DigitSettings}
 use Rattle.number_format.specs.declared.settings.RoundingPriority.TheVariants as priority
 use Rattle.number_format.specs.Increments.{is_increment}
-use Rattle.number_format.specs.Resolved.{IsResolved, counts, resolve_error}
+use Rattle.number_format.specs.Resolved.{IsResolved, counts}
 
 abbrev pub is_compact : NumberNotation → Bool
 is_compact (notation.Compact length) = true
@@ -78,15 +77,9 @@ pub record IsDefault (o : NumberOptions) (d : DigitDefaults) : Type 0 where
   pub fraction : counts d.fraction.min d.fraction.max ≡ fraction_digits o.style
   pub compact : d.is_compact ≡ is_compact o.notation
 
--- SetNumberFormatDigitOptions fails, which it does for no style and no notation
-abbrev pub CannotResolve : NumberOptions → Type 0
-CannotResolve o =
-    (d : DigitDefaults) × IsDefault o d
-    × ((e : DigitOptionsError) × (resolve_error (no_settings (increment o)) d ≡ Some e))
-
 -- the digits that are shown: all of them, or those that SetNumberFormatDigitOptions resolves without options
 abbrev pub AreDefaultDigits : NumberOptions → Option DigitOptions → Type 0
-AreDefaultDigits o None = (shows_all_digits o ≡ true) ⊎ CannotResolve o
+AreDefaultDigits o None = shows_all_digits o ≡ true
 AreDefaultDigits o (Some digits) =
     (shows_all_digits o ≡ false)
     × ((d : DigitDefaults) × IsDefault o d × IsResolved (no_settings (increment o)) d digits)

@@ -48,11 +48,6 @@ use Rattle.number_format.specs.NumberStyles.{plain_pattern, percent_text, text_o
 
 -- ---- What options say by themselves.
 
--- in compact notation `Auto` is `Min2`
-abbrev pub strategy_of : NumberNotation → GroupingStrategy → GroupingStrategy
-strategy_of (notation.Compact words) grouping.Auto = grouping.Min2
-strategy_of other strategy = strategy
-
 -- the compact patterns: those of currencies are short
 abbrev pub compact_style : NumberStyle → NumberNotation → Option CompactStyle
 compact_style (style.Currency c) (notation.Compact words) = Some compact.Currency
@@ -166,7 +161,7 @@ pub record IsFormatterIn (tag system : List ℕ) (own : Symbols) (o : NumberOpti
       ≡ record (with_separators own style_parts.decimal style_parts.grouping) {
         sizes = style_sizes style_parts.pattern o.grouping own.sizes;
       }
-  pub strategy : f.strategy ≡ strategy_of o.notation o.grouping
+  pub strategy : f.strategy ≡ o.grouping
   pub pattern : f.pattern ≡ style_parts.pattern
   pub currency : f.currency ≡ style_parts.currency
   pub percent : f.percent.text.now ≡ percent_text signs.percent (is_permille o.style)

@@ -1,18 +1,18 @@
 -- The text of a number: what a formatter writes.
-use Rattle.std.specs.Prelude.{◌≡◌, ℕ, ◌==◌, min, Bool, true, false, not, ◌&&◌, if◌then◌else◌, ◌≤◌, length, IfSome, List, [], ◌∷◌, ◌++◌, Option, Some, None, option_and_then, unsigned_abs, ℤ, pos, ◌+ℤ◌, int_lt}
+use Rattle.std.specs.Prelude.{◌≡◌, ℕ, ◌==◌, min, Bool, true, false, not, ◌&&◌, if◌then◌else◌, ◌≤◌, ◌⊎◌, length, IfSome, IsSomeAnd, List, [], ◌∷◌, ◌++◌, Option, Some, None, option_and_then, unsigned_abs, ℤ, pos, ◌+ℤ◌, int_lt}
 use Rattle.std.specs.Int.{int_max, int_min}
 use Rattle.decimal_digits.specs.Number.{first}
+use Rattle.decimal_digits.specs.declared.rounding.RoundingIncrement.TheVariants.{MultiplesOf25}
 use Rattle.decimal_unsigned.specs.Unsigned.{Unsigned, integer_value}
+use Rattle.decimal_unsigned.specs.declared.decimal.TheConstants.{INLINE_DIGITS}
 use Rattle.decimal_unsigned.specs.Edits.{multiplied_pow10, padded_start}
 use Rattle.fixed_decimal.specs.Decimal.{Decimal, with_absolute, displayed_sign}
+use Rattle.fixed_decimal.specs.DecimalText.{IsLong}
 use Rattle.fixed_decimal.specs.declared.variations.Sign.{Sign}
 use Rattle.fixed_decimal.specs.declared.variations.Sign.TheVariants as sign
 use Rattle.decimal_format.specs.declared.grouping.GroupingStrategy.TheVariants.{Never}
-use Rattle.decimal_format.specs.Formatted.{absolute_text}
 use Rattle.decimal_format.specs.Symbols.{sign_affixes}
 use Rattle.plural_rules.specs.Operands as operands
-use Rattle.plural_rules.specs.Rules.{RuleValue, category_of}
-use Rattle.plural_rules.specs.RulesGrammar.{Grammar}
 use Rattle.plural_rules.specs.declared.rules.PluralCategory.{PluralCategory}
 use Rattle.locale_data.specs.declared.compact.CompactAffix.{CompactAffix}
 use Rattle.locale_data.specs.declared.compact.CompactAffixes.{CompactAffixes}
@@ -25,7 +25,7 @@ use Rattle.locale_data.specs.declared.patterns.Piece.{Piece}
 use Rattle.locale_data.specs.declared.patterns.Piece.TheVariants as piece
 use Rattle.locale_data.specs.Compact.{HasAffixes, IsShortAffix, IsUnit}
 use Rattle.locale_data.specs.Patterns.{literal_text, affixes_of}
-use Rattle.locale_data.specs.Plurals.{rules_text_at}
+use Rattle.locale_data.specs.Plurals.{IsCategoryAt}
 use Rattle.number_format.specs.declared.digit_options.DigitOptions.{DigitOptions}
 use Rattle.number_format.specs.declared.notation.Notation.{Notation}
 use Rattle.number_format.specs.declared.number_around.NumberAffixes.{NumberAffixes}
@@ -36,7 +36,11 @@ use Rattle.number_format.specs.declared.number_options.ExponentOptions.{Exponent
 use Rattle.number_format.specs.declared.number_options.ExponentSign.{ExponentSign}
 use Rattle.number_format.specs.declared.number_options.ExponentSign.TheVariants as exponent
 use Rattle.number_format.specs.NumberStyles.{currency_text, ends_with_currency, begins_with_currency}
-use Rattle.number_format.specs.TextParts.{parts_text}
+use Rattle.number_format.specs.declared.text_part.PartKind.{PartKind}
+use Rattle.number_format.specs.declared.text_part.PartKind.TheVariants as kind
+use Rattle.number_format.specs.ShownDigits.{base_of}
+use Rattle.number_format.specs.TextParts as parts
+use Rattle.number_format.specs.TextParts.{pieces_text, pieces_of, parts_pieces, digit_pieces}
 use Rattle.number_format.specs.Scaled.{ScaledValue, scaled_value, scaled}
 
 -- ---- The number: scaled, rounded, and split into a significand and an exponent.
@@ -58,67 +62,82 @@ shown_sign f v = displayed_sign f.sign_display v.absolute.number v.sign
 -- ---- Before and after the number.
 
 pub record Around : Type 0 where
-  pub prefix : List ℕ
+  pub prefix : List parts.Piece
   pub has_number : Bool
-  pub suffix : List ℕ
+  pub suffix : List parts.Piece
 
-abbrev pub around : List ℕ → Bool → List ℕ → Around
+abbrev pub around : List parts.Piece → Bool → List parts.Piece → Around
 around prefix has_number suffix = record { prefix = prefix; has_number = has_number; suffix = suffix }
 
--- the text of a sign
+abbrev pub literal : List ℕ → List parts.Piece
+literal text = pieces_of kind.Literal text
+
+-- a sign
 abbrev pub sign_text : NumberFormatter → Sign → List ℕ
 sign_text f s = (sign_affixes f.symbols s).prefix
 
--- the text of a piece of a pattern
-abbrev pub piece_text : NumberFormatter → Piece → List ℕ
-piece_text f piece.Minus = sign_text f sign.Negative
-piece_text f piece.Plus = sign_text f sign.Positive
-piece_text f piece.Percent = f.percent.text.now
-piece_text f piece.Currency = currency_text f.currency
-piece_text f other = literal_text other
+abbrev pub sign_kind : Sign → PartKind
+sign_kind sign.Positive = kind.PlusSign
+sign_kind other = kind.MinusSign
 
-abbrev pub affix_text : NumberFormatter → Affix → List ℕ
-affix_text f a =
-    piece_text f a.first ++ (piece_text f a.second ++ (piece_text f a.third ++ piece_text f a.fourth))
+abbrev pub sign_pieces : NumberFormatter → Sign → List parts.Piece
+sign_pieces f s = pieces_of (sign_kind s) (sign_text f s)
+
+-- a piece of a pattern
+abbrev pub pattern_pieces : NumberFormatter → Piece → List parts.Piece
+pattern_pieces f piece.Minus = sign_pieces f sign.Negative
+pattern_pieces f piece.Plus = sign_pieces f sign.Positive
+pattern_pieces f piece.Percent = pieces_of kind.PercentSign f.percent.text.now
+pattern_pieces f piece.Currency = pieces_of kind.Currency (currency_text f.currency)
+pattern_pieces f other = literal (literal_text other)
+
+abbrev pub affix_pieces : NumberFormatter → Affix → List parts.Piece
+affix_pieces f a =
+    pattern_pieces f a.first
+    ++ (pattern_pieces f a.second ++ (pattern_pieces f a.third ++ pattern_pieces f a.fourth))
 
 -- a space, U+00A0, if a currency needs one beside a digit
-abbrev pub space_if : Bool → List ℕ
-space_if needed = if needed then 194 ∷ 160 ∷ [] else []
+abbrev pub space_if : Bool → List parts.Piece
+space_if needed = if needed then literal (194 ∷ 160 ∷ []) else []
 
 -- a pattern, for a sign
 abbrev pub pattern_around : NumberFormatter → Sign → Around
 pattern_around f s =
     let prefix = (affixes_of f.pattern s).prefix in
     let suffix = (affixes_of f.pattern s).suffix in
-    around (affix_text f prefix ++ space_if (ends_with_currency prefix && f.currency.space_after)) true
-    (space_if (begins_with_currency suffix && f.currency.space_before) ++ affix_text f suffix)
+    around (affix_pieces f prefix ++ space_if (ends_with_currency prefix && f.currency.space_after)) true
+    (space_if (begins_with_currency suffix && f.currency.space_before) ++ affix_pieces f suffix)
 
 abbrev pub is_empty : List ℕ → Bool
 is_empty [] = true
 is_empty (b ∷ bytes) = false
 
-abbrev pub currency_if : NumberFormatter → Bool → List ℕ
-currency_if f has_currency = if has_currency then currency_text f.currency else []
+abbrev pub currency_if : NumberFormatter → Bool → List parts.Piece
+currency_if f has_currency = if has_currency then pieces_of kind.Currency (currency_text f.currency) else []
 
--- the texts of a compact pattern, with the space of a currency beside a digit
-abbrev pub compact_prefix : NumberFormatter → CompactAffix → List ℕ
+abbrev pub compact_word : List ℕ → List parts.Piece
+compact_word text = pieces_of kind.Compact text
+
+-- a prefix or a suffix of a compact pattern, with the space of a currency beside a digit
+abbrev pub compact_prefix : NumberFormatter → CompactAffix → List parts.Piece
 compact_prefix f a =
-    a.before.now ++ (currency_if f a.has_currency
-    ++ (a.after.now ++ space_if (a.has_currency && (is_empty a.after.now && f.currency.space_after))))
+    compact_word a.before.now ++ (currency_if f a.has_currency
+    ++ (compact_word a.after.now
+    ++ space_if (a.has_currency && (is_empty a.after.now && f.currency.space_after))))
 
-abbrev pub compact_suffix : NumberFormatter → CompactAffix → List ℕ
+abbrev pub compact_suffix : NumberFormatter → CompactAffix → List parts.Piece
 compact_suffix f a =
     space_if (a.has_currency && (is_empty a.before.now && f.currency.space_before))
-    ++ (a.before.now ++ (currency_if f a.has_currency ++ a.after.now))
+    ++ (compact_word a.before.now ++ (currency_if f a.has_currency ++ compact_word a.after.now))
 
 -- the sign before the prefix, or after it
-abbrev pub first_sign_text : NumberFormatter → Sign → CompactForm → List ℕ
-first_sign_text f s form.SignLast = []
-first_sign_text f s other = sign_text f s
+abbrev pub first_sign : NumberFormatter → Sign → CompactForm → List parts.Piece
+first_sign f s form.SignLast = []
+first_sign f s other = sign_pieces f s
 
-abbrev pub last_sign_text : NumberFormatter → Sign → CompactForm → List ℕ
-last_sign_text f s form.SignLast = sign_text f s
-last_sign_text f s other = []
+abbrev pub last_sign : NumberFormatter → Sign → CompactForm → List parts.Piece
+last_sign f s form.SignLast = sign_pieces f s
+last_sign f s other = []
 
 abbrev pub has_number : CompactForm → Bool
 has_number form.Literal = false
@@ -127,8 +146,8 @@ has_number other = true
 -- a compact pattern, for a sign
 abbrev pub compact_around : NumberFormatter → Sign → CompactAffixes → Around
 compact_around f s c =
-    around (first_sign_text f s c.form ++ (compact_prefix f c.prefix ++ last_sign_text f s c.form))
-    (has_number c.form) (compact_suffix f c.suffix)
+    around (first_sign f s c.form ++ (compact_prefix f c.prefix ++ last_sign f s c.form)) (has_number c.form)
+    (compact_suffix f c.suffix)
 
 abbrev pub is_plain : CompactForm → Bool
 is_plain form.Plain = true
@@ -148,32 +167,37 @@ pub record AreShort (shown : Option CompactAffixes) (u : UnitAffixes) : Type 0 w
   pub prefix : length u.prefix.now ≤ 255
   pub suffix : length u.suffix.now ≤ 255
 
--- the parts have these texts, with what is written around the whole text
+-- the parts are these pieces, with what is written around the whole text
 pub record AreParts (a : Around) (u : UnitAffixes) (shown : NumberAffixes) : Type 0 where
-  pub prefix : parts_text shown.prefix ≡ u.prefix.now ++ a.prefix
+  pub prefix : parts_pieces shown.prefix ≡ literal u.prefix.now ++ a.prefix
   pub has_number : shown.has_number ≡ a.has_number
-  pub suffix : parts_text shown.suffix ≡ a.suffix ++ u.suffix.now
+  pub suffix : parts_pieces shown.suffix ≡ a.suffix ++ literal u.suffix.now
 
 -- ---- The digits and the exponent.
 
-abbrev pub exponent_sign_text : NumberFormatter → ExponentSign → ℤ → List ℕ
-exponent_sign_text f exponent.Auto e = if int_lt e (pos 0) then sign_text f sign.Negative else []
-exponent_sign_text f exponent.Always e = sign_text f (if int_lt e (pos 0) then sign.Negative else sign.Positive)
-exponent_sign_text f exponent.Never e = []
+abbrev pub exponent_minus : NumberFormatter → List parts.Piece
+exponent_minus f = pieces_of kind.ExponentMinusSign (sign_text f sign.Negative)
+
+abbrev pub exponent_sign : NumberFormatter → ExponentSign → ℤ → List parts.Piece
+exponent_sign f exponent.Auto e = if int_lt e (pos 0) then exponent_minus f else []
+exponent_sign f exponent.Always e =
+    if int_lt e (pos 0) then exponent_minus f
+    else pieces_of kind.ExponentPlusSign (sign_text f sign.Positive)
+exponent_sign f exponent.Never e = []
 
 -- the digits of an exponent: at least the number of them that the options have
 abbrev pub exponent_digits : ExponentOptions → ℤ → Unsigned
 exponent_digits o e = padded_start (integer_value (unsigned_abs e)) (pos (min o.digits 32767))
 
-abbrev pub exponent_part : NumberFormatter → Option ExponentOptions → ℤ → List ℕ
+abbrev pub exponent_part : NumberFormatter → Option ExponentOptions → ℤ → List parts.Piece
 exponent_part f None e = []
 exponent_part f (Some o) e =
-    f.separator.text.now
-    ++ (exponent_sign_text f o.sign e ++ absolute_text f.symbols Never (exponent_digits o e))
+    pieces_of kind.ExponentSeparator f.separator.text.now
+    ++ (exponent_sign f o.sign e ++ digit_pieces kind.ExponentInteger f.symbols Never (exponent_digits o e))
 
-abbrev pub number_part : NumberFormatter → ScaledValue → List ℕ
+abbrev pub number_part : NumberFormatter → ScaledValue → List parts.Piece
 number_part f s =
-    absolute_text f.symbols f.strategy s.significand.absolute ++ exponent_part f f.exponent s.exponent
+    digit_pieces kind.Integer f.symbols f.strategy s.significand.absolute ++ exponent_part f f.exponent s.exponent
 
 -- ---- Compact notation.
 
@@ -203,15 +227,15 @@ IsUnitOf f unit.Permille category u = (u.prefix.now ≡ []) × (u.suffix.now ≡
 -- the patterns by plural categories: that of the significand as it is shown, and around it that of the whole number
 pub record HasCompactTexts (f : NumberFormatter) (style : CompactStyle) (s : ScaledValue)
     (shown : Option CompactAffixes) (u : UnitAffixes) : Type 0 where
-  pub text : List ℕ
-  pub rules : List RuleValue
   pub exponent : ℕ
-  pub listed : rules_text_at f.rules ≡ Some text
-  pub parsed : Grammar text rules
+  pub of_significand : PluralCategory
+  pub of_number : PluralCategory
   pub exponent_is : IsCompactExponent s.exponent exponent
-  pub around_number : HasAffixes f.formats style (compact_magnitude s.significand exponent)
-      (category_of rules (operands.plain s.significand.absolute)) (is_one s.significand) shown
-  pub around_text : IsUnitOf f f.unit (category_of rules (operands.compact s.significand.absolute exponent)) u
+  pub significand_is : IsCategoryAt f.rules (operands.plain s.significand.absolute) of_significand
+  pub around_number : HasAffixes f.formats style (compact_magnitude s.significand exponent) of_significand
+      (is_one s.significand) shown
+  pub number_is : IsCategoryAt f.rules (operands.compact s.significand.absolute exponent) of_number
+  pub around_text : IsUnitOf f f.unit of_number u
 
 abbrev pub AreTexts : NumberFormatter → Option CompactStyle → ScaledValue → Option CompactAffixes → UnitAffixes → Type 0
 AreTexts f None s shown u = (shown ≡ None) × ((u.prefix.now ≡ []) × (u.suffix.now ≡ []))
@@ -219,16 +243,27 @@ AreTexts f (Some style) s shown u = HasCompactTexts f style s shown u
 
 -- ---- The text.
 
-abbrev pub number_text : NumberFormatter → ScaledValue → Around → UnitAffixes → List ℕ
-number_text f s a u =
-    (u.prefix.now ++ a.prefix)
-    ++ ((if a.has_number then number_part f s else []) ++ (a.suffix ++ u.suffix.now))
+abbrev pub pieces_around : NumberFormatter → ScaledValue → Around → UnitAffixes → List parts.Piece
+pieces_around f s a u =
+    (literal u.prefix.now ++ a.prefix)
+    ++ ((if a.has_number then number_part f s else []) ++ (a.suffix ++ literal u.suffix.now))
 
--- the text of a number
-pub record IsNumberText (f : NumberFormatter) (v : Decimal) (text : List ℕ) : Type 0 where
+-- the pieces of a number, with their kinds
+pub record AreNumberPieces (f : NumberFormatter) (v : Decimal) (pieces : List parts.Piece) : Type 0 where
   pub number : ScaledValue
   pub compact : Option CompactAffixes
   pub unit_of : UnitAffixes
   pub number_is : shown_number f v ≡ Some number
   pub texts : AreTexts f f.compact number compact unit_of
-  pub value : text ≡ number_text f number (around_by f (shown_sign f number.significand) compact) unit_of
+  pub value : pieces ≡ pieces_around f number (around_by f (shown_sign f number.significand) compact) unit_of
+
+-- the text of a number: that of its pieces
+abbrev pub IsNumberText : NumberFormatter → Decimal → List ℕ → Type 0
+IsNumberText f v text = (pieces : List parts.Piece) × AreNumberPieces f v pieces × (text ≡ pieces_text pieces)
+
+-- ---- Out of memory.
+
+-- the number has more digits than are kept without an allocation, or is rounded by an increment of 25
+abbrev pub NeedsMemory : NumberFormatter → Decimal → Type 0
+NeedsMemory f v =
+    IsLong INLINE_DIGITS v ⊎ IsSomeAnd f.digits (λ o. base_of o.precision ≡ MultiplesOf25)

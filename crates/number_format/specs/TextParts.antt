@@ -32,8 +32,12 @@ abbrev pub pieces_of : PartKind → List ℕ → List Piece
 pieces_of kind [] = []
 pieces_of kind (b ∷ bytes) = record { kind = kind; text = b ∷ bytes } ∷ []
 
+-- a part as a piece; an empty part is none
+abbrev pub part_pieces : TextPart → List Piece
+part_pieces part = pieces_of part.kind part.text.now
+
 abbrev pub parts_pieces : List TextPart → List Piece
-parts_pieces = flat_map (λ part. pieces_of part.kind part.text.now)
+parts_pieces = flat_map part_pieces
 
 -- the kind of the digit of a magnitude
 abbrev pub digit_kind : PartKind → ℤ → PartKind

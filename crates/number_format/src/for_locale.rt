@@ -1,7 +1,7 @@
 //! Formatters by locale and options.
 ghost use Rattle.std.specs.Prelude.{◌≡◌, IfOk, IfErr};
 ghost use Rattle.locale_data.specs.Formats.{AreFormatsOf};
-ghost use Rattle.number_format.specs.Formatters.{style_sizes, strategy_of, compact_style, compact_unit, exponent_options, currency_sign, is_permille, with_separators, IsWithoutCurrency, IsMoney, IsStyle, IsNotationBy, HasDigits, AreExponents, IsFormatterIn, IsFormatter, HasNoRulesFor, IsFormatterError};
+ghost use Rattle.number_format.specs.Formatters.{style_sizes, compact_style, compact_unit, exponent_options, currency_sign, is_permille, with_separators, IsWithoutCurrency, IsMoney, IsStyle, IsNotationBy, HasDigits, AreExponents, IsFormatterIn, IsFormatter, HasNoRulesFor, IsFormatterError};
 
 use crate::digit_options::DigitOptions;
 use crate::notation::{CompactExponents, Notation};
@@ -43,16 +43,6 @@ fn is_permille(style: NumberStyle) -> bool
 }
 
 impl NumberOptions {
-    // Node differs from ECMA-402: in compact notation `Auto` is `Min2`.
-    fn strategy(&self) -> GroupingStrategy
-        ensures { result ≡ strategy_of self.now.notation self.now.grouping }
-    {
-        match (self.notation, self.grouping) {
-            (NumberNotation::Compact(_), GroupingStrategy::Auto) => GroupingStrategy::Min2,
-            (_, strategy) => strategy,
-        }
-    }
-
     fn compact_style(&self) -> Option<CompactStyle>
         ensures { result ≡ compact_style self.now.style self.now.notation }
     {
@@ -193,7 +183,7 @@ impl NumberFormatter {
         let signs = formats.signs();
         Ok(NumberFormatter {
             symbols,
-            strategy: options.strategy(),
+            strategy: options.grouping,
             pattern: style.pattern,
             percent: TextPart::new(
                 PartKind::PercentSign,

@@ -1,18 +1,20 @@
 //! Formatting of a number.
-ghost use Rattle.std.specs.Prelude.{◌≡◌, ◌≤◌, ℕ, List, length, Some, None, IfOk, IfErr, IsErrOf};
-ghost use Rattle.plural_rules.specs.RulesGrammar.{Grammar};
-ghost use Rattle.locale_data.specs.Plurals.{rules_text_at};
-ghost use Rattle.number_format.specs.FormattedNumbers.{exponent_text, exponent_text_if, formatted_number_text};
-ghost use Rattle.number_format.specs.NumberText.{shown_number, is_one, compact_magnitude, IsCompactExponent, exponent_sign_text, exponent_part, IsUnitOf, rounded_in, HasCompactTexts, AreTexts, AreShort, IsNumberText};
+ghost use Rattle.std.specs.Prelude.{◌≡◌, ◌≤◌, length, Some, None, IfOk, IfErr, IsErrOf, IsSomeAnd};
+ghost use Rattle.decimal_digits.specs.declared.rounding.RoundingIncrement.TheVariants.{MultiplesOf25};
+ghost use Rattle.locale_data.specs.Plurals.{IsCategoryAt};
+ghost use Rattle.number_format.specs.FormattedNumbers.{exponent_pieces, exponent_pieces_if, formatted_number_pieces, formatted_number_text};
+ghost use Rattle.number_format.specs.NumberText.{shown_number, is_one, compact_magnitude, IsCompactExponent, exponent_sign, exponent_part, IsUnitOf, rounded_in, HasCompactTexts, AreTexts, AreShort, AreNumberPieces, IsNumberText, NeedsMemory};
 ghost use Rattle.number_format.specs.Scaled.{scaled_value};
+ghost use Rattle.number_format.specs.ShownDigits.{base_of};
+ghost use Rattle.number_format.specs.TextParts.{part_pieces};
 
 use crate::formatted_number::{FormattedNumber, WrittenExponent};
 use crate::number_formatter::{CompactUnit, NumberFormatter};
 use crate::number_options::{ExponentOptions, ExponentSign};
 use crate::text_part::{PartKind, TextPart};
-use fixed_decimal::{CompactDecimal, Decimal, RoundError, Sign, UnsignedDecimal};
-use locale_data::{CompactAffixes, CompactStyle, UnitAffixes, plural_rules_at};
-use plural_rules::{PluralCategory, PluralOperands, PluralRules};
+use fixed_decimal::{Decimal, DecimalStore, RoundError, Sign, UnsignedDecimal};
+use locale_data::{CompactAffixes, CompactStyle, UnitAffixes, plural_category_at};
+use plural_rules::{PluralCategory, PluralOperands};
 use std::alloc::Global;
 
 /// Why a number is not formatted, and the number, unchanged.
@@ -30,6 +32,11 @@ struct CompactTexts {
     around: Option<CompactAffixes>,
     unit: UnitAffixes,
 }
+
+const NO_UNIT: UnitAffixes = UnitAffixes {
+    prefix: "",
+    suffix: "",
+};
 
 fn is_one(significand: &Decimal) -> bool
     ensures { result ≡ is_one significand.now }
@@ -60,6 +67,8 @@ impl NumberFormatter {
             (λ s. rounded_in self.now.notation self.now.digits value ≡ Some (scaled_value s.0 s.1)) }
         ensures limit { IsErrOf result RoundError.Limit
             → rounded_in self.now.notation self.now.digits value ≡ None }
+        ensures memory { IsErrOf result RoundError.Memory
+            → IsSomeAnd self.now.digits (λ o. base_of o.precision ≡ MultiplesOf25) }
     {
         let Some(digits) = &self.digits else {
             return Ok((value, 0));
@@ -73,6 +82,8 @@ impl NumberFormatter {
     fn shown_number(&self, mut value: Decimal) -> Result<(Decimal, i32), RoundError>
         ensures ok { IfOk result (λ s. shown_number self.now value ≡ Some (scaled_value s.0 s.1)) }
         ensures limit { IsErrOf result RoundError.Limit → shown_number self.now value ≡ None }
+        ensures memory { IsErrOf result RoundError.Memory
+            → IsSomeAnd self.now.digits (λ o. base_of o.precision ≡ MultiplesOf25) }
     {
         if let Err(_) = value.absolute.multiply_pow10(self.scale) {
             return Err(RoundError::Limit);
@@ -80,19 +91,18 @@ impl NumberFormatter {
         self.rounded(value)
     }
 
-    fn plural_rules(&self, alloc: Global) -> Result<PluralRules, RoundError>
-        ensures ok { IfOk result (λ rules. (text : List ℕ) × (rules_text_at self.now.rules ≡ Some text)
-            × Grammar text rules) }
-        ensures err { IfErr result (λ e. e ≡ RoundError.Memory) }
+    fn category(&self, number: &PluralOperands<'_, DecimalStore>) -> PluralCategory
+        ensures { IsCategoryAt self.now.rules number.now result }
     {
-        match plural_rules_at(alloc, self.rules) {
-            Ok(rules) => Ok(rules),
-            Err(_) => Err(RoundError::Memory),
+        match plural_category_at(self.rules, number) {
+            Some(category) => category,
+            // The rules of a formatter are listed.
+            None => PluralCategory::Other,
         }
     }
 
     fn exponent_sign(&self, sign: ExponentSign, exponent: i32) -> TextPart<'_>
-        ensures { result.text.now ≡ exponent_sign_text self.now sign exponent }
+        ensures { part_pieces result ≡ exponent_sign self.now sign exponent }
     {
         let minus = self.symbols.affixes(Sign::Negative).prefix;
         let plus = self.symbols.affixes(Sign::Positive).prefix;
@@ -109,20 +119,16 @@ impl NumberFormatter {
         alloc: Global,
         options: ExponentOptions,
         exponent: i32,
-    ) -> Result<WrittenExponent<'_>, RoundError>
-        ensures ok { IfOk result
-            (λ e. exponent_text self.now.symbols e ≡ exponent_part self.now (Some options) exponent) }
-        ensures err { IfErr result (λ e. e ≡ RoundError.Memory) }
+    ) -> WrittenExponent<'_>
+        ensures { exponent_pieces self.now.symbols result ≡ exponent_part self.now (Some options) exponent }
     {
-        let Ok(mut digits) = UnsignedDecimal::try_from_u32(alloc, exponent.unsigned_abs()) else {
-            return Err(RoundError::Memory);
-        };
+        let mut digits = UnsignedDecimal::try_from_u32(alloc, exponent.unsigned_abs()).unwrap();
         digits.pad_start(options.digits.min(32767) as i16);
-        Ok(WrittenExponent {
-            separator: self.separator,
+        WrittenExponent {
+            separator: TextPart::new(PartKind::ExponentSeparator, self.separator.text),
             sign: self.exponent_sign(options.sign, exponent),
             digits,
-        })
+        }
     }
 
     fn unit(&self, category: PluralCategory) -> UnitAffixes
@@ -130,10 +136,7 @@ impl NumberFormatter {
         ensures short { (length result.prefix.now ≤ 255) × (length result.suffix.now ≤ 255) }
     {
         match self.unit {
-            CompactUnit::Nothing => UnitAffixes {
-                prefix: "",
-                suffix: "",
-            },
+            CompactUnit::Nothing => NO_UNIT,
             CompactUnit::Percent => self.formats.percent_unit(category),
             CompactUnit::Permille => UnitAffixes {
                 prefix: "",
@@ -142,84 +145,61 @@ impl NumberFormatter {
         }
     }
 
-    /// Returns the significand and what is written around it in compact notation.
+    /// Returns what is written around a significand in compact notation.
     fn compact_texts(
         &self,
-        alloc: Global,
         style: CompactStyle,
-        significand: Decimal,
+        significand: &Decimal,
         exponent: i32,
-    ) -> Result<(Decimal, CompactTexts), RoundError>
-        ensures same { IfOk result (λ r. r.0 ≡ significand) }
-        ensures texts { IfOk result (λ r. HasCompactTexts self.now style (scaled_value significand exponent)
-            r.1.around r.1.unit) }
-        ensures short { IfOk result (λ r. AreShort r.1.around r.1.unit) }
-        ensures err { IfErr result (λ e. e ≡ RoundError.Memory) }
+    ) -> CompactTexts
+        ensures texts { HasCompactTexts self.now style (scaled_value significand.now exponent)
+            result.around result.unit }
+        ensures short { AreShort result.around result.unit }
     {
-        let rules = self.plural_rules(alloc)?;
-        let category = rules.category(&PluralOperands::of_decimal(&significand));
-        let is_one = is_one(&significand);
+        let category = self.category(&PluralOperands::of_decimal(significand));
         let exponent = compact_exponent(exponent);
-        let magnitude = magnitude_of(&significand, exponent);
+        let magnitude = magnitude_of(significand, exponent);
         let around = self
             .formats
-            .compact_affixes(style, magnitude, category, is_one);
-        let number = CompactDecimal::from_significand_and_exponent(significand, exponent);
-        let unit = self.unit(rules.category(&PluralOperands::of_compact(&number)));
-        Ok((number.into_significand(), CompactTexts { around, unit }))
+            .compact_affixes(style, magnitude, category, is_one(significand));
+        let number = PluralOperands::of_scaled(&significand.absolute, exponent);
+        let unit = self.unit(self.category(&number));
+        CompactTexts { around, unit }
     }
 
-    /// Returns what is written around a significand, which it returns too.
-    fn texts(
-        &self,
-        alloc: Global,
-        significand: Decimal,
-        exponent: i32,
-    ) -> Result<(Decimal, CompactTexts), RoundError>
-        ensures same { IfOk result (λ r. r.0 ≡ significand) }
-        ensures texts { IfOk result (λ r. AreTexts self.now self.now.compact (scaled_value significand exponent)
-            r.1.around r.1.unit) }
-        ensures short { IfOk result (λ r. AreShort r.1.around r.1.unit) }
-        ensures err { IfErr result (λ e. e ≡ RoundError.Memory) }
+    /// Returns what is written around a significand.
+    fn texts(&self, significand: &Decimal, exponent: i32) -> CompactTexts
+        ensures texts { AreTexts self.now self.now.compact (scaled_value significand.now exponent)
+            result.around result.unit }
+        ensures short { AreShort result.around result.unit }
     {
         match self.compact {
-            Some(style) => self.compact_texts(alloc, style, significand, exponent),
-            None => Ok((
-                significand,
-                CompactTexts {
-                    around: None,
-                    unit: UnitAffixes {
-                        prefix: "",
-                        suffix: "",
-                    },
-                },
-            )),
+            Some(style) => self.compact_texts(style, significand, exponent),
+            None => CompactTexts {
+                around: None,
+                unit: NO_UNIT,
+            },
         }
     }
 
     /// Returns the exponent as it is written, if the notation has one.
-    fn exponent(
-        &self,
-        alloc: Global,
-        exponent: i32,
-    ) -> Result<Option<WrittenExponent<'_>>, RoundError>
-        ensures ok { IfOk result
-            (λ e. exponent_text_if self.now.symbols e ≡ exponent_part self.now self.now.exponent exponent) }
-        ensures err { IfErr result (λ e. e ≡ RoundError.Memory) }
+    fn exponent(&self, alloc: Global, exponent: i32) -> Option<WrittenExponent<'_>>
+        ensures { exponent_pieces_if self.now.symbols result ≡ exponent_part self.now self.now.exponent exponent }
     {
         match self.exponent {
-            Some(options) => Ok(Some(self.written_exponent(alloc, options, exponent)?)),
-            None => Ok(None),
+            Some(options) => Some(self.written_exponent(alloc, options, exponent)),
+            None => None,
         }
     }
 
     fn formatted(&self, alloc: Global, value: Decimal) -> Result<FormattedNumber<'_>, RoundError>
-        ensures ok { IfOk result (λ t. IsNumberText self.now value (formatted_number_text t)) }
+        ensures ok { IfOk result (λ t. AreNumberPieces self.now value (formatted_number_pieces t)) }
         ensures limit { IsErrOf result RoundError.Limit → shown_number self.now value ≡ None }
+        ensures memory { IsErrOf result RoundError.Memory
+            → IsSomeAnd self.now.digits (λ o. base_of o.precision ≡ MultiplesOf25) }
     {
         let (significand, exponent) = self.shown_number(value)?;
-        let written = self.exponent(alloc, exponent)?;
-        let (significand, texts) = self.texts(alloc, significand, exponent)?;
+        let texts = self.texts(&significand, exponent);
         let shown = significand.with_sign_display(self.sign_display);
         let affixes = self.affixes(shown.sign, texts.around, texts.unit);
         Ok(FormattedNumber {
@@ -227,7 +207,7 @@ impl NumberFormatter {
             strategy: self.strategy,
             affixes,
             significand: shown.absolute,
-            exponent: written,
+            exponent: self.exponent(alloc, exponent),
         })
     }
 
@@ -238,12 +218,13 @@ impl NumberFormatter {
     /// The number, unchanged:
     ///
     /// - `Limit`: a digit of the scaled or of the rounded number is above 10^32767 or below 10^-32768.
-    /// - `Memory`: out of memory, for a number of more than `INLINE_DIGITS` digits, by an increment of 25, or for the
-    ///   plural rules of compact notation.
+    /// - `Memory`: out of memory, only for a number of more than `INLINE_DIGITS` digits or by an increment of 25.
     pub fn format(&self, alloc: Global, value: Decimal) -> Result<FormattedNumber<'_>, FormatError>
-        ensures ok { IfOk result (λ t. IsNumberText self.now value (formatted_number_text t)) }
+        ensures pieces { IfOk result (λ t. AreNumberPieces self.now value (formatted_number_pieces t)) }
+        ensures text { IfOk result (λ t. IsNumberText self.now value (formatted_number_text t)) }
         ensures unchanged { IfErr result (λ e. e.value ≡ value) }
         ensures limit { IfErr result (λ e. e.error ≡ RoundError.Limit → shown_number self.now value ≡ None) }
+        ensures memory { IfErr result (λ e. e.error ≡ RoundError.Memory → NeedsMemory self.now value) }
     {
         let Ok(kept) = value.clone() else {
             return Err(FormatError {

@@ -10,7 +10,7 @@ ghost use Rattle.number_format.specs.FormattedNumbers.{exponent_text, written_nu
 use crate::number_around::NumberAffixes;
 use crate::parts::{fmt_parts, parts_length, write_parts};
 use crate::text_part::TextPart;
-use decimal_format::{DecimalSymbols, FormattedAbsolute, GroupingStrategy};
+use decimal_format::{Block, DecimalSymbols, FormattedAbsolute, GroupingStrategy};
 use fixed_decimal::{DecimalStore, Sink, SinkFault, UnsignedDecimal, Writeable};
 use std::fmt;
 
@@ -146,6 +146,18 @@ impl<'f> FormattedNumber<'f> {
         Ok(())
     }
 
+    fn write_pieces<W: Sink>(&self, sink: &mut W) -> Result<(), SinkFault>
+        ensures ok { OnOk result
+            (Appends (W.contents sink.old) (W.contents sink.new) (formatted_number_text self.now)) }
+        ensures err { OnErr result
+            (AppendsPrefix (W.contents sink.old) (W.contents sink.new) (formatted_number_text self.now)) }
+        ensures failed { OnErr result (W.has_failed sink.new ≡ true) }
+    {
+        write_parts(&self.affixes.prefix, sink)?;
+        self.write_number_if(sink)?;
+        write_parts(&self.affixes.suffix, sink)
+    }
+
     fn number_length(&self) -> usize
         ensures value { result ≡ length (written_number_text self.now) }
         ensures at_most { result ≤ 17236988 }
@@ -175,9 +187,11 @@ impl<'f> Writeable for FormattedNumber<'f> {
         if sink.failed() {
             return Err(SinkFault);
         }
-        write_parts(&self.affixes.prefix, sink)?;
-        self.write_number_if(sink)?;
-        write_parts(&self.affixes.suffix, sink)
+        let mut block = Block::new();
+        match self.write_pieces(&mut block) {
+            Ok(()) => sink.put_bytes(block.as_bytes()),
+            Err(SinkFault) => self.write_pieces(sink),
+        }
     }
 
     /// Returns the exact number of bytes of the text.

@@ -1,7 +1,8 @@
 //! What is written before and after the digits of a number.
 ghost use Rattle.std.specs.Prelude.{◌≡◌, ◌≤◌, ◌&&◌, length, IfSome};
 ghost use Rattle.locale_data.specs.Compact.{IsShortAffix};
-ghost use Rattle.number_format.specs.NumberText.{sign_text, piece_text, currency_if, space_if, is_plain, is_empty, has_number, first_sign_text, last_sign_text, pattern_around, compact_around, around_by, AreParts};
+ghost use Rattle.number_format.specs.NumberText.{sign_kind, sign_pieces, pattern_pieces, currency_if, space_if, is_plain, is_empty, has_number, first_sign, last_sign, pattern_around, compact_around, around_by, AreParts};
+ghost use Rattle.number_format.specs.TextParts.{part_pieces};
 
 use crate::number_formatter::NumberFormatter;
 use crate::number_style::{begins_with_currency, ends_with_currency};
@@ -41,37 +42,42 @@ fn is_empty(text: &str) -> bool
 }
 
 fn space_if(condition: bool) -> TextPart<'static>
-    ensures { result.text.now ≡ space_if condition }
+    ensures { part_pieces result ≡ space_if condition }
 {
     let text = if condition { "\u{a0}" } else { "" };
     TextPart::new(PartKind::Literal, text)
 }
 
+fn sign_kind(sign: Sign) -> PartKind
+    ensures { result ≡ sign_kind sign }
+{
+    match sign {
+        Sign::Positive => PartKind::PlusSign,
+        _ => PartKind::MinusSign,
+    }
+}
+
 impl NumberFormatter {
-    pub(crate) fn sign_part(&self, sign: Sign) -> TextPart<'_>
-        ensures { result.text.now ≡ sign_text self.now sign }
+    fn sign_part(&self, sign: Sign) -> TextPart<'_>
+        ensures { part_pieces result ≡ sign_pieces self.now sign }
     {
-        let kind = match sign {
-            Sign::Positive => PartKind::PlusSign,
-            _ => PartKind::MinusSign,
-        };
-        TextPart::new(kind, self.symbols.affixes(sign).prefix)
+        TextPart::new(sign_kind(sign), self.symbols.affixes(sign).prefix)
     }
 
-    fn piece(&self, piece: Piece) -> TextPart<'_>
-        ensures { result.text.now ≡ piece_text self.now piece }
+    fn pattern_part(&self, piece: Piece) -> TextPart<'_>
+        ensures { part_pieces result ≡ pattern_pieces self.now piece }
     {
         match piece {
             Piece::Minus => self.sign_part(Sign::Negative),
             Piece::Plus => self.sign_part(Sign::Positive),
-            Piece::Percent => self.percent,
+            Piece::Percent => TextPart::new(PartKind::PercentSign, self.percent.text),
             Piece::Currency => self.currency.part(),
             _ => TextPart::new(PartKind::Literal, piece.text()),
         }
     }
 
     fn currency_if(&self, has_currency: bool) -> TextPart<'_>
-        ensures { result.text.now ≡ currency_if self.now has_currency }
+        ensures { part_pieces result ≡ currency_if self.now has_currency }
     {
         if has_currency {
             self.currency.part()
@@ -90,27 +96,27 @@ impl NumberFormatter {
         NumberAffixes {
             prefix: [
                 TextPart::new(PartKind::Literal, unit.prefix),
-                self.piece(prefix.first),
-                self.piece(prefix.second),
-                self.piece(prefix.third),
-                self.piece(prefix.fourth),
+                self.pattern_part(prefix.first),
+                self.pattern_part(prefix.second),
+                self.pattern_part(prefix.third),
+                self.pattern_part(prefix.fourth),
                 space_if(ends_with_currency(prefix) && self.currency.space_after),
                 TextPart::empty(),
             ],
             has_number: true,
             suffix: [
                 space_if(begins_with_currency(suffix) && self.currency.space_before),
-                self.piece(suffix.first),
-                self.piece(suffix.second),
-                self.piece(suffix.third),
-                self.piece(suffix.fourth),
+                self.pattern_part(suffix.first),
+                self.pattern_part(suffix.second),
+                self.pattern_part(suffix.third),
+                self.pattern_part(suffix.fourth),
                 TextPart::new(PartKind::Literal, unit.suffix),
             ],
         }
     }
 
     fn first_sign(&self, sign: Sign, form: CompactForm) -> TextPart<'_>
-        ensures { result.text.now ≡ first_sign_text self.now sign form }
+        ensures { part_pieces result ≡ first_sign self.now sign form }
     {
         match form {
             CompactForm::SignLast => TextPart::empty(),
@@ -119,7 +125,7 @@ impl NumberFormatter {
     }
 
     fn last_sign(&self, sign: Sign, form: CompactForm) -> TextPart<'_>
-        ensures { result.text.now ≡ last_sign_text self.now sign form }
+        ensures { part_pieces result ≡ last_sign self.now sign form }
     {
         match form {
             CompactForm::SignLast => self.sign_part(sign),

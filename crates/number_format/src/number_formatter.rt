@@ -1,4 +1,7 @@
 //! The formatter of numbers.
+ghost use Rattle.std.specs.Prelude.{IsSome};
+ghost use Rattle.locale_data.specs.Plurals.{rules_text_at};
+
 use crate::digit_options::DigitOptions;
 use crate::notation::Notation;
 use crate::number_options::ExponentOptions;
@@ -46,4 +49,5 @@ pub struct NumberFormatter {
     pub(crate) exponent: Option<ExponentOptions>,
     pub(crate) digits: Option<DigitOptions>,
     pub(crate) sign_display: SignDisplay,
+    pub ghost rules_listed: { IsSome (rules_text_at rules) },
 }

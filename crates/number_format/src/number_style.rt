@@ -1,6 +1,7 @@
 //! What a style of numbers writes: its pattern, its percent sign, and its currency.
 ghost use Rattle.std.specs.Prelude.{◌≡◌, ◌≤◌, length, true};
 ghost use Rattle.number_format.specs.NumberStyles.{affix_of, before, plain_pattern, percent_text, text_or_nothing, currency_text, piece_or, ends_with_currency, begins_with_currency, has_spaces, in_system, IsNoCurrency, IsShownCode, IsShownSymbol, IsShownCurrency};
+ghost use Rattle.number_format.specs.TextParts.{part_pieces, pieces_of};
 
 use crate::number_options::{CurrencyDisplay, CurrencyStyle};
 use crate::text_part::{PartKind, TextPart};
@@ -90,15 +91,22 @@ pub(crate) fn text_or_nothing(bytes: &[u8]) -> &str
 }
 
 impl ShownCurrency {
-    /// Returns the symbol or the code.
-    pub(crate) fn part(&self) -> TextPart<'_>
-        ensures { result.text.now ≡ currency_text self.now }
+    fn text(&self) -> &str
+        ensures value { result.now ≡ currency_text self.now }
+        ensures short { length result.now ≤ 255 }
     {
         if self.shows_code {
-            TextPart::new(PartKind::Currency, text_or_nothing(&self.code))
+            text_or_nothing(&self.code)
         } else {
-            self.symbol
+            self.symbol.text
         }
+    }
+
+    /// Returns the symbol or the code.
+    pub(crate) fn part(&self) -> TextPart<'_>
+        ensures { part_pieces result ≡ pieces_of PartKind.Currency (currency_text self.now) }
+    {
+        TextPart::new(PartKind::Currency, self.text())
     }
 
     /// Returns no currency.

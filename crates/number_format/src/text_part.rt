@@ -48,7 +48,8 @@ impl<'f> TextPart<'f> {
     /// Makes a part of a text of at most 255 bytes.
     pub(crate) fn new(kind: PartKind, text: &'f str) -> Self
         requires { length text.now ≤ 255 }
-        ensures { result.text.now ≡ text.now }
+        ensures kind { result.kind ≡ kind }
+        ensures text { result.text.now ≡ text.now }
     {
         TextPart { kind, text }
     }

@@ -6,3 +6,4 @@ pub mod ParserComplete
 pub mod ParserSound
 pub mod ViablePrefixes
 pub mod ParserInvariants
+pub mod Evaluations

@@ -1,5 +1,5 @@
 -- What the loop of `read` knows of a text after each byte.
-use Rattle.std.proofs.Common.{◌≡◌, ℕ, ◌+◌, ◌-◌, ◌*◌, ◌<◌, ◌≤◌, nat_le, Bool, true, false, not, cond, List, length, take, drop, get_or, refl, sym, ◌∙◌, ap, arith}
+use Rattle.std.proofs.Common.{◌≡◌, ℕ, ◌+◌, ◌-◌, ◌*◌, ◌<◌, ◌≤◌, nat_le, Bool, true, false, not, cond, List, length, take, drop, get_or, refl, sym, ◌∙◌, ap, subst, arith}
 use Rattle.std.specs.Prelude.{Some, None}
 use Rattle.std.specs.Char.{is_ascii_digit}
 use Rattle.std.proofs.lemmas.Bool.{and_parts, false≢true}
@@ -38,28 +38,34 @@ NumbersAre text i s p (Fit n is_modulus begin) =
 NumbersAre text i s p (TooLarge begin) =
     (end : ℕ) × Begun text begin end × (end ≤ length text) × ¬ IsFittingPrefix (take end text)
 
--- what the loop of `read` knows after `i` bytes
-pub record Checked (text : List ℕ) (i : ℕ) (s : State) (seen : Categories) (numbers : Numbers) (builder : Builder)
-    (is_built : Bool) : Type 0 where
-  pub p : Partial
+-- what `i` bytes are to the reader
+pub record Parsed (text : List ℕ) (i : ℕ) (s : State) (seen : Categories) (numbers : Numbers) (p : Partial)
+    : Type 0 where
   pub runs : run_text false (take i text) ≡ Some (s, p)
   pub seen_is : p.seen ≡ seen
   pub opens : is_open p.seen s ≡ true
   pub front : starts_number s ≡ true → HasNoDigitBefore text i
   pub numbers_are : NumbersAre text i s p numbers
+
+-- what the loop of `read` knows after `i` bytes
+pub record Checked (text : List ℕ) (i : ℕ) (s : State) (seen : Categories) (numbers : Numbers) (builder : Builder)
+    (is_built : Bool) : Type 0 where
+  pub p : Partial
+  pub parsed : Parsed text i s seen numbers p
   pub built : is_built ≡ true → partial seen builder ≡ p
 
-pub checked_first : (text : List ℕ) (b : Builder) → partial no_categories b ≡ no_rules
-    → Checked text 0 state.Category no_categories (Fit 0 false 0) b true
-checked_first text b empty = record {
-  p = no_rules;
+pub parsed_first : (text : List ℕ) → Parsed text 0 state.Category no_categories (Fit 0 false 0) no_rules
+parsed_first text = record {
   runs = refl;
   seen_is = refl;
   opens = refl;
   front = λ h. absurd (false≢true h);
   numbers_are = (refl, refl, refl, λ h. absurd (false≢true h));
-  built = λ h. empty;
 }
+
+pub checked_first : (text : List ℕ) (b : Builder) → partial no_categories b ≡ no_rules
+    → Checked text 0 state.Category no_categories (Fit 0 false 0) b true
+checked_first text b empty = record { p = no_rules; parsed = parsed_first text; built = λ h. empty }
 
 -- an event changes the categories of the reader and those of the rules in the same way
 seen_after_is : (e : Event) (p : Partial) → (after e p).seen ≡ seen_after e p.seen
@@ -133,10 +139,33 @@ module _ (text : List ℕ) (i : ℕ) (s : State) (p : Partial) (s2 : State) (les
   numbers_more e (Fit n is_modulus begin) to h = (run_on e to refl h.0, (cc), (cc), apart e to refl)
 
 -- the event of the next byte is small, while all numbers fit
+pub small_after : {text : List ℕ} {i : ℕ} {s : State} {seen : Categories} {numbers : Numbers} {p : Partial} (e : Event)
+    → Parsed text i s seen numbers p → all_fit (numbers_after numbers i e) ≡ true → IsSmall e p.number p.is_divided
+small_after {text} {i} {s} {seen} {numbers} {p} e h fit = grind (arith, nat_tests, reached_strictly)
+
 pub small : {text : List ℕ} {i : ℕ} {s : State} {seen : Categories} {numbers : Numbers} {b : Builder} {is_built : Bool}
     (e : Event) → Checked text i s seen numbers b is_built → is_built ≡ true
-    → all_fit (numbers_after numbers i e) ≡ true → IsSmall e b
-small {text} {i} {s} {seen} {numbers} {b} e h built fit = grind (arith, nat_tests, reached_strictly)
+    → all_fit (numbers_after numbers i e) ≡ true → IsSmall e b.number b.is_divided
+small {text} {i} {s} {seen} {numbers} {b} e h built fit =
+    subst (λ p. IsSmall e p.number p.is_divided) (sym (h.built built)) (small_after e h.parsed fit)
+
+pub parsed_more :
+    {text : List ℕ} {i : ℕ} {s : State} {seen : Categories} {numbers : Numbers} {p : Partial} (s2 : State) (e : Event)
+    → i < length text → Parsed text i s seen numbers p → next seen s (get_or text i 0) ≡ Some (s2, e)
+    → Parsed text (i + 1) s2 (seen_after e seen) (numbers_after numbers i e) (after e p)
+parsed_more {text} {i} {s} {seen} {numbers} {p} s2 e less h to =
+    let to2 : next p.seen s (get_or text i 0) ≡ Some (s2, e) = search (rules, arith) in
+    let so = transition_is_valid p.seen s (get_or text i 0) s2 e to2 in
+    let same : i + 1 - 1 ≡ i = omega arith in
+    record {
+      runs =
+          run_more false text i s p less h.runs to2
+          ∙ ap (λ b. cond b (Some (s2, after e p)) None) (any_allowed e p);
+      seen_is = seen_after_is e p ∙ ap (seen_after e) h.seen_is;
+      opens = ap (λ x. is_open x s2) (seen_after_is e p) ∙ so.1 h.opens;
+      front = search (rules, arith);
+      numbers_are = numbers_more text i s p s2 less h.front e numbers to2 h.numbers_are;
+    }
 
 pub checked_more :
     {text : List ℕ} {i : ℕ} {s : State} {seen : Categories} {numbers : Numbers} {b b2 : Builder}
@@ -145,21 +174,11 @@ pub checked_more :
     → (is_built2 ≡ true → (is_built ≡ true)
     × ((seen : Categories) → partial (seen_after e seen) b2 ≡ after e (partial seen b)))
     → Checked text (i + 1) s2 (seen_after e seen) (numbers_after numbers i e) b2 is_built2
-checked_more {text} {i} {s} {seen} {numbers} s2 e less h to taken =
-    let to2 : next h.p.seen s (get_or text i 0) ≡ Some (s2, e) = search (rules, arith) in
-    let so = transition_is_valid h.p.seen s (get_or text i 0) s2 e to2 in
-    let same : i + 1 - 1 ≡ i = omega arith in
-    record {
-      p = after e h.p;
-      runs =
-          run_more false text i s h.p less h.runs to2
-          ∙ ap (λ b. cond b (Some (s2, after e h.p)) None) (any_allowed e h.p);
-      seen_is = seen_after_is e h.p ∙ ap (seen_after e) h.seen_is;
-      opens = ap (λ x. is_open x s2) (seen_after_is e h.p) ∙ so.1 h.opens;
-      front = search (rules, arith);
-      numbers_are = numbers_more text i s h.p s2 less h.front e numbers to2 h.numbers_are;
-      built = λ now. let took = taken now in took.1 seen ∙ ap (after e) (h.built took.0);
-    }
+checked_more {text} {i} {s} {seen} {numbers} s2 e less h to taken = record {
+  p = after e h.p;
+  parsed = parsed_more s2 e less h.parsed to;
+  built = λ now. let took = taken now in took.1 seen ∙ ap (after e) (h.built took.0);
+}
 
 -- the numbers of a whole text of rules: all fit, or the first one that is too great
 abbrev pub AreNumbersOf : List ℕ → Numbers → Type 0
@@ -167,33 +186,29 @@ AreNumbersOf text (Fit n is_modulus begin) = (rules : List RuleValue) × Grammar
 AreNumbersOf text (TooLarge begin) = IsLimitErrorAt text begin
 
 -- a text that may end in its state is rules
-module _ {text : List ℕ} {i : ℕ} {s : State} {seen : Categories} {numbers : Numbers} {b : Builder} {is_built : Bool}
-    (e : Event) (least : length text ≤ i) (h : Checked text i s seen numbers b is_built) (end : at_end s ≡ Some e) where
-  reads : (strict : Bool) → run_text strict (take i text) ≡ Some (s, h.p)
-      → read_text strict text ≡ Some (after e h.p).rules
+module _ {text : List ℕ} {i : ℕ} {s : State} {seen : Categories} {numbers : Numbers} {p : Partial} (e : Event)
+    (least : length text ≤ i) (h : Parsed text i s seen numbers p) (end : at_end s ≡ Some e) where
+  reads : (strict : Bool) → run_text strict (take i text) ≡ Some (s, p)
+      → read_text strict text ≡ Some (after e p).rules
   reads strict runs = grind (arith, finish, run_text, take_all, finished)
 
-  grammar : Grammar text (after e h.p).rules
+  pub grammar : Grammar text (after e p).rules
   grammar = read-sound (reads false h.runs)
-
-  pub built_whole : {rules : List RuleValue} → is_built ≡ true → rules ≡ (after e (partial seen b)).rules
-      → Grammar text rules
-  built_whole built is = rw (is ∙ ap (λ p. (after e p).rules) (h.built built)) grammar
 
   pub checked_whole : AreNumbersOf text numbers
   checked_whole = go numbers h.numbers_are
     where
-      go : (numbers : Numbers) → NumbersAre text i s h.p numbers → AreNumbersOf text numbers
+      go : (numbers : Numbers) → NumbersAre text i s p numbers → AreNumbersOf text numbers
       go (Fit n is_modulus begin) f =
-          ((after e h.p).rules, grammar, (read_fits text (after e h.p).rules (reads true f.0)).0)
+          ((after e p).rules, grammar, (read_fits text (after e p).rules (reads true f.0)).0)
       go (TooLarge begin) f =
           let begun : Begun text begin f.0 = f.1 in
           record {
-            rules = (after e h.p).rules;
+            rules = (after e p).rules;
             grammar = grammar;
             beyond_limits = λ fits. f.3 (
               drop f.0 text,
-              (after e h.p).rules,
+              (after e p).rules,
               rw (take-append-drop f.0 text) grammar,
               fits,
             );
@@ -204,3 +219,10 @@ module _ {text : List ℕ} {i : ℕ} {s : State} {seen : Categories} {numbers : 
             digits = (begun.some, f.2, begun.digits);
             not_viable = f.3;
           }
+
+pub built_whole : {text : List ℕ} {i : ℕ} {s : State} {seen : Categories} {numbers : Numbers} {b : Builder}
+    {is_built : Bool} {rules : List RuleValue} (e : Event) → length text ≤ i
+    → (h : Checked text i s seen numbers b is_built) → at_end s ≡ Some e → is_built ≡ true
+    → rules ≡ (after e (partial seen b)).rules → Grammar text rules
+built_whole e least h end built is =
+    rw (is ∙ ap (λ p. (after e p).rules) (h.built built)) (grammar e least h.parsed end)

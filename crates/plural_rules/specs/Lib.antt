@@ -5,3 +5,4 @@ pub mod RulesGrammar
 pub mod RulesReader
 pub mod RulesParseResult
 pub mod RulesBuilder
+pub mod RulesEvaluation

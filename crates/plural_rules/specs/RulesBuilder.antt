@@ -1,5 +1,5 @@
 -- The state of the builder as the rules so far. Only private contracts cite this file.
-use Rattle.std.specs.Prelude.{◌≡◌, ◌+◌, ◌*◌, ◌^◌, ◌<◌, ◌≤◌, true, map}
+use Rattle.std.specs.Prelude.{◌≡◌, ℕ, Bool, ◌+◌, ◌*◌, ◌^◌, ◌<◌, ◌≤◌, true, map}
 use Rattle.plural_rules.specs.declared.parse.state.Event.{Event}
 use Rattle.plural_rules.specs.declared.parse.state.Event.TheVariants as event
 use Rattle.plural_rules.specs.declared.parse.state.Categories.{Categories}
@@ -23,7 +23,7 @@ partial seen b = record {
 }
 
 -- the number after an event is below 2^64, and a modulus at most 10^18
-abbrev pub IsSmall : Event → Builder → Type 0
-IsSmall (event.Digit d) b = b.number * 10 + d < 2 ^ 64
-IsSmall (event.Equal is_equal) b = b.is_divided ≡ true → b.number ≤ 10 ^ 18
-IsSmall e b = Unit {0}
+abbrev pub IsSmall : Event → ℕ → Bool → Type 0
+IsSmall (event.Digit d) n is_divided = n * 10 + d < 2 ^ 64
+IsSmall (event.Equal is_equal) n is_divided = is_divided ≡ true → n ≤ 10 ^ 18
+IsSmall e n is_divided = Unit {0}

@@ -10,7 +10,8 @@ use Rattle.plural_rules.specs.declared.rules.PluralCategory.TheVariants.{Other}
 use Rattle.plural_rules.specs.declared.rules.Operand.{Operand}
 use Rattle.plural_rules.specs.declared.rules.Operand.TheVariants.{N, I, V, W, F, T, C}
 use Rattle.plural_rules.specs.declared.rules.Range.{Range}
-use Rattle.plural_rules.specs.Rules.{name_of, RelationValue, relation, RuleValue, rule}
+use Rattle.plural_rules.specs.Operands.{Operands}
+use Rattle.plural_rules.specs.Rules.{name_of, RelationValue, relation, RuleValue, rule, category_of}
 
 -- ---- Tokens.
 
@@ -147,3 +148,8 @@ pub record Grammar (text : List ℕ) (meaning : List RuleValue) : Type 0 where
   pub blanks : Blanks text begin
   pub rules : RuleList begin meaning
   pub distinct : HasDistinctCategories meaning
+
+-- the category of a number by a text of rules
+abbrev pub IsCategoryByText : List ℕ → Operands → PluralCategory → Type 0
+IsCategoryByText text n category =
+    (rules : List RuleValue) × Grammar text rules × (category ≡ category_of rules n)

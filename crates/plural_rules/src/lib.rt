@@ -8,5 +8,5 @@ mod parse;
 mod rules;
 
 pub use operands::PluralOperands;
-pub use parse::RulesError;
+pub use parse::{RulesError, category_by_text};
 pub use rules::{PluralCategory, PluralRules};

@@ -62,12 +62,7 @@ impl<'a> PluralOperands<'a, DecimalStore> {
     pub fn of_compact(value: &'a CompactDecimal) -> Self
         ensures { result ≡ compact value.now.significand.absolute value.now.exponent }
     {
-        let exponent = value.exponent();
-        let significand = value.significand();
-        PluralOperands {
-            value: &significand.absolute,
-            exponent,
-        }
+        Self::of_scaled(&value.significand().absolute, value.exponent())
     }
 }
 
@@ -83,6 +78,16 @@ impl<'a, D: DigitStore> PluralOperands<'a, D> {
     {
         prove!(value.lowest() <= 0);
         PluralOperands { value, exponent: 0 }
+    }
+
+    /// Returns the operands of a significand times 10^exponent, as a compact decimal has them.
+    pub fn of_scaled(significand: &'a UnsignedOver<D>, exponent: u8) -> Self
+        ensures { result ≡ compact significand.now exponent }
+    {
+        PluralOperands {
+            value: significand,
+            exponent,
+        }
     }
 
     /// Returns the operands of the absolute value of a decimal: `-1.0` has those of `1.0`.

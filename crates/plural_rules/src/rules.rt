@@ -2,7 +2,7 @@
 ghost use Rattle.std.specs.Prelude.{◌≡◌, ◌<◌, ◌≤◌, ◌^◌, IfSome, IfNone, map};
 ghost use Rattle.plural_rules.specs.Rules.{name_of, relation, rule};
 
-mod category;
+pub(crate) mod category;
 
 use std::marker::Model;
 

@@ -241,6 +241,12 @@ impl<'f, D: DigitStore> Writeable for FormattedAbsolute<'f, D> {
         if sink.failed() {
             return Err(SinkFault);
         }
+        if self.shown_count() <= PART {
+            let mut block = Block::new();
+            if let Ok(()) = self.put_absolute(&mut block) {
+                return sink.put_bytes(block.as_bytes());
+            }
+        }
         self.write_absolute(sink)
     }
 

@@ -27,7 +27,7 @@ pub struct Builder {
     number: u64,
 }
 
-fn modulus_read(is_divided: bool, number: u64) -> Option<Modulus>
+pub fn modulus_read(is_divided: bool, number: u64) -> Option<Modulus>
     requires { is_divided ≡ true → number ≤ 10 ^ 18 }
     ensures { result ≡ reader.modulus_of is_divided number }
 {
@@ -83,7 +83,7 @@ impl Builder {
     }
 
     fn begin_ranges(&mut self, is_equal: bool)
-        requires { IsSmall (Event.Equal is_equal) self.old }
+        requires { IsSmall (Event.Equal is_equal) self.old.number self.old.is_divided }
         ensures { (seen : Categories)
             → partial seen self.new ≡ reader.after (Event.Equal is_equal) (partial seen self.old) }
     {
@@ -131,7 +131,7 @@ impl Builder {
     }
 
     fn take(&mut self, event: Event) -> Result<(), AllocError>
-        requires { IsSmall event self.old }
+        requires { IsSmall event self.old.number self.old.is_divided }
         ensures { OnOk result ((seen : Categories) → partial (reader.seen_after event seen) self.new
             ≡ reader.after event (partial seen self.old)) }
     {
@@ -188,7 +188,7 @@ impl Builder {
 
     /// Takes an event if the rules so far were built and their numbers fit. False if not, or out of memory.
     pub fn take_if(&mut self, is_built: bool, numbers: Numbers, event: Event) -> bool
-        requires { is_built ≡ true → reader.all_fit numbers ≡ true → IsSmall event self.old }
+        requires { is_built ≡ true → reader.all_fit numbers ≡ true → IsSmall event self.old.number self.old.is_divided }
         ensures { result ≡ true → (is_built ≡ true) × ((seen : Categories)
             → partial (reader.seen_after event seen) self.new ≡ reader.after event (partial seen self.old)) }
     {

@@ -1,4 +1,4 @@
-use Rattle.std.proofs.Common.{◌≡◌, None, Some, subst, sym, ◌∙◌, ap, rules, inl}
+use Rattle.std.proofs.Common.{◌≡◌, None, Some, subst, sym, ◌∙◌, inl}
 use Rattle.std.specs.Prelude.{◌⊎◌, IfNone}
 use Rattle.std.specs.Option.{option_copied}
 use Rattle.locale_data.specs.declared.symbols_table.TheConstants.{LOCALES, NUMBERING_SYSTEMS}

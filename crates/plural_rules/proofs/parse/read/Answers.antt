@@ -1,5 +1,5 @@
-use Rattle.std.proofs.Common.{◌∙◌, ap, arith}
-use Rattle.plural_rules.specs.RulesReader.{seen_after}
+use Rattle.std.proofs.Common.{◌≡◌, ◌<◌, length, get_or, Some, ◌∙◌, ap, arith}
+use Rattle.plural_rules.specs.RulesReader.{seen_after, next}
 use Rattle.plural_rules.proofs.ViablePrefixes.{stopped_text, unended_text}
 use Rattle.plural_rules.proofs.ParserInvariants.{checked_first, checked_more, checked_whole, built_whole, small}
 use Rattle.plural_rules.proofs.parse.read.Goals as goal
@@ -17,7 +17,12 @@ pub take_if-is_built-requires : goal.take_if-is_built-requires
 take_if-is_built-requires c = rw c.after-numbers.ensures (small c.in-Some.event c.loop-at.invariant)
 
 pub loop-at-preserved : goal.loop-at-preserved
-loop-at-preserved c = grind (arith, checked_more)
+loop-at-preserved c =
+    let less : c.loop-at.at < length c.args.text.now = grind arith in
+    let to : next c.loop-at.seen c.loop-at.state (get_or c.args.text.now c.loop-at.at 0)
+    ≡ Some (c.in-Some.next, c.in-Some.event) = grind arith in
+    rw c.after-seen.ensures (rw c.after-numbers.ensures
+    (checked_more c.in-Some.next c.in-Some.event less c.loop-at.invariant to c.take_if-is_built.ensures))
 
 pub returns-in_default-at_end : goal.returns-in_default-at_end
 returns-in_default-at_end c = grind (arith, ints, clamps, nat_tests, common_steps, unended_text)
@@ -25,7 +30,7 @@ returns-in_default-at_end c = grind (arith, ints, clamps, nat_tests, common_step
 pub returns-in-TooLarge : goal.returns-in-TooLarge
 returns-in-TooLarge c =
     rw c.in-TooLarge.is at
-    (checked_whole c.in-Some-at_end.event c.loop-at-test.false c.loop-at.invariant (cc))
+    (checked_whole c.in-Some-at_end.event c.loop-at-test.false c.loop-at.invariant.parsed (cc))
 
 pub take_if-requires : goal.take_if-requires
 take_if-requires c = grind arith
@@ -33,7 +38,7 @@ take_if-requires c = grind arith
 pub returns-then-not-take_if : goal.returns-then-not-take_if
 returns-then-not-take_if c =
     rw c.in_default-numbers.is at
-    (checked_whole c.in-Some-at_end.event c.loop-at-test.false c.loop-at.invariant (cc))
+    (checked_whole c.in-Some-at_end.event c.loop-at-test.false c.loop-at.invariant.parsed (cc))
 
 pub returns : goal.returns
 returns c =

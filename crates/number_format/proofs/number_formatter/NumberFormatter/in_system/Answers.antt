@@ -19,13 +19,13 @@ returns-clause-ok c =
       symbols =
           c.with_sizes-symbols.ensures
           ∙ (λ i. record (c.with_separators.ensures i) { sizes = sizes i });
-      strategy = c.strategy.ensures;
+      strategy = refl;
       pattern = refl;
       currency = refl;
       percent =
-          c.new.ensures ∙ c.percent_text.ensures.value
+          c.new.ensures.text ∙ c.percent_text.ensures.value
           ∙ ap (percent_text c.signs-signs.result.percent) c.is_permille.ensures;
-      separator = c.new-2.ensures ∙ c.text.ensures;
+      separator = c.new-2.ensures.text ∙ c.text.ensures;
       unit_is = c.compact_unit.ensures;
       scale = let fits : FitsSigned w16 o.scale = search rules in simp to_z-of_z;
       notation_is = c.notation.ensures;

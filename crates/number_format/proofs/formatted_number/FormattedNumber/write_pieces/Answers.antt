@@ -2,7 +2,7 @@ use Rattle.std.proofs.lemmas.Result.{on_err_weaker}
 use Rattle.fixed_decimal.proofs.Calling.{on_err, first_of_three, second_of_three, third_of_three}
 use Rattle.number_format.specs.FormattedNumbers.{number_text_if}
 use Rattle.number_format.specs.TextParts.{parts_text}
-use Rattle.number_format.proofs.formatted_number.FormattedNumberWriteable.write_to.Goals as goal
+use Rattle.number_format.proofs.formatted_number.FormattedNumber.write_pieces.Goals as goal
 
 pub returns-in_err-write_parts-clause-err : goal.returns-in_err-write_parts-clause-err
 returns-in_err-write_parts-clause-err g c =

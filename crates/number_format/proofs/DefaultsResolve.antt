@@ -1,0 +1,49 @@
+-- The digits that ECMA-402 has for a style and a notation are no error.
+use Rattle.std.proofs.Common.{◌≡◌, ℕ, Bool, true, false, refl, ◌∙◌, ap, arith}
+use Rattle.std.specs.Prelude.{None, if◌then◌else◌}
+use Rattle.std.proofs.lemmas.Bool.Decides.{nat_tests}
+use Rattle.locale_data.specs.Currencies.{currency_with, digits_of}
+use Rattle.number_format.specs.declared.number_options.CurrencyUsage.{CurrencyUsage}
+use Rattle.number_format.specs.declared.number_options.CurrencyUsage.TheVariants as usage
+use Rattle.number_format.specs.declared.number_options.NumberOptions.{NumberOptions}
+use Rattle.number_format.specs.declared.number_options.NumberStyle.{NumberStyle}
+use Rattle.number_format.specs.declared.number_options.NumberStyle.TheVariants as style
+use Rattle.number_format.specs.declared.settings.DigitDefaults.{DigitDefaults}
+use Rattle.number_format.specs.Increments.{is_increment}
+use Rattle.number_format.specs.DefaultDigits.{is_compact, increment_or_1, usage_increment, style_increment, increment, no_settings, IsDefault}
+use Rattle.number_format.specs.Resolved.{resolve_error}
+
+or_1 : (n : ℕ) → is_increment (increment_or_1 n) ≡ true
+or_1 n = by (is_increment n) refl
+  where
+    by : (b : Bool) → is_increment n ≡ b → is_increment (if b then n else 1) ≡ true
+    by true is = is
+    by false is = refl
+
+is_one_of : (s : NumberStyle) (compact : Bool) → is_increment (style_increment s compact) ≡ true
+is_one_of (style.Currency c) false = by c.usage
+  where
+    by : (u : CurrencyUsage) → is_increment (usage_increment u c.code) ≡ true
+    by usage.Standard = refl
+    by usage.Cash = or_1 (digits_of (currency_with c.code)).cash_increment
+is_one_of (style.Currency c) true = refl
+is_one_of style.Decimal compact = refl
+is_one_of style.Percent compact = refl
+is_one_of style.Permille compact = refl
+
+no_increment : (s : NumberStyle) → style_increment s true ≡ 1
+no_increment (style.Currency c) = refl
+no_increment style.Decimal = refl
+no_increment style.Percent = refl
+no_increment style.Permille = refl
+
+-- an increment, which is 1 in compact notation
+no_error : (n : ℕ) (compact : Bool) (d : DigitDefaults) → d.is_compact ≡ compact → is_increment n ≡ true
+    → (compact ≡ true → n ≡ 1) → resolve_error (no_settings n) d ≡ None
+no_error n compact d is increment one = grind (arith, nat_tests)
+
+pub defaults_resolve : (o : NumberOptions) (d : DigitDefaults) → IsDefault o d
+    → resolve_error (no_settings (increment o)) d ≡ None
+defaults_resolve o d is =
+    no_error (increment o) (is_compact o.notation) d is.compact (is_one_of o.style (is_compact o.notation))
+    (λ compact. ap (style_increment o.style) compact ∙ no_increment o.style)
