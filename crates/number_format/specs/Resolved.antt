@@ -50,7 +50,6 @@ fraction_of s d =
     let most = if s.rounding_increment == 1 then d.fraction.max else d.fraction.min in
     if needs_fraction s d then (least, unwrap_or s.maximum_fraction_digits (max most least)) else (0, 0)
 
--- ---- The options.
 abbrev pub counts : ℕ → ℕ → ℕ × ℕ
 counts least greatest = (least, greatest)
 

@@ -62,7 +62,6 @@ settled notation o sign n =
     let exponent = whole_exponent notation n in
     option_and_then (settled_after notation o sign exponent) (rounded_within o sign exponent n)
 
--- ---- The significand and the exponent.
 pub record ScaledValue : Type 0 where
   pub significand : Decimal
   pub exponent : ℤ

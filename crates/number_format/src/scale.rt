@@ -74,8 +74,6 @@ fn lower<D: DigitStore>(value: &mut UnsignedOver<D>, count: u16) -> Result<(), R
 }
 
 impl Notation {
-    /// Multiplies a number that is written with an exponent below 0 by the power of ten that makes it 0, and returns
-    /// that exponent; otherwise 0.
     fn raise<D: DigitStore>(&self, value: &mut UnsignedOver<D>) -> i32
         ensures exponent { result ≡ base_exponent self.now value.old.number }
         ensures number { value.new.number ≡ value.old.number * 10 ^ unsigned_abs result }
@@ -96,8 +94,6 @@ impl Notation {
         self.exponent_at(value.nonzero_magnitude_start()).max(0) as u16
     }
 
-    /// Rounds a decimal that has a whole exponent, and returns the exponent of the rounded number, and the magnitude
-    /// of its quotient down to which zeros are shown.
     fn settle<D: DigitStore>(
         &self,
         options: &DigitOptions,
@@ -121,8 +117,7 @@ impl Notation {
         Ok((exponent, last))
     }
 
-    /// Returns the significand and the exponent that the notation writes for a decimal, with the digits that options
-    /// show.
+    /// Returns the significand and the exponent that the notation writes for a decimal, with the digits of options.
     ///
     /// The exponent is that of the decimal's magnitude. If the rounding carries the number into a magnitude with a
     /// greater exponent, it is that one, and the rounded number is rounded again: by at most 2 significant digits
@@ -154,13 +149,6 @@ impl Notation {
 }
 
 impl<D: DigitStore> Scaled<D> {
-    /// Returns the significand: `1.2` of 1,200,000 in scientific notation.
-    pub fn significand(&self) -> &Signed<UnsignedOver<D>>
-        ensures { result.now ≡ self.now.significand }
-    {
-        &self.significand
-    }
-
     /// Returns the exponent: 6 of 1,200,000 in scientific notation.
     pub fn exponent(&self) -> i32
         ensures { result ≡ self.now.exponent }
@@ -168,7 +156,7 @@ impl<D: DigitStore> Scaled<D> {
         self.exponent
     }
 
-    /// Returns the significand and drops the exponent.
+    /// Returns the significand, `1.2` of 1,200,000 in scientific notation, and drops the exponent.
     pub fn into_significand(self) -> Signed<UnsignedOver<D>>
         ensures { result ≡ self.significand }
     {

@@ -62,7 +62,7 @@ fn push_notation(text: &mut String, notation: NumberNotation) -> Result<(), Allo
 fn push_currency(text: &mut String, currency: CurrencyStyle) -> Result<(), AllocError> {
     push_stem(text, "currency/")?;
     for byte in currency.code {
-        text.push(byte.to_ascii_uppercase() as char)?;
+        text.push(byte as char)?;
     }
     match currency.display {
         CurrencyDisplay::Symbol => Ok(()),
