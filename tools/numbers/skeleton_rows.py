@@ -158,11 +158,12 @@ def read(text):
 
 def bounded(text):
     """The reading of a skeleton whose counts ICU accepts only as a text: no exponent digit, or no increment."""
-    return first(text, r"scientific|engineering|precision-increment")
+    has_exponent = re.search(r"(?:scientific|engineering)\S*/[*+](?:/|\s|$)", text)
+    return first(text, r"scientific|engineering" if has_exponent else r"precision-increment")
 
 
 def expected(text):
-    """The words of any skeleton, or its error."""
+    """The words of any skeleton without units, or its error."""
     try:
         skeleton.LIMIT = 10**9
         skeleton.read(text)
@@ -211,7 +212,8 @@ def main(folder, model):
             put(text, words(plain))
     print("# Hostile texts.")
     for text in hostile():
-        put(text, expected(skeleton.unescape(text)))
+        if "unit" not in stems(text):
+            put(text, expected(skeleton.unescape(text)))
     print("# Normal forms have the options of their skeletons.")
     for text, normal in rows(os.path.join(folder, "normal.tsv")):
         loses_grouping = text.startswith("K") and "group-auto" in text

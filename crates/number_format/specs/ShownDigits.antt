@@ -1,7 +1,7 @@
 -- The digits that ECMA-402's FormatNumericToString shows of a number that is written with an exponent: of its quotient
 -- by 10^exponent. Numbers are in units of 10^-32768; magnitudes are those of the quotient. The weight of a magnitude
 -- below -32768 is 1 unit: at such a position nothing is rounded.
-use Rattle.std.specs.Prelude.{◌≡◌, ℕ, ◌*◌, ◌%◌, ◌^◌, ◌<◌, ◌≤◌, Bool, true, false, not, ◌||◌, if◌then◌else◌, Option, Some, None, ℤ, pos, ◌+ℤ◌, ◌-ℤ◌, ◌≤ℤ◌, int_lt, int_le}
+use Rattle.std.specs.Prelude.{◌≡◌, ℕ, ◌*◌, ◌%◌, ◌^◌, ◌<◌, Bool, true, false, not, ◌||◌, if◌then◌else◌, Option, Some, None, ℤ, pos, ◌+ℤ◌, ◌-ℤ◌, ◌≤ℤ◌, int_lt, int_le}
 use Rattle.std.specs.Int.{int_max, int_min}
 use Rattle.decimal_digits.specs.Number.{number_limit, weight, first, last, size, lowest_magnitude, highest_magnitude}
 use Rattle.decimal_digits.specs.Rounding.{step_of, unit_at, rounded_number, DigitRoundingNeedsMemory}
@@ -155,12 +155,15 @@ rounded_within o sign exponent n =
     let r = rounded_at o sign exponent n in
     if int_lt highest_magnitude (position_at o.precision exponent n) || reaches_limit r.number then None else Some r
 
--- the error: the rounded number is 10^32768 or more, or out of memory for one digit more than the `held` ones that
--- fit without an allocation, by 25 with or without zeros, and only below the limit
+-- a rounding below the limit makes one digit more than the `held` ones that fit without an allocation: by 25 or its tens
+abbrev pub NeedsMemory : ℕ → DigitOptions → Sign → ℕ → ℕ → Type 0
+NeedsMemory held o sign exponent n =
+    DigitRoundingNeedsMemory (base_of o.precision) (size n) (rounded_at o sign exponent n).number held
+
+-- the error: the rounded number is 10^32768 or more, or out of memory
 abbrev pub ApplyFails : ℕ → RoundError → DigitOptions → Decimal → Type 0
 ApplyFails held Limit o v = applied o v ≡ None
-ApplyFails held Memory o v =
-    DigitRoundingNeedsMemory (base_of o.precision) (size v.absolute.number) (rounded_with o 0 v).number held
+ApplyFails held Memory o v = NeedsMemory held o v.sign 0 v.absolute.number
 
 -- the precision is a number of fraction digits, by 1 or by an increment
 abbrev pub IsFractional : Precision → Type 0
@@ -206,5 +209,4 @@ pub record IsRoundedAt (o : DigitOptions) (exponent : ℕ) (old new : Decimal) (
 abbrev pub RoundingFailsAt : ℕ → RoundError → DigitOptions → ℕ → Decimal → Type 0
 RoundingFailsAt held Limit o exponent v =
     (first v.absolute.number ≤ℤ highest_magnitude) × (rounded_within o v.sign exponent v.absolute.number ≡ None)
-RoundingFailsAt held Memory o exponent v =
-    DigitRoundingNeedsMemory (base_of o.precision) (size v.absolute.number) (rounded_with o exponent v).number held
+RoundingFailsAt held Memory o exponent v = NeedsMemory held o v.sign exponent v.absolute.number

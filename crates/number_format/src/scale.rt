@@ -4,9 +4,7 @@ ghost use Rattle.std.specs.Int.{int_min};
 ghost use Rattle.decimal_digits.specs.Number.{first, last, size};
 ghost use Rattle.fixed_decimal.specs.Decimal.{integer_decimal};
 ghost use Rattle.fixed_decimal.specs.Scientific.{scientific};
-ghost use Rattle.decimal_digits.specs.declared.rounding.RoundingIncrement.TheVariants.{MultiplesOf25};
-ghost use Rattle.number_format.specs.ShownDigits.{base_of};
-ghost use Rattle.number_format.specs.Scaled.{whole_exponent, base_exponent, settled, scaled};
+ghost use Rattle.number_format.specs.Scaled.{whole_exponent, base_exponent, raised, settled, ScalingNeedsMemory, scaled};
 
 use crate::digit_options::DigitOptions;
 use crate::notation::Notation;
@@ -103,7 +101,8 @@ impl Notation {
             ≡ Some (record { exponent = r.0; number = value.new.absolute.number; last_shown = r.1 })) }
         ensures limit { IsErrOf result RoundError.Limit
             → settled self.now options.now value.old.sign value.old.absolute.number ≡ None }
-        ensures memory { IsErrOf result RoundError.Memory → base_of options.now.precision ≡ MultiplesOf25 }
+        ensures memory { IsErrOf result RoundError.Memory
+            → ScalingNeedsMemory D.L self.now options.now value.old.sign value.old.absolute.number }
         ensures sign { OnOk result (value.new.sign ≡ value.old.sign) }
         ensures at_most { IfOk result (λ r. r.0 ≤ 32767) }
     {
@@ -127,7 +126,7 @@ impl Notation {
     ///
     /// - `Limit`: the rounded number or the increment would be 10^32768 or more, or a digit of the significand would be
     ///   below 10^-32768.
-    /// - `Memory`: as [`DigitOptions::apply`].
+    /// - `Memory`: as [`DigitOptions::apply`], in one of the two roundings.
     pub fn scale<D: DigitStore>(
         &self,
         options: &DigitOptions,
@@ -135,7 +134,8 @@ impl Notation {
     ) -> Result<Scaled<D>, RoundError>
         ensures ok { IfOk result (λ s. scaled self.now options.now value ≡ Some s) }
         ensures limit { IsErrOf result RoundError.Limit → scaled self.now options.now value ≡ None }
-        ensures memory { IsErrOf result RoundError.Memory → base_of options.now.precision ≡ MultiplesOf25 }
+        ensures memory { IsErrOf result RoundError.Memory
+            → ScalingNeedsMemory D.L self.now options.now value.sign (raised self.now value.absolute.number) }
     {
         let base = self.raise(&mut value.absolute);
         let (exponent, last) = self.settle(options, &mut value)?;
