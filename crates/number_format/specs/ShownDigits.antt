@@ -155,7 +155,7 @@ rounded_within o sign exponent n =
     let r = rounded_at o sign exponent n in
     if int_lt highest_magnitude (position_at o.precision exponent n) || reaches_limit r.number then None else Some r
 
--- a rounding below the limit makes one digit more than the `held` ones that fit without an allocation: by 25 or its tens
+-- a rounding below the limit makes one digit more than the `held` that fit without an allocation: by 25 or its tens
 abbrev pub NeedsMemory : ℕ → DigitOptions → Sign → ℕ → ℕ → Type 0
 NeedsMemory held o sign exponent n =
     DigitRoundingNeedsMemory (base_of o.precision) (size n) (rounded_at o sign exponent n).number held
