@@ -33,7 +33,7 @@ def formatted(locale, skeleton, number):
     return library.fd_format_number(*given, room, ctypes.c_size_t(len(room)))
 
 
-passed, failed, unsupported = 0, 0, collections.Counter()
+passed, failed, exact, unsupported = 0, 0, 0, collections.Counter()
 with open(sys.argv[1], encoding="utf-8") as file:
     for line in file:
         row = [plain(it) for it in line.rstrip("\n").split("\t")]
@@ -43,12 +43,15 @@ with open(sys.argv[1], encoding="utf-8") as file:
         answer = formatted(locale, skeleton, number)
         if answer.status == UNSUPPORTED:
             unsupported[re.split(r"[\s/]", skeleton.encode()[answer.at:].decode())[0]] += 1
+        elif answer.status == 0 and row[3] == "error U_INTERNAL_PROGRAM_ERROR":
+            exact += 1
         elif answer.status == 0 and ctypes.string_at(room, answer.count).decode() == (row[5] if len(row) > 5 else row[3]):
             passed += 1
         else:
             failed += 1
             if failed <= 20:
                 print(row, answer.status, answer.at, ctypes.string_at(room, answer.count).decode())
+print(f"numbers for which ICU has an error: {exact}")
 print("unsupported:", ", ".join(f"{stem} {count}" for stem, count in unsupported.most_common()) or "none")
 print(f"{passed} passed, {failed} failed")
 sys.exit(failed > 0)

@@ -12,6 +12,15 @@ import re
 import sys
 
 WHITE = "\t\n\v\f\r \x85\u200e\u200f\u2028\u2029"
+HOSTILE = ["currency/EUR .00/@@#r/w rounding-mode-half-up ()?", "scientific/*ee/+! precision-increment/0.25 %x100",
+           "KK group-auto unit-width-narrow latin scale/1e-3", "integer-width/##00 numbering-system/arab @@*/w +- EE+?00"]
+COUNTS = ["{@*65536}", "{@*65537}", "@{#*65535}", "@{#*65536}", ".{0*32768}", ".{0*32769}", ".{#*65535}", ".{#*65536}",
+          ".00/{@*65537}r", ".{0*32769}/@s", "./@{#*65536}", "./{@*65537}*", "{0*32767}", "{0*32768}",
+          "integer-width/*{0*32768}", "integer-width/{#*32768}0", "E{0*65535}", "E{0*65536}", "scientific/*{e*65536}",
+          "scale/1e32767", "scale/1e32768", "scale/1e-32768", "scale/1e-32769", "scale/{0*65536}1", "scale/1{0*32768}",
+          "precision-increment/1e-32768", "precision-increment/5e-32769", "precision-increment/5e3",
+          "precision-increment/5e4", "precision-increment/.{0*32767}5", "precision-increment/.{0*32768}5",
+          "{.*65536}", "{percent *65536}", "currency/{E*65536}", "numbering-system/{l*65536}", "{/*65536}"]
 
 
 def rows(path):
@@ -84,6 +93,8 @@ def precision(text, reading, said):
         if "increment" in said.kinds or reading.bounds:
             return None
         count = options["maximumFractionDigits"]
+        if count > 32768:
+            return None
         increment = options.get("roundingIncrement", 1)
         return f"fraction:{count}:{count}" if increment == 1 else f"multiples:{count}:{increment}"
     if chosen[0] == "unlimited":
@@ -92,10 +103,14 @@ def precision(text, reading, said):
         low, high = chosen[1], min(65535, 65535 if chosen[2] is None else chosen[2])
         return f"fraction:{low}:{high}" if low <= 32768 else None
     if chosen[0] == "significant":
-        return f"significant:{chosen[1]}:{65536 if chosen[2] is None else chosen[2]}"
+        low, high = chosen[1], min(65536, 65536 if chosen[2] is None else chosen[2])
+        return f"significant:{low}:{high}" if low <= 65536 else None
     _, low, high, least, most, priority, both = chosen
+    high, most = min(65535, 65535 if high is None else high), min(65536, most)
+    if low > 32768 or least > most:
+        return None
     name = {"relaxed": "more", "strict": "less"}[priority]
-    return f"{name}:{low}:{65535 if high is None else high}:{least}:{most}:{'both' if both else 'chosen'}"
+    return f"{name}:{low}:{high}:{least}:{most}:{'both' if both else 'chosen'}"
 
 
 def words(text):
@@ -122,7 +137,7 @@ def words(text):
     low, high = reading.integer or (1, None)
     strip = " strip" if "trailingZeroDisplay" in options else ""
     return (f"{style} {said.scale} {notation} {precision(text, reading, said)} {options['roundingMode']} "
-            f"integer:{low}:{32768 if high is None else high}{strip} sign:{options.get('signDisplay', 'auto')} "
+            f"integer:{low}:{min(32768, high or 32768)}{strip} sign:{options.get('signDisplay', 'auto')} "
             f"grouping:{str(options.get('useGrouping', 'auto')).lower()} {reading.system or 'none'}")
 
 
@@ -143,7 +158,29 @@ def read(text):
 
 def bounded(text):
     """The reading of a skeleton whose counts ICU accepts only as a text: no exponent digit, or no increment."""
-    return first(text, r"scientific|engineering|precision-increment")
+    has_exponent = re.search(r"(?:scientific|engineering)\S*/[*+](?:/|\s|$)", text)
+    return first(text, r"scientific|engineering" if has_exponent else r"precision-increment")
+
+
+def expected(text):
+    """The words of any skeleton without units, or its error."""
+    try:
+        skeleton.LIMIT = 10**9
+        skeleton.read(text)
+    except skeleton.SkeletonError as error:
+        return f"syntax {bytes_before(text, error.offset)}"
+    except (skeleton.OutOfBounds, skeleton.Unsupported):
+        pass
+    return words(text)
+
+
+def hostile():
+    """Each prefix of some skeletons, each byte of them changed, and counts at and beyond the limits."""
+    for text in HOSTILE:
+        for at in range(len(text)):
+            yield text[:at]
+            yield from (text[:at] + byte + text[at + 1:] for byte in "/ 0xE*" if byte != text[at])
+    yield from ("\\" + text if text[0] == "{" else text.replace("{", "\\{") for text in COUNTS)
 
 
 def bytes_before(text, units):
@@ -162,7 +199,7 @@ def main(folder, model):
     def put(text, expected):
         if text not in seen:
             seen.add(text)
-            print(escaped(text) + "\t" + expected)
+            print(escaped(text) + "\t" + re.sub(r"(.)\1{99,}", lambda run: f"«{run[1]}*{len(run[0])}»", expected))
 
     for row in rows(os.path.join(folder, "readings.tsv")):
         put(row[0], words(skeleton.unescape(row[0])))
@@ -173,9 +210,14 @@ def main(folder, model):
             put(text, f"syntax {bytes_before(plain, int(offset))}")
         else:
             put(text, words(plain))
+    print("# Hostile texts.")
+    for text in hostile():
+        if "unit" not in stems(text):
+            put(text, expected(skeleton.unescape(text)))
     print("# Normal forms have the options of their skeletons.")
     for text, normal in rows(os.path.join(folder, "normal.tsv")):
-        if text != normal and "group-auto" not in text and "error " not in normal and "unit/" not in normal:
+        loses_grouping = text.startswith("K") and "group-auto" in text
+        if text != normal and not loses_grouping and "error " not in normal and "unit/" not in normal:
             print(escaped(text) + "\t=" + escaped(normal))
 
 

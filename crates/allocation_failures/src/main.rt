@@ -5,6 +5,7 @@
 //! and `wrong` otherwise. `tests/allocation_failures.sh` makes each allocation fail in turn.
 #![tactic(auto)]
 
+mod digits;
 mod joins;
 mod locales;
 mod outcome;
@@ -22,6 +23,7 @@ fn of_all(alloc: Global) -> Outcome {
     values::outcome(alloc)
         .and(joins::outcome(alloc))
         .and(roundings::outcome(alloc))
+        .and(digits::outcome(alloc))
         .and(runs::outcome(alloc))
         .and(sinks::of_run(alloc))
         .and(sinks::outcome(alloc))

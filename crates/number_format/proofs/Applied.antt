@@ -1,7 +1,7 @@
 -- A decimal that is rounded at the position of a precision, with the digits that are shown then, is the one that the
 -- options make.
-use Rattle.std.proofs.Common.{◌≡◌, ℕ, ◌*◌, ◌/◌, ◌%◌, ◌^◌, ◌<◌, ◌≤◌, true, false, refl, sym, ◌∙◌, ap, subst, arith}
-use Rattle.std.specs.Prelude.{Some, None, ℤ, pos, negsuc, ◌+ℤ◌, ◌-ℤ◌, ◌≤ℤ◌, int_lt}
+use Rattle.std.proofs.Common.{◌≡◌, ℕ, ◌*◌, ◌/◌, ◌%◌, ◌^◌, ◌<◌, ◌≤◌, false, refl, sym, ◌∙◌, ap, subst, arith}
+use Rattle.std.specs.Prelude.{Some, ℤ, pos, negsuc, ◌+ℤ◌, ◌-ℤ◌, ◌≤ℤ◌, int_lt}
 use Rattle.std.specs.Int.{int_max, int_min}
 use Rattle.std.proofs.Math.Nat.{mod-lt, mod-eq_of_lt, div-add-mod', mul-mod_left}
 use Rattle.std.proofs.lemmas.Int.{ints, clamps}
@@ -14,8 +14,8 @@ use Rattle.decimal_digits.specs.declared.rounding.RoundingIncrement.{RoundingInc
 use Rattle.decimal_digits.specs.declared.rounding.UnsignedRoundingMode.{UnsignedRoundingMode}
 use Rattle.decimal_unsigned.specs.Unsigned.{Unsigned, IsValue}
 use Rattle.decimal_unsigned.specs.Edits.{padded_start, padded_end}
-use Rattle.decimal_unsigned.specs.Rounded.{rounding, rounded_to, reaches_limit}
-use Rattle.fixed_decimal.specs.Decimal.{Decimal, signed_number, with_absolute}
+use Rattle.decimal_unsigned.specs.Rounded.{rounding, reaches_limit}
+use Rattle.fixed_decimal.specs.Decimal.{Decimal, signed_number}
 use Rattle.fixed_decimal.specs.SignedRounding.{NamedSigned, mode_at, IsRounded, RoundingFails}
 use Rattle.fixed_decimal.proofs.Calling.{signed_rounded_to-some, below_limit, offset_is, size_right, ten_pos}
 use Rattle.number_format.specs.declared.digit_options.DigitOptions.{DigitOptions}
@@ -30,14 +30,6 @@ unit_clamped : (increment : RoundingIncrement) (p : ℤ)
 unit_clamped increment p =
     ap (λ k. step_of increment * 10 ^ k)
     (omega (arith, ints, clamps, offset_is p, offset_is (int_max p (negsuc 32767))))
-
-below_limit_if_some : (v new : Decimal) (position : ℤ) (multiple : ℕ)
-    → with_absolute v (rounded_to v.absolute position multiple) ≡ Some new → reaches_limit multiple ≡ false
-below_limit_if_some v new position multiple e = grind arith
-
-limit_if_none : (v : Decimal) (position : ℤ) (multiple : ℕ)
-    → with_absolute v (rounded_to v.absolute position multiple) ≡ None → reaches_limit multiple ≡ true
-limit_if_none v position multiple e = grind arith
 
 within : (z : ℤ) → z ≤ℤ pos 32767 → int_lt highest_magnitude z ≡ false
 within z h = grind (arith, ints)
@@ -85,7 +77,8 @@ module _ (o : DigitOptions) (exponent : ℕ) (old : Decimal) (before position : 
       let named = rounds.named in
       let multiple =
       ap (λ (v : Decimal). v.absolute.number) (signed_rounded_to-some old new position named.0 named.2) ∙ sym number in
-      let fits = ap reaches_limit number_is ∙ below_limit_if_some old new position _ rounds.value in
+      let fits : reaches_limit (rounded_with o exponent old).number ≡ false =
+      let t = rounds.value in let u = number_is in grind arith in
       record {
         within = rw (or_from _ _ below fits) refl;
         fits = fits;
@@ -106,7 +99,7 @@ module _ (o : DigitOptions) (exponent : ℕ) (old : Decimal) (before position : 
       → RoundingFails held e old (rounding position o.mode increment) → RoundingFailsAt held e o exponent old
   rounding_fails held Limit low fails = (
     subst (λ z. z ≤ℤ pos 32767) starts low,
-    let t = limit_if_none old position _ fails.value in let u = number_is in grind arith,
+    let t = fails.value in let u = number_is in grind arith,
   )
   rounding_fails held Memory low fails = let u = number_is in grind (arith, fails)
 

@@ -1,5 +1,5 @@
 -- Laws of digit options.
-use Rattle.std.proofs.Common.{◌≡◌, ℕ, ◌*◌, ◌/◌, ◌<◌, false, refl, sym, ◌∙◌, ap, subst, arith}
+use Rattle.std.proofs.Common.{◌≡◌, ℕ, ◌*◌, ◌/◌, ◌<◌, ◌≤◌, ◌%◌, false, refl, sym, ◌∙◌, ap, subst, arith}
 use Rattle.std.specs.Prelude.{Some, ℤ, pos, ◌+ℤ◌}
 use Rattle.std.proofs.Math.Nat.{div-add-mod'}
 use Rattle.std.proofs.lemmas.Int.{ints}
@@ -16,7 +16,7 @@ use Rattle.number_format.specs.declared.digit_options.DigitOptions.{DigitOptions
 use Rattle.number_format.specs.declared.digit_ranges.FractionDigits.{FractionDigits}
 use Rattle.number_format.specs.declared.precision.Precision.{Precision}
 use Rattle.number_format.specs.declared.precision.Precision.TheVariants.{Fraction, Multiples, Significant, MorePrecision, LessPrecision}
-use Rattle.number_format.specs.ShownDigits.{fraction_end, Rounded, to_fixed, rounded_by, rounded_with, shown, applied, IsFractional, KeepsNumber, KeepsValue, IsMonotone, AppliesOnce}
+use Rattle.number_format.specs.ShownDigits.{fraction_end, Rounded, to_fixed, rounded_by, rounded_with, shown, applied, IsFractional, KeepsDigits}
 use Rattle.number_format.proofs.Applied.{shown_number}
 
 -- ---- A rounding to fraction digits is one to multiples of a unit.
@@ -57,7 +57,8 @@ by_unit (LessPrecision b) mode is = absurd is
 
 -- ---- Digits that are kept.
 module _ (o : DigitOptions) (f : FractionDigits) (v : Decimal) where
-  pub keeps_number : KeepsNumber o f v
+  keeps_number : o.precision ≡ Fraction f → v.absolute.number % weight (fraction_end f.max) ≡ 0
+      → (rounded_with o 0 v).number ≡ v.absolute.number
   unfolding rounded_by to_fixed
   keeps_number is divides =
       let mode = mode_at o.mode v.sign in
@@ -74,11 +75,13 @@ module _ (o : DigitOptions) (f : FractionDigits) (v : Decimal) where
   unfolding rounded_by to_fixed
   last_shown_is is = ap (λ p. (rounded_by p (mode_at o.mode v.sign) 0 v.absolute.number).last_shown) is
 
-  pub keeps_value : KeepsValue o f v
-  keeps_value is divides few range = grind (arith, nat_tests, keeps_number, last_shown_is)
+  pub keeps_digits : KeepsDigits o f v
+  keeps_digits is divides =
+      (keeps_number is divides, λ few range. grind (arith, nat_tests, keeps_number, last_shown_is))
 
 -- ---- Order, and a second rounding.
-pub is_monotone : (o : DigitOptions) (v w : Decimal) → IsMonotone o v w
+pub is_monotone : (o : DigitOptions) (v w : Decimal) → IsFractional o.precision → v.sign ≡ w.sign
+    → v.absolute.number ≤ w.absolute.number → (rounded_with o 0 v).number ≤ (rounded_with o 0 w).number
 is_monotone o v w is sign h =
     let u = by_unit o.precision (mode_at o.mode v.sign) is in
     rw (sym sign, u.number v.absolute.number, u.number w.absolute.number)
@@ -105,5 +108,6 @@ module _ (o : DigitOptions) (v : Decimal) (is : IsFractional o.precision) (all :
       rw (ap reaches_limit number ∙ fits)
       (λ i. Some (record v { absolute = shown o (number i) (end i) }))
 
-pub applies_once : (o : DigitOptions) (v : Decimal) → AppliesOnce o v
-applies_once o v is all w makes = let f = once o v is all in grind arith
+pub applies_once : (o : DigitOptions) (v w : Decimal) → IsFractional o.precision → o.integer.max ≡ 32768
+    → applied o v ≡ Some w → applied o w ≡ Some w
+applies_once o v w is all makes = let f = once o v is all in grind arith

@@ -162,7 +162,7 @@ multiples_unit m exponent =
 module _ (b : BothDigits) (exponent : ℕ) (mode : UnsignedRoundingMode) (n : ℕ) where
   -- the two, and the position of each
   abbrev s : Rounded
-  s = to_precision mode b.significant exponent n
+  s = to_precision mode b.significant.min b.significant.max exponent n
 
   abbrev f : Rounded
   f = to_fixed mode b.fraction.min b.fraction.max 1 exponent n
@@ -174,7 +174,7 @@ module _ (b : BothDigits) (exponent : ℕ) (mode : UnsignedRoundingMode) (n : �
   end = fraction_end b.fraction.max
 
   -- a precision that chooses one of them
-  by_choice : (p : Precision) (t : Bool) → rounded_by p mode exponent n ≡ one_of b exponent t s f
+  by_choice : (p : Precision) (t : Bool) → rounded_by p mode exponent n ≡ one_of b (λ _. t) mode exponent n
       → base_of p ≡ MultiplesOf1 → position_of p (first_by exponent n) ≡ (if t then fine else end)
       → last_shown_of p (first_by exponent n) (first_by exponent (if t then s else f).number)
       ≡ zeros_end b b.minimum t (first_by exponent (if t then s else f).number)

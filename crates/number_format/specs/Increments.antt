@@ -1,8 +1,7 @@
--- The increments of ECMA-402.
 use Rattle.std.specs.Prelude.{ℕ, ◌==◌, Bool, [], ◌∷◌}
 use Rattle.std.specs.List.{list_any}
 
--- the number is one of them
+-- the number is one of the increments of ECMA-402
 abbrev pub is_increment : ℕ → Bool
 is_increment n =
     list_any (λ i. i == n)

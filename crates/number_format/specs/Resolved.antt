@@ -14,27 +14,23 @@ use Rattle.number_format.specs.declared.settings.RoundingPriority.TheVariants.{A
 use Rattle.number_format.specs.Increments.{is_increment}
 use Rattle.number_format.specs.ShownDigits.{increment_of}
 
--- ---- Which roundings apply.
 abbrev pub is_auto : RoundingPriority → Bool
 is_auto Auto = true
 is_auto priority = false
-
--- a number of digits is given
-abbrev pub given : Option ℕ → Option ℕ → Bool
-given least greatest = is_some least || is_some greatest
 
 -- with a priority both apply; otherwise significant digits if a number of them is given, and else fraction digits, but
 -- in compact notation only if a number of them is given
 abbrev pub needs_significant : DigitSettings → Bool
 needs_significant s =
-    not (is_auto s.rounding_priority) || given s.minimum_significant_digits s.maximum_significant_digits
+    not (is_auto s.rounding_priority)
+    || (is_some s.minimum_significant_digits || is_some s.maximum_significant_digits)
 
 abbrev pub needs_fraction : DigitSettings → DigitDefaults → Bool
 needs_fraction s d =
     not (is_auto s.rounding_priority)
-    || not (needs_significant s || (d.is_compact && not (given s.minimum_fraction_digits s.maximum_fraction_digits)))
+    || not (needs_significant s
+    || (d.is_compact && not (is_some s.minimum_fraction_digits || is_some s.maximum_fraction_digits)))
 
--- ---- The least and the greatest numbers of digits.
 -- the numbers of significant digits; where they do not apply, those of compact notation
 abbrev pub significant_of : DigitSettings → ℕ × ℕ
 significant_of s =
@@ -50,7 +46,6 @@ fraction_of s d =
     let most = if s.rounding_increment == 1 then d.fraction.max else d.fraction.min in
     if needs_fraction s d then (least, unwrap_or s.maximum_fraction_digits (max most least)) else (0, 0)
 
--- ---- The options.
 abbrev pub counts : ℕ → ℕ → ℕ × ℕ
 counts least greatest = (least, greatest)
 

@@ -10,7 +10,7 @@ use Rattle.number_format.specs.declared.notation.Notation.{Notation}
 use Rattle.number_format.specs.declared.notation.Notation.TheVariants.{Standard, Scientific, Engineering, Compact}
 use Rattle.number_format.specs.declared.precision.Precision.{Precision}
 use Rattle.number_format.specs.declared.precision.Precision.TheVariants.{Multiples}
-use Rattle.number_format.specs.ShownDigits.{Rounded, rounded_at, shown, rounded_within}
+use Rattle.number_format.specs.ShownDigits.{Rounded, rounded_at, shown, rounded_within, NeedsMemory}
 
 -- ---- The exponent of a number whose first digit is at a magnitude.
 -- the exponent of a compact pattern, from the rows of the magnitudes 3 to 19: 0 below 3, and above 19 that of 19
@@ -38,7 +38,6 @@ base_exponent notation n = int_min (pos 0) (exponent_at notation (first n))
 abbrev pub raised : Notation → ℕ → ℕ
 raised notation n = n * 10 ^ unsigned_abs (base_exponent notation n)
 
--- ---- The rounding.
 -- a rounded number, its exponent, and the magnitude of its quotient down to which zeros are shown
 pub record Settled : Type 0 where
   pub exponent : ℕ
@@ -62,7 +61,14 @@ settled notation o sign n =
     let exponent = whole_exponent notation n in
     option_and_then (settled_after notation o sign exponent) (rounded_within o sign exponent n)
 
--- ---- The significand and the exponent.
+-- out of memory in the rounding, or in the second one after a carry
+abbrev pub ScalingNeedsMemory : ℕ → Notation → DigitOptions → Sign → ℕ → Type 0
+ScalingNeedsMemory held notation o sign n =
+    let exponent = whole_exponent notation n in
+    let made = (rounded_at o sign exponent n).number in
+    NeedsMemory held o sign exponent n
+    ⊎ ((exponent < whole_exponent notation made) × NeedsMemory held o sign (whole_exponent notation made) made)
+
 pub record ScaledValue : Type 0 where
   pub significand : Decimal
   pub exponent : ℤ

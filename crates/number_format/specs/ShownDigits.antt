@@ -1,7 +1,7 @@
 -- The digits that ECMA-402's FormatNumericToString shows of a number that is written with an exponent: of its quotient
 -- by 10^exponent. Numbers are in units of 10^-32768; magnitudes are those of the quotient. The weight of a magnitude
 -- below -32768 is 1 unit: at such a position nothing is rounded.
-use Rattle.std.specs.Prelude.{◌≡◌, ℕ, ◌*◌, ◌%◌, ◌^◌, ◌<◌, ◌≤◌, Bool, true, false, not, ◌||◌, if◌then◌else◌, Option, Some, None, ℤ, pos, ◌+ℤ◌, ◌-ℤ◌, ◌≤ℤ◌, int_lt, int_le}
+use Rattle.std.specs.Prelude.{◌≡◌, ℕ, ◌*◌, ◌%◌, ◌^◌, ◌<◌, Bool, true, false, not, ◌||◌, if◌then◌else◌, Option, Some, None, ℤ, pos, ◌+ℤ◌, ◌-ℤ◌, ◌≤ℤ◌, int_lt, int_le}
 use Rattle.std.specs.Int.{int_max, int_min}
 use Rattle.decimal_digits.specs.Number.{number_limit, weight, first, last, size, lowest_magnitude, highest_magnitude}
 use Rattle.decimal_digits.specs.Rounding.{step_of, unit_at, rounded_number, DigitRoundingNeedsMemory}
@@ -21,14 +21,12 @@ use Rattle.number_format.specs.declared.digit_options.TrailingZeros.{TrailingZer
 use Rattle.number_format.specs.declared.digit_options.TrailingZeros.TheVariants.{Auto, StripIfInteger}
 use Rattle.number_format.specs.declared.digit_ranges.FractionDigits.{FractionDigits}
 use Rattle.number_format.specs.declared.digit_ranges.Increment.{Increment}
-use Rattle.number_format.specs.declared.digit_ranges.SignificantDigits.{SignificantDigits}
 use Rattle.number_format.specs.declared.precision.BothDigits.{BothDigits}
 use Rattle.number_format.specs.declared.precision.Minimum.{Minimum}
 use Rattle.number_format.specs.declared.precision.Minimum.TheVariants.{Chosen, Both}
 use Rattle.number_format.specs.declared.precision.Precision.{Precision}
 use Rattle.number_format.specs.declared.precision.Precision.TheVariants.{Fraction, Multiples, Significant, MorePrecision, LessPrecision}
 
--- ---- Magnitudes.
 -- the magnitude of the last of the given number of digits, from a first one down
 abbrev pub last_at : ℕ → ℤ → ℤ
 last_at count first = first +ℤ pos 1 -ℤ pos count
@@ -41,7 +39,6 @@ fraction_end count = pos 0 -ℤ pos count
 abbrev pub first_by : ℕ → ℕ → ℤ
 first_by exponent n = first n -ℤ pos exponent
 
--- ---- The two roundings.
 -- the increment as a number
 abbrev pub increment_of : Increment → ℕ
 increment_of i = step_of i.base * 10 ^ i.zeros
@@ -55,38 +52,35 @@ pub record Rounded : Type 0 where
   pub last_shown : ℤ
 
 -- ToRawPrecision: 999.5 rounded half-expand to 3 digits is 1000, of which the last one kept is at magnitude 1
-unfoldable pub to_precision : UnsignedRoundingMode → SignificantDigits → ℕ → ℕ → Rounded
-to_precision mode digits exponent n =
-    let unit = unit_at MultiplesOf1 (pos exponent +ℤ last_at digits.max (first_by exponent n)) in
+unfoldable pub to_precision : UnsignedRoundingMode → ℕ → ℕ → ℕ → ℕ → Rounded
+to_precision mode min max exponent n =
+    let unit = unit_at MultiplesOf1 (pos exponent +ℤ last_at max (first_by exponent n)) in
     let number = rounded_number mode unit n in
     record {
       unit = unit;
       number = number;
-      last_kept = last_at digits.max (first_by exponent number);
-      last_shown = last_at digits.min (first_by exponent number);
+      last_kept = last_at max (first_by exponent number);
+      last_shown = last_at min (first_by exponent number);
     }
 
 -- ToRawFixed, with the increment in units of the last digit
 unfoldable pub to_fixed : UnsignedRoundingMode → ℕ → ℕ → ℕ → ℕ → ℕ → Rounded
 to_fixed mode min max increment exponent n =
-    let unit = increment * weight (pos exponent +ℤ fraction_end max) in
-    record {
-      unit = unit;
-      number = rounded_number mode unit n;
-      last_kept = fraction_end max;
-      last_shown = fraction_end min;
-    }
+    let u = increment * weight (pos exponent +ℤ fraction_end max) in
+    record { unit = u; number = rounded_number mode u n; last_kept = fraction_end max; last_shown = fraction_end min }
 
--- ---- The one that is shown.
 -- the magnitude down to which the least numbers of digits show zeros, if the rounding to significant digits is chosen
 abbrev pub zeros_end : BothDigits → Minimum → Bool → ℤ → ℤ
 zeros_end b Chosen true first = last_at b.significant.min first
 zeros_end b Chosen false first = fraction_end b.fraction.min
 zeros_end b Both chosen first = int_min (last_at b.significant.min first) (fraction_end b.fraction.min)
 
--- one of two roundings
-abbrev pub one_of : BothDigits → ℕ → Bool → Rounded → Rounded → Rounded
-one_of b exponent is_significant s f =
+-- the rounding that is chosen of two, given whether that to significant digits keeps a digit at least as low
+abbrev pub one_of : BothDigits → (Bool → Bool) → UnsignedRoundingMode → ℕ → ℕ → Rounded
+one_of b choice mode exponent n =
+    let s = to_precision mode b.significant.min b.significant.max exponent n in
+    let f = to_fixed mode b.fraction.min b.fraction.max 1 exponent n in
+    let is_significant = choice (int_le s.last_kept f.last_kept) in
     let r = if is_significant then s else f in
     record r { last_shown = zeros_end b b.minimum is_significant (first_by exponent r.number) }
 
@@ -94,22 +88,15 @@ one_of b exponent is_significant s f =
 unfoldable pub rounded_by : Precision → UnsignedRoundingMode → ℕ → ℕ → Rounded
 rounded_by (Fraction f) mode exponent n = to_fixed mode f.min f.max 1 exponent n
 rounded_by (Multiples m) mode exponent n = to_fixed mode m.digits m.digits (increment_of m.increment) exponent n
-rounded_by (Significant s) mode exponent n = to_precision mode s exponent n
-rounded_by (MorePrecision b) mode exponent n =
-    let s = to_precision mode b.significant exponent n in
-    let f = to_fixed mode b.fraction.min b.fraction.max 1 exponent n in
-    one_of b exponent (int_le s.last_kept f.last_kept) s f
-rounded_by (LessPrecision b) mode exponent n =
-    let s = to_precision mode b.significant exponent n in
-    let f = to_fixed mode b.fraction.min b.fraction.max 1 exponent n in
-    one_of b exponent (not (int_le s.last_kept f.last_kept)) s f
+rounded_by (Significant s) mode exponent n = to_precision mode s.min s.max exponent n
+rounded_by (MorePrecision b) mode exponent n = one_of b (λ is_finer. is_finer) mode exponent n
+rounded_by (LessPrecision b) mode exponent n = one_of b not mode exponent n
 
 -- the rounding of a number with this sign, written with an exponent
 abbrev pub rounded_at : DigitOptions → Sign → ℕ → ℕ → Rounded
 rounded_at o sign exponent n = rounded_by o.precision (mode_at o.mode sign) exponent n
 
--- the digits of a rounded number, with zeros down to a magnitude; digits above the greatest number of integer digits
--- are cut off
+-- the digits of a rounded number without those above the greatest number of integer digits, and zeros to a magnitude
 abbrev pub padded : DigitOptions → ℕ → ℤ → Unsigned
 padded o rounded end =
     let number = rounded % weight (pos o.integer.max) in
@@ -145,7 +132,6 @@ pub record IsApplied (o : DigitOptions) (old new : Decimal) : Type 0 where
   pub value : applied o old ≡ Some new
   pub named : NamedSigned o.mode (rounded_with o 0 old).unit (signed_number old) (rounded_with o 0 old).number
 
--- ---- The position of the rounding.
 -- the increment, without zeros
 abbrev pub base_of : Precision → RoundingIncrement
 base_of (Multiples m) = m.increment.base
@@ -169,45 +155,30 @@ rounded_within o sign exponent n =
     let r = rounded_at o sign exponent n in
     if int_lt highest_magnitude (position_at o.precision exponent n) || reaches_limit r.number then None else Some r
 
--- ---- Errors.
--- the error: the rounded number is 10^32768 or more, or out of memory for one digit more than the `held` ones that
--- fit without an allocation, by 25 with or without zeros, and only below the limit
+-- a rounding below the limit makes one digit more than the `held` that fit without an allocation: by 25 or its tens
+abbrev pub NeedsMemory : ℕ → DigitOptions → Sign → ℕ → ℕ → Type 0
+NeedsMemory held o sign exponent n =
+    DigitRoundingNeedsMemory (base_of o.precision) (size n) (rounded_at o sign exponent n).number held
+
+-- the error: the rounded number is 10^32768 or more, or out of memory
 abbrev pub ApplyFails : ℕ → RoundError → DigitOptions → Decimal → Type 0
 ApplyFails held Limit o v = applied o v ≡ None
-ApplyFails held Memory o v =
-    DigitRoundingNeedsMemory (base_of o.precision) (size v.absolute.number) (rounded_with o 0 v).number held
+ApplyFails held Memory o v = NeedsMemory held o v.sign 0 v.absolute.number
 
--- ---- Laws.
 -- the precision is a number of fraction digits, by 1 or by an increment
 abbrev pub IsFractional : Precision → Type 0
 IsFractional (Fraction f) = Unit {0}
 IsFractional (Multiples m) = Unit {0}
 IsFractional precision = ⊥
 
--- a number with at most the greatest number of fraction digits is kept
-abbrev pub KeepsNumber : DigitOptions → FractionDigits → Decimal → Type 0
-KeepsNumber o f v =
+-- a number with at most the greatest number of fraction digits is kept, and so is the whole value, if it has the range
+-- that the options show
+abbrev pub KeepsDigits : DigitOptions → FractionDigits → Decimal → Type 0
+KeepsDigits o f v =
     o.precision ≡ Fraction f → v.absolute.number % weight (fraction_end f.max) ≡ 0
-    → (rounded_with o 0 v).number ≡ v.absolute.number
-
--- and so is the whole value, if it has the range that the options show
-abbrev pub KeepsValue : DigitOptions → FractionDigits → Decimal → Type 0
-KeepsValue o f v =
-    o.precision ≡ Fraction f → v.absolute.number % weight (fraction_end f.max) ≡ 0
-    → v.absolute.number < number_limit → v.absolute ≡ shown o v.absolute.number (fraction_end f.min)
-    → applied o v ≡ Some v
-
--- with fraction digits the greater of two absolute values of one sign is rounded to no less
-abbrev pub IsMonotone : DigitOptions → Decimal → Decimal → Type 0
-IsMonotone o v w =
-    IsFractional o.precision → v.sign ≡ w.sign → v.absolute.number ≤ w.absolute.number
-    → (rounded_with o 0 v).number ≤ (rounded_with o 0 w).number
-
--- with fraction digits the options change a value that they made no more, if no integer digit is cut off
-abbrev pub AppliesOnce : DigitOptions → Decimal → Type 0
-AppliesOnce o v =
-    IsFractional o.precision → o.integer.max ≡ 32768
-    → (w : Decimal) → applied o v ≡ Some w → applied o w ≡ Some w
+    → ((rounded_with o 0 v).number ≡ v.absolute.number)
+    × (v.absolute.number < number_limit → v.absolute ≡ shown o v.absolute.number (fraction_end f.min)
+    → applied o v ≡ Some v)
 
 -- ---- Private: used only in the contracts of private functions, which make one rounding.
 -- the rounding to significant digits keeps a digit at least as low as that to fraction digits, if the first digit is at
@@ -238,5 +209,4 @@ pub record IsRoundedAt (o : DigitOptions) (exponent : ℕ) (old new : Decimal) (
 abbrev pub RoundingFailsAt : ℕ → RoundError → DigitOptions → ℕ → Decimal → Type 0
 RoundingFailsAt held Limit o exponent v =
     (first v.absolute.number ≤ℤ highest_magnitude) × (rounded_within o v.sign exponent v.absolute.number ≡ None)
-RoundingFailsAt held Memory o exponent v =
-    DigitRoundingNeedsMemory (base_of o.precision) (size v.absolute.number) (rounded_with o exponent v).number held
+RoundingFailsAt held Memory o exponent v = NeedsMemory held o v.sign exponent v.absolute.number

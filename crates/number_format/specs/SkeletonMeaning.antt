@@ -1,5 +1,6 @@
 -- The options that a skeleton names, by ICU's defaults. An error names the stem that this library has not.
-use Rattle.std.specs.Prelude.{ℕ, ◌==◌, nat_lt, Bool, true, false, ◌||◌, not, if◌then◌else◌, ℤ, pos, negsuc, int_lt, List, Option, Some, None, Result, Ok, Err}
+use Rattle.std.specs.Prelude.{ℕ, ◌==◌, nat_lt, Bool, true, false, ◌||◌, not, if◌then◌else◌, ℤ, pos, negsuc, int_lt, List, map, Option, Some, None, Result, Ok, Err}
+use Rattle.std.specs.Char.{to_ascii_uppercase}
 use Rattle.std.specs.Option.{option_map}
 use Rattle.decimal_format.specs.declared.grouping.GroupingStrategy.{GroupingStrategy}
 use Rattle.decimal_format.specs.declared.grouping.GroupingStrategy.TheVariants as grouping
@@ -136,6 +137,14 @@ options_value o = record {
   grouping = o.grouping;
   numbering_system = o.numbering_system;
 }
+
+-- the code of a currency in capitals, as skeletons have it
+abbrev pub style_in_capitals : NumberStyle → NumberStyle
+style_in_capitals (style.Currency c) = style.Currency (record c { code = map to_ascii_uppercase c.code })
+style_in_capitals style = style
+
+abbrev pub in_capitals : NumberOptions → NumberOptions
+in_capitals o = record o { style = style_in_capitals o.style }
 
 -- the options that choices are, or the error of the first choice that is none
 unfoldable pub options_of : Choices → Result OptionsValue SkeletonError

@@ -42,11 +42,7 @@ impl DigitOptions {
         self.apply_counted(value, &mut Steps::new())
     }
 
-    /// Rounds a decimal as [`apply`](Self::apply), and counts the digit accesses.
-    ///
-    /// # Errors
-    ///
-    /// As there.
+    /// Rounds a decimal as [`apply`](Self::apply), with its errors, and counts the digit accesses.
     #[tactic(auto, using(crate::proofs::Applied::apply_fails))]
     pub fn apply_counted<D: DigitStore>(
         &self,
@@ -67,8 +63,6 @@ impl DigitOptions {
         Ok(())
     }
 
-    /// Rounds a decimal to the digits of its quotient by 10^`exponent`, which is not divided, and returns the magnitude
-    /// of the quotient down to which zeros are shown.
     pub(crate) fn round_at<D: DigitStore>(
         &self,
         value: &mut Signed<UnsignedOver<D>>,
@@ -105,7 +99,6 @@ impl DigitOptions {
         value.set_max_position(self.integer.max as i16);
     }
 
-    /// Shows the digits of a number that is rounded: zeros down to a magnitude.
     pub(crate) fn show<D: DigitStore>(&self, value: &mut UnsignedOver<D>, last: i32)
         ensures value { value.new ≡ shown self.now value.old.number last }
         ensures size { size value.new.number ≤ size value.old.number }
@@ -119,8 +112,7 @@ impl DigitOptions {
 
 impl TrailingZeros {
     fn strip<D: DigitStore>(self, value: &mut UnsignedOver<D>)
-        ensures value { value.new ≡ stripped self value.old }
-        ensures number { value.new.number ≡ value.old.number }
+        ensures { value.new ≡ stripped self value.old }
     {
         if let TrailingZeros::StripIfInteger = self {
             value.trim_end_if_integer();

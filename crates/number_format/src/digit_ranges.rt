@@ -1,5 +1,5 @@
 //! Numbers of digits, and the increments of a rounding.
-ghost use Rattle.std.specs.Prelude.{◌≡◌, ◌*◌, ◌^◌, ◌<◌, ◌≤◌, ◌⊎◌, true, false, IsOk, IfOk, IfErr};
+ghost use Rattle.std.specs.Prelude.{◌≡◌, ◌*◌, ◌^◌, ◌<◌, ◌≤◌, ◌⊎◌, true, false, IfOk, IfErr};
 ghost use Rattle.decimal_digits.specs.Rounding.{step_of};
 ghost use Rattle.number_format.specs.Increments.{is_increment};
 
@@ -85,18 +85,6 @@ impl IntegerDigits {
         }
         Ok(IntegerDigits { min, max })
     }
-
-    /// Makes the range from a least number of integer digits up: no digit is cut off.
-    ///
-    /// # Errors
-    ///
-    /// `IntegerDigits`: the number is 0 or above 32,767.
-    pub fn at_least(min: u16) -> Result<IntegerDigits, DigitOptionsError>
-        ensures ok { IfOk result (λ digits. (digits.min ≡ min) × (digits.max ≡ 32768)) }
-        ensures err { IfErr result (λ e. (e ≡ DigitOptionsError.IntegerDigits) × ((min ≡ 0) ⊎ (32767 < min))) }
-    {
-        IntegerDigits::new(min, 32768)
-    }
 }
 
 impl FractionDigits {
@@ -141,8 +129,7 @@ impl Increment {
     ///
     /// `Increment`: the integer is none of these.
     pub fn new(increment: u16) -> Result<Increment, DigitOptionsError>
-        ensures ok { IfOk result (λ i. step_of i.base * 10 ^ i.zeros ≡ increment) }
-        ensures increment { IsOk result → is_increment increment ≡ true }
+        ensures ok { IfOk result (λ i. (step_of i.base * 10 ^ i.zeros ≡ increment) × (is_increment increment ≡ true)) }
         ensures err { IfErr result (λ e. (e ≡ DigitOptionsError.Increment) × (is_increment increment ≡ false)) }
     {
         let (base, zeros) = match increment {

@@ -1,10 +1,10 @@
 //! Laws of digit options, of notations and of plain texts.
-ghost use Rattle.std.specs.Prelude.{ℕ, List, Option};
+ghost use Rattle.std.specs.Prelude.{◌≡◌, ℕ, ◌≤◌, List, Option, Some};
 ghost use Rattle.fixed_decimal.specs.Decimal.{Decimal};
 ghost use Rattle.decimal_format.specs.declared.grouping.GroupingStrategy.{GroupingStrategy};
 ghost use Rattle.decimal_format.specs.Symbols.{Symbols};
 ghost use Rattle.number_format.specs.PlainTexts.{IsPlainText};
-ghost use Rattle.number_format.specs.ShownDigits.{KeepsNumber, KeepsValue, IsMonotone, AppliesOnce};
+ghost use Rattle.number_format.specs.ShownDigits.{rounded_with, applied, IsFractional, KeepsDigits};
 ghost use Rattle.number_format.specs.Scaled.{KeepsExponent, KeepsValueOf};
 
 use crate::digit_options::DigitOptions;
@@ -14,16 +14,15 @@ use crate::number_formatter::NumberFormatter;
 
 /// By `Precision::Fraction` a number with no more than the greatest number of fraction digits is kept, and the whole
 /// value if it shows the digits that the options show.
-#[tactic(auto, using(crate::proofs::DigitLaws::keeps_number, crate::proofs::DigitLaws::keeps_value))]
 pub fn fraction_digits_are_kept()
-    ensures number { (o : DigitOptions) (f : FractionDigits) (v : Decimal) → KeepsNumber o f v }
-    ensures value { (o : DigitOptions) (f : FractionDigits) (v : Decimal) → KeepsValue o f v }
+    ensures { (o : DigitOptions) (f : FractionDigits) (v : Decimal) → KeepsDigits o f v }
 {}
 
 /// By fraction digits or an increment the greater of two absolute values is rounded to no less.
 #[tactic(auto, using(crate::proofs::DigitLaws::is_monotone))]
 pub fn fraction_digits_are_monotone()
-    ensures { (o : DigitOptions) (v w : Decimal) → IsMonotone o v w }
+    ensures { (o : DigitOptions) (v w : Decimal) → IsFractional o.precision → v.sign ≡ w.sign
+        → v.absolute.number ≤ w.absolute.number → (rounded_with o 0 v).number ≤ (rounded_with o 0 w).number }
 {}
 
 /// By fraction digits or an increment applying twice is applying once, if no integer digit is cut off.
@@ -33,7 +32,8 @@ pub fn fraction_digits_are_monotone()
 /// significant digit 0.004 becomes `0.0`, and then `0`.
 #[tactic(auto, using(crate::proofs::DigitLaws::applies_once))]
 pub fn applying_is_idempotent()
-    ensures { (o : DigitOptions) (v : Decimal) → AppliesOnce o v }
+    ensures { (o : DigitOptions) (v w : Decimal) → IsFractional o.precision → o.integer.max ≡ 32768
+        → applied o v ≡ Some w → applied o w ≡ Some w }
 {}
 
 /// Without an increment the exponent of a notation is that of the first digit of the result, also if the rounding

@@ -6,7 +6,7 @@
 //! ```
 //! let digits = SignificantDigits::new(1, 3)?;
 //! let options = DigitOptions {
-//!     integer: IntegerDigits::at_least(1)?,
+//!     integer: IntegerDigits::new(1, 32768)?,
 //!     precision: Precision::Significant(digits),
 //!     mode: SignedRoundingMode::Unsigned(UnsignedRoundingMode::HalfExpand),
 //!     trailing_zeros: TrailingZeros::Auto,

@@ -41,8 +41,7 @@ impl CompactExponents {
 impl Notation {
     /// Returns the exponent of a number whose first digit is at a magnitude.
     ///
-    /// `ComputeExponentForMagnitude` of ECMA-402; by `Engineering` the greatest multiple of 3 that is at most the
-    /// magnitude.
+    /// `ComputeExponentForMagnitude` of ECMA-402; by `Engineering` the greatest multiple of 3 up to the magnitude.
     pub fn exponent_at(&self, magnitude: i16) -> i32
         ensures value { result ≡ exponent_at self.now magnitude }
         ensures at_least { int_min (magnitude -ℤ pos 2) (pos 0) ≤ℤ result }

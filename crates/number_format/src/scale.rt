@@ -4,9 +4,7 @@ ghost use Rattle.std.specs.Int.{int_min};
 ghost use Rattle.decimal_digits.specs.Number.{first, last, size};
 ghost use Rattle.fixed_decimal.specs.Decimal.{integer_decimal};
 ghost use Rattle.fixed_decimal.specs.Scientific.{scientific};
-ghost use Rattle.decimal_digits.specs.declared.rounding.RoundingIncrement.TheVariants.{MultiplesOf25};
-ghost use Rattle.number_format.specs.ShownDigits.{base_of};
-ghost use Rattle.number_format.specs.Scaled.{whole_exponent, base_exponent, settled, scaled};
+ghost use Rattle.number_format.specs.Scaled.{whole_exponent, base_exponent, raised, settled, ScalingNeedsMemory, scaled};
 
 use crate::digit_options::DigitOptions;
 use crate::notation::Notation;
@@ -74,8 +72,6 @@ fn lower<D: DigitStore>(value: &mut UnsignedOver<D>, count: u16) -> Result<(), R
 }
 
 impl Notation {
-    /// Multiplies a number that is written with an exponent below 0 by the power of ten that makes it 0, and returns
-    /// that exponent; otherwise 0.
     fn raise<D: DigitStore>(&self, value: &mut UnsignedOver<D>) -> i32
         ensures exponent { result ≡ base_exponent self.now value.old.number }
         ensures number { value.new.number ≡ value.old.number * 10 ^ unsigned_abs result }
@@ -96,8 +92,6 @@ impl Notation {
         self.exponent_at(value.nonzero_magnitude_start()).max(0) as u16
     }
 
-    /// Rounds a decimal that has a whole exponent, and returns the exponent of the rounded number, and the magnitude
-    /// of its quotient down to which zeros are shown.
     fn settle<D: DigitStore>(
         &self,
         options: &DigitOptions,
@@ -107,7 +101,8 @@ impl Notation {
             ≡ Some (record { exponent = r.0; number = value.new.absolute.number; last_shown = r.1 })) }
         ensures limit { IsErrOf result RoundError.Limit
             → settled self.now options.now value.old.sign value.old.absolute.number ≡ None }
-        ensures memory { IsErrOf result RoundError.Memory → base_of options.now.precision ≡ MultiplesOf25 }
+        ensures memory { IsErrOf result RoundError.Memory
+            → ScalingNeedsMemory D.L self.now options.now value.old.sign value.old.absolute.number }
         ensures sign { OnOk result (value.new.sign ≡ value.old.sign) }
         ensures at_most { IfOk result (λ r. r.0 ≤ 32767) }
     {
@@ -121,8 +116,7 @@ impl Notation {
         Ok((exponent, last))
     }
 
-    /// Returns the significand and the exponent that the notation writes for a decimal, with the digits that options
-    /// show.
+    /// Returns the significand and the exponent that the notation writes for a decimal, with the digits of options.
     ///
     /// The exponent is that of the decimal's magnitude. If the rounding carries the number into a magnitude with a
     /// greater exponent, it is that one, and the rounded number is rounded again: by at most 2 significant digits
@@ -132,7 +126,7 @@ impl Notation {
     ///
     /// - `Limit`: the rounded number or the increment would be 10^32768 or more, or a digit of the significand would be
     ///   below 10^-32768.
-    /// - `Memory`: as [`DigitOptions::apply`].
+    /// - `Memory`: as [`DigitOptions::apply`], in one of the two roundings.
     pub fn scale<D: DigitStore>(
         &self,
         options: &DigitOptions,
@@ -140,7 +134,8 @@ impl Notation {
     ) -> Result<Scaled<D>, RoundError>
         ensures ok { IfOk result (λ s. scaled self.now options.now value ≡ Some s) }
         ensures limit { IsErrOf result RoundError.Limit → scaled self.now options.now value ≡ None }
-        ensures memory { IsErrOf result RoundError.Memory → base_of options.now.precision ≡ MultiplesOf25 }
+        ensures memory { IsErrOf result RoundError.Memory
+            → ScalingNeedsMemory D.L self.now options.now value.sign (raised self.now value.absolute.number) }
     {
         let base = self.raise(&mut value.absolute);
         let (exponent, last) = self.settle(options, &mut value)?;
@@ -154,13 +149,6 @@ impl Notation {
 }
 
 impl<D: DigitStore> Scaled<D> {
-    /// Returns the significand: `1.2` of 1,200,000 in scientific notation.
-    pub fn significand(&self) -> &Signed<UnsignedOver<D>>
-        ensures { result.now ≡ self.now.significand }
-    {
-        &self.significand
-    }
-
     /// Returns the exponent: 6 of 1,200,000 in scientific notation.
     pub fn exponent(&self) -> i32
         ensures { result ≡ self.now.exponent }
@@ -168,7 +156,7 @@ impl<D: DigitStore> Scaled<D> {
         self.exponent
     }
 
-    /// Returns the significand and drops the exponent.
+    /// Returns the significand, `1.2` of 1,200,000 in scientific notation, and drops the exponent.
     pub fn into_significand(self) -> Signed<UnsignedOver<D>>
         ensures { result ≡ self.significand }
     {

@@ -1,5 +1,5 @@
 //! The numbers of digits as ECMA-402 reads them.
-ghost use Rattle.std.specs.Prelude.{◌≡◌, ◌≤◌, true, false, not, ◌||◌, ◌&&◌, Some, None, unwrap_or, IfOk, MatchResult};
+ghost use Rattle.std.specs.Prelude.{◌≡◌, ◌≤◌, true, false, not, ◌||◌, ◌&&◌, Some, None, IfOk, MatchResult};
 ghost use Rattle.number_format.specs.Resolved.{counts, needs_significant, needs_fraction, significant_of, fraction_of, are_within, are_fraction, IsNamed, IsResolved, first_error, increment_tests, resolve_error};
 ghost use Rattle.number_format.specs.ShownDigits.{increment_of};
 
@@ -56,20 +56,6 @@ pub struct DigitDefaults {
 }
 
 impl DigitSettings {
-    fn integer(&self) -> Result<IntegerDigits, DigitOptionsError>
-        ensures { MatchResult result
-            (λ i. (are_within 1 21 (unwrap_or self.now.minimum_integer_digits 1, 21) ≡ true)
-            × (counts i.min i.max ≡ (unwrap_or self.now.minimum_integer_digits 1, 32768)))
-            (λ e. (are_within 1 21 (unwrap_or self.now.minimum_integer_digits 1, 21) ≡ false)
-            × (e ≡ DigitOptionsError.IntegerDigits)) }
-    {
-        let min = self.minimum_integer_digits.unwrap_or(1);
-        if min == 0 || min > 21 {
-            return Err(DigitOptionsError::IntegerDigits);
-        }
-        Ok(IntegerDigits { min, max: 32768 })
-    }
-
     fn needs_significant(&self) -> bool
         ensures { result ≡ needs_significant self.now }
     {
@@ -123,10 +109,7 @@ impl DigitSettings {
         };
         let min = given_min.unwrap_or(least.min(given_max.unwrap_or(least)));
         let max = given_max.unwrap_or(most.max(min));
-        if min > max {
-            return Err(DigitOptionsError::FractionDigits);
-        }
-        Ok(FractionDigits { min, max })
+        FractionDigits::new(min, max)
     }
 
     fn precision(
@@ -186,7 +169,10 @@ impl DigitSettings {
         ensures error { MatchResult result (λ o. resolve_error self.now defaults.now ≡ None)
             (λ e. resolve_error self.now defaults.now ≡ Some e) }
     {
-        let integer = self.integer()?;
+        let min = self.minimum_integer_digits.unwrap_or(1);
+        if min == 0 || min > 21 {
+            return Err(DigitOptionsError::IntegerDigits);
+        }
         let increment = Increment::new(self.rounding_increment)?;
         let significant = self.significant()?;
         let fraction = self.fraction(defaults)?;
@@ -196,7 +182,7 @@ impl DigitSettings {
             minimum: Minimum::Chosen,
         };
         Ok(DigitOptions {
-            integer,
+            integer: IntegerDigits { min, max: 32768 },
             precision: self.precision(defaults, both, increment)?,
             mode: self.rounding_mode,
             trailing_zeros: self.trailing_zeros,

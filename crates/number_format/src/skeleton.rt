@@ -1,6 +1,6 @@
 //! Number skeletons, the texts for formats of ICU.
 ghost use Rattle.std.specs.Prelude.{◌≡◌, Ok, Err, IfOk, IfSome, MatchResult, string_bytes};
-ghost use Rattle.number_format.specs.SkeletonMeaning.{skeleton_options, options_value};
+ghost use Rattle.number_format.specs.SkeletonMeaning.{skeleton_options, options_value, style_in_capitals, in_capitals};
 ghost use Rattle.number_format.specs.SkeletonReading.{choices_of};
 
 mod choices;
@@ -13,7 +13,7 @@ mod same;
 mod stems;
 mod text;
 
-use crate::number_options::NumberOptions;
+use crate::number_options::{CurrencyStyle, NumberOptions, NumberStyle};
 use choices::Choices;
 use reading::{Reading, separator_length};
 use same::same_options;
@@ -46,7 +46,31 @@ fn read_choices(text: &[u8]) -> Result<Choices, SkeletonError>
     Ok(reading.next(start, &text[start..], false)?.choices)
 }
 
+impl NumberStyle {
+    fn in_capitals(self) -> Self
+        ensures { result ≡ style_in_capitals self }
+    {
+        match self {
+            NumberStyle::Currency(currency) => {
+                let mut code = currency.code;
+                code.make_ascii_uppercase();
+                NumberStyle::Currency(CurrencyStyle { code, ..currency })
+            }
+            style => style,
+        }
+    }
+}
+
 impl NumberOptions {
+    fn in_capitals(&self) -> Self
+        ensures { result ≡ in_capitals self.now }
+    {
+        NumberOptions {
+            style: self.style.in_capitals(),
+            ..*self
+        }
+    }
+
     /// Reads a number skeleton of ICU, with ICU's defaults: half-even, and without a stem six fraction digits, or those
     /// of the currency or of compact notation. `.+` keeps all digits.
     ///
@@ -67,19 +91,21 @@ impl NumberOptions {
         read_choices(text.as_bytes())?.options()
     }
 
-    /// Returns a short skeleton that reads as these options, or `None` if none is found, as of digits without a stem.
+    /// Returns a short skeleton that reads as these options, with the code of a currency in capitals, or `None` if none
+    /// is found, as of digits without a stem.
     ///
     /// # Errors
     ///
     /// Out of memory.
     pub fn to_skeleton(&self, alloc: Global) -> Result<Option<String>, AllocError>
         ensures { IfOk result (λ found. IfSome found
-            (λ text. skeleton_options (string_bytes text) ≡ Ok (options_value self.now))) }
+            (λ text. skeleton_options (string_bytes text) ≡ Ok (options_value (in_capitals self.now)))) }
     {
+        let options = self.in_capitals();
         let mut text = String::new(alloc);
-        push_skeleton(&mut text, self)?;
+        push_skeleton(&mut text, &options)?;
         match NumberOptions::try_from_skeleton(text.as_str()) {
-            Ok(options) if same_options(self, &options) => Ok(Some(text)),
+            Ok(read) if same_options(&options, &read) => Ok(Some(text)),
             _ => Ok(None),
         }
     }

@@ -2,7 +2,7 @@
 //!
 //! Each line of standard input is a row of two fields with a tab between them: a skeleton, and `syntax K` with the
 //! offset of the error, `unsupported STEM`, the words of its options, or `=` and another skeleton that has the same
-//! options. In a skeleton `␉`, `␊` and `␍` are a tab, a line feed and a carriage return, and `«@*3»` is `@@@`. Blank
+//! options. `«@*3»` is `@@@`, and in a skeleton `␉`, `␊` and `␍` are a tab, a line feed and a carriage return. Blank
 //! lines, and lines that start with `#` and have no tab, are not rows. Each row that fails is printed with its line
 //! number; the last line counts the rows.
 #![tactic(auto)]
@@ -69,7 +69,7 @@ fn holds(alloc: Global, row: &str) -> Option<bool> {
             let other = expanded(alloc, other).ok()?;
             Some(words.as_str() == skeleton_words(alloc, other.as_str()).ok()?.as_str())
         }
-        None => Some(words.as_str() == expected),
+        None => Some(words.as_str() == expanded(alloc, expected).ok()?.as_str()),
     }
 }
 

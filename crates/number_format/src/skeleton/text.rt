@@ -62,7 +62,7 @@ fn push_notation(text: &mut String, notation: NumberNotation) -> Result<(), Allo
 fn push_currency(text: &mut String, currency: CurrencyStyle) -> Result<(), AllocError> {
     push_stem(text, "currency/")?;
     for byte in currency.code {
-        text.push(byte.to_ascii_uppercase() as char)?;
+        text.push(byte as char)?;
     }
     match currency.display {
         CurrencyDisplay::Symbol => Ok(()),
@@ -143,12 +143,9 @@ fn push_fraction(text: &mut String, fraction: FractionDigits) -> Result<(), Allo
     push_run(text, '#', (fraction.max - fraction.min) as u32)
 }
 
-/// Appends `@@##` or `@@*`.
+/// Appends `@@##`.
 fn push_significant(text: &mut String, significant: SignificantDigits) -> Result<(), AllocError> {
     push_run(text, '@', significant.min)?;
-    if significant.min < significant.max && significant.max == 65536 {
-        return text.push('*');
-    }
     push_run(text, '#', significant.max - significant.min)
 }
 
@@ -184,7 +181,7 @@ fn increment_of(multiples: FractionMultiples) -> u16 {
     }
 }
 
-/// Appends an increment with a number of fraction digits: `.05`, `2.50` or `5e-4`.
+/// Appends an increment with a number of fraction digits: `.05`, `2.50`, `5e-4` or `5e3`.
 fn push_increment(text: &mut String, multiples: FractionMultiples) -> Result<(), AllocError> {
     let (digits, increment) = (multiples.digits, increment_of(multiples));
     push_stem(text, "precision-increment/")?;
@@ -194,6 +191,10 @@ fn push_increment(text: &mut String, multiples: FractionMultiples) -> Result<(),
         return push_number(text, digits);
     }
     let (unit, places) = match digits {
+        0 if multiples.increment.zeros == 3 => {
+            push_number(text, increment / 1000)?;
+            return text.push_str("e3");
+        }
         0 => return push_number(text, increment),
         1 => (10, 1),
         2 => (100, 2),
@@ -212,6 +213,12 @@ fn push_precision(text: &mut String, precision: Precision) -> Result<(), AllocEr
     match precision {
         Precision::Fraction(fraction) => push_fraction(text, fraction),
         Precision::Multiples(multiples) => push_increment(text, multiples),
+        Precision::Significant(significant)
+            if significant.max == 65536 && significant.min < 65536 => {
+            push_stem(text, "")?;
+            push_run(text, '@', significant.min)?;
+            text.push('*')
+        }
         Precision::Significant(significant) => {
             push_stem(text, "")?;
             push_significant(text, significant)
