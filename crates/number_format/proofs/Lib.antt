@@ -10,3 +10,5 @@ pub mod ReadBack
 pub mod PartTexts
 pub mod PieceTexts
 pub mod PlainNumbers
+pub mod FormatterTexts
+pub mod ShownValues

@@ -19,3 +19,4 @@ pub mod FormattedNumbers
 pub mod NumberText
 pub mod Formatters
 pub mod PlainTexts
+pub mod NumberReading
