@@ -12,3 +12,4 @@ pub mod PieceTexts
 pub mod PlainNumbers
 pub mod FormatterTexts
 pub mod ShownValues
+pub mod TypedForms

@@ -20,3 +20,4 @@ pub mod NumberText
 pub mod Formatters
 pub mod PlainTexts
 pub mod NumberReading
+pub mod TypedReading

@@ -22,7 +22,8 @@ abbrev pub affixes_for : NumberFormatter → Sign → Affixes
 affixes_for f s = affixes (pattern_around f s).prefix (pattern_around f s).suffix
 
 abbrev pub affixes_of_formatter : NumberFormatter → AffixTable
-affixes_of_formatter f = affix_table (affixes_for f sign.None) (affixes_for f sign.Negative) (affixes_for f sign.Positive)
+affixes_of_formatter f =
+    affix_table (affixes_for f sign.None) (affixes_for f sign.Negative) (affixes_for f sign.Positive)
 
 -- the reader of its texts, which undoes its scale
 abbrev pub reader_of : NumberFormatter → Reader

@@ -27,6 +27,7 @@ mod for_locale;
 mod format;
 mod formatted_number;
 pub mod laws;
+mod name_texts;
 mod notation;
 mod number_around;
 mod number_formatter;

@@ -4,6 +4,7 @@ ghost use Rattle.decimal_format.specs.Readable.{IsReadable, BeginsWithDigit, End
 ghost use Rattle.decimal_format.specs.Reading.{IsRead};
 ghost use Rattle.number_format.specs.AffixedTexts.{by_sign, AreNamed, reader, Rejects, IsShown, IsShownNumeral, IsTypedWith, IsTypedNumeralWith, IsBetween};
 ghost use Rattle.number_format.specs.ShiftedReading.{IsReadShifted, IsShiftOf};
+ghost use Rattle.number_format.specs.TypedReading.{form_of, own_form};
 
 use crate::affixes::SignAffixes;
 use decimal_format::{Alternative, DecimalSymbols};
@@ -122,6 +123,18 @@ impl<'a> AffixReader<'a> {
             symbols: self.symbols,
             affixes: self.affixes,
             shift,
+        }
+    }
+
+    /// Returns the affixes of a sign, as an alternative.
+    pub(crate) fn alternative(&self, sign: Sign) -> Alternative<'_>
+        ensures { form_of result ≡ own_form self.now sign }
+    {
+        let affixes = self.affixes.of_sign(sign);
+        Alternative {
+            prefix: affixes.prefix,
+            suffix: affixes.suffix,
+            sign,
         }
     }
 

@@ -1,9 +1,9 @@
-use Rattle.std.proofs.Common.{◌≡◌, ◌≢◌, true, w16, to_z, of_z, FitsSigned, sym, ◌∙◌, subst, arith, rules}
+use Rattle.std.proofs.Common.{◌≡◌, ◌≢◌, w16, to_z, of_z, FitsSigned, ◌∙◌, subst, arith, rules}
 use Rattle.std.specs.Prelude.{pos, negsuc, ◌-ℤ◌}
 use Rattle.std.proofs.lemmas.Int.{ints}
-use Rattle.number_format.specs.AffixedTexts.{AffixTable, Reader, reader, by_sign, AreNamed}
-use Rattle.number_format.specs.NumberReading.{IsStandard, affixes_of_formatter, reader_of, CanRead}
-use Rattle.number_format.proofs.number_formatter.NumberFormatter.reader.Goals as goal
+use Rattle.number_format.specs.AffixedTexts.{AffixTable, reader, by_sign, AreNamed}
+use Rattle.number_format.specs.NumberReading.{IsStandard, affixes_of_formatter}
+use Rattle.number_format.proofs.number_formatter.NumberFormatter.affix_reader.Goals as goal
 
 pub returns-in-Ok-new-clause-ok : goal.returns-in-Ok-new-clause-ok
 returns-in-Ok-new-clause-ok c =
