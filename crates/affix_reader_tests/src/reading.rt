@@ -17,18 +17,31 @@ enum Style {
 }
 
 const DE_PERCENT: Style = Style::Percent("de");
+
 const FR_PERCENT: Style = Style::Percent("fr");
+
 const AR_PERCENT: Style = Style::Percent("ar-EG");
+
 const FA_PERCENT: Style = Style::Percent("fa");
+
 const HE_PERCENT: Style = Style::Percent("he");
+
 const TR_PERCENT: Style = Style::Percent("tr");
+
 const FR_CH_PERCENT: Style = Style::Percent("fr-CH");
+
 const DE_CH: Style = Style::Money("de-CH", *b"CHF", CurrencySign::Standard);
+
 const FY: Style = Style::Money("fy", *b"EUR", CurrencySign::Standard);
+
 const EN_ACCOUNTING: Style = Style::Money("en", *b"USD", CurrencySign::Accounting);
+
 const HE: Style = Style::Money("he", *b"ILS", CurrencySign::Standard);
+
 const FR: Style = Style::Money("fr", *b"EUR", CurrencySign::Standard);
+
 const FR_CH: Style = Style::Money("fr-CH", *b"CHF", CurrencySign::Standard);
+
 const FR_DOLLARS: Style = Style::Money("fr", *b"usd", CurrencySign::Standard);
 
 /// Texts as `Intl.NumberFormat` of ICU 78.2 writes them, and their values; or other texts, of none.

@@ -7,6 +7,11 @@ use Rattle.fixed_decimal.specs.declared.variations.Sign.{Sign}
 use Rattle.fixed_decimal.specs.declared.variations.Sign.TheVariants as sign
 use Rattle.decimal_format.specs.Formatted.{absolute_text}
 use Rattle.number_format.specs.declared.number_formatter.NumberFormatter.{NumberFormatter}
+use Rattle.number_format.specs.declared.number_options.NumberNotation.TheVariants as notation
+use Rattle.number_format.specs.declared.number_options.NumberOptions.{NumberOptions}
+use Rattle.number_format.specs.declared.number_options.NumberStyle.{NumberStyle}
+use Rattle.number_format.specs.declared.number_options.NumberStyle.TheVariants as style
+use Rattle.number_format.specs.Formatters.{compact_style, exponent_options, IsFormatter}
 use Rattle.number_format.specs.AffixedTexts.{by_sign, text_with, IsShown}
 use Rattle.number_format.specs.NumberReading.{IsStandard, affixes_for, affixes_of_formatter, reader_of, CanRead, IsShownAs}
 use Rattle.number_format.specs.NumberText.{IsNumberText, AreTexts, shown_sign, pattern_around, around_by, number_text, exponent_part}
@@ -64,3 +69,19 @@ are_unique f v w x y text can a b p q valid valid' =
     named_texts_are_unique f.symbols (by_sign (affixes_of_formatter f)) can.named can.readable f.strategy f.strategy x y
     valid valid'
     (sym (formatter_text f v x text can.standard a p) ∙ formatter_text f w y text can.standard b q)
+
+-- ---- Standard notation.
+
+no_words : (s : NumberStyle) → compact_style s notation.Standard ≡ None
+no_words style.Decimal = refl
+no_words style.Percent = refl
+no_words style.Permille = refl
+no_words (style.Currency c) = refl
+
+-- the notation of the options is that of the formatter
+pub standard : (tag : List ℕ) (o : NumberOptions) (f : NumberFormatter) → IsFormatter tag o f
+    → o.notation ≡ notation.Standard → IsStandard f
+standard tag o f is e = record {
+  compact = is.made.compact_is ∙ ap (compact_style o.style) e ∙ no_words o.style;
+  exponent = is.made.exponent ∙ ap exponent_options e;
+}

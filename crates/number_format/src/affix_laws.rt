@@ -6,7 +6,10 @@ ghost use Rattle.decimal_format.specs.Readable.{IsReadable};
 ghost use Rattle.decimal_format.specs.declared.grouping.GroupingStrategy.{GroupingStrategy};
 ghost use Rattle.number_format.specs.AffixedTexts.{Reader, by_sign, AreNamed, text_with, IsShown};
 ghost use Rattle.number_format.specs.declared.number_formatter.NumberFormatter.{NumberFormatter};
-ghost use Rattle.number_format.specs.NumberReading.{reader_of, CanRead, IsShownAs};
+ghost use Rattle.number_format.specs.declared.number_options.NumberNotation.TheVariants.{Standard};
+ghost use Rattle.number_format.specs.declared.number_options.NumberOptions.{NumberOptions};
+ghost use Rattle.number_format.specs.Formatters.{IsFormatter};
+ghost use Rattle.number_format.specs.NumberReading.{IsStandard, reader_of, CanRead, IsShownAs};
 ghost use Rattle.number_format.specs.NumberText.{IsNumberText};
 ghost use Rattle.number_format.specs.ShiftedReading.{IsShifted, IsShiftOfShown};
 
@@ -45,4 +48,10 @@ pub fn formatted_texts_are_unique()
     ensures { (f : NumberFormatter) (v w x y : Decimal) (text : List ℕ) → CanRead f → IsValue v.absolute
         → IsValue w.absolute → IsNumberText f v text → IsNumberText f w text → IsShownAs f v x → IsShownAs f w y
         → x ≡ y }
+{}
+
+/// A formatter by options with the notation `Standard` writes no words and no exponent, as reading needs it.
+pub fn standard_notation_is_read()
+    ensures { (tag : List ℕ) (o : NumberOptions) (f : NumberFormatter) → IsFormatter tag o f → o.notation ≡ Standard
+        → IsStandard f }
 {}
