@@ -1,116 +1,48 @@
 //! Reading of percentages and amounts of money.
-use decimal_format::{Affixes, Alternative};
-use fixed_decimal::{Decimal, ParseError, Sign, TextBuf, Writeable};
-use locale_data::locale;
-use number_format::{AffixError, AffixReader, SignAffixes};
+use decimal_format::{Affixes, GroupingStrategy};
+use fixed_decimal::{Decimal, ParseError, SignDisplay, TextBuf, Writeable};
+use locale_data::{CurrencyCode, CurrencySign, locale};
+use number_format::{
+    AffixError, AffixReader, CurrencyDisplay, CurrencyStyle, CurrencyUsage, NumberFormatter,
+    NumberNotation, NumberOptions, NumberReader, NumberStyle, SignAffixes,
+};
 use std::alloc::Global;
 use std::test::Fail;
 
-/// A locale, and the prefix and the suffix of a number without a sign, of a negative and of a positive one.
+/// Percent or a currency, in a locale.
 #[derive(Clone, Copy)]
-struct Style {
-    tag: &'static str,
-    none: (&'static str, &'static str),
-    negative: (&'static str, &'static str),
-    positive: (&'static str, &'static str),
-    shift: i16,
+enum Style {
+    Percent(&'static str),
+    Money(&'static str, CurrencyCode, CurrencySign),
 }
 
-const DE_PERCENT: Style = Style {
-    tag: "de",
-    none: ("", "\u{a0}%"),
-    negative: ("-", "\u{a0}%"),
-    positive: ("+", "\u{a0}%"),
-    shift: -2,
-};
+const DE_PERCENT: Style = Style::Percent("de");
 
-const FR_PERCENT: Style = Style {
-    tag: "fr",
-    none: ("", "\u{a0}%"),
-    negative: ("-", "\u{a0}%"),
-    positive: ("+", "\u{a0}%"),
-    shift: -2,
-};
+const FR_PERCENT: Style = Style::Percent("fr");
 
-const AR_PERCENT: Style = Style {
-    tag: "ar-EG",
-    none: ("", "\u{66a}\u{61c}"),
-    negative: ("\u{61c}-", "\u{66a}\u{61c}"),
-    positive: ("\u{61c}+", "\u{66a}\u{61c}"),
-    shift: -2,
-};
+const AR_PERCENT: Style = Style::Percent("ar-EG");
 
-const FA_PERCENT: Style = Style {
-    tag: "fa",
-    none: ("", "\u{66a}"),
-    negative: ("\u{200e}\u{2212}", "\u{66a}"),
-    positive: ("\u{200e}+", "\u{66a}"),
-    shift: -2,
-};
+const FA_PERCENT: Style = Style::Percent("fa");
 
-const HE_PERCENT: Style = Style {
-    tag: "he",
-    none: ("", "%"),
-    negative: ("\u{200e}-", "%"),
-    positive: ("\u{200e}+", "%"),
-    shift: -2,
-};
+const HE_PERCENT: Style = Style::Percent("he");
 
-const TR_PERCENT: Style = Style {
-    tag: "tr",
-    none: ("%", ""),
-    negative: ("-%", ""),
-    positive: ("+%", ""),
-    shift: -2,
-};
+const TR_PERCENT: Style = Style::Percent("tr");
 
-const DE_CH: Style = Style {
-    tag: "de-CH",
-    none: ("CHF\u{a0}", ""),
-    negative: ("CHF-", ""),
-    positive: ("CHF+", ""),
-    shift: 0,
-};
+const FR_CH_PERCENT: Style = Style::Percent("fr-CH");
 
-const FR_CH_PERCENT: Style = Style {
-    tag: "fr-CH",
-    none: ("", "%"),
-    negative: ("-", "%"),
-    positive: ("+", "%"),
-    shift: -2,
-};
+const DE_CH: Style = Style::Money("de-CH", *b"CHF", CurrencySign::Standard);
 
-const FY: Style = Style {
-    tag: "fy",
-    none: ("\u{20ac}\u{a0}", ""),
-    negative: ("\u{20ac}\u{a0}", "-"),
-    positive: ("\u{20ac}\u{a0}", "+"),
-    shift: 0,
-};
+const FY: Style = Style::Money("fy", *b"EUR", CurrencySign::Standard);
 
-const EN_ACCOUNTING: Style = Style {
-    tag: "en",
-    none: ("$", ""),
-    negative: ("($", ")"),
-    positive: ("+$", ""),
-    shift: 0,
-};
+const EN_ACCOUNTING: Style = Style::Money("en", *b"USD", CurrencySign::Accounting);
 
-const HE: Style = Style {
-    tag: "he",
-    none: ("\u{200f}", "\u{a0}\u{200f}\u{20aa}"),
-    negative: ("\u{200f}\u{200e}-", "\u{a0}\u{200f}\u{20aa}"),
-    positive: ("\u{200f}\u{200e}+", "\u{a0}\u{200f}\u{20aa}"),
-    shift: 0,
-};
+const HE: Style = Style::Money("he", *b"ILS", CurrencySign::Standard);
 
-const FR: Style = Style {
-    tag: "fr",
-    none: ("", "\u{a0}\u{20ac}"),
-    negative: ("-", "\u{a0}\u{20ac}"),
-    positive: ("+", "\u{a0}\u{20ac}"),
-    shift: 0,
-};
+const FR: Style = Style::Money("fr", *b"EUR", CurrencySign::Standard);
+
+const FR_CH: Style = Style::Money("fr-CH", *b"CHF", CurrencySign::Standard);
+
+const FR_DOLLARS: Style = Style::Money("fr", *b"usd", CurrencySign::Standard);
 
 /// Texts as `Intl.NumberFormat` of ICU 78.2 writes them, and their values; or other texts, of none.
 const STRICT: &[(Style, &str, &str)] = &[
@@ -162,50 +94,11 @@ const STRICT: &[(Style, &str, &str)] = &[
         "-12345.50",
     ),
     (FR, "12\u{202f}345,50\u{a0}\u{20ac}", "12345.50"),
-];
-
-/// Texts that may be around an amount of euros or of dollars.
-const ALTERNATIVES: &[Alternative<'static>] = &[
-    Alternative {
-        prefix: "$",
-        suffix: "",
-        sign: Sign::None,
-    },
-    Alternative {
-        prefix: "-$",
-        suffix: "",
-        sign: Sign::Negative,
-    },
-    Alternative {
-        prefix: "USD ",
-        suffix: "",
-        sign: Sign::None,
-    },
-    Alternative {
-        prefix: "",
-        suffix: " USD",
-        sign: Sign::None,
-    },
-    Alternative {
-        prefix: "",
-        suffix: " \u{20ac}",
-        sign: Sign::None,
-    },
-    Alternative {
-        prefix: "",
-        suffix: "\u{20ac}",
-        sign: Sign::None,
-    },
-    Alternative {
-        prefix: "(",
-        suffix: ")",
-        sign: Sign::Negative,
-    },
-    Alternative {
-        prefix: "",
-        suffix: "",
-        sign: Sign::None,
-    },
+    (FR_CH, "12\u{202f}345.50\u{a0}CHF", "12345.50"),
+    (FR_CH, "12\u{202f}345,50\u{a0}CHF", "Syntax"),
+    (FR_DOLLARS, "-12,50\u{a0}$US", "-12.50"),
+    (FR_DOLLARS, "12,50\u{a0}$", "Syntax"),
+    (FR_DOLLARS, "12,50\u{a0}USD", "Syntax"),
 ];
 
 /// Texts as people type them, and their values.
@@ -229,29 +122,48 @@ const TYPED: &[(Style, &str, &str)] = &[
     (FR, "12345,5\u{20ac}", "12345.5"),
     (FR, "12345,5", "12345.5"),
     (FR, "12345,5 \u{a3}", "Syntax"),
+    (FR_DOLLARS, "12,5 $", "12.5"),
+    (FR_DOLLARS, "-$12,5", "-12.5"),
+    (FR_DOLLARS, "+USD 12,5", "+12.5"),
+    (FR_DOLLARS, "$US -12,5", "-12.5"),
+    (FR_DOLLARS, "12,5 $US", "12.5"),
+    (FR_DOLLARS, "12,5 $CA", "Syntax"),
+    (FR_DOLLARS, "-$-12,5", "Syntax"),
+    (DE_PERCENT, "12%", "0.12"),
+    (DE_PERCENT, "-% 12,5", "-0.125"),
+    (DE_PERCENT, "12", "0.12"),
+    (DE_PERCENT, "12 \u{2030}", "Syntax"),
+    (DE_PERCENT, "12 %%", "Syntax"),
+    (AR_PERCENT, "-12\u{66a}", "-0.12"),
 ];
 
-/// Makes the reader of a style.
-fn reader(style: &Style) -> Result<AffixReader<'static>, Fail> {
-    let symbols = locale(style.tag).ok_or("locale")?;
-    let affixes = SignAffixes::new(
-        Affixes {
-            prefix: style.none.0,
-            suffix: style.none.1,
-        },
-        Affixes {
-            prefix: style.negative.0,
-            suffix: style.negative.1,
-        },
-        Affixes {
-            prefix: style.positive.0,
-            suffix: style.positive.1,
-        },
-    );
-    match AffixReader::new(symbols, affixes) {
-        Ok(reader) => Ok(reader.with_shift(style.shift)),
-        Err(AffixError::Symbols) => Err("symbols".into()),
-        Err(AffixError::Affixes) => Err("affixes".into()),
+/// Makes the formatter of a style.
+fn formatter(style: &Style) -> Result<NumberFormatter, Fail> {
+    let (tag, number_style, scale) = match *style {
+        Style::Percent(tag) => (tag, NumberStyle::Percent, 2),
+        Style::Money(tag, code, sign) => (
+            tag,
+            NumberStyle::Currency(CurrencyStyle {
+                code,
+                display: CurrencyDisplay::Symbol,
+                sign,
+                usage: CurrencyUsage::Standard,
+            }),
+            0,
+        ),
+    };
+    let options = NumberOptions {
+        style: number_style,
+        scale,
+        notation: NumberNotation::Standard,
+        digits: None,
+        sign_display: SignDisplay::Auto,
+        grouping: GroupingStrategy::Auto,
+        numbering_system: None,
+    };
+    match NumberFormatter::try_new(tag, options) {
+        Ok(formatter) => Ok(formatter),
+        Err(_) => Err("locale".into()),
     }
 }
 
@@ -267,11 +179,28 @@ fn is_expected(alloc: Global, read: Result<Decimal, ParseError>, expected: &str)
     }
 }
 
+/// Returns whether the text of a style is read as this value.
+fn reads(alloc: Global, style: &Style, text: &str, expected: &str) -> Result<bool, Fail> {
+    let formatter = formatter(style)?;
+    match formatter.reader(alloc) {
+        Ok(reader) => Ok(is_expected(alloc, reader.read(alloc, text.as_bytes()), expected)),
+        Err(_) => Err("reader".into()),
+    }
+}
+
+/// Returns whether the text of a style is leniently read as this value.
+fn reads_leniently(alloc: Global, style: &Style, text: &str, expected: &str) -> Result<bool, Fail> {
+    let formatter = formatter(style)?;
+    match formatter.reader(alloc) {
+        Ok(reader) => Ok(is_expected(alloc, reader.read_lenient(alloc, text), expected)),
+        Err(_) => Err("reader".into()),
+    }
+}
+
 #[test]
 fn reads_what_a_formatter_writes(rt: HostRuntime) -> Result<(), Fail> {
     for (style, text, expected) in STRICT {
-        let read = reader(style)?.read(rt.alloc(), text.as_bytes());
-        assert!(rt; is_expected(rt.alloc(), read, expected), "{text}");
+        assert!(rt; reads(rt.alloc(), style, text, expected)?, "{text}");
     }
     Ok(())
 }
@@ -279,13 +208,70 @@ fn reads_what_a_formatter_writes(rt: HostRuntime) -> Result<(), Fail> {
 #[test]
 fn reads_what_people_type(rt: HostRuntime) -> Result<(), Fail> {
     for (style, text, expected) in TYPED {
-        let read = reader(style)?.read_lenient(rt.alloc(), ALTERNATIVES, text);
-        assert!(rt; is_expected(rt.alloc(), read, expected), "{text}");
+        assert!(rt;
+            reads_leniently(rt.alloc(), style, text, expected)?,
+            "{text}"
+        );
     }
     Ok(())
 }
 
-/// Each byte of a text cut or changed is rejected, or read as another value.
+/// Returns whether a text is rejected, or read as another value.
+fn is_other(alloc: Global, reader: &NumberReader<'_>, text: &[u8], plain: &str) -> bool {
+    !is_expected(alloc, reader.read(alloc, text), plain)
+}
+
+/// Returns whether no other byte at an index of a text leaves its value.
+fn each_change_is_other(
+    alloc: Global,
+    reader: &NumberReader<'_>,
+    text: &[u8],
+    index: usize,
+    plain: &str,
+) -> Result<bool, Fail> {
+    let mut changed = text.to_vec(alloc)?;
+    let mut all = true;
+    for byte in 0..=255 {
+        let is_changed = text.get(index).copied() != Some(byte);
+        if let Some(slot) = changed.get_mut(index) {
+            *slot = byte;
+        }
+        all &= !is_changed || is_other(alloc, reader, changed.as_slice(), plain);
+    }
+    Ok(all)
+}
+
+/// Returns whether no cut of a text, and no change of a byte, leaves its value.
+fn has_own_value(
+    alloc: Global,
+    reader: &NumberReader<'_>,
+    text: &[u8],
+    plain: &str,
+) -> Result<bool, Fail> {
+    for cut in 0..text.len() {
+        let (front, rest) = text.split_at(cut);
+        if !is_other(alloc, reader, front, plain) {
+            return Ok(false);
+        }
+        if cut > 0 && !is_other(alloc, reader, rest, plain) {
+            return Ok(false);
+        }
+        if !each_change_is_other(alloc, reader, text, cut, plain)? {
+            return Ok(false);
+        }
+    }
+    Ok(true)
+}
+
+/// Returns the same for the text of a style.
+fn is_only_text(alloc: Global, style: &Style, text: &str, plain: &str) -> Result<bool, Fail> {
+    let formatter = formatter(style)?;
+    match formatter.reader(alloc) {
+        Ok(reader) => has_own_value(alloc, &reader, text.as_bytes(), plain),
+        Err(_) => Err("reader".into()),
+    }
+}
+
 #[test]
 fn reads_no_other_text_as_the_value(rt: HostRuntime) -> Result<(), Fail> {
     for (style, text, plain) in [
@@ -293,31 +279,7 @@ fn reads_no_other_text_as_the_value(rt: HostRuntime) -> Result<(), Fail> {
         (FY, "\u{20ac}\u{a0}12.345,50-", "-12345.50"),
         (FA_PERCENT, "\u{200e}\u{2212}\u{6f1}\u{6f2}\u{66a}", "-0.12"),
     ] {
-        let reader = reader(&style)?;
-        for cut in 0..text.len() {
-            let (front, rest) = text.as_bytes().split_at(cut);
-            assert!(rt;
-                !is_expected(rt.alloc(), reader.read(rt.alloc(), front), plain),
-                "{cut}"
-            );
-            assert!(rt;
-                cut == 0 || !is_expected(rt.alloc(), reader.read(rt.alloc(), rest), plain),
-                "{cut}"
-            );
-            for byte in 0..=255 {
-                let mut changed = text.as_bytes().to_vec(rt.alloc())?;
-                let mut is_changed = false;
-                if let Some(slot) = changed.get_mut(cut) {
-                    is_changed = *slot != byte;
-                    *slot = byte;
-                }
-                let read = reader.read(rt.alloc(), changed.as_slice());
-                assert!(rt;
-                    !is_changed || !is_expected(rt.alloc(), read, plain),
-                    "{cut} {byte}"
-                );
-            }
-        }
+        assert!(rt; is_only_text(rt.alloc(), &style, text, plain)?, "{text}");
     }
     Ok(())
 }
@@ -326,6 +288,7 @@ fn reads_no_other_text_as_the_value(rt: HostRuntime) -> Result<(), Fail> {
 fn rejects_affixes_that_do_not_name_the_sign(rt: HostRuntime) -> Result<(), Fail> {
     for (none, negative, positive) in [("$", "$", "+$"), ("$", "-$", "$1"), ("", "-", "-1")] {
         let affixes = SignAffixes::new(
+            rt.alloc(),
             Affixes {
                 prefix: none,
                 suffix: "",
@@ -338,9 +301,9 @@ fn rejects_affixes_that_do_not_name_the_sign(rt: HostRuntime) -> Result<(), Fail
                 prefix: positive,
                 suffix: "",
             },
-        );
+        )?;
         let symbols = locale("en").ok_or("locale")?;
-        let made = AffixReader::new(symbols, affixes);
+        let made = AffixReader::new(&symbols, affixes);
         assert!(rt; matches!(made, Err(AffixError::Affixes)), "{negative}");
     }
     Ok(())

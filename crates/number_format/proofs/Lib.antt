@@ -12,3 +12,6 @@ pub mod PieceTexts
 pub mod PlainNumbers
 pub mod DefaultsResolve
 pub mod ExponentDigits
+pub mod FormatterTexts
+pub mod ShownValues
+pub mod TypedForms

@@ -19,3 +19,5 @@ pub mod FormattedNumbers
 pub mod NumberText
 pub mod Formatters
 pub mod PlainTexts
+pub mod NumberReading
+pub mod TypedReading

@@ -1,5 +1,5 @@
 -- What a style of numbers writes: its pattern, its percent sign, and its currency.
-use Rattle.std.specs.Prelude.{◌≡◌, ℕ, Bool, true, false, not, codes, ◌&&◌, if◌then◌else◌, nat_le, ◌-◌, List, [], ◌∷◌, map, None, ◌⊎◌}
+use Rattle.std.specs.Prelude.{◌≡◌, ℕ, Bool, true, false, not, codes, ◌&&◌, if◌then◌else◌, nat_le, ◌-◌, List, [], ◌∷◌, map, Option, None, IsSomeAnd, ◌⊎◌}
 use Rattle.std.specs.Str.{is_utf8, bytes_eq}
 use Rattle.decimal_format.specs.declared.grouping.GroupingSizes.{GroupingSizes}
 use Rattle.locale_data.specs.declared.currency.CurrencySymbol.{CurrencySymbol}
@@ -17,6 +17,7 @@ use Rattle.locale_data.specs.Patterns as pattern
 use Rattle.number_format.specs.declared.number_options.CurrencyDisplay.{CurrencyDisplay}
 use Rattle.number_format.specs.declared.number_options.CurrencyDisplay.TheVariants as display
 use Rattle.number_format.specs.declared.number_options.CurrencyStyle.{CurrencyStyle}
+use Rattle.number_format.specs.declared.number_style.CurrencyNames.{CurrencyNames}
 use Rattle.number_format.specs.declared.number_style.ShownCurrency.{ShownCurrency}
 
 -- ---- Patterns.
@@ -82,10 +83,14 @@ currency_text c = if c.shows_code then text_or_nothing c.code else c.symbol.text
 abbrev pub capital : ℕ → ℕ
 capital b = if nat_le 97 b && nat_le b 122 then b - 32 else b
 
-pub record IsNoCurrency (shown : ShownCurrency) : Type 0 where
+-- a currency that is not shown
+pub record IsHidden (shown : ShownCurrency) : Type 0 where
   pub text : currency_text shown ≡ []
   pub before : shown.space_before ≡ false
   pub after : shown.space_after ≡ false
+
+abbrev pub IsNoCurrency : ShownCurrency → Type 0
+IsNoCurrency shown = IsHidden shown × (shown.names ≡ None)
 
 -- a code in capitals, which a space separates from digits
 pub record IsShownCode (code : List ℕ) (shown : ShownCurrency) : Type 0 where
@@ -110,11 +115,27 @@ abbrev pub IsDisplayed : CurrencyDisplay → List ℕ → List ℕ → ShownCurr
 IsDisplayed display.Symbol tag code shown = IsShownSymbol tag code width.Wide shown
 IsDisplayed display.Narrow tag code shown = IsShownSymbol tag code width.Narrow shown
 IsDisplayed display.Code tag code shown = IsShownCode code shown
-IsDisplayed display.Hidden tag code shown = IsNoCurrency shown
+IsDisplayed display.Hidden tag code shown = IsHidden shown
+
+-- the text of a symbol, or nothing if the currency is not listed
+abbrev pub IsSymbolText : List ℕ → List ℕ → SymbolWidth → List ℕ → Type 0
+IsSymbolText tag code width text =
+    ((symbol : CurrencySymbol) × IsSymbolOf tag code width symbol × (text ≡ symbol.text.now))
+    ⊎ ((currency_with code ≡ None) × (text ≡ []))
+
+-- the texts that name a currency for a tag
+pub record AreNamesOf (tag code : List ℕ) (names : CurrencyNames) : Type 0 where
+  pub symbol : IsSymbolText tag code width.Wide names.symbol.now
+  pub narrow : IsSymbolText tag code width.Narrow names.narrow.now
+  pub code_is : names.code ≡ map capital code
+
+abbrev pub HasNamesOf : List ℕ → List ℕ → Option CurrencyNames → Type 0
+HasNamesOf tag code names = IsSomeAnd names (AreNamesOf tag code)
 
 -- a currency as a style shows it for a tag
 abbrev pub IsShownCurrency : List ℕ → CurrencyStyle → ShownCurrency → Type 0
-IsShownCurrency tag style shown = IsDisplayed style.display tag style.code shown
+IsShownCurrency tag style shown =
+    IsDisplayed style.display tag style.code shown × HasNamesOf tag style.code shown.names
 
 -- a digit of `hanidec` is a letter, which no space separates from a currency
 abbrev pub has_spaces : List ℕ → Bool

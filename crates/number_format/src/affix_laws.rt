@@ -1,11 +1,17 @@
 //! Laws of texts between affixes: the contract of each function states a law.
-ghost use Rattle.std.specs.Prelude.{◌≡◌, ◌*◌, ◌^◌, ℕ, suc, pos, negsuc};
+ghost use Rattle.std.specs.Prelude.{◌≡◌, ◌*◌, ◌^◌, ℕ, List, suc, pos, negsuc};
 ghost use Rattle.decimal_unsigned.specs.Unsigned.{IsValue};
 ghost use Rattle.fixed_decimal.specs.Decimal.{Decimal};
 ghost use Rattle.decimal_format.specs.Readable.{IsReadable};
 ghost use Rattle.decimal_format.specs.declared.grouping.GroupingStrategy.{GroupingStrategy};
 ghost use Rattle.number_format.specs.AffixedTexts.{Reader, by_sign, AreNamed, text_with, IsShown};
-ghost use Rattle.number_format.specs.ShiftedReading.{IsShiftOfShown};
+ghost use Rattle.number_format.specs.declared.number_formatter.NumberFormatter.{NumberFormatter};
+ghost use Rattle.number_format.specs.declared.number_options.NumberNotation.TheVariants.{Standard};
+ghost use Rattle.number_format.specs.declared.number_options.NumberOptions.{NumberOptions};
+ghost use Rattle.number_format.specs.Formatters.{IsFormatter};
+ghost use Rattle.number_format.specs.NumberReading.{IsStandard, reader_of, CanRead, IsShownAs};
+ghost use Rattle.number_format.specs.NumberText.{IsNumberText};
+ghost use Rattle.number_format.specs.ShiftedReading.{IsShifted, IsShiftOfShown};
 
 /// With readable symbols, and affixes that name the sign, two values have different texts.
 pub fn affixed_texts_are_unique()
@@ -27,4 +33,25 @@ pub fn scaled_texts_read_back()
         → u.absolute.number ≡ v.absolute.number * 10 ^ suc n
         → IsShiftOfShown (IsShown r (text_with r.symbols (by_sign r.affixes) g u)) r.shift w
         → (w.sign ≡ v.sign) × (w.absolute.number ≡ v.absolute.number) }
+{}
+
+/// What a formatter writes of a value is read back by its reader as the number that is shown, rounded and with the sign
+/// that is written, with the scale undone.
+pub fn formatted_texts_read_back()
+    ensures { (f : NumberFormatter) (v u w : Decimal) (text : List ℕ) → CanRead f → IsValue v.absolute
+        → IsNumberText f v text → IsShownAs f v u → IsShifted u (reader_of f).shift w
+        → IsShiftOfShown (IsShown (reader_of f) text) (reader_of f).shift w }
+{}
+
+/// Of a formatter whose texts are read two numbers that are shown have different texts.
+pub fn formatted_texts_are_unique()
+    ensures { (f : NumberFormatter) (v w x y : Decimal) (text : List ℕ) → CanRead f → IsValue v.absolute
+        → IsValue w.absolute → IsNumberText f v text → IsNumberText f w text → IsShownAs f v x → IsShownAs f w y
+        → x ≡ y }
+{}
+
+/// A formatter by options with the notation `Standard` writes no words and no exponent, as reading needs it.
+pub fn standard_notation_is_read()
+    ensures { (tag : List ℕ) (o : NumberOptions) (f : NumberFormatter) → IsFormatter tag o f → o.notation ≡ Standard
+        → IsStandard f }
 {}

@@ -1,30 +1,92 @@
 //! The texts around numbers, by sign.
-ghost use Rattle.std.specs.Prelude.{◌≡◌, ◌≢◌, ℕ, List, [], ◌++◌, ◌↔◌, MatchOption, IsTrue};
+ghost use Rattle.std.specs.Prelude.{◌≡◌, ◌≢◌, ℕ, List, [], ◌++◌, ◌↔◌, MatchOption, IsTrue, IfOk};
 ghost use Rattle.std.specs.Str.{IsUtf8};
+ghost use Rattle.std.specs.String.{string_bytes};
 ghost use Rattle.decimal_format.specs.Readable.{IsReadable, BeginsWithDigit, EndsWithDigit};
 ghost use Rattle.decimal_format.specs.Symbols.{affixes};
 ghost use Rattle.number_format.specs.AffixedTexts.{affix_table, by_sign, ArePrefixesApart, AreSuffixesApart, ArePairApart, AreNamed};
+ghost use Rattle.number_format.specs.TextParts.{parts_text};
 
+use crate::text_part::TextPart;
 use decimal_format::{Affixes, DecimalSymbols};
 use fixed_decimal::Sign;
+use std::alloc::{AllocError, Global};
 use std::marker::Model;
 
-/// The texts before and after a number, by its sign.
-#[derive(Debug, Drop)]
-pub struct SignAffixes<'a> {
-    none: Affixes<'a>,
-    negative: Affixes<'a>,
-    positive: Affixes<'a>,
+/// The text before a number and the text after it.
+#[derive(Drop)]
+pub(crate) struct AffixTexts {
+    prefix: String,
+    suffix: String,
 }
 
-impl<'a> Model for SignAffixes<'a> {
-    ghost use Rattle.decimal_format.specs.Symbols.{affixes};
+impl Model for AffixTexts {
+    ghost use Rattle.std.specs.String.{string_bytes};
+    ghost use Rattle.decimal_format.specs.Symbols.{Affixes, affixes};
+
+    ghost Value = { Affixes };
+
+    ghost view = { λ s. affixes (string_bytes s.prefix) (string_bytes s.suffix) };
+}
+
+/// Returns the texts of parts, one after another.
+pub(crate) fn joined(alloc: Global, parts: &[TextPart<'_>]) -> Result<String, AllocError>
+    ensures { IfOk result (λ t. string_bytes t ≡ parts_text parts.now) }
+{
+    let mut text = String::new(alloc);
+    for part in parts {
+        text.push_str(part.text)?;
+    }
+    Ok(text)
+}
+
+impl AffixTexts {
+    fn new(alloc: Global, texts: Affixes<'_>) -> Result<Self, AllocError>
+        ensures { IfOk result (λ t. t ≡ affixes texts.entry.prefix.now texts.entry.suffix.now) }
+    {
+        let prefix = String::from_str(alloc, texts.prefix)?;
+        let suffix = String::from_str(alloc, texts.suffix)?;
+        Ok(AffixTexts { prefix, suffix })
+    }
+
+    /// Returns the texts of the parts before a number and after it.
+    pub(crate) fn of_parts(
+        alloc: Global,
+        prefix: &[TextPart<'_>],
+        suffix: &[TextPart<'_>],
+    ) -> Result<Self, AllocError>
+        ensures { IfOk result (λ t. t ≡ affixes (parts_text prefix.now) (parts_text suffix.now)) }
+    {
+        let prefix = joined(alloc, prefix)?;
+        let suffix = joined(alloc, suffix)?;
+        Ok(AffixTexts { prefix, suffix })
+    }
+
+    fn texts(&self) -> Affixes<'_>
+        ensures prefix { result.prefix.now ≡ self.now.prefix }
+        ensures suffix { result.suffix.now ≡ self.now.suffix }
+    {
+        Affixes {
+            prefix: self.prefix.as_str(),
+            suffix: self.suffix.as_str(),
+        }
+    }
+}
+
+/// The texts before and after a number, by its sign.
+#[derive(Drop)]
+pub struct SignAffixes {
+    none: AffixTexts,
+    negative: AffixTexts,
+    positive: AffixTexts,
+}
+
+impl Model for SignAffixes {
     ghost use Rattle.number_format.specs.AffixedTexts.{AffixTable, affix_table};
 
     ghost Value = { AffixTable };
 
-    ghost view = { λ s. affix_table (affixes s.none.prefix.now s.none.suffix.now)
-        (affixes s.negative.prefix.now s.negative.suffix.now) (affixes s.positive.prefix.now s.positive.suffix.now) };
+    ghost view = { λ s. affix_table s.none s.negative s.positive };
 }
 
 fn cut<'t>(text: &'t str, prefix: &str) -> Option<&'t str>
@@ -89,12 +151,30 @@ fn are_suffixes_apart(symbols: &DecimalSymbols<'_>, first: &str, second: &str) -
     true
 }
 
-impl<'a> SignAffixes<'a> {
+impl SignAffixes {
     /// Makes the affixes of the three signs: `none` are those of a number without a sign.
-    pub fn new(none: Affixes<'a>, negative: Affixes<'a>, positive: Affixes<'a>) -> Self
-        ensures { result ≡ affix_table (affixes none.entry.prefix.now none.entry.suffix.now)
+    ///
+    /// # Errors
+    ///
+    /// Out of memory.
+    pub fn new(
+        alloc: Global,
+        none: Affixes<'_>,
+        negative: Affixes<'_>,
+        positive: Affixes<'_>,
+    ) -> Result<Self, AllocError>
+        ensures { IfOk result (λ t. t ≡ affix_table (affixes none.entry.prefix.now none.entry.suffix.now)
             (affixes negative.entry.prefix.now negative.entry.suffix.now)
-            (affixes positive.entry.prefix.now positive.entry.suffix.now) }
+            (affixes positive.entry.prefix.now positive.entry.suffix.now)) }
+    {
+        let none = AffixTexts::new(alloc, none)?;
+        let negative = AffixTexts::new(alloc, negative)?;
+        let positive = AffixTexts::new(alloc, positive)?;
+        Ok(Self::of_texts(none, negative, positive))
+    }
+
+    pub(crate) fn of_texts(none: AffixTexts, negative: AffixTexts, positive: AffixTexts) -> Self
+        ensures { result ≡ affix_table none negative positive }
     {
         SignAffixes {
             none,
@@ -108,11 +188,10 @@ impl<'a> SignAffixes<'a> {
         ensures prefix { result.prefix.now ≡ (by_sign self.now sign).prefix }
         ensures suffix { result.suffix.now ≡ (by_sign self.now sign).suffix }
     {
-        let _ = &self.none;
         match sign {
-            Sign::None => self.none,
-            Sign::Negative => self.negative,
-            Sign::Positive => self.positive,
+            Sign::None => self.none.texts(),
+            Sign::Negative => self.negative.texts(),
+            Sign::Positive => self.positive.texts(),
         }
     }
 

@@ -27,10 +27,12 @@ mod for_locale;
 mod format;
 mod formatted_number;
 pub mod laws;
+mod name_texts;
 mod notation;
 mod number_around;
 mod number_formatter;
 mod number_options;
+mod number_reader;
 mod number_style;
 mod part_sink;
 mod parts;
@@ -56,6 +58,7 @@ pub use number_options::{
     CompactLength, CurrencyDisplay, CurrencyStyle, CurrencyUsage, ExponentOptions, ExponentSign,
     NumberNotation, NumberOptions, NumberStyle,
 };
+pub use number_reader::{NumberReader, NumberReaderError};
 pub use part_sink::PartSink;
 pub use precision::{BothDigits, Minimum, Precision};
 pub use reader::{AffixError, AffixReader};

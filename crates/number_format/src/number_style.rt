@@ -1,6 +1,6 @@
 //! What a style of numbers writes: its pattern, its percent sign, and its currency.
-ghost use Rattle.std.specs.Prelude.{◌≡◌, ◌≤◌, length, true};
-ghost use Rattle.number_format.specs.NumberStyles.{affix_of, before, plain_pattern, percent_text, text_or_nothing, currency_text, piece_or, ends_with_currency, begins_with_currency, has_spaces, in_system, IsNoCurrency, IsShownCode, IsShownSymbol, IsShownCurrency};
+ghost use Rattle.std.specs.Prelude.{◌≡◌, ◌≤◌, length, map, true};
+ghost use Rattle.number_format.specs.NumberStyles.{affix_of, before, plain_pattern, percent_text, text_or_nothing, currency_text, capital, piece_or, ends_with_currency, begins_with_currency, has_spaces, in_system, IsHidden, IsNoCurrency, IsShownCode, IsShownSymbol, IsSymbolText, AreNamesOf, HasNamesOf, IsShownCurrency};
 ghost use Rattle.number_format.specs.TextParts.{part_pieces, pieces_of};
 
 use crate::number_options::{CurrencyDisplay, CurrencyStyle};
@@ -56,6 +56,46 @@ pub(crate) fn percent_text(sign: PercentSign, is_permille: bool) -> &'static str
     }
 }
 
+/// The texts that name a currency.
+#[derive(Clone, Copy, Debug)]
+pub(crate) struct CurrencyNames {
+    /// Its symbol; empty if it is not listed.
+    pub(crate) symbol: &'static str,
+    /// Its narrow symbol; empty if it is not listed.
+    pub(crate) narrow: &'static str,
+    /// Its code, in capitals.
+    pub(crate) code: CurrencyCode,
+}
+
+fn symbol_text(tag: &str, code: CurrencyCode, width: SymbolWidth) -> &'static str
+    ensures { IsSymbolText tag.now code width result.now }
+{
+    match currency_symbol(tag, code, width) {
+        Some(symbol) => symbol.text,
+        None => "",
+    }
+}
+
+fn capitals(code: CurrencyCode) -> CurrencyCode
+    ensures { result ≡ map capital code }
+{
+    let mut capitals = code;
+    capitals.make_ascii_uppercase();
+    capitals
+}
+
+impl CurrencyNames {
+    fn of(tag: &str, code: CurrencyCode) -> Self
+        ensures { AreNamesOf tag.now code result }
+    {
+        CurrencyNames {
+            symbol: symbol_text(tag, code, SymbolWidth::Wide),
+            narrow: symbol_text(tag, code, SymbolWidth::Narrow),
+            code: capitals(code),
+        }
+    }
+}
+
 /// A currency as it is shown.
 #[derive(Clone, Copy, Debug)]
 pub(crate) struct ShownCurrency {
@@ -69,6 +109,8 @@ pub(crate) struct ShownCurrency {
     pub(crate) space_before: bool,
     /// Whether a space separates it from a digit after it.
     pub(crate) space_after: bool,
+    /// The texts that name it.
+    pub(crate) names: Option<CurrencyNames>,
 }
 
 /// Returns whether a space separates a digit of a numbering system from a currency: not in `hanidec`, whose digits are
@@ -119,28 +161,40 @@ impl ShownCurrency {
             shows_code: false,
             space_before: false,
             space_after: false,
+            names: None,
         }
     }
 
-    fn code(code: CurrencyCode) -> Self
-        ensures { IsShownCode code result }
+    fn hidden(tag: &str, code: CurrencyCode) -> Self
+        ensures shown { IsHidden result }
+        ensures names { HasNamesOf tag.now code result.names }
     {
-        let mut capitals = code;
-        capitals.make_ascii_uppercase();
+        ShownCurrency {
+            names: Some(CurrencyNames::of(tag, code)),
+            ..Self::none()
+        }
+    }
+
+    fn code(tag: &str, code: CurrencyCode) -> Self
+        ensures shown { IsShownCode code result }
+        ensures names { HasNamesOf tag.now code result.names }
+    {
         ShownCurrency {
             symbol: TextPart::empty(),
-            code: capitals,
+            code: capitals(code),
             shows_code: true,
             space_before: true,
             space_after: true,
+            names: Some(CurrencyNames::of(tag, code)),
         }
     }
 
     fn symbol(tag: &str, code: CurrencyCode, width: SymbolWidth) -> Self
-        ensures { IsShownSymbol tag.now code width result }
+        ensures shown { IsShownSymbol tag.now code width result }
+        ensures names { HasNamesOf tag.now code result.names }
     {
         let Some(symbol) = currency_symbol(tag, code, width) else {
-            return Self::code(code);
+            return Self::code(tag, code);
         };
         ShownCurrency {
             symbol: TextPart::new(PartKind::Currency, symbol.text),
@@ -148,6 +202,7 @@ impl ShownCurrency {
             shows_code: false,
             space_before: symbol.space_before,
             space_after: symbol.space_after,
+            names: Some(CurrencyNames::of(tag, code)),
         }
     }
 
@@ -170,8 +225,8 @@ impl ShownCurrency {
         match style.display {
             CurrencyDisplay::Symbol => Self::symbol(tag, style.code, SymbolWidth::Wide),
             CurrencyDisplay::Narrow => Self::symbol(tag, style.code, SymbolWidth::Narrow),
-            CurrencyDisplay::Code => Self::code(style.code),
-            CurrencyDisplay::Hidden => Self::none(),
+            CurrencyDisplay::Code => Self::code(tag, style.code),
+            CurrencyDisplay::Hidden => Self::hidden(tag, style.code),
         }
     }
 }

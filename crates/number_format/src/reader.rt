@@ -4,6 +4,7 @@ ghost use Rattle.decimal_format.specs.Readable.{IsReadable, BeginsWithDigit, End
 ghost use Rattle.decimal_format.specs.Reading.{IsRead};
 ghost use Rattle.number_format.specs.AffixedTexts.{by_sign, AreNamed, reader, Rejects, IsShown, IsShownNumeral, IsTypedWith, IsTypedNumeralWith, IsBetween};
 ghost use Rattle.number_format.specs.ShiftedReading.{IsReadShifted, IsShiftOf};
+ghost use Rattle.number_format.specs.TypedReading.{form_of, own_form};
 
 use crate::affixes::SignAffixes;
 use decimal_format::{Alternative, DecimalSymbols};
@@ -24,17 +25,19 @@ pub enum AffixError {
 ///
 /// ```
 /// let affixes = SignAffixes::new(
+///     alloc,
 ///     Affixes { prefix: "$", suffix: "" },
 ///     Affixes { prefix: "($", suffix: ")" },
 ///     Affixes { prefix: "+$", suffix: "" },
-/// );
-/// let reader = AffixReader::new(DecimalSymbols::ascii(), affixes)?;
+/// )?;
+/// let symbols = DecimalSymbols::ascii();
+/// let reader = AffixReader::new(&symbols, affixes)?;
 /// reader.read(alloc, b"($1,234.50)")?; // -1234.50
 /// ```
-#[derive(Debug, Drop)]
+#[derive(Drop)]
 pub struct AffixReader<'a> {
-    symbols: DecimalSymbols<'a>,
-    affixes: SignAffixes<'a>,
+    symbols: &'a DecimalSymbols<'a>,
+    affixes: SignAffixes,
     shift: i16,
 }
 
@@ -44,9 +47,9 @@ impl<'a> Model for AffixReader<'a> {
 
     ghost Value = { Reader };
 
-    ghost view = { λ s. reader s.symbols s.affixes s.shift };
+    ghost view = { λ s. reader s.symbols.now s.affixes s.shift };
 
-    ghost invariant = { λ s. IsReadable s.symbols × AreNamed s.symbols (by_sign s.affixes) };
+    ghost invariant = { λ s. IsReadable s.symbols.now × AreNamed s.symbols.now (by_sign s.affixes) };
 }
 
 fn cut<'t>(text: &'t [u8], prefix: &[u8]) -> Option<&'t [u8]>
@@ -93,14 +96,15 @@ impl<'a> AffixReader<'a> {
     ///
     /// - `Symbols`: the symbols are not [readable](DecimalSymbols::is_readable).
     /// - `Affixes`: they are, and the affixes do not [name the sign](SignAffixes::are_apart).
-    pub fn new(symbols: DecimalSymbols<'a>, affixes: SignAffixes<'a>) -> Result<Self, AffixError>
-        ensures ok { IfOk result (λ r. r ≡ reader symbols.entry affixes.entry (pos 0)) }
-        ensures err { IfErr result (λ e. Rejects e symbols.entry affixes.entry) }
+    pub fn new(symbols: &'a DecimalSymbols<'a>, affixes: SignAffixes) -> Result<Self, AffixError>
+        ensures ok { IfOk result (λ r. r ≡ reader symbols.now affixes (pos 0)) }
+        ensures readable { IfOk result (λ r. IsReadable symbols.now × AreNamed symbols.now (by_sign affixes)) }
+        ensures err { IfErr result (λ e. Rejects e symbols.now affixes) }
     {
         if !symbols.is_readable() {
             return Err(AffixError::Symbols);
         }
-        if !affixes.are_apart(&symbols) {
+        if !affixes.are_apart(symbols) {
             return Err(AffixError::Affixes);
         }
         Ok(AffixReader {
@@ -119,6 +123,18 @@ impl<'a> AffixReader<'a> {
             symbols: self.symbols,
             affixes: self.affixes,
             shift,
+        }
+    }
+
+    /// Returns the affixes of a sign, as an alternative.
+    pub(crate) fn alternative(&self, sign: Sign) -> Alternative<'_>
+        ensures { form_of result ≡ own_form self.now sign }
+    {
+        let affixes = self.affixes.of_sign(sign);
+        Alternative {
+            prefix: affixes.prefix,
+            suffix: affixes.suffix,
+            sign,
         }
     }
 

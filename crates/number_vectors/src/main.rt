@@ -15,7 +15,9 @@ use fixed_decimal::{
     UnsignedOver, Writeable,
 };
 use locale_data::locale;
-use number_format::{DigitOptions, DigitOptionsError, Notation, NumberFormatter};
+use number_format::{
+    DigitOptions, DigitOptionsError, Notation, NumberFormatter, NumberReaderError,
+};
 use std::alloc::Global;
 use std::process::ExitCode;
 use test_support::{LimitedSink, LimitedStore, SixteenDigits, check_rows, expand_runs, shows};
@@ -123,7 +125,33 @@ fn has_text<D: DigitStore>(
     Some(scales(alloc, &formatter, options, digits, value, text))
 }
 
-/// Whether the format of these options writes a number as this text.
+/// Whether a formatter writes a number as this text.
+fn writes_text(
+    alloc: Global,
+    formatter: &NumberFormatter,
+    value: Decimal,
+    text: &str,
+) -> Option<bool> {
+    let formatted = formatter.format(alloc, value).ok()?;
+    let mut sink = LimitedSink::new(text.as_bytes(), usize::MAX);
+    Some(formatted.write_to(&mut sink).is_ok() && sink.has_all())
+}
+
+/// Whether a text of standard notation reads back, exactly and leniently, as a number that has this text, or as zero,
+/// which may show fewer zeros when it is rounded once more.
+fn reads_back(alloc: Global, formatter: &NumberFormatter, text: &str) -> Option<bool> {
+    let reader = match formatter.reader(alloc) {
+        Ok(reader) => reader,
+        Err(error) => return Some(error == NumberReaderError::Notation),
+    };
+    let value: Decimal = reader.read(alloc, text.as_bytes()).ok()?;
+    let typed: Decimal = reader.read_lenient(alloc, text).ok()?;
+    let same = typed == value;
+    let is_zero = value.absolute.is_zero();
+    Some(same && (is_zero || writes_text(alloc, formatter, value, text)?))
+}
+
+/// Whether the format of these options writes a number as this text, and reads it back.
 fn formats(
     alloc: Global,
     tag: &str,
@@ -133,12 +161,9 @@ fn formats(
 ) -> Option<bool> {
     let formatter = NumberFormatter::try_new(tag, options.number(digits)).ok()?;
     let value = Decimal::try_from_str(alloc, number).ok()?;
-    match formatter.format(alloc, value) {
-        Ok(formatted) => {
-            let mut sink = LimitedSink::new(text.as_bytes(), usize::MAX);
-            Some(formatted.write_to(&mut sink).is_ok() && sink.has_all())
-        }
-        Err(_) => Some(text == "Limit"),
+    match writes_text(alloc, &formatter, value, text) {
+        Some(is_written) => Some(is_written && reads_back(alloc, &formatter, text)?),
+        None => Some(text == "Limit"),
     }
 }
 

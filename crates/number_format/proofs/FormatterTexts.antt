@@ -1,0 +1,87 @@
+-- The texts of a formatter are texts between affixes.
+use Rattle.std.proofs.Common.{◌≡◌, ℕ, List, [], ◌++◌, refl, sym, ◌∙◌, ap, subst, append-nil}
+use Rattle.std.specs.Prelude.{Some, None}
+use Rattle.decimal_unsigned.specs.Unsigned.{IsValue}
+use Rattle.fixed_decimal.specs.Decimal.{Decimal}
+use Rattle.fixed_decimal.specs.declared.variations.Sign.{Sign}
+use Rattle.fixed_decimal.specs.declared.variations.Sign.TheVariants as sign
+use Rattle.decimal_format.specs.Formatted.{absolute_text}
+use Rattle.number_format.specs.declared.number_formatter.NumberFormatter.{NumberFormatter}
+use Rattle.number_format.specs.declared.number_options.NumberNotation.TheVariants as notation
+use Rattle.number_format.specs.declared.number_options.NumberOptions.{NumberOptions}
+use Rattle.number_format.specs.declared.number_options.NumberStyle.{NumberStyle}
+use Rattle.number_format.specs.declared.number_options.NumberStyle.TheVariants as style
+use Rattle.number_format.specs.Formatters.{compact_style, exponent_options, IsFormatter}
+use Rattle.number_format.specs.AffixedTexts.{by_sign, text_with, IsShown}
+use Rattle.number_format.specs.NumberReading.{IsStandard, affixes_for, affixes_of_formatter, reader_of, CanRead, IsShownAs}
+use Rattle.number_format.specs.NumberText.{IsNumberText, AreTexts, shown_sign, pattern_around, around_by, number_text, exponent_part}
+use Rattle.number_format.specs.Scaled.{ScaledValue}
+use Rattle.number_format.specs.ShiftedReading.{IsShifted, IsShiftOfShown}
+use Rattle.number_format.proofs.AffixedNumbers.{named_texts_are_unique}
+
+some_same : (x y : ScaledValue) → Some x ≡ Some y → x ≡ y
+some_same x y e = cc
+
+by_is : (f : NumberFormatter) (s : Sign) → affixes_for f s ≡ by_sign (affixes_of_formatter f) s
+by_is f sign.None = refl
+by_is f sign.Negative = refl
+by_is f sign.Positive = refl
+
+-- the text of a number is that of the number that is shown
+pub formatter_text : (f : NumberFormatter) (v u : Decimal) (text : List ℕ) → IsStandard f → IsNumberText f v text
+    → IsShownAs f v u → text ≡ text_with f.symbols (by_sign (affixes_of_formatter f)) f.strategy u
+formatter_text f v u text standard is shown =
+    let number : is.number ≡ shown.number = some_same _ _ (sym is.number_is ∙ shown.number_is) in
+    let none = subst (λ c. AreTexts f c is.number is.compact is.unit_of) standard.compact is.texts in
+    let compact : is.compact ≡ None = none.0 in
+    let before : is.unit_of.prefix.now ≡ [] = none.1.0 in
+    let after : is.unit_of.suffix.now ≡ [] = none.1.1 in
+    let s = shown_sign f shown.number.significand in
+    let digits = absolute_text f.symbols f.strategy shown.number.significand.absolute in
+    let affixes : affixes_for f s ≡ by_sign (affixes_of_formatter f) u.sign =
+    ap (affixes_for f) (sym shown.sign) ∙ by_is f u.sign in
+    let plain : ([] ++ (affixes_for f s).prefix) ++ ((digits ++ []) ++ ((affixes_for f s).suffix ++ []))
+    ≡ (affixes_for f s).prefix ++ (digits ++ (affixes_for f s).suffix) = simp append-nil in
+    is.value
+    ∙ (λ i. number_text f (number i) (around_by f (shown_sign f (number i).significand) (compact i)) is.unit_of)
+    ∙ (λ i. (before i ++ (pattern_around f s).prefix)
+    ++ ((digits ++ exponent_part f (standard.exponent i) shown.number.exponent)
+    ++ ((pattern_around f s).suffix ++ after i)))
+    ∙ plain
+    ∙ (λ i. (affixes i).prefix
+    ++ (absolute_text f.symbols f.strategy (sym shown.absolute i) ++ (affixes i).suffix))
+
+-- the text of a number reads back as the number that is shown, with the scale undone
+pub reads_back : (f : NumberFormatter) (v u w : Decimal) (text : List ℕ) → CanRead f → IsNumberText f v text
+    → IsShownAs f v u → IsValue u.absolute → IsShifted u (reader_of f).shift w
+    → IsShiftOfShown (IsShown (reader_of f) text) (reader_of f).shift w
+reads_back f v u w text can is shown valid shifted = record {
+  shown = u;
+  valid = valid;
+  is = (f.strategy, formatter_text f v u text can.standard is shown);
+  shifted = shifted;
+}
+
+-- one text is shown of one number
+pub are_unique : (f : NumberFormatter) (v w x y : Decimal) (text : List ℕ) → CanRead f → IsNumberText f v text
+    → IsNumberText f w text → IsShownAs f v x → IsShownAs f w y → IsValue x.absolute → IsValue y.absolute → x ≡ y
+are_unique f v w x y text can a b p q valid valid' =
+    named_texts_are_unique f.symbols (by_sign (affixes_of_formatter f)) can.named can.readable f.strategy f.strategy x y
+    valid valid'
+    (sym (formatter_text f v x text can.standard a p) ∙ formatter_text f w y text can.standard b q)
+
+-- ---- Standard notation.
+
+no_words : (s : NumberStyle) → compact_style s notation.Standard ≡ None
+no_words style.Decimal = refl
+no_words style.Percent = refl
+no_words style.Permille = refl
+no_words (style.Currency c) = refl
+
+-- the notation of the options is that of the formatter
+pub standard : (tag : List ℕ) (o : NumberOptions) (f : NumberFormatter) → IsFormatter tag o f
+    → o.notation ≡ notation.Standard → IsStandard f
+standard tag o f is e = record {
+  compact = is.made.compact_is ∙ ap (compact_style o.style) e ∙ no_words o.style;
+  exponent = is.made.exponent ∙ ap exponent_options e;
+}

@@ -1,0 +1,7 @@
+use Rattle.number_format.proofs.FormatterTexts.{are_unique}
+use Rattle.number_format.proofs.ShownValues.{shown_value}
+use Rattle.number_format.proofs.affix_laws.formatted_texts_are_unique.Goals as goal
+
+pub returns : goal.returns
+returns c = λ f v w x y text can valid valid' a b p q.
+    are_unique f v w x y text can a b p q (shown_value f v x valid p) (shown_value f w y valid' q)

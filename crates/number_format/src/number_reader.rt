@@ -1,0 +1,253 @@
+//! Readers of what formatters write.
+ghost use Rattle.std.specs.Prelude.{◌≡◌, ◌↔◌, map, IsTrue, IfOk, IfErr};
+ghost use Rattle.number_format.specs.AffixedTexts.{IsShown, IsShownNumeral};
+ghost use Rattle.number_format.specs.NumberReading.{IsStandard, affixes_for, affixes_of_formatter, reader_of, CanRead, CannotRead};
+ghost use Rattle.number_format.specs.ShiftedReading.{IsReadShifted};
+ghost use Rattle.number_format.specs.TypedReading.{is_percent, has_percent, percent_name, names_by, form_of, names_of, named_reader, number_reader_of, own_forms, typed_forms, IsReadLeniently};
+
+use crate::affixes::{AffixTexts, SignAffixes};
+use crate::name_texts::{NameTexts, Names, prefix};
+use crate::number_formatter::NumberFormatter;
+use crate::number_style::text_or_nothing;
+use crate::reader::{AffixError, AffixReader};
+use decimal_format::Alternative;
+use fixed_decimal::{DigitStore, ParseError, Sign, Signed, UnsignedOver};
+use locale_data::{Affix, Piece, UnitAffixes};
+use std::alloc::{AllocError, Global};
+use std::marker::Model;
+
+/// Why the texts of a formatter cannot be read.
+#[derive(Clone, Copy, Debug, PartialEq, Eq)]
+pub enum NumberReaderError {
+    /// The notation is compact, scientific or engineering.
+    Notation,
+    /// The scale is -32768, which no scale undoes.
+    Scale,
+    /// The symbols are not readable: of two digits, separators or prefixes of signs one begins with the other.
+    Symbols,
+    /// Neither the prefixes nor the suffixes of two signs can be told apart.
+    Affixes,
+    /// Out of memory.
+    Memory,
+}
+
+/// Reads the numbers that a [`NumberFormatter`] writes. It borrows the formatter.
+///
+/// ```
+/// let formatter = NumberFormatter::try_new("de", options)?; // EUR, with the pattern of accounts
+/// let reader = formatter.reader(alloc)?;
+/// reader.read(alloc, "-1.234,50\u{a0}€".as_bytes())?; // -1234.50
+/// ```
+#[derive(Drop)]
+pub struct NumberReader<'f> {
+    reader: AffixReader<'f>,
+    symbol: NameTexts,
+    narrow: NameTexts,
+    code: NameTexts,
+}
+
+impl<'f> Model for NumberReader<'f> {
+    ghost use Rattle.number_format.specs.TypedReading.{NumberReader};
+
+    ghost Value = { NumberReader };
+
+    ghost view = { λ s. record { texts = s.reader; symbol = s.symbol; narrow = s.narrow; code = s.code } };
+}
+
+fn is_percent(piece: Piece) -> bool
+    ensures { result ≡ is_percent piece }
+{
+    matches!(piece, Piece::Percent)
+}
+
+fn has_percent(affix: Affix) -> bool
+    ensures { result ≡ has_percent affix }
+{
+    is_percent(affix.first)
+        || is_percent(affix.second)
+        || is_percent(affix.third)
+        || is_percent(affix.fourth)
+}
+
+impl NumberFormatter {
+    fn is_standard(&self) -> bool
+        ensures { IsTrue result ↔ IsStandard self.now }
+    {
+        self.compact.is_none() && self.exponent.is_none()
+    }
+
+    fn affix_texts(&self, alloc: Global, sign: Sign) -> Result<AffixTexts, AllocError>
+        ensures { IfOk result (λ t. t ≡ affixes_for self.now sign) }
+    {
+        let nothing = UnitAffixes {
+            prefix: "",
+            suffix: "",
+        };
+        let affixes = self.affixes(sign, None, nothing);
+        AffixTexts::of_parts(alloc, &affixes.prefix, &affixes.suffix)
+    }
+
+    fn sign_affixes(&self, alloc: Global) -> Result<SignAffixes, AllocError>
+        ensures { IfOk result (λ t. t ≡ affixes_of_formatter self.now) }
+    {
+        let none = self.affix_texts(alloc, Sign::None)?;
+        let negative = self.affix_texts(alloc, Sign::Negative)?;
+        let positive = self.affix_texts(alloc, Sign::Positive)?;
+        Ok(SignAffixes::of_texts(none, negative, positive))
+    }
+
+    fn percent_name(&self) -> &str
+        ensures { result.now ≡ percent_name self.now }
+    {
+        let affixes = self.pattern.positive;
+        if has_percent(affixes.prefix) || has_percent(affixes.suffix) {
+            self.percent.text
+        } else {
+            ""
+        }
+    }
+
+    fn names(&self) -> Names<'_>
+        ensures { names_of result ≡ names_by self.now self.now.currency.names }
+    {
+        match &self.currency.names {
+            Some(names) => Names {
+                symbol: names.symbol,
+                narrow: names.narrow,
+                code: text_or_nothing(&names.code),
+            },
+            None => Names {
+                symbol: self.percent_name(),
+                narrow: "",
+                code: "",
+            },
+        }
+    }
+
+    /// Makes the reader of what this formatter writes.
+    ///
+    /// # Errors
+    ///
+    /// A [`NumberReaderError`]: the texts of the formatter do not have one meaning each, or out of memory.
+    pub fn reader(&self, alloc: Global) -> Result<NumberReader<'_>, NumberReaderError>
+        ensures ok { IfOk result (λ r. (r ≡ number_reader_of self.now) × CanRead self.now) }
+        ensures err { IfErr result (λ e. CannotRead e self.now) }
+    {
+        let reader = self.affix_reader(alloc)?;
+        let names = self.names();
+        match NumberReader::named(alloc, reader, &names) {
+            Ok(reader) => Ok(reader),
+            Err(_) => Err(NumberReaderError::Memory),
+        }
+    }
+
+    fn affix_reader(&self, alloc: Global) -> Result<AffixReader<'_>, NumberReaderError>
+        ensures ok { IfOk result (λ r. (r ≡ reader_of self.now) × CanRead self.now) }
+        ensures err { IfErr result (λ e. CannotRead e self.now) }
+    {
+        if !self.is_standard() {
+            return Err(NumberReaderError::Notation);
+        }
+        let Some(shift) = self.scale.checked_neg() else {
+            return Err(NumberReaderError::Scale);
+        };
+        let Ok(affixes) = self.sign_affixes(alloc) else {
+            return Err(NumberReaderError::Memory);
+        };
+        match AffixReader::new(&self.symbols, affixes) {
+            Ok(reader) => Ok(reader.with_shift(shift)),
+            Err(AffixError::Symbols) => Err(NumberReaderError::Symbols),
+            Err(AffixError::Affixes) => Err(NumberReaderError::Affixes),
+        }
+    }
+}
+
+impl<'f> NumberReader<'f> {
+    fn named(alloc: Global, reader: AffixReader<'f>, names: &Names<'_>) -> Result<Self, AllocError>
+        ensures { IfOk result (λ r. r ≡ named_reader reader.entry (names_of names.now)) }
+    {
+        let symbol = NameTexts::new(alloc, names.symbol)?;
+        let narrow = NameTexts::new(alloc, names.narrow)?;
+        let code = NameTexts::new(alloc, names.code)?;
+        Ok(NumberReader {
+            reader,
+            symbol,
+            narrow,
+            code,
+        })
+    }
+
+    /// Returns the texts of the formatter, nothing, and parentheses for a minus sign.
+    fn own_alternatives(&self) -> [Alternative<'_>; 5]
+        ensures { map form_of result ≡ own_forms self.now.texts }
+    {
+        [
+            self.reader.alternative(Sign::None),
+            self.reader.alternative(Sign::Negative),
+            self.reader.alternative(Sign::Positive),
+            prefix("", Sign::None),
+            Alternative {
+                prefix: "(",
+                suffix: ")",
+                sign: Sign::Negative,
+            },
+        ]
+    }
+
+    fn alternatives(&self) -> [Alternative<'_>; 29]
+        ensures { map form_of result ≡ typed_forms self.now }
+    {
+        let o = self.own_alternatives();
+        let s = self.symbol.alternatives();
+        let n = self.narrow.alternatives();
+        let c = self.code.alternatives();
+        [
+            o[0], o[1], o[2], o[3], o[4], s[0], s[1], s[2], s[3], s[4], s[5], s[6], s[7], n[0],
+            n[1], n[2], n[3], n[4], n[5], n[6], n[7], c[0], c[1], c[2], c[3], c[4], c[5], c[6],
+            c[7],
+        ]
+    }
+
+    /// Reads a number in exactly one of the forms that the formatter writes, and undoes its scale: by style `Percent`
+    /// and scale 2 `12.5%` is 0.125.
+    ///
+    /// The number may have all grouping separators, or none. The value is the one that is shown: rounded, and with the
+    /// sign that is written.
+    ///
+    /// # Errors
+    ///
+    /// - `Syntax`: no decimal has this text, of any number of digits.
+    /// - `Limit`: there are more than 32,768 integer or fraction digits, or the scale leaves these limits.
+    /// - `Memory`: out of memory; possible only with more than `L` digits.
+    pub fn read<D: DigitStore>(
+        &self,
+        alloc: Global,
+        text: &[u8],
+    ) -> Result<Signed<UnsignedOver<D>>, ParseError>
+        ensures { IsReadShifted D.L self.now.texts.shift (IsShownNumeral self.now.texts text.now)
+            (IsShown self.now.texts text.now) result }
+    {
+        self.reader.read(alloc, text)
+    }
+
+    /// Reads a number as people type it, and undoes the scale.
+    ///
+    /// A text that [`read`](Self::read) accepts has the same value. Else the number is as
+    /// [`DecimalSymbols::read_lenient`](decimal_format::DecimalSymbols::read_lenient) accepts it. Around it may be what
+    /// the formatter writes, nothing, or parentheses for a minus sign; or, on either side and with a space or without,
+    /// the symbol, the narrow symbol or the code of the currency, or the percent sign, also after a sign. Two signs,
+    /// two symbols and another currency are `Syntax`.
+    ///
+    /// # Errors
+    ///
+    /// As for [`read`](Self::read).
+    pub fn read_lenient<D: DigitStore>(
+        &self,
+        alloc: Global,
+        text: &str,
+    ) -> Result<Signed<UnsignedOver<D>>, ParseError>
+        ensures { IsReadLeniently D.L self.now text.now result }
+    {
+        self.reader.read_lenient(alloc, &self.alternatives(), text)
+    }
+}
