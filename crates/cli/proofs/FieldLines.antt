@@ -1,6 +1,6 @@
 -- The result of a line, and of its field.
 use Rattle.std.proofs.Common.{◌≡◌, ◌≢◌, ◌≤◌, ◌+◌, ◌++◌, ℕ, inl, inr, refl, sym, Some, None, Ok, Err, Result, Bool, true, false, List, ◌-◌, length, take, drop, Option, ap, subst, append_assoc, take-append-drop, ◌∙◌, arith}
-use Rattle.std.specs.Prelude.{IfErr, OnOk, MatchBool}
+use Rattle.std.specs.Prelude.{IfErr, MatchBool}
 use Rattle.std.proofs.lemmas.List.{append-nil, length-drop, length-take-le, drop-drop, drop-take, take-take, take_rest}
 use Rattle.std.proofs.Math.Seq.{drop-length, take-add, take-length}
 use Rattle.cli.specs.declared.conversion.Conversion.{Conversion}
@@ -15,7 +15,7 @@ use Rattle.cli.specs.declared.targets.Target.TheVariants.{One, Fields}
 use Rattle.cli.specs.Error.{status_of_operation, error_of_line}
 use Rattle.cli.specs.FieldConversion.{IsTextResult, is_trimmed, IsFieldResult, IsLineResult, HasLineText, LineFails, map_text, with_text}
 use Rattle.cli.specs.Fields.{Holds, located, within, replaced}
-use Rattle.cli.specs.Filter.{body_of, result_of_line, IsTargetResult, TargetFails, HasConvertedLine, ConvertingFails, ConversionFails, IsResultOfLine, filtered_line, is_broken_row, RowFails, IsResultOfRow}
+use Rattle.cli.specs.Filter.{body_of, IsTargetResult, TargetFails, HasConvertedLine, ConvertingFails, ConversionFails, IsResultOfLine, filtered_line, is_broken_row, RowFails, IsResultOfRow}
 use Rattle.cli.specs.Trim.{text_of, with_text_of, body_bounds}
 use Rattle.cli.proofs.Conversions.{error_is_outcome}
 
@@ -208,27 +208,6 @@ module _
         → LineFails trims field conversion (within line (body_bounds trims number line)) error
     plain_fails error fails =
         rw (off, none) (subst (λ l. OperationsFail error conversion l) (sym (all_within line)) fails)
-
--- ---- The result of a line that is not one of several fields.
-
-pub one_ok :
-    {A : Type 0} (P Q : Type 0) (r : Result A OperationError) (s : Result A LineError) → s ≡ result_of_line r
-    → (P → Q) → OnOk r P → OnOk s Q
-one_ok P Q (Ok x) s is f h = rw is (f h)
-one_ok P Q (Err error) s is f h = rw is tt
-
-pub one_err :
-    {A : Type 0} (P : OperationError → Type 0) (Q : LineError → Type 0) (r : Result A OperationError)
-    (s : Result A LineError) → s ≡ result_of_line r → ((error : OperationError) → P error → Q (error_of_line error))
-    → IfErr r P → IfErr s Q
-one_err P Q (Ok x) s is f h = rw is tt
-one_err P Q (Err error) s is f h = rw is (f error h)
-
-pub one_output :
-    {A : Type 0} (P Q : Type 0) (r : Result A OperationError) (s : Result A LineError) → s ≡ result_of_line r
-    → (P → Q) → (r ≡ Err Output → P) → IfErr s (λ error. error.error ≡ Output → Q)
-one_output P Q (Ok x) s is f h = rw is tt
-one_output P Q (Err error) s is f h = rw is (λ same. f (h (ap Err same)))
 
 -- ---- The result of converting a line.
 

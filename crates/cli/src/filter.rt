@@ -7,7 +7,7 @@ ghost use Rattle.memchr.specs.Find.{IsFirstByte, is_byte};
 ghost use Rattle.cli.specs.FieldConversion.{HasLineText, LineFails};
 ghost use Rattle.cli.specs.Fields.{replaced};
 ghost use Rattle.cli.specs.Trim.{body_bounds};
-ghost use Rattle.cli.specs.Filter.{IsHeader, body_of, replacement, result_of_line, HasConvertedLine, ConvertingFails, HasText, ConversionFails, HasRowText, RowFails, lines_of_row, IsErrorOfReading, FiltersLine, FiltersNext};
+ghost use Rattle.cli.specs.Filter.{IsHeader, body_of, replacement, HasConvertedLine, ConvertingFails, HasText, ConversionFails, HasRowText, RowFails, lines_of_row, IsErrorOfReading, FiltersLine, FiltersNext};
 ghost use Rattle.cli.specs.Input.{bytes_left};
 ghost use Rattle.cli.specs.Lines.{Filters, IsConsumed};
 
@@ -200,7 +200,8 @@ impl Filter<'_> {
     {
         match &self.target {
             Target::One(field, conversion) => {
-                result_of_line(self.convert_one(alloc, field, conversion, number, line, sink))
+                self.convert_one(alloc, field, conversion, number, line, sink)?;
+                Ok(())
             }
             Target::Fields(fields) => {
                 self.convert_fields(alloc, fields.as_slice(), number, line, sink)
@@ -279,17 +280,6 @@ impl Filter<'_> {
         ensures some { 0 < result }
     {
         if self.has_records { lines_in(row) } else { 1 }
-    }
-}
-
-/// Returns the result of a line that is not one of several fields.
-#[inline(always)]
-fn result_of_line(converted: Result<(), OperationError>) -> Result<(), LineError>
-    ensures { result ≡ result_of_line converted }
-{
-    match converted {
-        Ok(()) => Ok(()),
-        Err(error) => Err(LineError::from(error)),
     }
 }
 

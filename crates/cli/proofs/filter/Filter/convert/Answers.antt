@@ -1,47 +1,27 @@
-use Rattle.std.proofs.Common.{◌≡◌, ◌≢◌, refl}
-use Rattle.std.proofs.lemmas.Result.{on_ok_weaker}
+use Rattle.std.proofs.Common.{◌≢◌, ap, Err}
+use Rattle.std.proofs.lemmas.Result.{on_ok_weaker, err_from_is_err_and}
 use Rattle.std.specs.Io.KnownBytes.{Appends}
 use Rattle.decimal_digits.specs.AppendsPrefix.{AppendsPrefix}
 use Rattle.cli.specs.Edits.{EditingFails}
-use Rattle.cli.specs.FieldConversion.{LineFails}
 use Rattle.cli.specs.Filter.{body_of, ConvertingFails}
 use Rattle.cli.specs.declared.error.OperationError.TheVariants.{Output}
-use Rattle.cli.specs.declared.targets.Target.TheVariants.{One, Fields}
-use Rattle.cli.proofs.FieldLines.{one_ok, one_err, one_output, converted_line, converted_one, converting_fails, err_weaker}
+use Rattle.cli.specs.declared.targets.Target.TheVariants.{Fields}
+use Rattle.cli.proofs.FieldLines.{converted_line, converted_one, converting_fails, err_weaker}
 use Rattle.cli.proofs.filter.Filter.convert.Goals as goal
 
-pub returns-in-One : goal.returns-in-One
-returns-in-One g c =
-    let filter = c.args.self.now in
-    let number = c.args.number in
-    let line = c.args.line.now in
-    let arm = c.in-One in record {
-      printed =
-          one_ok _ _ c.convert_one.result c.result_of_line.result c.result_of_line.ensures
-          (converted_one filter number line arm.field arm.conversion
-          (Appends (g.W.Sink.contents c.args.sink.now) (g.W.Sink.contents c.convert_one.new.sink)) arm.is)
-          c.convert_one.ensures.printed;
-      fails_with =
-          one_err
-          (λ error. error ≢ Output → LineFails filter.trims arm.field arm.conversion (body_of filter number line) error)
-          (λ error. error.error ≢ Output → ConvertingFails filter number line error) c.convert_one.result
-          c.result_of_line.result c.result_of_line.ensures
-          (λ error fails other. converting_fails filter number line (One arm.field arm.conversion) _ arm.is
-          (refl, fails other)) c.convert_one.ensures.fails_with;
-      unchanged_on_error =
-          one_err (λ error. error ≢ Output → c.convert_one.new.sink ≡ c.args.sink.now)
-          (λ error. error.error ≢ Output → c.convert_one.new.sink ≡ c.args.sink.now) c.convert_one.result
-          c.result_of_line.result c.result_of_line.ensures (λ error same. same)
-          c.convert_one.ensures.unchanged_on_error;
-      failed =
-          one_output _ _ c.convert_one.result c.result_of_line.result c.result_of_line.ensures (λ failed. failed)
-          c.convert_one.ensures.failed;
-      prefix =
-          one_output _ _ c.convert_one.result c.result_of_line.result c.result_of_line.ensures
-          (converted_one filter number line arm.field arm.conversion
-          (AppendsPrefix (g.W.Sink.contents c.args.sink.now) (g.W.Sink.contents c.convert_one.new.sink)) arm.is)
-          c.convert_one.ensures.prefix;
-    }
+pub returns-in_ok-convert_one-in-One-clause-printed : goal.returns-in_ok-convert_one-in-One-clause-printed
+returns-in_ok-convert_one-in-One-clause-printed g c =
+    converted_one c.args.self.now c.args.number c.args.line.now c.in-One.field c.in-One.conversion
+    (Appends (g.W.Sink.contents c.args.sink.now) (g.W.Sink.contents c.convert_one.new.sink)) c.in-One.is
+    c.in_ok-convert_one-in-One.ensures.printed
+
+pub returns-in_err-convert_one-in-One-clause-prefix : goal.returns-in_err-convert_one-in-One-clause-prefix
+returns-in_err-convert_one-in-One-clause-prefix g c =
+    let p = err_from_is_err_and c.from_residual.result c.from_residual.ensures.1 in
+    rw (p.1, p.2)
+    (λ output. converted_one c.args.self.now c.args.number c.args.line.now c.in-One.field c.in-One.conversion
+    (AppendsPrefix (g.W.Sink.contents c.args.sink.now) (g.W.Sink.contents c.convert_one.new.sink)) c.in-One.is
+    (c.in_err-convert_one-in-One.ensures.prefix (ap Err output)))
 
 pub returns-in-Fields-clause-printed : goal.returns-in-Fields-clause-printed
 returns-in-Fields-clause-printed g c =
