@@ -132,7 +132,8 @@ RowFails filter number row error =
 -- the result of the row that begins at the line with this number
 abbrev pub IsResultOfRow : Filter → ℕ → List ℕ → FilteredLine → Type 0
 IsResultOfRow filter number row result =
-    MatchBool (is_broken_row filter row) (result ≡ filtered_line filter number row (Err (error_of_line operation.Quote)))
+    MatchBool (is_broken_row filter row)
+    (result ≡ filtered_line filter number row (Err (error_of_line operation.Quote)))
     (IsResultOfLine filter number row result)
 
 -- the output of a line: its text, or what is written instead, and a line feed

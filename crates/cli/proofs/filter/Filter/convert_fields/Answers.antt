@@ -7,7 +7,8 @@ use Rattle.cli.proofs.filter.Filter.convert_fields.Goals as goal
 pub returns-clause-printed : goal.returns-clause-printed
 returns-clause-printed g c =
     edited_line c.args.self.now.trims c.args.number c.args.line.now c.args.fields.now c.body_bounds-body.result
-    c.body_bounds-body.ensures.value c.insert_edits.new.edits.items (rw c.new-edits.ensures.items at c.in_ok-insert_edits.ensures.ok)
+    c.body_bounds-body.ensures.value c.insert_edits.new.edits.items
+    (rw c.new-edits.ensures.items at c.in_ok-insert_edits.ensures.ok)
     (Appends (g.W.Sink.contents c.args.sink.now) (g.W.Sink.contents c.write_edited.new.sink))
     (rw c.as_slice.ensures.value at c.in_ok-write_edited.ensures.ok)
 
