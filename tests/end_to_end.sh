@@ -263,10 +263,37 @@ wrong 'no such word: field:0 (--help lists all)' field:0
 wrong 'csv and delimiter:C need field:N' csv
 wrong 'csv and delimiter:C need field:N' delimiter:,
 wrong 'no such word: delimiter:ab (--help lists all)' field:1 delimiter:ab
-wrong 'field:2 is not in its place (--help lists all)' field:1 field:2
 wrong 'field:1 stands after a call' shift:1 field:1
 wrong 'skip stands after a call' shift:-2 skip
 wrong 'a quote is no delimiter of csv' csv field:1 'delimiter:"'
+
+# Several fields.
+lines 0 'a,2.345,x,7\n' $'a,2.34,x,0.07\n' '' delimiter:, field:2 round:-2:half-even:1 field:4 shift:-2
+lines 0 'a,2.345,x,7\n' $'a,2.34,x,0.07\n' '' delimiter:, field:4 shift:-2 field:2 round:-2:half-even:1
+lines 0 '1234,5,\xff\n' $'1,234,50,\xff\n' '' field:1 delimiter:, format:en field:2 shift:1
+lines 0 '"1.234,5",1234,x\r\n' $'1234.5,"1,234",x\r\n' '' csv field:1 read:de field:2 format:en
+lines 0 '\ufeff"a""b", 7 ,\t8\r\n' $'\ufeff"a""b", 70 ,\t800\r\n' '' trim csv field:3 shift:2 field:2 shift:1
+lines 0 '"a\nb",2,3\n' $'"a\nb",20,300\n' '' records csv field:2 shift:1 field:3 shift:2
+lines 0 'x,y\n1,2\n' $'x,y\n10,200\n' '' header csv field:1 shift:1 field:2 shift:2
+lines 0 '1,2\n' $'1,2\n' '' csv field:1 field:2
+lines 0 '' '' '' csv field:1 field:2
+lines 1 '1,x\ny,2\n' '' $'line 1: field 2: start: syntax\n' csv field:1 field:2
+lines 1 '1,2\ny,x\n' $'1,2\n' $'line 2: field 2: start: syntax\n' csv field:2 field:1
+lines 1 'y,x\n1\n"1,2\n3,4\n' $'\n\n\n3,4\n' \
+  $'line 1: field 2: start: syntax\nline 2: field 2: field\nline 3: field 2: quote\n' skip csv field:2 field:1
+lines 1 'x,1\n3,4\n' $'x,1\n3,40\n' $'line 1: field 1: start: syntax\n' keep csv field:2 shift:1 field:1
+lines 1 '1,2\n' '' $'line 1: field 2: call 1: overflow\n' csv field:1 field:2 shift:9 shift:32767
+mapfile -t words < <(for n in $(seq 200 -1 1); do printf 'field:%d\nshift:%d\n' "$n" $((n % 3)); done)
+lines 0 "$(seq -s, 200)\n" "$(seq 200 | awk '{ print $1 substr("00", 1, $1 % 3) }' | paste -sd,)"$'\n' '' \
+  csv "${words[@]}"
+wrong 'field:2 is not in its place (--help lists all)' field:1 field:2 shift:1 field:2
+wrong 'field:1 is not in its place (--help lists all)' field:1 field:1 up
+wrong 'no such word: up (--help lists all)' field:1 field:2 up field:2
+wrong 'no such word: field:0 (--help lists all)' field:1 field:0
+wrong 'skip is not in its place (--help lists all)' field:1 shift:1 field:2 skip
+wrong 'csv stands after a call' field:1 field:2 shift:1 csv
+wrong 'read:de stands after a call' field:1 field:2 shift:1 read:de
+wrong 'format:de is not in its place (--help lists all)' field:1 format:de shift:1 field:2
 
 # With `records` a line feed in quotes is part of the field.
 lines 0 '"Main St 7\nflat\r\n""b""",250\n"a\n\nb",7' $'"Main St 7\nflat\r\n""b""",2.50\n"a\n\nb",0.07\n' '' \

@@ -9,10 +9,13 @@ use Rattle.cli.specs.declared.error.OperationError.TheVariants.{Quote, Memory, O
 use Rattle.cli.specs.declared.fields.Field.{Field}
 use Rattle.cli.specs.declared.filter.Filter.{Filter}
 use Rattle.cli.specs.Conversion.{HasOutcome, OperationsFail}
-use Rattle.cli.specs.Error.{status_of_operation}
+use Rattle.cli.specs.declared.error.LineError.{LineError}
+use Rattle.cli.specs.declared.targets.Target.{Target}
+use Rattle.cli.specs.declared.targets.Target.TheVariants.{One, Fields}
+use Rattle.cli.specs.Error.{status_of_operation, error_of_line}
 use Rattle.cli.specs.FieldConversion.{IsTextResult, is_trimmed, IsFieldResult, IsLineResult, HasLineText, LineFails, map_text, with_text}
 use Rattle.cli.specs.Fields.{Holds, located, within, replaced}
-use Rattle.cli.specs.Filter.{body_of, HasConvertedLine, ConvertingFails, ConversionFails, IsResultOfLine, filtered_line, is_broken_row, RowFails, IsResultOfRow}
+use Rattle.cli.specs.Filter.{body_of, IsTargetResult, TargetFails, HasConvertedLine, ConvertingFails, ConversionFails, IsResultOfLine, filtered_line, is_broken_row, RowFails, IsResultOfRow}
 use Rattle.cli.specs.Trim.{text_of, with_text_of, body_bounds}
 use Rattle.cli.proofs.Conversions.{error_is_outcome}
 
@@ -22,8 +25,7 @@ all_after n bytes = rw (← length-drop n bytes) (take-length (drop n bytes))
 
 -- what follows from a fact of an error
 pub err_weaker :
-    {X : Type 0} (r : Result X OperationError) (P Q : OperationError → Type 0) → ((e : OperationError) → P e → Q e)
-    → IfErr r P → IfErr r Q
+    {X E : Type 0} (r : Result X E) (P Q : E → Type 0) → ((e : E) → P e → Q e) → IfErr r P → IfErr r Q
 err_weaker (Ok x) P Q f h = tt
 err_weaker (Err e) P Q f h = f e h
 
@@ -90,13 +92,24 @@ error_is_result trims (Some field) conversion line Output one h = absurd (omega 
 error_is_result trims (Some field) conversion line error one h = h
 
 -- the result of the line with this number
+target_is_result :
+    (trims : Bool) (target : Target) (bytes : List ℕ) (error : LineError) → status_of_operation error.error ≡ 1
+    → TargetFails trims target bytes error → IsTargetResult trims target bytes (Err error)
+target_is_result trims (One field conversion) bytes error one (none, fails) = (
+  Err error.error,
+  error_is_result trims field conversion bytes error.error one fails,
+  ap (λ (field : Option ℕ). Err (record { field = field; error = error.error })) none,
+)
+target_is_result trims (Fields fields) bytes error one (inl memory) =
+    absurd (omega (arith, one, ap status_of_operation memory))
+target_is_result trims (Fields fields) bytes error one (inr is) = is
+
 pub rejected_line :
-    (filter : Filter) (number : ℕ) (line : List ℕ) (error : OperationError) → status_of_operation error ≡ 1
+    (filter : Filter) (number : ℕ) (line : List ℕ) (error : LineError) → status_of_operation error.error ≡ 1
     → ConversionFails filter number line error
     → IsResultOfLine filter number line (filtered_line filter number line (Err error))
 rejected_line filter number line error one (other, fails) =
-    let result =
-    error_is_result filter.trims filter.field filter.conversion (body_of filter number line) error one fails in
+    let result = target_is_result filter.trims filter.target (body_of filter number line) error one fails in
     (Err error, inr (other, (Err error, result, refl)), refl)
 
 -- ---- What is around the bytes of a line.
@@ -144,58 +157,80 @@ replaced_within line bytes (start, end) (first, last) ordered inside within_orde
 module _ (filter : Filter) (number : ℕ) (line : List ℕ) where
   -- the result of the row that begins at the line with this number
   rejected_either :
-      (error : OperationError) → status_of_operation error ≡ 1 → (broken : Bool)
-      → MatchBool broken (error ≡ Quote) (ConversionFails filter number line error)
-      → MatchBool broken (filtered_line filter number line (Err error) ≡ filtered_line filter number line (Err Quote))
+      (error : LineError) → status_of_operation error.error ≡ 1 → (broken : Bool)
+      → MatchBool broken (error ≡ error_of_line Quote) (ConversionFails filter number line error)
+      → MatchBool broken
+      (filtered_line filter number line (Err error) ≡ filtered_line filter number line (Err (error_of_line Quote)))
       (IsResultOfLine filter number line (filtered_line filter number line (Err error)))
   rejected_either error one true is = ap (λ e. filtered_line filter number line (Err e)) is
   rejected_either error one false fails = rejected_line filter number line error one fails
 
   pub rejected_row :
-      (error : OperationError) → status_of_operation error ≡ 1 → RowFails filter number line error
+      (error : LineError) → status_of_operation error.error ≡ 1 → RowFails filter number line error
       → IsResultOfRow filter number line (filtered_line filter number line (Err error))
   rejected_row error one fails = rejected_either error one (is_broken_row filter line) fails
 
-  -- with these options the bytes between these bounds are converted
-  module _
-      (trims : Bool) (field : Option Field) (body : ℕ × ℕ) (trimmed : filter.trims ≡ trims)
-      (is_field : filter.field ≡ field) (is_body : body ≡ body_bounds filter.trims number line)
-    where
-      pub converted_line :
-          (P : List ℕ → Type 0)
-          → HasLineText trims field filter.conversion (within line body) (λ text. P (replaced line body text))
-          → HasConvertedLine filter number line P
-      converted_line P h =
-          let (text, is, p) =
-          subst (λ b. HasLineText trims field filter.conversion (within line b) (λ text. P (replaced line b text)))
-          is_body h in
-          let bytes = body_of filter number line in
-          let is_result =
-          subst (λ t. IsLineResult t filter.field filter.conversion bytes (Ok text)) (sym trimmed)
-          (subst (λ f. IsLineResult trims f filter.conversion bytes (Ok text)) (sym is_field) is) in
-          (replaced line (body_bounds filter.trims number line) text, (Ok text, is_result, refl), p)
+-- ---- The conversion of a line, or of one of its fields.
 
-      pub converting_fails :
-          (error : OperationError) → LineFails trims field filter.conversion (within line body) error
-          → ConvertingFails filter number line error
-      converting_fails error fails =
-          subst (λ t. LineFails t filter.field filter.conversion (body_of filter number line) error) (sym trimmed)
-          (subst (λ f. LineFails trims f filter.conversion (body_of filter number line) error) (sym is_field)
-          (subst (λ b. LineFails trims field filter.conversion (within line b) error) is_body fails))
+module _ (trims : Bool) (number : ℕ) (line : List ℕ) (field : Option Field) (conversion : Conversion) where
+  -- the bytes between these bounds are converted
+  module _ (body : ℕ × ℕ) (is_body : body ≡ body_bounds trims number line) where
+    pub one_line :
+        (P : List ℕ → Type 0)
+        → HasLineText trims field conversion (within line body) (λ text. P (replaced line body text))
+        → HasLineText trims field conversion (within line (body_bounds trims number line))
+        (λ text. P (replaced line (body_bounds trims number line) text))
+    one_line P h =
+        subst (λ b. HasLineText trims field conversion (within line b) (λ text. P (replaced line b text))) is_body h
 
-  -- without `trim` and a field all bytes are converted
-  module _ (off : filter.trims ≡ false) (none : filter.field ≡ None) where
+    pub one_fails :
+        (error : OperationError) → LineFails trims field conversion (within line body) error
+        → LineFails trims field conversion (within line (body_bounds trims number line)) error
+    one_fails error fails = subst (λ b. LineFails trims field conversion (within line b) error) is_body fails
+
+-- without `trim` and a field all bytes are converted
+module _
+    (trims : Bool) (number : ℕ) (line : List ℕ) (field : Option Field) (conversion : Conversion)
+    (off : trims ≡ false) (none : field ≡ None)
+  where
     pub plain_line :
-        (P : List ℕ → Type 0) → HasOutcome filter.conversion line P → HasConvertedLine filter number line P
+        (P : List ℕ → Type 0) → HasOutcome conversion line P
+        → HasLineText trims field conversion (within line (body_bounds trims number line))
+        (λ text. P (replaced line (body_bounds trims number line) text))
     plain_line P (written, is, p) =
-        converted_line false None (0, length line) off none (rw off refl) P
-        (outcome_line false filter.conversion (within line (0, length line)) line
+        rw (off, none)
+        (outcome_line false conversion (within line (0, length line)) line
         (λ text. P (replaced line (0, length line) text)) (sym (all_within line))
         (written, is, subst P (sym (all_replaced line written)) p))
 
     pub plain_fails :
-        (error : OperationError) → OperationsFail error filter.conversion line
-        → ConvertingFails filter number line error
+        (error : OperationError) → OperationsFail error conversion line
+        → LineFails trims field conversion (within line (body_bounds trims number line)) error
     plain_fails error fails =
-        converting_fails false None (0, length line) off none (rw off refl) error
-        (subst (λ l. OperationsFail error filter.conversion l) (sym (all_within line)) fails)
+        rw (off, none) (subst (λ l. OperationsFail error conversion l) (sym (all_within line)) fails)
+
+-- ---- The result of converting a line.
+
+module _ (filter : Filter) (number : ℕ) (line : List ℕ) where
+  pub converted_line :
+      (target : Target) (P : List ℕ → Type 0) → filter.target ≡ target → (text : List ℕ)
+      → IsTargetResult filter.trims target (body_of filter number line) (Ok text)
+      → P (replaced line (body_bounds filter.trims number line) text) → HasConvertedLine filter number line P
+  converted_line target P is text result p =
+      let is_result =
+      subst (λ t. IsTargetResult filter.trims t (body_of filter number line) (Ok text)) (sym is) result in
+      (replaced line (body_bounds filter.trims number line) text, (Ok text, is_result, refl), p)
+
+  pub converting_fails :
+      (target : Target) (error : LineError) → filter.target ≡ target
+      → TargetFails filter.trims target (body_of filter number line) error → ConvertingFails filter number line error
+  converting_fails target error is fails =
+      subst (λ t. TargetFails filter.trims t (body_of filter number line) error) (sym is) fails
+
+  pub converted_one :
+      (field : Option Field) (conversion : Conversion) (P : List ℕ → Type 0) → filter.target ≡ One field conversion
+      → HasLineText filter.trims field conversion (body_of filter number line)
+      (λ text. P (replaced line (body_bounds filter.trims number line) text))
+      → HasConvertedLine filter number line P
+  converted_one field conversion P is (text, found, p) =
+      converted_line (One field conversion) P is text (Ok text, found, refl) p

@@ -12,5 +12,7 @@ pub mod Separators
 pub mod Quotes
 pub mod FirstRecord
 pub mod FieldLines
+pub mod Editing
+pub mod FieldWords
 pub mod OptionWords
 pub mod ShownWords

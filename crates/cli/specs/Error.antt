@@ -1,5 +1,5 @@
 -- The errors of the programs, and the exit status that goes with each.
-use Rattle.std.specs.Prelude.{ℕ, Bool, true, false}
+use Rattle.std.specs.Prelude.{ℕ, Bool, true, false, None}
 use Rattle.decimal_unsigned.specs.declared.error.ParseError.TheVariants as parse
 use Rattle.decimal_unsigned.specs.Reading.{ReadError, syntax, limit}
 use Rattle.plural_rules.specs.declared.parse.RulesError.TheVariants as rules
@@ -9,6 +9,7 @@ use Rattle.cli.specs.declared.error.Reason.{Reason}
 use Rattle.cli.specs.declared.error.Reason.TheVariants.{Syntax, Limit}
 use Rattle.cli.specs.declared.error.OperationError.{OperationError}
 use Rattle.cli.specs.declared.error.OperationError.TheVariants.{Field, Quote, Start, Operand, Overlap, Overflow, Memory, Output}
+use Rattle.cli.specs.declared.error.LineError.{LineError}
 use Rattle.cli.specs.declared.error.ProgramError.{ProgramError}
 use Rattle.cli.specs.declared.error.ProgramError.TheVariants as program
 use Rattle.cli.specs.declared.error.WordsError.{WordsError}
@@ -43,6 +44,10 @@ status_of_operation (Overflow at) = 1
 status_of_operation Memory = 3
 status_of_operation Output = 3
 
+-- an error of a line, and not of one of several fields
+abbrev pub error_of_line : OperationError → LineError
+error_of_line error = record { field = None; error = error }
+
 -- the status of an error before the work: 3 of out of memory and of failed output, 2 of wrong words
 abbrev pub status_of_words : WordsError → ℕ
 status_of_words words.Memory = 3
@@ -58,7 +63,7 @@ is_output_of_words _ = false
 abbrev pub status_of : ProgramError → ℕ
 status_of (program.Start error) = status_of_words error.why
 status_of (program.Operation error) = status_of_operation error
-status_of (program.Line line error) = status_of_operation error
+status_of (program.Line line error) = status_of_operation error.error
 status_of (program.LongLine line) = 3
 status_of program.Input = 3
 status_of (program.Rules at reason) = 1

@@ -20,7 +20,7 @@ IsTextResult conversion text result =
     (outcome : Result (List ℕ) OutcomeError) × IsOutcome conversion text outcome × (result ≡ result_of outcome)
 
 -- a result with what a function makes of its text
-abbrev pub map_text : (List ℕ → List ℕ) → Result (List ℕ) OperationError → Result (List ℕ) OperationError
+abbrev pub map_text : {E : Type 0} → (List ℕ → List ℕ) → Result (List ℕ) E → Result (List ℕ) E
 map_text f (Ok text) = Ok (f text)
 map_text f (Err error) = Err error
 

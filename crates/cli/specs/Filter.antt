@@ -13,7 +13,11 @@ use Rattle.cli.specs.declared.filter.Filter.{Filter}
 use Rattle.cli.specs.declared.filter.FilteredRow.{FilteredRow}
 use Rattle.cli.specs.declared.filter.OnError.{OnError}
 use Rattle.cli.specs.declared.filter.OnError.TheVariants.{Stop, Keep}
-use Rattle.cli.specs.Error.{status_of_operation}
+use Rattle.cli.specs.declared.error.LineError.{LineError}
+use Rattle.cli.specs.declared.targets.Target.{Target}
+use Rattle.cli.specs.declared.targets.Target.TheVariants.{One, Fields}
+use Rattle.cli.specs.Edits.{IsEditedLine, EditingFails}
+use Rattle.cli.specs.Error.{status_of_operation, error_of_line}
 use Rattle.cli.specs.FieldConversion.{IsLineResult, LineFails, map_text}
 use Rattle.cli.specs.Fields.{within, replaced}
 use Rattle.cli.specs.Trim.{body_bounds}
@@ -30,11 +34,23 @@ IsHeader filter number = (filter.has_header ≡ true) × (number ≡ 1)
 abbrev pub body_of : Filter → ℕ → List ℕ → List ℕ
 body_of filter number line = within line (body_bounds filter.trims number line)
 
+-- a result that is not that of one of several fields
+abbrev pub result_of_line : {A : Type 0} → Result A OperationError → Result A LineError
+result_of_line (Ok x) = Ok x
+result_of_line (Err error) = Err (error_of_line error)
+
+-- the result of converting these bytes of a line
+abbrev pub IsTargetResult : Bool → Target → List ℕ → Result (List ℕ) LineError → Type 0
+IsTargetResult trims (One field conversion) bytes result =
+    (found : Result (List ℕ) OperationError) × IsLineResult trims field conversion bytes found
+    × (result ≡ result_of_line found)
+IsTargetResult trims (Fields fields) bytes result = IsEditedLine trims fields.items bytes result
+
 -- the result of converting the line with this number: what is around these bytes is copied
-abbrev pub IsConvertedLine : Filter → ℕ → List ℕ → Result (List ℕ) OperationError → Type 0
+abbrev pub IsConvertedLine : Filter → ℕ → List ℕ → Result (List ℕ) LineError → Type 0
 IsConvertedLine filter number line result =
-    (converted : Result (List ℕ) OperationError)
-    × IsLineResult filter.trims filter.field filter.conversion (body_of filter number line) converted
+    (converted : Result (List ℕ) LineError)
+    × IsTargetResult filter.trims filter.target (body_of filter number line) converted
     × (result ≡ map_text (replaced line (body_bounds filter.trims number line)) converted)
 
 -- P holds of the text of converting the line with this number
@@ -42,7 +58,7 @@ abbrev pub HasConvertedLine : Filter → ℕ → List ℕ → (List ℕ → Type
 HasConvertedLine filter number line P = (text : List ℕ) × IsConvertedLine filter number line (Ok text) × P text
 
 -- the result of the line with this number: a header is its own text, and each other line is converted
-abbrev pub IsTextOrError : Filter → ℕ → List ℕ → Result (List ℕ) OperationError → Type 0
+abbrev pub IsTextOrError : Filter → ℕ → List ℕ → Result (List ℕ) LineError → Type 0
 IsTextOrError filter number line result =
     (IsHeader filter number × (result ≡ Ok line))
     ⊎ (¬ IsHeader filter number × IsConvertedLine filter number line result)
@@ -51,13 +67,19 @@ IsTextOrError filter number line result =
 abbrev pub HasText : Filter → ℕ → List ℕ → (List ℕ → Type 0) → Type 0
 HasText filter number line P = (text : List ℕ) × IsTextOrError filter number line (Ok text) × P text
 
+-- converting these bytes of a line fails with this error
+abbrev pub TargetFails : Bool → Target → List ℕ → LineError → Type 0
+TargetFails trims (One field conversion) bytes error =
+    (error.field ≡ None) × LineFails trims field conversion bytes error.error
+TargetFails trims (Fields fields) bytes error = EditingFails trims fields.items bytes error
+
 -- converting the line with this number fails with this error
-abbrev pub ConvertingFails : Filter → ℕ → List ℕ → OperationError → Type 0
+abbrev pub ConvertingFails : Filter → ℕ → List ℕ → LineError → Type 0
 ConvertingFails filter number line error =
-    LineFails filter.trims filter.field filter.conversion (body_of filter number line) error
+    TargetFails filter.trims filter.target (body_of filter number line) error
 
 -- the conversion of the line with this number fails with this error; a header has none
-abbrev pub ConversionFails : Filter → ℕ → List ℕ → OperationError → Type 0
+abbrev pub ConversionFails : Filter → ℕ → List ℕ → LineError → Type 0
 ConversionFails filter number line error = ¬ IsHeader filter number × ConvertingFails filter number line error
 
 -- what is written instead of the text of a line that has none: the line itself with `Keep`, and otherwise nothing
@@ -75,7 +97,7 @@ abbrev pub FilteredLine : Type 0
 FilteredLine = Result (List ℕ) Rejected
 
 -- a text or an error as the result of the line with this number
-abbrev pub filtered_line : Filter → ℕ → List ℕ → Result (List ℕ) OperationError → FilteredLine
+abbrev pub filtered_line : Filter → ℕ → List ℕ → Result (List ℕ) LineError → FilteredLine
 filtered_line filter number line (Ok text) = Ok text
 filtered_line filter number line (Err error) =
     Err (record { error = Line number error; output = replacement filter.on_error line })
@@ -83,7 +105,7 @@ filtered_line filter number line (Err error) =
 -- the result of the line with this number
 abbrev pub IsResultOfLine : Filter → ℕ → List ℕ → FilteredLine → Type 0
 IsResultOfLine filter number line result =
-    (found : Result (List ℕ) OperationError) × IsTextOrError filter number line found
+    (found : Result (List ℕ) LineError) × IsTextOrError filter number line found
     × (result ≡ filtered_line filter number line found)
 
 -- ---- The result of a row: of a line, or with `records` of a record.
@@ -102,14 +124,16 @@ HasRowText filter number row P = (is_broken_row filter row ≡ false) × HasText
 
 -- the row that begins at the line with this number fails with this error: it is a broken record, or its conversion
 -- fails
-abbrev pub RowFails : Filter → ℕ → List ℕ → OperationError → Type 0
+abbrev pub RowFails : Filter → ℕ → List ℕ → LineError → Type 0
 RowFails filter number row error =
-    MatchBool (is_broken_row filter row) (error ≡ operation.Quote) (ConversionFails filter number row error)
+    MatchBool (is_broken_row filter row) (error ≡ error_of_line operation.Quote)
+    (ConversionFails filter number row error)
 
 -- the result of the row that begins at the line with this number
 abbrev pub IsResultOfRow : Filter → ℕ → List ℕ → FilteredLine → Type 0
 IsResultOfRow filter number row result =
-    MatchBool (is_broken_row filter row) (result ≡ filtered_line filter number row (Err operation.Quote))
+    MatchBool (is_broken_row filter row)
+    (result ≡ filtered_line filter number row (Err (error_of_line operation.Quote)))
     (IsResultOfLine filter number row result)
 
 -- the output of a line: its text, or what is written instead, and a line feed
@@ -157,7 +181,7 @@ IsErrorOfReading number failure _ = ⊥
 -- the error is that of the line with this number, with `Skip` and `Keep` only out of memory
 abbrev pub IsErrorOfLine : Filter → ℕ → List ℕ → ProgramError → Type 0
 IsErrorOfLine filter number line (Line at error) =
-    (at ≡ number) × (filter.on_error ≢ Stop → status_of_operation error ≢ 1) × (error ≢ operation.Output)
+    (at ≡ number) × (filter.on_error ≢ Stop → status_of_operation error.error ≢ 1) × (error.error ≢ operation.Output)
     × RowFails filter number line error
 IsErrorOfLine filter number line _ = ⊥
 

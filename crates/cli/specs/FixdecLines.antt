@@ -2,7 +2,7 @@
 use Rattle.std.specs.Prelude.{◌≡◌, ◌⊎◌, ℕ, ⊤, Bool, true, false, List, String, Option, MatchBool, MatchOption, Result, Err, IsErrAnd}
 use Rattle.std.specs.declared.alloc.Global.{Global}
 use Rattle.std.specs.declared.io.ErrorKind.{ErrorKind}
-use Rattle.cli.specs.Words.{NamesConversion, ConversionFails}
+use Rattle.cli.specs.Targets.{NamesTarget, NameNoTarget}
 use Rattle.cli.specs.Options.{none, AreOptions, HasField, lacks_csv, field_error}
 use Rattle.cli.specs.declared.options.Options.{Options}
 use Rattle.cli.specs.declared.fields.Field.{Field}
@@ -23,20 +23,21 @@ pub record HasWords (words : List (String Global)) (P : Options → List (String
   pub first : AreOptions none words options others
   pub holds : P options others
 
--- the words are [OPTION].. [read:..] [CALL].. [format:..], with this filter
+-- the words are [OPTION].. and those of what is converted, with this filter
 abbrev pub NamesFilter : List (String Global) → Filter → Type 0
 NamesFilter words filter =
     HasWords words
     (λ options others. (lacks_csv options ≡ false) × (filter.on_error ≡ options.on_error)
     × (filter.has_header ≡ options.has_header) × (filter.has_records ≡ options.has_records)
-    × (filter.trims ≡ options.trims) × HasField options filter.field × NamesConversion others filter.conversion)
+    × (filter.trims ≡ options.trims)
+    × ((field : Option Field) × HasField options field × NamesTarget field others filter.target))
 
--- the options have no field, for this error; or they have one, and the other words name no conversion
+-- the options have no field, for this error; or they have one, and the other words name nothing to convert
 abbrev pub OthersFail : Options → List (String Global) → ProgramError → Type 0
 OthersFail options others error =
     (((field : Option Field) → ¬ HasField options field) × (error ≡ start_error FixdecLines (field_error options)))
-    ⊎ (((field : Option Field) × HasField options field)
-    × ((why : WordsError) × (error ≡ start_error FixdecLines why) × ConversionFails others why))
+    ⊎ ((field : Option Field) × HasField options field
+    × ((why : WordsError) × (error ≡ start_error FixdecLines why) × NameNoTarget field others why))
 
 -- they are not, for this error: `records` has no `csv`; or it has, and the other words fail
 abbrev pub FilterFails : List (String Global) → ProgramError → Type 0

@@ -3,6 +3,7 @@ pub mod Calls
 pub mod Categories
 pub mod Conversion
 pub mod Diagnostics
+pub mod Edits
 pub mod Error
 pub mod FieldConversion
 pub mod Fields
@@ -19,5 +20,6 @@ pub mod Plural
 pub mod Reader
 pub mod Records
 pub mod ShownWord
+pub mod Targets
 pub mod Trim
 pub mod Words

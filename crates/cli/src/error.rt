@@ -188,6 +188,51 @@ impl From<SinkFault> for OperationError {
     }
 }
 
+/// The error of a line, or of one of several fields of it.
+#[derive(Clone, Copy, Debug, PartialEq)]
+pub struct LineError {
+    /// The 0-based index of the field, if several are converted and the error is that of one.
+    pub field: Option<usize>,
+    /// The error.
+    pub error: OperationError,
+}
+
+impl fmt::Display for LineError {
+    fn fmt<W: fmt::Write>(&self, f: &mut fmt::Formatter<W>) -> fmt::Result {
+        let error = self.error;
+        match self.field {
+            Some(index) => write!(f, "field {}: {error}", index.saturating_add(1)),
+            None => write!(f, "{error}"),
+        }
+    }
+}
+
+impl error::Error for LineError {}
+
+impl From<OperationError> for LineError {
+    ghost use Rattle.cli.specs.Error.{error_of_line};
+
+    ghost from_gives = { λ error result. result ≡ error_of_line error };
+
+    fn from(error: OperationError) -> LineError {
+        LineError { field: None, error }
+    }
+}
+
+impl From<SinkFault> for LineError {
+    ghost use Rattle.cli.specs.declared.error.OperationError.TheVariants.{Output};
+    ghost use Rattle.cli.specs.Error.{error_of_line};
+
+    ghost from_gives = { λ _ result. result ≡ error_of_line Output };
+
+    fn from(_error: SinkFault) -> LineError {
+        LineError {
+            field: None,
+            error: OperationError::Output,
+        }
+    }
+}
+
 /// The error of a program. Lines and texts have 1-based numbers.
 #[derive(Clone, Copy, Debug, PartialEq, Error)]
 pub enum ProgramError {
@@ -199,7 +244,7 @@ pub enum ProgramError {
     Operation(OperationError),
     /// The conversion of this line fails.
     #[error("line {line}: {error}")]
-    Line { line: u64, error: OperationError },
+    Line { line: u64, error: LineError },
     /// Out of memory to hold this line.
     #[error("line {line}: memory")]
     LongLine { line: u64 },
@@ -244,7 +289,8 @@ impl ProgramError {
     {
         match self {
             ProgramError::Start(error) => error.why.status(),
-            ProgramError::Operation(error) | ProgramError::Line { error, .. } => error.status(),
+            ProgramError::Operation(error) => error.status(),
+            ProgramError::Line { error, .. } => error.error.status(),
             ProgramError::Rules { .. } | ProgramError::Text { .. } => 1,
             ProgramError::LongLine { .. } | ProgramError::Input | ProgramError::Output => 3,
         }

@@ -45,6 +45,7 @@ fn write_replaced<W: Sink>(
     sink.put_bytes(&bytes[bounds.1..])
 }
 
+#[inline(always)]
 fn convert_in_memory(
     alloc: Global,
     conversion: &Conversion<'_>,
@@ -83,6 +84,7 @@ fn is_trimmed(trims: bool, field: &Field<'_>, bytes: &[u8]) -> bool
 }
 
 /// Converts the text of a field.
+#[inline(always)]
 pub fn converted(
     alloc: Global,
     trims: bool,

@@ -115,6 +115,7 @@ impl Field<'_> {
     }
 
     /// Returns the start and the end of the field in a line whose fields one byte separates. None: it has fewer fields.
+    #[inline(always)]
     fn bounds_by_byte(&self, delimiter: u8, line: &[u8]) -> Option<(usize, usize)>
         requires { self.now.delimiter.now ≡ delimiter ∷ [] }
         ensures value { result ≡ bounds self.now line.now }
@@ -142,6 +143,7 @@ impl Field<'_> {
         Some((start, line.len()))
     }
 
+    #[inline(always)]
     fn bounds(&self, line: &[u8]) -> Option<(usize, usize)>
         ensures value { result ≡ bounds self.now line.now }
         ensures ordered { IfSome result (λ bounds. bounds.0 ≤ bounds.1) }
@@ -187,6 +189,7 @@ impl Field<'_> {
     ///
     /// - `Quote`: in CSV a quote is left open.
     /// - `Field`: the line has fewer fields.
+    #[inline(always)]
     pub fn locate(&self, line: &[u8]) -> Result<(usize, usize), OperationError>
         ensures value { result ≡ located self.now line.now }
         ensures ordered { IfOk result (λ bounds. bounds.0 ≤ bounds.1) }
@@ -202,6 +205,7 @@ impl Field<'_> {
     }
 
     /// Returns the text that the bytes of a field hold. None: a quote is in the wrong place.
+    #[inline(always)]
     pub fn text<'a>(
         &self,
         alloc: Global,
@@ -232,6 +236,7 @@ impl Field<'_> {
         self.is_csv && has_quote(bytes)
     }
 
+    #[inline(always)]
     fn needs_quotes(&self, text: &[u8]) -> bool
         ensures { result ≡ needs_quotes self.now text.now }
     {
@@ -239,6 +244,7 @@ impl Field<'_> {
     }
 
     /// Writes a text as the field.
+    #[inline(always)]
     pub fn write<W: Sink>(&self, text: &[u8], sink: &mut W) -> Result<(), SinkFault>
         ensures ok { OnOk result (Appends (W.contents sink.old) (W.contents sink.new) (bytes_of self.now text.now)) }
         ensures err { OnErr result (AppendsPrefix (W.contents sink.old) (W.contents sink.new)

@@ -1,5 +1,6 @@
 //! The filter: the conversion of each line, or record, of an input.
 ghost use Rattle.std.specs.Prelude.{◌≡◌, ◌≢◌, ◌<◌, ◌∷◌, ◌++◌, [], Ok, Err, Some, true, false, IsSome, IfErr, IfOk, IfSome, OnOk, OnErr};
+ghost use Rattle.cli.specs.Edits.{HasEditedText, EditingFails};
 ghost use Rattle.std.specs.Io.KnownBytes.{Appends, IsAtEnd};
 ghost use Rattle.decimal_digits.specs.AppendsPrefix.{AppendsPrefix};
 ghost use Rattle.memchr.specs.Find.{IsFirstByte, is_byte};
@@ -12,12 +13,14 @@ ghost use Rattle.cli.specs.Lines.{Filters, IsConsumed};
 
 use crate::conversion::{Conversion, convert};
 use crate::diagnostics::Diagnostics;
-use crate::error::{OperationError, ProgramError};
+use crate::edits::{FieldConversion, insert_edits, write_edited};
+use crate::error::{LineError, OperationError, ProgramError};
 use crate::field_conversion::{convert_trimmed, converted, write_field};
 use crate::fields::Field;
 use crate::input::LineReader;
 use crate::line_feed::find_line_feed;
 use crate::records::{is_broken, lines_in};
+use crate::targets::Target;
 use crate::trim::body_bounds;
 use fixed_decimal::{Sink, SinkFault};
 use std::alloc::Global;
@@ -48,10 +51,8 @@ pub struct FilteredRow {
 pub struct Filter<'a> {
     /// What it does at a line whose conversion fails.
     pub on_error: OnError,
-    /// The conversion of each line, or of its field.
-    pub conversion: Conversion<'a>,
-    /// The field that is converted. `None`: each line is converted as a whole.
-    pub field: Option<Field<'a>>,
+    /// What is converted of each line, and how.
+    pub target: Target<'a>,
     /// Whether the first line is a header, which is copied.
     pub has_header: bool,
     /// Whether a line goes on while a quote is open, as in RFC 4180: the rows that are converted are records of CSV.
@@ -85,20 +86,21 @@ impl Filter<'_> {
         &self,
         alloc: Global,
         field: &Field<'_>,
+        conversion: &Conversion<'_>,
         number: u64,
         line: &[u8],
         sink: &mut W,
     ) -> Result<(), OperationError>
         ensures printed { OnOk result
-            (HasLineText self.now.trims (Some field.now) self.now.conversion (body_of self.now number line.now)
+            (HasLineText self.now.trims (Some field.now) conversion.now (body_of self.now number line.now)
             (λ text. Appends (W.contents sink.old) (W.contents sink.new)
             (replaced line.now (body_bounds self.now.trims number line.now) text))) }
         ensures fails_with { IfErr result
-            (LineFails self.now.trims (Some field.now) self.now.conversion (body_of self.now number line.now)) }
+            (LineFails self.now.trims (Some field.now) conversion.now (body_of self.now number line.now)) }
         ensures unchanged_on_error { IfErr result (λ error. error ≢ OperationError.Output → sink.new ≡ sink.old) }
         ensures failed { result ≡ Err OperationError.Output → W.has_failed sink.new ≡ true }
         ensures prefix { result ≡ Err OperationError.Output →
-            HasLineText self.now.trims (Some field.now) self.now.conversion (body_of self.now number line.now)
+            HasLineText self.now.trims (Some field.now) conversion.now (body_of self.now number line.now)
             (λ text. AppendsPrefix (W.contents sink.old) (W.contents sink.new)
             (replaced line.now (body_bounds self.now.trims number line.now) text)) }
     {
@@ -106,9 +108,74 @@ impl Filter<'_> {
         let bytes = &line[body.0..body.1];
         let bounds = field.locate(bytes)?;
         let bytes = &bytes[bounds.0..bounds.1];
-        let text = converted(alloc, self.trims, &self.conversion, field, bytes)?;
+        let text = converted(alloc, self.trims, conversion, field, bytes)?;
         let bounds = (body.0 + bounds.0, body.0 + bounds.1);
         write_field(field, line, bounds, text.as_bytes(), sink)?;
+        Ok(())
+    }
+
+    #[inline(always)]
+    fn convert_one<W: Sink>(
+        &self,
+        alloc: Global,
+        field: &Option<Field<'_>>,
+        conversion: &Conversion<'_>,
+        number: u64,
+        line: &[u8],
+        sink: &mut W,
+    ) -> Result<(), OperationError>
+        ensures printed { OnOk result
+            (HasLineText self.now.trims field.now conversion.now (body_of self.now number line.now)
+            (λ text. Appends (W.contents sink.old) (W.contents sink.new)
+            (replaced line.now (body_bounds self.now.trims number line.now) text))) }
+        ensures fails_with { IfErr result (λ error. error ≢ OperationError.Output →
+            LineFails self.now.trims field.now conversion.now (body_of self.now number line.now) error) }
+        ensures unchanged_on_error { IfErr result (λ error. error ≢ OperationError.Output → sink.new ≡ sink.old) }
+        ensures failed { result ≡ Err OperationError.Output → W.has_failed sink.new ≡ true }
+        ensures prefix { result ≡ Err OperationError.Output →
+            HasLineText self.now.trims field.now conversion.now (body_of self.now number line.now)
+            (λ text. AppendsPrefix (W.contents sink.old) (W.contents sink.new)
+            (replaced line.now (body_bounds self.now.trims number line.now) text)) }
+    {
+        match field {
+            Some(field) => self.convert_field(alloc, field, conversion, number, line, sink),
+            None if self.trims => {
+                let body = body_bounds(true, number, line);
+                convert_trimmed(alloc, conversion, line, body, sink)
+            }
+            None => convert(alloc, conversion, line, sink),
+        }
+    }
+
+    #[inline(never)]
+    fn convert_fields<W: Sink>(
+        &self,
+        alloc: Global,
+        fields: &[FieldConversion<'_>],
+        number: u64,
+        line: &[u8],
+        sink: &mut W,
+    ) -> Result<(), LineError>
+        ensures printed { OnOk result
+            (HasEditedText self.now.trims fields.now (body_of self.now number line.now)
+            (λ text. Appends (W.contents sink.old) (W.contents sink.new)
+            (replaced line.now (body_bounds self.now.trims number line.now) text))) }
+        ensures fails_with { IfErr result (λ error. error.error ≢ OperationError.Output →
+            EditingFails self.now.trims fields.now (body_of self.now number line.now) error) }
+        ensures unchanged_on_error { IfErr result (λ error. error.error ≢ OperationError.Output
+            → sink.new ≡ sink.old) }
+        ensures failed { IfErr result (λ error. error.error ≡ OperationError.Output
+            → W.has_failed sink.new ≡ true) }
+        ensures prefix { IfErr result (λ error. error.error ≡ OperationError.Output →
+            HasEditedText self.now.trims fields.now (body_of self.now number line.now)
+            (λ text. AppendsPrefix (W.contents sink.old) (W.contents sink.new)
+            (replaced line.now (body_bounds self.now.trims number line.now) text))) }
+    {
+        let body = body_bounds(self.trims, number, line);
+        let bytes = &line[body.0..body.1];
+        let mut edits = Vec::new(alloc);
+        insert_edits(alloc, self.trims, fields, bytes, &mut edits)?;
+        write_edited(line, body, edits.as_slice(), sink)?;
         Ok(())
     }
 
@@ -119,23 +186,26 @@ impl Filter<'_> {
         number: u64,
         line: &[u8],
         sink: &mut W,
-    ) -> Result<(), OperationError>
+    ) -> Result<(), LineError>
         ensures printed { OnOk result (HasConvertedLine self.now number line.now
             (Appends (W.contents sink.old) (W.contents sink.new))) }
-        ensures fails_with { IfErr result (λ error. error ≢ OperationError.Output
+        ensures fails_with { IfErr result (λ error. error.error ≢ OperationError.Output
             → ConvertingFails self.now number line.now error) }
-        ensures unchanged_on_error { IfErr result (λ error. error ≢ OperationError.Output → sink.new ≡ sink.old) }
-        ensures failed { result ≡ Err OperationError.Output → W.has_failed sink.new ≡ true }
-        ensures prefix { result ≡ Err OperationError.Output → HasConvertedLine self.now number line.now
-            (AppendsPrefix (W.contents sink.old) (W.contents sink.new)) }
+        ensures unchanged_on_error { IfErr result (λ error. error.error ≢ OperationError.Output
+            → sink.new ≡ sink.old) }
+        ensures failed { IfErr result (λ error. error.error ≡ OperationError.Output
+            → W.has_failed sink.new ≡ true) }
+        ensures prefix { IfErr result (λ error. error.error ≡ OperationError.Output
+            → HasConvertedLine self.now number line.now (AppendsPrefix (W.contents sink.old) (W.contents sink.new))) }
     {
-        match &self.field {
-            Some(field) => self.convert_field(alloc, field, number, line, sink),
-            None if self.trims => {
-                let body = body_bounds(true, number, line);
-                convert_trimmed(alloc, &self.conversion, line, body, sink)
+        match &self.target {
+            Target::One(field, conversion) => {
+                self.convert_one(alloc, field, conversion, number, line, sink)?;
+                Ok(())
             }
-            None => convert(alloc, &self.conversion, line, sink),
+            Target::Fields(fields) => {
+                self.convert_fields(alloc, fields.as_slice(), number, line, sink)
+            }
         }
     }
 
@@ -146,15 +216,17 @@ impl Filter<'_> {
         number: u64,
         line: &[u8],
         sink: &mut W,
-    ) -> Result<(), OperationError>
+    ) -> Result<(), LineError>
         ensures printed { OnOk result (HasText self.now number line.now
             (λ text. Appends (W.contents sink.old) (W.contents sink.new) (text ++ 10 ∷ []))) }
-        ensures fails_with { IfErr result (λ error. error ≢ OperationError.Output
+        ensures fails_with { IfErr result (λ error. error.error ≢ OperationError.Output
             → ConversionFails self.now number line.now error) }
-        ensures unchanged_on_error { IfErr result (λ error. error ≢ OperationError.Output → sink.new ≡ sink.old) }
-        ensures failed { result ≡ Err OperationError.Output → W.has_failed sink.new ≡ true }
-        ensures prefix { result ≡ Err OperationError.Output → HasText self.now number line.now
-            (λ text. AppendsPrefix (W.contents sink.old) (W.contents sink.new) (text ++ 10 ∷ [])) }
+        ensures unchanged_on_error { IfErr result (λ error. error.error ≢ OperationError.Output
+            → sink.new ≡ sink.old) }
+        ensures failed { IfErr result (λ error. error.error ≡ OperationError.Output
+            → W.has_failed sink.new ≡ true) }
+        ensures prefix { IfErr result (λ error. error.error ≡ OperationError.Output → HasText self.now number line.now
+            (λ text. AppendsPrefix (W.contents sink.old) (W.contents sink.new) (text ++ 10 ∷ []))) }
     {
         if self.is_header(number) {
             copy_line(line, sink)?;
@@ -173,18 +245,20 @@ impl Filter<'_> {
         number: u64,
         row: &[u8],
         sink: &mut W,
-    ) -> Result<(), OperationError>
+    ) -> Result<(), LineError>
         ensures printed { OnOk result (HasRowText self.now number row.now
             (λ text. Appends (W.contents sink.old) (W.contents sink.new) (text ++ 10 ∷ []))) }
-        ensures fails_with { IfErr result (λ error. error ≢ OperationError.Output
+        ensures fails_with { IfErr result (λ error. error.error ≢ OperationError.Output
             → RowFails self.now number row.now error) }
-        ensures unchanged_on_error { IfErr result (λ error. error ≢ OperationError.Output → sink.new ≡ sink.old) }
-        ensures failed { result ≡ Err OperationError.Output → W.has_failed sink.new ≡ true }
-        ensures prefix { result ≡ Err OperationError.Output → HasRowText self.now number row.now
-            (λ text. AppendsPrefix (W.contents sink.old) (W.contents sink.new) (text ++ 10 ∷ [])) }
+        ensures unchanged_on_error { IfErr result (λ error. error.error ≢ OperationError.Output
+            → sink.new ≡ sink.old) }
+        ensures failed { IfErr result (λ error. error.error ≡ OperationError.Output
+            → W.has_failed sink.new ≡ true) }
+        ensures prefix { IfErr result (λ error. error.error ≡ OperationError.Output → HasRowText self.now number row.now
+            (λ text. AppendsPrefix (W.contents sink.old) (W.contents sink.new) (text ++ 10 ∷ []))) }
     {
         if self.has_records && is_broken(row) {
-            return Err(OperationError::Quote);
+            return Err(LineError::from(OperationError::Quote));
         }
         self.print(alloc, number, row, sink)
     }
@@ -246,10 +320,12 @@ fn filter_line<W: Sink, D: Diagnostics<ProgramError>>(
 {
     let error = match filter.print_row(alloc, number, line, out) {
         Ok(()) => return Ok(true),
-        Err(OperationError::Output) => return Err(ProgramError::Output),
         Err(error) => error,
     };
-    let is_rejected = error.status() == 1;
+    if let OperationError::Output = error.error {
+        return Err(ProgramError::Output);
+    }
+    let is_rejected = error.error.status() == 1;
     let error = ProgramError::Line {
         line: number,
         error,

@@ -18,7 +18,7 @@ use crate::filter::{Filter, filter_lines};
 use crate::help::Program;
 use crate::input::LineReader;
 use crate::options::split_options;
-use crate::words::parse_conversion;
+use crate::targets::parse_target;
 use fixed_decimal::{BufferedOut, Closed};
 use std::alloc::Global;
 use std::env::Args;
@@ -37,11 +37,10 @@ fn parse_filter(alloc: Global, words: &[String]) -> Result<Filter<'_>, ProgramEr
     let Some(field) = options.field() else {
         return Err(ProgramError::start(Program::FixdecLines, options.field_error()));
     };
-    match parse_conversion(alloc, words) {
-        Ok(conversion) => Ok(Filter {
+    match parse_target(alloc, field, words) {
+        Ok(target) => Ok(Filter {
             on_error: options.on_error,
-            conversion,
-            field,
+            target,
             has_header: options.has_header,
             has_records: options.has_records,
             trims: options.trims,

@@ -29,7 +29,8 @@ pub struct Options<'a> {
     pub trims: bool,
 }
 
-fn field_index(word: &str) -> Option<usize>
+/// Returns the 0-based index of the field that a word names.
+pub fn field_index(word: &str) -> Option<usize>
     ensures some { IfSome result (IsField word.now) }
     ensures only { (index : ℕ) → IsField word.now index → result ≡ Some index }
 {

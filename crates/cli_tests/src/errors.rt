@@ -2,8 +2,8 @@
 ghost use Rattle.std.specs.Prelude.{◌≡◌, true, [], ◌∷◌, ◌++◌};
 
 use cli::{
-    Conversion, Diagnostics, ErrorLines, Filter, LineReader, OnError, OperationError, Program,
-    ProgramError, Reason, ShownWord, WordsError, filter_lines,
+    Conversion, Diagnostics, ErrorLines, Filter, LineError, LineReader, OnError, OperationError, Program,
+    ProgramError, Reason, ShownWord, Target, WordsError, filter_lines,
 };
 use fixed_decimal::{Call, TextBuf};
 use std::alloc::Global;
@@ -48,11 +48,14 @@ fn reports_a_line_in_one_write(rt: HostRuntime) -> Result<(), Fail> {
         (
             ProgramError::Line {
                 line: 18_446_744_073_709_551_615,
-                error: OperationError::Overflow {
-                    at: 18_446_744_073_709_551_615,
+                error: LineError {
+                    field: Some(18_446_744_073_709_551_614),
+                    error: OperationError::Overflow {
+                        at: 18_446_744_073_709_551_615,
+                    },
                 },
             },
-            "line 18446744073709551615: call 18446744073709551615: overflow\n",
+            "line 18446744073709551615: field 18446744073709551615: call 18446744073709551615: overflow\n",
         ),
         (ProgramError::LongLine { line: 7 }, "line 7: memory\n"),
         (
@@ -80,12 +83,14 @@ fn a_skipping_filter_reports_each_refusal(rt: HostRuntime) -> Result<(), Fail> {
     };
     let filter = Filter {
         on_error: OnError::Skip,
-        conversion: Conversion {
-            reader: None,
-            calls: Vec::from_array(alloc, [Call::MultiplyPow10(-2)])?,
-            formatter: None,
-        },
-        field: None,
+        target: Target::One(
+            None,
+            Conversion {
+                reader: None,
+                calls: Vec::from_array(alloc, [Call::MultiplyPow10(-2)])?,
+                formatter: None,
+            },
+        ),
         has_header: false,
         has_records: false,
         trims: false,
@@ -96,11 +101,11 @@ fn a_skipping_filter_reports_each_refusal(rt: HostRuntime) -> Result<(), Fail> {
     let wanted = [
         ProgramError::Line {
             line: 2,
-            error: OperationError::Start(Reason::Syntax),
+            error: LineError::from(OperationError::Start(Reason::Syntax)),
         },
         ProgramError::Line {
             line: 4,
-            error: OperationError::Start(Reason::Limit),
+            error: LineError::from(OperationError::Start(Reason::Limit)),
         },
     ];
     assert_eq!(rt; log.errors.as_slice(), wanted.as_slice());

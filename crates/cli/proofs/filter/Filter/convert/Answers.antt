@@ -1,88 +1,55 @@
-use Rattle.std.proofs.Common.{◌≢◌, Some, None, true, refl}
-use Rattle.std.proofs.lemmas.Result.{on_ok_weaker}
+use Rattle.std.proofs.Common.{◌≢◌, ap, Err}
+use Rattle.std.proofs.lemmas.Result.{on_ok_weaker, err_from_is_err_and}
 use Rattle.std.specs.Io.KnownBytes.{Appends}
 use Rattle.decimal_digits.specs.AppendsPrefix.{AppendsPrefix}
-use Rattle.cli.specs.Conversion.{OperationsFail}
-use Rattle.cli.specs.FieldConversion.{LineFails}
-use Rattle.cli.specs.Fields.{within}
+use Rattle.cli.specs.Edits.{EditingFails}
 use Rattle.cli.specs.Filter.{body_of, ConvertingFails}
-use Rattle.cli.specs.Trim.{body_bounds}
 use Rattle.cli.specs.declared.error.OperationError.TheVariants.{Output}
-use Rattle.cli.proofs.FieldLines.{converted_line, converting_fails, plain_line, plain_fails, err_weaker}
+use Rattle.cli.specs.declared.targets.Target.TheVariants.{Fields}
+use Rattle.cli.proofs.FieldLines.{converted_line, converted_one, converting_fails, err_weaker}
 use Rattle.cli.proofs.filter.Filter.convert.Goals as goal
 
-pub returns-in-Some-clause-printed : goal.returns-in-Some-clause-printed
-returns-in-Some-clause-printed g c =
+pub returns-in_ok-convert_one-in-One-clause-printed : goal.returns-in_ok-convert_one-in-One-clause-printed
+returns-in_ok-convert_one-in-One-clause-printed g c =
+    converted_one c.args.self.now c.args.number c.args.line.now c.in-One.field c.in-One.conversion
+    (Appends (g.W.Sink.contents c.args.sink.now) (g.W.Sink.contents c.convert_one.new.sink)) c.in-One.is
+    c.in_ok-convert_one-in-One.ensures.printed
+
+pub returns-in_err-convert_one-in-One-clause-prefix : goal.returns-in_err-convert_one-in-One-clause-prefix
+returns-in_err-convert_one-in-One-clause-prefix g c =
+    let p = err_from_is_err_and c.from_residual.result c.from_residual.ensures.1 in
+    rw (p.1, p.2)
+    (λ output. converted_one c.args.self.now c.args.number c.args.line.now c.in-One.field c.in-One.conversion
+    (AppendsPrefix (g.W.Sink.contents c.args.sink.now) (g.W.Sink.contents c.convert_one.new.sink)) c.in-One.is
+    (c.in_err-convert_one-in-One.ensures.prefix (ap Err output)))
+
+pub returns-in-Fields-clause-printed : goal.returns-in-Fields-clause-printed
+returns-in-Fields-clause-printed g c =
+    on_ok_weaker c.convert_fields.result
+    (λ found. let (text, is, put) = found in
+    converted_line c.args.self.now c.args.number c.args.line.now (Fields c.in-Fields.fields)
+    (Appends (g.W.Sink.contents c.args.sink.now) (g.W.Sink.contents c.convert_fields.new.sink)) c.in-Fields.is
+    text is put)
+    (rw c.as_slice.ensures.value at c.convert_fields.ensures.printed)
+
+pub returns-in-Fields-clause-fails_with : goal.returns-in-Fields-clause-fails_with
+returns-in-Fields-clause-fails_with g c =
     let filter = c.args.self.now in
-    on_ok_weaker c.convert_field.result
-    (converted_line filter c.args.number c.args.line.now filter.trims (Some c.in-Some.field)
-    (body_bounds filter.trims c.args.number c.args.line.now) refl c.in-Some.is refl
-    (Appends (g.W.Sink.contents c.args.sink.now) (g.W.Sink.contents c.convert_field.new.sink)))
-    c.convert_field.ensures.printed
+    let body = body_of filter c.args.number c.args.line.now in
+    let fields = c.in-Fields.fields in
+    err_weaker c.convert_fields.result
+    (λ error. error.error ≢ Output → EditingFails filter.trims fields.items body error)
+    (λ error. error.error ≢ Output → ConvertingFails filter c.args.number c.args.line.now error)
+    (λ error fails other. converting_fails filter c.args.number c.args.line.now (Fields fields) error c.in-Fields.is
+    (fails other))
+    (rw c.as_slice.ensures.value at c.convert_fields.ensures.fails_with)
 
-pub returns-in-Some-clause-prefix : goal.returns-in-Some-clause-prefix
-returns-in-Some-clause-prefix g c = λ is.
+pub returns-in-Fields-clause-prefix : goal.returns-in-Fields-clause-prefix
+returns-in-Fields-clause-prefix g c =
     let filter = c.args.self.now in
-    converted_line filter c.args.number c.args.line.now filter.trims (Some c.in-Some.field)
-    (body_bounds filter.trims c.args.number c.args.line.now) refl c.in-Some.is refl
-    (AppendsPrefix (g.W.Sink.contents c.args.sink.now) (g.W.Sink.contents c.convert_field.new.sink))
-    (c.convert_field.ensures.prefix is)
-
-pub returns-in-Some-clause-fails_with : goal.returns-in-Some-clause-fails_with
-returns-in-Some-clause-fails_with g c =
-    let filter = c.args.self.now in
-    err_weaker c.convert_field.result
-    (LineFails filter.trims (Some c.in-Some.field) filter.conversion (body_of filter c.args.number c.args.line.now))
-    (λ error. error ≢ Output → ConvertingFails filter c.args.number c.args.line.now error)
-    (λ error fails _. converting_fails filter c.args.number c.args.line.now filter.trims (Some c.in-Some.field)
-    (body_bounds filter.trims c.args.number c.args.line.now) refl c.in-Some.is refl error fails)
-    c.convert_field.ensures.fails_with
-
-pub returns-in-None-clause-printed : goal.returns-in-None-clause-printed
-returns-in-None-clause-printed g c =
-    let filter = c.args.self.now in
-    on_ok_weaker c.convert_trimmed.result
-    (converted_line filter c.args.number c.args.line.now true None c.body_bounds-body.result
-    c.if-self.true c.in-None.is (rw c.if-self.true c.body_bounds-body.ensures.value)
-    (Appends (g.W.Sink.contents c.args.sink.now) (g.W.Sink.contents c.convert_trimmed.new.sink)))
-    c.convert_trimmed.ensures.printed
-
-pub returns-in-None-clause-prefix : goal.returns-in-None-clause-prefix
-returns-in-None-clause-prefix g c = λ is.
-    let filter = c.args.self.now in
-    converted_line filter c.args.number c.args.line.now true None c.body_bounds-body.result
-    c.if-self.true c.in-None.is (rw c.if-self.true c.body_bounds-body.ensures.value)
-    (AppendsPrefix (g.W.Sink.contents c.args.sink.now) (g.W.Sink.contents c.convert_trimmed.new.sink))
-    (c.convert_trimmed.ensures.prefix is)
-
-pub returns-in-None-clause-fails_with : goal.returns-in-None-clause-fails_with
-returns-in-None-clause-fails_with g c =
-    let filter = c.args.self.now in
-    err_weaker c.convert_trimmed.result
-    (λ error. error ≢ Output → LineFails true None filter.conversion
-    (within c.args.line.now c.body_bounds-body.result) error)
-    (λ error. error ≢ Output → ConvertingFails filter c.args.number c.args.line.now error)
-    (λ error fails other. converting_fails filter c.args.number c.args.line.now true None c.body_bounds-body.result
-    c.if-self.true c.in-None.is (rw c.if-self.true c.body_bounds-body.ensures.value) error (fails other))
-    c.convert_trimmed.ensures.fails_with
-
-pub returns-in-None-2-clause-printed : goal.returns-in-None-2-clause-printed
-returns-in-None-2-clause-printed g c =
-    on_ok_weaker c.convert.result
-    (plain_line c.args.self.now c.args.number c.args.line.now c.if-self.false c.in-None.is
-    (Appends (g.W.Sink.contents c.args.sink.now) (g.W.Sink.contents c.convert.new.sink)))
-    c.convert.ensures.written
-
-pub returns-in-None-2-clause-fails_with : goal.returns-in-None-2-clause-fails_with
-returns-in-None-2-clause-fails_with g c =
-    let filter = c.args.self.now in
-    err_weaker c.convert.result (λ error. OperationsFail error filter.conversion c.args.line.now)
-    (λ error. error ≢ Output → ConvertingFails filter c.args.number c.args.line.now error)
-    (λ error fails _. plain_fails filter c.args.number c.args.line.now c.if-self.false c.in-None.is error fails)
-    c.convert.ensures.fails_with
-
-pub returns-in-None-2-clause-prefix : goal.returns-in-None-2-clause-prefix
-returns-in-None-2-clause-prefix g c = λ is.
-    plain_line c.args.self.now c.args.number c.args.line.now c.if-self.false c.in-None.is
-    (AppendsPrefix (g.W.Sink.contents c.args.sink.now) (g.W.Sink.contents c.convert.new.sink))
-    (c.convert.ensures.prefix is)
+    err_weaker c.convert_fields.result _ _
+    (λ error begun output. let (text, is, put) = begun output in
+    converted_line filter c.args.number c.args.line.now (Fields c.in-Fields.fields)
+    (AppendsPrefix (g.W.Sink.contents c.args.sink.now) (g.W.Sink.contents c.convert_fields.new.sink)) c.in-Fields.is
+    text is put)
+    (rw c.as_slice.ensures.value at c.convert_fields.ensures.prefix)

@@ -18,10 +18,10 @@ returns-in_err-write_field-clause-fails_with g c =
     let bounds = c.in_ok-bounds.bounds in
     let text = c.in_ok-text.text.0 in
     rw (p.1, p.2)
-    (subst (λ b. LineFails filter.trims (Some field) filter.conversion (within c.args.line.now b) Output)
+    (subst (λ b. LineFails filter.trims (Some field) c.args.conversion.now (within c.args.line.now b) Output)
     c.body_bounds-body.ensures.value (
       with_text field bytes bounds text,
-      line_result filter.trims field filter.conversion bytes bounds
+      line_result filter.trims field c.args.conversion.now bytes bounds
           (sym c.locate.ensures.value ∙ c.in_ok-bounds.was) (Ok text) c.in_ok-text.ensures.ok,
     ))
 
@@ -37,11 +37,11 @@ returns-in_err-write_field-clause-prefix g c = λ _.
     let same =
     replaced_within line (bytes_of field text) body bounds c.body_bounds-body.ensures.ordered
     c.body_bounds-body.ensures.inside c.in_ok-bounds.ensures.ordered c.in_ok-bounds.ensures.inside in
-    subst (λ b. HasLineText filter.trims (Some field) filter.conversion (within line b)
+    subst (λ b. HasLineText filter.trims (Some field) c.args.conversion.now (within line b)
     (λ all. AppendsPrefix (g.W.Sink.contents c.args.sink.now) (g.W.Sink.contents c.write_field.new.sink)
     (replaced line b all))) c.body_bounds-body.ensures.value (
       with_text field bytes bounds text,
-      line_result filter.trims field filter.conversion bytes bounds
+      line_result filter.trims field c.args.conversion.now bytes bounds
           (sym c.locate.ensures.value ∙ c.in_ok-bounds.was) (Ok text) c.in_ok-text.ensures.ok,
       subst (AppendsPrefix (g.W.Sink.contents c.args.sink.now) (g.W.Sink.contents c.write_field.new.sink)) (sym same)
           (rw c.as_bytes.ensures at c.in_err-write_field.ensures.err),
@@ -59,11 +59,11 @@ returns-clause-printed g c =
     let same =
     replaced_within line (bytes_of field text) body bounds c.body_bounds-body.ensures.ordered
     c.body_bounds-body.ensures.inside c.in_ok-bounds.ensures.ordered c.in_ok-bounds.ensures.inside in
-    subst (λ b. HasLineText filter.trims (Some field) filter.conversion (within line b)
+    subst (λ b. HasLineText filter.trims (Some field) c.args.conversion.now (within line b)
     (λ all. Appends (g.W.Sink.contents c.args.sink.now) (g.W.Sink.contents c.write_field.new.sink)
     (replaced line b all))) c.body_bounds-body.ensures.value (
       with_text field bytes bounds text,
-      line_result filter.trims field filter.conversion bytes bounds
+      line_result filter.trims field c.args.conversion.now bytes bounds
           (sym c.locate.ensures.value ∙ c.in_ok-bounds.was) (Ok text) c.in_ok-text.ensures.ok,
       subst (Appends (g.W.Sink.contents c.args.sink.now) (g.W.Sink.contents c.write_field.new.sink)) (sym same)
           (rw c.as_bytes.ensures at c.in_ok-write_field.ensures.ok),
@@ -77,8 +77,8 @@ returns-in_err-text-clause-fails_with g c =
     let field = c.args.field.now in
     let error = c.in_err-text.field-0.0 in
     rw (p.1, p.2)
-    (subst (λ b. LineFails filter.trims (Some field) filter.conversion (within c.args.line.now b) error)
+    (subst (λ b. LineFails filter.trims (Some field) c.args.conversion.now (within c.args.line.now b) error)
     c.body_bounds-body.ensures.value
-    (line_fails filter.trims field filter.conversion (within c.args.line.now c.body_bounds-body.result)
+    (line_fails filter.trims field c.args.conversion.now (within c.args.line.now c.body_bounds-body.result)
     c.in_ok-bounds.bounds (sym c.locate.ensures.value ∙ c.in_ok-bounds.was) error c.in_err-text.ensures.err
     c.in_err-text.ensures.no_output))

@@ -1,0 +1,103 @@
+-- The words of several fields.
+use Rattle.std.proofs.Common.{◌≡◌, ◌≢◌, ℕ, zero, suc, arith, ◌<◌, ◌≤◌, false, inl, inr, sym, ◌∙◌, List, [], ◌∷◌, ◌++◌, length, take, drop, get_or, append_assoc, take-append-drop, drop-cons, String, string_bytes}
+use Rattle.std.specs.Prelude.{All, ◌==◌}
+use Rattle.std.specs.declared.alloc.Global.{Global}
+use Rattle.std.proofs.Math.Nat.{le_refl}
+use Rattle.std.proofs.lemmas.Bool.{false≢true}
+use Rattle.std.proofs.lemmas.List.Elements.{All-append}
+use Rattle.std.proofs.lemmas.List.{take_all, drop_all}
+use Rattle.cli.specs.declared.edits.FieldConversion.{FieldConversion}
+use Rattle.cli.specs.declared.error.WordsError.{WordsError}
+use Rattle.cli.specs.declared.error.WordsError.TheVariants.{Misplaced, Memory}
+use Rattle.cli.specs.declared.fields.Field.{Field}
+use Rattle.cli.specs.Options.{IsField}
+use Rattle.cli.specs.Targets.{IsFieldWord, IsSplit, HasGroup, has_index, IsNamed, HasMore, GroupFails, MoreFail}
+use Rattle.cli.specs.Words.{ConversionFails}
+
+-- ---- The words before a field.
+
+at_first : {X : Type 0} (P : X → Type 0) (x : X) → P x → (k : ℕ) (d : X) → k < 1 → P (get_or (x ∷ []) k d)
+at_first P x p zero d inside = p
+at_first P x p (suc k) d inside = absurd (omega (arith, inside))
+
+-- one more word
+pub all_more :
+    (P : String Global → Type 0) (words : List (String Global)) (word : String Global) → All P words → P word
+    → All P (words ++ (word ∷ []))
+all_more P words word all p = All-append P words (word ∷ []) all (at_first P word p)
+
+-- this word is the first one that names a field
+pub split_here :
+    (words : List (String Global)) (index : ℕ) (word : String Global) → index < length words
+    → word ≡ get_or words index word → All (λ word. ¬ IsFieldWord word) (take index words) → IsFieldWord word
+    → IsSplit words (take index words) (drop index words)
+split_here words index word inside is none named =
+    (sym (take-append-drop index words), none, rw (drop-cons words index word inside, ← is) named)
+
+-- no word names one
+pub split_none :
+    (words : List (String Global)) (index : ℕ) → length words ≤ index
+    → All (λ word. ¬ IsFieldWord word) (take index words)
+    → IsSplit words (take (length words) words) (drop (length words) words)
+split_none words index all none = (
+  sym (take-append-drop (length words) words),
+  rw (take_all (length words) words (le_refl (length words))) (rw (take_all index words all) at none),
+  rw (drop_all (length words) words (le_refl (length words))) tt,
+)
+
+-- ---- The words of a field, and of the others.
+
+module _
+    (first : Field) (words rest own others : List (String Global)) (word : String Global) (index : ℕ)
+    (before : List FieldConversion) (is : words ≡ word ∷ rest) (named : IsField (string_bytes word) index)
+    (split : IsSplit rest own others)
+  where
+    group :
+        (P : List ℕ → ℕ → List (String Global) → List (String Global) → Type 0)
+        → P (string_bytes word) index own others → HasGroup words P
+    group P p = record {
+      word = word;
+      rest = rest;
+      index = index;
+      own = own;
+      others = others;
+      first = is;
+      named = named;
+      split = split;
+      holds = p;
+    }
+
+    -- they name a field
+    module _ (it : FieldConversion) (new : has_index before index ≡ false) (names : IsNamed first index own it) where
+      pub more_named :
+          (after : List FieldConversion) → HasMore first others (before ++ (it ∷ [])) after
+          → HasMore first words before after
+      more_named after (more, name, same) =
+          (it ∷ more, group _ (new, names, name), same ∙ append_assoc before (it ∷ []) more)
+
+      pub more_fail : (error : WordsError) → MoreFail first others (before ++ (it ∷ [])) error
+          → MoreFail first words before error
+      more_fail error (more, fail) = (it ∷ more, group _ (new, names, fail))
+
+    -- they name none
+    conversion_fails :
+        (error : WordsError) → has_index before index ≡ false → ConversionFails own error
+        → GroupFails before error (string_bytes word) index own
+    conversion_fails (Misplaced it) new fails = inr (new, fails)
+    conversion_fails Memory new fails = (new, inl fails)
+    conversion_fails error new fails = (new, fails)
+
+    pub group_fails :
+        (error : WordsError) → GroupFails before error (string_bytes word) index own
+        → MoreFail first words before error
+    group_fails error fails = ([], group _ fails)
+
+    pub own_fail :
+        (error : WordsError) → has_index before index ≡ false → ConversionFails own error
+        → MoreFail first words before error
+    own_fail error new fails = group_fails error (conversion_fails error new fails)
+
+-- ---- All words.
+
+pub some_words : (words : List (String Global)) → (length words == 0) ≡ false → words ≢ []
+some_words words some = λ is. false≢true (sym (rw is at some))
