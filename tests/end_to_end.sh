@@ -95,6 +95,15 @@ prints 1234 1234 format:de:min2
 prints 1234.5 '1 234,5' read:fr:lenient
 prints 12345.5 "12'345.5" read:de-CH:lenient
 
+# Status 0, by number skeletons, as ICU writes them.
+prints $'1.234,50\xc2\xa0€' 1234.5 'format:de:currency/EUR .00'
+prints $'12,5\xc2\xa0%' 0.125 'format:de:%x100'
+prints 1.2M 1234567 format:en:K
+prints 1.24E3 1235 'format:en:E0 .00'
+prints '(₹1,234,567.50)' -1234567.5 'format:en-IN:currency/INR ()'
+prints 1234.000 1234 'format:en:.000 ,_'
+prints 1.234‰ 1.234 'format:en:permille .+'
+
 # Status 1: the start or a call fails.
 row fixdec 1 '' $'start: syntax\n' 1,234.56 read:de
 row fixdec 1 '' $'start: syntax\n' '1 234,5' read:fr
@@ -110,6 +119,8 @@ row fixdec 1 '' $'call 0: syntax\n' 5 concat:x
 row fixdec 1 '' $'call 1: limit\n' 5 trim-start concat:1e99999
 row fixdec 1 '' $'call 0: overlap\n' 120 concat:25
 row fixdec 1 '' $'call 1: overflow\n' 98765 shift:32763 shift:1
+row fixdec 1 '' $'format: overflow\n' 9e32767 format:en:scale/10
+row fixdec 1 '' $'format: overflow\n' 9.5e32767 'format:en:@'
 
 # Status 2: no start, or a word that names nothing, is not in its place or is not UTF-8; the first wrong word decides.
 row fixdec 2 '' "$usage"
@@ -122,7 +133,13 @@ row fixdec 2 '' "$usage" '' 5
 row fixdec 2 '' "$usage" read:de 1.234,5
 row fixdec 2 '' "$usage" 5 read:de:strict
 row fixdec 2 '' "$usage" 5 trim-end read:de
-row fixdec 2 '' "$usage" 5 format:de:fast
+row fixdec 2 '' "$usage" 5 format:de:
+row fixdec 2 '' $'skeleton: syntax at 0\n' 5 format:de:fast
+row fixdec 2 '' $'skeleton: syntax at 23\n' 5 'format:de:compact-short currency/US'
+row fixdec 2 '' $'skeleton: syntax at 7\n' 5 format:tlh:percent/w
+row fixdec 2 '' $'skeleton: unsupported scale\n' 5 'format:tlh:.00 scale/2'
+row fixdec 2 '' $'skeleton: unsupported unit-width-formal\n' 5 'format:de:currency/TWD unit-width-formal'
+row fixdec 2 '' $'unknown locale: tlh\n' 5 format:tlh:currency/EUR
 row fixdec 2 '' "$usage" 5 format:de trim-end
 row fixdec 2 '' "$usage" 5 foo format:tlh
 row fixdec 2 '' $'unknown locale: tlh\n' 5 read:tlh foo
@@ -206,6 +223,8 @@ lines 0 '12345678901234567890.125\n' $'12345678901234567890.12\n' '' skip round:
 # Status 0, in the forms of locales.
 lines 0 '1.234,565\n-7\n' $'1,234.56\n-7.00\n' '' read:de round:-2:half-even:1 pad-end:-2 format:en-IN
 lines 0 '1234567.5\n' $'1.234.567,5\n' '' skip format:de
+lines 0 '1234.565\n-7\n' $'€1,234.56\n-€7.00\n' '' format:en:currency/EUR
+lines 1 '7\n9e32767\n8\n' $'70\n\n80\n' $'line 2: format: overflow\n' skip format:en:scale/10
 
 # Status 1: the first line that fails ends the run.
 lines 1 '1.234,5\n1,5.0\n' $'1234.5\n' $'line 2: start: syntax\n' read:de
@@ -235,7 +254,9 @@ wrong 'no such word:  (--help lists all)' ''
 wrong 'no such word: -- (--help lists all)' --
 wrong 'no such word: a (--help lists all)' shift:1 a b skip
 wrong 'no such word: read:de:strict (--help lists all)' read:de:strict format:tlh
-wrong 'no such word: format:de:fast (--help lists all)' read:de format:de:fast
+wrong 'no such word: format:de: (--help lists all)' read:de format:de:
+lines 2 '1\n' '' $'skeleton: syntax at 0\n' read:de format:de:fast
+lines 2 '1\n' '' $'skeleton: unsupported usage\n' 'format:de:percent usage/road'
 wrong 'no such word: round:0:up:1 (--help lists all)' round:0:up:1 format:tlh
 wrong "no such word: $(printf '%040d' 0) (--help lists all)" "$(printf '%050d' 0)"
 wrong "no such word: $(printf '%039d' 0) (--help lists all)" "$(printf '%039d' 0)€"

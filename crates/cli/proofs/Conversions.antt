@@ -17,13 +17,13 @@ use Rattle.fixed_decimal.specs.declared.runs.CallError.{CallError}
 use Rattle.fixed_decimal.specs.declared.runs.CallError.TheVariants as call
 use Rattle.fixed_decimal.specs.declared.runs.RunError.{RunError}
 use Rattle.fixed_decimal.specs.declared.runs.RunError.TheVariants.{Start, Operand, Memory, Sink}
-use Rattle.decimal_format.specs.Formatted.{Formatter}
 use Rattle.cli.specs.declared.conversion.Conversion.{Conversion}
+use Rattle.cli.specs.declared.locale_formatter.LocaleFormatter.{LocaleFormatter}
 use Rattle.cli.specs.declared.reader.DecimalReader.{DecimalReader}
 use Rattle.cli.specs.declared.error.OperationError.TheVariants as operation
 use Rattle.cli.specs.declared.error.OperationError.{OperationError}
 use Rattle.cli.specs.Error.{error_of_run, status_of_operation}
-use Rattle.cli.specs.Conversion.{IsReadAs, ReadingFails, IsOutcome, IsOutcomeByForms, HasOutcome, OperationsFail, FailsByForms, IsErrorOfRun, IsRunFormatted, is_plain, error_of, formatted_by, last_decimal}
+use Rattle.cli.specs.Conversion.{IsReadAs, ReadingFails, ConversionError, of_run, format_overflow, IsOutcome, IsOutcomeByForms, HasOutcome, OperationsFail, FailsByForms, IsErrorOfRun, IsRunFormatted, is_plain, error_of, formatted_by, last_decimal, IsFormatted, run_result, WritingFails, HasTextBy, HasOutcomeByForms}
 
 -- only a failed sink is a failed output
 pub output_is_sink : (why : RunError) → error_of_run why ≡ operation.Output → why ≡ Sink
@@ -35,23 +35,38 @@ module _ (c : Conversion) (text : List ℕ) where
   -- an error of reading
   pub reading_fails :
       (why : ParseError) → ReadingFails c.reader text why → FailsByForms (error_of_run (Start why)) c text
-  reading_fails parse.Syntax h = (start syntax, refl, record { read = Err syntax; is_read = h; is = refl })
-  reading_fails parse.Limit h = (start limit, refl, record { read = Err limit; is_read = h; is = refl })
+  reading_fails parse.Syntax h = (of_run (start syntax), refl, record { read = Err syntax; is_read = h; is = refl })
+  reading_fails parse.Limit h = (of_run (start limit), refl, record { read = Err limit; is_read = h; is = refl })
   reading_fails parse.Memory h = inl h
 
   module _ (v : Decimal) (read : IsReadAs c.reader text (Ok v)) where
     -- an outcome of the calls
-    pub read_outcome : (r : Result Decimal OutcomeError) → after_calls 0 v c.calls.items ≡ r
-        → IsOutcomeByForms c text (formatted_by c.formatter r)
-    read_outcome r e = record { read = Ok v; is_read = read; is = ap (formatted_by c.formatter) (sym e) }
+    pub read_outcome :
+        (r : Result Decimal OutcomeError) (result : Result (List ℕ) ConversionError) → after_calls 0 v c.calls.items ≡ r
+        → IsFormatted c.formatter r result → IsOutcomeByForms c text result
+    read_outcome r result e is =
+        record { read = Ok v; is_read = read; is = subst (λ last. IsFormatted c.formatter last result) (sym e) is }
 
     -- an error of the calls
     pub calls_fail :
         (why : CallError) → CallsFail INLINE_DIGITS why v c.calls.items
         → FailsByForms (error_of_run (run_error why)) c text
-    calls_fail (call.Operand at parse.Memory) h = inr (v, read, (call.Operand at parse.Memory, h, refl))
-    calls_fail (call.Memory at) h = inr (v, read, (call.Memory at, h, refl))
-    calls_fail why h = (_, refl, read_outcome (Err _) h)
+    calls_fail (call.Operand at parse.Memory) h = inr (v, read, inl (call.Operand at parse.Memory, h, refl))
+    calls_fail (call.Memory at) h = inr (v, read, inl (call.Memory at, h, refl))
+    calls_fail why h = (_, refl, read_outcome (Err _) (Err (of_run _)) h refl)
+
+    module _ (last : Decimal) (is : after_calls 0 v c.calls.items ≡ Ok last) where
+      -- an error of writing
+      pub writing_fails : (error : OperationError) → WritingFails error c.formatter last → FailsByForms error c text
+      writing_fails operation.FormatOverflow h =
+          (format_overflow, refl, read_outcome (Ok last) (Err format_overflow) is h)
+      writing_fails operation.Memory h = inr (v, read, inr (last, is, h))
+      writing_fails operation.Output (written, h) = (written, read_outcome (Ok last) (Ok written) is h)
+      writing_fails error h = absurd h
+
+      -- what holds of the text that is written
+      pub written_outcome : (P : List ℕ → Type 0) → HasTextBy c.formatter last P → HasOutcomeByForms c text P
+      written_outcome P (written, h, holds) = (written, read_outcome (Ok last) (Ok written) is h, holds)
 
 -- ---- With and without a reader and a formatter.
 
@@ -67,27 +82,32 @@ at_false P Q b is q = subst (λ k. MatchBool k P Q) (sym is) q
 
 module _ (c : Conversion) (text : List ℕ) where
   pub outcome_by_forms :
-      (result : Result (List ℕ) OutcomeError) → is_plain c ≡ false → IsOutcomeByForms c text result
+      (result : Result (List ℕ) ConversionError) → is_plain c ≡ false → IsOutcomeByForms c text result
       → IsOutcome c text result
-  outcome_by_forms result other is = at_false (result ≡ outcome text c.calls.items) _ (is_plain c) other is
+  outcome_by_forms result other is = at_false (result ≡ run_result (outcome text c.calls.items)) _ (is_plain c) other is
 
   -- what holds of the text of a run
   pub run_outcome :
       (P : List ℕ → Type 0) → is_plain c ≡ true → IsOkAnd (outcome text c.calls.items) P → HasOutcome c text P
   run_outcome P plain h =
       let (written, is, holds) = ok_and (outcome text c.calls.items) h in
-      (written, at_true _ (IsOutcomeByForms c text (Ok written)) (is_plain c) plain is, holds)
+      (written, at_true _ (IsOutcomeByForms c text (Ok written)) (is_plain c) plain (ap run_result is), holds)
     where
       ok_and : (o : Result (List ℕ) OutcomeError) → IsOkAnd o P → (written : List ℕ) × (Ok written ≡ o) × P written
       ok_and (Ok written) h = (written, refl, h)
       ok_and (Err e) h = absurd h
+
+ran : (o : Result (List ℕ) OutcomeError) → IsOk (run_result o) → IsOk o
+ran (Ok written) h = h
+ran (Err e) h = absurd (false≢true h)
 
 -- a text that was not written
 pub output_fails :
     (c : Conversion) (text written : List ℕ) → IsOutcome c text (Ok written) → OperationsFail operation.Output c text
 output_fails c text written h = elim (cases_of (is_plain c) h) [
   | inl (plain, is) ↦
-      at_true _ (FailsByForms operation.Output c text) (is_plain c) plain (Sink, refl, subst (λ o. IsOk o) is refl)
+      at_true _ (FailsByForms operation.Output c text) (is_plain c) plain
+      (Sink, refl, ran (outcome text c.calls.items) (subst (λ o. IsOk o) is refl))
   | inr (other, is) ↦
       at_false (IsErrorOfRun operation.Output text c.calls.items) _ (is_plain c) other (written, is)
 ]
@@ -98,7 +118,7 @@ output_fails c text written h = elim (cases_of (is_plain c) h) [
 run_error_is :
     (text : List ℕ) (calls : List Call) (why : RunError) → status_of_operation (error_of_run why) ≡ 1
     → RunFails INLINE_DIGITS why text calls
-    → (e : OutcomeError) × (error_of_run why ≡ error_of e) × (outcome text calls ≡ Err e)
+    → (e : OutcomeError) × (error_of_run why ≡ error_of (of_run e)) × (outcome text calls ≡ Err e)
 run_error_is text calls (Start parse.Memory) one h = absurd (omega (arith, one))
 run_error_is text calls (Operand at parse.Memory) one h = absurd (omega (arith, one))
 run_error_is text calls (Memory at) one h = absurd (omega (arith, one))
@@ -108,7 +128,7 @@ run_error_is text calls why one h = (_, refl, h)
 -- of any other conversion
 error_by_forms :
     (c : Conversion) (text : List ℕ) (error : OperationError) → status_of_operation error ≡ 1
-    → FailsByForms error c text → (why : OutcomeError) × (error ≡ error_of why) × IsOutcomeByForms c text (Err why)
+    → FailsByForms error c text → (why : ConversionError) × (error ≡ error_of why) × IsOutcomeByForms c text (Err why)
 error_by_forms c text operation.Memory one h = absurd (omega (arith, one))
 error_by_forms c text operation.Output one h = absurd (omega (arith, one))
 error_by_forms c text error one h = h
@@ -116,14 +136,15 @@ error_by_forms c text error one h = h
 -- an error with status 1 is that of an outcome
 pub error_is_outcome :
     (c : Conversion) (text : List ℕ) (error : OperationError) → status_of_operation error ≡ 1
-    → OperationsFail error c text → (why : OutcomeError) × (error ≡ error_of why) × IsOutcome c text (Err why)
+    → OperationsFail error c text → (why : ConversionError) × (error ≡ error_of why) × IsOutcome c text (Err why)
 error_is_outcome c text error one h = elim (cases_of (is_plain c) h) [
   | inl (plain, (why, same, fails)) ↦
       let (e, equal, is) = run_error_is text c.calls.items why (ap status_of_operation (sym same) ∙ one) fails in
-      (e, same ∙ equal, at_true _ (IsOutcomeByForms c text (Err e)) (is_plain c) plain (sym is))
+      let plainly = at_true _ (IsOutcomeByForms c text (Err (of_run e))) (is_plain c) plain (ap run_result (sym is)) in
+      (of_run e, same ∙ equal, plainly)
   | inr (other, fails) ↦
       let (e, same, is) = error_by_forms c text error one fails in
-      (e, same, at_false (Err e ≡ outcome text c.calls.items) _ (is_plain c) other is)
+      (e, same, at_false (Err e ≡ run_result (outcome text c.calls.items)) _ (is_plain c) other is)
 ]
 
 -- ---- The law.
@@ -133,19 +154,28 @@ run_is_formatted : (calls : List Call) (text : List ℕ) (read : Result Decimal 
 run_is_formatted calls text (Ok v) e = rw e refl
 run_is_formatted calls text (Err fault) e = rw e refl
 
+-- the result of a run is that of its last decimal without a formatter
+formatted_run :
+    (last : Result Decimal OutcomeError) (result : Result (List ℕ) ConversionError)
+    → result ≡ run_result (formatted_by None last) → IsFormatted None last result
+formatted_run (Ok v) result e = e
+formatted_run (Err why) result e = e
+
 pub conversion_is_run_formatted :
-    (c : Conversion) (text : List ℕ) (result : Result (List ℕ) OutcomeError) → c.reader ≡ None
+    (c : Conversion) (text : List ℕ) (result : Result (List ℕ) ConversionError) → c.reader ≡ None
     → IsOutcome c text result → IsRunFormatted c text result
 conversion_is_run_formatted c text result none h =
     let run = run_is_formatted c.calls.items text (read_decimal text) refl in
     elim (cases_of (is_plain c) h) [
-      | inl (plain, is) ↦ (run, rw (no_formatter c.reader c.formatter plain) (is ∙ run))
+      | inl (plain, is) ↦
+          let last = last_decimal c.calls.items (read_decimal text) in
+          (run, rw (no_formatter c.reader c.formatter plain) (formatted_run last result (is ∙ ap run_result run)))
       | inr (other, is) ↦
           let read : is.read ≡ read_decimal text = rw none at is.is_read in
           (run, rw read at is.is)
     ]
   where
-    no_formatter : (r : Option DecimalReader) (f : Option Formatter) → (is_none r && is_none f) ≡ true → f ≡ None
+    no_formatter : (r : Option DecimalReader) (f : Option LocaleFormatter) → (is_none r && is_none f) ≡ true → f ≡ None
     no_formatter None None e = refl
     no_formatter None (Some f) e = absurd (false≢true e)
     no_formatter (Some r) f e = absurd (false≢true e)

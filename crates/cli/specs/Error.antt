@@ -8,7 +8,7 @@ use Rattle.fixed_decimal.specs.declared.runs.RunError.TheVariants as run
 use Rattle.cli.specs.declared.error.Reason.{Reason}
 use Rattle.cli.specs.declared.error.Reason.TheVariants.{Syntax, Limit}
 use Rattle.cli.specs.declared.error.OperationError.{OperationError}
-use Rattle.cli.specs.declared.error.OperationError.TheVariants.{Field, Quote, Start, Operand, Overlap, Overflow, Memory, Output}
+use Rattle.cli.specs.declared.error.OperationError.TheVariants.{Field, Quote, Start, Operand, Overlap, Overflow, FormatOverflow, Memory, Output}
 use Rattle.cli.specs.declared.error.LineError.{LineError}
 use Rattle.cli.specs.declared.error.ProgramError.{ProgramError}
 use Rattle.cli.specs.declared.error.ProgramError.TheVariants as program
@@ -41,6 +41,7 @@ status_of_operation (Start reason) = 1
 status_of_operation (Operand at reason) = 1
 status_of_operation (Overlap at) = 1
 status_of_operation (Overflow at) = 1
+status_of_operation FormatOverflow = 1
 status_of_operation Memory = 3
 status_of_operation Output = 3
 

@@ -1,23 +1,22 @@
 -- The result of a line: its conversion, or that of one of its fields.
 use Rattle.std.specs.Prelude.{◌≡◌, ◌⊎◌, ℕ, ◌&&◌, not, Bool, true, List, Option, Some, None, Result, Ok, Err, MatchResult}
-use Rattle.fixed_decimal.specs.Outcome.{OutcomeError}
 use Rattle.cli.specs.declared.conversion.Conversion.{Conversion}
 use Rattle.cli.specs.declared.error.OperationError.{OperationError}
 use Rattle.cli.specs.declared.error.OperationError.TheVariants.{Memory, Output, Quote}
 use Rattle.cli.specs.declared.fields.Field.{Field}
-use Rattle.cli.specs.Conversion.{IsOutcome, OperationsFail, error_of}
+use Rattle.cli.specs.Conversion.{ConversionError, IsOutcome, OperationsFail, error_of}
 use Rattle.cli.specs.Fields.{is_quoted, Holds, located, within, replaced, bytes_of}
 use Rattle.cli.specs.Trim.{text_of, with_text_of}
 
 -- an outcome as a result of the programs
-abbrev pub result_of : Result (List ℕ) OutcomeError → Result (List ℕ) OperationError
+abbrev pub result_of : Result (List ℕ) ConversionError → Result (List ℕ) OperationError
 result_of (Ok text) = Ok text
 result_of (Err why) = Err (error_of why)
 
 -- the result of converting a text
 abbrev pub IsTextResult : Conversion → List ℕ → Result (List ℕ) OperationError → Type 0
 IsTextResult conversion text result =
-    (outcome : Result (List ℕ) OutcomeError) × IsOutcome conversion text outcome × (result ≡ result_of outcome)
+    (outcome : Result (List ℕ) ConversionError) × IsOutcome conversion text outcome × (result ≡ result_of outcome)
 
 -- a result with what a function makes of its text
 abbrev pub map_text : {E : Type 0} → (List ℕ → List ℕ) → Result (List ℕ) E → Result (List ℕ) E

@@ -5,7 +5,7 @@ use Rattle.cli.specs.declared.help.Program.TheVariants.{Fixdec, FixdecLines, Plu
 use Rattle.cli.specs.declared.help.Request.{Request}
 use Rattle.cli.specs.declared.help.Request.TheVariants.{Help, Version, Locales}
 use Rattle.cli.specs.LocaleList.{locales_text}
-use Rattle.cli.specs.declared.help.TheConstants.{VERSION, FIXDEC, FIXDEC_LINES, PLURAL, TEXT, OPTIONS, RULES, CALLS, OPERANDS}
+use Rattle.cli.specs.declared.help.TheConstants.{VERSION, FIXDEC, FIXDEC_LINES, PLURAL, TEXT, OPTIONS, RULES, CALLS, SKELETONS, OPERANDS}
 
 unfoldable pub name_of : Program → List ℕ
 name_of Fixdec = codes "fixdec"
@@ -23,12 +23,19 @@ words_and_table_of Fixdec = TEXT.now ++ CALLS.now
 words_and_table_of FixdecLines = OPTIONS.now ++ CALLS.now
 words_and_table_of Plural = RULES.now ++ OPERANDS.now
 
+-- the stems of skeletons, if the program has them
+unfoldable pub skeletons_of : Program → List ℕ
+skeletons_of Fixdec = SKELETONS.now
+skeletons_of FixdecLines = SKELETONS.now
+skeletons_of Plural = []
+
 -- the name, a space, the version and a line feed
 abbrev pub version_of : Program → List ℕ
 version_of program = name_of program ++ (32 ∷ VERSION.now) ++ (10 ∷ [])
 
 abbrev pub help_of : Program → List ℕ
-help_of program = (usage_of program ++ words_and_table_of program) ++ version_of program
+help_of program =
+    (usage_of program ++ words_and_table_of program) ++ (skeletons_of program ++ version_of program)
 
 -- what a request asks for
 abbrev pub answer_of : Program → Request → List ℕ

@@ -10,12 +10,14 @@ pub mod Fields
 pub mod Filter
 pub mod Fixdec
 pub mod FixdecLines
+pub mod FormatWord
 pub mod Help
 pub mod Input
 pub mod Lines
 pub mod LocaleList
 pub mod NamedRules
 pub mod Options
+pub mod Parameters
 pub mod Plural
 pub mod Reader
 pub mod Records

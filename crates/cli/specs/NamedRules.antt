@@ -12,7 +12,7 @@ use Rattle.locale_data.specs.Plurals.{IsRulesText, HasNoRules}
 use Rattle.cli.specs.declared.named_rules.NamedRulesError.{NamedRulesError}
 use Rattle.cli.specs.declared.named_rules.NamedRulesError.TheVariants.{UnknownLocale, Rules}
 use Rattle.cli.specs.ShownWord.{IsShown}
-use Rattle.cli.specs.Words.{tag_of, option_of}
+use Rattle.cli.specs.Parameters.{tag_of, option_of}
 
 -- a letter, a digit, or one of - _ . @
 abbrev pub is_tag_byte : ℕ → Bool

@@ -1,20 +1,19 @@
--- The conversion that words name: [read:LOCALE[:lenient]] [CALL].. [format:LOCALE[:GROUPING]].
-use Rattle.std.specs.Prelude.{◌≡◌, ◌≢◌, ◌⊎◌, ℕ, ◌<◌, ◌==◌, ⊤, Bool, if◌then◌else◌, List, [], ◌∷◌, ◌++◌, codes, String, string_bytes, Option, Some, None, unwrap_or}
-use Rattle.std.specs.List.{before_first, after_first, list_any}
+-- The conversion that words name: [read:LOCALE[:lenient]] [CALL].. [format:LOCALE[:GROUPING|:SKELETON]].
+use Rattle.std.specs.Prelude.{◌≡◌, ◌≢◌, ◌⊎◌, ℕ, ◌<◌, ⊤, List, [], ◌∷◌, ◌++◌, codes, String, string_bytes, Option, Some, None}
 use Rattle.std.specs.declared.alloc.Global.{Global}
-use Rattle.decimal_format.specs.Formatted.{Formatter}
-use Rattle.decimal_format.specs.declared.grouping.GroupingStrategy.{GroupingStrategy}
-use Rattle.decimal_format.specs.declared.grouping.GroupingStrategy.TheVariants.{Auto, Never, Always, Min2}
 use Rattle.locale_data.specs.Locales.{IsLocale}
 use Rattle.locale_data.specs.Locales as locales
 use Rattle.cli.specs.declared.conversion.Conversion.{Conversion}
+use Rattle.cli.specs.declared.locale_formatter.LocaleFormatter.{LocaleFormatter}
 use Rattle.cli.specs.declared.reader.DecimalReader.{DecimalReader}
 use Rattle.cli.specs.declared.reader.ParseMode.{ParseMode}
 use Rattle.cli.specs.declared.reader.ParseMode.TheVariants.{Strict, Lenient}
 use Rattle.cli.specs.declared.error.WordsError.{WordsError}
 use Rattle.cli.specs.declared.error.WordsError.TheVariants.{NoSuchWord, AfterCall, Misplaced, UnknownLocale, Memory}
 use Rattle.cli.specs.Calls.{NameAll, AreCalls, IsFirstUnknown}
+use Rattle.cli.specs.FormatWord.{NamesFormatter, FormatterFails}
 use Rattle.cli.specs.Options.{IsOption}
+use Rattle.cli.specs.Parameters.{locale_tag, locale_option}
 use Rattle.cli.specs.ShownWord.{IsShown}
 
 -- ---- The first and the last word.
@@ -43,48 +42,12 @@ IsFormatSplit words None others =
     (others ≡ words) × ((word : String Global) (rest : List (String Global)) → words ≡ rest ++ (word ∷ [])
     → ¬ IsFormatWord (string_bytes word))
 
--- ---- Parameters, after the first colon: the tag of a locale, and an option after a colon, if there is one.
-
-abbrev pub is_colon : ℕ → Bool
-is_colon byte = byte == 58
-
--- the bytes before the first colon
-abbrev pub tag_of : List ℕ → List ℕ
-tag_of parameters = before_first is_colon parameters
-
--- the bytes after the first colon, if there is one
-abbrev pub option_of : List ℕ → Option (List ℕ)
-option_of parameters = if list_any is_colon parameters then Some (after_first is_colon parameters) else None
-
--- the bytes after the first colon of a word
-abbrev pub parameters_of : List ℕ → List ℕ
-parameters_of word = unwrap_or (option_of word) []
+-- ---- The reader.
 
 -- the option of a mode
 abbrev pub mode_option : ParseMode → Option (List ℕ)
 mode_option Strict = None
 mode_option Lenient = Some (codes "lenient")
-
--- the word of a grouping strategy
-abbrev pub strategy_word : GroupingStrategy → List ℕ
-strategy_word Auto = codes "auto"
-strategy_word Never = codes "never"
-strategy_word Always = codes "always"
-strategy_word Min2 = codes "min2"
-
--- the option is the word of the strategy; none is `Auto`
-abbrev pub IsStrategyOption : Option (List ℕ) → GroupingStrategy → Type 0
-IsStrategyOption None strategy = strategy ≡ Auto
-IsStrategyOption (Some option) strategy = option ≡ strategy_word strategy
-
--- the tag and the option of `read:` and `format:`
-abbrev pub locale_tag : List ℕ → List ℕ
-locale_tag word = tag_of (parameters_of word)
-
-abbrev pub locale_option : List ℕ → Option (List ℕ)
-locale_option word = option_of (parameters_of word)
-
--- ---- What words of locales name.
 
 -- `read:..` names this reader; without it there is none
 abbrev pub NamesReader : Option (List ℕ) → Option DecimalReader → Type 0
@@ -92,13 +55,6 @@ NamesReader None None = ⊤
 NamesReader (Some read) (Some reader) =
     (locale_option read ≡ mode_option reader.mode) × IsLocale (locale_tag read) reader.symbols
 NamesReader _ _ = ⊥
-
--- `format:..` names this formatter; without it there is none
-abbrev pub NamesFormatter : Option (List ℕ) → Option Formatter → Type 0
-NamesFormatter None None = ⊤
-NamesFormatter (Some format) (Some formatter) =
-    IsStrategyOption (locale_option format) formatter.strategy × IsLocale (locale_tag format) formatter.symbols
-NamesFormatter _ _ = ⊥
 
 -- ---- All words.
 
@@ -133,15 +89,6 @@ ReaderFails (Some read) (UnknownLocale tag) =
     × IsShown (locale_tag read) tag
 ReaderFails _ _ = ⊥
 
--- `format:..` names no formatter: the option is that of no strategy; or it is that of one, and the locale is unknown
-abbrev pub FormatterFails : Option (List ℕ) → WordsError → Type 0
-FormatterFails (Some format) (NoSuchWord word) =
-    ((strategy : GroupingStrategy) → ¬ IsStrategyOption (locale_option format) strategy) × IsShown format word
-FormatterFails (Some format) (UnknownLocale tag) =
-    ((strategy : GroupingStrategy) × IsStrategyOption (locale_option format) strategy)
-    × locales.IsUnknown (locale_tag format) × IsShown (locale_tag format) tag
-FormatterFails _ _ = ⊥
-
 -- the word is one that comes before all calls: an option of a filter, or `read:..`
 abbrev pub StandsFirst : List ℕ → Type 0
 StandsFirst word = IsOption word ⊎ IsReadWord word
@@ -172,7 +119,7 @@ PartsFail error read calls format =
     × (CallsFail calls error
     ⊎ (AreCalls calls
     × (FormatterFails format error
-    ⊎ (((formatter : Option Formatter) × NamesFormatter format formatter) × (calls ≢ []) × (error ≡ Memory))))))
+    ⊎ (((formatter : Option LocaleFormatter) × NamesFormatter format formatter) × (calls ≢ []) × (error ≡ Memory))))))
 
 -- the words name no conversion, for this error
 abbrev pub ConversionFails : List (String Global) → WordsError → Type 0

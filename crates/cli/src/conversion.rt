@@ -2,26 +2,24 @@
 ghost use Rattle.std.specs.Prelude.{◌≡◌, ◌≢◌, Ok, Err, true, IfOk, IfErr, OnOk, OnErr};
 ghost use Rattle.std.specs.Io.KnownBytes.{Appends};
 ghost use Rattle.decimal_digits.specs.AppendsPrefix.{AppendsPrefix};
-ghost use Rattle.cli.specs.Conversion.{IsReadAs, ReadingFails, text_by, is_plain, HasOutcome, OperationsFail};
-ghost use Rattle.cli.specs.Conversion.{HasOutcomeByForms, FailsByForms};
+ghost use Rattle.cli.specs.Conversion.{IsReadAs, ReadingFails, HasTextBy, WritingFails, is_plain};
+ghost use Rattle.cli.specs.Conversion.{HasOutcome, OperationsFail, HasOutcomeByForms, FailsByForms};
 
 use crate::error::OperationError;
+use crate::locale_formatter::{LocaleFormatter, write_digits, write_number, write_plain};
 use crate::reader::DecimalReader;
-use decimal_format::DecimalFormatter;
-use fixed_decimal::{
-    Call, Decimal, ParseError, RunError, Sink, SinkFault, Writeable, apply_calls, run,
-};
+use fixed_decimal::{Call, Decimal, ParseError, RunError, Sink, apply_calls, run};
 use std::alloc::Global;
 
 /// How a text is read, what is done to its decimal, and how the result is written.
-#[derive(Debug, Drop)]
+#[derive(Drop)]
 pub struct Conversion<'a> {
     /// Reads the text in the form of a locale. `None`: the text is a decimal's own.
     pub reader: Option<DecimalReader<'a>>,
     /// The calls on the decimal, in order.
     pub calls: Vec<Call<'a>>,
     /// Writes the result in the form of a locale. `None`: it is written as its own text.
-    pub formatter: Option<DecimalFormatter<'a>>,
+    pub formatter: Option<LocaleFormatter<'a>>,
 }
 
 impl Conversion<'_> {
@@ -43,17 +41,26 @@ impl Conversion<'_> {
         }
     }
 
-    #[inline]
-    fn write<W: Sink>(&self, value: &Decimal, sink: &mut W) -> Result<(), SinkFault>
-        ensures ok { OnOk result
-            (Appends (W.contents sink.old) (W.contents sink.new) (text_by self.now.formatter value.now)) }
-        ensures err { OnErr result
-            (AppendsPrefix (W.contents sink.old) (W.contents sink.new) (text_by self.now.formatter value.now)) }
-        ensures failed { OnErr result (W.has_failed sink.new ≡ true) }
+    fn write<W: Sink>(
+        &self,
+        alloc: Global,
+        value: Decimal,
+        sink: &mut W,
+    ) -> Result<(), OperationError>
+        ensures written { OnOk result (HasTextBy self.now.formatter value
+            (Appends (W.contents sink.old) (W.contents sink.new))) }
+        ensures fails_with { IfErr result (λ error. WritingFails error self.now.formatter value) }
+        ensures unchanged_on_error { IfErr result (λ error. error ≢ OperationError.Output → sink.new ≡ sink.old) }
+        ensures failed { result ≡ Err OperationError.Output → W.has_failed sink.new ≡ true }
+        ensures prefix { IfErr result (λ error. error ≡ OperationError.Output
+            → HasTextBy self.now.formatter value (AppendsPrefix (W.contents sink.old) (W.contents sink.new))) }
     {
         match &self.formatter {
-            Some(formatter) => formatter.format(value).write_to(sink),
-            None => value.write_to(sink),
+            Some(LocaleFormatter::Skeleton(formatter)) => write_number(
+                alloc, formatter, value, sink,
+            ),
+            Some(LocaleFormatter::AllDigits(formatter)) => write_digits(formatter, &value, sink),
+            None => write_plain(&value, sink),
         }
     }
 
@@ -78,8 +85,7 @@ impl Conversion<'_> {
         if let Err(error) = apply_calls(alloc, &mut value, self.calls.as_slice()) {
             return Err(OperationError::from(RunError::from(error)));
         }
-        self.write(&value, sink)?;
-        Ok(())
+        self.write(alloc, value, sink)
     }
 }
 
@@ -95,6 +101,7 @@ impl Conversion<'_> {
 ///
 /// - `Start`: the text is rejected.
 /// - `Operand`, `Overlap`, `Overflow`: a call fails, as in [`fixed_decimal::run`].
+/// - `FormatOverflow`: the number that a skeleton shows is beyond the limits.
 /// - `Memory`: out of memory.
 /// - `Output`: the sink has failed, and it has taken a prefix of the text.
 #[inline]

@@ -31,6 +31,10 @@ pub enum WordsError {
     QuoteDelimiter,
     /// The locale with this tag is unknown.
     UnknownLocale(ShownWord),
+    /// A text is no skeleton, from the byte with this 0-based index.
+    SkeletonSyntax { at: usize },
+    /// A text is a skeleton, but this stem is none of the library.
+    SkeletonUnsupported(ShownWord),
     /// Out of memory for the words, for the calls or rules that they name, or for the block.
     Memory,
     /// A write of the help failed.
@@ -49,6 +53,8 @@ impl fmt::Display for StartError {
         let name = self.program.name();
         match self.why {
             WordsError::UnknownLocale(tag) => write!(f, "unknown locale: {tag}"),
+            WordsError::SkeletonSyntax { at } => write!(f, "skeleton: syntax at {at}"),
+            WordsError::SkeletonUnsupported(stem) => write!(f, "skeleton: unsupported {stem}"),
             WordsError::Memory => f.write_str("memory"),
             WordsError::Output => f.write_str("output"),
             _ if self.program == Program::Fixdec => f.write_str(self.program.usage()),
@@ -115,6 +121,9 @@ pub enum OperationError {
     /// The result of this call is beyond the limits.
     #[error("call {at}: overflow")]
     Overflow { at: usize },
+    /// The number is scaled or rounded to be formatted, and is beyond the limits.
+    #[error("format: overflow")]
+    FormatOverflow,
     /// Out of memory.
     #[error("memory")]
     Memory,
@@ -136,7 +145,8 @@ impl OperationError {
             | OperationError::Start(_)
             | OperationError::Operand { .. }
             | OperationError::Overlap { .. }
-            | OperationError::Overflow { .. } => 1,
+            | OperationError::Overflow { .. }
+            | OperationError::FormatOverflow => 1,
             OperationError::Memory | OperationError::Output => 3,
         }
     }

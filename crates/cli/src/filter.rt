@@ -47,7 +47,7 @@ pub struct FilteredRow {
 }
 
 /// What a filter does to each line of an input.
-#[derive(Debug, Drop)]
+#[derive(Drop)]
 pub struct Filter<'a> {
     /// What it does at a line whose conversion fails.
     pub on_error: OnError,

@@ -1,7 +1,7 @@
 //! The texts of `--help` and `--version`.
 ghost use Rattle.std.specs.Prelude.{◌≡◌, ◌++◌, OnOk};
 ghost use Rattle.std.specs.Io.KnownBytes.{Appends};
-ghost use Rattle.cli.specs.Help.{name_of, usage_of, words_and_table_of, version_of, help_of, answer_of};
+ghost use Rattle.cli.specs.Help.{name_of, usage_of, words_and_table_of, skeletons_of, version_of, help_of, answer_of};
 
 use crate::locale_list::print_locales;
 use fixed_decimal::{WriteError, write_whole};
@@ -35,12 +35,13 @@ const PLURAL: &str = "usage: plural RULES TEXT..";
 /// What `fixdec` does, and all its words.
 const TEXT: &str = "
 
-All words: TEXT [read:LOCALE[:lenient]] [CALL].. [format:LOCALE[:GROUPING]]
+All words: TEXT [read:LOCALE[:lenient]] [CALL].. [format:LOCALE[:GROUPING|:SKELETON]]
 Reads TEXT as a decimal, makes the calls in order, and writes the result and a line feed.
 
 fixdec 250 shift:-2                              2.50
 fixdec 1.234,565 read:de round:-2:half-even:1    1234.56
 fixdec 1234567.5 format:en-IN                    12,34,567.5
+fixdec 1234567 format:en:K                       1.2M
 
 Status 0: the result is on standard output. 1: TEXT or a call is rejected. 2: a word is wrong. 3: out of
 memory, or the output fails. Errors are lines of standard error; call 0 is the first call.
@@ -111,10 +112,32 @@ MODE: ceil, floor, expand, trunc, half-ceil, half-floor, half-expand, half-trunc
 INC: 1, 2, 5, 25
 
 read:LOCALE[:lenient]     reads the text as the locale writes it, or as people type it
-format:LOCALE[:GROUPING]  writes the result as the locale does
+format:LOCALE[:GROUPING]  writes the result as the locale does, with all its digits
+format:LOCALE:SKELETON    writes it as a number skeleton of ICU says
 
 LOCALE: a tag as de-CH, or a name as de_CH.UTF-8
 GROUPING: auto, never, always, min2
+";
+
+const SKELETONS: &str = "\
+SKELETON: stems with spaces between them, in one word, as 'format:de:currency/EUR .00'
+
+currency/EUR            an amount; with unit-width-narrow, unit-width-iso-code or unit-width-hidden
+percent, %x100          12 is 12%, 0.12 is 12%
+K, KK                   1.2K, 1.2 thousand
+E0, EE0                 1.2E3, with an exponent that is a multiple of 3; E+!00: 1.2E+03
+.00 .0# .00* . .+       two fraction digits, one or two, two or more, none, all; .00/w: none if they are 0
+@@ @@# @@*              two significant digits, two or three, two or more
+precision-increment/0.05, precision-currency-cash
+rounding-mode-half-up   also ceiling, floor, down, up, half-even, half-ceiling, half-floor, half-down
+000                     three integer digits or more; integer-width/##00: two to four
+,_ ,? ,!                groups: never, min2, always
++! +_ +? +- ()          sign: always, never, except-zero, negative, accounting
+scale/100               multiplies by a power of ten first
+numbering-system/arab   digits
+
+Without stems rounding is half-even, to the digits of the currency or of compact notation, or else to six
+fraction digits.
 
 ";
 
@@ -164,6 +187,17 @@ impl Program {
         }
     }
 
+    /// Returns the stems of skeletons, if the program has them.
+    #[tactic(auto, unfolding(crate::specs::Help::skeletons_of))]
+    fn skeletons(self) -> &'static str
+        ensures { result.now ≡ skeletons_of self }
+    {
+        match self {
+            Program::Fixdec | Program::FixdecLines => SKELETONS,
+            Program::Plural => "",
+        }
+    }
+
     /// Writes the line of `--version`.
     pub fn print_version<W: Write>(self, out: &mut W) -> Result<(), WriteError<W>>
         ensures { OnOk result (Appends (W.contents out.old) (W.contents out.new) (version_of self)) }
@@ -174,14 +208,22 @@ impl Program {
         write_whole(out, b"\n")
     }
 
-    /// Writes the text of `--help`, which ends with the line of `--version`.
-    pub fn print_help<W: Write>(self, out: &mut W) -> Result<(), WriteError<W>>
-        ensures { OnOk result (Appends (W.contents out.old) (W.contents out.new) (help_of self)) }
+    fn print_words<W: Write>(self, out: &mut W) -> Result<(), WriteError<W>>
+        ensures { OnOk result (Appends (W.contents out.old) (W.contents out.new)
+            (usage_of self ++ words_and_table_of self)) }
     {
         let (words, table) = self.words_and_table();
         write_whole(out, self.usage().as_bytes())?;
         write_whole(out, words.as_bytes())?;
-        write_whole(out, table.as_bytes())?;
+        write_whole(out, table.as_bytes())
+    }
+
+    /// Writes the text of `--help`, which ends with the line of `--version`.
+    pub fn print_help<W: Write>(self, out: &mut W) -> Result<(), WriteError<W>>
+        ensures { OnOk result (Appends (W.contents out.old) (W.contents out.new) (help_of self)) }
+    {
+        self.print_words(out)?;
+        write_whole(out, self.skeletons().as_bytes())?;
         self.print_version(out)
     }
 

@@ -1,12 +1,11 @@
 //! Laws of the programs: the contract of each function states a law.
 ghost use Rattle.std.specs.Prelude.{◌≡◌, ℕ, List, Result, None};
-ghost use Rattle.fixed_decimal.specs.Outcome.{OutcomeError};
-ghost use Rattle.cli.specs.Conversion.{IsOutcome, IsRunFormatted};
+ghost use Rattle.cli.specs.Conversion.{ConversionError, IsOutcome, IsRunFormatted};
 ghost use Rattle.cli.specs.declared.conversion.Conversion.{Conversion};
 
 /// A conversion without a reader is the run of its calls, formatted: both write the same last decimal.
 #[tactic(auto, using(crate::proofs::Conversions::conversion_is_run_formatted))]
 pub fn conversion_is_run_formatted()
-    ensures { (c : Conversion) (text : List ℕ) (result : Result (List ℕ) OutcomeError) → c.reader ≡ None
+    ensures { (c : Conversion) (text : List ℕ) (result : Result (List ℕ) ConversionError) → c.reader ≡ None
         → IsOutcome c text result → IsRunFormatted c text result }
 {}

@@ -3,11 +3,11 @@ ghost use Rattle.std.specs.Prelude.{◌≡◌, IfOk, IfErr, IfSome, IfNone};
 ghost use Rattle.std.specs.Option.{option_copied};
 ghost use Rattle.std.specs.List.{list_all};
 ghost use Rattle.locale_data.specs.declared.plurals.PluralRuleType.{PluralRuleType};
-ghost use Rattle.cli.specs.Words.{tag_of};
+ghost use Rattle.cli.specs.Parameters.{tag_of};
 ghost use Rattle.cli.specs.NamedRules.{is_tag_byte, is_tag, IsTypeOption, NamesLocale, NamesRules, NamesNoRules};
 
+use crate::parameters::split_parameters;
 use crate::shown_word::ShownWord;
-use crate::words::split_parameters;
 use locale_data::{PluralRuleType, PluralRulesError, plural_rules_of};
 use plural_rules::{PluralRules, RulesError};
 use std::alloc::Global;

@@ -1,19 +1,19 @@
-//! The conversion that words name: `[read:LOCALE[:lenient]] [CALL].. [format:LOCALE[:GROUPING]]`.
+//! The conversion that words name: `[read:LOCALE[:lenient]] [CALL].. [format:LOCALE[:GROUPING|:SKELETON]]`.
 ghost use Rattle.std.specs.Prelude.{◌≡◌, ◌≢◌, IfOk, IfErr, IfSome, IfNone, Some, None, true, false};
 ghost use Rattle.std.specs.Option.{option_copied};
-ghost use Rattle.decimal_format.specs.declared.grouping.GroupingStrategy.{GroupingStrategy};
 ghost use Rattle.cli.specs.declared.reader.ParseMode.{ParseMode};
-ghost use Rattle.cli.specs.Words.{IsReadWord, IsFormatWord, IsReadSplit, IsFormatSplit, tag_of, option_of, parameters_of};
-ghost use Rattle.cli.specs.Words.{mode_option, IsStrategyOption, NamesReader, NamesFormatter, NamesConversion};
-ghost use Rattle.cli.specs.Words.{ReaderFails, FormatterFails, ConversionFails, StandsFirst, IsErrorOfWord};
+ghost use Rattle.cli.specs.Words.{IsReadWord, IsFormatWord, IsReadSplit, IsFormatSplit};
+ghost use Rattle.cli.specs.Words.{mode_option, NamesReader, NamesConversion};
+ghost use Rattle.cli.specs.Words.{ReaderFails, ConversionFails, StandsFirst, IsErrorOfWord};
 
 use crate::calls::parse_calls;
 use crate::conversion::Conversion;
 use crate::error::WordsError;
+use crate::format_word::parse_formatter;
 use crate::options::is_option;
+use crate::parameters::{parameters, split_parameters};
 use crate::reader::{DecimalReader, ParseMode};
 use crate::shown_word::ShownWord;
-use decimal_format::{DecimalFormatter, DecimalSymbols, GroupingStrategy};
 use locale_data::locale;
 use std::alloc::Global;
 
@@ -55,26 +55,6 @@ fn split_format(words: &[String]) -> (Option<&str>, &[String])
     (None, words)
 }
 
-/// Splits a text at its first colon.
-pub fn split_parameters(parameters: &str) -> (&str, Option<&str>)
-    ensures tag { result.0.now ≡ tag_of parameters.now }
-    ensures option { option_copied result.1 ≡ option_of parameters.now }
-{
-    match parameters.split_once(':') {
-        Some((tag, option)) => (tag, Some(option)),
-        None => (parameters, None),
-    }
-}
-
-fn parameters(word: &str) -> &str
-    ensures { result.now ≡ parameters_of word.now }
-{
-    match split_parameters(word).1 {
-        Some(parameters) => parameters,
-        None => "",
-    }
-}
-
 fn parse_mode(option: Option<&str>) -> Option<ParseMode>
     ensures some { IfSome result (λ mode. option_copied option.entry ≡ mode_option mode) }
     ensures none { IfNone result ((mode : ParseMode) → option_copied option.entry ≢ mode_option mode) }
@@ -82,20 +62,6 @@ fn parse_mode(option: Option<&str>) -> Option<ParseMode>
     match option {
         None => Some(ParseMode::Strict),
         Some("lenient") => Some(ParseMode::Lenient),
-        Some(_) => None,
-    }
-}
-
-fn parse_strategy(option: Option<&str>) -> Option<GroupingStrategy>
-    ensures some { IfSome result (IsStrategyOption (option_copied option.entry)) }
-    ensures none { IfNone result
-        ((strategy : GroupingStrategy) → ¬ IsStrategyOption (option_copied option.entry) strategy) }
-{
-    match option {
-        None | Some("auto") => Some(GroupingStrategy::Auto),
-        Some("never") => Some(GroupingStrategy::Never),
-        Some("always") => Some(GroupingStrategy::Always),
-        Some("min2") => Some(GroupingStrategy::Min2),
         Some(_) => None,
     }
 }
@@ -113,23 +79,6 @@ fn parse_reader(word: Option<&str>) -> Result<Option<DecimalReader<'static>>, Wo
     };
     match locale(tag) {
         Some(symbols) => Ok(Some(DecimalReader { symbols, mode })),
-        None => Err(WordsError::UnknownLocale(ShownWord::of(tag))),
-    }
-}
-
-fn parse_formatter(word: Option<&str>) -> Result<Option<DecimalFormatter<'static>>, WordsError>
-    ensures some { IfOk result (NamesFormatter (option_copied word.entry)) }
-    ensures err { IfErr result (FormatterFails (option_copied word.entry)) }
-{
-    let Some(word) = word else {
-        return Ok(None);
-    };
-    let (tag, option) = split_parameters(parameters(word));
-    let Some(strategy) = parse_strategy(option) else {
-        return Err(WordsError::NoSuchWord(ShownWord::of(word)));
-    };
-    match locale(tag) {
-        Some(symbols) => Ok(Some(DecimalFormatter::new(symbols, strategy))),
         None => Err(WordsError::UnknownLocale(ShownWord::of(tag))),
     }
 }
@@ -166,6 +115,7 @@ pub fn error_of_word(calls: usize, word: &str) -> WordsError
 /// Of several wrong words the first one decides:
 ///
 /// - `NoSuchWord`: a word names no call, or its option is unknown.
+/// - `SkeletonSyntax`, `SkeletonUnsupported`: the option of `format:` is no skeleton, or none of the library.
 /// - `AfterCall`, `Misplaced`: an option of a filter or `read:` is not before the calls, or `format:` not after them.
 /// - `UnknownLocale`: the locale of `read:` or `format:` is unknown.
 /// - `Memory`: out of memory for the list of the calls; no word is wrong.

@@ -4,7 +4,7 @@ use Rattle.std.specs.Option.{option_and_then}
 use Rattle.std.specs.Str.{IsUtf8}
 use Rattle.decimal_format.specs.Symbols.{Symbols}
 use Rattle.cli.specs.NamedRules.{NamesLocale}
-use Rattle.cli.specs.Words.{tag_of}
+use Rattle.cli.specs.Parameters.{tag_of}
 use Rattle.locale_data.specs.Locales.{symbols_at, IsLocale, IsUnknown}
 use Rattle.locale_data.specs.Plurals.{rules_text_at, IsRulesText, HasNoRules}
 use Rattle.locale_data.specs.declared.lookup.LocaleNumbers.{LocaleNumbers}

@@ -113,6 +113,8 @@ const LOCALES: &[(&str, &str)] = &[
     ("1234567.891 format:de_CH.UTF-8:never", "1234567.891"),
     ("1234 format:es:always", "1.234"),
     ("1234 format:de:min2", "1234"),
+    ("1234567 format:en:K", "1.2M"),
+    ("1234.565|format:en-IN:currency/INR .00", "₹1,234.56"),
 ];
 
 #[test]

@@ -1,5 +1,6 @@
 use Rattle.std.proofs.Common.{◌≡◌, ◌∙◌, refl, sym, ap}
-use Rattle.cli.specs.Words.{tag_of, option_of, locale_tag, locale_option, mode_option}
+use Rattle.cli.specs.Parameters.{tag_of, option_of, locale_tag, locale_option}
+use Rattle.cli.specs.Words.{mode_option}
 use Rattle.cli.proofs.words.parse_reader.Goals as goal
 
 pub returns-in-None-clause-err : goal.returns-in-None-clause-err

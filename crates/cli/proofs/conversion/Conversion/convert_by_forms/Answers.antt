@@ -1,8 +1,12 @@
-use Rattle.std.proofs.Common.{◌≡◌, Ok}
-use Rattle.std.proofs.lemmas.Result.{err_from_is_err_and}
+use Rattle.std.proofs.Common.{◌≡◌, Ok, refl}
+use Rattle.std.specs.Io.KnownBytes.{Appends}
+use Rattle.std.proofs.lemmas.Result.{on_ok_weaker, IfErr-weaker, IfErr-at_err}
+use Rattle.decimal_digits.specs.AppendsPrefix.{AppendsPrefix}
 use Rattle.fixed_decimal.specs.Outcome.{after_calls}
-use Rattle.cli.specs.Conversion.{text_by}
-use Rattle.cli.proofs.Conversions.{reading_fails, read_outcome, calls_fail}
+use Rattle.cli.specs.declared.error.OperationError.{OperationError}
+use Rattle.cli.specs.declared.error.OperationError.TheVariants.{Output}
+use Rattle.cli.specs.Conversion.{HasTextBy}
+use Rattle.cli.proofs.Conversions.{reading_fails, calls_fail, writing_fails, written_outcome}
 use Rattle.cli.proofs.conversion.Conversion.convert_by_forms.Goals as goal
 
 pub returns-in-Err-clause-fails_with : goal.returns-in-Err-clause-fails_with
@@ -16,22 +20,33 @@ returns-in-Err-apply_calls-clause-fails_with g c =
     (calls_fail c.args.self.now c.args.text.now c.in-Ok.value c.in-Ok.ensures.found c.in-Err-apply_calls.error
     (rw c.as_slice.ensures.value at c.in-Err-apply_calls.ensures.fails_with))
 
-pub returns-in_err-write-clause-fails_with : goal.returns-in_err-write-clause-fails_with
-returns-in_err-write-clause-fails_with g c =
-    let residual = c.from_residual in
-    let p = err_from_is_err_and residual.result residual.ensures.1 in
-    let last : after_calls 0 c.in-Ok.value c.args.self.now.calls.items ≡ Ok c.apply_calls.new.value =
+pub returns-clause-written : goal.returns-clause-written
+returns-clause-written g c =
+    let v = c.in-Ok.value in
+    let contents = g.W.Sink.contents in
+    let last : after_calls 0 v c.args.self.now.calls.items ≡ Ok c.apply_calls.new.value =
     rw c.as_slice.ensures.value at c.in_default.ensures.ok in
-    rw (p.1, p.2) (
-      text_by c.args.self.now.formatter c.apply_calls.new.value,
-      read_outcome c.args.self.now c.args.text.now c.in-Ok.value c.in-Ok.ensures.found _ last,
-    )
+    on_ok_weaker c.write.result
+    (written_outcome c.args.self.now c.args.text.now v c.in-Ok.ensures.found c.apply_calls.new.value last
+    (Appends (contents c.args.sink.now) (contents c.write.new.sink)))
+    c.write.ensures.written
 
-pub returns-in_err-write-clause-prefix : goal.returns-in_err-write-clause-prefix
-returns-in_err-write-clause-prefix g c = λ _.
-    let last : after_calls 0 c.in-Ok.value c.args.self.now.calls.items ≡ Ok c.apply_calls.new.value =
-    rw c.as_slice.ensures.value at c.in_default.ensures.ok in (
-      text_by c.args.self.now.formatter c.apply_calls.new.value,
-      read_outcome c.args.self.now c.args.text.now c.in-Ok.value c.in-Ok.ensures.found _ last,
-      c.in_err-write.ensures.err,
-    )
+pub returns-clause-fails_with : goal.returns-clause-fails_with
+returns-clause-fails_with g c =
+    let v = c.in-Ok.value in
+    let last : after_calls 0 v c.args.self.now.calls.items ≡ Ok c.apply_calls.new.value =
+    rw c.as_slice.ensures.value at c.in_default.ensures.ok in
+    IfErr-weaker c.write.result _ _
+    (writing_fails c.args.self.now c.args.text.now v c.in-Ok.ensures.found c.apply_calls.new.value last)
+    c.write.ensures.fails_with
+
+pub returns-clause-prefix : goal.returns-clause-prefix
+returns-clause-prefix g c = λ failed.
+    let v = c.in-Ok.value in
+    let contents = g.W.Sink.contents in
+    let begun = AppendsPrefix (contents c.args.sink.now) (contents c.write.new.sink) in
+    let last : after_calls 0 v c.args.self.now.calls.items ≡ Ok c.apply_calls.new.value =
+    rw c.as_slice.ensures.value at c.in_default.ensures.ok in
+    written_outcome c.args.self.now c.args.text.now v c.in-Ok.ensures.found c.apply_calls.new.value last begun
+    (IfErr-at_err (λ (error : OperationError). error ≡ Output →
+    HasTextBy c.args.self.now.formatter c.apply_calls.new.value begun) failed c.write.ensures.prefix refl)

@@ -1,8 +1,8 @@
 use Rattle.std.proofs.Common.{◌≡◌, ◌≢◌, ℕ, suc, ◌<◌, List, [], ◌∷◌, length, get_or, None, false, refl, arith, ne_eqb}
 use Rattle.std.specs.List.{list_any}
 use Rattle.std.proofs.lemmas.Str.Pattern.{NoCharPasses-char}
-use Rattle.cli.specs.Words.{is_colon, option_of}
-use Rattle.cli.proofs.words.split_parameters.Goals as goal
+use Rattle.cli.specs.Parameters.{is_colon, option_of}
+use Rattle.cli.proofs.parameters.split_parameters.Goals as goal
 
 no_colon : (xs : List ℕ) → ((i : ℕ) → i < length xs → get_or xs i 0 ≢ 58) → list_any is_colon xs ≡ false
 no_colon [] none = refl
