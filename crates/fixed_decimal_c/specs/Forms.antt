@@ -1,8 +1,7 @@
 -- The forms in which a text is read and written.
-use Rattle.std.specs.Prelude.{◌≡◌, ◌≢◌, ℕ, ◌⊎◌, List, Option, Some, None}
+use Rattle.std.specs.Prelude.{◌≡◌, ◌≢◌, ℕ, ◌⊎◌, List, Option, Some, None, IsSomeAnd}
 use Rattle.std.specs.Str.{IsUtf8}
 use Rattle.decimal_format.specs.Symbols.{Symbols}
-use Rattle.decimal_format.specs.Formatted.{Formatter}
 use Rattle.decimal_format.specs.declared.grouping.GroupingStrategy.{GroupingStrategy}
 use Rattle.decimal_format.specs.declared.grouping.GroupingStrategy.TheVariants.{Auto, Never, Always, Min2}
 use Rattle.locale_data.specs.Locales.{IsLocale, IsUnknown}
@@ -10,10 +9,13 @@ use Rattle.cli.specs.declared.reader.DecimalReader.{DecimalReader}
 use Rattle.cli.specs.declared.reader.ParseMode.{ParseMode}
 use Rattle.cli.specs.declared.reader.ParseMode.TheVariants.{Strict, Lenient}
 use Rattle.fixed_decimal_c.specs.declared.error.FdError.{FdError}
-use Rattle.fixed_decimal_c.specs.declared.error.FdError.TheVariants.{UnknownLocale, UnknownOption}
+use Rattle.fixed_decimal_c.specs.declared.error.FdError.TheVariants.{UnknownLocale, UnknownOption, SkeletonSyntax}
 use Rattle.fixed_decimal_c.specs.declared.forms.FdForm.{FdForm}
+use Rattle.fixed_decimal_c.specs.declared.forms.Format.{Format}
+use Rattle.fixed_decimal_c.specs.declared.forms.Format.TheVariants as by
 use Rattle.fixed_decimal_c.specs.Calls.{IsPart}
 use Rattle.fixed_decimal_c.specs.Locales.{symbols_of_number}
+use Rattle.fixed_decimal_c.specs.NumberTexts.{IsFormatterFor, FormatterFails}
 
 abbrev pub grouping_code : GroupingStrategy → ℕ
 grouping_code Auto = 0
@@ -55,12 +57,55 @@ FormFails code error form texts = ⊥
 
 -- the reader by the symbols of a form, in its mode; no symbols, no reader
 abbrev pub IsReaderOf : FdForm → List ℕ → Option DecimalReader → Type 0
-IsReaderOf form texts None = AreSymbolsOf form texts None
+IsReaderOf form texts None = (form.skeleton_count ≡ 0) × AreSymbolsOf form texts None
 IsReaderOf form texts (Some reader) =
-    AreSymbolsOf form texts (Some reader.symbols) × (form.option ≡ reading_code reader.mode)
+    (form.skeleton_count ≡ 0) × AreSymbolsOf form texts (Some reader.symbols)
+    × (form.option ≡ reading_code reader.mode)
+
+-- a form has a skeleton, by which no text is read, or has no reader
+abbrev pub ReaderFails : FdError → FdForm → List ℕ → Type 0
+ReaderFails error form texts =
+    ((error ≡ UnknownOption) × (form.skeleton_count ≢ 0)) ⊎ FormFails reading_code error form texts
 
 -- the formatter by the symbols of a form, with its strategy; no symbols, no formatter
-abbrev pub IsFormatterOf : FdForm → List ℕ → Option Formatter → Type 0
-IsFormatterOf form texts None = AreSymbolsOf form texts None
-IsFormatterOf form texts (Some formatter) =
-    AreSymbolsOf form texts (Some formatter.symbols) × (form.option ≡ grouping_code formatter.strategy)
+abbrev pub IsSymbolsFormat : FdForm → List ℕ → Option Format → Type 0
+IsSymbolsFormat form texts None = AreSymbolsOf form texts None
+IsSymbolsFormat form texts (Some (by.Symbols f)) =
+    AreSymbolsOf form texts (Some f.symbols) × (form.option ≡ grouping_code f.strategy)
+IsSymbolsFormat form texts (Some (by.Skeleton f)) = ⊥
+
+-- a start and a number of bytes are no part of the texts
+abbrev pub HasNoPart : List ℕ → ℕ → ℕ → Type 0
+HasNoPart texts start count = (t : List ℕ) → IsPart texts start count t → ⊥
+
+-- the formatter by the tag and the skeleton of a form
+abbrev pub IsSkeletonFormat : FdForm → List ℕ → Format → Type 0
+IsSkeletonFormat form texts (by.Symbols f) = ⊥
+IsSkeletonFormat form texts (by.Skeleton f) =
+    (tag : List ℕ) × (skeleton : List ℕ) × IsPart texts form.start form.count tag
+    × IsPart texts form.skeleton_start form.skeleton_count skeleton × IsFormatterFor tag skeleton f
+
+-- the tag is outside the texts, or a tag and a skeleton have no formatter
+abbrev pub TagFails : FdError → FdForm → List ℕ → List ℕ → Type 0
+TagFails error form texts skeleton =
+    ((error ≡ UnknownLocale) × HasNoPart texts form.start form.count)
+    ⊎ ((tag : List ℕ) × IsPart texts form.start form.count tag × FormatterFails error tag skeleton)
+
+-- the skeleton is outside the texts, or there is no formatter by it
+abbrev pub SkeletonFormFails : FdError → FdForm → List ℕ → Type 0
+SkeletonFormFails error form texts =
+    ((error ≡ SkeletonSyntax 0) × HasNoPart texts form.skeleton_start form.skeleton_count)
+    ⊎ ((skeleton : List ℕ) × IsPart texts form.skeleton_start form.skeleton_count skeleton
+    × TagFails error form texts skeleton)
+
+-- the formatter of a form: with a skeleton by it, else by its symbols; without either none
+abbrev pub IsFormatOf : FdForm → List ℕ → Option Format → Type 0
+IsFormatOf form texts format =
+    ((form.skeleton_count ≡ 0) × IsSymbolsFormat form texts format)
+    ⊎ ((form.skeleton_count ≢ 0) × IsSomeAnd format (IsSkeletonFormat form texts))
+
+-- there is no such formatter
+abbrev pub FormatFormFails : FdError → FdForm → List ℕ → Type 0
+FormatFormFails error form texts =
+    ((form.skeleton_count ≡ 0) × FormFails grouping_code error form texts)
+    ⊎ ((form.skeleton_count ≢ 0) × SkeletonFormFails error form texts)

@@ -1,0 +1,5 @@
+use Rattle.std.proofs.Common.{inl, inr, refl}
+use Rattle.fixed_decimal_c.proofs.lines.convert_column.Goals as goal
+
+pub returns-in-Err : goal.returns-in-Err
+returns-in-Err c = inr (c.in-Err.error, c.encode_column.ensures, inl c.in-Err.ensures.err, refl)
