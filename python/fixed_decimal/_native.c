@@ -347,8 +347,9 @@ static PyObject *decimal_plural(Decimal *self, PyObject *value) {
     return answer.status == FD_OK ? PyUnicode_FromString(categories[answer.value]) : fail(answer.status, answer.at);
 }
 
-/* As Python's own decimals answer a format specification. */
+/* As Python's own decimals answer a format specification; without one, as of any object, the text. */
 static PyObject *decimal_dunder_format(Decimal *self, PyObject *specification) {
+    if (PyUnicode_CheckExact(specification) && PyUnicode_GET_LENGTH(specification) == 0) return decimal_str(self);
     PyObject *module = PyImport_ImportModule("decimal");
     PyObject *text = decimal_str(self);
     PyObject *value = module && text ? PyObject_CallMethod(module, "Decimal", "O", text) : NULL;

@@ -68,9 +68,9 @@ def _increment(increment, fraction, default):
     return f"precision-increment/{Decimal(increment).shift(-most)}"
 
 
-def _default_counts(style, currency, notation):
-    """The numbers of fraction digits without options: those of the currency, or 0 to 3, of percentages 0."""
-    if style == "currency" and notation == "standard":
+def _default_counts(style, currency):
+    """The numbers of fraction digits without options: those of the currency, else 0 to 3, of percentages 0."""
+    if style == "currency":
         shown = Decimal("0").format("en", skeleton=f"currency/{currency} unit-width-hidden")
         return (len(shown.partition(".")[2]),) * 2
     return 0, 0 if style == "percent" else 3
@@ -100,7 +100,7 @@ def number_skeleton(*, style="decimal", currency="", currency_display="symbol", 
         stems[1] += _word("compact_display", compact_display)
     fraction = minimum_fraction_digits, maximum_fraction_digits
     significant = minimum_significant_digits, maximum_significant_digits
-    default = _default_counts(style, currency, notation)
+    default = _default_counts(style, currency)
     if rounding_increment != 1:
         precision = _increment(rounding_increment, fraction, default)
     else:

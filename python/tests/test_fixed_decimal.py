@@ -67,7 +67,8 @@ def test_random(cases):
         check(decimal.Decimal(str(ours.trim())) == theirs and str(ours.trim()).strip("-") not in ("", "."), text)
         check(decimal.Decimal(str(ours.pad(9, -9))) == theirs, text)
         specification = rng.choice((".2f", ",", ",.3f", "+.1f", "020.4f", "e", ".3%", "*>30", ""))
-        check(format(ours, specification) == format(theirs, specification), text, specification)
+        check(format(ours, specification) == (format(theirs, specification) if specification else str(ours)), text,
+              specification)
 
 
 def test_other_modes(cases):
@@ -104,6 +105,7 @@ def test_class():
         (Decimal("1234.5").format(locale="de"), "1.234,5"), (Decimal("1234.5").format("de-" + "CH"), "1'234.5"),
         (len(str(Decimal("1").pad(end=-32768))), 32770), (len(Decimal("1" * 300).format("de")), 399),
         (pickle.loads(pickle.dumps(Decimal("1.50"))), Decimal("1.50")), (f"{Decimal('1234.565'):,.2f}", "1,234.56"),
+        (f"{Decimal('0.00000005000')}", "0.00000005000"), (f"{Decimal('1e3'):g}", "1000"),
         (len({Decimal("1.0"), Decimal("1"), Decimal("1.0")}), 2), (Decimal("1.0") == 1, False),
         (Decimal("1.0") != Decimal("1"), True), (Decimal("1.0").__eq__(1), NotImplemented),
         (Decimal("1.0").__lt__(2), NotImplemented), (Decimal("1.0") <= Decimal("1"), True),
