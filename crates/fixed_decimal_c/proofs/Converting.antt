@@ -1,5 +1,5 @@
 -- The result of a conversion, by the results of its parts.
-use Rattle.std.proofs.Common.{◌≡◌, ℕ, List, ◌++◌, length, Option, Result, Ok, Err, inl, inr, refl}
+use Rattle.std.proofs.Common.{◌≡◌, ℕ, List, ◌++◌, length, Result, Ok, Err, inl, inr, refl}
 use Rattle.decimal_unsigned.specs.declared.decimal.TheConstants.{INLINE_DIGITS}
 use Rattle.decimal_unsigned.specs.declared.error.ParseError.{ParseError}
 use Rattle.decimal_unsigned.specs.declared.error.ParseError.TheVariants as parse
@@ -21,7 +21,7 @@ use Rattle.fixed_decimal_c.specs.Formats.{IsTextBy, WritesBy}
 use Rattle.fixed_decimal_c.specs.Texts.{Writes}
 
 -- a text that is that of a decimal is written
-pub writes_text : (format : Option Format) (v : Decimal) (at : ℕ) (text end old new : List ℕ)
+pub writes_text : (format : Format) (v : Decimal) (at : ℕ) (text end old new : List ℕ)
     → IsTextBy format v text → (r : Result ℕ FdError) → Writes r (text ++ end) old new
     → WritesBy format v at end r old new
 writes_text format v at text end old new is (Ok count) h = (text, is, h)

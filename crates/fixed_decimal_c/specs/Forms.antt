@@ -1,13 +1,15 @@
 -- The forms in which a text is read and written.
-use Rattle.std.specs.Prelude.{◌≡◌, ◌≢◌, ℕ, ◌⊎◌, List, Option, Some, None, IsSomeAnd}
+use Rattle.std.specs.Prelude.{◌≡◌, ◌≢◌, ℕ, ◌⊎◌, List, Option, Some, None}
 use Rattle.std.specs.Str.{IsUtf8}
 use Rattle.decimal_format.specs.Symbols.{Symbols}
+use Rattle.decimal_format.specs.Formatted.{Formatter}
 use Rattle.decimal_format.specs.declared.grouping.GroupingStrategy.{GroupingStrategy}
 use Rattle.decimal_format.specs.declared.grouping.GroupingStrategy.TheVariants.{Auto, Never, Always, Min2}
 use Rattle.locale_data.specs.Locales.{IsLocale, IsUnknown}
 use Rattle.cli.specs.declared.reader.DecimalReader.{DecimalReader}
 use Rattle.cli.specs.declared.reader.ParseMode.{ParseMode}
 use Rattle.cli.specs.declared.reader.ParseMode.TheVariants.{Strict, Lenient}
+use Rattle.number_format.specs.declared.number_formatter.NumberFormatter.{NumberFormatter}
 use Rattle.fixed_decimal_c.specs.declared.error.FdError.{FdError}
 use Rattle.fixed_decimal_c.specs.declared.error.FdError.TheVariants.{UnknownLocale, UnknownOption, SkeletonSyntax}
 use Rattle.fixed_decimal_c.specs.declared.forms.FdForm.{FdForm}
@@ -68,20 +70,18 @@ ReaderFails error form texts =
     ((error ≡ UnknownOption) × (form.skeleton_count ≢ 0)) ⊎ FormFails reading_code error form texts
 
 -- the formatter by the symbols of a form, with its strategy; no symbols, no formatter
-abbrev pub IsSymbolsFormat : FdForm → List ℕ → Option Format → Type 0
-IsSymbolsFormat form texts None = AreSymbolsOf form texts None
-IsSymbolsFormat form texts (Some (by.Symbols f)) =
+abbrev pub IsSymbolsFormatter : FdForm → List ℕ → Option Formatter → Type 0
+IsSymbolsFormatter form texts None = AreSymbolsOf form texts None
+IsSymbolsFormatter form texts (Some f) =
     AreSymbolsOf form texts (Some f.symbols) × (form.option ≡ grouping_code f.strategy)
-IsSymbolsFormat form texts (Some (by.Skeleton f)) = ⊥
 
 -- a start and a number of bytes are no part of the texts
 abbrev pub HasNoPart : List ℕ → ℕ → ℕ → Type 0
 HasNoPart texts start count = (t : List ℕ) → IsPart texts start count t → ⊥
 
 -- the formatter by the tag and the skeleton of a form
-abbrev pub IsSkeletonFormat : FdForm → List ℕ → Format → Type 0
-IsSkeletonFormat form texts (by.Symbols f) = ⊥
-IsSkeletonFormat form texts (by.Skeleton f) =
+abbrev pub IsSkeletonFormatter : FdForm → List ℕ → NumberFormatter → Type 0
+IsSkeletonFormatter form texts f =
     (tag : List ℕ) × (skeleton : List ℕ) × IsPart texts form.start form.count tag
     × IsPart texts form.skeleton_start form.skeleton_count skeleton × IsFormatterFor tag skeleton f
 
@@ -98,11 +98,11 @@ SkeletonFormFails error form texts =
     ⊎ ((skeleton : List ℕ) × IsPart texts form.skeleton_start form.skeleton_count skeleton
     × TagFails error form texts skeleton)
 
--- the formatter of a form: with a skeleton by it, else by its symbols; without either none
-abbrev pub IsFormatOf : FdForm → List ℕ → Option Format → Type 0
-IsFormatOf form texts format =
-    ((form.skeleton_count ≡ 0) × IsSymbolsFormat form texts format)
-    ⊎ ((form.skeleton_count ≢ 0) × IsSomeAnd format (IsSkeletonFormat form texts))
+-- what a form formats by: with a skeleton by it, else by its symbols; without either a decimal is its own text
+abbrev pub IsFormatOf : FdForm → List ℕ → Format → Type 0
+IsFormatOf form texts by.Own = (form.skeleton_count ≡ 0) × IsSymbolsFormatter form texts None
+IsFormatOf form texts (by.Symbols f) = (form.skeleton_count ≡ 0) × IsSymbolsFormatter form texts (Some f)
+IsFormatOf form texts (by.Skeleton f) = (form.skeleton_count ≢ 0) × IsSkeletonFormatter form texts f
 
 -- there is no such formatter
 abbrev pub FormatFormFails : FdError → FdForm → List ℕ → Type 0

@@ -6,18 +6,18 @@ ghost use Rattle.fixed_decimal_c.specs.Conversions.{AreForms, FormsFail, Convert
 
 use crate::calls::{FdCall, INLINE_CALLS, decode_long, decode_short};
 use crate::error::{FdError, error_of_parsing, error_of_run};
-use crate::forms::{FdForms, Format, formatter, reader};
+use crate::forms::{FdForms, Format, reader, skeleton_formatter, symbols_formatter};
 use crate::number_text::write_number;
 use crate::texts::write_value;
 use cli::DecimalReader;
 use fixed_decimal::{Call, Decimal, ParseError, RunError, apply_calls};
 use std::alloc::Global;
 
-/// How a text is read and how the result is written. `None`: as the decimal's own text.
+/// How a text is read, `None` as a decimal's own text, and how the result is written.
 #[derive(Drop)]
 pub(crate) struct Forms {
     pub(crate) reader: Option<DecimalReader<'static>>,
-    pub(crate) format: Option<Format>,
+    pub(crate) format: Format,
 }
 
 impl Forms {
@@ -26,7 +26,15 @@ impl Forms {
         ensures err { IfErr result (λ error. FormsFail error forms.now texts.now) }
     {
         let reader = reader(&forms.read, texts)?;
-        let format = formatter(&forms.format, texts)?;
+        if forms.format.skeleton_count > 0 {
+            let formatter = skeleton_formatter(&forms.format, texts)?;
+            let format = Format::Skeleton(formatter);
+            return Ok(Forms { reader, format });
+        }
+        let format = match symbols_formatter(&forms.format, texts)? {
+            Some(formatter) => Format::Symbols(formatter),
+            None => Format::Own,
+        };
         Ok(Forms { reader, format })
     }
 
@@ -52,13 +60,14 @@ impl Forms {
         ensures { WritesBy self.now.format value at end.now result buffer.old buffer.new }
     {
         match &self.format {
-            Some(Format::Symbols(formatter)) => {
-                write_value(alloc, &formatter.format(&value), end, buffer)
-            }
-            Some(Format::Skeleton(formatter)) => {
-                write_number(alloc, formatter, value, at, end, buffer)
-            }
-            None => write_value(alloc, &value, end, buffer),
+            Format::Own => write_value(alloc, &value, end, buffer),
+            Format::Symbols(formatter) => write_value(
+                alloc,
+                &formatter.format(&value),
+                end,
+                buffer,
+            ),
+            Format::Skeleton(formatter) => write_number(alloc, formatter, value, at, end, buffer),
         }
     }
 
@@ -95,9 +104,10 @@ pub(crate) fn convert(
 ) -> Result<usize, FdError>
     ensures { ConvertsCalls result text.now forms.now calls.now texts.now buffer.old buffer.new }
 {
-    let forms = match Forms::decode(forms, texts) {
+    let decoded = Forms::decode(forms, texts);
+    let forms = match &decoded {
         Ok(forms) => forms,
-        Err(error) => return Err(error),
+        Err(error) => return Err(*error),
     };
     if calls.len() <= INLINE_CALLS {
         let mut list = [Call::TrimStart; INLINE_CALLS];

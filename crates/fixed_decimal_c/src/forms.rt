@@ -3,7 +3,7 @@ ghost use Rattle.std.specs.Prelude.{◌≡◌, IfSome, IfNone, IfOk, IfErr};
 ghost use Rattle.decimal_format.specs.declared.grouping.GroupingStrategy.{GroupingStrategy};
 ghost use Rattle.decimal_format.specs.Readable.{IsReadable};
 ghost use Rattle.cli.specs.declared.reader.ParseMode.{ParseMode};
-ghost use Rattle.fixed_decimal_c.specs.Forms.{grouping_code, reading_code, IsLocaleAt, HasNoLocale, AreSymbolsOf, HasNoSymbols, IsReaderOf, FormFails, ReaderFails, IsSymbolsFormat, IsSkeletonFormat, SkeletonFormFails, IsFormatOf, FormatFormFails};
+ghost use Rattle.fixed_decimal_c.specs.Forms.{grouping_code, reading_code, IsLocaleAt, HasNoLocale, AreSymbolsOf, HasNoSymbols, IsReaderOf, FormFails, ReaderFails, IsSymbolsFormatter, IsSkeletonFormatter, SkeletonFormFails};
 
 use crate::calls::part;
 use crate::error::FdError;
@@ -48,6 +48,8 @@ pub struct FdForms {
 /// What a decimal is formatted by.
 #[derive(Drop)]
 pub(crate) enum Format {
+    /// Nothing: it is written as its own text.
+    Own,
     /// The symbols of a locale.
     Symbols(DecimalFormatter<'static>),
     /// The options of a number skeleton.
@@ -131,23 +133,26 @@ pub(crate) fn reader(form: &FdForm, texts: &[u8]) -> Result<Option<DecimalReader
 }
 
 /// Returns the formatter by the symbols of the locale of a form, if it has one.
-fn symbols_format(form: &FdForm, texts: &[u8]) -> Result<Option<Format>, FdError>
-    ensures ok { IfOk result (IsSymbolsFormat form.now texts.now) }
+pub(crate) fn symbols_formatter(
+    form: &FdForm,
+    texts: &[u8],
+) -> Result<Option<DecimalFormatter<'static>>, FdError>
+    ensures ok { IfOk result (IsSymbolsFormatter form.now texts.now) }
     ensures err { IfErr result (λ error. FormFails grouping_code error form.now texts.now) }
 {
     match symbols(form, texts) {
         Err(error) => Err(error),
         Ok(None) => Ok(None),
         Ok(Some(symbols)) => match grouping(form.option) {
-            Some(strategy) => Ok(Some(Format::Symbols(DecimalFormatter::new(symbols, strategy)))),
+            Some(strategy) => Ok(Some(DecimalFormatter::new(symbols, strategy))),
             None => Err(FdError::UnknownOption),
         },
     }
 }
 
 /// Returns the formatter by the tag and the skeleton of a form.
-fn skeleton_format(form: &FdForm, texts: &[u8]) -> Result<Format, FdError>
-    ensures ok { IfOk result (IsSkeletonFormat form.now texts.now) }
+pub(crate) fn skeleton_formatter(form: &FdForm, texts: &[u8]) -> Result<NumberFormatter, FdError>
+    ensures ok { IfOk result (IsSkeletonFormatter form.now texts.now) }
     ensures err { IfErr result (λ error. SkeletonFormFails error form.now texts.now) }
 {
     let Some(skeleton) = part(texts, form.skeleton_start, form.skeleton_count) else {
@@ -157,20 +162,7 @@ fn skeleton_format(form: &FdForm, texts: &[u8]) -> Result<Format, FdError>
         return Err(FdError::UnknownLocale);
     };
     match number_formatter(tag, skeleton) {
-        Ok(formatter) => Ok(Format::Skeleton(formatter)),
-        Err(error) => Err(error),
-    }
-}
-
-pub(crate) fn formatter(form: &FdForm, texts: &[u8]) -> Result<Option<Format>, FdError>
-    ensures ok { IfOk result (IsFormatOf form.now texts.now) }
-    ensures err { IfErr result (λ error. FormatFormFails error form.now texts.now) }
-{
-    if form.skeleton_count == 0 {
-        return symbols_format(form, texts);
-    }
-    match skeleton_format(form, texts) {
-        Ok(format) => Ok(Some(format)),
+        Ok(formatter) => Ok(formatter),
         Err(error) => Err(error),
     }
 }

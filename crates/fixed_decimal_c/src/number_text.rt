@@ -1,5 +1,5 @@
 //! Numbers as a locale writes them, by a number skeleton.
-ghost use Rattle.std.specs.Prelude.{◌≡◌, Some, IfOk, IfErr};
+ghost use Rattle.std.specs.Prelude.{◌≡◌, IfOk, IfErr};
 ghost use Rattle.fixed_decimal_c.specs.declared.forms.Format.TheVariants.{Skeleton};
 ghost use Rattle.fixed_decimal_c.specs.NumberTexts.{error_of_skeleton, error_of_formatter, error_of_format, AreOptionsOf, SkeletonFails, IsFormatterFor, FormatterFails};
 ghost use Rattle.fixed_decimal_c.specs.Formats.{WritesBy, FormatsText, FormatsNumber};
@@ -85,7 +85,7 @@ pub(crate) fn write_number(
     end: &[u8],
     buffer: &mut [u8],
 ) -> Result<usize, FdError>
-    ensures { WritesBy (Some (Skeleton formatter.now)) value at end.now result buffer.old buffer.new }
+    ensures { WritesBy (Skeleton formatter.now) value at end.now result buffer.old buffer.new }
 {
     match formatter.format(alloc, value) {
         Ok(number) => write_value(alloc, &number, end, buffer),

@@ -2,4 +2,4 @@ use Rattle.std.proofs.Common.{inl, inr, refl}
 use Rattle.fixed_decimal_c.proofs.lines.convert_column.Goals as goal
 
 pub returns-in-Err : goal.returns-in-Err
-returns-in-Err c = inr (c.in-Err.error, c.encode_column.ensures, inl c.in-Err.ensures.err, refl)
+returns-in-Err c = inr (c.in-Err.error, c.encode_column.ensures, inl (rw c.in-Err.is at c.decode-decoded.ensures.err), refl)

@@ -1,5 +1,5 @@
 use Rattle.std.proofs.Common.{inr}
-use Rattle.fixed_decimal_c.proofs.forms.skeleton_format.Goals as goal
+use Rattle.fixed_decimal_c.proofs.forms.skeleton_formatter.Goals as goal
 
 pub returns-in-Err-clause-err : goal.returns-in-Err-clause-err
 returns-in-Err-clause-err c =
