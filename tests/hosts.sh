@@ -79,8 +79,8 @@ if [ -n "$python" ]; then
   kill -9 "${others[4]}"
   wait $converted && cmp -s "$room/found" "$room/expected"
   judge $? "Dask, a worker that ends: $(tail -n 1 "$room/log")"
-  kill -9 "${others[@]}" 2> /dev/null
-  wait
+  disown "${others[@]:0:4}"
+  kill -9 "${others[@]:0:4}" 2> /dev/null
 else
   missing 'python3-distributed'
 fi
