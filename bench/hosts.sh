@@ -1,10 +1,11 @@
 #!/usr/bin/env bash
-# Times the Rust crate beside the C library, and a column on the workers of Dask beside one program and beside a Dask map of
-# decimal.Decimal:
+# Prints the tables of hosts: the Rust crate beside the C library, the Python module beside decimal, Babel and the program,
+# and a column on the workers of Dask beside one program and beside a Dask map of decimal.Decimal:
 #
 #   bench/hosts.sh [LINES]        by default 5000000
 #
-# It takes the libraries and the program that the gate has built, and needs cargo and python3-distributed.
+# It takes the libraries and the program that the gate has built, and needs cargo, python3-distributed and python3-babel,
+# and four idle processors.
 set -euo pipefail
 cd "$(dirname "$0")/.."
 lines=${1:-5000000}
@@ -19,6 +20,9 @@ FIXED_DECIMAL_LIB=$PWD/c/out/libfixed_decimal.a CARGO_TARGET_DIR=$room/target \
 for python in python3 /usr/bin/python3; do
   ! "$python" -c 'import distributed' 2> /dev/null || break
 done
+"$python" -m pip install --no-index --quiet --target "$room/python" ./python
+PYTHONPATH=$room/python "$python" python/tests/bench.py "$program"
+printf '\n|Column|lines a second|\n|---|---|\n'
 awk -v lines="$lines" 'BEGIN { for (i = 0; i < lines; i++) printf "%d.%03d\n", i % 10000, i * 7 % 1000 }' > "$room/lines"
 
 # report NAME COMMAND..: the lines a second of a command that writes $room/found, which has to be what the program writes.
@@ -27,7 +31,7 @@ report() {
   shift
   "$@"
   awk -v name="$name" -v lines="$lines" -v start="$start" -v end="$EPOCHREALTIME" \
-    'BEGIN { printf "%s: %d lines a second\n", name, lines / (end - start) }'
+    'BEGIN { printf "|%s|%d|\n", name, lines / (end - start) }'
   [ ! -e "$room/expected" ] || cmp "$room/found" "$room/expected"
 }
 one() { "$program" round:-2:half-even:1 < "$room/lines" > "$room/found"; }

@@ -35,7 +35,7 @@ extern "C" {
 #endif
 
 /* The version of this interface: it grows when a number, a struct or a meaning changes. */
-#define FD_VERSION 2
+#define FD_VERSION 3
 
 /* The version of the library, to be compared with FD_VERSION. */
 uint32_t fd_version(void);
@@ -49,17 +49,17 @@ typedef enum fd_status {
     FD_OPERAND_SYNTAX = 4,   /* the operand of call `at` is not in the grammar */
     FD_OPERAND_LIMIT = 5,    /* the operand of call `at` has too many digits */
     FD_OVERLAP = 6,          /* the numbers that call `at` concatenates overlap */
-    FD_OVERFLOW = 7,         /* the result of call `at`, a shift or a rounding, is beyond the limits; or the number that
-                                fd_format_number shows, at 0 */
+    FD_OVERFLOW = 7,         /* the result of call `at`, a shift or a rounding, is beyond the limits; or after all calls,
+                                `at` is their number, the number that a skeleton shows */
     FD_BUFFER_TOO_SMALL = 8, /* the text does not fit the rest of the buffer */
     FD_UNKNOWN_CALL = 9,     /* call `at` has an unknown kind, option or increment, or an operand outside the texts */
     FD_UNKNOWN_LOCALE = 10,  /* no locale of the tag is known, or its numbering system is not; or none has the number */
-    FD_UNKNOWN_OPTION = 11,  /* an unknown grouping, reading or type of rules */
+    FD_UNKNOWN_OPTION = 11,  /* an unknown grouping, reading or type of rules; or a text is to be read by a skeleton */
     FD_NOT_WHOLE = 12,       /* a fraction digit is not 0 */
     FD_OUT_OF_RANGE = 13,    /* the integer type does not hold the number */
     FD_RULES_SYNTAX = 14,    /* the text cannot go on as rules at byte `at` */
     FD_RULES_LIMIT = 15,     /* the number at byte `at` of the rules is too great */
-    FD_SKELETON_SYNTAX = 16, /* the text is no skeleton, or not UTF-8, from byte `at` on */
+    FD_SKELETON_SYNTAX = 16, /* the text is no skeleton, or not UTF-8, from byte `at` on; or it is outside the texts */
     FD_SKELETON_UNSUPPORTED = 17,    /* the library has no such option as the stem at byte `at` of the skeleton */
     FD_UNKNOWN_NUMBERING_SYSTEM = 18 /* no numbering system is known by the name that the skeleton has */
 } fd_status;
@@ -142,12 +142,15 @@ enum fd_grouping { FD_GROUP_AUTO = 0, FD_GROUP_NEVER = 1, FD_GROUP_ALWAYS = 2, F
 enum fd_reading { FD_STRICT = 0, FD_LENIENT = 1 };
 
 /* The form of a text: that of a locale, by its number or its tag; with neither, the text is a decimal's own. A tag is a
- * BCP 47 tag, or the name that a shell has (de_CH.UTF-8). */
+ * BCP 47 tag, or the name that a shell has (de_CH.UTF-8). With a skeleton the text is written as by fd_format_number:
+ * the tag is needed, and the number and the option are ignored. */
 typedef struct fd_form {
-    uint64_t locale; /* the number of the locale, from fd_locale; 0: the locale of the tag */
-    size_t start;    /* where the tag begins in the texts; ignored with a number */
-    size_t count;    /* its number of bytes; 0: no tag */
-    uint8_t option;  /* of the text that is read an fd_reading, of the one that is written an fd_grouping */
+    uint64_t locale;       /* the number of the locale, from fd_locale; 0: the locale of the tag */
+    size_t start;          /* where the tag begins in the texts; ignored with a number */
+    size_t count;          /* its number of bytes; 0: no tag */
+    size_t skeleton_start; /* where the number skeleton begins in the texts */
+    size_t skeleton_count; /* its number of bytes; 0: no skeleton, also in the form of the text that is read */
+    uint8_t option;        /* of the text that is read an fd_reading, of the one that is written an fd_grouping */
 } fd_form;
 
 /* The forms in which a text is read and the result is written. */
@@ -176,7 +179,8 @@ fd_result fd_run(const uint8_t *start, size_t start_count, const fd_call *calls,
                  const uint8_t *texts, size_t texts_count, uint8_t *buffer, size_t capacity);
 
 /* The same of a text that is read in one form, with the result written in another.
- * Errors: as fd_run, FD_UNKNOWN_LOCALE, FD_UNKNOWN_OPTION. */
+ * Errors: as fd_run, FD_UNKNOWN_LOCALE, FD_UNKNOWN_OPTION; with a skeleton FD_SKELETON_SYNTAX,
+ * FD_SKELETON_UNSUPPORTED, FD_UNKNOWN_NUMBERING_SYSTEM. */
 fd_result fd_convert(const uint8_t *text, size_t count, const fd_forms *forms, const fd_call *calls, size_t call_count,
                      const uint8_t *texts, size_t texts_count, uint8_t *buffer, size_t capacity);
 

@@ -48,7 +48,7 @@ judge $? 'the example writes 1.234,56'
 nm -D --defined-only c/out/libfixed_decimal.so | awk '{ print $3 }' | grep -v '^fd_' > "$room/others"
 [ ! -s "$room/others" ]
 judge $? 'the shared library exports no other names'
-readelf -d c/out/libfixed_decimal.so | grep -q 'SONAME.*libfixed_decimal.so.2'
+readelf -d c/out/libfixed_decimal.so | grep -q 'SONAME.*libfixed_decimal.so.3'
 judge $? 'the shared library has a soname'
 
 # ---- Python
@@ -79,12 +79,17 @@ if command -v sqlite3 > /dev/null && echo '#include <sqlite3ext.h>' | gcc -E -x 
   row "SELECT plural('ru', 2), plural('en:ordinal', '22'), plural('en_GB.UTF-8:cardinal', '1.0'), plural('ja', 1)" \
     'few|two|other|other'
   row "SELECT format_number('de', 'currency/INR', '1234567'), format_number('es', 'KK', '-1234.5')" $'1.234.567,00\u00a0₹|-1,2 mil'
+  row "SELECT fixdec('-1234.5', 'format:es:KK'), fixdec('1234.56', 'shift:2', 'format:de:currency/INR')" \
+    $'-1,2 mil|123.456,00\u00a0₹'
+  row "SELECT fixdec('1 234,5', 'read:fr:lenient', 'format:de:never'), fixdec('1234', 'format:es:always')" '1234,5|1.234'
   row "SELECT format_number('uk', 'percent', 5300000), format_number('uk', NULL, 1) IS NULL" $'5\u00a0300\u00a0000%|1'
   row "SELECT group_concat(x, ' ') FROM (SELECT column1 AS x FROM (VALUES ('b'), ('10'), ('9.50'), ('a'), ('-1e2'), ('9.5')) ORDER BY x COLLATE decimal_compare, x)" \
     '-1e2 9.5 9.50 10 a b'
   for call in "'1x', 'trim-end'|start: syntax" "'10', 'trim-end', 'shift:32767'|call 1: overflow" \
     "'1', 'trimm'|no such call" "'1', 'round:0:up:1'|no such call" "'1', 'format:tlh'|unknown locale" \
-    "'1', 'round:0:ceil:3'|no such call: 0" "'12', 'concat:25'|call 0: overlap"; do
+    "'1', 'round:0:ceil:3'|no such call: 0" "'12', 'concat:25'|call 0: overlap" "'1', 'read:de:K'|no such call" \
+    "'1', 'format:de:'|no such call" "'x', 'format:de:percent/w'|skeleton: syntax at 7" "'1', 'format:tlh:K'|unknown locale" \
+    "'1e32766', 'shift:1', 'format:en:scale/100'|format: overflow"; do
     found=$(sqlite3 -cmd ".load $room/fixdec" :memory: "SELECT fixdec(${call%|*})" 2>&1)
     [[ $found == *"${call#*|}"* ]]
     judge $? "fixdec(${call%|*}): $found"
@@ -96,7 +101,7 @@ if command -v sqlite3 > /dev/null && echo '#include <sqlite3ext.h>' | gcc -E -x 
     judge $? "plural(${call%|*}): $found"
   done
   for call in "'tlh', 'percent/w', 'x'|skeleton: syntax at 7" "'en', '.00 measure-unit/length-meter', '1'|skeleton: unsupported at 4" \
-    "'tlh', 'percent', 'x'|unknown locale" "'en', 'percent', '1x'|start: syntax" "'en', 'scale/100', '1e32767'|overflow"; do
+    "'tlh', 'percent', 'x'|unknown locale" "'en', 'percent', '1x'|start: syntax" "'en', 'scale/100', '1e32767'|format: overflow"; do
     found=$(sqlite3 -cmd ".load $room/fixdec" :memory: "SELECT format_number(${call%|*})" 2>&1)
     [[ $found == *"${call#*|}"* ]]
     judge $? "format_number(${call%|*}): $found"

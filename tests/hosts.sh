@@ -49,7 +49,7 @@ if [ -n "$python" ]; then
       if [ $status = 2 ]; then cp "$room/log" "$room/lines"; else sed "s|^|$file: |" "$room/log" >> "$room/lines"; fi
       [ "$1" != header ] || [ ! -s "$file" ] || skipped=1
     done
-    "$python" examples/dask/convert.py --program "$room/fixdec_lines" --block "$block" "${files[@]}" -- "$@" > "$room/found" 2> "$room/log"
+    timeout 60 "$python" examples/dask/convert.py --program "$room/fixdec_lines" --block "$block" "${files[@]}" -- "$@" > "$room/found" 2> "$room/log"
     [ $? = "$status" ] && cmp -s "$room/found" "$room/expected" && cmp -s "$room/log" "$room/lines"
     judge $? "Dask, $name: $(tail -n 1 "$room/log")"
   }
@@ -71,7 +71,7 @@ if [ -n "$python" ]; then
     others+=($!)
   done
   "$room/fixdec_lines" round:-2:half-even:1 < "$room/many" > "$room/expected"
-  "$python" examples/dask/convert.py --program "$room/fixdec_lines" --scheduler "tcp://127.0.0.1:$port" --block 20000 "$room/many" \
+  timeout 60 "$python" examples/dask/convert.py --program "$room/fixdec_lines" --scheduler "tcp://127.0.0.1:$port" --block 20000 "$room/many" \
     -- round:-2:half-even:1 > "$room/found" 2> "$room/log" &
   converted=$!
   for _ in $(seq 100); do [ -s "$room/found" ] && break; sleep 0.1; done
@@ -79,8 +79,8 @@ if [ -n "$python" ]; then
   kill -9 "${others[4]}"
   wait $converted && cmp -s "$room/found" "$room/expected"
   judge $? "Dask, a worker that ends: $(tail -n 1 "$room/log")"
-  kill "${others[@]}" 2> /dev/null
-  wait
+  disown "${others[@]:0:4}"
+  kill -9 "${others[@]:0:4}" 2> /dev/null
 else
   missing 'python3-distributed'
 fi

@@ -44,6 +44,10 @@ static uint32_t convert(void) {
 static uint32_t format_number(void) {
     return fd_format_number(BYTES(digits), BYTES("de"), BYTES("K precision-increment/25"), buffer, ROOM).status;
 }
+static uint32_t convert_number(void) {
+    static const fd_forms forms = {.format = {.count = 2, .skeleton_start = 2, .skeleton_count = 24}};
+    return fd_convert(BYTES(digits), &forms, calls, 1, BYTES("deK precision-increment/25"), buffer, ROOM).status;
+}
 static uint32_t compare(void) {
     return fd_compare(BYTES(digits), (const uint8_t *)digits, 199).status;
 }
@@ -91,9 +95,10 @@ int main(void) {
         int allocates;
     } jobs[] = {{"fd_run", run, 1}, {"fd_convert", convert, 1}, {"fd_compare", compare, 1},
                 {"fd_category", category, 1}, {"fd_category_of", category_by_number, 1}, {"fd_lines", column, 1},
-                {"fd_format_number", format_number, 1}, {"fd_run, short", short_run, 0},
-                {"fd_convert, short", short_convert, 0}, {"fd_format_number, short", short_format_number, 0},
-                {"fd_convert, number", short_numbered, 0}, {"fd_lines, short", short_column, 0}};
+                {"fd_format_number", format_number, 1}, {"fd_convert, skeleton", convert_number, 1},
+                {"fd_run, short", short_run, 0}, {"fd_convert, short", short_convert, 0},
+                {"fd_format_number, short", short_format_number, 0}, {"fd_convert, number", short_numbered, 0},
+                {"fd_lines, short", short_column, 0}};
     int bad = 0;
     for (size_t j = 0; j < sizeof jobs / sizeof *jobs; j++) {
         long n = 0;

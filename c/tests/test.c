@@ -314,6 +314,16 @@ static fd_result format_number(const char *text, const char *tag, const char *sk
     return fd_format_number(BYTES(text), BYTES(tag), BYTES(skeleton), buffer, room);
 }
 
+/* The same after calls on the text, by the form of a tag and a skeleton; white space alone is the empty skeleton. */
+static fd_result convert_number(const char *text, const char *tag, const char *skeleton, const fd_call *calls,
+                                size_t call_count, uint8_t *buffer, size_t room) {
+    char texts[100];
+    int count = snprintf(texts, sizeof texts, "%s%s", tag, *skeleton ? skeleton : " ");
+    fd_forms forms = {.format = {.count = strlen(tag), .skeleton_start = strlen(tag)}};
+    forms.format.skeleton_count = (size_t)count - strlen(tag);
+    return fd_convert(BYTES(text), &forms, calls, call_count, (const uint8_t *)texts, (size_t)count, buffer, room);
+}
+
 /* Texts of ICU, at each capacity. */
 static void test_format_number(void) {
     static const char *const rows[][4] = {
@@ -353,11 +363,14 @@ static void test_format_number(void) {
         for (size_t room = 0; room < n + 9; room++) {
             uint8_t *buffer = malloc(room ? room : 1);
             memset(buffer, 0xA5, room ? room : 1);
-            fd_result r = format_number(rows[i][0], rows[i][1], rows[i][2], buffer, room);
-            if (room < n) {
-                CHECK(r.status == FD_BUFFER_TOO_SMALL && r.count == n && r.at == 0 && all(buffer, room, 0xA5));
-            } else {
-                CHECK(gives(r, buffer, rows[i][3]) && all(buffer + n, room - n, 0xA5));
+            for (int by_form = 0; by_form < 2; by_form++) {
+                fd_result r = by_form ? convert_number(rows[i][0], rows[i][1], rows[i][2], FD_NONE(fd_call), 0, buffer, room)
+                                      : format_number(rows[i][0], rows[i][1], rows[i][2], buffer, room);
+                if (room < n) {
+                    CHECK(r.status == FD_BUFFER_TOO_SMALL && r.count == n && r.at == 0 && all(buffer, room, 0xA5));
+                } else {
+                    CHECK(gives(r, buffer, rows[i][3]) && all(buffer + n, room - n, 0xA5));
+                }
             }
             free(buffer);
         }
@@ -386,7 +399,30 @@ static void test_format_number_errors(void) {
         memset(buffer, 0x5A, sizeof buffer);
         fd_result r = format_number(rows[i].text, rows[i].tag, rows[i].skeleton, buffer, 32);
         CHECK(r.status == rows[i].status && r.at == rows[i].at && r.count == 0 && all(buffer, 32, 0x5A));
+        r = convert_number(rows[i].text, rows[i].tag, rows[i].skeleton, FD_NONE(fd_call), 0, buffer, 32);
+        CHECK(r.status == rows[i].status && r.at == rows[i].at && r.count == 0 && all(buffer, 32, 0x5A));
     }
+}
+
+/* Forms with a skeleton: after calls, in a column, and where they are none. */
+static void test_skeleton_forms(void) {
+    uint8_t b[64];
+    fd_call calls[2] = {{.kind = FD_SHIFT, .position = 1}, {.kind = FD_TRIM_END}};
+    CHECK(gives(convert_number("123.45", "de", "currency/EUR", calls, 2, b, 64), b, "1.234,50\xc2\xa0" "€"));
+    fd_result r = convert_number("1e32766", "en", "scale/100", calls, 2, b, 64);
+    CHECK(r.status == FD_OVERFLOW && r.at == 2);
+    r = convert_number("1e32767", "en", "scale/100", calls, 2, b, 64);
+    CHECK(r.status == FD_OVERFLOW && r.at == 0);
+    fd_forms forms = {.read.count = 2, .format = {.count = 2, .skeleton_start = 2, .skeleton_count = 1}};
+    fd_column c = fd_lines(B("1.234,5\nx\n5300000"), 1, &forms, FD_NONE(fd_call), 0, B("deK"), b, 64);
+    CHECK(c.status == FD_OK && c.lines == 3 && c.failed == 1 && c.written == 16);
+    CHECK(memcmp(b, "1234\n\n5,3\xc2\xa0Mio.\n", 16) == 0);
+    forms.format.skeleton_start = 3;
+    CHECK(fd_convert(B("x"), &forms, FD_NONE(fd_call), 0, B("deK"), b, 64).status == FD_SKELETON_SYNTAX);
+    forms.format = (fd_form){.start = 3, .count = 1, .skeleton_start = 2, .skeleton_count = 1};
+    CHECK(fd_convert(B("x"), &forms, FD_NONE(fd_call), 0, B("deK"), b, 64).status == FD_UNKNOWN_LOCALE);
+    forms.read.skeleton_count = 1;
+    CHECK(fd_convert(B("x"), &forms, FD_NONE(fd_call), 0, B("deK"), b, 64).status == FD_UNKNOWN_OPTION);
 }
 
 int main(void) {
@@ -400,6 +436,7 @@ int main(void) {
     test_numbers();
     test_format_number();
     test_format_number_errors();
+    test_skeleton_forms();
     printf("%d checks, %d failures\n", checks, failures);
     return failures != 0;
 }

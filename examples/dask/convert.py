@@ -114,9 +114,9 @@ def main():
     if first.returncode:
         return first.returncode
     if options.scheduler:
-        client = Client(options.scheduler)
+        client = Client(options.scheduler, timeout=60)
     else:
-        client = Client(processes=False, threads_per_worker=os.cpu_count(), dashboard_address=None)
+        client = Client(processes=False, threads_per_worker=os.cpu_count(), dashboard_address=None, timeout=60)
     with client:
         return convert_all(client, options, header, len(first.stdout))
 

@@ -14,6 +14,8 @@ static const char *const modes[] = {"ceil", "floor", "expand", "trunc", "half-ce
     "half-trunc", "half-even", NULL};
 static const char *const signs[] = {"none", "minus", "plus", NULL};
 static const char *const displays[] = {"auto", "never", "always", "except-zero", "negative", NULL};
+static const char *const readings[] = {"strict", "lenient", NULL};
+static const char *const groupings[] = {"auto", "never", "always", "min2", NULL};
 static const char *const kinds[] = {"shift", "trim-start", "trim-end", "trim-end-if-integer", "pad-start", "pad-end",
     "max", "round", "sign", "display", "concat", "read", "format", NULL};
 static const char *const reasons[] = {"", "start: syntax", "start: limit", "memory", "call %d: syntax",
@@ -29,36 +31,48 @@ static int index_of(const char *const *words, const char *word, size_t count) {
     return -1;
 }
 
+/* Appends to the texts, and sets where; 0: there is no room. */
+static int put(job *j, const char *text, size_t count, size_t *start, size_t *length) {
+    if (count > MAX_TEXTS - j->used) return 0;
+    memcpy(j->texts + j->used, text, count);
+    *start = j->used, *length = count, j->used += count;
+    return 1;
+}
+
+/* Sets an option by its word; 0: there is none. */
+static int set_option(uint8_t *option, const char *const *words, const char *word) {
+    int found = index_of(words, word, strlen(word));
+    *option = (uint8_t)found;
+    return found >= 0;
+}
+
+/* Parses a locale, and after it `lenient`, a grouping or a skeleton; 0: it is none. */
+static int parse_form(job *j, int kind, const char *rest) {
+    fd_form *form = kind == READ ? &j->forms.read : &j->forms.format;
+    const char *more = strchr(rest, ':');
+    *form = (fd_form){.option = 0};
+    if (!*rest || !put(j, rest, more ? (size_t)(more++ - rest) : strlen(rest), &form->start, &form->count)) return 0;
+    if (!more || set_option(&form->option, kind == READ ? readings : groupings, more)) return 1;
+    return kind != READ && *more && put(j, more, strlen(more), &form->skeleton_start, &form->skeleton_count);
+}
+
 /* Parses a word of the programs; 0: it is none. */
 static int parse(job *j, const char *word) {
     const char *rest = strchr(word, ':');
-    int position, increment, used = 0, kind = index_of(kinds, word, rest ? (size_t)(rest++ - word) : strlen(word));
+    int position, increment = 0, used = 0, kind = index_of(kinds, word, rest ? (size_t)(rest++ - word) : strlen(word));
+    char mode[16] = "half-even";
     if (kind < 0 || j->count == MAX_CALLS) return 0;
-    fd_call *call = &j->calls[j->count];
+    if (kind > FD_CONCAT) return rest && parse_form(j, kind, rest);
+    fd_call *call = &j->calls[j->count++];
     *call = (fd_call){.kind = (uint8_t)kind};
-    j->count += kind <= FD_CONCAT;
     if (kind >= FD_TRIM_START && kind <= FD_TRIM_END_IF_INTEGER) return !rest;
     if (!rest) return 0;
-    if (kind >= FD_CONCAT) { /* or read, or format */
-        size_t start = j->used, count = strlen(rest);
-        if (count > MAX_TEXTS - start || (kind > FD_CONCAT && !count)) return 0;
-        memcpy(j->texts + start, rest, count);
-        j->used += count;
-        if (kind == FD_CONCAT) call->text_start = start, call->text_count = count;
-        else if (kind == READ) j->forms.read.start = start, j->forms.read.count = count;
-        else j->forms.format.start = start, j->forms.format.count = count;
-        return 1;
-    }
-    int option = kind == FD_SIGN ? index_of(signs, rest, strlen(rest)) : index_of(displays, rest, strlen(rest));
-    call->option = (uint8_t)option;
-    if (kind == FD_SIGN || kind == FD_DISPLAY) return option >= 0;
-    if (sscanf(rest, "%d%n", &position, &used) != 1 || position != (int16_t)position) return 0;
+    if (kind == FD_CONCAT) return put(j, rest, strlen(rest), &call->text_start, &call->text_count);
+    if (kind == FD_SIGN || kind == FD_DISPLAY) return set_option(&call->option, kind == FD_SIGN ? signs : displays, rest);
+    int found = kind == FD_ROUND ? sscanf(rest, "%d:%15[a-z-]:%d%n", &position, mode, &increment, &used) == 3
+                                 : sscanf(rest, "%d%n", &position, &used) == 1;
+    if (!found || rest[used] || position != (int16_t)position || !set_option(&call->option, modes, mode)) return 0;
     call->position = (int16_t)position;
-    if (kind != FD_ROUND) return rest[used] == 0;
-    const char *mode = rest + used + 1, *end = rest[used] == ':' ? strchr(mode, ':') : NULL;
-    if (!end || (option = index_of(modes, mode, (size_t)(end - mode))) < 0) return 0;
-    call->option = (uint8_t)option;
-    if (sscanf(end + 1, "%d%n", &increment, &used) != 1 || end[1 + used]) return 0;
     call->increment = increment < 0 || increment > 255 ? 0 : (uint8_t)increment;
     return 1;
 }
@@ -69,12 +83,16 @@ static void fail(sqlite3_context *context, uint32_t status, size_t at) {
     sqlite3_free(line);
 }
 
-/* The text in a buffer, which is none or one of SQLite's if it is not the first. */
-static void text_or_error(sqlite3_context *context, fd_result answer, uint8_t *out, const uint8_t *first) {
+static void convert(sqlite3_context *context, const job *j, sqlite3_value *text) {
+    uint8_t buffer[128], *out = buffer;
+    fd_result answer = fd_convert(BYTES(text), &j->forms, j->calls, j->count, j->texts, j->used, out, sizeof buffer);
+    if (answer.status == FD_BUFFER_TOO_SMALL && (out = sqlite3_malloc64(answer.count)))
+        answer = fd_convert(BYTES(text), &j->forms, j->calls, j->count, j->texts, j->used, out, answer.count);
     if (answer.status == FD_OK) sqlite3_result_text(context, (char *)out, (int)answer.count, SQLITE_TRANSIENT);
     else if (!out) sqlite3_result_error_nomem(context);
+    else if (answer.status == FD_OVERFLOW && answer.at == j->count) sqlite3_result_error(context, "format: overflow", -1);
     else fail(context, answer.status, answer.at);
-    if (out != first) sqlite3_free(out);
+    if (out != buffer) sqlite3_free(out);
 }
 
 static void fixdec(sqlite3_context *context, int count, sqlite3_value **values) {
@@ -82,11 +100,20 @@ static void fixdec(sqlite3_context *context, int count, sqlite3_value **values) 
     for (int i = 0; i < count; i++) if (sqlite3_value_type(values[i]) == SQLITE_NULL) return;
     for (int i = 1; i < count; i++)
         if (!parse(&j, (const char *)sqlite3_value_text(values[i]))) return sqlite3_result_error(context, "no such call", -1);
-    uint8_t buffer[128], *out = buffer;
-    fd_result answer = fd_convert(BYTES(values[0]), &j.forms, j.calls, j.count, j.texts, j.used, out, sizeof buffer);
-    if (answer.status == FD_BUFFER_TOO_SMALL && (out = sqlite3_malloc64(answer.count)))
-        answer = fd_convert(BYTES(values[0]), &j.forms, j.calls, j.count, j.texts, j.used, out, answer.count);
-    text_or_error(context, answer, out, buffer);
+    convert(context, &j, values[0]);
+}
+
+/* White space alone is the empty skeleton. */
+static void format_number(sqlite3_context *context, int count, sqlite3_value **values) {
+    job j = {.count = 0};
+    fd_form *form = &j.forms.format;
+    for (int i = 0; i < count; i++) if (sqlite3_value_type(values[i]) == SQLITE_NULL) return;
+    const char *tag = (const char *)sqlite3_value_text(values[0]), *skeleton = (const char *)sqlite3_value_text(values[1]);
+    if (!*skeleton) skeleton = " ";
+    if (!put(&j, tag, strlen(tag), &form->start, &form->count) ||
+        !put(&j, skeleton, strlen(skeleton), &form->skeleton_start, &form->skeleton_count))
+        return sqlite3_result_error(context, "no such format", -1);
+    convert(context, &j, values[2]);
 }
 
 static void plural(sqlite3_context *context, int count, sqlite3_value **values) {
@@ -98,16 +125,6 @@ static void plural(sqlite3_context *context, int count, sqlite3_value **values) 
                                    : fd_category(BYTES(values[0]), BYTES(values[1]));
     if (answer.status == FD_OK) sqlite3_result_text(context, names[answer.value], -1, SQLITE_STATIC);
     else fail(context, answer.status, answer.at);
-}
-
-static void format_number(sqlite3_context *context, int count, sqlite3_value **values) {
-    for (int i = 0; i < count; i++) if (sqlite3_value_type(values[i]) == SQLITE_NULL) return;
-    uint8_t buffer[128], *out = buffer;
-    fd_result answer = fd_format_number(BYTES(values[2]), BYTES(values[0]), BYTES(values[1]), out, sizeof buffer);
-    if (answer.status == FD_OVERFLOW) return sqlite3_result_error(context, "overflow", -1);
-    if (answer.status == FD_BUFFER_TOO_SMALL && (out = sqlite3_malloc64(answer.count)))
-        answer = fd_format_number(BYTES(values[2]), BYTES(values[0]), BYTES(values[1]), out, answer.count);
-    text_or_error(context, answer, out, buffer);
 }
 
 /* By value; texts that are no decimals are after all decimals, by bytes. */

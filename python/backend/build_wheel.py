@@ -37,7 +37,7 @@ def build_wheel(wheel_directory, config_settings=None, metadata_directory=None):
     tag = f"{python}-{python}-{platform}"
     info = f"{NAME}-{VERSION}.dist-info"
     contents = {}
-    for file in ("__init__.py", "__init__.pyi", "_errors.py", "py.typed"):
+    for file in ("__init__.py", "__init__.pyi", "_errors.py", "_options.py", "py.typed"):
         with open(os.path.join(HERE, NAME, file), "rb") as text:
             contents[f"{NAME}/{file}"] = text.read()
     path = native(wheel_directory)

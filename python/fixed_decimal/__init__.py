@@ -10,8 +10,9 @@ import struct
 from ._errors import DecimalError
 from ._native import Decimal
 from ._native import column as _column
+from ._options import number_skeleton
 
-__all__ = ["Decimal", "DecimalError", "column"]
+__all__ = ["Decimal", "DecimalError", "column", "number_skeleton"]
 
 _MODES = ("ceil", "floor", "expand", "trunc", "half-ceil", "half-floor", "half-expand", "half-trunc", "half-even")
 _SIGNS = ("none", "minus", "plus")
@@ -48,13 +49,17 @@ def _call(word, texts):
         raise ValueError(f"no such call: {word}") from None
 
 
-def column(texts, *calls, read=None, format=None):
+def column(texts, *calls, read=None, format=None, skeleton=None, **options):
     """Makes the calls on each text, and returns the texts of the results.
 
     The calls are words of the programs, as `round:-2:half-even:1`. With `read` the texts are as a locale writes them,
-    and with `format` the results. Raises `DecimalError` for the first text that fails. Long lists take several threads.
+    and with `format` the results, by a number skeleton or by options as `Decimal.format` takes them. Raises
+    `DecimalError` for the first text that fails. Long lists take several threads.
     """
-    read_tag, format_tag = (read or "").encode(), (format or "").encode()
-    parts = bytearray(read_tag + format_tag)
+    if options:
+        skeleton = number_skeleton(**options)
+    # White space alone is the empty skeleton.
+    forms = [(read or "").encode(), (format or "").encode(), b"" if skeleton is None else (skeleton or " ").encode()]
+    parts = bytearray(b"".join(forms))
     packed = b"".join([_call(word, parts) for word in calls])
-    return _column(texts if type(texts) is list else list(texts), packed, bytes(parts), len(read_tag), len(format_tag))
+    return _column(texts if type(texts) is list else list(texts), packed, bytes(parts), *map(len, forms))

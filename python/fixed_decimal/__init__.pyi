@@ -1,11 +1,31 @@
 import decimal
 from collections.abc import Iterable
-from typing import Literal, final, overload
+from typing import Literal, TypedDict, Unpack, final, overload
 
 _Mode = Literal["ceil", "floor", "expand", "trunc", "half-ceil", "half-floor", "half-expand", "half-trunc", "half-even"]
 _Display = Literal["auto", "never", "always", "except-zero", "negative"]
 _Grouping = Literal["auto", "never", "always", "min2"]
 _Category = Literal["zero", "one", "two", "few", "many", "other"]
+
+class _Options(TypedDict, total=False):
+    style: str
+    currency: str
+    currency_display: str
+    currency_sign: str
+    notation: str
+    compact_display: str
+    sign_display: str
+    use_grouping: str | bool
+    minimum_integer_digits: int
+    minimum_fraction_digits: int
+    maximum_fraction_digits: int
+    minimum_significant_digits: int
+    maximum_significant_digits: int
+    rounding_increment: int
+    rounding_mode: str
+    rounding_priority: str
+    trailing_zero_display: str
+    numbering_system: str
 
 class DecimalError(ValueError):
     reason: str
@@ -25,6 +45,8 @@ class Decimal:
     def format(self, locale: str, grouping: _Grouping = "auto") -> str: ...
     @overload
     def format(self, locale: str, *, skeleton: str | None = None) -> str: ...
+    @overload
+    def format(self, locale: str, **options: Unpack[_Options]) -> str: ...
     def plural(self, locale_or_rules: str, /) -> _Category: ...
     def __format__(self, specification: str, /) -> str: ...
     def __eq__(self, other: object, /) -> bool: ...
@@ -34,4 +56,8 @@ class Decimal:
     def __gt__(self, other: Decimal, /) -> bool: ...
     def __ge__(self, other: Decimal, /) -> bool: ...
 
-def column(texts: Iterable[str], *calls: str, read: str | None = None, format: str | None = None) -> list[str]: ...
+def column(
+    texts: Iterable[str], *calls: str, read: str | None = None, format: str | None = None, skeleton: str | None = None,
+    **options: Unpack[_Options],
+) -> list[str]: ...
+def number_skeleton(**options: Unpack[_Options]) -> str: ...

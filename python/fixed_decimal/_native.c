@@ -271,30 +271,35 @@ static fd_result format_into(const Decimal *self, const Format *format, uint8_t 
                             (const uint8_t *)format->skeleton, (size_t)format->skeleton_count, buffer, room);
 }
 
-/* By a locale, and separators as grouping says or what a number skeleton says. */
-static PyObject *decimal_format(Decimal *self, PyObject *const *arguments, Py_ssize_t count, PyObject *keywords) {
+/* The arguments of format(): a locale, and a grouping, a skeleton, or options by their names in ECMA-402, of which
+ * fixed_decimal._options makes the skeleton. 0 with an exception; the skeleton is a new reference or NULL. */
+static int bind_format(PyObject *const *arguments, Py_ssize_t count, PyObject *keywords, PyObject **values) {
     static const char *const names[] = {"locale", "grouping", "skeleton", NULL};
-    PyObject *values[3] = {NULL, NULL, NULL};
-    if (!bind("format", names, arguments, count, keywords, values)) return NULL;
-    Format format = {.forms.format.option = FD_GROUP_AUTO};
-    if (values[2] && values[2] != Py_None) {
-        if (values[1]) return PyErr_Format(PyExc_TypeError, "format() takes a grouping or a skeleton");
-        format.skeleton = PyUnicode_AsUTF8AndSize(values[2], &format.skeleton_count);
-        if (!format.skeleton) return NULL;
-        if (!(format.tag = PyUnicode_AsUTF8AndSize(values[0], &format.tag_count))) return NULL;
-    } else {
-        if (values[1]) {
-            const char *word = PyUnicode_AsUTF8(values[1]);
-            int grouping = word ? index_of(groupings, word, "grouping") : -1;
-            if (grouping < 0) return NULL;
-            format.forms.format.option = (uint8_t)grouping;
-        }
-        if (!(format.forms.format.locale = locale_of(values[0]))) return NULL;
+    Py_ssize_t named = keywords ? PyTuple_GET_SIZE(keywords) : 0, own = 0;
+    for (Py_ssize_t i = 0; i < named; i++)
+        for (int k = 0; names[k]; k++) own += !PyUnicode_CompareWithASCIIString(PyTuple_GET_ITEM(keywords, i), names[k]);
+    if (own == named || count != 1) {
+        if (!bind("format", names, arguments, count, keywords, values)) return 0;
+        if (values[1] && values[2] && values[2] != Py_None)
+            return PyErr_SetString(PyExc_TypeError, "format() takes a grouping or a skeleton"), 0;
+        values[2] = values[2] == Py_None ? NULL : Py_XNewRef(values[2]);
+        return 1;
     }
+    values[0] = arguments[0];
+    PyObject *module = PyImport_ImportModule("fixed_decimal._options");
+    PyObject *function = module ? PyObject_GetAttrString(module, "number_skeleton") : NULL;
+    values[2] = function ? PyObject_Vectorcall(function, arguments + 1, 0, keywords) : NULL;
+    Py_XDECREF(function);
+    Py_XDECREF(module);
+    return values[2] != NULL;
+}
+
+/* The text, as format_into writes it. */
+static PyObject *formatted(const Decimal *self, const Format *format) {
     uint8_t buffer[ROOM], *bytes = buffer;
     size_t room = ROOM;
     for (;;) {
-        fd_result answer = format_into(self, &format, bytes, room);
+        fd_result answer = format_into(self, format, bytes, room);
         PyObject *made = NULL;
         if (answer.status == FD_BUFFER_TOO_SMALL && bytes == buffer) {
             room = answer.count;
@@ -309,6 +314,27 @@ static PyObject *decimal_format(Decimal *self, PyObject *const *arguments, Py_ss
     }
 }
 
+static PyObject *decimal_format(Decimal *self, PyObject *const *arguments, Py_ssize_t count, PyObject *keywords) {
+    PyObject *values[3] = {NULL, NULL, NULL}, *made = NULL;
+    if (!bind_format(arguments, count, keywords, values)) return NULL;
+    Format format = {.forms.format.option = FD_GROUP_AUTO};
+    if (values[2]) {
+        format.skeleton = PyUnicode_AsUTF8AndSize(values[2], &format.skeleton_count);
+        format.tag = format.skeleton ? PyUnicode_AsUTF8AndSize(values[0], &format.tag_count) : NULL;
+        if (format.tag) made = formatted(self, &format);
+        Py_DECREF(values[2]);
+        return made;
+    }
+    if (values[1]) {
+        const char *word = PyUnicode_AsUTF8(values[1]);
+        int grouping = word ? index_of(groupings, word, "grouping") : -1;
+        if (grouping < 0) return NULL;
+        format.forms.format.option = (uint8_t)grouping;
+    }
+    format.forms.format.locale = locale_of(values[0]);
+    return format.forms.format.locale ? formatted(self, &format) : NULL;
+}
+
 /* By a locale, as `pl` or `en:ordinal`, or by rules in CLDR's syntax. */
 static PyObject *decimal_plural(Decimal *self, PyObject *value) {
     Py_ssize_t count;
@@ -321,8 +347,9 @@ static PyObject *decimal_plural(Decimal *self, PyObject *value) {
     return answer.status == FD_OK ? PyUnicode_FromString(categories[answer.value]) : fail(answer.status, answer.at);
 }
 
-/* As Python's own decimals answer a format specification. */
+/* As Python's own decimals answer a format specification; without one, as of any object, the text. */
 static PyObject *decimal_dunder_format(Decimal *self, PyObject *specification) {
+    if (PyUnicode_CheckExact(specification) && PyUnicode_GET_LENGTH(specification) == 0) return decimal_str(self);
     PyObject *module = PyImport_ImportModule("decimal");
     PyObject *text = decimal_str(self);
     PyObject *value = module && text ? PyObject_CallMethod(module, "Decimal", "O", text) : NULL;
@@ -492,21 +519,23 @@ static PyObject *convert_list(PyObject *list, Block *blocks, size_t count) {
     return made;
 }
 
-/* column(list of str, calls, texts, bytes of the tag to read by, bytes of the tag to format by) */
+/* column(list of str, calls, texts, bytes of the tag to read by, of the tag to format by, and of the skeleton) */
 static PyObject *native_column(PyObject *module, PyObject *arguments) {
     PyObject *list, *made;
     const char *calls, *texts;
-    Py_ssize_t calls_size, texts_size, read_count, format_count;
+    Py_ssize_t calls_size, texts_size, read_count, format_count, skeleton_count;
     (void)module;
-    if (!PyArg_ParseTuple(arguments, "O!y#y#nn", &PyList_Type, &list, &calls, &calls_size, &texts, &texts_size,
-                          &read_count, &format_count))
+    if (!PyArg_ParseTuple(arguments, "O!y#y#nnn", &PyList_Type, &list, &calls, &calls_size, &texts, &texts_size,
+                          &read_count, &format_count, &skeleton_count))
         return NULL;
     fd_call *aligned = PyMem_Malloc((size_t)calls_size + 1);
     Block *blocks = PyMem_Calloc(MOST_BLOCKS, sizeof(Block));
     if (aligned && blocks) {
         memcpy(aligned, calls, (size_t)calls_size);
         Work work = {.forms = {.read.count = (size_t)read_count, .format.start = (size_t)read_count,
-                               .format.count = (size_t)format_count},
+                               .format.count = (size_t)format_count,
+                               .format.skeleton_start = (size_t)(read_count + format_count),
+                               .format.skeleton_count = (size_t)skeleton_count},
                      .calls = aligned, .call_count = (size_t)calls_size / sizeof(fd_call),
                      .texts = (const uint8_t *)texts, .texts_count = (size_t)texts_size};
         for (size_t i = 0; i < MOST_BLOCKS; i++) blocks[i].work = &work;
@@ -534,7 +563,7 @@ static PyMethodDef decimal_methods[] = {
     {"sign", (PyCFunction)decimal_sign, METH_O, "Sets the sign that a display shows."},
     {"compare", (PyCFunction)decimal_compare, METH_O, "Returns the order of two numbers: -1, 0 or 1."},
     {"format", (PyCFunction)(void (*)(void))decimal_format, METH_FASTCALL | METH_KEYWORDS,
-     "Returns the text in the form of a locale, or by a locale and a number skeleton of ICU."},
+     "Returns the text in the form of a locale: by its separators, a number skeleton of ICU, or options of ECMA-402."},
     {"plural", (PyCFunction)decimal_plural, METH_O, "Returns the plural category by a locale, or by rules in CLDR's syntax."},
     {"__format__", (PyCFunction)decimal_dunder_format, METH_O, "Formats as decimal.Decimal does."},
     {"__reduce__", (PyCFunction)decimal_reduce, METH_NOARGS, NULL},

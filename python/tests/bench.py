@@ -1,5 +1,13 @@
-"""Nanoseconds a call in Python, beside decimal and Babel: `python3 bench.py`. Each is the least of rounds in turns."""
+"""Nanoseconds a call in Python, beside decimal and Babel: `python3 bench.py [FIXDEC_LINES]`, the least of rounds in turns.
+
+A column of 1,000,000 texts is timed beside that program on a file of the same lines, and beside Python's own `join` and
+`split` of them.
+"""
 import decimal
+import os
+import subprocess
+import sys
+import tempfile
 import time
 import timeit
 
@@ -22,19 +30,40 @@ def beside(ours, theirs):
     for _ in range(ROUNDS):
         for i, timer in enumerate(timers):
             best[i] = min(best[i], timer.timeit(counts[i]) / counts[i] * 1e9)
-    print(f"{ours:28} {best[0]:8.0f} ns   {theirs:34} {best[1]:8.0f} ns   {best[0] / best[1]:.2f}")
+    print(f"|`{ours}`, `{theirs}`|{best[0]:.0f}|{best[1]:.0f}|{best[0] / best[1]:.2f}|")
 
 
+print("\n|Call|here, ns|there, ns|ratio|\n|---|---|---|---|")
 beside("D(t)", "P(t)")
 beside("d.round(-2)", "p.quantize(cent)")
 beside("str(D(t).round(-2))", "str(P(t).quantize(cent))")
 beside("d < d", "p < p")
 if format_decimal:
     beside("d.format('de')", "f(p, locale='de')")
+
+
+def least(run):
+    """The least time, and the least processor's time, of five runs; results are dropped outside them."""
+    best = [float("inf")] * 2
+    for _ in range(5):
+        start, used = time.perf_counter(), sum(os.times()[:4])
+        kept = run()
+        best = [min(best[0], time.perf_counter() - start), min(best[1], sum(os.times()[:4]) - used)]
+        del kept
+    return best
+
+
 texts = [f"{i}.{i % 10000:04}" for i in range(1_000_000)]
-best = float("inf")
-for _ in range(5):
-    start = time.perf_counter()
-    column(texts, "round:-2:half-even:1")
-    best = min(best, time.perf_counter() - start)
-print(f"{'column of 1,000,000 texts, round':52} {best:9.3f} s")
+runs = {"`column`, round": lambda: column(texts, "round:-2:half-even:1"),
+        "`join`, `split`": lambda: "\n".join(texts).split("\n")}
+print("\n|A text of 1,000,000|time|processor's time|\n|---|---|---|")
+with tempfile.TemporaryFile() as lines, open(os.devnull, "wb") as null:
+    lines.write("\n".join(texts).encode() + b"\n")
+    if len(sys.argv) > 1:
+        def program():
+            lines.seek(0)
+            subprocess.run([sys.argv[1], "round:-2:half-even:1"], stdin=lines, stdout=null, check=True)
+
+        runs["`fixdec_lines`, round"] = program
+    for name, run in runs.items():
+        print("|{}|{:.0f} ns|{:.0f} ns|".format(name, *[seconds * 1000 for seconds in least(run)]))

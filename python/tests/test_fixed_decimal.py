@@ -1,10 +1,12 @@
 """The module beside Python's decimal: `python3 test_fixed_decimal.py [CASES]`. Prints `N passed, M failed` last."""
 import decimal
+import os
 import pickle
 import random
+import re
 import sys
 
-from fixed_decimal import Decimal, DecimalError, column
+from fixed_decimal import Decimal, DecimalError, column, number_skeleton
 
 MODES = {  # those that decimal has
     "ceil": decimal.ROUND_CEILING, "floor": decimal.ROUND_FLOOR, "expand": decimal.ROUND_UP, "trunc": decimal.ROUND_DOWN,
@@ -65,7 +67,8 @@ def test_random(cases):
         check(decimal.Decimal(str(ours.trim())) == theirs and str(ours.trim()).strip("-") not in ("", "."), text)
         check(decimal.Decimal(str(ours.pad(9, -9))) == theirs, text)
         specification = rng.choice((".2f", ",", ",.3f", "+.1f", "020.4f", "e", ".3%", "*>30", ""))
-        check(format(ours, specification) == format(theirs, specification), text, specification)
+        check(format(ours, specification) == (format(theirs, specification) if specification else str(ours)), text,
+              specification)
 
 
 def test_other_modes(cases):
@@ -102,6 +105,7 @@ def test_class():
         (Decimal("1234.5").format(locale="de"), "1.234,5"), (Decimal("1234.5").format("de-" + "CH"), "1'234.5"),
         (len(str(Decimal("1").pad(end=-32768))), 32770), (len(Decimal("1" * 300).format("de")), 399),
         (pickle.loads(pickle.dumps(Decimal("1.50"))), Decimal("1.50")), (f"{Decimal('1234.565'):,.2f}", "1,234.56"),
+        (f"{Decimal('0.00000005000')}", "0.00000005000"), (f"{Decimal('1e3'):g}", "1000"),
         (len({Decimal("1.0"), Decimal("1"), Decimal("1.0")}), 2), (Decimal("1.0") == 1, False),
         (Decimal("1.0") != Decimal("1"), True), (Decimal("1.0").__eq__(1), NotImplemented),
         (Decimal("1.0").__lt__(2), NotImplemented), (Decimal("1.0") <= Decimal("1"), True),
@@ -138,12 +142,39 @@ def test_class():
     raises(TypeError, lambda: Decimal("1").format(1))
 
 
+def test_options():
+    """The rows of `Intl.NumberFormat` in the tests of numbers: options, a number and its text in a locale."""
+    rows = os.path.join(os.path.dirname(os.path.abspath(__file__)), "../../crates/number_vectors/stdin")
+    with open(rows, encoding="utf-8") as file:
+        rows = [row for line in file if len(row := line.rstrip("\n").split("\t")) == 4 and "*" not in line]
+    check(len(rows) > 7000, len(rows))
+    for locale, words, number, text in rows:
+        options = {}
+        for word in words.split():
+            name, value = word.split("=")
+            value = int(value) if value.isdigit() else {"true": True, "false": False}.get(value, value)
+            options[re.sub("[A-Z]", lambda capital: "_" + capital[0].lower(), name)] = value
+        found = Decimal(number).format(locale, **options or {"style": "decimal"})
+        check(found == text, locale, words, number, found, text)
+    money = {"style": "currency", "currency": "EUR"}
+    check(Decimal("1234.5").format("de", **money) == "1.234,50\xa0€", "an amount")
+    check(column(["1234.5"], format="de", **money) == ["1.234,50\xa0€"], "a column of amounts")
+    check(number_skeleton(rounding_mode="half-even") == number_skeleton(rounding_mode="halfEven"), "words with hyphens")
+    for error, wrong in ((ValueError, {"style": "unit"}), (ValueError, {"style": "currency"}), (TypeError, {"unit": "meter"}),
+                         (ValueError, {"minimum_fraction_digits": 3, "maximum_fraction_digits": 2}),
+                         (ValueError, {"maximum_significant_digits": 22}), (TypeError, {"style": "percent", "skeleton": "K"}),
+                         (ValueError, {"rounding_increment": 5, "maximum_fraction_digits": 2})):
+        raises(error, lambda: Decimal("1").format("de", **wrong))
+
+
 def test_column(cases):
     rng = random.Random(9)
     texts = [random_text(rng) for _ in range(cases)]
     check(column(texts, "round:-2:half-even:1") == [str(Decimal(text).round(-2)) for text in texts], "round")
     check(column(texts, format="de") == [Decimal(text).format("de") for text in texts], "format")
     check(column(["250", "5"], "shift:-2", "display:always", format="de") == ["+2,50", "+0,05"], "calls")
+    check(column(["1234.5", "7"], format="es", skeleton="KK") == ["1,2 mil", "7"], "skeleton")
+    check(column(["-1234.5"], format="en", skeleton="") == ["-1,234.5"], "the empty skeleton")
     check(column(["1.234,5", "7"], read="de", format="en-IN") == ["1,234.5", "7"], "read")
     check(column(["12", "7"], "concat:0.5", "concat:0.005") == ["12.505", "7.505"], "operands")
     check(column(["1"] * 5, "pad-end:-32768") == ["1." + "0" * 32768] * 5, "long")
@@ -156,6 +187,8 @@ def test_column(cases):
         raises(error, call)
     raises(DecimalError, lambda: column(["1"], read="tlh"), "unknown locale")
     raises(DecimalError, lambda: column([], read="tlh"), "unknown locale")
+    raises(DecimalError, lambda: column([], format="de", skeleton="percent/w"), "skeleton syntax")
+    raises(DecimalError, lambda: column([], skeleton="percent"), "unknown locale")
     # The first text that fails, in the same block or in one before.
     for before, after in ((2, ["y"]), (2, ["1\n2"]), (50000, ["y"]), (50000, ["2"] * 50000 + ["1\n2"])):
         try:
@@ -171,6 +204,7 @@ if __name__ == "__main__":
     test_random(count)
     test_other_modes(count // 7)
     test_class()
+    test_options()
     test_column(count)
     for case in failures[:20]:
         print("failed:", *case)

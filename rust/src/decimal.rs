@@ -183,6 +183,45 @@ impl Decimal {
         }
     }
 
+    /// The plural category in a locale, of a number of things: 2 days.
+    ///
+    /// # Errors
+    ///
+    /// The locale is unknown.
+    ///
+    /// ```
+    /// # use fixed_decimal_proved::{Decimal, PluralCategory, UnknownLocale};
+    /// assert_eq!(Decimal::from(2).plural("ru")?, PluralCategory::Few);
+    /// assert_eq!(Decimal::from(1).padded_end(-1).plural("en")?, PluralCategory::Other);
+    /// # Ok::<(), UnknownLocale>(())
+    /// ```
+    pub fn plural(&self, locale: &str) -> Result<PluralCategory, UnknownLocale> {
+        self.plural_by(locale, 0)
+    }
+
+    /// The plural category in a locale, of a place in an order: the 2nd day.
+    ///
+    /// # Errors
+    ///
+    /// The locale is unknown.
+    ///
+    /// ```
+    /// # use fixed_decimal_proved::{Decimal, PluralCategory, UnknownLocale};
+    /// assert_eq!(Decimal::from(22).plural_ordinal("en")?, PluralCategory::Two);
+    /// # Ok::<(), UnknownLocale>(())
+    /// ```
+    pub fn plural_ordinal(&self, locale: &str) -> Result<PluralCategory, UnknownLocale> {
+        self.plural_by(locale, 1)
+    }
+
+    fn plural_by(&self, locale: &str, rule_type: u32) -> Result<PluralCategory, UnknownLocale> {
+        match ffi::plural(locale, rule_type, &self.text) {
+            Ok(code) => Ok(PluralCategory::of(code)),
+            Err(failure) if failure.status == 10 => Err(UnknownLocale),
+            Err(failure) => failure.never(),
+        }
+    }
+
     /// The plural category by rules in CLDR's syntax.
     ///
     /// # Errors

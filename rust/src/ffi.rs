@@ -23,6 +23,13 @@ struct FdNumber {
 }
 
 #[repr(C)]
+struct FdUnsigned {
+    status: u32,
+    at: usize,
+    value: u64,
+}
+
+#[repr(C)]
 #[derive(Clone, Copy, Default)]
 pub(crate) struct FdCall {
     pub(crate) kind: u8,
@@ -39,6 +46,8 @@ pub(crate) struct FdForm {
     pub(crate) locale: u64,
     pub(crate) start: usize,
     pub(crate) count: usize,
+    pub(crate) skeleton_start: usize,
+    pub(crate) skeleton_count: usize,
     pub(crate) option: u8,
 }
 
@@ -69,6 +78,8 @@ extern "C" {
     ) -> FdResult;
     fn fd_compare(left: *const u8, left_count: usize, right: *const u8, right_count: usize) -> FdNumber;
     fn fd_category(rules: *const u8, rules_count: usize, text: *const u8, count: usize) -> FdNumber;
+    fn fd_plural_rules(tag: *const u8, count: usize, rule_type: u32) -> FdUnsigned;
+    fn fd_category_of(rules: u64, text: *const u8, count: usize) -> FdNumber;
 }
 
 /// Makes calls on the decimal that `start` writes; operands are parts of `texts`.
@@ -116,6 +127,17 @@ pub(crate) fn category(rules: &str, text: &str) -> Result<i64, Failure> {
     number(unsafe { fd_category(rules.as_ptr(), rules.len(), text.as_ptr(), text.len()) })
 }
 
+/// The category by the rules of a locale: of cardinal numbers, type 0, or of ordinal ones, type 1.
+pub(crate) fn plural(locale: &str, rule_type: u32, text: &str) -> Result<i64, Failure> {
+    // SAFETY: as in `compare`.
+    let rules = unsafe { fd_plural_rules(locale.as_ptr(), locale.len(), rule_type) };
+    match rules.status {
+        // SAFETY: as in `compare`.
+        OK => number(unsafe { fd_category_of(rules.value, text.as_ptr(), text.len()) }),
+        status => Err(Failure::new(status, rules.at)),
+    }
+}
+
 fn number(answer: FdNumber) -> Result<i64, Failure> {
     match answer.status {
         OK => Ok(answer.value),
@@ -144,6 +166,6 @@ mod tests {
     #[test]
     fn structs_are_those_of_the_library() {
         // SAFETY: the function takes nothing.
-        assert_eq!(unsafe { super::fd_version() }, 2);
+        assert_eq!(unsafe { super::fd_version() }, 3);
     }
 }

@@ -221,6 +221,16 @@ fn plural_rules() {
     for (text, category) in [("1", PluralCategory::One), ("3", PluralCategory::Few), ("1.5", PluralCategory::Other)] {
         assert_eq!(decimal(text).category(rules), Ok(category), "{text}");
     }
+    for (locale, text, category) in [
+        ("ru", "2", PluralCategory::Few),
+        ("en", "1.0", PluralCategory::Other),
+        ("ar", "0", PluralCategory::Zero),
+        ("pl", "5", PluralCategory::Many),
+    ] {
+        assert_eq!(decimal(text).plural(locale), Ok(category), "{locale} {text}");
+    }
+    assert_eq!(decimal("3").plural_ordinal("en_GB.UTF-8"), Ok(PluralCategory::Few));
+    assert_eq!(decimal("1").plural_ordinal("tlh"), Err(UnknownLocale));
     assert_eq!(decimal("1").category("one n = 1"), Err(RulesError::Syntax(4)));
     assert_eq!(decimal("1").category("one: n = 99999999999999999999"), Err(RulesError::Limit(9)));
 }

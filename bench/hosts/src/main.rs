@@ -41,6 +41,7 @@ fn least(mut call: impl FnMut()) -> f64 {
 }
 
 fn main() {
+    println!("|Round|crate, ns|fd_run, ns|ratio|\n|---|---|---|---|");
     for text in ["1234.5678", "1234567890123.456789", &format!("{0}.{0}", "1234567890".repeat(5))] {
         let value: Decimal = text.parse().expect("a decimal");
         let mut buffer = [0u8; 256];
@@ -55,6 +56,6 @@ fn main() {
         let here = least(|| {
             black_box(black_box(&value).clone().rounded(-2).expect("within the limits"));
         });
-        println!("{} digits: {here:.0} ns, fd_run {there:.0} ns, {:.2}", text.len() - 1, here / there);
+        println!("|{} digits|{here:.0}|{there:.0}|{:.2}|", text.len() - 1, here / there);
     }
 }

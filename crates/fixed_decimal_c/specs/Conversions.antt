@@ -1,15 +1,14 @@
 -- Conversions, whose text is written to the buffer of a caller.
-use Rattle.std.specs.Prelude.{◌≡◌, ℕ, ◌⊎◌, List, [], ◌++◌, Result, Ok, Err}
+use Rattle.std.specs.Prelude.{◌≡◌, ℕ, ◌⊎◌, List, [], ◌++◌, length, Result, Ok, Err}
 use Rattle.decimal_unsigned.specs.declared.decimal.TheConstants.{INLINE_DIGITS}
 use Rattle.decimal_unsigned.specs.declared.error.ParseError.{ParseError}
-use Rattle.decimal_unsigned.specs.Reading.{ReadError}
 use Rattle.fixed_decimal.specs.Decimal.{Decimal}
 use Rattle.fixed_decimal.specs.Calls.{CallsFail}
 use Rattle.fixed_decimal.specs.Errors.{run_error}
-use Rattle.fixed_decimal.specs.Outcome.{OutcomeError}
+use Rattle.fixed_decimal.specs.Outcome.{after_calls}
 use Rattle.fixed_decimal.specs.declared.runs.Call.{Call}
 use Rattle.fixed_decimal.specs.declared.runs.CallError.{CallError}
-use Rattle.cli.specs.Conversion.{IsReadAs, ReadingFails, last_decimal, formatted_by}
+use Rattle.cli.specs.Conversion.{IsReadAs, ReadingFails}
 use Rattle.fixed_decimal_c.specs.declared.calls.FdCall.{FdCall}
 use Rattle.fixed_decimal_c.specs.declared.convert.Forms.{Forms}
 use Rattle.fixed_decimal_c.specs.declared.error.FdError.{FdError}
@@ -17,36 +16,42 @@ use Rattle.fixed_decimal_c.specs.declared.error.FdError.TheVariants.{BufferTooSm
 use Rattle.fixed_decimal_c.specs.declared.forms.FdForms.{FdForms}
 use Rattle.fixed_decimal_c.specs.Calls.{AreCalls, DecodeFails}
 use Rattle.fixed_decimal_c.specs.Errors.{error_of_parsing, error_of_run}
-use Rattle.fixed_decimal_c.specs.Forms.{reading_code, grouping_code, IsReaderOf, IsFormatterOf, FormFails}
+use Rattle.fixed_decimal_c.specs.Formats.{IsTextBy, FormatFails}
+use Rattle.fixed_decimal_c.specs.Forms.{IsReaderOf, ReaderFails, IsFormatOf, FormatFormFails}
 use Rattle.fixed_decimal_c.specs.Texts.{IsWritten, IsTooLong, IsLongText}
 
 -- the forms that C passes
 pub record AreForms (forms : FdForms) (texts : List ℕ) (f : Forms) : Type 0 where
   pub reader : IsReaderOf forms.read texts f.reader
-  pub formatter : IsFormatterOf forms.format texts f.formatter
+  pub format : IsFormatOf forms.format texts f.format
 
 -- there are no such forms
 abbrev pub FormsFail : FdError → FdForms → List ℕ → Type 0
-FormsFail error forms texts = FormFails reading_code error forms.read texts
-    ⊎ FormFails grouping_code error forms.format texts
+FormsFail error forms texts = ReaderFails error forms.read texts ⊎ FormatFormFails error forms.format texts
 
--- a text that is read, changed by the calls and formatted has this result
-pub record IsConverted (f : Forms) (calls : List Call) (text : List ℕ) (result : Result (List ℕ) OutcomeError) : Type 0
-  where
-    pub read : Result Decimal ReadError
-    pub is_read : IsReadAs f.reader text read
-    pub is : result ≡ formatted_by f.formatter (last_decimal calls read)
+-- a text, read and changed by the calls, is written as this
+pub record IsConverted (f : Forms) (calls : List Call) (text written : List ℕ) : Type 0 where
+  pub value : Decimal
+  pub is_read : IsReadAs f.reader text (Ok value)
+  pub last : Decimal
+  pub called : after_calls 0 value calls ≡ Ok last
+  pub is : IsTextBy f.format last written
 
--- reading the text, or a call, fails with the error
+-- a call on what was read, or formatting the result, fails with the error
+abbrev pub ChangesFail : Forms → List Call → Decimal → FdError → Type 0
+ChangesFail f calls v error =
+    ((e : CallError) × (error ≡ error_of_run (run_error e)) × CallsFail INLINE_DIGITS e v calls)
+    ⊎ ((w : Decimal) × (after_calls 0 v calls ≡ Ok w) × FormatFails f.format w (length calls) error)
+
+-- reading the text, a call or formatting fails with the error
 abbrev pub ConversionFails : Forms → List Call → List ℕ → FdError → Type 0
 ConversionFails f calls text error =
     ((e : ParseError) × (error ≡ error_of_parsing e 0) × ReadingFails f.reader text e)
-    ⊎ ((v : Decimal) × (e : CallError) × (error ≡ error_of_run (run_error e)) × IsReadAs f.reader text (Ok v)
-    × CallsFail INLINE_DIGITS e v calls)
+    ⊎ ((v : Decimal) × IsReadAs f.reader text (Ok v) × ChangesFail f calls v error)
 
 -- P holds of the text that the conversion makes, and `end` after it
 abbrev pub HasText : Forms → List Call → List ℕ → List ℕ → (List ℕ → Type 0) → Type 0
-HasText f calls text end P = (written : List ℕ) × IsConverted f calls text (Ok written) × P (written ++ end)
+HasText f calls text end P = (written : List ℕ) × IsConverted f calls text written × P (written ++ end)
 
 -- the conversion fails with the error; or it is out of memory for a long text
 abbrev pub ConvertErrs : Forms → List Call → List ℕ → List ℕ → FdError → Type 0

@@ -9,11 +9,15 @@ use Rattle.locale_data.specs.Locales.{IsLocale, IsUnknown}
 use Rattle.cli.specs.declared.reader.DecimalReader.{DecimalReader}
 use Rattle.cli.specs.declared.reader.ParseMode.{ParseMode}
 use Rattle.cli.specs.declared.reader.ParseMode.TheVariants.{Strict, Lenient}
+use Rattle.number_format.specs.declared.number_formatter.NumberFormatter.{NumberFormatter}
 use Rattle.fixed_decimal_c.specs.declared.error.FdError.{FdError}
-use Rattle.fixed_decimal_c.specs.declared.error.FdError.TheVariants.{UnknownLocale, UnknownOption}
+use Rattle.fixed_decimal_c.specs.declared.error.FdError.TheVariants.{UnknownLocale, UnknownOption, SkeletonSyntax}
 use Rattle.fixed_decimal_c.specs.declared.forms.FdForm.{FdForm}
+use Rattle.fixed_decimal_c.specs.declared.forms.Format.{Format}
+use Rattle.fixed_decimal_c.specs.declared.forms.Format.TheVariants as by
 use Rattle.fixed_decimal_c.specs.Calls.{IsPart}
 use Rattle.fixed_decimal_c.specs.Locales.{symbols_of_number}
+use Rattle.fixed_decimal_c.specs.NumberTexts.{IsFormatterFor, FormatterFails}
 
 abbrev pub grouping_code : GroupingStrategy → ℕ
 grouping_code Auto = 0
@@ -55,12 +59,53 @@ FormFails code error form texts = ⊥
 
 -- the reader by the symbols of a form, in its mode; no symbols, no reader
 abbrev pub IsReaderOf : FdForm → List ℕ → Option DecimalReader → Type 0
-IsReaderOf form texts None = AreSymbolsOf form texts None
+IsReaderOf form texts None = (form.skeleton_count ≡ 0) × AreSymbolsOf form texts None
 IsReaderOf form texts (Some reader) =
-    AreSymbolsOf form texts (Some reader.symbols) × (form.option ≡ reading_code reader.mode)
+    (form.skeleton_count ≡ 0) × AreSymbolsOf form texts (Some reader.symbols)
+    × (form.option ≡ reading_code reader.mode)
+
+-- a form has a skeleton, by which no text is read, or has no reader
+abbrev pub ReaderFails : FdError → FdForm → List ℕ → Type 0
+ReaderFails error form texts =
+    ((error ≡ UnknownOption) × (form.skeleton_count ≢ 0)) ⊎ FormFails reading_code error form texts
 
 -- the formatter by the symbols of a form, with its strategy; no symbols, no formatter
-abbrev pub IsFormatterOf : FdForm → List ℕ → Option Formatter → Type 0
-IsFormatterOf form texts None = AreSymbolsOf form texts None
-IsFormatterOf form texts (Some formatter) =
-    AreSymbolsOf form texts (Some formatter.symbols) × (form.option ≡ grouping_code formatter.strategy)
+abbrev pub IsSymbolsFormatter : FdForm → List ℕ → Option Formatter → Type 0
+IsSymbolsFormatter form texts None = AreSymbolsOf form texts None
+IsSymbolsFormatter form texts (Some f) =
+    AreSymbolsOf form texts (Some f.symbols) × (form.option ≡ grouping_code f.strategy)
+
+-- a start and a number of bytes are no part of the texts
+abbrev pub HasNoPart : List ℕ → ℕ → ℕ → Type 0
+HasNoPart texts start count = (t : List ℕ) → IsPart texts start count t → ⊥
+
+-- the formatter by the tag and the skeleton of a form
+abbrev pub IsSkeletonFormatter : FdForm → List ℕ → NumberFormatter → Type 0
+IsSkeletonFormatter form texts f =
+    (tag : List ℕ) × (skeleton : List ℕ) × IsPart texts form.start form.count tag
+    × IsPart texts form.skeleton_start form.skeleton_count skeleton × IsFormatterFor tag skeleton f
+
+-- the tag is outside the texts, or a tag and a skeleton have no formatter
+abbrev pub TagFails : FdError → FdForm → List ℕ → List ℕ → Type 0
+TagFails error form texts skeleton =
+    ((error ≡ UnknownLocale) × HasNoPart texts form.start form.count)
+    ⊎ ((tag : List ℕ) × IsPart texts form.start form.count tag × FormatterFails error tag skeleton)
+
+-- the skeleton is outside the texts, or there is no formatter by it
+abbrev pub SkeletonFormFails : FdError → FdForm → List ℕ → Type 0
+SkeletonFormFails error form texts =
+    ((error ≡ SkeletonSyntax 0) × HasNoPart texts form.skeleton_start form.skeleton_count)
+    ⊎ ((skeleton : List ℕ) × IsPart texts form.skeleton_start form.skeleton_count skeleton
+    × TagFails error form texts skeleton)
+
+-- what a form formats by: with a skeleton by it, else by its symbols; without either a decimal is its own text
+abbrev pub IsFormatOf : FdForm → List ℕ → Format → Type 0
+IsFormatOf form texts by.Own = (form.skeleton_count ≡ 0) × IsSymbolsFormatter form texts None
+IsFormatOf form texts (by.Symbols f) = (form.skeleton_count ≡ 0) × IsSymbolsFormatter form texts (Some f)
+IsFormatOf form texts (by.Skeleton f) = (form.skeleton_count ≢ 0) × IsSkeletonFormatter form texts f
+
+-- there is no such formatter
+abbrev pub FormatFormFails : FdError → FdForm → List ℕ → Type 0
+FormatFormFails error form texts =
+    ((form.skeleton_count ≡ 0) × FormFails grouping_code error form texts)
+    ⊎ ((form.skeleton_count ≢ 0) × SkeletonFormFails error form texts)

@@ -4,9 +4,10 @@ pub mod Texts
 pub mod Calls
 pub mod Runs
 pub mod Locales
-pub mod Forms
-pub mod Conversions
-pub mod Lines
 pub mod Numbers
 pub mod NumberTexts
+pub mod Forms
+pub mod Formats
+pub mod Conversions
+pub mod Lines
 pub mod Categories

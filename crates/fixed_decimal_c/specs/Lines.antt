@@ -15,7 +15,7 @@ use Rattle.fixed_decimal_c.specs.Texts.{IsWritten}
 
 -- a line has this result: its text; or, where lines that fail are skipped, the error of reading it or of a call
 abbrev pub IsLineResult : Forms → List Call → Bool → List ℕ → Result (List ℕ) FdError → Type 0
-IsLineResult f calls skip line (Ok text) = IsConverted f calls line (Ok text)
+IsLineResult f calls skip line (Ok text) = IsConverted f calls line text
 IsLineResult f calls skip line (Err error) = (skip ≡ true) × (error ≢ Memory) × ConversionFails f calls line error
 
 -- each line has its result

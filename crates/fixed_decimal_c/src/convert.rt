@@ -1,23 +1,23 @@
 //! Conversions: a text is read in one form, changed, and written in another.
-ghost use Rattle.std.specs.Prelude.{◌≡◌, ◌++◌, Ok, IfOk, IfErr};
-ghost use Rattle.cli.specs.Conversion.{IsReadAs, ReadingFails, text_by};
-ghost use Rattle.fixed_decimal_c.specs.Texts.{Writes};
+ghost use Rattle.std.specs.Prelude.{◌≡◌, Ok, IfOk, IfErr};
+ghost use Rattle.cli.specs.Conversion.{IsReadAs, ReadingFails};
+ghost use Rattle.fixed_decimal_c.specs.Formats.{WritesBy};
 ghost use Rattle.fixed_decimal_c.specs.Conversions.{AreForms, FormsFail, Converts, ConvertsCalls};
 
 use crate::calls::{FdCall, INLINE_CALLS, decode_long, decode_short};
 use crate::error::{FdError, error_of_parsing, error_of_run};
-use crate::forms::{FdForms, formatter, reader};
+use crate::forms::{FdForms, Format, reader, skeleton_formatter, symbols_formatter};
+use crate::number_text::write_number;
 use crate::texts::write_value;
 use cli::DecimalReader;
-use decimal_format::DecimalFormatter;
 use fixed_decimal::{Call, Decimal, ParseError, RunError, apply_calls};
 use std::alloc::Global;
 
-/// How a text is read and how the result is written. `None`: as the decimal's own text.
+/// How a text is read, `None` as a decimal's own text, and how the result is written.
 #[derive(Drop)]
 pub(crate) struct Forms {
     pub(crate) reader: Option<DecimalReader<'static>>,
-    pub(crate) formatter: Option<DecimalFormatter<'static>>,
+    pub(crate) format: Format,
 }
 
 impl Forms {
@@ -26,8 +26,16 @@ impl Forms {
         ensures err { IfErr result (λ error. FormsFail error forms.now texts.now) }
     {
         let reader = reader(&forms.read, texts)?;
-        let formatter = formatter(&forms.format, texts)?;
-        Ok(Forms { reader, formatter })
+        if forms.format.skeleton_count > 0 {
+            let formatter = skeleton_formatter(&forms.format, texts)?;
+            let format = Format::Skeleton(formatter);
+            return Ok(Forms { reader, format });
+        }
+        let format = match symbols_formatter(&forms.format, texts)? {
+            Some(formatter) => Format::Symbols(formatter),
+            None => Format::Own,
+        };
+        Ok(Forms { reader, format })
     }
 
     fn read(&self, alloc: Global, text: &[u8]) -> Result<Decimal, ParseError>
@@ -40,18 +48,26 @@ impl Forms {
         }
     }
 
+    /// Writes a decimal after `at` calls, and some bytes after it.
     fn write(
         &self,
         alloc: Global,
-        value: &Decimal,
+        value: Decimal,
+        at: usize,
         end: &[u8],
         buffer: &mut [u8],
     ) -> Result<usize, FdError>
-        ensures { Writes result (text_by self.now.formatter value.now ++ end.now) buffer.old buffer.new }
+        ensures { WritesBy self.now.format value at end.now result buffer.old buffer.new }
     {
-        match &self.formatter {
-            Some(formatter) => write_value(alloc, &formatter.format(value), end, buffer),
-            None => write_value(alloc, value, end, buffer),
+        match &self.format {
+            Format::Own => write_value(alloc, &value, end, buffer),
+            Format::Symbols(formatter) => write_value(
+                alloc,
+                &formatter.format(&value),
+                end,
+                buffer,
+            ),
+            Format::Skeleton(formatter) => write_number(alloc, formatter, value, at, end, buffer),
         }
     }
 
@@ -73,7 +89,7 @@ impl Forms {
         if let Err(error) = apply_calls(alloc, &mut value, calls) {
             return Err(error_of_run(RunError::from(error)));
         }
-        self.write(alloc, &value, end, buffer)
+        self.write(alloc, value, calls.len(), end, buffer)
     }
 }
 
@@ -88,9 +104,10 @@ pub(crate) fn convert(
 ) -> Result<usize, FdError>
     ensures { ConvertsCalls result text.now forms.now calls.now texts.now buffer.old buffer.new }
 {
-    let forms = match Forms::decode(forms, texts) {
+    let decoded = Forms::decode(forms, texts);
+    let forms = match &decoded {
         Ok(forms) => forms,
-        Err(error) => return Err(error),
+        Err(error) => return Err(*error),
     };
     if calls.len() <= INLINE_CALLS {
         let mut list = [Call::TrimStart; INLINE_CALLS];

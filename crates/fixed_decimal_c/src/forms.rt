@@ -3,17 +3,21 @@ ghost use Rattle.std.specs.Prelude.{◌≡◌, IfSome, IfNone, IfOk, IfErr};
 ghost use Rattle.decimal_format.specs.declared.grouping.GroupingStrategy.{GroupingStrategy};
 ghost use Rattle.decimal_format.specs.Readable.{IsReadable};
 ghost use Rattle.cli.specs.declared.reader.ParseMode.{ParseMode};
-ghost use Rattle.fixed_decimal_c.specs.Forms.{grouping_code, reading_code, IsLocaleAt, HasNoLocale, AreSymbolsOf, HasNoSymbols, IsReaderOf, IsFormatterOf, FormFails};
+ghost use Rattle.fixed_decimal_c.specs.Forms.{grouping_code, reading_code, IsLocaleAt, HasNoLocale, AreSymbolsOf, HasNoSymbols, IsReaderOf, FormFails, ReaderFails, IsSymbolsFormatter, IsSkeletonFormatter, SkeletonFormFails};
 
 use crate::calls::part;
 use crate::error::FdError;
 use crate::locales::symbols_of_number;
+use crate::number_text::number_formatter;
 use cli::{DecimalReader, ParseMode};
 use decimal_format::{DecimalFormatter, DecimalSymbols, GroupingStrategy};
 use locale_data::locale;
+use number_format::NumberFormatter;
 use std::str;
 
 /// The form of a text: that of a locale, or with neither a number nor a tag the decimal's own.
+///
+/// With a skeleton the locale is that of the tag, and a text is read by none.
 #[repr(C)]
 #[derive(Clone, Copy)]
 pub struct FdForm {
@@ -23,6 +27,10 @@ pub struct FdForm {
     pub start: usize,
     /// The number of bytes of the tag.
     pub count: usize,
+    /// Where the number skeleton begins in the texts.
+    pub skeleton_start: usize,
+    /// The number of bytes of the skeleton, or 0.
+    pub skeleton_count: usize,
     /// How strictly a text is read, or where separators are written.
     pub option: u8,
 }
@@ -35,6 +43,17 @@ pub struct FdForms {
     pub read: FdForm,
     /// The form that the result is written in.
     pub format: FdForm,
+}
+
+/// What a decimal is formatted by.
+#[derive(Drop)]
+pub(crate) enum Format {
+    /// Nothing: it is written as its own text.
+    Own,
+    /// The symbols of a locale.
+    Symbols(DecimalFormatter<'static>),
+    /// The options of a number skeleton.
+    Skeleton(NumberFormatter),
 }
 
 fn grouping(code: u8) -> Option<GroupingStrategy>
@@ -98,8 +117,11 @@ fn symbols(form: &FdForm, texts: &[u8]) -> Result<Option<DecimalSymbols<'static>
 
 pub(crate) fn reader(form: &FdForm, texts: &[u8]) -> Result<Option<DecimalReader<'static>>, FdError>
     ensures ok { IfOk result (IsReaderOf form.now texts.now) }
-    ensures err { IfErr result (λ error. FormFails reading_code error form.now texts.now) }
+    ensures err { IfErr result (λ error. ReaderFails error form.now texts.now) }
 {
+    if form.skeleton_count > 0 {
+        return Err(FdError::UnknownOption);
+    }
     match symbols(form, texts) {
         Err(error) => Err(error),
         Ok(None) => Ok(None),
@@ -110,11 +132,12 @@ pub(crate) fn reader(form: &FdForm, texts: &[u8]) -> Result<Option<DecimalReader
     }
 }
 
-pub(crate) fn formatter(
+/// Returns the formatter by the symbols of the locale of a form, if it has one.
+pub(crate) fn symbols_formatter(
     form: &FdForm,
     texts: &[u8],
 ) -> Result<Option<DecimalFormatter<'static>>, FdError>
-    ensures ok { IfOk result (IsFormatterOf form.now texts.now) }
+    ensures ok { IfOk result (IsSymbolsFormatter form.now texts.now) }
     ensures err { IfErr result (λ error. FormFails grouping_code error form.now texts.now) }
 {
     match symbols(form, texts) {
@@ -124,5 +147,22 @@ pub(crate) fn formatter(
             Some(strategy) => Ok(Some(DecimalFormatter::new(symbols, strategy))),
             None => Err(FdError::UnknownOption),
         },
+    }
+}
+
+/// Returns the formatter by the tag and the skeleton of a form.
+pub(crate) fn skeleton_formatter(form: &FdForm, texts: &[u8]) -> Result<NumberFormatter, FdError>
+    ensures ok { IfOk result (IsSkeletonFormatter form.now texts.now) }
+    ensures err { IfErr result (λ error. SkeletonFormFails error form.now texts.now) }
+{
+    let Some(skeleton) = part(texts, form.skeleton_start, form.skeleton_count) else {
+        return Err(FdError::SkeletonSyntax { at: 0 });
+    };
+    let Some(tag) = part(texts, form.start, form.count) else {
+        return Err(FdError::UnknownLocale);
+    };
+    match number_formatter(tag, skeleton) {
+        Ok(formatter) => Ok(formatter),
+        Err(error) => Err(error),
     }
 }

@@ -12,7 +12,7 @@ ghost use Rattle.fixed_decimal_c.specs.Lines.{ConvertsColumn};
 ghost use Rattle.fixed_decimal_c.specs.Numbers.{Compares, Equates, HasSign, HasI64, HasU64};
 ghost use Rattle.fixed_decimal_c.specs.Locales.{IsLocaleNumber, IsRulesNumber, IsNamedRulesNumber};
 ghost use Rattle.fixed_decimal_c.specs.Categories.{HasCategory, HasCategoryOf};
-ghost use Rattle.fixed_decimal_c.specs.NumberTexts.{FormatsNumber};
+ghost use Rattle.fixed_decimal_c.specs.Formats.{FormatsNumber};
 
 mod answer;
 mod block;
@@ -44,9 +44,9 @@ use std::alloc::Global;
 
 /// Returns the version of the interface. It grows when a number, a struct or a meaning changes.
 pub fn fd_version() -> u32
-    ensures { result ≡ 2 }
+    ensures { result ≡ 3 }
 {
-    2
+    3
 }
 
 /// Makes calls in order on the decimal that `start` writes, and writes the text of the result.

@@ -162,9 +162,10 @@ pub(crate) fn convert_column(
 ) -> FdColumn
     ensures { ConvertsColumn result input.now skip forms.now calls.now texts.now buffer.old buffer.new }
 {
-    let forms = match Forms::decode(forms, texts) {
+    let decoded = Forms::decode(forms, texts);
+    let forms = match &decoded {
         Ok(forms) => forms,
-        Err(error) => return encode_column(NONE, Err(error)),
+        Err(error) => return encode_column(NONE, Err(*error)),
     };
     if calls.len() <= INLINE_CALLS {
         let mut list = [Call::TrimStart; INLINE_CALLS];

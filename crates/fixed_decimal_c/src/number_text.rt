@@ -1,11 +1,13 @@
 //! Numbers as a locale writes them, by a number skeleton.
 ghost use Rattle.std.specs.Prelude.{◌≡◌, IfOk, IfErr};
-ghost use Rattle.fixed_decimal_c.specs.NumberTexts.{error_of_skeleton, error_of_formatter, error_of_format, AreOptionsOf, SkeletonFails, IsFormatterFor, FormatterFails, WritesNumber, FormatsNumber};
+ghost use Rattle.fixed_decimal_c.specs.declared.forms.Format.TheVariants.{Skeleton};
+ghost use Rattle.fixed_decimal_c.specs.NumberTexts.{error_of_skeleton, error_of_formatter, error_of_format, AreOptionsOf, SkeletonFails, IsFormatterFor, FormatterFails};
+ghost use Rattle.fixed_decimal_c.specs.Formats.{WritesBy, FormatsText, FormatsNumber};
 
 use crate::error::FdError;
 use crate::numbers::read;
 use crate::texts::write_value;
-use fixed_decimal::RoundError;
+use fixed_decimal::{Decimal, RoundError};
 use number_format::{NumberFormatError, NumberFormatter, NumberOptions, SkeletonError};
 use std::alloc::Global;
 use std::str;
@@ -28,11 +30,11 @@ fn error_of_formatter(error: NumberFormatError) -> FdError
     }
 }
 
-fn error_of_format(error: RoundError) -> FdError
-    ensures { result ≡ error_of_format error }
+fn error_of_format(error: RoundError, at: usize) -> FdError
+    ensures { result ≡ error_of_format error at }
 {
     match error {
-        RoundError::Limit => FdError::Overflow { at: 0 },
+        RoundError::Limit => FdError::Overflow { at },
         RoundError::Memory => FdError::Memory,
     }
 }
@@ -57,7 +59,7 @@ fn options(skeleton: &[u8]) -> Result<NumberOptions, FdError>
 }
 
 /// Returns the formatter of a tag and a skeleton.
-fn formatter(tag: &[u8], skeleton: &[u8]) -> Result<NumberFormatter, FdError>
+pub(crate) fn number_formatter(tag: &[u8], skeleton: &[u8]) -> Result<NumberFormatter, FdError>
     ensures ok { IfOk result (IsFormatterFor tag.now skeleton.now) }
     ensures err { IfErr result (λ error. FormatterFails error tag.now skeleton.now) }
 {
@@ -74,22 +76,35 @@ fn formatter(tag: &[u8], skeleton: &[u8]) -> Result<NumberFormatter, FdError>
     }
 }
 
-/// Writes the text of a decimal by a formatter.
-fn write_number(
+/// Writes a decimal by a formatter, and some bytes after it. A number beyond the limits is the overflow of call `at`.
+pub(crate) fn write_number(
+    alloc: Global,
+    formatter: &NumberFormatter,
+    value: Decimal,
+    at: usize,
+    end: &[u8],
+    buffer: &mut [u8],
+) -> Result<usize, FdError>
+    ensures { WritesBy (Skeleton formatter.now) value at end.now result buffer.old buffer.new }
+{
+    match formatter.format(alloc, value) {
+        Ok(number) => write_value(alloc, &number, end, buffer),
+        Err(failed) => Err(error_of_format(failed.error, at)),
+    }
+}
+
+/// Reads a decimal, and writes it by a formatter.
+fn format_text(
     alloc: Global,
     formatter: &NumberFormatter,
     text: &[u8],
     buffer: &mut [u8],
 ) -> Result<usize, FdError>
-    ensures { WritesNumber formatter.now text.now result buffer.old buffer.new }
+    ensures { FormatsText formatter.now result text.now buffer.old buffer.new }
 {
-    let value = match read(alloc, text, 0) {
-        Ok(value) => value,
-        Err(error) => return Err(error),
-    };
-    match formatter.format(alloc, value) {
-        Ok(number) => write_value(alloc, &number, &[], buffer),
-        Err(failed) => Err(error_of_format(failed.error)),
+    match read(alloc, text, 0) {
+        Ok(value) => write_number(alloc, formatter, value, 0, &[], buffer),
+        Err(error) => Err(error),
     }
 }
 
@@ -103,8 +118,8 @@ pub(crate) fn format_number(
 ) -> Result<usize, FdError>
     ensures { FormatsNumber result text.now tag.now skeleton.now buffer.old buffer.new }
 {
-    match formatter(tag, skeleton) {
-        Ok(formatter) => write_number(alloc, &formatter, text, buffer),
+    match number_formatter(tag, skeleton) {
+        Ok(formatter) => format_text(alloc, &formatter, text, buffer),
         Err(error) => Err(error),
     }
 }

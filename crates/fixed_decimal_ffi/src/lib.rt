@@ -9,14 +9,14 @@ ghost use Rattle.fixed_decimal_c.specs.Lines.{ConvertsColumn};
 ghost use Rattle.fixed_decimal_c.specs.Numbers.{Compares, Equates, HasSign, HasI64, HasU64};
 ghost use Rattle.fixed_decimal_c.specs.Locales.{IsLocaleNumber, IsRulesNumber, IsNamedRulesNumber};
 ghost use Rattle.fixed_decimal_c.specs.Categories.{HasCategory, HasCategoryOf};
-ghost use Rattle.fixed_decimal_c.specs.NumberTexts.{FormatsNumber};
+ghost use Rattle.fixed_decimal_c.specs.Formats.{FormatsNumber};
 
 use fixed_decimal_c::{FdCall, FdColumn, FdForms, FdNumber, FdResult, FdUnsigned};
 use std::alloc::Global;
 
 #[unsafe(no_mangle)]
 pub extern "C" fn fd_version() -> u32
-    ensures { result ≡ 2 }
+    ensures { result ≡ 3 }
 {
     fixed_decimal_c::fd_version()
 }

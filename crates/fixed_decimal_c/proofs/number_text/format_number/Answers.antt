@@ -2,4 +2,4 @@ use Rattle.std.proofs.Common.{inl}
 use Rattle.fixed_decimal_c.proofs.number_text.format_number.Goals as goal
 
 pub returns-in-Ok : goal.returns-in-Ok
-returns-in-Ok c = inl (c.in-Ok.formatter, c.in-Ok.ensures.ok, c.write_number.ensures)
+returns-in-Ok c = inl (c.in-Ok.formatter, c.in-Ok.ensures.ok, c.format_text.ensures)

@@ -16,5 +16,5 @@ returns-in-Err-apply_calls c =
 pub returns : goal.returns
 returns c =
     converts c.args.self.now c.args.calls.now c.args.text.now c.args.end.now c.args.buffer.now c.in-Ok.value
-    c.in-Ok.ensures.found c.apply_calls.new.value c.write.result c.write.new.buffer c.in_default.ensures.ok
+    c.in-Ok.ensures.found c.apply_calls.new.value c.in_default.ensures.ok c.write.result c.write.new.buffer
     c.write.ensures
