@@ -20,7 +20,7 @@ FOREIGN = set(
     LocalizedNumberFormatter formatDecimal ghost rejected witness NAME CRATE FUNCTION CLAUSE LOG""".split()
 )
 # Modules and functions that are public for the crates of this repository alone.
-INTERNAL = re.compile(r"/src/(?:rounding/|digits/packed/|digits/steps|ops|uint_iterator|decimal/parse/|reader/|laws|reading_laws|rows|tag|\w+_table)")
+INTERNAL = re.compile(r"/src/(?:rounding/|digits/packed/|digits/steps|ops|uint_iterator|block|decimal/parse/|reader/|laws|reading_laws|rows|tag|\w+_table)")
 HIDDEN = {"from_bcd_digits", "from_short_text", "scan_from", "lowest_of", "NO_FORMATS"}
 NAME = re.compile(r"[A-Za-z_][\w:<>&', ]*(\([\w:<>&', ]*\))?")
 OUTSIDE = re.compile(r"\b(?:document|paper|issue|session|request|promise|definition) \d|\b[DTRW]\d{1,2}\b"
