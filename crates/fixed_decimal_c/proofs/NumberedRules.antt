@@ -6,7 +6,7 @@ use Rattle.locale_data.specs.Plurals.{rules_text_at, IsRulesText}
 use Rattle.locale_data.specs.declared.plurals.PluralRuleType.{PluralRuleType}
 use Rattle.locale_data.specs.declared.plurals.RulesNumber.{RulesNumber}
 use Rattle.cli.specs.NamedRules.{NamesLocale}
-use Rattle.cli.specs.Words.{tag_of}
+use Rattle.cli.specs.Parameters.{tag_of}
 use Rattle.fixed_decimal_c.specs.Locales.{rule_type_code, rules_of, IsRulesNumber, IsNamedRulesNumber}
 
 pub rules_have_number :
