@@ -14,10 +14,13 @@ use Rattle.number_format.specs.declared.number_options.NumberStyle.TheVariants a
 use Rattle.number_format.specs.Formatters.{compact_style, exponent_options, IsFormatter}
 use Rattle.number_format.specs.AffixedTexts.{by_sign, text_with, IsShown}
 use Rattle.number_format.specs.NumberReading.{IsStandard, affixes_for, affixes_of_formatter, reader_of, CanRead, IsShownAs}
-use Rattle.number_format.specs.NumberText.{IsNumberText, AreTexts, shown_sign, pattern_around, around_by, number_text, exponent_part}
+use Rattle.number_format.specs.NumberText.{IsNumberText, AreTexts, literal, shown_sign, pattern_around, around_by, pieces_around, exponent_part}
 use Rattle.number_format.specs.Scaled.{ScaledValue}
 use Rattle.number_format.specs.ShiftedReading.{IsShifted, IsShiftOfShown}
+use Rattle.number_format.specs.TextParts.{digit_pieces, pieces_text}
+use Rattle.number_format.specs.declared.text_part.PartKind.TheVariants as kind
 use Rattle.number_format.proofs.AffixedNumbers.{named_texts_are_unique}
+use Rattle.number_format.proofs.PieceTexts.{text-of_digits, text-three}
 
 some_same : (x y : ScaledValue) → Some x ≡ Some y → x ≡ y
 some_same x y e = cc
@@ -27,27 +30,40 @@ by_is f sign.None = refl
 by_is f sign.Negative = refl
 by_is f sign.Positive = refl
 
+-- the text of the pieces of a number between what a sign writes around it
+text_around : (f : NumberFormatter) (s : Sign) (x : ScaledValue)
+    → pieces_text ((pattern_around f s).prefix
+    ++ ((digit_pieces kind.Integer f.symbols f.strategy x.significand.absolute ++ []) ++ ((pattern_around f s).suffix ++ [])))
+    ≡ (affixes_for f s).prefix
+    ++ (absolute_text f.symbols f.strategy x.significand.absolute ++ (affixes_for f s).suffix)
+text_around f s x =
+    let digits = digit_pieces kind.Integer f.symbols f.strategy x.significand.absolute in
+    text-three (pattern_around f s).prefix (digits ++ []) ((pattern_around f s).suffix ++ [])
+    (affixes_for f s).prefix (absolute_text f.symbols f.strategy x.significand.absolute) (affixes_for f s).suffix refl
+    (ap pieces_text (append-nil digits) ∙ text-of_digits kind.Integer f.symbols f.strategy x.significand.absolute)
+    (ap pieces_text (append-nil (pattern_around f s).suffix))
+
 -- the text of a number is that of the number that is shown
 pub formatter_text : (f : NumberFormatter) (v u : Decimal) (text : List ℕ) → IsStandard f → IsNumberText f v text
     → IsShownAs f v u → text ≡ text_with f.symbols (by_sign (affixes_of_formatter f)) f.strategy u
-formatter_text f v u text standard is shown =
+formatter_text f v u text standard (pieces, is, of_pieces) shown =
     let number : is.number ≡ shown.number = some_same _ _ (sym is.number_is ∙ shown.number_is) in
     let none = subst (λ c. AreTexts f c is.number is.compact is.unit_of) standard.compact is.texts in
     let compact : is.compact ≡ None = none.0 in
     let before : is.unit_of.prefix.now ≡ [] = none.1.0 in
     let after : is.unit_of.suffix.now ≡ [] = none.1.1 in
     let s = shown_sign f shown.number.significand in
-    let digits = absolute_text f.symbols f.strategy shown.number.significand.absolute in
+    let digits = digit_pieces kind.Integer f.symbols f.strategy shown.number.significand.absolute in
     let affixes : affixes_for f s ≡ by_sign (affixes_of_formatter f) u.sign =
     ap (affixes_for f) (sym shown.sign) ∙ by_is f u.sign in
-    let plain : ([] ++ (affixes_for f s).prefix) ++ ((digits ++ []) ++ ((affixes_for f s).suffix ++ []))
-    ≡ (affixes_for f s).prefix ++ (digits ++ (affixes_for f s).suffix) = simp append-nil in
-    is.value
-    ∙ (λ i. number_text f (number i) (around_by f (shown_sign f (number i).significand) (compact i)) is.unit_of)
-    ∙ (λ i. (before i ++ (pattern_around f s).prefix)
+    of_pieces
+    ∙ ap pieces_text is.value
+    ∙ (λ i. pieces_text (pieces_around f (number i) (around_by f (shown_sign f (number i).significand) (compact i))
+    is.unit_of))
+    ∙ (λ i. pieces_text ((literal (before i) ++ (pattern_around f s).prefix)
     ++ ((digits ++ exponent_part f (standard.exponent i) shown.number.exponent)
-    ++ ((pattern_around f s).suffix ++ after i)))
-    ∙ plain
+    ++ ((pattern_around f s).suffix ++ literal (after i)))))
+    ∙ text_around f s shown.number
     ∙ (λ i. (affixes i).prefix
     ++ (absolute_text f.symbols f.strategy (sym shown.absolute i) ++ (affixes i).suffix))
 

@@ -59,7 +59,7 @@ pub text-of : (k : PartKind) (text : List ℕ) → pieces_text (pieces_of k text
 text-of k [] = refl
 text-of k (b ∷ text) = flat_map-cons bytes (record { kind = k; text = b ∷ text }) [] ∙ append-nil (b ∷ text)
 
-text-of_parts : (parts : List TextPart) → pieces_text (parts_pieces parts) ≡ parts_text parts
+pub text-of_parts : (parts : List TextPart) → pieces_text (parts_pieces parts) ≡ parts_text parts
 text-of_parts [] = refl
 text-of_parts (p ∷ parts) =
     ap pieces_text (flat_map-cons part_pieces p parts)
@@ -67,7 +67,7 @@ text-of_parts (p ∷ parts) =
     ∙ (λ i. text-of p.kind p.text.now i ++ text-of_parts parts i)
     ∙ sym (flat_map-cons (λ (part : TextPart). part.text.now) p parts)
 
-text-three : (a b c : List Piece) (x y z : List ℕ) → pieces_text a ≡ x → pieces_text b ≡ y → pieces_text c ≡ z
+pub text-three : (a b c : List Piece) (x y z : List ℕ) → pieces_text a ≡ x → pieces_text b ≡ y → pieces_text c ≡ z
     → pieces_text (a ++ (b ++ c)) ≡ x ++ (y ++ z)
 text-three a b c x y z p q r =
     text-append a (b ++ c) ∙ (λ i. p i ++ (text-append b c ∙ (λ j. q j ++ r j)) i)

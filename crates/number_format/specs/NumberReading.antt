@@ -11,6 +11,7 @@ use Rattle.number_format.specs.declared.number_reader.NumberReaderError.TheVaria
 use Rattle.number_format.specs.AffixedTexts.{AffixTable, affix_table, by_sign, AreNamed, Reader, reader}
 use Rattle.number_format.specs.NumberText.{pattern_around, shown_number, shown_sign}
 use Rattle.number_format.specs.Scaled.{ScaledValue}
+use Rattle.number_format.specs.TextParts.{pieces_text}
 
 -- the notation is `Standard`: no words and no exponent
 pub record IsStandard (f : NumberFormatter) : Type 0 where
@@ -19,7 +20,8 @@ pub record IsStandard (f : NumberFormatter) : Type 0 where
 
 -- what the formatter writes around a number that is shown with a sign
 abbrev pub affixes_for : NumberFormatter → Sign → Affixes
-affixes_for f s = affixes (pattern_around f s).prefix (pattern_around f s).suffix
+affixes_for f s =
+    affixes (pieces_text (pattern_around f s).prefix) (pieces_text (pattern_around f s).suffix)
 
 abbrev pub affixes_of_formatter : NumberFormatter → AffixTable
 affixes_of_formatter f =
