@@ -33,7 +33,8 @@ by_is f sign.Positive = refl
 -- the text of the pieces of a number between what a sign writes around it
 text_around : (f : NumberFormatter) (s : Sign) (x : ScaledValue)
     → pieces_text ((pattern_around f s).prefix
-    ++ ((digit_pieces kind.Integer f.symbols f.strategy x.significand.absolute ++ []) ++ ((pattern_around f s).suffix ++ [])))
+    ++ ((digit_pieces kind.Integer f.symbols f.strategy x.significand.absolute ++ [])
+    ++ ((pattern_around f s).suffix ++ [])))
     ≡ (affixes_for f s).prefix
     ++ (absolute_text f.symbols f.strategy x.significand.absolute ++ (affixes_for f s).suffix)
 text_around f s x =
