@@ -21,7 +21,7 @@ static const char *const kinds[] = {"shift", "trim-start", "trim-end", "trim-end
 static const char *const reasons[] = {"", "start: syntax", "start: limit", "memory", "call %d: syntax",
     "call %d: limit", "call %d: overlap", "call %d: overflow", "", "no such call: %d", "unknown locale",
     "unknown option", "", "", "rules: syntax at %d", "rules: limit at %d",
-    "skeleton: syntax at %d", "skeleton: unsupported at %d", "unknown numbering system"};
+    "skeleton: syntax at %d", "skeleton: unsupported at %d", "unknown numbering system", "unreadable format"};
 
 typedef struct { fd_call calls[MAX_CALLS]; size_t count; fd_forms forms; uint8_t texts[MAX_TEXTS]; size_t used; } job;
 
@@ -83,11 +83,22 @@ static void fail(sqlite3_context *context, uint32_t status, size_t at) {
     sqlite3_free(line);
 }
 
-static void convert(sqlite3_context *context, const job *j, sqlite3_value *text) {
+/* Which function of the library a function of SQL calls. */
+enum { CONVERT, FORMAT, READ_NUMBER };
+
+static fd_result call(int function, const job *j, sqlite3_value **values, uint8_t *out, size_t room) {
+    if (function == CONVERT)
+        return fd_convert(BYTES(values[0]), &j->forms, j->calls, j->count, j->texts, j->used, out, room);
+    if (function == FORMAT)
+        return fd_format_number(BYTES(values[2]), BYTES(values[0]), BYTES(values[1]), out, room);
+    return fd_read_number(BYTES(values[2]), BYTES(values[0]), BYTES(values[1]), 0, out, room);
+}
+
+static void answer_by(sqlite3_context *context, int function, const job *j, sqlite3_value **values) {
     uint8_t buffer[128], *out = buffer;
-    fd_result answer = fd_convert(BYTES(text), &j->forms, j->calls, j->count, j->texts, j->used, out, sizeof buffer);
+    fd_result answer = call(function, j, values, out, sizeof buffer);
     if (answer.status == FD_BUFFER_TOO_SMALL && (out = sqlite3_malloc64(answer.count)))
-        answer = fd_convert(BYTES(text), &j->forms, j->calls, j->count, j->texts, j->used, out, answer.count);
+        answer = call(function, j, values, out, answer.count);
     if (answer.status == FD_OK) sqlite3_result_text(context, (char *)out, (int)answer.count, SQLITE_TRANSIENT);
     else if (!out) sqlite3_result_error_nomem(context);
     else if (answer.status == FD_OVERFLOW && answer.at == j->count) sqlite3_result_error(context, "format: overflow", -1);
@@ -95,30 +106,28 @@ static void convert(sqlite3_context *context, const job *j, sqlite3_value *text)
     if (out != buffer) sqlite3_free(out);
 }
 
-static void fixdec(sqlite3_context *context, int count, sqlite3_value **values) {
-    job j = {.count = 0};
-    for (int i = 0; i < count; i++) if (sqlite3_value_type(values[i]) == SQLITE_NULL) return;
-    for (int i = 1; i < count; i++)
-        if (!parse(&j, (const char *)sqlite3_value_text(values[i]))) return sqlite3_result_error(context, "no such call", -1);
-    convert(context, &j, values[0]);
+static int has_null(int count, sqlite3_value **values) {
+    while (count > 0 && sqlite3_value_type(values[count - 1]) != SQLITE_NULL) count--;
+    return count > 0;
 }
 
-/* White space alone is the empty skeleton. */
-static void format_number(sqlite3_context *context, int count, sqlite3_value **values) {
+static void fixdec(sqlite3_context *context, int count, sqlite3_value **values) {
     job j = {.count = 0};
-    fd_form *form = &j.forms.format;
-    for (int i = 0; i < count; i++) if (sqlite3_value_type(values[i]) == SQLITE_NULL) return;
-    const char *tag = (const char *)sqlite3_value_text(values[0]), *skeleton = (const char *)sqlite3_value_text(values[1]);
-    if (!*skeleton) skeleton = " ";
-    if (!put(&j, tag, strlen(tag), &form->start, &form->count) ||
-        !put(&j, skeleton, strlen(skeleton), &form->skeleton_start, &form->skeleton_count))
-        return sqlite3_result_error(context, "no such format", -1);
-    convert(context, &j, values[2]);
+    if (has_null(count, values)) return;
+    for (int i = 1; i < count; i++)
+        if (!parse(&j, (const char *)sqlite3_value_text(values[i]))) return sqlite3_result_error(context, "no such call", -1);
+    answer_by(context, CONVERT, &j, values);
+}
+
+/* format_number or read_number. */
+static void number(sqlite3_context *context, int count, sqlite3_value **values) {
+    static const job none;
+    if (!has_null(count, values)) answer_by(context, sqlite3_user_data(context) ? READ_NUMBER : FORMAT, &none, values);
 }
 
 static void plural(sqlite3_context *context, int count, sqlite3_value **values) {
     static const char *const names[] = {"zero", "one", "two", "few", "many", "other"};
-    for (int i = 0; i < count; i++) if (sqlite3_value_type(values[i]) == SQLITE_NULL) return;
+    if (has_null(count, values)) return;
     fd_unsigned rules = fd_rules(BYTES(values[0]));
     if (rules.status != FD_OK) return fail(context, rules.status, rules.at);
     fd_number answer = rules.value ? fd_category_of(rules.value, BYTES(values[1]))
@@ -144,6 +153,7 @@ int sqlite3_fixdec_init(sqlite3 *db, char **unused, const sqlite3_api_routines *
     int flags = SQLITE_UTF8 | SQLITE_DETERMINISTIC | SQLITE_INNOCUOUS;
     int status = sqlite3_create_function(db, "fixdec", -1, flags, 0, fixdec, 0, 0);
     if (!status) status = sqlite3_create_function(db, "plural", 2, flags, 0, plural, 0, 0);
-    if (!status) status = sqlite3_create_function(db, "format_number", 3, flags, 0, format_number, 0, 0);
+    if (!status) status = sqlite3_create_function(db, "format_number", 3, flags, 0, number, 0, 0);
+    if (!status) status = sqlite3_create_function(db, "read_number", 3, flags, db, number, 0, 0);
     return status ? status : sqlite3_create_collation(db, "decimal_compare", SQLITE_UTF8, 0, compare);
 }

@@ -76,6 +76,11 @@ extern "C" {
         text: *const u8, count: usize, tag: *const u8, tag_count: usize,
         skeleton: *const u8, skeleton_count: usize, buffer: *mut u8, capacity: usize,
     ) -> FdResult;
+    #[rustfmt::skip]
+    fn fd_read_number(
+        text: *const u8, count: usize, tag: *const u8, tag_count: usize,
+        skeleton: *const u8, skeleton_count: usize, lenient: u32, buffer: *mut u8, capacity: usize,
+    ) -> FdResult;
     fn fd_compare(left: *const u8, left_count: usize, right: *const u8, right_count: usize) -> FdNumber;
     fn fd_category(rules: *const u8, rules_count: usize, text: *const u8, count: usize) -> FdNumber;
     fn fd_plural_rules(tag: *const u8, count: usize, rule_type: u32) -> FdUnsigned;
@@ -114,6 +119,17 @@ pub(crate) fn format_number(start: &str, locale: &str, skeleton: &str) -> Result
         unsafe {
             fd_format_number(start.as_ptr(), start.len(), tag, tag_count, skeleton, skeleton_count, buffer, capacity)
         }
+    })
+}
+
+/// Reads a number as a locale writes it by a number skeleton.
+pub(crate) fn read_number(written: &str, locale: &str, skeleton: &str, lenient: bool) -> Result<String, Failure> {
+    text(written.len() + ROOM, |buffer, capacity| {
+        let (tag, tag_count) = (locale.as_ptr(), locale.len());
+        let (skeleton, skeleton_count) = (skeleton.as_ptr(), skeleton.len());
+        let (start, count, lenient) = (written.as_ptr(), written.len(), u32::from(lenient));
+        // SAFETY: as in `run`.
+        unsafe { fd_read_number(start, count, tag, tag_count, skeleton, skeleton_count, lenient, buffer, capacity) }
     })
 }
 
