@@ -13,7 +13,7 @@ use fixed_decimal::{Sink, SinkFault, TextBuf};
 use std::alloc::Global;
 
 /// A field of each line, and its conversion.
-#[derive(Debug, Drop)]
+#[derive(Drop)]
 pub struct FieldConversion<'a> {
     /// The field.
     pub field: Field<'a>,

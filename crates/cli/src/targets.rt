@@ -12,7 +12,7 @@ use crate::words::parse_conversion;
 use std::alloc::Global;
 
 /// What is converted of each line, and how.
-#[derive(Debug, Drop)]
+#[derive(Drop)]
 pub enum Target<'a> {
     /// The line, or one field of it.
     One(Option<Field<'a>>, Conversion<'a>),
