@@ -3,7 +3,7 @@ use crate::error::{
     Failure, IntegerError, LimitError, NumberFormatError, NumberReadError, OverlapError, ParseError, ReadError,
     RulesError, UnknownLocale,
 };
-use crate::ffi::{self, FdCall, FdForm, FdForms};
+use crate::ffi::{self, FdCall, FdForm, FdForms, Text};
 use crate::options::{PluralCategory, RoundingIncrement, Sign, SignDisplay, SignedRoundingMode, UnsignedRoundingMode};
 use std::cmp::Ordering;
 use std::fmt;
@@ -42,7 +42,7 @@ const NONZERO: [char; 9] = ['1', '2', '3', '4', '5', '6', '7', '8', '9'];
 #[derive(Clone, PartialEq, Eq, Hash)]
 pub struct Decimal {
     /// Its own text, as the library writes it.
-    text: String,
+    text: Text,
 }
 
 fn call(kind: u8, position: i16) -> FdCall {
@@ -179,7 +179,7 @@ impl Decimal {
 
     fn read_number_by(locale: &str, skeleton: &str, text: &str, lenient: bool) -> Result<Self, NumberReadError> {
         match ffi::read_number(text, locale, skeleton, lenient) {
-            Ok(text) => Ok(Decimal { text }),
+            Ok(text) => Ok(Decimal { text: Text::Long(text) }),
             Err(failure) => Err(match failure.status {
                 1 | 2 => NumberReadError::Text(parse_error(failure)),
                 19 => NumberReadError::Unreadable,
@@ -226,7 +226,7 @@ impl Decimal {
         let read = FdForm { count: locale.len(), option: reading, ..FdForm::default() };
         let forms = FdForms { read, ..FdForms::default() };
         match ffi::convert(text.as_bytes(), &forms, locale.as_bytes()) {
-            Ok(text) => Ok(Decimal { text }),
+            Ok(text) => Ok(Decimal { text: Text::Long(text) }),
             Err(failure) if failure.status == 10 => Err(ReadError::UnknownLocale),
             Err(failure) => Err(ReadError::Text(parse_error(failure))),
         }
@@ -740,7 +740,7 @@ impl fmt::Display for Decimal {
 
 impl fmt::Debug for Decimal {
     fn fmt(&self, f: &mut fmt::Formatter<'_>) -> fmt::Result {
-        write!(f, "Decimal({})", self.text)
+        write!(f, "Decimal({})", self.as_str())
     }
 }
 
@@ -748,7 +748,7 @@ macro_rules! integers {
     ($($integer:ty),*) => { $(
         impl From<$integer> for Decimal {
             fn from(integer: $integer) -> Self {
-                Decimal { text: integer.to_string() }
+                Decimal { text: Text::Long(integer.to_string()) }
             }
         }
 
