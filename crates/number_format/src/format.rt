@@ -3,7 +3,7 @@ ghost use Rattle.std.specs.Prelude.{◌≡◌, ◌≤◌, length, Some, None, If
 ghost use Rattle.decimal_digits.specs.declared.rounding.RoundingIncrement.TheVariants.{MultiplesOf25};
 ghost use Rattle.locale_data.specs.Plurals.{IsCategoryAt};
 ghost use Rattle.number_format.specs.FormattedNumbers.{exponent_pieces, exponent_pieces_if, formatted_number_pieces, formatted_number_text};
-ghost use Rattle.number_format.specs.NumberText.{shown_number, is_one, compact_magnitude, IsCompactExponent, exponent_sign, exponent_part, IsUnitOf, rounded_in, HasCompactTexts, AreTexts, AreShort, AreNumberPieces, IsNumberText, NeedsMemory};
+ghost use Rattle.number_format.specs.NumberText.{shown_number, is_one, compact_magnitude, IsCompactExponent, exponent_sign, exponent_part, rounded_in, HasAround, HasUnit, HasCompactTexts, AreTexts, AreShortAffixes, AreShort, AreNumberPieces, IsNumberText, NeedsMemory};
 ghost use Rattle.number_format.specs.Scaled.{scaled_value};
 ghost use Rattle.number_format.specs.ShownDigits.{base_of};
 ghost use Rattle.number_format.specs.TextParts.{part_pieces};
@@ -131,18 +131,40 @@ impl NumberFormatter {
         }
     }
 
-    fn unit(&self, category: PluralCategory) -> UnitAffixes
-        ensures value { IsUnitOf self.now self.now.unit category result }
+    fn unit(&self, significand: &Decimal, exponent: u8) -> UnitAffixes
+        ensures value { HasUnit self.now significand.now exponent result }
         ensures short { (length result.prefix.now ≤ 255) × (length result.suffix.now ≤ 255) }
     {
         match self.unit {
             CompactUnit::Nothing => NO_UNIT,
-            CompactUnit::Percent => self.formats.percent_unit(category),
+            CompactUnit::Percent => {
+                let number = PluralOperands::of_scaled(&significand.absolute, exponent);
+                self.formats.percent_unit(self.category(&number))
+            }
             CompactUnit::Permille => UnitAffixes {
                 prefix: "",
                 suffix: "\u{2030}",
             },
         }
+    }
+
+    fn around(
+        &self,
+        style: CompactStyle,
+        significand: &Decimal,
+        exponent: u8,
+    ) -> Option<CompactAffixes>
+        ensures value { HasAround self.now style significand.now exponent result }
+        ensures short { AreShortAffixes result }
+    {
+        let magnitude = magnitude_of(significand, exponent);
+        if !self.formats.needs_category(style, magnitude) {
+            let other = PluralCategory::Other;
+            return self.formats.compact_affixes(style, magnitude, other, false);
+        }
+        let category = self.category(&PluralOperands::of_decimal(significand));
+        self.formats
+            .compact_affixes(style, magnitude, category, is_one(significand))
     }
 
     /// Returns what is written around a significand in compact notation.
@@ -156,15 +178,11 @@ impl NumberFormatter {
             result.around result.unit }
         ensures short { AreShort result.around result.unit }
     {
-        let category = self.category(&PluralOperands::of_decimal(significand));
         let exponent = compact_exponent(exponent);
-        let magnitude = magnitude_of(significand, exponent);
-        let around = self
-            .formats
-            .compact_affixes(style, magnitude, category, is_one(significand));
-        let number = PluralOperands::of_scaled(&significand.absolute, exponent);
-        let unit = self.unit(self.category(&number));
-        CompactTexts { around, unit }
+        CompactTexts {
+            around: self.around(style, significand, exponent),
+            unit: self.unit(significand, exponent),
+        }
     }
 
     /// Returns what is written around a significand.
