@@ -62,26 +62,24 @@ fn compact_exponent(exponent: i32) -> u8
 }
 
 impl NumberFormatter {
-    fn rounded(&self, value: Decimal) -> Result<(Decimal, i32), RoundError>
+    fn rounded(&self, value: &mut Decimal) -> Result<i32, RoundError>
         ensures ok { IfOk result
-            (λ s. rounded_in self.now.notation self.now.digits value ≡ Some (scaled_value s.0 s.1)) }
+            (λ e. rounded_in self.now.notation self.now.digits value.old ≡ Some (scaled_value value.new e)) }
         ensures limit { IsErrOf result RoundError.Limit
-            → rounded_in self.now.notation self.now.digits value ≡ None }
+            → rounded_in self.now.notation self.now.digits value.old ≡ None }
         ensures memory { IsErrOf result RoundError.Memory
             → IsSomeAnd self.now.digits (λ o. base_of o.precision ≡ MultiplesOf25) }
     {
-        let Some(digits) = &self.digits else {
-            return Ok((value, 0));
-        };
-        let scaled = self.notation.scale(digits, value)?;
-        let exponent = scaled.exponent();
-        Ok((scaled.into_significand(), exponent))
+        match &self.digits {
+            Some(digits) => self.notation.scale_in_place(digits, value),
+            None => Ok(0),
+        }
     }
 
-    /// Returns the significand and the exponent that are written.
-    fn shown_number(&self, mut value: Decimal) -> Result<(Decimal, i32), RoundError>
-        ensures ok { IfOk result (λ s. shown_number self.now value ≡ Some (scaled_value s.0 s.1)) }
-        ensures limit { IsErrOf result RoundError.Limit → shown_number self.now value ≡ None }
+    /// Makes a number the significand that is written, and returns the exponent.
+    fn shown_number(&self, value: &mut Decimal) -> Result<i32, RoundError>
+        ensures ok { IfOk result (λ e. shown_number self.now value.old ≡ Some (scaled_value value.new e)) }
+        ensures limit { IsErrOf result RoundError.Limit → shown_number self.now value.old ≡ None }
         ensures memory { IsErrOf result RoundError.Memory
             → IsSomeAnd self.now.digits (λ o. base_of o.precision ≡ MultiplesOf25) }
     {
@@ -210,21 +208,25 @@ impl NumberFormatter {
         }
     }
 
-    fn formatted(&self, alloc: Global, value: Decimal) -> Result<FormattedNumber<'_>, RoundError>
+    fn formatted(
+        &self,
+        alloc: Global,
+        mut value: Decimal,
+    ) -> Result<FormattedNumber<'_>, RoundError>
         ensures ok { IfOk result (λ t. AreNumberPieces self.now value (formatted_number_pieces t)) }
         ensures limit { IsErrOf result RoundError.Limit → shown_number self.now value ≡ None }
         ensures memory { IsErrOf result RoundError.Memory
             → IsSomeAnd self.now.digits (λ o. base_of o.precision ≡ MultiplesOf25) }
     {
-        let (significand, exponent) = self.shown_number(value)?;
-        let texts = self.texts(&significand, exponent);
-        let shown = significand.with_sign_display(self.sign_display);
-        let affixes = self.affixes(shown.sign, texts.around, texts.unit);
+        let exponent = self.shown_number(&mut value)?;
+        let texts = self.texts(&value, exponent);
+        value.apply_sign_display(self.sign_display);
+        let affixes = self.affixes(value.sign, texts.around, texts.unit);
         Ok(FormattedNumber {
             symbols: &self.symbols,
             strategy: self.strategy,
             affixes,
-            significand: shown.absolute,
+            significand: value.absolute,
             exponent: self.exponent(alloc, exponent),
         })
     }
