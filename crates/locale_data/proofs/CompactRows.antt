@@ -171,7 +171,7 @@ same_pattern (p ∷ []) a b x y e = for_each a x ∙ sym (for_each b y)
   where
     for_each : (category : PluralCategory) (is_one : Bool) → pattern_for category is_one (p ∷ []) ≡ Some p
     for_each category is_one =
-        subst (λ count. pattern_for category is_one (record p { count = count } ∷ []) ≡ Some (record p { count = count }))
+        subst (λ c. pattern_for category is_one (record p { count = c } ∷ []) ≡ Some (record p { count = c }))
         (sym (is_other p.count e)) (only_other p category is_one)
 same_pattern (p ∷ (q ∷ patterns)) a b x y e = absurd (cc)
 

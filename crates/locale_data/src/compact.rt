@@ -317,8 +317,7 @@ impl NumberFormats {
         }
     }
 
-    /// Returns whether what [`compact_affixes`](Self::compact_affixes) returns for a magnitude depends on the number: on
-    /// `category` or on `is_one`.
+    /// Returns whether [`compact_affixes`](Self::compact_affixes) depends on `category` or `is_one` for a magnitude.
     ///
     /// ```
     /// formats_of("en", "latn").needs_category(CompactStyle::Short, 4) // false: 12K
