@@ -84,12 +84,22 @@ abbrev pub sign_pieces : NumberFormatter → Sign → List parts.Piece
 sign_pieces f s = pieces_of (sign_kind s) (sign_text f s)
 
 -- a piece of a pattern
+abbrev pub pattern_kind : Piece → PartKind
+pattern_kind piece.Minus = kind.MinusSign
+pattern_kind piece.Plus = kind.PlusSign
+pattern_kind piece.Percent = kind.PercentSign
+pattern_kind piece.Currency = kind.Currency
+pattern_kind other = kind.Literal
+
+abbrev pub pattern_text : NumberFormatter → Piece → List ℕ
+pattern_text f piece.Minus = sign_text f sign.Negative
+pattern_text f piece.Plus = sign_text f sign.Positive
+pattern_text f piece.Percent = f.percent.text.now
+pattern_text f piece.Currency = currency_text f.currency
+pattern_text f other = literal_text other
+
 abbrev pub pattern_pieces : NumberFormatter → Piece → List parts.Piece
-pattern_pieces f piece.Minus = sign_pieces f sign.Negative
-pattern_pieces f piece.Plus = sign_pieces f sign.Positive
-pattern_pieces f piece.Percent = pieces_of kind.PercentSign f.percent.text.now
-pattern_pieces f piece.Currency = pieces_of kind.Currency (currency_text f.currency)
-pattern_pieces f other = literal (literal_text other)
+pattern_pieces f p = pieces_of (pattern_kind p) (pattern_text f p)
 
 abbrev pub affix_pieces : NumberFormatter → Affix → List parts.Piece
 affix_pieces f a =

@@ -1,5 +1,6 @@
 //! Formatting of a number.
 ghost use Rattle.std.specs.Prelude.{◌≡◌, ◌≤◌, length, Some, None, IfOk, IfErr, IsErrOf, IsSomeAnd};
+ghost use Rattle.fixed_decimal.specs.Decimal.{Decimal};
 ghost use Rattle.decimal_digits.specs.declared.rounding.RoundingIncrement.TheVariants.{MultiplesOf25};
 ghost use Rattle.locale_data.specs.Plurals.{IsCategoryAt};
 ghost use Rattle.number_format.specs.FormattedNumbers.{exponent_pieces, exponent_pieces_if, formatted_number_pieces, formatted_number_text};
@@ -208,27 +209,20 @@ impl NumberFormatter {
         }
     }
 
-    fn formatted(
-        &self,
-        alloc: Global,
-        mut value: Decimal,
-    ) -> Result<FormattedNumber<'_>, RoundError>
-        ensures ok { IfOk result (λ t. AreNumberPieces self.now value (formatted_number_pieces t)) }
-        ensures limit { IsErrOf result RoundError.Limit → shown_number self.now value ≡ None }
-        ensures memory { IsErrOf result RoundError.Memory
-            → IsSomeAnd self.now.digits (λ o. base_of o.precision ≡ MultiplesOf25) }
+    /// Returns the number whose significand and exponent are these.
+    fn number(&self, alloc: Global, mut value: Decimal, exponent: i32) -> FormattedNumber<'_>
+        ensures { (v : Decimal) → shown_number self.now v ≡ Some (scaled_value value exponent)
+            → AreNumberPieces self.now v (formatted_number_pieces result) }
     {
-        let exponent = self.shown_number(&mut value)?;
         let texts = self.texts(&value, exponent);
         value.apply_sign_display(self.sign_display);
-        let affixes = self.affixes(value.sign, texts.around, texts.unit);
-        Ok(FormattedNumber {
+        FormattedNumber {
             symbols: &self.symbols,
             strategy: self.strategy,
-            affixes,
+            affixes: self.affixes(value.sign, texts.around, texts.unit),
             significand: value.absolute,
             exponent: self.exponent(alloc, exponent),
-        })
+        }
     }
 
     /// Formats a number: rounds it, and writes it as the formatter's options have it.
@@ -239,7 +233,11 @@ impl NumberFormatter {
     ///
     /// - `Limit`: a digit of the scaled or of the rounded number is above 10^32767 or below 10^-32768.
     /// - `Memory`: out of memory, only for a number of more than `INLINE_DIGITS` digits or by an increment of 25.
-    pub fn format(&self, alloc: Global, value: Decimal) -> Result<FormattedNumber<'_>, FormatError>
+    pub fn format(
+        &self,
+        alloc: Global,
+        mut value: Decimal,
+    ) -> Result<FormattedNumber<'_>, FormatError>
         ensures pieces { IfOk result (λ t. AreNumberPieces self.now value (formatted_number_pieces t)) }
         ensures text { IfOk result (λ t. IsNumberText self.now value (formatted_number_text t)) }
         ensures unchanged { IfErr result (λ e. e.value ≡ value) }
@@ -252,8 +250,8 @@ impl NumberFormatter {
                 value,
             });
         };
-        match self.formatted(alloc, value) {
-            Ok(formatted) => Ok(formatted),
+        match self.shown_number(&mut value) {
+            Ok(exponent) => Ok(self.number(alloc, value, exponent)),
             Err(error) => Err(FormatError { error, value: kept }),
         }
     }
