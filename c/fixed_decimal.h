@@ -61,7 +61,9 @@ typedef enum fd_status {
     FD_RULES_LIMIT = 15,     /* the number at byte `at` of the rules is too great */
     FD_SKELETON_SYNTAX = 16, /* the text is no skeleton, or not UTF-8, from byte `at` on; or it is outside the texts */
     FD_SKELETON_UNSUPPORTED = 17,    /* the library has no such option as the stem at byte `at` of the skeleton */
-    FD_UNKNOWN_NUMBERING_SYSTEM = 18 /* no numbering system is known by the name that the skeleton has */
+    FD_UNKNOWN_NUMBERING_SYSTEM = 18, /* no numbering system is known by the name that the skeleton has */
+    FD_UNREADABLE_FORMAT = 19 /* the numbers of the skeleton are not read: they have an exponent or words, or two have the
+                                 same text */
 } fd_status;
 
 /* An answer that is a text: status is an fd_status. */
@@ -193,6 +195,18 @@ fd_result fd_convert(const uint8_t *text, size_t count, const fd_forms *forms, c
  * FD_BUFFER_TOO_SMALL. */
 fd_result fd_format_number(const uint8_t *text, size_t count, const uint8_t *tag, size_t tag_count,
                            const uint8_t *skeleton, size_t skeleton_count, uint8_t *buffer, size_t capacity);
+
+/* Reads a number as fd_format_number writes it by this tag and this skeleton, and writes the own text of the value that
+ * it shows, with the scale undone: -1234.50 of "-1.234,50 €" by "de" and "currency/EUR". It has all its grouping
+ * separators, or none. If lenient is not 0, it may be as people type it: with other spaces and separators, and with
+ * the symbol or the code of the currency, or the percent sign, on either side, or with nothing around it.
+ *
+ * The buffer is as after fd_run. It allocates.
+ * Errors, the first that holds: of the skeleton and the tag as fd_format_number; FD_UNREADABLE_FORMAT; FD_SYNTAX,
+ * FD_LIMIT, FD_MEMORY of the text; FD_BUFFER_TOO_SMALL. */
+fd_result fd_read_number(const uint8_t *text, size_t count, const uint8_t *tag, size_t tag_count,
+                         const uint8_t *skeleton, size_t skeleton_count, uint32_t lenient, uint8_t *buffer,
+                         size_t capacity);
 
 /* Converts each line as fd_convert does, and writes the text of each with a line feed. A line is all bytes up to a line
  * feed; the bytes after the last line feed are a line if there are any.

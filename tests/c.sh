@@ -83,6 +83,8 @@ if command -v sqlite3 > /dev/null && echo '#include <sqlite3ext.h>' | gcc -E -x 
     $'-1,2 mil|123.456,00\u00a0₹'
   row "SELECT fixdec('1 234,5', 'read:fr:lenient', 'format:de:never'), fixdec('1234', 'format:es:always')" '1234,5|1.234'
   row "SELECT format_number('uk', 'percent', 5300000), format_number('uk', NULL, 1) IS NULL" $'5\u00a0300\u00a0000%|1'
+  row "SELECT read_number('de', 'currency/EUR', '-1.234,50' || char(160) || '€'), read_number('en', '%x100 .0', '12.5%'), read_number('de', 'K', NULL) IS NULL" \
+    '-1234.50|0.125|1'
   row "SELECT group_concat(x, ' ') FROM (SELECT column1 AS x FROM (VALUES ('b'), ('10'), ('9.50'), ('a'), ('-1e2'), ('9.5')) ORDER BY x COLLATE decimal_compare, x)" \
     '-1e2 9.5 9.50 10 a b'
   for call in "'1x', 'trim-end'|start: syntax" "'10', 'trim-end', 'shift:32767'|call 1: overflow" \
@@ -105,6 +107,12 @@ if command -v sqlite3 > /dev/null && echo '#include <sqlite3ext.h>' | gcc -E -x 
     found=$(sqlite3 -cmd ".load $room/fixdec" :memory: "SELECT format_number(${call%|*})" 2>&1)
     [[ $found == *"${call#*|}"* ]]
     judge $? "format_number(${call%|*}): $found"
+  done
+  for call in "'tlh', 'percent/w', 'x'|skeleton: syntax at 7" "'tlh', 'percent', 'x'|unknown locale" \
+    "'en', 'scientific', 'x'|unreadable format" "'en', 'percent', '1x'|start: syntax"; do
+    found=$(sqlite3 -cmd ".load $room/fixdec" :memory: "SELECT read_number(${call%|*})" 2>&1)
+    [[ $found == *"${call#*|}"* ]]
+    judge $? "read_number(${call%|*}): $found"
   done
 else
   missing 'sqlite3 and its headers'

@@ -404,6 +404,43 @@ static void test_format_number_errors(void) {
     }
 }
 
+/* Texts of ICU are read, at each capacity; each error. */
+static void test_read_number(void) {
+    static const struct {
+        const char *text, *tag, *skeleton;
+        uint32_t lenient, status;
+        const char *own;
+    } rows[] = {
+        {"-1.234,50\xc2\xa0" "€", "de", "currency/EUR", 0, FD_OK, "-1234.50"},
+        {"1234,5\xc2\xa0" "€", "de", "currency/EUR", 0, FD_OK, "1234.5"},
+        {"12.5%", "en", "%x100 .0#", 0, FD_OK, "0.125"},
+        {"($1,234.50)", "en", "currency/USD sign-accounting", 0, FD_OK, "-1234.50"},
+        {"₹१२,३४,५६७.५०", "hi-u-nu-deva", "currency/INR", 0, FD_OK, "1234567.50"},
+        {"CHF+1'234.50", "de-CH", "currency/CHF +!", 0, FD_OK, "+1234.50"},
+        {"-1,234.50", "en", "", 0, FD_OK, "-1234.50"},
+        {"EUR 1.234,5", "de", "currency/EUR", 1, FD_OK, "1234.5"},
+        {"50%", "fr", "%x100", 1, FD_OK, "0.50"},
+        {"EUR 1.234,5", "de", "currency/EUR", 0, FD_SYNTAX, NULL},
+        {"1 USD", "de", "currency/EUR", 1, FD_SYNTAX, NULL},
+        {"\xff", "de", "percent", 1, FD_SYNTAX, NULL},
+        {"x", "en", "scientific", 0, FD_UNREADABLE_FORMAT, NULL},
+        {"x", "es", "K", 1, FD_UNREADABLE_FORMAT, NULL},
+        {"x", "xx", "K", 0, FD_UNKNOWN_LOCALE, NULL},
+        {"x", "xx", "percent/w", 0, FD_SKELETON_SYNTAX, NULL}};
+    for (size_t i = 0; i < sizeof rows / sizeof *rows; i++) {
+        const char *own = rows[i].own ? rows[i].own : "";
+        for (size_t room = 0, n = strlen(own); room < n + 9; room++) {
+            uint8_t buffer[40];
+            memset(buffer, 0xA5, sizeof buffer);
+            fd_result r = fd_read_number(BYTES(rows[i].text), BYTES(rows[i].tag), BYTES(rows[i].skeleton), rows[i].lenient,
+                                         buffer, room);
+            if (rows[i].status != FD_OK) CHECK(r.status == rows[i].status && r.count == 0 && all(buffer, 40, 0xA5));
+            else if (room < n) CHECK(r.status == FD_BUFFER_TOO_SMALL && r.count == n && all(buffer, 40, 0xA5));
+            else CHECK(gives(r, buffer, own) && all(buffer + n, 40 - n, 0xA5));
+        }
+    }
+}
+
 /* Forms with a skeleton: after calls, in a column, and where they are none. */
 static void test_skeleton_forms(void) {
     uint8_t b[64];
@@ -436,6 +473,7 @@ int main(void) {
     test_numbers();
     test_format_number();
     test_format_number_errors();
+    test_read_number();
     test_skeleton_forms();
     printf("%d checks, %d failures\n", checks, failures);
     return failures != 0;

@@ -1,5 +1,5 @@
-/* Decimals in SQLite: fixdec(text, call, ..), the collation decimal_compare, plural(locale or rules, text), and
- * format_number(locale, skeleton, text).
+/* Decimals in SQLite: fixdec(text, call, ..), the collation decimal_compare, plural(locale or rules, text),
+ * format_number(locale, skeleton, text) and read_number(locale, skeleton, text).
  *   gcc -shared -fPIC -I ../../c fixdec.c ../../c/out/libfixed_decimal.a -o fixdec.so
  *   SELECT fixdec('1234.565', 'round:-2:half-even:1', 'format:de');  -- 1.234,56
  * NULL in, NULL out. A text, a call or rules that are rejected are an SQL error. */
@@ -21,7 +21,7 @@ static const char *const kinds[] = {"shift", "trim-start", "trim-end", "trim-end
 static const char *const reasons[] = {"", "start: syntax", "start: limit", "memory", "call %d: syntax",
     "call %d: limit", "call %d: overlap", "call %d: overflow", "", "no such call: %d", "unknown locale",
     "unknown option", "", "", "rules: syntax at %d", "rules: limit at %d",
-    "skeleton: syntax at %d", "skeleton: unsupported at %d", "unknown numbering system"};
+    "skeleton: syntax at %d", "skeleton: unsupported at %d", "unknown numbering system", "unreadable format"};
 
 typedef struct { fd_call calls[MAX_CALLS]; size_t count; fd_forms forms; uint8_t texts[MAX_TEXTS]; size_t used; } job;
 
@@ -83,48 +83,45 @@ static void fail(sqlite3_context *context, uint32_t status, size_t at) {
     sqlite3_free(line);
 }
 
-static void convert(sqlite3_context *context, const job *j, sqlite3_value *text) {
-    uint8_t buffer[128], *out = buffer;
-    fd_result answer = fd_convert(BYTES(text), &j->forms, j->calls, j->count, j->texts, j->used, out, sizeof buffer);
-    if (answer.status == FD_BUFFER_TOO_SMALL && (out = sqlite3_malloc64(answer.count)))
-        answer = fd_convert(BYTES(text), &j->forms, j->calls, j->count, j->texts, j->used, out, answer.count);
-    if (answer.status == FD_OK) sqlite3_result_text(context, (char *)out, (int)answer.count, SQLITE_TRANSIENT);
-    else if (!out) sqlite3_result_error_nomem(context);
-    else if (answer.status == FD_OVERFLOW && answer.at == j->count) sqlite3_result_error(context, "format: overflow", -1);
-    else fail(context, answer.status, answer.at);
-    if (out != buffer) sqlite3_free(out);
+/* The functions of SQL: the user data of each is its number. */
+enum { FIXDEC, FORMAT_NUMBER, READ_NUMBER, PLURAL };
+static const struct { const char *name; int count; } functions[] = {
+    {"fixdec", -1}, {"format_number", 3}, {"read_number", 3}, {"plural", 2}};
+
+static fd_result answer_by(int function, const job *j, sqlite3_value **values, uint8_t *out, size_t room) {
+    if (function == FIXDEC)
+        return fd_convert(BYTES(values[0]), &j->forms, j->calls, j->count, j->texts, j->used, out, room);
+    if (function == FORMAT_NUMBER)
+        return fd_format_number(BYTES(values[2]), BYTES(values[0]), BYTES(values[1]), out, room);
+    return fd_read_number(BYTES(values[2]), BYTES(values[0]), BYTES(values[1]), 0, out, room);
 }
 
-static void fixdec(sqlite3_context *context, int count, sqlite3_value **values) {
-    job j = {.count = 0};
-    for (int i = 0; i < count; i++) if (sqlite3_value_type(values[i]) == SQLITE_NULL) return;
-    for (int i = 1; i < count; i++)
-        if (!parse(&j, (const char *)sqlite3_value_text(values[i]))) return sqlite3_result_error(context, "no such call", -1);
-    convert(context, &j, values[0]);
-}
-
-/* White space alone is the empty skeleton. */
-static void format_number(sqlite3_context *context, int count, sqlite3_value **values) {
-    job j = {.count = 0};
-    fd_form *form = &j.forms.format;
-    for (int i = 0; i < count; i++) if (sqlite3_value_type(values[i]) == SQLITE_NULL) return;
-    const char *tag = (const char *)sqlite3_value_text(values[0]), *skeleton = (const char *)sqlite3_value_text(values[1]);
-    if (!*skeleton) skeleton = " ";
-    if (!put(&j, tag, strlen(tag), &form->start, &form->count) ||
-        !put(&j, skeleton, strlen(skeleton), &form->skeleton_start, &form->skeleton_count))
-        return sqlite3_result_error(context, "no such format", -1);
-    convert(context, &j, values[2]);
-}
-
-static void plural(sqlite3_context *context, int count, sqlite3_value **values) {
+static void plural(sqlite3_context *context, sqlite3_value **values) {
     static const char *const names[] = {"zero", "one", "two", "few", "many", "other"};
-    for (int i = 0; i < count; i++) if (sqlite3_value_type(values[i]) == SQLITE_NULL) return;
     fd_unsigned rules = fd_rules(BYTES(values[0]));
     if (rules.status != FD_OK) return fail(context, rules.status, rules.at);
     fd_number answer = rules.value ? fd_category_of(rules.value, BYTES(values[1]))
                                    : fd_category(BYTES(values[0]), BYTES(values[1]));
     if (answer.status == FD_OK) sqlite3_result_text(context, names[answer.value], -1, SQLITE_STATIC);
     else fail(context, answer.status, answer.at);
+}
+
+static void call(sqlite3_context *context, int count, sqlite3_value **values) {
+    int function = (int)(intptr_t)sqlite3_user_data(context);
+    job j = {.count = 0};
+    uint8_t buffer[128], *out = buffer;
+    for (int i = 0; i < count; i++) if (sqlite3_value_type(values[i]) == SQLITE_NULL) return;
+    if (function == PLURAL) return plural(context, values);
+    for (int i = 1; function == FIXDEC && i < count; i++)
+        if (!parse(&j, (const char *)sqlite3_value_text(values[i]))) return sqlite3_result_error(context, "no such call", -1);
+    fd_result answer = answer_by(function, &j, values, out, sizeof buffer);
+    if (answer.status == FD_BUFFER_TOO_SMALL && (out = sqlite3_malloc64(answer.count)))
+        answer = answer_by(function, &j, values, out, answer.count);
+    if (answer.status == FD_OK) sqlite3_result_text(context, (char *)out, (int)answer.count, SQLITE_TRANSIENT);
+    else if (!out) sqlite3_result_error_nomem(context);
+    else if (answer.status == FD_OVERFLOW && answer.at == j.count) sqlite3_result_error(context, "format: overflow", -1);
+    else fail(context, answer.status, answer.at);
+    if (out != buffer) sqlite3_free(out);
 }
 
 /* By value; texts that are no decimals are after all decimals, by bytes. */
@@ -142,8 +139,8 @@ int sqlite3_fixdec_init(sqlite3 *db, char **unused, const sqlite3_api_routines *
     SQLITE_EXTENSION_INIT2(api);
     (void)unused;
     int flags = SQLITE_UTF8 | SQLITE_DETERMINISTIC | SQLITE_INNOCUOUS;
-    int status = sqlite3_create_function(db, "fixdec", -1, flags, 0, fixdec, 0, 0);
-    if (!status) status = sqlite3_create_function(db, "plural", 2, flags, 0, plural, 0, 0);
-    if (!status) status = sqlite3_create_function(db, "format_number", 3, flags, 0, format_number, 0, 0);
+    int status = SQLITE_OK;
+    for (intptr_t i = FIXDEC; i <= PLURAL && !status; i++)
+        status = sqlite3_create_function(db, functions[i].name, functions[i].count, flags, (void *)i, call, 0, 0);
     return status ? status : sqlite3_create_collation(db, "decimal_compare", SQLITE_UTF8, 0, compare);
 }

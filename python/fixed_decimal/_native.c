@@ -21,7 +21,7 @@ static PyObject *decimal_error;
 
 static const char *const reasons[] = {"", "syntax", "limit", "memory", "operand syntax", "operand limit", "overlap",
     "overflow", "", "unknown call", "unknown locale", "unknown option", "not whole", "out of range", "rules syntax",
-    "rules limit", "skeleton syntax", "skeleton unsupported", "unknown numbering system"};
+    "rules limit", "skeleton syntax", "skeleton unsupported", "unknown numbering system", "unreadable format"};
 static const char *const modes[] = {"ceil", "floor", "expand", "trunc", "half-ceil", "half-floor", "half-expand",
     "half-trunc", "half-even", NULL};
 static const char *const displays[] = {"auto", "never", "always", "except-zero", "negative", NULL};
@@ -271,6 +271,14 @@ static fd_result format_into(const Decimal *self, const Format *format, uint8_t 
                             (const uint8_t *)format->skeleton, (size_t)format->skeleton_count, buffer, room);
 }
 
+/* A function of fixed_decimal._options: a new reference. */
+static PyObject *option_function(const char *name) {
+    PyObject *module = PyImport_ImportModule("fixed_decimal._options");
+    PyObject *function = module ? PyObject_GetAttrString(module, name) : NULL;
+    Py_XDECREF(module);
+    return function;
+}
+
 /* The arguments of format(): a locale, and a grouping, a skeleton, or options by their names in ECMA-402, of which
  * fixed_decimal._options makes the skeleton. 0 with an exception; the skeleton is a new reference or NULL. */
 static int bind_format(PyObject *const *arguments, Py_ssize_t count, PyObject *keywords, PyObject **values) {
@@ -286,11 +294,9 @@ static int bind_format(PyObject *const *arguments, Py_ssize_t count, PyObject *k
         return 1;
     }
     values[0] = arguments[0];
-    PyObject *module = PyImport_ImportModule("fixed_decimal._options");
-    PyObject *function = module ? PyObject_GetAttrString(module, "number_skeleton") : NULL;
+    PyObject *function = option_function("number_skeleton");
     values[2] = function ? PyObject_Vectorcall(function, arguments + 1, 0, keywords) : NULL;
     Py_XDECREF(function);
-    Py_XDECREF(module);
     return values[2] != NULL;
 }
 
@@ -333,6 +339,47 @@ static PyObject *decimal_format(Decimal *self, PyObject *const *arguments, Py_ss
     }
     format.forms.format.locale = locale_of(values[0]);
     return format.forms.format.locale ? formatted(self, &format) : NULL;
+}
+
+/* A number, as the locale of a tag and a skeleton have it. */
+typedef struct {
+    const char *text, *tag, *skeleton;
+    Py_ssize_t count, tag_count, skeleton_count;
+    int lenient;
+} Number;
+
+static fd_result read_into(const Number *number, uint8_t *buffer, size_t room) {
+    return fd_read_number((const uint8_t *)number->text, (size_t)number->count, (const uint8_t *)number->tag,
+                          (size_t)number->tag_count, (const uint8_t *)number->skeleton, (size_t)number->skeleton_count,
+                          (uint32_t)number->lenient, buffer, room);
+}
+
+static PyObject *read_number(const Number *number) {
+    uint8_t buffer[ROOM];
+    fd_result answer = read_into(number, buffer, ROOM);
+    if (answer.status != FD_OK && answer.status != FD_BUFFER_TOO_SMALL) return fail(answer.status, answer.at);
+    Decimal *made = with_room(answer.count);
+    if (!made) return NULL;
+    if (answer.status == FD_OK) memcpy(made->text, buffer, answer.count);
+    else answer = read_into(number, (uint8_t *)made->text, answer.count);
+    if (answer.status == FD_OK) return (PyObject *)made;
+    Py_DECREF(made);
+    return fail(answer.status, answer.at);
+}
+
+/* The arguments: a text, a locale, and by their names those of fixed_decimal._options.reading. */
+static PyObject *decimal_read(PyObject *ignored, PyObject *arguments, PyObject *keywords) {
+    Number number;
+    (void)ignored;
+    if (!PyArg_ParseTuple(arguments, "s#s#:read", &number.text, &number.count, &number.tag, &number.tag_count)) return NULL;
+    PyObject *function = option_function("reading"), *none = PyTuple_New(0), *made = NULL;
+    PyObject *reading = function && none ? PyObject_Call(function, none, keywords) : NULL;
+    if (reading && PyArg_ParseTuple(reading, "s#p", &number.skeleton, &number.skeleton_count, &number.lenient))
+        made = read_number(&number);
+    Py_XDECREF(reading);
+    Py_XDECREF(none);
+    Py_XDECREF(function);
+    return made;
 }
 
 /* By a locale, as `pl` or `en:ordinal`, or by rules in CLDR's syntax. */
@@ -564,6 +611,8 @@ static PyMethodDef decimal_methods[] = {
     {"compare", (PyCFunction)decimal_compare, METH_O, "Returns the order of two numbers: -1, 0 or 1."},
     {"format", (PyCFunction)(void (*)(void))decimal_format, METH_FASTCALL | METH_KEYWORDS,
      "Returns the text in the form of a locale: by its separators, a number skeleton of ICU, or options of ECMA-402."},
+    {"read", (PyCFunction)(void (*)(void))decimal_read, METH_STATIC | METH_VARARGS | METH_KEYWORDS,
+     "Reads a number as format() writes it by these options; or, if lenient, as people type it."},
     {"plural", (PyCFunction)decimal_plural, METH_O, "Returns the plural category by a locale, or by rules in CLDR's syntax."},
     {"__format__", (PyCFunction)decimal_dunder_format, METH_O, "Formats as decimal.Decimal does."},
     {"__reduce__", (PyCFunction)decimal_reduce, METH_NOARGS, NULL},

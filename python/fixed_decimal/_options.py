@@ -116,3 +116,10 @@ def number_skeleton(*, style="decimal", currency="", currency_display="symbol", 
     if numbering_system:
         stems.append("numbering-system/" + _text("[a-z0-9]{3,8}", numbering_system))
     return " ".join(filter(None, stems))
+
+
+def reading(*, skeleton=None, lenient=False, **options):
+    """Returns the skeleton of `Decimal.read`, and whether it is lenient."""
+    if options and skeleton is not None:
+        raise TypeError("read() takes a skeleton or options")
+    return number_skeleton(**options) if options else skeleton or "", bool(lenient)

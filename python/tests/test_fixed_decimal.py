@@ -102,6 +102,10 @@ def test_class():
         (Decimal("1500").format("is", skeleton="scientific"), "1,5E3"),
         (Decimal("-1234.5").format("en", skeleton=""), "-1,234.5"),
         (Decimal("1234.5").format("de", skeleton=None), "1.234,5"),
+        (Decimal.read("-1.234,50\xa0€", "de", skeleton="currency/EUR"), Decimal("-1234.50")),
+        (Decimal.read("12.5%", "en", style="percent", maximum_fraction_digits=1), Decimal("0.125")),
+        (Decimal.read("EUR 1.234,5", "de", style="currency", currency="EUR", lenient=True), Decimal("1234.5")),
+        (Decimal.read("1.234,50", "de"), Decimal("1234.50")), (Decimal.read("9" * 300, "de"), Decimal("9" * 300)),
         (Decimal("1234.5").format(locale="de"), "1.234,5"), (Decimal("1234.5").format("de-" + "CH"), "1'234.5"),
         (len(str(Decimal("1").pad(end=-32768))), 32770), (len(Decimal("1" * 300).format("de")), 399),
         (pickle.loads(pickle.dumps(Decimal("1.50"))), Decimal("1.50")), (f"{Decimal('1234.565'):,.2f}", "1,234.56"),
@@ -129,6 +133,12 @@ def test_class():
     raises(DecimalError, lambda: Decimal("1").format("en", skeleton="measure-unit/length-foot"), "skeleton unsupported")
     raises(TypeError, lambda: Decimal("1").format("en", "auto", "percent"))
     raises(DecimalError, lambda: Decimal("1").format("tlh"), "unknown locale")
+    raises(DecimalError, lambda: Decimal.read("1", "tlh"), "unknown locale")
+    raises(DecimalError, lambda: Decimal.read("1", "de", skeleton="percent/w"), "skeleton syntax")
+    raises(DecimalError, lambda: Decimal.read("1 Mio.", "de", notation="compact"), "unreadable format")
+    raises(DecimalError, lambda: Decimal.read("EUR 1", "de", skeleton="currency/EUR"), "syntax")
+    raises(TypeError, lambda: Decimal.read("1", "de", skeleton="percent", style="percent"))
+    raises(TypeError, lambda: Decimal.read("1"))
     raises(DecimalError, lambda: Decimal("1").format(""), "unknown locale")
     raises(DecimalError, lambda: Decimal("10").shift(32767), "overflow")
     raises(DecimalError, lambda: Decimal("1").round(0, increment=3), "unknown call")

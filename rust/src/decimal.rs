@@ -1,9 +1,9 @@
 //! The decimal.
 use crate::error::{
-    Failure, IntegerError, LimitError, NumberFormatError, OverlapError, ParseError, ReadError, RulesError,
-    UnknownLocale,
+    Failure, IntegerError, LimitError, NumberFormatError, NumberReadError, OverlapError, ParseError, ReadError,
+    RulesError, UnknownLocale,
 };
-use crate::ffi::{self, FdCall, FdForm, FdForms};
+use crate::ffi::{self, FdCall, FdForm, FdForms, Text};
 use crate::options::{PluralCategory, RoundingIncrement, Sign, SignDisplay, SignedRoundingMode, UnsignedRoundingMode};
 use std::cmp::Ordering;
 use std::fmt;
@@ -42,7 +42,7 @@ const NONZERO: [char; 9] = ['1', '2', '3', '4', '5', '6', '7', '8', '9'];
 #[derive(Clone, PartialEq, Eq, Hash)]
 pub struct Decimal {
     /// Its own text, as the library writes it.
-    text: String,
+    text: Text,
 }
 
 fn call(kind: u8, position: i16) -> FdCall {
@@ -53,6 +53,17 @@ fn parse_error(failure: Failure) -> ParseError {
     match failure.status {
         1 => ParseError::Syntax,
         2 => ParseError::Limit,
+        _ => failure.never(),
+    }
+}
+
+fn number_format_error(failure: Failure) -> NumberFormatError {
+    match failure.status {
+        7 => NumberFormatError::Limit,
+        10 => NumberFormatError::UnknownLocale,
+        16 => NumberFormatError::SkeletonSyntax(failure.at),
+        17 => NumberFormatError::SkeletonUnsupported(failure.at),
+        18 => NumberFormatError::UnknownNumberingSystem,
         _ => failure.never(),
     }
 }
@@ -129,14 +140,52 @@ impl Decimal {
     /// # Ok::<(), NumberFormatError>(())
     /// ```
     pub fn format_number(&self, locale: &str, skeleton: &str) -> Result<String, NumberFormatError> {
-        ffi::format_number(&self.text, locale, skeleton).map_err(|failure| match failure.status {
-            7 => NumberFormatError::Limit,
-            10 => NumberFormatError::UnknownLocale,
-            16 => NumberFormatError::SkeletonSyntax(failure.at),
-            17 => NumberFormatError::SkeletonUnsupported(failure.at),
-            18 => NumberFormatError::UnknownNumberingSystem,
-            _ => failure.never(),
-        })
+        ffi::format_number(&self.text, locale, skeleton).map_err(number_format_error)
+    }
+
+    /// Reads a text that [`format_number`](Decimal::format_number) writes by this locale and this skeleton, with its
+    /// groups or without any. The value is the one that is shown, with the scale of the skeleton undone.
+    ///
+    /// # Errors
+    ///
+    /// The first that holds: of the skeleton, of the locale, their numbers are not read, or the text is none of them.
+    ///
+    /// ```
+    /// # use fixed_decimal_proved::{Decimal, NumberReadError};
+    /// let value = Decimal::read_number("de", "currency/EUR", "-1.234,50\u{a0}€")?;
+    /// assert_eq!(value.to_string(), "-1234.50");
+    /// assert_eq!(Decimal::read_number("es", "K", "1,2\u{a0}mil"), Err(NumberReadError::Unreadable));
+    /// # Ok::<(), NumberReadError>(())
+    /// ```
+    pub fn read_number(locale: &str, skeleton: &str, text: &str) -> Result<Self, NumberReadError> {
+        Self::read_number_by(locale, skeleton, text, false)
+    }
+
+    /// Reads a number as people type it: as [`read_lenient`](Decimal::read_lenient), with the symbol or the code of the
+    /// currency, or the percent sign, on either side, or with nothing around it.
+    ///
+    /// # Errors
+    ///
+    /// As [`read_number`](Decimal::read_number).
+    ///
+    /// ```
+    /// # use fixed_decimal_proved::{Decimal, NumberReadError};
+    /// assert_eq!(Decimal::read_number_lenient("de", "currency/EUR", "EUR 1.234,5")?.to_string(), "1234.5");
+    /// # Ok::<(), NumberReadError>(())
+    /// ```
+    pub fn read_number_lenient(locale: &str, skeleton: &str, text: &str) -> Result<Self, NumberReadError> {
+        Self::read_number_by(locale, skeleton, text, true)
+    }
+
+    fn read_number_by(locale: &str, skeleton: &str, text: &str, lenient: bool) -> Result<Self, NumberReadError> {
+        match ffi::read_number(text, locale, skeleton, lenient) {
+            Ok(text) => Ok(Decimal { text: Text::Long(text) }),
+            Err(failure) => Err(match failure.status {
+                1 | 2 => NumberReadError::Text(parse_error(failure)),
+                19 => NumberReadError::Unreadable,
+                _ => NumberReadError::Format(number_format_error(failure)),
+            }),
+        }
     }
 
     /// Reads a text that [`format`](Decimal::format) writes, with its groups or without any.
@@ -177,7 +226,7 @@ impl Decimal {
         let read = FdForm { count: locale.len(), option: reading, ..FdForm::default() };
         let forms = FdForms { read, ..FdForms::default() };
         match ffi::convert(text.as_bytes(), &forms, locale.as_bytes()) {
-            Ok(text) => Ok(Decimal { text }),
+            Ok(text) => Ok(Decimal { text: Text::Long(text) }),
             Err(failure) if failure.status == 10 => Err(ReadError::UnknownLocale),
             Err(failure) => Err(ReadError::Text(parse_error(failure))),
         }
@@ -691,7 +740,7 @@ impl fmt::Display for Decimal {
 
 impl fmt::Debug for Decimal {
     fn fmt(&self, f: &mut fmt::Formatter<'_>) -> fmt::Result {
-        write!(f, "Decimal({})", self.text)
+        write!(f, "Decimal({})", self.as_str())
     }
 }
 
@@ -699,7 +748,7 @@ macro_rules! integers {
     ($($integer:ty),*) => { $(
         impl From<$integer> for Decimal {
             fn from(integer: $integer) -> Self {
-                Decimal { text: integer.to_string() }
+                Decimal { text: Text::Long(integer.to_string()) }
             }
         }
 

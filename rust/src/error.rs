@@ -78,6 +78,17 @@ pub enum NumberFormatError {
     Limit,
 }
 
+/// Why a text is not read by a locale and a skeleton.
+#[derive(Clone, Copy, Debug, PartialEq, Eq)]
+pub enum NumberReadError {
+    /// There is no such skeleton or locale.
+    Format(NumberFormatError),
+    /// The numbers of the skeleton are not read: they have an exponent or words, or two have the same text.
+    Unreadable,
+    /// The text is not a number in this form.
+    Text(ParseError),
+}
+
 /// Why a text is no plural rules.
 #[derive(Clone, Copy, Debug, PartialEq, Eq)]
 pub enum RulesError {
@@ -144,6 +155,16 @@ impl fmt::Display for NumberFormatError {
     }
 }
 
+impl fmt::Display for NumberReadError {
+    fn fmt(&self, f: &mut fmt::Formatter<'_>) -> fmt::Result {
+        match self {
+            NumberReadError::Format(error) => error.fmt(f),
+            NumberReadError::Unreadable => f.write_str("the numbers of the skeleton are not read"),
+            NumberReadError::Text(error) => error.fmt(f),
+        }
+    }
+}
+
 impl fmt::Display for RulesError {
     fn fmt(&self, f: &mut fmt::Formatter<'_>) -> fmt::Result {
         match self {
@@ -160,4 +181,5 @@ impl Error for IntegerError {}
 impl Error for ReadError {}
 impl Error for UnknownLocale {}
 impl Error for NumberFormatError {}
+impl Error for NumberReadError {}
 impl Error for RulesError {}

@@ -1,6 +1,8 @@
 //! The functions of `c/fixed_decimal.h` that the crate calls, behind safe ones. This is the only module with `unsafe`.
 #![allow(unsafe_code)]
 use crate::error::Failure;
+use std::hash::{Hash, Hasher};
+use std::ops::Deref;
 
 const OK: u32 = 0;
 const BUFFER_TOO_SMALL: u32 = 8;
@@ -76,21 +78,72 @@ extern "C" {
         text: *const u8, count: usize, tag: *const u8, tag_count: usize,
         skeleton: *const u8, skeleton_count: usize, buffer: *mut u8, capacity: usize,
     ) -> FdResult;
+    #[rustfmt::skip]
+    fn fd_read_number(
+        text: *const u8, count: usize, tag: *const u8, tag_count: usize,
+        skeleton: *const u8, skeleton_count: usize, lenient: u32, buffer: *mut u8, capacity: usize,
+    ) -> FdResult;
     fn fd_compare(left: *const u8, left_count: usize, right: *const u8, right_count: usize) -> FdNumber;
     fn fd_category(rules: *const u8, rules_count: usize, text: *const u8, count: usize) -> FdNumber;
     fn fd_plural_rules(tag: *const u8, count: usize, rule_type: u32) -> FdUnsigned;
     fn fd_category_of(rules: u64, text: *const u8, count: usize) -> FdNumber;
 }
 
+/// How many bytes are kept in place.
+const IN_PLACE: usize = 30;
+
+/// The text of a decimal, in place if it is short.
+#[derive(Clone)]
+pub(crate) enum Text {
+    Short { count: u8, bytes: [u8; IN_PLACE] },
+    Long(String),
+}
+
+impl Deref for Text {
+    type Target = str;
+
+    fn deref(&self) -> &str {
+        match self {
+            // SAFETY: `run` alone makes it, of the ASCII that `fd_run` writes.
+            Text::Short { count, bytes } => unsafe { std::str::from_utf8_unchecked(&bytes[..usize::from(*count)]) },
+            Text::Long(text) => text,
+        }
+    }
+}
+
+impl PartialEq for Text {
+    fn eq(&self, other: &Text) -> bool {
+        **self == **other
+    }
+}
+
+impl Eq for Text {}
+
+impl Hash for Text {
+    fn hash<H: Hasher>(&self, state: &mut H) {
+        (**self).hash(state);
+    }
+}
+
 /// Makes calls on the decimal that `start` writes; operands are parts of `texts`.
-pub(crate) fn run(start: &[u8], calls: &[FdCall], texts: &[u8]) -> Result<String, Failure> {
-    text(start.len() + texts.len() + ROOM, |buffer, capacity| {
+pub(crate) fn run(start: &[u8], calls: &[FdCall], texts: &[u8]) -> Result<Text, Failure> {
+    let write = |buffer: *mut u8, capacity| {
         // SAFETY: each pointer is that of a slice of the length beside it, and the buffer has the capacity.
         unsafe {
             let (calls, call_count) = (calls.as_ptr(), calls.len());
             fd_run(start.as_ptr(), start.len(), calls, call_count, texts.as_ptr(), texts.len(), buffer, capacity)
         }
-    })
+    };
+    if start.len() + texts.len() <= IN_PLACE {
+        let mut bytes = [0; IN_PLACE];
+        let answer = write(bytes.as_mut_ptr(), IN_PLACE);
+        match answer.status {
+            OK => return Ok(Text::Short { count: answer.count as u8, bytes }),
+            BUFFER_TOO_SMALL => {}
+            status => return Err(Failure::new(status, answer.at)),
+        }
+    }
+    text(start.len() + texts.len() + ROOM, write).map(Text::Long)
 }
 
 /// Reads a text in one form, and writes it in another; the tags are parts of `texts`.
@@ -114,6 +167,17 @@ pub(crate) fn format_number(start: &str, locale: &str, skeleton: &str) -> Result
         unsafe {
             fd_format_number(start.as_ptr(), start.len(), tag, tag_count, skeleton, skeleton_count, buffer, capacity)
         }
+    })
+}
+
+/// Reads a number as a locale writes it by a number skeleton.
+pub(crate) fn read_number(written: &str, locale: &str, skeleton: &str, lenient: bool) -> Result<String, Failure> {
+    text(written.len() + ROOM, |buffer, capacity| {
+        let (tag, tag_count) = (locale.as_ptr(), locale.len());
+        let (skeleton, skeleton_count) = (skeleton.as_ptr(), skeleton.len());
+        let (start, count, lenient) = (written.as_ptr(), written.len(), u32::from(lenient));
+        // SAFETY: as in `run`.
+        unsafe { fd_read_number(start, count, tag, tag_count, skeleton, skeleton_count, lenient, buffer, capacity) }
     })
 }
 

@@ -15,6 +15,7 @@ mod options;
 
 pub use decimal::Decimal;
 pub use error::{
-    IntegerError, LimitError, NumberFormatError, OverlapError, ParseError, ReadError, RulesError, UnknownLocale,
+    IntegerError, LimitError, NumberFormatError, NumberReadError, OverlapError, ParseError, ReadError, RulesError,
+    UnknownLocale,
 };
 pub use options::{PluralCategory, RoundingIncrement, Sign, SignDisplay, SignedRoundingMode, UnsignedRoundingMode};

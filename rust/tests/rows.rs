@@ -2,8 +2,8 @@
 use fixed_decimal_proved::SignedRoundingMode::{Ceil, Floor, HalfCeil, HalfFloor};
 use fixed_decimal_proved::UnsignedRoundingMode::{Expand, HalfEven, HalfExpand, HalfTrunc, Trunc};
 use fixed_decimal_proved::{
-    Decimal, IntegerError, LimitError, NumberFormatError, OverlapError, ParseError, PluralCategory, ReadError,
-    RoundingIncrement, RulesError, Sign, SignDisplay, SignedRoundingMode, UnknownLocale,
+    Decimal, IntegerError, LimitError, NumberFormatError, NumberReadError, OverlapError, ParseError, PluralCategory,
+    ReadError, RoundingIncrement, RulesError, Sign, SignDisplay, SignedRoundingMode, UnknownLocale,
 };
 use std::cmp::Ordering;
 use std::error::Error;
@@ -212,6 +212,29 @@ fn skeletons() {
         ("1e32767", "en", "scale/100", NumberFormatError::Limit),
     ] {
         assert_eq!(decimal(text).format_number(locale, skeleton), Err(error), "{locale} {skeleton}");
+    }
+}
+
+/// Texts of ICU, read, and each error.
+#[test]
+fn numbers_are_read() {
+    for (locale, skeleton, text, own) in [
+        ("de", "currency/EUR", "-1.234,50\u{a0}€", "-1234.50"),
+        ("en", "%x100 .0#", "12.5%", "0.125"),
+        ("en", "currency/USD sign-accounting", "($1,234.50)", "-1234.50"),
+        ("hi-u-nu-deva", "currency/INR", "₹१२,३४,५६७.५०", "1234567.50"),
+    ] {
+        assert_eq!(Decimal::read_number(locale, skeleton, text), Ok(decimal(own)), "{locale} {skeleton}");
+        assert_eq!(Decimal::read_number_lenient(locale, skeleton, text), Ok(decimal(own)), "{locale} {skeleton}");
+    }
+    assert_eq!(Decimal::read_number_lenient("de", "currency/EUR", "1.234,5 EUR"), Ok(decimal("1234.5")));
+    for (locale, skeleton, text, error) in [
+        ("de", "percent/w", "x", NumberReadError::Format(NumberFormatError::SkeletonSyntax(7))),
+        ("tlh", "percent", "x", NumberReadError::Format(NumberFormatError::UnknownLocale)),
+        ("de", "scientific", "x", NumberReadError::Unreadable),
+        ("de", "percent", "x", NumberReadError::Text(ParseError::Syntax)),
+    ] {
+        assert_eq!(Decimal::read_number(locale, skeleton, text), Err(error), "{locale} {skeleton}");
     }
 }
 

@@ -14,7 +14,7 @@ use Rattle.cli.specs.declared.targets.Target.{Target}
 use Rattle.cli.specs.declared.targets.Target.TheVariants.{One, Fields}
 use Rattle.cli.specs.Error.{status_of_operation, error_of_line}
 use Rattle.cli.specs.FieldConversion.{IsTextResult, is_trimmed, IsFieldResult, IsLineResult, HasLineText, LineFails, map_text, with_text}
-use Rattle.cli.specs.Fields.{Holds, located, within, replaced}
+use Rattle.cli.specs.Fields.{Holds, located, within, replaced, bytes_of}
 use Rattle.cli.specs.Filter.{body_of, IsTargetResult, TargetFails, HasConvertedLine, ConvertingFails, ConversionFails, IsResultOfLine, filtered_line, is_broken_row, RowFails, IsResultOfRow}
 use Rattle.cli.specs.Trim.{text_of, with_text_of, body_bounds}
 use Rattle.cli.proofs.Conversions.{error_is_outcome}
@@ -187,6 +187,27 @@ module _ (trims : Bool) (number : ℕ) (line : List ℕ) (field : Option Field) 
         (error : OperationError) → LineFails trims field conversion (within line body) error
         → LineFails trims field conversion (within line (body_bounds trims number line)) error
     one_fails error fails = subst (λ b. LineFails trims field conversion (within line b) error) is_body fails
+
+-- the field between these bounds of what is converted is converted
+module _
+    (trims : Bool) (number : ℕ) (line : List ℕ) (field : Field) (conversion : Conversion) (body : ℕ × ℕ)
+    (is_body : body ≡ body_bounds trims number line) (ordered : body.0 ≤ body.1) (inside : body.1 ≤ length line)
+    (bounds : ℕ × ℕ) (found : located field (within line body) ≡ Ok bounds)
+  where
+    pub field_line :
+        bounds.0 ≤ bounds.1 → bounds.1 ≤ length (within line body) → (text : List ℕ)
+        → IsFieldResult trims field conversion (within (within line body) bounds) (Ok text) → (P : List ℕ → Type 0)
+        → P (with_text field line (body.0 + bounds.0, body.0 + bounds.1) text)
+        → HasLineText trims (Some field) conversion (within line (body_bounds trims number line))
+        (λ all. P (replaced line (body_bounds trims number line) all))
+    field_line within_ordered within_inside text is P p =
+        let bytes = within line body in
+        one_line trims number line (Some field) conversion body is_body P (
+          with_text field bytes bounds text,
+          line_result trims field conversion bytes bounds found (Ok text) is,
+          subst P (sym (replaced_within line (bytes_of field text) body bounds ordered inside within_ordered
+              within_inside)) p,
+        )
 
 -- without `trim` and a field all bytes are converted
 module _

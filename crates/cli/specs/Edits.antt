@@ -5,6 +5,7 @@ use Rattle.cli.specs.declared.edits.FieldConversion.{FieldConversion}
 use Rattle.cli.specs.declared.error.LineError.{LineError}
 use Rattle.cli.specs.declared.error.OperationError.{OperationError}
 use Rattle.cli.specs.declared.error.OperationError.TheVariants.{Memory}
+use Rattle.cli.specs.Error.{line_error}
 use Rattle.cli.specs.FieldConversion.{IsFieldResult}
 use Rattle.cli.specs.Fields.{located, within, bytes_of}
 
@@ -24,7 +25,7 @@ HasNoEdit trims it line error =
 
 -- an error as that of a field
 abbrev pub error_of_field : FieldConversion → OperationError → LineError
-error_of_field it error = record { field = Some it.field.index; error = error }
+error_of_field it error = line_error (Some it.field.index) error
 
 -- ---- The edits of several fields.
 

@@ -1,5 +1,5 @@
 -- The errors of the programs, and the exit status that goes with each.
-use Rattle.std.specs.Prelude.{ℕ, Bool, true, false, None}
+use Rattle.std.specs.Prelude.{ℕ, Bool, true, false, Option, None}
 use Rattle.decimal_unsigned.specs.declared.error.ParseError.TheVariants as parse
 use Rattle.decimal_unsigned.specs.Reading.{ReadError, syntax, limit}
 use Rattle.plural_rules.specs.declared.parse.RulesError.TheVariants as rules
@@ -45,9 +45,13 @@ status_of_operation FormatOverflow = 1
 status_of_operation Memory = 3
 status_of_operation Output = 3
 
+-- an error of a line, of the field with this index if it is that of one of several
+abbrev pub line_error : Option ℕ → OperationError → LineError
+line_error field error = record { field = field; error = error }
+
 -- an error of a line, and not of one of several fields
 abbrev pub error_of_line : OperationError → LineError
-error_of_line error = record { field = None; error = error }
+error_of_line error = line_error None error
 
 -- the status of an error before the work: 3 of out of memory and of failed output, 2 of wrong words
 abbrev pub status_of_words : WordsError → ℕ

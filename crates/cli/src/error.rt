@@ -229,20 +229,6 @@ impl From<OperationError> for LineError {
     }
 }
 
-impl From<SinkFault> for LineError {
-    ghost use Rattle.cli.specs.declared.error.OperationError.TheVariants.{Output};
-    ghost use Rattle.cli.specs.Error.{error_of_line};
-
-    ghost from_gives = { λ _ result. result ≡ error_of_line Output };
-
-    fn from(_error: SinkFault) -> LineError {
-        LineError {
-            field: None,
-            error: OperationError::Output,
-        }
-    }
-}
-
 /// The error of a program. Lines and texts have 1-based numbers.
 #[derive(Clone, Copy, Debug, PartialEq, Error)]
 pub enum ProgramError {

@@ -1,6 +1,7 @@
 //! The filter: the conversion of each line, or record, of an input.
-ghost use Rattle.std.specs.Prelude.{◌≡◌, ◌≢◌, ◌<◌, ◌∷◌, ◌++◌, [], Ok, Err, Some, true, false, IsSome, IfErr, IfOk, IfSome, OnOk, OnErr};
+ghost use Rattle.std.specs.Prelude.{◌≡◌, ◌≢◌, ◌<◌, ◌∷◌, ◌++◌, [], Ok, Err, Some, None, true, false, IsSome, IfErr, IfOk, IfSome, OnOk, OnErr};
 ghost use Rattle.cli.specs.Edits.{HasEditedText, EditingFails};
+ghost use Rattle.cli.specs.Error.{line_error};
 ghost use Rattle.std.specs.Io.KnownBytes.{Appends, IsAtEnd};
 ghost use Rattle.decimal_digits.specs.AppendsPrefix.{AppendsPrefix};
 ghost use Rattle.memchr.specs.Find.{IsFirstByte, is_byte};
@@ -147,6 +148,7 @@ impl Filter<'_> {
         }
     }
 
+    /// Converts several fields. `failed` becomes the index of the field that fails.
     #[inline(never)]
     fn convert_fields<W: Sink>(
         &self,
@@ -155,26 +157,32 @@ impl Filter<'_> {
         number: u64,
         line: &[u8],
         sink: &mut W,
-    ) -> Result<(), LineError>
+        failed: &mut Option<usize>,
+    ) -> Result<(), OperationError>
         ensures printed { OnOk result
             (HasEditedText self.now.trims fields.now (body_of self.now number line.now)
             (λ text. Appends (W.contents sink.old) (W.contents sink.new)
             (replaced line.now (body_bounds self.now.trims number line.now) text))) }
-        ensures fails_with { IfErr result (λ error. error.error ≢ OperationError.Output →
-            EditingFails self.now.trims fields.now (body_of self.now number line.now) error) }
-        ensures unchanged_on_error { IfErr result (λ error. error.error ≢ OperationError.Output
-            → sink.new ≡ sink.old) }
-        ensures failed { IfErr result (λ error. error.error ≡ OperationError.Output
-            → W.has_failed sink.new ≡ true) }
-        ensures prefix { IfErr result (λ error. error.error ≡ OperationError.Output →
+        ensures fails_with { IfErr result (λ error. error ≢ OperationError.Output →
+            EditingFails self.now.trims fields.now (body_of self.now number line.now)
+            (line_error failed.new error)) }
+        ensures unchanged_on_error { IfErr result (λ error. error ≢ OperationError.Output → sink.new ≡ sink.old) }
+        ensures failed { result ≡ Err OperationError.Output → W.has_failed sink.new ≡ true }
+        ensures prefix { result ≡ Err OperationError.Output →
             HasEditedText self.now.trims fields.now (body_of self.now number line.now)
             (λ text. AppendsPrefix (W.contents sink.old) (W.contents sink.new)
-            (replaced line.now (body_bounds self.now.trims number line.now) text))) }
+            (replaced line.now (body_bounds self.now.trims number line.now) text)) }
     {
         let body = body_bounds(self.trims, number, line);
         let bytes = &line[body.0..body.1];
         let mut edits = Vec::new(alloc);
-        insert_edits(alloc, self.trims, fields, bytes, &mut edits)?;
+        match insert_edits(alloc, self.trims, fields, bytes, &mut edits) {
+            Ok(()) => {}
+            Err(error) => {
+                *failed = error.field;
+                return Err(error.error);
+            }
+        }
         write_edited(line, body, edits.as_slice(), sink)?;
         Ok(())
     }
@@ -186,25 +194,24 @@ impl Filter<'_> {
         number: u64,
         line: &[u8],
         sink: &mut W,
-    ) -> Result<(), LineError>
+        failed: &mut Option<usize>,
+    ) -> Result<(), OperationError>
+        requires { failed.now ≡ None }
         ensures printed { OnOk result (HasConvertedLine self.now number line.now
             (Appends (W.contents sink.old) (W.contents sink.new))) }
-        ensures fails_with { IfErr result (λ error. error.error ≢ OperationError.Output
-            → ConvertingFails self.now number line.now error) }
-        ensures unchanged_on_error { IfErr result (λ error. error.error ≢ OperationError.Output
-            → sink.new ≡ sink.old) }
-        ensures failed { IfErr result (λ error. error.error ≡ OperationError.Output
-            → W.has_failed sink.new ≡ true) }
-        ensures prefix { IfErr result (λ error. error.error ≡ OperationError.Output
-            → HasConvertedLine self.now number line.now (AppendsPrefix (W.contents sink.old) (W.contents sink.new))) }
+        ensures fails_with { IfErr result (λ error. error ≢ OperationError.Output
+            → ConvertingFails self.now number line.now (line_error failed.new error)) }
+        ensures unchanged_on_error { IfErr result (λ error. error ≢ OperationError.Output → sink.new ≡ sink.old) }
+        ensures failed { result ≡ Err OperationError.Output → W.has_failed sink.new ≡ true }
+        ensures prefix { result ≡ Err OperationError.Output → HasConvertedLine self.now number line.now
+            (AppendsPrefix (W.contents sink.old) (W.contents sink.new)) }
     {
         match &self.target {
             Target::One(field, conversion) => {
-                self.convert_one(alloc, field, conversion, number, line, sink)?;
-                Ok(())
+                self.convert_one(alloc, field, conversion, number, line, sink)
             }
             Target::Fields(fields) => {
-                self.convert_fields(alloc, fields.as_slice(), number, line, sink)
+                self.convert_fields(alloc, fields.as_slice(), number, line, sink, failed)
             }
         }
     }
@@ -216,28 +223,29 @@ impl Filter<'_> {
         number: u64,
         line: &[u8],
         sink: &mut W,
-    ) -> Result<(), LineError>
+        failed: &mut Option<usize>,
+    ) -> Result<(), OperationError>
+        requires { failed.now ≡ None }
         ensures printed { OnOk result (HasText self.now number line.now
             (λ text. Appends (W.contents sink.old) (W.contents sink.new) (text ++ 10 ∷ []))) }
-        ensures fails_with { IfErr result (λ error. error.error ≢ OperationError.Output
-            → ConversionFails self.now number line.now error) }
-        ensures unchanged_on_error { IfErr result (λ error. error.error ≢ OperationError.Output
-            → sink.new ≡ sink.old) }
-        ensures failed { IfErr result (λ error. error.error ≡ OperationError.Output
-            → W.has_failed sink.new ≡ true) }
-        ensures prefix { IfErr result (λ error. error.error ≡ OperationError.Output → HasText self.now number line.now
-            (λ text. AppendsPrefix (W.contents sink.old) (W.contents sink.new) (text ++ 10 ∷ []))) }
+        ensures fails_with { IfErr result (λ error. error ≢ OperationError.Output
+            → ConversionFails self.now number line.now (line_error failed.new error)) }
+        ensures unchanged_on_error { IfErr result (λ error. error ≢ OperationError.Output → sink.new ≡ sink.old) }
+        ensures failed { result ≡ Err OperationError.Output → W.has_failed sink.new ≡ true }
+        ensures prefix { result ≡ Err OperationError.Output → HasText self.now number line.now
+            (λ text. AppendsPrefix (W.contents sink.old) (W.contents sink.new) (text ++ 10 ∷ [])) }
     {
         if self.is_header(number) {
             copy_line(line, sink)?;
             return Ok(());
         }
-        self.convert(alloc, number, line, sink)?;
+        self.convert(alloc, number, line, sink, failed)?;
         sink.put_byte(b'\n')?;
         Ok(())
     }
 
-    /// Writes the text of the row that begins at the line with this number, and a line feed.
+    /// Writes the text of the row that begins at the line with this number, and a line feed. If one of several fields
+    /// fails, `failed` becomes its index.
     #[inline(always)]
     fn print_row<W: Sink>(
         &self,
@@ -245,22 +253,22 @@ impl Filter<'_> {
         number: u64,
         row: &[u8],
         sink: &mut W,
-    ) -> Result<(), LineError>
+        failed: &mut Option<usize>,
+    ) -> Result<(), OperationError>
+        requires { failed.now ≡ None }
         ensures printed { OnOk result (HasRowText self.now number row.now
             (λ text. Appends (W.contents sink.old) (W.contents sink.new) (text ++ 10 ∷ []))) }
-        ensures fails_with { IfErr result (λ error. error.error ≢ OperationError.Output
-            → RowFails self.now number row.now error) }
-        ensures unchanged_on_error { IfErr result (λ error. error.error ≢ OperationError.Output
-            → sink.new ≡ sink.old) }
-        ensures failed { IfErr result (λ error. error.error ≡ OperationError.Output
-            → W.has_failed sink.new ≡ true) }
-        ensures prefix { IfErr result (λ error. error.error ≡ OperationError.Output → HasRowText self.now number row.now
-            (λ text. AppendsPrefix (W.contents sink.old) (W.contents sink.new) (text ++ 10 ∷ []))) }
+        ensures fails_with { IfErr result (λ error. error ≢ OperationError.Output
+            → RowFails self.now number row.now (line_error failed.new error)) }
+        ensures unchanged_on_error { IfErr result (λ error. error ≢ OperationError.Output → sink.new ≡ sink.old) }
+        ensures failed { result ≡ Err OperationError.Output → W.has_failed sink.new ≡ true }
+        ensures prefix { result ≡ Err OperationError.Output → HasRowText self.now number row.now
+            (λ text. AppendsPrefix (W.contents sink.old) (W.contents sink.new) (text ++ 10 ∷ [])) }
     {
         if self.has_records && is_broken(row) {
-            return Err(LineError::from(OperationError::Quote));
+            return Err(OperationError::Quote);
         }
-        self.print(alloc, number, row, sink)
+        self.print(alloc, number, row, sink, failed)
     }
 
     /// Returns where the first line of a block ends. None: it is not whole in it, or it may be a part of a record.
@@ -318,17 +326,16 @@ fn filter_line<W: Sink, D: Diagnostics<ProgramError>>(
         (record { before = diagnostics.old; after = diagnostics.new }) result }
     ensures failed { result ≡ Err ProgramError.Output → W.has_failed out.new ≡ true }
 {
-    let error = match filter.print_row(alloc, number, line, out) {
+    let mut field = None;
+    let error = match filter.print_row(alloc, number, line, out, &mut field) {
         Ok(()) => return Ok(true),
+        Err(OperationError::Output) => return Err(ProgramError::Output),
         Err(error) => error,
     };
-    if let OperationError::Output = error.error {
-        return Err(ProgramError::Output);
-    }
-    let is_rejected = error.error.status() == 1;
+    let is_rejected = error.status() == 1;
     let error = ProgramError::Line {
         line: number,
-        error,
+        error: LineError { field, error },
     };
     if filter.on_error == OnError::Stop || !is_rejected {
         return Err(error);

@@ -5,7 +5,7 @@ use Rattle.decimal_unsigned.specs.declared.error.ParseError.TheVariants as parse
 use Rattle.fixed_decimal.specs.declared.runs.RunError.{RunError}
 use Rattle.fixed_decimal.specs.declared.runs.RunError.TheVariants as run
 use Rattle.fixed_decimal_c.specs.declared.error.FdError.{FdError}
-use Rattle.fixed_decimal_c.specs.declared.error.FdError.TheVariants.{Syntax, Limit, Memory, OperandSyntax, OperandLimit, Overlap, Overflow, BufferTooSmall, UnknownCall, UnknownLocale, UnknownOption, NotWhole, OutOfRange, RulesSyntax, RulesLimit, SkeletonSyntax, SkeletonUnsupported, UnknownNumberingSystem}
+use Rattle.fixed_decimal_c.specs.declared.error.FdError.TheVariants.{Syntax, Limit, Memory, OperandSyntax, OperandLimit, Overlap, Overflow, BufferTooSmall, UnknownCall, UnknownLocale, UnknownOption, NotWhole, OutOfRange, RulesSyntax, RulesLimit, SkeletonSyntax, SkeletonUnsupported, UnknownNumberingSystem, UnreadableFormat}
 
 -- the status of an error
 abbrev pub status_of : FdError → ℕ
@@ -27,6 +27,7 @@ status_of (RulesLimit at) = 15
 status_of (SkeletonSyntax at) = 16
 status_of (SkeletonUnsupported at) = 17
 status_of UnknownNumberingSystem = 18
+status_of UnreadableFormat = 19
 
 -- where an error is: the number of a text or a call, or a byte of rules or of a skeleton
 abbrev pub place_of : FdError → ℕ

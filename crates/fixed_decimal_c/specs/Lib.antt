@@ -8,6 +8,7 @@ pub mod Numbers
 pub mod NumberTexts
 pub mod Forms
 pub mod Formats
+pub mod NumberReadings
 pub mod Conversions
 pub mod Lines
 pub mod Categories

@@ -43,6 +43,8 @@ pub enum FdError {
     SkeletonUnsupported { at: usize },
     /// The numbering system of the skeleton is unknown.
     UnknownNumberingSystem,
+    /// The numbers of the locale and the skeleton cannot be read.
+    UnreadableFormat,
 }
 
 impl FdError {
@@ -68,6 +70,7 @@ impl FdError {
             FdError::SkeletonSyntax { .. } => 16,
             FdError::SkeletonUnsupported { .. } => 17,
             FdError::UnknownNumberingSystem => 18,
+            FdError::UnreadableFormat => 19,
         }
     }
 

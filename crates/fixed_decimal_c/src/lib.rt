@@ -13,6 +13,7 @@ ghost use Rattle.fixed_decimal_c.specs.Numbers.{Compares, Equates, HasSign, HasI
 ghost use Rattle.fixed_decimal_c.specs.Locales.{IsLocaleNumber, IsRulesNumber, IsNamedRulesNumber};
 ghost use Rattle.fixed_decimal_c.specs.Categories.{HasCategory, HasCategoryOf};
 ghost use Rattle.fixed_decimal_c.specs.Formats.{FormatsNumber};
+ghost use Rattle.fixed_decimal_c.specs.NumberReadings.{ReadsNumber};
 
 mod answer;
 mod block;
@@ -23,6 +24,7 @@ mod error;
 mod forms;
 mod lines;
 mod locales;
+mod number_reading;
 mod number_text;
 mod numbers;
 mod texts;
@@ -38,6 +40,7 @@ pub use forms::{FdForm, FdForms};
 pub use lines::Progress;
 use lines::convert_column;
 use locales::{number_of_locale, number_of_named_rules, number_of_plural_rules};
+use number_reading::read_number;
 use number_text::format_number;
 use numbers::{compare_texts, equal_texts, sign_of, to_i64, to_u64};
 use std::alloc::Global;
@@ -114,6 +117,25 @@ pub fn fd_format_number(
         (λ answer. FormatsNumber answer text.now locale.now skeleton.now buffer.old buffer.new) }
 {
     encode(format_number(alloc, text, locale, skeleton, buffer))
+}
+
+/// Reads a number that [`fd_format_number`] writes by this tag and this skeleton, and writes the own text of the value
+/// that is shown. With `lenient` the number may be as people type it.
+///
+/// The errors, the first that holds: as `fd_format_number` of the skeleton and the locale; `UnreadableFormat`, if the
+/// formatter has no reader; of the text; `BufferTooSmall`.
+pub fn fd_read_number(
+    alloc: Global,
+    text: &[u8],
+    locale: &[u8],
+    skeleton: &[u8],
+    lenient: u32,
+    buffer: &mut [u8],
+) -> FdResult
+    ensures { Encodes result
+        (λ answer. ReadsNumber answer text.now locale.now skeleton.now (nat_lt 0 lenient) buffer.old buffer.new) }
+{
+    encode(read_number(alloc, text, locale, skeleton, lenient > 0, buffer))
 }
 
 /// Compares the numbers of two decimals: -1, 0 or 1.

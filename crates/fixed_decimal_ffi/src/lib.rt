@@ -10,6 +10,7 @@ ghost use Rattle.fixed_decimal_c.specs.Numbers.{Compares, Equates, HasSign, HasI
 ghost use Rattle.fixed_decimal_c.specs.Locales.{IsLocaleNumber, IsRulesNumber, IsNamedRulesNumber};
 ghost use Rattle.fixed_decimal_c.specs.Categories.{HasCategory, HasCategoryOf};
 ghost use Rattle.fixed_decimal_c.specs.Formats.{FormatsNumber};
+ghost use Rattle.fixed_decimal_c.specs.NumberReadings.{ReadsNumber};
 
 use fixed_decimal_c::{FdCall, FdColumn, FdForms, FdNumber, FdResult, FdUnsigned};
 use std::alloc::Global;
@@ -76,6 +77,21 @@ pub extern "C" fn fd_format_number(
         (λ answer. FormatsNumber answer text.now locale.now skeleton.now buffer.old buffer.new) }
 {
     fixed_decimal_c::fd_format_number(alloc, text, locale, skeleton, buffer)
+}
+
+#[unsafe(no_mangle)]
+pub extern "C" fn fd_read_number(
+    alloc: Global,
+    text: &[u8],
+    locale: &[u8],
+    skeleton: &[u8],
+    lenient: u32,
+    buffer: &mut [u8],
+) -> FdResult
+    ensures { Encodes result
+        (λ answer. ReadsNumber answer text.now locale.now skeleton.now (nat_lt 0 lenient) buffer.old buffer.new) }
+{
+    fixed_decimal_c::fd_read_number(alloc, text, locale, skeleton, lenient, buffer)
 }
 
 #[unsafe(no_mangle)]

@@ -1,15 +1,17 @@
 -- The ranges of compact patterns are parts of tables, and their texts are texts, by computation.
-use Rattle.std.proofs.Common.{◌≡◌, ℕ, ℤ, ◌==◌, ◌&&◌, Bool, true, false, cond, List, length, Option, Some, None, refl, subst, sym, ◌⊎◌, inl, inr}
+use Rattle.std.proofs.Common.{◌≡◌, ℕ, ℤ, ◌==◌, ◌&&◌, Bool, true, false, cond, List, [], ◌∷◌, length, Option, Some, None, refl, subst, sym, ap, ◌∙◌, ◌⊎◌, inl, inr}
 use Rattle.std.proofs.lemmas.Bool.{and_parts}
-use Rattle.std.specs.Prelude.{slice_get, IfSome, pos, int_le}
+use Rattle.std.proofs.lemmas.Option.{same_Some}
+use Rattle.std.specs.Prelude.{slice_get, IfSome, pos, int_le, not}
 use Rattle.std.specs.Borrow.{Bor}
 use Rattle.std.specs.List.{list_all, Contains}
-use Rattle.std.specs.Option.{option_copied, option_or}
+use Rattle.std.specs.Option.{option_copied, option_or, option_map_or}
 use Rattle.std.specs.Str.{is_utf8, chars}
 use Rattle.plural_rules.specs.declared.rules.PluralCategory.{PluralCategory}
 use Rattle.plural_rules.specs.declared.rules.PluralCategory.TheVariants as category
+use Rattle.locale_data.specs.declared.compact.CompactAffixes.{CompactAffixes}
 use Rattle.locale_data.specs.declared.compact.CompactCount.{CompactCount}
-use Rattle.locale_data.specs.declared.compact.CompactCount.TheVariants.{ExactlyOne, Other}
+use Rattle.locale_data.specs.declared.compact.CompactCount.TheVariants.{ExactlyOne, Zero, One, Two, Few, Many, Other}
 use Rattle.locale_data.specs.declared.compact.CompactPattern.{CompactPattern}
 use Rattle.locale_data.specs.declared.compact.CompactRun.{CompactRun}
 use Rattle.locale_data.specs.declared.compact.CompactSet.{CompactSet}
@@ -17,7 +19,8 @@ use Rattle.locale_data.specs.declared.compact.CompactStyle.{CompactStyle}
 use Rattle.locale_data.specs.declared.compact.CompactStyle.TheVariants.{Short, Long, Currency}
 use Rattle.locale_data.specs.declared.compact.PercentUnit.{PercentUnit}
 use Rattle.locale_data.specs.declared.compact_table.TheConstants.{COMPACT_SETS, COMPACT_RUNS, COMPACT_PATTERNS, PERCENT_UNITS}
-use Rattle.locale_data.specs.Compact.{count_of, count_code, range_of, run_at, pattern_with, pattern_for, unit_for, has_texts, has_unit_texts}
+use Rattle.locale_data.specs.declared.number_formats.NumberFormats.{NumberFormats}
+use Rattle.locale_data.specs.Compact.{count_of, count_code, range_of, run_at, pattern_with, pattern_for, pattern_in, needs_category, unit_for, has_texts, has_unit_texts, AreAffixesOf, HasAffixes, NeedsCategory}
 use Rattle.locale_data.specs.Rows.{part, is_inside}
 use Rattle.locale_data.proofs.EachRow.{passes}
 use Rattle.locale_data.proofs.SortedRows.{find_some}
@@ -130,3 +133,73 @@ pub listed_pattern : (run : CompactRun) (category : PluralCategory) (is_one : Bo
 listed_pattern run category is_one p listed e =
     contains-part COMPACT_PATTERNS run.patterns p (has_patterns_if_listed run listed)
     (for-contains category is_one (part COMPACT_PATTERNS run.patterns) p e)
+
+-- ---- A pattern of `Other` alone is for each number.
+
+only_other : (p : CompactPattern) (category : PluralCategory) (is_one : Bool)
+    → pattern_for category is_one (record p { count = Other } ∷ []) ≡ Some (record p { count = Other })
+only_other p category.Zero true = refl
+only_other p category.Zero false = refl
+only_other p category.One true = refl
+only_other p category.One false = refl
+only_other p category.Two true = refl
+only_other p category.Two false = refl
+only_other p category.Few true = refl
+only_other p category.Few false = refl
+only_other p category.Many true = refl
+only_other p category.Many false = refl
+only_other p category.Other true = refl
+only_other p category.Other false = refl
+
+is_other : (count : CompactCount) → not (count_code count == count_code Other) ≡ false → count ≡ Other
+is_other Other e = refl
+is_other ExactlyOne e = absurd (cc)
+is_other Zero e = absurd (cc)
+is_other One e = absurd (cc)
+is_other Two e = absurd (cc)
+is_other Few e = absurd (cc)
+is_other Many e = absurd (cc)
+
+none_of : (category : PluralCategory) (is_one : Bool) → pattern_for category is_one [] ≡ None
+none_of category true = refl
+none_of category false = refl
+
+same_pattern : (patterns : List CompactPattern) (a b : PluralCategory) (x y : Bool) → needs_category patterns ≡ false
+    → pattern_for a x patterns ≡ pattern_for b y patterns
+same_pattern [] a b x y e = none_of a x ∙ sym (none_of b y)
+same_pattern (p ∷ []) a b x y e = for_each a x ∙ sym (for_each b y)
+  where
+    for_each : (category : PluralCategory) (is_one : Bool) → pattern_for category is_one (p ∷ []) ≡ Some p
+    for_each category is_one =
+        subst (λ c. pattern_for category is_one (record p { count = c } ∷ []) ≡ Some (record p { count = c }))
+        (sym (is_other p.count e)) (only_other p category is_one)
+same_pattern (p ∷ (q ∷ patterns)) a b x y e = absurd (cc)
+
+pub same_affixes : (f : NumberFormats) (style : CompactStyle) (magnitude : ℤ) (a b : PluralCategory) (x y : Bool)
+    (shown : Option CompactAffixes) → NeedsCategory f style magnitude false → HasAffixes f style magnitude a x shown
+    → HasAffixes f style magnitude b y shown
+same_affixes f style magnitude a b x y shown needs has = record {
+  run = has.run;
+  of_magnitude = has.of_magnitude;
+  value = subst (λ p. AreAffixesOf p shown) (by has.run none_needed) has.value;
+}
+  where
+    set_is : has.of_magnitude.set ≡ needs.of_magnitude.set
+    set_is = same_Some _ _ (sym has.of_magnitude.listed ∙ needs.of_magnitude.listed)
+
+    run_is : has.run ≡ needs.run
+    run_is =
+        has.of_magnitude.value
+        ∙ ap (λ set. run_at (part COMPACT_RUNS (range_of set style)) magnitude) set_is
+        ∙ sym needs.of_magnitude.value
+
+    none_needed : option_map_or (λ r. needs_category (part COMPACT_PATTERNS r.patterns)) has.run false ≡ false
+    none_needed =
+        ap (λ r. option_map_or (λ r. needs_category (part COMPACT_PATTERNS r.patterns)) r false) run_is
+        ∙ sym needs.value
+
+    by : (run : Option CompactRun)
+        → option_map_or (λ r. needs_category (part COMPACT_PATTERNS r.patterns)) run false ≡ false
+        → pattern_in run a x ≡ pattern_in run b y
+    by None e = refl
+    by (Some run) e = same_pattern (part COMPACT_PATTERNS run.patterns) a b x y e

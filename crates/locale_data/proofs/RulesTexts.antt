@@ -2,14 +2,16 @@
 use Rattle.std.proofs.Common.{◌≡◌, ℕ, ◌<◌, ◌&&◌, Bool, true, List, length, codes, Option, Some, None, Result, Ok, Err, slice_get, refl, ap, subst, sym, ◌∙◌}
 use Rattle.std.proofs.lemmas.Bool.{and_parts}
 use Rattle.std.proofs.lemmas.Option.{same_Some}
-use Rattle.std.specs.Prelude.{is_some, IsSomeAnd}
+use Rattle.std.specs.Prelude.{is_some, IsSome, IsSomeAnd}
 use Rattle.std.specs.Option.{option_map}
 use Rattle.std.specs.List.{list_all}
 use Rattle.plural_rules.specs.declared.parse.RulesError.{RulesError}
 use Rattle.plural_rules.specs.declared.parse.RulesError.TheVariants.{Syntax, Limit, Memory}
 use Rattle.plural_rules.specs.declared.parse.state.State.TheVariants as state
-use Rattle.plural_rules.specs.Rules.{RuleValue}
-use Rattle.plural_rules.specs.RulesGrammar.{Grammar}
+use Rattle.plural_rules.specs.declared.rules.PluralCategory.{PluralCategory}
+use Rattle.plural_rules.specs.Operands.{Operands}
+use Rattle.plural_rules.specs.Rules.{RuleValue, category_of}
+use Rattle.plural_rules.specs.RulesGrammar.{Grammar, IsCategoryByText}
 use Rattle.plural_rules.specs.RulesParseResult.{Fits, IsParseResult}
 use Rattle.plural_rules.specs.RulesReader.{no_rules}
 use Rattle.plural_rules.proofs.ParserComplete.{grammar-unique}
@@ -26,7 +28,7 @@ use Rattle.locale_data.specs.declared.plurals.PluralRulesError.{PluralRulesError
 use Rattle.locale_data.specs.declared.plurals.PluralRulesError.TheVariants as errors
 use Rattle.locale_data.specs.declared.plurals.RulesNumber.{RulesNumber}
 use Rattle.locale_data.specs.Plurals.IsRulesText.{of_language, of_locale}
-use Rattle.locale_data.specs.Plurals.{rules_text, indexed_text, rules_text_at, IsLanguageOf, IsLocaleOf, IsRulesText, IsRulesAt, IsRulesOf}
+use Rattle.locale_data.specs.Plurals.{rules_text, indexed_text, rules_text_at, IsCategoryAt, IsLanguageOf, IsLocaleOf, IsRulesText, IsRulesAt, IsRulesOf}
 use Rattle.locale_data.proofs.EachRow.{passes, contains_at, not_past}
 
 -- a text is rules whose numbers fit
@@ -65,6 +67,17 @@ rules_of_number number text at = by (read true state.Category no_rules text) ref
         → (rules : List RuleValue) × Grammar text rules × Fits rules
     by None read some = absurd (cc)
     by (Some rules) read some = let fits = read_fits text rules read in (rules, read-sound fits.1, fits.0)
+
+-- and each number has a category
+pub category_exists : (number : RulesNumber) (n : Operands) → IsSome (rules_text_at number)
+    → (category : PluralCategory) × IsCategoryAt number n category
+category_exists number n listed = by (rules_text_at number) refl listed
+  where
+    by : (o : Option (List ℕ)) → rules_text_at number ≡ o → IsSome o
+        → (category : PluralCategory) × IsSomeAnd o (λ text. IsCategoryByText text n category)
+    by None at listed = absurd (cc)
+    by (Some text) at listed =
+        let is = rules_of_number number text at in (category_of is.0 n, (is.0, is.1, refl))
 
 -- and parsing it fails only out of memory
 pub parsing_succeeds : (number : RulesNumber) (text : List ℕ) → rules_text_at number ≡ Some text → (e : RulesError)

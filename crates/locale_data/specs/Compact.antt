@@ -1,5 +1,5 @@
 -- The compact patterns of locales.
-use Rattle.std.specs.Prelude.{◌≡◌, ◌≤◌, ◌==◌, ◌&&◌, ℕ, ℤ, pos, int_le, Bool, if◌then◌else◌, List, length, find, Option, None, Some, slice_get}
+use Rattle.std.specs.Prelude.{◌≡◌, ◌≤◌, ◌==◌, ◌&&◌, ℕ, ℤ, pos, int_le, Bool, true, false, not, if◌then◌else◌, List, [], ◌∷◌, length, find, Option, None, Some, slice_get}
 use Rattle.std.specs.Option.{option_or, option_map_or}
 use Rattle.plural_rules.specs.declared.rules.PluralCategory.{PluralCategory}
 use Rattle.plural_rules.specs.declared.rules.PluralCategory.TheVariants as category
@@ -61,6 +61,12 @@ pattern_for category is_one patterns =
     option_or (option_or (if is_one then pattern_with ExactlyOne patterns else None)
     (pattern_with (count_of category) patterns)) (pattern_with Other patterns)
 
+-- the pattern for a number depends on the number: there is one that is not of `Other`
+abbrev pub needs_category : List CompactPattern → Bool
+needs_category [] = false
+needs_category (p ∷ []) = not (count_code p.count == count_code Other)
+needs_category (p ∷ (q ∷ patterns)) = true
+
 -- the ranges of an affix are texts
 abbrev pub has_texts : AffixText → Bool
 has_texts affix = is_text COMPACT_BYTES affix.before && is_text COMPACT_BYTES affix.after
@@ -108,6 +114,12 @@ pub record HasAffixes (f : NumberFormats) (style : CompactStyle) (magnitude : �
   pub run : Option CompactRun
   pub of_magnitude : IsRun f style magnitude run
   pub value : AreAffixesOf (pattern_in run category is_one) shown
+
+-- whether the pattern for a number in the run of a magnitude depends on the number; not if there is no run
+pub record NeedsCategory (f : NumberFormats) (style : CompactStyle) (magnitude : ℤ) (needs : Bool) : Type 0 where
+  pub run : Option CompactRun
+  pub of_magnitude : IsRun f style magnitude run
+  pub value : needs ≡ option_map_or (λ r. needs_category (part COMPACT_PATTERNS r.patterns)) run false
 
 -- ---- Percent.
 

@@ -3,7 +3,7 @@ ghost use Rattle.std.specs.Prelude.{◌≡◌, ◌≤◌, length, Contains, IfSo
 ghost use Rattle.std.specs.Option.{option_copied};
 ghost use Rattle.locale_data.specs.declared.compact_table.TheConstants.{COMPACT_SETS, COMPACT_RUNS, COMPACT_PATTERNS};
 ghost use Rattle.locale_data.specs.Rows.{part};
-ghost use Rattle.locale_data.specs.Compact.{count_of, count_code, range_of, run_at, pattern_with, pattern_for, has_texts, has_unit_texts, IsAffix, IsShortAffix, AreAffixes, IsRun, IsExponent, HasAffixes, unit_for, IsUnitText, IsUnit};
+ghost use Rattle.locale_data.specs.Compact.{count_of, count_code, range_of, run_at, pattern_with, pattern_for, needs_category, has_texts, has_unit_texts, IsAffix, IsShortAffix, AreAffixes, IsRun, IsExponent, HasAffixes, NeedsCategory, unit_for, IsUnitText, IsUnit};
 
 use crate::compact_table::{
     COMPACT_BYTES, COMPACT_PATTERNS, COMPACT_RUNS, COMPACT_SETS, PERCENT_UNITS,
@@ -231,6 +231,16 @@ fn pattern_for(
         .or(pattern_with(patterns, CompactCount::Other))
 }
 
+fn needs_category(patterns: &[CompactPattern]) -> bool
+    ensures { result ≡ needs_category patterns.now }
+{
+    match patterns {
+        [] => false,
+        [pattern] => pattern.count.code() != CompactCount::Other.code(),
+        _ => true,
+    }
+}
+
 fn affix_of(affix: &AffixText) -> CompactAffix
     requires { has_texts affix.now ≡ true }
     ensures value { IsAffix affix.now result }
@@ -304,6 +314,20 @@ impl NumberFormats {
         match self.run(style, magnitude) {
             Some(run) => run.exponent,
             None => 0,
+        }
+    }
+
+    /// Returns whether [`compact_affixes`](Self::compact_affixes) depends on `category` or `is_one` for a magnitude.
+    ///
+    /// ```
+    /// formats_of("en", "latn").needs_category(CompactStyle::Short, 4) // false: 12K
+    /// ```
+    pub fn needs_category(&self, style: CompactStyle, magnitude: i16) -> bool
+        ensures { NeedsCategory self.now style magnitude result }
+    {
+        match self.run(style, magnitude) {
+            Some(run) => needs_category(patterns_of(run)),
+            None => false,
         }
     }
 

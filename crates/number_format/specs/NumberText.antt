@@ -84,12 +84,22 @@ abbrev pub sign_pieces : NumberFormatter → Sign → List parts.Piece
 sign_pieces f s = pieces_of (sign_kind s) (sign_text f s)
 
 -- a piece of a pattern
+abbrev pub pattern_kind : Piece → PartKind
+pattern_kind piece.Minus = kind.MinusSign
+pattern_kind piece.Plus = kind.PlusSign
+pattern_kind piece.Percent = kind.PercentSign
+pattern_kind piece.Currency = kind.Currency
+pattern_kind other = kind.Literal
+
+abbrev pub pattern_text : NumberFormatter → Piece → List ℕ
+pattern_text f piece.Minus = sign_text f sign.Negative
+pattern_text f piece.Plus = sign_text f sign.Positive
+pattern_text f piece.Percent = f.percent.text.now
+pattern_text f piece.Currency = currency_text f.currency
+pattern_text f other = literal_text other
+
 abbrev pub pattern_pieces : NumberFormatter → Piece → List parts.Piece
-pattern_pieces f piece.Minus = sign_pieces f sign.Negative
-pattern_pieces f piece.Plus = sign_pieces f sign.Positive
-pattern_pieces f piece.Percent = pieces_of kind.PercentSign f.percent.text.now
-pattern_pieces f piece.Currency = pieces_of kind.Currency (currency_text f.currency)
-pattern_pieces f other = literal (literal_text other)
+pattern_pieces f p = pieces_of (pattern_kind p) (pattern_text f p)
 
 abbrev pub affix_pieces : NumberFormatter → Affix → List parts.Piece
 affix_pieces f a =
@@ -224,18 +234,25 @@ IsUnitOf f unit.Nothing category u = (u.prefix.now ≡ []) × (u.suffix.now ≡ 
 IsUnitOf f unit.Percent category u = IsUnit f.formats category u
 IsUnitOf f unit.Permille category u = (u.prefix.now ≡ []) × (u.suffix.now ≡ 226 ∷ 128 ∷ 176 ∷ [])
 
--- the patterns by plural categories: that of the significand as it is shown, and around it that of the whole number
+-- the pattern by the plural category of the significand as it is shown
+pub record HasAround (f : NumberFormatter) (style : CompactStyle) (significand : Decimal) (exponent : ℕ)
+    (shown : Option CompactAffixes) : Type 0 where
+  pub category : PluralCategory
+  pub of_significand : IsCategoryAt f.rules (operands.plain significand.absolute) category
+  pub is : HasAffixes f.formats style (compact_magnitude significand exponent) category (is_one significand) shown
+
+-- what is written around the whole text by the plural category of the whole number
+pub record HasUnit (f : NumberFormatter) (significand : Decimal) (exponent : ℕ) (u : UnitAffixes) : Type 0 where
+  pub category : PluralCategory
+  pub of_number : IsCategoryAt f.rules (operands.compact significand.absolute exponent) category
+  pub is : IsUnitOf f f.unit category u
+
 pub record HasCompactTexts (f : NumberFormatter) (style : CompactStyle) (s : ScaledValue)
     (shown : Option CompactAffixes) (u : UnitAffixes) : Type 0 where
   pub exponent : ℕ
-  pub of_significand : PluralCategory
-  pub of_number : PluralCategory
   pub exponent_is : IsCompactExponent s.exponent exponent
-  pub significand_is : IsCategoryAt f.rules (operands.plain s.significand.absolute) of_significand
-  pub around_number : HasAffixes f.formats style (compact_magnitude s.significand exponent) of_significand
-      (is_one s.significand) shown
-  pub number_is : IsCategoryAt f.rules (operands.compact s.significand.absolute exponent) of_number
-  pub around_text : IsUnitOf f f.unit of_number u
+  pub around_number : HasAround f style s.significand exponent shown
+  pub around_text : HasUnit f s.significand exponent u
 
 abbrev pub AreTexts : NumberFormatter → Option CompactStyle → ScaledValue → Option CompactAffixes → UnitAffixes → Type 0
 AreTexts f None s shown u = (shown ≡ None) × ((u.prefix.now ≡ []) × (u.suffix.now ≡ []))

@@ -1,9 +1,10 @@
 //! Formatting of a number.
 ghost use Rattle.std.specs.Prelude.{◌≡◌, ◌≤◌, length, Some, None, IfOk, IfErr, IsErrOf, IsSomeAnd};
+ghost use Rattle.fixed_decimal.specs.Decimal.{Decimal};
 ghost use Rattle.decimal_digits.specs.declared.rounding.RoundingIncrement.TheVariants.{MultiplesOf25};
 ghost use Rattle.locale_data.specs.Plurals.{IsCategoryAt};
 ghost use Rattle.number_format.specs.FormattedNumbers.{exponent_pieces, exponent_pieces_if, formatted_number_pieces, formatted_number_text};
-ghost use Rattle.number_format.specs.NumberText.{shown_number, is_one, compact_magnitude, IsCompactExponent, exponent_sign, exponent_part, IsUnitOf, rounded_in, HasCompactTexts, AreTexts, AreShort, AreNumberPieces, IsNumberText, NeedsMemory};
+ghost use Rattle.number_format.specs.NumberText.{shown_number, is_one, compact_magnitude, IsCompactExponent, exponent_sign, exponent_part, rounded_in, HasAround, HasUnit, HasCompactTexts, AreTexts, AreShortAffixes, AreShort, AreNumberPieces, IsNumberText, NeedsMemory};
 ghost use Rattle.number_format.specs.Scaled.{scaled_value};
 ghost use Rattle.number_format.specs.ShownDigits.{base_of};
 ghost use Rattle.number_format.specs.TextParts.{part_pieces};
@@ -62,26 +63,24 @@ fn compact_exponent(exponent: i32) -> u8
 }
 
 impl NumberFormatter {
-    fn rounded(&self, value: Decimal) -> Result<(Decimal, i32), RoundError>
+    fn rounded(&self, value: &mut Decimal) -> Result<i32, RoundError>
         ensures ok { IfOk result
-            (λ s. rounded_in self.now.notation self.now.digits value ≡ Some (scaled_value s.0 s.1)) }
+            (λ e. rounded_in self.now.notation self.now.digits value.old ≡ Some (scaled_value value.new e)) }
         ensures limit { IsErrOf result RoundError.Limit
-            → rounded_in self.now.notation self.now.digits value ≡ None }
+            → rounded_in self.now.notation self.now.digits value.old ≡ None }
         ensures memory { IsErrOf result RoundError.Memory
             → IsSomeAnd self.now.digits (λ o. base_of o.precision ≡ MultiplesOf25) }
     {
-        let Some(digits) = &self.digits else {
-            return Ok((value, 0));
-        };
-        let scaled = self.notation.scale(digits, value)?;
-        let exponent = scaled.exponent();
-        Ok((scaled.into_significand(), exponent))
+        match &self.digits {
+            Some(digits) => self.notation.scale_in_place(digits, value),
+            None => Ok(0),
+        }
     }
 
-    /// Returns the significand and the exponent that are written.
-    fn shown_number(&self, mut value: Decimal) -> Result<(Decimal, i32), RoundError>
-        ensures ok { IfOk result (λ s. shown_number self.now value ≡ Some (scaled_value s.0 s.1)) }
-        ensures limit { IsErrOf result RoundError.Limit → shown_number self.now value ≡ None }
+    /// Makes a number the significand that is written, and returns the exponent.
+    fn shown_number(&self, value: &mut Decimal) -> Result<i32, RoundError>
+        ensures ok { IfOk result (λ e. shown_number self.now value.old ≡ Some (scaled_value value.new e)) }
+        ensures limit { IsErrOf result RoundError.Limit → shown_number self.now value.old ≡ None }
         ensures memory { IsErrOf result RoundError.Memory
             → IsSomeAnd self.now.digits (λ o. base_of o.precision ≡ MultiplesOf25) }
     {
@@ -131,18 +130,40 @@ impl NumberFormatter {
         }
     }
 
-    fn unit(&self, category: PluralCategory) -> UnitAffixes
-        ensures value { IsUnitOf self.now self.now.unit category result }
+    fn unit(&self, significand: &Decimal, exponent: u8) -> UnitAffixes
+        ensures value { HasUnit self.now significand.now exponent result }
         ensures short { (length result.prefix.now ≤ 255) × (length result.suffix.now ≤ 255) }
     {
         match self.unit {
             CompactUnit::Nothing => NO_UNIT,
-            CompactUnit::Percent => self.formats.percent_unit(category),
+            CompactUnit::Percent => {
+                let number = PluralOperands::of_scaled(&significand.absolute, exponent);
+                self.formats.percent_unit(self.category(&number))
+            }
             CompactUnit::Permille => UnitAffixes {
                 prefix: "",
                 suffix: "\u{2030}",
             },
         }
+    }
+
+    fn around(
+        &self,
+        style: CompactStyle,
+        significand: &Decimal,
+        exponent: u8,
+    ) -> Option<CompactAffixes>
+        ensures value { HasAround self.now style significand.now exponent result }
+        ensures short { AreShortAffixes result }
+    {
+        let magnitude = magnitude_of(significand, exponent);
+        if !self.formats.needs_category(style, magnitude) {
+            let other = PluralCategory::Other;
+            return self.formats.compact_affixes(style, magnitude, other, false);
+        }
+        let category = self.category(&PluralOperands::of_decimal(significand));
+        self.formats
+            .compact_affixes(style, magnitude, category, is_one(significand))
     }
 
     /// Returns what is written around a significand in compact notation.
@@ -156,15 +177,11 @@ impl NumberFormatter {
             result.around result.unit }
         ensures short { AreShort result.around result.unit }
     {
-        let category = self.category(&PluralOperands::of_decimal(significand));
         let exponent = compact_exponent(exponent);
-        let magnitude = magnitude_of(significand, exponent);
-        let around = self
-            .formats
-            .compact_affixes(style, magnitude, category, is_one(significand));
-        let number = PluralOperands::of_scaled(&significand.absolute, exponent);
-        let unit = self.unit(self.category(&number));
-        CompactTexts { around, unit }
+        CompactTexts {
+            around: self.around(style, significand, exponent),
+            unit: self.unit(significand, exponent),
+        }
     }
 
     /// Returns what is written around a significand.
@@ -192,23 +209,20 @@ impl NumberFormatter {
         }
     }
 
-    fn formatted(&self, alloc: Global, value: Decimal) -> Result<FormattedNumber<'_>, RoundError>
-        ensures ok { IfOk result (λ t. AreNumberPieces self.now value (formatted_number_pieces t)) }
-        ensures limit { IsErrOf result RoundError.Limit → shown_number self.now value ≡ None }
-        ensures memory { IsErrOf result RoundError.Memory
-            → IsSomeAnd self.now.digits (λ o. base_of o.precision ≡ MultiplesOf25) }
+    /// Returns the number whose significand and exponent are these.
+    fn number(&self, alloc: Global, mut value: Decimal, exponent: i32) -> FormattedNumber<'_>
+        ensures { (v : Decimal) → shown_number self.now v ≡ Some (scaled_value value exponent)
+            → AreNumberPieces self.now v (formatted_number_pieces result) }
     {
-        let (significand, exponent) = self.shown_number(value)?;
-        let texts = self.texts(&significand, exponent);
-        let shown = significand.with_sign_display(self.sign_display);
-        let affixes = self.affixes(shown.sign, texts.around, texts.unit);
-        Ok(FormattedNumber {
+        let texts = self.texts(&value, exponent);
+        value.apply_sign_display(self.sign_display);
+        FormattedNumber {
             symbols: &self.symbols,
             strategy: self.strategy,
-            affixes,
-            significand: shown.absolute,
+            affixes: self.affixes(value.sign, texts.around, texts.unit),
+            significand: value.absolute,
             exponent: self.exponent(alloc, exponent),
-        })
+        }
     }
 
     /// Formats a number: rounds it, and writes it as the formatter's options have it.
@@ -219,7 +233,11 @@ impl NumberFormatter {
     ///
     /// - `Limit`: a digit of the scaled or of the rounded number is above 10^32767 or below 10^-32768.
     /// - `Memory`: out of memory, only for a number of more than `INLINE_DIGITS` digits or by an increment of 25.
-    pub fn format(&self, alloc: Global, value: Decimal) -> Result<FormattedNumber<'_>, FormatError>
+    pub fn format(
+        &self,
+        alloc: Global,
+        mut value: Decimal,
+    ) -> Result<FormattedNumber<'_>, FormatError>
         ensures pieces { IfOk result (λ t. AreNumberPieces self.now value (formatted_number_pieces t)) }
         ensures text { IfOk result (λ t. IsNumberText self.now value (formatted_number_text t)) }
         ensures unchanged { IfErr result (λ e. e.value ≡ value) }
@@ -232,8 +250,8 @@ impl NumberFormatter {
                 value,
             });
         };
-        match self.formatted(alloc, value) {
-            Ok(formatted) => Ok(formatted),
+        match self.shown_number(&mut value) {
+            Ok(exponent) => Ok(self.number(alloc, value, exponent)),
             Err(error) => Err(FormatError { error, value: kept }),
         }
     }

@@ -1,7 +1,7 @@
 //! What is written before and after the digits of a number.
 ghost use Rattle.std.specs.Prelude.{◌≡◌, ◌≤◌, ◌&&◌, length, IfSome};
 ghost use Rattle.locale_data.specs.Compact.{IsShortAffix};
-ghost use Rattle.number_format.specs.NumberText.{sign_kind, sign_pieces, pattern_pieces, currency_if, space_if, is_plain, is_empty, has_number, first_sign, last_sign, pattern_around, compact_around, around_by, AreParts};
+ghost use Rattle.number_format.specs.NumberText.{sign_kind, sign_pieces, pattern_kind, pattern_text, pattern_pieces, currency_if, space_if, is_plain, is_empty, has_number, first_sign, last_sign, pattern_around, compact_around, around_by, AreParts};
 ghost use Rattle.number_format.specs.TextParts.{part_pieces};
 
 use crate::number_formatter::NumberFormatter;
@@ -57,6 +57,18 @@ fn sign_kind(sign: Sign) -> PartKind
     }
 }
 
+fn pattern_kind(piece: Piece) -> PartKind
+    ensures { result ≡ pattern_kind piece }
+{
+    match piece {
+        Piece::Minus => PartKind::MinusSign,
+        Piece::Plus => PartKind::PlusSign,
+        Piece::Percent => PartKind::PercentSign,
+        Piece::Currency => PartKind::Currency,
+        _ => PartKind::Literal,
+    }
+}
+
 impl NumberFormatter {
     fn sign_part(&self, sign: Sign) -> TextPart<'_>
         ensures { part_pieces result ≡ sign_pieces self.now sign }
@@ -64,16 +76,23 @@ impl NumberFormatter {
         TextPart::new(sign_kind(sign), self.symbols.affixes(sign).prefix)
     }
 
+    fn pattern_text(&self, piece: Piece) -> &str
+        ensures value { result.now ≡ pattern_text self.now piece }
+        ensures short { length result.now ≤ 255 }
+    {
+        match piece {
+            Piece::Minus => self.symbols.affixes(Sign::Negative).prefix,
+            Piece::Plus => self.symbols.affixes(Sign::Positive).prefix,
+            Piece::Percent => self.percent.text,
+            Piece::Currency => self.currency.text(),
+            _ => piece.text(),
+        }
+    }
+
     fn pattern_part(&self, piece: Piece) -> TextPart<'_>
         ensures { part_pieces result ≡ pattern_pieces self.now piece }
     {
-        match piece {
-            Piece::Minus => self.sign_part(Sign::Negative),
-            Piece::Plus => self.sign_part(Sign::Positive),
-            Piece::Percent => TextPart::new(PartKind::PercentSign, self.percent.text),
-            Piece::Currency => self.currency.part(),
-            _ => TextPart::new(PartKind::Literal, piece.text()),
-        }
+        TextPart::new(pattern_kind(piece), self.pattern_text(piece))
     }
 
     fn currency_if(&self, has_currency: bool) -> TextPart<'_>

@@ -133,7 +133,8 @@ pub(crate) fn text_or_nothing(bytes: &[u8]) -> &str
 }
 
 impl ShownCurrency {
-    fn text(&self) -> &str
+    /// Returns the text of the symbol or the code.
+    pub(crate) fn text(&self) -> &str
         ensures value { result.now ≡ currency_text self.now }
         ensures short { length result.now ≤ 255 }
     {

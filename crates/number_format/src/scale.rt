@@ -4,7 +4,7 @@ ghost use Rattle.std.specs.Int.{int_min};
 ghost use Rattle.decimal_digits.specs.Number.{first, last, size};
 ghost use Rattle.fixed_decimal.specs.Decimal.{integer_decimal};
 ghost use Rattle.fixed_decimal.specs.Scientific.{scientific};
-ghost use Rattle.number_format.specs.Scaled.{whole_exponent, base_exponent, raised, settled, ScalingNeedsMemory, scaled};
+ghost use Rattle.number_format.specs.Scaled.{whole_exponent, base_exponent, raised, settled, ScalingNeedsMemory, scaled_value, scaled};
 
 use crate::digit_options::DigitOptions;
 use crate::notation::Notation;
@@ -116,6 +116,24 @@ impl Notation {
         Ok((exponent, last))
     }
 
+    /// Makes a decimal its significand, as [`scale`](Self::scale) returns it, and returns the exponent.
+    pub(crate) fn scale_in_place<D: DigitStore>(
+        &self,
+        options: &DigitOptions,
+        value: &mut Signed<UnsignedOver<D>>,
+    ) -> Result<i32, RoundError>
+        ensures ok { IfOk result (λ e. scaled self.now options.now value.old ≡ Some (scaled_value value.new e)) }
+        ensures limit { IsErrOf result RoundError.Limit → scaled self.now options.now value.old ≡ None }
+        ensures memory { IsErrOf result RoundError.Memory
+            → ScalingNeedsMemory D.L self.now options.now value.old.sign (raised self.now value.old.absolute.number) }
+    {
+        let base = self.raise(&mut value.absolute);
+        let (exponent, last) = self.settle(options, value)?;
+        lower(&mut value.absolute, exponent)?;
+        options.show(&mut value.absolute, last);
+        Ok(base + exponent as i32)
+    }
+
     /// Returns the significand and the exponent that the notation writes for a decimal, with the digits of options.
     ///
     /// The exponent is that of the decimal's magnitude. If the rounding carries the number into a magnitude with a
@@ -137,13 +155,10 @@ impl Notation {
         ensures memory { IsErrOf result RoundError.Memory
             → ScalingNeedsMemory D.L self.now options.now value.sign (raised self.now value.absolute.number) }
     {
-        let base = self.raise(&mut value.absolute);
-        let (exponent, last) = self.settle(options, &mut value)?;
-        lower(&mut value.absolute, exponent)?;
-        options.show(&mut value.absolute, last);
+        let exponent = self.scale_in_place(options, &mut value)?;
         Ok(Scaled {
             significand: value,
-            exponent: base + exponent as i32,
+            exponent,
         })
     }
 }

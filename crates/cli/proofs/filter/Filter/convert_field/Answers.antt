@@ -2,10 +2,10 @@ use Rattle.std.proofs.Common.{Some, Ok, sym, subst, ◌∙◌}
 use Rattle.std.proofs.lemmas.Result.{err_from_is_err_and}
 use Rattle.std.specs.Io.KnownBytes.{Appends}
 use Rattle.decimal_digits.specs.AppendsPrefix.{AppendsPrefix}
-use Rattle.cli.specs.Fields.{bytes_of, replaced, within}
-use Rattle.cli.specs.FieldConversion.{HasLineText, LineFails, with_text}
+use Rattle.cli.specs.Fields.{within}
+use Rattle.cli.specs.FieldConversion.{LineFails, with_text}
 use Rattle.cli.specs.declared.error.OperationError.TheVariants.{Output}
-use Rattle.cli.proofs.FieldLines.{line_fails, line_result, replaced_within}
+use Rattle.cli.proofs.FieldLines.{field_line, line_fails, line_result}
 use Rattle.cli.proofs.filter.Filter.convert_field.Goals as goal
 
 pub returns-in_err-write_field-clause-fails_with : goal.returns-in_err-write_field-clause-fails_with
@@ -27,47 +27,21 @@ returns-in_err-write_field-clause-fails_with g c =
 
 pub returns-in_err-write_field-clause-prefix : goal.returns-in_err-write_field-clause-prefix
 returns-in_err-write_field-clause-prefix g c = λ _.
-    let filter = c.args.self.now in
-    let field = c.args.field.now in
-    let line = c.args.line.now in
-    let body = c.body_bounds-body.result in
-    let bytes = within line body in
-    let bounds = c.in_ok-bounds.bounds in
-    let text = c.in_ok-text.text.0 in
-    let same =
-    replaced_within line (bytes_of field text) body bounds c.body_bounds-body.ensures.ordered
-    c.body_bounds-body.ensures.inside c.in_ok-bounds.ensures.ordered c.in_ok-bounds.ensures.inside in
-    subst (λ b. HasLineText filter.trims (Some field) c.args.conversion.now (within line b)
-    (λ all. AppendsPrefix (g.W.Sink.contents c.args.sink.now) (g.W.Sink.contents c.write_field.new.sink)
-    (replaced line b all))) c.body_bounds-body.ensures.value (
-      with_text field bytes bounds text,
-      line_result filter.trims field c.args.conversion.now bytes bounds
-          (sym c.locate.ensures.value ∙ c.in_ok-bounds.was) (Ok text) c.in_ok-text.ensures.ok,
-      subst (AppendsPrefix (g.W.Sink.contents c.args.sink.now) (g.W.Sink.contents c.write_field.new.sink)) (sym same)
-          (rw c.as_bytes.ensures at c.in_err-write_field.ensures.err),
-    )
+    field_line c.args.self.now.trims c.args.number c.args.line.now c.args.field.now c.args.conversion.now
+    c.body_bounds-body.result c.body_bounds-body.ensures.value c.body_bounds-body.ensures.ordered
+    c.body_bounds-body.ensures.inside c.in_ok-bounds.bounds (sym c.locate.ensures.value ∙ c.in_ok-bounds.was)
+    c.in_ok-bounds.ensures.ordered c.in_ok-bounds.ensures.inside c.in_ok-text.text.0 c.in_ok-text.ensures.ok
+    (AppendsPrefix (g.W.Sink.contents c.args.sink.now) (g.W.Sink.contents c.write_field.new.sink))
+    (rw c.as_bytes.ensures at c.in_err-write_field.ensures.err)
 
 pub returns-clause-printed : goal.returns-clause-printed
 returns-clause-printed g c =
-    let filter = c.args.self.now in
-    let field = c.args.field.now in
-    let line = c.args.line.now in
-    let body = c.body_bounds-body.result in
-    let bytes = within line body in
-    let bounds = c.in_ok-bounds.bounds in
-    let text = c.in_ok-text.text.0 in
-    let same =
-    replaced_within line (bytes_of field text) body bounds c.body_bounds-body.ensures.ordered
-    c.body_bounds-body.ensures.inside c.in_ok-bounds.ensures.ordered c.in_ok-bounds.ensures.inside in
-    subst (λ b. HasLineText filter.trims (Some field) c.args.conversion.now (within line b)
-    (λ all. Appends (g.W.Sink.contents c.args.sink.now) (g.W.Sink.contents c.write_field.new.sink)
-    (replaced line b all))) c.body_bounds-body.ensures.value (
-      with_text field bytes bounds text,
-      line_result filter.trims field c.args.conversion.now bytes bounds
-          (sym c.locate.ensures.value ∙ c.in_ok-bounds.was) (Ok text) c.in_ok-text.ensures.ok,
-      subst (Appends (g.W.Sink.contents c.args.sink.now) (g.W.Sink.contents c.write_field.new.sink)) (sym same)
-          (rw c.as_bytes.ensures at c.in_ok-write_field.ensures.ok),
-    )
+    field_line c.args.self.now.trims c.args.number c.args.line.now c.args.field.now c.args.conversion.now
+    c.body_bounds-body.result c.body_bounds-body.ensures.value c.body_bounds-body.ensures.ordered
+    c.body_bounds-body.ensures.inside c.in_ok-bounds.bounds (sym c.locate.ensures.value ∙ c.in_ok-bounds.was)
+    c.in_ok-bounds.ensures.ordered c.in_ok-bounds.ensures.inside c.in_ok-text.text.0 c.in_ok-text.ensures.ok
+    (Appends (g.W.Sink.contents c.args.sink.now) (g.W.Sink.contents c.write_field.new.sink))
+    (rw c.as_bytes.ensures at c.in_ok-write_field.ensures.ok)
 
 pub returns-in_err-text-clause-fails_with : goal.returns-in_err-text-clause-fails_with
 returns-in_err-text-clause-fails_with g c =

@@ -1,0 +1,55 @@
+-- Numbers as a locale writes them by a number skeleton, read.
+use Rattle.std.specs.Prelude.{◌≡◌, ℕ, ◌⊎◌, List, Bool, true, false, Result, Ok, Err}
+use Rattle.std.specs.Str.{IsUtf8}
+use Rattle.decimal_unsigned.specs.declared.decimal.TheConstants.{INLINE_DIGITS}
+use Rattle.decimal_unsigned.specs.declared.error.ParseError.{ParseError}
+use Rattle.decimal_unsigned.specs.declared.error.ParseError.TheVariants as parse
+use Rattle.fixed_decimal.specs.Decimal.{Decimal}
+use Rattle.fixed_decimal.specs.DecimalText.{decimal_text}
+use Rattle.number_format.specs.AffixedTexts.{IsShown, IsShownNumeral}
+use Rattle.number_format.specs.NumberReading.{CanRead, CannotRead}
+use Rattle.number_format.specs.ShiftedReading.{IsReadShifted}
+use Rattle.number_format.specs.TypedReading.{NumberReader, number_reader_of, IsReadLeniently}
+use Rattle.number_format.specs.declared.number_formatter.NumberFormatter.{NumberFormatter}
+use Rattle.number_format.specs.declared.number_reader.NumberReaderError.{NumberReaderError}
+use Rattle.number_format.specs.declared.number_reader.NumberReaderError.TheVariants as made
+use Rattle.fixed_decimal_c.specs.declared.error.FdError.{FdError}
+use Rattle.fixed_decimal_c.specs.declared.error.FdError.TheVariants.{Memory, UnreadableFormat}
+use Rattle.fixed_decimal_c.specs.Errors.{error_of_parsing}
+use Rattle.fixed_decimal_c.specs.NumberTexts.{IsFormatterFor, FormatterFails}
+use Rattle.fixed_decimal_c.specs.Texts.{Writes}
+
+abbrev pub error_of_reader : NumberReaderError → FdError
+error_of_reader made.Memory = Memory
+error_of_reader other = UnreadableFormat
+
+-- the texts of the formatter cannot be read; or out of memory
+abbrev pub HasNoReader : FdError → NumberFormatter → Type 0
+HasNoReader error f = (e : NumberReaderError) × (error ≡ error_of_reader e) × CannotRead e f
+
+-- what a reader returns for a text: exactly as the formatter writes numbers, or leniently, as people type them; one
+-- that is not UTF-8 is not typed
+abbrev pub IsReadBy : Bool → NumberReader → List ℕ → Result Decimal ParseError → Type 0
+IsReadBy false r text result =
+    IsReadShifted INLINE_DIGITS r.texts.shift (IsShownNumeral r.texts text) (IsShown r.texts text) result
+IsReadBy true r text result =
+    (IsUtf8 text × IsReadLeniently INLINE_DIGITS r text result) ⊎ (¬ IsUtf8 text × (result ≡ Err parse.Syntax))
+
+-- the own text of a decimal that was read is written; or reading failed, and the buffer is as it was
+abbrev pub WritesRead : Result Decimal ParseError → Result ℕ FdError → List ℕ → List ℕ → Type 0
+WritesRead (Ok v) answer old new = Writes answer (decimal_text v) old new
+WritesRead (Err e) answer old new = (answer ≡ Err (error_of_parsing e 0)) × (new ≡ old)
+
+-- a text is read by the reader of the formatter, and its decimal written; or there is no reader, and the buffer is as
+-- it was
+abbrev pub ReadsText : NumberFormatter → Bool → Result ℕ FdError → List ℕ → List ℕ → List ℕ → Type 0
+ReadsText f lenient answer text old new =
+    ((read : Result Decimal ParseError) × CanRead f × IsReadBy lenient (number_reader_of f) text read
+    × WritesRead read answer old new)
+    ⊎ ((error : FdError) × (answer ≡ Err error) × HasNoReader error f × (new ≡ old))
+
+-- the same by the locale and the skeleton; or there is no formatter, and the buffer is as it was
+abbrev pub ReadsNumber : Result ℕ FdError → List ℕ → List ℕ → List ℕ → Bool → List ℕ → List ℕ → Type 0
+ReadsNumber answer text tag skeleton lenient old new =
+    ((f : NumberFormatter) × IsFormatterFor tag skeleton f × ReadsText f lenient answer text old new)
+    ⊎ ((error : FdError) × (answer ≡ Err error) × FormatterFails error tag skeleton × (new ≡ old))
