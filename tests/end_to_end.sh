@@ -35,7 +35,7 @@ lines() {
 }
 
 # help PROGRAM LINE: the only words `--help` and `-h` print the usage line, a table, and last the line of the version.
-version='0.7.3+3 (CLDR 48)'
+version='0.7.3+4 (CLDR 48)'
 help() {
   for word in --help -h; do
     "$room/$1" "$word" > "$room/out" 2> "$room/err" < /dev/null \

@@ -24,7 +24,7 @@ pub enum Request {
 }
 
 /// The version of the programs, and that of their data.
-const VERSION: &str = "0.7.3+3 (CLDR 48)";
+const VERSION: &str = "0.7.3+4 (CLDR 48)";
 
 const FIXDEC: &str = "usage: fixdec TEXT [CALL]..";
 
