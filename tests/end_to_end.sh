@@ -104,10 +104,22 @@ prints '(₹1,234,567.50)' -1234567.5 'format:en-IN:currency/INR ()'
 prints 1234.000 1234 'format:en:.000 ,_'
 prints 1.234‰ 1.234 'format:en:permille .+'
 
+# Status 0, read by number skeletons, from what ICU writes.
+prints 1234.50 $'1.234,50\xc2\xa0€' read:de:currency/EUR
+prints 0.125 $'12,5\xc2\xa0%' read:de:%x100
+prints -1234567.50 '(₹1,234,567.50)' 'read:en-IN:currency/INR ()'
+prints 1234.50 $'CHF\xc2\xa01,234.50' 'read:en:currency/CHF unit-width-iso-code'
+prints 1234.50 '1.234,50 €' read:de:lenient:currency/EUR
+prints -7 '(7 EUR)' read:de:lenient:currency/EUR
+prints '-₹12.50' $'-12,50\xc2\xa0€' read:de:currency/EUR format:en-IN:currency/INR
+
 # Status 1: the start or a call fails.
 row fixdec 1 '' $'start: syntax\n' 1,234.56 read:de
 row fixdec 1 '' $'start: syntax\n' '1 234,5' read:fr
 row fixdec 1 '' $'start: syntax\n' read:de
+row fixdec 1 '' $'start: syntax\n' '1.234,50 €' read:de:currency/EUR
+row fixdec 1 '' $'start: syntax\n' '1.234,50 $' read:de:lenient:currency/EUR
+row fixdec 1 '' $'start: limit\n' "$(printf '%032769d' 0)%" read:en:%
 row fixdec 1 '' $'start: syntax\n' format:de
 row fixdec 1 '' $'start: syntax\n' 5.
 row fixdec 1 '' $'start: syntax\n' 1e+
@@ -131,7 +143,7 @@ row fixdec 2 '' "$usage" 5 ''
 row fixdec 2 '' "$usage" 5 --
 row fixdec 2 '' "$usage" '' 5
 row fixdec 2 '' "$usage" read:de 1.234,5
-row fixdec 2 '' "$usage" 5 read:de:strict
+row fixdec 2 '' "$usage" 5 read:de:
 row fixdec 2 '' "$usage" 5 trim-end read:de
 row fixdec 2 '' "$usage" 5 format:de:
 row fixdec 2 '' $'skeleton: syntax at 0\n' 5 format:de:fast
@@ -144,6 +156,11 @@ row fixdec 2 '' "$usage" 5 format:de trim-end
 row fixdec 2 '' "$usage" 5 foo format:tlh
 row fixdec 2 '' $'unknown locale: tlh\n' 5 read:tlh foo
 row fixdec 2 '' $'unknown locale: tlh\n' 5 read:tlh
+row fixdec 2 '' $'unknown locale: tlh\n' 5 read:tlh:lenient:percent
+row fixdec 2 '' $'skeleton: syntax at 0\n' 5 read:de:strict
+row fixdec 2 '' $'skeleton: unsupported usage\n' 5 'read:de:lenient:percent usage/road'
+row fixdec 2 '' $'skeleton: no reader\n' 5 read:de:K foo
+row fixdec 2 '' $'skeleton: no reader\n' 5 read:de:lenient:E0
 row fixdec 2 '' $'unknown locale: tlh\n' 5 format:tlh
 row fixdec 2 '' $'unknown locale: \n' 5 format:
 row fixdec 2 '' "$usage" $'5\xff'
@@ -225,6 +242,7 @@ lines 0 '1.234,565\n-7\n' $'1,234.56\n-7.00\n' '' read:de round:-2:half-even:1 p
 lines 0 '1234567.5\n' $'1.234.567,5\n' '' skip format:de
 lines 0 '1234.565\n-7\n' $'€1,234.56\n-€7.00\n' '' format:en:currency/EUR
 lines 1 '7\n9e32767\n8\n' $'70\n\n80\n' $'line 2: format: overflow\n' skip format:en:scale/10
+lines 1 '€1,234.50\n-€7\n5%\n' $'1234.50\n-7\n\n' $'line 3: start: syntax\n' skip read:en:currency/EUR
 
 # Status 1: the first line that fails ends the run.
 lines 1 '1.234,5\n1,5.0\n' $'1234.5\n' $'line 2: start: syntax\n' read:de
@@ -253,7 +271,8 @@ wrong 'no such word: trimm (--help lists all)' trimm
 wrong 'no such word:  (--help lists all)' ''
 wrong 'no such word: -- (--help lists all)' --
 wrong 'no such word: a (--help lists all)' shift:1 a b skip
-wrong 'no such word: read:de:strict (--help lists all)' read:de:strict format:tlh
+wrong 'no such word: read:de:lenient: (--help lists all)' read:de:lenient: format:tlh
+lines 2 '1\n' '' $'skeleton: no reader\n' read:de:KK format:tlh
 wrong 'no such word: format:de: (--help lists all)' read:de format:de:
 lines 2 '1\n' '' $'skeleton: syntax at 0\n' read:de format:de:fast
 lines 2 '1\n' '' $'skeleton: unsupported usage\n' 'format:de:percent usage/road'

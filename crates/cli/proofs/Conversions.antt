@@ -19,11 +19,11 @@ use Rattle.fixed_decimal.specs.declared.runs.RunError.{RunError}
 use Rattle.fixed_decimal.specs.declared.runs.RunError.TheVariants.{Start, Operand, Memory, Sink}
 use Rattle.cli.specs.declared.conversion.Conversion.{Conversion}
 use Rattle.cli.specs.declared.locale_formatter.LocaleFormatter.{LocaleFormatter}
-use Rattle.cli.specs.declared.reader.DecimalReader.{DecimalReader}
+use Rattle.cli.specs.declared.reader.LocaleReader.{LocaleReader}
 use Rattle.cli.specs.declared.error.OperationError.TheVariants as operation
 use Rattle.cli.specs.declared.error.OperationError.{OperationError}
 use Rattle.cli.specs.Error.{error_of_run, status_of_operation}
-use Rattle.cli.specs.Conversion.{IsReadAs, ReadingFails, ConversionError, of_run, format_overflow, IsOutcome, IsOutcomeByForms, HasOutcome, OperationsFail, FailsByForms, IsErrorOfRun, IsRunFormatted, is_plain, error_of, formatted_by, last_decimal, IsFormatted, run_result, WritingFails, HasTextBy, HasOutcomeByForms}
+use Rattle.cli.specs.Conversion.{IsReadBy, ReadingByFails, ConversionError, of_run, format_overflow, IsOutcome, IsOutcomeByForms, HasOutcome, OperationsFail, FailsByForms, IsErrorOfRun, IsRunFormatted, is_plain, error_of, formatted_by, last_decimal, IsFormatted, run_result, WritingFails, HasTextBy, HasOutcomeByForms}
 
 -- only a failed sink is a failed output
 pub output_is_sink : (why : RunError) → error_of_run why ≡ operation.Output → why ≡ Sink
@@ -34,12 +34,12 @@ module _ (c : Conversion) (text : List ℕ) where
 
   -- an error of reading
   pub reading_fails :
-      (why : ParseError) → ReadingFails c.reader text why → FailsByForms (error_of_run (Start why)) c text
+      (why : ParseError) → ReadingByFails c.reader text why → FailsByForms (error_of_run (Start why)) c text
   reading_fails parse.Syntax h = (of_run (start syntax), refl, record { read = Err syntax; is_read = h; is = refl })
   reading_fails parse.Limit h = (of_run (start limit), refl, record { read = Err limit; is_read = h; is = refl })
   reading_fails parse.Memory h = inl h
 
-  module _ (v : Decimal) (read : IsReadAs c.reader text (Ok v)) where
+  module _ (v : Decimal) (read : IsReadBy c.reader text (Ok v)) where
     -- an outcome of the calls
     pub read_outcome :
         (r : Result Decimal OutcomeError) (result : Result (List ℕ) ConversionError) → after_calls 0 v c.calls.items ≡ r
@@ -175,7 +175,7 @@ conversion_is_run_formatted c text result none h =
           (run, rw read at is.is)
     ]
   where
-    no_formatter : (r : Option DecimalReader) (f : Option LocaleFormatter) → (is_none r && is_none f) ≡ true → f ≡ None
+    no_formatter : (r : Option LocaleReader) (f : Option LocaleFormatter) → (is_none r && is_none f) ≡ true → f ≡ None
     no_formatter None None e = refl
     no_formatter None (Some f) e = absurd (false≢true e)
     no_formatter (Some r) f e = absurd (false≢true e)

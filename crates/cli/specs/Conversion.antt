@@ -18,11 +18,13 @@ use Rattle.cli.specs.declared.conversion.Conversion.{Conversion}
 use Rattle.cli.specs.declared.locale_formatter.LocaleFormatter.{LocaleFormatter}
 use Rattle.cli.specs.declared.locale_formatter.LocaleFormatter.TheVariants.{AllDigits, Skeleton}
 use Rattle.cli.specs.declared.reader.DecimalReader.{DecimalReader}
+use Rattle.cli.specs.declared.reader.LocaleReader.{LocaleReader}
+use Rattle.cli.specs.declared.reader.LocaleReader.TheVariants.{Decimals, Numbers}
 use Rattle.cli.specs.declared.error.Reason.TheVariants as reason
 use Rattle.cli.specs.declared.error.OperationError.{OperationError}
 use Rattle.cli.specs.declared.error.OperationError.TheVariants.{Start, Operand, Overlap, Overflow, FormatOverflow, Memory, Output}
 use Rattle.cli.specs.Error.{error_of_run}
-use Rattle.cli.specs.Reader.{IsReadIn, NeedsMemoryIn}
+use Rattle.cli.specs.Reader.{IsReadIn, NeedsMemoryIn, IsNumberRead, NumberReadingFails}
 
 -- ---- Reading.
 
@@ -41,6 +43,22 @@ abbrev pub ReadingFails : Option DecimalReader → List ℕ → ParseError → T
 ReadingFails reader text parse.Syntax = IsReadAs reader text (Err syntax)
 ReadingFails reader text parse.Limit = IsReadAs reader text (Err limit)
 ReadingFails reader text parse.Memory = ReadingNeedsMemory reader text
+
+-- the same by a reader of decimals, or of numbers by a skeleton
+abbrev pub IsReadBy : Option LocaleReader → List ℕ → Result Decimal ReadError → Type 0
+IsReadBy None text result = IsReadAs None text result
+IsReadBy (Some (Decimals reader)) text result = IsReadAs (Some reader) text result
+IsReadBy (Some (Numbers reader)) text result = IsNumberRead reader.mode reader.formatter text result
+
+abbrev pub ReadingByNeedsMemory : Option LocaleReader → List ℕ → Type 0
+ReadingByNeedsMemory None text = ReadingNeedsMemory None text
+ReadingByNeedsMemory (Some (Decimals reader)) text = ReadingNeedsMemory (Some reader) text
+ReadingByNeedsMemory (Some (Numbers reader)) text = NumberReadingFails reader.mode reader.formatter text parse.Memory
+
+abbrev pub ReadingByFails : Option LocaleReader → List ℕ → ParseError → Type 0
+ReadingByFails reader text parse.Syntax = IsReadBy reader text (Err syntax)
+ReadingByFails reader text parse.Limit = IsReadBy reader text (Err limit)
+ReadingByFails reader text parse.Memory = ReadingByNeedsMemory reader text
 
 -- ---- The text of a decimal.
 
@@ -96,7 +114,7 @@ IsFormatted formatter (Err why) result = result ≡ Err (of_run why)
 -- the outcome of a text by a reader and a formatter
 pub record IsOutcomeByForms (c : Conversion) (text : List ℕ) (result : Result (List ℕ) ConversionError) : Type 0 where
   pub read : Result Decimal ReadError
-  pub is_read : IsReadAs c.reader text read
+  pub is_read : IsReadBy c.reader text read
   pub is : IsFormatted c.formatter (last_decimal c.calls.items read) result
 
 -- there is no reader and no formatter
@@ -148,8 +166,8 @@ WorkNeedsMemory v calls formatter =
 -- text
 abbrev pub FailsByForms : OperationError → Conversion → List ℕ → Type 0
 FailsByForms Memory c text =
-    ReadingNeedsMemory c.reader text
-    ⊎ ((v : Decimal) × IsReadAs c.reader text (Ok v) × WorkNeedsMemory v c.calls.items c.formatter)
+    ReadingByNeedsMemory c.reader text
+    ⊎ ((v : Decimal) × IsReadBy c.reader text (Ok v) × WorkNeedsMemory v c.calls.items c.formatter)
 FailsByForms Output c text = (written : List ℕ) × IsOutcomeByForms c text (Ok written)
 FailsByForms error c text = (why : ConversionError) × (error ≡ error_of why) × IsOutcomeByForms c text (Err why)
 

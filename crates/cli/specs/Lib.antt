@@ -19,6 +19,7 @@ pub mod NamedRules
 pub mod Options
 pub mod Parameters
 pub mod Plural
+pub mod ReadWord
 pub mod Reader
 pub mod Records
 pub mod ShownWord

@@ -1,5 +1,5 @@
 -- The texts that a reader reads.
-use Rattle.std.specs.Prelude.{List, ℕ, Result, Ok, Err}
+use Rattle.std.specs.Prelude.{◌≡◌, ◌⊎◌, ⊤, List, ℕ, Result, Ok, Err}
 use Rattle.std.specs.Str.{IsUtf8}
 use Rattle.decimal_unsigned.specs.Reading.{ReadError, syntax, limit}
 use Rattle.decimal_unsigned.specs.Unsigned.{IsValue}
@@ -10,8 +10,15 @@ use Rattle.fixed_decimal.specs.Decimal.{Decimal}
 use Rattle.decimal_format.specs.Symbols.{Symbols}
 use Rattle.decimal_format.specs.Reading.{Numeral, IsNumeral, IsBeyondLimits, IsWritten, NeedsMemory}
 use Rattle.decimal_format.specs.Lenient.{IsTyped, IsTypedNumeral}
+use Rattle.number_format.specs.declared.number_formatter.NumberFormatter.{NumberFormatter}
+use Rattle.number_format.specs.AffixedTexts.{IsShown, IsShownNumeral}
+use Rattle.number_format.specs.NumberReading.{reader_of}
+use Rattle.number_format.specs.ShiftedReading.{IsReadShifted}
+use Rattle.number_format.specs.TypedReading.{number_reader_of, IsReadLeniently}
 use Rattle.cli.specs.declared.reader.ParseMode.{ParseMode}
 use Rattle.cli.specs.declared.reader.ParseMode.TheVariants.{Strict, Lenient}
+
+-- ---- By the symbols of a locale.
 
 -- the text is that of a decimal, exactly or as people type it
 abbrev pub IsTextIn : ParseMode → Symbols → Decimal → List ℕ → Type 0
@@ -39,3 +46,26 @@ abbrev pub ReadingFailsIn : ParseMode → Symbols → List ℕ → ParseError �
 ReadingFailsIn mode s text parse.Syntax = IsReadIn mode s text (Err syntax)
 ReadingFailsIn mode s text parse.Limit = IsReadIn mode s text (Err limit)
 ReadingFailsIn mode s text parse.Memory = NeedsMemoryIn mode s text
+
+-- ---- By a formatter.
+
+-- the reader of the formatter has this result, exactly or as people type numbers
+abbrev pub IsNumberResult : ParseMode → NumberFormatter → List ℕ → Result Decimal ParseError → Type 0
+IsNumberResult Strict f text result =
+    IsReadShifted INLINE_DIGITS (reader_of f).shift (IsShownNumeral (reader_of f) text) (IsShown (reader_of f) text)
+    result
+IsNumberResult Lenient f text result =
+    (IsUtf8 text × IsReadLeniently INLINE_DIGITS (number_reader_of f) text result)
+    ⊎ (¬ IsUtf8 text × (result ≡ Err parse.Syntax))
+
+-- the text is read as this
+abbrev pub IsNumberRead : ParseMode → NumberFormatter → List ℕ → Result Decimal ReadError → Type 0
+IsNumberRead mode f text (Ok v) = IsNumberResult mode f text (Ok v)
+IsNumberRead mode f text (Err syntax) = IsNumberResult mode f text (Err parse.Syntax)
+IsNumberRead mode f text (Err limit) = IsNumberResult mode f text (Err parse.Limit)
+
+-- reading may fail with this error; the reader needs memory, whatever is read
+abbrev pub NumberReadingFails : ParseMode → NumberFormatter → List ℕ → ParseError → Type 0
+NumberReadingFails mode f text parse.Syntax = IsNumberRead mode f text (Err syntax)
+NumberReadingFails mode f text parse.Limit = IsNumberRead mode f text (Err limit)
+NumberReadingFails mode f text parse.Memory = ⊤

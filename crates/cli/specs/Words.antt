@@ -1,19 +1,15 @@
--- The conversion that words name: [read:LOCALE[:lenient]] [CALL].. [format:LOCALE[:GROUPING|:SKELETON]].
-use Rattle.std.specs.Prelude.{◌≡◌, ◌≢◌, ◌⊎◌, ℕ, ◌<◌, ⊤, List, [], ◌∷◌, ◌++◌, codes, String, string_bytes, Option, Some, None}
+-- The conversion that words name: [read:LOCALE[:lenient][:SKELETON]] [CALL].. [format:LOCALE[:GROUPING|:SKELETON]].
+use Rattle.std.specs.Prelude.{◌≡◌, ◌≢◌, ◌⊎◌, ℕ, ◌<◌, List, [], ◌∷◌, ◌++◌, codes, String, string_bytes, Option, Some, None}
 use Rattle.std.specs.declared.alloc.Global.{Global}
-use Rattle.locale_data.specs.Locales.{IsLocale}
-use Rattle.locale_data.specs.Locales as locales
 use Rattle.cli.specs.declared.conversion.Conversion.{Conversion}
 use Rattle.cli.specs.declared.locale_formatter.LocaleFormatter.{LocaleFormatter}
-use Rattle.cli.specs.declared.reader.DecimalReader.{DecimalReader}
-use Rattle.cli.specs.declared.reader.ParseMode.{ParseMode}
-use Rattle.cli.specs.declared.reader.ParseMode.TheVariants.{Strict, Lenient}
+use Rattle.cli.specs.declared.reader.LocaleReader.{LocaleReader}
 use Rattle.cli.specs.declared.error.WordsError.{WordsError}
-use Rattle.cli.specs.declared.error.WordsError.TheVariants.{NoSuchWord, AfterCall, Misplaced, UnknownLocale, Memory}
+use Rattle.cli.specs.declared.error.WordsError.TheVariants.{NoSuchWord, AfterCall, Misplaced, Memory}
 use Rattle.cli.specs.Calls.{NameAll, AreCalls, IsFirstUnknown}
 use Rattle.cli.specs.FormatWord.{NamesFormatter, FormatterFails}
 use Rattle.cli.specs.Options.{IsOption}
-use Rattle.cli.specs.Parameters.{locale_tag, locale_option}
+use Rattle.cli.specs.ReadWord.{NamesReader, ReaderFails}
 use Rattle.cli.specs.ShownWord.{IsShown}
 
 -- ---- The first and the last word.
@@ -42,20 +38,6 @@ IsFormatSplit words None others =
     (others ≡ words) × ((word : String Global) (rest : List (String Global)) → words ≡ rest ++ (word ∷ [])
     → ¬ IsFormatWord (string_bytes word))
 
--- ---- The reader.
-
--- the option of a mode
-abbrev pub mode_option : ParseMode → Option (List ℕ)
-mode_option Strict = None
-mode_option Lenient = Some (codes "lenient")
-
--- `read:..` names this reader; without it there is none
-abbrev pub NamesReader : Option (List ℕ) → Option DecimalReader → Type 0
-NamesReader None None = ⊤
-NamesReader (Some read) (Some reader) =
-    (locale_option read ≡ mode_option reader.mode) × IsLocale (locale_tag read) reader.symbols
-NamesReader _ _ = ⊥
-
 -- ---- All words.
 
 -- the words are [read:..] .. [format:..], and P holds of the first, of those between, and of the last
@@ -79,15 +61,6 @@ NamesConversion words conversion =
     × NamesFormatter format conversion.formatter)
 
 -- ---- Errors.
-
--- `read:..` names no reader: the option is that of no mode; or it is that of one, and the locale is unknown
-abbrev pub ReaderFails : Option (List ℕ) → WordsError → Type 0
-ReaderFails (Some read) (NoSuchWord word) =
-    ((mode : ParseMode) → locale_option read ≢ mode_option mode) × IsShown read word
-ReaderFails (Some read) (UnknownLocale tag) =
-    ((mode : ParseMode) × (locale_option read ≡ mode_option mode)) × locales.IsUnknown (locale_tag read)
-    × IsShown (locale_tag read) tag
-ReaderFails _ _ = ⊥
 
 -- the word is one that comes before all calls: an option of a filter, or `read:..`
 abbrev pub StandsFirst : List ℕ → Type 0
@@ -115,7 +88,7 @@ AreNoCalls words error = CallsFail words error ⊎ (AreCalls words × (words ≢
 abbrev pub PartsFail : WordsError → Option (List ℕ) → List (String Global) → Option (List ℕ) → Type 0
 PartsFail error read calls format =
     ReaderFails read error
-    ⊎ (((reader : Option DecimalReader) × NamesReader read reader)
+    ⊎ (((reader : Option LocaleReader) × NamesReader read reader)
     × (CallsFail calls error
     ⊎ (AreCalls calls
     × (FormatterFails format error

@@ -2,12 +2,12 @@
 ghost use Rattle.std.specs.Prelude.{◌≡◌, ◌≢◌, Ok, Err, true, IfOk, IfErr, OnOk, OnErr};
 ghost use Rattle.std.specs.Io.KnownBytes.{Appends};
 ghost use Rattle.decimal_digits.specs.AppendsPrefix.{AppendsPrefix};
-ghost use Rattle.cli.specs.Conversion.{IsReadAs, ReadingFails, HasTextBy, WritingFails, is_plain};
+ghost use Rattle.cli.specs.Conversion.{IsReadBy, ReadingByFails, HasTextBy, WritingFails, is_plain};
 ghost use Rattle.cli.specs.Conversion.{HasOutcome, OperationsFail, HasOutcomeByForms, FailsByForms};
 
 use crate::error::OperationError;
 use crate::locale_formatter::{LocaleFormatter, write_digits, write_number, write_plain};
-use crate::reader::DecimalReader;
+use crate::reader::LocaleReader;
 use fixed_decimal::{Call, Decimal, ParseError, RunError, Sink, apply_calls, run};
 use std::alloc::Global;
 
@@ -15,7 +15,7 @@ use std::alloc::Global;
 #[derive(Drop)]
 pub struct Conversion<'a> {
     /// Reads the text in the form of a locale. `None`: the text is a decimal's own.
-    pub reader: Option<DecimalReader<'a>>,
+    pub reader: Option<LocaleReader<'a>>,
     /// The calls on the decimal, in order.
     pub calls: Vec<Call<'a>>,
     /// Writes the result in the form of a locale. `None`: it is written as its own text.
@@ -32,11 +32,12 @@ impl Conversion<'_> {
 
     #[inline]
     fn read(&self, alloc: Global, text: &[u8]) -> Result<Decimal, ParseError>
-        ensures found { IfOk result (λ v. IsReadAs self.now.reader text.now (Ok v)) }
-        ensures fails_with { IfErr result (ReadingFails self.now.reader text.now) }
+        ensures found { IfOk result (λ v. IsReadBy self.now.reader text.now (Ok v)) }
+        ensures fails_with { IfErr result (ReadingByFails self.now.reader text.now) }
     {
         match &self.reader {
-            Some(reader) => reader.read(alloc, text),
+            Some(LocaleReader::Decimals(reader)) => reader.read(alloc, text),
+            Some(LocaleReader::Numbers(reader)) => reader.read(alloc, text),
             None => Decimal::try_from_utf8(alloc, text),
         }
     }

@@ -35,6 +35,8 @@ pub enum WordsError {
     SkeletonSyntax { at: usize },
     /// A text is a skeleton, but this stem is none of the library.
     SkeletonUnsupported(ShownWord),
+    /// The texts of the skeleton that `read:` names do not have one meaning each.
+    NoReader,
     /// Out of memory for the words, for the calls or rules that they name, or for the block.
     Memory,
     /// A write of the help failed.
@@ -55,6 +57,7 @@ impl fmt::Display for StartError {
             WordsError::UnknownLocale(tag) => write!(f, "unknown locale: {tag}"),
             WordsError::SkeletonSyntax { at } => write!(f, "skeleton: syntax at {at}"),
             WordsError::SkeletonUnsupported(stem) => write!(f, "skeleton: unsupported {stem}"),
+            WordsError::NoReader => f.write_str("skeleton: no reader"),
             WordsError::Memory => f.write_str("memory"),
             WordsError::Output => f.write_str("output"),
             _ if self.program == Program::Fixdec => f.write_str(self.program.usage()),

@@ -65,7 +65,8 @@ fn error_of_formatter(tag: &str, error: NumberFormatError) -> WordsError
     }
 }
 
-fn number_formatter(tag: &str, skeleton: &str) -> Result<NumberFormatter, WordsError>
+/// Returns the formatter of a locale by a skeleton.
+pub fn number_formatter(tag: &str, skeleton: &str) -> Result<NumberFormatter, WordsError>
     ensures ok { IfOk result (IsNumberFormatter tag.now skeleton.now) }
     ensures err { IfErr result (NumberFormatterFails tag.now skeleton.now) }
 {

@@ -35,11 +35,12 @@ const PLURAL: &str = "usage: plural RULES TEXT..";
 /// What `fixdec` does, and all its words.
 const TEXT: &str = "
 
-All words: TEXT [read:LOCALE[:lenient]] [CALL].. [format:LOCALE[:GROUPING|:SKELETON]]
+All words: TEXT [read:LOCALE[:lenient][:SKELETON]] [CALL].. [format:LOCALE[:GROUPING|:SKELETON]]
 Reads TEXT as a decimal, makes the calls in order, and writes the result and a line feed.
 
 fixdec 250 shift:-2                              2.50
 fixdec 1.234,565 read:de round:-2:half-even:1    1234.56
+fixdec '$7.50' read:en:currency/USD              7.50
 fixdec 1234567.5 format:en-IN                    12,34,567.5
 fixdec 1234567 format:en:K                       1.2M
 
@@ -112,6 +113,8 @@ MODE: ceil, floor, expand, trunc, half-ceil, half-floor, half-expand, half-trunc
 INC: 1, 2, 5, 25
 
 read:LOCALE[:lenient]     reads the text as the locale writes it, or as people type it
+read:LOCALE[:lenient]:SKELETON
+                          reads an amount or a percentage by a number skeleton of ICU
 format:LOCALE[:GROUPING]  writes the result as the locale does, with all its digits
 format:LOCALE:SKELETON    writes it as a number skeleton of ICU says
 

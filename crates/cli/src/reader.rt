@@ -4,15 +4,16 @@ ghost use Rattle.decimal_format.specs.Readable.{IsReadable};
 
 use decimal_format::DecimalSymbols;
 use fixed_decimal::{Decimal, ParseError};
+use number_format::NumberFormatter;
 use std::alloc::Global;
 use std::str;
 
 /// How strictly a text is read.
 #[derive(Clone, Copy, Debug, PartialEq)]
 pub enum ParseMode {
-    /// Exactly as decimals are formatted: [`DecimalSymbols::read`].
+    /// Exactly as numbers are formatted: [`DecimalSymbols::read`], [`number_format::NumberReader::read`].
     Strict,
-    /// As people type decimals: [`DecimalSymbols::read_lenient`].
+    /// As people type numbers: [`DecimalSymbols::read_lenient`], [`number_format::NumberReader::read_lenient`].
     Lenient,
 }
 
@@ -49,4 +50,49 @@ impl<'a> DecimalReader<'a> {
             },
         }
     }
+}
+
+/// Reads numbers as a formatter writes them, with their unit.
+#[derive(Drop)]
+pub struct SkeletonReader {
+    /// The formatter.
+    pub formatter: NumberFormatter,
+    /// How strictly a text is read.
+    pub mode: ParseMode,
+}
+
+impl SkeletonReader {
+    ghost use Rattle.cli.specs.Reader.{IsNumberRead, NumberReadingFails};
+
+    /// Reads a number. It makes the [`NumberReader`](number_format::NumberReader) of the formatter.
+    ///
+    /// # Errors
+    ///
+    /// - `Syntax`: no decimal, of any number of digits, has this text in this mode.
+    /// - `Limit`: there are more than 32,768 integer or fraction digits, or the scale leaves these limits.
+    /// - `Memory`: out of memory, or the formatter has no reader.
+    pub fn read(&self, alloc: Global, text: &[u8]) -> Result<Decimal, ParseError>
+        ensures found { IfOk result (λ v. IsNumberRead self.now.mode self.now.formatter text.now (Ok v)) }
+        ensures fails_with { IfErr result (NumberReadingFails self.now.mode self.now.formatter text.now) }
+    {
+        let Ok(reader) = self.formatter.reader(alloc) else {
+            return Err(ParseError::Memory);
+        };
+        match self.mode {
+            ParseMode::Strict => reader.read(alloc, text),
+            ParseMode::Lenient => match str::from_utf8(text) {
+                Ok(text) => reader.read_lenient(alloc, text),
+                Err(_) => Err(ParseError::Syntax),
+            },
+        }
+    }
+}
+
+/// Reads decimals in the form of a locale.
+#[derive(Drop)]
+pub enum LocaleReader<'a> {
+    /// With all digits.
+    Decimals(DecimalReader<'a>),
+    /// As a number skeleton has them.
+    Numbers(SkeletonReader),
 }

@@ -1,20 +1,16 @@
-//! The conversion that words name: `[read:LOCALE[:lenient]] [CALL].. [format:LOCALE[:GROUPING|:SKELETON]]`.
-ghost use Rattle.std.specs.Prelude.{◌≡◌, ◌≢◌, IfOk, IfErr, IfSome, IfNone, Some, None, true, false};
+//! The conversion that words name: `[read:LOCALE[:lenient][:SKELETON]] [CALL].. [format:LOCALE[:GROUPING|:SKELETON]]`.
+ghost use Rattle.std.specs.Prelude.{◌≡◌, IfOk, IfErr, Some, None, true, false};
 ghost use Rattle.std.specs.Option.{option_copied};
-ghost use Rattle.cli.specs.declared.reader.ParseMode.{ParseMode};
 ghost use Rattle.cli.specs.Words.{IsReadWord, IsFormatWord, IsReadSplit, IsFormatSplit};
-ghost use Rattle.cli.specs.Words.{mode_option, NamesReader, NamesConversion};
-ghost use Rattle.cli.specs.Words.{ReaderFails, ConversionFails, StandsFirst, IsErrorOfWord};
+ghost use Rattle.cli.specs.Words.{NamesConversion, ConversionFails, StandsFirst, IsErrorOfWord};
 
 use crate::calls::parse_calls;
 use crate::conversion::Conversion;
 use crate::error::WordsError;
 use crate::format_word::parse_formatter;
 use crate::options::is_option;
-use crate::parameters::{parameters, split_parameters};
-use crate::reader::{DecimalReader, ParseMode};
+use crate::read_word::parse_reader;
 use crate::shown_word::ShownWord;
-use locale_data::locale;
 use std::alloc::Global;
 
 fn is_read_word(word: &str) -> bool
@@ -55,34 +51,6 @@ fn split_format(words: &[String]) -> (Option<&str>, &[String])
     (None, words)
 }
 
-fn parse_mode(option: Option<&str>) -> Option<ParseMode>
-    ensures some { IfSome result (λ mode. option_copied option.entry ≡ mode_option mode) }
-    ensures none { IfNone result ((mode : ParseMode) → option_copied option.entry ≢ mode_option mode) }
-{
-    match option {
-        None => Some(ParseMode::Strict),
-        Some("lenient") => Some(ParseMode::Lenient),
-        Some(_) => None,
-    }
-}
-
-fn parse_reader(word: Option<&str>) -> Result<Option<DecimalReader<'static>>, WordsError>
-    ensures some { IfOk result (NamesReader (option_copied word.entry)) }
-    ensures err { IfErr result (ReaderFails (option_copied word.entry)) }
-{
-    let Some(word) = word else {
-        return Ok(None);
-    };
-    let (tag, option) = split_parameters(parameters(word));
-    let Some(mode) = parse_mode(option) else {
-        return Err(WordsError::NoSuchWord(ShownWord::of(word)));
-    };
-    match locale(tag) {
-        Some(symbols) => Ok(Some(DecimalReader { symbols, mode })),
-        None => Err(WordsError::UnknownLocale(ShownWord::of(tag))),
-    }
-}
-
 fn stands_first(word: &str) -> bool
     ensures yes { result ≡ true → StandsFirst word.now }
     ensures no { result ≡ false → ¬ StandsFirst word.now }
@@ -114,18 +82,20 @@ pub fn error_of_word(calls: usize, word: &str) -> WordsError
 ///
 /// Of several wrong words the first one decides:
 ///
-/// - `NoSuchWord`: a word names no call, or its option is unknown.
-/// - `SkeletonSyntax`, `SkeletonUnsupported`: the option of `format:` is no skeleton, or none of the library.
+/// - `NoSuchWord`: a word names no call, or its option is empty.
+/// - `SkeletonSyntax`, `SkeletonUnsupported`: an option of `read:` or `format:` is no skeleton, or none of the library.
+/// - `NoReader`: the texts of the skeleton of `read:` do not have one meaning each.
 /// - `AfterCall`, `Misplaced`: an option of a filter or `read:` is not before the calls, or `format:` not after them.
 /// - `UnknownLocale`: the locale of `read:` or `format:` is unknown.
-/// - `Memory`: out of memory for the list of the calls; no word is wrong.
+/// - `Memory`: out of memory for the list of the calls, and no word is wrong; or for the texts of the skeleton of
+///   `read:`.
 pub fn parse_conversion(alloc: Global, words: &[String]) -> Result<Conversion<'_>, WordsError>
     ensures some { IfOk result (NamesConversion words.now) }
     ensures err { IfErr result (ConversionFails words.now) }
 {
     let (read, words) = split_read(words);
     let (format, words) = split_format(words);
-    let reader = parse_reader(read)?;
+    let reader = parse_reader(alloc, read)?;
     match parse_calls(alloc, words) {
         Ok(calls) => Ok(Conversion {
             reader,

@@ -109,6 +109,8 @@ const LOCALES: &[(&str, &str)] = &[
     ),
     ("12345,5 read:de", "12345.5"),
     ("1'234567.50 read:de-CH:lenient", "1234567.50"),
+    ("$1,234.50 read:en:currency/USD", "1234.50"),
+    ("12.5% read:en:lenient:%x100", "0.125"),
     ("1234567.891 format:hi", "12,34,567.891"),
     ("1234567.891 format:de_CH.UTF-8:never", "1234567.891"),
     ("1234 format:es:always", "1.234"),

@@ -14,6 +14,7 @@ const REJECTED: &[(&str, &str)] = &[
     ("read:de", "1 start: syntax\n"),
     ("format:de", "1 start: syntax\n"),
     ("1,234.56 read:de", "1 start: syntax\n"),
+    ("5 read:en:percent", "1 start: syntax\n"),
     (" 5|shift:1", "1 start: syntax\n"),
     ("5 |shift:1", "1 start: syntax\n"),
     ("10e32767", "1 start: limit\n"),
@@ -60,7 +61,9 @@ const LOCALES: &[(&str, &str)] = &[
     ("5 format:tlh:fast", "2 skeleton: syntax at 0\n"),
     ("5 format:tlh:scale/2", "2 skeleton: unsupported scale\n"),
     ("5 foo format:tlh", USAGE),
-    ("5 read:de:strict format:tlh", USAGE),
+    ("5 read:de: format:tlh", USAGE),
+    ("5 read:de:strict format:tlh", "2 skeleton: syntax at 0\n"),
+    ("5 read:de:K format:tlh", "2 skeleton: no reader\n"),
     ("5 shift:40000 format:tlh", USAGE),
 ];
 

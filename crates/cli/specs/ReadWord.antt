@@ -1,0 +1,62 @@
+-- The reader that `read:LOCALE[:lenient][:SKELETON]` names.
+use Rattle.std.specs.Prelude.{◌≡◌, ◌≢◌, ◌⊎◌, ℕ, ⊤, List, [], codes, Option, Some, None}
+use Rattle.locale_data.specs.Locales.{IsLocale}
+use Rattle.number_format.specs.declared.number_formatter.NumberFormatter.{NumberFormatter}
+use Rattle.number_format.specs.NumberReading.{CanRead}
+use Rattle.cli.specs.declared.error.WordsError.{WordsError}
+use Rattle.cli.specs.declared.error.WordsError.TheVariants.{NoSuchWord, NoReader, Memory}
+use Rattle.cli.specs.declared.reader.LocaleReader.{LocaleReader}
+use Rattle.cli.specs.declared.reader.LocaleReader.TheVariants.{Decimals, Numbers}
+use Rattle.cli.specs.declared.reader.ParseMode.{ParseMode}
+use Rattle.cli.specs.declared.reader.ParseMode.TheVariants.{Strict, Lenient}
+use Rattle.cli.specs.FormatWord.{IsNumberFormatter, NumberFormatterFails, IsUnknownLocale}
+use Rattle.cli.specs.Parameters.{tag_of, option_of, locale_tag, locale_option}
+use Rattle.cli.specs.ShownWord.{IsShown}
+
+-- the option has this mode and this skeleton: `lenient`, `lenient:SKELETON`, or `SKELETON`
+abbrev pub IsReadOption : Option (List ℕ) → ParseMode → Option (List ℕ) → Type 0
+IsReadOption None mode skeleton = (mode ≡ Strict) × (skeleton ≡ None)
+IsReadOption (Some option) Lenient skeleton = (tag_of option ≡ codes "lenient") × (skeleton ≡ option_of option)
+IsReadOption (Some option) Strict skeleton = (tag_of option ≢ codes "lenient") × (skeleton ≡ Some option)
+
+-- `read:..` names this reader; without it there is none
+abbrev pub NamesReader : Option (List ℕ) → Option LocaleReader → Type 0
+NamesReader None None = ⊤
+NamesReader (Some read) (Some (Decimals r)) =
+    IsReadOption (locale_option read) r.mode None × IsLocale (locale_tag read) r.symbols
+NamesReader (Some read) (Some (Numbers r)) =
+    (text : List ℕ) × IsReadOption (locale_option read) r.mode (Some text) × (text ≢ [])
+    × IsNumberFormatter (locale_tag read) text r.formatter × CanRead r.formatter
+NamesReader _ _ = ⊥
+
+-- ---- Errors.
+
+-- the texts of the formatter are not read; or out of memory for them
+abbrev pub IsErrorOfReader : NumberFormatter → WordsError → Type 0
+IsErrorOfReader f NoReader = ¬ CanRead f
+IsErrorOfReader f Memory = ⊤
+IsErrorOfReader f error = ⊥
+
+-- the skeleton has no formatter in the locale; or it has one, and there is no reader
+abbrev pub SkeletonReaderFails : List ℕ → List ℕ → WordsError → Type 0
+SkeletonReaderFails tag text error =
+    NumberFormatterFails tag text error
+    ⊎ ((f : NumberFormatter) × IsNumberFormatter tag text f × IsErrorOfReader f error)
+
+-- the skeleton is empty
+abbrev pub IsEmptySkeleton : List ℕ → List ℕ → WordsError → Type 0
+IsEmptySkeleton read text (NoSuchWord word) = (text ≡ []) × IsShown read word
+IsEmptySkeleton read text error = ⊥
+
+-- a word with this skeleton names no reader: without one, the locale is unknown; or it is empty, or has no reader
+abbrev pub SkeletonFails : List ℕ → Option (List ℕ) → WordsError → Type 0
+SkeletonFails read None error = IsUnknownLocale (locale_tag read) error
+SkeletonFails read (Some text) error =
+    IsEmptySkeleton read text error ⊎ ((text ≢ []) × SkeletonReaderFails (locale_tag read) text error)
+
+-- `read:..` names no reader
+abbrev pub ReaderFails : Option (List ℕ) → WordsError → Type 0
+ReaderFails None error = ⊥
+ReaderFails (Some read) error =
+    (mode : ParseMode) × (skeleton : Option (List ℕ)) × IsReadOption (locale_option read) mode skeleton
+    × SkeletonFails read skeleton error

@@ -1,0 +1,99 @@
+//! The reader that `read:LOCALE[:lenient][:SKELETON]` names.
+ghost use Rattle.std.specs.Prelude.{◌≡◌, IfOk, IfErr};
+ghost use Rattle.std.specs.Option.{option_copied};
+ghost use Rattle.locale_data.specs.Locales.{IsLocale};
+ghost use Rattle.number_format.specs.NumberReading.{CanRead};
+ghost use Rattle.cli.specs.FormatWord.{IsNumberFormatter, IsUnknownLocale};
+ghost use Rattle.cli.specs.ReadWord.{IsReadOption, IsErrorOfReader, SkeletonReaderFails};
+ghost use Rattle.cli.specs.ReadWord.{NamesReader, ReaderFails};
+
+use crate::error::WordsError;
+use crate::format_word::number_formatter;
+use crate::parameters::{parameters, split_parameters};
+use crate::reader::{DecimalReader, LocaleReader, ParseMode, SkeletonReader};
+use crate::shown_word::ShownWord;
+use locale_data::locale;
+use number_format::{NumberFormatter, NumberReaderError};
+use std::alloc::Global;
+
+fn split_mode(option: Option<&str>) -> (ParseMode, Option<&str>)
+    ensures { IsReadOption (option_copied option.entry) result.0 (option_copied result.1) }
+{
+    let Some(text) = option else {
+        return (ParseMode::Strict, None);
+    };
+    let (mode, skeleton) = split_parameters(text);
+    if mode == "lenient" {
+        (ParseMode::Lenient, skeleton)
+    } else {
+        (ParseMode::Strict, Some(text))
+    }
+}
+
+fn check_readable(alloc: Global, formatter: &NumberFormatter) -> Result<(), WordsError>
+    ensures ok { IfOk result (λ _. CanRead formatter.now) }
+    ensures err { IfErr result (IsErrorOfReader formatter.now) }
+{
+    match formatter.reader(alloc) {
+        Ok(_) => Ok(()),
+        Err(NumberReaderError::Memory) => Err(WordsError::Memory),
+        Err(_) => Err(WordsError::NoReader),
+    }
+}
+
+fn skeleton_reader(
+    alloc: Global,
+    tag: &str,
+    skeleton: &str,
+    mode: ParseMode,
+) -> Result<SkeletonReader, WordsError>
+    ensures ok { IfOk result (λ r. (r.mode ≡ mode) × IsNumberFormatter tag.now skeleton.now r.formatter
+        × CanRead r.formatter) }
+    ensures err { IfErr result (SkeletonReaderFails tag.now skeleton.now) }
+{
+    let formatter = number_formatter(tag, skeleton)?;
+    check_readable(alloc, &formatter)?;
+    Ok(SkeletonReader { formatter, mode })
+}
+
+fn decimal_reader(tag: &str, mode: ParseMode) -> Result<DecimalReader<'static>, WordsError>
+    ensures ok { IfOk result (λ r. (r.mode ≡ mode) × IsLocale tag.now r.symbols) }
+    ensures err { IfErr result (IsUnknownLocale tag.now) }
+{
+    match locale(tag) {
+        Some(symbols) => Ok(DecimalReader { symbols, mode }),
+        None => Err(WordsError::UnknownLocale(ShownWord::of(tag))),
+    }
+}
+
+/// Returns the reader that a word names.
+///
+/// # Errors
+///
+/// - `NoSuchWord`: the skeleton is empty.
+/// - `SkeletonSyntax`, `SkeletonUnsupported`: the option is no mode and no skeleton, or none of the library.
+/// - `UnknownLocale`: the locale is unknown.
+/// - `NoReader`: the texts of the skeleton do not have one meaning each.
+/// - `Memory`: out of memory for the texts of the skeleton.
+pub fn parse_reader(
+    alloc: Global,
+    word: Option<&str>,
+) -> Result<Option<LocaleReader<'static>>, WordsError>
+    ensures some { IfOk result (NamesReader (option_copied word.entry)) }
+    ensures err { IfErr result (ReaderFails (option_copied word.entry)) }
+{
+    let Some(word) = word else {
+        return Ok(None);
+    };
+    let (tag, option) = split_parameters(parameters(word));
+    let (mode, skeleton) = split_mode(option);
+    let Some(skeleton) = skeleton else {
+        let reader = decimal_reader(tag, mode)?;
+        return Ok(Some(LocaleReader::Decimals(reader)));
+    };
+    if skeleton.is_empty() {
+        return Err(WordsError::NoSuchWord(ShownWord::of(word)));
+    }
+    let reader = skeleton_reader(alloc, tag, skeleton, mode)?;
+    Ok(Some(LocaleReader::Numbers(reader)))
+}
