@@ -110,7 +110,8 @@ prints 0.125 $'12,5\xc2\xa0%' read:de:%x100
 prints -1234567.50 '(₹1,234,567.50)' 'read:en-IN:currency/INR ()'
 prints 1234.50 $'CHF\xc2\xa01,234.50' 'read:en:currency/CHF unit-width-iso-code'
 prints 1234.50 '1.234,50 €' read:de:lenient:currency/EUR
-prints -7 '(7 EUR)' read:de:lenient:currency/EUR
+prints -7 '(7)' read:de:lenient:currency/EUR
+prints -7 '-EUR 7' read:de:lenient:currency/EUR
 prints '-₹12.50' $'-12,50\xc2\xa0€' read:de:currency/EUR format:en-IN:currency/INR
 
 # Status 1: the start or a call fails.
