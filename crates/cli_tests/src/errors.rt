@@ -2,8 +2,8 @@
 ghost use Rattle.std.specs.Prelude.{◌≡◌, true, [], ◌∷◌, ◌++◌};
 
 use cli::{
-    Conversion, Diagnostics, ErrorLines, Filter, LineError, LineReader, OnError, OperationError, Program,
-    ProgramError, Reason, ShownWord, Target, WordsError, filter_lines,
+    Conversion, Diagnostics, ErrorLines, Filter, LineError, LineReader, OnError, OperationError,
+    Program, ProgramError, Reason, ShownWord, Target, WordsError, filter_lines,
 };
 use fixed_decimal::{Call, TextBuf};
 use std::alloc::Global;
