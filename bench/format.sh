@@ -14,18 +14,5 @@
 #
 # Take it on a machine that does nothing else.
 set -euo pipefail
-. "$(dirname "$0")/../diff/build.sh"
-build format_times src/main.rt "$here/format/" std anyhow decimal_digits decimal_unsigned fixed_decimal decimal_format \
-    plural_rules locale_data
-c++ -O2 -std=c++17 -o "$work/icu" "$here/format/icu.cpp" $(pkg-config --cflags --libs icu-i18n icu-uc)
-"$work/format_times/format_times" > "$work/ours.tsv"
-"$work/icu" 9 > "$work/icu.tsv" 2> "$work/icu.txt"
-python3 - "$work/ours.tsv" "$work/icu.tsv" <<'PYTHON'
-import sys
-ours, icu = ({tuple(row[:3]): int(row[3]) for row in (line.rstrip("\n").split("\t") for line in open(path))}
-             for path in sys.argv[1:])
-print("| Call | Locale | Number | here | ICU | ratio |\n|---|---|---|---|---|---|")
-for (kind, tag, number), time in ours.items():
-    beside = icu.get((kind, tag, number))
-    print(f"| {kind} | {tag} | {number} | {time} | {beside or ''} | {f'{time / beside:.2f}' if beside else ''} |")
-PYTHON
+. "$(dirname "$0")/beside_icu.sh"
+beside_icu format 'Call | Locale | Number'

@@ -1,11 +1,11 @@
 #!/usr/bin/env bash
-# Prints the tables of hosts: the Rust crate beside the C library, the Python module beside decimal, Babel and the program,
-# and a column on the workers of Dask beside one program and beside a Dask map of decimal.Decimal:
+# Prints the tables of hosts: the Rust crate beside the C library, the Python module beside decimal, Babel and the
+# program, and a column on the workers of Dask beside one program and beside a Dask map of decimal.Decimal:
 #
 #   bench/hosts.sh [LINES]        by default 5000000
 #
-# It takes the libraries and the program that the gate has built, and needs cargo, python3-distributed and python3-babel,
-# and four idle processors.
+# It takes the libraries and the program that the gate has built, and needs cargo, python3-distributed and
+# python3-babel, and four idle processors.
 set -euo pipefail
 cd "$(dirname "$0")/.."
 lines=${1:-5000000}
@@ -23,9 +23,10 @@ done
 "$python" -m pip install --no-index --quiet --target "$room/python" ./python
 PYTHONPATH=$room/python "$python" python/tests/bench.py "$program"
 printf '\n|Column|lines a second|\n|---|---|\n'
-awk -v lines="$lines" 'BEGIN { for (i = 0; i < lines; i++) printf "%d.%03d\n", i % 10000, i * 7 % 1000 }' > "$room/lines"
+awk -v lines="$lines" 'BEGIN { for (i = 0; i < lines; i++) printf "%d.%03d\n", i % 10000, i * 7 % 1000 }' \
+  > "$room/lines"
 
-# report NAME COMMAND..: the lines a second of a command that writes $room/found, which has to be what the program writes.
+# report NAME COMMAND..: the lines a second of a command that converts $room/lines to $room/found, as the program does.
 report() {
   local name=$1 start=$EPOCHREALTIME
   shift
@@ -70,5 +71,11 @@ for wanted in 1 2 4; do
   done
   sleep 5
   report "Dask, $wanted workers" dask
+done
+# The map takes a hundred times as long: a tenth of the lines.
+lines=$((lines / 10))
+for file in lines expected; do
+  head -n "$lines" "$room/$file" > "$room/first"
+  mv "$room/first" "$room/$file"
 done
 report "a Dask map of decimal.Decimal, 4 workers" map

@@ -12,14 +12,15 @@
 #
 # The second table has a field of lines `name7,city,dddd.ddd,tail`, without quotes and as CSV, beside `numfmt`, `mawk`
 # and Python's `csv` and `decimal`. The third has lines `d,ddd.ddd` that are read and written in the form of a locale,
-# beside the same numbers without one; all of its lines differ.
+# beside the same numbers without one; all of its lines differ. The fourth has at most 1,000,000 of the plain lines written
+# as amounts of money and as numbers of a locale, beside `numfmt` and Python's Babel.
 #
 # The last table has the instructions of a line: of the filter, of the filter with no call, which parses each line as
 # a number and prints it, of the filter on a field and with locales, of the C program, and of one that only copies each
 # line by `getline` and `fwrite`.
 #
-# Needs bash, the toolchain, a C compiler, and Debian's time, mawk, python3 and valgrind. Take it on a machine that does
-# nothing else.
+# Needs bash, the toolchain, a C compiler, and Debian's time, mawk, python3, python3-babel and valgrind. Take it on a
+# machine that does nothing else.
 set -euo pipefail
 lines=${1:-5000000} passes=${2:-5}
 cd "$(dirname "$0")/.."
@@ -56,6 +57,14 @@ unit = Decimal("0.01")
 write = sys.stdout.write
 for line in sys.stdin:
     write(str(Decimal(line).quantize(unit, rounding=ROUND_HALF_EVEN)) + "\n")
+PYTHON
+cat > "$room/money.py" <<'PYTHON'
+import sys
+from decimal import Decimal
+from babel.numbers import format_currency
+write = sys.stdout.write
+for line in sys.stdin:
+    write(format_currency(Decimal(line), "EUR", locale="en") + "\n")
 PYTHON
 cat > "$room/strtod.c" <<'C'
 #define _GNU_SOURCE
@@ -134,6 +143,15 @@ for ((pass = 0; pass < passes; pass++)); do
 done
 table 'without a locale' 'read:en format:en-IN'
 
+head -n 1000000 "$room/plain" > "$room/amounts"
+for ((pass = 0; pass < passes; pass++)); do
+  timed amounts 'amounts of money' "$room/fixdec_lines" 'format:en:currency/EUR .00'
+  timed amounts 'numbers of a locale' "$room/fixdec_lines" format:en
+  timed amounts 'numfmt --to=si' numfmt --to=si
+  timed amounts 'Babel, amounts of money' /usr/bin/python3 "$room/money.py"
+done
+table 'amounts of money' 'numbers of a locale' 'numfmt --to=si' 'Babel, amounts of money'
+
 some=$((lines < 100000 ? lines : 100000))
 # instructions INPUT PROGRAM [WORD]..: those of a line, on average over some, without those of a run on no line.
 instructions() {
@@ -153,5 +171,6 @@ echo "| fixdec_lines with no call | $(instructions plain "$room/fixdec_lines") |
 echo "| fixdec_lines of a field | $(instructions fields "$room/fixdec_lines" delimiter:, field:3 $round) |"
 echo "| fixdec_lines of CSV | $(instructions fields "$room/fixdec_lines" csv field:3 $round) |"
 echo "| read:en format:en-IN | $(instructions grouped "$room/fixdec_lines" read:en $round format:en-IN) |"
+echo "| format:en:currency/EUR .00 | $(instructions plain "$room/fixdec_lines" 'format:en:currency/EUR .00') |"
 echo "| strtod | $(instructions plain "$room/strtod") |"
 echo "| a copy of each line | $(instructions plain "$room/copy") |"

@@ -144,14 +144,14 @@ enum fd_grouping { FD_GROUP_AUTO = 0, FD_GROUP_NEVER = 1, FD_GROUP_ALWAYS = 2, F
 enum fd_reading { FD_STRICT = 0, FD_LENIENT = 1 };
 
 /* The form of a text: that of a locale, by its number or its tag; with neither, the text is a decimal's own. A tag is a
- * BCP 47 tag, or the name that a shell has (de_CH.UTF-8). With a skeleton the text is written as by fd_format_number:
- * the tag is needed, and the number and the option are ignored. */
+ * BCP 47 tag, or the name that a shell has (de_CH.UTF-8). With a skeleton the text is written as by fd_format_number,
+ * with the option ignored, or read as by fd_read_number: the tag is needed, and the number is ignored. */
 typedef struct fd_form {
     uint64_t locale;       /* the number of the locale, from fd_locale; 0: the locale of the tag */
     size_t start;          /* where the tag begins in the texts; ignored with a number */
     size_t count;          /* its number of bytes; 0: no tag */
     size_t skeleton_start; /* where the number skeleton begins in the texts */
-    size_t skeleton_count; /* its number of bytes; 0: no skeleton, also in the form of the text that is read */
+    size_t skeleton_count; /* its number of bytes; 0: no skeleton */
     uint8_t option;        /* of the text that is read an fd_reading, of the one that is written an fd_grouping */
 } fd_form;
 
@@ -182,7 +182,7 @@ fd_result fd_run(const uint8_t *start, size_t start_count, const fd_call *calls,
 
 /* The same of a text that is read in one form, with the result written in another.
  * Errors: as fd_run, FD_UNKNOWN_LOCALE, FD_UNKNOWN_OPTION; with a skeleton FD_SKELETON_SYNTAX,
- * FD_SKELETON_UNSUPPORTED, FD_UNKNOWN_NUMBERING_SYSTEM. */
+ * FD_SKELETON_UNSUPPORTED, FD_UNKNOWN_NUMBERING_SYSTEM; of the text that is read FD_UNREADABLE_FORMAT. */
 fd_result fd_convert(const uint8_t *text, size_t count, const fd_forms *forms, const fd_call *calls, size_t call_count,
                      const uint8_t *texts, size_t texts_count, uint8_t *buffer, size_t capacity);
 

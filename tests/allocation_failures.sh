@@ -5,7 +5,7 @@
 #   reported that it is out of memory, changed nothing, and succeeded when it was made again.
 # - `fixdec_lines` has to end with status 3, and `memory` with nothing written, or `line N: memory` with the lines
 #   before, or as ever where it asked again, for less; and it allocates no more for a thousand lines of at most 16
-#   digits than for one.
+#   digits than for one, also by number skeletons.
 #
 # Needs bash and gdb, which it installs where it may. The last line is `N passed, M failed`; the status is 0 if M is 0.
 set -u
@@ -49,16 +49,21 @@ for ((at = 1; at <= ${all:-0}; at++)); do
   judge $? "allocation $at of $all: $(cat "$at.out")"
 done
 
-# No allocation more for more lines.
-call=round:-2:half-even:25
-for ((i = 0; i < 1000; i++)); do echo 12345678901234.56; done > many
-head -n 1 many > one
-fail_at one 0 fixdec_lines "$call"
-read -r few _ < 0.end
-fail_at many 0 fixdec_lines "$call"
-read -r all _ < 0.end
-[ -n "$few" ] && [ "$all" = "$few" ]
-judge $? "$few allocations for one line, and $all for a thousand"
+# no_more LINE TEXT WORD..: a thousand lines are converted to this text, with no allocation more than for one.
+no_more() {
+  yes "$1" | head -n 1000 > many
+  head -n 1 many > one
+  fail_at one 0 fixdec_lines "${@:3}"
+  read -r few _ < 0.end
+  fail_at many 0 fixdec_lines "${@:3}"
+  read -r all _ < 0.end
+  [ -n "$few" ] && [ "$all" = "$few" ] && cmp -s 0.out <(yes "$2" | head -n 1000)
+  judge $? "${*:3}: $few allocations for one line, and $all for a thousand"
+}
+no_more 12345678901234.56 12345678901234.50 round:-2:half-even:25
+euro=$'\xe2\x82\xac' dollars='$12,345,678,901,234.56'
+no_more "12.345.678.901.234,56"$'\xc2\xa0'"$euro" "$dollars" read:de:currency/EUR format:en:currency/USD
+no_more "$euro 12345678901234,56" "$dollars" read:de:lenient:currency/EUR format:en:currency/USD
 
 # Those of the words, of their calls, of the buffers, of lines that get longer, of long numbers and of concatenations.
 printf '70\n12345678901234567890.125\nx\n1e20\n%0200d\n' 5 > in

@@ -70,6 +70,14 @@ if command -v sqlite3 > /dev/null && echo '#include <sqlite3ext.h>' | gcc -E -x 
     [ "$found" = "$2" ]
     judge $? "$1: $found"
   }
+  # rejects FUNCTION 'ARGUMENTS|LINE'..
+  rejects() {
+    for call in "${@:2}"; do
+      found=$(sqlite3 -cmd ".load $room/fixdec" :memory: "SELECT $1(${call%|*})" 2>&1)
+      [[ $found == *"${call#*|}"* ]]
+      judge $? "$1(${call%|*}): $found"
+    done
+  }
   row "SELECT fixdec('1234.565', 'round:-2:half-even:1', 'format:de')" 1.234,56
   row "SELECT fixdec('1.234,5', 'read:de', 'shift:2', 'pad-end:-1', 'sign:minus', 'format:en-IN')" -1,23,450.0
   row "SELECT fixdec('12', 'concat:0.5', 'concat:0.005', 'display:always')" +12.505
@@ -83,37 +91,21 @@ if command -v sqlite3 > /dev/null && echo '#include <sqlite3ext.h>' | gcc -E -x 
     $'-1,2 mil|123.456,00\u00a0₹'
   row "SELECT fixdec('1 234,5', 'read:fr:lenient', 'format:de:never'), fixdec('1234', 'format:es:always')" '1234,5|1.234'
   row "SELECT format_number('uk', 'percent', 5300000), format_number('uk', NULL, 1) IS NULL" $'5\u00a0300\u00a0000%|1'
-  row "SELECT read_number('de', 'currency/EUR', '-1.234,50' || char(160) || '€'), read_number('en', '%x100 .0', '12.5%'), read_number('de', 'K', NULL) IS NULL" \
-    '-1234.50|0.125|1'
+  row "SELECT fixdec('-1.234,50' || char(160) || '€', 'read:de:currency/EUR', 'shift:2'), fixdec('12.5%', 'read:en:%x100 .0')" \
+    '-123450|0.125'
+  row "SELECT fixdec('EUR 1.234,5', 'read:de:lenient:currency/EUR', 'format:en:currency/EUR .00')" '€1,234.50'
   row "SELECT group_concat(x, ' ') FROM (SELECT column1 AS x FROM (VALUES ('b'), ('10'), ('9.50'), ('a'), ('-1e2'), ('9.5')) ORDER BY x COLLATE decimal_compare, x)" \
     '-1e2 9.5 9.50 10 a b'
-  for call in "'1x', 'trim-end'|start: syntax" "'10', 'trim-end', 'shift:32767'|call 1: overflow" \
+  rejects fixdec "'1x', 'trim-end'|start: syntax" "'10', 'trim-end', 'shift:32767'|call 1: overflow" \
     "'1', 'trimm'|no such call" "'1', 'round:0:up:1'|no such call" "'1', 'format:tlh'|unknown locale" \
-    "'1', 'round:0:ceil:3'|no such call: 0" "'12', 'concat:25'|call 0: overlap" "'1', 'read:de:K'|no such call" \
-    "'1', 'format:de:'|no such call" "'x', 'format:de:percent/w'|skeleton: syntax at 7" "'1', 'format:tlh:K'|unknown locale" \
-    "'1e32766', 'shift:1', 'format:en:scale/100'|format: overflow"; do
-    found=$(sqlite3 -cmd ".load $room/fixdec" :memory: "SELECT fixdec(${call%|*})" 2>&1)
-    [[ $found == *"${call#*|}"* ]]
-    judge $? "fixdec(${call%|*}): $found"
-  done
-  for call in "'one: n =', '1'|rules: syntax at 8" "'xx', '1'|unknown locale" "'en:nominal', '1'|rules: syntax at 0" \
-    "'en', '1x'|start: syntax"; do
-    found=$(sqlite3 -cmd ".load $room/fixdec" :memory: "SELECT plural(${call%|*})" 2>&1)
-    [[ $found == *"${call#*|}"* ]]
-    judge $? "plural(${call%|*}): $found"
-  done
-  for call in "'tlh', 'percent/w', 'x'|skeleton: syntax at 7" "'en', '.00 measure-unit/length-meter', '1'|skeleton: unsupported at 4" \
-    "'tlh', 'percent', 'x'|unknown locale" "'en', 'percent', '1x'|start: syntax" "'en', 'scale/100', '1e32767'|format: overflow"; do
-    found=$(sqlite3 -cmd ".load $room/fixdec" :memory: "SELECT format_number(${call%|*})" 2>&1)
-    [[ $found == *"${call#*|}"* ]]
-    judge $? "format_number(${call%|*}): $found"
-  done
-  for call in "'tlh', 'percent/w', 'x'|skeleton: syntax at 7" "'tlh', 'percent', 'x'|unknown locale" \
-    "'en', 'scientific', 'x'|unreadable format" "'en', 'percent', '1x'|start: syntax"; do
-    found=$(sqlite3 -cmd ".load $room/fixdec" :memory: "SELECT read_number(${call%|*})" 2>&1)
-    [[ $found == *"${call#*|}"* ]]
-    judge $? "read_number(${call%|*}): $found"
-  done
+    "'1', 'round:0:ceil:3'|no such call: 0" "'12', 'concat:25'|call 0: overlap" "'1', 'read:de:K'|skeleton: no reader" \
+    "'1', 'format:de:'|no such call" "'1', 'read:de:lenient:'|no such call" "'1 USD', 'read:de:currency/EUR'|start: syntax" \
+    "'x', 'read:de:percent/w'|skeleton: syntax at 7" "'x', 'format:de:percent/w'|skeleton: syntax at 7" "'1', 'format:tlh:K'|unknown locale" \
+    "'1e32766', 'shift:1', 'format:en:scale/100'|format: overflow"
+  rejects plural "'one: n =', '1'|rules: syntax at 8" "'xx', '1'|unknown locale" "'en:nominal', '1'|rules: syntax at 0" \
+    "'en', '1x'|start: syntax"
+  rejects format_number "'tlh', 'percent/w', 'x'|skeleton: syntax at 7" "'en', '.00 measure-unit/length-meter', '1'|skeleton: unsupported at 4" \
+    "'tlh', 'percent', 'x'|unknown locale" "'en', 'percent', '1x'|start: syntax" "'en', 'scale/100', '1e32767'|format: overflow"
 else
   missing 'sqlite3 and its headers'
 fi

@@ -56,49 +56,22 @@ prints() {
 
 # Status 0.
 prints 2.50 250 shift:-2
-prints 0.00051423 51423 shift:-8
-prints 0.5 .5
-prints 0000 0 shift:3
-prints 100000 1e5
 prints 100000 1e+5
-prints 250 250 trim-start
-prints 12.34 0012.3400 trim-start trim-end
-prints 0.01 100.01 max:1
-prints 0.00 0 max:-2
-prints 1234.5 1234.56 round:-1:trunc:1
-prints 00000 4235.970 round:5:trunc:1 round:2:trunc:1
-prints 10000 99.999 round:4:expand:1
-prints 9.8 9.75 round:-1:half-even:1
-prints 10.0 9.75 round:-1:half-even:5
-prints -7.50 -7.266 round:-2:expand:25
-prints 1234567812345677.5 1234567812345678 round:-1:trunc:25
-prints 12250 120 shift:1 concat:25 shift:1
 prints 100000000000000000007 100000000000000000000 concat:7
-prints 100000000000000000007 1e20 concat:7
-prints 00123.456 123 concat:0.456 pad-start:5
 prints 12345678901234567890.5 12345678901234567890 trim-start concat:0.5
-prints +1729 1729 display:always
-prints 0 -0.4 round:0:ceil:1 display:except-zero
-prints -35.970 4235.970 max:2 sign:minus
 prints 42 0042 pad-start:2
-prints 42.5 42.500 pad-end:-1
-prints 00042.5 42.5 max:5
 
 # Status 0, in the forms of locales, as ICU writes them.
 prints 1,234.56 1.234,565 read:de round:-2:half-even:1 format:en-IN
-prints 12,34,567.891 1234567.891 format:hi
 prints "1'234'567.891" 1234567.891 format:de_CH.UTF-8
 prints 1234567,891 1234567.891 format:de:never
 prints 1234 1234 format:es
-prints 1.234 1234 format:es:always
-prints 1234 1234 format:de:min2
 prints 1234.5 '1 234,5' read:fr:lenient
 prints 12345.5 "12'345.5" read:de-CH:lenient
 
 # Status 0, by number skeletons, as ICU writes them.
 prints $'1.234,50\xc2\xa0€' 1234.5 'format:de:currency/EUR .00'
 prints $'12,5\xc2\xa0%' 0.125 'format:de:%x100'
-prints 1.2M 1234567 format:en:K
 prints 1.24E3 1235 'format:en:E0 .00'
 prints '(₹1,234,567.50)' -1234567.5 'format:en-IN:currency/INR ()'
 prints 1234.000 1234 'format:en:.000 ,_'
@@ -137,10 +110,7 @@ row fixdec 1 '' $'format: overflow\n' 9.5e32767 'format:en:@'
 
 # Status 2: no start, or a word that names nothing, is not in its place or is not UTF-8; the first wrong word decides.
 row fixdec 2 '' "$usage"
-row fixdec 2 '' "$usage" x shift:40000
 row fixdec 2 '' "$usage" 5 round:0:up:1
-row fixdec 2 '' "$usage" 5 trim
-row fixdec 2 '' "$usage" 5 ''
 row fixdec 2 '' "$usage" 5 --
 row fixdec 2 '' "$usage" '' 5
 row fixdec 2 '' "$usage" read:de 1.234,5
@@ -232,9 +202,7 @@ row fixdec 1 '' $'start: syntax\n' --version
 
 # Status 0.
 lines 0 '250\n7\n' $'2.50\n0.07\n' '' shift:-2
-lines 0 '250\n7' $'2.50\n0.07\n' '' shift:-2
 lines 0 '-0012.3400\n' $'-0012.3400\n' ''
-lines 0 '' '' '' shift:-2
 lines 0 '' '' '' skip
 lines 0 '12345678901234567890.125\n' $'12345678901234567890.12\n' '' skip round:-2:half-even:1
 
@@ -281,7 +249,6 @@ wrong 'no such word: round:0:up:1 (--help lists all)' round:0:up:1 format:tlh
 wrong "no such word: $(printf '%040d' 0) (--help lists all)" "$(printf '%050d' 0)"
 wrong "no such word: $(printf '%039d' 0) (--help lists all)" "$(printf '%039d' 0)€"
 wrong 'no such word: a?b?c?€ (--help lists all)' $'a\nb\xc2\x9bc\x7f€'
-wrong 'skip is not in its place (--help lists all)' skip skip
 wrong 'format:de is not in its place (--help lists all)' format:de trim-end
 wrong 'read:de is not in its place (--help lists all)' read:de read:de
 wrong 'read:de stands after a call' trim-end read:de
@@ -305,7 +272,6 @@ wrong 'csv and delimiter:C need field:N' csv
 wrong 'csv and delimiter:C need field:N' delimiter:,
 wrong 'no such word: delimiter:ab (--help lists all)' field:1 delimiter:ab
 wrong 'field:1 stands after a call' shift:1 field:1
-wrong 'skip stands after a call' shift:-2 skip
 wrong 'a quote is no delimiter of csv' csv field:1 'delimiter:"'
 
 # Several fields.
@@ -336,6 +302,59 @@ wrong 'csv stands after a call' field:1 field:2 shift:1 csv
 wrong 'read:de stands after a call' field:1 field:2 shift:1 read:de
 wrong 'format:de is not in its place (--help lists all)' field:1 format:de shift:1 field:2
 
+# Fields by name.
+lines 0 'name,price\ntea,250\n' $'name,price\ntea,2.50\n' '' header csv field:price shift:-2
+lines 0 'a;b\r\n1;250\r\n' $'a;b\r\n1;2.50\r\n' '' trim header delimiter:';' field:b shift:-2
+lines 0 '\ufeffprice,b\r\n 250 ,x\r\n' $'\ufeffprice,b\r\n 2.50 ,x\r\n' '' trim header csv field:price shift:-2
+lines 0 '"the ""price""","a,b"\n1,2\n' $'"the ""price""","a,b"\n10,200\n' '' \
+  header csv 'field:the "price"' shift:1 field:a,b shift:2
+lines 0 'a, b ,c\n1,2,3\n' $'a, b ,c\n1,20,3\n' '' header trim csv field:b shift:1
+lines 0 'a,b,c\n1,2,3\n' $'a,b,c\n100,2,30\n' '' header csv field:c shift:1 field:a shift:2
+lines 0 'a,b,c\n1,2,3\n' $'a,b,c\n100,2,30\n' '' header csv field:3 shift:1 field:a shift:2
+lines 0 '1,2\n1,2\n' $'1,2\n1,20\n' '' header csv field:=2 shift:1
+lines 0 '2,x\n1,2\n' $'2,x\n10,2\n' '' header csv field:=2 shift:1
+lines 0 '=x,x\n1,2\n' $'=x,x\n10,2\n' '' header csv field:==x shift:1
+lines 0 ',x\n1,2\n' $',x\n10,2\n' '' header csv field:= shift:1
+lines 0 '+5,-5\n1,2\n' $'+5,-5\n10,200\n' '' header csv field:+5 shift:1 field:-5 shift:2
+lines 0 'price,price \n1,2\n' $'price,price \n10,2\n' '' header csv field:price shift:1
+lines 0 '"a\nb",c\n1,2\n' $'"a\nb",c\n10,200\n' '' header records csv field:$'a\nb' shift:1 field:c shift:2
+lines 0 '' '' '' header csv field:price
+lines 0 'price\n' $'price\n' '' header csv field:price
+lines 1 'a,b\n1\n2,3\n' $'a,b\n' $'line 2: b: field\n' header csv field:b
+lines 1 'a\n1,2\n' '' $'line 1: no field b\n' header csv field:b
+lines 1 'a,b\n1,x\n2,3\n' $'a,b\n\n2,30\n' $'line 2: b: start: syntax\n' skip header csv field:b shift:1
+lines 1 'a,b\n1,x\n2,3\n' $'a,b\n1,x\n2,30\n' $'line 2: b: start: syntax\n' keep header csv field:b shift:1
+lines 1 'a,b\ny,x\n' $'a,b\n' $'line 2: b: start: syntax\n' header csv field:b field:1
+lines 1 'a,b\ny,2\n' $'a,b\n' $'line 2: field 1: start: syntax\n' header csv field:b field:1
+lines 1 'a,b\n"1,2\n' $'a,b\n' $'line 2: b: quote\n' header csv field:b
+lines 1 'a,b,a\n1,2,3\n' '' $'line 1: two fields a\n' header csv field:b field:a
+lines 1 'a,b\n1,2\n' '' $'line 1: no field c\n' skip header csv field:c field:d
+lines 1 'a,a\n1,2\n' '' $'line 1: no field c\n' keep header csv field:c field:a
+lines 1 ' a,b\n1,2\n' '' $'line 1: no field a\n' header csv field:a
+lines 1 '" a",b\n1,2\n' '' $'line 1: no field a\n' trim header csv field:a
+lines 1 '\ufeffa,b\n1,2\n' '' $'line 1: no field a\n' header csv field:a
+lines 1 'a"b",c\n1,2\n' '' $'line 1: no field ab\n' header csv field:ab
+lines 1 'a,"b\n1,2\n' '' $'line 1: quote\n' header csv field:a
+lines 1 'a,"b\n1,2\n' '' $'line 1: quote\n' skip header records csv field:a
+lines 1 'a,b\n1,2\n' '' $'line 1: two words for field 2\n' header csv field:b field:2
+lines 1 'a,b\n1,2\n' '' $'line 1: two words for field 2\n' header csv field:2 field:b
+lines 1 'a\n' '' $'line 1: no field a?b?\xe2\x82\xac\n' header csv field:$'a\nb\x7f€'
+long=$(printf '%065536d' 0)x
+lines 0 "a,$long\n1,2\n" "a,$long"$'\n1,20\n' '' header csv "field:$long" shift:1
+lines 1 'a\n' '' "line 1: no field $(printf '%040d' 0)"$'\n' header csv "field:$long"
+mapfile -t words < <(for n in $(seq 200 -1 1); do printf 'field:f%d\nshift:%d\n' "$n" $((n % 3)); done)
+lines 0 "$(seq -f f%g -s, 200)\n$(seq -s, 200)\n" \
+  "$(seq -f f%g -s, 200)"$'\n'"$(seq 200 | awk '{ print $1 substr("00", 1, $1 % 3) }' | paste -sd,)"$'\n' '' \
+  header csv "${words[@]}"
+wrong 'field:NAME needs header' csv field:price
+wrong 'field:NAME needs header' csv field:1 shift:1 field:price
+wrong 'field:price is not in its place (--help lists all)' header csv field:price field:price
+wrong 'field:=price is not in its place (--help lists all)' header csv field:price field:=price
+wrong 'no such word: field: (--help lists all)' header field:
+wrong 'no such word: field:0 (--help lists all)' header field:0
+wrong 'no such word: field:32768 (--help lists all)' header field:32768
+wrong 'field:price stands after a call' header shift:1 field:price
+
 # With `records` a line feed in quotes is part of the field.
 lines 0 '"Main St 7\nflat\r\n""b""",250\n"a\n\nb",7' $'"Main St 7\nflat\r\n""b""",2.50\n"a\n\nb",0.07\n' '' \
   records csv field:2 shift:-2
@@ -351,9 +370,7 @@ lines 1 '1,"2\n3\n4\n' $'\n' $'line 1: quote\n' skip records csv field:1
 lines 1 'a,"b\n1,2\n' '' $'line 1: quote\n' header records csv field:1
 lines 0 'a"b\nc"d,1\n' $'a"b\nc"d,10\n' '' records csv field:2 shift:1
 lines 1 'a"b"c"\nd,1\n2,3\n' '' $'line 1: quote\n' records csv field:2
-lines 0 '' '' '' records csv field:1
 lines 1 '\n' '' $'line 1: start: syntax\n' records csv field:1
-wrong 'records needs csv' records
 wrong 'records needs csv' records field:2 up
 wrong 'csv and delimiter:C need field:N' records csv
 wrong 'records is not in its place (--help lists all)' records csv field:1 records
@@ -364,7 +381,6 @@ lines 0 'price\n250\n' $'price\n2.50\n' '' header shift:-2
 lines 0 'a,"b\r\n"x,y",250\r\n' $'a,"b\r\n"x,y",2.50\r\n' '' csv header field:2 shift:-2
 lines 1 'x\nx\n7' $'x\n\n7\n' $'line 2: start: syntax\n' skip header
 lines 0 '\0377' $'\xff\n' '' header
-lines 0 '' '' '' header
 wrong 'header is not in its place (--help lists all)' header header
 wrong 'header stands after a call' shift:1 header
 
@@ -372,8 +388,6 @@ wrong 'header stands after a call' shift:1 header
 lines 1 '250\nx\r\n\n7' $'2.50\nx\r\n\n0.07\n' $'line 2: start: syntax\nline 3: start: syntax\n' keep shift:-2
 lines 1 'a,1\nb\n"c,3\n' $'a,10\nb\n"c,3\n' $'line 2: field\nline 3: quote\n' csv keep field:2 shift:1
 lines 0 '1\n' $'1\n' '' keep
-wrong 'skip is not in its place (--help lists all)' keep skip
-wrong 'keep is not in its place (--help lists all)' skip keep
 wrong 'keep is not in its place (--help lists all)' keep keep
 wrong 'keep stands after a call' shift:1 keep
 
@@ -383,7 +397,6 @@ lines 0 '\ufeffa; b\r\n1; 250\r\n' $'\ufeffa; b\r\n1; 2.50\r\n' '' trim header f
 lines 0 'a, 250 ,"b"\r\n' $'a," 2,500 ","b"\r\n' '' trim csv field:2 shift:1 format:en
 lines 1 'a," 250"\n' '' $'line 1: start: syntax\n' trim csv field:2
 lines 1 '1\n\ufeff1\n' $'1\n' $'line 2: start: syntax\n' trim
-wrong 'trim is not in its place (--help lists all)' trim trim
 printf '1\n2\n' > "$room/in"
 { "$room/fixdec_lines" up > /dev/null 2>&1; [ "$(cat)" = $'1\n2' ]; } < "$room/in"
 judge $? 'the input is not read where a word names no call'
@@ -522,24 +535,19 @@ row plural 0 $'one\none\none\n' '' "$one" 1 01 -1
 row plural 1 '' $'rules: syntax at 4\n' 'one i = 1' 1
 row plural 1 '' $'rules: limit at 9\n' 'one: n = 18446744073709551616' 1
 row plural 1 '' $'text 1: syntax\n' "$one" x
-row plural 1 $'one\n' $'text 2: syntax\n' "$one" 1 x 1
 row plural 1 $'one\nother\n' $'text 3: limit\n' "$one" 1 2 1e99999 1
-row plural 1 '' $'text 1: limit\n' "$one" 1c256
 
 # Status 2: no rules or no text, or a word is not UTF-8.
 row plural 2 '' $'plural: no TEXT\n'
-row plural 2 '' $'plural: no TEXT\n' "$one"
 row plural 2 '' $'plural: no TEXT\n' xx
 row plural 2 '' $'plural: a word is not UTF-8\n' "$one" $'1\xff'
 
 # The rules of locales: also of tags without symbols, and of tags that have symbols and no rules.
 row plural 0 $'few\n' '' ru 2
-row plural 0 $'few\n' '' ru_RU.UTF-8:cardinal 2
 row plural 0 $'two\n' '' en:ordinal 22
 row plural 0 $'one\n' '' tl 1
 row plural 0 $'other\n' '' agq 1
 row plural 2 '' $'unknown locale: xx\n' xx 1
-row plural 2 '' $'unknown locale: one\n' one:ordinal 1
 row plural 1 '' $'rules: syntax at 0\n' ru:few 2
 row plural 1 '' $'rules: syntax at 0\n' '' 2
 while IFS=$'\t' read -r word texts categories; do

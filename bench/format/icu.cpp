@@ -6,12 +6,8 @@
 #include <unicode/unistr.h>
 #include <unicode/unum.h>
 
-#include <algorithm>
-#include <cstdio>
-#include <cstdlib>
 #include <cstring>
-#include <ctime>
-#include <string>
+#include "../least.h"
 
 using icu::number::LocalizedNumberFormatter;
 using icu::number::NumberFormatter;
@@ -19,26 +15,6 @@ using icu::number::Precision;
 
 static const char* LOCALES[] = {"en", "de", "hi", "ar-EG"};
 static const char* NUMBERS[] = {"1234.5", "-1234567.891", "12345678901234567890.5"};
-static const int CALLS = 20000;
-static size_t total = 0;
-
-static double processor_time() {
-    timespec time;
-    clock_gettime(CLOCK_PROCESS_CPUTIME_ID, &time);
-    return double(time.tv_sec) * 1e9 + double(time.tv_nsec);
-}
-
-// The least processor time of a call, of the given number of batches.
-template <typename Call>
-static double least(int batches, Call call) {
-    double found = 1e12;
-    for (int batch = 0; batch < batches; batch++) {
-        double start = processor_time();
-        for (int i = 0; i < CALLS; i++) call();
-        found = std::min(found, (processor_time() - start) / CALLS);
-    }
-    return found;
-}
 
 int main(int, char** words) {
     int batches = std::atoi(words[1]);

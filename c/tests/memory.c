@@ -48,6 +48,11 @@ static uint32_t convert_number(void) {
     static const fd_forms forms = {.format = {.count = 2, .skeleton_start = 2, .skeleton_count = 24}};
     return fd_convert(BYTES(digits), &forms, calls, 1, BYTES("deK precision-increment/25"), buffer, ROOM).status;
 }
+static uint32_t convert_read(void) {
+    static const fd_form amounts = {.count = 2, .skeleton_start = 2, .skeleton_count = 12, .option = FD_LENIENT};
+    const fd_forms forms = {.read = amounts};
+    return fd_convert(BYTES(digits), &forms, calls, 1, BYTES("decurrency/EUR"), buffer, ROOM).status;
+}
 static uint32_t read_number(void) {
     return fd_read_number(BYTES(digits), BYTES("de"), BYTES("currency/EUR"), 1, buffer, ROOM).status;
 }
@@ -99,7 +104,7 @@ int main(void) {
     } jobs[] = {{"fd_run", run, 1}, {"fd_convert", convert, 1}, {"fd_compare", compare, 1},
                 {"fd_category", category, 1}, {"fd_category_of", category_by_number, 1}, {"fd_lines", column, 1},
                 {"fd_format_number", format_number, 1}, {"fd_convert, skeleton", convert_number, 1},
-                {"fd_read_number", read_number, 1},
+                {"fd_read_number", read_number, 1}, {"fd_convert, read", convert_read, 1},
                 {"fd_run, short", short_run, 0}, {"fd_convert, short", short_convert, 0},
                 {"fd_format_number, short", short_format_number, 0}, {"fd_convert, number", short_numbered, 0},
                 {"fd_lines, short", short_column, 0}};

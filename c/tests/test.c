@@ -458,8 +458,28 @@ static void test_skeleton_forms(void) {
     CHECK(fd_convert(B("x"), &forms, FD_NONE(fd_call), 0, B("deK"), b, 64).status == FD_SKELETON_SYNTAX);
     forms.format = (fd_form){.start = 3, .count = 1, .skeleton_start = 2, .skeleton_count = 1};
     CHECK(fd_convert(B("x"), &forms, FD_NONE(fd_call), 0, B("deK"), b, 64).status == FD_UNKNOWN_LOCALE);
-    forms.read.skeleton_count = 1;
-    CHECK(fd_convert(B("x"), &forms, FD_NONE(fd_call), 0, B("deK"), b, 64).status == FD_UNKNOWN_OPTION);
+    forms.read.skeleton_start = 2, forms.read.skeleton_count = 1;
+    CHECK(fd_convert(B("x"), &forms, FD_NONE(fd_call), 0, B("deK"), b, 64).status == FD_UNREADABLE_FORMAT);
+    forms.read.skeleton_start = 3;
+    CHECK(fd_convert(B("x"), &forms, FD_NONE(fd_call), 0, B("deK"), b, 64).status == FD_SKELETON_SYNTAX);
+}
+
+/* Amounts and percentages are read in forms with a skeleton, exactly and leniently. */
+static void test_read_forms(void) {
+    uint8_t b[64];
+    fd_forms forms = {.read = {.count = 2, .skeleton_start = 2, .skeleton_count = 12}};
+    fd_call shift = {.kind = FD_SHIFT, .position = 2};
+    const char *texts = "decurrency/EUR";
+    CHECK(gives(fd_convert(B("-1.234,50\xc2\xa0" "€"), &forms, &shift, 1, BYTES(texts), b, 64), b, "-123450"));
+    CHECK(fd_convert(B("EUR 5"), &forms, FD_NONE(fd_call), 0, BYTES(texts), b, 64).status == FD_SYNTAX);
+    forms.read.option = FD_LENIENT;
+    fd_column c = fd_lines(B("EUR 1.234,5\n1 USD\n7"), 1, &forms, FD_NONE(fd_call), 0, BYTES(texts), b, 64);
+    CHECK(c.status == FD_OK && c.lines == 3 && c.failed == 1 && c.written == 10);
+    CHECK(memcmp(b, "1234.5\n\n7\n", 10) == 0);
+    forms.read.option = 2;
+    CHECK(fd_convert(B("x"), &forms, FD_NONE(fd_call), 0, BYTES(texts), b, 64).status == FD_UNKNOWN_OPTION);
+    forms.read = (fd_form){.start = 2, .count = 12, .skeleton_start = 2, .skeleton_count = 12};
+    CHECK(fd_convert(B("x"), &forms, FD_NONE(fd_call), 0, BYTES(texts), b, 64).status == FD_UNKNOWN_LOCALE);
 }
 
 int main(void) {
@@ -475,6 +495,7 @@ int main(void) {
     test_format_number_errors();
     test_read_number();
     test_skeleton_forms();
+    test_read_forms();
     printf("%d checks, %d failures\n", checks, failures);
     return failures != 0;
 }

@@ -49,17 +49,22 @@ def _call(word, texts):
         raise ValueError(f"no such call: {word}") from None
 
 
-def column(texts, *calls, read=None, format=None, skeleton=None, **options):
+def _skeleton(skeleton):
+    """The bytes of a skeleton, which white space alone is as well as no bytes; without one, no bytes."""
+    return b"" if skeleton is None else (skeleton or " ").encode()
+
+
+def column(texts, *calls, read=None, read_skeleton=None, lenient=False, format=None, skeleton=None, **options):
     """Makes the calls on each text, and returns the texts of the results.
 
     The calls are words of the programs, as `round:-2:half-even:1`. With `read` the texts are as a locale writes them,
-    and with `format` the results, by a number skeleton or by options as `Decimal.format` takes them. Raises
-    `DecimalError` for the first text that fails. Long lists take several threads.
+    also by a number skeleton, or leniently as people type them; and with `format` the results, by a number skeleton or
+    by options as `Decimal.format` takes them. Raises `DecimalError` for the first text that fails. Long lists take
+    several threads.
     """
     if options:
         skeleton = number_skeleton(**options)
-    # White space alone is the empty skeleton.
-    forms = [(read or "").encode(), (format or "").encode(), b"" if skeleton is None else (skeleton or " ").encode()]
+    forms = [(read or "").encode(), _skeleton(read_skeleton), (format or "").encode(), _skeleton(skeleton)]
     parts = bytearray(b"".join(forms))
     packed = b"".join([_call(word, parts) for word in calls])
-    return _column(texts if type(texts) is list else list(texts), packed, bytes(parts), *map(len, forms))
+    return _column(texts if type(texts) is list else list(texts), packed, bytes(parts), bool(lenient), *map(len, forms))

@@ -63,7 +63,7 @@ class Decimal:
     def __ge__(self, other: Decimal, /) -> bool: ...
 
 def column(
-    texts: Iterable[str], *calls: str, read: str | None = None, format: str | None = None, skeleton: str | None = None,
-    **options: Unpack[_Options],
+    texts: Iterable[str], *calls: str, read: str | None = None, read_skeleton: str | None = None, lenient: bool = False,
+    format: str | None = None, skeleton: str | None = None, **options: Unpack[_Options],
 ) -> list[str]: ...
 def number_skeleton(**options: Unpack[_Options]) -> str: ...

@@ -566,25 +566,29 @@ static PyObject *convert_list(PyObject *list, Block *blocks, size_t count) {
     return made;
 }
 
-/* column(list of str, calls, texts, bytes of the tag to read by, of the tag to format by, and of the skeleton) */
+/* column(list of str, calls, texts, lenient, bytes of the tag to read by, of its skeleton, and of both to format by) */
 static PyObject *native_column(PyObject *module, PyObject *arguments) {
     PyObject *list, *made;
     const char *calls, *texts;
-    Py_ssize_t calls_size, texts_size, read_count, format_count, skeleton_count;
+    Py_ssize_t calls_size, texts_size, counts[4];
+    int lenient;
     (void)module;
-    if (!PyArg_ParseTuple(arguments, "O!y#y#nnn", &PyList_Type, &list, &calls, &calls_size, &texts, &texts_size,
-                          &read_count, &format_count, &skeleton_count))
+    if (!PyArg_ParseTuple(arguments, "O!y#y#pnnnn", &PyList_Type, &list, &calls, &calls_size, &texts, &texts_size,
+                          &lenient, &counts[0], &counts[1], &counts[2], &counts[3]))
         return NULL;
     fd_call *aligned = PyMem_Malloc((size_t)calls_size + 1);
     Block *blocks = PyMem_Calloc(MOST_BLOCKS, sizeof(Block));
     if (aligned && blocks) {
         memcpy(aligned, calls, (size_t)calls_size);
-        Work work = {.forms = {.read.count = (size_t)read_count, .format.start = (size_t)read_count,
-                               .format.count = (size_t)format_count,
-                               .format.skeleton_start = (size_t)(read_count + format_count),
-                               .format.skeleton_count = (size_t)skeleton_count},
-                     .calls = aligned, .call_count = (size_t)calls_size / sizeof(fd_call),
+        Work work = {.calls = aligned, .call_count = (size_t)calls_size / sizeof(fd_call),
                      .texts = (const uint8_t *)texts, .texts_count = (size_t)texts_size};
+        fd_form *forms[2] = {&work.forms.read, &work.forms.format};
+        for (size_t i = 0, start = 0; i < 2; i++) {
+            forms[i]->start = start, forms[i]->count = (size_t)counts[2 * i];
+            forms[i]->skeleton_start = start += forms[i]->count;
+            start += forms[i]->skeleton_count = (size_t)counts[2 * i + 1];
+        }
+        work.forms.read.option = lenient ? FD_LENIENT : FD_STRICT;
         for (size_t i = 0; i < MOST_BLOCKS; i++) blocks[i].work = &work;
         long processors = sysconf(_SC_NPROCESSORS_ONLN);
         made = convert_list(list, blocks, processors < 1 ? 1 : processors < MOST_BLOCKS ? processors + 1 : MOST_BLOCKS);

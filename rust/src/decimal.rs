@@ -92,7 +92,7 @@ impl Decimal {
     ///
     /// As [`try_from_str`](Decimal::try_from_str).
     pub fn try_from_utf8(text: &[u8]) -> Result<Self, ParseError> {
-        let text = ffi::run(text, &[], &[]).map_err(parse_error)?;
+        let text = Text::new(text).map_err(parse_error)?;
         Ok(Decimal { text })
     }
 
@@ -394,20 +394,18 @@ impl Decimal {
 impl Decimal {
     /// Makes a call that never fails.
     fn change(&mut self, call: FdCall) {
-        match ffi::run(self.text.as_bytes(), &[call], &[]) {
-            Ok(text) => self.text = text,
-            Err(failure) => failure.never(),
+        if let Err(failure) = self.text.change(&[call], &[]) {
+            failure.never();
         }
     }
 
     /// Makes a call that the limits may refuse.
     fn change_within_limits(&mut self, call: FdCall) -> Result<(), LimitError> {
-        match ffi::run(self.text.as_bytes(), &[call], &[]) {
-            Ok(text) => self.text = text,
-            Err(Failure { status: 7, .. }) => return Err(LimitError),
+        match self.text.change(&[call], &[]) {
+            Ok(()) => Ok(()),
+            Err(Failure { status: 7, .. }) => Err(LimitError),
             Err(failure) => failure.never(),
         }
-        Ok(())
     }
 
     /// Multiplies by 10 to the power of `delta`; the range of digits moves along.
@@ -536,12 +534,11 @@ impl Decimal {
     pub fn concatenate_end(&mut self, other: &Decimal) -> Result<(), OverlapError> {
         let operand = other.unsigned().as_bytes();
         let call = FdCall { text_count: operand.len(), ..call(CONCAT, 0) };
-        match ffi::run(self.text.as_bytes(), &[call], operand) {
-            Ok(text) => self.text = text,
-            Err(Failure { status: 6, .. }) => return Err(OverlapError),
+        match self.text.change(&[call], operand) {
+            Ok(()) => Ok(()),
+            Err(Failure { status: 6, .. }) => Err(OverlapError),
             Err(failure) => failure.never(),
         }
-        Ok(())
     }
 
     /// Takes the value: [`concatenate_end`](Decimal::concatenate_end).

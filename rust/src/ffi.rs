@@ -2,6 +2,7 @@
 #![allow(unsafe_code)]
 use crate::error::Failure;
 use std::hash::{Hash, Hasher};
+use std::mem;
 use std::ops::Deref;
 
 const OK: u32 = 0;
@@ -104,7 +105,7 @@ impl Deref for Text {
 
     fn deref(&self) -> &str {
         match self {
-            // SAFETY: `run` alone makes it, of the ASCII that `fd_run` writes.
+            // SAFETY: `set` alone makes it, of the ASCII that `fd_run` writes.
             Text::Short { count, bytes } => unsafe { std::str::from_utf8_unchecked(&bytes[..usize::from(*count)]) },
             Text::Long(text) => text,
         }
@@ -125,32 +126,61 @@ impl Hash for Text {
     }
 }
 
-/// Makes calls on the decimal that `start` writes; operands are parts of `texts`.
-pub(crate) fn run(start: &[u8], calls: &[FdCall], texts: &[u8]) -> Result<Text, Failure> {
-    let write = |buffer: *mut u8, capacity| {
-        // SAFETY: each pointer is that of a slice of the length beside it, and the buffer has the capacity.
-        unsafe {
-            let (calls, call_count) = (calls.as_ptr(), calls.len());
-            fd_run(start.as_ptr(), start.len(), calls, call_count, texts.as_ptr(), texts.len(), buffer, capacity)
-        }
-    };
-    if start.len() + texts.len() <= IN_PLACE {
-        let mut bytes = [0; IN_PLACE];
-        let answer = write(bytes.as_mut_ptr(), IN_PLACE);
-        match answer.status {
-            OK => return Ok(Text::Short { count: answer.count as u8, bytes }),
-            BUFFER_TOO_SMALL => {}
-            status => return Err(Failure::new(status, answer.at)),
-        }
+impl Text {
+    const EMPTY: Text = Text::Short { count: 0, bytes: [0; IN_PLACE] };
+
+    /// The text of the decimal that `start` writes.
+    pub(crate) fn new(start: &[u8]) -> Result<Text, Failure> {
+        let mut text = Text::EMPTY;
+        text.set(start, &[], &[])?;
+        Ok(text)
     }
-    text(start.len() + texts.len() + ROOM, write).map(Text::Long)
+
+    /// Makes calls on the decimal; operands are parts of `texts`. On error it is unchanged.
+    pub(crate) fn change(&mut self, calls: &[FdCall], texts: &[u8]) -> Result<(), Failure> {
+        let start = mem::replace(self, Text::EMPTY);
+        let changed = self.set(start.as_bytes(), calls, texts);
+        if changed.is_err() {
+            *self = start;
+        }
+        changed
+    }
+
+    /// Takes the text of the decimal that `start` writes, after calls on it. On error it is unchanged.
+    fn set(&mut self, start: &[u8], calls: &[FdCall], texts: &[u8]) -> Result<(), Failure> {
+        let write = |buffer: *mut u8, capacity| {
+            // SAFETY: each pointer is that of a slice of the length beside it, and the buffer has the capacity.
+            unsafe {
+                let (calls, call_count) = (calls.as_ptr(), calls.len());
+                fd_run(start.as_ptr(), start.len(), calls, call_count, texts.as_ptr(), texts.len(), buffer, capacity)
+            }
+        };
+        match self {
+            Text::Short { count, bytes } if start.len() + texts.len() <= IN_PLACE => {
+                let answer = write(bytes.as_mut_ptr(), IN_PLACE);
+                match answer.status {
+                    OK => {
+                        *count = answer.count as u8;
+                        return Ok(());
+                    }
+                    BUFFER_TOO_SMALL => {}
+                    status => return Err(Failure::new(status, answer.at)),
+                }
+            }
+            _ => {}
+        }
+        let bytes = bytes(start.len() + texts.len() + ROOM, write)?;
+        // SAFETY: `fd_run` writes ASCII.
+        *self = Text::Long(unsafe { String::from_utf8_unchecked(bytes) });
+        Ok(())
+    }
 }
 
 /// Reads a text in one form, and writes it in another; the tags are parts of `texts`.
 pub(crate) fn convert(start: &[u8], forms: &FdForms, texts: &[u8]) -> Result<String, Failure> {
     text(4 * start.len() + ROOM, |buffer, capacity| {
         let none: &[FdCall] = &[];
-        // SAFETY: as in `run`; `forms` is borrowed.
+        // SAFETY: as in `Text::set`; `forms` is borrowed.
         unsafe {
             let (texts, texts_count) = (texts.as_ptr(), texts.len());
             fd_convert(start.as_ptr(), start.len(), forms, none.as_ptr(), 0, texts, texts_count, buffer, capacity)
@@ -163,7 +193,7 @@ pub(crate) fn format_number(start: &str, locale: &str, skeleton: &str) -> Result
     text(4 * start.len() + ROOM, |buffer, capacity| {
         let (tag, tag_count) = (locale.as_ptr(), locale.len());
         let (skeleton, skeleton_count) = (skeleton.as_ptr(), skeleton.len());
-        // SAFETY: as in `run`.
+        // SAFETY: as in `Text::set`.
         unsafe {
             fd_format_number(start.as_ptr(), start.len(), tag, tag_count, skeleton, skeleton_count, buffer, capacity)
         }
@@ -176,7 +206,7 @@ pub(crate) fn read_number(written: &str, locale: &str, skeleton: &str, lenient: 
         let (tag, tag_count) = (locale.as_ptr(), locale.len());
         let (skeleton, skeleton_count) = (skeleton.as_ptr(), skeleton.len());
         let (start, count, lenient) = (written.as_ptr(), written.len(), u32::from(lenient));
-        // SAFETY: as in `run`.
+        // SAFETY: as in `Text::set`.
         unsafe { fd_read_number(start, count, tag, tag_count, skeleton, skeleton_count, lenient, buffer, capacity) }
     })
 }
@@ -209,8 +239,13 @@ fn number(answer: FdNumber) -> Result<i64, Failure> {
     }
 }
 
-/// The text that a function writes into a buffer, which is made again where it is too small.
+/// The text that a function writes.
 fn text(room: usize, write: impl Fn(*mut u8, usize) -> FdResult) -> Result<String, Failure> {
+    Ok(String::from_utf8(bytes(room, write)?).expect("a text of the library is UTF-8"))
+}
+
+/// The bytes that a function writes into a buffer, which is made again where it is too small.
+fn bytes(room: usize, write: impl Fn(*mut u8, usize) -> FdResult) -> Result<Vec<u8>, Failure> {
     let mut buffer = Vec::with_capacity(room);
     let mut answer = write(buffer.as_mut_ptr(), buffer.capacity());
     if answer.status == BUFFER_TOO_SMALL {
@@ -222,7 +257,7 @@ fn text(room: usize, write: impl Fn(*mut u8, usize) -> FdResult) -> Result<Strin
     }
     // SAFETY: the function has written the first `count` bytes, and `count` is at most the capacity.
     unsafe { buffer.set_len(answer.count) };
-    Ok(String::from_utf8(buffer).expect("a text of the library is UTF-8"))
+    Ok(buffer)
 }
 
 #[cfg(test)]

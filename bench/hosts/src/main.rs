@@ -30,14 +30,15 @@ extern "C" {
 
 const ROUND: FdCall = FdCall { kind: 7, option: 8, increment: 1, position: -2, text_start: 0, text_count: 0 };
 
-/// The least time of a call, of many batches.
-fn least(mut call: impl FnMut()) -> f64 {
-    let batch = |call: &mut dyn FnMut()| {
+/// The least time of a call on one of a thousand values, of many batches; the values are made before the clock starts.
+fn least<T>(values: impl Fn() -> Vec<T>, mut call: impl FnMut(&mut T)) -> f64 {
+    let mut batch = || {
+        let mut values = values();
         let start = Instant::now();
-        (0..1000).for_each(|_| call());
-        start.elapsed().as_nanos() as f64 / 1000.0
+        values.iter_mut().for_each(&mut call);
+        start.elapsed().as_nanos() as f64 / values.len() as f64
     };
-    (0..300).map(|_| batch(&mut call)).fold(f64::MAX, f64::min)
+    (0..300).map(|_| batch()).fold(f64::MAX, f64::min)
 }
 
 fn main() {
@@ -45,17 +46,15 @@ fn main() {
     for text in ["1234.5678", "1234567890123.456789", &format!("{0}.{0}", "1234567890".repeat(5))] {
         let value: Decimal = text.parse().expect("a decimal");
         let mut buffer = [0u8; 256];
-        let there = least(|| {
+        let there = least(|| vec![text.to_owned(); 1000], |text| {
             // SAFETY: each pointer is that of a place of the size beside it.
             let answer = unsafe {
-                let (start, buffer) = (black_box(text), &mut buffer);
+                let (start, buffer) = (text.as_str(), &mut buffer);
                 fd_run(start.as_ptr(), start.len(), &ROUND, 1, start.as_ptr(), 0, buffer.as_mut_ptr(), buffer.len())
             };
             black_box((answer.status, answer.at, answer.count));
         });
-        let here = least(|| {
-            black_box(black_box(&value).clone().rounded(-2).expect("within the limits"));
-        });
+        let here = least(|| vec![value.clone(); 1000], |value| value.round(-2).expect("within the limits"));
         println!("|{} digits|{here:.0}|{there:.0}|{:.2}|", text.len() - 1, here / there);
     }
 }

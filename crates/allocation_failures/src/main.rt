@@ -8,6 +8,7 @@
 mod digits;
 mod joins;
 mod locales;
+mod numbers;
 mod outcome;
 mod roundings;
 mod rules;
@@ -29,6 +30,7 @@ fn of_all(alloc: Global) -> Outcome {
         .and(sinks::outcome(alloc))
         .and(rules::outcome(alloc))
         .and(locales::outcome(alloc))
+        .and(numbers::outcome(alloc))
 }
 
 fn main(rt: HostRuntime) {

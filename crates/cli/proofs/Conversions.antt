@@ -1,7 +1,8 @@
 -- The outcome of a conversion, and its errors.
 use Rattle.std.proofs.Common.{◌≡◌, ◌⊎◌, ◌&&◌, ℕ, List, Bool, Option, Some, None, Result, Ok, Err, true, false, inl, inr, refl, sym, ap, subst, ◌∙◌, arith}
 use Rattle.std.proofs.lemmas.Bool.{false≢true}
-use Rattle.std.specs.Prelude.{MatchBool, IsOk, IsOkAnd}
+use Rattle.std.specs.Prelude.{MatchBool, IsOk, IsOkAnd, IfErr, OnErr}
+use Rattle.std.proofs.lemmas.Result.{IfErr-weaker}
 use Rattle.std.specs.Option.{is_none}
 use Rattle.decimal_unsigned.specs.declared.error.ParseError.{ParseError}
 use Rattle.decimal_unsigned.specs.declared.error.ParseError.TheVariants as parse
@@ -23,7 +24,7 @@ use Rattle.cli.specs.declared.reader.LocaleReader.{LocaleReader}
 use Rattle.cli.specs.declared.error.OperationError.TheVariants as operation
 use Rattle.cli.specs.declared.error.OperationError.{OperationError}
 use Rattle.cli.specs.Error.{error_of_run, status_of_operation}
-use Rattle.cli.specs.Conversion.{IsReadBy, ReadingByFails, ConversionError, of_run, format_overflow, IsOutcome, IsOutcomeByForms, HasOutcome, OperationsFail, FailsByForms, IsErrorOfRun, IsRunFormatted, is_plain, error_of, formatted_by, last_decimal, IsFormatted, run_result, WritingFails, HasTextBy, HasOutcomeByForms}
+use Rattle.cli.specs.Conversion.{IsReadBy, ReadingByFails, ConversionError, of_run, format_overflow, IsOutcome, IsOutcomeByForms, HasOutcome, OperationsFail, FailsByForms, IsErrorOfRun, IsRunFormatted, is_plain, error_of, formatted_by, last_decimal, IsFormatted, run_result, WritingFails, HasTextBy, IsTextBy, HasOutcomeByForms}
 
 -- only a failed sink is a failed output
 pub output_is_sink : (why : RunError) → error_of_run why ≡ operation.Output → why ≡ Sink
@@ -67,6 +68,19 @@ module _ (c : Conversion) (text : List ℕ) where
       -- what holds of the text that is written
       pub written_outcome : (P : List ℕ → Type 0) → HasTextBy c.formatter last P → HasOutcomeByForms c text P
       written_outcome P (written, h, holds) = (written, read_outcome (Ok last) (Ok written) is h, holds)
+
+-- ---- The text of a value, written.
+
+module _ (f : Option LocaleFormatter) (v : Decimal) (text : List ℕ) (is : IsTextBy f v (Ok text)) where
+  -- only the output fails
+  pub text_fails : {X : Type 0} (r : Result X OperationError) → IfErr r (λ error. error ≡ operation.Output)
+      → IfErr r (λ error. WritingFails error f v)
+  text_fails r h = IfErr-weaker r _ _ (λ error e. subst (λ x. WritingFails x f v) (sym e) (text, is)) h
+
+  pub text_begun : {X : Type 0} (r : Result X OperationError) (P : List ℕ → Type 0) → OnErr r (P text)
+      → IfErr r (λ error. error ≡ operation.Output → HasTextBy f v P)
+  text_begun (Ok x) P h = tt
+  text_begun (Err error) P h = λ failed. (text, is, h)
 
 -- ---- With and without a reader and a formatter.
 

@@ -3,6 +3,8 @@ use Rattle.std.proofs.Common.{◌≡◌, ◌≢◌, ◌≤◌, ◌+◌, ◌++◌
 use Rattle.std.specs.Prelude.{IfErr, MatchBool}
 use Rattle.std.proofs.lemmas.List.{append-nil, length-drop, length-take-le, drop-drop, drop-take, take-take, take_rest}
 use Rattle.std.proofs.Math.Seq.{drop-length, take-add, take-length}
+use Rattle.std.specs.Borrow.{Bor}
+use Rattle.cli.specs.declared.columns.FieldLabel.{FieldLabel}
 use Rattle.cli.specs.declared.conversion.Conversion.{Conversion}
 use Rattle.cli.specs.declared.error.OperationError.{OperationError}
 use Rattle.cli.specs.declared.error.OperationError.TheVariants.{Quote, Memory, Output}
@@ -97,8 +99,8 @@ target_is_result :
     → TargetFails trims target bytes error → IsTargetResult trims target bytes (Err error)
 target_is_result trims (One field conversion) bytes error one (none, fails) = (
   Err error.error,
-  error_is_result trims field conversion bytes error.error one fails,
-  ap (λ (field : Option ℕ). Err (record { field = field; error = error.error })) none,
+  error_is_result trims field conversion.now bytes error.error one fails,
+  ap (λ (field : Option FieldLabel). Err (record { field = field; error = error.error })) none,
 )
 target_is_result trims (Fields fields) bytes error one (inl memory) =
     absurd (omega (arith, one, ap status_of_operation memory))
@@ -249,8 +251,9 @@ module _ (filter : Filter) (number : ℕ) (line : List ℕ) where
       subst (λ t. TargetFails filter.trims t (body_of filter number line) error) (sym is) fails
 
   pub converted_one :
-      (field : Option Field) (conversion : Conversion) (P : List ℕ → Type 0) → filter.target ≡ One field conversion
-      → HasLineText filter.trims field conversion (body_of filter number line)
+      (field : Option Field) (conversion : Bor Conversion) (P : List ℕ → Type 0)
+      → filter.target ≡ One field conversion
+      → HasLineText filter.trims field conversion.now (body_of filter number line)
       (λ text. P (replaced line (body_bounds filter.trims number line) text))
       → HasConvertedLine filter number line P
   converted_one field conversion P is (text, found, p) =

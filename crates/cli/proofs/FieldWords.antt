@@ -1,17 +1,17 @@
 -- The words of several fields.
-use Rattle.std.proofs.Common.{◌≡◌, ◌≢◌, ℕ, zero, suc, arith, ◌<◌, ◌≤◌, false, inl, inr, sym, ◌∙◌, List, [], ◌∷◌, ◌++◌, length, take, drop, get_or, append_assoc, take-append-drop, drop-cons, String, string_bytes}
+use Rattle.std.proofs.Common.{◌≡◌, ◌≢◌, ℕ, zero, suc, arith, ◌<◌, ◌≤◌, false, inl, inr, sym, ◌∙◌, List, [], ◌∷◌, ◌++◌, length, take, drop, get_or, append_assoc, take-append-drop, drop-cons, String}
 use Rattle.std.specs.Prelude.{All, ◌==◌}
 use Rattle.std.specs.declared.alloc.Global.{Global}
 use Rattle.std.proofs.Math.Nat.{le_refl}
 use Rattle.std.proofs.lemmas.Bool.{false≢true}
 use Rattle.std.proofs.lemmas.List.Elements.{All-append}
 use Rattle.std.proofs.lemmas.List.{take_all, drop_all}
-use Rattle.cli.specs.declared.edits.FieldConversion.{FieldConversion}
+use Rattle.cli.specs.declared.columns.Column.{Column}
 use Rattle.cli.specs.declared.error.WordsError.{WordsError}
 use Rattle.cli.specs.declared.error.WordsError.TheVariants.{Misplaced, Memory}
-use Rattle.cli.specs.declared.fields.Field.{Field}
-use Rattle.cli.specs.Options.{IsField}
-use Rattle.cli.specs.Targets.{IsFieldWord, IsSplit, HasGroup, has_index, IsNamed, HasMore, GroupFails, MoreFail}
+use Rattle.cli.specs.declared.targets.NamedField.{NamedField}
+use Rattle.cli.specs.Columns.{IsFieldWord}
+use Rattle.cli.specs.Targets.{IsSplit, IsGroup, has_column, IsNamed, HasMore, GroupFails, MoreFail}
 use Rattle.cli.specs.Words.{ConversionFails}
 
 -- ---- The words before a field.
@@ -48,53 +48,36 @@ split_none words index all none = (
 -- ---- The words of a field, and of the others.
 
 module _
-    (first : Field) (words rest own others : List (String Global)) (word : String Global) (index : ℕ)
-    (before : List FieldConversion) (is : words ≡ word ∷ rest) (named : IsField (string_bytes word) index)
-    (split : IsSplit rest own others)
+    (words own others : List (String Global)) (word : List ℕ) (column : Column) (before : List NamedField)
+    (group : IsGroup words word column own others)
   where
-    group :
-        (P : List ℕ → ℕ → List (String Global) → List (String Global) → Type 0)
-        → P (string_bytes word) index own others → HasGroup words P
-    group P p = record {
-      word = word;
-      rest = rest;
-      index = index;
-      own = own;
-      others = others;
-      first = is;
-      named = named;
-      split = split;
-      holds = p;
-    }
-
     -- they name a field
-    module _ (it : FieldConversion) (new : has_index before index ≡ false) (names : IsNamed first index own it) where
+    module _ (it : NamedField) (new : has_column before column ≡ false) (names : IsNamed column own it) where
       pub more_named :
-          (after : List FieldConversion) → HasMore first others (before ++ (it ∷ [])) after
-          → HasMore first words before after
-      more_named after (more, name, same) =
-          (it ∷ more, group _ (new, names, name), same ∙ append_assoc before (it ∷ []) more)
+          (after : List NamedField) → HasMore others (before ++ (it ∷ [])) after → HasMore words before after
+      more_named after (more, name, same) = (
+        it ∷ more,
+        (word, column, own, others, group, (new, names, name)),
+        same ∙ append_assoc before (it ∷ []) more,
+      )
 
-      pub more_fail : (error : WordsError) → MoreFail first others (before ++ (it ∷ [])) error
-          → MoreFail first words before error
-      more_fail error (more, fail) = (it ∷ more, group _ (new, names, fail))
+      pub more_fail : (error : WordsError) → MoreFail others (before ++ (it ∷ [])) error → MoreFail words before error
+      more_fail error (more, fail) = (it ∷ more, (word, column, own, others, group, (new, names, fail)))
 
     -- they name none
     conversion_fails :
-        (error : WordsError) → has_index before index ≡ false → ConversionFails own error
-        → GroupFails before error (string_bytes word) index own
+        (error : WordsError) → has_column before column ≡ false → ConversionFails own error
+        → GroupFails before error word column own
     conversion_fails (Misplaced it) new fails = inr (new, fails)
     conversion_fails Memory new fails = (new, inl fails)
     conversion_fails error new fails = (new, fails)
 
-    pub group_fails :
-        (error : WordsError) → GroupFails before error (string_bytes word) index own
-        → MoreFail first words before error
-    group_fails error fails = ([], group _ fails)
+    pub group_fails : (error : WordsError) → GroupFails before error word column own → MoreFail words before error
+    group_fails error fails = ([], (word, column, own, others, group, fails))
 
     pub own_fail :
-        (error : WordsError) → has_index before index ≡ false → ConversionFails own error
-        → MoreFail first words before error
+        (error : WordsError) → has_column before column ≡ false → ConversionFails own error
+        → MoreFail words before error
     own_fail error new fails = group_fails error (conversion_fails error new fails)
 
 -- ---- All words.

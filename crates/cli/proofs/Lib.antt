@@ -14,5 +14,7 @@ pub mod FirstRecord
 pub mod FieldLines
 pub mod Editing
 pub mod FieldWords
+pub mod HeaderNames
+pub mod NamedRuns
 pub mod OptionWords
 pub mod ShownWords

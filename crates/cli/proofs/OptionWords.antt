@@ -1,5 +1,8 @@
 -- The words of options, one by one.
-use Rattle.std.proofs.Common.{◌≡◌, List, ◌∷◌, inl, inr, refl, String, string_bytes, Global}
+use Rattle.std.proofs.Common.{◌≡◌, ℕ, List, ◌∷◌, ◌++◌, codes, inl, inr, refl, subst, String, string_bytes, Global}
+use Rattle.cli.specs.declared.columns.Column.{Column}
+use Rattle.cli.specs.declared.columns.Column.TheVariants.{Index, Name}
+use Rattle.cli.specs.Columns.{IsField, IsName, IsColumn}
 use Rattle.cli.specs.declared.options.Options.{Options}
 use Rattle.cli.specs.Options.{Adds, AreOptions}
 
@@ -15,3 +18,12 @@ pub options_end :
     (options : Options) (words rest : List (String Global)) (first : String Global) → words ≡ first ∷ rest
     → ((next : Options) → ¬ Adds (string_bytes first) options next) → AreOptions options words options words
 options_end options words rest first is none = rw is (inr (none, refl, refl))
+
+-- a word that has no number of a field, and after `field:` no name, names no field
+pub no_column :
+    (word text : List ℕ) (column : Column) → ((index : ℕ) → ¬ IsField word index) → word ≡ codes "field:" ++ text
+    → ((name : List ℕ) → ¬ IsName text name) → ¬ IsColumn word column
+no_column word text (Index index) none is other field = none index field
+no_column word text (Name name) none is other (found, same, named) =
+    let e : found ≡ text = cc in
+    other name.now (subst (λ t. IsName t name.now) e named)

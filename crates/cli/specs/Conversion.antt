@@ -1,5 +1,5 @@
 -- The outcome of a conversion on a text, and its errors.
-use Rattle.std.specs.Prelude.{◌≡◌, ◌⊎◌, ◌&&◌, Bool, List, ℕ, Option, Some, None, is_none, MatchBool, ⊤, Result, Ok, Err, IsOkAnd}
+use Rattle.std.specs.Prelude.{◌≡◌, ◌⊎◌, ◌&&◌, Bool, List, ℕ, Option, Some, None, is_none, MatchBool, Result, Ok, Err, IsOkAnd}
 use Rattle.decimal_unsigned.specs.Reading.{ReadError, syntax, limit}
 use Rattle.decimal_unsigned.specs.declared.decimal.TheConstants.{INLINE_DIGITS}
 use Rattle.decimal_unsigned.specs.declared.error.ParseError.{ParseError}
@@ -13,7 +13,7 @@ use Rattle.fixed_decimal.specs.declared.runs.Call.{Call}
 use Rattle.fixed_decimal.specs.declared.runs.CallError.{CallError}
 use Rattle.fixed_decimal.specs.declared.runs.RunError.{RunError}
 use Rattle.decimal_format.specs.Formatted.{Formatter, formatted}
-use Rattle.number_format.specs.NumberText.{IsNumberText, shown_number}
+use Rattle.number_format.specs.NumberText.{IsNumberText, NeedsMemory, shown_number}
 use Rattle.cli.specs.declared.conversion.Conversion.{Conversion}
 use Rattle.cli.specs.declared.locale_formatter.LocaleFormatter.{LocaleFormatter}
 use Rattle.cli.specs.declared.locale_formatter.LocaleFormatter.TheVariants.{AllDigits, Skeleton}
@@ -48,12 +48,12 @@ ReadingFails reader text parse.Memory = ReadingNeedsMemory reader text
 abbrev pub IsReadBy : Option LocaleReader → List ℕ → Result Decimal ReadError → Type 0
 IsReadBy None text result = IsReadAs None text result
 IsReadBy (Some (Decimals reader)) text result = IsReadAs (Some reader) text result
-IsReadBy (Some (Numbers reader)) text result = IsNumberRead reader.mode reader.formatter text result
+IsReadBy (Some (Numbers reader)) text result = IsNumberRead reader.mode reader.reader text result
 
 abbrev pub ReadingByNeedsMemory : Option LocaleReader → List ℕ → Type 0
 ReadingByNeedsMemory None text = ReadingNeedsMemory None text
 ReadingByNeedsMemory (Some (Decimals reader)) text = ReadingNeedsMemory (Some reader) text
-ReadingByNeedsMemory (Some (Numbers reader)) text = NumberReadingFails reader.mode reader.formatter text parse.Memory
+ReadingByNeedsMemory (Some (Numbers reader)) text = NumberReadingFails reader.mode reader.reader text parse.Memory
 
 abbrev pub ReadingByFails : Option LocaleReader → List ℕ → ParseError → Type 0
 ReadingByFails reader text parse.Syntax = IsReadBy reader text (Err syntax)
@@ -85,14 +85,14 @@ abbrev pub HasTextBy : Option LocaleFormatter → Decimal → (List ℕ → Type
 HasTextBy formatter v P = (text : List ℕ) × IsTextBy formatter v (Ok text) × P text
 
 -- formatting may need memory
-abbrev pub FormattingNeedsMemory : Option LocaleFormatter → Type 0
-FormattingNeedsMemory (Some (Skeleton f)) = ⊤
-FormattingNeedsMemory formatter = ⊥
+abbrev pub FormattingNeedsMemory : Option LocaleFormatter → Decimal → Type 0
+FormattingNeedsMemory (Some (Skeleton f)) v = NeedsMemory f v
+FormattingNeedsMemory formatter v = ⊥
 
 -- writing the text of a decimal may fail with this error
 abbrev pub WritingFails : OperationError → Option LocaleFormatter → Decimal → Type 0
 WritingFails FormatOverflow formatter v = IsTextBy formatter v (Err format_overflow)
-WritingFails Memory formatter v = FormattingNeedsMemory formatter
+WritingFails Memory formatter v = FormattingNeedsMemory formatter v
 WritingFails Output formatter v = (text : List ℕ) × IsTextBy formatter v (Ok text)
 WritingFails error formatter v = ⊥
 
@@ -160,7 +160,7 @@ CallsNeedMemory v calls =
 abbrev pub WorkNeedsMemory : Decimal → List Call → Option LocaleFormatter → Type 0
 WorkNeedsMemory v calls formatter =
     CallsNeedMemory v calls
-    ⊎ ((last : Decimal) × (after_calls 0 v calls ≡ Ok last) × FormattingNeedsMemory formatter)
+    ⊎ ((last : Decimal) × (after_calls 0 v calls ≡ Ok last) × FormattingNeedsMemory formatter last)
 
 -- the error is that of the outcome; or out of memory, where reading or the work may need it; or a failed output of a
 -- text

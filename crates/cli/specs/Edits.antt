@@ -15,17 +15,17 @@ use Rattle.cli.specs.Fields.{located, within, bytes_of}
 abbrev pub IsEdit : Bool → FieldConversion → List ℕ → Edit → Type 0
 IsEdit trims it line edit =
     (edit.field ≡ it.field) × (located it.field line ≡ Ok edit.bounds)
-    × IsFieldResult trims it.field it.conversion (within line edit.bounds) (Ok edit.text.0)
+    × IsFieldResult trims it.field it.conversion.now (within line edit.bounds) (Ok edit.text.0)
 
 -- the field has none, for this error: it is not in the line, or its conversion fails
 abbrev pub HasNoEdit : Bool → FieldConversion → List ℕ → OperationError → Type 0
 HasNoEdit trims it line error =
     MatchResult (located it.field line)
-    (λ bounds. IsFieldResult trims it.field it.conversion (within line bounds) (Err error)) (λ why. error ≡ why)
+    (λ bounds. IsFieldResult trims it.field it.conversion.now (within line bounds) (Err error)) (λ why. error ≡ why)
 
 -- an error as that of a field
 abbrev pub error_of_field : FieldConversion → OperationError → LineError
-error_of_field it error = line_error (Some it.field.index) error
+error_of_field it error = line_error (Some it.label) error
 
 -- ---- The edits of several fields.
 

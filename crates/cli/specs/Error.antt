@@ -9,6 +9,9 @@ use Rattle.cli.specs.declared.error.Reason.{Reason}
 use Rattle.cli.specs.declared.error.Reason.TheVariants.{Syntax, Limit}
 use Rattle.cli.specs.declared.error.OperationError.{OperationError}
 use Rattle.cli.specs.declared.error.OperationError.TheVariants.{Field, Quote, Start, Operand, Overlap, Overflow, FormatOverflow, Memory, Output}
+use Rattle.cli.specs.declared.columns.FieldLabel.{FieldLabel}
+use Rattle.cli.specs.declared.error.HeaderError.{HeaderError}
+use Rattle.cli.specs.declared.error.HeaderError.TheVariants as header
 use Rattle.cli.specs.declared.error.LineError.{LineError}
 use Rattle.cli.specs.declared.error.ProgramError.{ProgramError}
 use Rattle.cli.specs.declared.error.ProgramError.TheVariants as program
@@ -45,11 +48,11 @@ status_of_operation FormatOverflow = 1
 status_of_operation Memory = 3
 status_of_operation Output = 3
 
--- an error of a line, of the field with this index if it is that of one of several
-abbrev pub line_error : Option ℕ → OperationError → LineError
+-- an error of a line, of this field if it is that of one
+abbrev pub line_error : Option FieldLabel → OperationError → LineError
 line_error field error = record { field = field; error = error }
 
--- an error of a line, and not of one of several fields
+-- an error of a line that names no field
 abbrev pub error_of_line : OperationError → LineError
 error_of_line error = line_error None error
 
@@ -64,11 +67,17 @@ abbrev pub is_output_of_words : WordsError → Bool
 is_output_of_words words.Output = true
 is_output_of_words _ = false
 
+-- the status of an error of a header: 1 of a rejected one, 3 of out of memory
+abbrev pub status_of_header : HeaderError → ℕ
+status_of_header header.Memory = 3
+status_of_header _ = 1
+
 -- the status of an error of a program
 abbrev pub status_of : ProgramError → ℕ
 status_of (program.Start error) = status_of_words error.why
 status_of (program.Operation error) = status_of_operation error
 status_of (program.Line line error) = status_of_operation error.error
+status_of (program.Header error) = status_of_header error
 status_of (program.LongLine line) = 3
 status_of program.Input = 3
 status_of (program.Rules at reason) = 1

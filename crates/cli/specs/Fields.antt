@@ -9,6 +9,10 @@ use Rattle.cli.specs.declared.fields.Field.{Field}
 
 -- ---- Where a field is.
 
+-- the field with this 0-based index
+abbrev pub at_index : Field → ℕ → Field
+at_index field index = record field { index = index }
+
 -- the byte of a quote
 abbrev pub quote : ℕ
 quote = 34

@@ -34,7 +34,7 @@ IsHeader filter number = (filter.has_header ≡ true) × (number ≡ 1)
 abbrev pub body_of : Filter → ℕ → List ℕ → List ℕ
 body_of filter number line = within line (body_bounds filter.trims number line)
 
--- a result that is not that of one of several fields
+-- a result whose error names no field
 abbrev pub result_of_line : {A : Type 0} → Result A OperationError → Result A LineError
 result_of_line (Ok x) = Ok x
 result_of_line (Err error) = Err (error_of_line error)
@@ -42,7 +42,7 @@ result_of_line (Err error) = Err (error_of_line error)
 -- the result of converting these bytes of a line
 abbrev pub IsTargetResult : Bool → Target → List ℕ → Result (List ℕ) LineError → Type 0
 IsTargetResult trims (One field conversion) bytes result =
-    (found : Result (List ℕ) OperationError) × IsLineResult trims field conversion bytes found
+    (found : Result (List ℕ) OperationError) × IsLineResult trims field conversion.now bytes found
     × (result ≡ result_of_line found)
 IsTargetResult trims (Fields fields) bytes result = IsEditedLine trims fields.items bytes result
 
@@ -70,7 +70,7 @@ HasText filter number line P = (text : List ℕ) × IsTextOrError filter number 
 -- converting these bytes of a line fails with this error
 abbrev pub TargetFails : Bool → Target → List ℕ → LineError → Type 0
 TargetFails trims (One field conversion) bytes error =
-    (error.field ≡ None) × LineFails trims field conversion bytes error.error
+    (error.field ≡ None) × LineFails trims field conversion.now bytes error.error
 TargetFails trims (Fields fields) bytes error = EditingFails trims fields.items bytes error
 
 -- converting the line with this number fails with this error
@@ -186,6 +186,11 @@ IsErrorOfLine filter number line (Line at error) =
 IsErrorOfLine filter number line _ = ⊥
 
 -- ---- What a filter does to a line.
+
+-- a result with this error, if it is that of one
+abbrev pub with_error : {A E : Type 0} → ProgramError → Result A E → Result A ProgramError
+with_error error (Ok x) = Ok x
+with_error error (Err _) = Err error
 
 module _ {D : Type 0} (reports : D → ProgramError → D → Type 0) (filter : Filter) (number : ℕ) where
   -- the line with this number was filtered, and this was returned: whether it has a text, after its output and its

@@ -1,20 +1,23 @@
 -- The filter that the words of `fixdec_lines` name, and its result on an input.
-use Rattle.std.specs.Prelude.{◌≡◌, ◌⊎◌, ℕ, ⊤, Bool, true, false, List, String, Option, MatchBool, MatchOption, Result, Err, IsErrAnd}
+use Rattle.std.specs.Prelude.{◌≡◌, ◌⊎◌, ℕ, ◌&&◌, not, ⊤, Bool, true, false, List, String, Option, MatchBool, MatchOption, Result, Err, IsErrAnd}
 use Rattle.std.specs.declared.alloc.Global.{Global}
 use Rattle.std.specs.declared.io.ErrorKind.{ErrorKind}
-use Rattle.cli.specs.Targets.{NamesTarget, NameNoTarget}
+use Rattle.cli.specs.Targets.{NamesTarget, NameNoTarget, have_names}
 use Rattle.cli.specs.Options.{none, AreOptions, HasField, lacks_csv, field_error}
 use Rattle.cli.specs.declared.options.Options.{Options}
 use Rattle.cli.specs.declared.fields.Field.{Field}
 use Rattle.cli.specs.declared.error.WordsError.{WordsError}
-use Rattle.cli.specs.declared.error.WordsError.TheVariants.{Memory, NoCsv}
+use Rattle.cli.specs.declared.error.WordsError.TheVariants.{Memory, NoCsv, NoHeader}
 use Rattle.cli.specs.declared.help.Program.TheVariants.{FixdecLines}
 use Rattle.cli.specs.Error.{start_error}
 use Rattle.cli.specs.declared.error.ProgramError.{ProgramError}
 use Rattle.cli.specs.declared.error.ProgramError.TheVariants.{Start, Output}
-use Rattle.cli.specs.declared.filter.Filter.{Filter}
+use Rattle.cli.specs.declared.columns.Column.{Column}
+use Rattle.cli.specs.declared.named_filter.NamedFilter.{NamedFilter}
+use Rattle.cli.specs.declared.targets.NamedTarget.{NamedTarget}
+use Rattle.cli.specs.NamedFilter.{FiltersNamed}
 use Rattle.cli.specs.Filter.{Change, Effects}
-use Rattle.cli.specs.Lines.{AppendsUnwritten, Filters}
+use Rattle.cli.specs.Lines.{AppendsUnwritten}
 
 -- the words are [OPTION].. .., and P holds of the options and of the words after them
 pub record HasWords (words : List (String Global)) (P : Options → List (String Global) → Type 0) : Type 0 where
@@ -23,21 +26,28 @@ pub record HasWords (words : List (String Global)) (P : Options → List (String
   pub first : AreOptions none words options others
   pub holds : P options others
 
--- the words are [OPTION].. and those of what is converted, with this filter
-abbrev pub NamesFilter : List (String Global) → Filter → Type 0
+-- whether a field has a name, and `header` is not there
+abbrev pub lacks_header : Options → NamedTarget → Bool
+lacks_header options target = have_names target && not options.has_header
+
+-- the words are [OPTION].. and those of what is converted, with this filter; if a field has a name, `header` is there
+abbrev pub NamesFilter : List (String Global) → NamedFilter → Type 0
 NamesFilter words filter =
     HasWords words
-    (λ options others. (lacks_csv options ≡ false) × (filter.on_error ≡ options.on_error)
-    × (filter.has_header ≡ options.has_header) × (filter.has_records ≡ options.has_records)
-    × (filter.trims ≡ options.trims)
-    × ((field : Option Field) × HasField options field × NamesTarget field others filter.target))
+    (λ options others. (lacks_csv options ≡ false) × (filter.options ≡ options)
+    × ((field : Option (Column × Field)) × HasField options field × NamesTarget field others filter.target)
+    × (lacks_header options filter.target ≡ false))
 
--- the options have no field, for this error; or they have one, and the other words name nothing to convert
+-- the options have no field, for this error; or they have one, and the other words name nothing to convert, or a field
+-- has a name and `header` is not there
 abbrev pub OthersFail : Options → List (String Global) → ProgramError → Type 0
 OthersFail options others error =
-    (((field : Option Field) → ¬ HasField options field) × (error ≡ start_error FixdecLines (field_error options)))
-    ⊎ ((field : Option Field) × HasField options field
-    × ((why : WordsError) × (error ≡ start_error FixdecLines why) × NameNoTarget field others why))
+    (((field : Option (Column × Field)) → ¬ HasField options field)
+    × (error ≡ start_error FixdecLines (field_error options)))
+    ⊎ ((field : Option (Column × Field)) × HasField options field
+    × (((why : WordsError) × (error ≡ start_error FixdecLines why) × NameNoTarget field others why)
+    ⊎ ((target : NamedTarget) × NamesTarget field others target × (lacks_header options target ≡ true)
+    × (error ≡ start_error FixdecLines NoHeader))))
 
 -- they are not, for this error: `records` has no `csv`; or it has, and the other words fail
 abbrev pub FilterFails : List (String Global) → ProgramError → Type 0
@@ -73,7 +83,8 @@ module _ {D : Type 0} (reports : D → ProgramError → D → Type 0) where
   -- the words name a filter, which ran with this result; or they name none, and nothing was reported before this error
   abbrev pub WordsFilter : List (String Global) → Effects D → Result Bool ProgramError → Type 0
   WordsFilter words effects returned =
-      ((filter : Filter) × NamesFilter words filter × Filters AppendsUnwritten reports filter effects returned)
+      ((filter : NamedFilter) × NamesFilter words filter
+      × FiltersNamed reports AppendsUnwritten filter effects returned)
       ⊎ IsErrAnd returned (λ error. FilterFails words error
       × (effects.diagnostics.after ≡ effects.diagnostics.before))
 

@@ -1,6 +1,7 @@
 pub mod Arguments
 pub mod Calls
 pub mod Categories
+pub mod Columns
 pub mod Conversion
 pub mod Diagnostics
 pub mod Edits
@@ -11,10 +12,12 @@ pub mod Filter
 pub mod Fixdec
 pub mod FixdecLines
 pub mod FormatWord
+pub mod Headers
 pub mod Help
 pub mod Input
 pub mod Lines
 pub mod LocaleList
+pub mod NamedFilter
 pub mod NamedRules
 pub mod Options
 pub mod Parameters

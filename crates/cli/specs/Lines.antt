@@ -65,40 +65,39 @@ have_texts results = list_all is_ok results
 
 -- ---- What a filter returns.
 
--- the error ends the filter after these rows: the run of the next row has it; or the reader, with this failure, cannot
--- read the next row; or a `u64` counts no more lines; or the output failed
-abbrev pub EndsWith : Filter → Option (List ℕ) → Option ErrorKind → List (List ℕ) → ProgramError → Type 0
-EndsWith filter input failure rows (Line number error) =
-    (row : List ℕ) × AreFirst filter input (rows ++ (row ∷ []))
-    × IsErrorOfLine filter (number_after filter 1 rows) row (Line number error)
-EndsWith filter input failure rows (LongLine number) =
-    IsErrorOfReading (number_after filter 1 rows) failure (LongLine number)
-EndsWith filter input failure rows Input =
-    IsErrorOfReading (number_after filter 1 rows) failure Input ⊎ (2 ^ 64 ≤ number_after filter 1 rows)
-EndsWith filter input failure rows Output = ⊤
-EndsWith filter input failure rows _ = ⊥
+-- the error ends the filter before the line with this number, after these rows of an input: the run of the next row
+-- has it; or the reader, with this failure, cannot read the next row; or a `u64` counts no more lines; or the output
+-- failed
+abbrev pub EndsWith : Filter → ℕ → Option (List ℕ) → Option ErrorKind → List (List ℕ) → ProgramError → Type 0
+EndsWith filter next input failure rows (Line number error) =
+    (row : List ℕ) × AreFirst filter input (rows ++ (row ∷ [])) × IsErrorOfLine filter next row (Line number error)
+EndsWith filter next input failure rows (LongLine number) = IsErrorOfReading next failure (LongLine number)
+EndsWith filter next input failure rows Input = IsErrorOfReading next failure Input ⊎ (2 ^ 64 ≤ next)
+EndsWith filter next input failure rows Output = ⊤
+EndsWith filter next input failure rows _ = ⊥
 
--- the filter returns this after these rows with these results: whether each has a text, after all rows; or an error,
--- after some
+-- the filter returns this before the line with this number, after these rows with these results: whether each has a
+-- text, after all rows; or an error, after some
 abbrev pub Returns :
-    Filter → Option (List ℕ) → Option ErrorKind → List (List ℕ) → List FilteredLine
+    Filter → ℕ → Option (List ℕ) → Option ErrorKind → List (List ℕ) → List FilteredLine
     → Result Bool ProgramError → Type 0
-Returns filter input failure rows results (Ok texts) = AreAll filter input rows × (texts ≡ have_texts results)
-Returns filter input failure rows results (Err error) =
-    AreFirst filter input rows × EndsWith filter input failure rows error
+Returns filter next input failure rows results (Ok texts) = AreAll filter input rows × (texts ≡ have_texts results)
+Returns filter next input failure rows results (Err error) =
+    AreFirst filter input rows × EndsWith filter next input failure rows error
 
--- rows with these results were filtered, and this was returned: their output was appended, at a failed output a part
--- of it, and their errors were reported in order
+-- rows with these results were filtered, the first of which begins at the line with this number, and this was
+-- returned: their output was appended, at a failed output a part of it, and their errors were reported in order
 pub record Filters
     {D : Type 0} (AppendsPart : Option (List ℕ) → Option (List ℕ) → List ℕ → Type 0)
-    (reports : D → ProgramError → D → Type 0) (filter : Filter) (effects : Effects D)
+    (reports : D → ProgramError → D → Type 0) (filter : Filter) (first : ℕ) (effects : Effects D)
     (returned : Result Bool ProgramError)
     : Type 0
   where
     pub rows : List (List ℕ)
     pub results : List FilteredLine
-    pub are_results : AreResults filter 1 rows results
-    pub returns : Returns filter effects.input.before effects.failure rows results returned
+    pub are_results : AreResults filter first rows results
+    pub returns :
+        Returns filter (number_after filter first rows) effects.input.before effects.failure rows results returned
     pub stop : filter.on_error ≡ Stop → have_texts results ≡ true
     pub whole : returned ≢ Err Output → Appends effects.output.before effects.output.after (output_of results)
     pub part : AppendsPart effects.output.before effects.output.after (output_of results)
@@ -109,8 +108,8 @@ abbrev pub AppendsUnwritten : Option (List ℕ) → Option (List ℕ) → List �
 AppendsUnwritten old new text = (missing : List ℕ) × AppendsPrefix old (append_known new missing) text
 
 -- after an error of the run of a row, the rows up to it are read, and the others are left
-abbrev pub IsConsumed : Filter → Change (Option (List ℕ)) → ProgramError → Type 0
-IsConsumed filter input (Line number error) =
-    (rows : List (List ℕ)) × (row : List ℕ) × (number ≡ number_after filter 1 rows)
+abbrev pub IsConsumed : Filter → ℕ → Change (Option (List ℕ)) → ProgramError → Type 0
+IsConsumed filter first input (Line number error) =
+    (rows : List (List ℕ)) × (row : List ℕ) × (number ≡ number_after filter first rows)
     × AreRead filter input.before (rows ++ (row ∷ [])) input.after
-IsConsumed filter input _ = ⊤
+IsConsumed filter first input _ = ⊤

@@ -1,9 +1,10 @@
 -- The options that the first words of `fixdec_lines` name.
-use Rattle.std.specs.Prelude.{◌≡◌, ◌≢◌, ◌⊎◌, ℕ, ◌+◌, ◌&&◌, not, if◌then◌else◌, Bool, true, false, pos, List, [], ◌∷◌, ◌++◌, length, codes, String, string_bytes, Option, Some, None, is_some}
+use Rattle.std.specs.Prelude.{◌≡◌, ◌≢◌, ◌⊎◌, ℕ, ◌&&◌, not, if◌then◌else◌, Bool, true, false, List, [], ◌∷◌, ◌++◌, length, codes, String, string_bytes, Option, Some, None, is_some}
 use Rattle.std.specs.Borrow.{Bor}
 use Rattle.std.specs.Str.{chars}
 use Rattle.std.specs.declared.alloc.Global.{Global}
-use Rattle.cli.specs.Calls.{HasNumber}
+use Rattle.cli.specs.Columns.{IsColumn}
+use Rattle.cli.specs.declared.columns.Column.{Column}
 use Rattle.cli.specs.declared.fields.Field.{Field}
 use Rattle.cli.specs.Fields.{quote}
 use Rattle.cli.specs.declared.filter.OnError.TheVariants.{Stop, Skip, Keep}
@@ -15,7 +16,7 @@ use Rattle.cli.specs.declared.error.WordsError.TheVariants.{NoField, QuoteDelimi
 abbrev pub none : Options
 none = record {
   on_error = Stop;
-  index = None;
+  column = None;
   delimiter = None;
   is_csv = false;
   has_header = false;
@@ -25,10 +26,6 @@ none = record {
 
 -- ---- One word.
 
--- the word has this name and this 1-based number of a field
-abbrev pub IsField : List ℕ → ℕ → Type 0
-IsField word index = HasNumber (codes "field:") word (pos (index + 1))
-
 -- the word has this name and this one character
 abbrev pub IsDelimiter : List ℕ → List ℕ → Type 0
 IsDelimiter word delimiter = (word ≡ codes "delimiter:" ++ delimiter) × (length (chars delimiter) ≡ 1)
@@ -36,7 +33,7 @@ IsDelimiter word delimiter = (word ≡ codes "delimiter:" ++ delimiter) × (leng
 -- the word names an option with a parameter that is not there, and with it the options are these
 abbrev pub AddsParameter : List ℕ → Options → Options → Type 0
 AddsParameter word old new =
-    ((index : ℕ) × IsField word index × (old.index ≡ None) × (new ≡ record old { index = Some index }))
+    ((column : Column) × IsColumn word column × (old.column ≡ None) × (new ≡ record old { column = Some column }))
     ⊎ ((delimiter : Bor (List ℕ)) × IsDelimiter word delimiter.now × (old.delimiter ≡ None)
     × (new ≡ record old { delimiter = Some delimiter }))
 
@@ -73,17 +70,18 @@ lacks_csv options = options.has_records && not options.is_csv
 
 -- why options have no field: a word needs one; or the delimiter of CSV is a quote
 abbrev pub field_error : Options → WordsError
-field_error options = if is_some options.index then QuoteDelimiter else NoField
+field_error options = if is_some options.column then QuoteDelimiter else NoField
 
 -- the bytes between two fields: a tab, or in CSV a comma, if no word names others
 abbrev pub delimiter_of : Bool → Option (Bor (List ℕ)) → List ℕ
 delimiter_of is_csv (Some delimiter) = delimiter.now
 delimiter_of is_csv None = if is_csv then 44 ∷ [] else 9 ∷ []
 
--- the options have this field, or none and no word that needs one; the delimiter of CSV is no quote
-abbrev pub HasField : Options → Option Field → Type 0
-HasField options None = (options.index ≡ None) × (options.delimiter ≡ None) × (options.is_csv ≡ false)
-HasField options (Some field) =
-    (options.index ≡ Some field.index) × (field.is_csv ≡ options.is_csv)
+-- the options name this, and the first field of each line is this; or they name none, and no word needs one. The
+-- delimiter of CSV is no quote
+abbrev pub HasField : Options → Option (Column × Field) → Type 0
+HasField options None = (options.column ≡ None) × (options.delimiter ≡ None) × (options.is_csv ≡ false)
+HasField options (Some (column, field)) =
+    (options.column ≡ Some column) × (field.index ≡ 0) × (field.is_csv ≡ options.is_csv)
     × (field.delimiter.now ≡ delimiter_of options.is_csv options.delimiter)
     × (options.is_csv ≡ true → field.delimiter.now ≢ quote ∷ [])

@@ -2,13 +2,14 @@
 use Rattle.std.specs.Prelude.{◌≡◌, ◌≢◌, ◌⊎◌, ℕ, ⊤, List, [], codes, Option, Some, None}
 use Rattle.locale_data.specs.Locales.{IsLocale}
 use Rattle.number_format.specs.declared.number_formatter.NumberFormatter.{NumberFormatter}
+use Rattle.number_format.specs.declared.number_reader.ParseMode.{ParseMode}
+use Rattle.number_format.specs.declared.number_reader.ParseMode.TheVariants.{Strict, Lenient}
 use Rattle.number_format.specs.NumberReading.{CanRead}
+use Rattle.number_format.specs.TypedReading.{NumberReader, number_reader_of}
 use Rattle.cli.specs.declared.error.WordsError.{WordsError}
 use Rattle.cli.specs.declared.error.WordsError.TheVariants.{NoSuchWord, NoReader, Memory}
 use Rattle.cli.specs.declared.reader.LocaleReader.{LocaleReader}
 use Rattle.cli.specs.declared.reader.LocaleReader.TheVariants.{Decimals, Numbers}
-use Rattle.cli.specs.declared.reader.ParseMode.{ParseMode}
-use Rattle.cli.specs.declared.reader.ParseMode.TheVariants.{Strict, Lenient}
 use Rattle.cli.specs.FormatWord.{IsNumberFormatter, NumberFormatterFails, IsUnknownLocale}
 use Rattle.cli.specs.Parameters.{tag_of, option_of, locale_tag, locale_option}
 use Rattle.cli.specs.ShownWord.{IsShown}
@@ -19,6 +20,11 @@ IsReadOption None mode skeleton = (mode ≡ Strict) × (skeleton ≡ None)
 IsReadOption (Some option) Lenient skeleton = (tag_of option ≡ codes "lenient") × (skeleton ≡ option_of option)
 IsReadOption (Some option) Strict skeleton = (tag_of option ≢ codes "lenient") × (skeleton ≡ Some option)
 
+-- the texts of the formatter by the tag and the skeleton are read, and this is its reader
+abbrev pub IsNumberReader : List ℕ → List ℕ → NumberReader → Type 0
+IsNumberReader tag text r =
+    (f : NumberFormatter) × IsNumberFormatter tag text f × CanRead f × (r ≡ number_reader_of f)
+
 -- `read:..` names this reader; without it there is none
 abbrev pub NamesReader : Option (List ℕ) → Option LocaleReader → Type 0
 NamesReader None None = ⊤
@@ -26,7 +32,7 @@ NamesReader (Some read) (Some (Decimals r)) =
     IsReadOption (locale_option read) r.mode None × IsLocale (locale_tag read) r.symbols
 NamesReader (Some read) (Some (Numbers r)) =
     (text : List ℕ) × IsReadOption (locale_option read) r.mode (Some text) × (text ≢ [])
-    × IsNumberFormatter (locale_tag read) text r.formatter × CanRead r.formatter
+    × IsNumberReader (locale_tag read) text r.reader
 NamesReader _ _ = ⊥
 
 -- ---- Errors.

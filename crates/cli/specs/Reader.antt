@@ -1,5 +1,5 @@
 -- The texts that a reader reads.
-use Rattle.std.specs.Prelude.{◌≡◌, ◌⊎◌, ⊤, List, ℕ, Result, Ok, Err}
+use Rattle.std.specs.Prelude.{List, ℕ, Result, Ok, Err}
 use Rattle.std.specs.Str.{IsUtf8}
 use Rattle.decimal_unsigned.specs.Reading.{ReadError, syntax, limit}
 use Rattle.decimal_unsigned.specs.Unsigned.{IsValue}
@@ -10,13 +10,9 @@ use Rattle.fixed_decimal.specs.Decimal.{Decimal}
 use Rattle.decimal_format.specs.Symbols.{Symbols}
 use Rattle.decimal_format.specs.Reading.{Numeral, IsNumeral, IsBeyondLimits, IsWritten, NeedsMemory}
 use Rattle.decimal_format.specs.Lenient.{IsTyped, IsTypedNumeral}
-use Rattle.number_format.specs.declared.number_formatter.NumberFormatter.{NumberFormatter}
-use Rattle.number_format.specs.AffixedTexts.{IsShown, IsShownNumeral}
-use Rattle.number_format.specs.NumberReading.{reader_of}
-use Rattle.number_format.specs.ShiftedReading.{IsReadShifted}
-use Rattle.number_format.specs.TypedReading.{number_reader_of, IsReadLeniently}
-use Rattle.cli.specs.declared.reader.ParseMode.{ParseMode}
-use Rattle.cli.specs.declared.reader.ParseMode.TheVariants.{Strict, Lenient}
+use Rattle.number_format.specs.TypedReading.{NumberReader, IsReadInMode}
+use Rattle.number_format.specs.declared.number_reader.ParseMode.{ParseMode}
+use Rattle.number_format.specs.declared.number_reader.ParseMode.TheVariants.{Strict, Lenient}
 
 -- ---- By the symbols of a locale.
 
@@ -47,25 +43,14 @@ ReadingFailsIn mode s text parse.Syntax = IsReadIn mode s text (Err syntax)
 ReadingFailsIn mode s text parse.Limit = IsReadIn mode s text (Err limit)
 ReadingFailsIn mode s text parse.Memory = NeedsMemoryIn mode s text
 
--- ---- By a formatter.
+-- ---- By a number skeleton.
 
--- the reader of the formatter has this result, exactly or as people type numbers
-abbrev pub IsNumberResult : ParseMode → NumberFormatter → List ℕ → Result Decimal ParseError → Type 0
-IsNumberResult Strict f text result =
-    IsReadShifted INLINE_DIGITS (reader_of f).shift (IsShownNumeral (reader_of f) text) (IsShown (reader_of f) text)
-    result
-IsNumberResult Lenient f text result =
-    (IsUtf8 text × IsReadLeniently INLINE_DIGITS (number_reader_of f) text result)
-    ⊎ (¬ IsUtf8 text × (result ≡ Err parse.Syntax))
+-- the text is read as this by the reader of a formatter
+abbrev pub IsNumberRead : ParseMode → NumberReader → List ℕ → Result Decimal ReadError → Type 0
+IsNumberRead mode r text (Ok v) = IsReadInMode INLINE_DIGITS mode r text (Ok v)
+IsNumberRead mode r text (Err syntax) = IsReadInMode INLINE_DIGITS mode r text (Err parse.Syntax)
+IsNumberRead mode r text (Err limit) = IsReadInMode INLINE_DIGITS mode r text (Err parse.Limit)
 
--- the text is read as this
-abbrev pub IsNumberRead : ParseMode → NumberFormatter → List ℕ → Result Decimal ReadError → Type 0
-IsNumberRead mode f text (Ok v) = IsNumberResult mode f text (Ok v)
-IsNumberRead mode f text (Err syntax) = IsNumberResult mode f text (Err parse.Syntax)
-IsNumberRead mode f text (Err limit) = IsNumberResult mode f text (Err parse.Limit)
-
--- reading may fail with this error; the reader needs memory, whatever is read
-abbrev pub NumberReadingFails : ParseMode → NumberFormatter → List ℕ → ParseError → Type 0
-NumberReadingFails mode f text parse.Syntax = IsNumberRead mode f text (Err syntax)
-NumberReadingFails mode f text parse.Limit = IsNumberRead mode f text (Err limit)
-NumberReadingFails mode f text parse.Memory = ⊤
+-- reading may fail with this error
+abbrev pub NumberReadingFails : ParseMode → NumberReader → List ℕ → ParseError → Type 0
+NumberReadingFails mode r text error = IsReadInMode INLINE_DIGITS mode r text (Err error)

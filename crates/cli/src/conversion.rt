@@ -6,7 +6,7 @@ ghost use Rattle.cli.specs.Conversion.{IsReadBy, ReadingByFails, HasTextBy, Writ
 ghost use Rattle.cli.specs.Conversion.{HasOutcome, OperationsFail, HasOutcomeByForms, FailsByForms};
 
 use crate::error::OperationError;
-use crate::locale_formatter::{LocaleFormatter, write_digits, write_number, write_plain};
+use crate::locale_formatter::{LocaleFormatter, write_number, write_text};
 use crate::reader::LocaleReader;
 use fixed_decimal::{Call, Decimal, ParseError, RunError, Sink, apply_calls, run};
 use std::alloc::Global;
@@ -36,8 +36,7 @@ impl Conversion<'_> {
         ensures fails_with { IfErr result (ReadingByFails self.now.reader text.now) }
     {
         match &self.reader {
-            Some(LocaleReader::Decimals(reader)) => reader.read(alloc, text),
-            Some(LocaleReader::Numbers(reader)) => reader.read(alloc, text),
+            Some(reader) => reader.read(alloc, text),
             None => Decimal::try_from_utf8(alloc, text),
         }
     }
@@ -60,8 +59,11 @@ impl Conversion<'_> {
             Some(LocaleFormatter::Skeleton(formatter)) => write_number(
                 alloc, formatter, value, sink,
             ),
-            Some(LocaleFormatter::AllDigits(formatter)) => write_digits(formatter, &value, sink),
-            None => write_plain(&value, sink),
+            Some(LocaleFormatter::AllDigits(formatter)) => write_text(
+                &formatter.format(&value),
+                sink,
+            ),
+            None => write_text(&value, sink),
         }
     }
 

@@ -9,7 +9,7 @@ use fixed_decimal::{Closed, WriteError, write_whole};
 use std::fmt::{Display, InlineText};
 use std::io::{ErrorKind, Write};
 
-/// A line of at most 120 bytes and its line feed. The longest text of an error has 93 bytes.
+/// A line of at most 120 bytes and its line feed. The longest text of an error has 104 bytes.
 type Line = ArrayString<121>;
 
 /// Takes reports of errors.

@@ -5,6 +5,7 @@ ghost use Rattle.decimal_digits.specs.AppendsPrefix.{AppendsPrefix};
 ghost use Rattle.cli.specs.Edits.{IsEdit, HasNoEdit, with_edit, AreEdits, edited_from};
 ghost use Rattle.cli.specs.Fields.{within, replaced};
 
+use crate::columns::FieldLabel;
 use crate::conversion::Conversion;
 use crate::error::{LineError, OperationError};
 use crate::field_conversion::converted;
@@ -17,8 +18,10 @@ use std::alloc::Global;
 pub struct FieldConversion<'a> {
     /// The field.
     pub field: Field<'a>,
+    /// How an error names it.
+    pub label: FieldLabel,
     /// Its conversion.
-    pub conversion: Conversion<'a>,
+    pub conversion: &'a Conversion<'a>,
 }
 
 /// A field of a line, and the text that is written instead.
@@ -40,7 +43,7 @@ impl<'a> FieldConversion<'a> {
     {
         let bounds = self.field.locate(line)?;
         let bytes = &line[bounds.0..bounds.1];
-        let text = converted(alloc, trims, &self.conversion, &self.field, bytes)?;
+        let text = converted(alloc, trims, self.conversion, &self.field, bytes)?;
         Ok(Edit {
             field: self.field,
             bounds,
@@ -82,7 +85,7 @@ pub fn insert_edits<'a>(
         Ok(edit) => insert_edit(edits, edit)?,
         Err(error) => {
             return Err(LineError {
-                field: Some(first.field.index),
+                field: Some(first.label),
                 error,
             });
         }
@@ -91,7 +94,7 @@ pub fn insert_edits<'a>(
 }
 
 /// Returns the bytes from a start up to an end, as far as there are any.
-fn within(bytes: &[u8], bounds: (usize, usize)) -> &[u8]
+pub fn within(bytes: &[u8], bounds: (usize, usize)) -> &[u8]
     ensures { result.now ≡ within bytes.now bounds }
 {
     let rest = &bytes[bounds.0.min(bytes.len())..];

@@ -1,7 +1,8 @@
 //! The errors of the programs: a line on standard error and an exit status each.
 ghost use Rattle.std.specs.Prelude.{◌≡◌, ◌<◌, ◌≤◌};
-ghost use Rattle.cli.specs.Error.{status_of_words, status_of_operation, status_of, is_output, start_error};
+ghost use Rattle.cli.specs.Error.{status_of_words, status_of_operation, status_of_header, status_of, is_output, start_error};
 
+use crate::columns::FieldLabel;
 use crate::help::Program;
 use crate::named_rules::NamedRulesError;
 use crate::shown_word::ShownWord;
@@ -27,6 +28,8 @@ pub enum WordsError {
     NoField,
     /// `records` has no `csv`.
     NoCsv,
+    /// `field:NAME` has no `header`.
+    NoHeader,
     /// A quote is the delimiter of CSV.
     QuoteDelimiter,
     /// The locale with this tag is unknown.
@@ -72,6 +75,7 @@ impl fmt::Display for StartError {
             }
             WordsError::NoField => write!(f, "{name}: csv and delimiter:C need field:N"),
             WordsError::NoCsv => write!(f, "{name}: records needs csv"),
+            WordsError::NoHeader => write!(f, "{name}: field:NAME needs header"),
             WordsError::QuoteDelimiter => write!(f, "{name}: a quote is no delimiter of csv"),
         }
     }
@@ -201,11 +205,11 @@ impl From<SinkFault> for OperationError {
     }
 }
 
-/// The error of a line, or of one of several fields of it.
+/// The error of a line, or of a field of it.
 #[derive(Clone, Copy, Debug, PartialEq)]
 pub struct LineError {
-    /// The 0-based index of the field, if several are converted and the error is that of one.
-    pub field: Option<usize>,
+    /// The field, if it has a name or is one of several, and the error is that of a field.
+    pub field: Option<FieldLabel>,
     /// The error.
     pub error: OperationError,
 }
@@ -214,7 +218,7 @@ impl fmt::Display for LineError {
     fn fmt<W: fmt::Write>(&self, f: &mut fmt::Formatter<W>) -> fmt::Result {
         let error = self.error;
         match self.field {
-            Some(index) => write!(f, "field {}: {error}", index.saturating_add(1)),
+            Some(field) => write!(f, "{field}: {error}"),
             None => write!(f, "{error}"),
         }
     }
@@ -232,6 +236,42 @@ impl From<OperationError> for LineError {
     }
 }
 
+/// Why a header does not have the fields that words name.
+#[derive(Clone, Copy, Debug, PartialEq, Error)]
+pub enum HeaderError {
+    /// No field has this name.
+    #[error("no field {0}")]
+    NoField(ShownWord),
+    /// Several fields have this name.
+    #[error("two fields {0}")]
+    TwoFields(ShownWord),
+    /// Two words name this field, one by its number and one by its name.
+    #[error("two words for {0}")]
+    SameField(FieldLabel),
+    /// A quote is left open, or the header is a record that is too long.
+    #[error("quote")]
+    Quote,
+    /// Out of memory.
+    #[error("memory")]
+    Memory,
+}
+
+impl HeaderError {
+    fn status(&self) -> u8
+        ensures status { result ≡ status_of_header self.now }
+        ensures positive { 0 < result }
+        ensures at_most { result ≤ 3 }
+    {
+        match self {
+            HeaderError::NoField(_)
+            | HeaderError::TwoFields(_)
+            | HeaderError::SameField(_)
+            | HeaderError::Quote => 1,
+            HeaderError::Memory => 3,
+        }
+    }
+}
+
 /// The error of a program. Lines and texts have 1-based numbers.
 #[derive(Clone, Copy, Debug, PartialEq, Error)]
 pub enum ProgramError {
@@ -244,6 +284,9 @@ pub enum ProgramError {
     /// The conversion of this line fails.
     #[error("line {line}: {error}")]
     Line { line: u64, error: LineError },
+    /// The header does not have the fields that words name.
+    #[error("line 1: {0}")]
+    Header(HeaderError),
     /// Out of memory to hold this line.
     #[error("line {line}: memory")]
     LongLine { line: u64 },
@@ -290,6 +333,7 @@ impl ProgramError {
             ProgramError::Start(error) => error.why.status(),
             ProgramError::Operation(error) => error.status(),
             ProgramError::Line { error, .. } => error.error.status(),
+            ProgramError::Header(error) => error.status(),
             ProgramError::Rules { .. } | ProgramError::Text { .. } => 1,
             ProgramError::LongLine { .. } | ProgramError::Input | ProgramError::Output => 3,
         }

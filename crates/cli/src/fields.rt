@@ -1,10 +1,10 @@
 //! The fields of a line.
-ghost use Rattle.std.specs.Prelude.{◌≡◌, ◌≢◌, ◌≤◌, ◌∷◌, ◌++◌, ℕ, List, [], length, IfSome, IfOk, Ok, None, OnOk, OnErr, true};
+ghost use Rattle.std.specs.Prelude.{◌≡◌, ◌≢◌, ◌≤◌, ◌∷◌, ◌++◌, ℕ, List, [], length, slice_get, IfSome, IfOk, Ok, None, OnOk, OnErr, true};
 ghost use Rattle.std.specs.List.{list_any};
 ghost use Rattle.std.specs.Cow.{cow_slice_items};
 ghost use Rattle.std.specs.Io.KnownBytes.{Appends};
 ghost use Rattle.decimal_digits.specs.AppendsPrefix.{AppendsPrefix};
-ghost use Rattle.cli.specs.Fields.{is_quote, are_closed, is_outside, bounds, double, doubled, between_quotes, quoted, Holds};
+ghost use Rattle.cli.specs.Fields.{is_quote, are_closed, is_outside, at_index, bounds, double, doubled, between_quotes, quoted, Holds};
 ghost use Rattle.cli.specs.Fields.{is_quoted, is_special, needs_quotes, bytes_of, record_of, located};
 
 use crate::error::OperationError;
@@ -93,7 +93,8 @@ fn write_byte<W: Sink>(byte: u8, sink: &mut W) -> Result<(), SinkFault>
     }
 }
 
-fn write_quoted<W: Sink>(text: &[u8], sink: &mut W) -> Result<(), SinkFault>
+/// Writes a text in quotes.
+pub fn write_quoted<W: Sink>(text: &[u8], sink: &mut W) -> Result<(), SinkFault>
     ensures ok { OnOk result (Appends (W.contents sink.old) (W.contents sink.new) (quoted text.now)) }
     ensures err { OnErr result (AppendsPrefix (W.contents sink.old) (W.contents sink.new) (quoted text.now)) }
     ensures failed { OnErr result (W.has_failed sink.new ≡ true) }
@@ -173,7 +174,29 @@ impl Field<'_> {
         Some((start, line.len()))
     }
 
-    fn record<'a>(&self, line: &'a [u8]) -> &'a [u8]
+    /// Returns the start and the end of each field of a line.
+    pub fn all_bounds(&self, alloc: Global, line: &[u8]) -> Result<Vec<(usize, usize)>, AllocError>
+        ensures { IfOk result (λ all. (index : ℕ)
+            → bounds (at_index self.now index) line.now ≡ slice_get all.items index) }
+    {
+        let mut all = Vec::new(alloc);
+        let mut start = 0;
+        let mut outside = true;
+        let mut counted = 0;
+        for at in memmem::find_iter(line, self.delimiter) {
+            outside = self.is_outside_after(outside, &line[counted..at]);
+            counted = at;
+            if outside {
+                all.push((start, at))?;
+                start = at + self.delimiter.len();
+            }
+        }
+        all.push((start, line.len()))?;
+        Ok(all)
+    }
+
+    /// Returns the bytes of a line that its fields are in.
+    pub fn record<'a>(&self, line: &'a [u8]) -> &'a [u8]
         ensures { result.now ≡ record_of self.now line.now }
     {
         if self.is_csv {

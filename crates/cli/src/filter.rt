@@ -8,10 +8,11 @@ ghost use Rattle.memchr.specs.Find.{IsFirstByte, is_byte};
 ghost use Rattle.cli.specs.FieldConversion.{HasLineText, LineFails};
 ghost use Rattle.cli.specs.Fields.{replaced};
 ghost use Rattle.cli.specs.Trim.{body_bounds};
-ghost use Rattle.cli.specs.Filter.{IsHeader, body_of, replacement, HasConvertedLine, ConvertingFails, HasText, ConversionFails, HasRowText, RowFails, lines_of_row, IsErrorOfReading, FiltersLine, FiltersNext};
+ghost use Rattle.cli.specs.Filter.{IsHeader, body_of, replacement, HasConvertedLine, ConvertingFails, HasText, ConversionFails, HasRowText, RowFails, lines_of_row, IsErrorOfReading, with_error, FiltersLine, FiltersNext};
 ghost use Rattle.cli.specs.Input.{bytes_left};
 ghost use Rattle.cli.specs.Lines.{Filters, IsConsumed};
 
+use crate::columns::FieldLabel;
 use crate::conversion::{Conversion, convert};
 use crate::diagnostics::Diagnostics;
 use crate::edits::{FieldConversion, insert_edits, write_edited};
@@ -148,7 +149,7 @@ impl Filter<'_> {
         }
     }
 
-    /// Converts several fields. `failed` becomes the index of the field that fails.
+    /// Converts several fields. `failed` becomes the field that fails.
     #[inline(never)]
     fn convert_fields<W: Sink>(
         &self,
@@ -157,7 +158,7 @@ impl Filter<'_> {
         number: u64,
         line: &[u8],
         sink: &mut W,
-        failed: &mut Option<usize>,
+        failed: &mut Option<FieldLabel>,
     ) -> Result<(), OperationError>
         ensures printed { OnOk result
             (HasEditedText self.now.trims fields.now (body_of self.now number line.now)
@@ -194,7 +195,7 @@ impl Filter<'_> {
         number: u64,
         line: &[u8],
         sink: &mut W,
-        failed: &mut Option<usize>,
+        failed: &mut Option<FieldLabel>,
     ) -> Result<(), OperationError>
         requires { failed.now ≡ None }
         ensures printed { OnOk result (HasConvertedLine self.now number line.now
@@ -223,7 +224,7 @@ impl Filter<'_> {
         number: u64,
         line: &[u8],
         sink: &mut W,
-        failed: &mut Option<usize>,
+        failed: &mut Option<FieldLabel>,
     ) -> Result<(), OperationError>
         requires { failed.now ≡ None }
         ensures printed { OnOk result (HasText self.now number line.now
@@ -244,8 +245,8 @@ impl Filter<'_> {
         Ok(())
     }
 
-    /// Writes the text of the row that begins at the line with this number, and a line feed. If one of several fields
-    /// fails, `failed` becomes its index.
+    /// Writes the text of the row that begins at the line with this number, and a line feed. If a field by
+    /// name or one of several fails, `failed` becomes that field.
     #[inline(always)]
     fn print_row<W: Sink>(
         &self,
@@ -253,7 +254,7 @@ impl Filter<'_> {
         number: u64,
         row: &[u8],
         sink: &mut W,
-        failed: &mut Option<usize>,
+        failed: &mut Option<FieldLabel>,
     ) -> Result<(), OperationError>
         requires { failed.now ≡ None }
         ensures printed { OnOk result (HasRowText self.now number row.now
@@ -283,7 +284,8 @@ impl Filter<'_> {
         find_line_feed(block)
     }
 
-    fn lines_of_row(&self, row: &[u8]) -> u64
+    /// Returns the number of lines of a row.
+    pub fn lines_of_row(&self, row: &[u8]) -> u64
         ensures value { result ≡ lines_of_row self.now row.now }
         ensures some { 0 < result }
     {
@@ -300,7 +302,7 @@ fn copy_line<W: Sink>(line: &[u8], sink: &mut W) -> Result<(), SinkFault>
     sink.put_byte(b'\n')
 }
 
-fn error_of_reading(line: u64, kind: ErrorKind) -> ProgramError
+pub fn error_of_reading(line: u64, kind: ErrorKind) -> ProgramError
     ensures { IsErrorOfReading line (Some kind) result }
 {
     if kind == ErrorKind::OutOfMemory {
@@ -310,40 +312,75 @@ fn error_of_reading(line: u64, kind: ErrorKind) -> ProgramError
     }
 }
 
+/// A filter ends. Its error is in a place of the caller, so that no row carries one.
+#[derive(Clone, Copy)]
+pub struct Ended;
+
+/// Reports the error of a row, and writes an empty line or the row itself; or ends.
+#[inline(never)]
+fn reject<W: Sink, D: Diagnostics<ProgramError>>(
+    filter: &Filter<'_>,
+    number: u64,
+    line: &[u8],
+    error: LineError,
+    out: &mut W,
+    diagnostics: &mut D,
+    ended: &mut ProgramError,
+) -> Result<bool, Ended>
+    requires fails { RowFails filter.now number line.now error }
+    requires other { error.error ≢ OperationError.Output }
+    ensures filtered { FiltersLine D.reports filter.now number line.now
+        (record { before = W.contents out.old; after = W.contents out.new })
+        (record { before = diagnostics.old; after = diagnostics.new }) (with_error ended.new result) }
+    ensures failed { with_error ended.new result ≡ Err ProgramError.Output → W.has_failed out.new ≡ true }
+{
+    let is_rejected = error.error.status() == 1;
+    let error = ProgramError::Line {
+        line: number,
+        error,
+    };
+    if filter.on_error == OnError::Stop || !is_rejected {
+        *ended = error;
+        return Err(Ended);
+    }
+    diagnostics.report(&error);
+    match copy_line(filter.replacement(line), out) {
+        Ok(()) => Ok(false),
+        Err(_) => {
+            *ended = ProgramError::Output;
+            Err(Ended)
+        }
+    }
+}
+
 /// Writes the text of a line and a line feed, and returns whether it has a text. With `Skip` and `Keep` an error of the
 /// conversion is reported, and an empty line or the line itself is written.
 #[inline(always)]
-fn filter_line<W: Sink, D: Diagnostics<ProgramError>>(
+pub fn filter_line<W: Sink, D: Diagnostics<ProgramError>>(
     alloc: Global,
     filter: &Filter<'_>,
     number: u64,
     line: &[u8],
     out: &mut W,
     diagnostics: &mut D,
-) -> Result<bool, ProgramError>
+    ended: &mut ProgramError,
+) -> Result<bool, Ended>
     ensures filtered { FiltersLine D.reports filter.now number line.now
         (record { before = W.contents out.old; after = W.contents out.new })
-        (record { before = diagnostics.old; after = diagnostics.new }) result }
-    ensures failed { result ≡ Err ProgramError.Output → W.has_failed out.new ≡ true }
+        (record { before = diagnostics.old; after = diagnostics.new }) (with_error ended.new result) }
+    ensures failed { with_error ended.new result ≡ Err ProgramError.Output → W.has_failed out.new ≡ true }
 {
     let mut field = None;
-    let error = match filter.print_row(alloc, number, line, out, &mut field) {
-        Ok(()) => return Ok(true),
-        Err(OperationError::Output) => return Err(ProgramError::Output),
-        Err(error) => error,
-    };
-    let is_rejected = error.status() == 1;
-    let error = ProgramError::Line {
-        line: number,
-        error: LineError { field, error },
-    };
-    if filter.on_error == OnError::Stop || !is_rejected {
-        return Err(error);
-    }
-    diagnostics.report(&error);
-    match copy_line(filter.replacement(line), out) {
-        Ok(()) => Ok(false),
-        Err(_) => Err(ProgramError::Output),
+    match filter.print_row(alloc, number, line, out, &mut field) {
+        Ok(()) => Ok(true),
+        Err(OperationError::Output) => {
+            *ended = ProgramError::Output;
+            Err(Ended)
+        }
+        Err(error) => {
+            let error = LineError { field, error };
+            reject(filter, number, line, error, out, diagnostics, ended)
+        }
     }
 }
 
@@ -358,28 +395,35 @@ fn filter_next<R: Read, W: Sink, D: Diagnostics<ProgramError>>(
     input: &mut LineReader<R>,
     out: &mut W,
     diagnostics: &mut D,
-) -> Result<Option<FilteredRow>, ProgramError>
+    ended: &mut ProgramError,
+) -> Result<Option<FilteredRow>, Ended>
     ensures filtered { FiltersNext D.reports filter.now number (record {
       input = record { before = bytes_left R.remaining input.old; after = bytes_left R.remaining input.new };
       failure = input.new.1;
       output = record { before = W.contents out.old; after = W.contents out.new };
       diagnostics = record { before = diagnostics.old; after = diagnostics.new };
-    }) result }
+    }) (with_error ended.new result) }
     ensures some_lines { IfOk result (λ next. IfSome next (λ row. 0 < row.lines)) }
-    ensures failed { result ≡ Err ProgramError.Output → W.has_failed out.new ≡ true }
+    ensures failed { with_error ended.new result ≡ Err ProgramError.Output → W.has_failed out.new ≡ true }
 {
     let Some(end) = filter.end_in_block(input.block()) else {
         return match input.read_row(filter.has_records, copy) {
             Ok(true) => {
                 let row = copy.as_slice();
-                let has_text = filter_line(alloc, filter, number, row, out, diagnostics)?;
+                let Ok(has_text) = filter_line(alloc, filter, number, row, out, diagnostics, ended)
+                else {
+                    return Err(Ended);
+                };
                 Ok(Some(FilteredRow {
                     has_text,
                     lines: filter.lines_of_row(row),
                 }))
             }
             Ok(false) => Ok(None),
-            Err(kind) => Err(error_of_reading(number, kind)),
+            Err(kind) => {
+                *ended = error_of_reading(number, kind);
+                Err(Ended)
+            }
         };
     };
     let filtered = filter_line(
@@ -389,6 +433,7 @@ fn filter_next<R: Read, W: Sink, D: Diagnostics<ProgramError>>(
         &input.block()[..end],
         out,
         diagnostics,
+        ended,
     );
     input.consume(end + 1);
     Ok(Some(FilteredRow {
@@ -397,8 +442,8 @@ fn filter_next<R: Read, W: Sink, D: Diagnostics<ProgramError>>(
     }))
 }
 
-/// Makes the calls on each line of the input, writes the texts to `out`, each with a line feed, and returns whether
-/// each line has a text.
+/// Makes the calls on each line of the input, from the line with the number `first`, writes the texts to `out`, each
+/// with a line feed, and returns whether each line has a text.
 ///
 /// A line is all bytes up to a line feed; the bytes after the last line feed are a line if there are any. Where the
 /// filter has records, each of these takes the place of a line, and its number is that of its first line. A header is
@@ -415,11 +460,12 @@ fn filter_next<R: Read, W: Sink, D: Diagnostics<ProgramError>>(
 pub fn filter_lines<R: Read, W: Sink, D: Diagnostics<ProgramError>>(
     alloc: Global,
     filter: &Filter<'_>,
+    first: u64,
     input: &mut LineReader<R>,
     out: &mut W,
     diagnostics: &mut D,
 ) -> Result<bool, ProgramError>
-    ensures filtered { Filters AppendsPrefix D.reports filter.now (record {
+    ensures filtered { Filters AppendsPrefix D.reports filter.now first (record {
       input = record { before = bytes_left R.remaining input.old; after = bytes_left R.remaining input.new };
       failure = input.new.1;
       output = record { before = W.contents out.old; after = W.contents out.new };
@@ -427,16 +473,28 @@ pub fn filter_lines<R: Read, W: Sink, D: Diagnostics<ProgramError>>(
     }) result }
     ensures silent { result ≡ Ok true → diagnostics.new ≡ diagnostics.old }
     ensures failed { result ≡ Err ProgramError.Output → W.has_failed out.new ≡ true }
-    ensures consumed { IfErr result (IsConsumed filter.now
+    ensures consumed { IfErr result (IsConsumed filter.now first
         (record { before = bytes_left R.remaining input.old; after = bytes_left R.remaining input.new })) }
     ensures at_end { OnOk result (IfSome (bytes_left R.remaining input.old)
         (λ _. IsAtEnd (bytes_left R.remaining input.new))) }
 {
     let mut copy = Vec::new(alloc);
     let mut have_texts = true;
-    let mut number: u64 = 1;
+    let mut number = first;
+    let mut ended = ProgramError::Output;
     'rows: loop {
-        let next = filter_next(alloc, filter, number, &mut copy, input, out, diagnostics)?;
+        let Ok(next) = filter_next(
+            alloc,
+            filter,
+            number,
+            &mut copy,
+            input,
+            out,
+            diagnostics,
+            &mut ended,
+        ) else {
+            return Err(ended);
+        };
         let Some(row) = next else {
             return Ok(have_texts);
         };

@@ -14,9 +14,9 @@ ghost use Rattle.cli.specs.Input.{bytes_left};
 use crate::arguments::start;
 use crate::diagnostics::{Diagnostics, ErrorLines, conclude};
 use crate::error::{ProgramError, WordsError};
-use crate::filter::{Filter, filter_lines};
 use crate::help::Program;
 use crate::input::LineReader;
+use crate::named_filter::{NamedFilter, filter_input};
 use crate::options::split_options;
 use crate::targets::parse_target;
 use fixed_decimal::{BufferedOut, Closed};
@@ -26,7 +26,7 @@ use std::io::{Read, Stdout, Write};
 use std::process::ExitCode;
 use std::{env, io};
 
-fn parse_filter(alloc: Global, words: &[String]) -> Result<Filter<'_>, ProgramError>
+fn parse_filter(alloc: Global, words: &[String]) -> Result<NamedFilter<'_>, ProgramError>
     ensures some { IfOk result (NamesFilter words.now) }
     ensures err { IfErr result (FilterFails words.now) }
 {
@@ -37,16 +37,14 @@ fn parse_filter(alloc: Global, words: &[String]) -> Result<Filter<'_>, ProgramEr
     let Some(field) = options.field() else {
         return Err(ProgramError::start(Program::FixdecLines, options.field_error()));
     };
-    match parse_target(alloc, field, words) {
-        Ok(target) => Ok(Filter {
-            on_error: options.on_error,
-            target,
-            has_header: options.has_header,
-            has_records: options.has_records,
-            trims: options.trims,
-        }),
-        Err(why) => Err(ProgramError::start(Program::FixdecLines, why)),
+    let target = match parse_target(alloc, field, words) {
+        Ok(target) => target,
+        Err(why) => return Err(ProgramError::start(Program::FixdecLines, why)),
+    };
+    if target.has_names() && !options.has_header {
+        return Err(ProgramError::start(Program::FixdecLines, WordsError::NoHeader));
     }
+    Ok(NamedFilter { options, target })
 }
 
 /// Runs the filter that the words name with a block before the writer, and returns the writer after its last call.
@@ -74,7 +72,7 @@ fn filter_words<R: Read, O: Write + Drop, D: Diagnostics<ProgramError>>(
         Ok(filter) => filter,
         Err(error) => return (Err(error), buffered.abandon()),
     };
-    let filtered = filter_lines(alloc, &filter, input, &mut buffered, diagnostics);
+    let filtered = filter_input(alloc, &filter, input, &mut buffered, diagnostics);
     let closed = buffered.close();
     if closed.has_failed() {
         return (Err(ProgramError::Output), closed);

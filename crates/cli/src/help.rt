@@ -57,14 +57,14 @@ Reads lines of standard input, makes the calls on each, and writes a line for ea
 
 printf '250\\n7\\n' | fixdec_lines shift:-2
 fixdec_lines header csv field:2 round:-2:half-even:1 < prices.csv
-fixdec_lines csv field:2 shift:-2 field:3 read:de format:en < prices.csv
+fixdec_lines header csv field:price shift:-2 field:3 format:en < prices.csv
 fixdec_lines skip read:de:lenient format:en < amounts.txt
 
 Status 0: each line has a result. 1: a line is rejected. 2: a word is wrong. 3: out of memory, or the input
 or the output fails. Errors are lines of standard error; line 1 is the first line, call 0 the first call.
 
-field:N                 converts field N of each line, from 1, and copies the other bytes; after its calls and format:,
-                        field:M and its own read:, calls and format: convert field M as well, and so on
+field:N, field:NAME     converts the Nth field of each line, or that with a NAME in the header, and copies the rest;
+                        field:=2 is the name 2. Another field:M with its own words may follow, and so on
 delimiter:C             C is between two fields: by default a tab, with csv a comma
 csv                     fields may be in quotes, as in RFC 4180
 records                 with csv, fields may have line feeds in quotes, in records of at most 1 MiB

@@ -6,6 +6,7 @@
 mod arguments;
 mod calls;
 mod categories;
+mod columns;
 mod conversion;
 mod diagnostics;
 mod edits;
@@ -16,12 +17,14 @@ mod filter;
 pub mod fixdec;
 pub mod fixdec_lines;
 mod format_word;
+mod headers;
 mod help;
 mod input;
 pub mod laws;
 mod line_feed;
 mod locale_formatter;
 mod locale_list;
+mod named_filter;
 mod named_rules;
 mod options;
 mod parameters;
@@ -35,16 +38,19 @@ mod trim;
 mod words;
 
 pub use calls::parse_calls;
+pub use columns::FieldLabel;
 pub use conversion::{Conversion, convert};
 pub use diagnostics::{Diagnostics, ErrorLines};
 pub use edits::FieldConversion;
-pub use error::{LineError, OperationError, ProgramError, Reason, StartError, WordsError};
+pub use error::{
+    HeaderError, LineError, OperationError, ProgramError, Reason, StartError, WordsError,
+};
 pub use fields::Field;
 pub use filter::{Filter, OnError, filter_lines};
 pub use help::Program;
 pub use input::LineReader;
 pub use locale_formatter::LocaleFormatter;
 pub use named_rules::{NamedRulesError, locale_and_type, parse_rules};
-pub use reader::{DecimalReader, LocaleReader, ParseMode, SkeletonReader};
+pub use reader::{DecimalReader, LocaleReader, SkeletonReader};
 pub use shown_word::ShownWord;
 pub use targets::Target;

@@ -1,9 +1,9 @@
 //! Writing of decimals in the form of a locale.
-ghost use Rattle.std.specs.Prelude.{◌≡◌, ◌≢◌, Some, None, Err, true, IfErr, OnOk};
+ghost use Rattle.std.specs.Prelude.{◌≡◌, ◌≢◌, Some, Err, true, IfErr, OnOk, OnErr};
 ghost use Rattle.std.specs.Io.KnownBytes.{Appends};
 ghost use Rattle.decimal_digits.specs.AppendsPrefix.{AppendsPrefix};
 ghost use Rattle.cli.specs.Conversion.{HasTextBy, WritingFails};
-ghost use Rattle.cli.specs.declared.locale_formatter.LocaleFormatter.TheVariants.{AllDigits, Skeleton};
+ghost use Rattle.cli.specs.declared.locale_formatter.LocaleFormatter.TheVariants.{Skeleton};
 
 use crate::error::OperationError;
 use decimal_format::DecimalFormatter;
@@ -50,45 +50,20 @@ pub fn write_number<W: Sink>(
             };
         }
     };
-    match number.write_to(sink) {
-        Ok(()) => Ok(()),
-        Err(_) => Err(OperationError::Output),
-    }
+    write_text(&number, sink)
 }
 
-/// Appends the text of a decimal with all its digits to a sink. Fails as [`write_number`].
-pub fn write_digits<W: Sink>(
-    formatter: &DecimalFormatter<'_>,
-    value: &Decimal,
-    sink: &mut W,
-) -> Result<(), OperationError>
-    ensures written { OnOk result (HasTextBy (Some (AllDigits formatter.now)) value.now
-        (Appends (W.contents sink.old) (W.contents sink.new))) }
-    ensures fails_with { IfErr result (λ error. WritingFails error (Some (AllDigits formatter.now)) value.now) }
-    ensures unchanged_on_error { IfErr result (λ error. error ≢ OperationError.Output → sink.new ≡ sink.old) }
-    ensures failed { result ≡ Err OperationError.Output → W.has_failed sink.new ≡ true }
-    ensures prefix { IfErr result (λ error. error ≡ OperationError.Output
-        → HasTextBy (Some (AllDigits formatter.now)) value.now
-        (AppendsPrefix (W.contents sink.old) (W.contents sink.new))) }
+/// Appends the text of a value to a sink.
+///
+/// # Errors
+///
+/// `Output`: the sink has failed, and it has taken a prefix of the text.
+pub fn write_text<T: Writeable, W: Sink>(value: &T, sink: &mut W) -> Result<(), OperationError>
+    ensures written { OnOk result (Appends (W.contents sink.old) (W.contents sink.new) (T.text value.now)) }
+    ensures fails_with { IfErr result (λ error. error ≡ OperationError.Output) }
+    ensures failed { OnErr result (W.has_failed sink.new ≡ true) }
+    ensures prefix { OnErr result (AppendsPrefix (W.contents sink.old) (W.contents sink.new) (T.text value.now)) }
 {
-    match formatter.format(value).write_to(sink) {
-        Ok(()) => Ok(()),
-        Err(_) => Err(OperationError::Output),
-    }
-}
-
-/// Appends the own text of a decimal to a sink. Fails as [`write_number`].
-pub fn write_plain<W: Sink>(value: &Decimal, sink: &mut W) -> Result<(), OperationError>
-    ensures written { OnOk result (HasTextBy None value.now
-        (Appends (W.contents sink.old) (W.contents sink.new))) }
-    ensures fails_with { IfErr result (λ error. WritingFails error None value.now) }
-    ensures unchanged_on_error { IfErr result (λ error. error ≢ OperationError.Output → sink.new ≡ sink.old) }
-    ensures failed { result ≡ Err OperationError.Output → W.has_failed sink.new ≡ true }
-    ensures prefix { IfErr result (λ error. error ≡ OperationError.Output
-        → HasTextBy None value.now (AppendsPrefix (W.contents sink.old) (W.contents sink.new))) }
-{
-    match value.write_to(sink) {
-        Ok(()) => Ok(()),
-        Err(_) => Err(OperationError::Output),
-    }
+    value.write_to(sink)?;
+    Ok(())
 }

@@ -1,11 +1,12 @@
 //! The options that the first words of `fixdec_lines` name.
 ghost use Rattle.std.specs.Prelude.{◌≡◌, ◌≢◌, ℕ, List, Option, Some, None, IfSome, true, false};
+ghost use Rattle.cli.specs.declared.columns.Column.{Column};
 ghost use Rattle.cli.specs.declared.fields.Field.{Field};
 ghost use Rattle.cli.specs.declared.filter.OnError.TheVariants.{Stop};
 ghost use Rattle.cli.specs.declared.options.Options.{Options};
-ghost use Rattle.cli.specs.Options.{IsField, IsDelimiter, none, Adds, AddsParameter, IsOption, AreOptions, HasField, lacks_csv, field_error};
+ghost use Rattle.cli.specs.Options.{IsDelimiter, none, Adds, AddsParameter, IsOption, AreOptions, HasField, lacks_csv, field_error};
 
-use crate::calls::number_after;
+use crate::columns::Column;
 use crate::error::WordsError;
 use crate::fields::Field;
 use crate::filter::OnError;
@@ -15,8 +16,8 @@ use crate::filter::OnError;
 pub struct Options<'a> {
     /// `skip` or `keep`: what the filter does at a line that fails.
     pub on_error: OnError,
-    /// `field:N`: the 0-based index of the field.
-    pub index: Option<usize>,
+    /// `field:N` or `field:NAME`: the first field.
+    pub column: Option<Column<'a>>,
     /// `delimiter:C`: the bytes between two fields.
     pub delimiter: Option<&'a [u8]>,
     /// `csv`: whether fields may be in quotes.
@@ -27,17 +28,6 @@ pub struct Options<'a> {
     pub has_records: bool,
     /// `trim`: whether what is around a text and around a line is no part of them.
     pub trims: bool,
-}
-
-/// Returns the 0-based index of the field that a word names.
-pub fn field_index(word: &str) -> Option<usize>
-    ensures some { IfSome result (IsField word.now) }
-    ensures only { (index : ℕ) → IsField word.now index → result ≡ Some index }
-{
-    match number_after("field:", word) {
-        Some(number) if number > 0 => Some(number as usize - 1),
-        _ => None,
-    }
 }
 
 fn delimiter(word: &str) -> Option<&[u8]>
@@ -58,7 +48,7 @@ impl<'a> Options<'a> {
     {
         Options {
             on_error: OnError::Stop,
-            index: None,
+            column: None,
             delimiter: None,
             is_csv: false,
             has_header: false,
@@ -82,12 +72,12 @@ impl<'a> Options<'a> {
         ensures some { IfSome result (Adds word.now self.entry) }
         ensures none { result ≡ None → (next : Options) → AddsParameter word.now self.entry next → ⊥ }
     {
-        if let Some(index) = field_index(word) {
-            if self.index.is_some() {
+        if let Some(column) = Column::of(word) {
+            if self.column.is_some() {
                 return None;
             }
             return Some(Options {
-                index: Some(index),
+                column: Some(column),
                 ..self
             });
         }
@@ -146,19 +136,20 @@ impl<'a> Options<'a> {
     pub fn field_error(self) -> WordsError
         ensures { result ≡ field_error self.entry }
     {
-        if self.index.is_some() {
+        if self.column.is_some() {
             WordsError::QuoteDelimiter
         } else {
             WordsError::NoField
         }
     }
 
-    /// Returns the field of these options. None: a delimiter or `csv` has no field, or the delimiter of CSV is a quote.
-    pub fn field(self) -> Option<Option<Field<'a>>>
+    /// Returns what the first field is, and the first field of each line, which has the delimiter and the quotes of
+    /// all. None: a delimiter or `csv` has no field, or the delimiter of CSV is a quote.
+    pub fn field(self) -> Option<Option<(Column<'a>, Field<'a>)>>
         ensures some { IfSome result (HasField self.entry) }
-        ensures none { result ≡ None → (field : Option Field) → ¬ HasField self.entry field }
+        ensures none { result ≡ None → (field : Option (Column × Field)) → ¬ HasField self.entry field }
     {
-        let Some(index) = self.index else {
+        let Some(column) = self.column else {
             return if self.delimiter.is_none() && !self.is_csv {
                 Some(None)
             } else {
@@ -173,11 +164,12 @@ impl<'a> Options<'a> {
         if self.is_csv && delimiter == b"\"".as_slice() {
             return None;
         }
-        Some(Some(Field {
-            index,
+        let field = Field {
+            index: 0,
             delimiter,
             is_csv: self.is_csv,
-        }))
+        };
+        Some(Some((column, field)))
     }
 }
 

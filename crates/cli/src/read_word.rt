@@ -3,17 +3,18 @@ ghost use Rattle.std.specs.Prelude.{◌≡◌, IfOk, IfErr};
 ghost use Rattle.std.specs.Option.{option_copied};
 ghost use Rattle.locale_data.specs.Locales.{IsLocale};
 ghost use Rattle.number_format.specs.NumberReading.{CanRead};
-ghost use Rattle.cli.specs.FormatWord.{IsNumberFormatter, IsUnknownLocale};
-ghost use Rattle.cli.specs.ReadWord.{IsReadOption, IsErrorOfReader, SkeletonReaderFails};
+ghost use Rattle.number_format.specs.TypedReading.{number_reader_of};
+ghost use Rattle.cli.specs.FormatWord.{IsUnknownLocale};
+ghost use Rattle.cli.specs.ReadWord.{IsReadOption, IsErrorOfReader, IsNumberReader, SkeletonReaderFails};
 ghost use Rattle.cli.specs.ReadWord.{NamesReader, ReaderFails};
 
 use crate::error::WordsError;
 use crate::format_word::number_formatter;
 use crate::parameters::{parameters, split_parameters};
-use crate::reader::{DecimalReader, LocaleReader, ParseMode, SkeletonReader};
+use crate::reader::{DecimalReader, LocaleReader, SkeletonReader};
 use crate::shown_word::ShownWord;
 use locale_data::locale;
-use number_format::{NumberFormatter, NumberReaderError};
+use number_format::{NumberFormatter, NumberReader, NumberReaderError, ParseMode};
 use std::alloc::Global;
 
 fn split_mode(option: Option<&str>) -> (ParseMode, Option<&str>)
@@ -30,12 +31,12 @@ fn split_mode(option: Option<&str>) -> (ParseMode, Option<&str>)
     }
 }
 
-fn check_readable(alloc: Global, formatter: &NumberFormatter) -> Result<(), WordsError>
-    ensures ok { IfOk result (λ _. CanRead formatter.now) }
-    ensures err { IfErr result (IsErrorOfReader formatter.now) }
+fn number_reader(alloc: Global, formatter: NumberFormatter) -> Result<NumberReader, WordsError>
+    ensures ok { IfOk result (λ r. (r ≡ number_reader_of formatter) × CanRead formatter) }
+    ensures err { IfErr result (IsErrorOfReader formatter) }
 {
-    match formatter.reader(alloc) {
-        Ok(_) => Ok(()),
+    match formatter.into_reader(alloc) {
+        Ok(reader) => Ok(reader),
         Err(NumberReaderError::Memory) => Err(WordsError::Memory),
         Err(_) => Err(WordsError::NoReader),
     }
@@ -47,13 +48,12 @@ fn skeleton_reader(
     skeleton: &str,
     mode: ParseMode,
 ) -> Result<SkeletonReader, WordsError>
-    ensures ok { IfOk result (λ r. (r.mode ≡ mode) × IsNumberFormatter tag.now skeleton.now r.formatter
-        × CanRead r.formatter) }
+    ensures ok { IfOk result (λ r. (r.mode ≡ mode) × IsNumberReader tag.now skeleton.now r.reader) }
     ensures err { IfErr result (SkeletonReaderFails tag.now skeleton.now) }
 {
     let formatter = number_formatter(tag, skeleton)?;
-    check_readable(alloc, &formatter)?;
-    Ok(SkeletonReader { formatter, mode })
+    let reader = number_reader(alloc, formatter)?;
+    Ok(SkeletonReader { reader, mode })
 }
 
 fn decimal_reader(tag: &str, mode: ParseMode) -> Result<DecimalReader<'static>, WordsError>

@@ -4,18 +4,9 @@ ghost use Rattle.decimal_format.specs.Readable.{IsReadable};
 
 use decimal_format::DecimalSymbols;
 use fixed_decimal::{Decimal, ParseError};
-use number_format::NumberFormatter;
+use number_format::{NumberReader, ParseMode};
 use std::alloc::Global;
 use std::str;
-
-/// How strictly a text is read.
-#[derive(Clone, Copy, Debug, PartialEq)]
-pub enum ParseMode {
-    /// Exactly as numbers are formatted: [`DecimalSymbols::read`], [`number_format::NumberReader::read`].
-    Strict,
-    /// As people type numbers: [`DecimalSymbols::read_lenient`], [`number_format::NumberReader::read_lenient`].
-    Lenient,
-}
 
 /// Reads decimals by the symbols of a locale.
 #[derive(Debug, Drop)]
@@ -55,8 +46,8 @@ impl<'a> DecimalReader<'a> {
 /// Reads numbers as a formatter writes them, with their unit.
 #[derive(Drop)]
 pub struct SkeletonReader {
-    /// The formatter.
-    pub formatter: NumberFormatter,
+    /// The reader of the formatter.
+    pub reader: NumberReader,
     /// How strictly a text is read.
     pub mode: ParseMode,
 }
@@ -64,27 +55,18 @@ pub struct SkeletonReader {
 impl SkeletonReader {
     ghost use Rattle.cli.specs.Reader.{IsNumberRead, NumberReadingFails};
 
-    /// Reads a number. It makes the [`NumberReader`](number_format::NumberReader) of the formatter.
+    /// Reads a number.
     ///
     /// # Errors
     ///
     /// - `Syntax`: no decimal, of any number of digits, has this text in this mode.
     /// - `Limit`: there are more than 32,768 integer or fraction digits, or the scale leaves these limits.
-    /// - `Memory`: out of memory, or the formatter has no reader.
+    /// - `Memory`: out of memory; possible only with more than 16 digits.
     pub fn read(&self, alloc: Global, text: &[u8]) -> Result<Decimal, ParseError>
-        ensures found { IfOk result (λ v. IsNumberRead self.now.mode self.now.formatter text.now (Ok v)) }
-        ensures fails_with { IfErr result (NumberReadingFails self.now.mode self.now.formatter text.now) }
+        ensures found { IfOk result (λ v. IsNumberRead self.now.mode self.now.reader text.now (Ok v)) }
+        ensures fails_with { IfErr result (NumberReadingFails self.now.mode self.now.reader text.now) }
     {
-        let Ok(reader) = self.formatter.reader(alloc) else {
-            return Err(ParseError::Memory);
-        };
-        match self.mode {
-            ParseMode::Strict => reader.read(alloc, text),
-            ParseMode::Lenient => match str::from_utf8(text) {
-                Ok(text) => reader.read_lenient(alloc, text),
-                Err(_) => Err(ParseError::Syntax),
-            },
-        }
+        self.reader.read_utf8(alloc, self.mode, text)
     }
 }
 
@@ -95,4 +77,25 @@ pub enum LocaleReader<'a> {
     Decimals(DecimalReader<'a>),
     /// As a number skeleton has them.
     Numbers(SkeletonReader),
+}
+
+impl<'a> LocaleReader<'a> {
+    ghost use Rattle.std.specs.Prelude.{Some};
+    ghost use Rattle.cli.specs.Conversion.{IsReadBy, ReadingByFails};
+
+    /// Reads a decimal.
+    ///
+    /// # Errors
+    ///
+    /// As [`DecimalReader::read`], [`SkeletonReader::read`].
+    #[inline]
+    pub fn read(&self, alloc: Global, text: &[u8]) -> Result<Decimal, ParseError>
+        ensures found { IfOk result (λ v. IsReadBy (Some self.now) text.now (Ok v)) }
+        ensures fails_with { IfErr result (ReadingByFails (Some self.now) text.now) }
+    {
+        match self {
+            LocaleReader::Decimals(reader) => reader.read(alloc, text),
+            LocaleReader::Numbers(reader) => reader.read(alloc, text),
+        }
+    }
 }

@@ -2,8 +2,9 @@
 ghost use Rattle.std.specs.Prelude.{◌≡◌, true, [], ◌∷◌, ◌++◌};
 
 use cli::{
-    Conversion, Diagnostics, ErrorLines, Filter, LineError, LineReader, OnError, OperationError,
-    Program, ProgramError, Reason, ShownWord, Target, WordsError, filter_lines,
+    Conversion, Diagnostics, ErrorLines, FieldLabel, Filter, HeaderError, LineError, LineReader,
+    OnError, OperationError, Program, ProgramError, Reason, ShownWord, Target, WordsError,
+    filter_lines,
 };
 use fixed_decimal::{Call, TextBuf};
 use std::alloc::Global;
@@ -49,13 +50,31 @@ fn reports_a_line_in_one_write(rt: HostRuntime) -> Result<(), Fail> {
             ProgramError::Line {
                 line: 18_446_744_073_709_551_615,
                 error: LineError {
-                    field: Some(18_446_744_073_709_551_614),
+                    field: Some(FieldLabel::Index(18_446_744_073_709_551_614)),
                     error: OperationError::Overflow {
                         at: 18_446_744_073_709_551_615,
                     },
                 },
             },
             "line 18446744073709551615: field 18446744073709551615: call 18446744073709551615: overflow\n",
+        ),
+        (
+            ProgramError::Line {
+                line: 18_446_744_073_709_551_615,
+                error: LineError {
+                    field: Some(FieldLabel::Name(word)),
+                    error: OperationError::Overflow { at: 0 },
+                },
+            },
+            "line 18446744073709551615: 0123456789?123456789?123456789?123456789: call 0: overflow\n",
+        ),
+        (
+            ProgramError::Header(HeaderError::NoField(word)),
+            "line 1: no field 0123456789?123456789?123456789?123456789\n",
+        ),
+        (
+            ProgramError::Header(HeaderError::TwoFields(word)),
+            "line 1: two fields 0123456789?123456789?123456789?123456789\n",
         ),
         (ProgramError::LongLine { line: 7 }, "line 7: memory\n"),
         (
@@ -81,21 +100,19 @@ fn a_skipping_filter_reports_each_refusal(rt: HostRuntime) -> Result<(), Fail> {
         errors: Vec::new(alloc),
         is_whole: true,
     };
+    let conversion = Conversion {
+        reader: None,
+        calls: Vec::from_array(alloc, [Call::MultiplyPow10(-2)])?,
+        formatter: None,
+    };
     let filter = Filter {
         on_error: OnError::Skip,
-        target: Target::One(
-            None,
-            Conversion {
-                reader: None,
-                calls: Vec::from_array(alloc, [Call::MultiplyPow10(-2)])?,
-                formatter: None,
-            },
-        ),
+        target: Target::One(None, &conversion),
         has_header: false,
         has_records: false,
         trims: false,
     };
-    let answer = filter_lines(alloc, &filter, &mut reader, &mut out, &mut log);
+    let answer = filter_lines(alloc, &filter, 1, &mut reader, &mut out, &mut log);
     assert_eq!(rt; answer, Ok(false));
     assert_eq!(rt; out.as_bytes(), b"2.50\n\n0.07\n\n".as_slice());
     let wanted = [

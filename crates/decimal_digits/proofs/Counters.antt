@@ -1,5 +1,5 @@
 -- A `Steps` has no bytes and owns nothing, so a counter of any value is constructed without resources.
-use Rattle.std.proofs.Common.{List, [], ◌∷◌, refl}
+use Rattle.decimal_digits.proofs.Common.{List, [], ◌∷◌, refl}
 use seplogic.Ra.Ura.{Ura}
 use mir.Val.{Val, vstruct, vnil}
 use types.Logic.{Logic}

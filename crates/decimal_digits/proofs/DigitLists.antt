@@ -1,10 +1,6 @@
 -- The number that a list of decimal digits writes.
-use Rattle.std.proofs.Common.{◌≡◌, ℕ, zero, suc, ◌+◌, ◌-◌, ◌*◌, ◌/◌, ◌%◌, ◌^◌, ◌<◌, ◌≤◌, List, [], ◌∷◌, ◌++◌, length, get_or, take, drop, replicate, sym, ◌∙◌, ap, arith}
-use Rattle.std.proofs.Math.Nat.{pow-zero, pow-suc, one-le-pow, mul-le-mul_right, div-one}
-use Rattle.std.proofs.lemmas.Nat.{div-mul-add, mod-mul-add}
-use Rattle.std.proofs.lemmas.List.{take-append-drop, length-drop}
-use Rattle.std.proofs.lemmas.Int.Digits.{number_lt, number_after_append, number_more}
-use Rattle.std.specs.Int.Digits.{number_from_digits_after, number_from_digits, AllBelowBase}
+use Rattle.decimal_digits.proofs.Common.{◌≡◌, ℕ, zero, suc, ◌+◌, ◌-◌, ◌*◌, ◌/◌, ◌%◌, ◌^◌, ◌<◌, ◌≤◌, List, [], ◌∷◌, ◌++◌, length, get_or, take, drop, replicate, sym, ◌∙◌, ap, arith, mul-le-mul_right, div-mul-add, mod-mul-add, take-append-drop, length-drop, number_lt, number_after_append, number_more, number_from_digits_after, number_from_digits, AllBelowBase, rules, ints, clamps, nat_tests}
+use Rattle.std.proofs.Math.Nat.{pow-zero, pow-suc, one-le-pow, div-one}
 
 -- a power of ten is above 0
 pub ten_pos : (k : ℕ) → 0 < 10 ^ k
@@ -89,12 +85,7 @@ number-digit i ds b h = grind (arith, number-div, number_more, mod-mul-add, belo
 -- digits whose first is not 0
 pub number_front : (ds : List ℕ) → 0 < length ds → 0 < get_or ds 0 0 → 10 ^ (length ds - 1) ≤ number_from_digits 10 ds
 number_front [] h f = absurd (omega arith)
-number_front (d ∷ ds) h f =
-    let e : number_from_digits 10 (d ∷ ds) ≡ (0 * 10 + d) * 10 ^ length ds + number_from_digits 10 ds =
-    number_after 10 (0 * 10 + d) ds in
-    let q : length (d ∷ ds) - 1 ≡ length ds = omega arith in
-    let m : 1 * 10 ^ length ds ≤ d * 10 ^ length ds = mul-le-mul_right (10 ^ length ds) f in
-    rw (e, q) (omega arith)
+number_front (d ∷ ds) h f = search (rules, arith, ints, clamps, nat_tests, number_after, mul-le-mul_right)
 
 -- the last digit
 pub number_back : (ds : List ℕ) → AllBelowBase 10 ds → 0 < length ds

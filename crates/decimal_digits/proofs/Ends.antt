@@ -1,9 +1,7 @@
 -- The first and the last digit of a number.
-use Rattle.std.proofs.Common.{◌≡◌, ℕ, zero, suc, ◌+◌, ◌-◌, ◌*◌, ◌/◌, ◌%◌, ◌^◌, ◌<◌, ◌≤◌, ◌==◌, nat_le, Bool, true, false, refl, sym, ◌∙◌, ap, subst, arith, rules, inl, inr}
-use Rattle.std.specs.Prelude.{pos}
-use Rattle.std.proofs.Math.Nat.{pow-suc, pow-le-pow_right, mul-mod_left, mul-div_cancel, div-add-mod', div-eq_of_lt, mul-div-mul_right, mul-pos, mod-le}
-use Rattle.std.proofs.lemmas.Nat.{pow-add}
-use Rattle.std.proofs.lemmas.Bool.{cases_lt}
+use Rattle.decimal_digits.proofs.Common.{◌≡◌, ℕ, zero, suc, ◌+◌, ◌-◌, ◌*◌, ◌/◌, ◌%◌, ◌^◌, ◌<◌, ◌≤◌, ◌==◌, true, false, refl, sym, ◌∙◌, ap, subst, arith, rules, inl, inr, pos, pow-le-pow_right, div-add-mod', mul-pos, mod-le, pow-add, cases_lt}
+use Rattle.std.proofs.Common.{nat_le, Bool}
+use Rattle.std.proofs.Math.Nat.{pow-suc, mul-mod_left, mul-div_cancel, div-eq_of_lt, mul-div-mul_right}
 use Rattle.decimal_digits.specs.Number.{greatest, first, last, magnitude_at}
 use Rattle.decimal_digits.proofs.DigitLists.{ten_pos}
 

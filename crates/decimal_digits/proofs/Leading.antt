@@ -1,14 +1,9 @@
 -- The digits that are kept, and the last two of them.
-use Rattle.std.proofs.Common.{◌≡◌, ℕ, zero, suc, ◌+◌, ◌-◌, ◌*◌, ◌/◌, ◌%◌, ◌^◌, ◌<◌, ◌≤◌, List, [], ◌∷◌, length, get_or, take, drop, refl, sym, ◌∙◌, ap, add-one, arith, inl, inr}
-use Rattle.std.proofs.lemmas.Bool.{cases_lt}
-use Rattle.std.proofs.lemmas.List.{length-drop, length-take, length-take-le, take_all, get_or_past, get_or-take, get_or-drop}
-use Rattle.std.proofs.lemmas.Int.Digits.{number_more}
-use Rattle.std.proofs.Math.Nat.{mul-le-mul_right}
-use Rattle.std.specs.Int.Digits.{number_from_digits, AllBelowBase}
+use Rattle.decimal_digits.proofs.Common.{◌≡◌, ℕ, zero, suc, ◌+◌, ◌-◌, ◌*◌, ◌/◌, ◌%◌, ◌^◌, ◌<◌, ◌≤◌, List, [], ◌∷◌, length, get_or, take, drop, refl, sym, ◌∙◌, ap, arith, inl, inr, cases_lt, length-drop, length-take, length-take-le, take_all, get_or_past, get_or-take, get_or-drop, number_more, mul-le-mul_right, number_from_digits, AllBelowBase, leading, RemainderIs, RemainderByDigit, HasDigits, steps}
+use Rattle.std.proofs.Common.{add-one}
 use Rattle.decimal_digits.specs.Digits.{number_at}
 use Rattle.decimal_digits.specs.declared.rounding.remainder.Remainder.{Remainder}
 use Rattle.decimal_digits.specs.declared.rounding.remainder.Remainder.TheVariants.{Zero, BelowHalf, Half, AboveHalf}
-use Rattle.decimal_digits.specs.Remainders.{leading, RemainderIs, RemainderByDigit, HasDigits}
 use Rattle.decimal_digits.proofs.NumberAt.{powers, number_at-none, number_at-more, number_at-split, number_at-lt, number_at-ge, number_at-pos}
 use Rattle.decimal_digits.proofs.DigitLists.{below_drop, below_take, ten_pos}
 
@@ -42,13 +37,7 @@ leading_more (suc k) ds p = let e : suc k - 1 ≡ k = omega arith in rw e (leadi
 pub last_digit : (k : ℕ) (ds : List ℕ)
     → (leading k ds ≡ leading k ds) × (0 < k → leading k ds ≡ leading (k - 1) ds * 10 + get_or ds (k - 1) 0)
     × (length ds < k → get_or ds (k - 1) 0 ≡ 0) × (k ≡ 0 → leading k ds ≡ 0) × (k ≡ 0 → leading (k - 1) ds ≡ 0)
-last_digit k ds = (
-  refl,
-  leading_more k ds,
-  λ h. get_or_past ds (k - 1) 0 (omega arith),
-  leading_none k ds,
-  λ z. leading_none (k - 1) ds (omega arith),
-)
+last_digit k ds = grind (arith, leading_more, get_or_past, leading_none)
 
 -- the first k digits are hundreds and the last two
 pub leading_two : (k : ℕ) (ds : List ℕ) → 2 ≤ k
@@ -60,13 +49,7 @@ pub leading_same : (k : ℕ) (xs ys : List ℕ) → ((i : ℕ) → i < k → get
     → leading k xs ≡ leading k ys
 leading_same zero xs ys f = leading_none 0 xs (omega arith) ∙ sym (leading_none 0 ys (omega arith))
 leading_same (suc k) xs ys f =
-    omega (
-      arith,
-      leading_next k xs,
-      leading_next k ys,
-      leading_same k xs ys (λ i h. f i (omega arith)),
-      f k (omega arith),
-    )
+    omega (arith, leading_next, leading_same k xs ys (λ i h. f i (omega arith)), f k (omega arith))
 
 -- the number that digits followed by n equal digits write
 pub leading_run : (n j k d : ℕ) (xs : List ℕ) → j + n ≡ k → ((i : ℕ) → j ≤ i → i < k → get_or xs i 0 ≡ d)
@@ -131,9 +114,7 @@ one_more k n ds b p h first small ends =
     let len : length (take (k - 2) ds) ≡ k - 2 = length-take-le (k - 2) ds (omega arith) in
     let most : leading (k - 2) ds < 10 ^ (k - 2) =
     number_at-lt (k - 2) (take (k - 2) ds) (below_take 10 (k - 2) ds b) (omega arith) in
-    let least : 10 ^ (k - 2 - 1) ≤ leading (k - 2) ds =
-    number_at-ge (k - 2) (take (k - 2) ds) (omega arith) (omega (arith, get_or-take (k - 2) ds 0 0 (omega arith)))
-    (omega arith) in
+    let least : 10 ^ (k - 2 - 1) ≤ leading (k - 2) ds = grind (steps, number_at-ge, get_or-take) in
     record {
       most = omega (arith, powers (k - 2) 2 k (omega arith));
       least = omega (arith, powers (k - 2 - 1) 2 (k - 1) (omega arith));
@@ -148,11 +129,7 @@ split_at top k ds fits h =
     let e : top ≡ k + (top - k) = omega arith in
     let at =
     ap (λ i. number_at i (take k ds)) e ∙ number_at-more k (top - k) (take k ds) (omega (arith, length-take k ds)) in
-    elim (cases_lt k (length ds)) [
-      | inl l ↦ omega (arith, number_at-split top k ds (omega arith) fits, at)
-      | inr l ↦ let none = number_at-none (top - k) (drop k ds) (omega (arith, length-drop k ds)) in
-          omega (arith, ap (number_at top) (take_all k ds l), at)
-    ]
+    grind (steps, cases_lt, number_at-split, number_at-none, length-drop, take_all)
 
 module _ (top k : ℕ) (ds : List ℕ) (b : AllBelowBase 10 ds) (fits : length ds ≤ top) (h : k < length ds) where
   suffix_lt : number_at (top - k) (drop k ds) < 10 ^ (top - k)

@@ -1,19 +1,8 @@
 -- The nibbles of a number in base 16, the highest first.
-use Rattle.std.proofs.lemmas.Int.{clamps}
-use Rattle.std.proofs.lemmas.Grind.{common_steps}
-use Rattle.std.proofs.lemmas.Bool.Decides.{nat_tests}
-use Rattle.std.proofs.lemmas.Int.{ints}
-use Rattle.std.proofs.Common.{◌≡◌, ℕ, zero, suc, ◌+◌, ◌-◌, ◌*◌, ◌/◌, ◌%◌, ◌^◌, ◌<◌, ◌≤◌, List, [], ◌∷◌, ◌++◌, length, get_or, take, replicate, refl, sym, ◌∙◌, ap, arith}
-use Rattle.std.specs.Prelude.{All}
-use Rattle.std.specs.Int.{w64, to_be_bytes, bytes_high_first, byte_at}
-use Rattle.std.specs.Int.Digits.{number_from_digits_after, number_from_digits, AllBelowBase}
-use Rattle.std.proofs.lemmas.Grind.{same_number_lists}
-use Rattle.std.proofs.lemmas.Nat.{div-mul-add, mod-mul-add, mul-pow, pow-add}
-use Rattle.std.proofs.lemmas.List.{length-append, length-replicate, get_or_past, take_all}
-use Rattle.std.proofs.lemmas.List.Elements.{All-append, All-from_recursion, All-replicate, recursion_from_All}
-use Rattle.std.proofs.lemmas.Int.Digits.{number_lt}
-use Rattle.decimal_digits.specs.Nibbles.{nibbles, digits_in, leading_bytes, wide_leading_bytes, padded, IsPacked}
-use Rattle.decimal_digits.specs.Packing.{Encodes}
+use Rattle.decimal_digits.proofs.Common.{clamps, common_steps, nat_tests, ints, ◌≡◌, ℕ, zero, suc, ◌+◌, ◌-◌, ◌*◌, ◌/◌, ◌^◌, ◌<◌, ◌≤◌, List, [], ◌∷◌, ◌++◌, length, get_or, take, replicate, refl, sym, ◌∙◌, ap, arith, All, w64, to_be_bytes, bytes_high_first, byte_at, number_from_digits_after, number_from_digits, AllBelowBase, same_number_lists, div-mul-add, mod-mul-add, pow-add, length-append, length-replicate, get_or_past, take_all, recursion_from_All, number_lt, digits_in, Encodes, steps}
+use Rattle.std.proofs.lemmas.Nat.{mul-pow}
+use Rattle.std.proofs.lemmas.List.Elements.{All-append, All-from_recursion, All-replicate}
+use Rattle.decimal_digits.specs.Nibbles.{nibbles, leading_bytes, wide_leading_bytes, padded, IsPacked}
 use Rattle.decimal_digits.proofs.DigitLists.{below_take, number_after, number_pad}
 use Rattle.decimal_digits.proofs.Nibbles.{nibble_rules}
 use Rattle.decimal_digits.proofs.Packing.{encodes, front_digits}
@@ -50,10 +39,7 @@ nibbles_of_bytes (suc k) high (a ∷ (b ∷ r)) l h =
     let byte = byte_is k high (a * 16 + b) (number_from_digits 16 r) (number_from_digits_after 16 front r)
     (omega (arith, number_lt 16 r h.1.1)) (omega (arith, h))
     (omega (arith, number_after 16 front r, ap (λ p. front * p) places)) in
-    let first : byte_at k (number_from_digits_after 16 front r) / 16 ≡ a = omega (arith, h) in
-    let second : byte_at k (number_from_digits_after 16 front r) % 16 ≡ b = omega (arith, h) in
-    let others = nibbles_of_bytes k front r len h.1.1 in
-    cc
+    grind (steps, h, (nibbles_of_bytes k front r len h.1.1))
 
 -- decimal digits are nibbles
 pub below_sixteen : (ds : List ℕ) → AllBelowBase 10 ds → AllBelowBase 16 ds
@@ -146,6 +132,4 @@ pub bytes_number : (n : ℕ) (bs : List ℕ)
     → number_from_digits_after 16 n (nibbles bs) ≡ number_from_digits_after 256 n bs
 unfolding nibbles
 bytes_number n [] = refl
-bytes_number n (b ∷ bs) =
-    let e : (n * 16 + b / 16) * 16 + b % 16 ≡ n * 256 + b = omega arith in
-    ap (λ m. number_from_digits_after 16 m (nibbles bs)) e ∙ bytes_number (n * 256 + b) bs
+bytes_number n (b ∷ bs) = grind (arith, (bytes_number (n * 256 + b) bs))

@@ -1,3 +1,4 @@
+pub mod Common
 pub mod DigitLists
 pub mod Offsets
 pub mod Ends

@@ -1,22 +1,16 @@
 -- The remainder forms give the multiples that the modes name among all, and a mode names one alone.
-use Rattle.std.proofs.lemmas.Grind.{common_steps}
-use Rattle.std.proofs.lemmas.Int.{clamps}
-use Rattle.std.proofs.Common.{ℕ, ◌≡◌, ◌+◌, ◌*◌, ◌/◌, ◌%◌, ◌<◌, ◌≤◌, ◌⊎◌, ◌==◌, nat_lt, true, inl, inr, sym, ◌∙◌, ap, subst, arith}
-use Rattle.std.proofs.lemmas.Bool.{cases_lt, cases_eq, cases_order, cond_both, ltb-true, ltb-false, eqb-true, eqb-false}
-use Rattle.std.proofs.lemmas.Bool.Decides.{nat_tests}
-use Rattle.std.specs.Prelude.{ℤ, pos, negsuc, ◌*ℤ◌, ◌≤ℤ◌}
-use Rattle.std.proofs.lemmas.Int.{ints}
-use Rattle.std.proofs.Math.Nat.{mul-le-mul_right, div-add-mod', mod-lt}
+use Rattle.decimal_digits.proofs.Common.{common_steps, clamps, ℕ, ◌≡◌, ◌+◌, ◌*◌, ◌/◌, ◌%◌, ◌<◌, ◌≤◌, ◌⊎◌, ◌==◌, true, inl, inr, sym, ◌∙◌, ap, subst, arith, cases_lt, cases_eq, nat_tests, ℤ, pos, negsuc, ◌≤ℤ◌, ints, mul-le-mul_right, div-add-mod', Chooses, Named, rules}
+use Rattle.std.proofs.Common.{nat_lt}
+use Rattle.std.proofs.lemmas.Bool.{cases_order, cond_both, ltb-true, ltb-false, eqb-true, eqb-false}
+use Rattle.std.specs.Prelude.{◌*ℤ◌}
+use Rattle.std.proofs.Math.Nat.{mod-lt}
 use Rattle.decimal_digits.specs.declared.rounding.UnsignedRoundingMode.{UnsignedRoundingMode}
 use Rattle.decimal_digits.specs.declared.rounding.UnsignedRoundingMode.TheVariants.{Expand, Trunc, HalfExpand, HalfTrunc, HalfEven}
-use Rattle.decimal_digits.specs.Rounding.{distance, IsNearest, AllTies, Chooses, Named, below, above, rounded_number}
+use Rattle.decimal_digits.specs.Rounding.{distance, IsNearest, AllTies, below, above, rounded_number}
 
 -- multiples of u are at least u apart
 apart : (u q : ℕ) (k : ℤ) → ((k *ℤ pos u) ≤ℤ pos (q * u)) ⊎ (pos (q * u + u) ≤ℤ (k *ℤ pos u))
-apart u q (pos k) = elim (cases_lt k (q + 1)) [
-  | inl h ↦ let l : k * u ≤ q * u = mul-le-mul_right u (omega arith) in inl (omega (arith, ints, l))
-  | inr h ↦ let l : (q + 1) * u ≤ k * u = mul-le-mul_right u h in inr (omega (arith, ints, l))
-]
+apart u q (pos k) = search (rules, arith, ints, clamps, nat_tests, cases_lt, mul-le-mul_right)
 apart u q (negsuc k) = inl (omega (arith, ints))
 
 -- ---- q units and r over
@@ -141,15 +135,11 @@ same_chosen : (mode : UnsignedRoundingMode) (u n q k : ℕ) → 0 < u → Choose
     → q * u ≡ k * u
 same_chosen Trunc u n q k p (a, b) (a', b') = omega (arith, ints, b (pos k) a', b' (pos q) a)
 same_chosen Expand u n q k p (a, b) (a', b') = omega (arith, ints, b (pos k) a', b' (pos q) a)
-same_chosen HalfExpand u n q k p (near, most) (near', most') =
-    let same : distance (pos n) (pos (k * u)) ≡ distance (pos n) (pos (q * u)) =
-    omega (arith, ints, near (pos k), near' (pos q)) in
-    omega (arith, ints, most (pos k) same, most' (pos q) (sym same))
-same_chosen HalfTrunc u n q k p (near, least) (near', least') =
-    let same : distance (pos n) (pos (k * u)) ≡ distance (pos n) (pos (q * u)) =
-    omega (arith, ints, near (pos k), near' (pos q)) in
-    omega (arith, ints, least (pos k) same, least' (pos q) (sym same))
 same_chosen HalfEven u n q k p c d = same_even u n q k p c d
+same_chosen mode u n q k p (near, tie) (near', tie') =
+    let same : distance (pos n) (pos (k * u)) ≡ distance (pos n) (pos (q * u)) =
+    omega (arith, ints, near (pos k), near' (pos q)) in
+    omega (arith, ints, tie (pos k) same, tie' (pos q) (sym same))
 
 -- whatever a mode names is the remainder form
 pub named_is : (mode : UnsignedRoundingMode) (u n m : ℕ) → 0 < u → Named mode u n m → m ≡ rounded_number mode u n

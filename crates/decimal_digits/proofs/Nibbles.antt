@@ -1,13 +1,10 @@
 -- The nibbles of bytes.
-use Rattle.std.proofs.Common.{◌≡◌, ℕ, zero, suc, ◌+◌, ◌*◌, ◌/◌, ◌%◌, ◌<◌, ◌⊎◌, inl, inr, List, [], ◌∷◌, ◌++◌, length, get_or, take, drop, replicate, map, refl, sym, ◌∙◌, ap, arith}
+use Rattle.decimal_digits.proofs.Common.{◌≡◌, ℕ, zero, suc, ◌+◌, ◌*◌, ◌/◌, ◌%◌, ◌<◌, ◌⊎◌, inl, inr, List, [], ◌∷◌, length, get_or, drop, map, refl, sym, ◌∙◌, ap, arith, cases_eq, same_number_lists, length-append, length-drop, length-map, length-replicate, length-set, length-take, get_or-drop, get_or-replicate, get_or-take, get_or_past, digit_value, length-nibbles}
 use Rattle.std.proofs.Math.ListN.{get_or-map}
-use Rattle.std.proofs.lemmas.Bool.{cases_eq}
-use Rattle.std.proofs.lemmas.Grind.{same_number_lists, get_or_head, get_or-set_at}
-use Rattle.std.proofs.lemmas.List.{length-append, length-drop, length-map, length-replicate, length-set, length-take, get_or-append_right, get_or-drop, get_or-map as map_at, get_or-replicate, get_or-set_other, get_or-take, get_or_append_left, get_or_past, take_at}
+use Rattle.std.proofs.lemmas.Grind.{get_or_head, get_or-set_at}
+use Rattle.std.proofs.lemmas.List.{get_or-append_right, get_or-map as map_at, get_or-set_other, get_or_append_left, take_at}
 use Rattle.std.specs.List.{refill}
-use Rattle.std.specs.Char.{digit_value}
 use Rattle.decimal_digits.specs.Nibbles.{nibbles}
-use Rattle.decimal_digits.specs.Packing.{length-nibbles}
 
 -- the nibble at an even index is the high one of its byte
 pub high_nibble : (bs : List ℕ) (k : ℕ) → get_or (nibbles bs) (2 * k) 0 ≡ get_or bs k 0 / 16
@@ -55,27 +52,10 @@ pub value_of : (text : List ℕ) (k : ℕ) → k < length text
 value_of text k = map_at digit_value text k 0 0
 
 -- for `grind`: lists of nibbles, digits and ASCII bytes, index by index
-pub ruleset nibble_rules = (
-  nibble_is,
-  length-nibbles,
-  length-append,
-  length-drop,
-  length-map,
-  length-replicate,
-  length-set,
-  length-take,
-  get_or-append_right,
-  get_or-drop,
-  get_or-replicate,
-  get_or-set_at,
-  get_or-set_other,
-  get_or-take,
-  get_or_append_left,
-  get_or_head,
-  get_or_past,
-  low_at,
-  ascii_of,
-  value_of,
-  same_number_lists,
-  refill_same,
-)
+pub ruleset lengths = (length-append, length-drop, length-map, length-replicate, length-set, length-take)
+
+pub ruleset items = (get_or-append_right, get_or-drop, get_or-replicate, get_or-set_at, get_or-set_other, get_or-take)
+
+pub ruleset ends = (get_or_append_left, get_or_head, get_or_past, low_at, ascii_of, value_of)
+
+pub ruleset nibble_rules = (nibble_is, length-nibbles, lengths, items, ends, same_number_lists, refill_same)

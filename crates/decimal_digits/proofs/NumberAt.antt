@@ -1,12 +1,5 @@
 -- The number that a list of digits writes at given places.
-use Rattle.std.proofs.Common.{◌≡◌, ℕ, ◌+◌, ◌-◌, ◌*◌, ◌%◌, ◌^◌, ◌<◌, ◌≤◌, List, [], ◌∷◌, length, get_or, take, drop, ◌∙◌, ap, arith}
-use Rattle.std.proofs.Math.Nat.{mul-le-mul_right, mul-lt-mul_of_pos_right, mul-pos, mod-le}
-use Rattle.std.proofs.lemmas.Nat.{pow-add}
-use Rattle.std.proofs.lemmas.List.{length-take-le, length-drop}
-use Rattle.std.proofs.lemmas.Int.Digits.{number_lt}
-use Rattle.std.specs.Int.Digits.{number_from_digits, AllBelowBase}
-use Rattle.std.specs.Prelude.{ℤ}
-use Rattle.decimal_digits.specs.Number.{offset}
+use Rattle.decimal_digits.proofs.Common.{◌≡◌, ℕ, ◌+◌, ◌-◌, ◌*◌, ◌^◌, ◌<◌, ◌≤◌, List, [], ◌∷◌, length, get_or, take, drop, ◌∙◌, ap, arith, mul-le-mul_right, mul-lt-mul_of_pos_right, mul-pos, mod-le, pow-add, length-take-le, length-drop, number_lt, AllBelowBase, ℤ, offset}
 use Rattle.decimal_digits.specs.Digits.{number_at, number_of}
 use Rattle.decimal_digits.proofs.DigitLists.{ten_pos, number_split, number_front, number_back}
 
@@ -54,11 +47,7 @@ number_at-ge top ds p f h =
 pub number_at-pos : (top : ℕ) (ds : List ℕ) → AllBelowBase 10 ds → 0 < length ds → 0 < get_or ds (length ds - 1) 0
     → 0 < number_at top ds
 unfolding number_at
-number_at-pos top ds b p l =
-    mul-pos
-    (let e : number_from_digits 10 ds % 10 ≡ get_or ds (length ds - 1) 0 = number_back ds b p in
-    omega (arith, mod-le (number_from_digits 10 ds) 10))
-    (ten_pos (top - length ds))
+number_at-pos top ds b p l = grind (arith, mul-pos, number_back, mod-le, ten_pos)
 
 -- no digits write the number 0 at every magnitude
 pub number_of-none : (ds : List ℕ) (m : ℤ) → length ds ≡ 0 → number_of ds m ≡ 0

@@ -1,11 +1,7 @@
 -- The digits that packed bytes hold.
-use Rattle.std.proofs.Common.{◌≡◌, ℕ, zero, suc, ◌+◌, ◌*◌, ◌/◌, ◌%◌, ◌<◌, ◌≤◌, List, [], ◌++◌, length, max, get_or, take, drop, replicate, inl, inr, refl, sym, ◌∙◌, ap, arith}
-use Rattle.std.proofs.lemmas.Bool.{cases_lt}
-use Rattle.std.proofs.lemmas.Grind.{same_number_lists}
-use Rattle.std.proofs.lemmas.List.{get_or_default, get_or_past, get_or-take}
-use Rattle.std.specs.Prelude.{All}
-use Rattle.decimal_digits.specs.Nibbles.{nibbles, digits_in, IsPacked}
-use Rattle.decimal_digits.specs.Packing.{Encodes, EncodesPadded, IsPadded, padding, length_digits, length-nibbles}
+use Rattle.decimal_digits.proofs.Common.{◌≡◌, ℕ, zero, suc, ◌+◌, ◌*◌, ◌/◌, ◌%◌, ◌<◌, ◌≤◌, List, [], ◌++◌, length, get_or, take, drop, replicate, inl, inr, refl, sym, ◌∙◌, ap, arith, cases_lt, same_number_lists, get_or_default, get_or_past, get_or-take, All, digits_in, Encodes, EncodesPadded, IsPadded, padding, length_digits, steps}
+use Rattle.std.proofs.Common.{max}
+use Rattle.decimal_digits.specs.Nibbles.{nibbles, IsPacked}
 use Rattle.decimal_digits.proofs.Nibbles.{nibble_rules, high_nibble, low_nibble}
 
 -- the first nibbles of the bytes are these digits, and an unused nibble is 0
@@ -50,10 +46,7 @@ no_digits = (pads (replicate 8 0) [] 0 refl refl (zero_nibbles 8) (λ k h. absur
 -- the digit at an index, with zeros after the last one
 pub digit_at : (bytes : List ℕ) (len : ℕ) → IsPadded bytes len → (k : ℕ)
     → get_or (digits_in bytes len) k 0 ≡ get_or (nibbles bytes) k 0
-digit_at bytes len p k = elim (cases_lt k len) [
-  | inl l ↦ get_or-take len (nibbles bytes) k 0 l
-  | inr l ↦ get_or_past (digits_in bytes len) k 0 (omega (arith, length_digits bytes len p)) ∙ sym (p.zeros k l)
-]
+digit_at bytes len p k = grind (steps, cases_lt, get_or-take, get_or_past)
 
 -- the digits are 0 to 9
 pub digit_lt : (bytes : List ℕ) (len : ℕ) → IsPadded bytes len → (k : ℕ) → get_or (nibbles bytes) k 0 < 10

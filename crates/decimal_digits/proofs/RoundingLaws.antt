@@ -1,12 +1,8 @@
 -- Laws of rounding, on numbers alone.
-use Rattle.std.proofs.Common.{ℕ, ◌≡◌, ◌*◌, ◌<◌, ◌≤◌, inl, inr, refl, sym, ◌∙◌, ap, subst, arith}
-use Rattle.std.proofs.lemmas.Bool.{cases_eq}
-use Rattle.std.specs.Prelude.{pos}
-use Rattle.std.proofs.lemmas.Int.{ints}
+use Rattle.decimal_digits.proofs.Common.{ℕ, ◌≡◌, ◌*◌, ◌<◌, ◌≤◌, inl, inr, refl, sym, ◌∙◌, ap, subst, arith, cases_eq, pos, ints, Chooses, Named, rounded_number}
 use Rattle.std.proofs.Math.Nat.{mul_assoc, zero-mul}
 use Rattle.decimal_digits.specs.declared.rounding.UnsignedRoundingMode.{UnsignedRoundingMode}
 use Rattle.decimal_digits.specs.declared.rounding.UnsignedRoundingMode.TheVariants.{Expand, Trunc, HalfExpand, HalfTrunc, HalfEven}
-use Rattle.decimal_digits.specs.Rounding.{Chooses, Named, rounded_number}
 use Rattle.decimal_digits.proofs.Naming.{rounded_number_is_named, named_is}
 
 -- ---- A multiple stays.
@@ -77,11 +73,7 @@ monotone_named Trunc u n m a b l (q, e, (low, great)) (k, f, (low', great')) =
     omega (arith, ints, great' (pos q) (omega (arith, ints)))
 monotone_named Expand u n m a b l (q, e, (high, least)) (k, f, (high', least')) =
     omega (arith, ints, least (pos k) (omega (arith, ints)))
-monotone_named HalfExpand u n m a b l (q, e, (near, most)) (k, f, (near', most')) =
-    omega (arith, ints, near (pos k), near' (pos q))
-monotone_named HalfTrunc u n m a b l (q, e, (near, least)) (k, f, (near', least')) =
-    omega (arith, ints, near (pos k), near' (pos q))
-monotone_named HalfEven u n m a b l (q, e, (near, even)) (k, f, (near', even')) =
+monotone_named mode u n m a b l (q, e, (near, tie)) (k, f, (near', tie')) =
     omega (arith, ints, near (pos k), near' (pos q))
 
 -- a greater number is rounded to no less

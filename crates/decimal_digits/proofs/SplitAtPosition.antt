@@ -1,20 +1,16 @@
 -- A number split at a position into quotient and remainder, and the number after rounding.
-use Rattle.std.proofs.Common.{◌≡◌, ℕ, ◌+◌, ◌-◌, ◌*◌, ◌^◌, ◌<◌, ◌≤◌, ◌==◌, false, List, length, get_or, drop, refl, ◌∙◌, ap, arith, rules}
-use Rattle.std.specs.Prelude.{ℤ, pos, negsuc, ◌+ℤ◌, ◌≤ℤ◌, ◌<ℤ◌}
-use Rattle.std.proofs.lemmas.Int.{ints}
-use Rattle.std.proofs.Math.Nat.{mul-pos, pow-le-pow_right, mul-lt-mul_of_pos_right, mul-le-mul_right}
-use Rattle.std.specs.Int.Digits.{AllBelowBase}
+use Rattle.decimal_digits.proofs.Common.{◌≡◌, ℕ, ◌+◌, ◌-◌, ◌*◌, ◌^◌, ◌<◌, ◌≤◌, List, length, get_or, drop, refl, ◌∙◌, ap, arith, ℤ, pos, negsuc, ◌≤ℤ◌, ints, mul-pos, pow-le-pow_right, mul-lt-mul_of_pos_right, mul-le-mul_right, AllBelowBase, offset, weight, step_of, unit_at, rounded_number, DigitRoundingFails, leading, RemainderByDigit, HasDigits, steps}
+use Rattle.std.specs.Prelude.{◌+ℤ◌, ◌<ℤ◌}
 use Rattle.decimal_digits.specs.declared.rounding.UnsignedRoundingMode.{UnsignedRoundingMode}
 use Rattle.decimal_digits.specs.declared.rounding.remainder.Remainder.{Remainder}
 use Rattle.decimal_digits.specs.declared.rounding.remainder.Remainder.TheVariants.{BelowHalf}
-use Rattle.decimal_digits.specs.Number.{offset, weight, first, last, size, magnitude_at, number_limit}
+use Rattle.decimal_digits.specs.Number.{first, size, magnitude_at, number_limit}
 use Rattle.decimal_digits.specs.Digits.{number_at, number_of, IsStripped}
-use Rattle.decimal_digits.specs.Rounding.{step_of, unit_at, rounded_number, DigitRoundingFails}
 use Rattle.decimal_digits.specs.declared.rounding.RoundError.{RoundError}
 use Rattle.decimal_digits.specs.declared.rounding.RoundError.TheVariants.{Limit, Memory}
 use Rattle.decimal_digits.specs.declared.rounding.RoundingIncrement.{RoundingIncrement}
 use Rattle.decimal_digits.specs.RoundedDigits.{Represents}
-use Rattle.decimal_digits.specs.Remainders.{leading, RemainderByDigit, RoundsTo, SplitsAs, HasDigits, RoundLeadingFails}
+use Rattle.decimal_digits.specs.Remainders.{RoundsTo, SplitsAs, RoundLeadingFails}
 use Rattle.decimal_digits.proofs.Offsets.{offset_is, magnitude_at-offset, gap_is}
 use Rattle.decimal_digits.proofs.Ends.{first_is, last_is, first_zero}
 use Rattle.decimal_digits.proofs.DigitLists.{ten_pos}
@@ -106,10 +102,7 @@ size_is p k m some d low h =
     let above : first (m * weight p) ≡ magnitude_at (k - 1 + offset p) =
     first_is (m * weight p) (k - 1 + offset p) (omega (arith, powers (k - 1) (offset p) (k - 1 + offset p) refl))
     (omega (arith, powers k (offset p) (k - 1 + offset p + 1) (omega arith))) (omega arith) in
-    let below : last (m * weight p) ≡ magnitude_at (offset p) = last_is m (offset p) d.ends (omega arith) in
-    let nonzero : (m * weight p == 0) ≡ false =
-    (let q : 0 < m * weight p = omega (arith, mul-pos (ten_pos (k - 1)) (ten_pos (offset p))) in search rules) in
-    rw (nonzero, above, below) (omega (arith, ints, gap_is (magnitude_at (offset p)) (magnitude_at (k - 1 + offset p))))
+    grind (steps, last_is, mul-pos, ten_pos, gap_is)
 
 -- ---- why a number is not rounded
 -- an error of rounding the kept digits is an error of rounding the number
@@ -140,9 +133,4 @@ digit_rounding_fails Memory mode increment fit room k ds remainder n p low top w
     let most : m * weight p < 10 ^ k * weight p = mul-lt-mul_of_pos_right has.most (ten_pos (offset p)) in
     let at_most : 10 ^ (k + offset p) ≤ number_limit =
     pow-le-pow_right (omega arith) (omega (arith, ints, within some, offset_is (pos 32768))) in
-    record {
-      by_25 = by_25;
-      below_limit = omega (arith, e, most, at_most, powers k (offset p) (k + offset p) refl);
-      longer = ap size e ∙ size_is p k m some has low (within some) ∙ at_end;
-      full = full;
-    }
+    grind (steps, powers, size_is)

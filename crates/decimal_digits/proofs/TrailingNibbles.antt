@@ -1,20 +1,14 @@
 -- The bits of nibbles, and equal nibbles at the end of the first nibbles of a word.
-use Rattle.std.proofs.Common.{◌≡◌, ◌≢◌, ℕ, zero, suc, ◌+◌, ◌-◌, ◌*◌, ◌/◌, ◌%◌, ◌^◌, ◌<◌, ◌≤◌, min, get_or, replicate, inl, inr, refl, sym, ◌∙◌, ap, arith}
-use Rattle.std.specs.Int.{w64, bit_at, trailing_zeros}
+use Rattle.decimal_digits.proofs.Common.{◌≡◌, ℕ, zero, suc, ◌+◌, ◌-◌, ◌*◌, ◌/◌, ◌%◌, ◌^◌, ◌<◌, ◌≤◌, get_or, replicate, inl, inr, refl, sym, ◌∙◌, ap, arith, w64, number_from_digits, div-div-eq-div-mul, cases_lt, nat_tests, common_steps, clamps, ints, get_or-replicate, pow-add, word_nibbles}
+use Rattle.std.proofs.Common.{◌≢◌, min}
+use Rattle.std.specs.Int.{bit_at, trailing_zeros}
 use Rattle.std.specs.Int.Bits.{bit_xor, xor_add_and, xor_self}
 use Rattle.std.specs.Int.Count.{trailing_of_zero}
-use Rattle.std.specs.Int.Digits.{number_from_digits, AllBelowBase}
-use Rattle.std.proofs.Math.Nat.{div-div-eq-div-mul, div-le_self}
-use Rattle.std.proofs.lemmas.Bool.{cases_lt}
-use Rattle.std.proofs.lemmas.Bool.Decides.{nat_tests}
-use Rattle.std.proofs.lemmas.Grind.{common_steps}
-use Rattle.std.proofs.lemmas.Int.{clamps, ints}
-use Rattle.std.proofs.lemmas.List.{get_or-replicate}
-use Rattle.std.proofs.lemmas.Nat.{and_le_l, and_le_r, pow-add, shr-shr, xor_lt, xor_mod, xor_shr}
+use Rattle.std.proofs.Math.Nat.{div-le_self}
+use Rattle.std.proofs.lemmas.Nat.{and_le_l, and_le_r, shr-shr, xor_lt, xor_mod, xor_shr}
 use Rattle.std.proofs.lemmas.Nat.Bits.{bit_at-trailing_zeros}
-use Rattle.decimal_digits.specs.Nibbles.{word_nibbles}
 use Rattle.decimal_digits.proofs.LeadingBytes.{hex_pow}
-use Rattle.decimal_digits.proofs.Words.{word_nibble, word_of_nibbles}
+use Rattle.decimal_digits.proofs.Words.{repeated_below, word_nibble, word_of_nibbles}
 
 -- bit 4 * j + i of a number is bit i of its nibble j
 bit_of : (n j i : ℕ) → bit_at n (4 * j + i) ≡ n / 16 ^ j / 2 ^ i % 2
@@ -41,10 +35,6 @@ some_nibble n i h = go (n / 16 ^ (i / 4)) (i % 4) (omega arith) (sym (bit_of n (
 -- numbers whose exclusive or is 0 are equal
 zero_xor : (a b : ℕ) → bit_xor a b ≡ 0 → a ≡ b
 zero_xor a b h = omega (arith, xor_add_and a b, and_le_l a b, and_le_r a b, h)
-
-repeated_below : (d k : ℕ) → d < 16 → AllBelowBase 16 (replicate k d)
-repeated_below d zero h = tt
-repeated_below d (suc k) h = (h, repeated_below d k h)
 
 -- each nibble of sixteen equal ones
 repeated : (d k : ℕ) → d < 16 → k < 16 → get_or (word_nibbles (0x1111_1111_1111_1111 * d)) k 0 ≡ d
@@ -77,12 +67,7 @@ module _ (n d count y : ℕ) (fits : n < 2 ^ 64) (digit : d < 16) (few : count �
     | inl some ↦
         let x = bit_xor n (0x1111_1111_1111_1111 * d) in
         let below : y < 2 ^ 64 =
-        omega (
-          arith,
-          xor_lt 64 n (0x1111_1111_1111_1111 * d) fits (omega arith),
-          div-le_self x (2 ^ (4 * (16 - count))),
-          is,
-        ) in
+        omega (arith, xor_lt 64 n (0x1111_1111_1111_1111 * d) fits (omega arith), div-le_self, is) in
         let low = bit_at-trailing_zeros w64 y some below in (
           λ k h l. equal k l (clear_nibble y (count - 1 - k) (λ i m. low.2 (4 * (count - 1 - k) + i) (omega arith))),
           λ h same.

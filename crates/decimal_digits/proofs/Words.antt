@@ -1,27 +1,19 @@
 -- Words: sixteen nibbles as one number of 64 bits.
-use Rattle.std.proofs.Common.{◌≡◌, ℕ, zero, suc, ◌+◌, ◌-◌, ◌*◌, ◌/◌, ◌%◌, ◌^◌, ◌<◌, ◌≤◌, List, [], ◌∷◌, ◌++◌, length, get_or, take, drop, replicate, map, refl, sym, ◌∙◌, ap, arith, inl, inr}
-use Rattle.std.proofs.lemmas.Bool.{cases_lt}
-use Rattle.std.specs.Prelude.{All}
-use Rattle.std.specs.Char.{digit_value}
-use Rattle.std.specs.Str.Parse.{AllDigits}
-use Rattle.std.specs.Int.{w64, to_be_bytes, from_be_bytes, bytes_high_first, byte_at}
-use Rattle.std.specs.Int.Digits.{number_from_digits, AllBelowBase}
-use Rattle.std.proofs.Math.Nat.{mod-eq_of_lt, pow-le-pow_right}
-use Rattle.std.proofs.lemmas.Nat.{pow-add, mod-mul-add, be_bytes_8, from_be_bytes-to_be_bytes_8}
-use Rattle.std.proofs.lemmas.Grind.{same_number_lists}
-use Rattle.std.proofs.lemmas.List.{length-append, length-drop, length-map, length-replicate, length-take-le, append-nil, get_or_default, get_or_past, get_or-take, map_more}
-use Rattle.std.proofs.lemmas.List.Elements.{All-from_recursion, All-get_or}
-use Rattle.std.proofs.lemmas.Int.Digits.{number_lt, number_after_append, number_more, number_push}
+use Rattle.decimal_digits.proofs.Common.{◌≡◌, ℕ, zero, suc, ◌+◌, ◌-◌, ◌*◌, ◌/◌, ◌%◌, ◌^◌, ◌<◌, ◌≤◌, List, [], ◌∷◌, ◌++◌, length, get_or, take, drop, replicate, map, refl, sym, ◌∙◌, ap, arith, inl, inr, cases_lt, All, digit_value, AllDigits, w64, to_be_bytes, bytes_high_first, byte_at, number_from_digits, AllBelowBase, pow-le-pow_right, pow-add, mod-mul-add, same_number_lists, length-map, length-take-le, append-nil, get_or_default, get_or_past, get_or-take, map_more, number_lt, number_after_append, number_more, digits_in, Encodes, EncodesPadded, IsPadded, length-nibbles, length_digits, padding, steps}
+use Rattle.std.specs.Int.{from_be_bytes}
+use Rattle.std.proofs.Math.Nat.{mod-eq_of_lt}
+use Rattle.std.proofs.lemmas.Nat.{be_bytes_8, from_be_bytes-to_be_bytes_8}
+use Rattle.std.proofs.lemmas.Int.Digits.{number_push}
 use Rattle.std.proofs.Math.Seq.{drop-append_seam}
-use Rattle.decimal_digits.specs.Nibbles.{nibbles, word_nibbles, digits_in, leading_bytes, padded, bcd_number, IsPacked}
-use Rattle.decimal_digits.specs.Packing.{Encodes, EncodesPadded, IsPadded, length-nibbles, length_digits, padding}
+use Rattle.decimal_digits.specs.Nibbles.{nibbles, word_nibbles, leading_bytes, padded, bcd_number, IsPacked}
 use Rattle.decimal_digits.proofs.DigitLists.{below_drop, below_take, number_after, number_pad, number_split, number-div}
 use Rattle.decimal_digits.proofs.LeadingBytes.{below_sixteen, hex_pow, leading_digits, bytes_number, nibbles_of_bytes, length-padded, get_or-padded, sixteen_nibbles}
 use Rattle.decimal_digits.proofs.Nibbles.{nibble_rules, value_of}
 use Rattle.decimal_digits.proofs.DigitTexts.{ascii_at}
 use Rattle.decimal_digits.proofs.Packing.{digit_at, encodes, pads, rest_at}
 
-eight_bytes : (bs : List ℕ) → length bs ≡ 8 → from_be_bytes w64 bs ≡ number_from_digits 256 bs
+-- eight bytes as a big-endian number
+pub eight_bytes : (bs : List ℕ) → length bs ≡ 8 → from_be_bytes w64 bs ≡ number_from_digits 256 bs
 eight_bytes (a ∷ (b ∷ (c ∷ (d ∷ (e ∷ (f ∷ (g ∷ (h ∷ [])))))))) l = omega arith
 eight_bytes bs l = absurd (omega arith)
 
@@ -59,11 +51,7 @@ word_nibble n k fits l =
     let all = length-word_nibbles n in
     let back : length ns - (k + 1) ≡ 15 - k = omega arith in
     let front = rw back at (number-div 16 (k + 1) ns (word_below n) (omega arith)) in
-    let small = All-get_or (λ d. d < 16) ns k 0 (omega arith) (All-from_recursion (λ d. d < 16) ns (word_below n)) in
-    ap (λ m. n / m % 16) (hex_pow (15 - k))
-    ∙ ap (λ m. m / 16 ^ (15 - k) % 16) (word_number n fits)
-    ∙ ap (λ m. m % 16) front
-    ∙ omega (arith, small, number_more 16 ns k (omega arith))
+    grind (steps, word_below, hex_pow, word_number, number_more)
 
 -- the number of sixteen nibbles is the word of these
 pub word_of_nibbles : (ns : List ℕ) (n : ℕ) → length ns ≡ 16 → AllBelowBase 16 ns → n ≡ number_from_digits 16 ns
@@ -98,10 +86,14 @@ nibbles_drop (suc k) (b ∷ bs) =
 pub zero_word : (n : ℕ) → n ≡ 0 → word_nibbles n ≡ replicate 16 0
 zero_word n e = word_of_nibbles (replicate 16 0) n refl (omega arith) e
 
--- ---- zeros
+-- ---- equal nibbles
+-- a list of one nibble is a list of nibbles
+pub repeated_below : (d k : ℕ) → d < 16 → AllBelowBase 16 (replicate k d)
+repeated_below d zero h = tt
+repeated_below d (suc k) h = (h, repeated_below d k h)
+
 zeros_below : (k : ℕ) → AllBelowBase 16 (replicate k 0)
-zeros_below zero = tt
-zeros_below (suc k) = (omega arith, zeros_below k)
+zeros_below k = repeated_below 0 k (omega arith)
 
 append_below : (xs ys : List ℕ) → AllBelowBase 16 xs → AllBelowBase 16 ys → AllBelowBase 16 (xs ++ ys)
 append_below [] ys h g = g
@@ -113,8 +105,7 @@ pub zeros_of_digits : (ds : List ℕ) (len n : ℕ) → length ds ≡ len → le
     → drop len (word_nibbles n) ≡ replicate (16 - len) 0
 zeros_of_digits ds len n l few h e =
     let zeros = replicate (16 - len) 0 in
-    let size : length (ds ++ zeros) ≡ 16 =
-    omega (arith, length-append ds zeros, length-replicate {A = ℕ} (16 - len) 0) in
+    let size : length (ds ++ zeros) ≡ 16 = grind (arith, nibble_rules) in
     let all =
     word_of_nibbles (ds ++ zeros) n size (append_below ds zeros (below_sixteen ds h) (zeros_below (16 - len)))
     (e ∙ sym (number_pad 16 (16 - len) ds)) in
@@ -135,13 +126,7 @@ kept n count u r fits few by e =
     let back : length ns - count ≡ k = omega arith in
     let quotient = rw back at (number-div 16 count ns (word_below n) (omega arith)) in
     let out = take count ns ++ replicate k 0 in
-    let size : length out ≡ 16 =
-    omega (
-      arith,
-      length-append (take count ns) (replicate k 0),
-      length-take-le count ns (omega arith),
-      length-replicate {A = ℕ} k 0,
-    ) in
+    let size : length out ≡ 16 = grind (arith, nibble_rules) in
     let below = append_below (take count ns) (replicate k 0) (below_take 16 count ns (word_below n)) (zeros_below k) in
     let number : n / 16 ^ k * 16 ^ k ≡ number_from_digits 16 out =
     ap (λ m. m / 16 ^ k * 16 ^ k) (word_number n fits) ∙ ap (λ m. m * 16 ^ k) quotient
@@ -162,8 +147,7 @@ cut n count u r fits few by e =
     let back : length ns - count ≡ k = omega arith in
     let rest = drop count ns in
     let out = rest ++ replicate count 0 in
-    let size : length out ≡ 16 =
-    omega (arith, length-append rest (replicate count 0), length-drop count ns, length-replicate {A = ℕ} count 0) in
+    let size : length out ≡ 16 = grind (arith, nibble_rules) in
     let below = append_below rest (replicate count 0) (below_drop 16 count ns (word_below n)) (zeros_below count) in
     let whole = word_number n fits ∙ rw back at (number_split 16 count ns (omega arith)) in
     let top : 16 ^ k * 16 ^ count ≡ 2 ^ 64 = rw (← pow-add, (let w : k + count ≡ 16 = omega arith in w)) refl in
@@ -192,8 +176,7 @@ joined n m start fits fits' few zeros =
     let rest = take k ms in
     let size' : length rest ≡ k = length-take-le k ms (omega arith) in
     let out = front ++ rest in
-    let size : length out ≡ 16 =
-    omega (arith, length-append front rest, length-take-le start ns (omega arith), size') in
+    let size : length out ≡ 16 = grind (arith, nibble_rules) in
     let below =
     append_below front rest (below_take 16 start ns (word_below n)) (below_take 16 k ms (word_below m)) in
     let nothing : number_from_digits 16 (drop start ns) ≡ 0 =
@@ -203,11 +186,7 @@ joined n m start fits fits' few zeros =
     let right : m / 2 ^ (4 * start) ≡ number_from_digits 16 rest =
     rw (hex_pow start) (ap (λ j. j / 16 ^ start) (word_number m fits')
     ∙ rw back' at (number-div 16 k ms (word_below m) (omega arith))) in
-    let number : n + m / 2 ^ (4 * start) ≡ number_from_digits 16 out =
-    (λ j. left j + right j)
-    ∙ sym (number_after_append 16 0 front rest ∙ number_after 16 (number_from_digits 16 front) rest
-    ∙ ap (λ j. number_from_digits 16 front * 16 ^ j + number_from_digits 16 rest) size') in
-    (omega (arith, word_lt out size below), word_of_nibbles out _ size below number)
+    grind (steps, number_after_append, number_after, word_lt, word_of_nibbles)
 
 -- ---- packing
 -- the low nibbles of digits
@@ -223,14 +202,7 @@ pub pack_more : (ds : List ℕ) (i n d : ℕ) → i < length ds → length ds �
     → n ≡ number_from_digits 16 (low_nibbles (take i ds)) → d ≡ get_or ds i 0 % 16
     → (n < 16 ^ 15) × (n * 16 + d ≡ number_from_digits 16 (low_nibbles (take (i + 1) ds)))
 pack_more ds i n d l few e f =
-    let before = low_nibbles (take i ds) in
-    let size : length before ≤ 15 =
-    omega (arith, length-map (take i ds) (λ (d : ℕ). d % 16), length-take-le i ds (omega arith)) in
-    let top : 16 ^ length before ≤ 16 ^ 15 = pow-le-pow_right (omega arith) size in (
-      omega (arith, number_lt 16 before (low_below (take i ds)), top),
-      sym (ap (number_from_digits 16) (map_more (λ d. d % 16) ds i 0 l) ∙ number_push 16 before (get_or ds i 0 % 16)
-          ∙ (λ j. sym e j * 16 + sym f j)),
-    )
+    grind (steps, length-map, length-take-le, pow-le-pow_right, number_lt, low_below, map_more, number_push)
 
 -- a left shift appends zeros to the low nibbles
 pub packed : (ds : List ℕ) (n u r : ℕ) → length ds ≤ 16 → n ≡ number_from_digits 16 (low_nibbles ds)
@@ -239,13 +211,7 @@ pub packed : (ds : List ℕ) (n u r : ℕ) → length ds ≤ 16 → n ≡ number
 packed ds n u r few e by result =
     let k = 16 - length ds in
     let out = low_nibbles ds ++ replicate k 0 in
-    let size : length out ≡ 16 =
-    omega (
-      arith,
-      length-append (low_nibbles ds) (replicate k 0),
-      length-map ds (λ (d : ℕ). d % 16),
-      length-replicate {A = ℕ} k 0,
-    ) in
+    let size : length out ≡ 16 = grind (arith, nibble_rules) in
     let below = append_below (low_nibbles ds) (replicate k 0) (low_below ds) (zeros_below k) in
     let number : n * 16 ^ k ≡ number_from_digits 16 out =
     ap (λ m. m * 16 ^ k) e ∙ sym (number_pad 16 k (low_nibbles ds)) in
@@ -356,17 +322,14 @@ pub cut_encodes : (bs cs : List ℕ) (len count left : ℕ) → IsPadded bs len 
 cut_encodes bs cs len count left p le same_length half same =
     let out = drop (count / 2) (take (count / 2 + left) cs) in
     let at : nibbles out ≡ drop (2 * (count / 2)) (take (2 * (count / 2 + left)) (nibbles cs)) =
-    nibbles_drop (count / 2) (take (count / 2 + left) cs)
-    ∙ ap (drop (2 * (count / 2))) (nibbles_take (count / 2 + left) cs) in
+    grind (steps, nibbles_drop, nibbles_take) in
     encodes out (drop count (digits_in bs len)) (len - count) (
       record {
         many = grind (arith, padding, nibble_rules);
         same = λ k h.
             grind (arith, ap (λ l. get_or l k 0) at, same k, digit_at bs len p (count + k), padding, nibble_rules);
         decimal = λ k h. grind (arith, p.decimal (count + k) 0, padding, nibble_rules);
-        unused = λ h.
-            let i = len - count in
-            grind (arith, ap (λ l. get_or l i 0) at, same i, p.zeros len, padding, nibble_rules);
+        unused = grind steps;
       },
       grind (arith, p.count, nibble_rules),
     )

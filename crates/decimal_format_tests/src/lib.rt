@@ -4,6 +4,8 @@
 #![tactic(auto)]
 
 #[cfg(test)]
+mod affixes;
+#[cfg(test)]
 mod reading;
 #[cfg(test)]
 mod tests;

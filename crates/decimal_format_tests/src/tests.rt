@@ -1,10 +1,10 @@
 //! Rows of ICU 78 (CLDR 48), and what no row says. A helper holds one value, and returns whether its row holds.
 use decimal_format::GroupingStrategy::{Always, Auto, Min2, Never};
 use decimal_format::{DecimalFormatter, GroupingStrategy, SymbolsError};
-use fixed_decimal::{DigitList, DigitStore, PackedDigits, Signed, Sink, UnsignedOver, Writeable};
+use fixed_decimal::{DigitList, DigitStore, PackedDigits, Signed, UnsignedOver};
 use locale_data::locale;
 use std::alloc::{AllocError, Global};
-use test_support::{LimitedSink, displays, expand_runs, shows};
+use test_support::{displays, expand_runs, fails_without_room, has_text};
 
 /// A tag, a strategy, a number, and its text.
 type Row = (&'static str, GroupingStrategy, &'static str, &'static str);
@@ -82,7 +82,7 @@ const UNGROUPED: &[Row] = &[
     ("en-US-u-va-posix", Always, "1234567", "1234567"),
 ];
 
-/// Whether a value has this text in a locale, with the exact length, and by Display.
+/// Whether a value has this text in a locale, with the exact length, and by Display, and fails with sinks.
 fn formats_as<D: DigitStore>(
     alloc: Global,
     (tag, strategy, number, text): (&str, GroupingStrategy, &str, &str),
@@ -95,9 +95,9 @@ fn formats_as<D: DigitStore>(
     };
     let formatter = DecimalFormatter::new(symbols, strategy);
     let formatted = formatter.format(&value);
-    formatted.writeable_length_hint() == text.len()
-        && shows(&formatted, text.as_bytes())
+    has_text(&formatted, text)
         && displays(&formatted, text.as_bytes())
+        && fails_without_room(&formatted, text.as_bytes())
 }
 
 /// The same over each store.
@@ -148,37 +148,6 @@ const MESSAGES: &[(SymbolsError, &str)] = &[
 fn errors_have_messages(rt: HostRuntime) {
     for (error, text) in MESSAGES {
         assert!(rt; displays(error, text.as_bytes()), "{text}");
-    }
-}
-
-/// Whether writing fails with each sink without room for the whole text, which takes a prefix.
-fn fails_with_each_sink(alloc: Global, (tag, strategy, number, text): Row) -> bool {
-    let Some(symbols) = locale(tag) else {
-        return false;
-    };
-    let Ok(value) = Signed::<UnsignedOver<PackedDigits>>::try_from_str(alloc, number) else {
-        return false;
-    };
-    let formatter = DecimalFormatter::new(symbols, strategy);
-    for room in 0..text.len() {
-        let mut sink = LimitedSink::new(text.as_bytes(), room);
-        let failed = formatter.format(&value).write_to(&mut sink).is_err();
-        if !failed || !sink.failed() || !sink.has_taken(room) {
-            return false;
-        }
-    }
-    true
-}
-
-#[test]
-fn fails_with_the_sink(rt: HostRuntime) {
-    for row in ROWS {
-        assert!(rt;
-            fails_with_each_sink(rt.alloc(), *row),
-            "{} {}",
-            row.2,
-            row.3
-        );
     }
 }
 

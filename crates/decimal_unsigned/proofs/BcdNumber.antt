@@ -1,11 +1,8 @@
 -- The number that packed BCD digits write, computed by joining neighboring lanes of a word: digits to pairs, pairs to
 -- fours, and so on. A lane of w bits holds a number below c.
-use Rattle.decimal_unsigned.proofs.Common.{◌≡◌, ℕ, zero, suc, ◌+◌, ◌-◌, ◌*◌, ◌/◌, ◌%◌, ◌^◌, ◌<◌, ◌≤◌, List, length, get_or, take, refl, sym, ◌∙◌, ap, arith, number_from_digits, AllBelowBase, take_all, steps}
-use Rattle.std.specs.Prelude.{bit_and}
-use Rattle.std.proofs.Math.Nat.{zero-div, zero-mod}
-use Rattle.std.proofs.lemmas.Nat.{and_block, and_mask, and_le_r, div-mul-add, mod-mul-add}
-use Rattle.std.proofs.lemmas.Int.Digits.{number_more}
-use Rattle.std.proofs.lemmas.List.Elements.{All-from_recursion}
+use Rattle.decimal_unsigned.proofs.Common.{◌≡◌, ℕ, zero, suc, ◌+◌, ◌-◌, ◌*◌, ◌/◌, ◌%◌, ◌^◌, ◌<◌, ◌≤◌, List, length, get_or, take, refl, sym, ◌∙◌, ap, arith, number_from_digits, AllBelowBase, take_all, steps, bit_and, zero-div, mod-mul-add, number_more, All-from_recursion}
+use Rattle.std.proofs.Math.Nat.{zero-mod}
+use Rattle.std.proofs.lemmas.Nat.{and_block, and_mask, and_le_r, div-mul-add}
 
 -- the number that the lowest k lanes of n write in base c
 unfoldable pub value : ℕ → ℕ → ℕ → ℕ → ℕ

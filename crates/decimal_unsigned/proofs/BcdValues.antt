@@ -1,30 +1,27 @@
 -- Plain texts: their digits as a number in base 16, and the value of their parts.
-use Rattle.decimal_unsigned.proofs.Common.{nat_tests, ◌≡◌, ℕ, suc, ◌+◌, ◌-◌, ◌*◌, ◌/◌, ◌%◌, ◌^◌, ◌<◌, ◌≤◌, inl, inr, true, false, List, [], ◌∷◌, ◌++◌, length, get_or, take, drop, take_all, map, refl, sym, ◌∙◌, ap, subst, arith, Some, None, option_map, Result, Ok, pos, ◌-ℤ◌, mul-lt-mul_of_pos_right, pow-le-pow_right, cases_lt, ints, pow-add, append-nil, length-append, length-drop, length-take, length-take-le, length-map, number_lt, digits_value_is, is_ascii_digit, prefix_len, digit_value, number_from_digits, AllBelowBase, AllDigits, digits_value, Literal, middle, IsNonzeroRange, pow-suc, mod-eq_of_lt, digits_value_after, below_sixteen, steps, replicate, ℤ, IsStored, number_of, offset_is, int_min, size, Unsigned, rules}
+use Rattle.decimal_unsigned.proofs.Common.{nat_tests, ◌≡◌, ℕ, suc, ◌+◌, ◌-◌, ◌*◌, ◌/◌, ◌%◌, ◌^◌, ◌<◌, ◌≤◌, inl, inr, true, false, List, [], ◌∷◌, ◌++◌, length, get_or, take, drop, take_all, map, refl, sym, ◌∙◌, ap, subst, arith, Some, None, option_map, Result, Ok, pos, ◌-ℤ◌, mul-lt-mul_of_pos_right, pow-le-pow_right, cases_lt, ints, pow-add, append-nil, length-append, length-drop, length-take, length-take-le, length-map, number_lt, digits_value_is, is_ascii_digit, prefix_len, digit_value, number_from_digits, AllBelowBase, AllDigits, digits_value, Literal, middle, IsNonzeroRange, pow-suc, mod-eq_of_lt, digits_value_after, below_sixteen, steps, replicate, ℤ, IsStored, number_of, offset_is, int_min, size, Unsigned, rules, zero-div, mod-mul-add, drop-drop, drop_all, prefix_len-le-length, prefix_len-drop_yes, prefix_len-drop_no, prefix_len-drop_all, all_below_base_from_digits, number-div, saturated_parts, IsOkAnd, read, IsReadTo, digits_of}
 use mir.Val.{bits}
 use Rattle.std.specs.Int.{Width, w64, bit_at, leading_zeros, trailing_zeros}
-use Rattle.std.proofs.Math.Nat.{one-le-pow, div-eq_of_lt-le, zero-div, mod-add-mod}
+use Rattle.std.proofs.Math.Nat.{one-le-pow, div-eq_of_lt-le, mod-add-mod}
 use Rattle.std.proofs.Math.Seq.{take-add}
 use Rattle.std.proofs.Math.ListN.{get_or-eq_default}
-use Rattle.std.proofs.lemmas.Nat.{mod-mul-add, mul-mod_first, leading_top, leading_le}
+use Rattle.std.proofs.lemmas.Nat.{mul-mod_first, leading_top, leading_le}
 use Rattle.std.proofs.lemmas.Nat.Bits.{bit_at_above, bit_at-trailing_zeros}
-use Rattle.std.proofs.lemmas.List.{drop-drop, drop_all, at_drop_more, take_more}
-use Rattle.std.proofs.lemmas.List.Sums.{prefix_len-le-length, prefix_len-drop_yes, prefix_len-drop_no, prefix_len-drop_all}
-use Rattle.std.proofs.lemmas.Int.Digits.{number_more as number_more_digits, all_below_base_from_digits}
+use Rattle.std.proofs.lemmas.List.{at_drop_more, take_more}
+use Rattle.std.proofs.lemmas.Int.Digits.{number_more as number_more_digits}
 use Rattle.decimal_digits.specs.Nibbles.{digits_in, leading_bytes, word_nibbles}
 use Rattle.decimal_digits.proofs.TrailingNibbles.{clear_nibble, some_nibble}
 use Rattle.decimal_digits.proofs.Words.{zeros_of_digits}
 use Rattle.decimal_digits.specs.Ascii.{decimal_point}
 use Rattle.decimal_digits.specs.Packing.{Encodes, length-nibbles}
-use Rattle.decimal_digits.proofs.DigitLists.{below_at, number-div}
+use Rattle.decimal_digits.proofs.DigitLists.{below_at}
 use Rattle.decimal_digits.proofs.LeadingBytes.{hex_pow, leading_bytes_encode}
-use Rattle.decimal_unsigned.specs.Parts.{saturated_parts}
-use Rattle.std.specs.Prelude.{IsOkAnd}
-use Rattle.decimal_unsigned.specs.Reading.{ReadError, scaled, parts_of, after_whole, after_fraction, read}
+use Rattle.decimal_unsigned.specs.Reading.{ReadError, scaled, parts_of, after_whole, after_fraction}
 use Rattle.decimal_digits.specs.Digits.{number_at}
 use Rattle.decimal_unsigned.specs.DigitValues.{IsBcd, value_of_first}
 use Rattle.decimal_unsigned.proofs.Values.{size-number_of, number_of_empty, stored_as}
-use Rattle.decimal_unsigned.specs.PlainTexts.{IsPlainText, IsReadTo, plain_parts}
-use Rattle.decimal_unsigned.specs.ScannedDigits.{digits_of, IsBcdValue}
+use Rattle.decimal_unsigned.specs.PlainTexts.{IsPlainText, plain_parts}
+use Rattle.decimal_unsigned.specs.ScannedDigits.{IsBcdValue}
 use Rattle.decimal_unsigned.specs.declared.decimal.parse.fast_path.PlainText.{PlainText}
 use Rattle.decimal_unsigned.specs.declared.decimal.parse.plan.Bounds.{Bounds}
 use Rattle.decimal_unsigned.proofs.Middle.{number_zeros, middle_length, middle_below, number_middle, number_of-middle, stored_middle}
@@ -42,21 +39,14 @@ module _ {p before : ℕ} {text : List ℕ} {i number : ℕ} (read : IsReadTo p 
   -- the number after more digits
   continued : (j q v : ℕ) (more : List ℕ) → take j text ≡ take i text ++ more → q ≡ 16 ^ length more
       → v ≡ digits_value 16 more → (number * q % p + v) % p ≡ digits_value_after 16 before (take j text) % p
-  continued j q v more all places is =
-      let n = digits_value_after 16 before (take i text) in
-      mod-add-mod (number * q) p v
-      ∙ ap (λ m. (m * q + v) % p) read.value ∙ mod_step n q v p
-      ∙ ap (λ m. m % p) ((λ k. n * places k + is k) ∙ sym (after_append before (take i text) more ∙ value_after n more)
-      ∙ ap (digits_value_after 16 before) (sym all))
+  continued j q v more all places is = grind (arith, mod-add-mod, mod_step, after_append, value_after)
 
   -- a digit more
   pub read_digit : i < length text → is_ascii_digit (get_or text i 0) ≡ true
       → IsReadTo p before text (i + 1) ((number * 16 % p + (get_or text i 0 - 48)) % p)
   read_digit h d = record {
     digits = omega (arith, prefix_len-drop_yes is_ascii_digit text i 0 h d, read.digits);
-    value =
-        continued (i + 1) 16 (get_or text i 0 - 48) (get_or text i 0 ∷ []) (take_more text i 0 h) refl
-        (omega (arith, value_of_digit (get_or text i 0) d));
+    value = grind (steps, continued, take_more, value_of_digit);
   }
 
   -- eight digits more
@@ -78,22 +68,13 @@ module _ {p before : ℕ} {text : List ℕ} {i number : ℕ} (read : IsReadTo p 
   pub read_end : length text ≤ i → i ≤ length text
       → (length text ≡ prefix_len is_ascii_digit text)
       × (number ≡ digits_value_after 16 before (take (length text) text) % p)
-  read_end h l =
-      let e : i ≡ length text = omega arith in (
-        omega (arith, prefix_len-drop_all is_ascii_digit text i h, read.digits, e),
-        read.value ∙ ap (λ j. digits_value_after 16 before (take j text) % p) e,
-      )
+  read_end h l = grind (arith, prefix_len-drop_all)
 
 -- ---- The integer digits and the fraction digits.
 -- the number of the integer digits continued by the fraction digits is the number of both
 fraction_numbered : (p : ℕ) (whole fraction : List ℕ) (number more : ℕ) → number ≡ digits_value 16 whole % p
     → more ≡ digits_value_after 16 number fraction % p → more ≡ digits_value 16 (whole ++ fraction) % p
-fraction_numbered p whole fraction number more e f =
-    let n = digits_value 16 whole in
-    f ∙ ap (λ m. m % p) (value_after number fraction)
-    ∙ ap (λ m. (m * 16 ^ length fraction + digits_value 16 fraction) % p) e
-    ∙ mod_step n (16 ^ length fraction) (digits_value 16 fraction) p
-    ∙ ap (λ m. m % p) (sym (after_append 0 whole fraction ∙ value_after n fraction))
+fraction_numbered p whole fraction number more e f = grind (arith, value_after, mod_step, after_append)
 
 -- k digits fit into 4 * k bits
 digits_fit : (k : ℕ) (text : List ℕ) → AllDigits 10 text → length text ≤ k → digits_value 16 text < 2 ^ (4 * k)
@@ -231,13 +212,7 @@ module _ (text : List ℕ) (whole number k : ℕ) (most : k ≤ 32) (few : lengt
       → IsPlainText text (record { whole = whole; fraction = fraction; number = n })
   plain fraction n parts size e =
       let all = digits_some text (plain_parts text whole) (sym (ap (option_map saturated_parts) parts)) in
-      record {
-        parts = parts;
-        whole = long text whole digits;
-        fraction = size;
-        few = omega (arith, at_most);
-        number = e ∙ mod-eq_of_lt (digits_fit k _ all at_most);
-      }
+      grind (steps, at_most, long, digits, mod-eq_of_lt, digits_fit)
 
   pub plain_whole : 0 < whole → drop whole text ≡ []
       → IsPlainText text (record { whole = whole; fraction = 0; number = number })

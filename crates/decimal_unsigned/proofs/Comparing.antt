@@ -1,16 +1,13 @@
 -- The order and the equality of two numbers, by their digits.
-use Rattle.decimal_unsigned.proofs.Common.{nat_tests, ◌≡◌, ℕ, zero, suc, ◌+◌, ◌-◌, ◌*◌, ◌^◌, ◌<◌, ◌≤◌, ◌%◌, ◌/◌, List, [], ◌∷◌, ◌++◌, length, get_or, drop, take, replicate, refl, sym, ◌∙◌, ap, arith, ◌⊎◌, inl, inr, min, ℤ, ◌<ℤ◌, nat_cmp, mul-le-mul_right, pow-le-pow_right, ints, recursion_from_All, number_lt, number_from_digits, AllBelowBase, offset, offset_is, IsStored, All, slice_cmp, below_sixteen, below_take, below_drop, length-drop, length-take-le, length-append, length-replicate, take-append-drop, Unsigned, IsValue, common_steps, steps, subst, pos, negsuc, ◌+ℤ◌, ◌-ℤ◌, ◌≤ℤ◌, cases_lt, Bool, true, false, text, read, digit, first, last, rules}
+use Rattle.decimal_unsigned.proofs.Common.{nat_tests, ◌≡◌, ℕ, zero, suc, ◌+◌, ◌-◌, ◌*◌, ◌^◌, ◌<◌, ◌≤◌, ◌%◌, ◌/◌, List, [], ◌∷◌, ◌++◌, length, get_or, drop, take, replicate, refl, sym, ◌∙◌, ap, arith, ◌⊎◌, inl, inr, min, ℤ, ◌<ℤ◌, nat_cmp, mul-le-mul_right, pow-le-pow_right, ints, recursion_from_All, number_lt, number_from_digits, AllBelowBase, offset, offset_is, IsStored, All, slice_cmp, below_sixteen, below_take, below_drop, length-drop, length-take-le, length-append, length-replicate, take-append-drop, Unsigned, IsValue, common_steps, steps, subst, pos, negsuc, ◌+ℤ◌, ◌-ℤ◌, ◌≤ℤ◌, cases_lt, Bool, true, false, text, read, digit, first, last, rules, same_number_lists, nat_list_cmp_total, tied_itself, padded, number_first, number_pad, length-padded, clamps}
 use Rattle.std.specs.declared.cmp.Ordering.{Ordering}
 use Rattle.std.specs.declared.cmp.Ordering.TheVariants.{Less, Equal, Greater}
 use Rattle.std.specs.Ordering.{ordering_then, ordering_reverse, int_cmp}
-use Rattle.std.specs.Cmp.{nat_cmp_is, IsEquivalence, and_equiv, on_equiv, nat_eq_equiv, int_eq_equiv}
-use Rattle.std.proofs.lemmas.Grind.{same_number_lists}
-use Rattle.std.proofs.lemmas.Cmp.{nat_list_cmp_total, tied_itself}
+use Rattle.std.specs.Cmp.{nat_cmp_is, IsEquivalence}
 use Rattle.std.proofs.lemmas.List.{take-take, ext_get_or}
 use Rattle.decimal_digits.specs.Digits.{number_of, number_at}
-use Rattle.decimal_digits.specs.Nibbles.{nibbles, digits_in, bcd_number, padded, IsPacked}
-use Rattle.decimal_digits.proofs.DigitLists.{number_first, number_pad}
-use Rattle.decimal_digits.proofs.LeadingBytes.{length-padded, padded_digits, padded_few, padded_front}
+use Rattle.decimal_digits.specs.Nibbles.{nibbles, digits_in, bcd_number, IsPacked}
+use Rattle.decimal_digits.proofs.LeadingBytes.{padded_digits, padded_few, padded_front}
 use Rattle.decimal_digits.proofs.Nibbles.{nibble_rules}
 use Rattle.decimal_unsigned.proofs.Values.{value_of_view, number_of-lt, number_of-ge, number_of-pos, number_of-none, lowest, first_of, last-number_of, none_of, digit-number_of-in}
 use Rattle.std.proofs.Common.{IsTrue, ◌↔◌}
@@ -139,11 +136,7 @@ ends_order xs ys b c same enough few fronts =
     rw (take-take k 8 xs (omega arith), take-take k 8 ys (omega arith)) at
     (front_ties k (take 8 xs) (take 8 ys) ties) in
     let both = append_order (take k xs) (take k ys) (drop k xs) (drop k ys) (grind (arith, length-take-le)) in
-    sym (numbers_decide 256 (drop k xs) (drop k ys) (below_drop 256 k xs b) (below_drop 256 k ys c)
-    (grind (arith, length-drop)))
-    ∙ sym (ap (λ r. ordering_then r (slice_cmp nat_cmp (drop k xs) (drop k ys))) front)
-    ∙ sym both
-    ∙ (λ i. slice_cmp nat_cmp (take-append-drop k xs i) (take-append-drop k ys i))
+    grind (steps, length-drop, numbers_decide, below_drop, take-append-drop)
 
 -- ---- packed bytes
 byte_order : (b c : ℕ) (r : Ordering)
@@ -292,9 +285,7 @@ pub same_is : (v w : Unsigned) → same v w ≡ true → v ≡ w
 same_is v w h = grind (arith, nat_tests, h)
 
 same_equiv : IsEquivalence same
-same_equiv =
-    and_equiv (on_equiv (λ (v : Unsigned). v.number) nat_eq_equiv)
-    (and_equiv (on_equiv (λ (v : Unsigned). v.hi) int_eq_equiv) (on_equiv (λ (v : Unsigned). v.lo) int_eq_equiv))
+same_equiv = search (rules, arith, ints, clamps, nat_tests)
 
 -- equal values pass the test
 pub is_same : (v w : Unsigned) → v ≡ w → same v w ≡ true

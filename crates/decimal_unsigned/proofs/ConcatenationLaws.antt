@@ -1,8 +1,8 @@
 -- Laws of concatenation.
-use Rattle.decimal_unsigned.proofs.Common.{◌≡◌, ℕ, ◌+◌, ◌-◌, ◌%◌, ◌<◌, ◌≤◌, false, nat_lt, ◌||◌, refl, ◌∙◌, ap, arith, inl, inr, ℤ, pos, ◌+ℤ◌, ◌-ℤ◌, ◌≤ℤ◌, int_max, int_min, ints, clamps, cases_lt, nat_tests, offset, weight, first, last, offset_is, Unsigned, IsValue, with_max_position, rules}
+use Rattle.decimal_unsigned.proofs.Common.{◌≡◌, ℕ, ◌+◌, ◌-◌, ◌%◌, ◌<◌, ◌≤◌, false, nat_lt, ◌||◌, refl, ◌∙◌, ap, arith, inl, inr, ℤ, pos, ◌+ℤ◌, ◌-ℤ◌, ◌≤ℤ◌, int_max, int_min, ints, clamps, cases_lt, nat_tests, offset, weight, first, last, offset_is, Unsigned, IsValue, with_max_position, rules, steps}
 use Rattle.decimal_unsigned.specs.Concatenation.{overlaps, concatenated_end}
 use Rattle.decimal_unsigned.specs.ConcatenationLaws.{ConcatenationIsAssociative}
-use Rattle.decimal_unsigned.proofs.Concatenations.{overlaps_first_zero, overlaps_second_zero, disjoint, not_overlapping}
+use Rattle.decimal_unsigned.proofs.Concatenations.{zero_overlaps, overlaps_zero, disjoint, not_overlapping}
 use Rattle.decimal_unsigned.proofs.FirstLast.{Extent, extent, first_of, last_of, first_sum, last_sum, first_le, parts_sum, parts_apart}
 
 -- a value other than 0 has a first and a last digit
@@ -52,17 +52,7 @@ module _ (u v w : Unsigned) (p : IsValue u) (q : IsValue v) (r : IsValue w) wher
       ≡ (overlaps v w || overlaps u (concatenated_end v w))
   unfolding overlaps
   overlaps_associative =
-      search (
-        rules,
-        arith,
-        ints,
-        clamps,
-        nat_tests,
-        overlaps_second_zero,
-        overlaps_first_zero,
-        back_absorbed,
-        front_absorbed,
-      )
+      search (rules, arith, ints, clamps, nat_tests, overlaps_zero, zero_overlaps, back_absorbed, front_absorbed)
 
   concatenated_end-assoc : concatenated_end (concatenated_end u v) w ≡ concatenated_end u (concatenated_end v w)
   concatenated_end-assoc = grind (arith, ints, clamps)
@@ -90,7 +80,4 @@ module _ (v t : Unsigned) (p : ℤ) (valid : IsValue v) (e : t.number ≡ v.numb
       → concatenated_end t (with_max_position v p) ≡ v
   parts_value hi lo above below =
       let f : first t.number ≤ℤ v.hi = grind (arith, first_le) in
-      let h : int_max t.hi (int_max (p -ℤ pos 1) (pos 0)) ≡ v.hi =
-      omega (arith, ints, clamps, hi, f, below, valid.hi_in) in
-      let l : int_min t.lo (int_min v.lo p) ≡ v.lo = omega (arith, ints, clamps, lo, above, valid.lo_in) in
-      λ i. record { number = parts_number i; hi = h i; lo = l i }
+      grind (steps, parts_number)

@@ -1,9 +1,9 @@
 -- Digits, zeros and then more digits.
-use Rattle.decimal_unsigned.proofs.Common.{recursion_from_All, ◌≡◌, ℕ, ◌+◌, ◌-◌, ◌*◌, ◌^◌, ◌<◌, ◌≤◌, false, List, ◌++◌, length, replicate, refl, sym, ◌∙◌, ap, arith, ℤ, pos, negsuc, ◌+ℤ◌, ◌-ℤ◌, ◌≤ℤ◌, ◌<ℤ◌, int_max, int_min, ints, clamps, pow-add, nat_tests, length-append, number_from_digits, offset, first, last, offset_is, gap_is, IsStored, Unsigned, length-replicate, steps}
+use Rattle.decimal_unsigned.proofs.Common.{recursion_from_All, ◌≡◌, ℕ, ◌+◌, ◌-◌, ◌*◌, ◌^◌, ◌<◌, ◌≤◌, false, List, ◌++◌, length, replicate, refl, sym, ◌∙◌, ap, arith, ℤ, pos, negsuc, ◌+ℤ◌, ◌-ℤ◌, ◌≤ℤ◌, ◌<ℤ◌, int_max, int_min, ints, clamps, pow-add, nat_tests, length-append, number_from_digits, offset, first, last, offset_is, gap_is, IsStored, Unsigned, length-replicate, steps, number_pad, All-from_recursion}
 use Rattle.std.proofs.lemmas.List.{get_or_append_left, get_or-append_right}
 use Rattle.decimal_digits.specs.Digits.{number_of, number_at}
-use Rattle.decimal_digits.proofs.DigitLists.{number-append, number_pad}
-use Rattle.std.proofs.lemmas.List.Elements.{All-append, All-from_recursion, All-replicate}
+use Rattle.decimal_digits.proofs.DigitLists.{number-append}
+use Rattle.std.proofs.lemmas.List.Elements.{All-append, All-replicate}
 use Rattle.decimal_unsigned.specs.Concatenation.{overlaps, concatenated_end, concatenated_size}
 use Rattle.decimal_unsigned.proofs.Values.{lowest, last-number_of, first_of, stored_as, last_covered, some_of}
 
@@ -115,14 +115,14 @@ module _ {ds es : List ℕ} {m hi lo n hi' lo' : ℤ} {v w : Unsigned} (t : IsSt
 
 -- ---- overlaps
 -- 0 overlaps nothing
-pub overlaps_first_zero : (v w : Unsigned) → v.number ≡ 0 → overlaps v w ≡ false
+pub zero_overlaps : (v w : Unsigned) → v.number ≡ 0 → overlaps v w ≡ false
 unfolding overlaps
-overlaps_first_zero v w z = grind (arith, nat_tests)
+zero_overlaps v w z = grind (arith, nat_tests)
 
 -- nothing overlaps 0
-pub overlaps_second_zero : (v w : Unsigned) → w.number ≡ 0 → overlaps v w ≡ false
+pub overlaps_zero : (v w : Unsigned) → w.number ≡ 0 → overlaps v w ≡ false
 unfolding overlaps
-overlaps_second_zero v w z = grind (arith, nat_tests)
+overlaps_zero v w z = grind (arith, nat_tests)
 
 -- if two numbers do not overlap, the first digit of the second is below the last digit of the first
 pub disjoint : (v w : Unsigned) → 0 < v.number → 0 < w.number → overlaps v w ≡ false → first w.number <ℤ last v.number

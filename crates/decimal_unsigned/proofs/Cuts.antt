@@ -1,7 +1,5 @@
 -- The part of a number below a position, by its digits.
-use Rattle.decimal_unsigned.proofs.Common.{◌≡◌, ℕ, ◌+◌, ◌-◌, ◌*◌, ◌%◌, ◌^◌, ◌<◌, ◌≤◌, min, List, length, get_or, take, drop, refl, sym, ◌∙◌, ap, subst, arith, inl, inr, ℤ, pos, negsuc, ◌+ℤ◌, ◌-ℤ◌, ◌≤ℤ◌, int_max, int_min, int_gap, mul-mod_left, mul-lt-mul_of_pos_right, pow-le-pow_right, ints, clamps, cases_lt, pow-add, length-drop, length-take-le, get_or-take, get_or-drop, number_from_digits, offset, weight, ten_pos, offset_is, gap_is, IsStored, with_max_position, mod-eq_of_lt, number_split, below_drop, steps}
-use Rattle.std.proofs.lemmas.Nat.{mod-mul-add}
-use Rattle.std.proofs.lemmas.List.{drop-drop}
+use Rattle.decimal_unsigned.proofs.Common.{◌≡◌, ℕ, ◌+◌, ◌-◌, ◌*◌, ◌%◌, ◌^◌, ◌<◌, ◌≤◌, min, List, length, get_or, take, drop, refl, sym, ◌∙◌, ap, subst, arith, inl, inr, ℤ, pos, negsuc, ◌+ℤ◌, ◌-ℤ◌, ◌≤ℤ◌, int_max, int_min, int_gap, mul-mod_left, mul-lt-mul_of_pos_right, pow-le-pow_right, ints, clamps, cases_lt, pow-add, length-drop, length-take-le, get_or-take, get_or-drop, number_from_digits, offset, weight, ten_pos, offset_is, gap_is, IsStored, with_max_position, mod-eq_of_lt, number_split, below_drop, steps, mod-mul-add, drop-drop}
 use Rattle.decimal_digits.specs.Digits.{number_of, number_at}
 use Rattle.decimal_digits.proofs.DigitLists.{number-drop-lt}
 use Rattle.decimal_unsigned.proofs.Middle.{number_zeros}
@@ -20,9 +18,9 @@ number_cut ds a start h w zeros =
     let split = number_split 10 (start - a) rest (omega (arith, long)) in
     grind (steps, length-drop, number_zeros, length-take-le, get_or-take, get_or-drop, drop-drop, number_split)
 
-number_of_is : (ds : List ℕ) (m : ℤ) → number_of ds m ≡ number_from_digits 10 ds * 10 ^ (offset m + 1 - length ds)
+number_is : (ds : List ℕ) (m : ℤ) → number_of ds m ≡ number_from_digits 10 ds * 10 ^ (offset m + 1 - length ds)
 unfolding number_of number_at
-number_of_is ds m = refl
+number_is ds m = refl
 
 -- a value of digits ds, the first at magnitude m, cut at a position: the first `start` digits are removed
 pub record Cuts (ds : List ℕ) (m lo p : ℤ) (start : ℕ) (m' hi' lo' : ℤ) : Type 0 where
@@ -75,25 +73,13 @@ module _ {ds : List ℕ} {m hi lo p m' hi' lo' : ℤ} {start : ℕ} (t : IsStore
   -- the remaining digits keep their magnitudes
   rest_is : number_of (drop start ds) m' ≡ rest_value * 10 ^ ends
   rest_is =
-      grind (
-        arith,
-        ints,
-        cases_lt,
-        number_of_is,
-        offset,
-        left,
-        offset_is,
-        lowest,
-        rest_none,
-        number_of-none,
-        stored_cut,
-      )
+      grind (arith, ints, cases_lt, number_is, offset, left, offset_is, lowest, rest_none, number_of-none, stored_cut)
 
   whole : (a : ℕ) → a ≡ min (int_gap p (m +ℤ pos 1)) (length ds)
       → number_of ds m ≡ number_from_digits 10 (take a ds) * 10 ^ (length ds - a + ends) + rest_value * 10 ^ ends
   whole a e =
       let n = number_cut ds a start (omega (arith, c.from)) c.within (λ k q r. c.zeros k (omega arith) r) in
-      number_of_is ds m ∙ (rw (n, pow-add 10 (length ds - a) ends) (omega arith))
+      number_is ds m ∙ (rw (n, pow-add 10 (length ds - a) ends) (omega arith))
 
   rest_below : (a : ℕ) → a ≤ start → rest_value * 10 ^ ends < 10 ^ (length ds - a + ends)
   rest_below a h = grind (arith, pow-le-pow_right, rest_lt, pow-add, mul-lt-mul_of_pos_right, ten_pos)
@@ -121,7 +107,7 @@ module _ {ds : List ℕ} {m hi lo p m' hi' lo' : ℤ} {start : ℕ} (t : IsStore
       let z : rest_value ≡ 0 = rest_none (omega (arith, c.from)) in
       let high = number_from_digits 10 ds * 10 ^ (ends - offset p) in
       let k : ends ≡ ends - offset p + offset p = grind (arith, gap_is, offset_is, lowest) in
-      let e : number_of ds m ≡ high * 10 ^ offset p = grind (arith, number_of_is, pow-add) in
+      let e : number_of ds m ≡ high * 10 ^ offset p = grind (arith, number_is, pow-add) in
       sym (ap (λ n. n % 10 ^ offset p) e ∙ mul-mod_left high (10 ^ offset p) ∙ (rw z (omega arith)))
 
   number_of-cut : number_of (drop start ds) m' ≡ number_of ds m % weight p

@@ -1,7 +1,6 @@
 -- Each number other than 0 has a first and a last digit.
-use Rattle.decimal_unsigned.proofs.Common.{◌≡◌, ℕ, zero, suc, ◌+◌, ◌-◌, ◌*◌, ◌/◌, ◌%◌, ◌^◌, ◌<◌, ◌≤◌, sym, ◌∙◌, ap, subst, arith, inl, inr, pow-le-pow_right, mul-le-mul_right, ints, ℤ, pos, ◌<ℤ◌, ◌≤ℤ◌, pow-add, cases_lt, offset, first, last, ten_pos, offset_is, pow-suc, mod-lt, magnitude_at, first_is, first_zero, steps, rules}
-use Rattle.std.proofs.Math.Nat.{mul_assoc, div-add-mod', le-mul_of_pos_right, lt_of_mul-lt-mul_right, mul-add-mod_self_right, mod-le, div-le_self}
-use Rattle.decimal_digits.proofs.Ends.{last_is}
+use Rattle.decimal_unsigned.proofs.Common.{◌≡◌, ℕ, zero, suc, ◌+◌, ◌-◌, ◌*◌, ◌/◌, ◌%◌, ◌^◌, ◌<◌, ◌≤◌, sym, ◌∙◌, ap, subst, arith, inl, inr, pow-le-pow_right, mul-le-mul_right, ints, ℤ, pos, ◌<ℤ◌, ◌≤ℤ◌, pow-add, cases_lt, offset, first, last, ten_pos, offset_is, pow-suc, mod-lt, magnitude_at, first_is, first_zero, steps, rules, mul_assoc, last_is}
+use Rattle.std.proofs.Math.Nat.{div-add-mod', le-mul_of_pos_right, lt_of_mul-lt-mul_right, mul-add-mod_self_right, mod-le, div-le_self}
 
 -- the first digit is at one offset and the last at another, and the number is a multiple of the weight of the latter
 pub record Extent (n : ℕ) : Type 0 where

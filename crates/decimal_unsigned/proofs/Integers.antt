@@ -1,10 +1,7 @@
 -- Digits whose last is at magnitude 0, without trailing zeros.
-use Rattle.decimal_unsigned.proofs.Common.{elements, ◌≡◌, ℕ, zero, suc, ◌+◌, ◌-◌, ◌*◌, ◌^◌, ◌<◌, ◌≤◌, List, length, get_or, take, drop, refl, sym, ◌∙◌, ap, arith, inl, inr, Result, Ok, Err, ℤ, pos, ◌≤ℤ◌, mul-le-mul_right, ints, pow-add, cases_lt, number_lt, length-take-le, get_or-take, recursion_from_All, number_from_digits, AllBelowBase, offset, weight, first, size, number_of, offset_is, ten_pos, below_take, IsStored, Unsigned, middle, IsNonzeroRange, All, magnitude_at, first_is, steps}
-use Rattle.std.specs.Prelude.{IfOk}
+use Rattle.decimal_unsigned.proofs.Common.{elements, ◌≡◌, ℕ, zero, suc, ◌+◌, ◌-◌, ◌*◌, ◌^◌, ◌<◌, ◌≤◌, List, length, get_or, take, drop, refl, sym, ◌∙◌, ap, arith, inl, inr, Result, Ok, Err, ℤ, pos, ◌≤ℤ◌, mul-le-mul_right, ints, pow-add, cases_lt, number_lt, length-take-le, get_or-take, recursion_from_All, number_from_digits, AllBelowBase, offset, weight, first, size, number_of, offset_is, ten_pos, below_take, IsStored, Unsigned, middle, IsNonzeroRange, All, magnitude_at, first_is, steps, IfOk, All-from_recursion, magnitude_at-offset}
 use Rattle.std.proofs.lemmas.Int.Digits.{all_below_base_digits_of, first_digits_of}
-use Rattle.std.proofs.lemmas.List.Elements.{All-from_recursion}
 use Rattle.std.specs.Int.Digits.{digits_of}
-use Rattle.decimal_digits.proofs.Offsets.{magnitude_at-offset}
 use Rattle.decimal_unsigned.specs.Unsigned.{integer_value, one_value}
 use Rattle.decimal_unsigned.proofs.FirstLast.{first_le}
 use Rattle.decimal_unsigned.proofs.Middle.{number_of-middle}
@@ -52,9 +49,7 @@ module _ {ds : List ℕ} {end : ℕ} (e : UpToLast ds end) where
           ap (λ l. number_of l m) (sym all)
           ∙ number_of-middle ds 0 end (length ds) b m inner (omega arith) (omega arith)
           (omega (arith, ints, at, h, offset_is m))
-      | inr h ↦
-          let n : number_from_digits 10 ds ≡ 0 = grind (arith, number_lt, all_digits) in
-          number_of-none whole_stored (omega (arith, long, e.within)) ∙ (rw n (omega arith))
+      | inr h ↦ grind (steps, number_lt, all_digits, long, number_of-none, whole_stored)
     ]
 
     -- they have the number of the integer
@@ -122,11 +117,7 @@ first_power k h = first_is (10 ^ k) k (omega arith) (omega (arith, ten_pos k, po
 pub integer_value-one : integer_value 1 ≡ one_value
 integer_value-one =
     let n : 1 * weight (pos 0) ≡ weight (pos 0) = omega arith in
-    let f =
-    ap first n
-    ∙ first_power (offset (pos 0)) (omega (arith, ints, offset_is (pos 0)))
-    ∙ magnitude_at-offset (pos 0) (omega (arith, ints)) in
-    λ i. record { number = n i; hi = f i; lo = pos 0 }
+    grind (steps, first_power, offset_is, magnitude_at-offset)
 
 -- where an integer is shown
 pub ruleset ranges = (shown_at_most, answer_at_most, integer_value-one)

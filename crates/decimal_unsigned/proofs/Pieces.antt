@@ -1,10 +1,10 @@
 -- Blocks and pieces of the text of a value, and texts of at most sixteen digits.
-use Rattle.decimal_unsigned.proofs.Common.{◌≡◌, ℕ, suc, ◌+◌, ◌-◌, ◌<◌, ◌≤◌, List, [], ◌∷◌, ◌++◌, length, take, drop, refl, sym, ◌∙◌, ap, arith, ℤ, pos, negsuc, ◌+ℤ◌, ◌-ℤ◌, ◌≤ℤ◌, int_gap, ints, length-append, length-drop, take_all, offset, offset_is, gap_is, Unsigned, IsValue, text, steps, common_steps, elements, get_or, replicate, inl, inr, min, ◌<ℤ◌, Option, None, Some, unwrap_or, cases_lt, get_or-take, get_or-drop, length-take-le, length-map, digit, number_of, IsStored, length-replicate, append-nil}
+use Rattle.decimal_unsigned.proofs.Common.{◌≡◌, ℕ, suc, ◌+◌, ◌-◌, ◌<◌, ◌≤◌, List, [], ◌∷◌, ◌++◌, length, take, drop, refl, sym, ◌∙◌, ap, arith, ℤ, pos, negsuc, ◌+ℤ◌, ◌-ℤ◌, ◌≤ℤ◌, int_gap, ints, length-append, length-drop, take_all, offset, offset_is, gap_is, Unsigned, IsValue, text, steps, common_steps, elements, get_or, replicate, inl, inr, min, ◌<ℤ◌, Option, None, Some, unwrap_or, cases_lt, get_or-take, get_or-drop, length-take-le, length-map, digit, number_of, IsStored, length-replicate, append-nil, get_or-map, IfSome}
 use Rattle.std.proofs.Math.Seq.{take-append-add, drop-append-add}
-use Rattle.std.proofs.lemmas.List.{take-append-le, drop-append-le, get_or-replicate, get_or-map, take_at}
+use Rattle.std.proofs.lemmas.List.{take-append-le, drop-append-le, get_or-replicate, take_at}
 use Rattle.decimal_unsigned.proofs.Lengths.{length-text}
 use Rattle.decimal_unsigned.proofs.Writing.{byte, bytes_down, length-bytes_down, bytes_down-part, fraction_text, text_is, bytes_are}
-use Rattle.std.specs.Prelude.{IfSome, IfNone}
+use Rattle.std.specs.Prelude.{IfNone}
 use Rattle.decimal_digits.specs.Digits.{text_of}
 use Rattle.decimal_unsigned.proofs.Values.{digit-number_of-above, digit-number_of-in, digit-number_of-below}
 

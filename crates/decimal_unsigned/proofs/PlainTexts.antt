@@ -1,13 +1,12 @@
 -- Eight bytes of a text at a time.
-use Rattle.decimal_unsigned.proofs.Common.{◌≡◌, ℕ, zero, suc, ◌+◌, ◌-◌, ◌*◌, ◌/◌, ◌%◌, ◌^◌, ◌<◌, ◌≤◌, List, [], ◌∷◌, ◌++◌, length, get_or, take, refl, sym, ◌∙◌, ap, subst, arith, number_from_digits, AllBelowBase, AllDigits, digits_value, digits_value_after, digit_value, pow-suc, length-map, digits_value_is, number_lt, below_sixteen, steps, rules, take_all, map}
+use Rattle.decimal_unsigned.proofs.Common.{◌≡◌, ℕ, zero, suc, ◌+◌, ◌-◌, ◌*◌, ◌/◌, ◌%◌, ◌^◌, ◌<◌, ◌≤◌, List, [], ◌∷◌, ◌++◌, length, get_or, take, refl, sym, ◌∙◌, ap, subst, arith, number_from_digits, AllBelowBase, AllDigits, digits_value, digits_value_after, digit_value, pow-suc, length-map, digits_value_is, number_lt, below_sixteen, steps, rules, take_all, map, all_below_base_from_digits, number_more, digits_value_more, bit_and, All-from_recursion, digit_value_digit}
 use Rattle.std.specs.Int.{w64, from_be_bytes}
 use Rattle.std.proofs.lemmas.Nat.{and_block, and_mask, or_block, or_of_8, le_or_l, le_or_r}
-use Rattle.std.proofs.lemmas.Int.Digits.{all_below_base_from_digits, number_more, digits_value_more, digits_more}
+use Rattle.std.proofs.lemmas.Int.Digits.{digits_more}
 use Rattle.decimal_unsigned.specs.PlainTexts.{bytes_below}
 use Rattle.decimal_unsigned.proofs.Comparing.{all_below}
-use Rattle.std.specs.Prelude.{bit_and, bit_or}
-use Rattle.std.proofs.lemmas.List.Elements.{All-from_recursion}
-use Rattle.std.proofs.lemmas.Str.{digit_value_digit}
+use Rattle.std.specs.Prelude.{bit_or}
+use Rattle.decimal_digits.proofs.Words.{eight_bytes}
 use Rattle.decimal_unsigned.proofs.BcdNumber.{Lanes, joined, value, value_front, mask, top, stepped, value_joined}
 
 -- ---- The bytes that are below ten.
@@ -135,10 +134,6 @@ module _ (n : ℕ) (h : n < 2 ^ 64) where
   packed_digits ds b few is =
       let whole = take_all (length ds) ds (omega arith) in
       grind (arith, packed_is, value_front, bytes_wider)
-
-eight_bytes : (bs : List ℕ) → length bs ≡ 8 → from_be_bytes w64 bs ≡ number_from_digits 256 bs
-eight_bytes (a ∷ (b ∷ (c ∷ (d ∷ (e ∷ (f ∷ (g ∷ (h ∷ [])))))))) l = omega arith
-eight_bytes bs l = absurd (omega arith)
 
 -- eight digits
 module _ (bytes : List ℕ) (word y : ℕ) (eight : length bytes ≡ 8) (below : (i : ℕ) → get_or bytes i 0 < 256)

@@ -1,15 +1,13 @@
 -- The exponent that the code stores, and the value of the parts by the digits that are kept.
-use Rattle.decimal_unsigned.proofs.Common.{◌≡◌, ℕ, ◌+◌, ◌-◌, ◌*◌, ◌^◌, ◌<◌, ◌≤◌, ◌==◌, Bool, true, false, ◌||◌, ◌⊎◌, ◌++◌, length, get_or, refl, sym, ◌∙◌, ap, subst, arith, ℤ, pos, negsuc, ◌+ℤ◌, ◌-ℤ◌, ◌≤ℤ◌, ◌<ℤ◌, int_lt, Option, Some, None, Ok, Err, int_max, int_min, ints, clamps, nat_tests, length-map, length-append, digit_value, AllDigits, digits_value, AllBelowBase, digits_value_is, first, last, Unsigned, number_of, offset_is, IsStored, Literal, limit, multiplied, middle, IsNonzeroRange, mantissa, steps, cond, inl, inr, List, [], ◌∷◌, cases_lt, parts_of, is_outside, view, option_map, rules}
-use Rattle.std.specs.Prelude.{if◌then◌else◌, IfSome}
-use Rattle.std.proofs.lemmas.Int.Digits.{all_below_base_from_digits}
+use Rattle.decimal_unsigned.proofs.Common.{◌≡◌, ℕ, ◌+◌, ◌-◌, ◌*◌, ◌^◌, ◌<◌, ◌≤◌, ◌==◌, Bool, true, false, ◌||◌, ◌⊎◌, ◌++◌, length, get_or, refl, sym, ◌∙◌, ap, subst, arith, ℤ, pos, negsuc, ◌+ℤ◌, ◌-ℤ◌, ◌≤ℤ◌, ◌<ℤ◌, int_lt, Option, Some, None, Ok, Err, int_max, int_min, ints, clamps, nat_tests, length-map, length-append, digit_value, AllDigits, digits_value, AllBelowBase, digits_value_is, first, last, Unsigned, number_of, offset_is, IsStored, Literal, limit, multiplied, middle, IsNonzeroRange, mantissa, steps, cond, inl, inr, List, [], ◌∷◌, cases_lt, parts_of, is_outside, view, option_map, rules, if◌then◌else◌, IfSome, all_below_base_from_digits, digits_of, saturated_parts, views}
 use Rattle.decimal_unsigned.proofs.Values.{number_of-pos, first-number_of, last-number_of, number_of_empty, stored_as}
 use Rattle.decimal_unsigned.proofs.Shifts.{Moves, moved, multiplied_is}
 use Rattle.decimal_unsigned.specs.Reading.{zeros_trimmed, scaled, value_of, value_or_syntax, read, syntax}
-use Rattle.decimal_unsigned.specs.ScannedDigits.{digits_of, IsPlan}
+use Rattle.decimal_unsigned.specs.ScannedDigits.{IsPlan}
 use Rattle.decimal_unsigned.specs.declared.decimal.parse.plan.Bounds.{Bounds}
 use Rattle.decimal_unsigned.specs.declared.decimal.parse.plan.Plan.{Plan}
 use Rattle.decimal_unsigned.proofs.Middle.{number_zeros, middle_length, number_of-middle, stored_middle}
-use Rattle.decimal_unsigned.specs.Parts.{saturated, saturated_parts, IsSaturated, views}
+use Rattle.decimal_unsigned.specs.Parts.{saturated, IsSaturated}
 use Rattle.decimal_unsigned.specs.declared.decimal.parse.parts.Parts.{Parts}
 use Rattle.decimal_unsigned.proofs.GrammarParts.{parts-sound}
 
@@ -92,14 +90,6 @@ exponent_found text None h = tt
 exponent_found text (Some p) h = grind (steps, saturated_some)
 
 -- ---- The value of the parts, by the digits that are kept.
--- a magnitude above 32767 fails the test
-pub over : (a : ℤ) → pos 32767 <ℤ a → int_lt (pos 32767) a ≡ true
-over a h = grind (arith, ints, h)
-
--- a magnitude below -32768 fails the test
-pub under : (a : ℤ) → a <ℤ negsuc 32767 → int_lt a (negsuc 32767) ≡ true
-under a h = grind (arith, ints, h)
-
 not_over : (a : ℤ) → a ≤ℤ pos 32767 → int_lt (pos 32767) a ≡ false
 not_over a h = grind (arith, ints, h)
 

@@ -1,10 +1,7 @@
 -- The text of a value is read as that value.
-use Rattle.decimal_unsigned.proofs.Common.{◌≡◌, ℕ, zero, suc, ◌+◌, ◌-◌, ◌*◌, ◌/◌, ◌%◌, ◌^◌, ◌<◌, ◌≤◌, nat_lt, false, List, [], ◌∷◌, ◌++◌, length, map, refl, sym, ◌∙◌, ap, arith, append-nil, ℤ, pos, negsuc, ◌+ℤ◌, ◌-ℤ◌, ◌≤ℤ◌, None, Ok, ints, nat_tests, pow-add, length-map, digit_value, int_gap, AllDigits, digits_value, digits_value_is, offset, weight, digit, ten_pos, offset_is, gap_is, Unsigned, IsValue, text, Literal, read, pow-suc, mod-lt, mod-eq_of_lt, steps}
+use Rattle.decimal_unsigned.proofs.Common.{◌≡◌, ℕ, zero, suc, ◌+◌, ◌-◌, ◌*◌, ◌/◌, ◌%◌, ◌^◌, ◌<◌, ◌≤◌, nat_lt, false, List, [], ◌∷◌, ◌++◌, length, map, refl, ◌∙◌, ap, arith, append-nil, ℤ, pos, negsuc, ◌+ℤ◌, ◌-ℤ◌, ◌≤ℤ◌, None, Ok, ints, nat_tests, pow-add, length-map, digit_value, int_gap, AllDigits, digits_value, digits_value_is, offset, weight, digit, ten_pos, offset_is, gap_is, Unsigned, IsValue, text, Literal, read, pow-suc, mod-lt, mod-eq_of_lt, steps, digit_value_digit, number_first, integer, decimal}
 use Rattle.std.proofs.Math.Arith.{mod-mul}
 use Rattle.std.proofs.Math.Nat.{div-div-eq-div-mul, div-lt_iff_lt-mul, div-add-mod'}
-use Rattle.std.proofs.lemmas.Str.{digit_value_digit}
-use Rattle.decimal_digits.proofs.DigitLists.{number_first}
-use Rattle.decimal_unsigned.specs.Grammar.{integer, decimal}
 use Rattle.decimal_unsigned.specs.Reading.{scaled, value_of}
 use Rattle.decimal_unsigned.proofs.ReadingGrammar.{read_grammar}
 use Rattle.decimal_unsigned.proofs.Writing.{byte, bytes_down, length-bytes_down, fraction_text, text_is}
@@ -40,11 +37,7 @@ bytes_worth number low m (suc n) h =
       length-map cs digit_value,
       length-bytes_down number (m -ℤ pos 1) n,
     ) refl) in
-    let s : number / 10 ^ offset m ≡ number / 10 ^ low / 10 ^ n = grind (arith, pow-add, div-div-eq-div-mul) in
-    let split : number / 10 ^ low % (10 * 10 ^ n)
-    ≡ (number / 10 ^ low / 10 ^ n % 10) * 10 ^ n + number / 10 ^ low % 10 ^ n = grind (arith, mod-mul, ten_pos) in
-    let p : 10 * 10 ^ n ≡ 10 ^ suc n = omega (arith, pow-suc 10 n) in
-    e ∙ ap (λ x. x % 10 * 10 ^ n + number / 10 ^ low % 10 ^ n) s ∙ sym split ∙ ap (λ x. number / 10 ^ low % x) p
+    grind (steps, pow-add, div-div-eq-div-mul, mod-mul, ten_pos, pow-suc)
 
 bytes-append : (number : ℕ) (m k : ℤ) (a b : ℕ) → k ≡ m -ℤ pos a
     → bytes_down number m a ++ bytes_down number k b ≡ bytes_down number m (a + b)
@@ -83,11 +76,7 @@ module _ (number : ℕ) (hi : ℤ) (dot b low : ℕ) (dot_is : pos dot ≡ hi +�
       let s : nat_lt 32768 (length whole) ≡ false = grind (arith, nat_tests, p, few) in
       let t : nat_lt 32768 (length fraction) ≡ false = grind (arith, nat_tests, q, split) in
       let low_is : 32768 - b ≡ low = omega arith in
-      let cut : number / 10 ^ low * 10 ^ low ≡ number = grind (arith, div-add-mod') in
-      let n : digits_value 10 (whole ++ fraction) * 10 ^ (32768 - length fraction) ≡ number =
-      rw (worth, q, low_is) cut in
-      let h : pos (length whole - 1) ≡ hi = omega (arith, ints, p) in
-      rw (s, t) (λ i. Ok (record { number = n i; hi = h i; lo = pos 0 -ℤ pos (q i) }))
+      grind (steps, div-add-mod', worth)
 
 module _ (v : Unsigned) (valid : IsValue v) where
   abbrev dot : ℕ

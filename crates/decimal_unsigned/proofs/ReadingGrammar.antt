@@ -1,6 +1,6 @@
 -- Reading and the grammar.
-use Rattle.decimal_unsigned.proofs.Common.{◌≡◌, ℕ, Bool, cond, ◌⊎◌, inl, inr, List, refl, sym, ◌∙◌, ap, arith, ℤ, Option, Some, None, Result, Ok, Err, Unsigned, Literal, parts_of, limit, Grammar, mantissa, steps}
-use Rattle.std.specs.Prelude.{IfOk, ◌↔◌}
+use Rattle.decimal_unsigned.proofs.Common.{◌≡◌, ℕ, Bool, cond, ◌⊎◌, inl, inr, List, refl, sym, ◌∙◌, ap, arith, ℤ, Option, Some, None, Result, Ok, Err, Unsigned, Literal, parts_of, limit, Grammar, mantissa, steps, IfOk}
+use Rattle.std.specs.Prelude.{◌↔◌}
 use Rattle.decimal_unsigned.specs.declared.error.ParseError.{ParseError}
 use Rattle.decimal_unsigned.specs.declared.error.ParseError.TheVariants.{Limit, Syntax}
 use Rattle.decimal_unsigned.specs.Reading.{ReadError, scaled, value_of, value_or_syntax, read, FollowsGrammar, syntax}

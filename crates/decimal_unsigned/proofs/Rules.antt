@@ -1,11 +1,5 @@
 -- Lists of lemmas for tactics.
-use Rattle.std.proofs.Common.{arith}
-use Rattle.std.proofs.lemmas.Bool.Decides.{nat_tests}
-use Rattle.std.proofs.lemmas.Grind.{common_steps}
-use Rattle.std.proofs.lemmas.Int.{ints, clamps, to_z-of_z}
+use Rattle.std.proofs.lemmas.Int.{to_z-of_z}
 
 -- a value that fits its type is kept
 pub ruleset kept = (to_z-of_z)
-
--- arithmetic of naturals and integers, tests, and lists
-pub ruleset steps = (arith, ints, clamps, nat_tests, common_steps)

@@ -1,9 +1,6 @@
 -- A value times a power of ten.
-use Rattle.decimal_unsigned.proofs.Common.{◌≡◌, ℕ, ◌+◌, ◌-◌, ◌*◌, ◌/◌, ◌^◌, ◌<◌, ◌≤◌, false, List, length, sym, ◌∙◌, ap, arith, ◌⊎◌, Some, None, ℤ, pos, negsuc, ◌+ℤ◌, ◌≤ℤ◌, ◌<ℤ◌, int_max, int_min, pow-add, ints, clamps, cases_lt, number_from_digits, offset, Unsigned, IsStored, leaves_limits, multiplied, offset_is, steps}
-use Rattle.std.proofs.Math.Nat.{zero-div}
+use Rattle.decimal_unsigned.proofs.Common.{◌≡◌, ℕ, ◌+◌, ◌-◌, ◌*◌, ◌/◌, ◌^◌, ◌<◌, ◌≤◌, false, List, length, sym, ◌∙◌, ap, arith, ◌⊎◌, Some, None, ℤ, pos, negsuc, ◌+ℤ◌, ◌≤ℤ◌, ◌<ℤ◌, int_max, int_min, pow-add, ints, clamps, cases_lt, number_from_digits, offset, Unsigned, IsStored, leaves_limits, multiplied, offset_is, steps, zero-div, multiplied_pow10, shift_up}
 use Rattle.decimal_digits.specs.Digits.{number_of, number_at}
-use Rattle.decimal_unsigned.specs.Edits.{multiplied_pow10}
-use Rattle.decimal_digits.proofs.Ends.{shift_up}
 use Rattle.decimal_unsigned.proofs.Values.{number_of-none, lowest, stored_as, last_covered}
 
 -- the range of a shifted value

@@ -1,15 +1,13 @@
 -- The digits that a value shows.
-use Rattle.decimal_unsigned.proofs.Common.{◌≡◌, ℕ, zero, suc, ◌+◌, ◌-◌, ◌*◌, ◌/◌, ◌%◌, ◌^◌, ◌<◌, List, [], ◌∷◌, ◌++◌, length, drop, min, get_or, refl, inl, inr, sym, ◌∙◌, ap, arith, w16, to_z, of_z, ℤ, pos, negsuc, ◌+ℤ◌, ◌-ℤ◌, ◌≤ℤ◌, ◌<ℤ◌, int_gap, All, ints, by_lt_z, cases_lt, to_z-of_z, digit, length-append, elements, gap_is, IsStored, ◌≤◌, rules, number_of, pow-add}
-use Rattle.std.proofs.lemmas.Grind.{same_number_lists}
-use Rattle.std.proofs.lemmas.List.{get_or_past, nil_from_length}
+use Rattle.decimal_unsigned.proofs.Common.{◌≡◌, ℕ, zero, suc, ◌+◌, ◌-◌, ◌*◌, ◌/◌, ◌%◌, ◌^◌, ◌<◌, List, [], ◌∷◌, ◌++◌, length, drop, min, get_or, refl, inl, inr, sym, ◌∙◌, ap, arith, w16, to_z, of_z, ℤ, pos, negsuc, ◌+ℤ◌, ◌-ℤ◌, ◌≤ℤ◌, ◌<ℤ◌, int_gap, All, ints, by_lt_z, cases_lt, to_z-of_z, digit, length-append, elements, gap_is, IsStored, ◌≤◌, rules, number_of, pow-add, same_number_lists, nil_from_length, padded, get_or-padded, length-padded, pow-le-pow_right, steps}
+use Rattle.std.proofs.lemmas.List.{get_or_past}
 use lib.Signed.{mag}
-use Rattle.decimal_digits.specs.Nibbles.{bcd_number, padded, word_nibbles}
-use Rattle.decimal_digits.proofs.LeadingBytes.{get_or-padded, length-padded}
+use Rattle.decimal_digits.specs.Nibbles.{bcd_number, word_nibbles}
 use Rattle.decimal_digits.proofs.Packing.{rest_at}
 use Rattle.decimal_digits.proofs.Words.{bcd_nibble, cut, word_nibble, zero_word}
 use Rattle.decimal_unsigned.specs.ShownDigits.{digits_down}
 use Rattle.decimal_unsigned.proofs.Values.{digit-number_of-above, digit-number_of-in, digit-number_of-below, high, magnitude_kept}
-use Rattle.std.proofs.Math.Nat.{div-div-eq-div-mul, div-eq_of_lt, pow-le-pow_right}
+use Rattle.std.proofs.Math.Nat.{div-div-eq-div-mul, div-eq_of_lt}
 
 -- ---- A word of digits.
 module _ (word ready : ℕ) (fits : word < 2 ^ 64) where
@@ -123,10 +121,7 @@ pub refilled : (ready old word count index rest : ℕ) (ds : List ℕ) → All (
 refilled ready old word count index rest ds h none some is fits by =
     let ys = padded (rest - count) (drop (index + 16) ds) in
     let empty : padded ready (word_nibbles old) ≡ [] = search (rules, arith, ints, nil_from_length, length-padded) in
-    ap (λ xs. xs ++ padded rest (drop index ds)) empty
-    ∙ word_front ds index rest h
-    ∙ (λ i. padded (sym by i) (word_nibbles (sym is i)) ++ padded (rest - sym by i) (drop (index + 16) ds))
-    ∙ ap (λ xs. xs ++ ys) (word_next word count fits (omega (arith, some, by)))
+    grind (steps, word_front, word_next)
 
 -- none are left
 pub none_left : (ready word index rest : ℕ) (ds : List ℕ) → ready ≡ 0 → rest ≡ 0

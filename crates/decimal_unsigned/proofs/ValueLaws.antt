@@ -1,10 +1,8 @@
 -- Laws of trims, and of the parts of a value at a position.
-use Rattle.decimal_unsigned.proofs.Common.{◌≡◌, ℕ, ◌-◌, ◌*◌, ◌%◌, ◌<◌, ◌≤◌, length, sym, ◌∙◌, ap, subst, arith, inl, inr, None, ℤ, pos, ◌≤ℤ◌, unwrap_or, int_max, int_min, pow-le-pow_right, ints, clamps, cases_lt, offset, weight, first, last, number_limit, unit_at, RoundingIncrement, MultiplesOf1, Trunc, no_more_zeros, offset_is, gap_is, Unsigned, IsValue, with_max_position, rounded, text, none-some, with_number, trunced, SplitsAt, steps, rules}
+use Rattle.decimal_unsigned.proofs.Common.{◌≡◌, ℕ, ◌-◌, ◌*◌, ◌%◌, ◌<◌, ◌≤◌, length, sym, ◌∙◌, ap, subst, arith, inl, inr, None, ℤ, pos, ◌≤ℤ◌, unwrap_or, int_max, int_min, pow-le-pow_right, ints, clamps, cases_lt, offset, weight, first, last, number_limit, unit_at, RoundingIncrement, MultiplesOf1, Trunc, no_more_zeros, offset_is, gap_is, Unsigned, IsValue, with_max_position, rounded, text, none-some, with_number, trunced, SplitsAt, steps, rules, last_zero, rounding}
 use Rattle.decimal_digits.specs.Rounding.{rounded_number}
-use Rattle.decimal_digits.proofs.Ends.{last_zero}
 use Rattle.decimal_unsigned.specs.ValueLaws.{trimmed, TrimmedIsNormalForm, IsShortest}
 use Rattle.decimal_unsigned.specs.Edits.{trimmed_start, trimmed_end}
-use Rattle.decimal_unsigned.specs.Rounded.{rounding}
 use Rattle.decimal_unsigned.specs.Unsigned.{IsLeastHi, IsGreatestLo}
 use Rattle.decimal_unsigned.proofs.FirstLast.{last_of, first_le}
 use Rattle.decimal_unsigned.proofs.ConcatenationLaws.{extent_of, parts_join, parts_number, parts_value}

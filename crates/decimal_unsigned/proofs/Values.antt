@@ -1,11 +1,9 @@
 -- What the digits of a value say of its number, and which digits are stored.
-use Rattle.decimal_unsigned.proofs.Common.{◌≡◌, ℕ, ◌+◌, ◌-◌, ◌*◌, ◌^◌, ◌<◌, ◌≤◌, List, [], length, ◌∙◌, ap, arith, w16, to_z, of_z, ℤ, pos, negsuc, ◌+ℤ◌, ◌-ℤ◌, ◌≤ℤ◌, ◌<ℤ◌, mul-le-mul_right, mul-lt-mul_of_pos_right, pow-add, ints, nat_tests, to_z-of_z, int_gap, number_lt, number_from_digits, AllBelowBase, offset, digit, first, last, size, IsStored, ten_pos, offset_is, gap_is, number_back, first_is, first_zero, steps, ◌%◌, subst, pow-le-pow_right, mul-mod_left, Unsigned, IsValue, sym, no_more_zeros, IsLast, w32}
-use Rattle.std.specs.Prelude.{slice_index}
+use Rattle.decimal_unsigned.proofs.Common.{◌≡◌, ℕ, ◌+◌, ◌-◌, ◌*◌, ◌^◌, ◌<◌, ◌≤◌, List, [], length, ◌∙◌, ap, arith, w16, to_z, of_z, ℤ, pos, negsuc, ◌+ℤ◌, ◌-ℤ◌, ◌≤ℤ◌, ◌<ℤ◌, mul-le-mul_right, mul-lt-mul_of_pos_right, pow-add, ints, nat_tests, to_z-of_z, int_gap, number_lt, number_from_digits, AllBelowBase, offset, digit, first, last, size, IsStored, ten_pos, offset_is, gap_is, number_back, first_is, first_zero, steps, ◌%◌, subst, pow-le-pow_right, mul-mod_left, Unsigned, IsValue, sym, no_more_zeros, IsLast, w32, slice_index, magnitude_at-offset, last_is, last_zero}
 use lib.Signed.{mag}
 use Rattle.decimal_digits.specs.Digits.{number_of, number_at}
 use Rattle.decimal_digits.proofs.DigitLists.{number_front, number-digit}
-use Rattle.decimal_digits.proofs.Offsets.{magnitude_at-offset}
-use Rattle.decimal_digits.proofs.Ends.{last_is, last_zero, digit_above, digit_below, shift_down}
+use Rattle.decimal_digits.proofs.Ends.{digit_above, digit_below, shift_down}
 use Rattle.decimal_digits.specs.Number.{IsFirst}
 
 -- the offset of the last digit
@@ -204,10 +202,7 @@ module _ {ds : List ℕ} {m hi lo : ℤ} (t : IsStored ds m hi lo) where
     divides = λ p.
         subst (λ k. number_of ds m % 10 ^ k ≡ 0) (sym (ends_at (some_of t p)))
         (mul-mod_left (number_from_digits 10 ds) (10 ^ (offset m + 1 - length ds)));
-    highest = λ p k h.
-        let s = some_of t p in
-        let b : 0 < number_from_digits 10 ds % 10 = rw (number_back ds t.digits s) (t.back s) in
-        no_more_zeros (number_from_digits 10 ds) (offset m + 1 - length ds) k b (omega (arith, ends_at s));
+    highest = grind (steps, some_of, number_back, no_more_zeros, ends_at);
     none = λ z. last_of_none t (none_of t z);
   }
     where

@@ -1,16 +1,15 @@
 -- The integer that the digits of a value write.
-use Rattle.decimal_unsigned.proofs.Common.{w16, to_z, of_z, zero, suc, ◌≡◌, ℕ, ◌+◌, ◌-◌, ◌*◌, ◌/◌, ◌%◌, ◌^◌, ◌<◌, ◌≤◌, List, length, get_or, take, drop, refl, sym, ◌∙◌, ap, arith, Ok, Err, ℤ, pos, ◌+ℤ◌, ◌<ℤ◌, nat_tests, mul-mod_left, pow-le-pow_right, ints, length-take-le, take_all, recursion_from_All, number_from_digits, AllBelowBase, offset, weight, leading, offset_is, ten_pos, below_take, no_more_zeros, IsStored, Unsigned, IsValue, Result, All, number_back, below_sixteen, leading_none, steps, pow-add, get_or-drop}
+use Rattle.decimal_unsigned.proofs.Common.{w16, to_z, of_z, zero, suc, ◌≡◌, ℕ, ◌+◌, ◌-◌, ◌*◌, ◌/◌, ◌%◌, ◌^◌, ◌<◌, ◌≤◌, List, length, get_or, take, drop, refl, sym, ◌∙◌, ap, arith, Ok, Err, ℤ, pos, ◌+ℤ◌, ◌<ℤ◌, nat_tests, mul-mod_left, pow-le-pow_right, ints, length-take-le, take_all, recursion_from_All, number_from_digits, AllBelowBase, offset, weight, leading, offset_is, ten_pos, below_take, no_more_zeros, IsStored, Unsigned, IsValue, Result, All, number_back, below_sixteen, leading_none, steps, pow-add, get_or-drop, number-div, get_or-padded, in_range}
 use Rattle.std.proofs.Math.Nat.{mul-div_cancel}
 use Rattle.std.proofs.lemmas.Int.Digits.{number_more as number_more_digits}
 use Rattle.decimal_digits.specs.Nibbles.{bcd_number}
 use Rattle.decimal_digits.specs.Digits.{number_of, number_at}
-use Rattle.decimal_digits.proofs.DigitLists.{number-div}
-use Rattle.decimal_digits.proofs.LeadingBytes.{hex_pow, sixteen, sixteen_are, sixteen_digits, get_or-padded}
+use Rattle.decimal_digits.proofs.LeadingBytes.{hex_pow, sixteen, sixteen_are, sixteen_digits}
 use Rattle.decimal_digits.proofs.NumberAt.{number_at-more, number_at-lt, number_at-ge}
 use Rattle.decimal_digits.proofs.Leading.{leading_more}
 use Rattle.decimal_unsigned.specs.declared.error.IntegerError.TheVariants.{NotWhole, OutOfRange}
 use Rattle.decimal_unsigned.specs.declared.error.IntegerError.{IntegerError}
-use Rattle.decimal_unsigned.specs.ToInteger.{in_range, as_integer}
+use Rattle.decimal_unsigned.specs.ToInteger.{as_integer}
 use Rattle.decimal_unsigned.proofs.Values.{told, magnitude_kept}
 
 -- ---- the result

@@ -1,32 +1,19 @@
 -- The lemmas for callers: what a proof outside these libraries cites of them, each with its use.
-use Rattle.std.proofs.Common.{◌≡◌, ℕ, zero, suc, ◌+◌, ◌-◌, ◌*◌, ◌/◌, ◌%◌, ◌^◌, ◌<◌, ◌≤◌, false, inl, inr, List, [], ◌∷◌, ◌++◌, length, refl, sym, ◌∙◌, ap, arith, rules, append_assoc, Option}
-use Rattle.std.specs.Prelude.{Ok, Err, Some, None, ◌↔◌, nat_lt, unsigned_abs, ℤ, pos, negsuc, ◌+ℤ◌, ◌-ℤ◌, ◌≤ℤ◌, ◌<ℤ◌, ◌==◌}
+use Rattle.fixed_decimal.proofs.Common.{◌≡◌, ℕ, zero, suc, ◌+◌, ◌-◌, ◌*◌, ◌/◌, ◌<◌, ◌≤◌, false, List, [], ◌∷◌, ◌++◌, refl, sym, ◌∙◌, ap, arith, Ok, Err, Some, ℤ, pos, ◌-ℤ◌, Appends, mod-lt, ints, clamps, nat_tests, AppendsPrefix, weight, digit, size, IsNearest, with_number, dot_before, text_down, text, Unsigned, IsValue, Decimal, signed_number, with_absolute}
+use Rattle.std.proofs.Common.{◌%◌, ◌^◌, inl, inr, append_assoc, Option}
+use Rattle.std.specs.Prelude.{◌↔◌, unsigned_abs, negsuc, ◌+ℤ◌, ◌≤ℤ◌, ◌<ℤ◌, ◌==◌}
 use Rattle.std.specs.Int.{int_gap, abs_diff}
-use Rattle.std.specs.Io.KnownBytes.{Appends}
-use Rattle.std.specs.Str.Parse.{AllDigits}
-use Rattle.std.proofs.Math.Nat.{mul_assoc, mul-le-mul_right, mul-lt-mul_of_pos_right, le-mul_of_pos_right, mul-div_cancel, mul-mod_left, div-add-mod', mod-lt, mod-eq_of_lt, pow-le-pow_right}
-use Rattle.std.proofs.Math.Arith.{mod-mul}
-use Rattle.std.proofs.lemmas.Int.{ints, clamps}
-use Rattle.std.proofs.lemmas.Nat.{le-div, div_below}
+use Rattle.std.proofs.Math.Nat.{mul_assoc, mul-le-mul_right, mul-lt-mul_of_pos_right, le-mul_of_pos_right, mul-div_cancel, mul-mod_left, div-add-mod', pow-le-pow_right}
 use Rattle.std.proofs.lemmas.Bool.{cases_lt}
-use Rattle.std.proofs.lemmas.Bool.Decides.{nat_tests}
-use Rattle.decimal_digits.specs.AppendsPrefix.{AppendsPrefix}
-use Rattle.decimal_digits.specs.Number.{offset, weight, digit, magnitude_at, first, last, size}
-use Rattle.decimal_digits.specs.Rounding.{IsNearest}
-use Rattle.decimal_digits.proofs.Ends.{shift_up, no_more_zeros}
-use Rattle.decimal_unsigned.specs.Grammar.{Literal, decimal, integer}
-use Rattle.decimal_unsigned.specs.Reading.{mantissa, scaled, value_of, value_or_syntax, read}
+use Rattle.decimal_digits.specs.Number.{offset, magnitude_at, first, last}
+use Rattle.decimal_digits.proofs.Ends.{no_more_zeros}
+use Rattle.decimal_unsigned.specs.Reading.{read}
 use Rattle.decimal_unsigned.specs.ValueLaws.{trimmed}
-use Rattle.decimal_unsigned.specs.Rounded.{with_number, rounded_to}
-use Rattle.decimal_unsigned.specs.Text.{dot_before, text_down, text}
+use Rattle.decimal_unsigned.specs.Rounded.{rounded_to}
 use Rattle.decimal_unsigned.specs.ToInteger.{as_integer}
-use Rattle.decimal_unsigned.specs.Unsigned.{Unsigned, IsValue}
 use Rattle.decimal_unsigned.specs.declared.error.IntegerError.TheVariants.{NotWhole, OutOfRange}
-use Rattle.fixed_decimal.specs.Decimal.{Decimal, signed_number, with_absolute}
 use Rattle.decimal_unsigned.proofs.ConcatenationLaws.{extent_of}
 use Rattle.decimal_unsigned.proofs.FirstLast.{top_lt, first_sum, last_sum}
-use Rattle.decimal_unsigned.proofs.GrammarParts.{parts-complete}
-use Rattle.decimal_unsigned.proofs.WholeNumbers as whole_numbers
 -- for `omega`: an offset is the magnitude plus 32768
 pub use Rattle.decimal_digits.proofs.Offsets.{offset_is}
 -- for `omega`: how far one magnitude is above another
@@ -79,10 +66,8 @@ pub use Rattle.decimal_digits.proofs.RoundingLaws.{rounded_number-multiple}
 pub use Rattle.decimal_digits.proofs.RoundingLaws.{rounded_number-idempotent}
 -- a greater number is rounded to no less
 pub use Rattle.decimal_digits.proofs.RoundingLaws.{rounded_number-monotone}
--- a prefix is a prefix of a longer text; a text and then a prefix of the next; the empty text is a prefix of each
-pub use Rattle.decimal_digits.proofs.Sinks.{prefix_more, then_prefix, prefix_none}
--- a sink after a number of pieces: if it had failed before the first piece, it is unchanged
-pub use Rattle.decimal_digits.proofs.Sinks.{IsFresh, fresh_more, fresh_some, fresh_keeps, fresh_ends}
+-- a prefix is a prefix of a longer text; a text and then a prefix of the next
+pub use Rattle.decimal_digits.proofs.Sinks.{prefix_more, then_prefix}
 -- a true proposition holds on an error
 pub use Rattle.decimal_digits.proofs.Results.{on_err}
 
@@ -90,19 +75,6 @@ pub use Rattle.decimal_digits.proofs.Results.{on_err}
 -- the weight of a magnitude k higher is 10 to the k times as much
 pub weight_up : (m : ℤ) (k : ℕ) → negsuc 32767 ≤ℤ m → weight (m +ℤ pos k) ≡ weight m * 10 ^ k
 weight_up m k h = powers (offset m) k (offset (m +ℤ pos k)) (omega (arith, ints, offset_is m, offset_is (m +ℤ pos k)))
-
--- ---- The first and the last digit of a number.
--- division by 10 ^ k moves the first digit down by k, if that is at offset k or above
-pub first_down : (n top k : ℕ) → 10 ^ top ≤ n → n < 10 ^ (top + 1) → k ≤ top → top < 65536
-    → first (n / 10 ^ k) ≡ magnitude_at (top - k)
-first_down n top k h l fits few =
-    let low : 10 ^ top ≡ 10 ^ (top - k) * 10 ^ k = powers (top - k) k top (omega arith) in
-    let high : 10 ^ (top + 1) ≡ 10 ^ (top - k + 1) * 10 ^ k = powers (top - k + 1) k (top + 1) (omega arith) in
-    grind (arith, ints, clamps, nat_tests, first_is, le-div, ten_pos, div_below)
-
--- and the last digit down by k, if the number has at least k trailing zeros
-pub last_down : (v e k : ℕ) → 0 < v % 10 → k ≤ e → e < 65536 → last (v * 10 ^ e / 10 ^ k) ≡ magnitude_at (e - k)
-last_down v e k odd h few = ap last (shift_up v e k h) ∙ last_is v (e - k) odd (omega arith)
 
 -- ---- The number of digits from the first to the last nonzero one.
 size_some : (n : ℕ) → 0 < n → size n ≡ int_gap (last n) (first n) + 1
@@ -211,18 +183,6 @@ module _ (n i j b c : ℕ) (few : n * 10 ^ i < 10 ^ b) (less : n * 10 ^ j < 10 ^
   ]
 
 -- ---- Integers.
--- the digit of an integer's value at a magnitude of at least 0
-pub digit_of_integer : (n k : ℕ) → digit (n * weight (pos 0)) (pos k) ≡ n / 10 ^ k % 10
-digit_of_integer n k =
-    let up : offset (pos k) - offset (pos 0) ≡ k = omega (arith, ints, offset_is (pos k), offset_is (pos 0)) in
-    let above : offset (pos 0) ≤ offset (pos k) = omega (arith, ints, offset_is (pos k), offset_is (pos 0)) in
-    ap (λ i. i % 10) (shift_down n (offset (pos 0)) (offset (pos k)) above ∙ ap (λ i. n / 10 ^ i) up)
-
--- the value of an integer n is converted to n, if n is below the bound: what `try_to_u64` returns at 2 to the 64
-pub integer_of : (bound n : ℕ) → n < bound → as_integer bound (n * weight (pos 0)) ≡ Ok n
-integer_of bound n h =
-    whole_numbers.as_integer-whole bound (n * weight (pos 0)) n refl ∙ whole_numbers.in_range-below bound n h
-
 -- the first digit of an integer's value: at k for an integer of k + 1 digits
 pub first_of_integer : (n k : ℕ) → 10 ^ k ≤ n → n < 10 ^ (k + 1) → k < 32768 → first (n * weight (pos 0)) ≡ pos k
 first_of_integer n k least most few =
@@ -264,35 +224,6 @@ module _ (bound number : ℕ) where
   pub out_of_range_whole : as_integer bound number ≡ Err OutOfRange → number % weight (pos 0) ≡ 0
   out_of_range_whole h = grind (arith, nat_tests)
 
--- ---- The digits of a value.
--- the sum of the digits times their weights, at the given number of magnitudes from m down
-unfoldable pub worth_down : ℕ → ℤ → ℕ → ℕ
-worth_down number m zero = 0
-worth_down number m (suc k) = digit number m * weight m + worth_down number (m -ℤ pos 1) k
-
-digits_worth : (number count p : ℕ) (m : ℤ) → (0 < count → offset m + 1 ≡ p) → count ≤ p
-    → worth_down number m count + number % 10 ^ (p - count) ≡ number % 10 ^ p
-unfolding worth_down
-digits_worth number zero p m at h = let e : p - 0 ≡ p = omega arith in rw e (omega arith)
-digits_worth number (suc k) p m at h =
-    let here : offset m ≡ p - 1 = omega (arith, at (omega arith)) in
-    let below : 0 < k → offset (m -ℤ pos 1) + 1 ≡ p - 1 = grind (arith, ints, clamps, nat_tests, offset_is) in
-    let rest = digits_worth number k (p - 1) (m -ℤ pos 1) below (omega arith) in
-    let last : p - 1 - k ≡ p - suc k = omega arith in
-    let split : 10 ^ p ≡ 10 * 10 ^ (p - 1) = powers 1 (p - 1) p (omega arith) in
-    let cut : number % (10 * 10 ^ (p - 1)) ≡ number / 10 ^ (p - 1) % 10 * 10 ^ (p - 1) + number % 10 ^ (p - 1) =
-    mod-mul number (omega arith) (ten_pos (p - 1)) in
-    rw (here, split, cut, ← last) (omega (arith, rest))
-
--- the sum of a value's digits times their weights is its number
-pub digits_make_number : (v : Unsigned) → IsValue v → worth_down v.number v.hi (int_gap v.lo v.hi + 1) ≡ v.number
-digits_make_number v valid =
-    let count = int_gap v.lo v.hi + 1 in
-    let rest : offset v.hi + 1 - count ≡ offset v.lo = grind (arith, ints, clamps, nat_tests, gap_is, offset_is) in
-    let all = digits_worth v.number count (offset v.hi + 1) v.hi (λ h. refl)
-    (omega (arith, ints, gap_is v.lo v.hi, offset_is v.hi, offset_is v.lo, valid.hi_in, valid.lo_in)) in
-    omega (arith, rw rest at all, valid.whole, mod-eq_of_lt valid.below)
-
 -- ---- Texts.
 -- the bytes of the last k digits of n, the first at magnitude m, with a decimal point before magnitude -1
 abbrev pub digits_down : ℕ → ℤ → ℕ → List ℕ
@@ -329,30 +260,6 @@ text_down-add number m (suc i) j =
     ∙ sym (append_assoc here (text_down number (m -ℤ pos 1) i) (text_down number ((m -ℤ pos 1) -ℤ pos i) j))
     ∙ ap (λ l. l ++ text_down number ((m -ℤ pos 1) -ℤ pos i) j) (sym (text_down-suc number m i))
     ∙ ap (λ x. text_down number m (suc i) ++ text_down number x j) next
-
--- a text without a decimal point and without an exponent reads as the number that its digits write
-pub read_integer_text : (whole : List ℕ) → AllDigits 10 whole → 0 < length whole → length whole ≤ 32768
-    → read whole ≡ Ok (mantissa whole [])
-unfolding read value_or_syntax value_of scaled
-read_integer_text whole digits some few =
-    let w : Literal = record { whole = whole; fraction = []; exponent = None } in
-    let parts = parts-complete whole w (record { whole = digits; fraction = tt; form = integer some refl refl refl }) in
-    let long : nat_lt 32768 (length whole) ≡ false = search rules in
-    rw (parts, long) refl
-
--- a text with a decimal point and without an exponent reads as the number that its digits write
-pub read_decimal_text : (whole fraction : List ℕ) → AllDigits 10 whole → AllDigits 10 fraction → 0 < length fraction
-    → length whole ≤ 32768 → length fraction ≤ 32768
-    → read (whole ++ 46 ∷ fraction) ≡ Ok (mantissa whole fraction)
-unfolding read value_or_syntax value_of scaled
-read_decimal_text whole fraction digits decimals some few few_decimals =
-    let w : Literal = record { whole = whole; fraction = fraction; exponent = None } in
-    let parts =
-    parts-complete (whole ++ 46 ∷ fraction) w
-    (record { whole = digits; fraction = decimals; form = decimal some refl refl }) in
-    let long : nat_lt 32768 (length whole) ≡ false = search rules in
-    let long_decimals : nat_lt 32768 (length fraction) ≡ false = search rules in
-    rw (parts, long, long_decimals) refl
 
 -- ---- A text of three pieces.
 -- the prefix of the text that a sink has taken, if the first, the second or the third piece fails
@@ -425,11 +332,4 @@ absolute_number v = grind (arith, ints)
 pub nearest_within : (unit n multiple : ℕ) → 0 < unit → IsNearest unit (pos n) (pos multiple)
     → 2 * abs_diff n multiple ≤ unit
 nearest_within unit n multiple some nearest =
-    omega (
-      arith,
-      ints,
-      nearest (pos (n / unit)),
-      nearest (pos (n / unit + 1)),
-      div-add-mod' n unit,
-      mod-lt n some,
-    )
+    omega (arith, ints, nearest (pos (n / unit)), nearest (pos (n / unit + 1)), div-add-mod' n unit, mod-lt n some)

@@ -1,19 +1,13 @@
 -- The text of a compact value: its exponent's digits, and that it reads as the value.
-use Rattle.std.proofs.Common.{◌≡◌, ℕ, zero, suc, ◌+◌, ◌/◌, ◌%◌, ◌^◌, ◌<◌, ◌≤◌, Bool, true, false, append-nil, List, [], ◌∷◌, get_or, refl, sym, ◌∙◌, ap, arith}
-use Rattle.std.specs.Prelude.{Option, Some, None, Ok, Err}
+use Rattle.fixed_decimal.proofs.Common.{◌≡◌, ℕ, zero, suc, ◌+◌, ◌/◌, ◌<◌, ◌≤◌, Bool, false, List, [], ◌∷◌, get_or, refl, sym, ◌∙◌, ap, arith, Option, Some, None, Ok, Err, list_any, IsUtf8, nat_tests, list_any-append, syntax, is_letter, decimal_text, read_decimal, and_then}
+use Rattle.std.proofs.Common.{◌%◌, ◌^◌, true, append-nil}
 use Rattle.std.specs.Fmt.{decimal}
-use Rattle.std.specs.List.{list_any}
-use Rattle.std.specs.Str.{IsUtf8}
 use Rattle.std.specs.Str.Parse.{AllDigits, IsNumeral, digits_value}
 use Rattle.std.proofs.Math.Dec.{eqb-suc-zero}
-use Rattle.std.proofs.lemmas.Bool.Decides.{nat_tests}
 use Rattle.std.proofs.lemmas.Fmt.{IsAscii-decimal, decimal_digit, decimal_step, decimal_is_IsNumeral, first_decimal}
-use Rattle.std.proofs.lemmas.List.Folds.{list_any-append}
 use Rattle.std.proofs.lemmas.Str.{IsUtf8-nil, IsUtf8-from_ascii, IsAscii-append}
 use Rattle.std.proofs.lemmas.Str.Parse.{digit_from_value}
-use Rattle.decimal_unsigned.specs.Reading.{syntax, is_letter}
 use Rattle.decimal_unsigned.proofs.GrammarParts.{numeral-complete}
-use Rattle.fixed_decimal.specs.DecimalText.{decimal_text, read_decimal, and_then}
 use Rattle.fixed_decimal.specs.Compact.{split_at_c, IsSplitAtC, ReadsCompact, Compact, exponent_text, compact_text, exponent_number_of, read_exponent, read_fields, read_compact, with_c}
 use Rattle.fixed_decimal.proofs.DecimalBytes.{PassesNone, decimal_text-lacks, letter-none, c-none}
 use Rattle.fixed_decimal.proofs.Splitting.{split_none, split_at}

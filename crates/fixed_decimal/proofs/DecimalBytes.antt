@@ -1,23 +1,11 @@
 -- The bytes of a decimal's text, and its length.
-use Rattle.std.proofs.Common.{◌≡◌, ℕ, zero, suc, ◌+◌, ◌/◌, ◌<◌, ◌≤◌, Bool, false, [], ◌∷◌, ◌++◌, length, refl, ◌∙◌, ap, arith}
-use Rattle.std.specs.Prelude.{ℤ, pos, ◌-ℤ◌}
-use Rattle.std.specs.List.{list_any}
-use Rattle.std.proofs.lemmas.Int.{ints}
-use Rattle.std.proofs.lemmas.Bool.Decides.{nat_tests}
+use Rattle.fixed_decimal.proofs.Common.{◌≡◌, ℕ, zero, suc, ◌+◌, ◌/◌, ◌<◌, ◌≤◌, Bool, false, [], ◌∷◌, ◌++◌, length, refl, ◌∙◌, ap, arith, ℤ, pos, ◌-ℤ◌, list_any, ints, nat_tests, list_any-append, mod-lt, digit, weight, IsValue, dot_before, text_down, is_letter, Decimal, sign_text, decimal_text}
 use Rattle.std.proofs.lemmas.List.{length-append}
-use Rattle.std.proofs.lemmas.List.Folds.{list_any-append}
-use Rattle.std.proofs.Math.Nat.{mod-lt}
-use Rattle.decimal_digits.specs.Number.{digit, weight}
 use Rattle.decimal_digits.proofs.Offsets.{gap_is}
-use Rattle.decimal_unsigned.specs.Unsigned.{IsValue}
-use Rattle.decimal_unsigned.specs.Text.{dot_before, text_down}
-use Rattle.decimal_unsigned.specs.Reading.{is_letter}
 use Rattle.decimal_unsigned.proofs.Lengths.{length-text_whole}
 use Rattle.decimal_unsigned.proofs.Writing.{text_down-suc, text_down-zero}
 use Rattle.fixed_decimal.specs.declared.variations.Sign.{Sign}
 use Rattle.fixed_decimal.specs.Letters.{is_c}
-use Rattle.fixed_decimal.specs.Decimal.{Decimal}
-use Rattle.fixed_decimal.specs.DecimalText.{sign_text, decimal_text}
 use Rattle.fixed_decimal.proofs.DecimalTexts.{sign_text_short}
 
 -- the test passes no digit, no decimal point and no sign

@@ -1,13 +1,8 @@
 -- The reading of an integer, by the grammar and of its text.
-use Rattle.std.proofs.Common.{◌≡◌, ℕ, List, refl, arith}
-use Rattle.std.specs.Prelude.{Ok, pos}
-use Rattle.decimal_unsigned.specs.Unsigned.{IsValue}
-use Rattle.decimal_unsigned.specs.Grammar.{Literal}
-use Rattle.decimal_unsigned.specs.Reading.{value_of}
+use Rattle.fixed_decimal.proofs.Common.{◌≡◌, ℕ, List, refl, arith, Ok, pos, IsValue, Literal, value_of, Decimal, decimal_text}
 use Rattle.decimal_unsigned.proofs.ReadingGrammar.{read_grammar}
 use Rattle.fixed_decimal.specs.declared.variations.Sign.{Sign}
-use Rattle.fixed_decimal.specs.Decimal.{Decimal}
-use Rattle.fixed_decimal.specs.DecimalText.{decimal_text, Grammar, after_sign, with_sign, read_decimal}
+use Rattle.fixed_decimal.specs.DecimalText.{Grammar, after_sign, with_sign, read_decimal}
 use Rattle.fixed_decimal.specs.Integer.{read_integer, ReadsInteger}
 use Rattle.fixed_decimal.proofs.DecimalTexts.{decimal_syntax, grammar_splits, read_decimal_text}
 

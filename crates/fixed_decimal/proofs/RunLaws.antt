@@ -1,10 +1,9 @@
 -- Laws of sequences of roundings, and of runs.
-use Rattle.std.proofs.Common.{◌≡◌, ℕ, ◌+◌, ◌<◌, List, [], ◌∷◌, map, sym, ◌∙◌, ap, arith, rules}
-use Rattle.std.specs.Prelude.{Option, Some, None, option_map, option_and_then, Err, if◌then◌else◌, ℤ}
-use Rattle.std.specs.Option.{unwrap_or}
+use Rattle.fixed_decimal.proofs.Common.{◌≡◌, ℕ, ◌+◌, ◌<◌, List, [], ◌∷◌, sym, ◌∙◌, ap, arith, rules, Option, Some, None, Err, ℤ, unwrap_or, ints, clamps, unit_pos, IsValue, rounding_by_1, reaches_limit, below_limit, trunc_makes, Decimal, with_absolute, and_then}
+use Rattle.std.proofs.Common.{map}
+use Rattle.std.specs.Prelude.{option_map, option_and_then, if◌then◌else◌}
 use Rattle.std.specs.List.{All, fold}
 use Rattle.std.specs.Int.{int_max}
-use Rattle.std.proofs.lemmas.Int.{ints, clamps}
 use Rattle.std.proofs.lemmas.List.Elements.{All-head, All-tail, All-cons}
 use Rattle.decimal_digits.specs.Number.{number_limit}
 use Rattle.decimal_digits.specs.Rounding.{unit_at, rounded_number}
@@ -12,18 +11,12 @@ use Rattle.decimal_digits.specs.declared.rounding.RoundingIncrement.TheVariants.
 use Rattle.decimal_digits.specs.declared.rounding.UnsignedRoundingMode.{UnsignedRoundingMode}
 use Rattle.decimal_digits.specs.declared.rounding.UnsignedRoundingMode.TheVariants.{Expand, Trunc}
 use Rattle.decimal_digits.proofs.RoundingLaws.{trunc_le}
-use Rattle.decimal_digits.proofs.Remainders.{unit_pos}
-use Rattle.decimal_unsigned.specs.Unsigned.{Unsigned as Absolute, IsValue}
+use Rattle.decimal_unsigned.specs.Unsigned.{Unsigned as Absolute}
 use Rattle.decimal_unsigned.specs.Rounded as unsigned
-use Rattle.decimal_unsigned.specs.Rounded.{rounding_by_1, reaches_limit, with_number}
 use Rattle.decimal_unsigned.specs.ValueLaws as unsigned_laws
 use Rattle.decimal_unsigned.specs.ValueLaws.{number_if_any}
-use Rattle.decimal_unsigned.proofs.ValueLaws.{below_limit}
-use Rattle.decimal_unsigned.proofs.Roundings.{trunc_makes}
 use Rattle.decimal_unsigned.proofs.RoundingLaws as unsigned_proofs
-use Rattle.fixed_decimal.specs.Decimal.{Decimal, with_absolute}
 use Rattle.fixed_decimal.specs.Outcome.{limit_exceeded, or_limit_exceeded, after_calls}
-use Rattle.fixed_decimal.specs.DecimalText.{and_then}
 use Rattle.fixed_decimal.specs.SignedRounding.{IsPosition, trunced, TruncationsCompose, expanded, sign_and_number, ExpansionsCompose}
 use Rattle.fixed_decimal.proofs.SignedRoundings.{trunc_is_some}
 use Rattle.fixed_decimal.specs.RunLaws.{rounding_at, ResultHasNumber, RoundsOnce}

@@ -1,8 +1,5 @@
 -- Where a text is split at a letter.
-use Rattle.std.proofs.Common.{◌≡◌, ◌==◌, ℕ, false, List, [], ◌∷◌, ◌++◌, refl, arith}
-use Rattle.std.specs.Prelude.{Some, None}
-use Rattle.std.specs.List.{list_any}
-use Rattle.std.proofs.lemmas.Bool.Decides.{nat_tests}
+use Rattle.fixed_decimal.proofs.Common.{◌≡◌, ◌==◌, ℕ, false, List, [], ◌∷◌, ◌++◌, refl, arith, Some, None, list_any, nat_tests}
 use Rattle.fixed_decimal.specs.Split.{split_once}
 
 module _ (letter : ℕ) where

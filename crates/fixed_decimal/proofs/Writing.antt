@@ -1,10 +1,8 @@
 -- Writing a text of two parts to a sink.
-use Rattle.std.proofs.Common.{List, ℕ, ◌++◌, Option}
-use Rattle.std.specs.Prelude.{Result, OnErr}
-use Rattle.std.specs.Io.KnownBytes.{Appends}
-use Rattle.std.proofs.Output.{has_written_styled_append}
+use Rattle.fixed_decimal.proofs.Common.{List, ℕ, ◌++◌, Result, Appends, has_written_styled_append, AppendsPrefix}
+use Rattle.std.proofs.Common.{Option}
+use Rattle.std.specs.Prelude.{OnErr}
 use Rattle.std.proofs.lemmas.Result.{on_err_weaker}
-use Rattle.decimal_digits.specs.AppendsPrefix.{AppendsPrefix}
 use Rattle.decimal_digits.proofs.Results.{on_err}
 use Rattle.decimal_digits.proofs.Sinks.{prefix_more, then_prefix}
 use Rattle.fixed_decimal.proofs.DecimalTexts.{read_decimal_text}

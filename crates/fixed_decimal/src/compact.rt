@@ -180,10 +180,6 @@ impl Writeable for CompactDecimal {
     /// Appends the text of the significand and, if the exponent is not 0, `c` and its digits: `1.20c6`.
     ///
     /// The text parses to an equal value.
-    ///
-    /// # Errors
-    ///
-    /// As [`Writeable::write_to`].
     #[tactic(auto, using(crate::proofs::CompactTexts::writing))]
     fn write_to<W: Sink>(&self, sink: &mut W) -> Result<(), SinkFault>
         ensures ok { OnOk result (Appends (W.contents sink.old) (W.contents sink.new) (compact_text self.now)) }
@@ -255,10 +251,6 @@ impl fmt::Display for CompactDecimal {
     ghost styled_output = { λ v _. Some (compact_text v) };
 
     /// Writes the text that `write_to` appends, and ignores the options of the format: `{:8}` writes `1.20c6` too.
-    ///
-    /// # Errors
-    ///
-    /// The formatter fails.
     #[tactic(auto, using(crate::proofs::Writing::formatting))]
     fn fmt<W: fmt::Write>(&self, f: &mut fmt::Formatter<W>) -> fmt::Result {
         let (exponent, length) = exponent_text(self.exponent);

@@ -26,10 +26,6 @@ impl From<CallError> for RunError {
 
 impl fmt::Display for CallError {
     /// Writes the text of the [`RunError`]: `Call 0: The numbers overlap`.
-    ///
-    /// # Errors
-    ///
-    /// The formatter fails.
     fn fmt<W: fmt::Write>(&self, f: &mut fmt::Formatter<W>) -> fmt::Result {
         match self {
             CallError::Operand { at, fault } => write!(f, "Call {at}: {fault}"),
@@ -49,10 +45,6 @@ impl fmt::Display for RunError {
     ghost output = { λ e. Some (run_error_text e) };
 
     /// Writes what failed and why: `Start: Out of memory`, `Call 0: The numbers overlap`.
-    ///
-    /// # Errors
-    ///
-    /// The formatter fails.
     fn fmt<W: fmt::Write>(&self, f: &mut fmt::Formatter<W>) -> fmt::Result {
         match self {
             RunError::Start(fault) => write!(f, "Start: {fault}"),

@@ -154,10 +154,6 @@ impl Writeable for FixedInteger {
     /// Appends the text of the decimal: `-05`.
     ///
     /// The text parses to an equal integer.
-    ///
-    /// # Errors
-    ///
-    /// As [`Writeable::write_to`].
     fn write_to<W: Sink>(&self, sink: &mut W) -> Result<(), SinkFault>
         ensures ok { OnOk result (Appends (W.contents sink.old) (W.contents sink.new) (decimal_text self.now)) }
         ensures err { OnErr result
@@ -223,10 +219,6 @@ impl fmt::Display for FixedInteger {
     ghost styled_output = { λ v _. Some (decimal_text v) };
 
     /// Writes the text that `write_to` appends, and ignores the options of the format: `{:8}` writes `-05` too.
-    ///
-    /// # Errors
-    ///
-    /// The formatter fails.
     fn fmt<W: fmt::Write>(&self, f: &mut fmt::Formatter<W>) -> fmt::Result {
         self.0.fmt(f)
     }

@@ -153,10 +153,6 @@ impl Writeable for ScientificDecimal {
     /// Appends the text of the significand, `e`, and the text of the exponent: `1.20e-03`.
     ///
     /// The text parses to an equal value.
-    ///
-    /// # Errors
-    ///
-    /// As [`Writeable::write_to`].
     #[tactic(auto, using(crate::proofs::ScientificTexts::writing))]
     fn write_to<W: Sink>(&self, sink: &mut W) -> Result<(), SinkFault>
         ensures ok { OnOk result (Appends (W.contents sink.old) (W.contents sink.new) (scientific_text self.now)) }
@@ -230,10 +226,6 @@ impl fmt::Display for ScientificDecimal {
     ghost styled_output = { λ v _. Some (scientific_text v) };
 
     /// Writes the text that `write_to` appends, and ignores the options of the format: `{:12}` writes `1.20e-03` too.
-    ///
-    /// # Errors
-    ///
-    /// The formatter fails.
     fn fmt<W: fmt::Write>(&self, f: &mut fmt::Formatter<W>) -> fmt::Result {
         self.significand.fmt(f)?;
         f.write_str("e")?;

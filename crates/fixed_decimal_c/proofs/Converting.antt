@@ -10,7 +10,7 @@ use Rattle.fixed_decimal.specs.Outcome.{after_calls}
 use Rattle.fixed_decimal.specs.declared.runs.Call.{Call}
 use Rattle.fixed_decimal.specs.declared.runs.CallError.{CallError}
 use Rattle.fixed_decimal.specs.declared.runs.CallError.TheVariants as call
-use Rattle.cli.specs.Conversion.{IsReadAs, ReadingFails}
+use Rattle.cli.specs.Conversion.{IsReadBy, ReadingByFails}
 use Rattle.fixed_decimal_c.specs.declared.convert.Forms.{Forms}
 use Rattle.fixed_decimal_c.specs.declared.error.FdError.{FdError}
 use Rattle.fixed_decimal_c.specs.declared.error.FdError.TheVariants.{BufferTooSmall, Memory}
@@ -30,13 +30,13 @@ writes_text format v at text end old new is (Err Memory) h = (inr (text, is, h.0
 writes_text format v at text end old new is (Err error) h = absurd h
 
 module _ (f : Forms) (calls : List Call) (text end old : List ℕ) where
-  pub reading_fails : (e : ParseError) → ReadingFails f.reader text e
+  pub reading_fails : (e : ParseError) → ReadingByFails f.reader text e
       → Converts f calls text end (Err (error_of_parsing e 0)) old old
   reading_fails parse.Syntax h = (inl (parse.Syntax, refl, h), refl)
   reading_fails parse.Limit h = (inl (parse.Limit, refl, h), refl)
   reading_fails parse.Memory h = (inl (inl (parse.Memory, refl, h)), refl)
 
-  module _ (v : Decimal) (is : IsReadAs f.reader text (Ok v)) where
+  module _ (v : Decimal) (is : IsReadBy f.reader text (Ok v)) where
     pub calls_fail : (e : CallError) → CallsFail INLINE_DIGITS e v calls
         → Converts f calls text end (Err (error_of_run (run_error e))) old old
     calls_fail (call.Operand at parse.Syntax) h = (inr (v, is, inl (call.Operand at parse.Syntax, refl, h)), refl)

@@ -8,7 +8,7 @@ use Rattle.fixed_decimal.specs.Errors.{run_error}
 use Rattle.fixed_decimal.specs.Outcome.{after_calls}
 use Rattle.fixed_decimal.specs.declared.runs.Call.{Call}
 use Rattle.fixed_decimal.specs.declared.runs.CallError.{CallError}
-use Rattle.cli.specs.Conversion.{IsReadAs, ReadingFails}
+use Rattle.cli.specs.Conversion.{IsReadBy, ReadingByFails}
 use Rattle.fixed_decimal_c.specs.declared.calls.FdCall.{FdCall}
 use Rattle.fixed_decimal_c.specs.declared.convert.Forms.{Forms}
 use Rattle.fixed_decimal_c.specs.declared.error.FdError.{FdError}
@@ -32,7 +32,7 @@ FormsFail error forms texts = ReaderFails error forms.read texts ⊎ FormatFormF
 -- a text, read and changed by the calls, is written as this
 pub record IsConverted (f : Forms) (calls : List Call) (text written : List ℕ) : Type 0 where
   pub value : Decimal
-  pub is_read : IsReadAs f.reader text (Ok value)
+  pub is_read : IsReadBy f.reader text (Ok value)
   pub last : Decimal
   pub called : after_calls 0 value calls ≡ Ok last
   pub is : IsTextBy f.format last written
@@ -46,8 +46,8 @@ ChangesFail f calls v error =
 -- reading the text, a call or formatting fails with the error
 abbrev pub ConversionFails : Forms → List Call → List ℕ → FdError → Type 0
 ConversionFails f calls text error =
-    ((e : ParseError) × (error ≡ error_of_parsing e 0) × ReadingFails f.reader text e)
-    ⊎ ((v : Decimal) × IsReadAs f.reader text (Ok v) × ChangesFail f calls v error)
+    ((e : ParseError) × (error ≡ error_of_parsing e 0) × ReadingByFails f.reader text e)
+    ⊎ ((v : Decimal) × IsReadBy f.reader text (Ok v) × ChangesFail f calls v error)
 
 -- P holds of the text that the conversion makes, and `end` after it
 abbrev pub HasText : Forms → List Call → List ℕ → List ℕ → (List ℕ → Type 0) → Type 0

@@ -1,10 +1,10 @@
 -- Decimals, written to a buffer as a form has them.
-use Rattle.std.specs.Prelude.{◌≡◌, ℕ, ◌⊎◌, ⊤, List, [], ◌++◌, None, Result, Ok, Err}
+use Rattle.std.specs.Prelude.{◌≡◌, ℕ, ◌⊎◌, List, [], ◌++◌, None, Result, Ok, Err}
 use Rattle.fixed_decimal.specs.Decimal.{Decimal}
 use Rattle.fixed_decimal.specs.DecimalText.{decimal_text, read_decimal}
 use Rattle.decimal_format.specs.Formatted.{formatted}
 use Rattle.number_format.specs.declared.number_formatter.NumberFormatter.{NumberFormatter}
-use Rattle.number_format.specs.NumberText.{shown_number, IsNumberText}
+use Rattle.number_format.specs.NumberText.{shown_number, IsNumberText, NeedsMemory}
 use Rattle.fixed_decimal_c.specs.declared.error.FdError.{FdError}
 use Rattle.fixed_decimal_c.specs.declared.error.FdError.TheVariants.{Memory, Overflow, BufferTooSmall}
 use Rattle.fixed_decimal_c.specs.declared.forms.Format.{Format}
@@ -23,9 +23,9 @@ IsTextBy (Skeleton f) v text = IsNumberText f v text
 abbrev pub HasTextBy : Format → Decimal → List ℕ → (List ℕ → Type 0) → Type 0
 HasTextBy format v end P = (text : List ℕ) × IsTextBy format v text × P (text ++ end)
 
--- formatting a number fails: it is shown beyond the limits, after `at` calls; or out of memory
+-- formatting a number fails: it is shown beyond the limits, after `at` calls; or out of memory, where it needs it
 abbrev pub FormatFails : Format → Decimal → ℕ → FdError → Type 0
-FormatFails (Skeleton f) v at Memory = ⊤
+FormatFails (Skeleton f) v at Memory = NeedsMemory f v
 FormatFails (Skeleton f) v at (Overflow place) = (place ≡ at) × (shown_number f v ≡ None)
 FormatFails format v at error = ⊥
 

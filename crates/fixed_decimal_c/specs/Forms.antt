@@ -6,10 +6,14 @@ use Rattle.decimal_format.specs.Formatted.{Formatter}
 use Rattle.decimal_format.specs.declared.grouping.GroupingStrategy.{GroupingStrategy}
 use Rattle.decimal_format.specs.declared.grouping.GroupingStrategy.TheVariants.{Auto, Never, Always, Min2}
 use Rattle.locale_data.specs.Locales.{IsLocale, IsUnknown}
-use Rattle.cli.specs.declared.reader.DecimalReader.{DecimalReader}
-use Rattle.cli.specs.declared.reader.ParseMode.{ParseMode}
-use Rattle.cli.specs.declared.reader.ParseMode.TheVariants.{Strict, Lenient}
+use Rattle.cli.specs.declared.reader.LocaleReader.{LocaleReader}
+use Rattle.cli.specs.declared.reader.LocaleReader.TheVariants.{Decimals, Numbers}
+use Rattle.cli.specs.declared.reader.SkeletonReader.{SkeletonReader}
+use Rattle.number_format.specs.NumberReading.{CanRead}
+use Rattle.number_format.specs.TypedReading.{number_reader_of}
 use Rattle.number_format.specs.declared.number_formatter.NumberFormatter.{NumberFormatter}
+use Rattle.number_format.specs.declared.number_reader.ParseMode.{ParseMode}
+use Rattle.number_format.specs.declared.number_reader.ParseMode.TheVariants.{Strict, Lenient}
 use Rattle.fixed_decimal_c.specs.declared.error.FdError.{FdError}
 use Rattle.fixed_decimal_c.specs.declared.error.FdError.TheVariants.{UnknownLocale, UnknownOption, SkeletonSyntax}
 use Rattle.fixed_decimal_c.specs.declared.forms.FdForm.{FdForm}
@@ -17,6 +21,7 @@ use Rattle.fixed_decimal_c.specs.declared.forms.Format.{Format}
 use Rattle.fixed_decimal_c.specs.declared.forms.Format.TheVariants as by
 use Rattle.fixed_decimal_c.specs.Calls.{IsPart}
 use Rattle.fixed_decimal_c.specs.Locales.{symbols_of_number}
+use Rattle.fixed_decimal_c.specs.NumberReadings.{HasNoReader}
 use Rattle.fixed_decimal_c.specs.NumberTexts.{IsFormatterFor, FormatterFails}
 
 abbrev pub grouping_code : GroupingStrategy → ℕ
@@ -57,18 +62,6 @@ FormFails {A} code UnknownOption form texts =
     ((s : Symbols) × AreSymbolsOf form texts (Some s)) × ((option : A) → form.option ≡ code option → ⊥)
 FormFails code error form texts = ⊥
 
--- the reader by the symbols of a form, in its mode; no symbols, no reader
-abbrev pub IsReaderOf : FdForm → List ℕ → Option DecimalReader → Type 0
-IsReaderOf form texts None = (form.skeleton_count ≡ 0) × AreSymbolsOf form texts None
-IsReaderOf form texts (Some reader) =
-    (form.skeleton_count ≡ 0) × AreSymbolsOf form texts (Some reader.symbols)
-    × (form.option ≡ reading_code reader.mode)
-
--- a form has a skeleton, by which no text is read, or has no reader
-abbrev pub ReaderFails : FdError → FdForm → List ℕ → Type 0
-ReaderFails error form texts =
-    ((error ≡ UnknownOption) × (form.skeleton_count ≢ 0)) ⊎ FormFails reading_code error form texts
-
 -- the formatter by the symbols of a form, with its strategy; no symbols, no formatter
 abbrev pub IsSymbolsFormatter : FdForm → List ℕ → Option Formatter → Type 0
 IsSymbolsFormatter form texts None = AreSymbolsOf form texts None
@@ -97,6 +90,32 @@ SkeletonFormFails error form texts =
     ((error ≡ SkeletonSyntax 0) × HasNoPart texts form.skeleton_start form.skeleton_count)
     ⊎ ((skeleton : List ℕ) × IsPart texts form.skeleton_start form.skeleton_count skeleton
     × TagFails error form texts skeleton)
+
+-- the reader of that formatter, in the mode of a form
+abbrev pub IsSkeletonReader : FdForm → List ℕ → SkeletonReader → Type 0
+IsSkeletonReader form texts r =
+    ((f : NumberFormatter) × IsSkeletonFormatter form texts f × CanRead f × (r.reader ≡ number_reader_of f))
+    × (form.option ≡ reading_code r.mode)
+
+-- there is no such formatter, or it has no reader, or no mode has the code
+abbrev pub SkeletonReaderFails : FdError → FdForm → List ℕ → Type 0
+SkeletonReaderFails error form texts =
+    SkeletonFormFails error form texts
+    ⊎ ((f : NumberFormatter) × IsSkeletonFormatter form texts f × HasNoReader error f)
+    ⊎ ((error ≡ UnknownOption) × ((mode : ParseMode) → form.option ≡ reading_code mode → ⊥))
+
+-- what a form reads by: with a skeleton by it, else by its symbols; without either a text is a decimal's own
+abbrev pub IsReaderOf : FdForm → List ℕ → Option LocaleReader → Type 0
+IsReaderOf form texts None = (form.skeleton_count ≡ 0) × AreSymbolsOf form texts None
+IsReaderOf form texts (Some (Decimals r)) =
+    (form.skeleton_count ≡ 0) × AreSymbolsOf form texts (Some r.symbols) × (form.option ≡ reading_code r.mode)
+IsReaderOf form texts (Some (Numbers r)) = (form.skeleton_count ≢ 0) × IsSkeletonReader form texts r
+
+-- there is no such reader
+abbrev pub ReaderFails : FdError → FdForm → List ℕ → Type 0
+ReaderFails error form texts =
+    ((form.skeleton_count ≡ 0) × FormFails reading_code error form texts)
+    ⊎ ((form.skeleton_count ≢ 0) × SkeletonReaderFails error form texts)
 
 -- what a form formats by: with a skeleton by it, else by its symbols; without either a decimal is its own text
 abbrev pub IsFormatOf : FdForm → List ℕ → Format → Type 0

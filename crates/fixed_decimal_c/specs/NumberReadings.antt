@@ -1,18 +1,16 @@
 -- Numbers as a locale writes them by a number skeleton, read.
 use Rattle.std.specs.Prelude.{◌≡◌, ℕ, ◌⊎◌, List, Bool, true, false, Result, Ok, Err}
-use Rattle.std.specs.Str.{IsUtf8}
 use Rattle.decimal_unsigned.specs.declared.decimal.TheConstants.{INLINE_DIGITS}
 use Rattle.decimal_unsigned.specs.declared.error.ParseError.{ParseError}
-use Rattle.decimal_unsigned.specs.declared.error.ParseError.TheVariants as parse
 use Rattle.fixed_decimal.specs.Decimal.{Decimal}
 use Rattle.fixed_decimal.specs.DecimalText.{decimal_text}
-use Rattle.number_format.specs.AffixedTexts.{IsShown, IsShownNumeral}
 use Rattle.number_format.specs.NumberReading.{CanRead, CannotRead}
-use Rattle.number_format.specs.ShiftedReading.{IsReadShifted}
-use Rattle.number_format.specs.TypedReading.{NumberReader, number_reader_of, IsReadLeniently}
+use Rattle.number_format.specs.TypedReading.{number_reader_of, IsReadInMode}
 use Rattle.number_format.specs.declared.number_formatter.NumberFormatter.{NumberFormatter}
 use Rattle.number_format.specs.declared.number_reader.NumberReaderError.{NumberReaderError}
 use Rattle.number_format.specs.declared.number_reader.NumberReaderError.TheVariants as made
+use Rattle.number_format.specs.declared.number_reader.ParseMode.{ParseMode}
+use Rattle.number_format.specs.declared.number_reader.ParseMode.TheVariants.{Strict, Lenient}
 use Rattle.fixed_decimal_c.specs.declared.error.FdError.{FdError}
 use Rattle.fixed_decimal_c.specs.declared.error.FdError.TheVariants.{Memory, UnreadableFormat}
 use Rattle.fixed_decimal_c.specs.Errors.{error_of_parsing}
@@ -27,13 +25,9 @@ error_of_reader other = UnreadableFormat
 abbrev pub HasNoReader : FdError → NumberFormatter → Type 0
 HasNoReader error f = (e : NumberReaderError) × (error ≡ error_of_reader e) × CannotRead e f
 
--- what a reader returns for a text: exactly as the formatter writes numbers, or leniently, as people type them; one
--- that is not UTF-8 is not typed
-abbrev pub IsReadBy : Bool → NumberReader → List ℕ → Result Decimal ParseError → Type 0
-IsReadBy false r text result =
-    IsReadShifted INLINE_DIGITS r.texts.shift (IsShownNumeral r.texts text) (IsShown r.texts text) result
-IsReadBy true r text result =
-    (IsUtf8 text × IsReadLeniently INLINE_DIGITS r text result) ⊎ (¬ IsUtf8 text × (result ≡ Err parse.Syntax))
+abbrev pub parse_mode : Bool → ParseMode
+parse_mode false = Strict
+parse_mode true = Lenient
 
 -- the own text of a decimal that was read is written; or reading failed, and the buffer is as it was
 abbrev pub WritesRead : Result Decimal ParseError → Result ℕ FdError → List ℕ → List ℕ → Type 0
@@ -44,8 +38,8 @@ WritesRead (Err e) answer old new = (answer ≡ Err (error_of_parsing e 0)) × (
 -- it was
 abbrev pub ReadsText : NumberFormatter → Bool → Result ℕ FdError → List ℕ → List ℕ → List ℕ → Type 0
 ReadsText f lenient answer text old new =
-    ((read : Result Decimal ParseError) × CanRead f × IsReadBy lenient (number_reader_of f) text read
-    × WritesRead read answer old new)
+    ((read : Result Decimal ParseError) × CanRead f
+    × IsReadInMode INLINE_DIGITS (parse_mode lenient) (number_reader_of f) text read × WritesRead read answer old new)
     ⊎ ((error : FdError) × (answer ≡ Err error) × HasNoReader error f × (new ≡ old))
 
 -- the same by the locale and the skeleton; or there is no formatter, and the buffer is as it was

@@ -1,6 +1,6 @@
 //! Conversions: a text is read in one form, changed, and written in another.
 ghost use Rattle.std.specs.Prelude.{◌≡◌, Ok, IfOk, IfErr};
-ghost use Rattle.cli.specs.Conversion.{IsReadAs, ReadingFails};
+ghost use Rattle.cli.specs.Conversion.{IsReadBy, ReadingByFails};
 ghost use Rattle.fixed_decimal_c.specs.Formats.{WritesBy};
 ghost use Rattle.fixed_decimal_c.specs.Conversions.{AreForms, FormsFail, Converts, ConvertsCalls};
 
@@ -9,23 +9,23 @@ use crate::error::{FdError, error_of_parsing, error_of_run};
 use crate::forms::{FdForms, Format, reader, skeleton_formatter, symbols_formatter};
 use crate::number_text::write_number;
 use crate::texts::write_value;
-use cli::DecimalReader;
+use cli::LocaleReader;
 use fixed_decimal::{Call, Decimal, ParseError, RunError, apply_calls};
 use std::alloc::Global;
 
 /// How a text is read, `None` as a decimal's own text, and how the result is written.
 #[derive(Drop)]
 pub(crate) struct Forms {
-    pub(crate) reader: Option<DecimalReader<'static>>,
+    pub(crate) reader: Option<LocaleReader<'static>>,
     pub(crate) format: Format,
 }
 
 impl Forms {
-    pub(crate) fn decode(forms: &FdForms, texts: &[u8]) -> Result<Forms, FdError>
+    pub(crate) fn decode(alloc: Global, forms: &FdForms, texts: &[u8]) -> Result<Forms, FdError>
         ensures ok { IfOk result (AreForms forms.now texts.now) }
         ensures err { IfErr result (λ error. FormsFail error forms.now texts.now) }
     {
-        let reader = reader(&forms.read, texts)?;
+        let reader = reader(alloc, &forms.read, texts)?;
         if forms.format.skeleton_count > 0 {
             let formatter = skeleton_formatter(&forms.format, texts)?;
             let format = Format::Skeleton(formatter);
@@ -39,8 +39,8 @@ impl Forms {
     }
 
     fn read(&self, alloc: Global, text: &[u8]) -> Result<Decimal, ParseError>
-        ensures found { IfOk result (λ v. IsReadAs self.now.reader text.now (Ok v)) }
-        ensures fails_with { IfErr result (ReadingFails self.now.reader text.now) }
+        ensures found { IfOk result (λ v. IsReadBy self.now.reader text.now (Ok v)) }
+        ensures fails_with { IfErr result (ReadingByFails self.now.reader text.now) }
     {
         match &self.reader {
             Some(reader) => reader.read(alloc, text),
@@ -104,7 +104,7 @@ pub(crate) fn convert(
 ) -> Result<usize, FdError>
     ensures { ConvertsCalls result text.now forms.now calls.now texts.now buffer.old buffer.new }
 {
-    let decoded = Forms::decode(forms, texts);
+    let decoded = Forms::decode(alloc, forms, texts);
     let forms = match &decoded {
         Ok(forms) => forms,
         Err(error) => return Err(*error),

@@ -2,22 +2,24 @@
 ghost use Rattle.std.specs.Prelude.{◌≡◌, IfSome, IfNone, IfOk, IfErr};
 ghost use Rattle.decimal_format.specs.declared.grouping.GroupingStrategy.{GroupingStrategy};
 ghost use Rattle.decimal_format.specs.Readable.{IsReadable};
-ghost use Rattle.cli.specs.declared.reader.ParseMode.{ParseMode};
-ghost use Rattle.fixed_decimal_c.specs.Forms.{grouping_code, reading_code, IsLocaleAt, HasNoLocale, AreSymbolsOf, HasNoSymbols, IsReaderOf, FormFails, ReaderFails, IsSymbolsFormatter, IsSkeletonFormatter, SkeletonFormFails};
+ghost use Rattle.number_format.specs.declared.number_reader.ParseMode.{ParseMode};
+ghost use Rattle.fixed_decimal_c.specs.Forms.{grouping_code, reading_code, IsLocaleAt, HasNoLocale, AreSymbolsOf, HasNoSymbols, IsReaderOf, FormFails, IsSkeletonReader, SkeletonReaderFails, ReaderFails, IsSymbolsFormatter, IsSkeletonFormatter, SkeletonFormFails};
 
 use crate::calls::part;
 use crate::error::FdError;
 use crate::locales::symbols_of_number;
+use crate::number_reading::number_reader;
 use crate::number_text::number_formatter;
-use cli::{DecimalReader, ParseMode};
+use cli::{DecimalReader, LocaleReader, SkeletonReader};
 use decimal_format::{DecimalFormatter, DecimalSymbols, GroupingStrategy};
 use locale_data::locale;
-use number_format::NumberFormatter;
+use number_format::{NumberFormatter, ParseMode};
+use std::alloc::Global;
 use std::str;
 
 /// The form of a text: that of a locale, or with neither a number nor a tag the decimal's own.
 ///
-/// With a skeleton the locale is that of the tag, and a text is read by none.
+/// With a skeleton the locale is that of the tag.
 #[repr(C)]
 #[derive(Clone, Copy)]
 pub struct FdForm {
@@ -115,20 +117,37 @@ fn symbols(form: &FdForm, texts: &[u8]) -> Result<Option<DecimalSymbols<'static>
     }
 }
 
-pub(crate) fn reader(form: &FdForm, texts: &[u8]) -> Result<Option<DecimalReader<'static>>, FdError>
+fn skeleton_reader(alloc: Global, form: &FdForm, texts: &[u8]) -> Result<SkeletonReader, FdError>
+    ensures ok { IfOk result (IsSkeletonReader form.now texts.now) }
+    ensures err { IfErr result (λ error. SkeletonReaderFails error form.now texts.now) }
+{
+    let formatter = skeleton_formatter(form, texts)?;
+    let Some(mode) = reading(form.option) else {
+        return Err(FdError::UnknownOption);
+    };
+    let reader = number_reader(alloc, formatter)?;
+    Ok(SkeletonReader { reader, mode })
+}
+
+/// Returns the reader of a form, if it has one.
+pub(crate) fn reader(
+    alloc: Global,
+    form: &FdForm,
+    texts: &[u8],
+) -> Result<Option<LocaleReader<'static>>, FdError>
     ensures ok { IfOk result (IsReaderOf form.now texts.now) }
     ensures err { IfErr result (λ error. ReaderFails error form.now texts.now) }
 {
     if form.skeleton_count > 0 {
-        return Err(FdError::UnknownOption);
+        let reader = skeleton_reader(alloc, form, texts)?;
+        return Ok(Some(LocaleReader::Numbers(reader)));
     }
-    match symbols(form, texts) {
-        Err(error) => Err(error),
-        Ok(None) => Ok(None),
-        Ok(Some(symbols)) => match reading(form.option) {
-            Some(mode) => Ok(Some(DecimalReader { symbols, mode })),
-            None => Err(FdError::UnknownOption),
-        },
+    let Some(symbols) = symbols(form, texts)? else {
+        return Ok(None);
+    };
+    match reading(form.option) {
+        Some(mode) => Ok(Some(LocaleReader::Decimals(DecimalReader { symbols, mode }))),
+        None => Err(FdError::UnknownOption),
     }
 }
 
@@ -140,13 +159,12 @@ pub(crate) fn symbols_formatter(
     ensures ok { IfOk result (IsSymbolsFormatter form.now texts.now) }
     ensures err { IfErr result (λ error. FormFails grouping_code error form.now texts.now) }
 {
-    match symbols(form, texts) {
-        Err(error) => Err(error),
-        Ok(None) => Ok(None),
-        Ok(Some(symbols)) => match grouping(form.option) {
-            Some(strategy) => Ok(Some(DecimalFormatter::new(symbols, strategy))),
-            None => Err(FdError::UnknownOption),
-        },
+    let Some(symbols) = symbols(form, texts)? else {
+        return Ok(None);
+    };
+    match grouping(form.option) {
+        Some(strategy) => Ok(Some(DecimalFormatter::new(symbols, strategy))),
+        None => Err(FdError::UnknownOption),
     }
 }
 
@@ -161,8 +179,5 @@ pub(crate) fn skeleton_formatter(form: &FdForm, texts: &[u8]) -> Result<NumberFo
     let Some(tag) = part(texts, form.start, form.count) else {
         return Err(FdError::UnknownLocale);
     };
-    match number_formatter(tag, skeleton) {
-        Ok(formatter) => Ok(formatter),
-        Err(error) => Err(error),
-    }
+    number_formatter(tag, skeleton)
 }

@@ -162,7 +162,7 @@ pub(crate) fn convert_column(
 ) -> FdColumn
     ensures { ConvertsColumn result input.now skip forms.now calls.now texts.now buffer.old buffer.new }
 {
-    let decoded = Forms::decode(forms, texts);
+    let decoded = Forms::decode(alloc, forms, texts);
     let forms = match &decoded {
         Ok(forms) => forms,
         Err(error) => return encode_column(NONE, Err(*error)),

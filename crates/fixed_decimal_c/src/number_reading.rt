@@ -2,15 +2,14 @@
 ghost use Rattle.std.specs.Prelude.{◌≡◌, IfOk, IfErr};
 ghost use Rattle.number_format.specs.NumberReading.{CanRead};
 ghost use Rattle.number_format.specs.TypedReading.{number_reader_of};
-ghost use Rattle.fixed_decimal_c.specs.NumberReadings.{error_of_reader, HasNoReader, IsReadBy, WritesRead, ReadsText, ReadsNumber};
+ghost use Rattle.fixed_decimal_c.specs.NumberReadings.{error_of_reader, HasNoReader, parse_mode, WritesRead, ReadsText, ReadsNumber};
 
 use crate::error::{FdError, error_of_parsing};
 use crate::number_text::number_formatter;
 use crate::texts::write_value;
 use fixed_decimal::{Decimal, ParseError};
-use number_format::{NumberFormatter, NumberReader, NumberReaderError};
+use number_format::{NumberFormatter, NumberReader, NumberReaderError, ParseMode};
 use std::alloc::Global;
-use std::str;
 
 fn error_of_reader(error: NumberReaderError) -> FdError
     ensures { result ≡ error_of_reader error }
@@ -24,21 +23,26 @@ fn error_of_reader(error: NumberReaderError) -> FdError
     }
 }
 
-/// Reads a number, exactly or leniently.
-fn read_by(
+pub(crate) fn number_reader(
     alloc: Global,
-    reader: &NumberReader<'_>,
-    text: &[u8],
-    lenient: bool,
-) -> Result<Decimal, ParseError>
-    ensures { IsReadBy lenient reader.now text.now result }
+    formatter: NumberFormatter,
+) -> Result<NumberReader, FdError>
+    ensures ok { IfOk result (λ r. (r ≡ number_reader_of formatter) × CanRead formatter) }
+    ensures err { IfErr result (λ error. HasNoReader error formatter) }
 {
-    if !lenient {
-        return reader.read(alloc, text);
+    match formatter.into_reader(alloc) {
+        Ok(reader) => Ok(reader),
+        Err(error) => Err(error_of_reader(error)),
     }
-    match str::from_utf8(text) {
-        Ok(text) => reader.read_lenient(alloc, text),
-        Err(_) => Err(ParseError::Syntax),
+}
+
+fn parse_mode(lenient: bool) -> ParseMode
+    ensures { result ≡ parse_mode lenient }
+{
+    if lenient {
+        ParseMode::Lenient
+    } else {
+        ParseMode::Strict
     }
 }
 
@@ -59,17 +63,16 @@ fn write_read(
 /// Reads a text as a formatter writes it, and writes the decimal.
 fn read_text(
     alloc: Global,
-    formatter: &NumberFormatter,
+    formatter: NumberFormatter,
     text: &[u8],
     lenient: bool,
     buffer: &mut [u8],
 ) -> Result<usize, FdError>
-    ensures { ReadsText formatter.now lenient result text.now buffer.old buffer.new }
+    ensures { ReadsText formatter lenient result text.now buffer.old buffer.new }
 {
-    match formatter.reader(alloc) {
-        Ok(reader) => write_read(alloc, read_by(alloc, &reader, text, lenient), buffer),
-        Err(error) => Err(error_of_reader(error)),
-    }
+    let reader = number_reader(alloc, formatter)?;
+    let read = reader.read_utf8(alloc, parse_mode(lenient), text);
+    write_read(alloc, read, buffer)
 }
 
 /// Reads a text as the locale of a tag and a skeleton have it, and writes the decimal.
@@ -83,8 +86,6 @@ pub(crate) fn read_number(
 ) -> Result<usize, FdError>
     ensures { ReadsNumber result text.now tag.now skeleton.now lenient buffer.old buffer.new }
 {
-    match number_formatter(tag, skeleton) {
-        Ok(formatter) => read_text(alloc, &formatter, text, lenient, buffer),
-        Err(error) => Err(error),
-    }
+    let formatter = number_formatter(tag, skeleton)?;
+    read_text(alloc, formatter, text, lenient, buffer)
 }

@@ -63,10 +63,7 @@ pub(crate) fn number_formatter(tag: &[u8], skeleton: &[u8]) -> Result<NumberForm
     ensures ok { IfOk result (IsFormatterFor tag.now skeleton.now) }
     ensures err { IfErr result (λ error. FormatterFails error tag.now skeleton.now) }
 {
-    let options = match options(skeleton) {
-        Ok(options) => options,
-        Err(error) => return Err(error),
-    };
+    let options = options(skeleton)?;
     let Ok(tag) = str::from_utf8(tag) else {
         return Err(FdError::UnknownLocale);
     };
@@ -102,10 +99,8 @@ fn format_text(
 ) -> Result<usize, FdError>
     ensures { FormatsText formatter.now result text.now buffer.old buffer.new }
 {
-    match read(alloc, text, 0) {
-        Ok(value) => write_number(alloc, formatter, value, 0, &[], buffer),
-        Err(error) => Err(error),
-    }
+    let value = read(alloc, text, 0)?;
+    write_number(alloc, formatter, value, 0, &[], buffer)
 }
 
 /// Reads a decimal, and writes it as the locale of a tag and a skeleton have it.
@@ -118,8 +113,6 @@ pub(crate) fn format_number(
 ) -> Result<usize, FdError>
     ensures { FormatsNumber result text.now tag.now skeleton.now buffer.old buffer.new }
 {
-    match number_formatter(tag, skeleton) {
-        Ok(formatter) => format_text(alloc, &formatter, text, buffer),
-        Err(error) => Err(error),
-    }
+    let formatter = number_formatter(tag, skeleton)?;
+    format_text(alloc, &formatter, text, buffer)
 }

@@ -1,20 +1,21 @@
 //! Checks the texts of numbers in locales: how they are written, and that they are read back; and plural categories.
 //!
 //! Each line of standard input is a row of four fields with tabs between them: a locale, a grouping strategy, a number,
-//! and its text, or `unknown` if the locale is not listed; or a language, `cardinal` or `ordinal`, a number, and its
-//! plural category. Blank lines and lines that start with `#` are not rows. Each row that fails is printed with its
-//! line number; the last line counts the rows.
+//! and its text, or `unknown` if the locale is not listed; or a locale, `read` or `lenient`, a text that is read, and
+//! its value or error; or a language, `cardinal` or `ordinal`, a number, and its plural category. Blank lines and lines
+//! that start with `#` are not rows. Each row that fails is printed with its line number; the last line counts the
+//! rows.
 #![tactic(auto)]
 
 ghost use Rattle.decimal_format.specs.Readable.{IsReadable};
 
 use decimal_format::{DecimalFormatter, DecimalSymbols, GroupingStrategy};
-use fixed_decimal::{Decimal, ParseError, Writeable};
+use fixed_decimal::{Decimal, ParseError};
 use locale_data::{PluralRuleType, PluralRulesError, locale, plural_rules_of};
 use plural_rules::PluralOperands;
 use std::alloc::Global;
 use std::process::ExitCode;
-use test_support::{LimitedSink, check_rows};
+use test_support::{check_rows, fails_without_room, has_text, is_outcome};
 
 const STRATEGIES: &[(&str, GroupingStrategy)] = &[
     ("auto", GroupingStrategy::Auto),
@@ -33,13 +34,10 @@ fn strategy(word: &str) -> Option<GroupingStrategy> {
     None
 }
 
-/// Whether a formatter writes a number as this text, whose length is the hint.
+/// Whether a formatter writes a number as this text, and fails with each sink without room.
 fn writes(formatter: &DecimalFormatter<'_>, value: &Decimal, text: &str) -> bool {
     let formatted = formatter.format(value);
-    let mut sink = LimitedSink::new(text.as_bytes(), usize::MAX);
-    formatted.writeable_length_hint() == text.len()
-        && formatted.write_to(&mut sink).is_ok()
-        && sink.has_all()
+    has_text(&formatted, text) && fails_without_room(&formatted, text.as_bytes())
 }
 
 /// Whether both readers read a text as this value.
@@ -55,7 +53,7 @@ fn reads_back(alloc: Global, symbols: &DecimalSymbols<'_>, value: &Decimal, text
 }
 
 /// Whether a number has this text by the symbols of a locale, and the text is read back.
-fn has_text(
+fn formats(
     alloc: Global,
     symbols: DecimalSymbols<'_>,
     strategy: GroupingStrategy,
@@ -92,24 +90,35 @@ fn has_category(
     }
 }
 
+/// Whether a row of a locale holds.
+fn holds_in(
+    alloc: Global,
+    symbols: DecimalSymbols<'_>,
+    word: &str,
+    number: &str,
+    text: &str,
+) -> Option<bool>
+    requires { IsReadable symbols }
+{
+    match word {
+        "read" => Some(is_outcome::<Decimal>(symbols.read(alloc, number.as_bytes()), text)),
+        "lenient" => Some(is_outcome::<Decimal>(symbols.read_lenient(alloc, number), text)),
+        _ => Some(formats(alloc, symbols, strategy(word)?, number, text)),
+    }
+}
+
 /// Whether a row holds.
 fn holds(alloc: Global, row: &str) -> Option<bool> {
     let (tag, row) = row.split_once('\t')?;
     let (word, row) = row.split_once('\t')?;
     let (number, text) = row.split_once('\t')?;
     match word {
-        "cardinal" => {
-            return Some(has_category(alloc, tag, PluralRuleType::Cardinal, number, text));
-        }
-        "ordinal" => {
-            return Some(has_category(alloc, tag, PluralRuleType::Ordinal, number, text));
-        }
-        _ => {}
-    }
-    let strategy = strategy(word)?;
-    match locale(tag) {
-        Some(symbols) => Some(has_text(alloc, symbols, strategy, number, text)),
-        None => Some(text == "unknown"),
+        "cardinal" => Some(has_category(alloc, tag, PluralRuleType::Cardinal, number, text)),
+        "ordinal" => Some(has_category(alloc, tag, PluralRuleType::Ordinal, number, text)),
+        _ => match locale(tag) {
+            Some(symbols) => holds_in(alloc, symbols, word, number, text),
+            None => Some(text == "unknown"),
+        },
     }
 }
 

@@ -2,15 +2,12 @@
 use Rattle.std.proofs.Common.{◌≡◌, ℕ, Bool, true, false, refl, ◌∙◌, ap, arith}
 use Rattle.std.specs.Prelude.{None, if◌then◌else◌}
 use Rattle.std.proofs.lemmas.Bool.Decides.{nat_tests}
-use Rattle.locale_data.specs.Currencies.{currency_with, digits_of}
-use Rattle.number_format.specs.declared.number_options.CurrencyUsage.{CurrencyUsage}
-use Rattle.number_format.specs.declared.number_options.CurrencyUsage.TheVariants as usage
 use Rattle.number_format.specs.declared.number_options.NumberOptions.{NumberOptions}
 use Rattle.number_format.specs.declared.number_options.NumberStyle.{NumberStyle}
 use Rattle.number_format.specs.declared.number_options.NumberStyle.TheVariants as style
 use Rattle.number_format.specs.declared.settings.DigitDefaults.{DigitDefaults}
 use Rattle.number_format.specs.Increments.{is_increment}
-use Rattle.number_format.specs.DefaultDigits.{is_compact, increment_or_1, usage_increment, style_increment, increment, no_settings, IsDefault}
+use Rattle.number_format.specs.DefaultDigits.{is_compact, increment_or_1, currency_digits, style_increment, increment, no_settings, IsDefault}
 use Rattle.number_format.specs.Resolved.{resolve_error}
 
 or_1 : (n : ℕ) → is_increment (increment_or_1 n) ≡ true
@@ -21,11 +18,7 @@ or_1 n = by (is_increment n) refl
     by false is = refl
 
 is_one_of : (s : NumberStyle) (compact : Bool) → is_increment (style_increment s compact) ≡ true
-is_one_of (style.Currency c) false = by c.usage
-  where
-    by : (u : CurrencyUsage) → is_increment (usage_increment u c.code) ≡ true
-    by usage.Standard = refl
-    by usage.Cash = or_1 (digits_of (currency_with c.code)).cash_increment
+is_one_of (style.Currency c) false = or_1 (currency_digits c.usage c.code).1
 is_one_of (style.Currency c) true = refl
 is_one_of style.Decimal compact = refl
 is_one_of style.Percent compact = refl

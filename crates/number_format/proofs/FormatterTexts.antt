@@ -1,6 +1,7 @@
 -- The texts of a formatter are texts between affixes.
 use Rattle.std.proofs.Common.{◌≡◌, ℕ, List, [], ◌++◌, refl, sym, ◌∙◌, ap, subst, append-nil}
 use Rattle.std.specs.Prelude.{Some, None}
+use Rattle.std.specs.Option.{option_map}
 use Rattle.decimal_unsigned.specs.Unsigned.{IsValue}
 use Rattle.fixed_decimal.specs.Decimal.{Decimal}
 use Rattle.fixed_decimal.specs.declared.variations.Sign.{Sign}
@@ -14,7 +15,7 @@ use Rattle.number_format.specs.declared.number_options.NumberStyle.TheVariants a
 use Rattle.number_format.specs.Formatters.{compact_style, exponent_options, IsFormatter}
 use Rattle.number_format.specs.AffixedTexts.{by_sign, text_with, IsShown}
 use Rattle.number_format.specs.NumberReading.{IsStandard, affixes_for, affixes_of_formatter, reader_of, CanRead, IsShownAs}
-use Rattle.number_format.specs.NumberText.{IsNumberText, AreTexts, literal, shown_sign, pattern_around, around_by, pieces_around, exponent_part}
+use Rattle.number_format.specs.NumberText.{IsNumberText, AreTexts, literal, shown_sign, pattern_around, around_by, pieces_around, shown_exponent}
 use Rattle.number_format.specs.Scaled.{ScaledValue}
 use Rattle.number_format.specs.ShiftedReading.{IsShifted, IsShiftOfShown}
 use Rattle.number_format.specs.TextParts.{digit_pieces, pieces_text}
@@ -49,21 +50,21 @@ pub formatter_text : (f : NumberFormatter) (v u : Decimal) (text : List ℕ) →
     → IsShownAs f v u → text ≡ text_with f.symbols (by_sign (affixes_of_formatter f)) f.strategy u
 formatter_text f v u text standard (pieces, is, of_pieces) shown =
     let number : is.number ≡ shown.number = some_same _ _ (sym is.number_is ∙ shown.number_is) in
-    let none = subst (λ c. AreTexts f c is.number is.compact is.unit_of) standard.compact is.texts in
-    let compact : is.compact ≡ None = none.0 in
-    let before : is.unit_of.prefix.now ≡ [] = none.1.0 in
-    let after : is.unit_of.suffix.now ≡ [] = none.1.1 in
+    let none = subst (λ c. AreTexts f c is.number is.texts) standard.compact is.texts_are in
+    let compact : is.texts.around ≡ None = none.0 in
+    let before : is.texts.unit.prefix.now ≡ [] = none.1.0 in
+    let after : is.texts.unit.suffix.now ≡ [] = none.1.1 in
     let s = shown_sign f shown.number.significand in
     let digits = digit_pieces kind.Integer f.symbols f.strategy shown.number.significand.absolute in
     let affixes : affixes_for f s ≡ by_sign (affixes_of_formatter f) u.sign =
     ap (affixes_for f) (sym shown.sign) ∙ by_is f u.sign in
     of_pieces
     ∙ ap pieces_text is.value
-    ∙ (λ i. pieces_text (pieces_around f (number i) (around_by f (shown_sign f (number i).significand) (compact i))
-    is.unit_of))
+    ∙ (λ i. pieces_text (pieces_around f (number i).significand.absolute
+    (option_map (λ o. shown_exponent o (number i).exponent) (standard.exponent i))
+    (around_by f (shown_sign f (number i).significand) (compact i)) is.texts.unit))
     ∙ (λ i. pieces_text ((literal (before i) ++ (pattern_around f s).prefix)
-    ++ ((digits ++ exponent_part f (standard.exponent i) shown.number.exponent)
-    ++ ((pattern_around f s).suffix ++ literal (after i)))))
+    ++ ((digits ++ []) ++ ((pattern_around f s).suffix ++ literal (after i)))))
     ∙ text_around f s shown.number
     ∙ (λ i. (affixes i).prefix
     ++ (absolute_text f.symbols f.strategy (sym shown.absolute i) ++ (affixes i).suffix))

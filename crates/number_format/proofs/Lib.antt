@@ -3,10 +3,17 @@ pub mod Applied
 pub mod Scales
 pub mod DigitLaws
 pub mod SkeletonPieces
+pub mod SkeletonCosts
+pub mod SkeletonStemCosts
+pub mod SkeletonDecimalCosts
+pub mod SkeletonOptionCosts
+pub mod SkeletonLeast
+pub mod SkeletonGroups
 pub mod NamedAffixes
 pub mod AffixedNumbers
 pub mod ShiftedReads
 pub mod ReadBack
+pub mod StandardNotation
 pub mod PartTexts
 pub mod PieceTexts
 pub mod PlainNumbers

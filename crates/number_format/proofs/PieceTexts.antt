@@ -5,6 +5,7 @@ use Rattle.std.proofs.lemmas.List.{take_more}
 use Rattle.std.proofs.lemmas.List.Concat.{flat_map-cons}
 use Rattle.std.proofs.lemmas.Grind.{flat_map-append}
 use Rattle.decimal_unsigned.specs.Unsigned.{Unsigned}
+use Rattle.fixed_decimal.specs.Decimal.{Decimal}
 use Rattle.decimal_format.specs.declared.grouping.GroupingStrategy.{GroupingStrategy}
 use Rattle.decimal_digits.specs.Number.{digit}
 use Rattle.decimal_format.specs.declared.grouping.GroupingStrategy.TheVariants.{Never}
@@ -12,12 +13,14 @@ use Rattle.decimal_format.specs.Formatted.{separator_before, separator_after, ma
 use Rattle.decimal_format.specs.Symbols.{Symbols, digit_text}
 use Rattle.decimal_format.proofs.Magnitudes.{one_more}
 use Rattle.number_format.specs.declared.formatted_number.FormattedNumber.{FormattedNumber}
-use Rattle.number_format.specs.declared.formatted_number.WrittenExponent.{WrittenExponent}
+use Rattle.number_format.specs.declared.number_around.NumberAffixes.{NumberAffixes}
+use Rattle.number_format.specs.declared.number_formatter.NumberFormatter.{NumberFormatter}
 use Rattle.number_format.specs.declared.text_part.PartKind.{PartKind}
 use Rattle.number_format.specs.declared.text_part.PartKind.TheVariants as kind
 use Rattle.number_format.specs.declared.text_part.TextPart.{TextPart}
 use Rattle.number_format.specs.TextParts.{Piece, Puts, part_pieces, parts_text, pieces_text, pieces_of, parts_pieces, digit_kind, magnitude_pieces, first_pieces, digit_pieces}
-use Rattle.number_format.specs.FormattedNumbers.{exponent_text_if, written_number_text, number_text_if, formatted_number_text, exponent_pieces_if, number_pieces, number_pieces_if, formatted_number_pieces}
+use Rattle.number_format.specs.FormattedNumbers.{around_of, exponent_text_if, number_text, number_text_if, formatted_number_text}
+use Rattle.number_format.specs.NumberText.{literal, sign_text, exponent_kind, exponent_part, number_part, AreParts}
 
 pub puts_nil : (a : Option (List Piece)) → Puts a a []
 puts_nil None = tt
@@ -59,6 +62,10 @@ pub text-of : (k : PartKind) (text : List ℕ) → pieces_text (pieces_of k text
 text-of k [] = refl
 text-of k (b ∷ text) = flat_map-cons bytes (record { kind = k; text = b ∷ text }) [] ∙ append-nil (b ∷ text)
 
+-- the same, by a name that source can cite
+pub text_of : (k : PartKind) (text : List ℕ) → pieces_text (pieces_of k text) ≡ text
+text_of = text-of
+
 pub text-of_parts : (parts : List TextPart) → pieces_text (parts_pieces parts) ≡ parts_text parts
 text-of_parts [] = refl
 text-of_parts (p ∷ parts) =
@@ -96,31 +103,50 @@ pub text-of_digits : (k : PartKind) (s : Symbols) (strategy : GroupingStrategy) 
     → pieces_text (digit_pieces k s strategy v) ≡ absolute_text s strategy v
 text-of_digits k s strategy v = text-of_first k s strategy v (shown_count v)
 
-text-of_exponent :
-    (s : Symbols) (e : Option WrittenExponent) → pieces_text (exponent_pieces_if s e) ≡ exponent_text_if s e
-text-of_exponent s None = refl
-text-of_exponent s (Some e) =
-    text-three (pieces_of e.separator.kind e.separator.text.now) (pieces_of e.sign.kind e.sign.text.now)
-    (digit_pieces kind.ExponentInteger s Never e.digits) e.separator.text.now e.sign.text.now
-    (absolute_text s Never e.digits) (text-of e.separator.kind e.separator.text.now)
-    (text-of e.sign.kind e.sign.text.now) (text-of_digits kind.ExponentInteger s Never e.digits)
+text-of_exponent : (f : NumberFormatter) (e : Option Decimal) → pieces_text (exponent_part f e) ≡ exponent_text_if f e
+text-of_exponent f None = refl
+text-of_exponent f (Some e) =
+    let sign = sign_text f e.sign in
+    text-three (pieces_of kind.ExponentSeparator f.separator.text.now) (pieces_of (exponent_kind e.sign) sign)
+    (digit_pieces kind.ExponentInteger f.symbols Never e.absolute) f.separator.text.now sign
+    (absolute_text f.symbols Never e.absolute) (text-of kind.ExponentSeparator f.separator.text.now)
+    (text-of (exponent_kind e.sign) sign) (text-of_digits kind.ExponentInteger f.symbols Never e.absolute)
 
-text-of_number : (f : FormattedNumber) → pieces_text (number_pieces f) ≡ written_number_text f
-text-of_number f =
-    text-append (digit_pieces kind.Integer f.symbols.now f.strategy f.significand)
-    (exponent_pieces_if f.symbols.now f.exponent)
-    ∙ (λ i. text-of_digits kind.Integer f.symbols.now f.strategy f.significand i
-    ++ text-of_exponent f.symbols.now f.exponent i)
+text-of_number : (n : FormattedNumber)
+    → pieces_text (number_part n.formatter.now n.value.absolute n.exponent) ≡ number_text n
+text-of_number n =
+    let f = n.formatter.now in
+    text-append (digit_pieces kind.Integer f.symbols f.strategy n.value.absolute) (exponent_part f n.exponent)
+    ∙ (λ i. text-of_digits kind.Integer f.symbols f.strategy n.value.absolute i ++ text-of_exponent f n.exponent i)
 
 text-if : (b : Bool) (ps : List Piece) (text : List ℕ) → pieces_text ps ≡ text
     → pieces_text (if b then ps else []) ≡ (if b then text else [])
 text-if true ps text e = e
 text-if false ps text e = refl
 
--- the texts of the pieces, one after another, are the text
-pub text-of_pieces : (f : FormattedNumber) → pieces_text (formatted_number_pieces f) ≡ formatted_number_text f
-text-of_pieces f =
-    text-three (parts_pieces f.affixes.prefix) (number_pieces_if f) (parts_pieces f.affixes.suffix)
-    (parts_text f.affixes.prefix) (number_text_if f) (parts_text f.affixes.suffix) (text-of_parts f.affixes.prefix)
-    (text-if f.affixes.has_number (number_pieces f) (written_number_text f) (text-of_number f))
-    (text-of_parts f.affixes.suffix)
+-- the number between the texts of the parts before and after it is the text
+pub text-of_affixes : (n : FormattedNumber) (shown : NumberAffixes) → AreParts (around_of n) n.texts.unit shown
+    → parts_text shown.prefix ++ (number_text_if n shown.has_number ++ parts_text shown.suffix)
+    ≡ formatted_number_text n
+text-of_affixes n shown is =
+    let a = around_of n in
+    let number = number_part n.formatter.now n.value.absolute n.exponent in
+    sym (text-three (literal n.texts.unit.prefix.now ++ a.prefix) (if a.has_number then number else [])
+    (a.suffix ++ literal n.texts.unit.suffix.now) (parts_text shown.prefix) (number_text_if n shown.has_number)
+    (parts_text shown.suffix) (ap pieces_text (sym is.prefix) ∙ text-of_parts shown.prefix)
+    (text-if a.has_number number (number_text n) (text-of_number n) ∙ ap (number_text_if n) (sym is.has_number))
+    (ap pieces_text (sym is.suffix) ∙ text-of_parts shown.suffix))
+
+-- what is written before and after the number, piece by piece
+pub text-of_around : (n : FormattedNumber)
+    → (pieces_text (literal n.texts.unit.prefix.now) ++ pieces_text (around_of n).prefix)
+    ++ (number_text_if n (around_of n).has_number
+    ++ (pieces_text (around_of n).suffix ++ pieces_text (literal n.texts.unit.suffix.now))) ≡ formatted_number_text n
+text-of_around n =
+    let a = around_of n in
+    let p = literal n.texts.unit.prefix.now in
+    let q = literal n.texts.unit.suffix.now in
+    let number = number_part n.formatter.now n.value.absolute n.exponent in
+    sym (text-three (p ++ a.prefix) (if a.has_number then number else []) (a.suffix ++ q)
+    (pieces_text p ++ pieces_text a.prefix) (number_text_if n a.has_number) (pieces_text a.suffix ++ pieces_text q)
+    (text-append p a.prefix) (text-if a.has_number number (number_text n) (text-of_number n)) (text-append a.suffix q))

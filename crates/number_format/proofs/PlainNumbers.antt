@@ -113,13 +113,14 @@ of_plainly f own g v text valid no_suffix of_pieces =
     sym (ap (λ x. option_and_then (rounded_in f.notation None) (with_absolute v x)) (unshifted v.absolute valid))
     ∙ is.number_is in
     let number : is.number ≡ scaled_value v (pos 0) = sym (some_same _ _ shown) in
-    let compact : is.compact ≡ None = is.texts.0 in
-    let before : is.unit_of.prefix.now ≡ [] = is.texts.1.0 in
-    let after : is.unit_of.suffix.now ≡ [] = is.texts.1.1 in
+    let compact : is.texts.around ≡ None = is.texts_are.0 in
+    let before : is.texts.unit.prefix.now ≡ [] = is.texts_are.1.0 in
+    let after : is.texts.unit.suffix.now ≡ [] = is.texts_are.1.1 in
     let s = negative_or sign.None v.sign in
     of_pieces.2
     ∙ ap pieces_text (is.value
-    ∙ (λ i. pieces_around p (number i) (around_by p (shown_sign p (number i).significand) (compact i)) is.unit_of)
+    ∙ (λ i. pieces_around p (number i).significand.absolute None
+    (around_by p (shown_sign p (number i).significand) (compact i)) is.texts.unit)
     ∙ (λ i. (literal (before i) ++ (pattern_around p s).prefix)
     ++ ((digit_pieces kind.Integer own g v.absolute ++ []) ++ ((pattern_around p s).suffix ++ literal (after i)))))
     ∙ around_is f own g v.absolute v.sign no_suffix

@@ -3,6 +3,7 @@ use Rattle.std.specs.Prelude.{◌≡◌, ℕ, Bool, true, false, if◌then◌els
 use Rattle.decimal_digits.specs.declared.rounding.UnsignedRoundingMode.TheVariants.{HalfExpand}
 use Rattle.fixed_decimal.specs.declared.rounding.SignedRoundingMode.TheVariants.{Unsigned}
 use Rattle.locale_data.specs.Currencies.{currency_with, digits_of}
+use Rattle.locale_data.specs.declared.currency.CurrencyDigits.{CurrencyDigits}
 use Rattle.number_format.specs.declared.digit_options.DigitOptions.{DigitOptions}
 use Rattle.number_format.specs.declared.digit_options.TrailingZeros.TheVariants as zeros
 use Rattle.number_format.specs.declared.number_options.CurrencyUsage.{CurrencyUsage}
@@ -30,29 +31,28 @@ shows_all_in style notation = false
 abbrev pub shows_all_digits : NumberOptions → Bool
 shows_all_digits o = shows_all_in o.style o.notation
 
--- the number of fraction digits of a currency
-abbrev pub currency_digits : CurrencyUsage → List ℕ → ℕ
-currency_digits usage.Standard code = (digits_of (currency_with code)).digits
-currency_digits usage.Cash code = (digits_of (currency_with code)).cash_digits
+-- the number of fraction digits of a currency for a use, and its increment, 0 if it has none
+abbrev pub usage_digits : CurrencyUsage → CurrencyDigits → ℕ × ℕ
+usage_digits usage.Standard d = (d.digits, 0)
+usage_digits usage.Cash d = (d.cash_digits, d.cash_increment)
+
+abbrev pub currency_digits : CurrencyUsage → List ℕ → ℕ × ℕ
+currency_digits usage code = usage_digits usage (digits_of (currency_with code))
 
 -- the least and the greatest number of fraction digits
 abbrev pub fraction_digits : NumberStyle → ℕ × ℕ
 fraction_digits style.Decimal = (0, 3)
 fraction_digits style.Percent = (0, 0)
 fraction_digits style.Permille = (0, 0)
-fraction_digits (style.Currency c) = (currency_digits c.usage c.code, currency_digits c.usage c.code)
+fraction_digits (style.Currency c) = ((currency_digits c.usage c.code).0, (currency_digits c.usage c.code).0)
 
 -- an increment that ECMA-402 allows, or 1
 abbrev pub increment_or_1 : ℕ → ℕ
 increment_or_1 n = if is_increment n then n else 1
 
-abbrev pub usage_increment : CurrencyUsage → List ℕ → ℕ
-usage_increment usage.Standard code = 1
-usage_increment usage.Cash code = increment_or_1 (digits_of (currency_with code)).cash_increment
-
 -- the increment: that of cash, but not in compact notation
 abbrev pub style_increment : NumberStyle → Bool → ℕ
-style_increment (style.Currency c) false = usage_increment c.usage c.code
+style_increment (style.Currency c) false = increment_or_1 (currency_digits c.usage c.code).1
 style_increment other compact = 1
 
 abbrev pub increment : NumberOptions → ℕ

@@ -10,6 +10,7 @@ pub mod SkeletonOptions
 pub mod SkeletonReading
 pub mod SkeletonDigits
 pub mod SkeletonMeaning
+pub mod SkeletonLengths
 pub mod AffixedTexts
 pub mod ShiftedReading
 pub mod TextParts

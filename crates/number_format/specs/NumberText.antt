@@ -1,6 +1,7 @@
 -- The text of a number: what a formatter writes.
-use Rattle.std.specs.Prelude.{◌≡◌, ℕ, ◌==◌, min, Bool, true, false, not, ◌&&◌, if◌then◌else◌, ◌≤◌, ◌⊎◌, length, IfSome, IsSomeAnd, List, [], ◌∷◌, ◌++◌, Option, Some, None, option_and_then, unsigned_abs, ℤ, pos, ◌+ℤ◌, int_lt}
+use Rattle.std.specs.Prelude.{◌≡◌, ℕ, ◌==◌, min, Bool, true, false, not, ◌&&◌, if◌then◌else◌, ◌⊎◌, IsSomeAnd, List, [], ◌∷◌, ◌++◌, Option, Some, None, option_and_then, unsigned_abs, ℤ, pos, ◌+ℤ◌, int_lt}
 use Rattle.std.specs.Int.{int_max, int_min}
+use Rattle.std.specs.Option.{option_map}
 use Rattle.decimal_digits.specs.Number.{first}
 use Rattle.decimal_digits.specs.declared.rounding.RoundingIncrement.TheVariants.{MultiplesOf25}
 use Rattle.decimal_unsigned.specs.Unsigned.{Unsigned, integer_value}
@@ -23,9 +24,10 @@ use Rattle.locale_data.specs.declared.compact.UnitAffixes.{UnitAffixes}
 use Rattle.locale_data.specs.declared.patterns.Affix.{Affix}
 use Rattle.locale_data.specs.declared.patterns.Piece.{Piece}
 use Rattle.locale_data.specs.declared.patterns.Piece.TheVariants as piece
-use Rattle.locale_data.specs.Compact.{HasAffixes, IsShortAffix, IsUnit}
+use Rattle.locale_data.specs.Compact.{HasAffixes, IsUnit}
 use Rattle.locale_data.specs.Patterns.{literal_text, affixes_of}
 use Rattle.locale_data.specs.Plurals.{IsCategoryAt}
+use Rattle.number_format.specs.declared.compact_texts.CompactTexts.{CompactTexts}
 use Rattle.number_format.specs.declared.digit_options.DigitOptions.{DigitOptions}
 use Rattle.number_format.specs.declared.notation.Notation.{Notation}
 use Rattle.number_format.specs.declared.number_around.NumberAffixes.{NumberAffixes}
@@ -168,15 +170,6 @@ abbrev pub around_by : NumberFormatter → Sign → Option CompactAffixes → Ar
 around_by f s None = pattern_around f s
 around_by f s (Some c) = if is_plain c.form then pattern_around f s else compact_around f s c
 
--- the texts have at most 255 bytes
-abbrev pub AreShortAffixes : Option CompactAffixes → Type 0
-AreShortAffixes shown = IfSome shown (λ c. IsShortAffix c.prefix × IsShortAffix c.suffix)
-
-pub record AreShort (shown : Option CompactAffixes) (u : UnitAffixes) : Type 0 where
-  pub around : AreShortAffixes shown
-  pub prefix : length u.prefix.now ≤ 255
-  pub suffix : length u.suffix.now ≤ 255
-
 -- the parts are these pieces, with what is written around the whole text
 pub record AreParts (a : Around) (u : UnitAffixes) (shown : NumberAffixes) : Type 0 where
   pub prefix : parts_pieces shown.prefix ≡ literal u.prefix.now ++ a.prefix
@@ -185,29 +178,36 @@ pub record AreParts (a : Around) (u : UnitAffixes) (shown : NumberAffixes) : Typ
 
 -- ---- The digits and the exponent.
 
-abbrev pub exponent_minus : NumberFormatter → List parts.Piece
-exponent_minus f = pieces_of kind.ExponentMinusSign (sign_text f sign.Negative)
+-- the sign that an exponent is shown with
+abbrev pub exponent_sign : ExponentSign → ℤ → Sign
+exponent_sign exponent.Auto e = if int_lt e (pos 0) then sign.Negative else sign.None
+exponent_sign exponent.Always e = if int_lt e (pos 0) then sign.Negative else sign.Positive
+exponent_sign exponent.Never e = sign.None
 
-abbrev pub exponent_sign : NumberFormatter → ExponentSign → ℤ → List parts.Piece
-exponent_sign f exponent.Auto e = if int_lt e (pos 0) then exponent_minus f else []
-exponent_sign f exponent.Always e =
-    if int_lt e (pos 0) then exponent_minus f
-    else pieces_of kind.ExponentPlusSign (sign_text f sign.Positive)
-exponent_sign f exponent.Never e = []
+-- an exponent as it is shown: with at least the number of digits that the options have
+abbrev pub shown_exponent : ExponentOptions → ℤ → Decimal
+shown_exponent o e = record {
+  sign = exponent_sign o.sign e;
+  absolute = padded_start (integer_value (unsigned_abs e)) (pos (min o.digits 32767));
+}
 
--- the digits of an exponent: at least the number of them that the options have
-abbrev pub exponent_digits : ExponentOptions → ℤ → Unsigned
-exponent_digits o e = padded_start (integer_value (unsigned_abs e)) (pos (min o.digits 32767))
+abbrev pub exponent_kind : Sign → PartKind
+exponent_kind sign.Positive = kind.ExponentPlusSign
+exponent_kind other = kind.ExponentMinusSign
 
-abbrev pub exponent_part : NumberFormatter → Option ExponentOptions → ℤ → List parts.Piece
-exponent_part f None e = []
-exponent_part f (Some o) e =
+abbrev pub exponent_pieces : NumberFormatter → Decimal → List parts.Piece
+exponent_pieces f e =
     pieces_of kind.ExponentSeparator f.separator.text.now
-    ++ (exponent_sign f o.sign e ++ digit_pieces kind.ExponentInteger f.symbols Never (exponent_digits o e))
+    ++ (pieces_of (exponent_kind e.sign) (sign_text f e.sign)
+    ++ digit_pieces kind.ExponentInteger f.symbols Never e.absolute)
 
-abbrev pub number_part : NumberFormatter → ScaledValue → List parts.Piece
-number_part f s =
-    digit_pieces kind.Integer f.symbols f.strategy s.significand.absolute ++ exponent_part f f.exponent s.exponent
+abbrev pub exponent_part : NumberFormatter → Option Decimal → List parts.Piece
+exponent_part f None = []
+exponent_part f (Some e) = exponent_pieces f e
+
+-- the digits of a significand and of an exponent, if there is one
+abbrev pub number_part : NumberFormatter → Unsigned → Option Decimal → List parts.Piece
+number_part f v e = digit_pieces kind.Integer f.symbols f.strategy v ++ exponent_part f e
 
 -- ---- Compact notation.
 
@@ -247,32 +247,33 @@ pub record HasUnit (f : NumberFormatter) (significand : Decimal) (exponent : ℕ
   pub of_number : IsCategoryAt f.rules (operands.compact significand.absolute exponent) category
   pub is : IsUnitOf f f.unit category u
 
-pub record HasCompactTexts (f : NumberFormatter) (style : CompactStyle) (s : ScaledValue)
-    (shown : Option CompactAffixes) (u : UnitAffixes) : Type 0 where
-  pub exponent : ℕ
-  pub exponent_is : IsCompactExponent s.exponent exponent
-  pub around_number : HasAround f style s.significand exponent shown
-  pub around_text : HasUnit f s.significand exponent u
+pub record HasCompactTexts (f : NumberFormatter) (style : CompactStyle) (s : ScaledValue) (t : CompactTexts) : Type 0
+  where
+    pub exponent : ℕ
+    pub exponent_is : IsCompactExponent s.exponent exponent
+    pub around_number : HasAround f style s.significand exponent t.around
+    pub around_text : HasUnit f s.significand exponent t.unit
 
-abbrev pub AreTexts : NumberFormatter → Option CompactStyle → ScaledValue → Option CompactAffixes → UnitAffixes → Type 0
-AreTexts f None s shown u = (shown ≡ None) × ((u.prefix.now ≡ []) × (u.suffix.now ≡ []))
-AreTexts f (Some style) s shown u = HasCompactTexts f style s shown u
+abbrev pub AreTexts : NumberFormatter → Option CompactStyle → ScaledValue → CompactTexts → Type 0
+AreTexts f None s t = (t.around ≡ None) × ((t.unit.prefix.now ≡ []) × (t.unit.suffix.now ≡ []))
+AreTexts f (Some style) s t = HasCompactTexts f style s t
 
 -- ---- The text.
 
-abbrev pub pieces_around : NumberFormatter → ScaledValue → Around → UnitAffixes → List parts.Piece
-pieces_around f s a u =
+abbrev pub pieces_around : NumberFormatter → Unsigned → Option Decimal → Around → UnitAffixes → List parts.Piece
+pieces_around f v e a u =
     (literal u.prefix.now ++ a.prefix)
-    ++ ((if a.has_number then number_part f s else []) ++ (a.suffix ++ literal u.suffix.now))
+    ++ ((if a.has_number then number_part f v e else []) ++ (a.suffix ++ literal u.suffix.now))
 
 -- the pieces of a number, with their kinds
 pub record AreNumberPieces (f : NumberFormatter) (v : Decimal) (pieces : List parts.Piece) : Type 0 where
   pub number : ScaledValue
-  pub compact : Option CompactAffixes
-  pub unit_of : UnitAffixes
+  pub texts : CompactTexts
   pub number_is : shown_number f v ≡ Some number
-  pub texts : AreTexts f f.compact number compact unit_of
-  pub value : pieces ≡ pieces_around f number (around_by f (shown_sign f number.significand) compact) unit_of
+  pub texts_are : AreTexts f f.compact number texts
+  pub value : pieces
+      ≡ pieces_around f number.significand.absolute (option_map (λ o. shown_exponent o number.exponent) f.exponent)
+      (around_by f (shown_sign f number.significand) texts.around) texts.unit
 
 -- the text of a number: that of its pieces
 abbrev pub IsNumberText : NumberFormatter → Decimal → List ℕ → Type 0

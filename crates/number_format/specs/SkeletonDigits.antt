@@ -10,7 +10,7 @@ use Rattle.number_format.specs.declared.digit_options.DigitOptions.{DigitOptions
 use Rattle.number_format.specs.declared.digit_options.TrailingZeros.{TrailingZeros}
 use Rattle.number_format.specs.declared.digit_options.TrailingZeros.TheVariants.{Auto, StripIfInteger}
 use Rattle.number_format.specs.declared.number_options.CurrencyUsage.{CurrencyUsage}
-use Rattle.number_format.specs.declared.number_options.CurrencyUsage.TheVariants.{Standard, Cash}
+use Rattle.number_format.specs.declared.number_options.CurrencyUsage.TheVariants.{Standard}
 use Rattle.number_format.specs.declared.precision.Minimum.{Minimum}
 use Rattle.number_format.specs.declared.precision.Minimum.TheVariants.{Chosen}
 use Rattle.number_format.specs.declared.precision.Precision.{Precision}
@@ -30,6 +30,7 @@ use Rattle.number_format.specs.declared.skeleton.choices.ChosenUnit.{ChosenUnit}
 use Rattle.number_format.specs.declared.skeleton.choices.ChosenUnit.TheVariants.{Currency}
 use Rattle.number_format.specs.declared.skeleton.counts.Counts.{Counts}
 use Rattle.number_format.specs.declared.skeleton.decimal.SkeletonDecimal.{SkeletonDecimal}
+use Rattle.number_format.specs.DefaultDigits.{usage_digits}
 use Rattle.number_format.specs.Increments.{is_increment}
 use Rattle.number_format.specs.ShownDigits.{increment_of}
 use Rattle.number_format.specs.SkeletonReading.{and_then}
@@ -104,13 +105,13 @@ increment_of_decimal d stem =
     else multiples_of digits (d.digits * unit_of d.power digits) stem
 
 -- ---- Currencies.
--- the cash digits of a currency, without a zero at the end of the increment
-abbrev pub cash_of : CurrencyDigits → Span → Result PrecisionValue SkeletonError
-cash_of d stem =
-    if d.cash_increment == 0 then Ok (Fraction (d.cash_digits, d.cash_digits))
-    else if (d.cash_increment % 10 == 0) && nat_lt 0 d.cash_digits
-    then and_then (λ m. Ok (Multiples m)) (multiples_of (d.cash_digits - 1) (d.cash_increment / 10) stem)
-    else and_then (λ m. Ok (Multiples m)) (multiples_of d.cash_digits d.cash_increment stem)
+-- a number of fraction digits and an increment, 0 if there is none, without a zero at the end of the increment
+abbrev pub money_precision : ℕ × ℕ → Span → Result PrecisionValue SkeletonError
+money_precision m stem =
+    if m.1 == 0 then Ok (Fraction (m.0, m.0))
+    else if (m.1 % 10 == 0) && nat_lt 0 m.0
+    then and_then (λ n. Ok (Multiples n)) (multiples_of (m.0 - 1) (m.1 / 10) stem)
+    else and_then (λ n. Ok (Multiples n)) (multiples_of m.0 m.1 stem)
 
 -- the digits of the currency, or without one those of one that is not listed
 abbrev pub currency_digits_of : Option (ChosenUnit × Span) → CurrencyDigits
@@ -118,8 +119,7 @@ currency_digits_of (Some (Currency code, stem)) = listed_digits (currency_with c
 currency_digits_of unit = listed_digits None
 
 abbrev pub currency_of : Option (ChosenUnit × Span) → CurrencyUsage → Span → Result PrecisionValue SkeletonError
-currency_of unit Standard stem = Ok (Fraction ((currency_digits_of unit).digits, (currency_digits_of unit).digits))
-currency_of unit Cash stem = cash_of (currency_digits_of unit) stem
+currency_of unit usage stem = money_precision (usage_digits usage (currency_digits_of unit)) stem
 
 -- ---- Precisions.
 abbrev pub by_priority : RoundingPriority → Minimum → ℕ × ℕ → ℕ × ℕ → PrecisionValue

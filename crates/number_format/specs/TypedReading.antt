@@ -1,6 +1,8 @@
 -- Numbers of a formatter as people type them.
-use Rattle.std.specs.Prelude.{◌≡◌, ℕ, Bool, true, false, ◌||◌, if◌then◌else◌, List, [], ◌∷◌, ◌++◌, map, Option, Some, None, Result}
+use Rattle.std.specs.Prelude.{◌≡◌, ℕ, ◌⊎◌, Bool, true, false, ◌||◌, if◌then◌else◌, List, [], ◌∷◌, ◌++◌, map, Option, Some, None, Result, Err}
+use Rattle.std.specs.Str.{IsUtf8}
 use Rattle.decimal_unsigned.specs.declared.error.ParseError.{ParseError}
+use Rattle.decimal_unsigned.specs.declared.error.ParseError.TheVariants.{Syntax}
 use Rattle.fixed_decimal.specs.Decimal.{Decimal}
 use Rattle.fixed_decimal.specs.declared.variations.Sign.{Sign}
 use Rattle.fixed_decimal.specs.declared.variations.Sign.TheVariants as sign
@@ -11,8 +13,10 @@ use Rattle.locale_data.specs.declared.patterns.Piece.{Piece}
 use Rattle.locale_data.specs.declared.patterns.Piece.TheVariants.{Percent}
 use Rattle.number_format.specs.declared.number_formatter.NumberFormatter.{NumberFormatter}
 use Rattle.number_format.specs.declared.name_texts.Names.{Names}
+use Rattle.number_format.specs.declared.number_reader.ParseMode.{ParseMode}
+use Rattle.number_format.specs.declared.number_reader.ParseMode.TheVariants.{Strict, Lenient}
 use Rattle.number_format.specs.declared.number_style.CurrencyNames.{CurrencyNames}
-use Rattle.number_format.specs.AffixedTexts.{Reader, by_sign, IsTypedWith, IsTypedNumeralWith}
+use Rattle.number_format.specs.AffixedTexts.{Reader, by_sign, IsShown, IsShownNumeral, IsTypedWith, IsTypedNumeralWith}
 use Rattle.number_format.specs.NumberReading.{reader_of}
 use Rattle.number_format.specs.NumberStyles.{text_or_nothing}
 use Rattle.number_format.specs.ShiftedReading.{IsReadShifted}
@@ -72,24 +76,18 @@ forms_of_name name =
     ∷ form (beside minus name []) [] sign.Negative ∷ form (beside minus name space) [] sign.Negative
     ∷ form (beside plus name []) [] sign.Positive ∷ form (beside plus name space) [] sign.Positive ∷ []
 
+-- the forms of each name
+abbrev pub forms_of_names : NameTexts → List Form
+forms_of_names n = forms_of_name n.symbol ++ (forms_of_name n.narrow ++ forms_of_name n.code)
+
 -- ---- The reader of a formatter.
 
 pub record NumberReader : Type 0 where
   pub texts : Reader
-  pub symbol : List Form
-  pub narrow : List Form
-  pub code : List Form
-
-abbrev pub named_reader : Reader → NameTexts → NumberReader
-named_reader texts names = record {
-  texts = texts;
-  symbol = forms_of_name names.symbol;
-  narrow = forms_of_name names.narrow;
-  code = forms_of_name names.code;
-}
+  pub names : List Form
 
 abbrev pub number_reader_of : NumberFormatter → NumberReader
-number_reader_of f = named_reader (reader_of f) (names_by f f.currency.names)
+number_reader_of f = record { texts = reader_of f; names = forms_of_names (names_by f f.currency.names) }
 
 abbrev pub own_form : Reader → Sign → Form
 own_form r s = record { affixes = by_sign r.affixes s; sign = s }
@@ -101,7 +99,7 @@ own_forms r =
     ∷ form (40 ∷ []) (41 ∷ []) sign.Negative ∷ []
 
 abbrev pub typed_forms : NumberReader → List Form
-typed_forms r = own_forms r.texts ++ (r.symbol ++ (r.narrow ++ r.code))
+typed_forms r = own_forms r.texts ++ r.names
 
 -- the result of lenient reading: by the first of these forms that has a number
 pub record IsReadLeniently (inline : ℕ) (r : NumberReader) (text : List ℕ) (result : Result Decimal ParseError)
@@ -110,3 +108,10 @@ pub record IsReadLeniently (inline : ℕ) (r : NumberReader) (text : List ℕ) (
   pub forms : map form_of alternatives ≡ typed_forms r
   pub read : IsReadShifted inline r.texts.shift (IsTypedNumeralWith r.texts alternatives text)
       (IsTypedWith r.texts alternatives text) result
+
+-- the result of reading in a mode; leniently, a text that is not UTF-8 is `Syntax`
+abbrev pub IsReadInMode : ℕ → ParseMode → NumberReader → List ℕ → Result Decimal ParseError → Type 0
+IsReadInMode inline Strict r text result =
+    IsReadShifted inline r.texts.shift (IsShownNumeral r.texts text) (IsShown r.texts text) result
+IsReadInMode inline Lenient r text result =
+    (IsUtf8 text × IsReadLeniently inline r text result) ⊎ (¬ IsUtf8 text × (result ≡ Err Syntax))

@@ -1,13 +1,13 @@
 //! The digits that ECMA-402 has for a style and a notation.
 ghost use Rattle.std.specs.Prelude.{◌≡◌};
-ghost use Rattle.number_format.specs.DefaultDigits.{shows_all_digits, is_compact, fraction_digits, increment_or_1, increment, no_settings, IsDefault, AreDefaultDigits};
+ghost use Rattle.number_format.specs.DefaultDigits.{shows_all_digits, is_compact, usage_digits, fraction_digits, increment_or_1, increment, no_settings, IsDefault, AreDefaultDigits};
 
 use crate::digit_options::{DigitOptions, TrailingZeros};
 use crate::digit_ranges::{FractionDigits, Increment};
 use crate::number_options::{CurrencyUsage, NumberNotation, NumberOptions, NumberStyle};
 use crate::settings::{DigitDefaults, DigitSettings, RoundingPriority};
 use fixed_decimal::{SignedRoundingMode, UnsignedRoundingMode};
-use locale_data::currency_digits;
+use locale_data::{CurrencyDigits, currency_digits};
 
 fn no_settings(rounding_increment: u16) -> DigitSettings
     ensures { result ≡ no_settings rounding_increment }
@@ -34,8 +34,20 @@ fn increment_or_1(increment: u16) -> u16
     }
 }
 
+impl CurrencyUsage {
+    /// Returns the number of fraction digits of a currency, and its increment, 0 if it has none.
+    pub(crate) fn digits(self, currency: CurrencyDigits) -> (u8, u8)
+        ensures { result ≡ usage_digits self currency }
+    {
+        match self {
+            CurrencyUsage::Standard => (currency.digits, 0),
+            CurrencyUsage::Cash => (currency.cash_digits, currency.cash_increment),
+        }
+    }
+}
+
 impl NumberOptions {
-    fn is_compact(&self) -> bool
+    pub(crate) fn is_compact(&self) -> bool
         ensures { result ≡ is_compact self.now.notation }
     {
         matches!(self.notation, NumberNotation::Compact(_))
@@ -58,11 +70,7 @@ impl NumberOptions {
             NumberStyle::Decimal => (0, 3),
             NumberStyle::Percent | NumberStyle::Permille => (0, 0),
             NumberStyle::Currency(style) => {
-                let digits = currency_digits(style.code);
-                let count = match style.usage {
-                    CurrencyUsage::Standard => digits.digits,
-                    CurrencyUsage::Cash => digits.cash_digits,
-                };
+                let (count, _) = style.usage.digits(currency_digits(style.code));
                 (count, count)
             }
         }
@@ -73,9 +81,9 @@ impl NumberOptions {
         ensures { result ≡ increment self.now }
     {
         match self.style {
-            NumberStyle::Currency(style)
-                if style.usage == CurrencyUsage::Cash && !self.is_compact() => {
-                increment_or_1(currency_digits(style.code).cash_increment as u16)
+            NumberStyle::Currency(style) if !self.is_compact() => {
+                let (_, increment) = style.usage.digits(currency_digits(style.code));
+                increment_or_1(increment as u16)
             }
             _ => 1,
         }

@@ -1,18 +1,21 @@
 //! Formatting of a number.
-ghost use Rattle.std.specs.Prelude.{◌≡◌, ◌≤◌, length, Some, None, IfOk, IfErr, IsErrOf, IsSomeAnd};
+ghost use Rattle.std.specs.Prelude.{◌≡◌, ◌≤◌, length, Some, None, IfOk, IfErr, IfSome, IsErrOf, IsSomeAnd, OnErr};
+ghost use Rattle.std.specs.Option.{option_map};
+ghost use Rattle.decimal_unsigned.specs.Unsigned.{IsValue};
 ghost use Rattle.fixed_decimal.specs.Decimal.{Decimal};
 ghost use Rattle.decimal_digits.specs.declared.rounding.RoundingIncrement.TheVariants.{MultiplesOf25};
+ghost use Rattle.locale_data.specs.Compact.{IsShortAffix};
 ghost use Rattle.locale_data.specs.Plurals.{IsCategoryAt};
-ghost use Rattle.number_format.specs.FormattedNumbers.{exponent_pieces, exponent_pieces_if, formatted_number_pieces, formatted_number_text};
-ghost use Rattle.number_format.specs.NumberText.{shown_number, is_one, compact_magnitude, IsCompactExponent, exponent_sign, exponent_part, rounded_in, HasAround, HasUnit, HasCompactTexts, AreTexts, AreShortAffixes, AreShort, AreNumberPieces, IsNumberText, NeedsMemory};
+ghost use Rattle.number_format.specs.FormattedNumbers.{formatted_number_pieces, formatted_number_text};
+ghost use Rattle.number_format.specs.NumberText.{shown_number, is_one, compact_magnitude, IsCompactExponent, exponent_sign, shown_exponent, rounded_in, HasAround, HasUnit, HasCompactTexts, AreTexts, AreNumberPieces, IsNumberText, NeedsMemory};
 ghost use Rattle.number_format.specs.Scaled.{scaled_value};
 ghost use Rattle.number_format.specs.ShownDigits.{base_of};
-ghost use Rattle.number_format.specs.TextParts.{part_pieces};
 
-use crate::formatted_number::{FormattedNumber, WrittenExponent};
+use crate::compact_texts::{CompactTexts, NO_UNIT};
+use crate::formatted_number::FormattedNumber;
+use crate::notation::Notation;
 use crate::number_formatter::{CompactUnit, NumberFormatter};
 use crate::number_options::{ExponentOptions, ExponentSign};
-use crate::text_part::{PartKind, TextPart};
 use fixed_decimal::{Decimal, DecimalStore, RoundError, Sign, UnsignedDecimal};
 use locale_data::{CompactAffixes, CompactStyle, UnitAffixes, plural_category_at};
 use plural_rules::{PluralCategory, PluralOperands};
@@ -26,18 +29,6 @@ pub struct FormatError {
     /// The number.
     pub value: Decimal,
 }
-
-/// What is written around the number in compact notation, and around the whole text.
-#[derive(Clone, Copy)]
-struct CompactTexts {
-    around: Option<CompactAffixes>,
-    unit: UnitAffixes,
-}
-
-const NO_UNIT: UnitAffixes = UnitAffixes {
-    prefix: "",
-    suffix: "",
-};
 
 fn is_one(significand: &Decimal) -> bool
     ensures { result ≡ is_one significand.now }
@@ -62,6 +53,25 @@ fn compact_exponent(exponent: i32) -> u8
     exponent.clamp(0, 255) as u8
 }
 
+fn exponent_sign(sign: ExponentSign, exponent: i32) -> Sign
+    ensures { result ≡ exponent_sign sign exponent }
+{
+    match sign {
+        ExponentSign::Never => Sign::None,
+        _ if exponent < 0 => Sign::Negative,
+        ExponentSign::Auto => Sign::None,
+        ExponentSign::Always => Sign::Positive,
+    }
+}
+
+fn shown_exponent(alloc: Global, options: ExponentOptions, exponent: i32) -> Decimal
+    ensures { result ≡ shown_exponent options exponent }
+{
+    let mut absolute = UnsignedDecimal::try_from_u32(alloc, exponent.unsigned_abs()).unwrap();
+    absolute.pad_start(options.digits.min(32767) as i16);
+    Decimal::new(exponent_sign(options.sign, exponent), absolute)
+}
+
 impl NumberFormatter {
     fn rounded(&self, value: &mut Decimal) -> Result<i32, RoundError>
         ensures ok { IfOk result
@@ -77,7 +87,6 @@ impl NumberFormatter {
         }
     }
 
-    /// Makes a number the significand that is written, and returns the exponent.
     fn shown_number(&self, value: &mut Decimal) -> Result<i32, RoundError>
         ensures ok { IfOk result (λ e. shown_number self.now value.old ≡ Some (scaled_value value.new e)) }
         ensures limit { IsErrOf result RoundError.Limit → shown_number self.now value.old ≡ None }
@@ -90,6 +99,52 @@ impl NumberFormatter {
         self.rounded(value)
     }
 
+    /// Rounds in standard notation, by one step.
+    fn round_in_place(&self, value: &mut Decimal) -> Result<i32, RoundError>
+        ensures ok { IfOk result
+            (λ e. rounded_in Notation.Standard self.now.digits value.old ≡ Some (scaled_value value.new e)) }
+        ensures unchanged { OnErr result (value.new ≡ value.old) }
+        ensures limit { IsErrOf result RoundError.Limit
+            → rounded_in Notation.Standard self.now.digits value.old ≡ None }
+        ensures memory { IsErrOf result RoundError.Memory
+            → IsSomeAnd self.now.digits (λ o. base_of o.precision ≡ MultiplesOf25) }
+        ensures valid { IsValue value.old.absolute }
+    {
+        // Proof hint: the value satisfies its invariant.
+        let _range = value.absolute.magnitude_range();
+        match &self.digits {
+            Some(digits) => digits.show_in_place(value),
+            None => Ok(0),
+        }
+    }
+
+    fn show_copy(&self, value: &mut Decimal) -> Result<i32, RoundError>
+        ensures ok { IfOk result (λ e. shown_number self.now value.old ≡ Some (scaled_value value.new e)) }
+        ensures unchanged { OnErr result (value.new ≡ value.old) }
+        ensures limit { IsErrOf result RoundError.Limit → shown_number self.now value.old ≡ None }
+        ensures memory { IsErrOf result RoundError.Memory → NeedsMemory self.now value.old }
+    {
+        let Ok(mut shown) = value.clone() else {
+            return Err(RoundError::Memory);
+        };
+        let exponent = self.shown_number(&mut shown)?;
+        *value = shown;
+        Ok(exponent)
+    }
+
+    /// Makes a number the significand that is written, and returns the exponent. On an error the number is unchanged.
+    fn show(&self, value: &mut Decimal) -> Result<i32, RoundError>
+        ensures ok { IfOk result (λ e. shown_number self.now value.old ≡ Some (scaled_value value.new e)) }
+        ensures unchanged { OnErr result (value.new ≡ value.old) }
+        ensures limit { IsErrOf result RoundError.Limit → shown_number self.now value.old ≡ None }
+        ensures memory { IsErrOf result RoundError.Memory → NeedsMemory self.now value.old }
+    {
+        match &self.notation {
+            Notation::Standard if self.scale == 0 => self.round_in_place(value),
+            _ => self.show_copy(value),
+        }
+    }
+
     fn category(&self, number: &PluralOperands<'_, DecimalStore>) -> PluralCategory
         ensures { IsCategoryAt self.now.rules number.now result }
     {
@@ -97,36 +152,6 @@ impl NumberFormatter {
             Some(category) => category,
             // The rules of a formatter are listed.
             None => PluralCategory::Other,
-        }
-    }
-
-    fn exponent_sign(&self, sign: ExponentSign, exponent: i32) -> TextPart<'_>
-        ensures { part_pieces result ≡ exponent_sign self.now sign exponent }
-    {
-        let minus = self.symbols.affixes(Sign::Negative).prefix;
-        let plus = self.symbols.affixes(Sign::Positive).prefix;
-        match sign {
-            ExponentSign::Never => TextPart::empty(),
-            _ if exponent < 0 => TextPart::new(PartKind::ExponentMinusSign, minus),
-            ExponentSign::Auto => TextPart::empty(),
-            ExponentSign::Always => TextPart::new(PartKind::ExponentPlusSign, plus),
-        }
-    }
-
-    fn written_exponent(
-        &self,
-        alloc: Global,
-        options: ExponentOptions,
-        exponent: i32,
-    ) -> WrittenExponent<'_>
-        ensures { exponent_pieces self.now.symbols result ≡ exponent_part self.now (Some options) exponent }
-    {
-        let mut digits = UnsignedDecimal::try_from_u32(alloc, exponent.unsigned_abs()).unwrap();
-        digits.pad_start(options.digits.min(32767) as i16);
-        WrittenExponent {
-            separator: TextPart::new(PartKind::ExponentSeparator, self.separator.text),
-            sign: self.exponent_sign(options.sign, exponent),
-            digits,
         }
     }
 
@@ -154,7 +179,7 @@ impl NumberFormatter {
         exponent: u8,
     ) -> Option<CompactAffixes>
         ensures value { HasAround self.now style significand.now exponent result }
-        ensures short { AreShortAffixes result }
+        ensures short { IfSome result (λ c. IsShortAffix c.prefix × IsShortAffix c.suffix) }
     {
         let magnitude = magnitude_of(significand, exponent);
         if !self.formats.needs_category(style, magnitude) {
@@ -173,9 +198,7 @@ impl NumberFormatter {
         significand: &Decimal,
         exponent: i32,
     ) -> CompactTexts
-        ensures texts { HasCompactTexts self.now style (scaled_value significand.now exponent)
-            result.around result.unit }
-        ensures short { AreShort result.around result.unit }
+        ensures { HasCompactTexts self.now style (scaled_value significand.now exponent) result }
     {
         let exponent = compact_exponent(exponent);
         CompactTexts {
@@ -186,9 +209,7 @@ impl NumberFormatter {
 
     /// Returns what is written around a significand.
     fn texts(&self, significand: &Decimal, exponent: i32) -> CompactTexts
-        ensures texts { AreTexts self.now self.now.compact (scaled_value significand.now exponent)
-            result.around result.unit }
-        ensures short { AreShort result.around result.unit }
+        ensures { AreTexts self.now self.now.compact (scaled_value significand.now exponent) result }
     {
         match self.compact {
             Some(style) => self.compact_texts(style, significand, exponent),
@@ -199,12 +220,12 @@ impl NumberFormatter {
         }
     }
 
-    /// Returns the exponent as it is written, if the notation has one.
-    fn exponent(&self, alloc: Global, exponent: i32) -> Option<WrittenExponent<'_>>
-        ensures { exponent_pieces_if self.now.symbols result ≡ exponent_part self.now self.now.exponent exponent }
+    /// Returns the exponent as it is shown, if the notation has one.
+    fn exponent(&self, alloc: Global, exponent: i32) -> Option<Decimal>
+        ensures { result ≡ option_map (λ o. shown_exponent o exponent) self.now.exponent }
     {
         match self.exponent {
-            Some(options) => Some(self.written_exponent(alloc, options, exponent)),
+            Some(options) => Some(shown_exponent(alloc, options, exponent)),
             None => None,
         }
     }
@@ -217,11 +238,10 @@ impl NumberFormatter {
         let texts = self.texts(&value, exponent);
         value.apply_sign_display(self.sign_display);
         FormattedNumber {
-            symbols: &self.symbols,
-            strategy: self.strategy,
-            affixes: self.affixes(value.sign, texts.around, texts.unit),
-            significand: value.absolute,
+            formatter: self,
+            value,
             exponent: self.exponent(alloc, exponent),
+            texts,
         }
     }
 
@@ -244,15 +264,9 @@ impl NumberFormatter {
         ensures limit { IfErr result (λ e. e.error ≡ RoundError.Limit → shown_number self.now value ≡ None) }
         ensures memory { IfErr result (λ e. e.error ≡ RoundError.Memory → NeedsMemory self.now value) }
     {
-        let Ok(kept) = value.clone() else {
-            return Err(FormatError {
-                error: RoundError::Memory,
-                value,
-            });
-        };
-        match self.shown_number(&mut value) {
+        match self.show(&mut value) {
             Ok(exponent) => Ok(self.number(alloc, value, exponent)),
-            Err(error) => Err(FormatError { error, value: kept }),
+            Err(error) => Err(FormatError { error, value }),
         }
     }
 }

@@ -1,97 +1,90 @@
 //! A number as a locale writes it.
-ghost use Rattle.std.specs.Prelude.{◌≡◌, ◌≤◌, length, Some, OnOk, OnErr, true};
+ghost use Rattle.std.specs.Prelude.{◌≡◌, ◌≤◌, ◌++◌, length, Some, OnOk, OnErr, true};
 ghost use Rattle.std.specs.Fmt.{WritesStyledOnOk};
 ghost use Rattle.std.specs.Io.KnownBytes.{Keeps, Appends};
 ghost use Rattle.decimal_digits.specs.AppendsPrefix.{AppendsPrefix};
 ghost use Rattle.decimal_format.specs.Formatted.{formatted_absolute};
 ghost use Rattle.decimal_format.specs.declared.grouping.GroupingStrategy.TheVariants.{Never};
-ghost use Rattle.number_format.specs.FormattedNumbers.{exponent_text, written_number_text, number_text_if, formatted_number_text};
+ghost use Rattle.number_format.specs.FormattedNumbers.{around_of, exponent_text, number_text, number_text_if, formatted_number_text};
+ghost use Rattle.number_format.specs.NumberText.{AreParts};
+ghost use Rattle.number_format.specs.TextParts.{parts_text};
 
+use crate::compact_texts::CompactTexts;
 use crate::number_around::NumberAffixes;
+use crate::number_formatter::NumberFormatter;
 use crate::parts::{fmt_parts, parts_length, write_parts};
-use crate::text_part::TextPart;
-use decimal_format::{Block, DecimalSymbols, FormattedAbsolute, GroupingStrategy};
-use fixed_decimal::{DecimalStore, Sink, SinkFault, UnsignedDecimal, Writeable};
+use decimal_format::{Block, FormattedAbsolute, GroupingStrategy};
+use fixed_decimal::{Decimal, DecimalStore, Sink, SinkFault, Writeable};
 use std::fmt;
-
-/// An exponent as it is written.
-pub(crate) struct WrittenExponent<'f> {
-    pub(crate) separator: TextPart<'f>,
-    pub(crate) sign: TextPart<'f>,
-    pub(crate) digits: UnsignedDecimal,
-}
-
-impl<'f> Drop for WrittenExponent<'f> {
-    fn drop(self) {
-        let WrittenExponent {
-            separator: _,
-            sign: _,
-            digits,
-        } = self;
-        drop(digits);
-    }
-}
 
 /// A number as a locale writes it. It borrows the formatter.
 pub struct FormattedNumber<'f> {
-    pub(crate) symbols: &'f DecimalSymbols<'f>,
-    pub(crate) strategy: GroupingStrategy,
-    pub(crate) affixes: NumberAffixes<'f>,
-    pub(crate) significand: UnsignedDecimal,
-    pub(crate) exponent: Option<WrittenExponent<'f>>,
+    pub(crate) formatter: &'f NumberFormatter,
+    /// The significand, with the sign that is shown.
+    pub(crate) value: Decimal,
+    /// The exponent, with the sign and the zeros that are shown.
+    pub(crate) exponent: Option<Decimal>,
+    pub(crate) texts: CompactTexts,
 }
 
 impl<'f> Drop for FormattedNumber<'f> {
     fn drop(self) {
         let FormattedNumber {
-            symbols: _,
-            strategy: _,
-            affixes: _,
-            significand,
+            formatter: _,
+            value,
             exponent,
+            texts: _,
         } = self;
-        drop(significand);
+        drop(value);
         drop(exponent);
     }
 }
 
 impl<'f> FormattedNumber<'f> {
-    fn digits(&self) -> FormattedAbsolute<'_, DecimalStore>
-        ensures { result ≡ formatted_absolute self.now.symbols.now self.now.strategy self.now.significand }
+    /// Returns the parts before and after the number.
+    pub(crate) fn affixes(&self) -> NumberAffixes<'_>
+        ensures parts { AreParts (around_of self.now) self.now.texts.unit result }
+        ensures text { parts_text result.prefix ++ (number_text_if self.now result.has_number
+            ++ parts_text result.suffix) ≡ formatted_number_text self.now }
     {
-        FormattedAbsolute::new(self.symbols, self.strategy, &self.significand)
+        let CompactTexts { around, unit } = self.texts;
+        self.formatter.affixes(self.value.sign, around, unit)
     }
 
-    fn exponent_digits<'g>(
-        &'g self,
-        exponent: &'g WrittenExponent<'f>,
-    ) -> FormattedAbsolute<'g, DecimalStore>
-        ensures { result ≡ formatted_absolute self.now.symbols.now Never exponent.now.digits }
+    #[inline]
+    pub(crate) fn digits(&self) -> FormattedAbsolute<'_, DecimalStore>
+        ensures { result ≡ formatted_absolute self.now.formatter.now.symbols self.now.formatter.now.strategy
+            self.now.value.absolute }
     {
-        FormattedAbsolute::new(self.symbols, GroupingStrategy::Never, &exponent.digits)
+        let formatter = self.formatter;
+        FormattedAbsolute::new(&formatter.symbols, formatter.strategy, &self.value.absolute)
     }
 
-    fn write_exponent<W: Sink>(
-        &self,
-        exponent: &WrittenExponent<'f>,
-        sink: &mut W,
-    ) -> Result<(), SinkFault>
+    fn exponent_digits<'g>(&'g self, exponent: &'g Decimal) -> FormattedAbsolute<'g, DecimalStore>
+        ensures { result ≡ formatted_absolute self.now.formatter.now.symbols Never exponent.now.absolute }
+    {
+        let symbols = &self.formatter.symbols;
+        FormattedAbsolute::new(symbols, GroupingStrategy::Never, &exponent.absolute)
+    }
+
+    fn write_exponent<W: Sink>(&self, exponent: &Decimal, sink: &mut W) -> Result<(), SinkFault>
         ensures ok { OnOk result (Appends (W.contents sink.old) (W.contents sink.new)
-            (exponent_text self.now.symbols.now exponent.now)) }
+            (exponent_text self.now.formatter.now exponent.now)) }
         ensures err { OnErr result (AppendsPrefix (W.contents sink.old) (W.contents sink.new)
-            (exponent_text self.now.symbols.now exponent.now)) }
+            (exponent_text self.now.formatter.now exponent.now)) }
         ensures failed { OnErr result (W.has_failed sink.new ≡ true) }
     {
-        sink.put_bytes(exponent.separator.text.as_bytes())?;
-        sink.put_bytes(exponent.sign.text.as_bytes())?;
+        let formatter = self.formatter;
+        sink.put_bytes(formatter.separator.text.as_bytes())?;
+        sink.put_bytes(formatter.symbols.affixes(exponent.sign).prefix.as_bytes())?;
         self.exponent_digits(exponent).write_to(sink)
     }
 
-    fn write_number<W: Sink>(&self, sink: &mut W) -> Result<(), SinkFault>
+    pub(crate) fn write_number<W: Sink>(&self, sink: &mut W) -> Result<(), SinkFault>
         ensures ok { OnOk result
-            (Appends (W.contents sink.old) (W.contents sink.new) (written_number_text self.now)) }
+            (Appends (W.contents sink.old) (W.contents sink.new) (number_text self.now)) }
         ensures err { OnErr result
-            (AppendsPrefix (W.contents sink.old) (W.contents sink.new) (written_number_text self.now)) }
+            (AppendsPrefix (W.contents sink.old) (W.contents sink.new) (number_text self.now)) }
         ensures failed { OnErr result (W.has_failed sink.new ≡ true) }
     {
         self.digits().write_to(sink)?;
@@ -101,34 +94,35 @@ impl<'f> FormattedNumber<'f> {
         }
     }
 
-    fn write_number_if<W: Sink>(&self, sink: &mut W) -> Result<(), SinkFault>
+    fn write_number_if<W: Sink>(&self, has_number: bool, sink: &mut W) -> Result<(), SinkFault>
         ensures ok { OnOk result
-            (Appends (W.contents sink.old) (W.contents sink.new) (number_text_if self.now)) }
+            (Appends (W.contents sink.old) (W.contents sink.new) (number_text_if self.now has_number)) }
         ensures err { OnErr result
-            (AppendsPrefix (W.contents sink.old) (W.contents sink.new) (number_text_if self.now)) }
+            (AppendsPrefix (W.contents sink.old) (W.contents sink.new) (number_text_if self.now has_number)) }
         ensures failed { OnErr result (W.has_failed sink.new ≡ true) }
     {
-        if self.affixes.has_number {
+        if has_number {
             return self.write_number(sink);
         }
         Ok(())
     }
 
-    fn fmt_exponent<W: fmt::Write>(
-        &self,
-        exponent: &WrittenExponent<'f>,
+    fn fmt_exponent<'g, W: fmt::Write>(
+        &'g self,
+        exponent: &'g Decimal,
         f: &mut fmt::Formatter<W>,
     ) -> fmt::Result
         ensures { WritesStyledOnOk W.write_str_gives f.old result
-            (exponent_text self.now.symbols.now exponent.now) f.new }
+            (exponent_text self.now.formatter.now exponent.now) f.new }
     {
-        f.write_str(exponent.separator.text)?;
-        f.write_str(exponent.sign.text)?;
+        let formatter = self.formatter;
+        f.write_str(formatter.separator.text)?;
+        f.write_str(formatter.symbols.affixes(exponent.sign).prefix)?;
         fmt::Display::fmt(&self.exponent_digits(exponent), f)
     }
 
     fn fmt_number<W: fmt::Write>(&self, f: &mut fmt::Formatter<W>) -> fmt::Result
-        ensures { WritesStyledOnOk W.write_str_gives f.old result (written_number_text self.now) f.new }
+        ensures { WritesStyledOnOk W.write_str_gives f.old result (number_text self.now) f.new }
     {
         fmt::Display::fmt(&self.digits(), f)?;
         match &self.exponent {
@@ -137,10 +131,14 @@ impl<'f> FormattedNumber<'f> {
         }
     }
 
-    fn fmt_number_if<W: fmt::Write>(&self, f: &mut fmt::Formatter<W>) -> fmt::Result
-        ensures { WritesStyledOnOk W.write_str_gives f.old result (number_text_if self.now) f.new }
+    fn fmt_number_if<W: fmt::Write>(
+        &self,
+        has_number: bool,
+        f: &mut fmt::Formatter<W>,
+    ) -> fmt::Result
+        ensures { WritesStyledOnOk W.write_str_gives f.old result (number_text_if self.now has_number) f.new }
     {
-        if self.affixes.has_number {
+        if has_number {
             return self.fmt_number(f);
         }
         Ok(())
@@ -153,21 +151,23 @@ impl<'f> FormattedNumber<'f> {
             (AppendsPrefix (W.contents sink.old) (W.contents sink.new) (formatted_number_text self.now)) }
         ensures failed { OnErr result (W.has_failed sink.new ≡ true) }
     {
-        write_parts(&self.affixes.prefix, sink)?;
-        self.write_number_if(sink)?;
-        write_parts(&self.affixes.suffix, sink)
+        let affixes = self.affixes();
+        write_parts(&affixes.prefix, sink)?;
+        self.write_number_if(affixes.has_number, sink)?;
+        write_parts(&affixes.suffix, sink)
     }
 
     fn number_length(&self) -> usize
-        ensures value { result ≡ length (written_number_text self.now) }
+        ensures value { result ≡ length (number_text self.now) }
         ensures at_most { result ≤ 17236988 }
     {
+        let formatter = self.formatter;
         let digits = self.digits().writeable_length_hint();
         match &self.exponent {
             Some(exponent) => {
                 digits
-                    + exponent.separator.text.len()
-                    + exponent.sign.text.len()
+                    + formatter.separator.text.len()
+                    + formatter.symbols.affixes(exponent.sign).prefix.len()
                     + self.exponent_digits(exponent).writeable_length_hint()
             }
             None => digits,
@@ -188,7 +188,7 @@ impl<'f> Writeable for FormattedNumber<'f> {
             return Err(SinkFault);
         }
         let mut block = Block::new();
-        match self.write_pieces(&mut block) {
+        match self.put_text(&mut block) {
             Ok(()) => sink.put_bytes(block.as_bytes()),
             Err(SinkFault) => self.write_pieces(sink),
         }
@@ -196,12 +196,13 @@ impl<'f> Writeable for FormattedNumber<'f> {
 
     /// Returns the exact number of bytes of the text.
     fn writeable_length_hint(&self) -> usize {
-        let number = if self.affixes.has_number {
+        let affixes = self.affixes();
+        let number = if affixes.has_number {
             self.number_length()
         } else {
             0
         };
-        parts_length(&self.affixes.prefix) + number + parts_length(&self.affixes.suffix)
+        parts_length(&affixes.prefix) + number + parts_length(&affixes.suffix)
     }
 }
 
@@ -216,8 +217,9 @@ impl<'f> fmt::Display for FormattedNumber<'f> {
     ///
     /// The formatter fails.
     fn fmt<W: fmt::Write>(&self, f: &mut fmt::Formatter<W>) -> fmt::Result {
-        fmt_parts(&self.affixes.prefix, f)?;
-        self.fmt_number_if(f)?;
-        fmt_parts(&self.affixes.suffix, f)
+        let affixes = self.affixes();
+        fmt_parts(&affixes.prefix, f)?;
+        self.fmt_number_if(affixes.has_number, f)?;
+        fmt_parts(&affixes.suffix, f)
     }
 }

@@ -19,6 +19,7 @@
 pub mod affix_laws;
 mod affixes;
 mod apply;
+mod compact_texts;
 mod default_digits;
 mod digit_options;
 mod digit_ranges;
@@ -41,6 +42,7 @@ mod precision;
 mod reader;
 mod scale;
 mod settings;
+mod short_text;
 mod skeleton;
 mod text_part;
 
@@ -58,7 +60,7 @@ pub use number_options::{
     CompactLength, CurrencyDisplay, CurrencyStyle, CurrencyUsage, ExponentOptions, ExponentSign,
     NumberNotation, NumberOptions, NumberStyle,
 };
-pub use number_reader::{NumberReader, NumberReaderError};
+pub use number_reader::{NumberReader, NumberReaderError, ParseMode};
 pub use part_sink::PartSink;
 pub use precision::{BothDigits, Minimum, Precision};
 pub use reader::{AffixError, AffixReader};

@@ -1,6 +1,7 @@
 //! What is written before and after the digits of a number.
 ghost use Rattle.std.specs.Prelude.{◌≡◌, ◌≤◌, ◌&&◌, length, IfSome};
 ghost use Rattle.locale_data.specs.Compact.{IsShortAffix};
+ghost use Rattle.number_format.specs.NumberStyles.{ends_with_currency, begins_with_currency};
 ghost use Rattle.number_format.specs.NumberText.{sign_kind, sign_pieces, pattern_kind, pattern_text, pattern_pieces, currency_if, space_if, is_plain, is_empty, has_number, first_sign, last_sign, pattern_around, compact_around, around_by, AreParts};
 ghost use Rattle.number_format.specs.TextParts.{part_pieces};
 
@@ -20,13 +21,13 @@ pub(crate) struct NumberAffixes<'f> {
     pub(crate) suffix: [TextPart<'f>; 6],
 }
 
-fn is_plain(form: CompactForm) -> bool
+pub(crate) fn is_plain(form: CompactForm) -> bool
     ensures { result ≡ is_plain form }
 {
     matches!(form, CompactForm::Plain)
 }
 
-fn has_number(form: CompactForm) -> bool
+pub(crate) fn has_number(form: CompactForm) -> bool
     ensures { result ≡ has_number form }
 {
     match form {
@@ -76,7 +77,8 @@ impl NumberFormatter {
         TextPart::new(sign_kind(sign), self.symbols.affixes(sign).prefix)
     }
 
-    fn pattern_text(&self, piece: Piece) -> &str
+    #[inline]
+    pub(crate) fn pattern_text(&self, piece: Piece) -> &str
         ensures value { result.now ≡ pattern_text self.now piece }
         ensures short { length result.now ≤ 255 }
     {
@@ -105,6 +107,20 @@ impl NumberFormatter {
         }
     }
 
+    #[inline]
+    pub(crate) fn has_space_after(&self, prefix: Affix) -> bool
+        ensures { result ≡ (ends_with_currency prefix && self.now.currency.space_after) }
+    {
+        ends_with_currency(prefix) && self.currency.space_after
+    }
+
+    #[inline]
+    pub(crate) fn has_space_before(&self, suffix: Affix) -> bool
+        ensures { result ≡ (begins_with_currency suffix && self.now.currency.space_before) }
+    {
+        begins_with_currency(suffix) && self.currency.space_before
+    }
+
     /// Returns the parts of the pattern for a sign.
     fn pattern_affixes(&self, sign: Sign, unit: UnitAffixes) -> NumberAffixes<'_>
         requires prefix { length unit.prefix.now ≤ 255 }
@@ -119,12 +135,12 @@ impl NumberFormatter {
                 self.pattern_part(prefix.second),
                 self.pattern_part(prefix.third),
                 self.pattern_part(prefix.fourth),
-                space_if(ends_with_currency(prefix) && self.currency.space_after),
+                space_if(self.has_space_after(prefix)),
                 TextPart::empty(),
             ],
             has_number: true,
             suffix: [
-                space_if(begins_with_currency(suffix) && self.currency.space_before),
+                space_if(self.has_space_before(suffix)),
                 self.pattern_part(suffix.first),
                 self.pattern_part(suffix.second),
                 self.pattern_part(suffix.third),
@@ -152,13 +168,13 @@ impl NumberFormatter {
         }
     }
 
-    fn space_after(&self, affix: CompactAffix) -> bool
+    pub(crate) fn space_after(&self, affix: CompactAffix) -> bool
         ensures { result ≡ (affix.has_currency && (is_empty affix.after.now && self.now.currency.space_after)) }
     {
         affix.has_currency && is_empty(affix.after) && self.currency.space_after
     }
 
-    fn space_before(&self, affix: CompactAffix) -> bool
+    pub(crate) fn space_before(&self, affix: CompactAffix) -> bool
         ensures { result ≡ (affix.has_currency && (is_empty affix.before.now && self.now.currency.space_before)) }
     {
         affix.has_currency && is_empty(affix.before) && self.currency.space_before

@@ -1,20 +1,22 @@
 //! Readers of what formatters write.
-ghost use Rattle.std.specs.Prelude.{◌≡◌, ◌↔◌, map, IsTrue, IfOk, IfErr};
+ghost use Rattle.std.specs.Prelude.{◌≡◌, ◌≢◌, ◌↔◌, ◌++◌, ◌-ℤ◌, pos, negsuc, map, IsTrue, IfOk, IfErr, OnOk};
 ghost use Rattle.number_format.specs.AffixedTexts.{IsShown, IsShownNumeral};
-ghost use Rattle.number_format.specs.NumberReading.{IsStandard, affixes_for, affixes_of_formatter, reader_of, CanRead, CannotRead};
+ghost use Rattle.number_format.specs.NumberReading.{IsStandard, affixes_for, affixes_of_formatter, CanRead, CannotRead};
 ghost use Rattle.number_format.specs.ShiftedReading.{IsReadShifted};
-ghost use Rattle.number_format.specs.TypedReading.{is_percent, has_percent, percent_name, names_by, form_of, names_of, named_reader, number_reader_of, own_forms, typed_forms, IsReadLeniently};
+ghost use Rattle.number_format.specs.TypedReading.{is_percent, has_percent, percent_name, names_by, form_of, names_of, forms_of_names, number_reader_of, own_forms, typed_forms, IsReadLeniently, IsReadInMode};
 
 use crate::affixes::{AffixTexts, SignAffixes};
+use crate::compact_texts::NO_UNIT;
 use crate::name_texts::{NameTexts, Names, prefix};
 use crate::number_formatter::NumberFormatter;
 use crate::number_style::text_or_nothing;
 use crate::reader::{AffixError, AffixReader};
 use decimal_format::Alternative;
 use fixed_decimal::{DigitStore, ParseError, Sign, Signed, UnsignedOver};
-use locale_data::{Affix, Piece, UnitAffixes};
+use locale_data::{Affix, Piece};
 use std::alloc::{AllocError, Global};
 use std::marker::Model;
+use std::str;
 
 /// Why the texts of a formatter cannot be read.
 #[derive(Clone, Copy, Debug, PartialEq, Eq)]
@@ -31,27 +33,37 @@ pub enum NumberReaderError {
     Memory,
 }
 
-/// Reads the numbers that a [`NumberFormatter`] writes. It borrows the formatter.
+/// How strictly a text is read.
+#[derive(Clone, Copy, Debug, PartialEq)]
+pub enum ParseMode {
+    /// Exactly as numbers are formatted.
+    Strict,
+    /// As people type numbers.
+    Lenient,
+}
+
+/// Reads the numbers that a [`NumberFormatter`] writes. Making it allocates, reading a short text does not.
 ///
 /// ```
 /// let formatter = NumberFormatter::try_new("de", options)?; // EUR, with the pattern of accounts
-/// let reader = formatter.reader(alloc)?;
+/// let reader = formatter.into_reader(alloc)?;
 /// reader.read(alloc, "-1.234,50\u{a0}€".as_bytes())?; // -1234.50
 /// ```
 #[derive(Drop)]
-pub struct NumberReader<'f> {
-    reader: AffixReader<'f>,
+pub struct NumberReader {
+    reader: AffixReader<'static>,
     symbol: NameTexts,
     narrow: NameTexts,
     code: NameTexts,
 }
 
-impl<'f> Model for NumberReader<'f> {
+impl Model for NumberReader {
+    ghost use Rattle.std.specs.Prelude.{◌++◌};
     ghost use Rattle.number_format.specs.TypedReading.{NumberReader};
 
     ghost Value = { NumberReader };
 
-    ghost view = { λ s. record { texts = s.reader; symbol = s.symbol; narrow = s.narrow; code = s.code } };
+    ghost view = { λ s. record { texts = s.reader; names = s.symbol ++ (s.narrow ++ s.code) } };
 }
 
 fn is_percent(piece: Piece) -> bool
@@ -79,11 +91,7 @@ impl NumberFormatter {
     fn affix_texts(&self, alloc: Global, sign: Sign) -> Result<AffixTexts, AllocError>
         ensures { IfOk result (λ t. t ≡ affixes_for self.now sign) }
     {
-        let nothing = UnitAffixes {
-            prefix: "",
-            suffix: "",
-        };
-        let affixes = self.affixes(sign, None, nothing);
+        let affixes = self.affixes(sign, None, NO_UNIT);
         AffixTexts::of_parts(alloc, &affixes.prefix, &affixes.suffix)
     }
 
@@ -124,59 +132,62 @@ impl NumberFormatter {
         }
     }
 
-    /// Makes the reader of what this formatter writes.
-    ///
-    /// # Errors
-    ///
-    /// A [`NumberReaderError`]: the texts of the formatter do not have one meaning each, or out of memory.
-    pub fn reader(&self, alloc: Global) -> Result<NumberReader<'_>, NumberReaderError>
-        ensures ok { IfOk result (λ r. (r ≡ number_reader_of self.now) × CanRead self.now) }
-        ensures err { IfErr result (λ e. CannotRead e self.now) }
-    {
-        let reader = self.affix_reader(alloc)?;
-        let names = self.names();
-        match NumberReader::named(alloc, reader, &names) {
-            Ok(reader) => Ok(reader),
-            Err(_) => Err(NumberReaderError::Memory),
-        }
-    }
-
-    fn affix_reader(&self, alloc: Global) -> Result<AffixReader<'_>, NumberReaderError>
-        ensures ok { IfOk result (λ r. (r ≡ reader_of self.now) × CanRead self.now) }
+    /// Returns the shift that undoes the scale, of a formatter whose notation is read.
+    fn shift(&self) -> Result<i16, NumberReaderError>
+        ensures value { IfOk result (λ shift. shift ≡ pos 0 -ℤ self.now.scale) }
+        ensures standard { OnOk result (IsStandard self.now) }
+        ensures scale { OnOk result (self.now.scale ≢ negsuc 32767) }
         ensures err { IfErr result (λ e. CannotRead e self.now) }
     {
         if !self.is_standard() {
             return Err(NumberReaderError::Notation);
         }
-        let Some(shift) = self.scale.checked_neg() else {
-            return Err(NumberReaderError::Scale);
+        match self.scale.checked_neg() {
+            Some(shift) => Ok(shift),
+            None => Err(NumberReaderError::Scale),
+        }
+    }
+
+    fn name_texts(&self, alloc: Global) -> Result<(NameTexts, NameTexts, NameTexts), AllocError>
+        ensures { IfOk result (λ t. t.0 ++ (t.1 ++ t.2) ≡ forms_of_names (names_by self.now self.now.currency.names)) }
+    {
+        let names = self.names();
+        let symbol = NameTexts::new(alloc, names.symbol)?;
+        let narrow = NameTexts::new(alloc, names.narrow)?;
+        let code = NameTexts::new(alloc, names.code)?;
+        Ok((symbol, narrow, code))
+    }
+
+    /// Makes the reader of what this formatter writes.
+    ///
+    /// # Errors
+    ///
+    /// A [`NumberReaderError`]: the texts of the formatter do not have one meaning each, or out of memory.
+    pub fn into_reader(self, alloc: Global) -> Result<NumberReader, NumberReaderError>
+        ensures ok { IfOk result (λ r. (r ≡ number_reader_of self) × CanRead self) }
+        ensures err { IfErr result (λ e. CannotRead e self) }
+    {
+        let shift = self.shift()?;
+        let Ok((symbol, narrow, code)) = self.name_texts(alloc) else {
+            return Err(NumberReaderError::Memory);
         };
         let Ok(affixes) = self.sign_affixes(alloc) else {
             return Err(NumberReaderError::Memory);
         };
-        match AffixReader::new(&self.symbols, affixes) {
-            Ok(reader) => Ok(reader.with_shift(shift)),
+        match AffixReader::new(self.symbols, affixes) {
+            Ok(reader) => Ok(NumberReader {
+                reader: reader.with_shift(shift),
+                symbol,
+                narrow,
+                code,
+            }),
             Err(AffixError::Symbols) => Err(NumberReaderError::Symbols),
             Err(AffixError::Affixes) => Err(NumberReaderError::Affixes),
         }
     }
 }
 
-impl<'f> NumberReader<'f> {
-    fn named(alloc: Global, reader: AffixReader<'f>, names: &Names<'_>) -> Result<Self, AllocError>
-        ensures { IfOk result (λ r. r ≡ named_reader reader.entry (names_of names.now)) }
-    {
-        let symbol = NameTexts::new(alloc, names.symbol)?;
-        let narrow = NameTexts::new(alloc, names.narrow)?;
-        let code = NameTexts::new(alloc, names.code)?;
-        Ok(NumberReader {
-            reader,
-            symbol,
-            narrow,
-            code,
-        })
-    }
-
+impl NumberReader {
     /// Returns the texts of the formatter, nothing, and parentheses for a minus sign.
     fn own_alternatives(&self) -> [Alternative<'_>; 5]
         ensures { map form_of result ≡ own_forms self.now.texts }
@@ -249,5 +260,27 @@ impl<'f> NumberReader<'f> {
         ensures { IsReadLeniently D.L self.now text.now result }
     {
         self.reader.read_lenient(alloc, &self.alternatives(), text)
+    }
+
+    /// Reads a number in a mode: by [`read`](Self::read), or by [`read_lenient`](Self::read_lenient).
+    ///
+    /// # Errors
+    ///
+    /// As for these; leniently, a text that is not UTF-8 is `Syntax`.
+    pub fn read_utf8<D: DigitStore>(
+        &self,
+        alloc: Global,
+        mode: ParseMode,
+        text: &[u8],
+    ) -> Result<Signed<UnsignedOver<D>>, ParseError>
+        ensures { IsReadInMode D.L mode self.now text.now result }
+    {
+        match mode {
+            ParseMode::Strict => self.read(alloc, text),
+            ParseMode::Lenient => match str::from_utf8(text) {
+                Ok(text) => self.read_lenient(alloc, text),
+                Err(_) => Err(ParseError::Syntax),
+            },
+        }
     }
 }

@@ -1,18 +1,19 @@
 //! The pieces of the text of a number, with their kinds.
-ghost use Rattle.std.specs.Prelude.{◌≡◌, ◌<◌, ◌-ℤ◌, pos, encode_utf8, OnOk};
+ghost use Rattle.std.specs.Prelude.{◌≡◌, ◌<◌, ◌-ℤ◌, pos, [], if◌then◌else◌, encode_utf8, OnOk};
 ghost use Rattle.decimal_digits.specs.Number.{digit};
 ghost use Rattle.decimal_unsigned.specs.Unsigned.{IsValue};
 ghost use Rattle.decimal_format.specs.Formatted.{separator_before, separator_after, shown_count};
 ghost use Rattle.decimal_format.specs.Symbols.{digit_text};
 ghost use Rattle.number_format.specs.TextParts.{Puts, pieces_of, parts_pieces, pieces_text, digit_kind, magnitude_pieces, digit_pieces};
-ghost use Rattle.number_format.specs.FormattedNumbers.{exponent_pieces, exponent_pieces_if, number_pieces, number_pieces_if, formatted_number_pieces, formatted_number_text};
+ghost use Rattle.number_format.specs.FormattedNumbers.{formatted_number_pieces, formatted_number_text};
+ghost use Rattle.number_format.specs.NumberText.{exponent_kind, exponent_pieces, number_part};
 
-use crate::formatted_number::{FormattedNumber, WrittenExponent};
+use crate::formatted_number::FormattedNumber;
 use crate::part_sink::PartSink;
 use crate::text_part::{PartKind, TextPart};
 use decimal_digits::ops::{count_between, magnitude_below};
 use decimal_format::{DecimalSymbols, GroupingStrategy};
-use fixed_decimal::{SinkFault, UnsignedDecimal};
+use fixed_decimal::{Decimal, Sign, SinkFault, UnsignedDecimal};
 
 /// Puts a text, if it is not empty.
 fn put<P: PartSink>(sink: &mut P, kind: PartKind, text: &str) -> Result<(), SinkFault>
@@ -146,34 +147,43 @@ impl<'f> Digits<'f> {
     }
 }
 
+fn exponent_kind(sign: Sign) -> PartKind
+    ensures { result ≡ exponent_kind sign }
+{
+    match sign {
+        Sign::Positive => PartKind::ExponentPlusSign,
+        _ => PartKind::ExponentMinusSign,
+    }
+}
+
 impl<'f> FormattedNumber<'f> {
-    fn put_exponent<P: PartSink>(
-        &self,
-        exponent: &WrittenExponent<'f>,
-        sink: &mut P,
-    ) -> Result<(), SinkFault>
+    fn put_exponent<P: PartSink>(&self, exponent: &Decimal, sink: &mut P) -> Result<(), SinkFault>
         ensures { OnOk result (Puts (P.pieces sink.old) (P.pieces sink.new)
-            (exponent_pieces self.now.symbols.now exponent.now)) }
+            (exponent_pieces self.now.formatter.now exponent.now)) }
     {
-        put(sink, exponent.separator.kind, exponent.separator.text)?;
-        put(sink, exponent.sign.kind, exponent.sign.text)?;
+        let formatter = self.formatter;
+        put(sink, PartKind::ExponentSeparator, formatter.separator.text)?;
+        let sign = formatter.symbols.affixes(exponent.sign).prefix;
+        put(sink, exponent_kind(exponent.sign), sign)?;
         let digits = Digits {
             whole: PartKind::ExponentInteger,
-            symbols: self.symbols,
+            symbols: &formatter.symbols,
             strategy: GroupingStrategy::Never,
-            value: &exponent.digits,
+            value: &exponent.absolute,
         };
         digits.put_to(sink)
     }
 
     fn put_number<P: PartSink>(&self, sink: &mut P) -> Result<(), SinkFault>
-        ensures { OnOk result (Puts (P.pieces sink.old) (P.pieces sink.new) (number_pieces self.now)) }
+        ensures { OnOk result (Puts (P.pieces sink.old) (P.pieces sink.new)
+            (number_part self.now.formatter.now self.now.value.absolute self.now.exponent)) }
     {
+        let formatter = self.formatter;
         let digits = Digits {
             whole: PartKind::Integer,
-            symbols: self.symbols,
-            strategy: self.strategy,
-            value: &self.significand,
+            symbols: &formatter.symbols,
+            strategy: formatter.strategy,
+            value: &self.value.absolute,
         };
         digits.put_to(sink)?;
         match &self.exponent {
@@ -182,10 +192,11 @@ impl<'f> FormattedNumber<'f> {
         }
     }
 
-    fn put_number_if<P: PartSink>(&self, sink: &mut P) -> Result<(), SinkFault>
-        ensures { OnOk result (Puts (P.pieces sink.old) (P.pieces sink.new) (number_pieces_if self.now)) }
+    fn put_number_if<P: PartSink>(&self, has_number: bool, sink: &mut P) -> Result<(), SinkFault>
+        ensures { OnOk result (Puts (P.pieces sink.old) (P.pieces sink.new) (if has_number
+            then number_part self.now.formatter.now self.now.value.absolute self.now.exponent else [])) }
     {
-        if self.affixes.has_number {
+        if has_number {
             return self.put_number(sink);
         }
         Ok(())
@@ -202,8 +213,9 @@ impl<'f> FormattedNumber<'f> {
             (Puts (P.pieces sink.old) (P.pieces sink.new) (formatted_number_pieces self.now)) }
         ensures text { pieces_text (formatted_number_pieces self.now) ≡ formatted_number_text self.now }
     {
-        put_parts(sink, &self.affixes.prefix)?;
-        self.put_number_if(sink)?;
-        put_parts(sink, &self.affixes.suffix)
+        let affixes = self.affixes();
+        put_parts(sink, &affixes.prefix)?;
+        self.put_number_if(affixes.has_number, sink)?;
+        put_parts(sink, &affixes.suffix)
     }
 }

@@ -30,13 +30,12 @@ pub enum AffixError {
 ///     Affixes { prefix: "($", suffix: ")" },
 ///     Affixes { prefix: "+$", suffix: "" },
 /// )?;
-/// let symbols = DecimalSymbols::ascii();
-/// let reader = AffixReader::new(&symbols, affixes)?;
+/// let reader = AffixReader::new(DecimalSymbols::ascii(), affixes)?;
 /// reader.read(alloc, b"($1,234.50)")?; // -1234.50
 /// ```
 #[derive(Drop)]
 pub struct AffixReader<'a> {
-    symbols: &'a DecimalSymbols<'a>,
+    symbols: DecimalSymbols<'a>,
     affixes: SignAffixes,
     shift: i16,
 }
@@ -47,9 +46,9 @@ impl<'a> Model for AffixReader<'a> {
 
     ghost Value = { Reader };
 
-    ghost view = { λ s. reader s.symbols.now s.affixes s.shift };
+    ghost view = { λ s. reader s.symbols s.affixes s.shift };
 
-    ghost invariant = { λ s. IsReadable s.symbols.now × AreNamed s.symbols.now (by_sign s.affixes) };
+    ghost invariant = { λ s. IsReadable s.symbols × AreNamed s.symbols (by_sign s.affixes) };
 }
 
 fn cut<'t>(text: &'t [u8], prefix: &[u8]) -> Option<&'t [u8]>
@@ -96,15 +95,15 @@ impl<'a> AffixReader<'a> {
     ///
     /// - `Symbols`: the symbols are not [readable](DecimalSymbols::is_readable).
     /// - `Affixes`: they are, and the affixes do not [name the sign](SignAffixes::are_apart).
-    pub fn new(symbols: &'a DecimalSymbols<'a>, affixes: SignAffixes) -> Result<Self, AffixError>
-        ensures ok { IfOk result (λ r. r ≡ reader symbols.now affixes (pos 0)) }
-        ensures readable { IfOk result (λ r. IsReadable symbols.now × AreNamed symbols.now (by_sign affixes)) }
-        ensures err { IfErr result (λ e. Rejects e symbols.now affixes) }
+    pub fn new(symbols: DecimalSymbols<'a>, affixes: SignAffixes) -> Result<Self, AffixError>
+        ensures ok { IfOk result (λ r. r ≡ reader symbols.entry affixes (pos 0)) }
+        ensures readable { IfOk result (λ r. IsReadable symbols.entry × AreNamed symbols.entry (by_sign affixes)) }
+        ensures err { IfErr result (λ e. Rejects e symbols.entry affixes) }
     {
         if !symbols.is_readable() {
             return Err(AffixError::Symbols);
         }
-        if !affixes.are_apart(symbols) {
+        if !affixes.are_apart(&symbols) {
             return Err(AffixError::Affixes);
         }
         Ok(AffixReader {

@@ -1,9 +1,10 @@
 //! The significand and the exponent of a number.
-ghost use Rattle.std.specs.Prelude.{◌≡◌, ◌+◌, ◌*◌, ◌/◌, ◌^◌, ◌≤◌, Some, None, IsOk, IfOk, OnOk, IfErr, IsErrOf, MatchOption, ◌⊎◌, pos, ◌+ℤ◌, ◌-ℤ◌, ◌≤ℤ◌, ◌<ℤ◌, negsuc, unsigned_abs};
+ghost use Rattle.std.specs.Prelude.{◌≡◌, ◌+◌, ◌*◌, ◌/◌, ◌^◌, ◌≤◌, Some, None, IsOk, IfOk, OnOk, OnErr, IfErr, IsErrOf, MatchOption, ◌⊎◌, pos, ◌+ℤ◌, ◌-ℤ◌, ◌≤ℤ◌, ◌<ℤ◌, negsuc, unsigned_abs};
 ghost use Rattle.std.specs.Int.{int_min};
 ghost use Rattle.decimal_digits.specs.Number.{first, last, size};
 ghost use Rattle.fixed_decimal.specs.Decimal.{integer_decimal};
 ghost use Rattle.fixed_decimal.specs.Scientific.{scientific};
+ghost use Rattle.number_format.specs.ShownDigits.{NeedsMemory};
 ghost use Rattle.number_format.specs.Scaled.{whole_exponent, base_exponent, raised, settled, ScalingNeedsMemory, scaled_value, scaled};
 
 use crate::digit_options::DigitOptions;
@@ -55,6 +56,9 @@ fn raise<D: DigitStore>(value: &mut UnsignedOver<D>, count: u16)
     requires low { (first value.old.number +ℤ pos count) ≤ℤ pos 32767 }
     ensures { value.new.number ≡ value.old.number * 10 ^ count }
 {
+    if count == 0 {
+        return;
+    }
     value.trim_start();
     value.multiply_pow10(count as i16).unwrap();
 }
@@ -69,6 +73,26 @@ fn lower<D: DigitStore>(value: &mut UnsignedOver<D>, count: u16) -> Result<(), R
     value
         .multiply_pow10(-(count as i16))
         .map_err(|_| RoundError::Limit)
+}
+
+impl DigitOptions {
+    /// Makes a decimal the one that standard notation writes, and returns the exponent, 0. On an error the decimal is
+    /// unchanged.
+    pub(crate) fn show_in_place<D: DigitStore>(
+        &self,
+        value: &mut Signed<UnsignedOver<D>>,
+    ) -> Result<i32, RoundError>
+        ensures ok { IfOk result
+            (λ e. scaled Notation.Standard self.now value.old ≡ Some (scaled_value value.new e)) }
+        ensures unchanged { OnErr result (value.new ≡ value.old) }
+        ensures limit { IsErrOf result RoundError.Limit → scaled Notation.Standard self.now value.old ≡ None }
+        ensures memory { IsErrOf result RoundError.Memory
+            → NeedsMemory D.L self.now value.old.sign 0 value.old.absolute.number }
+    {
+        let last = self.round_at(value, 0, &mut Steps::new())?;
+        self.show(&mut value.absolute, last);
+        Ok(0)
+    }
 }
 
 impl Notation {

@@ -1,6 +1,7 @@
 //! Number skeletons, the texts for formats of ICU.
-ghost use Rattle.std.specs.Prelude.{◌≡◌, Ok, Err, IfOk, IfSome, MatchResult, string_bytes};
+ghost use Rattle.std.specs.Prelude.{◌≡◌, [], Ok, Err, IfOk, IfSome, IsSome, MatchResult, string_bytes};
 ghost use Rattle.number_format.specs.SkeletonMeaning.{skeleton_options, options_value, style_in_capitals, in_capitals};
+ghost use Rattle.number_format.specs.SkeletonLengths.{IsShortest};
 ghost use Rattle.number_format.specs.SkeletonReading.{choices_of};
 
 mod choices;
@@ -91,19 +92,22 @@ impl NumberOptions {
         read_choices(text.as_bytes())?.options()
     }
 
-    /// Returns a short skeleton that reads as these options, with the code of a currency in capitals, or `None` if none
-    /// is found, as of digits without a stem.
+    /// Returns the shortest skeleton that reads as these options, with the code of a currency in capitals, or `None` if
+    /// none is found, as of digits without a stem. The options of the empty skeleton are found.
     ///
     /// # Errors
     ///
     /// Out of memory.
     pub fn to_skeleton(&self, alloc: Global) -> Result<Option<String>, AllocError>
-        ensures { IfOk result (λ found. IfSome found
-            (λ text. skeleton_options (string_bytes text) ≡ Ok (options_value (in_capitals self.now)))) }
+        ensures shortest { IfOk result (λ found. IfSome found
+            (λ text. IsShortest (string_bytes text) (options_value (in_capitals self.now)))) }
+        ensures defaults { IfOk result
+            (λ found. skeleton_options [] ≡ Ok (options_value (in_capitals self.now)) → IsSome found) }
     {
         let options = self.in_capitals();
         let mut text = String::new(alloc);
         push_skeleton(&mut text, &options)?;
+        text.pop();
         match NumberOptions::try_from_skeleton(text.as_str()) {
             Ok(read) if same_options(&options, &read) => Ok(Some(text)),
             _ => Ok(None),

@@ -1,12 +1,16 @@
-//! Checks the digits and the exponents that options show against `Intl.NumberFormat`.
+//! Checks numbers in locales against `Intl.NumberFormat`: their texts and parts, and how texts are read.
 //!
 //! Each line of standard input is a row of three fields with tabs between them: options, which are words `name=value`,
 //! mostly by the names of ECMA-402; a number; and its text in English, or the name of the error; or a row of four, the
-//! first of which is the tag of another locale. Of options that are rejected the number is empty, and the text may also
-//! be the class of ECMA-402's error. In numbers and texts `0*3` after a space is `000`. Blank lines and lines that
-//! start with `#` are not rows. Each row that fails is printed with its line number; the last line counts the rows.
+//! first of which is the tag of another locale. With `check=parts` the last field is its parts; with `check=read` and
+//! `check=lenient` the fields are a text that is read, and its value or error. Of options that are rejected the number
+//! is empty, and the text may also be the class of ECMA-402's error. In numbers and texts `0*3` after a space is `000`.
+//! Blank lines and lines that start with `#` are not rows. Each row that fails is printed with its line number; the
+//! last line counts the rows.
 #![tactic(auto)]
 
+mod parts;
+mod reading;
 mod words;
 
 use decimal_format::DecimalFormatter;
@@ -16,12 +20,18 @@ use fixed_decimal::{
 };
 use locale_data::locale;
 use number_format::{
-    DigitOptions, DigitOptionsError, Notation, NumberFormatter, NumberReaderError,
+    DigitOptions, DigitOptionsError, FormatError, FormattedNumber, Notation, NumberFormatter,
+    NumberReader, NumberReaderError,
 };
+use parts::has_parts;
+use reading::{reads, reads_leniently};
 use std::alloc::Global;
 use std::process::ExitCode;
-use test_support::{LimitedSink, LimitedStore, SixteenDigits, check_rows, expand_runs, shows};
-use words::{Options, parse_options};
+use test_support::{
+    LimitedSink, LimitedStore, SixteenDigits, check_rows, displays, expand_runs,
+    fails_without_room, has_text, shows,
+};
+use words::{Check, Options, parse_options};
 
 /// Returns the name of an error, and the class of ECMA-402's error.
 fn error_names(error: DigitOptionsError) -> (&'static str, &'static str) {
@@ -107,7 +117,7 @@ fn scales<D: DigitStore>(
 }
 
 /// Whether a number has this text over a store.
-fn has_text<D: DigitStore>(
+fn has_text_over<D: DigitStore>(
     alloc: Global,
     tag: &str,
     options: &Options,
@@ -125,46 +135,82 @@ fn has_text<D: DigitStore>(
     Some(scales(alloc, &formatter, options, digits, value, text))
 }
 
-/// Whether a formatter writes a number as this text.
-fn writes_text(
-    alloc: Global,
-    formatter: &NumberFormatter,
-    value: Decimal,
-    text: &str,
-) -> Option<bool> {
-    let formatted = formatter.format(alloc, value).ok()?;
-    let mut sink = LimitedSink::new(text.as_bytes(), usize::MAX);
-    Some(formatted.write_to(&mut sink).is_ok() && sink.has_all())
+/// Whether a formatted number has this text, also by Display, and fails with each sink without room.
+fn is_text(formatted: &FormattedNumber<'_>, text: &str) -> bool {
+    has_text(formatted, text)
+        && displays(formatted, text.as_bytes())
+        && fails_without_room(formatted, text.as_bytes())
 }
 
-/// Whether a text of standard notation reads back, exactly and leniently, as a number that has this text, or as zero,
-/// which may show fewer zeros when it is rounded once more.
-fn reads_back(alloc: Global, formatter: &NumberFormatter, text: &str) -> Option<bool> {
-    let reader = match formatter.reader(alloc) {
+/// Whether the reader of a formatter reads a text of standard notation back, exactly and leniently, as a number with
+/// this text, or as zero, which may show fewer zeros when it is rounded once more.
+fn reads_back(
+    alloc: Global,
+    formatter: &NumberFormatter,
+    reader: Result<NumberReader, NumberReaderError>,
+    options: &Options,
+    text: &str,
+) -> Option<bool> {
+    let reader = match reader {
         Ok(reader) => reader,
-        Err(error) => return Some(error == NumberReaderError::Notation),
+        Err(error) => return Some(error == options.reader_error()),
     };
     let value: Decimal = reader.read(alloc, text.as_bytes()).ok()?;
     let typed: Decimal = reader.read_lenient(alloc, text).ok()?;
-    let same = typed == value;
+    if typed != value {
+        return Some(false);
+    }
     let is_zero = value.absolute.is_zero();
-    Some(same && (is_zero || writes_text(alloc, formatter, value, text)?))
+    Some(is_zero || is_text(&formatter.format(alloc, value).ok()?, text))
 }
 
-/// Whether the format of these options writes a number as this text, and reads it back.
+/// Whether a formatter writes a number as this text, and reads it back; or has this error, and leaves the number.
 fn formats(
+    alloc: Global,
+    formatter: &NumberFormatter,
+    reader: Result<NumberReader, NumberReaderError>,
+    options: &Options,
+    (number, text): (&str, &str),
+) -> Option<bool> {
+    match formatter.format(alloc, Decimal::try_from_str(alloc, number).ok()?) {
+        Ok(formatted) => {
+            Some(is_text(&formatted, text) && reads_back(alloc, formatter, reader, options, text)?)
+        }
+        Err(FormatError { error, value }) => {
+            Some(is_named(error, text) && shows(&value, number.as_bytes()))
+        }
+    }
+}
+
+/// Whether the formatter of these options does what a row says.
+fn checks(
     alloc: Global,
     tag: &str,
     options: &Options,
     digits: DigitOptions,
-    (number, text): (&str, &str),
+    (text, expected): (&str, &str),
 ) -> Option<bool> {
     let formatter = NumberFormatter::try_new(tag, options.number(digits)).ok()?;
-    let value = Decimal::try_from_str(alloc, number).ok()?;
-    match writes_text(alloc, &formatter, value, text) {
-        Some(is_written) => Some(is_written && reads_back(alloc, &formatter, text)?),
-        None => Some(text == "Limit"),
+    let reader = NumberFormatter::try_new(tag, options.number(digits))
+        .ok()?
+        .into_reader(alloc);
+    match options.check {
+        Check::Text => formats(alloc, &formatter, reader, options, (text, expected)),
+        Check::Parts => {
+            let value = Decimal::try_from_str(alloc, text).ok()?;
+            Some(has_parts(&formatter.format(alloc, value).ok()?, expected))
+        }
+        Check::Read => reads(alloc, &reader.ok()?, text, expected),
+        Check::Lenient => Some(reads_leniently(alloc, &reader.ok()?, text, expected)),
     }
+}
+
+/// Returns the text of a field. Texts of node have blanks, and no stars.
+fn expanded(alloc: Global, field: &str) -> Option<String> {
+    if field.contains('*') {
+        return expand_runs(alloc, field).ok();
+    }
+    field.repeat(alloc, 1).ok()
 }
 
 /// Whether a row holds.
@@ -183,25 +229,20 @@ fn holds(alloc: Global, row: &str) -> Option<bool> {
             return Some(number.is_empty() && (text == name || text == class));
         }
     };
-    let number = expand_runs(alloc, number).ok()?;
-    // Texts of node have blanks, and no stars.
-    let text = if text.contains('*') {
-        expand_runs(alloc, text).ok()?
-    } else {
-        text.repeat(alloc, 1).ok()?
-    };
+    let number = expanded(alloc, number)?;
+    let text = expanded(alloc, text)?;
     let row = (number.as_str(), text.as_str());
     if options.is_limited {
-        return has_text::<LimitedStore<PackedDigits, SixteenDigits>>(
+        return has_text_over::<LimitedStore<PackedDigits, SixteenDigits>>(
             alloc, tag, &options, &digits, row,
         );
     }
-    let formatted = formats(alloc, tag, &options, digits, row)?;
-    if !formatted || !options.is_plain(tag) {
-        return Some(formatted);
+    let is_checked = checks(alloc, tag, &options, digits, row)?;
+    if !is_checked || !options.is_plain(tag) {
+        return Some(is_checked);
     }
-    let packed = has_text::<PackedDigits>(alloc, tag, &options, &digits, row)?;
-    Some(packed && has_text::<DigitList>(alloc, tag, &options, &digits, row)?)
+    let packed = has_text_over::<PackedDigits>(alloc, tag, &options, &digits, row)?;
+    Some(packed && has_text_over::<DigitList>(alloc, tag, &options, &digits, row)?)
 }
 
 fn main(rt: HostRuntime) -> ExitCode {

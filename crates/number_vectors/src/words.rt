@@ -8,7 +8,7 @@ use number_format::{
     BothDigits, CompactLength, CurrencyDisplay, CurrencyStyle, CurrencyUsage, DigitDefaults,
     DigitOptions, DigitOptionsError, DigitSettings, ExponentOptions, ExponentSign, FractionDigits,
     FractionMultiples, Increment, IntegerDigits, Minimum, Notation, NumberNotation, NumberOptions,
-    NumberStyle, Precision, RoundingPriority, SignificantDigits, TrailingZeros,
+    NumberReaderError, NumberStyle, Precision, RoundingPriority, SignificantDigits, TrailingZeros,
 };
 
 /// The styles by the names of ECMA-402.
@@ -28,6 +28,19 @@ enum NotationName {
     Compact,
 }
 
+/// What a row checks.
+#[derive(Clone, Copy)]
+pub enum Check {
+    /// The text of the number, or an error.
+    Text,
+    /// The parts of its text.
+    Parts,
+    /// The value of a text, or an error.
+    Read,
+    /// The same, read as people type it.
+    Lenient,
+}
+
 /// What the words of a row say.
 #[derive(Clone, Copy)]
 pub struct Options {
@@ -43,6 +56,8 @@ pub struct Options {
     pub grouping: GroupingStrategy,
     integer: Option<IntegerDigits>,
     precision: Option<Precision>,
+    scale: Option<i16>,
+    pub check: Check,
     pub is_limited: bool,
 }
 
@@ -70,7 +85,8 @@ impl Options {
 
     /// Whether `scale` and a decimal formatter write the text in this locale.
     pub fn is_plain(&self, tag: &str) -> bool {
-        matches!(self.style, Style::Decimal)
+        matches!((self.style, self.check), (Style::Decimal, Check::Text))
+            && self.scale.is_none()
             && (matches!(self.notation, NotationName::Standard)
                 || tag == "en" && !self.is_compact())
     }
@@ -105,7 +121,7 @@ impl Options {
         };
         NumberOptions {
             style,
-            scale,
+            scale: self.scale.unwrap_or(scale),
             notation: match self.notation {
                 NotationName::Standard => NumberNotation::Standard,
                 NotationName::Scientific => NumberNotation::Scientific(PLAIN),
@@ -119,6 +135,14 @@ impl Options {
                 grouping => grouping,
             },
             numbering_system: None,
+        }
+    }
+
+    /// Returns why there is no reader, where there is none.
+    pub fn reader_error(&self) -> NumberReaderError {
+        match self.notation {
+            NotationName::Standard => NumberReaderError::Scale,
+            _ => NumberReaderError::Notation,
         }
     }
 
@@ -136,8 +160,8 @@ impl Options {
 }
 
 /// The names of options, as ECMA-402 has them, and those that it does not have: `defaults` are the numbers of fraction
-/// digits by default, `integer` and the precisions replace what the settings say, and with `limited` the digits are in
-/// a store that is out of memory for more than 16 of them.
+/// digits by default, `integer` and the precisions replace what the settings say, `scale` that of the style, `check` is
+/// what is checked, and with `limited` the digits are in a store that is out of memory for more than 16 of them.
 #[derive(Clone, Copy)]
 enum Name {
     Style,
@@ -164,6 +188,8 @@ enum Name {
     Significant,
     More,
     Less,
+    Scale,
+    Check,
     Limited,
 }
 
@@ -192,6 +218,8 @@ const NAMES: &[(&str, Name)] = &[
     ("significant", Name::Significant),
     ("more", Name::More),
     ("less", Name::Less),
+    ("scale", Name::Scale),
+    ("check", Name::Check),
     ("limited", Name::Limited),
 ];
 
@@ -260,6 +288,12 @@ const NOTATIONS: &[(&str, NotationName)] = &[
     ("scientific", NotationName::Scientific),
     ("engineering", NotationName::Engineering),
     ("compact", NotationName::Compact),
+];
+
+const CHECKS: &[(&str, Check)] = &[
+    ("parts", Check::Parts),
+    ("read", Check::Read),
+    ("lenient", Check::Lenient),
 ];
 
 const MINIMA: &[(&str, Minimum)] = &[("chosen", Minimum::Chosen), ("both", Minimum::Both)];
@@ -361,6 +395,8 @@ fn with(mut options: Options, name: Name, value: &str) -> Option<Options> {
         Name::Significant => options.precision = Some(Precision::Significant(significant(value)?)),
         Name::More => options.precision = Some(Precision::MorePrecision(both(value)?)),
         Name::Less => options.precision = Some(Precision::LessPrecision(both(value)?)),
+        Name::Scale => options.scale = Some(value.parse().ok()?),
+        Name::Check => options.check = named(CHECKS, value)?,
         Name::Limited => options.is_limited = true,
     }
     Some(options)
@@ -390,6 +426,8 @@ const DECIMAL: Options = Options {
     grouping: GroupingStrategy::Auto,
     integer: None,
     precision: None,
+    scale: None,
+    check: Check::Text,
     is_limited: false,
 };
 

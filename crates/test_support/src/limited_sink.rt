@@ -78,3 +78,16 @@ pub fn displays<T: fmt::Display>(value: &T, text: &[u8]) -> bool {
         && write!(sink, "{value:<090.1}").is_ok()
         && sink.has_all()
 }
+
+/// Whether writing a value fails with sinks that have room for a prefix of its text: with each one, or for a long text
+/// with some. Each takes the prefix.
+pub fn fails_without_room<T: Writeable>(value: &T, text: &[u8]) -> bool {
+    for room in (0..text.len()).step_by(text.len() / 128 + 1) {
+        let mut sink = LimitedSink::new(text, room);
+        let failed = value.write_to(&mut sink).is_err();
+        if !failed || !sink.failed() || !sink.has_taken(room) {
+            return false;
+        }
+    }
+    true
+}

@@ -181,6 +181,21 @@ impl<'f, D: DigitStore> FormattedAbsolute<'f, D> {
         self.write_part(0, count, block)
     }
 
+    /// Appends the text without the sign, if it fits the block and has at most 32 digits.
+    ///
+    /// # Errors
+    ///
+    /// It does not, or the block has failed before.
+    #[inline]
+    pub fn put_to_block(&self, block: &mut Block) -> Result<(), SinkFault>
+        ensures { OnOk result (block.new.0 ≡ block.old.0 ++ formatted_absolute_text self.now) }
+    {
+        if self.shown_count() > PART {
+            return Err(SinkFault);
+        }
+        self.put_absolute(block)
+    }
+
     /// Appends the text without the sign.
     fn write_absolute<W: Sink>(&self, sink: &mut W) -> Result<(), SinkFault>
         ensures ok { OnOk result (Appends (W.contents sink.old) (W.contents sink.new)

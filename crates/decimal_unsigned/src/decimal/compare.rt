@@ -31,7 +31,6 @@ fn compare_slices(bytes: &[u8], other: &[u8]) -> Ordering
     bytes.cmp(&other)
 }
 
-/// Compares 8 to 16 bytes as words.
 #[inline]
 fn compare_bytes(bytes: &[u8], other: &[u8]) -> Ordering
     ensures { result ≡ slice_cmp nat_cmp bytes.now other.now }
@@ -47,7 +46,6 @@ fn compare_bytes(bytes: &[u8], other: &[u8]) -> Ordering
     word_of(&bytes[len - 8..]).cmp(&word_of(&other[len - 8..]))
 }
 
-/// Compares by bytes where both lists store packed BCD, else digit by digit.
 fn compare_long<D: DigitStore, E: DigitStore>(digits: &D, other: &E) -> Ordering
     requires stripped { IsStripped (D.digits digits.now) }
     requires other_stripped { IsStripped (E.digits other.now) }
@@ -66,7 +64,6 @@ fn compare_long<D: DigitStore, E: DigitStore>(digits: &D, other: &E) -> Ordering
     digits.len().cmp(&other.len())
 }
 
-/// Compares by the first sixteen digits where these decide.
 fn compare_digits<D: DigitStore, E: DigitStore>(digits: &D, other: &E) -> Ordering
     requires stripped { IsStripped (D.digits digits.now) }
     requires other_stripped { IsStripped (E.digits other.now) }

@@ -127,10 +127,6 @@ impl<D: DigitStore> Writeable for UnsignedOver<D> {
     /// magnitude -1.
     ///
     /// Parsing the text gives this value again.
-    ///
-    /// # Errors
-    ///
-    /// As for [`Writeable::write_to`].
     #[tactic(auto, using(crate::proofs::ReadBack::read_text))]
     fn write_to<W: Sink>(&self, sink: &mut W) -> Result<(), SinkFault>
         ensures ok { OnOk result (Appends (W.contents sink.old) (W.contents sink.new) (text self.now)) }

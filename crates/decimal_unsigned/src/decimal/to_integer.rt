@@ -75,7 +75,6 @@ fn leading_39_digits<D: DigitStore>(digits: &D) -> Result<u128, IntegerError>
     }
 }
 
-/// Returns the number of integer digits of a number with `len` digits. None if the last one is a fraction digit.
 #[inline]
 fn integer_digit_count(magnitude: i16, len: usize) -> Option<usize>
     ensures some { IfSome result (λ count. (pos count ≡ magnitude +ℤ pos 1) × (len ≤ count)) }

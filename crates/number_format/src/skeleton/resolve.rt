@@ -1,7 +1,7 @@
 //! The options that the choices of a skeleton are, by ICU's defaults.
 ghost use Rattle.std.specs.Prelude.{◌≡◌, ◌≤◌, pos, negsuc, ◌≤ℤ◌, Ok, Err, MatchResult};
 ghost use Rattle.number_format.specs.ShownDigits.{increment_of};
-ghost use Rattle.number_format.specs.SkeletonDigits.{unsupported, fraction_of, significant_of, fraction_digits, unit_of, multiples_of, increment_of_decimal, cash_of, both_of, currency_digits_of, currency_of, chosen_precision, precision_of, precision_value, integer_of, mode_of, trailing_zeros_of, digits_of, digits_value, is_compact};
+ghost use Rattle.number_format.specs.SkeletonDigits.{unsupported, fraction_of, significant_of, fraction_digits, unit_of, multiples_of, increment_of_decimal, money_precision, both_of, currency_digits_of, currency_of, chosen_precision, precision_of, precision_value, integer_of, mode_of, trailing_zeros_of, digits_of, digits_value, is_compact};
 ghost use Rattle.number_format.specs.SkeletonMeaning.{exponent_notation, notation_of, width_of, percent_style, currency_sign_of, sign_display_of, usage_of, style_of, scale_power, scale_of, grouping_of, system_of, others_of, options_of, options_value};
 
 use crate::digit_options::{DigitOptions, TrailingZeros};
@@ -151,12 +151,12 @@ fn increment(decimal: SkeletonDecimal, stem: Span) -> Result<FractionMultiples, 
     )
 }
 
-/// Returns the cash digits of a currency, without a zero at the end of the increment.
-fn cash(digits: CurrencyDigits, stem: Span) -> Result<Precision, SkeletonError>
-    ensures { MatchResult result (λ p. cash_of digits stem ≡ Ok (precision_value p))
-        (λ e. cash_of digits stem ≡ Err e) }
+/// Returns a number of fraction digits and an increment, 0 for none, without a zero at the end of the increment.
+fn money_precision(digits: (u8, u8), stem: Span) -> Result<Precision, SkeletonError>
+    ensures { MatchResult result (λ p. money_precision digits stem ≡ Ok (precision_value p))
+        (λ e. money_precision digits stem ≡ Err e) }
 {
-    let (count, increment) = (digits.cash_digits as u16, digits.cash_increment as u16);
+    let (count, increment) = (digits.0 as u16, digits.1 as u16);
     if increment == 0 {
         return Ok(Precision::Fraction(FractionDigits {
             min: count,
@@ -348,14 +348,7 @@ impl Choices {
         ensures { MatchResult result (λ p. currency_of self.now.unit usage stem ≡ Ok (precision_value p))
             (λ e. currency_of self.now.unit usage stem ≡ Err e) }
     {
-        let digits = self.digits_of_currency();
-        match usage {
-            CurrencyUsage::Cash => cash(digits, stem),
-            CurrencyUsage::Standard => Ok(Precision::Fraction(FractionDigits {
-                min: digits.digits as u16,
-                max: digits.digits as u16,
-            })),
-        }
+        money_precision(usage.digits(self.digits_of_currency()), stem)
     }
 
     fn chosen_precision(

@@ -1,5 +1,5 @@
 //! Whether two options are the same.
-ghost use Rattle.std.specs.Prelude.{◌≡◌, true};
+ghost use Rattle.std.specs.Prelude.{◌≡◌, ◌↔◌, true};
 ghost use Rattle.std.specs.Option.{option_map};
 ghost use Rattle.number_format.specs.Resolved.{counts};
 ghost use Rattle.number_format.specs.SkeletonDigits.{precision_value, digits_value};
@@ -10,9 +10,10 @@ use crate::digit_options::{DigitOptions, TrailingZeros};
 use crate::digit_ranges::{FractionDigits, FractionMultiples, SignificantDigits};
 use crate::number_options::{ExponentOptions, NumberNotation, NumberOptions, NumberStyle};
 use crate::precision::{BothDigits, Minimum, Precision};
+use crate::skeleton::text::increment_of;
 
 fn same_style(first: NumberStyle, second: NumberStyle) -> bool
-    ensures { result ≡ true → first ≡ second }
+    ensures { (result ≡ true) ↔ (first ≡ second) }
 {
     match (first, second) {
         (NumberStyle::Decimal, NumberStyle::Decimal) => true,
@@ -29,13 +30,13 @@ fn same_style(first: NumberStyle, second: NumberStyle) -> bool
 }
 
 fn same_exponent(first: ExponentOptions, second: ExponentOptions) -> bool
-    ensures { result ≡ true → first ≡ second }
+    ensures { (result ≡ true) ↔ (first ≡ second) }
 {
     first.digits == second.digits && first.sign == second.sign
 }
 
 fn same_notation(first: NumberNotation, second: NumberNotation) -> bool
-    ensures { result ≡ true → first ≡ second }
+    ensures { (result ≡ true) ↔ (first ≡ second) }
 {
     match (first, second) {
         (NumberNotation::Standard, NumberNotation::Standard) => true,
@@ -51,27 +52,25 @@ fn same_notation(first: NumberNotation, second: NumberNotation) -> bool
 }
 
 fn same_fraction(first: FractionDigits, second: FractionDigits) -> bool
-    ensures { result ≡ true → counts first.min first.max ≡ counts second.min second.max }
+    ensures { (result ≡ true) ↔ (counts first.min first.max ≡ counts second.min second.max) }
 {
     first.min == second.min && first.max == second.max
 }
 
 fn same_significant(first: SignificantDigits, second: SignificantDigits) -> bool
-    ensures { result ≡ true → counts first.min first.max ≡ counts second.min second.max }
+    ensures { (result ≡ true) ↔ (counts first.min first.max ≡ counts second.min second.max) }
 {
     first.min == second.min && first.max == second.max
 }
 
 fn same_multiples(first: FractionMultiples, second: FractionMultiples) -> bool
-    ensures { result ≡ true → precision_value (Multiples first) ≡ precision_value (Multiples second) }
+    ensures { (result ≡ true) ↔ (precision_value (Multiples first) ≡ precision_value (Multiples second)) }
 {
-    first.digits == second.digits
-        && first.increment.base == second.increment.base
-        && first.increment.zeros == second.increment.zeros
+    first.digits == second.digits && increment_of(first) == increment_of(second)
 }
 
 fn same_minimum(first: Minimum, second: Minimum) -> bool
-    ensures { result ≡ true → first ≡ second }
+    ensures { (result ≡ true) ↔ (first ≡ second) }
 {
     match (first, second) {
         (Minimum::Chosen, Minimum::Chosen) | (Minimum::Both, Minimum::Both) => true,
@@ -80,7 +79,7 @@ fn same_minimum(first: Minimum, second: Minimum) -> bool
 }
 
 fn same_both(first: BothDigits, second: BothDigits) -> bool
-    ensures { result ≡ true → precision_value (MorePrecision first) ≡ precision_value (MorePrecision second) }
+    ensures { (result ≡ true) ↔ (precision_value (MorePrecision first) ≡ precision_value (MorePrecision second)) }
 {
     same_fraction(first.fraction, second.fraction)
         && same_significant(first.significant, second.significant)
@@ -88,7 +87,7 @@ fn same_both(first: BothDigits, second: BothDigits) -> bool
 }
 
 fn same_precision(first: Precision, second: Precision) -> bool
-    ensures { result ≡ true → precision_value first ≡ precision_value second }
+    ensures { (result ≡ true) ↔ (precision_value first ≡ precision_value second) }
 {
     match (first, second) {
         (Precision::Fraction(first), Precision::Fraction(second)) => same_fraction(first, second),
@@ -109,7 +108,7 @@ fn same_precision(first: Precision, second: Precision) -> bool
 }
 
 fn same_trailing_zeros(first: TrailingZeros, second: TrailingZeros) -> bool
-    ensures { result ≡ true → first ≡ second }
+    ensures { (result ≡ true) ↔ (first ≡ second) }
 {
     match (first, second) {
         (TrailingZeros::Auto, TrailingZeros::Auto) => true,
@@ -119,7 +118,7 @@ fn same_trailing_zeros(first: TrailingZeros, second: TrailingZeros) -> bool
 }
 
 fn same_digits(first: DigitOptions, second: DigitOptions) -> bool
-    ensures { result ≡ true → digits_value first ≡ digits_value second }
+    ensures { (result ≡ true) ↔ (digits_value first ≡ digits_value second) }
 {
     first.integer.min == second.integer.min
         && first.integer.max == second.integer.max
@@ -129,7 +128,7 @@ fn same_digits(first: DigitOptions, second: DigitOptions) -> bool
 }
 
 fn same_digit_options(first: Option<DigitOptions>, second: Option<DigitOptions>) -> bool
-    ensures { result ≡ true → option_map digits_value first ≡ option_map digits_value second }
+    ensures { (result ≡ true) ↔ (option_map digits_value first ≡ option_map digits_value second) }
 {
     match (first, second) {
         (None, None) => true,
@@ -140,7 +139,7 @@ fn same_digit_options(first: Option<DigitOptions>, second: Option<DigitOptions>)
 
 /// Returns whether two options are the same.
 pub(crate) fn same_options(first: &NumberOptions, second: &NumberOptions) -> bool
-    ensures { result ≡ true → options_value first.now ≡ options_value second.now }
+    ensures { (result ≡ true) ↔ (options_value first.now ≡ options_value second.now) }
 {
     same_style(first.style, second.style)
         && first.scale == second.scale

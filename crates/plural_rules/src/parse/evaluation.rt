@@ -29,6 +29,7 @@ pub struct Evaluation {
 }
 
 impl Evaluation {
+    #[inline]
     pub fn new() -> Self
         ensures { (number : Operands) → result ≡ evaluation.evaluated number reader.no_rules }
     {
@@ -48,12 +49,14 @@ impl Evaluation {
     }
 
     /// Returns the category of the rules so far.
+    #[inline]
     pub fn category(&self) -> PluralCategory
         ensures { result ≡ evaluation.category self.now }
     {
         self.found.unwrap_or(PluralCategory::Other)
     }
 
+    #[inline]
     fn end_range<D: DigitStore>(&mut self, number: &PluralOperands<'_, D>)
         ensures { self.new ≡ evaluation.end_range number.now self.old }
     {
@@ -67,6 +70,7 @@ impl Evaluation {
         self.low = None;
     }
 
+    #[inline]
     fn relation_holds<D: DigitStore>(&self, number: &PluralOperands<'_, D>) -> bool
         ensures { result ≡ evaluation.relation_holds number.now self.now }
     {
@@ -74,6 +78,7 @@ impl Evaluation {
         equals == self.is_equal
     }
 
+    #[inline]
     fn end_relation<D: DigitStore>(&mut self, number: &PluralOperands<'_, D>)
         ensures { self.new ≡ evaluation.end_relation number.now self.old }
     {
@@ -82,6 +87,7 @@ impl Evaluation {
         self.is_in_range = false;
     }
 
+    #[inline]
     fn end_alternative(&mut self)
         ensures { self.new ≡ evaluation.end_alternative self.old }
     {
@@ -89,6 +95,7 @@ impl Evaluation {
         self.all_hold = true;
     }
 
+    #[inline]
     fn end_rule(&mut self)
         ensures { self.new ≡ evaluation.end_rule self.old }
     {
@@ -101,6 +108,7 @@ impl Evaluation {
         self.is_met = false;
     }
 
+    #[inline]
     fn begin_ranges(&mut self, is_equal: bool)
         requires { self.old.is_divided ≡ true → self.old.number ≤ 10 ^ 18 }
         ensures { (number : Operands)
@@ -113,6 +121,7 @@ impl Evaluation {
     }
 
     /// Takes an event.
+    #[inline]
     pub fn take<D: DigitStore>(&mut self, number: &PluralOperands<'_, D>, event: Event)
         requires { IsSmall event self.old.number self.old.is_divided }
         ensures { self.new ≡ evaluation.evaluated_after number.now event self.old }

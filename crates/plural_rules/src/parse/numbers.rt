@@ -18,12 +18,14 @@ pub enum Numbers {
     TooLarge(usize),
 }
 
+#[inline]
 fn limit(is_modulus: bool) -> u64
     ensures { result ≡ reader.limit is_modulus }
 {
     if is_modulus { MAX_MODULUS } else { u64::MAX }
 }
 
+#[inline]
 fn checked_number(is_modulus: bool, begin: usize, number: u128) -> Numbers
     ensures { result ≡ reader.checked_number is_modulus begin number }
 {
@@ -39,6 +41,7 @@ fn checked_number(is_modulus: bool, begin: usize, number: u128) -> Numbers
 }
 
 impl Numbers {
+    #[inline]
     pub fn after(self, at: usize, event: Event) -> Self
         ensures { result ≡ reader.numbers_after self at event }
     {
@@ -69,6 +72,7 @@ impl Numbers {
         }
     }
 
+    #[inline]
     pub fn all_fit(self) -> bool
         ensures { result ≡ reader.all_fit self }
     {

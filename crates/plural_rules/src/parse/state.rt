@@ -101,6 +101,7 @@ pub struct Categories {
 }
 
 impl Categories {
+    #[inline]
     pub fn none() -> Self
         ensures { result ≡ reader.no_categories }
     {
@@ -114,6 +115,7 @@ impl Categories {
         }
     }
 
+    #[inline]
     fn has(self, category: PluralCategory) -> bool
         ensures { result ≡ reader.has self category }
     {
@@ -127,6 +129,7 @@ impl Categories {
         }
     }
 
+    #[inline]
     fn with(mut self, category: PluralCategory) -> Self
         ensures { result ≡ reader.with self category }
     {
@@ -141,6 +144,7 @@ impl Categories {
         self
     }
 
+    #[inline]
     pub fn after(self, event: Event) -> Self
         ensures { result ≡ reader.seen_after event self }
     {
@@ -150,6 +154,7 @@ impl Categories {
         }
     }
 
+    #[inline]
     fn is_full(self) -> bool
         ensures { result ≡ reader.is_full self }
     {
@@ -160,12 +165,14 @@ impl Categories {
 /// The state after a byte and the event of the byte; `None` if no rules continue with the byte.
 type Transition = Option<(State, Event)>;
 
+#[inline]
 fn is_blank(byte: u8) -> bool
     ensures { result ≡ is_blank byte }
 {
     byte == b' ' || byte == b'\t' || byte == b'\n' || byte == b'\r'
 }
 
+#[inline]
 fn skip(state: State, byte: u8, otherwise: Transition) -> Transition
     ensures { result ≡ reader.skip state byte otherwise }
 {
@@ -176,6 +183,7 @@ fn skip(state: State, byte: u8, otherwise: Transition) -> Transition
     }
 }
 
+#[inline]
 fn new_category(seen: Categories, category: PluralCategory) -> Transition
     ensures { result ≡ reader.new_category seen category }
 {
@@ -183,6 +191,7 @@ fn new_category(seen: Categories, category: PluralCategory) -> Transition
 }
 
 // Both `one` and `other` begin with `o`.
+#[inline]
 fn category_letter(seen: Categories, byte: u8) -> Transition
     ensures { result ≡ reader.category_letter seen byte }
 {
@@ -197,6 +206,7 @@ fn category_letter(seen: Categories, byte: u8) -> Transition
     }
 }
 
+#[inline]
 fn second_letter(seen: Categories, byte: u8) -> Transition
     ensures { result ≡ reader.second_letter seen byte }
 {
@@ -207,6 +217,7 @@ fn second_letter(seen: Categories, byte: u8) -> Transition
     }
 }
 
+#[inline]
 fn condition_of(category: PluralCategory) -> State
     ensures { result ≡ reader.condition_of category }
 {
@@ -216,6 +227,7 @@ fn condition_of(category: PluralCategory) -> State
     }
 }
 
+#[inline]
 fn operand(byte: u8) -> Transition
     ensures { result ≡ reader.operand byte }
 {
@@ -232,6 +244,7 @@ fn operand(byte: u8) -> Transition
     Some((State::Percent, Event::Operand(operand)))
 }
 
+#[inline]
 fn rule_end(seen: Categories, byte: u8, event: Event) -> Transition
     ensures { result ≡ reader.rule_end seen byte event }
 {
@@ -242,6 +255,7 @@ fn rule_end(seen: Categories, byte: u8, event: Event) -> Transition
     }
 }
 
+#[inline]
 fn comparison(byte: u8) -> Transition
     ensures { result ≡ reader.comparison byte }
 {
@@ -252,6 +266,7 @@ fn comparison(byte: u8) -> Transition
     }
 }
 
+#[inline]
 fn follows_range(seen: Categories, byte: u8) -> Transition
     ensures { result ≡ reader.follows_range seen byte }
 {
@@ -263,6 +278,7 @@ fn follows_range(seen: Categories, byte: u8) -> Transition
     }
 }
 
+#[inline]
 fn after_low(seen: Categories, byte: u8) -> Transition
     ensures { result ≡ reader.after_low seen byte }
 {
@@ -274,18 +290,21 @@ fn after_low(seen: Categories, byte: u8) -> Transition
     skip(State::AfterLow, byte, dot_or_end)
 }
 
+#[inline]
 fn after_high(seen: Categories, byte: u8) -> Transition
     ensures { result ≡ reader.after_high seen byte }
 {
     skip(State::AfterHigh, byte, follows_range(seen, byte))
 }
 
+#[inline]
 fn only(wanted: u8, byte: u8, state: State, event: Event) -> Transition
     ensures { result ≡ reader.only wanted byte state event }
 {
     (byte == wanted).then_some((state, event))
 }
 
+#[inline]
 fn letter(category: PluralCategory, read: usize, byte: u8) -> Transition
     ensures { result ≡ reader.letter category read byte }
 {
@@ -300,6 +319,7 @@ fn letter(category: PluralCategory, read: usize, byte: u8) -> Transition
     }
 }
 
+#[inline]
 fn first(byte: u8, state: State) -> Transition
     ensures { result ≡ reader.first byte state }
 {
@@ -310,6 +330,7 @@ fn first(byte: u8, state: State) -> Transition
     }
 }
 
+#[inline]
 fn digit(byte: u8, state: State, otherwise: Transition) -> Transition
     ensures { result ≡ reader.digit byte state otherwise }
 {
@@ -320,6 +341,7 @@ fn digit(byte: u8, state: State, otherwise: Transition) -> Transition
     }
 }
 
+#[inline]
 fn modulus_state(byte: u8) -> State
     ensures { result ≡ reader.modulus_state byte }
 {
@@ -330,6 +352,7 @@ fn modulus_state(byte: u8) -> State
     }
 }
 
+#[inline]
 fn percent(byte: u8) -> Transition
     ensures { result ≡ reader.next reader.no_categories State.Percent byte }
 {
@@ -341,6 +364,7 @@ fn percent(byte: u8) -> Transition
     skip(State::Percent, byte, rest)
 }
 
+#[inline]
 fn other_condition(seen: Categories, byte: u8) -> Transition
     ensures { result ≡ reader.next seen State.OtherCondition byte }
 {
@@ -352,6 +376,7 @@ fn other_condition(seen: Categories, byte: u8) -> Transition
     skip(State::OtherCondition, byte, rest)
 }
 
+#[inline]
 fn sample(seen: Categories, byte: u8) -> Transition
     ensures { result ≡ reader.next seen State.Samples byte }
 {
@@ -363,6 +388,7 @@ fn sample(seen: Categories, byte: u8) -> Transition
 }
 
 impl State {
+    #[inline]
     pub fn next(self, seen: Categories, byte: u8) -> Option<(State, Event)>
         ensures { result ≡ reader.next seen self byte }
     {
@@ -396,6 +422,7 @@ impl State {
         }
     }
 
+    #[inline]
     pub fn at_end(self) -> Option<Event>
         ensures { result ≡ reader.at_end self }
     {

@@ -6,7 +6,7 @@ use Rattle.cli.proofs.filter.filter_lines.Given as goal
 -- the rows before this line were read and filtered
 abbrev pub invariant-rows : goal.invariant-rows
 invariant-rows g l =
-    Filtered g.D.Diagnostics.reports l.filter l.number l.have_texts (record {
+    Filtered g.D.Diagnostics.reports l.filter l.fn.first l.number l.have_texts (record {
       input = record {
         before = bytes_left g.R.Read.remaining l.fn.input;
         after = bytes_left g.R.Read.remaining l.input;

@@ -1,4 +1,4 @@
-use Rattle.std.proofs.Common.{ℕ, List, [], Option, Some, Result, Ok, Err, IfErr, Bool, inl, inr, refl, rules}
+use Rattle.std.proofs.Common.{ℕ, List, [], Option, Some, Result, Ok, Err, IfErr, OnOk, Bool, inl, inr, refl, rules}
 use Rattle.std.specs.Io.KnownBytes.{Keeps, append_known}
 use Rattle.std.proofs.KnownBytes.{Appends-kept}
 use Rattle.decimal_digits.specs.AppendsPrefix.{AppendsPrefix}
@@ -6,7 +6,9 @@ use Rattle.cli.specs.declared.error.ProgramError.{ProgramError}
 use Rattle.cli.specs.declared.error.ProgramError.TheVariants.{Start, Output}
 use Rattle.cli.specs.declared.filter.Filter.{Filter}
 use Rattle.cli.specs.Filter.{Effects, FilteredLine}
-use Rattle.cli.specs.Lines.{AreFirst, Returns, Filters, AppendsUnwritten}
+use Rattle.cli.specs.declared.named_filter.NamedFilter.{NamedFilter}
+use Rattle.cli.specs.Lines.{AreFirst, number_after, Returns, Filters, AppendsUnwritten}
+use Rattle.cli.specs.NamedFilter.{EndsAtHeader, FiltersNamed}
 use Rattle.cli.specs.FixdecLines.{IsEarly}
 use Rattle.cli.proofs.Buffers.{append_known-nil}
 use Rattle.cli.proofs.fixdec_lines.filter_words.Goals as goal
@@ -21,77 +23,125 @@ abbrev ending : {D : Type 0} → Effects D → Option (List ℕ) → Effects D
 ending e output = record e { output = record { before = e.output.before; after = output } }
 
 are_first :
-    (filter : Filter) (rows : List (List ℕ)) (results : List FilteredLine)
+    (filter : Filter) (next : ℕ) (rows : List (List ℕ)) (results : List FilteredLine)
     {D : Type 0} (e : Effects D) (r : Result Bool ProgramError)
-    → Returns filter e.input.before e.failure rows results r → AreFirst filter e.input.before rows
-are_first filter rows results e (Ok texts) (all, same) = (Some [], all)
-are_first filter rows results e (Err error) (first, how) = first
+    → Returns filter next e.input.before e.failure rows results r → AreFirst filter e.input.before rows
+are_first filter next rows results e (Ok texts) (all, same) = (Some [], all)
+are_first filter next rows results e (Err error) (first, how) = first
 
 module _
-    {D : Type 0} (reports : D → ProgramError → D → Type 0) (filter : Filter) (e : Effects D) (d : Option (List ℕ))
-    (r : Result Bool ProgramError) (h : Filters AppendsPrefix reports filter e r)
+    {D : Type 0} (reports : D → ProgramError → D → Type 0) (e : Effects D) (d : Option (List ℕ))
+    (r : Result Bool ProgramError)
   where
     -- the block was written
-    filters_kept : Keeps e.output.after d → Filters AppendsUnwritten reports filter (ending e d) r
-    filters_kept k =
-        let all : Keeps e.output.after (append_known d []) = rw (append_known-nil d) k in
-        record {
-          rows = h.rows;
-          results = h.results;
-          are_results = h.are_results;
-          returns = h.returns;
-          stop = h.stop;
-          whole = λ other. Appends-kept e.output.before e.output.after d _ (h.whole other) k;
-          part = unwritten e.output.before e.output.after d _ [] h.part all;
-          reported = h.reported;
-        }
+    module _ (k : Keeps e.output.after d) where
+      all_kept : Keeps e.output.after (append_known d [])
+      all_kept = rw (append_known-nil d) k
+
+      filters_kept :
+          (filter : Filter) → Filters AppendsPrefix reports filter 1 e r
+          → Filters AppendsUnwritten reports filter 1 (ending e d) r
+      filters_kept filter h = record {
+        rows = h.rows;
+        results = h.results;
+        are_results = h.are_results;
+        returns = h.returns;
+        stop = h.stop;
+        whole = λ other. Appends-kept e.output.before e.output.after d _ (h.whole other) k;
+        part = unwritten e.output.before e.output.after d _ [] h.part all_kept;
+        reported = h.reported;
+      }
+
+      named_kept :
+          (filter : NamedFilter) → FiltersNamed reports AppendsPrefix filter e r
+          → FiltersNamed reports AppendsUnwritten filter (ending e d) r
+      named_kept filter (inl (header, run, has, is, filters)) = inl (header, run, has, is, filters_kept run filters)
+      named_kept filter (inr (ends, (nothing, part), silent)) =
+          inr (
+            ends_with r ends,
+            (
+              (λ other. Appends-kept e.output.before e.output.after d [] (nothing other) k),
+              unwritten e.output.before e.output.after d [] [] part all_kept,
+            ),
+            silent,
+          )
+        where
+          ends_with : (r : Result Bool ProgramError) → EndsAtHeader filter e r → EndsAtHeader filter (ending e d) r
+          ends_with (Ok texts) h = h
+          ends_with (Err error) h = h
 
     -- whatever the filter returned, bytes of the block were not written
-    filters_missing :
-        (missing : List ℕ) × Keeps e.output.after (append_known d missing)
-        → Filters AppendsUnwritten reports filter (ending e d) (Err Output)
-    filters_missing (missing, k) = record {
-      rows = h.rows;
-      results = h.results;
-      are_results = h.are_results;
-      returns = (are_first filter h.rows h.results e r h.returns, tt);
-      stop = h.stop;
-      whole = λ other. absurd (other refl);
-      part = unwritten e.output.before e.output.after d _ missing h.part k;
-      reported = h.reported;
-    }
+    module _ (missing : List ℕ) (k : Keeps e.output.after (append_known d missing)) where
+      filters_missing :
+          (filter : Filter) → Filters AppendsPrefix reports filter 1 e r
+          → Filters AppendsUnwritten reports filter 1 (ending e d) (Err Output)
+      filters_missing filter h = record {
+        rows = h.rows;
+        results = h.results;
+        are_results = h.are_results;
+        returns =
+            (are_first filter (number_after filter 1 h.rows) h.rows h.results e r h.returns, tt);
+        stop = h.stop;
+        whole = λ other. absurd (other refl);
+        part = unwritten e.output.before e.output.after d _ missing h.part k;
+        reported = h.reported;
+      }
+
+      named_missing :
+          (filter : NamedFilter) → FiltersNamed reports AppendsPrefix filter e r
+          → FiltersNamed reports AppendsUnwritten filter (ending e d) (Err Output)
+      named_missing filter (inl (header, run, has, is, filters)) =
+          inl (header, run, has, is, filters_missing run filters)
+      named_missing filter (inr (ends, (nothing, part), silent)) =
+          inr (
+            tt,
+            (
+              (λ other. absurd (other refl)),
+              unwritten e.output.before e.output.after d [] missing part k,
+            ),
+            silent,
+          )
 
 -- a filter that ran returned no early error
 not_early :
     {D : Type 0} {P : Option (List ℕ) → Option (List ℕ) → List ℕ → Type 0} {reports : D → ProgramError → D → Type 0}
-    {filter : Filter} {e : Effects D} (Q : Type 0) (r : Result Bool ProgramError) → Filters P reports filter e r
-    → IfErr r (λ error. IsEarly error → Q)
-not_early Q (Ok texts) h = tt
-not_early Q (Err (Start error)) h = λ _. absurd h.returns.1
-not_early Q (Err error) h = λ never. absurd never
+    {e : Effects D} (filter : NamedFilter) (Q : Type 0) (r : Result Bool ProgramError)
+    → FiltersNamed reports P filter e r → IfErr r (λ error. IsEarly error → Q)
+not_early filter Q (Ok texts) h = tt
+not_early filter Q (Err (Start error)) (inl (header, run, has, is, filters)) = λ _. absurd filters.returns.1
+not_early filter Q (Err (Start error)) (inr (ends, nothing, silent)) = λ _. absurd ends.1
+not_early filter Q (Err error) h = λ never. absurd never
+
+on_ok : {X E : Type 0} {P : Type 0} (r : Result X E) → P → OnOk r P
+on_ok (Ok x) h = h
+on_ok (Err e) h = tt
+
+pub returns-clause-has_not_failed : goal.returns-clause-has_not_failed
+returns-clause-has_not_failed g c =
+    on_ok c.filter_input-filtered.result (cc (c.has_failed.ensures, c.if-has_failed.false))
 
 pub returns-clause-unchanged_on_error : goal.returns-clause-unchanged_on_error
 returns-clause-unchanged_on_error g c =
-    not_early _ c.filter_lines-filtered.result c.filter_lines-filtered.ensures.filtered
+    not_early c.in-Ok.filter _ c.filter_input-filtered.result c.filter_input-filtered.ensures.filtered
 
 pub returns-clause-filtered : goal.returns-clause-filtered
 returns-clause-filtered g c =
-    let run = c.filter_lines-filtered in
+    let run = c.filter_input-filtered in
     inl (
       c.in-Ok.filter,
       c.in-Ok.ensures.some,
-      filters_kept g.D.Diagnostics.reports c.in-Ok.filter _ (g.O.Write.contents c.close-closed.result.0) run.result
-          run.ensures.filtered (c.close-closed.ensures.written (search rules)),
+      named_kept g.D.Diagnostics.reports _ (g.O.Write.contents c.close-closed.result.0) run.result
+          (c.close-closed.ensures.written (search rules)) c.in-Ok.filter run.ensures.filtered,
     )
 
 pub returns-then-has_failed-clause-filtered : goal.returns-then-has_failed-clause-filtered
 returns-then-has_failed-clause-filtered g c =
-    let run = c.filter_lines-filtered in
+    let run = c.filter_input-filtered in
     inl (
       c.in-Ok.filter,
       c.in-Ok.ensures.some,
-      filters_missing g.D.Diagnostics.reports c.in-Ok.filter _ (g.O.Write.contents c.close-closed.result.0) run.result
-          run.ensures.filtered c.close-closed.ensures.prefix,
+      named_missing g.D.Diagnostics.reports _ (g.O.Write.contents c.close-closed.result.0) run.result
+          c.close-closed.ensures.prefix.0 c.close-closed.ensures.prefix.1 c.in-Ok.filter run.ensures.filtered,
     )
 
 pub returns-in-Err-clause-filtered : goal.returns-in-Err-clause-filtered

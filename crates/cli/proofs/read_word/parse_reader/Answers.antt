@@ -1,9 +1,8 @@
 use Rattle.std.proofs.Common.{◌≡◌, ◌≢◌, ◌∙◌, ℕ, List, [], Option, Some, inr, refl, sym, ap, subst, arith}
 use Rattle.std.specs.Option.{option_copied}
-use Rattle.cli.specs.declared.reader.ParseMode.{ParseMode}
-use Rattle.cli.specs.FormatWord.{IsNumberFormatter}
+use Rattle.number_format.specs.declared.number_reader.ParseMode.{ParseMode}
 use Rattle.cli.specs.Parameters.{tag_of, option_of, locale_tag, locale_option}
-use Rattle.cli.specs.ReadWord.{IsReadOption, SkeletonReaderFails, ReaderFails}
+use Rattle.cli.specs.ReadWord.{IsReadOption, IsNumberReader, SkeletonReaderFails, ReaderFails}
 use Rattle.cli.proofs.Programs.{err_with}
 use Rattle.cli.proofs.read_word.parse_reader.Goals as goal
 
@@ -41,7 +40,7 @@ returns-clause-some c =
     let text = c.in-Some-skeleton.skeleton.now in
     let reader = c.in_ok-reader-2.reader in
     let mode = c.split_mode-mode.result.0 in
-    let (same, formatter, can) = c.in_ok-reader-2.ensures.ok in
+    let (same, named) = c.in_ok-reader-2.ensures.ok in
     let tag : c.split_parameters.result.0.now ≡ locale_tag word =
     c.split_parameters.ensures.tag ∙ ap tag_of c.parameters.ensures in
     let option : locale_option word ≡ option_copied c.split_parameters.result.1 =
@@ -51,4 +50,4 @@ returns-clause-some c =
     (option_copied c.split_mode-mode.result.1) (Some text) option same (ap option_copied c.in-Some-skeleton.is)
     c.split_mode-mode.ensures in
     let some : text ≢ [] = grind arith in
-    rw c.in-Some.is (text, is, some, subst (λ t. IsNumberFormatter t text reader.formatter) tag formatter, can)
+    rw c.in-Some.is (text, is, some, subst (λ t. IsNumberReader t text reader.reader) tag named)

@@ -1,6 +1,5 @@
-use Rattle.std.proofs.Common.{sym, ◌∙◌}
-use Rattle.std.proofs.lemmas.Option.{none-some}
-use Rattle.cli.specs.Targets.{IsFieldWord}
+use Rattle.std.proofs.Common.{refl}
+use Rattle.cli.specs.Columns.{IsFieldWord}
 use Rattle.cli.proofs.FieldWords.{all_more, split_here, split_none}
 use Rattle.cli.proofs.Programs.{taken}
 use Rattle.cli.proofs.targets.split_fields.Goals as goal
@@ -17,8 +16,7 @@ pub loop-index-preserved : goal.loop-index-preserved
 loop-index-preserved c =
     let word = c.index-words-index.result in
     let other : ¬ IsFieldWord word =
-    λ field. none-some field.0
-    (sym c.in_default.is ∙ c.field_index.ensures.only field.0 (rw c.as_str.ensures.value field.1)) in
+    λ field. c.in_default.ensures.none refl field.0 (rw c.as_str.ensures.value field.1) in
     rw (taken c.args.words.now c.loop-index.index word c.loop-index-test.true c.index-words-index.is)
     (all_more (λ word. ¬ IsFieldWord word) _ word c.loop-index.invariant other)
 

@@ -1,6 +1,6 @@
 use Rattle.std.proofs.Common.{take}
 use Rattle.std.specs.Prelude.{All}
-use Rattle.cli.specs.Targets.{IsFieldWord}
+use Rattle.cli.specs.Columns.{IsFieldWord}
 use Rattle.cli.proofs.targets.split_fields.Given as goal
 
 -- no word so far names a field

@@ -35,3 +35,22 @@ returns-in_err-parse_formatter-in-Ok-clause-err c =
         inr ((c.in-Ok.calls.items, c.in-Ok.ensures.some), inl failed.ensures.err),
       );
     })
+
+pub returns-in_err-parse_formatter-in-Err-Memory-clause-err :
+    goal.returns-in_err-parse_formatter-in-Err-Memory-clause-err
+returns-in_err-parse_formatter-in-Err-Memory-clause-err c =
+    let residual = c.from_residual-in_err-parse_formatter-in-Err-Memory in
+    let failed = c.in_err-parse_formatter-in-Err-Memory in
+    let none = rw c.in-Err-Memory.field-0-is at c.in-Err-Memory.ensures.err in
+    err_with (ConversionFails c.args.words.now) residual.result failed.field-0.0 residual.ensures.1 (record {
+      read = _;
+      others = _;
+      calls = _;
+      format = _;
+      first = c.split_read.ensures;
+      last = c.split_format.ensures;
+      holds = inr (
+        (c.in_ok-reader.reader, c.in_ok-reader.ensures.some),
+        inr ((all_calls _ none).0, inl failed.ensures.err),
+      );
+    })

@@ -1,9 +1,4 @@
-use Rattle.std.proofs.Common.{◌+◌, ◌*◌, ◌≤◌, length, ap, ◌∙◌, arith, rules, w16}
-use Rattle.std.specs.Prelude.{negsuc, ◌≤ℤ◌}
-use Rattle.std.specs.Int.RustNames.{FitsSigned}
-use Rattle.std.proofs.lemmas.Int.{ints, to_z-of_z}
-use Rattle.std.proofs.lemmas.List.Elements.{recursion_from_All}
-use Rattle.decimal_digits.specs.Number.{offset, weight}
+use Rattle.decimal_digits.proofs.Common.{◌+◌, ◌*◌, ◌≤◌, length, ap, ◌∙◌, arith, rules, w16, negsuc, ◌≤ℤ◌, FitsSigned, ints, to_z-of_z, recursion_from_All, offset, weight}
 use Rattle.decimal_digits.proofs.NumberAt.{number_at-none}
 use Rattle.decimal_digits.proofs.Offsets.{offset_is}
 use Rattle.decimal_digits.proofs.SplitAtPosition.{represents, represents_none, number_up}

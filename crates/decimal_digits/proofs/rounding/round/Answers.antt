@@ -1,11 +1,5 @@
-use Rattle.std.proofs.Common.{◌≡◌, length, inl, inr, ap, ◌∙◌, arith, rules, w16}
-use Rattle.std.specs.Int.RustNames.{FitsSigned}
-use Rattle.std.proofs.lemmas.Int.{ints, to_z-of_z}
-use Rattle.std.proofs.lemmas.Bool.{cases_lt}
-use Rattle.decimal_digits.specs.Number.{offset, weight}
+use Rattle.decimal_digits.proofs.Common.{◌≡◌, length, inl, inr, ap, ◌∙◌, arith, rules, w16, FitsSigned, ints, to_z-of_z, cases_lt, offset, weight, step_of, unit_at, rounded_number, DigitRoundingFails, leading}
 use Rattle.decimal_digits.specs.Digits.{number_of}
-use Rattle.decimal_digits.specs.Rounding.{step_of, unit_at, rounded_number, DigitRoundingFails}
-use Rattle.decimal_digits.specs.Remainders.{leading}
 use Rattle.decimal_digits.proofs.DigitLists.{ten_pos}
 use Rattle.decimal_digits.proofs.RoundingLaws.{rounded_number-zero}
 use Rattle.decimal_digits.proofs.Remainders.{unit_pos}

@@ -102,7 +102,6 @@ fn count_groups(before: u128, text: &[u8]) -> (usize, u128)
     (text.len() - rest.len(), number)
 }
 
-/// Counts digits as `count_digits`, first in groups of eight.
 #[inline]
 fn count_wide(before: u128, text: &[u8]) -> (usize, u128)
     ensures count { result.0 ≡ prefix_len is_ascii_digit text.now }
@@ -119,7 +118,6 @@ fn count_wide(before: u128, text: &[u8]) -> (usize, u128)
     (text.len(), number)
 }
 
-/// Returns the digits as `few_digits`, of a text of up to 32.
 #[inline]
 fn plain_text(text: &[u8]) -> Option<PlainText<u128>>
     requires { length text.now ≤ 33 }

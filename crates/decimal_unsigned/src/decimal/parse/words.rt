@@ -4,7 +4,6 @@ ghost use Rattle.std.specs.Int.Digits.{number_from_digits, AllBelowBase};
 ghost use Rattle.std.specs.Str.Parse.{AllDigits, digits_value};
 ghost use Rattle.decimal_unsigned.specs.PlainTexts.{bytes_below};
 
-/// Returns 0 if each byte is below ten.
 #[inline]
 fn flag_bytes(bytes: u64) -> u64
     ensures { result ≡ 0 → bytes_below 10 8 bytes }

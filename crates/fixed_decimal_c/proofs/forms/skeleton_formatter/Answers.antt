@@ -1,10 +1,18 @@
 use Rattle.std.proofs.Common.{inr}
+use Rattle.std.proofs.lemmas.Result.{IfOk-weaker, IfErr-weaker}
 use Rattle.fixed_decimal_c.proofs.forms.skeleton_formatter.Goals as goal
 
-pub returns-in-Err-clause-err : goal.returns-in-Err-clause-err
-returns-in-Err-clause-err c =
-    inr (
-      c.in-Some.skeleton.now,
-      c.in-Some.ensures.some,
-      inr (c.in-Some-part.tag.now, c.in-Some-part.ensures.some, c.in-Err.ensures.err),
-    )
+pub returns-clause-ok : goal.returns-clause-ok
+returns-clause-ok c =
+    let tag = c.in-Some-part.ensures.some in
+    let skeleton = c.in-Some.ensures.some in
+    IfOk-weaker c.number_formatter.result _ _
+    (λ f is. (c.in-Some-part.tag.now, c.in-Some.skeleton.now, tag, skeleton, is)) c.number_formatter.ensures.ok
+
+pub returns-clause-err : goal.returns-clause-err
+returns-clause-err c =
+    let tag = c.in-Some-part.ensures.some in
+    let skeleton = c.in-Some.ensures.some in
+    IfErr-weaker c.number_formatter.result _ _
+    (λ error fails. inr (c.in-Some.skeleton.now, skeleton, inr (c.in-Some-part.tag.now, tag, fails)))
+    c.number_formatter.ensures.err

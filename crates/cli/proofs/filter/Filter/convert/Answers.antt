@@ -23,7 +23,7 @@ returns-in-One-clause-fails_with g c =
     let filter = c.args.self.now in
     let body = body_of filter c.args.number c.args.line.now in
     err_weaker c.convert_one.result
-    (λ error. error ≢ Output → LineFails filter.trims c.in-One.field c.in-One.conversion body error)
+    (λ error. error ≢ Output → LineFails filter.trims c.in-One.field c.in-One.conversion.now body error)
     (λ error. error ≢ Output → ConvertingFails filter c.args.number c.args.line.now
     (line_error c.args.failed.now error))
     (λ error fails other. converting_fails filter c.args.number c.args.line.now

@@ -1,5 +1,4 @@
-use Rattle.std.proofs.Common.{drop, sym, ap, arith}
-use Rattle.std.proofs.lemmas.List.{drop_all}
+use Rattle.decimal_digits.proofs.Common.{drop, sym, ap, arith, drop_all}
 use Rattle.decimal_digits.specs.Nibbles.{bcd_number, padded}
 use Rattle.decimal_digits.proofs.Words.{bcd_of_word}
 use Rattle.decimal_digits.proofs.Nibbles.{nibble_rules}

@@ -1,4 +1,4 @@
-use Rattle.std.proofs.Common.{arith}
+use Rattle.decimal_digits.proofs.Common.{arith}
 use Rattle.decimal_digits.proofs.Nibbles.{nibble_rules}
 use Rattle.decimal_digits.proofs.Leading.{leading_same}
 use Rattle.decimal_digits.proofs.rounding.carry.strip_trailing_zeros.Goals as goal

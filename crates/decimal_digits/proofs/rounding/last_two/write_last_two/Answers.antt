@@ -1,4 +1,4 @@
-use Rattle.std.proofs.Common.{arith}
+use Rattle.decimal_digits.proofs.Common.{arith}
 use Rattle.decimal_digits.proofs.Nibbles.{nibble_rules}
 use Rattle.decimal_digits.proofs.Leading.{leading_put}
 use Rattle.decimal_digits.proofs.rounding.last_two.write_last_two.Goals as goal

@@ -1,4 +1,4 @@
-use Rattle.std.proofs.Common.{◌-◌, true, false, refl, arith, rules}
+use Rattle.decimal_digits.proofs.Common.{◌-◌, true, false, refl, arith, rules}
 use Rattle.std.proofs.lemmas.Option.{IfSome_then}
 use Rattle.decimal_digits.proofs.Nibbles.{nibble_rules}
 use Rattle.decimal_digits.proofs.Remainders.{one_by, exact_stays}

@@ -1,9 +1,6 @@
-use Rattle.std.proofs.Common.{◌≡◌, ◌+◌, ◌-◌, ◌≤◌, length, refl, arith, rules}
-use Rattle.std.proofs.lemmas.Grind.{common_steps}
-use Rattle.std.proofs.lemmas.List.Elements.{recursion_from_All}
+use Rattle.decimal_digits.proofs.Common.{◌≡◌, ◌+◌, ◌-◌, ◌≤◌, length, refl, arith, rules, common_steps, recursion_from_All, leading}
 use Rattle.decimal_digits.specs.declared.rounding.RoundError.TheVariants.{Limit}
 use Rattle.decimal_digits.specs.declared.rounding.RoundingIncrement.TheVariants.{MultiplesOf1}
-use Rattle.decimal_digits.specs.Remainders.{leading}
 use Rattle.decimal_digits.proofs.Nibbles.{nibble_rules}
 use Rattle.decimal_digits.proofs.NumberAt.{powers}
 use Rattle.decimal_digits.proofs.Leading.{leading_none, leading_hundred, leading_same, one_more}

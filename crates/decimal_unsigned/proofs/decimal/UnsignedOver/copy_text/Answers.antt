@@ -1,5 +1,4 @@
-use Rattle.decimal_unsigned.proofs.Common.{◌≡◌, ◌+◌, ◌-◌, ◌<◌, w16, of_z, to_z, ℤ, ℕ, pos, ◌-ℤ◌, suc, ◌++◌, ◌∷◌, length, take, drop, refl, sym, ◌∙◌, ap, arith, append-nil, text}
-use Rattle.std.proofs.lemmas.List.{nil_from_length}
+use Rattle.decimal_unsigned.proofs.Common.{◌≡◌, ◌+◌, ◌-◌, ◌<◌, w16, of_z, to_z, ℤ, ℕ, pos, ◌-ℤ◌, suc, ◌++◌, ◌∷◌, length, take, drop, refl, sym, ◌∙◌, ap, arith, append-nil, text, nil_from_length}
 use lib.Signed.{mag}
 use Rattle.decimal_unsigned.proofs.Values.{narrow_kept}
 use Rattle.decimal_unsigned.proofs.Writing.{bytes_are}

@@ -1,5 +1,4 @@
-use Rattle.decimal_unsigned.proofs.Common.{ap, subst, unwrap_or, to_z-of_z, MultiplesOf1, Trunc, IsRounded, with_max_position, SplitsAt}
-use Rattle.decimal_unsigned.specs.Rounded.{rounding_by_1}
+use Rattle.decimal_unsigned.proofs.Common.{ap, subst, unwrap_or, to_z-of_z, MultiplesOf1, Trunc, IsRounded, with_max_position, SplitsAt, rounding_by_1}
 use Rattle.decimal_unsigned.proofs.Roundings.{ok_unless_none}
 use Rattle.decimal_unsigned.proofs.ValueLaws.{splits, trunc_succeeds}
 use Rattle.decimal_unsigned.proofs.decimal.UnsignedOver.trunc.Goals as goal

@@ -1,9 +1,6 @@
-use Rattle.std.proofs.Common.{sym, ◌∙◌, ap}
+use Rattle.decimal_unsigned.proofs.Common.{sym, ◌∙◌, ap, nat_list_cmp_total, tied_itself, slice_cmp, nat_cmp}
 use Rattle.std.proofs.lemmas.Bool.Decides.{Decides-eqb}
-use Rattle.std.proofs.lemmas.Cmp.{nat_list_cmp_total, tied_itself}
 use Rattle.std.proofs.lemmas.Slice.Eq.{slice_eq-Decides}
-use Rattle.std.specs.Cmp.Lexicographic.{slice_cmp}
-use Rattle.std.specs.Ordering.{nat_cmp}
 use Rattle.decimal_unsigned.proofs.decimal.compare.compare_slices.Goals as goal
 
 pub returns-then-eq : goal.returns-then-eq

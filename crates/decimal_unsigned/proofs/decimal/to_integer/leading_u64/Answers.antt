@@ -1,5 +1,4 @@
-use Rattle.decimal_unsigned.proofs.Common.{◌≡◌, ◌+◌, ◌-◌, ◌*◌, ◌/◌, ◌^◌, ◌<◌, drop, leading, ap, arith}
-use Rattle.std.proofs.lemmas.List.Elements.{All-drop}
+use Rattle.decimal_unsigned.proofs.Common.{◌≡◌, ◌+◌, ◌-◌, ◌*◌, ◌/◌, ◌^◌, ◌<◌, drop, leading, ap, arith, All-drop}
 use Rattle.decimal_unsigned.proofs.WholeNumbers.{few_leading, more_leading}
 use Rattle.decimal_unsigned.proofs.decimal.to_integer.leading_u64.Given.{Over}
 use Rattle.decimal_unsigned.proofs.decimal.to_integer.leading_u64.Goals as goal

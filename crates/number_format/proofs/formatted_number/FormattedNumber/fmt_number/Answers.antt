@@ -5,5 +5,5 @@ use Rattle.number_format.proofs.formatted_number.FormattedNumber.fmt_number.Goal
 
 pub returns-in-Some : goal.returns-in-Some
 returns-in-Some g c =
-    let e = ap (exponent_text_if c.args.self.now.symbols.now) c.in-Some.is in
+    let e = ap (exponent_text_if c.args.self.now.formatter.now) c.in-Some.is in
     grind (arith, has_written_styled_append, e)

@@ -12,10 +12,10 @@ returns-in_err-write_to-clause-err g c = grind (arith, on_err, prefix_more)
 
 pub returns-in-Some-clause-err : goal.returns-in-Some-clause-err
 returns-in-Some-clause-err g c =
-    let s = c.args.self.now in
-    let digits = absolute_text s.symbols.now s.strategy s.significand in
-    let exponent = exponent_text s.symbols.now c.in-Some.exponent in
-    let e = ap (exponent_text_if s.symbols.now) c.in-Some.is in
+    let f = c.args.self.now.formatter.now in
+    let digits = absolute_text f.symbols f.strategy c.args.self.now.value.absolute in
+    let exponent = exponent_text f c.in-Some.exponent in
+    let e = ap (exponent_text_if f) c.in-Some.is in
     let start = g.W.Sink.contents c.args.sink.now in
     let end = g.W.Sink.contents c.write_exponent.new.sink in
     subst (λ l. OnErr c.write_exponent.result (AppendsPrefix start end (digits ++ l))) (sym e)

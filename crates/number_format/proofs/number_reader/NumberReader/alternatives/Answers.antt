@@ -1,6 +1,7 @@
-use Rattle.std.proofs.Common.{◌≡◌, ◌++◌, [], length, ◌∙◌, rules}
+use Rattle.std.proofs.Common.{◌≡◌, ◌++◌, [], length, ◌∙◌, ap, rules}
 use Rattle.fixed_decimal.specs.declared.variations.Sign.TheVariants.{None}
 use Rattle.decimal_format.specs.declared.reader.alternatives.Alternative.{Alternative}
+use Rattle.number_format.specs.TypedReading.{own_forms}
 use Rattle.number_format.proofs.TypedForms.{five_forms, eight_forms}
 use Rattle.number_format.proofs.number_reader.NumberReader.alternatives.Goals as goal
 
@@ -18,11 +19,9 @@ returns c =
     let s : length c.alternatives-s.result ≡ 8 = search rules in
     let n : length c.alternatives-n.result ≡ 8 = search rules in
     let d : length c.alternatives-c.result ≡ 8 = search rules in
-    let symbols : c.self.inside.symbol ≡ r.symbol = cc in
-    let narrows : c.self.inside.narrow ≡ r.narrow = cc in
-    let codes : c.self.inside.code ≡ r.code = cc in
+    let names : c.self.inside.symbol ++ (c.self.inside.narrow ++ c.self.inside.code) ≡ r.names = cc in
     let own = five_forms nothing c.own_alternatives-o.result five ∙ c.own_alternatives-o.ensures in
-    let symbol = eight_forms nothing c.alternatives-s.result s ∙ c.alternatives-s.ensures ∙ symbols in
-    let narrow = eight_forms nothing c.alternatives-n.result n ∙ c.alternatives-n.ensures ∙ narrows in
-    let code = eight_forms nothing c.alternatives-c.result d ∙ c.alternatives-c.ensures ∙ codes in
-    λ i. own i ++ (symbol i ++ (narrow i ++ code i))
+    let symbol = eight_forms nothing c.alternatives-s.result s ∙ c.alternatives-s.ensures in
+    let narrow = eight_forms nothing c.alternatives-n.result n ∙ c.alternatives-n.ensures in
+    let code = eight_forms nothing c.alternatives-c.result d ∙ c.alternatives-c.ensures in
+    (λ i. own i ++ (symbol i ++ (narrow i ++ code i))) ∙ ap (λ l. own_forms r.texts ++ l) names

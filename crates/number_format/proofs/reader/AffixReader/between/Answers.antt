@@ -28,7 +28,7 @@ module _ (r inside : Reader) (text : List ℕ) (sign : Sign) (p q m : List ℕ) 
 
 pub returns-then-not-begins_with_digit : goal.returns-then-not-begins_with_digit
 returns-then-not-begins_with_digit c = λ middle b.
-    let inside = reader c.self.inside.symbols.now c.self.inside.affixes c.self.inside.shift in
+    let inside = reader c.self.inside.symbols c.self.inside.affixes c.self.inside.shift in
     let t : IsTrue c.begins_with_digit.result =
     c.begins_with_digit.ensures.1
     (begins c.args.self.now inside c.args.text.now c.args.sign _ _ c.in_ok-middle.middle.now (cc)
@@ -38,7 +38,7 @@ returns-then-not-begins_with_digit c = λ middle b.
 
 pub returns-then-not-ends_with_digit : goal.returns-then-not-ends_with_digit
 returns-then-not-ends_with_digit c = λ middle b.
-    let inside = reader c.self.inside.symbols.now c.self.inside.affixes c.self.inside.shift in
+    let inside = reader c.self.inside.symbols c.self.inside.affixes c.self.inside.shift in
     let t : IsTrue c.ends_with_digit.result =
     c.ends_with_digit.ensures.1
     (ends c.args.self.now inside c.args.text.now c.args.sign _ _ c.in_ok-middle.middle.now (cc)

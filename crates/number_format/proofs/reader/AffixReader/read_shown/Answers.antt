@@ -13,7 +13,7 @@ CanRead r = IsReadable r.symbols × AreNamed r.symbols (by_sign r.affixes)
 
 pub returns-in-Ok : goal.returns-in-Ok
 returns-in-Ok g c =
-    let inside = reader c.self.inside.symbols.now c.self.inside.affixes c.self.inside.shift in
+    let inside = reader c.self.inside.symbols c.self.inside.affixes c.self.inside.shift in
     let view : inside ≡ c.args.self.now = cc in
     let can : CanRead c.args.self.now = subst CanRead view c.self.invariant in
     let middle = c.in-Some.middle.now in
@@ -25,7 +25,7 @@ returns-in-Ok g c =
 
 pub returns-in-Err : goal.returns-in-Err
 returns-in-Err g c =
-    let inside = reader c.self.inside.symbols.now c.self.inside.affixes c.self.inside.shift in
+    let inside = reader c.self.inside.symbols c.self.inside.affixes c.self.inside.shift in
     let view : inside ≡ c.args.self.now = cc in
     let can : CanRead c.args.self.now = subst CanRead view c.self.invariant in
     let middle = c.in-Some.middle.now in

@@ -11,7 +11,7 @@ returns-in-Ok g c = read_first (rw c.as_bytes.ensures.value at c.in-Ok.ensures) 
 
 pub returns-in-Err-Syntax : goal.returns-in-Err-Syntax
 returns-in-Err-Syntax g c =
-    let symbols : c.self.inside.symbols.now ≡ c.args.self.now.symbols = cc in
+    let symbols : c.self.inside.symbols ≡ c.args.self.now.symbols = cc in
     let text = c.args.text.now in
     let all = c.args.alternatives.now in
     read_next (rw (c.as_bytes.ensures.value, c.in-Err-Syntax.field-0-is) at c.in-Err-Syntax.ensures)

@@ -1,6 +1,4 @@
-use Rattle.std.proofs.Common.{◌≡◌, sym, ◌∙◌, arith}
-use Rattle.decimal_digits.specs.Nibbles.{digits_in}
-use Rattle.decimal_digits.specs.Packing.{padding}
+use Rattle.decimal_digits.proofs.Common.{◌≡◌, sym, ◌∙◌, arith, digits_in, padding}
 use Rattle.decimal_digits.proofs.Packing.{same_bytes}
 use Rattle.decimal_digits.proofs.digits.packed.PackedDigitsDigitStore.eq.Goals as goal
 

@@ -1,4 +1,4 @@
-use Rattle.std.proofs.Common.{length, ap, arith}
+use Rattle.decimal_digits.proofs.Common.{length, ap, arith}
 use Rattle.decimal_digits.proofs.DigitTexts.{ascii_at}
 use Rattle.decimal_digits.proofs.Nibbles.{nibble_rules}
 use Rattle.decimal_digits.proofs.Packing.{encodes, encodes_many}

@@ -1,4 +1,4 @@
-use Rattle.std.proofs.Common.{length, ap, arith}
+use Rattle.decimal_digits.proofs.Common.{length, ap, arith}
 use Rattle.decimal_digits.proofs.Nibbles.{nibble_rules}
 use Rattle.decimal_digits.proofs.Packing.{encodes}
 use Rattle.decimal_digits.proofs.digits.packed.bytes.append_digits.Goals as goal

@@ -1,6 +1,4 @@
-use Rattle.std.proofs.Common.{◌≡◌, ◌+◌, ◌*◌, ◌/◌, length, get_or, ap, refl, arith}
-use Rattle.decimal_digits.specs.Nibbles.{nibbles}
-use Rattle.decimal_digits.specs.Packing.{padding}
+use Rattle.decimal_digits.proofs.Common.{◌≡◌, ◌+◌, ◌*◌, ◌/◌, length, get_or, ap, refl, arith, nibbles, padding}
 use Rattle.decimal_digits.proofs.Nibbles.{nibble_rules}
 use Rattle.decimal_digits.proofs.Words.{cut_encodes}
 use Rattle.decimal_digits.proofs.digits.packed.bytes.cut_bytes.Goals as goal

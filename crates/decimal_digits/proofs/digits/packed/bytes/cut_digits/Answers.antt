@@ -1,4 +1,4 @@
-use Rattle.std.proofs.Common.{arith}
+use Rattle.decimal_digits.proofs.Common.{arith}
 use Rattle.decimal_digits.proofs.Packing.{encodes_many}
 use Rattle.decimal_digits.proofs.Words.{cut_pads}
 use Rattle.decimal_digits.proofs.digits.packed.bytes.cut_digits.Goals as goal

@@ -1,6 +1,4 @@
-use Rattle.std.proofs.Common.{◌*◌, length, take, ◌∙◌, ap, arith}
-use Rattle.decimal_digits.specs.Nibbles.{nibbles}
-use Rattle.decimal_digits.specs.Packing.{padding}
+use Rattle.decimal_digits.proofs.Common.{◌*◌, length, take, ◌∙◌, ap, arith, nibbles, padding}
 use Rattle.decimal_digits.proofs.Nibbles.{nibble_rules}
 use Rattle.decimal_digits.proofs.Packing.{encodes, encodes_many}
 use Rattle.decimal_digits.proofs.Words.{keep_pads, nibbles_take}

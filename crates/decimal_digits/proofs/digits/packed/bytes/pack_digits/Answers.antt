@@ -1,4 +1,4 @@
-use Rattle.std.proofs.Common.{length, get_or, refl, ap, ◌∙◌, arith}
+use Rattle.decimal_digits.proofs.Common.{length, get_or, refl, ap, ◌∙◌, arith}
 use Rattle.decimal_digits.proofs.Nibbles.{nibble_rules}
 use Rattle.decimal_digits.proofs.Packing.{encodes, encodes_many}
 use Rattle.decimal_digits.proofs.Words.{word_pads}

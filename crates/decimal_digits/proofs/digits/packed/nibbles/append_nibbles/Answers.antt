@@ -1,4 +1,4 @@
-use Rattle.std.proofs.Common.{arith}
+use Rattle.decimal_digits.proofs.Common.{arith}
 use Rattle.decimal_digits.proofs.Nibbles.{nibble_rules}
 use Rattle.decimal_digits.proofs.digits.packed.nibbles.append_nibbles.Goals as goal
 use Rattle.decimal_digits.proofs.digits.packed.nibbles.append_nibbles.Goals.{then-count-eq1, else-count-eq1}

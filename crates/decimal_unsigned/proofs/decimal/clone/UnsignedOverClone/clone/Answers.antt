@@ -1,5 +1,4 @@
-use Rattle.decimal_unsigned.proofs.Common.{sym, ◌∙◌, ap, Unsigned, size}
-use Rattle.std.proofs.lemmas.Result.{err_from_is_err_and}
+use Rattle.decimal_unsigned.proofs.Common.{sym, ◌∙◌, ap, Unsigned, size, err_from_is_err_and}
 use Rattle.decimal_unsigned.proofs.Values.{size-number_of}
 use Rattle.decimal_unsigned.proofs.decimal.clone.UnsignedOverClone.clone.Goals as goal
 

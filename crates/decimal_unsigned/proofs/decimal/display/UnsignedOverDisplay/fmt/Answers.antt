@@ -1,7 +1,6 @@
-use Rattle.decimal_unsigned.proofs.Common.{◌+◌, ◌++◌, length, take, refl, sym, subst, arith, length-take, text, HasWrittenStyled}
+use Rattle.decimal_unsigned.proofs.Common.{◌+◌, ◌++◌, length, take, refl, sym, subst, arith, length-take, text, HasWrittenStyled, IsAscii}
 use Rattle.std.proofs.lemmas.Str.{IsUtf8-from_ascii, IsAscii-take, IsAscii-drop}
 use Rattle.std.proofs.Output.{has_written_styled_append, has_written_styled_of_eq}
-use Rattle.std.specs.Str.{IsAscii}
 use Rattle.decimal_unsigned.proofs.Writing.{text_ascii, piece_taken}
 use Rattle.decimal_unsigned.proofs.Pieces.{block_of, zeros_first}
 use Rattle.decimal_unsigned.proofs.decimal.display.UnsignedOverDisplay.fmt.Goals as goal

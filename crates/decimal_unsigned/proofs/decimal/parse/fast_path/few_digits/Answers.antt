@@ -1,6 +1,4 @@
-use Rattle.std.proofs.lemmas.List.Sums.{prefix_len-le-length}
-use Rattle.decimal_unsigned.proofs.Common.{elements, ap, ◌+◌, is_ascii_digit, prefix_len, ◌≡◌, ◌-◌, ◌<◌, length, get_or, drop, arith, length-take, length-drop}
-use Rattle.std.proofs.lemmas.List.{drop_all}
+use Rattle.decimal_unsigned.proofs.Common.{elements, ap, ◌+◌, is_ascii_digit, prefix_len, ◌≡◌, ◌-◌, ◌<◌, length, get_or, drop, arith, length-take, length-drop, prefix_len-le-length, drop_all}
 use Rattle.decimal_unsigned.proofs.BcdValues.{plain_whole, plain_point, after_byte}
 use Rattle.decimal_unsigned.proofs.decimal.parse.fast_path.few_digits.Goals as goal
 

@@ -1,5 +1,4 @@
-use Rattle.decimal_unsigned.proofs.Common.{elements, ◌≡◌, ◌-◌, ◌<◌, length, get_or, drop, arith, length-take, length-drop}
-use Rattle.std.proofs.lemmas.List.{drop_all}
+use Rattle.decimal_unsigned.proofs.Common.{elements, ◌≡◌, ◌-◌, ◌<◌, length, get_or, drop, arith, length-take, length-drop, drop_all}
 use Rattle.decimal_unsigned.proofs.BcdValues.{plain_whole, plain_point, after_byte}
 use Rattle.decimal_unsigned.proofs.decimal.parse.fast_path.plain_text.Goals as goal
 

@@ -1,5 +1,4 @@
-use Rattle.decimal_unsigned.proofs.Common.{arith, is_ascii_digit}
-use Rattle.std.proofs.lemmas.List.Sums.{prefix_len-le-length}
+use Rattle.decimal_unsigned.proofs.Common.{arith, is_ascii_digit, prefix_len-le-length}
 use Rattle.decimal_unsigned.proofs.decimal.parse.parts.split_digits.Goals as goal
 
 pub split_at-requires : goal.split_at-requires

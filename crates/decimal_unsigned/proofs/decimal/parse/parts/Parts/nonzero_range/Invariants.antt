@@ -1,5 +1,4 @@
-use Rattle.decimal_unsigned.proofs.Common.{◌≡◌, ℕ, ◌<◌, ◌≤◌, length, get_or, view}
-use Rattle.decimal_unsigned.specs.ScannedDigits.{digits_of}
+use Rattle.decimal_unsigned.proofs.Common.{◌≡◌, ℕ, ◌<◌, ◌≤◌, length, get_or, view, digits_of}
 use Rattle.decimal_unsigned.proofs.decimal.parse.parts.Parts.nonzero_range.Given as goal
 
 abbrev pub invariant-loop-end : goal.invariant-loop-end

@@ -1,0 +1,38 @@
+use Rattle.std.proofs.Common.{◌≡◌, ◌≢◌, [], ◌∷◌, ◌++◌, false, sym, ◌∙◌, rules}
+use Rattle.cli.specs.Headers.{has_index, AreFields, FieldsFail}
+use Rattle.cli.specs.declared.error.HeaderError.TheVariants.{Memory}
+use Rattle.cli.proofs.FieldLines.{err_weaker}
+use Rattle.cli.proofs.HeaderNames.{fields_more, fields_fail, ok_weaker}
+use Rattle.cli.proofs.headers.Header.+with_fields.Goals as goal
+
+pub returns-clause-ok : goal.returns-clause-ok
+returns-clause-ok t c =
+    let header = c.args.self.now in
+    let before = c.args.fields.items in
+    let is : c.args.named.now ≡ c.in-Some.first.now ∷ c.in-Some.rest.now = search rules in
+    let new : has_index before c.in_ok-index.index ≡ false =
+    rw c.as_slice.ensures.value at (sym c.has_index.ensures ∙ c.if-has_index.false) in
+    ok_weaker c.with_fields.result
+    (λ all. AreFields header.trims header.field header.bytes.now (before ++ (c.placed.result ∷ [])) c.in-Some.rest.now
+    all.items)
+    (λ all. AreFields header.trims header.field header.bytes.now before c.args.named.now all.items)
+    (λ all more. fields_more header.trims header.field header.bytes.now before c.args.named.now c.in-Some.rest.now
+    c.in-Some.first.now c.in_ok-index.index is c.placed.result c.in_ok-index.ensures.ok new c.placed.ensures all.items
+    more)
+    (rw c.in_default-push.ensures.items at c.with_fields.ensures.ok)
+
+pub returns-clause-err : goal.returns-clause-err
+returns-clause-err t c =
+    let header = c.args.self.now in
+    let before = c.args.fields.items in
+    let is : c.args.named.now ≡ c.in-Some.first.now ∷ c.in-Some.rest.now = search rules in
+    let new : has_index before c.in_ok-index.index ≡ false =
+    rw c.as_slice.ensures.value at (sym c.has_index.ensures ∙ c.if-has_index.false) in
+    err_weaker c.with_fields.result
+    (λ error. error ≢ Memory → FieldsFail header.trims header.field header.bytes.now (before ++ (c.placed.result ∷ []))
+    c.in-Some.rest.now error)
+    (λ error. error ≢ Memory → FieldsFail header.trims header.field header.bytes.now before c.args.named.now error)
+    (λ error fails other. fields_fail header.trims header.field header.bytes.now before c.args.named.now
+    c.in-Some.rest.now c.in-Some.first.now c.in_ok-index.index is c.placed.result c.in_ok-index.ensures.ok new
+    c.placed.ensures error (fails other))
+    (rw c.in_default-push.ensures.items at c.with_fields.ensures.err)

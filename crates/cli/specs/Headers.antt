@@ -1,0 +1,83 @@
+-- The fields that words name, in a header.
+use Rattle.std.specs.Prelude.{◌≡◌, ◌≢◌, ◌⊎◌, ℕ, ◌<◌, ◌≤◌, ◌==◌, Bool, true, false, List, [], ◌∷◌, ◌++◌, slice_get, Some}
+use Rattle.std.specs.List.{list_any}
+use Rattle.cli.specs.declared.columns.Column.{Column}
+use Rattle.cli.specs.declared.columns.Column.TheVariants.{Index, Name}
+use Rattle.cli.specs.declared.columns.FieldLabel.TheVariants as label
+use Rattle.cli.specs.declared.edits.FieldConversion.{FieldConversion}
+use Rattle.cli.specs.declared.error.HeaderError.{HeaderError}
+use Rattle.cli.specs.declared.error.HeaderError.TheVariants.{NoField, TwoFields, SameField}
+use Rattle.cli.specs.declared.fields.Field.{Field}
+use Rattle.cli.specs.declared.headers.Header.{Header}
+use Rattle.cli.specs.declared.targets.NamedField.{NamedField}
+use Rattle.cli.specs.FieldConversion.{is_trimmed}
+use Rattle.cli.specs.Fields.{at_index, bounds, within, Holds}
+use Rattle.cli.specs.ShownWord.{IsShown}
+use Rattle.cli.specs.Trim.{text_of}
+
+-- the bytes of a field hold this name, with `trim` between blanks and tabs
+abbrev pub HoldsName : Bool → Field → List ℕ → List ℕ → Type 0
+HoldsName trims field bytes name =
+    (text : List ℕ) × Holds field bytes text × (text_of (is_trimmed trims field bytes) text ≡ name)
+
+-- whether one of these fields has this index
+abbrev pub has_index : List FieldConversion → ℕ → Bool
+has_index fields index = list_any (λ it. it.field.index == index) fields
+
+-- the field with this index, and the conversion of its words
+abbrev pub IsPlaced : Field → ℕ → NamedField → FieldConversion → Type 0
+IsPlaced field index it placed =
+    (placed.field ≡ at_index field index) × (placed.label ≡ it.label) × (placed.conversion.now ≡ it.conversion)
+
+-- the fields of these bytes, in a header: its first field has the delimiter and the quotes of all
+module _ (trims : Bool) (field : Field) (header : List ℕ) where
+  -- the field with this index has this name
+  abbrev pub HasName : List ℕ → ℕ → Type 0
+  HasName name index =
+      (found : ℕ × ℕ) × (bounds (at_index field index) header ≡ Some found)
+      × HoldsName trims field (within header found) name
+
+  -- no field from this index up to the other one has this name
+  abbrev pub NoneHas : List ℕ → ℕ → ℕ → Type 0
+  NoneHas name from to = (index : ℕ) → from ≤ index → index < to → ¬ HasName name index
+
+  -- a word names the field with this index: by its number, or by the name that it alone has
+  abbrev pub IsIndexOf : Column → ℕ → Type 0
+  IsIndexOf (Index number) index = index ≡ number
+  IsIndexOf (Name name) index =
+      HasName name.now index × ((other : ℕ) → HasName name.now other → other ≡ index)
+
+  -- a word names no field, for this error: no field has the name, or two have it
+  abbrev pub HasNoIndex : Column → HeaderError → Type 0
+  HasNoIndex (Name name) (NoField it) = IsShown name.now it × ((index : ℕ) → ¬ HasName name.now index)
+  HasNoIndex (Name name) (TwoFields it) =
+      IsShown name.now it
+      × ((index : ℕ) × (other : ℕ) × (index ≢ other) × HasName name.now index × HasName name.now other)
+  HasNoIndex column error = ⊥
+
+  -- after these fields words name these, none of them twice
+  abbrev pub AreFields : List FieldConversion → List NamedField → List FieldConversion → Type 0
+  AreFields before [] fields = fields ≡ before
+  AreFields before (it ∷ named) fields =
+      (index : ℕ) × (placed : FieldConversion) × IsIndexOf it.column index × (has_index before index ≡ false)
+      × IsPlaced field index it placed × AreFields (before ++ (placed ∷ [])) named fields
+
+  -- after these fields the first word that names none, or one of them, has this error
+  abbrev pub FieldsFail : List FieldConversion → List NamedField → HeaderError → Type 0
+  FieldsFail before [] error = ⊥
+  FieldsFail before (it ∷ named) error =
+      HasNoIndex it.column error
+      ⊎ ((index : ℕ) × IsIndexOf it.column index
+      × (((has_index before index ≡ true) × (error ≡ SameField (label.Index index)))
+      ⊎ ((placed : FieldConversion) × (has_index before index ≡ false) × IsPlaced field index it placed
+      × FieldsFail (before ++ (placed ∷ [])) named error)))
+
+-- this is the header with these bytes
+abbrev pub IsHeaderOf : Bool → Field → List ℕ → Header → Type 0
+IsHeaderOf trims field bytes header =
+    (header.trims ≡ trims) × (header.field ≡ field) × (header.bytes.now ≡ bytes)
+
+-- its bounds are those of the fields
+abbrev pub HasBounds : Header → Type 0
+HasBounds header =
+    (index : ℕ) → bounds (at_index header.field index) header.bytes.now ≡ slice_get header.bounds.items index

@@ -1,0 +1,126 @@
+-- The filter that words name, and its run on an input whose header has the names of fields.
+use Rattle.std.specs.Prelude.{◌≡◌, ◌≢◌, ◌⊎◌, ℕ, ◌||◌, ◌&&◌, not, Bool, true, false, List, [], ◌∷◌, Option, Result, Ok, Err, IfSome, IsSomeAnd, MatchBool, ⊤}
+use Rattle.std.specs.Io.KnownBytes.{Appends}
+use Rattle.cli.specs.declared.edits.FieldConversion.{FieldConversion}
+use Rattle.cli.specs.declared.error.HeaderError.{HeaderError}
+use Rattle.cli.specs.declared.error.HeaderError.TheVariants.{Quote, Memory}
+use Rattle.cli.specs.declared.error.ProgramError.{ProgramError}
+use Rattle.cli.specs.declared.error.ProgramError.TheVariants.{Header, Output}
+use Rattle.cli.specs.declared.fields.Field.{Field}
+use Rattle.cli.specs.declared.filter.Filter.{Filter}
+use Rattle.cli.specs.declared.named_filter.NamedFilter.{NamedFilter}
+use Rattle.cli.specs.declared.options.Options.{Options}
+use Rattle.cli.specs.declared.targets.NamedField.{NamedField}
+use Rattle.cli.specs.declared.targets.NamedTarget.{NamedTarget}
+use Rattle.cli.specs.declared.targets.NamedTarget.TheVariants as named
+use Rattle.cli.specs.declared.targets.Target.{Target}
+use Rattle.cli.specs.declared.targets.Target.TheVariants.{One, Fields}
+use Rattle.cli.specs.Fields.{are_closed, record_of, within}
+use Rattle.cli.specs.Filter.{Change, Effects, IsErrorOfReading}
+use Rattle.cli.specs.Headers.{AreFields, FieldsFail}
+use Rattle.cli.specs.Lines.{rows_of, Filters}
+use Rattle.cli.specs.Records.{is_broken}
+use Rattle.cli.specs.Targets.{have_names}
+use Rattle.cli.specs.Trim.{body_bounds}
+
+-- ---- The filter, with a header.
+
+-- the bytes of a header that its fields are in
+abbrev pub header_record : Options → Field → List ℕ → List ℕ
+header_record options field header = record_of field (within header (body_bounds options.trims 1 header))
+
+-- whether a header has no fields: it is a broken record, or in CSV a quote is left open
+abbrev pub is_broken_header : Options → Field → List ℕ → Bool
+is_broken_header options field header =
+    (options.has_records && is_broken header) || (field.is_csv && not (are_closed header))
+
+-- the fields that words name in a header are these
+abbrev pub ArePlaced : Options → Field → List NamedField → List ℕ → List FieldConversion → Type 0
+ArePlaced options field named header fields =
+    (is_broken_header options field header ≡ false)
+    × AreFields options.trims field (header_record options field header) [] named fields
+
+-- or it does not have them, for this error
+abbrev pub PlacesFail : Options → Field → List NamedField → List ℕ → HeaderError → Type 0
+PlacesFail options field named header error =
+    (error ≡ Memory)
+    ⊎ MatchBool (is_broken_header options field header) (error ≡ Quote)
+    (FieldsFail options.trims field (header_record options field header) [] named error)
+
+-- the filter with these options
+abbrev pub filter_of : Options → Target → Filter
+filter_of options target = record {
+  on_error = options.on_error;
+  target = target;
+  has_header = options.has_header;
+  has_records = options.has_records;
+  trims = options.trims;
+}
+
+-- with a header what words name is this
+abbrev pub IsTarget : Options → NamedTarget → List ℕ → Target → Type 0
+IsTarget options (named.One field conversion) header (One found by) = (found ≡ field) × (by.now ≡ conversion)
+IsTarget options (named.Fields field named) header (Fields fields) =
+    ArePlaced options field named.items header fields.items
+IsTarget options it header target = ⊥
+
+-- with a header the filter is this
+abbrev pub IsFilter : NamedFilter → List ℕ → Filter → Type 0
+IsFilter it header filter =
+    (target : Target) × IsTarget it.options it.target header target × (filter ≡ filter_of it.options target)
+
+-- or the header does not have its fields, for this error
+abbrev pub TargetFails : Options → NamedTarget → List ℕ → HeaderError → Type 0
+TargetFails options (named.One field conversion) header error = ⊥
+TargetFails options (named.Fields field named) header error = PlacesFail options field named.items header error
+
+abbrev pub HeaderFails : NamedFilter → List ℕ → HeaderError → Type 0
+HeaderFails it header error = TargetFails it.options it.target header error
+
+-- ---- The run.
+
+-- the header of an input: if a field has a name the first row, and otherwise none is needed
+abbrev pub HasHeader : NamedFilter → Option (List ℕ) → List ℕ → Type 0
+HasHeader it input header =
+    MatchBool (have_names it.target)
+    (IfSome input
+    (λ bytes. (rows : List (List ℕ)) × (rows_of it.options.has_records bytes ≡ header ∷ rows)))
+    (header ≡ [])
+
+-- it was read, and the other rows are left
+abbrev pub HeaderIsRead : NamedFilter → Change (Option (List ℕ)) → List ℕ → Type 0
+HeaderIsRead it input header =
+    MatchBool (have_names it.target)
+    (IfSome input.before
+    (λ bytes. IsSomeAnd input.after
+    (λ rest. rows_of it.options.has_records bytes ≡ header ∷ rows_of it.options.has_records rest)))
+    ((header ≡ []) × (input.after ≡ input.before))
+
+-- no row was filtered, and this was returned: a field has a name, and there is no row, or the first one cannot be read;
+-- or the header does not have the fields; or the output failed
+abbrev pub EndsAtHeader : {D : Type 0} → NamedFilter → Effects D → Result Bool ProgramError → Type 0
+EndsAtHeader it effects (Ok texts) =
+    (texts ≡ true) × (have_names it.target ≡ true) × IfSome effects.input.before (λ bytes. bytes ≡ [])
+EndsAtHeader it effects (Err (Header error)) =
+    (header : List ℕ) × HeaderIsRead it effects.input header × HeaderFails it header error
+EndsAtHeader it effects (Err Output) = ⊤
+EndsAtHeader it effects (Err error) = (have_names it.target ≡ true) × IsErrorOfReading 1 effects.failure error
+
+-- nothing was written
+abbrev pub WritesNothing :
+    (Option (List ℕ) → Option (List ℕ) → List ℕ → Type 0) → Change (Option (List ℕ)) → Result Bool ProgramError
+    → Type 0
+WritesNothing AppendsPart output returned =
+    (returned ≢ Err Output → Appends output.before output.after []) × AppendsPart output.before output.after []
+
+module _ {D : Type 0} (reports : D → ProgramError → D → Type 0) where
+  -- the filter that words name ran with this result: with the header its filter did; or no row was filtered, and
+  -- nothing was written and reported
+  abbrev pub FiltersNamed :
+      (Option (List ℕ) → Option (List ℕ) → List ℕ → Type 0) → NamedFilter → Effects D → Result Bool ProgramError
+      → Type 0
+  FiltersNamed AppendsPart it effects returned =
+      ((header : List ℕ) × (filter : Filter) × HasHeader it effects.input.before header × IsFilter it header filter
+      × Filters AppendsPart reports filter 1 effects returned)
+      ⊎ (EndsAtHeader it effects returned × WritesNothing AppendsPart effects.output returned
+      × (effects.diagnostics.after ≡ effects.diagnostics.before))

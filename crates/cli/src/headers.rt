@@ -1,0 +1,155 @@
+//! The fields that words name, in a header.
+ghost use Rattle.std.specs.Prelude.{◌≡◌, ◌≢◌, ◌<◌, ◌≤◌, ℕ, None, true, false, vec_len, IfSome, IfOk, IfErr};
+ghost use Rattle.cli.specs.Fields.{within, quoted};
+ghost use Rattle.cli.specs.Headers.{HoldsName, HasName, NoneHas, IsHeaderOf, HasBounds, IsIndexOf, HasNoIndex, has_index, IsPlaced, AreFields, FieldsFail};
+
+use crate::columns::{Column, FieldLabel};
+use crate::edits::{FieldConversion, within};
+use crate::error::HeaderError;
+use crate::fields::{Field, write_quoted};
+use crate::shown_word::ShownWord;
+use crate::targets::NamedField;
+use crate::trim::text_of;
+use fixed_decimal::TextBuf;
+use std::alloc::{AllocError, Global};
+
+/// A header, and where its fields are.
+#[derive(Drop)]
+pub struct Header<'a> {
+    /// Whether blanks and tabs around a name are no part of it.
+    pub trims: bool,
+    /// The first field of each line.
+    pub field: Field<'a>,
+    /// The bytes that the fields are in.
+    pub bytes: &'a [u8],
+    /// The start and the end of each field.
+    pub bounds: Vec<(usize, usize)>,
+}
+
+fn has_index(fields: &[FieldConversion<'_>], index: usize) -> bool
+    ensures { result ≡ has_index fields.now index }
+{
+    fields.iter().any(|it| it.field.index == index)
+}
+
+/// Returns the field with an index, with the conversion of its words.
+fn placed<'a>(field: Field<'a>, index: usize, it: &'a NamedField<'a>) -> FieldConversion<'a>
+    ensures { IsPlaced field.entry index it.now result }
+{
+    FieldConversion {
+        field: Field { index, ..field },
+        label: it.label,
+        conversion: &it.conversion,
+    }
+}
+
+impl<'a> Header<'a> {
+    /// Finds the fields of a header.
+    pub fn of(
+        alloc: Global,
+        trims: bool,
+        field: Field<'a>,
+        bytes: &'a [u8],
+    ) -> Result<Self, AllocError>
+        ensures value { IfOk result (IsHeaderOf trims field.entry bytes.now) }
+        ensures bounds { IfOk result HasBounds }
+    {
+        let bounds = field.all_bounds(alloc, bytes)?;
+        Ok(Header {
+            trims,
+            field,
+            bytes,
+            bounds,
+        })
+    }
+
+    /// Returns whether the bytes of a field hold a name, which is also given in quotes.
+    fn holds_name(&self, bytes: &[u8], name: &[u8], in_quotes: &[u8]) -> bool
+        requires { in_quotes.now ≡ quoted name.now }
+        ensures yes { result ≡ true → HoldsName self.now.trims self.now.field bytes.now name.now }
+        ensures no { result ≡ false → ¬ HoldsName self.now.trims self.now.field bytes.now name.now }
+    {
+        if self.field.is_quoted(bytes) {
+            bytes == in_quotes
+        } else {
+            text_of(self.trims, bytes) == name
+        }
+    }
+
+    /// Returns the index of the next field with a name, from an index on.
+    fn next_named(&self, from: usize, name: &[u8], in_quotes: &[u8]) -> Option<usize>
+        requires bounds { HasBounds self.now }
+        requires quoted { in_quotes.now ≡ quoted name.now }
+        ensures some { IfSome result (λ index. (from ≤ index)
+            × HasName self.now.trims self.now.field self.now.bytes.now name.now index) }
+        ensures inside { IfSome result (λ index. index < vec_len self.now.bounds) }
+        ensures before { IfSome result (NoneHas self.now.trims self.now.field self.now.bytes.now name.now from) }
+        ensures none { result ≡ None → (index : ℕ) → from ≤ index
+            → ¬ HasName self.now.trims self.now.field self.now.bytes.now name.now index }
+    {
+        for index in from..self.bounds.len() {
+            if self.holds_name(within(self.bytes, self.bounds[index]), name, in_quotes) {
+                return Some(index);
+            }
+        }
+        None
+    }
+
+    fn index_of_name(&self, alloc: Global, name: &str) -> Result<usize, HeaderError>
+        requires { HasBounds self.now }
+        ensures ok { IfOk result (IsIndexOf self.now.trims self.now.field self.now.bytes.now (Column.Name name.entry)) }
+        ensures err { IfErr result (λ error. error ≢ HeaderError.Memory
+            → HasNoIndex self.now.trims self.now.field self.now.bytes.now (Column.Name name.entry) error) }
+    {
+        let mut quoted = TextBuf::new(alloc);
+        if let Err(_) = write_quoted(name.as_bytes(), &mut quoted) {
+            return Err(HeaderError::Memory);
+        }
+        let Some(index) = self.next_named(0, name.as_bytes(), quoted.as_bytes()) else {
+            return Err(HeaderError::NoField(ShownWord::of(name)));
+        };
+        match self.next_named(index + 1, name.as_bytes(), quoted.as_bytes()) {
+            Some(_) => Err(HeaderError::TwoFields(ShownWord::of(name))),
+            None => Ok(index),
+        }
+    }
+
+    /// Returns the index of what a word names.
+    fn index_of(&self, alloc: Global, column: Column<'_>) -> Result<usize, HeaderError>
+        requires { HasBounds self.now }
+        ensures ok { IfOk result (IsIndexOf self.now.trims self.now.field self.now.bytes.now column.entry) }
+        ensures err { IfErr result (λ error. error ≢ HeaderError.Memory
+            → HasNoIndex self.now.trims self.now.field self.now.bytes.now column.entry error) }
+    {
+        match column {
+            Column::Index(index) => Ok(index),
+            Column::Name(name) => self.index_of_name(alloc, name),
+        }
+    }
+
+    /// Returns these fields and those that words name, up to the first one that fails.
+    pub fn with_fields(
+        &self,
+        alloc: Global,
+        named: &'a [NamedField<'a>],
+        mut fields: Vec<FieldConversion<'a>>,
+    ) -> Result<Vec<FieldConversion<'a>>, HeaderError>
+        requires { HasBounds self.now }
+        ensures ok { IfOk result (λ all. AreFields self.now.trims self.now.field self.now.bytes.now
+            fields.entry.items named.now all.items) }
+        ensures err { IfErr result (λ error. error ≢ HeaderError.Memory → FieldsFail self.now.trims self.now.field
+            self.now.bytes.now fields.entry.items named.now error) }
+    {
+        let Some((first, rest)) = named.split_first() else {
+            return Ok(fields);
+        };
+        let index = self.index_of(alloc, first.column)?;
+        if has_index(fields.as_slice(), index) {
+            return Err(HeaderError::SameField(FieldLabel::Index(index)));
+        }
+        if let Err(_) = fields.push(placed(self.field, index, first)) {
+            return Err(HeaderError::Memory);
+        }
+        self.with_fields(alloc, rest, fields)
+    }
+}

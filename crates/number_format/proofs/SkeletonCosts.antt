@@ -1,0 +1,283 @@
+-- The least number of bytes of the stems that give the choices of a skeleton, each with the white space after it.
+use Rattle.std.proofs.Common.{◌≡◌, ℕ, zero, suc, ◌+◌, ◌-◌, ◌<◌, ◌≤◌, max, Bool, true, false, refl, ap, sym, ◌∙◌, arith, List, [], ◌∷◌, ◌++◌, length, take, drop, length-drop, length-take, length-append}
+use Rattle.std.specs.Prelude.{◌==◌, nat_lt, nat_le, ◌&&◌, ◌||◌, not, if◌then◌else◌, is_some, unwrap_or, ℤ, pos, Option, Some, None, Result, Ok, Err}
+use Rattle.std.specs.List.{list_all}
+use Rattle.std.specs.Ordering.{int_eq}
+use Rattle.std.proofs.lemmas.Grind.{common_steps}
+use Rattle.std.proofs.lemmas.Bool.Decides.{nat_tests, Decides-int_eq}
+use Rattle.decimal_format.specs.declared.grouping.GroupingStrategy.{GroupingStrategy}
+use Rattle.decimal_format.specs.declared.grouping.GroupingStrategy.TheVariants as grouping
+use Rattle.fixed_decimal.specs.declared.rounding.SignedRoundingMode.{SignedRoundingMode}
+use Rattle.fixed_decimal.specs.declared.variations.SignDisplay.{SignDisplay}
+use Rattle.locale_data.specs.declared.currency.CurrencySign.{CurrencySign}
+use Rattle.number_format.specs.declared.number_options.CompactLength.TheVariants.{Short, Long}
+use Rattle.number_format.specs.declared.number_options.CurrencyDisplay.{CurrencyDisplay}
+use Rattle.number_format.specs.declared.number_options.CurrencyUsage.TheVariants as usage
+use Rattle.number_format.specs.declared.number_options.ExponentSign.{ExponentSign}
+use Rattle.number_format.specs.declared.number_options.ExponentSign.TheVariants as sign
+use Rattle.number_format.specs.declared.precision.Minimum.{Minimum}
+use Rattle.number_format.specs.declared.settings.RoundingPriority.{RoundingPriority}
+use Rattle.number_format.specs.declared.settings.RoundingPriority.TheVariants.{LessPrecision}
+use Rattle.number_format.specs.declared.skeleton.SkeletonError.{SkeletonError}
+use Rattle.number_format.specs.declared.skeleton.choices.Choice.{Choice}
+use Rattle.number_format.specs.declared.skeleton.choices.Choice.TheVariants as choice
+use Rattle.number_format.specs.declared.skeleton.choices.Choices.{Choices}
+use Rattle.number_format.specs.declared.skeleton.choices.ChosenNotation.{ChosenNotation}
+use Rattle.number_format.specs.declared.skeleton.choices.ChosenNotation.TheVariants as notation
+use Rattle.number_format.specs.declared.skeleton.choices.ChosenPrecision.{ChosenPrecision}
+use Rattle.number_format.specs.declared.skeleton.choices.ChosenPrecision.TheVariants as precision
+use Rattle.number_format.specs.declared.skeleton.choices.ChosenUnit.{ChosenUnit}
+use Rattle.number_format.specs.declared.skeleton.choices.ChosenUnit.TheVariants as unit
+use Rattle.number_format.specs.declared.skeleton.choices.Exponent.{Exponent}
+use Rattle.number_format.specs.declared.skeleton.choices.Span.{Span}
+use Rattle.number_format.specs.declared.skeleton.choices.TwoCounts.{TwoCounts}
+use Rattle.number_format.specs.declared.skeleton.counts.Counts.{Counts}
+use Rattle.number_format.specs.declared.skeleton.decimal.SkeletonDecimal.{SkeletonDecimal}
+use Rattle.number_format.specs.declared.skeleton.stems.Expected.{Expected}
+use Rattle.number_format.specs.declared.skeleton.stems.Expected.TheVariants as expected
+use Rattle.number_format.specs.SkeletonChoices.{no_choices, has, with}
+use Rattle.number_format.specs.SkeletonDigits.{increment_of_decimal}
+use Rattle.number_format.specs.SkeletonLengths.{exponent_length, scale_length, width_length, increment_length, priority_length, mode_length, sign_length, system_length}
+use Rattle.number_format.specs.SkeletonMeaning.{scale_power}
+
+-- ---- The least lengths of the stems of the groups.
+abbrev pub range_cost : ℕ → Option ℕ → ℕ
+range_cost min None = min + 1
+range_cost min (Some max) = max
+
+abbrev pub beside_range_cost : ℕ → Option ℕ → ℕ
+beside_range_cost min None = if nat_lt 0 min then min + 1 else 65535
+beside_range_cost min (Some max) = max
+
+abbrev pub counts_cost : Counts → ℕ
+counts_cost c = range_cost c.min c.max
+
+abbrev pub beside_cost : Counts → ℕ
+beside_cost c = beside_range_cost c.min c.max
+
+abbrev pub short_word : Bool → ℕ
+short_word engineering = if engineering then 2 else 1
+
+abbrev pub long_word : Bool → ℕ
+long_word engineering = if engineering then 11 else 10
+
+abbrev pub notation_cost : Option (ChosenNotation × Span) → ℕ
+notation_cost None = 0
+notation_cost (Some (notation.Simple, stem)) = 0
+notation_cost (Some (notation.Compact Short, stem)) = 2
+notation_cost (Some (notation.Compact Long, stem)) = 3
+notation_cost (Some (notation.Exponent e, stem)) =
+    exponent_length (short_word e.is_engineering) (long_word e.is_engineering) e.digits e.sign
+
+abbrev pub unit_cost : Option (ChosenUnit × Span) → ℕ
+unit_cost (Some (unit.Percent, stem)) = 2
+unit_cost (Some (unit.Permille, stem)) = 9
+unit_cost (Some (unit.Currency code, stem)) = 13
+unit_cost u = 0
+
+abbrev pub is_percent : Option (ChosenUnit × Span) → Bool
+is_percent (Some (unit.Percent, stem)) = true
+is_percent u = false
+
+abbrev pub power_or_zero : Result ℤ SkeletonError → ℤ
+power_or_zero (Ok power) = power
+power_or_zero (Err e) = pos 0
+
+abbrev pub power_of : Option (SkeletonDecimal × Span) → ℤ
+power_of None = pos 0
+power_of (Some (d, stem)) = power_or_zero (scale_power d stem)
+
+-- `%x100` spares six bytes
+abbrev pub style_cost : Option (ChosenUnit × Span) → Option (SkeletonDecimal × Span) → ℕ
+style_cost u scale =
+    if is_percent u && int_eq (power_of scale) (pos 2) then 6 else unit_cost u + scale_length (power_of scale)
+
+abbrev pub increment_cost : Result (ℕ × ℕ) SkeletonError → ℕ
+increment_cost (Ok m) = increment_length m.0 m.1
+increment_cost (Err e) = 0
+
+abbrev pub priority_cost : RoundingPriority → Minimum → ℕ
+priority_cost LessPrecision minimum = priority_length minimum
+priority_cost priority minimum = 1
+
+abbrev pub precision_cost : Option (ChosenPrecision × Span) → ℕ
+precision_cost None = 0
+precision_cost (Some (precision.Unlimited, stem)) = 3
+precision_cost (Some (precision.Fraction c, stem)) = 2 + counts_cost c
+precision_cost (Some (precision.Significant c, stem)) = 1 + counts_cost c
+precision_cost (Some (precision.Both b, stem)) =
+    3 + beside_cost b.fraction + unwrap_or b.significant.max 65536 + priority_cost b.priority b.minimum
+precision_cost (Some (precision.Currency usage.Standard, stem)) = 28
+precision_cost (Some (precision.Currency usage.Cash, stem)) = 24
+precision_cost (Some (precision.Increment d, stem)) = 21 + increment_cost (increment_of_decimal d stem)
+
+abbrev pub strips_cost : Bool → ℕ
+strips_cost strips = if strips then 2 else 0
+
+abbrev pub mode_cost : Option (Option SignedRoundingMode × Span) → ℕ
+mode_cost (Some (Some mode, stem)) = mode_length mode
+mode_cost m = 0
+
+abbrev pub strategy_cost : GroupingStrategy → ℕ
+strategy_cost grouping.Auto = 11
+strategy_cost g = 3
+
+abbrev pub grouping_cost : Option (Option GroupingStrategy × Span) → ℕ
+grouping_cost (Some (Some g, stem)) = strategy_cost g
+grouping_cost g = 0
+
+abbrev pub integer_range_cost : ℕ → Option ℕ → ℕ
+integer_range_cost min None = min + 1
+integer_range_cost min (Some max) = 15 + max
+
+abbrev pub integer_cost : Option (Counts × Span) → ℕ
+integer_cost (Some (c, stem)) = integer_range_cost c.min c.max
+integer_cost None = 0
+
+abbrev pub system_cost : Option (Option (List ℕ) × Span) → ℕ
+system_cost (Some (name, stem)) = system_length name
+system_cost None = 0
+
+abbrev pub width_cost : Option (Option CurrencyDisplay × Span) → ℕ
+width_cost (Some (Some width, stem)) = width_length width
+width_cost w = 0
+
+abbrev pub sign_cost : Option (SignDisplay × CurrencySign) → ℕ
+sign_cost (Some (shown, sign)) = sign_length sign shown
+sign_cost None = 0
+
+-- all groups
+abbrev pub cost : Choices → ℕ
+cost c =
+    notation_cost c.notation + style_cost c.unit c.scale + precision_cost c.precision + strips_cost c.strips_if_integer
+    + mode_cost c.mode + grouping_cost c.grouping + integer_cost c.integer + system_cost c.system + width_cost c.width
+    + sign_cost c.sign
+
+-- ---- The same with a stem to which options may be added.
+abbrev pub sign_option_cost : ExponentSign → ℕ
+sign_option_cost sign.Never = 3
+sign_option_cost s = 0
+
+-- `scientific/*ee/+_`
+abbrev pub word_cost : Exponent → ℕ
+word_cost e =
+    long_word e.is_engineering + (if nat_lt 1 e.digits then e.digits + 2 else 0) + sign_option_cost e.sign + 1
+
+abbrev pub open_cost : Choices → Expected → ℕ
+open_cost c expected.Stem = cost c
+open_cost c (expected.Exponent e) = max (cost c) (cost (record c { notation = None }) + word_cost e)
+open_cost c expected.Currency = cost (record c { unit = None }) + 9
+open_cost c expected.Integer = cost (record c { integer = None }) + 14
+open_cost c expected.System = cost (record c { system = None }) + 17
+open_cost c expected.Scale = cost (record c { scale = None }) + 6
+open_cost c expected.Increment = cost (record c { precision = None }) + 20
+open_cost c expected.Name = cost c
+open_cost c (expected.Significant f) = max (cost c) (cost (record c { precision = None }) + (2 + beside_cost f))
+open_cost c expected.StripIfInteger = cost c
+
+-- ---- One stem more.
+pub none_is : {A : Type 0} (x : Option A) → is_some x ≡ false → x ≡ None
+none_is None e = refl
+none_is (Some x) e = absurd (cc)
+
+pub or_left : (a b : Bool) → (a || b) ≡ false → a ≡ false
+or_left true b e = e
+or_left false b e = refl
+
+pub or_right : (a b : Bool) → (a || b) ≡ false → b ≡ false
+or_right true b e = absurd (cc)
+or_right false b e = e
+
+scale_hundred : (power : ℤ) → int_eq power (pos 2) ≡ true → scale_length power ≡ 10
+scale_hundred power is = ap scale_length ((Decides-int_eq power (pos 2)).0 is)
+
+choose_at_most : (b : Bool) (n m : ℕ) → (b ≡ true → 6 ≤ m) → n ≤ m → (if b then 6 else n) ≤ m
+choose_at_most true n m some none = some refl
+choose_at_most false n m some none = none
+
+-- a unit and a scale are no longer than both
+pub style_at_most :
+    (u : Option (ChosenUnit × Span)) (scale : Option (SkeletonDecimal × Span))
+    → style_cost u scale ≤ unit_cost u + scale_length (power_of scale)
+style_at_most None scale = omega arith
+style_at_most (Some (unit.Base, stem)) scale = omega arith
+style_at_most (Some (unit.Percent, stem)) scale =
+    choose_at_most (int_eq (power_of scale) (pos 2)) _ _
+    (λ is. omega (arith, scale_hundred (power_of scale) is)) (omega arith)
+style_at_most (Some (unit.Permille, stem)) scale = omega arith
+style_at_most (Some (unit.Currency code, stem)) scale = omega arith
+style_at_most (Some (unit.Other, stem)) scale = omega arith
+
+-- a stem without options, or one with the options that its group has
+abbrev pub pairs : Choice → Expected → Bool
+pairs (choice.Notation n) expected.Stem = true
+pairs (choice.Notation n) (expected.Exponent e) = true
+pairs (choice.Unit u) expected.Stem = true
+pairs (choice.Unit u) expected.Currency = true
+pairs (choice.Unit u) expected.Name = true
+pairs choice.PercentTimes100 expected.Stem = true
+pairs choice.UnitPerUnit expected.Name = true
+pairs choice.PerUnit expected.Name = true
+pairs choice.Usage expected.Name = true
+pairs (choice.Precision p) expected.Increment = true
+pairs (choice.Precision p) (expected.Significant f) = true
+pairs (choice.Precision p) expected.StripIfInteger = true
+pairs (choice.Mode m) expected.Stem = true
+pairs (choice.Grouping g) expected.Stem = true
+pairs (choice.Integer i) expected.Stem = true
+pairs (choice.Integer i) expected.Integer = true
+pairs (choice.System s) expected.Stem = true
+pairs (choice.System s) expected.System = true
+pairs (choice.Width w) expected.Stem = true
+pairs (choice.Sign shown sign) expected.Stem = true
+pairs (choice.IsDecimalAlways always) expected.Stem = true
+pairs (choice.Scale s) expected.Scale = true
+pairs c e = false
+
+none_costs :
+    (c : Choices) → is_some c.unit ≡ false → style_cost c.unit c.scale ≡ style_cost None c.scale
+none_costs c none = ap (λ u. style_cost u c.scale) (none_is c.unit none)
+
+unit_at_most :
+    (u : ChosenUnit) (s : Span) (scale : Option (SkeletonDecimal × Span))
+    → style_cost (Some (u, s)) scale ≤ style_cost None scale + style_cost (Some (u, s)) None
+unit_at_most unit.Base s scale = omega arith
+unit_at_most unit.Percent s scale =
+    omega (arith, style_at_most (Some (unit.Percent, s)) scale)
+unit_at_most unit.Permille s scale = omega arith
+unit_at_most (unit.Currency code) s scale = omega arith
+unit_at_most unit.Other s scale = omega arith
+
+-- a choice adds no more to others than it takes alone
+pub stem_at_most :
+    (c : Choices) (s : Span) (ch : Choice) (e : Expected) → pairs ch e ≡ true → has c ch ≡ false
+    → open_cost (with s ch c) e ≤ cost c + open_cost (with s ch no_choices) e
+stem_at_most c s (choice.Notation n) expected.Stem p h = omega (arith, ap notation_cost (none_is c.notation h))
+stem_at_most c s (choice.Notation n) (expected.Exponent e) p h =
+    omega (arith, ap notation_cost (none_is c.notation h))
+stem_at_most c s (choice.Unit u) expected.Stem p h = omega (arith, none_costs c h, unit_at_most u s c.scale)
+stem_at_most c s (choice.Unit u) expected.Currency p h = omega (arith, none_costs c h)
+stem_at_most c s (choice.Unit u) expected.Name p h = omega (arith, none_costs c h, unit_at_most u s c.scale)
+stem_at_most c s choice.PercentTimes100 expected.Stem p h = omega arith
+stem_at_most c s choice.UnitPerUnit expected.Name p h =
+    omega (arith, none_costs c (or_left (is_some c.unit) (is_some c.per_unit) h))
+stem_at_most c s choice.PerUnit expected.Name p h = omega arith
+stem_at_most c s choice.Usage expected.Name p h = omega arith
+stem_at_most c s (choice.Precision q) expected.Increment p h =
+    omega (arith, ap precision_cost (none_is c.precision h))
+stem_at_most c s (choice.Precision q) (expected.Significant f) p h =
+    omega (arith, ap precision_cost (none_is c.precision h))
+stem_at_most c s (choice.Precision q) expected.StripIfInteger p h =
+    omega (arith, ap precision_cost (none_is c.precision h))
+stem_at_most c s (choice.Mode m) expected.Stem p h = omega arith
+stem_at_most c s (choice.Grouping g) expected.Stem p h = omega arith
+stem_at_most c s (choice.Integer i) expected.Stem p h = omega arith
+stem_at_most c s (choice.Integer i) expected.Integer p h = omega (arith, ap integer_cost (none_is c.integer h))
+stem_at_most c s (choice.System n) expected.Stem p h = omega arith
+stem_at_most c s (choice.System n) expected.System p h = omega (arith, ap system_cost (none_is c.system h))
+stem_at_most c s (choice.Width w) expected.Stem p h = omega arith
+stem_at_most c s (choice.Sign shown sign) expected.Stem p h = omega arith
+stem_at_most c s (choice.IsDecimalAlways always) expected.Stem p h = omega arith
+stem_at_most c s (choice.Scale d) expected.Scale p h =
+    omega (arith, ap (style_cost c.unit) (none_is c.scale h))
+stem_at_most c s ch e p h = absurd (cc)

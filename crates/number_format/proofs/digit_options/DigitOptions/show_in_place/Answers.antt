@@ -1,0 +1,12 @@
+use Rattle.std.proofs.Common.{refl, rules, w32, FitsSigned}
+use Rattle.std.proofs.lemmas.Int.{to_z-of_z}
+use Rattle.number_format.proofs.StandardNotation.{standard-some, standard-none}
+use Rattle.number_format.proofs.digit_options.DigitOptions.show_in_place.Goals as goal
+
+pub returns-clause-ok : goal.returns-clause-ok
+returns-clause-ok g c =
+    let o = c.args.self.now in
+    let last_fits : FitsSigned w32 c.in_ok-last.last = search rules in
+    standard-some o c.args.value.now c.round_at.new.value c.in_ok-last.last c.in_ok-last.ensures.rounds
+    (record { sign = c.round_at.new.value.sign; absolute = c.show.new.value }) refl
+    (simp to_z-of_z at c.show.ensures.value)
