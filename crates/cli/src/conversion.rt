@@ -12,7 +12,6 @@ use fixed_decimal::{Call, Decimal, ParseError, RunError, Sink, apply_calls, run}
 use std::alloc::Global;
 
 /// How a text is read, what is done to its decimal, and how the result is written.
-#[derive(Drop)]
 pub struct Conversion<'a> {
     /// Reads the text in the form of a locale. `None`: the text is a decimal's own.
     pub reader: Option<LocaleReader<'a>>,
@@ -20,6 +19,19 @@ pub struct Conversion<'a> {
     pub calls: Vec<Call<'a>>,
     /// Writes the result in the form of a locale. `None`: it is written as its own text.
     pub formatter: Option<LocaleFormatter<'a>>,
+}
+
+// Not derived: a derived drop is proved again wherever a value is dropped.
+impl<'a> Drop for Conversion<'a> {
+    fn drop(self) {
+        let Conversion {
+            reader,
+            calls,
+            formatter: _,
+        } = self;
+        drop(reader);
+        drop(calls);
+    }
 }
 
 impl Conversion<'_> {

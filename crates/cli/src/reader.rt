@@ -71,12 +71,21 @@ impl SkeletonReader {
 }
 
 /// Reads decimals in the form of a locale.
-#[derive(Drop)]
 pub enum LocaleReader<'a> {
     /// With all digits.
     Decimals(DecimalReader<'a>),
     /// As a number skeleton has them.
     Numbers(SkeletonReader),
+}
+
+// Not derived: a derived drop is proved again wherever a value is dropped.
+impl<'a> Drop for LocaleReader<'a> {
+    fn drop(self) {
+        match self {
+            LocaleReader::Decimals(_) => {}
+            LocaleReader::Numbers(reader) => drop(reader),
+        }
+    }
 }
 
 impl<'a> LocaleReader<'a> {

@@ -14,10 +14,18 @@ use std::alloc::{AllocError, Global};
 use std::marker::Model;
 
 /// The text before a number and the text after it.
-#[derive(Drop)]
 pub(crate) struct AffixTexts {
     prefix: String,
     suffix: String,
+}
+
+// Not derived: a derived drop is proved again wherever a value is dropped.
+impl Drop for AffixTexts {
+    fn drop(self) {
+        let AffixTexts { prefix, suffix } = self;
+        drop(prefix);
+        drop(suffix);
+    }
 }
 
 impl Model for AffixTexts {
@@ -74,11 +82,24 @@ impl AffixTexts {
 }
 
 /// The texts before and after a number, by its sign.
-#[derive(Drop)]
 pub struct SignAffixes {
     none: AffixTexts,
     negative: AffixTexts,
     positive: AffixTexts,
+}
+
+// Not derived: a derived drop is proved again wherever a value is dropped.
+impl Drop for SignAffixes {
+    fn drop(self) {
+        let SignAffixes {
+            none,
+            negative,
+            positive,
+        } = self;
+        drop(none);
+        drop(negative);
+        drop(positive);
+    }
 }
 
 impl Model for SignAffixes {

@@ -18,7 +18,6 @@ pub(crate) struct Names<'f> {
 }
 
 /// A name beside a number, with a space or without, or after a sign.
-#[derive(Drop)]
 pub(crate) struct NameTexts {
     plain: String,
     spaced: String,
@@ -27,6 +26,28 @@ pub(crate) struct NameTexts {
     minus_spaced: String,
     plus: String,
     plus_spaced: String,
+}
+
+// Not derived: a derived drop is proved again wherever a value is dropped.
+impl Drop for NameTexts {
+    fn drop(self) {
+        let NameTexts {
+            plain,
+            spaced,
+            after,
+            minus,
+            minus_spaced,
+            plus,
+            plus_spaced,
+        } = self;
+        drop(plain);
+        drop(spaced);
+        drop(after);
+        drop(minus);
+        drop(minus_spaced);
+        drop(plus);
+        drop(plus_spaced);
+    }
 }
 
 impl Model for NameTexts {

@@ -49,12 +49,27 @@ pub enum ParseMode {
 /// let reader = formatter.into_reader(alloc)?;
 /// reader.read(alloc, "-1.234,50\u{a0}€".as_bytes())?; // -1234.50
 /// ```
-#[derive(Drop)]
 pub struct NumberReader {
     reader: AffixReader<'static>,
     symbol: NameTexts,
     narrow: NameTexts,
     code: NameTexts,
+}
+
+// Not derived: a derived drop is proved again wherever a value is dropped.
+impl Drop for NumberReader {
+    fn drop(self) {
+        let NumberReader {
+            reader,
+            symbol,
+            narrow,
+            code,
+        } = self;
+        drop(reader);
+        drop(symbol);
+        drop(narrow);
+        drop(code);
+    }
 }
 
 impl Model for NumberReader {
