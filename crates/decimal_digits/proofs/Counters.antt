@@ -1,14 +1,13 @@
 -- A `Steps` has no bytes and owns nothing, so a counter of any value is constructed without resources.
-use Rattle.decimal_digits.proofs.Common.{List, [], ◌∷◌, refl}
-use seplogic.Ra.Ura.{Ura}
-use mir.Val.{Val, vstruct, vnil}
-use types.Logic.{Logic}
-use types.Kit.{Item, Goal, ‵, Step}
+use Rattle.std.proofs.Common.{List, [], ◌∷◌, refl}
+use Rattle.decimal_digits.specs.{contracts.digits.steps.Steps.the_row as row, declared.digits.steps.Steps.Steps}
 use denote.Laws.{Makes, Is}
 use denote.Shadow.{makes_shadow}
 use denote.Steps.{owned}
-use Rattle.decimal_digits.specs.declared.digits.steps.Steps.{Steps}
-use Rattle.decimal_digits.specs.contracts.digits.steps.Steps.{the_row as row}
+use mir.Val.{Val, vstruct, vnil}
+use seplogic.Ra.Ura.{Ura}
+use types.Kit.{Item, Goal, ‵, Step}
+use types.Logic.{Logic}
 
 -- the representation of `Steps`: a struct without fields
 abbrev pub bare : Val

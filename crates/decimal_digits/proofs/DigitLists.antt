@@ -1,6 +1,8 @@
 -- The number that a list of decimal digits writes.
-use Rattle.decimal_digits.proofs.Common.{◌≡◌, ℕ, zero, suc, ◌+◌, ◌-◌, ◌*◌, ◌/◌, ◌%◌, ◌^◌, ◌<◌, ◌≤◌, List, [], ◌∷◌, ◌++◌, length, get_or, take, drop, replicate, sym, ◌∙◌, ap, arith, mul-le-mul_right, div-mul-add, mod-mul-add, take-append-drop, length-drop, number_lt, number_after_append, number_more, number_from_digits_after, number_from_digits, AllBelowBase, rules, ints, clamps, nat_tests}
-use Rattle.std.proofs.Math.Nat.{pow-zero, pow-suc, one-le-pow, div-one}
+use Rattle.std.proofs.Common.{◌≡◌, ℕ, zero, suc, ◌+◌, ◌-◌, ◌*◌, ◌/◌, ◌%◌, ◌^◌, ◌<◌, ◌≤◌, List, [], ◌∷◌, ◌++◌, length, get_or, take, drop, replicate, sym, ◌∙◌, ap, arith, rules}
+use Rattle.std.proofs.Math.Nat.{mul-le-mul_right, pow-zero, pow-suc, one-le-pow, div-one}
+use Rattle.std.proofs.lemmas.{Bool.Decides.nat_tests, Int.{ints, clamps}, Int.Digits.{number_lt, number_after_append, number_more}, List.{take-append-drop, length-drop}, Nat.{div-mul-add, mod-mul-add}}
+use Rattle.std.specs.Int.Digits.{number_from_digits_after, number_from_digits, AllBelowBase}
 
 -- a power of ten is above 0
 pub ten_pos : (k : ℕ) → 0 < 10 ^ k

@@ -1,7 +1,7 @@
 -- Digits and the text that writes them.
-use Rattle.decimal_digits.proofs.Common.{◌≡◌, ℕ, ◌+◌, ◌<◌, ◌≤◌, List, length, get_or, arith, digit_value, AllDigits}
-use Rattle.std.proofs.lemmas.Str.{digit_value_digit}
-use Rattle.std.proofs.lemmas.Str.Parse.{digit_at}
+use Rattle.std.proofs.Common.{◌≡◌, ℕ, ◌+◌, ◌<◌, ◌≤◌, List, length, get_or, arith}
+use Rattle.std.proofs.lemmas.{Str.digit_value_digit, Str.Parse.digit_at}
+use Rattle.std.specs.{Char.digit_value, Str.Parse.AllDigits}
 
 -- each byte of a text of digits is an ASCII digit
 pub ascii_at : (text : List ℕ) → AllDigits 10 text → (i : ℕ) → i < length text

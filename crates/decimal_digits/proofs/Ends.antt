@@ -1,9 +1,9 @@
 -- The first and the last digit of a number.
-use Rattle.decimal_digits.proofs.Common.{◌≡◌, ℕ, zero, suc, ◌+◌, ◌-◌, ◌*◌, ◌/◌, ◌%◌, ◌^◌, ◌<◌, ◌≤◌, ◌==◌, true, false, refl, sym, ◌∙◌, ap, subst, arith, rules, inl, inr, pos, pow-le-pow_right, div-add-mod', mul-pos, mod-le, pow-add, cases_lt}
-use Rattle.std.proofs.Common.{nat_le, Bool}
-use Rattle.std.proofs.Math.Nat.{pow-suc, mul-mod_left, mul-div_cancel, div-eq_of_lt, mul-div-mul_right}
-use Rattle.decimal_digits.specs.Number.{greatest, first, last, magnitude_at}
+use Rattle.std.proofs.Common.{◌≡◌, ℕ, zero, suc, ◌+◌, ◌-◌, ◌*◌, ◌/◌, ◌%◌, ◌^◌, ◌<◌, ◌≤◌, ◌==◌, true, false, refl, sym, ◌∙◌, ap, subst, arith, rules, inl, inr, pos, nat_le, Bool}
+use Rattle.std.proofs.Math.Nat.{pow-le-pow_right, div-add-mod', mul-pos, mod-le, pow-suc, mul-mod_left, mul-div_cancel, div-eq_of_lt, mul-div-mul_right}
+use Rattle.std.proofs.lemmas.{Bool.cases_lt, Nat.pow-add}
 use Rattle.decimal_digits.proofs.DigitLists.{ten_pos}
+use Rattle.decimal_digits.specs.Number.{greatest, first, last, magnitude_at}
 
 -- the greatest number that passes a test passes it, and no greater one does
 pub greatest_is : (test : ℕ → Bool) (n j : ℕ) → j < n → test j ≡ true → ((i : ℕ) → j < i → i < n → test i ≡ false)

@@ -1,4 +1,4 @@
-pub mod Common
+pub mod Rules
 pub mod DigitLists
 pub mod Offsets
 pub mod Ends

@@ -1,12 +1,8 @@
 -- The remainder forms give the multiples that the modes name among all, and a mode names one alone.
-use Rattle.decimal_digits.proofs.Common.{common_steps, clamps, ℕ, ◌≡◌, ◌+◌, ◌*◌, ◌/◌, ◌%◌, ◌<◌, ◌≤◌, ◌⊎◌, ◌==◌, true, inl, inr, sym, ◌∙◌, ap, subst, arith, cases_lt, cases_eq, nat_tests, ℤ, pos, negsuc, ◌≤ℤ◌, ints, mul-le-mul_right, div-add-mod', Chooses, Named, rules}
-use Rattle.std.proofs.Common.{nat_lt}
-use Rattle.std.proofs.lemmas.Bool.{cases_order, cond_both, ltb-true, ltb-false, eqb-true, eqb-false}
-use Rattle.std.specs.Prelude.{◌*ℤ◌}
-use Rattle.std.proofs.Math.Nat.{mod-lt}
-use Rattle.decimal_digits.specs.declared.rounding.UnsignedRoundingMode.{UnsignedRoundingMode}
-use Rattle.decimal_digits.specs.declared.rounding.UnsignedRoundingMode.TheVariants.{Expand, Trunc, HalfExpand, HalfTrunc, HalfEven}
-use Rattle.decimal_digits.specs.Rounding.{distance, IsNearest, AllTies, below, above, rounded_number}
+use Rattle.std.proofs.Common.{ℕ, ◌≡◌, ◌+◌, ◌*◌, ◌/◌, ◌%◌, ◌<◌, ◌≤◌, ◌⊎◌, ◌==◌, true, inl, inr, sym, ◌∙◌, ap, subst, arith, ℤ, pos, negsuc, ◌≤ℤ◌, rules, nat_lt, ◌*ℤ◌}
+use Rattle.std.proofs.Math.Nat.{mul-le-mul_right, div-add-mod', mod-lt}
+use Rattle.std.proofs.lemmas.{Bool.{cases_lt, cases_eq, cases_order, cond_both, ltb-true, ltb-false, eqb-true, eqb-false}, Bool.Decides.nat_tests, Grind.common_steps, Int.{clamps, ints}}
+use Rattle.decimal_digits.specs.{Rounding.{Chooses, Named, distance, IsNearest, AllTies, below, above, rounded_number}, declared.rounding.UnsignedRoundingMode.UnsignedRoundingMode, declared.rounding.UnsignedRoundingMode.TheVariants.{Expand, Trunc, HalfExpand, HalfTrunc, HalfEven}}
 
 -- multiples of u are at least u apart
 apart : (u q : ℕ) (k : ℤ) → ((k *ℤ pos u) ≤ℤ pos (q * u)) ⊎ (pos (q * u + u) ≤ℤ (k *ℤ pos u))

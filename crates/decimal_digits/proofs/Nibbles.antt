@@ -1,10 +1,9 @@
 -- The nibbles of bytes.
-use Rattle.decimal_digits.proofs.Common.{◌≡◌, ℕ, zero, suc, ◌+◌, ◌*◌, ◌/◌, ◌%◌, ◌<◌, ◌⊎◌, inl, inr, List, [], ◌∷◌, length, get_or, drop, map, refl, sym, ◌∙◌, ap, arith, cases_eq, same_number_lists, length-append, length-drop, length-map, length-replicate, length-set, length-take, get_or-drop, get_or-replicate, get_or-take, get_or_past, digit_value, length-nibbles}
+use Rattle.std.proofs.Common.{◌≡◌, ℕ, zero, suc, ◌+◌, ◌*◌, ◌/◌, ◌%◌, ◌<◌, ◌⊎◌, inl, inr, List, [], ◌∷◌, length, get_or, drop, map, refl, sym, ◌∙◌, ap, arith}
 use Rattle.std.proofs.Math.ListN.{get_or-map}
-use Rattle.std.proofs.lemmas.Grind.{get_or_head, get_or-set_at}
-use Rattle.std.proofs.lemmas.List.{get_or-append_right, get_or-map as map_at, get_or-set_other, get_or_append_left, take_at}
-use Rattle.std.specs.List.{refill}
-use Rattle.decimal_digits.specs.Nibbles.{nibbles}
+use Rattle.std.proofs.lemmas.{Bool.cases_eq, Grind.{same_number_lists, get_or_head, get_or-set_at}, List.{length-append, length-drop, length-map, length-replicate, length-set, length-take, get_or-drop, get_or-replicate, get_or-take, get_or_past, get_or-append_right, get_or-map as map_at, get_or-set_other, get_or_append_left, take_at}}
+use Rattle.std.specs.{Char.digit_value, List.refill}
+use Rattle.decimal_digits.specs.{Nibbles.nibbles, Packing.length-nibbles}
 
 -- the nibble at an even index is the high one of its byte
 pub high_nibble : (bs : List ℕ) (k : ℕ) → get_or (nibbles bs) (2 * k) 0 ≡ get_or bs k 0 / 16

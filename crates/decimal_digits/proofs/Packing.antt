@@ -1,8 +1,8 @@
 -- The digits that packed bytes hold.
-use Rattle.decimal_digits.proofs.Common.{◌≡◌, ℕ, zero, suc, ◌+◌, ◌*◌, ◌/◌, ◌%◌, ◌<◌, ◌≤◌, List, [], ◌++◌, length, get_or, take, drop, replicate, inl, inr, refl, sym, ◌∙◌, ap, arith, cases_lt, same_number_lists, get_or_default, get_or_past, get_or-take, All, digits_in, Encodes, EncodesPadded, IsPadded, padding, length_digits, steps}
-use Rattle.std.proofs.Common.{max}
-use Rattle.decimal_digits.specs.Nibbles.{nibbles, IsPacked}
-use Rattle.decimal_digits.proofs.Nibbles.{nibble_rules, high_nibble, low_nibble}
+use Rattle.std.proofs.Common.{◌≡◌, ℕ, zero, suc, ◌+◌, ◌*◌, ◌/◌, ◌%◌, ◌<◌, ◌≤◌, List, [], ◌++◌, length, get_or, take, drop, replicate, inl, inr, refl, sym, ◌∙◌, ap, arith, All, max}
+use Rattle.std.proofs.lemmas.{Bool.cases_lt, Grind.same_number_lists, List.{get_or_default, get_or_past, get_or-take}}
+use Rattle.decimal_digits.proofs.{Nibbles.{nibble_rules, high_nibble, low_nibble}, Rules.steps}
+use Rattle.decimal_digits.specs.{Nibbles.{digits_in, nibbles, IsPacked}, Packing.{Encodes, EncodesPadded, IsPadded, padding, length_digits}}
 
 -- the first nibbles of the bytes are these digits, and an unused nibble is 0
 pub record Fills (bytes ds : List ℕ) (len : ℕ) : Type 0 where

@@ -1,15 +1,10 @@
 -- The remainder below a position, and how a mode rounds it.
-use Rattle.decimal_digits.proofs.Common.{ℕ, ◌≡◌, ◌+◌, ◌-◌, ◌*◌, ◌/◌, ◌%◌, ◌<◌, ◌≤◌, ◌==◌, refl, ◌∙◌, ap, arith, true, false, mul-le-mul_right, mul-pos, div-add-mod', div-mul-add, mod-mul-add, nat_tests, step_of, unit_at, RemainderIs, offset, ℤ}
-use Rattle.std.proofs.Common.{cond, Bool}
-use denote.Enum.Declared.{tag_of}
-use Rattle.decimal_digits.specs.contracts.rounding.remainder.Remainder.{the_type}
-use Rattle.decimal_digits.specs.declared.rounding.UnsignedRoundingMode.{UnsignedRoundingMode}
-use Rattle.decimal_digits.specs.declared.rounding.remainder.Remainder.{Remainder}
-use Rattle.decimal_digits.specs.declared.rounding.remainder.Remainder.TheVariants.{Zero, BelowHalf, Half, AboveHalf}
-use Rattle.decimal_digits.specs.declared.rounding.RoundingIncrement.{RoundingIncrement}
-use Rattle.decimal_digits.specs.Rounding.{rounded_number}
-use Rattle.decimal_digits.specs.Remainders.{rounds_up_of, RoundsTo}
+use Rattle.std.proofs.Common.{ℕ, ◌≡◌, ◌+◌, ◌-◌, ◌*◌, ◌/◌, ◌%◌, ◌<◌, ◌≤◌, ◌==◌, refl, ◌∙◌, ap, arith, true, false, ℤ, cond, Bool}
+use Rattle.std.proofs.Math.Nat.{mul-le-mul_right, mul-pos, div-add-mod'}
+use Rattle.std.proofs.lemmas.{Bool.Decides.nat_tests, Nat.{div-mul-add, mod-mul-add}}
 use Rattle.decimal_digits.proofs.DigitLists.{ten_pos}
+use Rattle.decimal_digits.specs.{Number.offset, Remainders.{RemainderIs, rounds_up_of, RoundsTo}, Rounding.{step_of, unit_at, rounded_number}, contracts.rounding.remainder.Remainder.the_type, declared.rounding.RoundingIncrement.RoundingIncrement, declared.rounding.UnsignedRoundingMode.UnsignedRoundingMode, declared.rounding.remainder.Remainder.Remainder, declared.rounding.remainder.Remainder.TheVariants.{Zero, BelowHalf, Half, AboveHalf}}
+use denote.Enum.Declared.{tag_of}
 
 -- ---- `rest` units and the tail below one unit, compared with half of `step` units
 abbrev quarters_of : Remainder → ℕ

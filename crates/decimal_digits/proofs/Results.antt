@@ -1,5 +1,5 @@
 -- Outcomes.
-use Rattle.std.specs.Prelude.{Result, Ok, Err, IsErr, IfErr, OnErr, Option, None, Some, IfNone, ok_or}
+use Rattle.std.proofs.Common.{Result, Ok, Err, IsErr, IfErr, OnErr, Option, None, Some, IfNone, ok_or}
 
 -- what holds anyway holds on an error
 pub on_err : {A E : Type 0} (r : Result A E) (P : Type 0) → P → OnErr r P

@@ -1,9 +1,9 @@
 -- Laws of rounding, on numbers alone.
-use Rattle.decimal_digits.proofs.Common.{ℕ, ◌≡◌, ◌*◌, ◌<◌, ◌≤◌, inl, inr, refl, sym, ◌∙◌, ap, subst, arith, cases_eq, pos, ints, Chooses, Named, rounded_number}
+use Rattle.std.proofs.Common.{ℕ, ◌≡◌, ◌*◌, ◌<◌, ◌≤◌, inl, inr, refl, sym, ◌∙◌, ap, subst, arith, pos}
 use Rattle.std.proofs.Math.Nat.{mul_assoc, zero-mul}
-use Rattle.decimal_digits.specs.declared.rounding.UnsignedRoundingMode.{UnsignedRoundingMode}
-use Rattle.decimal_digits.specs.declared.rounding.UnsignedRoundingMode.TheVariants.{Expand, Trunc, HalfExpand, HalfTrunc, HalfEven}
+use Rattle.std.proofs.lemmas.{Bool.cases_eq, Int.ints}
 use Rattle.decimal_digits.proofs.Naming.{rounded_number_is_named, named_is}
+use Rattle.decimal_digits.specs.{Rounding.{Chooses, Named, rounded_number}, declared.rounding.UnsignedRoundingMode.UnsignedRoundingMode, declared.rounding.UnsignedRoundingMode.TheVariants.{Expand, Trunc, HalfExpand, HalfTrunc, HalfEven}}
 
 -- ---- A multiple stays.
 chooses_self : (mode : UnsignedRoundingMode) (u k : ℕ) → Chooses mode u (k * u) k

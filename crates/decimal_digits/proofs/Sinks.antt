@@ -1,8 +1,8 @@
 -- The prefix of a text that a sink has accepted, piece by piece.
-use Rattle.decimal_digits.proofs.Common.{◌≡◌, ℕ, ◌+◌, ◌-◌, ◌<◌, ◌⊎◌, true, false, List, [], ◌++◌, length, take, drop, refl, sym, subst, ◌∙◌, ap, arith, append-nil, length-drop, take-add, Keeps, Appends, append_known}
-use Rattle.std.proofs.Common.{Bool, Option, None, Some, append_assoc, take-append-drop}
-use Rattle.std.proofs.Math.Seq.{take-length}
-use Rattle.std.proofs.KnownBytes.{Appends-kept, Appends-nil, Appends-trans, append_known-moved, append_known-passed}
+use Rattle.std.proofs.Common.{◌≡◌, ℕ, ◌+◌, ◌-◌, ◌<◌, ◌⊎◌, true, false, List, [], ◌++◌, length, take, drop, refl, sym, subst, ◌∙◌, ap, arith, Bool, Option, None, Some, append_assoc, take-append-drop}
+use Rattle.std.proofs.{KnownBytes.{Appends-kept, Appends-nil, Appends-trans, append_known-moved, append_known-passed}, Math.Seq.{take-add, take-length}}
+use Rattle.std.proofs.lemmas.List.{append-nil, length-drop}
+use Rattle.std.specs.Io.KnownBytes.{Keeps, Appends, append_known}
 use Rattle.decimal_digits.specs.AppendsPrefix.{AppendsPrefix}
 
 -- a prefix of a text is a prefix of a longer text

@@ -1,21 +1,10 @@
 -- A number split at a position into quotient and remainder, and the number after rounding.
-use Rattle.decimal_digits.proofs.Common.{◌≡◌, ℕ, ◌+◌, ◌-◌, ◌*◌, ◌^◌, ◌<◌, ◌≤◌, List, length, get_or, drop, refl, ◌∙◌, ap, arith, ℤ, pos, negsuc, ◌≤ℤ◌, ints, mul-pos, pow-le-pow_right, mul-lt-mul_of_pos_right, mul-le-mul_right, AllBelowBase, offset, weight, step_of, unit_at, rounded_number, DigitRoundingFails, leading, RemainderByDigit, HasDigits, steps}
-use Rattle.std.specs.Prelude.{◌+ℤ◌, ◌<ℤ◌}
-use Rattle.decimal_digits.specs.declared.rounding.UnsignedRoundingMode.{UnsignedRoundingMode}
-use Rattle.decimal_digits.specs.declared.rounding.remainder.Remainder.{Remainder}
-use Rattle.decimal_digits.specs.declared.rounding.remainder.Remainder.TheVariants.{BelowHalf}
-use Rattle.decimal_digits.specs.Number.{first, size, magnitude_at, number_limit}
-use Rattle.decimal_digits.specs.Digits.{number_at, number_of, IsStripped}
-use Rattle.decimal_digits.specs.declared.rounding.RoundError.{RoundError}
-use Rattle.decimal_digits.specs.declared.rounding.RoundError.TheVariants.{Limit, Memory}
-use Rattle.decimal_digits.specs.declared.rounding.RoundingIncrement.{RoundingIncrement}
-use Rattle.decimal_digits.specs.RoundedDigits.{Represents}
-use Rattle.decimal_digits.specs.Remainders.{RoundsTo, SplitsAs, RoundLeadingFails}
-use Rattle.decimal_digits.proofs.Offsets.{offset_is, magnitude_at-offset, gap_is}
-use Rattle.decimal_digits.proofs.Ends.{first_is, last_is, first_zero}
-use Rattle.decimal_digits.proofs.DigitLists.{ten_pos}
-use Rattle.decimal_digits.proofs.NumberAt.{powers, number_at-none, number_at-more, number_at-lt, number_at-ge, number_at-pos}
-use Rattle.decimal_digits.proofs.Leading.{leading_none, leading_all, split_at, tail_told}
+use Rattle.std.proofs.Common.{◌≡◌, ℕ, ◌+◌, ◌-◌, ◌*◌, ◌^◌, ◌<◌, ◌≤◌, List, length, get_or, drop, refl, ◌∙◌, ap, arith, ℤ, pos, negsuc, ◌≤ℤ◌, ◌+ℤ◌, ◌<ℤ◌}
+use Rattle.std.proofs.Math.Nat.{mul-pos, pow-le-pow_right, mul-lt-mul_of_pos_right, mul-le-mul_right}
+use Rattle.std.proofs.lemmas.Int.{ints}
+use Rattle.std.specs.Int.Digits.{AllBelowBase}
+use Rattle.decimal_digits.proofs.{DigitLists.ten_pos, Ends.{first_is, last_is, first_zero}, Leading.{leading_none, leading_all, split_at, tail_told}, NumberAt.{powers, number_at-none, number_at-more, number_at-lt, number_at-ge, number_at-pos}, Offsets.{offset_is, magnitude_at-offset, gap_is}, Rules.steps}
+use Rattle.decimal_digits.specs.{Digits.{number_at, number_of, IsStripped}, Number.{offset, weight, first, size, magnitude_at, number_limit}, Remainders.{leading, RemainderByDigit, HasDigits, RoundsTo, SplitsAs, RoundLeadingFails}, RoundedDigits.Represents, Rounding.{step_of, unit_at, rounded_number, DigitRoundingFails}, declared.rounding.RoundError.RoundError, declared.rounding.RoundError.TheVariants.{Limit, Memory}, declared.rounding.RoundingIncrement.RoundingIncrement, declared.rounding.UnsignedRoundingMode.UnsignedRoundingMode, declared.rounding.remainder.Remainder.Remainder, declared.rounding.remainder.Remainder.TheVariants.BelowHalf}
 
 -- ---- before the rounding
 -- a position at or below the first digit: the k leading digits are the quotient

@@ -1,14 +1,10 @@
 -- The bits of nibbles, and equal nibbles at the end of the first nibbles of a word.
-use Rattle.decimal_digits.proofs.Common.{◌≡◌, ℕ, zero, suc, ◌+◌, ◌-◌, ◌*◌, ◌/◌, ◌%◌, ◌^◌, ◌<◌, ◌≤◌, get_or, replicate, inl, inr, refl, sym, ◌∙◌, ap, arith, w64, number_from_digits, div-div-eq-div-mul, cases_lt, nat_tests, common_steps, clamps, ints, get_or-replicate, pow-add, word_nibbles}
-use Rattle.std.proofs.Common.{◌≢◌, min}
-use Rattle.std.specs.Int.{bit_at, trailing_zeros}
-use Rattle.std.specs.Int.Bits.{bit_xor, xor_add_and, xor_self}
-use Rattle.std.specs.Int.Count.{trailing_of_zero}
-use Rattle.std.proofs.Math.Nat.{div-le_self}
-use Rattle.std.proofs.lemmas.Nat.{and_le_l, and_le_r, shr-shr, xor_lt, xor_mod, xor_shr}
-use Rattle.std.proofs.lemmas.Nat.Bits.{bit_at-trailing_zeros}
-use Rattle.decimal_digits.proofs.LeadingBytes.{hex_pow}
-use Rattle.decimal_digits.proofs.Words.{repeated_below, word_nibble, word_of_nibbles}
+use Rattle.std.proofs.Common.{◌≡◌, ℕ, zero, suc, ◌+◌, ◌-◌, ◌*◌, ◌/◌, ◌%◌, ◌^◌, ◌<◌, ◌≤◌, get_or, replicate, inl, inr, refl, sym, ◌∙◌, ap, arith, ◌≢◌, min}
+use Rattle.std.proofs.Math.Nat.{div-div-eq-div-mul, div-le_self}
+use Rattle.std.proofs.lemmas.{Bool.cases_lt, Bool.Decides.nat_tests, Grind.common_steps, Int.{clamps, ints}, List.get_or-replicate, Nat.{pow-add, and_le_l, and_le_r, shr-shr, xor_lt, xor_mod, xor_shr}, Nat.Bits.bit_at-trailing_zeros}
+use Rattle.std.specs.{Int.{w64, bit_at, trailing_zeros}, Int.Bits.{bit_xor, xor_add_and, xor_self}, Int.Count.trailing_of_zero, Int.Digits.number_from_digits}
+use Rattle.decimal_digits.proofs.{LeadingBytes.hex_pow, Words.{repeated_below, word_nibble, word_of_nibbles}}
+use Rattle.decimal_digits.specs.Nibbles.{word_nibbles}
 
 -- bit 4 * j + i of a number is bit i of its nibble j
 bit_of : (n j i : ℕ) → bit_at n (4 * j + i) ≡ n / 16 ^ j / 2 ^ i % 2

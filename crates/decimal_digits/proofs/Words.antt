@@ -1,16 +1,10 @@
 -- Words: sixteen nibbles as one number of 64 bits.
-use Rattle.decimal_digits.proofs.Common.{◌≡◌, ℕ, zero, suc, ◌+◌, ◌-◌, ◌*◌, ◌/◌, ◌%◌, ◌^◌, ◌<◌, ◌≤◌, List, [], ◌∷◌, ◌++◌, length, get_or, take, drop, replicate, map, refl, sym, ◌∙◌, ap, arith, inl, inr, cases_lt, All, digit_value, AllDigits, w64, to_be_bytes, bytes_high_first, byte_at, number_from_digits, AllBelowBase, pow-le-pow_right, pow-add, mod-mul-add, same_number_lists, length-map, length-take-le, append-nil, get_or_default, get_or_past, get_or-take, map_more, number_lt, number_after_append, number_more, digits_in, Encodes, EncodesPadded, IsPadded, length-nibbles, length_digits, padding, steps}
-use Rattle.std.specs.Int.{from_be_bytes}
-use Rattle.std.proofs.Math.Nat.{mod-eq_of_lt}
-use Rattle.std.proofs.lemmas.Nat.{be_bytes_8, from_be_bytes-to_be_bytes_8}
-use Rattle.std.proofs.lemmas.Int.Digits.{number_push}
-use Rattle.std.proofs.Math.Seq.{drop-append_seam}
-use Rattle.decimal_digits.specs.Nibbles.{nibbles, word_nibbles, leading_bytes, padded, bcd_number, IsPacked}
-use Rattle.decimal_digits.proofs.DigitLists.{below_drop, below_take, number_after, number_pad, number_split, number-div}
-use Rattle.decimal_digits.proofs.LeadingBytes.{below_sixteen, hex_pow, leading_digits, bytes_number, nibbles_of_bytes, length-padded, get_or-padded, sixteen_nibbles}
-use Rattle.decimal_digits.proofs.Nibbles.{nibble_rules, value_of}
-use Rattle.decimal_digits.proofs.DigitTexts.{ascii_at}
-use Rattle.decimal_digits.proofs.Packing.{digit_at, encodes, pads, rest_at}
+use Rattle.std.proofs.Common.{◌≡◌, ℕ, zero, suc, ◌+◌, ◌-◌, ◌*◌, ◌/◌, ◌%◌, ◌^◌, ◌<◌, ◌≤◌, List, [], ◌∷◌, ◌++◌, length, get_or, take, drop, replicate, map, refl, sym, ◌∙◌, ap, arith, inl, inr, All}
+use Rattle.std.proofs.{Math.Nat.{pow-le-pow_right, mod-eq_of_lt}, Math.Seq.drop-append_seam}
+use Rattle.std.proofs.lemmas.{Bool.cases_lt, Grind.same_number_lists, Int.Digits.{number_lt, number_after_append, number_more, number_push}, List.{length-map, length-take-le, append-nil, get_or_default, get_or_past, get_or-take, map_more}, Nat.{pow-add, mod-mul-add, be_bytes_8, from_be_bytes-to_be_bytes_8}}
+use Rattle.std.specs.{Char.digit_value, Int.{w64, to_be_bytes, bytes_high_first, byte_at, from_be_bytes}, Int.Digits.{number_from_digits, AllBelowBase}, Str.Parse.AllDigits}
+use Rattle.decimal_digits.proofs.{DigitLists.{below_drop, below_take, number_after, number_pad, number_split, number-div}, DigitTexts.ascii_at, LeadingBytes.{below_sixteen, hex_pow, leading_digits, bytes_number, nibbles_of_bytes, length-padded, get_or-padded, sixteen_nibbles}, Nibbles.{nibble_rules, value_of}, Packing.{digit_at, encodes, pads, rest_at}, Rules.steps}
+use Rattle.decimal_digits.specs.{Nibbles.{digits_in, nibbles, word_nibbles, leading_bytes, padded, bcd_number, IsPacked}, Packing.{Encodes, EncodesPadded, IsPadded, length-nibbles, length_digits, padding}}
 
 -- eight bytes as a big-endian number
 pub eight_bytes : (bs : List ℕ) → length bs ≡ 8 → from_be_bytes w64 bs ≡ number_from_digits 256 bs

@@ -1,8 +1,10 @@
 -- The number that packed BCD digits write, computed by joining neighboring lanes of a word: digits to pairs, pairs to
 -- fours, and so on. A lane of w bits holds a number below c.
-use Rattle.decimal_unsigned.proofs.Common.{◌≡◌, ℕ, zero, suc, ◌+◌, ◌-◌, ◌*◌, ◌/◌, ◌%◌, ◌^◌, ◌<◌, ◌≤◌, List, length, get_or, take, refl, sym, ◌∙◌, ap, arith, number_from_digits, AllBelowBase, take_all, steps, bit_and, zero-div, mod-mul-add, number_more, All-from_recursion}
-use Rattle.std.proofs.Math.Nat.{zero-mod}
-use Rattle.std.proofs.lemmas.Nat.{and_block, and_mask, and_le_r, div-mul-add}
+use Rattle.std.proofs.Common.{◌≡◌, ℕ, zero, suc, ◌+◌, ◌-◌, ◌*◌, ◌/◌, ◌%◌, ◌^◌, ◌<◌, ◌≤◌, List, length, get_or, take, refl, sym, ◌∙◌, ap, arith, bit_and}
+use Rattle.std.proofs.Math.Nat.{zero-div, zero-mod}
+use Rattle.std.proofs.lemmas.{Int.Digits.number_more, List.take_all, List.Elements.All-from_recursion, Nat.{mod-mul-add, and_block, and_mask, and_le_r, div-mul-add}}
+use Rattle.std.specs.Int.Digits.{number_from_digits, AllBelowBase}
+use Rattle.decimal_digits.proofs.Rules.{steps}
 
 -- the number that the lowest k lanes of n write in base c
 unfoldable pub value : ℕ → ℕ → ℕ → ℕ → ℕ

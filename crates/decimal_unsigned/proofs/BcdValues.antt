@@ -1,33 +1,13 @@
 -- Plain texts: their digits as a number in base 16, and the value of their parts.
-use Rattle.decimal_unsigned.proofs.Common.{nat_tests, ◌≡◌, ℕ, suc, ◌+◌, ◌-◌, ◌*◌, ◌/◌, ◌%◌, ◌^◌, ◌<◌, ◌≤◌, inl, inr, true, false, List, [], ◌∷◌, ◌++◌, length, get_or, take, drop, take_all, map, refl, sym, ◌∙◌, ap, subst, arith, Some, None, option_map, Result, Ok, pos, ◌-ℤ◌, mul-lt-mul_of_pos_right, pow-le-pow_right, cases_lt, ints, pow-add, append-nil, length-append, length-drop, length-take, length-take-le, length-map, number_lt, digits_value_is, is_ascii_digit, prefix_len, digit_value, number_from_digits, AllBelowBase, AllDigits, digits_value, Literal, middle, IsNonzeroRange, pow-suc, mod-eq_of_lt, digits_value_after, below_sixteen, steps, replicate, ℤ, IsStored, number_of, offset_is, int_min, size, Unsigned, rules, zero-div, mod-mul-add, drop-drop, drop_all, prefix_len-le-length, prefix_len-drop_yes, prefix_len-drop_no, prefix_len-drop_all, all_below_base_from_digits, number-div, saturated_parts, IsOkAnd, read, IsReadTo, digits_of}
+use Rattle.std.proofs.Common.{◌≡◌, ℕ, suc, ◌+◌, ◌-◌, ◌*◌, ◌/◌, ◌%◌, ◌^◌, ◌<◌, ◌≤◌, inl, inr, true, false, List, [], ◌∷◌, ◌++◌, length, get_or, take, drop, map, refl, sym, ◌∙◌, ap, subst, arith, Some, None, option_map, Result, Ok, pos, ◌-ℤ◌, append-nil, replicate, ℤ, rules, IsOkAnd}
+use Rattle.std.proofs.{Math.ListN.get_or-eq_default, Math.Nat.{mul-lt-mul_of_pos_right, pow-le-pow_right, pow-suc, mod-eq_of_lt, zero-div, one-le-pow, div-eq_of_lt-le, mod-add-mod}, Math.Seq.take-add}
+use Rattle.std.proofs.lemmas.{Bool.cases_lt, Bool.Decides.nat_tests, Int.ints, Int.Digits.{number_lt, digits_value_is, all_below_base_from_digits, number_more as number_more_digits}, List.{take_all, length-append, length-drop, length-take, length-take-le, length-map, drop-drop, drop_all, at_drop_more, take_more}, List.Sums.{prefix_len-le-length, prefix_len-drop_yes, prefix_len-drop_no, prefix_len-drop_all}, Nat.{pow-add, mod-mul-add, mul-mod_first, leading_top, leading_le}, Nat.Bits.{bit_at_above, bit_at-trailing_zeros}}
+use Rattle.std.specs.{Char.{is_ascii_digit, digit_value}, Int.{int_min, Width, w64, bit_at, leading_zeros, trailing_zeros}, Int.Digits.{number_from_digits, AllBelowBase}, List.prefix_len, Str.Parse.{AllDigits, digits_value, digits_value_after}}
+use Rattle.decimal_digits.proofs.{DigitLists.{number-div, below_at}, LeadingBytes.{below_sixteen, hex_pow, leading_bytes_encode}, Offsets.offset_is, Rules.steps, TrailingNibbles.{clear_nibble, some_nibble}, Words.zeros_of_digits}
+use Rattle.decimal_digits.specs.{Ascii.decimal_point, Digits.{number_of, number_at}, Nibbles.{digits_in, leading_bytes, word_nibbles}, Number.size, Packing.{Encodes, length-nibbles}}
+use Rattle.decimal_unsigned.proofs.{GrammarParts.{value_of_digit, count_group, tests_digits}, Middle.{number_zeros, middle_length, middle_below, number_middle, number_of-middle, stored_middle}, PlainTexts.{after_append, value_after}, Plans.{read_some, digits_some, all_digits, length_digits, value_scaled}, Values.{size-number_of, number_of_empty, stored_as}}
+use Rattle.decimal_unsigned.specs.{DigitValues.{IsBcd, value_of_first}, Grammar.Literal, Parts.saturated_parts, PlainTexts.{IsReadTo, IsPlainText, plain_parts}, Reading.{read, ReadError, scaled, parts_of, after_whole, after_fraction}, ScannedDigits.{middle, IsNonzeroRange, digits_of, IsBcdValue}, Stored.IsStored, Unsigned.Unsigned, declared.decimal.parse.fast_path.PlainText.PlainText, declared.decimal.parse.plan.Bounds.Bounds}
 use mir.Val.{bits}
-use Rattle.std.specs.Int.{Width, w64, bit_at, leading_zeros, trailing_zeros}
-use Rattle.std.proofs.Math.Nat.{one-le-pow, div-eq_of_lt-le, mod-add-mod}
-use Rattle.std.proofs.Math.Seq.{take-add}
-use Rattle.std.proofs.Math.ListN.{get_or-eq_default}
-use Rattle.std.proofs.lemmas.Nat.{mul-mod_first, leading_top, leading_le}
-use Rattle.std.proofs.lemmas.Nat.Bits.{bit_at_above, bit_at-trailing_zeros}
-use Rattle.std.proofs.lemmas.List.{at_drop_more, take_more}
-use Rattle.std.proofs.lemmas.Int.Digits.{number_more as number_more_digits}
-use Rattle.decimal_digits.specs.Nibbles.{digits_in, leading_bytes, word_nibbles}
-use Rattle.decimal_digits.proofs.TrailingNibbles.{clear_nibble, some_nibble}
-use Rattle.decimal_digits.proofs.Words.{zeros_of_digits}
-use Rattle.decimal_digits.specs.Ascii.{decimal_point}
-use Rattle.decimal_digits.specs.Packing.{Encodes, length-nibbles}
-use Rattle.decimal_digits.proofs.DigitLists.{below_at}
-use Rattle.decimal_digits.proofs.LeadingBytes.{hex_pow, leading_bytes_encode}
-use Rattle.decimal_unsigned.specs.Reading.{ReadError, scaled, parts_of, after_whole, after_fraction}
-use Rattle.decimal_digits.specs.Digits.{number_at}
-use Rattle.decimal_unsigned.specs.DigitValues.{IsBcd, value_of_first}
-use Rattle.decimal_unsigned.proofs.Values.{size-number_of, number_of_empty, stored_as}
-use Rattle.decimal_unsigned.specs.PlainTexts.{IsPlainText, plain_parts}
-use Rattle.decimal_unsigned.specs.ScannedDigits.{IsBcdValue}
-use Rattle.decimal_unsigned.specs.declared.decimal.parse.fast_path.PlainText.{PlainText}
-use Rattle.decimal_unsigned.specs.declared.decimal.parse.plan.Bounds.{Bounds}
-use Rattle.decimal_unsigned.proofs.Middle.{number_zeros, middle_length, middle_below, number_middle, number_of-middle, stored_middle}
-use Rattle.decimal_unsigned.proofs.Plans.{read_some, digits_some, all_digits, length_digits, value_scaled}
-use Rattle.decimal_unsigned.proofs.GrammarParts.{value_of_digit, count_group, tests_digits}
-use Rattle.decimal_unsigned.proofs.PlainTexts.{after_append, value_after}
 
 -- ---- The loops over a text.
 -- a remainder is continued as the number

@@ -1,18 +1,12 @@
 -- The order and the equality of two numbers, by their digits.
-use Rattle.decimal_unsigned.proofs.Common.{nat_tests, ◌≡◌, ℕ, zero, suc, ◌+◌, ◌-◌, ◌*◌, ◌^◌, ◌<◌, ◌≤◌, ◌%◌, ◌/◌, List, [], ◌∷◌, ◌++◌, length, get_or, drop, take, replicate, refl, sym, ◌∙◌, ap, arith, ◌⊎◌, inl, inr, min, ℤ, ◌<ℤ◌, nat_cmp, mul-le-mul_right, pow-le-pow_right, ints, recursion_from_All, number_lt, number_from_digits, AllBelowBase, offset, offset_is, IsStored, All, slice_cmp, below_sixteen, below_take, below_drop, length-drop, length-take-le, length-append, length-replicate, take-append-drop, Unsigned, IsValue, common_steps, steps, subst, pos, negsuc, ◌+ℤ◌, ◌-ℤ◌, ◌≤ℤ◌, cases_lt, Bool, true, false, text, read, digit, first, last, rules, same_number_lists, nat_list_cmp_total, tied_itself, padded, number_first, number_pad, length-padded, clamps}
-use Rattle.std.specs.declared.cmp.Ordering.{Ordering}
-use Rattle.std.specs.declared.cmp.Ordering.TheVariants.{Less, Equal, Greater}
-use Rattle.std.specs.Ordering.{ordering_then, ordering_reverse, int_cmp}
-use Rattle.std.specs.Cmp.{nat_cmp_is, IsEquivalence}
-use Rattle.std.proofs.lemmas.List.{take-take, ext_get_or}
-use Rattle.decimal_digits.specs.Digits.{number_of, number_at}
-use Rattle.decimal_digits.specs.Nibbles.{nibbles, digits_in, bcd_number, IsPacked}
-use Rattle.decimal_digits.proofs.LeadingBytes.{padded_digits, padded_few, padded_front}
-use Rattle.decimal_digits.proofs.Nibbles.{nibble_rules}
-use Rattle.decimal_unsigned.proofs.Values.{value_of_view, number_of-lt, number_of-ge, number_of-pos, number_of-none, lowest, first_of, last-number_of, none_of, digit-number_of-in}
-use Rattle.std.proofs.Common.{IsTrue, ◌↔◌}
-use Rattle.decimal_unsigned.proofs.ReadBack.{read_text}
-use Rattle.decimal_unsigned.specs.Unsigned.{same}
+use Rattle.std.proofs.Common.{◌≡◌, ℕ, zero, suc, ◌+◌, ◌-◌, ◌*◌, ◌^◌, ◌<◌, ◌≤◌, ◌%◌, ◌/◌, List, [], ◌∷◌, ◌++◌, length, get_or, drop, take, replicate, refl, sym, ◌∙◌, ap, arith, ◌⊎◌, inl, inr, min, ℤ, ◌<ℤ◌, All, subst, pos, negsuc, ◌+ℤ◌, ◌-ℤ◌, ◌≤ℤ◌, Bool, true, false, rules, IsTrue, ◌↔◌}
+use Rattle.std.proofs.Math.Nat.{mul-le-mul_right, pow-le-pow_right}
+use Rattle.std.proofs.lemmas.{Bool.cases_lt, Bool.Decides.nat_tests, Cmp.{nat_list_cmp_total, tied_itself}, Grind.{common_steps, same_number_lists}, Int.{ints, clamps}, Int.Digits.number_lt, List.{length-drop, length-take-le, length-append, length-replicate, take-append-drop, take-take, ext_get_or}, List.Elements.recursion_from_All}
+use Rattle.std.specs.{Cmp.{nat_cmp_is, IsEquivalence}, Cmp.Lexicographic.slice_cmp, Int.Digits.{number_from_digits, AllBelowBase}, Ordering.{nat_cmp, ordering_then, ordering_reverse, int_cmp}, declared.cmp.Ordering.Ordering, declared.cmp.Ordering.TheVariants.{Less, Equal, Greater}}
+use Rattle.decimal_digits.proofs.{DigitLists.{below_take, below_drop, number_first, number_pad}, LeadingBytes.{below_sixteen, length-padded, padded_digits, padded_few, padded_front}, Nibbles.nibble_rules, Offsets.offset_is, Rules.steps}
+use Rattle.decimal_digits.specs.{Digits.{number_of, number_at}, Nibbles.{padded, nibbles, digits_in, bcd_number, IsPacked}, Number.{offset, digit, first, last}}
+use Rattle.decimal_unsigned.proofs.{ReadBack.read_text, Values.{value_of_view, number_of-lt, number_of-ge, number_of-pos, number_of-none, lowest, first_of, last-number_of, none_of, digit-number_of-in}}
+use Rattle.decimal_unsigned.specs.{Reading.read, Stored.IsStored, Text.text, Unsigned.{Unsigned, IsValue, same}}
 
 -- two numbers compare as two others if each order implies the same order
 pub same_order : (a b x y : ℕ) → (a < b → x < y) → (a ≡ b → x ≡ y) → (b < a → y < x) → nat_cmp a b ≡ nat_cmp x y

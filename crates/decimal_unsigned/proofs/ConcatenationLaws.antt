@@ -1,9 +1,11 @@
 -- Laws of concatenation.
-use Rattle.decimal_unsigned.proofs.Common.{◌≡◌, ℕ, ◌+◌, ◌-◌, ◌%◌, ◌<◌, ◌≤◌, false, nat_lt, ◌||◌, refl, ◌∙◌, ap, arith, inl, inr, ℤ, pos, ◌+ℤ◌, ◌-ℤ◌, ◌≤ℤ◌, int_max, int_min, ints, clamps, cases_lt, nat_tests, offset, weight, first, last, offset_is, Unsigned, IsValue, with_max_position, rules, steps}
-use Rattle.decimal_unsigned.specs.Concatenation.{overlaps, concatenated_end}
-use Rattle.decimal_unsigned.specs.ConcatenationLaws.{ConcatenationIsAssociative}
-use Rattle.decimal_unsigned.proofs.Concatenations.{zero_overlaps, overlaps_zero, disjoint, not_overlapping}
-use Rattle.decimal_unsigned.proofs.FirstLast.{Extent, extent, first_of, last_of, first_sum, last_sum, first_le, parts_sum, parts_apart}
+use Rattle.std.proofs.Common.{◌≡◌, ℕ, ◌+◌, ◌-◌, ◌%◌, ◌<◌, ◌≤◌, false, nat_lt, ◌||◌, refl, ◌∙◌, ap, arith, inl, inr, ℤ, pos, ◌+ℤ◌, ◌-ℤ◌, ◌≤ℤ◌, rules}
+use Rattle.std.proofs.lemmas.{Bool.cases_lt, Bool.Decides.nat_tests, Int.{ints, clamps}}
+use Rattle.std.specs.Int.{int_max, int_min}
+use Rattle.decimal_digits.proofs.{Offsets.offset_is, Rules.steps}
+use Rattle.decimal_digits.specs.Number.{offset, weight, first, last}
+use Rattle.decimal_unsigned.proofs.{Concatenations.{zero_overlaps, overlaps_zero, disjoint, not_overlapping}, FirstLast.{Extent, extent, first_of, last_of, first_sum, last_sum, first_le, parts_sum, parts_apart}}
+use Rattle.decimal_unsigned.specs.{Concatenation.{overlaps, concatenated_end}, ConcatenationLaws.ConcatenationIsAssociative, Edits.with_max_position, Unsigned.{Unsigned, IsValue}}
 
 -- a value other than 0 has a first and a last digit
 pub extent_of : (v : Unsigned) → IsValue v → 0 < v.number → Extent v.number

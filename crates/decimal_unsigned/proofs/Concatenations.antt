@@ -1,11 +1,11 @@
 -- Digits, zeros and then more digits.
-use Rattle.decimal_unsigned.proofs.Common.{recursion_from_All, ◌≡◌, ℕ, ◌+◌, ◌-◌, ◌*◌, ◌^◌, ◌<◌, ◌≤◌, false, List, ◌++◌, length, replicate, refl, sym, ◌∙◌, ap, arith, ℤ, pos, negsuc, ◌+ℤ◌, ◌-ℤ◌, ◌≤ℤ◌, ◌<ℤ◌, int_max, int_min, ints, clamps, pow-add, nat_tests, length-append, number_from_digits, offset, first, last, offset_is, gap_is, IsStored, Unsigned, length-replicate, steps, number_pad, All-from_recursion}
-use Rattle.std.proofs.lemmas.List.{get_or_append_left, get_or-append_right}
-use Rattle.decimal_digits.specs.Digits.{number_of, number_at}
-use Rattle.decimal_digits.proofs.DigitLists.{number-append}
-use Rattle.std.proofs.lemmas.List.Elements.{All-append, All-replicate}
-use Rattle.decimal_unsigned.specs.Concatenation.{overlaps, concatenated_end, concatenated_size}
+use Rattle.std.proofs.Common.{◌≡◌, ℕ, ◌+◌, ◌-◌, ◌*◌, ◌^◌, ◌<◌, ◌≤◌, false, List, ◌++◌, length, replicate, refl, sym, ◌∙◌, ap, arith, ℤ, pos, negsuc, ◌+ℤ◌, ◌-ℤ◌, ◌≤ℤ◌, ◌<ℤ◌}
+use Rattle.std.proofs.lemmas.{Bool.Decides.nat_tests, Int.{ints, clamps}, List.{length-append, length-replicate, get_or_append_left, get_or-append_right}, List.Elements.{recursion_from_All, All-from_recursion, All-append, All-replicate}, Nat.pow-add}
+use Rattle.std.specs.{Int.{int_max, int_min}, Int.Digits.number_from_digits}
+use Rattle.decimal_digits.proofs.{DigitLists.{number_pad, number-append}, Offsets.{offset_is, gap_is}, Rules.steps}
+use Rattle.decimal_digits.specs.{Digits.{number_of, number_at}, Number.{offset, first, last}}
 use Rattle.decimal_unsigned.proofs.Values.{lowest, last-number_of, first_of, stored_as, last_covered, some_of}
+use Rattle.decimal_unsigned.specs.{Concatenation.{overlaps, concatenated_end, concatenated_size}, Stored.IsStored, Unsigned.Unsigned}
 
 -- digits stored in a range are stored in a wider range
 pub wider : {ds : List ℕ} {m hi lo hi' lo' : ℤ} → IsStored ds m hi lo → hi ≤ℤ hi' → lo' ≤ℤ lo → hi' ≤ℤ pos 32767

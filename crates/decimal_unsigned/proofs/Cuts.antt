@@ -1,9 +1,12 @@
 -- The part of a number below a position, by its digits.
-use Rattle.decimal_unsigned.proofs.Common.{◌≡◌, ℕ, ◌+◌, ◌-◌, ◌*◌, ◌%◌, ◌^◌, ◌<◌, ◌≤◌, min, List, length, get_or, take, drop, refl, sym, ◌∙◌, ap, subst, arith, inl, inr, ℤ, pos, negsuc, ◌+ℤ◌, ◌-ℤ◌, ◌≤ℤ◌, int_max, int_min, int_gap, mul-mod_left, mul-lt-mul_of_pos_right, pow-le-pow_right, ints, clamps, cases_lt, pow-add, length-drop, length-take-le, get_or-take, get_or-drop, number_from_digits, offset, weight, ten_pos, offset_is, gap_is, IsStored, with_max_position, mod-eq_of_lt, number_split, below_drop, steps, mod-mul-add, drop-drop}
-use Rattle.decimal_digits.specs.Digits.{number_of, number_at}
-use Rattle.decimal_digits.proofs.DigitLists.{number-drop-lt}
-use Rattle.decimal_unsigned.proofs.Middle.{number_zeros}
-use Rattle.decimal_unsigned.proofs.Values.{number_of-lt, number_of-none, lowest, stored_as, last_covered}
+use Rattle.std.proofs.Common.{◌≡◌, ℕ, ◌+◌, ◌-◌, ◌*◌, ◌%◌, ◌^◌, ◌<◌, ◌≤◌, min, List, length, get_or, take, drop, refl, sym, ◌∙◌, ap, subst, arith, inl, inr, ℤ, pos, negsuc, ◌+ℤ◌, ◌-ℤ◌, ◌≤ℤ◌}
+use Rattle.std.proofs.Math.Nat.{mul-mod_left, mul-lt-mul_of_pos_right, pow-le-pow_right, mod-eq_of_lt}
+use Rattle.std.proofs.lemmas.{Bool.cases_lt, Int.{ints, clamps}, List.{length-drop, length-take-le, get_or-take, get_or-drop, drop-drop}, Nat.{pow-add, mod-mul-add}}
+use Rattle.std.specs.{Int.{int_max, int_min, int_gap}, Int.Digits.number_from_digits}
+use Rattle.decimal_digits.proofs.{DigitLists.{ten_pos, number_split, below_drop, number-drop-lt}, Offsets.{offset_is, gap_is}, Rules.steps}
+use Rattle.decimal_digits.specs.{Digits.{number_of, number_at}, Number.{offset, weight}}
+use Rattle.decimal_unsigned.proofs.{Middle.number_zeros, Values.{number_of-lt, number_of-none, lowest, stored_as, last_covered}}
+use Rattle.decimal_unsigned.specs.{Edits.with_max_position, Stored.IsStored}
 
 -- leading digits, zeros and the other digits
 number_cut : (ds : List ℕ) (a start : ℕ) → a ≤ start → start ≤ length ds

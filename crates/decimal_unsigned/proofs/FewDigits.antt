@@ -1,15 +1,12 @@
 -- The number of digits of a text's value, and when a text has a value.
-use Rattle.decimal_unsigned.proofs.Common.{◌≡◌, ℕ, suc, ◌+◌, ◌-◌, ◌*◌, ◌%◌, ◌^◌, ◌<◌, ◌≤◌, Bool, true, false, ◌||◌, List, ◌++◌, length, refl, sym, ◌∙◌, ap, subst, arith, rules, inl, inr, Result, Ok, Err, Option, Some, None, ℤ, pos, negsuc, ◌+ℤ◌, ◌-ℤ◌, ◌≤ℤ◌, mul-mod_left, mul-le-mul_right, ints, pow-add, cases_lt, number_lt, digits_value_is, AllDigits, digits_value, size, first, last, ten_pos, no_more_zeros, gap_is, Unsigned, leaves_limits, multiplied, Literal, limit, is_outside, value_of, read, Grammar, mantissa, steps, IsOkAnd, mul_assoc, shift_up}
-use Rattle.std.specs.Prelude.{nat_eq}
-use Rattle.std.proofs.lemmas.Bool.{or_parts}
-use Rattle.decimal_unsigned.specs.declared.error.ParseError.{ParseError}
-use Rattle.decimal_unsigned.specs.declared.error.ParseError.TheVariants.{Limit, Memory}
-use Rattle.decimal_unsigned.specs.Edits.{times_power}
-use Rattle.decimal_unsigned.specs.Reading.{ReadError, zeros_trimmed, scaled}
-use Rattle.decimal_unsigned.specs.ParseResult.{IsParseResult, IsPlain, digit_count}
-use Rattle.decimal_unsigned.proofs.FirstLast.{Extent, extent, ordered, top_lt, first_of, last_of}
-use Rattle.decimal_unsigned.proofs.Plans.{append_digits, long_whole, long_fraction, all_digits, value_scaled}
-use Rattle.decimal_unsigned.proofs.ReadingGrammar.{read_grammar, result_limit}
+use Rattle.std.proofs.Common.{◌≡◌, ℕ, suc, ◌+◌, ◌-◌, ◌*◌, ◌%◌, ◌^◌, ◌<◌, ◌≤◌, Bool, true, false, ◌||◌, List, ◌++◌, length, refl, sym, ◌∙◌, ap, subst, arith, rules, inl, inr, Result, Ok, Err, Option, Some, None, ℤ, pos, negsuc, ◌+ℤ◌, ◌-ℤ◌, ◌≤ℤ◌, IsOkAnd, nat_eq}
+use Rattle.std.proofs.Math.Nat.{mul-mod_left, mul-le-mul_right, mul_assoc}
+use Rattle.std.proofs.lemmas.{Bool.{cases_lt, or_parts}, Int.ints, Int.Digits.{number_lt, digits_value_is}, Nat.pow-add}
+use Rattle.std.specs.Str.Parse.{AllDigits, digits_value}
+use Rattle.decimal_digits.proofs.{DigitLists.ten_pos, Ends.{no_more_zeros, shift_up}, Offsets.gap_is, Rules.steps}
+use Rattle.decimal_digits.specs.Number.{size, first, last}
+use Rattle.decimal_unsigned.proofs.{FirstLast.{Extent, extent, ordered, top_lt, first_of, last_of}, Plans.{append_digits, long_whole, long_fraction, all_digits, value_scaled}, ReadingGrammar.{read_grammar, result_limit}}
+use Rattle.decimal_unsigned.specs.{Edits.{leaves_limits, multiplied, times_power}, Grammar.{Literal, Grammar}, ParseResult.{IsParseResult, IsPlain, digit_count}, Reading.{limit, is_outside, value_of, read, mantissa, ReadError, zeros_trimmed, scaled}, Unsigned.Unsigned, declared.error.ParseError.ParseError, declared.error.ParseError.TheVariants.{Limit, Memory}}
 
 -- ---- Numbers.
 

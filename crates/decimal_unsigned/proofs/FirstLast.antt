@@ -1,6 +1,9 @@
 -- Each number other than 0 has a first and a last digit.
-use Rattle.decimal_unsigned.proofs.Common.{◌≡◌, ℕ, zero, suc, ◌+◌, ◌-◌, ◌*◌, ◌/◌, ◌%◌, ◌^◌, ◌<◌, ◌≤◌, sym, ◌∙◌, ap, subst, arith, inl, inr, pow-le-pow_right, mul-le-mul_right, ints, ℤ, pos, ◌<ℤ◌, ◌≤ℤ◌, pow-add, cases_lt, offset, first, last, ten_pos, offset_is, pow-suc, mod-lt, magnitude_at, first_is, first_zero, steps, rules, mul_assoc, last_is}
-use Rattle.std.proofs.Math.Nat.{div-add-mod', le-mul_of_pos_right, lt_of_mul-lt-mul_right, mul-add-mod_self_right, mod-le, div-le_self}
+use Rattle.std.proofs.Common.{◌≡◌, ℕ, zero, suc, ◌+◌, ◌-◌, ◌*◌, ◌/◌, ◌%◌, ◌^◌, ◌<◌, ◌≤◌, sym, ◌∙◌, ap, subst, arith, inl, inr, ℤ, pos, ◌<ℤ◌, ◌≤ℤ◌, rules}
+use Rattle.std.proofs.Math.Nat.{pow-le-pow_right, mul-le-mul_right, pow-suc, mod-lt, mul_assoc, div-add-mod', le-mul_of_pos_right, lt_of_mul-lt-mul_right, mul-add-mod_self_right, mod-le, div-le_self}
+use Rattle.std.proofs.lemmas.{Bool.cases_lt, Int.ints, Nat.pow-add}
+use Rattle.decimal_digits.proofs.{DigitLists.ten_pos, Ends.{first_is, first_zero, last_is}, Offsets.offset_is, Rules.steps}
+use Rattle.decimal_digits.specs.Number.{offset, first, last, magnitude_at}
 
 -- the first digit is at one offset and the last at another, and the number is a multiple of the weight of the latter
 pub record Extent (n : ℕ) : Type 0 where

@@ -1,12 +1,10 @@
 -- The parts of a text are those of the grammar.
-use Rattle.decimal_unsigned.proofs.Common.{common_steps, ◌≡◌, ℕ, ◌<◌, Bool, true, false, cond, ◌⊎◌, List, [], ◌∷◌, ◌++◌, length, refl, sym, ◌∙◌, ap, subst, arith, nat_lt, ◌==◌, append-nil, Option, Some, None, ℤ, pos, nat_tests, is_ascii_digit, digit_value, prefix_len, AllDigits, digits_value, Literal, ◌&&◌, option_map, take-append-drop, Grammar, steps, zero, suc, ◌+◌, ◌-◌, ◌*◌, ◌%◌, ◌^◌, ◌≤◌, min, cases_lt, get_or, take, drop, all_ascii_digits, map, length-drop, length-take-le, integer, decimal, digit_value_digit, digits_value_more, drop-drop, get_or-map, All-from_recursion, All-take, All-drop, recursion_from_All}
-use Rattle.std.proofs.Common.{append_assoc, eqb-true}
-use Rattle.std.specs.Prelude.{neg_ℤ}
-use Rattle.std.specs.Str.Parse.{IsNumeral}
-use Rattle.decimal_unsigned.specs.Grammar.{IsMantissa, undotted, dotted, IsExponent, unsigned, plus, minus, Form, scientific}
-use Rattle.decimal_unsigned.specs.Reading.{leading_digits, after_digits, numeral_of, exponent_of, is_letter, with_exponent, after_fraction, after_whole, parts_of}
-use Rattle.std.proofs.lemmas.Str.Parse.{digit_from_value, digit_at, IsNumeralModel, numerals_by_value, tells_all_ascii_digits}
+use Rattle.std.proofs.Common.{◌≡◌, ℕ, ◌<◌, Bool, true, false, cond, ◌⊎◌, List, [], ◌∷◌, ◌++◌, length, refl, sym, ◌∙◌, ap, subst, arith, nat_lt, ◌==◌, append-nil, Option, Some, None, ℤ, pos, ◌&&◌, option_map, zero, suc, ◌+◌, ◌-◌, ◌*◌, ◌%◌, ◌^◌, ◌≤◌, min, get_or, take, drop, map, append_assoc, eqb-true, neg_ℤ}
 use Rattle.std.proofs.Math.Bool.{and_assoc, and-true}
+use Rattle.std.proofs.lemmas.{Bool.cases_lt, Bool.Decides.nat_tests, Grind.common_steps, Int.Digits.digits_value_more, List.{take-append-drop, length-drop, length-take-le, drop-drop, get_or-map}, List.Elements.{All-from_recursion, All-take, All-drop, recursion_from_All}, Str.digit_value_digit, Str.Parse.{digit_from_value, digit_at, IsNumeralModel, numerals_by_value, tells_all_ascii_digits}}
+use Rattle.std.specs.{Char.{is_ascii_digit, digit_value}, List.prefix_len, Str.all_ascii_digits, Str.Parse.{AllDigits, digits_value, IsNumeral}}
+use Rattle.decimal_digits.proofs.Rules.{steps}
+use Rattle.decimal_unsigned.specs.{Grammar.{Literal, Grammar, integer, decimal, IsMantissa, undotted, dotted, IsExponent, unsigned, plus, minus, Form, scientific}, Reading.{leading_digits, after_digits, numeral_of, exponent_of, is_letter, with_exponent, after_fraction, after_whole, parts_of}}
 
 -- ---- ASCII digits and their numbers.
 -- a digit is a byte from 48 to 57

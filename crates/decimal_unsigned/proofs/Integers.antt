@@ -1,11 +1,12 @@
 -- Digits whose last is at magnitude 0, without trailing zeros.
-use Rattle.decimal_unsigned.proofs.Common.{elements, ◌≡◌, ℕ, zero, suc, ◌+◌, ◌-◌, ◌*◌, ◌^◌, ◌<◌, ◌≤◌, List, length, get_or, take, drop, refl, sym, ◌∙◌, ap, arith, inl, inr, Result, Ok, Err, ℤ, pos, ◌≤ℤ◌, mul-le-mul_right, ints, pow-add, cases_lt, number_lt, length-take-le, get_or-take, recursion_from_All, number_from_digits, AllBelowBase, offset, weight, first, size, number_of, offset_is, ten_pos, below_take, IsStored, Unsigned, middle, IsNonzeroRange, All, magnitude_at, first_is, steps, IfOk, All-from_recursion, magnitude_at-offset}
-use Rattle.std.proofs.lemmas.Int.Digits.{all_below_base_digits_of, first_digits_of}
-use Rattle.std.specs.Int.Digits.{digits_of}
-use Rattle.decimal_unsigned.specs.Unsigned.{integer_value, one_value}
-use Rattle.decimal_unsigned.proofs.FirstLast.{first_le}
-use Rattle.decimal_unsigned.proofs.Middle.{number_of-middle}
-use Rattle.decimal_unsigned.proofs.Values.{first_of, number_of-none, size-number_of, stored_as}
+use Rattle.std.proofs.Common.{◌≡◌, ℕ, zero, suc, ◌+◌, ◌-◌, ◌*◌, ◌^◌, ◌<◌, ◌≤◌, List, length, get_or, take, drop, refl, sym, ◌∙◌, ap, arith, inl, inr, Result, Ok, Err, ℤ, pos, ◌≤ℤ◌, All, IfOk}
+use Rattle.std.proofs.Math.Nat.{mul-le-mul_right}
+use Rattle.std.proofs.lemmas.{Bool.cases_lt, Grind.elements, Int.ints, Int.Digits.{number_lt, all_below_base_digits_of, first_digits_of}, List.{length-take-le, get_or-take}, List.Elements.{recursion_from_All, All-from_recursion}, Nat.pow-add}
+use Rattle.std.specs.Int.Digits.{number_from_digits, AllBelowBase, digits_of}
+use Rattle.decimal_digits.proofs.{DigitLists.{ten_pos, below_take}, Ends.first_is, Offsets.{offset_is, magnitude_at-offset}, Rules.steps}
+use Rattle.decimal_digits.specs.{Digits.number_of, Number.{offset, weight, first, size, magnitude_at}}
+use Rattle.decimal_unsigned.proofs.{FirstLast.first_le, Middle.number_of-middle, Values.{first_of, number_of-none, size-number_of, stored_as}}
+use Rattle.decimal_unsigned.specs.{ScannedDigits.{middle, IsNonzeroRange}, Stored.IsStored, Unsigned.{Unsigned, integer_value, one_value}}
 
 -- the digits up to the last one that is not 0
 pub record UpToLast (ds : List ℕ) (end : ℕ) : Type 0 where

@@ -1,6 +1,10 @@
 -- The length in bytes of the text of a value.
-use Rattle.decimal_unsigned.proofs.Common.{◌≡◌, ℕ, suc, ◌+◌, ◌<◌, ◌≤◌, length, arith, ℤ, pos, negsuc, ◌≤ℤ◌, ◌<ℤ◌, int_gap, ints, length-append, gap_is, Unsigned, IsValue, text, steps}
+use Rattle.std.proofs.Common.{◌≡◌, ℕ, suc, ◌+◌, ◌<◌, ◌≤◌, length, arith, ℤ, pos, negsuc, ◌≤ℤ◌, ◌<ℤ◌}
+use Rattle.std.proofs.lemmas.{Int.ints, List.length-append}
+use Rattle.std.specs.Int.{int_gap}
+use Rattle.decimal_digits.proofs.{Offsets.gap_is, Rules.steps}
 use Rattle.decimal_unsigned.proofs.Writing.{length-bytes_down, fraction_text, text_is}
+use Rattle.decimal_unsigned.specs.{Text.text, Unsigned.{Unsigned, IsValue}}
 
 length-fraction : (number : ℕ) (lo : ℤ) → lo <ℤ pos 0 → length (fraction_text number lo) ≡ int_gap lo (pos 0) + 1
 length-fraction number (pos k) h = absurd (omega (arith, ints))

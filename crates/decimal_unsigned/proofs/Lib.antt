@@ -1,4 +1,3 @@
-pub mod Common
 pub mod Rules
 pub mod Values
 pub mod Shifts

@@ -1,8 +1,10 @@
 -- The number that the digits between leading and trailing zeros write.
-use Rattle.decimal_unsigned.proofs.Common.{common_steps, elements, ◌≡◌, ℕ, suc, ◌+◌, ◌-◌, ◌*◌, ◌^◌, ◌<◌, ◌≤◌, List, [], ◌∷◌, length, get_or, take, drop, ◌++◌, map, min, refl, sym, ◌∙◌, ap, arith, ℤ, pos, ◌-ℤ◌, pow-add, length-map, length-drop, get_or-take, get_or-drop, digit_value, number_from_digits, AllBelowBase, offset, offset_is, IsStored, below_take, middle, IsNonzeroRange, number_split, below_drop, steps}
-use Rattle.std.proofs.lemmas.List.{map-append, take-map, drop-map}
-use Rattle.decimal_digits.specs.Digits.{number_of, number_at}
-use Rattle.decimal_digits.proofs.DigitLists.{number_after}
+use Rattle.std.proofs.Common.{◌≡◌, ℕ, suc, ◌+◌, ◌-◌, ◌*◌, ◌^◌, ◌<◌, ◌≤◌, List, [], ◌∷◌, length, get_or, take, drop, ◌++◌, map, min, refl, sym, ◌∙◌, ap, arith, ℤ, pos, ◌-ℤ◌}
+use Rattle.std.proofs.lemmas.{Grind.{common_steps, elements}, List.{length-map, length-drop, get_or-take, get_or-drop, map-append, take-map, drop-map}, Nat.pow-add}
+use Rattle.std.specs.{Char.digit_value, Int.Digits.{number_from_digits, AllBelowBase}}
+use Rattle.decimal_digits.proofs.{DigitLists.{below_take, number_split, below_drop, number_after}, Offsets.offset_is, Rules.steps}
+use Rattle.decimal_digits.specs.{Digits.{number_of, number_at}, Number.offset}
+use Rattle.decimal_unsigned.specs.{ScannedDigits.{middle, IsNonzeroRange}, Stored.IsStored}
 
 -- zeros write the number 0
 pub number_zeros : (b : ℕ) (ds : List ℕ) → ((k : ℕ) → k < length ds → get_or ds k 0 ≡ 0)

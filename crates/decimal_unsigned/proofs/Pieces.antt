@@ -1,12 +1,12 @@
 -- Blocks and pieces of the text of a value, and texts of at most sixteen digits.
-use Rattle.decimal_unsigned.proofs.Common.{◌≡◌, ℕ, suc, ◌+◌, ◌-◌, ◌<◌, ◌≤◌, List, [], ◌∷◌, ◌++◌, length, take, drop, refl, sym, ◌∙◌, ap, arith, ℤ, pos, negsuc, ◌+ℤ◌, ◌-ℤ◌, ◌≤ℤ◌, int_gap, ints, length-append, length-drop, take_all, offset, offset_is, gap_is, Unsigned, IsValue, text, steps, common_steps, elements, get_or, replicate, inl, inr, min, ◌<ℤ◌, Option, None, Some, unwrap_or, cases_lt, get_or-take, get_or-drop, length-take-le, length-map, digit, number_of, IsStored, length-replicate, append-nil, get_or-map, IfSome}
+use Rattle.std.proofs.Common.{◌≡◌, ℕ, suc, ◌+◌, ◌-◌, ◌<◌, ◌≤◌, List, [], ◌∷◌, ◌++◌, length, take, drop, refl, sym, ◌∙◌, ap, arith, ℤ, pos, negsuc, ◌+ℤ◌, ◌-ℤ◌, ◌≤ℤ◌, get_or, replicate, inl, inr, min, ◌<ℤ◌, Option, None, Some, append-nil, IfSome, IfNone}
 use Rattle.std.proofs.Math.Seq.{take-append-add, drop-append-add}
-use Rattle.std.proofs.lemmas.List.{take-append-le, drop-append-le, get_or-replicate, take_at}
-use Rattle.decimal_unsigned.proofs.Lengths.{length-text}
-use Rattle.decimal_unsigned.proofs.Writing.{byte, bytes_down, length-bytes_down, bytes_down-part, fraction_text, text_is, bytes_are}
-use Rattle.std.specs.Prelude.{IfNone}
-use Rattle.decimal_digits.specs.Digits.{text_of}
-use Rattle.decimal_unsigned.proofs.Values.{digit-number_of-above, digit-number_of-in, digit-number_of-below}
+use Rattle.std.proofs.lemmas.{Bool.cases_lt, Grind.{common_steps, elements}, Int.ints, List.{length-append, length-drop, take_all, get_or-take, get_or-drop, length-take-le, length-map, length-replicate, get_or-map, take-append-le, drop-append-le, get_or-replicate, take_at}}
+use Rattle.std.specs.{Int.int_gap, Option.unwrap_or}
+use Rattle.decimal_digits.proofs.{Offsets.{offset_is, gap_is}, Rules.steps}
+use Rattle.decimal_digits.specs.{Digits.{number_of, text_of}, Number.{offset, digit}}
+use Rattle.decimal_unsigned.proofs.{Lengths.length-text, Values.{digit-number_of-above, digit-number_of-in, digit-number_of-below}, Writing.{byte, bytes_down, length-bytes_down, bytes_down-part, fraction_text, text_is, bytes_are}}
+use Rattle.decimal_unsigned.specs.{Stored.IsStored, Text.text, Unsigned.{Unsigned, IsValue}}
 
 -- ---- An element of a list after a write to the k places from a on.
 module _ (a k : ℕ) (xs ys : List ℕ) (fits : a + k ≤ length xs) (full : length ys ≡ k) where

@@ -1,13 +1,11 @@
 -- Eight bytes of a text at a time.
-use Rattle.decimal_unsigned.proofs.Common.{◌≡◌, ℕ, zero, suc, ◌+◌, ◌-◌, ◌*◌, ◌/◌, ◌%◌, ◌^◌, ◌<◌, ◌≤◌, List, [], ◌∷◌, ◌++◌, length, get_or, take, refl, sym, ◌∙◌, ap, subst, arith, number_from_digits, AllBelowBase, AllDigits, digits_value, digits_value_after, digit_value, pow-suc, length-map, digits_value_is, number_lt, below_sixteen, steps, rules, take_all, map, all_below_base_from_digits, number_more, digits_value_more, bit_and, All-from_recursion, digit_value_digit}
-use Rattle.std.specs.Int.{w64, from_be_bytes}
-use Rattle.std.proofs.lemmas.Nat.{and_block, and_mask, or_block, or_of_8, le_or_l, le_or_r}
-use Rattle.std.proofs.lemmas.Int.Digits.{digits_more}
+use Rattle.std.proofs.Common.{◌≡◌, ℕ, zero, suc, ◌+◌, ◌-◌, ◌*◌, ◌/◌, ◌%◌, ◌^◌, ◌<◌, ◌≤◌, List, [], ◌∷◌, ◌++◌, length, get_or, take, refl, sym, ◌∙◌, ap, subst, arith, rules, map, bit_and, bit_or}
+use Rattle.std.proofs.Math.Nat.{pow-suc}
+use Rattle.std.proofs.lemmas.{Int.Digits.{digits_value_is, number_lt, all_below_base_from_digits, number_more, digits_value_more, digits_more}, List.{length-map, take_all}, List.Elements.All-from_recursion, Nat.{and_block, and_mask, or_block, or_of_8, le_or_l, le_or_r}, Str.digit_value_digit}
+use Rattle.std.specs.{Char.digit_value, Int.{w64, from_be_bytes}, Int.Digits.{number_from_digits, AllBelowBase}, Str.Parse.{AllDigits, digits_value, digits_value_after}}
+use Rattle.decimal_digits.proofs.{LeadingBytes.below_sixteen, Rules.steps, Words.eight_bytes}
+use Rattle.decimal_unsigned.proofs.{BcdNumber.{Lanes, joined, value, value_front, mask, top, stepped, value_joined}, Comparing.all_below}
 use Rattle.decimal_unsigned.specs.PlainTexts.{bytes_below}
-use Rattle.decimal_unsigned.proofs.Comparing.{all_below}
-use Rattle.std.specs.Prelude.{bit_or}
-use Rattle.decimal_digits.proofs.Words.{eight_bytes}
-use Rattle.decimal_unsigned.proofs.BcdNumber.{Lanes, joined, value, value_front, mask, top, stepped, value_joined}
 
 -- ---- The bytes that are below ten.
 -- the high nibble of each of k bytes

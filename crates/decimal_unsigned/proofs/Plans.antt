@@ -1,15 +1,11 @@
 -- The exponent that the code stores, and the value of the parts by the digits that are kept.
-use Rattle.decimal_unsigned.proofs.Common.{◌≡◌, ℕ, ◌+◌, ◌-◌, ◌*◌, ◌^◌, ◌<◌, ◌≤◌, ◌==◌, Bool, true, false, ◌||◌, ◌⊎◌, ◌++◌, length, get_or, refl, sym, ◌∙◌, ap, subst, arith, ℤ, pos, negsuc, ◌+ℤ◌, ◌-ℤ◌, ◌≤ℤ◌, ◌<ℤ◌, int_lt, Option, Some, None, Ok, Err, int_max, int_min, ints, clamps, nat_tests, length-map, length-append, digit_value, AllDigits, digits_value, AllBelowBase, digits_value_is, first, last, Unsigned, number_of, offset_is, IsStored, Literal, limit, multiplied, middle, IsNonzeroRange, mantissa, steps, cond, inl, inr, List, [], ◌∷◌, cases_lt, parts_of, is_outside, view, option_map, rules, if◌then◌else◌, IfSome, all_below_base_from_digits, digits_of, saturated_parts, views}
-use Rattle.decimal_unsigned.proofs.Values.{number_of-pos, first-number_of, last-number_of, number_of_empty, stored_as}
-use Rattle.decimal_unsigned.proofs.Shifts.{Moves, moved, multiplied_is}
-use Rattle.decimal_unsigned.specs.Reading.{zeros_trimmed, scaled, value_of, value_or_syntax, read, syntax}
-use Rattle.decimal_unsigned.specs.ScannedDigits.{IsPlan}
-use Rattle.decimal_unsigned.specs.declared.decimal.parse.plan.Bounds.{Bounds}
-use Rattle.decimal_unsigned.specs.declared.decimal.parse.plan.Plan.{Plan}
-use Rattle.decimal_unsigned.proofs.Middle.{number_zeros, middle_length, number_of-middle, stored_middle}
-use Rattle.decimal_unsigned.specs.Parts.{saturated, IsSaturated}
-use Rattle.decimal_unsigned.specs.declared.decimal.parse.parts.Parts.{Parts}
-use Rattle.decimal_unsigned.proofs.GrammarParts.{parts-sound}
+use Rattle.std.proofs.Common.{◌≡◌, ℕ, ◌+◌, ◌-◌, ◌*◌, ◌^◌, ◌<◌, ◌≤◌, ◌==◌, Bool, true, false, ◌||◌, ◌⊎◌, ◌++◌, length, get_or, refl, sym, ◌∙◌, ap, subst, arith, ℤ, pos, negsuc, ◌+ℤ◌, ◌-ℤ◌, ◌≤ℤ◌, ◌<ℤ◌, int_lt, Option, Some, None, Ok, Err, cond, inl, inr, List, [], ◌∷◌, option_map, rules, if◌then◌else◌, IfSome}
+use Rattle.std.proofs.lemmas.{Bool.cases_lt, Bool.Decides.nat_tests, Int.{ints, clamps}, Int.Digits.{digits_value_is, all_below_base_from_digits}, List.{length-map, length-append}}
+use Rattle.std.specs.{Char.digit_value, Int.{int_max, int_min}, Int.Digits.AllBelowBase, Str.Parse.{AllDigits, digits_value}}
+use Rattle.decimal_digits.proofs.{Offsets.offset_is, Rules.steps}
+use Rattle.decimal_digits.specs.{Digits.number_of, Number.{first, last}}
+use Rattle.decimal_unsigned.proofs.{GrammarParts.parts-sound, Middle.{number_zeros, middle_length, number_of-middle, stored_middle}, Shifts.{Moves, moved, multiplied_is}, Values.{number_of-pos, first-number_of, last-number_of, number_of_empty, stored_as}}
+use Rattle.decimal_unsigned.specs.{Edits.multiplied, Grammar.Literal, Parts.{view, saturated_parts, views, saturated, IsSaturated}, Reading.{limit, mantissa, parts_of, is_outside, zeros_trimmed, scaled, value_of, value_or_syntax, read, syntax}, ScannedDigits.{middle, IsNonzeroRange, digits_of, IsPlan}, Stored.IsStored, Unsigned.Unsigned, declared.decimal.parse.parts.Parts.Parts, declared.decimal.parse.plan.Bounds.Bounds, declared.decimal.parse.plan.Plan.Plan}
 
 -- ---- An exponent of any length, and the saturated exponent that the code stores.
 scaled_outside : (v : Unsigned) (e : ℤ) → (pos 32767 <ℤ e) ⊎ (e <ℤ negsuc 32767)

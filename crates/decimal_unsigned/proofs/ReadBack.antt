@@ -1,10 +1,12 @@
 -- The text of a value is read as that value.
-use Rattle.decimal_unsigned.proofs.Common.{◌≡◌, ℕ, zero, suc, ◌+◌, ◌-◌, ◌*◌, ◌/◌, ◌%◌, ◌^◌, ◌<◌, ◌≤◌, nat_lt, false, List, [], ◌∷◌, ◌++◌, length, map, refl, ◌∙◌, ap, arith, append-nil, ℤ, pos, negsuc, ◌+ℤ◌, ◌-ℤ◌, ◌≤ℤ◌, None, Ok, ints, nat_tests, pow-add, length-map, digit_value, int_gap, AllDigits, digits_value, digits_value_is, offset, weight, digit, ten_pos, offset_is, gap_is, Unsigned, IsValue, text, Literal, read, pow-suc, mod-lt, mod-eq_of_lt, steps, digit_value_digit, number_first, integer, decimal}
-use Rattle.std.proofs.Math.Arith.{mod-mul}
-use Rattle.std.proofs.Math.Nat.{div-div-eq-div-mul, div-lt_iff_lt-mul, div-add-mod'}
-use Rattle.decimal_unsigned.specs.Reading.{scaled, value_of}
-use Rattle.decimal_unsigned.proofs.ReadingGrammar.{read_grammar}
-use Rattle.decimal_unsigned.proofs.Writing.{byte, bytes_down, length-bytes_down, fraction_text, text_is}
+use Rattle.std.proofs.Common.{◌≡◌, ℕ, zero, suc, ◌+◌, ◌-◌, ◌*◌, ◌/◌, ◌%◌, ◌^◌, ◌<◌, ◌≤◌, nat_lt, false, List, [], ◌∷◌, ◌++◌, length, map, refl, ◌∙◌, ap, arith, append-nil, ℤ, pos, negsuc, ◌+ℤ◌, ◌-ℤ◌, ◌≤ℤ◌, None, Ok}
+use Rattle.std.proofs.{Math.Arith.mod-mul, Math.Nat.{pow-suc, mod-lt, mod-eq_of_lt, div-div-eq-div-mul, div-lt_iff_lt-mul, div-add-mod'}}
+use Rattle.std.proofs.lemmas.{Bool.Decides.nat_tests, Int.ints, Int.Digits.digits_value_is, List.length-map, Nat.pow-add, Str.digit_value_digit}
+use Rattle.std.specs.{Char.digit_value, Int.int_gap, Str.Parse.{AllDigits, digits_value}}
+use Rattle.decimal_digits.proofs.{DigitLists.{ten_pos, number_first}, Offsets.{offset_is, gap_is}, Rules.steps}
+use Rattle.decimal_digits.specs.Number.{offset, weight, digit}
+use Rattle.decimal_unsigned.proofs.{ReadingGrammar.read_grammar, Writing.{byte, bytes_down, length-bytes_down, fraction_text, text_is}}
+use Rattle.decimal_unsigned.specs.{Grammar.{Literal, integer, decimal}, Reading.{read, scaled, value_of}, Text.text, Unsigned.{Unsigned, IsValue}}
 
 -- ---- The numbers that ASCII digits write.
 -- the ASCII byte of a digit has its value

@@ -1,11 +1,8 @@
 -- Reading and the grammar.
-use Rattle.decimal_unsigned.proofs.Common.{◌≡◌, ℕ, Bool, cond, ◌⊎◌, inl, inr, List, refl, sym, ◌∙◌, ap, arith, ℤ, Option, Some, None, Result, Ok, Err, Unsigned, Literal, parts_of, limit, Grammar, mantissa, steps, IfOk}
-use Rattle.std.specs.Prelude.{◌↔◌}
-use Rattle.decimal_unsigned.specs.declared.error.ParseError.{ParseError}
-use Rattle.decimal_unsigned.specs.declared.error.ParseError.TheVariants.{Limit, Syntax}
-use Rattle.decimal_unsigned.specs.Reading.{ReadError, scaled, value_of, value_or_syntax, read, FollowsGrammar, syntax}
-use Rattle.decimal_unsigned.specs.ParseResult.{IsParseResult, ResultFollowsGrammar}
+use Rattle.std.proofs.Common.{◌≡◌, ℕ, Bool, cond, ◌⊎◌, inl, inr, List, refl, sym, ◌∙◌, ap, arith, ℤ, Option, Some, None, Result, Ok, Err, IfOk, ◌↔◌}
+use Rattle.decimal_digits.proofs.Rules.{steps}
 use Rattle.decimal_unsigned.proofs.GrammarParts.{parts-complete, parts-sound}
+use Rattle.decimal_unsigned.specs.{Grammar.{Literal, Grammar}, ParseResult.{IsParseResult, ResultFollowsGrammar}, Reading.{parts_of, limit, mantissa, ReadError, scaled, value_of, value_or_syntax, read, FollowsGrammar, syntax}, Unsigned.Unsigned, declared.error.ParseError.ParseError, declared.error.ParseError.TheVariants.{Limit, Syntax}}
 
 -- a value, or the limit
 abbrev Values : Result Unsigned ReadError → Type 0

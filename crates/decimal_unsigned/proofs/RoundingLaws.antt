@@ -1,16 +1,11 @@
 -- Laws of rounding, on values.
-use Rattle.decimal_unsigned.proofs.Common.{◌≡◌, ℕ, ◌-◌, ◌*◌, ◌^◌, ◌<◌, ◌≤◌, sym, subst, arith, Option, Some, ℤ, negsuc, ◌≤ℤ◌, int_max, ints, clamps, nat_tests, pow-add, offset, first, size, unit_at, rounded_number, MultiplesOf1, Trunc, Unsigned, IsValue, rounded, IsRounded, RoundError, UnsignedRoundingMode, unit_pos, trunced, steps, rules, if◌then◌else◌}
-use Rattle.decimal_digits.specs.Rounding.{DigitRoundingFails}
-use Rattle.decimal_digits.specs.declared.rounding.RoundError.TheVariants.{Limit, Memory}
-use Rattle.decimal_digits.specs.declared.rounding.UnsignedRoundingMode.TheVariants.{Expand}
-use Rattle.decimal_digits.proofs.Naming.{rounded_number_is_named}
-use Rattle.decimal_digits.proofs.Offsets.{offset_le}
-use Rattle.decimal_digits.proofs.RoundingLaws.{rounded_number-idempotent, rounded_number-zero, rounded_number-finer, rounded_number-monotone, trunc-coarser, expand-coarser, trunc_le, le_expand}
-use Rattle.decimal_unsigned.specs.Rounded.{Rounding, unit_of, reaches_limit, RoundingFails}
-use Rattle.decimal_unsigned.specs.ValueLaws.{after_rounding, TruncationsCompose, ExpansionsCompose, RoundingIsMonotone}
-use Rattle.decimal_unsigned.proofs.ValueLaws.{below_limit}
-use Rattle.decimal_unsigned.proofs.FirstLast.{first_le}
-use Rattle.decimal_unsigned.proofs.Roundings.{rounded_to-large}
+use Rattle.std.proofs.Common.{◌≡◌, ℕ, ◌-◌, ◌*◌, ◌^◌, ◌<◌, ◌≤◌, sym, subst, arith, Option, Some, ℤ, negsuc, ◌≤ℤ◌, rules, if◌then◌else◌}
+use Rattle.std.proofs.lemmas.{Bool.Decides.nat_tests, Int.{ints, clamps}, Nat.pow-add}
+use Rattle.std.specs.Int.{int_max}
+use Rattle.decimal_digits.proofs.{Naming.rounded_number_is_named, Offsets.offset_le, Remainders.unit_pos, RoundingLaws.{rounded_number-idempotent, rounded_number-zero, rounded_number-finer, rounded_number-monotone, trunc-coarser, expand-coarser, trunc_le, le_expand}, Rules.steps}
+use Rattle.decimal_digits.specs.{Number.{offset, first, size}, Rounding.{unit_at, rounded_number, DigitRoundingFails}, declared.rounding.RoundError.RoundError, declared.rounding.RoundError.TheVariants.{Limit, Memory}, declared.rounding.RoundingIncrement.TheVariants.MultiplesOf1, declared.rounding.UnsignedRoundingMode.UnsignedRoundingMode, declared.rounding.UnsignedRoundingMode.TheVariants.{Trunc, Expand}}
+use Rattle.decimal_unsigned.proofs.{FirstLast.first_le, Roundings.rounded_to-large, ValueLaws.below_limit}
+use Rattle.decimal_unsigned.specs.{Rounded.{rounded, IsRounded, Rounding, unit_of, reaches_limit, RoundingFails}, Unsigned.{Unsigned, IsValue}, ValueLaws.{trunced, after_rounding, TruncationsCompose, ExpansionsCompose, RoundingIsMonotone}}
 
 -- ---- The result of a rounding.
 

@@ -1,14 +1,12 @@
 -- Roundings: the values of the fields afterwards, and when each multiple that a mode names is below the limit.
-use Rattle.decimal_unsigned.proofs.Common.{◌≡◌, ℕ, ◌<◌, ◌≤◌, List, length, sym, ◌∙◌, ap, arith, Option, Some, None, Result, ℤ, pos, negsuc, ◌-ℤ◌, ◌≤ℤ◌, int_max, int_min, AllBelowBase, ints, clamps, nat_tests, first, size, number_limit, number_of, unit_at, rounded_number, RoundingIncrement, Trunc, offset_is, Unsigned, IsStored, rounded, IsRounded, RoundError, UnsignedRoundingMode, unit_pos, first_zero, with_number, steps, ◌+◌, ◌-◌, ◌*◌, ◌^◌, refl, inl, inr, ◌+ℤ◌, ◌<ℤ◌, pow-le-pow_right, mul-le-mul_right, pow-add, cases_lt, offset, weight, MultiplesOf1, ten_pos, IsValue, none-some, rules, rounding, rounding_by_1}
-use Rattle.std.specs.Prelude.{IsOk, IsErrOf}
-use Rattle.decimal_digits.specs.RoundedDigits.{Represents, NoDigitsBelow}
-use Rattle.decimal_digits.specs.declared.rounding.RoundError.TheVariants.{Limit}
-use Rattle.std.specs.Result.{is_ok}
-use Rattle.decimal_digits.proofs.RoundingLaws.{trunc_le, rounded_number-multiple, rounded_number-monotone}
-use Rattle.decimal_digits.proofs.NumberAt.{number_of-none}
-use Rattle.decimal_unsigned.specs.Rounded.{rounded_to, UpdatesInPlace, RoundsInPlace, Rounding, IsBelowLimit, HasCapacity, RoundingNeedsMemory}
+use Rattle.std.proofs.Common.{◌≡◌, ℕ, ◌<◌, ◌≤◌, List, length, sym, ◌∙◌, ap, arith, Option, Some, None, Result, ℤ, pos, negsuc, ◌-ℤ◌, ◌≤ℤ◌, ◌+◌, ◌-◌, ◌*◌, ◌^◌, refl, inl, inr, ◌+ℤ◌, ◌<ℤ◌, rules, IsOk, IsErrOf}
+use Rattle.std.proofs.Math.Nat.{pow-le-pow_right, mul-le-mul_right}
+use Rattle.std.proofs.lemmas.{Bool.cases_lt, Bool.Decides.nat_tests, Int.{ints, clamps}, Nat.pow-add, Option.none-some}
+use Rattle.std.specs.{Int.{int_max, int_min}, Int.Digits.AllBelowBase, Result.is_ok}
+use Rattle.decimal_digits.proofs.{DigitLists.ten_pos, Ends.first_zero, NumberAt.number_of-none, Offsets.offset_is, Remainders.unit_pos, RoundingLaws.{trunc_le, rounded_number-multiple, rounded_number-monotone}, Rules.steps}
+use Rattle.decimal_digits.specs.{Digits.number_of, Number.{first, size, number_limit, offset, weight}, RoundedDigits.{Represents, NoDigitsBelow}, Rounding.{unit_at, rounded_number}, declared.rounding.RoundError.RoundError, declared.rounding.RoundError.TheVariants.Limit, declared.rounding.RoundingIncrement.RoundingIncrement, declared.rounding.RoundingIncrement.TheVariants.{MultiplesOf1, MultiplesOf2, MultiplesOf5, MultiplesOf25}, declared.rounding.UnsignedRoundingMode.UnsignedRoundingMode, declared.rounding.UnsignedRoundingMode.TheVariants.Trunc}
 use Rattle.decimal_unsigned.proofs.Values.{size-number_of, stored_as}
-use Rattle.decimal_digits.specs.declared.rounding.RoundingIncrement.TheVariants.{MultiplesOf2, MultiplesOf5, MultiplesOf25}
+use Rattle.decimal_unsigned.specs.{Rounded.{rounded, IsRounded, with_number, rounding, rounding_by_1, rounded_to, UpdatesInPlace, RoundsInPlace, Rounding, IsBelowLimit, HasCapacity, RoundingNeedsMemory}, Stored.IsStored, Unsigned.{Unsigned, IsValue}}
 
 -- a rounding to a multiple below the limit results in the value of that multiple
 pub rounded_to-small : (v : Unsigned) (p : ℤ) (n : ℕ) → n < number_limit → rounded_to v p n ≡ Some (with_number v p n)

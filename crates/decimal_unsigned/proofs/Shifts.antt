@@ -1,7 +1,12 @@
 -- A value times a power of ten.
-use Rattle.decimal_unsigned.proofs.Common.{◌≡◌, ℕ, ◌+◌, ◌-◌, ◌*◌, ◌/◌, ◌^◌, ◌<◌, ◌≤◌, false, List, length, sym, ◌∙◌, ap, arith, ◌⊎◌, Some, None, ℤ, pos, negsuc, ◌+ℤ◌, ◌≤ℤ◌, ◌<ℤ◌, int_max, int_min, pow-add, ints, clamps, cases_lt, number_from_digits, offset, Unsigned, IsStored, leaves_limits, multiplied, offset_is, steps, zero-div, multiplied_pow10, shift_up}
-use Rattle.decimal_digits.specs.Digits.{number_of, number_at}
+use Rattle.std.proofs.Common.{◌≡◌, ℕ, ◌+◌, ◌-◌, ◌*◌, ◌/◌, ◌^◌, ◌<◌, ◌≤◌, false, List, length, sym, ◌∙◌, ap, arith, ◌⊎◌, Some, None, ℤ, pos, negsuc, ◌+ℤ◌, ◌≤ℤ◌, ◌<ℤ◌}
+use Rattle.std.proofs.Math.Nat.{zero-div}
+use Rattle.std.proofs.lemmas.{Bool.cases_lt, Int.{ints, clamps}, Nat.pow-add}
+use Rattle.std.specs.{Int.{int_max, int_min}, Int.Digits.number_from_digits}
+use Rattle.decimal_digits.proofs.{Ends.shift_up, Offsets.offset_is, Rules.steps}
+use Rattle.decimal_digits.specs.{Digits.{number_of, number_at}, Number.offset}
 use Rattle.decimal_unsigned.proofs.Values.{number_of-none, lowest, stored_as, last_covered}
+use Rattle.decimal_unsigned.specs.{Edits.{leaves_limits, multiplied, multiplied_pow10}, Stored.IsStored, Unsigned.Unsigned}
 
 -- the range of a shifted value
 pub record Moves (ds : List ℕ) (m hi lo d m' hi' lo' : ℤ) : Type 0 where

@@ -1,13 +1,13 @@
 -- The digits that a value shows.
-use Rattle.decimal_unsigned.proofs.Common.{◌≡◌, ℕ, zero, suc, ◌+◌, ◌-◌, ◌*◌, ◌/◌, ◌%◌, ◌^◌, ◌<◌, List, [], ◌∷◌, ◌++◌, length, drop, min, get_or, refl, inl, inr, sym, ◌∙◌, ap, arith, w16, to_z, of_z, ℤ, pos, negsuc, ◌+ℤ◌, ◌-ℤ◌, ◌≤ℤ◌, ◌<ℤ◌, int_gap, All, ints, by_lt_z, cases_lt, to_z-of_z, digit, length-append, elements, gap_is, IsStored, ◌≤◌, rules, number_of, pow-add, same_number_lists, nil_from_length, padded, get_or-padded, length-padded, pow-le-pow_right, steps}
-use Rattle.std.proofs.lemmas.List.{get_or_past}
-use lib.Signed.{mag}
-use Rattle.decimal_digits.specs.Nibbles.{bcd_number, word_nibbles}
-use Rattle.decimal_digits.proofs.Packing.{rest_at}
-use Rattle.decimal_digits.proofs.Words.{bcd_nibble, cut, word_nibble, zero_word}
-use Rattle.decimal_unsigned.specs.ShownDigits.{digits_down}
+use Rattle.std.proofs.Common.{◌≡◌, ℕ, zero, suc, ◌+◌, ◌-◌, ◌*◌, ◌/◌, ◌%◌, ◌^◌, ◌<◌, List, [], ◌∷◌, ◌++◌, length, drop, min, get_or, refl, inl, inr, sym, ◌∙◌, ap, arith, w16, to_z, of_z, ℤ, pos, negsuc, ◌+ℤ◌, ◌-ℤ◌, ◌≤ℤ◌, ◌<ℤ◌, All, ◌≤◌, rules}
+use Rattle.std.proofs.Math.Nat.{pow-le-pow_right, div-div-eq-div-mul, div-eq_of_lt}
+use Rattle.std.proofs.lemmas.{Bool.cases_lt, Grind.{elements, same_number_lists}, Int.{ints, by_lt_z, to_z-of_z}, List.{length-append, nil_from_length, get_or_past}, Nat.pow-add}
+use Rattle.std.specs.Int.{int_gap}
+use Rattle.decimal_digits.proofs.{LeadingBytes.{get_or-padded, length-padded}, Offsets.gap_is, Packing.rest_at, Rules.steps, Words.{bcd_nibble, cut, word_nibble, zero_word}}
+use Rattle.decimal_digits.specs.{Digits.number_of, Nibbles.{padded, bcd_number, word_nibbles}, Number.digit}
 use Rattle.decimal_unsigned.proofs.Values.{digit-number_of-above, digit-number_of-in, digit-number_of-below, high, magnitude_kept}
-use Rattle.std.proofs.Math.Nat.{div-div-eq-div-mul, div-eq_of_lt}
+use Rattle.decimal_unsigned.specs.{ShownDigits.digits_down, Stored.IsStored}
+use lib.Signed.{mag}
 
 -- ---- A word of digits.
 module _ (word ready : ℕ) (fits : word < 2 ^ 64) where

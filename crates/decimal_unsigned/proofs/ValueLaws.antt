@@ -1,13 +1,12 @@
 -- Laws of trims, and of the parts of a value at a position.
-use Rattle.decimal_unsigned.proofs.Common.{◌≡◌, ℕ, ◌-◌, ◌*◌, ◌%◌, ◌<◌, ◌≤◌, length, sym, ◌∙◌, ap, subst, arith, inl, inr, None, ℤ, pos, ◌≤ℤ◌, unwrap_or, int_max, int_min, pow-le-pow_right, ints, clamps, cases_lt, offset, weight, first, last, number_limit, unit_at, RoundingIncrement, MultiplesOf1, Trunc, no_more_zeros, offset_is, gap_is, Unsigned, IsValue, with_max_position, rounded, text, none-some, with_number, trunced, SplitsAt, steps, rules, last_zero, rounding}
-use Rattle.decimal_digits.specs.Rounding.{rounded_number}
-use Rattle.decimal_unsigned.specs.ValueLaws.{trimmed, TrimmedIsNormalForm, IsShortest}
-use Rattle.decimal_unsigned.specs.Edits.{trimmed_start, trimmed_end}
-use Rattle.decimal_unsigned.specs.Unsigned.{IsLeastHi, IsGreatestLo}
-use Rattle.decimal_unsigned.proofs.FirstLast.{last_of, first_le}
-use Rattle.decimal_unsigned.proofs.ConcatenationLaws.{extent_of, parts_join, parts_number, parts_value}
-use Rattle.decimal_unsigned.proofs.Roundings.{trunc_makes}
-use Rattle.decimal_unsigned.proofs.Lengths.{length-text_whole, length-text_dotted}
+use Rattle.std.proofs.Common.{◌≡◌, ℕ, ◌-◌, ◌*◌, ◌%◌, ◌<◌, ◌≤◌, length, sym, ◌∙◌, ap, subst, arith, inl, inr, None, ℤ, pos, ◌≤ℤ◌, rules}
+use Rattle.std.proofs.Math.Nat.{pow-le-pow_right}
+use Rattle.std.proofs.lemmas.{Bool.cases_lt, Int.{ints, clamps}, Option.none-some}
+use Rattle.std.specs.{Int.{int_max, int_min}, Option.unwrap_or}
+use Rattle.decimal_digits.proofs.{Ends.{no_more_zeros, last_zero}, Offsets.{offset_is, gap_is}, Rules.steps}
+use Rattle.decimal_digits.specs.{Number.{offset, weight, first, last, number_limit}, Rounding.{unit_at, rounded_number}, declared.rounding.RoundingIncrement.RoundingIncrement, declared.rounding.RoundingIncrement.TheVariants.MultiplesOf1, declared.rounding.UnsignedRoundingMode.TheVariants.Trunc}
+use Rattle.decimal_unsigned.proofs.{ConcatenationLaws.{extent_of, parts_join, parts_number, parts_value}, FirstLast.{last_of, first_le}, Lengths.{length-text_whole, length-text_dotted}, Roundings.trunc_makes}
+use Rattle.decimal_unsigned.specs.{Edits.{with_max_position, trimmed_start, trimmed_end}, Rounded.{rounded, with_number, rounding}, Text.text, Unsigned.{Unsigned, IsValue, IsLeastHi, IsGreatestLo}, ValueLaws.{trunced, SplitsAt, trimmed, TrimmedIsNormalForm, IsShortest}}
 
 -- ---- Trims.
 

@@ -1,10 +1,12 @@
 -- What the digits of a value say of its number, and which digits are stored.
-use Rattle.decimal_unsigned.proofs.Common.{◌≡◌, ℕ, ◌+◌, ◌-◌, ◌*◌, ◌^◌, ◌<◌, ◌≤◌, List, [], length, ◌∙◌, ap, arith, w16, to_z, of_z, ℤ, pos, negsuc, ◌+ℤ◌, ◌-ℤ◌, ◌≤ℤ◌, ◌<ℤ◌, mul-le-mul_right, mul-lt-mul_of_pos_right, pow-add, ints, nat_tests, to_z-of_z, int_gap, number_lt, number_from_digits, AllBelowBase, offset, digit, first, last, size, IsStored, ten_pos, offset_is, gap_is, number_back, first_is, first_zero, steps, ◌%◌, subst, pow-le-pow_right, mul-mod_left, Unsigned, IsValue, sym, no_more_zeros, IsLast, w32, slice_index, magnitude_at-offset, last_is, last_zero}
+use Rattle.std.proofs.Common.{◌≡◌, ℕ, ◌+◌, ◌-◌, ◌*◌, ◌^◌, ◌<◌, ◌≤◌, List, [], length, ◌∙◌, ap, arith, w16, to_z, of_z, ℤ, pos, negsuc, ◌+ℤ◌, ◌-ℤ◌, ◌≤ℤ◌, ◌<ℤ◌, ◌%◌, subst, sym, w32, slice_index}
+use Rattle.std.proofs.Math.Nat.{mul-le-mul_right, mul-lt-mul_of_pos_right, pow-le-pow_right, mul-mod_left}
+use Rattle.std.proofs.lemmas.{Bool.Decides.nat_tests, Int.{ints, to_z-of_z}, Int.Digits.number_lt, Nat.pow-add}
+use Rattle.std.specs.{Int.int_gap, Int.Digits.{number_from_digits, AllBelowBase}}
+use Rattle.decimal_digits.proofs.{DigitLists.{ten_pos, number_back, number_front, number-digit}, Ends.{first_is, first_zero, no_more_zeros, last_is, last_zero, digit_above, digit_below, shift_down}, Offsets.{offset_is, gap_is, magnitude_at-offset}, Rules.steps}
+use Rattle.decimal_digits.specs.{Digits.{number_of, number_at}, Number.{offset, digit, first, last, size, IsLast, IsFirst}}
+use Rattle.decimal_unsigned.specs.{Stored.IsStored, Unsigned.{Unsigned, IsValue}}
 use lib.Signed.{mag}
-use Rattle.decimal_digits.specs.Digits.{number_of, number_at}
-use Rattle.decimal_digits.proofs.DigitLists.{number_front, number-digit}
-use Rattle.decimal_digits.proofs.Ends.{digit_above, digit_below, shift_down}
-use Rattle.decimal_digits.specs.Number.{IsFirst}
 
 -- the offset of the last digit
 abbrev ends : List ℕ → ℤ → ℕ

@@ -1,16 +1,12 @@
 -- The integer that the digits of a value write.
-use Rattle.decimal_unsigned.proofs.Common.{w16, to_z, of_z, zero, suc, ◌≡◌, ℕ, ◌+◌, ◌-◌, ◌*◌, ◌/◌, ◌%◌, ◌^◌, ◌<◌, ◌≤◌, List, length, get_or, take, drop, refl, sym, ◌∙◌, ap, arith, Ok, Err, ℤ, pos, ◌+ℤ◌, ◌<ℤ◌, nat_tests, mul-mod_left, pow-le-pow_right, ints, length-take-le, take_all, recursion_from_All, number_from_digits, AllBelowBase, offset, weight, leading, offset_is, ten_pos, below_take, no_more_zeros, IsStored, Unsigned, IsValue, Result, All, number_back, below_sixteen, leading_none, steps, pow-add, get_or-drop, number-div, get_or-padded, in_range}
-use Rattle.std.proofs.Math.Nat.{mul-div_cancel}
-use Rattle.std.proofs.lemmas.Int.Digits.{number_more as number_more_digits}
-use Rattle.decimal_digits.specs.Nibbles.{bcd_number}
-use Rattle.decimal_digits.specs.Digits.{number_of, number_at}
-use Rattle.decimal_digits.proofs.LeadingBytes.{hex_pow, sixteen, sixteen_are, sixteen_digits}
-use Rattle.decimal_digits.proofs.NumberAt.{number_at-more, number_at-lt, number_at-ge}
-use Rattle.decimal_digits.proofs.Leading.{leading_more}
-use Rattle.decimal_unsigned.specs.declared.error.IntegerError.TheVariants.{NotWhole, OutOfRange}
-use Rattle.decimal_unsigned.specs.declared.error.IntegerError.{IntegerError}
-use Rattle.decimal_unsigned.specs.ToInteger.{as_integer}
+use Rattle.std.proofs.Common.{w16, to_z, of_z, zero, suc, ◌≡◌, ℕ, ◌+◌, ◌-◌, ◌*◌, ◌/◌, ◌%◌, ◌^◌, ◌<◌, ◌≤◌, List, length, get_or, take, drop, refl, sym, ◌∙◌, ap, arith, Ok, Err, ℤ, pos, ◌+ℤ◌, ◌<ℤ◌, Result, All}
+use Rattle.std.proofs.Math.Nat.{mul-mod_left, pow-le-pow_right, mul-div_cancel}
+use Rattle.std.proofs.lemmas.{Bool.Decides.nat_tests, Int.ints, Int.Digits.number_more as number_more_digits, List.{length-take-le, take_all, get_or-drop}, List.Elements.recursion_from_All, Nat.pow-add}
+use Rattle.std.specs.Int.Digits.{number_from_digits, AllBelowBase}
+use Rattle.decimal_digits.proofs.{DigitLists.{ten_pos, below_take, number_back, number-div}, Ends.no_more_zeros, Leading.{leading_none, leading_more}, LeadingBytes.{below_sixteen, get_or-padded, hex_pow, sixteen, sixteen_are, sixteen_digits}, NumberAt.{number_at-more, number_at-lt, number_at-ge}, Offsets.offset_is, Rules.steps}
+use Rattle.decimal_digits.specs.{Digits.{number_of, number_at}, Nibbles.bcd_number, Number.{offset, weight}, Remainders.leading}
 use Rattle.decimal_unsigned.proofs.Values.{told, magnitude_kept}
+use Rattle.decimal_unsigned.specs.{Stored.IsStored, ToInteger.{in_range, as_integer}, Unsigned.{Unsigned, IsValue}, declared.error.IntegerError.IntegerError, declared.error.IntegerError.TheVariants.{NotWhole, OutOfRange}}
 
 -- ---- the result
 -- an integer below the bound is in range

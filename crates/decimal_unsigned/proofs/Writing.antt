@@ -1,11 +1,11 @@
 -- The text of a value by its bytes, and what has been written of it.
-use Rattle.decimal_unsigned.proofs.Common.{elements, ◌≡◌, ℕ, suc, ◌+◌, ◌≤◌, List, [], ◌∷◌, ◌++◌, length, take, drop, Option, refl, subst, arith, ℤ, pos, ◌-ℤ◌, digit, take-append-drop, Appends, zero, ◌<◌, get_or, sym, ◌∙◌, ap, negsuc, ◌≤ℤ◌, int_gap, ints, get_or-take, get_or-drop, length-take-le, length-drop, Unsigned, text, steps, slice_index, IsAscii}
+use Rattle.std.proofs.Common.{◌≡◌, ℕ, suc, ◌+◌, ◌≤◌, List, [], ◌∷◌, ◌++◌, length, take, drop, Option, refl, subst, arith, ℤ, pos, ◌-ℤ◌, zero, ◌<◌, get_or, sym, ◌∙◌, ap, negsuc, ◌≤ℤ◌, slice_index, EachIndex}
 use Rattle.std.proofs.KnownBytes.{Appends-trans}
-use Rattle.decimal_digits.specs.AppendsPrefix.{AppendsPrefix}
-use Rattle.decimal_digits.proofs.Sinks.{prefix_more, then_prefix}
-use Rattle.decimal_unsigned.specs.Text.{dot_before, text_down}
-use Rattle.std.specs.Prelude.{EachIndex}
-use Rattle.std.proofs.lemmas.Str.Ascii.{IsAscii-nil, IsAscii-cons}
+use Rattle.std.proofs.lemmas.{Grind.elements, Int.ints, List.{take-append-drop, get_or-take, get_or-drop, length-take-le, length-drop}, Str.Ascii.{IsAscii-nil, IsAscii-cons}}
+use Rattle.std.specs.{Int.int_gap, Io.KnownBytes.Appends, Str.IsAscii}
+use Rattle.decimal_digits.proofs.{Rules.steps, Sinks.{prefix_more, then_prefix}}
+use Rattle.decimal_digits.specs.{AppendsPrefix.AppendsPrefix, Number.digit}
+use Rattle.decimal_unsigned.specs.{Text.{text, dot_before, text_down}, Unsigned.Unsigned}
 
 -- the text of n + 1 magnitudes is that of the first and that of the other n
 pub text_down-suc : (number : ℕ) (m : ℤ) (n : ℕ)

@@ -1,19 +1,13 @@
 -- The lemmas for callers: what a proof outside these libraries cites of them, each with its use.
-use Rattle.fixed_decimal.proofs.Common.{◌≡◌, ℕ, zero, suc, ◌+◌, ◌-◌, ◌*◌, ◌/◌, ◌<◌, ◌≤◌, false, List, [], ◌∷◌, ◌++◌, refl, sym, ◌∙◌, ap, arith, Ok, Err, Some, ℤ, pos, ◌-ℤ◌, Appends, mod-lt, ints, clamps, nat_tests, AppendsPrefix, weight, digit, size, IsNearest, with_number, dot_before, text_down, text, Unsigned, IsValue, Decimal, signed_number, with_absolute}
-use Rattle.std.proofs.Common.{◌%◌, ◌^◌, inl, inr, append_assoc, Option}
-use Rattle.std.specs.Prelude.{◌↔◌, unsigned_abs, negsuc, ◌+ℤ◌, ◌≤ℤ◌, ◌<ℤ◌, ◌==◌}
-use Rattle.std.specs.Int.{int_gap, abs_diff}
-use Rattle.std.proofs.Math.Nat.{mul_assoc, mul-le-mul_right, mul-lt-mul_of_pos_right, le-mul_of_pos_right, mul-div_cancel, mul-mod_left, div-add-mod', pow-le-pow_right}
-use Rattle.std.proofs.lemmas.Bool.{cases_lt}
-use Rattle.decimal_digits.specs.Number.{offset, magnitude_at, first, last}
+use Rattle.std.proofs.Common.{◌≡◌, ℕ, zero, suc, ◌+◌, ◌-◌, ◌*◌, ◌/◌, ◌<◌, ◌≤◌, false, List, [], ◌∷◌, ◌++◌, refl, sym, ◌∙◌, ap, arith, Ok, Err, Some, ℤ, pos, ◌-ℤ◌, ◌%◌, ◌^◌, inl, inr, append_assoc, Option, ◌↔◌, unsigned_abs, negsuc, ◌+ℤ◌, ◌≤ℤ◌, ◌<ℤ◌, ◌==◌}
+use Rattle.std.proofs.Math.Nat.{mod-lt, mul_assoc, mul-le-mul_right, mul-lt-mul_of_pos_right, le-mul_of_pos_right, mul-div_cancel, mul-mod_left, div-add-mod', pow-le-pow_right}
+use Rattle.std.proofs.lemmas.{Bool.cases_lt, Bool.Decides.nat_tests, Int.{ints, clamps}}
+use Rattle.std.specs.{Int.{int_gap, abs_diff}, Io.KnownBytes.Appends}
 use Rattle.decimal_digits.proofs.Ends.{no_more_zeros}
-use Rattle.decimal_unsigned.specs.Reading.{read}
-use Rattle.decimal_unsigned.specs.ValueLaws.{trimmed}
-use Rattle.decimal_unsigned.specs.Rounded.{rounded_to}
-use Rattle.decimal_unsigned.specs.ToInteger.{as_integer}
-use Rattle.decimal_unsigned.specs.declared.error.IntegerError.TheVariants.{NotWhole, OutOfRange}
-use Rattle.decimal_unsigned.proofs.ConcatenationLaws.{extent_of}
-use Rattle.decimal_unsigned.proofs.FirstLast.{top_lt, first_sum, last_sum}
+use Rattle.decimal_digits.specs.{AppendsPrefix.AppendsPrefix, Number.{weight, digit, size, offset, magnitude_at, first, last}, Rounding.IsNearest}
+use Rattle.decimal_unsigned.proofs.{ConcatenationLaws.extent_of, FirstLast.{top_lt, first_sum, last_sum}}
+use Rattle.decimal_unsigned.specs.{Reading.read, Rounded.{with_number, rounded_to}, Text.{dot_before, text_down, text}, ToInteger.as_integer, Unsigned.{Unsigned, IsValue}, ValueLaws.trimmed, declared.error.IntegerError.TheVariants.{NotWhole, OutOfRange}}
+use Rattle.fixed_decimal.specs.Decimal.{Decimal, signed_number, with_absolute}
 -- for `omega`: an offset is the magnitude plus 32768
 pub use Rattle.decimal_digits.proofs.Offsets.{offset_is}
 -- for `omega`: how far one magnitude is above another

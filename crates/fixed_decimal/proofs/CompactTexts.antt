@@ -1,17 +1,12 @@
 -- The text of a compact value: its exponent's digits, and that it reads as the value.
-use Rattle.fixed_decimal.proofs.Common.{◌≡◌, ℕ, zero, suc, ◌+◌, ◌/◌, ◌<◌, ◌≤◌, Bool, false, List, [], ◌∷◌, get_or, refl, sym, ◌∙◌, ap, arith, Option, Some, None, Ok, Err, list_any, IsUtf8, nat_tests, list_any-append, syntax, is_letter, decimal_text, read_decimal, and_then}
-use Rattle.std.proofs.Common.{◌%◌, ◌^◌, true, append-nil}
-use Rattle.std.specs.Fmt.{decimal}
-use Rattle.std.specs.Str.Parse.{AllDigits, IsNumeral, digits_value}
+use Rattle.std.proofs.Common.{◌≡◌, ℕ, zero, suc, ◌+◌, ◌/◌, ◌<◌, ◌≤◌, Bool, false, List, [], ◌∷◌, get_or, refl, sym, ◌∙◌, ap, arith, Option, Some, None, Ok, Err, ◌%◌, ◌^◌, true, append-nil}
 use Rattle.std.proofs.Math.Dec.{eqb-suc-zero}
-use Rattle.std.proofs.lemmas.Fmt.{IsAscii-decimal, decimal_digit, decimal_step, decimal_is_IsNumeral, first_decimal}
-use Rattle.std.proofs.lemmas.Str.{IsUtf8-nil, IsUtf8-from_ascii, IsAscii-append}
-use Rattle.std.proofs.lemmas.Str.Parse.{digit_from_value}
+use Rattle.std.proofs.lemmas.{Bool.Decides.nat_tests, Fmt.{IsAscii-decimal, decimal_digit, decimal_step, decimal_is_IsNumeral, first_decimal}, List.Folds.list_any-append, Str.{IsUtf8-nil, IsUtf8-from_ascii, IsAscii-append}, Str.Parse.digit_from_value}
+use Rattle.std.specs.{Fmt.decimal, List.list_any, Str.IsUtf8, Str.Parse.{AllDigits, IsNumeral, digits_value}}
 use Rattle.decimal_unsigned.proofs.GrammarParts.{numeral-complete}
-use Rattle.fixed_decimal.specs.Compact.{split_at_c, IsSplitAtC, ReadsCompact, Compact, exponent_text, compact_text, exponent_number_of, read_exponent, read_fields, read_compact, with_c}
-use Rattle.fixed_decimal.proofs.DecimalBytes.{PassesNone, decimal_text-lacks, letter-none, c-none}
-use Rattle.fixed_decimal.proofs.Splitting.{split_none, split_at}
-use Rattle.fixed_decimal.proofs.Writing.{first_fails, second_fails}
+use Rattle.decimal_unsigned.specs.Reading.{syntax, is_letter}
+use Rattle.fixed_decimal.proofs.{DecimalBytes.{PassesNone, decimal_text-lacks, letter-none, c-none}, Splitting.{split_none, split_at}, Writing.{first_fails, second_fails}}
+use Rattle.fixed_decimal.specs.{Compact.{split_at_c, IsSplitAtC, ReadsCompact, Compact, exponent_text, compact_text, exponent_number_of, read_exponent, read_fields, read_compact, with_c}, DecimalText.{decimal_text, read_decimal, and_then}}
 
 below_64 : (n : ℕ) → n < 256 → n < 2 ^ 64
 below_64 n h = omega arith

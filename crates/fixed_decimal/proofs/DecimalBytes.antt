@@ -1,12 +1,14 @@
 -- The bytes of a decimal's text, and its length.
-use Rattle.fixed_decimal.proofs.Common.{◌≡◌, ℕ, zero, suc, ◌+◌, ◌/◌, ◌<◌, ◌≤◌, Bool, false, [], ◌∷◌, ◌++◌, length, refl, ◌∙◌, ap, arith, ℤ, pos, ◌-ℤ◌, list_any, ints, nat_tests, list_any-append, mod-lt, digit, weight, IsValue, dot_before, text_down, is_letter, Decimal, sign_text, decimal_text}
-use Rattle.std.proofs.lemmas.List.{length-append}
+use Rattle.std.proofs.Common.{◌≡◌, ℕ, zero, suc, ◌+◌, ◌/◌, ◌<◌, ◌≤◌, Bool, false, [], ◌∷◌, ◌++◌, length, refl, ◌∙◌, ap, arith, ℤ, pos, ◌-ℤ◌}
+use Rattle.std.proofs.Math.Nat.{mod-lt}
+use Rattle.std.proofs.lemmas.{Bool.Decides.nat_tests, Int.ints, List.length-append, List.Folds.list_any-append}
+use Rattle.std.specs.List.{list_any}
 use Rattle.decimal_digits.proofs.Offsets.{gap_is}
-use Rattle.decimal_unsigned.proofs.Lengths.{length-text_whole}
-use Rattle.decimal_unsigned.proofs.Writing.{text_down-suc, text_down-zero}
-use Rattle.fixed_decimal.specs.declared.variations.Sign.{Sign}
-use Rattle.fixed_decimal.specs.Letters.{is_c}
+use Rattle.decimal_digits.specs.Number.{digit, weight}
+use Rattle.decimal_unsigned.proofs.{Lengths.length-text_whole, Writing.{text_down-suc, text_down-zero}}
+use Rattle.decimal_unsigned.specs.{Reading.is_letter, Text.{dot_before, text_down}, Unsigned.IsValue}
 use Rattle.fixed_decimal.proofs.DecimalTexts.{sign_text_short}
+use Rattle.fixed_decimal.specs.{Decimal.Decimal, DecimalText.{sign_text, decimal_text}, Letters.is_c, declared.variations.Sign.Sign}
 
 -- the test passes no digit, no decimal point and no sign
 abbrev pub PassesNone : (ℕ → Bool) → Type 0

@@ -1,10 +1,9 @@
 -- The reading of an integer, by the grammar and of its text.
-use Rattle.fixed_decimal.proofs.Common.{◌≡◌, ℕ, List, refl, arith, Ok, pos, IsValue, Literal, value_of, Decimal, decimal_text}
+use Rattle.std.proofs.Common.{◌≡◌, ℕ, List, refl, arith, Ok, pos}
 use Rattle.decimal_unsigned.proofs.ReadingGrammar.{read_grammar}
-use Rattle.fixed_decimal.specs.declared.variations.Sign.{Sign}
-use Rattle.fixed_decimal.specs.DecimalText.{Grammar, after_sign, with_sign, read_decimal}
-use Rattle.fixed_decimal.specs.Integer.{read_integer, ReadsInteger}
+use Rattle.decimal_unsigned.specs.{Grammar.Literal, Reading.value_of, Unsigned.IsValue}
 use Rattle.fixed_decimal.proofs.DecimalTexts.{decimal_syntax, grammar_splits, read_decimal_text}
+use Rattle.fixed_decimal.specs.{Decimal.Decimal, DecimalText.{decimal_text, Grammar, after_sign, with_sign, read_decimal}, Integer.{read_integer, ReadsInteger}, declared.variations.Sign.Sign}
 
 decimal_found : (bytes : List ℕ) (s : Sign) (w : Literal) → Grammar bytes s w
     → read_decimal bytes ≡ with_sign s (value_of w)

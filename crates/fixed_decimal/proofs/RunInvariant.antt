@@ -1,15 +1,9 @@
 -- One call more.
-use Rattle.fixed_decimal.proofs.Common.{◌≡◌, ℕ, suc, ◌+◌, ◌<◌, List, [], ◌∷◌, ◌++◌, length, get_or, take, drop, refl, sym, ◌∙◌, ap, arith, Result, Ok, Err, Decimal, read_decimal, and_then, CallsFail}
+use Rattle.std.proofs.Common.{◌≡◌, ℕ, suc, ◌+◌, ◌<◌, List, [], ◌∷◌, ◌++◌, length, get_or, take, drop, refl, sym, ◌∙◌, ap, arith, Result, Ok, Err}
 use Rattle.std.proofs.Math.Seq.{drop-cons}
-use Rattle.std.proofs.lemmas.List.{take_more, length-take-le}
-use Rattle.std.proofs.lemmas.Option.{slice_get-get_or}
+use Rattle.std.proofs.lemmas.{List.{take_more, length-take-le}, Option.slice_get-get_or}
+use Rattle.fixed_decimal.specs.{Calls.{CallsFail, CallFails, call_number}, Decimal.Decimal, DecimalText.{read_decimal, and_then}, Errors.{IsReached, run_error, RunFails}, Outcome.{OutcomeError, step, after_calls}, declared.runs.Call.Call, declared.runs.CallError.CallError, declared.runs.CallError.TheVariants.{Operand, Overlap, Limit, Memory}}
 use Rattle.decimal_unsigned.specs.declared.error.ParseError.TheVariants as parse
-use Rattle.fixed_decimal.specs.declared.runs.Call.{Call}
-use Rattle.fixed_decimal.specs.declared.runs.CallError.{CallError}
-use Rattle.fixed_decimal.specs.declared.runs.CallError.TheVariants.{Operand, Overlap, Limit, Memory}
-use Rattle.fixed_decimal.specs.Outcome.{OutcomeError, step, after_calls}
-use Rattle.fixed_decimal.specs.Errors.{IsReached, run_error, RunFails}
-use Rattle.fixed_decimal.specs.Calls.{CallFails, call_number}
 
 and_then-Ok : (r : Result Decimal OutcomeError) → and_then r (λ w. Ok w) ≡ r
 and_then-Ok r = grind arith

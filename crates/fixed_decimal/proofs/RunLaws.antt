@@ -1,25 +1,16 @@
 -- Laws of sequences of roundings, and of runs.
-use Rattle.fixed_decimal.proofs.Common.{◌≡◌, ℕ, ◌+◌, ◌<◌, List, [], ◌∷◌, sym, ◌∙◌, ap, arith, rules, Option, Some, None, Err, ℤ, unwrap_or, ints, clamps, unit_pos, IsValue, rounding_by_1, reaches_limit, below_limit, trunc_makes, Decimal, with_absolute, and_then}
-use Rattle.std.proofs.Common.{map}
-use Rattle.std.specs.Prelude.{option_map, option_and_then, if◌then◌else◌}
-use Rattle.std.specs.List.{All, fold}
-use Rattle.std.specs.Int.{int_max}
-use Rattle.std.proofs.lemmas.List.Elements.{All-head, All-tail, All-cons}
-use Rattle.decimal_digits.specs.Number.{number_limit}
-use Rattle.decimal_digits.specs.Rounding.{unit_at, rounded_number}
-use Rattle.decimal_digits.specs.declared.rounding.RoundingIncrement.TheVariants.{MultiplesOf1}
-use Rattle.decimal_digits.specs.declared.rounding.UnsignedRoundingMode.{UnsignedRoundingMode}
-use Rattle.decimal_digits.specs.declared.rounding.UnsignedRoundingMode.TheVariants.{Expand, Trunc}
-use Rattle.decimal_digits.proofs.RoundingLaws.{trunc_le}
-use Rattle.decimal_unsigned.specs.Unsigned.{Unsigned as Absolute}
+use Rattle.std.proofs.Common.{◌≡◌, ℕ, ◌+◌, ◌<◌, List, [], ◌∷◌, sym, ◌∙◌, ap, arith, rules, Option, Some, None, Err, ℤ, map, option_map, option_and_then, if◌then◌else◌}
+use Rattle.std.proofs.lemmas.{Int.{ints, clamps}, List.Elements.{All-head, All-tail, All-cons}}
+use Rattle.std.specs.{Int.int_max, List.{All, fold}, Option.unwrap_or}
+use Rattle.decimal_digits.proofs.{Remainders.unit_pos, RoundingLaws.trunc_le}
+use Rattle.decimal_digits.specs.{Number.number_limit, Rounding.{unit_at, rounded_number}, declared.rounding.RoundingIncrement.TheVariants.MultiplesOf1, declared.rounding.UnsignedRoundingMode.UnsignedRoundingMode, declared.rounding.UnsignedRoundingMode.TheVariants.{Expand, Trunc}}
+use Rattle.decimal_unsigned.proofs.{Roundings.trunc_makes, ValueLaws.below_limit}
+use Rattle.decimal_unsigned.specs.{Rounded.{rounding_by_1, reaches_limit}, Unsigned.{IsValue, Unsigned as Absolute}, ValueLaws.number_if_any}
+use Rattle.fixed_decimal.proofs.SignedRoundings.{trunc_is_some}
+use Rattle.fixed_decimal.specs.{Decimal.{Decimal, with_absolute}, DecimalText.and_then, Outcome.{limit_exceeded, or_limit_exceeded, after_calls}, RunLaws.{rounding_at, ResultHasNumber, RoundsOnce}, SignedRounding.{IsPosition, trunced, TruncationsCompose, expanded, sign_and_number, ExpansionsCompose}}
 use Rattle.decimal_unsigned.specs.Rounded as unsigned
 use Rattle.decimal_unsigned.specs.ValueLaws as unsigned_laws
-use Rattle.decimal_unsigned.specs.ValueLaws.{number_if_any}
 use Rattle.decimal_unsigned.proofs.RoundingLaws as unsigned_proofs
-use Rattle.fixed_decimal.specs.Outcome.{limit_exceeded, or_limit_exceeded, after_calls}
-use Rattle.fixed_decimal.specs.SignedRounding.{IsPosition, trunced, TruncationsCompose, expanded, sign_and_number, ExpansionsCompose}
-use Rattle.fixed_decimal.proofs.SignedRoundings.{trunc_is_some}
-use Rattle.fixed_decimal.specs.RunLaws.{rounding_at, ResultHasNumber, RoundsOnce}
 
 -- ---- Two roundings of a decimal, by those of its absolute value.
 

@@ -1,10 +1,9 @@
 -- The text of a scientific value: how it is split, and that it reads as the value.
-use Rattle.fixed_decimal.proofs.Common.{◌≡◌, ◌==◌, ℕ, false, List, [], ◌∷◌, refl, sym, ◌∙◌, ap, arith, pos, Option, Some, None, Ok, Err, list_any, syntax, is_letter, IsValue, decimal_text, read_decimal, split_once}
-use Rattle.fixed_decimal.specs.Scientific.{Scientific, scientific_text, plain_parts, split_at_e, read_scientific, IsSplitAtE, ReadsScientific}
-use Rattle.fixed_decimal.proofs.DecimalBytes.{decimal_text-lacks, letter-none}
-use Rattle.fixed_decimal.proofs.IntegerTexts.{integer_reads_back}
-use Rattle.fixed_decimal.proofs.Splitting.{split_at, split_parts}
-use Rattle.fixed_decimal.proofs.Writing.{first_fails, second_fails}
+use Rattle.std.proofs.Common.{◌≡◌, ◌==◌, ℕ, false, List, [], ◌∷◌, refl, sym, ◌∙◌, ap, arith, pos, Option, Some, None, Ok, Err}
+use Rattle.std.specs.List.{list_any}
+use Rattle.decimal_unsigned.specs.{Reading.{syntax, is_letter}, Unsigned.IsValue}
+use Rattle.fixed_decimal.proofs.{DecimalBytes.{decimal_text-lacks, letter-none}, IntegerTexts.integer_reads_back, Splitting.{split_at, split_parts}, Writing.{first_fails, second_fails}}
+use Rattle.fixed_decimal.specs.{DecimalText.{decimal_text, read_decimal}, Scientific.{Scientific, scientific_text, plain_parts, split_at_e, read_scientific, IsSplitAtE, ReadsScientific}, Split.split_once}
 
 lacks_e : (text : List ℕ) → list_any is_letter text ≡ false → list_any (λ c. c == 101) text ≡ false
 lacks_e [] h = refl

@@ -1,5 +1,7 @@
 -- Where a text is split at a letter.
-use Rattle.fixed_decimal.proofs.Common.{◌≡◌, ◌==◌, ℕ, false, List, [], ◌∷◌, ◌++◌, refl, arith, Some, None, list_any, nat_tests}
+use Rattle.std.proofs.Common.{◌≡◌, ◌==◌, ℕ, false, List, [], ◌∷◌, ◌++◌, refl, arith, Some, None}
+use Rattle.std.proofs.lemmas.Bool.Decides.{nat_tests}
+use Rattle.std.specs.List.{list_any}
 use Rattle.fixed_decimal.specs.Split.{split_once}
 
 module _ (letter : ℕ) where

@@ -1,10 +1,10 @@
 -- Writing a text of two parts to a sink.
-use Rattle.fixed_decimal.proofs.Common.{List, ℕ, ◌++◌, Result, Appends, has_written_styled_append, AppendsPrefix}
-use Rattle.std.proofs.Common.{Option}
-use Rattle.std.specs.Prelude.{OnErr}
+use Rattle.std.proofs.Common.{List, ℕ, ◌++◌, Result, Option, OnErr}
+use Rattle.std.proofs.Output.{has_written_styled_append}
 use Rattle.std.proofs.lemmas.Result.{on_err_weaker}
-use Rattle.decimal_digits.proofs.Results.{on_err}
-use Rattle.decimal_digits.proofs.Sinks.{prefix_more, then_prefix}
+use Rattle.std.specs.Io.KnownBytes.{Appends}
+use Rattle.decimal_digits.proofs.{Results.on_err, Sinks.{prefix_more, then_prefix}}
+use Rattle.decimal_digits.specs.AppendsPrefix.{AppendsPrefix}
 use Rattle.fixed_decimal.proofs.DecimalTexts.{read_decimal_text}
 
 -- the first part was not written whole

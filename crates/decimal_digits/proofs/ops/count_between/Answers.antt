@@ -1,4 +1,5 @@
-use Rattle.decimal_digits.proofs.Common.{arith, ints}
+use Rattle.std.proofs.Common.{arith}
+use Rattle.std.proofs.lemmas.Int.{ints}
 use Rattle.decimal_digits.proofs.Offsets.{gap_is}
 use Rattle.decimal_digits.proofs.ops.count_between.Goals as goal
 

@@ -1,7 +1,8 @@
-use Rattle.decimal_digits.proofs.Common.{◌+◌, ◌*◌, ◌≤◌, length, ap, ◌∙◌, arith, rules, w16, negsuc, ◌≤ℤ◌, FitsSigned, ints, to_z-of_z, recursion_from_All, offset, weight}
-use Rattle.decimal_digits.proofs.NumberAt.{number_at-none}
-use Rattle.decimal_digits.proofs.Offsets.{offset_is}
-use Rattle.decimal_digits.proofs.SplitAtPosition.{represents, represents_none, number_up}
+use Rattle.std.proofs.Common.{◌+◌, ◌*◌, ◌≤◌, length, ap, ◌∙◌, arith, rules, w16, negsuc, ◌≤ℤ◌}
+use Rattle.std.proofs.lemmas.{Int.{ints, to_z-of_z}, List.Elements.recursion_from_All}
+use Rattle.std.specs.Int.RustNames.{FitsSigned}
+use Rattle.decimal_digits.proofs.{NumberAt.number_at-none, Offsets.offset_is, SplitAtPosition.{represents, represents_none, number_up}}
+use Rattle.decimal_digits.specs.Number.{offset, weight}
 use Rattle.decimal_digits.proofs.rounding.magnitude_after.Goals as goal
 
 pub returns-then-len-eq0-clause-represents : goal.returns-then-len-eq0-clause-represents

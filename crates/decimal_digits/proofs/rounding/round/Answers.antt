@@ -1,11 +1,8 @@
-use Rattle.decimal_digits.proofs.Common.{◌≡◌, length, inl, inr, ap, ◌∙◌, arith, rules, w16, FitsSigned, ints, to_z-of_z, cases_lt, offset, weight, step_of, unit_at, rounded_number, DigitRoundingFails, leading}
-use Rattle.decimal_digits.specs.Digits.{number_of}
-use Rattle.decimal_digits.proofs.DigitLists.{ten_pos}
-use Rattle.decimal_digits.proofs.RoundingLaws.{rounded_number-zero}
-use Rattle.decimal_digits.proofs.Remainders.{unit_pos}
-use Rattle.decimal_digits.proofs.NumberAt.{number_of-none}
-use Rattle.decimal_digits.proofs.Offsets.{offset_is}
-use Rattle.decimal_digits.proofs.SplitAtPosition.{rounded_split, represents_none, digit_rounding_fails}
+use Rattle.std.proofs.Common.{◌≡◌, length, inl, inr, ap, ◌∙◌, arith, rules, w16}
+use Rattle.std.proofs.lemmas.{Bool.cases_lt, Int.{ints, to_z-of_z}}
+use Rattle.std.specs.Int.RustNames.{FitsSigned}
+use Rattle.decimal_digits.proofs.{DigitLists.ten_pos, NumberAt.number_of-none, Offsets.offset_is, Remainders.unit_pos, RoundingLaws.rounded_number-zero, SplitAtPosition.{rounded_split, represents_none, digit_rounding_fails}}
+use Rattle.decimal_digits.specs.{Digits.number_of, Number.{offset, weight}, Remainders.leading, Rounding.{step_of, unit_at, rounded_number, DigitRoundingFails}}
 use Rattle.decimal_digits.proofs.rounding.round.Goals as goal
 
 pub returns-then-len-eq0-clause-ok : goal.returns-then-len-eq0-clause-ok

@@ -1,5 +1,6 @@
-use Rattle.fixed_decimal.proofs.Common.{rules, CallsFail}
+use Rattle.std.proofs.Common.{rules}
 use Rattle.fixed_decimal.proofs.RunInvariant.{continues, fails_with, stops_at}
+use Rattle.fixed_decimal.specs.Calls.{CallsFail}
 use Rattle.fixed_decimal.proofs.runs.apply_calls.Goals as goal
 
 pub returns-in_err-make_call-clause-fails_with : goal.returns-in_err-make_call-clause-fails_with

@@ -1,4 +1,5 @@
-use Rattle.fixed_decimal.proofs.Common.{◌≡◌, ◌==◌, false, take, list_any}
+use Rattle.std.proofs.Common.{◌≡◌, ◌==◌, false, take}
+use Rattle.std.specs.List.{list_any}
 use Rattle.fixed_decimal.proofs.split.split_once.Given as goal
 
 abbrev pub invariant-loop-at : goal.invariant-loop-at

@@ -1,7 +1,7 @@
-use Rattle.decimal_digits.proofs.Common.{drop, sym, ap, arith, drop_all}
+use Rattle.std.proofs.Common.{drop, sym, ap, arith}
+use Rattle.std.proofs.lemmas.List.{drop_all}
+use Rattle.decimal_digits.proofs.{Nibbles.nibble_rules, Words.bcd_of_word}
 use Rattle.decimal_digits.specs.Nibbles.{bcd_number, padded}
-use Rattle.decimal_digits.proofs.Words.{bcd_of_word}
-use Rattle.decimal_digits.proofs.Nibbles.{nibble_rules}
 use Rattle.decimal_digits.proofs.digits.DigitStore.bcd_at.Goals as goal
 
 pub returns-then-len-start : goal.returns-then-len-start

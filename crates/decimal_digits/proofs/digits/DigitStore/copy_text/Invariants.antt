@@ -1,4 +1,4 @@
-use Rattle.decimal_digits.proofs.Common.{◌≡◌, ℕ, ◌+◌, ◌<◌, get_or}
+use Rattle.std.proofs.Common.{◌≡◌, ℕ, ◌+◌, ◌<◌, get_or}
 use Rattle.decimal_digits.proofs.digits.DigitStore.copy_text.Given as goal
 
 abbrev pub invariant-loop-index : goal.invariant-loop-index

@@ -1,4 +1,5 @@
-use Rattle.decimal_digits.proofs.Common.{◌≡◌, ◌+◌, ◌≤◌, ◌++◌, take, map, digit_value}
+use Rattle.std.proofs.Common.{◌≡◌, ◌+◌, ◌≤◌, ◌++◌, take, map}
+use Rattle.std.specs.Char.{digit_value}
 use Rattle.decimal_digits.proofs.digits.DigitStore.push_text.Given as goal
 
 abbrev pub invariant-loop-ascii : goal.invariant-loop-ascii

@@ -1,4 +1,4 @@
-use Rattle.decimal_digits.proofs.Common.{◌^◌, sym, ◌∙◌, ap, arith}
+use Rattle.std.proofs.Common.{◌^◌, sym, ◌∙◌, ap, arith}
 use Rattle.decimal_digits.proofs.Leading.{leading_carry}
 use Rattle.decimal_digits.proofs.rounding.carry.carry_out.Goals as goal
 

@@ -1,6 +1,5 @@
-use Rattle.decimal_digits.proofs.Common.{arith}
-use Rattle.decimal_digits.proofs.Nibbles.{nibble_rules}
-use Rattle.decimal_digits.proofs.Leading.{leading_same}
+use Rattle.std.proofs.Common.{arith}
+use Rattle.decimal_digits.proofs.{Leading.leading_same, Nibbles.nibble_rules}
 use Rattle.decimal_digits.proofs.rounding.carry.strip_trailing_zeros.Goals as goal
 
 pub returns-clause-value : goal.returns-clause-value

@@ -1,4 +1,4 @@
-use Rattle.decimal_digits.proofs.Common.{arith}
+use Rattle.std.proofs.Common.{arith}
 use Rattle.decimal_digits.proofs.Leading.{last_digit}
 use Rattle.decimal_digits.proofs.rounding.last_two.last_of.Goals as goal
 

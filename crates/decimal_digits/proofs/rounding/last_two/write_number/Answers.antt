@@ -1,4 +1,5 @@
-use Rattle.decimal_digits.proofs.Common.{◌^◌, ◌-◌, ◌≤◌, arith, pow-le-pow_right}
+use Rattle.std.proofs.Common.{◌^◌, ◌-◌, ◌≤◌, arith}
+use Rattle.std.proofs.Math.Nat.{pow-le-pow_right}
 use Rattle.decimal_digits.proofs.rounding.last_two.write_number.Goals as goal
 
 pub returns-then-places-max_places-clause-full : goal.returns-then-places-max_places-clause-full

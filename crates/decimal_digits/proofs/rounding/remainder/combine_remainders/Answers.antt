@@ -1,4 +1,4 @@
-use Rattle.decimal_digits.proofs.Common.{arith}
+use Rattle.std.proofs.Common.{arith}
 use Rattle.decimal_digits.proofs.Remainders.{part_below, part_half, part_above}
 use Rattle.decimal_digits.proofs.rounding.remainder.combine_remainders.Goals as goal
 

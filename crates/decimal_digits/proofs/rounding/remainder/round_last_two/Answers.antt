@@ -1,4 +1,4 @@
-use Rattle.decimal_digits.proofs.Common.{true, false, refl, arith}
+use Rattle.std.proofs.Common.{true, false, refl, arith}
 use Rattle.decimal_digits.proofs.Remainders.{two_split}
 use Rattle.decimal_digits.proofs.rounding.remainder.round_last_two.Goals as goal
 

@@ -1,10 +1,7 @@
-use Rattle.decimal_digits.proofs.Common.{◌≡◌, ◌+◌, ◌-◌, ◌≤◌, length, refl, arith, rules, common_steps, recursion_from_All, leading}
-use Rattle.decimal_digits.specs.declared.rounding.RoundError.TheVariants.{Limit}
-use Rattle.decimal_digits.specs.declared.rounding.RoundingIncrement.TheVariants.{MultiplesOf1}
-use Rattle.decimal_digits.proofs.Nibbles.{nibble_rules}
-use Rattle.decimal_digits.proofs.NumberAt.{powers}
-use Rattle.decimal_digits.proofs.Leading.{leading_none, leading_hundred, leading_same, one_more}
-use Rattle.decimal_digits.proofs.Results.{none_is_error}
+use Rattle.std.proofs.Common.{◌≡◌, ◌+◌, ◌-◌, ◌≤◌, length, refl, arith, rules}
+use Rattle.std.proofs.lemmas.{Grind.common_steps, List.Elements.recursion_from_All}
+use Rattle.decimal_digits.proofs.{Leading.{leading_none, leading_hundred, leading_same, one_more}, Nibbles.nibble_rules, NumberAt.powers, Results.none_is_error}
+use Rattle.decimal_digits.specs.{Remainders.leading, declared.rounding.RoundError.TheVariants.Limit, declared.rounding.RoundingIncrement.TheVariants.MultiplesOf1}
 use Rattle.decimal_digits.proofs.rounding.round_digits.round_leading.Goals as goal
 
 pub returns-then-matches-clause-fails_with : goal.returns-then-matches-clause-fails_with

@@ -1,4 +1,5 @@
-use Rattle.decimal_digits.proofs.Common.{◌≡◌, take, false, Appends}
+use Rattle.std.proofs.Common.{◌≡◌, take, false}
+use Rattle.std.specs.Io.KnownBytes.{Appends}
 use Rattle.decimal_digits.proofs.sink.Sink.put_bytes.Given as goal
 
 abbrev pub invariant-loop-byte : goal.invariant-loop-byte

@@ -1,4 +1,5 @@
-use Rattle.decimal_digits.proofs.Common.{arith, length-drop, length-take}
+use Rattle.std.proofs.Common.{arith}
+use Rattle.std.proofs.lemmas.List.{length-drop, length-take}
 use Rattle.decimal_digits.proofs.Sinks.{took_more}
 use Rattle.decimal_digits.proofs.sink.write_error.write_whole.Goals as goal
 

@@ -1,4 +1,5 @@
-use Rattle.decimal_digits.proofs.Common.{◌≤◌, ◌-◌, length, take, Appends}
+use Rattle.std.proofs.Common.{◌≤◌, ◌-◌, length, take}
+use Rattle.std.specs.Io.KnownBytes.{Appends}
 use Rattle.decimal_digits.proofs.sink.write_error.write_whole.Given as goal
 
 -- the bytes so far were taken

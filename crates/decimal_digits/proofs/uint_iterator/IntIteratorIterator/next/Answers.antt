@@ -1,4 +1,4 @@
-use Rattle.decimal_digits.proofs.Common.{length, sym, ◌∙◌, ap, rules}
+use Rattle.std.proofs.Common.{length, sym, ◌∙◌, ap, rules}
 use Rattle.decimal_digits.proofs.Integers.{ascending_digits-step}
 use Rattle.decimal_digits.proofs.uint_iterator.IntIteratorIterator.next.Goals as goal
 

@@ -1,4 +1,4 @@
-use Rattle.decimal_unsigned.proofs.Common.{sym, ◌∙◌, rules, ◌<◌}
+use Rattle.std.proofs.Common.{sym, ◌∙◌, rules, ◌<◌}
 use Rattle.decimal_unsigned.proofs.Concatenations.{disjoint, not_overlapping}
 use Rattle.decimal_unsigned.proofs.decimal.UnsignedOver.concatenate_end.Goals as goal
 

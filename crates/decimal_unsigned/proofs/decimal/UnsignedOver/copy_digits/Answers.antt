@@ -1,6 +1,9 @@
-use Rattle.decimal_unsigned.proofs.Common.{◌≡◌, ◌+◌, ◌-◌, length, take, drop, w16, of_z, to_z, ◌∙◌, ap, arith, min, ◌-ℤ◌, pos, ints, to_z-of_z, length-take-le, length-drop, int_gap, offset, digit, Unsigned}
-use Rattle.decimal_unsigned.proofs.Values.{magnitude_kept, value_of_view}
-use Rattle.decimal_unsigned.proofs.Pieces.{index_gap, block_digit}
+use Rattle.std.proofs.Common.{◌≡◌, ◌+◌, ◌-◌, length, take, drop, w16, of_z, to_z, ◌∙◌, ap, arith, min, ◌-ℤ◌, pos}
+use Rattle.std.proofs.lemmas.{Int.{ints, to_z-of_z}, List.{length-take-le, length-drop}}
+use Rattle.std.specs.Int.{int_gap}
+use Rattle.decimal_digits.specs.Number.{offset, digit}
+use Rattle.decimal_unsigned.proofs.{Pieces.{index_gap, block_digit}, Values.{magnitude_kept, value_of_view}}
+use Rattle.decimal_unsigned.specs.Unsigned.{Unsigned}
 use Rattle.decimal_unsigned.proofs.decimal.UnsignedOver.copy_digits.Goals as goal
 
 pub returns-clause-value : goal.returns-clause-value

@@ -1,6 +1,6 @@
-use Rattle.decimal_unsigned.proofs.Common.{◌≡◌, ◌-◌, ◌+◌, int_gap, ◌∙◌, arith}
-use Rattle.decimal_unsigned.proofs.Values.{hi_kept, lo_kept, magnitude_kept, told}
-use Rattle.decimal_unsigned.proofs.ShownDigits.{stored_shown}
+use Rattle.std.proofs.Common.{◌≡◌, ◌-◌, ◌+◌, ◌∙◌, arith}
+use Rattle.std.specs.Int.{int_gap}
+use Rattle.decimal_unsigned.proofs.{ShownDigits.stored_shown, Values.{hi_kept, lo_kept, magnitude_kept, told}}
 use Rattle.decimal_unsigned.specs.ShownDigits.{shown_digits}
 use Rattle.decimal_unsigned.proofs.decimal.UnsignedOver.digits.Goals as goal
 

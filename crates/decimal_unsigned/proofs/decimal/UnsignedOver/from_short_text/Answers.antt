@@ -1,4 +1,4 @@
-use Rattle.decimal_unsigned.proofs.Common.{Result, Ok, Err, ◌∙◌, ap, sym, IfOk, IfSome}
+use Rattle.std.proofs.Common.{Result, Ok, Err, ◌∙◌, ap, sym, IfOk, IfSome}
 use Rattle.std.specs.Result.{result_ok}
 use Rattle.decimal_unsigned.proofs.BcdValues.{plain_bcd, plain_digits, plain_read}
 use Rattle.decimal_unsigned.proofs.decimal.UnsignedOver.from_short_text.Goals as goal

@@ -1,6 +1,9 @@
-use Rattle.decimal_unsigned.proofs.Common.{◌≡◌, ◌-◌, w16, to_z, of_z, ◌∙◌, ap, arith, ints, pos, ◌+ℤ◌, ◌-ℤ◌, digit, Unsigned, gap_is}
-use Rattle.decimal_unsigned.proofs.Values.{magnitude_kept, hi_kept}
-use Rattle.decimal_unsigned.proofs.ShownDigits.{digit_of_nibble}
+use Rattle.std.proofs.Common.{◌≡◌, ◌-◌, w16, to_z, of_z, ◌∙◌, ap, arith, pos, ◌+ℤ◌, ◌-ℤ◌}
+use Rattle.std.proofs.lemmas.Int.{ints}
+use Rattle.decimal_digits.proofs.Offsets.{gap_is}
+use Rattle.decimal_digits.specs.Number.{digit}
+use Rattle.decimal_unsigned.proofs.{ShownDigits.digit_of_nibble, Values.{magnitude_kept, hi_kept}}
+use Rattle.decimal_unsigned.specs.Unsigned.{Unsigned}
 use Rattle.decimal_unsigned.proofs.decimal.UnsignedOver.leading_bcd.Goals as goal
 
 pub returns : goal.returns

@@ -1,4 +1,6 @@
-use Rattle.decimal_unsigned.proofs.Common.{sym, ◌∙◌, arith, rules, ints, offset_is}
+use Rattle.std.proofs.Common.{sym, ◌∙◌, arith, rules}
+use Rattle.std.proofs.lemmas.Int.{ints}
+use Rattle.decimal_digits.proofs.Offsets.{offset_is}
 use Rattle.decimal_unsigned.proofs.Values.{last-number_of, last_of_none, magnitude_kept, narrow_kept, last_told}
 use Rattle.decimal_unsigned.proofs.decimal.UnsignedOver.nonzero_magnitude_end.Goals as goal
 

@@ -1,4 +1,4 @@
-use Rattle.decimal_unsigned.proofs.Common.{◌+◌, ◌∷◌, [], ◌∙◌, ap, refl}
+use Rattle.std.proofs.Common.{◌+◌, ◌∷◌, [], ◌∙◌, ap, refl}
 use Rattle.decimal_unsigned.proofs.Pieces.{one_byte}
 use Rattle.decimal_unsigned.proofs.decimal.UnsignedOver.only_byte.Goals as goal
 

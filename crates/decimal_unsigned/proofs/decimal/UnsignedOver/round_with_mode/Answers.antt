@@ -1,4 +1,4 @@
-use Rattle.decimal_unsigned.proofs.Common.{to_z-of_z}
+use Rattle.std.proofs.lemmas.Int.{to_z-of_z}
 use Rattle.decimal_unsigned.proofs.Roundings.{updates_by_1}
 use Rattle.decimal_unsigned.proofs.decimal.UnsignedOver.round_with_mode.Goals as goal
 

@@ -1,4 +1,4 @@
-use Rattle.decimal_unsigned.proofs.Common.{to_z-of_z}
+use Rattle.std.proofs.lemmas.Int.{to_z-of_z}
 use Rattle.decimal_unsigned.proofs.decimal.UnsignedOver.rounded_with_mode.Goals as goal
 
 pub returns-in-Ok-clause-rounds : goal.returns-in-Ok-clause-rounds

@@ -1,4 +1,5 @@
-use Rattle.decimal_unsigned.proofs.Common.{ap, Err, to_z-of_z}
+use Rattle.std.proofs.Common.{ap, Err}
+use Rattle.std.proofs.lemmas.Int.{to_z-of_z}
 use Rattle.decimal_unsigned.proofs.decimal.UnsignedOver.rounded_with_mode_and_increment.Goals as goal
 
 pub returns-in-Ok-clause-rounds : goal.returns-in-Ok-clause-rounds

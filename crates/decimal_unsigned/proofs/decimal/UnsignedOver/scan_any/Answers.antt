@@ -1,5 +1,6 @@
-use Rattle.decimal_unsigned.proofs.Common.{rules, read}
+use Rattle.std.proofs.Common.{rules}
 use Rattle.decimal_unsigned.proofs.BcdValues.{wide_allocates}
+use Rattle.decimal_unsigned.specs.Reading.{read}
 use Rattle.decimal_unsigned.proofs.decimal.UnsignedOver.scan_any.Goals as goal
 
 pub returns-in_err-digits : goal.returns-in_err-digits

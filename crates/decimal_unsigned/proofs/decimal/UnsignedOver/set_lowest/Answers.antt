@@ -1,5 +1,8 @@
-use Rattle.decimal_unsigned.proofs.Common.{ap, arith, ints, last, Unsigned}
+use Rattle.std.proofs.Common.{ap, arith}
+use Rattle.std.proofs.lemmas.Int.{ints}
+use Rattle.decimal_digits.specs.Number.{last}
 use Rattle.decimal_unsigned.proofs.Values.{lower_stored}
+use Rattle.decimal_unsigned.specs.Unsigned.{Unsigned}
 use Rattle.decimal_unsigned.proofs.decimal.UnsignedOver.set_lowest.Goals as goal
 
 pub invariant_of-self : goal.invariant_of-self

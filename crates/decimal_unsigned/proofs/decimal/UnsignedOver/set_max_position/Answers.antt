@@ -1,9 +1,9 @@
-use Rattle.decimal_unsigned.proofs.Common.{◌≡◌, ◌≤◌, min, length, w16, w32, pos, ◌+ℤ◌, ◌-ℤ◌, to_z, of_z, refl, sym, ◌∙◌, ap, subst, arith, int_max, int_gap, ints, to_z-of_z, offset_is, Unsigned, with_max_position, trunced, SplitsAt}
-use Rattle.decimal_unsigned.proofs.Values.{lo_kept, magnitude_kept, narrow_kept, lowest, value_of_view}
-use Rattle.decimal_unsigned.proofs.Pieces.{index_gap}
-use Rattle.decimal_unsigned.proofs.Cuts.{Cuts, stored_cut, with_max_position_is}
-use Rattle.decimal_unsigned.proofs.ValueLaws.{splits}
-use Rattle.decimal_unsigned.proofs.decimal.UnsignedOver.set_max_position.Goals.{then-start-len, else-start-len}
+use Rattle.std.proofs.Common.{◌≡◌, ◌≤◌, min, length, w16, w32, pos, ◌+ℤ◌, ◌-ℤ◌, to_z, of_z, refl, sym, ◌∙◌, ap, subst, arith}
+use Rattle.std.proofs.lemmas.Int.{ints, to_z-of_z}
+use Rattle.std.specs.Int.{int_max, int_gap}
+use Rattle.decimal_digits.proofs.Offsets.{offset_is}
+use Rattle.decimal_unsigned.proofs.{Cuts.{Cuts, stored_cut, with_max_position_is}, Pieces.index_gap, ValueLaws.splits, Values.{lo_kept, magnitude_kept, narrow_kept, lowest, value_of_view}, decimal.UnsignedOver.set_max_position.Goals.{then-start-len, else-start-len}}
+use Rattle.decimal_unsigned.specs.{Edits.with_max_position, Unsigned.Unsigned, ValueLaws.{trunced, SplitsAt}}
 use Rattle.decimal_unsigned.proofs.decimal.UnsignedOver.set_max_position.Goals as goal
 
 pub magnitude_of-magnitude-requires : goal.magnitude_of-magnitude-requires

@@ -1,6 +1,5 @@
-use Rattle.decimal_unsigned.proofs.Common.{◌∙◌}
-use Rattle.decimal_unsigned.proofs.Values.{magnitude_kept}
-use Rattle.decimal_unsigned.proofs.Concatenations.{taken}
+use Rattle.std.proofs.Common.{◌∙◌}
+use Rattle.decimal_unsigned.proofs.{Concatenations.taken, Values.magnitude_kept}
 use Rattle.decimal_unsigned.proofs.decimal.UnsignedOver.take_digits.Goals as goal
 
 pub invariant_of-self : goal.invariant_of-self

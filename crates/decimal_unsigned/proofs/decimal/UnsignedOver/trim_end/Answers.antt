@@ -1,6 +1,6 @@
-use Rattle.decimal_unsigned.proofs.Common.{pos, ◌∙◌, ap, int_min}
-use Rattle.decimal_unsigned.proofs.Values.{narrow_kept}
-use Rattle.decimal_unsigned.proofs.ValueLaws.{greatest_lo, shortest}
+use Rattle.std.proofs.Common.{pos, ◌∙◌, ap}
+use Rattle.std.specs.Int.{int_min}
+use Rattle.decimal_unsigned.proofs.{ValueLaws.{greatest_lo, shortest}, Values.narrow_kept}
 use Rattle.decimal_unsigned.proofs.decimal.UnsignedOver.trim_end.Goals as goal
 
 pub returns : goal.returns

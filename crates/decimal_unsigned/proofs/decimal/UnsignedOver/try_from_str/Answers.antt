@@ -1,4 +1,4 @@
-use Rattle.decimal_unsigned.proofs.Common.{sym}
+use Rattle.std.proofs.Common.{sym}
 use Rattle.decimal_unsigned.proofs.decimal.UnsignedOver.try_from_str.Goals as goal
 
 pub returns : goal.returns

@@ -1,4 +1,4 @@
-use Rattle.decimal_unsigned.proofs.Common.{arith}
+use Rattle.std.proofs.Common.{arith}
 use Rattle.decimal_unsigned.proofs.WholeNumbers.{part_result, few_digits_result}
 use Rattle.decimal_unsigned.proofs.decimal.UnsignedOver.try_to_u64.Goals as goal
 

@@ -1,4 +1,5 @@
-use Rattle.decimal_unsigned.proofs.Common.{arith, ints, clamps}
+use Rattle.std.proofs.Common.{arith}
+use Rattle.std.proofs.lemmas.Int.{ints, clamps}
 use Rattle.decimal_unsigned.proofs.Concatenations.{wider}
 use Rattle.decimal_unsigned.proofs.decimal.UnsignedOver.widen.Goals as goal
 

@@ -1,4 +1,5 @@
-use Rattle.decimal_unsigned.proofs.Common.{sym, ◌∙◌, inl, inr, arith, nat_cmp}
+use Rattle.std.proofs.Common.{sym, ◌∙◌, inl, inr, arith}
+use Rattle.std.specs.Ordering.{nat_cmp}
 use Rattle.decimal_unsigned.proofs.Comparing.{fronts_order}
 use Rattle.decimal_unsigned.proofs.decimal.compare.compare_digits.Goals as goal
 

@@ -1,4 +1,5 @@
-use Rattle.decimal_unsigned.proofs.Common.{◌≡◌, drop, nat_cmp, slice_cmp}
+use Rattle.std.proofs.Common.{◌≡◌, drop}
+use Rattle.std.specs.{Cmp.Lexicographic.slice_cmp, Ordering.nat_cmp}
 use Rattle.decimal_unsigned.proofs.decimal.compare.compare_long.Given as goal
 
 -- the digits from the index on decide

@@ -1,6 +1,6 @@
-use Rattle.decimal_unsigned.proofs.Common.{sym, ◌∙◌, ap, nat_list_cmp_total, tied_itself, slice_cmp, nat_cmp}
-use Rattle.std.proofs.lemmas.Bool.Decides.{Decides-eqb}
-use Rattle.std.proofs.lemmas.Slice.Eq.{slice_eq-Decides}
+use Rattle.std.proofs.Common.{sym, ◌∙◌, ap}
+use Rattle.std.proofs.lemmas.{Bool.Decides.Decides-eqb, Cmp.{nat_list_cmp_total, tied_itself}, Slice.Eq.slice_eq-Decides}
+use Rattle.std.specs.{Cmp.Lexicographic.slice_cmp, Ordering.nat_cmp}
 use Rattle.decimal_unsigned.proofs.decimal.compare.compare_slices.Goals as goal
 
 pub returns-then-eq : goal.returns-then-eq

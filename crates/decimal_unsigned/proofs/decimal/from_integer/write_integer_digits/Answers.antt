@@ -1,4 +1,5 @@
-use Rattle.decimal_unsigned.proofs.Common.{refl, rules, arith, drop_all}
+use Rattle.std.proofs.Common.{refl, rules, arith}
+use Rattle.std.proofs.lemmas.List.{drop_all}
 use Rattle.decimal_unsigned.proofs.decimal.from_integer.write_integer_digits.Goals as goal
 
 pub loop-digit-init : goal.loop-digit-init

@@ -1,5 +1,4 @@
-use Rattle.decimal_unsigned.proofs.Common.{◌≡◌, ◌+◌, ◌++◌, drop, length}
-use Rattle.std.specs.Prelude.{reverse}
+use Rattle.std.proofs.Common.{◌≡◌, ◌+◌, ◌++◌, drop, length, reverse}
 use Rattle.decimal_digits.specs.AscendingDigits.{ascending_digits}
 use Rattle.decimal_unsigned.proofs.decimal.from_integer.write_integer_digits.Given as goal
 

@@ -1,4 +1,4 @@
-use Rattle.decimal_unsigned.proofs.Common.{◌≡◌, ℕ, ◌<◌, ◌≤◌, get_or}
+use Rattle.std.proofs.Common.{◌≡◌, ℕ, ◌<◌, ◌≤◌, get_or}
 use Rattle.decimal_unsigned.proofs.decimal.shown_range.first_nonzero.Given as goal
 
 abbrev pub invariant-loop-index : goal.invariant-loop-index

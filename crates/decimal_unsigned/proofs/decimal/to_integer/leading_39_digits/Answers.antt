@@ -1,4 +1,4 @@
-use Rattle.decimal_unsigned.proofs.Common.{sym, arith}
+use Rattle.std.proofs.Common.{sym, arith}
 use Rattle.decimal_unsigned.proofs.WholeNumbers.{leading_39, in_range-above}
 use Rattle.decimal_unsigned.proofs.decimal.to_integer.leading_39_digits.Goals as goal
 

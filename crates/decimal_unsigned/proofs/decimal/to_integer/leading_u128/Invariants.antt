@@ -1,4 +1,5 @@
-use Rattle.decimal_unsigned.proofs.Common.{◌≡◌, leading}
+use Rattle.std.proofs.Common.{◌≡◌}
+use Rattle.decimal_digits.specs.Remainders.{leading}
 use Rattle.decimal_unsigned.proofs.decimal.to_integer.leading_u128.Given as goal
 
 -- the digits before the index are read

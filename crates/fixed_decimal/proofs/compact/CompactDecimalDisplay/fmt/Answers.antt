@@ -1,4 +1,5 @@
-use Rattle.fixed_decimal.proofs.Common.{sym, subst, arith, IsUtf8}
+use Rattle.std.proofs.Common.{sym, subst, arith}
+use Rattle.std.specs.Str.{IsUtf8}
 use Rattle.fixed_decimal.proofs.CompactTexts.{exponent_utf8}
 use Rattle.fixed_decimal.proofs.compact.CompactDecimalDisplay.fmt.Goals as goal
 

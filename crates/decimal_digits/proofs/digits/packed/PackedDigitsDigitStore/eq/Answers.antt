@@ -1,5 +1,6 @@
-use Rattle.decimal_digits.proofs.Common.{◌≡◌, sym, ◌∙◌, arith, digits_in, padding}
+use Rattle.std.proofs.Common.{◌≡◌, sym, ◌∙◌, arith}
 use Rattle.decimal_digits.proofs.Packing.{same_bytes}
+use Rattle.decimal_digits.specs.{Nibbles.digits_in, Packing.padding}
 use Rattle.decimal_digits.proofs.digits.packed.PackedDigitsDigitStore.eq.Goals as goal
 
 pub returns-then-self-other : goal.returns-then-self-other

@@ -1,4 +1,4 @@
-use Rattle.decimal_digits.proofs.Common.{◌∙◌}
+use Rattle.std.proofs.Common.{◌∙◌}
 use Rattle.decimal_digits.proofs.Words.{leading_pads}
 use Rattle.decimal_digits.proofs.digits.packed.PackedDigitsDigitStore.from_padded_bcd.Goals as goal
 

@@ -1,6 +1,6 @@
-use Rattle.decimal_digits.proofs.Common.{refl, arith, digits_in, Encodes}
-use Rattle.decimal_digits.specs.Nibbles.{wide_leading_bytes}
+use Rattle.std.proofs.Common.{refl, arith}
 use Rattle.decimal_digits.proofs.Packing.{encodes_many}
+use Rattle.decimal_digits.specs.{Nibbles.{digits_in, wide_leading_bytes}, Packing.Encodes}
 use Rattle.decimal_digits.proofs.digits.packed.PackedDigitsDigitStore.from_wide_bcd.Goals as goal
 
 pub invariant_of-result-clause-padded : goal.invariant_of-result-clause-padded

@@ -1,7 +1,5 @@
-use Rattle.decimal_digits.proofs.Common.{length, ap, arith}
-use Rattle.decimal_digits.proofs.DigitTexts.{ascii_at}
-use Rattle.decimal_digits.proofs.Nibbles.{nibble_rules}
-use Rattle.decimal_digits.proofs.Packing.{encodes, encodes_many}
+use Rattle.std.proofs.Common.{length, ap, arith}
+use Rattle.decimal_digits.proofs.{DigitTexts.ascii_at, Nibbles.nibble_rules, Packing.{encodes, encodes_many}}
 use Rattle.decimal_digits.proofs.digits.packed.bulk.append_long_text.Goals as goal
 
 pub returns-then-odd-eq0-clause-encodes : goal.returns-then-odd-eq0-clause-encodes

@@ -1,4 +1,4 @@
-use Rattle.decimal_digits.proofs.Common.{arith}
+use Rattle.std.proofs.Common.{arith}
 use Rattle.decimal_digits.proofs.Words.{join_text, zeros_after}
 use Rattle.decimal_digits.proofs.digits.packed.bulk.append_text.Goals as goal
 

@@ -1,4 +1,4 @@
-use Rattle.decimal_digits.proofs.Common.{◌≡◌, ℕ, ◌<◌, ◌≤◌, length, get_or}
+use Rattle.std.proofs.Common.{◌≡◌, ℕ, ◌<◌, ◌≤◌, length, get_or}
 use Rattle.decimal_digits.proofs.digits.packed.bulk.count_trailing_bytes.Given as goal
 
 abbrev pub invariant-loop-index : goal.invariant-loop-index

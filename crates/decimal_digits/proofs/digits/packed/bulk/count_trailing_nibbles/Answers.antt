@@ -1,4 +1,5 @@
-use Rattle.decimal_digits.proofs.Common.{◌-◌, get_or, ◌∙◌, ap, sym, arith, get_or-take}
+use Rattle.std.proofs.Common.{◌-◌, get_or, ◌∙◌, ap, sym, arith}
+use Rattle.std.proofs.lemmas.List.{get_or-take}
 use Rattle.decimal_digits.proofs.digits.packed.bulk.count_trailing_nibbles.Goals as goal
 
 pub returns-then-count-le16-clause-equal : goal.returns-then-count-le16-clause-equal

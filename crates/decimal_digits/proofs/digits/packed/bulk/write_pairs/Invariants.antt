@@ -1,4 +1,5 @@
-use Rattle.decimal_digits.proofs.Common.{◌≡◌, ℕ, ◌+◌, ◌*◌, ◌<◌, get_or, nibbles}
+use Rattle.std.proofs.Common.{◌≡◌, ℕ, ◌+◌, ◌*◌, ◌<◌, get_or}
+use Rattle.decimal_digits.specs.Nibbles.{nibbles}
 use Rattle.decimal_digits.proofs.digits.packed.bulk.write_pairs.Given as goal
 
 abbrev pub invariant-loop-i : goal.invariant-loop-i

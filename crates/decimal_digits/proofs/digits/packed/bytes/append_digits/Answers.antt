@@ -1,6 +1,5 @@
-use Rattle.decimal_digits.proofs.Common.{length, ap, arith}
-use Rattle.decimal_digits.proofs.Nibbles.{nibble_rules}
-use Rattle.decimal_digits.proofs.Packing.{encodes}
+use Rattle.std.proofs.Common.{length, ap, arith}
+use Rattle.decimal_digits.proofs.{Nibbles.nibble_rules, Packing.encodes}
 use Rattle.decimal_digits.proofs.digits.packed.bytes.append_digits.Goals as goal
 
 pub returns-then-len-eq0-clause-encodes : goal.returns-then-len-eq0-clause-encodes

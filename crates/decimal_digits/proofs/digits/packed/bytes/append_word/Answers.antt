@@ -1,5 +1,6 @@
-use Rattle.decimal_digits.proofs.Common.{arith, length_digits}
+use Rattle.std.proofs.Common.{arith}
 use Rattle.decimal_digits.proofs.Words.{join_pads, few_at, zeros_after}
+use Rattle.decimal_digits.specs.Packing.{length_digits}
 use Rattle.decimal_digits.proofs.digits.packed.bytes.append_word.Goals as goal
 
 pub join_nibbles-word-requires-clause-zeros : goal.join_nibbles-word-requires-clause-zeros

@@ -1,4 +1,6 @@
-use Rattle.decimal_digits.proofs.Common.{◌++◌, sym, ◌∙◌, rules, arith, take-add, take_rest}
+use Rattle.std.proofs.Common.{◌++◌, sym, ◌∙◌, rules, arith}
+use Rattle.std.proofs.Math.Seq.{take-add}
+use Rattle.std.proofs.lemmas.List.{take_rest}
 use Rattle.decimal_digits.proofs.Overlaps.{by_ends}
 use Rattle.decimal_digits.proofs.digits.packed.bytes.are_equal.Goals as goal
 

@@ -1,4 +1,4 @@
-use Rattle.decimal_digits.proofs.Common.{◌≡◌, ◌-◌, ◌+◌, length, take}
+use Rattle.std.proofs.Common.{◌≡◌, ◌-◌, ◌+◌, length, take}
 use Rattle.decimal_digits.proofs.digits.packed.bytes.are_equal.Given as goal
 
 abbrev pub invariant-loop-start : goal.invariant-loop-start

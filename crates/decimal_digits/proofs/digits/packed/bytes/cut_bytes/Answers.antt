@@ -1,8 +1,7 @@
-use Rattle.decimal_digits.proofs.Common.{◌≡◌, ◌+◌, ◌*◌, ◌/◌, length, get_or, ap, refl, arith, nibbles, padding}
-use Rattle.decimal_digits.proofs.Nibbles.{nibble_rules}
-use Rattle.decimal_digits.proofs.Words.{cut_encodes}
+use Rattle.std.proofs.Common.{◌≡◌, ◌+◌, ◌*◌, ◌/◌, length, get_or, ap, refl, arith}
+use Rattle.decimal_digits.proofs.{Nibbles.nibble_rules, Words.cut_encodes, digits.packed.bytes.cut_bytes.Goals.{then-count-eq1, else-count-eq1}}
+use Rattle.decimal_digits.specs.{Nibbles.nibbles, Packing.padding}
 use Rattle.decimal_digits.proofs.digits.packed.bytes.cut_bytes.Goals as goal
-use Rattle.decimal_digits.proofs.digits.packed.bytes.cut_bytes.Goals.{then-count-eq1, else-count-eq1}
 
 pub returns-clause-encodes : goal.returns-clause-encodes
 returns-clause-encodes c =

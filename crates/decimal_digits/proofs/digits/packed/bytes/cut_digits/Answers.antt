@@ -1,6 +1,5 @@
-use Rattle.decimal_digits.proofs.Common.{arith}
-use Rattle.decimal_digits.proofs.Packing.{encodes_many}
-use Rattle.decimal_digits.proofs.Words.{cut_pads}
+use Rattle.std.proofs.Common.{arith}
+use Rattle.decimal_digits.proofs.{Packing.encodes_many, Words.cut_pads}
 use Rattle.decimal_digits.proofs.digits.packed.bytes.cut_digits.Goals as goal
 
 pub returns-then-len-le16-clause-encodes : goal.returns-then-len-le16-clause-encodes

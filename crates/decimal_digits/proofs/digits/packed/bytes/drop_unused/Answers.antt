@@ -1,6 +1,6 @@
-use Rattle.decimal_digits.proofs.Common.{arith, padding}
-use Rattle.decimal_digits.proofs.Nibbles.{nibble_rules}
-use Rattle.decimal_digits.proofs.Packing.{encodes}
+use Rattle.std.proofs.Common.{arith}
+use Rattle.decimal_digits.proofs.{Nibbles.nibble_rules, Packing.encodes}
+use Rattle.decimal_digits.specs.Packing.{padding}
 use Rattle.decimal_digits.proofs.digits.packed.bytes.drop_unused.Goals as goal
 
 pub returns-clause-encodes : goal.returns-clause-encodes

@@ -1,4 +1,5 @@
-use Rattle.decimal_digits.proofs.Common.{rules, take_rest}
+use Rattle.std.proofs.Common.{rules}
+use Rattle.std.proofs.lemmas.List.{take_rest}
 use Rattle.decimal_digits.proofs.Overlaps.{by_ends}
 use Rattle.decimal_digits.proofs.digits.packed.bytes.equal_in_two_words.Goals as goal
 

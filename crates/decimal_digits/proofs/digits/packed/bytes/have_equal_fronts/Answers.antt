@@ -1,4 +1,4 @@
-use Rattle.decimal_digits.proofs.Common.{◌≡◌, take, sym, ◌∙◌}
+use Rattle.std.proofs.Common.{◌≡◌, take, sym, ◌∙◌}
 use Rattle.decimal_digits.proofs.digits.packed.bytes.have_equal_fronts.Goals as goal
 
 pub returns-in-Some-Some : goal.returns-in-Some-Some

@@ -1,4 +1,4 @@
-use Rattle.decimal_digits.proofs.Common.{arith}
+use Rattle.std.proofs.Common.{arith}
 use Rattle.decimal_digits.proofs.Words.{keep_pads}
 use Rattle.decimal_digits.proofs.digits.packed.bytes.keep_digits.Goals as goal
 

@@ -1,9 +1,7 @@
-use Rattle.decimal_digits.proofs.Common.{◌*◌, length, take, ◌∙◌, ap, arith, nibbles, padding}
-use Rattle.decimal_digits.proofs.Nibbles.{nibble_rules}
-use Rattle.decimal_digits.proofs.Packing.{encodes, encodes_many}
-use Rattle.decimal_digits.proofs.Words.{keep_pads, nibbles_take}
+use Rattle.std.proofs.Common.{◌*◌, length, take, ◌∙◌, ap, arith}
+use Rattle.decimal_digits.proofs.{Nibbles.nibble_rules, Packing.{encodes, encodes_many}, Words.{keep_pads, nibbles_take}, digits.packed.bytes.keep_some.Goals.{then-count-eq1, else-count-eq1}}
+use Rattle.decimal_digits.specs.{Nibbles.nibbles, Packing.padding}
 use Rattle.decimal_digits.proofs.digits.packed.bytes.keep_some.Goals as goal
-use Rattle.decimal_digits.proofs.digits.packed.bytes.keep_some.Goals.{then-count-eq1, else-count-eq1}
 
 pub returns-then-count-le16-clause-encodes : goal.returns-then-count-le16-clause-encodes
 returns-then-count-le16-clause-encodes c =

@@ -1,6 +1,7 @@
-use Rattle.decimal_digits.proofs.Common.{length, get_or, ap, arith, length-set, padding, length-nibbles}
-use Rattle.decimal_digits.proofs.Nibbles.{nibble_rules}
-use Rattle.decimal_digits.proofs.Packing.{digit_at, digit_lt, pads}
+use Rattle.std.proofs.Common.{length, get_or, ap, arith}
+use Rattle.std.proofs.lemmas.List.{length-set}
+use Rattle.decimal_digits.proofs.{Nibbles.nibble_rules, Packing.{digit_at, digit_lt, pads}}
+use Rattle.decimal_digits.specs.Packing.{padding, length-nibbles}
 use Rattle.decimal_digits.proofs.digits.packed.bytes.set_digit.Goals as goal
 
 pub returns-clause-encodes : goal.returns-clause-encodes

@@ -1,8 +1,7 @@
-use Rattle.decimal_digits.proofs.Common.{◌≡◌, ◌+◌, ◌*◌, ◌/◌, drop, get_or, sym, ◌∙◌, ap, arith, drop_all, take_rest, get_or-drop, get_or-take, digits_in, nibbles, length_digits, padding}
-use Rattle.decimal_digits.specs.Nibbles.{bcd_number, padded}
-use Rattle.decimal_digits.proofs.Nibbles.{nibble_rules}
-use Rattle.decimal_digits.proofs.Packing.{digit_at}
-use Rattle.decimal_digits.proofs.Words.{bcd_of_word, front_at, nibbles_drop}
+use Rattle.std.proofs.Common.{◌≡◌, ◌+◌, ◌*◌, ◌/◌, drop, get_or, sym, ◌∙◌, ap, arith}
+use Rattle.std.proofs.lemmas.List.{drop_all, take_rest, get_or-drop, get_or-take}
+use Rattle.decimal_digits.proofs.{Nibbles.nibble_rules, Packing.digit_at, Words.{bcd_of_word, front_at, nibbles_drop}}
+use Rattle.decimal_digits.specs.{Nibbles.{digits_in, nibbles, bcd_number, padded}, Packing.{length_digits, padding}}
 use Rattle.decimal_digits.proofs.digits.packed.bytes.word_at.Goals as goal
 
 pub returns-then-start-eq0 : goal.returns-then-start-eq0

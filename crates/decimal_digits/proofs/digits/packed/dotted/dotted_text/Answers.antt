@@ -1,10 +1,8 @@
-use Rattle.decimal_digits.proofs.Common.{◌≡◌, ℕ, zero, suc, ◌+◌, ◌<◌, List, [], ◌∷◌, ◌++◌, take, drop, refl, arith}
-use Rattle.std.specs.Prelude.{slice_index, slice_index_or}
+use Rattle.std.proofs.Common.{◌≡◌, ℕ, zero, suc, ◌+◌, ◌<◌, List, [], ◌∷◌, ◌++◌, take, drop, refl, arith, slice_index, slice_index_or}
+use Rattle.decimal_digits.specs.{Digits.text_of, Nibbles.{nibbles, word_nibbles}}
 use lib.Dec.{eqb, ltb, leb}
 use lib.Lanes.{top}
 use mathlib.Core.Bool.{cond}
-use Rattle.decimal_digits.specs.Digits.{text_of}
-use Rattle.decimal_digits.specs.Nibbles.{nibbles, word_nibbles}
 use Rattle.decimal_digits.proofs.digits.packed.dotted.dotted_text.Goals as goal
 
 -- P of each number below n, so that each can be computed

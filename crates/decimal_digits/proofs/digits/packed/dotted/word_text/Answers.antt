@@ -1,4 +1,6 @@
-use Rattle.decimal_digits.proofs.Common.{◌≡◌, ℕ, suc, zero, ◌+◌, ◌*◌, ◌/◌, ◌%◌, ◌^◌, ◌∷◌, [], ◌∙◌, ap, arith, div-div-eq-div-mul, byte_at}
+use Rattle.std.proofs.Common.{◌≡◌, ℕ, suc, zero, ◌+◌, ◌*◌, ◌/◌, ◌%◌, ◌^◌, ◌∷◌, [], ◌∙◌, ap, arith}
+use Rattle.std.proofs.Math.Nat.{div-div-eq-div-mul}
+use Rattle.std.specs.Int.{byte_at}
 use Rattle.decimal_digits.specs.Nibbles.{nibbles, word_nibbles}
 use Rattle.decimal_digits.proofs.digits.packed.dotted.word_text.Goals as goal
 

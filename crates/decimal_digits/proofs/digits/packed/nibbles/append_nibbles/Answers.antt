@@ -1,7 +1,6 @@
-use Rattle.decimal_digits.proofs.Common.{arith}
-use Rattle.decimal_digits.proofs.Nibbles.{nibble_rules}
+use Rattle.std.proofs.Common.{arith}
+use Rattle.decimal_digits.proofs.{Nibbles.nibble_rules, digits.packed.nibbles.append_nibbles.Goals.{then-count-eq1, else-count-eq1}}
 use Rattle.decimal_digits.proofs.digits.packed.nibbles.append_nibbles.Goals as goal
-use Rattle.decimal_digits.proofs.digits.packed.nibbles.append_nibbles.Goals.{then-count-eq1, else-count-eq1}
 
 pub returns-clause-joined : goal.returns-clause-joined
 returns-clause-joined c =

@@ -1,4 +1,4 @@
-use Rattle.decimal_digits.proofs.Common.{◌≡◌, ◌*◌, ◌/◌, ◌%◌, inl, inr, arith}
+use Rattle.std.proofs.Common.{◌≡◌, ◌*◌, ◌/◌, ◌%◌, inl, inr, arith}
 use Rattle.decimal_digits.proofs.Nibbles.{nibble_is}
 use Rattle.decimal_digits.proofs.digits.packed.nibbles.nibble_at.Goals as goal
 

@@ -1,4 +1,4 @@
-use Rattle.decimal_digits.proofs.Common.{◌≡◌, ℕ, ◌+◌, ◌*◌, ◌%◌, ◌<◌, get_or, drop}
+use Rattle.std.proofs.Common.{◌≡◌, ℕ, ◌+◌, ◌*◌, ◌%◌, ◌<◌, get_or, drop}
 use Rattle.decimal_digits.proofs.digits.packed.nibbles.pack.Given as goal
 
 abbrev pub invariant-loop-i : goal.invariant-loop-i

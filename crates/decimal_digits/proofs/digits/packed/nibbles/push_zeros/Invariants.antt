@@ -1,4 +1,4 @@
-use Rattle.decimal_digits.proofs.Common.{◌≡◌, ◌*◌, ◌≤◌, ◌++◌, replicate}
+use Rattle.std.proofs.Common.{◌≡◌, ◌*◌, ◌≤◌, ◌++◌, replicate}
 use Rattle.decimal_digits.proofs.digits.packed.nibbles.push_zeros.Given as goal
 
 abbrev pub invariant-loop : goal.invariant-loop

@@ -1,4 +1,5 @@
-use Rattle.decimal_digits.proofs.Common.{ℕ, arith, length-set, same_number_lists}
+use Rattle.std.proofs.Common.{ℕ, arith}
+use Rattle.std.proofs.lemmas.{Grind.same_number_lists, List.length-set}
 use Rattle.decimal_digits.proofs.Nibbles.{nibble_rules}
 use Rattle.decimal_digits.proofs.digits.packed.nibbles.unpack.Goals as goal
 

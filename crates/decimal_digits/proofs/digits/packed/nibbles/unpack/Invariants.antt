@@ -1,4 +1,5 @@
-use Rattle.decimal_digits.proofs.Common.{◌≡◌, ℕ, ◌<◌, length, get_or, nibbles}
+use Rattle.std.proofs.Common.{◌≡◌, ℕ, ◌<◌, length, get_or}
+use Rattle.decimal_digits.specs.Nibbles.{nibbles}
 use Rattle.decimal_digits.proofs.digits.packed.nibbles.unpack.Given as goal
 
 abbrev pub invariant-loop-index : goal.invariant-loop-index

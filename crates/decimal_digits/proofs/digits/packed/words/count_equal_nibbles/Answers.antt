@@ -1,4 +1,4 @@
-use Rattle.decimal_digits.proofs.Common.{refl, ◌∙◌, sym, arith}
+use Rattle.std.proofs.Common.{refl, ◌∙◌, sym, arith}
 use Rattle.decimal_digits.proofs.TrailingNibbles.{trailing}
 use Rattle.decimal_digits.proofs.digits.packed.words.count_equal_nibbles.Goals as goal
 

@@ -1,6 +1,7 @@
-use Rattle.decimal_digits.proofs.Common.{◌≡◌, ◌+◌, ◌-◌, ◌*◌, ◌++◌, length, drop, replicate, ◌∙◌, ap, arith, drop-drop, get_or-drop, nibbles}
-use Rattle.decimal_digits.proofs.Nibbles.{nibble_rules}
-use Rattle.decimal_digits.proofs.Words.{word_of_bytes, nibbles_drop}
+use Rattle.std.proofs.Common.{◌≡◌, ◌+◌, ◌-◌, ◌*◌, ◌++◌, length, drop, replicate, ◌∙◌, ap, arith}
+use Rattle.std.proofs.lemmas.List.{drop-drop, get_or-drop}
+use Rattle.decimal_digits.proofs.{Nibbles.nibble_rules, Words.{word_of_bytes, nibbles_drop}}
+use Rattle.decimal_digits.specs.Nibbles.{nibbles}
 use Rattle.decimal_digits.proofs.digits.packed.words.end_word.Goals as goal
 
 pub returns-in-Some : goal.returns-in-Some

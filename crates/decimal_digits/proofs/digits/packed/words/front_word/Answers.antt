@@ -1,6 +1,7 @@
-use Rattle.decimal_digits.proofs.Common.{◌≡◌, ℕ, ◌<◌, length, get_or, take, ◌∙◌, ap, arith, length-take-le, nibbles}
-use Rattle.decimal_digits.proofs.Nibbles.{nibble_rules}
-use Rattle.decimal_digits.proofs.Words.{word_of_bytes, nibbles_take}
+use Rattle.std.proofs.Common.{◌≡◌, ℕ, ◌<◌, length, get_or, take, ◌∙◌, ap, arith}
+use Rattle.std.proofs.lemmas.List.{length-take-le}
+use Rattle.decimal_digits.proofs.{Nibbles.nibble_rules, Words.{word_of_bytes, nibbles_take}}
+use Rattle.decimal_digits.specs.Nibbles.{nibbles}
 use Rattle.decimal_digits.proofs.digits.packed.words.front_word.Goals as goal
 
 pub returns-in-Some : goal.returns-in-Some

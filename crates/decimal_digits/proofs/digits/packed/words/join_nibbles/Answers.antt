@@ -1,6 +1,6 @@
-use Rattle.decimal_digits.proofs.Common.{arith, same_number_lists}
-use Rattle.decimal_digits.proofs.Nibbles.{nibble_rules}
-use Rattle.decimal_digits.proofs.Words.{joined, length-word_nibbles}
+use Rattle.std.proofs.Common.{arith}
+use Rattle.std.proofs.lemmas.Grind.{same_number_lists}
+use Rattle.decimal_digits.proofs.{Nibbles.nibble_rules, Words.{joined, length-word_nibbles}}
 use Rattle.decimal_digits.proofs.digits.packed.words.join_nibbles.Goals as goal
 
 pub overflow_add-result : goal.overflow_add-result

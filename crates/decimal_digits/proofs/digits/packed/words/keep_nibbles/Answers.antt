@@ -1,4 +1,4 @@
-use Rattle.decimal_digits.proofs.Common.{refl, ◌∙◌}
+use Rattle.std.proofs.Common.{refl, ◌∙◌}
 use Rattle.decimal_digits.proofs.Words.{kept, zero_word}
 use Rattle.decimal_digits.proofs.digits.packed.words.keep_nibbles.Goals as goal
 

@@ -1,6 +1,6 @@
-use Rattle.decimal_digits.proofs.Common.{◌≡◌, take, refl, ◌∙◌, arith, take_all, same_number_lists}
-use Rattle.decimal_digits.proofs.Nibbles.{nibble_rules}
-use Rattle.decimal_digits.proofs.Words.{pack_more, packed, zero_word}
+use Rattle.std.proofs.Common.{◌≡◌, take, refl, ◌∙◌, arith}
+use Rattle.std.proofs.lemmas.{Grind.same_number_lists, List.take_all}
+use Rattle.decimal_digits.proofs.{Nibbles.nibble_rules, Words.{pack_more, packed, zero_word}}
 use Rattle.decimal_digits.proofs.digits.packed.words.pack_word.Goals as goal
 
 pub returns-then-is_empty : goal.returns-then-is_empty

@@ -1,4 +1,5 @@
-use Rattle.decimal_digits.proofs.Common.{◌≡◌, ◌%◌, map, take, number_from_digits}
+use Rattle.std.proofs.Common.{◌≡◌, ◌%◌, map, take}
+use Rattle.std.specs.Int.Digits.{number_from_digits}
 use Rattle.decimal_digits.proofs.digits.packed.words.pack_word.Given as goal
 
 -- the digits before the index are read

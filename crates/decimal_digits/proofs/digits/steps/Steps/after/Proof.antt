@@ -1,23 +1,22 @@
-use Rattle.decimal_digits.proofs.Common.{◌+◌, [], ◌∷◌, refl, proved}
-use mir.Syntax.{named}
+use Rattle.std.proofs.Common.{◌+◌, [], ◌∷◌, refl}
+use Rattle.std.proofs.raw_atomic.Walks.{proved}
+use Rattle.decimal_digits.proofs.{Counters.{bare, made}, digits.steps.Steps.after.Statement.statement}
+use Rattle.decimal_digits.specs.{contracts.digits.steps.Steps.the_row as row, declared.digits.steps.Steps.Steps}
 use base.Fml.{ftrue}
-use types.Kit.{‵, raw, ◌⊛◌, ◌$◌, ◌∵◌, !, qed, keep, move, split, join, suffices, done}
-use types.Part.{agg}
-use types.Run.{enter, returns, no_more}
-use types.ByLocal.{alloc_all, pass_all, free_all, look_at, sets}
 use denote.Builtin.{RefOf}
 use denote.Exit.{yes}
-use denote.Ref.{shr_vals, shr_Tells}
 use denote.RattleType.{owns}
+use denote.Ref.{shr_vals, shr_Tells}
 use denote.Signature.{plain, types_at}
 use denote.Steps.{nothing}
 use denote.Triple.Entry.{alive}
 use denote.Triple.Walked.{Stays, stay_dropped, Goes-dropped, says, ends_at}
-use Rattle.decimal_digits.proofs.Counters.{bare, made}
-use Rattle.decimal_digits.specs.declared.digits.steps.Steps.{Steps}
-use Rattle.decimal_digits.specs.contracts.digits.steps.Steps.{the_row as row}
+use mir.Syntax.{named}
+use types.ByLocal.{alloc_all, pass_all, free_all, look_at, sets}
+use types.Kit.{‵, raw, ◌⊛◌, ◌$◌, ◌∵◌, !, qed, keep, move, split, join, suffices, done}
+use types.Part.{agg}
+use types.Run.{enter, returns, no_more}
 use Rattle.decimal_digits.specs.contracts.digits.steps.Steps.after as f
-use Rattle.decimal_digits.proofs.digits.steps.Steps.after.Statement.{statement}
 use Rattle.decimal_digits.proofs.digits.steps.Steps.after.Code as code
 
 abbrev stayed : Stays f.ended.signature.params f.ended.kept

@@ -1,16 +1,16 @@
-use Rattle.decimal_digits.proofs.Common.{[], ◌∷◌, refl, proved}
+use Rattle.std.proofs.Common.{[], ◌∷◌, refl}
+use Rattle.std.proofs.raw_atomic.Walks.{proved}
+use Rattle.decimal_digits.proofs.{Counters.{bare, made}, digits.steps.Steps.new.Statement.statement}
+use Rattle.decimal_digits.specs.declared.digits.steps.Steps.{Steps}
 use base.Fml.{ftrue}
-use types.Kit.{‵, raw, ◌$◌, ◌∵◌, !, qed, drop, suffices, done}
-use types.Part.{agg}
-use types.Run.{enter, returns, no_more}
-use types.ByLocal.{alloc_all, pass_all, free_all, look_at, sets}
 use denote.Steps.{nothing}
 use denote.Triple.Entry.{on_entry}
 use denote.Triple.Walked.{says, ends_at}
-use Rattle.decimal_digits.proofs.Counters.{bare, made}
-use Rattle.decimal_digits.specs.declared.digits.steps.Steps.{Steps}
+use types.ByLocal.{alloc_all, pass_all, free_all, look_at, sets}
+use types.Kit.{‵, raw, ◌$◌, ◌∵◌, !, qed, drop, suffices, done}
+use types.Part.{agg}
+use types.Run.{enter, returns, no_more}
 use Rattle.decimal_digits.specs.contracts.digits.steps.Steps.new as f
-use Rattle.decimal_digits.proofs.digits.steps.Steps.new.Statement.{statement}
 use Rattle.decimal_digits.proofs.digits.steps.Steps.new.Code as code
 
 -- a counter of value 0 is constructed

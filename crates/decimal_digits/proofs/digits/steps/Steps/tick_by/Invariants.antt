@@ -1,4 +1,4 @@
-use Rattle.decimal_digits.proofs.Common.{◌≡◌, ◌+◌}
+use Rattle.std.proofs.Common.{◌≡◌, ◌+◌}
 use Rattle.decimal_digits.proofs.digits.steps.Steps.tick_by.Given as goal
 
 abbrev pub invariant-loop : goal.invariant-loop

@@ -1,7 +1,8 @@
-use Rattle.decimal_digits.proofs.Common.{Keeps, buffered_contents}
 use Rattle.std.proofs.KnownBytes.{Keeps-refl}
-use Rattle.decimal_digits.proofs.sink.buffered_out.BufferedOut.close.Goals as goal
+use Rattle.std.specs.Io.KnownBytes.{Keeps}
 use Rattle.decimal_digits.proofs.sink.buffered_out.BufferedOut.close.Goals.{then-is_some-via-then-is_some, then-is_some-via-else-is_some+then-is_err}
+use Rattle.decimal_digits.specs.Buffered.{buffered_contents}
+use Rattle.decimal_digits.proofs.sink.buffered_out.BufferedOut.close.Goals as goal
 
 pub returns-then-is_some-clause-prefix : goal.returns-then-is_some-clause-prefix
 returns-then-is_some-clause-prefix g c =

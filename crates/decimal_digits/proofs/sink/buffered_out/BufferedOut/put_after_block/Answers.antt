@@ -1,6 +1,7 @@
-use Rattle.decimal_digits.proofs.Common.{◌≡◌, [], rules, Keeps, append_known, buffered_contents}
-use Rattle.decimal_digits.proofs.Results.{on_err_of}
-use Rattle.decimal_digits.proofs.Sinks.{prefix_passed, none_passed}
+use Rattle.std.proofs.Common.{◌≡◌, [], rules}
+use Rattle.std.specs.Io.KnownBytes.{Keeps, append_known}
+use Rattle.decimal_digits.proofs.{Results.on_err_of, Sinks.{prefix_passed, none_passed}}
+use Rattle.decimal_digits.specs.Buffered.{buffered_contents}
 use Rattle.decimal_digits.proofs.sink.buffered_out.BufferedOut.put_after_block.Goals as goal
 
 pub returns-then-bytes-capacity-clause-err : goal.returns-then-bytes-capacity-clause-err

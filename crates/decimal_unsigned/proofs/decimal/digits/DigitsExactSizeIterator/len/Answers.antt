@@ -1,4 +1,4 @@
-use Rattle.decimal_unsigned.proofs.Common.{◌∙◌, ap, length}
+use Rattle.std.proofs.Common.{◌∙◌, ap, length}
 use Rattle.decimal_unsigned.proofs.ShownDigits.{length-left}
 use Rattle.decimal_unsigned.proofs.decimal.digits.DigitsExactSizeIterator.len.Goals as goal
 

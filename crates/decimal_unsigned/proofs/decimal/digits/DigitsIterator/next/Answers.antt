@@ -1,4 +1,5 @@
-use Rattle.decimal_unsigned.proofs.Common.{◌++◌, drop, length, sym, ◌∙◌, ap, arith, rules, padded}
+use Rattle.std.proofs.Common.{◌++◌, drop, length, sym, ◌∙◌, ap, arith, rules}
+use Rattle.decimal_digits.specs.Nibbles.{padded}
 use Rattle.decimal_unsigned.proofs.ShownDigits.{none_left, refilled, word_next}
 use Rattle.decimal_unsigned.proofs.decimal.digits.DigitsIterator.next.Goals as goal
 

@@ -1,5 +1,6 @@
-use Rattle.decimal_unsigned.proofs.Common.{◌-◌, ◌≤◌, take, text, HasWrittenStyled}
-use Rattle.std.specs.Fmt.{IsFlush}
+use Rattle.std.proofs.Common.{◌-◌, ◌≤◌, take}
+use Rattle.std.specs.Fmt.{HasWrittenStyled, IsFlush}
+use Rattle.decimal_unsigned.specs.Text.{text}
 use Rattle.decimal_unsigned.proofs.decimal.display.UnsignedOverDisplay.fmt.Given as goal
 
 abbrev pub invariant-loop-written : goal.invariant-loop-written

@@ -1,5 +1,6 @@
-use Rattle.decimal_unsigned.proofs.Common.{◌∙◌, view}
+use Rattle.std.proofs.Common.{◌∙◌}
 use Rattle.decimal_unsigned.proofs.Plans.{read_none, read_some}
+use Rattle.decimal_unsigned.specs.Parts.{view}
 use Rattle.decimal_unsigned.proofs.decimal.parse.Scan.new.Goals as goal
 
 pub returns-in_default-clause-rejects : goal.returns-in_default-clause-rejects

@@ -1,6 +1,5 @@
-use Rattle.decimal_unsigned.proofs.Common.{get_or, arith}
-use Rattle.decimal_unsigned.proofs.GrammarParts.{digit_at_most, digit_above}
-use Rattle.decimal_unsigned.proofs.BcdValues.{read_digit, read_stop, read_end}
+use Rattle.std.proofs.Common.{get_or, arith}
+use Rattle.decimal_unsigned.proofs.{BcdValues.{read_digit, read_stop, read_end}, GrammarParts.{digit_at_most, digit_above}}
 use Rattle.decimal_unsigned.proofs.decimal.parse.fast_path.count_digits.Goals as goal
 
 pub loop-i-init : goal.loop-i-init

@@ -1,4 +1,5 @@
-use Rattle.decimal_unsigned.proofs.Common.{◌≡◌, ◌+◌, ◌-◌, length, take, drop, ap, ◌∙◌, refl, arith, drop-drop}
+use Rattle.std.proofs.Common.{◌≡◌, ◌+◌, ◌-◌, length, take, drop, ap, ◌∙◌, refl, arith}
+use Rattle.std.proofs.lemmas.List.{drop-drop}
 use Rattle.decimal_unsigned.proofs.BcdValues.{read_eight}
 use Rattle.decimal_unsigned.proofs.decimal.parse.fast_path.count_groups.Goals as goal
 

@@ -1,4 +1,5 @@
-use Rattle.decimal_unsigned.proofs.Common.{◌≡◌, ◌-◌, ◌^◌, ◌≤◌, length, drop, IsReadTo}
+use Rattle.std.proofs.Common.{◌≡◌, ◌-◌, ◌^◌, ◌≤◌, length, drop}
+use Rattle.decimal_unsigned.specs.PlainTexts.{IsReadTo}
 use Rattle.decimal_unsigned.proofs.decimal.parse.fast_path.count_groups.Given as goal
 
 abbrev pub invariant-loop-bytes : goal.invariant-loop-bytes

@@ -1,4 +1,5 @@
-use Rattle.decimal_unsigned.proofs.Common.{◌^◌, IsReadTo}
+use Rattle.std.proofs.Common.{◌^◌}
+use Rattle.decimal_unsigned.specs.PlainTexts.{IsReadTo}
 use Rattle.decimal_unsigned.proofs.decimal.parse.fast_path.count_wide.Given as goal
 
 abbrev pub invariant-loop-i : goal.invariant-loop-i

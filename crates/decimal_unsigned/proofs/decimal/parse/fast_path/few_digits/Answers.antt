@@ -1,4 +1,6 @@
-use Rattle.decimal_unsigned.proofs.Common.{elements, ap, ◌+◌, is_ascii_digit, prefix_len, ◌≡◌, ◌-◌, ◌<◌, length, get_or, drop, arith, length-take, length-drop, prefix_len-le-length, drop_all}
+use Rattle.std.proofs.Common.{ap, ◌+◌, ◌≡◌, ◌-◌, ◌<◌, length, get_or, drop, arith}
+use Rattle.std.proofs.lemmas.{Grind.elements, List.{length-take, length-drop, drop_all}, List.Sums.prefix_len-le-length}
+use Rattle.std.specs.{Char.is_ascii_digit, List.prefix_len}
 use Rattle.decimal_unsigned.proofs.BcdValues.{plain_whole, plain_point, after_byte}
 use Rattle.decimal_unsigned.proofs.decimal.parse.fast_path.few_digits.Goals as goal
 

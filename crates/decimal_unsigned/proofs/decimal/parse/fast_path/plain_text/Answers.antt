@@ -1,4 +1,5 @@
-use Rattle.decimal_unsigned.proofs.Common.{elements, ◌≡◌, ◌-◌, ◌<◌, length, get_or, drop, arith, length-take, length-drop, drop_all}
+use Rattle.std.proofs.Common.{◌≡◌, ◌-◌, ◌<◌, length, get_or, drop, arith}
+use Rattle.std.proofs.lemmas.{Grind.elements, List.{length-take, length-drop, drop_all}}
 use Rattle.decimal_unsigned.proofs.BcdValues.{plain_whole, plain_point, after_byte}
 use Rattle.decimal_unsigned.proofs.decimal.parse.fast_path.plain_text.Goals as goal
 

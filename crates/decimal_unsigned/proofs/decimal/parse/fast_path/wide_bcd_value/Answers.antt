@@ -1,4 +1,5 @@
-use Rattle.decimal_unsigned.proofs.Common.{arith, refl, ints}
+use Rattle.std.proofs.Common.{arith, refl}
+use Rattle.std.proofs.lemmas.Int.{ints}
 use Rattle.std.specs.Int.{w128}
 use Rattle.decimal_digits.proofs.LeadingBytes.{wide_bytes_encode}
 use Rattle.decimal_unsigned.proofs.BcdValues.{few_digits, number_fits, plain_bcd, plain_read, bcd_sizes, bcd_value}

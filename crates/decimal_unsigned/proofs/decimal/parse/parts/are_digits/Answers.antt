@@ -1,4 +1,4 @@
-use Rattle.decimal_unsigned.proofs.Common.{sym}
+use Rattle.std.proofs.Common.{sym}
 use Rattle.decimal_unsigned.proofs.GrammarParts.{digits_more}
 use Rattle.decimal_unsigned.proofs.decimal.parse.parts.are_digits.Goals as goal
 

@@ -1,4 +1,5 @@
-use Rattle.decimal_unsigned.proofs.Common.{◌≡◌, take, all_ascii_digits}
+use Rattle.std.proofs.Common.{◌≡◌, take}
+use Rattle.std.specs.Str.{all_ascii_digits}
 use Rattle.decimal_unsigned.proofs.decimal.parse.parts.are_digits.Given as goal
 
 abbrev pub invariant-loop-byte : goal.invariant-loop-byte

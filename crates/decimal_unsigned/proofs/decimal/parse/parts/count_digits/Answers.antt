@@ -1,4 +1,6 @@
-use Rattle.decimal_unsigned.proofs.Common.{sym, ◌∙◌, arith, is_ascii_digit, prefix_len-drop_yes, prefix_len-drop_no, prefix_len-drop_all}
+use Rattle.std.proofs.Common.{sym, ◌∙◌, arith}
+use Rattle.std.proofs.lemmas.List.Sums.{prefix_len-drop_yes, prefix_len-drop_no, prefix_len-drop_all}
+use Rattle.std.specs.Char.{is_ascii_digit}
 use Rattle.decimal_unsigned.proofs.decimal.parse.parts.count_digits.Goals as goal
 
 pub loop-i-preserved : goal.loop-i-preserved

@@ -1,4 +1,5 @@
-use Rattle.decimal_unsigned.proofs.Common.{◌≡◌, ◌+◌, drop, is_ascii_digit, prefix_len}
+use Rattle.std.proofs.Common.{◌≡◌, ◌+◌, drop}
+use Rattle.std.specs.{Char.is_ascii_digit, List.prefix_len}
 use Rattle.decimal_unsigned.proofs.decimal.parse.parts.count_digits.Given as goal
 
 abbrev pub invariant-loop-i : goal.invariant-loop-i

@@ -1,4 +1,5 @@
-use Rattle.decimal_unsigned.proofs.Common.{◌≡◌, ◌+◌, ◌-◌, ◌∙◌, sym, ap, true, take, drop, arith, all_ascii_digits}
+use Rattle.std.proofs.Common.{◌≡◌, ◌+◌, ◌-◌, ◌∙◌, sym, ap, true, take, drop, arith}
+use Rattle.std.specs.Str.{all_ascii_digits}
 use Rattle.decimal_unsigned.proofs.GrammarParts.{count_group}
 use Rattle.decimal_unsigned.proofs.decimal.parse.parts.grouped_digit_count.Goals as goal
 

@@ -1,4 +1,5 @@
-use Rattle.decimal_unsigned.proofs.Common.{◌≡◌, ◌+◌, ◌-◌, ◌≤◌, drop, length, is_ascii_digit, prefix_len}
+use Rattle.std.proofs.Common.{◌≡◌, ◌+◌, ◌-◌, ◌≤◌, drop, length}
+use Rattle.std.specs.{Char.is_ascii_digit, List.prefix_len}
 use Rattle.decimal_unsigned.proofs.decimal.parse.parts.grouped_digit_count.Given as goal
 
 abbrev pub invariant-loop-count : goal.invariant-loop-count

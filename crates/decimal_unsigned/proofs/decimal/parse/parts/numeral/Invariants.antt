@@ -1,4 +1,5 @@
-use Rattle.decimal_unsigned.proofs.Common.{◌≡◌, min, take, drop, all_ascii_digits, digits_value}
+use Rattle.std.proofs.Common.{◌≡◌, min, take, drop}
+use Rattle.std.specs.{Str.all_ascii_digits, Str.Parse.digits_value}
 use Rattle.decimal_unsigned.proofs.decimal.parse.parts.numeral.Given as goal
 
 abbrev pub invariant-loop-byte : goal.invariant-loop-byte

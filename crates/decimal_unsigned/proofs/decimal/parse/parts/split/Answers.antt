@@ -1,6 +1,6 @@
-use Rattle.decimal_unsigned.proofs.Common.{◌≡◌, ◌∙◌, option_map, views, saturated_parts}
-use Rattle.decimal_unsigned.specs.Reading.{after_whole, parts_of}
+use Rattle.std.proofs.Common.{◌≡◌, ◌∙◌, option_map}
 use Rattle.decimal_unsigned.proofs.Plans.{digits_found, exponent_found}
+use Rattle.decimal_unsigned.specs.{Parts.{views, saturated_parts}, Reading.{after_whole, parts_of}}
 use Rattle.decimal_unsigned.proofs.decimal.parse.parts.split.Goals as goal
 
 found : (c : goal.After-after_whole)

@@ -1,4 +1,6 @@
-use Rattle.decimal_unsigned.proofs.Common.{arith, is_ascii_digit, prefix_len-le-length}
+use Rattle.std.proofs.Common.{arith}
+use Rattle.std.proofs.lemmas.List.Sums.{prefix_len-le-length}
+use Rattle.std.specs.Char.{is_ascii_digit}
 use Rattle.decimal_unsigned.proofs.decimal.parse.parts.split_digits.Goals as goal
 
 pub split_at-requires : goal.split_at-requires

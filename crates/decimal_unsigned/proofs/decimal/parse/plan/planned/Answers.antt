@@ -1,5 +1,7 @@
-use Rattle.decimal_unsigned.proofs.Common.{arith, refl, ints, view}
+use Rattle.std.proofs.Common.{arith, refl}
+use Rattle.std.proofs.lemmas.Int.{ints}
 use Rattle.decimal_unsigned.proofs.Plans.{long_whole, long_fraction, makes_zero, makes_plain, is_plan_at}
+use Rattle.decimal_unsigned.specs.Parts.{view}
 use Rattle.decimal_unsigned.proofs.decimal.parse.plan.planned.Goals as goal
 
 pub returns-then-whole-gt32768-clause-none : goal.returns-then-whole-gt32768-clause-none

@@ -1,4 +1,4 @@
-use Rattle.decimal_unsigned.proofs.Common.{refl}
+use Rattle.std.proofs.Common.{refl}
 use Rattle.decimal_unsigned.proofs.PlainTexts.{group_found, group_number}
 use Rattle.decimal_unsigned.proofs.decimal.parse.words.read_group.Goals as goal
 

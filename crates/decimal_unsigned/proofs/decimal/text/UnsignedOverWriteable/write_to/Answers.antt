@@ -1,9 +1,8 @@
-use Rattle.decimal_unsigned.proofs.Common.{inr, arith, length-take, text}
-use Rattle.decimal_digits.proofs.Results.{on_err}
-use Rattle.decimal_digits.proofs.Sinks.{fresh_more, fresh_some, fresh_keeps, fresh_ends}
-use Rattle.decimal_unsigned.proofs.Pieces.{block_of, zeros_first}
-use Rattle.decimal_unsigned.proofs.Lengths.{text_some}
-use Rattle.decimal_unsigned.proofs.Writing.{wrote_more, wrote_part}
+use Rattle.std.proofs.Common.{inr, arith}
+use Rattle.std.proofs.lemmas.List.{length-take}
+use Rattle.decimal_digits.proofs.{Results.on_err, Sinks.{fresh_more, fresh_some, fresh_keeps, fresh_ends}}
+use Rattle.decimal_unsigned.proofs.{Lengths.text_some, Pieces.{block_of, zeros_first}, Writing.{wrote_more, wrote_part}}
+use Rattle.decimal_unsigned.specs.Text.{text}
 use Rattle.decimal_unsigned.proofs.decimal.text.UnsignedOverWriteable.write_to.Goals as goal
 
 pub copy_text-requires-clause-zeros : goal.copy_text-requires-clause-zeros

@@ -1,5 +1,7 @@
-use Rattle.decimal_unsigned.proofs.Common.{◌-◌, ◌≤◌, take, text, Appends}
+use Rattle.std.proofs.Common.{◌-◌, ◌≤◌, take}
+use Rattle.std.specs.Io.KnownBytes.{Appends}
 use Rattle.decimal_digits.proofs.Sinks.{IsFresh}
+use Rattle.decimal_unsigned.specs.Text.{text}
 use Rattle.decimal_unsigned.proofs.decimal.text.UnsignedOverWriteable.write_to.Given as goal
 
 abbrev pub invariant-loop-written : goal.invariant-loop-written

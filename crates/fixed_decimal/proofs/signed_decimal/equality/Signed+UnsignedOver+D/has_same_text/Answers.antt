@@ -1,6 +1,6 @@
-use Rattle.fixed_decimal.proofs.Common.{◌≡◌, ap, rules, decimal_text}
-use Rattle.std.specs.Prelude.{IsTrue, ◌↔◌}
+use Rattle.std.proofs.Common.{◌≡◌, ap, rules, IsTrue, ◌↔◌}
 use Rattle.fixed_decimal.proofs.DecimalTexts.{decimal_text_same}
+use Rattle.fixed_decimal.specs.DecimalText.{decimal_text}
 use Rattle.fixed_decimal.proofs.signed_decimal.equality.Signed+UnsignedOver+D.has_same_text.Goals as goal
 
 pub returns-clause-texts : goal.returns-clause-texts

@@ -1,4 +1,6 @@
-use Rattle.decimal_unsigned.proofs.Common.{◌++◌, arith, length-map, digit_value}
+use Rattle.std.proofs.Common.{◌++◌, arith}
+use Rattle.std.proofs.lemmas.List.{length-map}
+use Rattle.std.specs.Char.{digit_value}
 use Rattle.decimal_unsigned.proofs.GrammarParts.{writes_at}
 use Rattle.decimal_unsigned.proofs.decimal.parse.parts.Parts.digit.Goals as goal
 

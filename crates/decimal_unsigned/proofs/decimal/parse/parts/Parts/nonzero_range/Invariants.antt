@@ -1,4 +1,5 @@
-use Rattle.decimal_unsigned.proofs.Common.{◌≡◌, ℕ, ◌<◌, ◌≤◌, length, get_or, view, digits_of}
+use Rattle.std.proofs.Common.{◌≡◌, ℕ, ◌<◌, ◌≤◌, length, get_or}
+use Rattle.decimal_unsigned.specs.{Parts.view, ScannedDigits.digits_of}
 use Rattle.decimal_unsigned.proofs.decimal.parse.parts.Parts.nonzero_range.Given as goal
 
 abbrev pub invariant-loop-end : goal.invariant-loop-end
