@@ -135,13 +135,13 @@ pub fn index_of(first: i16, magnitude: i16) -> Option<usize>
 
 /// Returns the index of the digit at a magnitude as [`index_of`], and above `first` an index past every list of digits.
 ///
-/// `wrapping_index(2, -3)` is 5, and `wrapping_index(2, 3)` is 2^32 - 1.
+/// `wrapping_index(2, -3)` is 5, and `wrapping_index(2, 3)` is 2^64 - 1.
 #[inline]
 pub fn wrapping_index(first: i16, magnitude: i16) -> usize
     ensures within { magnitude ≤ℤ first → (magnitude +ℤ pos result) ≡ first }
     ensures above { first <ℤ magnitude → 65536 < result }
 {
-    (first as i32 - magnitude as i32).cast_unsigned() as usize
+    (first as i64 - magnitude as i64).cast_unsigned() as usize
 }
 
 /// Subtracts a number of digits from another.

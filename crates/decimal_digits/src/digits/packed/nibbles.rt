@@ -21,7 +21,8 @@ pub(super) fn nibble_at(bytes: &[u8], index: usize) -> u8
     requires { index < length (nibbles bytes.now) }
     ensures { result ≡ slice_index (nibbles bytes.now) index }
 {
-    (bytes[index / 2] << (4 * (index % 2))) >> 4
+    let byte = bytes[index / 2];
+    if index % 2 == 0 { byte / 16 } else { byte % 16 }
 }
 
 pub(crate) fn unpack(bytes: &[u8], len: usize) -> [u8; 32]
