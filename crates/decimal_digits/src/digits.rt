@@ -131,6 +131,19 @@ pub trait DigitStore: Drop {
         requires { index < length (digits self.now) }
         ensures { result ≡ slice_index (digits self.now) index };
 
+    /// Returns the digit at an index, or 0 after the last digit.
+    #[inline]
+    fn digit_or_zero(&self, index: usize) -> u8
+        ensures value { result ≡ slice_index (digits self.now) index }
+        ensures is_digit { result < 10 }
+    {
+        if index < self.len() {
+            self.get(index)
+        } else {
+            0
+        }
+    }
+
     /// Writes the digits from index `from` as ASCII, one to each byte of the buffer.
     ///
     /// Requires at least `buffer.len()` digits from that index.

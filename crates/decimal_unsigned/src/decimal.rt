@@ -1,5 +1,5 @@
 //! The unsigned decimals.
-ghost use Rattle.std.specs.Prelude.{◌≡◌, ℕ, ◌+◌, ◌%◌, ◌^◌, ◌<◌, ◌≤◌, ◌↔◌, length, slice_index, IsTrue, ℤ, false};
+ghost use Rattle.std.specs.Prelude.{◌≡◌, ℕ, ◌+◌, ◌%◌, ◌^◌, ◌<◌, ◌≤◌, ◌↔◌, length, IsTrue, ℤ, false};
 ghost use Rattle.std.specs.Range.{range_inclusive_start, range_inclusive_end, range_inclusive_exhausted};
 ghost use Rattle.decimal_digits.specs.Digits.{number_of, IsStripped};
 ghost use Rattle.decimal_digits.specs.Number.{digit, first, last, size, IsFirst, IsLast};
@@ -103,18 +103,6 @@ impl<D: DigitStore> MadeWith<Global> for UnsignedOver<D> {
     }
 }
 
-#[inline]
-fn digit_or_zero<D: DigitStore>(digits: &D, index: usize) -> u8
-    ensures value { result ≡ slice_index (D.digits digits.now) index }
-    ensures is_digit { result < 10 }
-{
-    if index < digits.len() {
-        digits.get(index)
-    } else {
-        0
-    }
-}
-
 impl<D: DigitStore> UnsignedOver<D> {
     /// Makes the number 0, which prints `0`, without an allocation.
     #[tactic(auto, using(crate::proofs::Values::number_of_empty))]
@@ -136,7 +124,8 @@ impl<D: DigitStore> UnsignedOver<D> {
         ensures value { result ≡ digit self.now.number magnitude }
         ensures valid { IsValue self.now }
     {
-        digit_or_zero(&self.digits, wrapping_index(self.magnitude, magnitude))
+        let index = wrapping_index(self.magnitude, magnitude);
+        self.digits.digit_or_zero(index)
     }
 
     /// Returns the magnitudes that are shown, from the lowest to the highest.

@@ -122,6 +122,17 @@ impl DigitStore for PackedDigits {
     }
 
     #[inline]
+    fn digit_or_zero(&self, index: usize) -> u8 {
+        // Before the comparison, so that a loop over indices finds the bytes once.
+        let bytes = self.bytes.as_slice();
+        if index < self.len {
+            nibble_at(bytes, index)
+        } else {
+            0
+        }
+    }
+
+    #[inline]
     fn set(&mut self, index: usize, digit: u8) {
         set_digit(&mut self.bytes, self.len, index, digit);
     }

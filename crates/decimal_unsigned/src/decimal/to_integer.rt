@@ -5,7 +5,7 @@ ghost use Rattle.decimal_digits.specs.Remainders.{leading};
 ghost use Rattle.decimal_unsigned.specs.ToInteger.{in_range, as_integer};
 ghost use Rattle.decimal_unsigned.specs.Unsigned.{IsValue};
 
-use super::{UnsignedOver, digit_or_zero};
+use super::UnsignedOver;
 use crate::error::IntegerError;
 use decimal_digits::digits::DigitStore;
 
@@ -57,7 +57,7 @@ fn leading_u128<D: DigitStore>(digits: &D, count: usize) -> u128
 {
     let mut number = 0;
     for index in 0..count {
-        number = number * 10 + digit_or_zero(digits, index) as u128;
+        number = number * 10 + digits.digit_or_zero(index) as u128;
     }
     number
 }
@@ -69,7 +69,7 @@ fn leading_39_digits<D: DigitStore>(digits: &D) -> Result<u128, IntegerError>
     let Some(front) = leading_u128(digits, 38).checked_mul(10) else {
         return Err(IntegerError::OutOfRange);
     };
-    match front.checked_add(digit_or_zero(digits, 38) as u128) {
+    match front.checked_add(digits.digit_or_zero(38) as u128) {
         Some(number) => Ok(number),
         None => Err(IntegerError::OutOfRange),
     }
