@@ -60,7 +60,10 @@ impl<'f> FormattedNumber<'f> {
         FormattedAbsolute::new(&formatter.symbols, formatter.strategy, &self.value.absolute)
     }
 
-    pub(crate) fn exponent_digits<'g>(&'g self, exponent: &'g Decimal) -> FormattedAbsolute<'g, DecimalStore>
+    pub(crate) fn exponent_digits<'g>(
+        &'g self,
+        exponent: &'g Decimal,
+    ) -> FormattedAbsolute<'g, DecimalStore>
         ensures { result ≡ formatted_absolute self.now.formatter.now.symbols Never exponent.now.absolute }
     {
         let symbols = &self.formatter.symbols;
