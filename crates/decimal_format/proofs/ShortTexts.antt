@@ -34,7 +34,8 @@ module _ (f : FormattedAbsolute) where
       → length (digit_text f.symbols (digit f.value.number m)) ≤ 4
       → length (magnitude_text f.symbols f.strategy f.value.hi f.value.number m) ≤ 8
   length-magnitude short (pos k) h =
-      let after = length-if (separates f.strategy f.symbols.sizes f.value.hi (pos k)) f.symbols.grouping short.grouping in
+      let separated = separates f.strategy f.symbols.sizes f.value.hi (pos k) in
+      let after = length-if separated f.symbols.grouping short.grouping in
       grind (arith, length-append, after)
   length-magnitude short (negsuc zero) h = grind (arith, length-append, short.decimal)
   length-magnitude short (negsuc (suc k)) h = grind (arith, length-append)

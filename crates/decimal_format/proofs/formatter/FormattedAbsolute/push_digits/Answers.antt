@@ -14,7 +14,8 @@ pub loop-below-preserved : goal.loop-below-preserved
 loop-below-preserved g c =
     record {
       text = grind (arith, narrow_kept, separates_if, first_magnitudes, pushed, append_assoc, one_more);
-      room = grind (arith, narrow_kept, separates_if, first_magnitudes, length-append, length-magnitude, pushed, one_more);
+      room =
+          grind (arith, narrow_kept, separates_if, first_magnitudes, length-append, length-magnitude, pushed, one_more);
     }
 
 pub returns : goal.returns
