@@ -1,12 +1,11 @@
 -- Private: cited only by the contracts of private functions.
 -- Parts of the text: digits without a separator between them.
-use Rattle.std.specs.Prelude.{◌≡◌, ℕ, zero, suc, if◌then◌else◌, ◌+◌, ◌-◌, ◌<◌, Bool, false, List, [], ◌∷◌, ◌++◌, slice_index, EachIndex, flat_map, ℤ, pos, negsuc, ◌-ℤ◌}
+use Rattle.std.specs.Prelude.{◌≡◌, ℕ, zero, suc, if◌then◌else◌, ◌+◌, ◌-◌, ◌<◌, ◌≤◌, Bool, false, List, [], ◌++◌, length, slice_index, EachIndex, flat_map, ℤ, pos, negsuc, ◌-ℤ◌}
 use Rattle.decimal_digits.specs.Number.{digit}
 use Rattle.decimal_format.specs.declared.grouping.GroupingSizes.{GroupingSizes}
 use Rattle.decimal_format.specs.declared.grouping.GroupingStrategy.{GroupingStrategy}
 use Rattle.decimal_format.specs.Grouping.{ends_group, separates}
 use Rattle.decimal_format.specs.Symbols.{Symbols, digit_text}
-use Rattle.decimal_format.specs.Ascii.{ascii_digits}
 use Rattle.decimal_format.specs.Formatted.{FormattedAbsolute, formatted_down, separator_before, separator_after}
 
 -- the magnitude that is the given number below the highest
@@ -37,11 +36,10 @@ digits_text s = flat_map (λ byte. digit_text s (byte - 48))
 abbrev pub run_text : Symbols → List ℕ → List ℕ → List ℕ → List ℕ
 run_text s before after bytes = before ++ (digits_text s bytes ++ after)
 
--- the digits are the ASCII digits, and each separator has one byte
-pub record AreBytes (s : Symbols) (decimal grouping : ℕ) : Type 0 where
-  pub ascii : s.digits ≡ ascii_digits
-  pub decimal_is : s.decimal ≡ decimal ∷ []
-  pub grouping_is : s.grouping ≡ grouping ∷ []
+-- each separator has at most four bytes
+pub record HasShortSeparators (s : Symbols) : Type 0 where
+  pub decimal : length s.decimal ≤ 4
+  pub grouping : length s.grouping ≤ 4
 
 -- a group ends after the digit at a magnitude, which is no fraction digit: a separator is there if the value is grouped
 abbrev pub ends_group_at : GroupingSizes → ℤ → Bool

@@ -52,30 +52,15 @@ impl Block {
         count <= SIZE - self.len
     }
 
-    /// Appends a byte if a condition holds. Requires room for it.
+    /// Appends bytes if a condition holds. Requires room for them.
     #[inline]
-    pub(crate) fn push_if(&mut self, byte: u8, condition: bool)
-        requires { length self.old.0 < 192 }
-        ensures bytes { self.new ≡ (self.old.0 ++ (if condition then byte ∷ [] else []), self.old.1) }
-        ensures at_most { length self.new.0 ≤ length self.old.0 + 1 }
+    pub(crate) fn push_if(&mut self, bytes: &[u8], condition: bool)
+        requires { length self.old.0 + length bytes.now ≤ 192 }
+        ensures value { self.new ≡ (self.old.0 ++ (if condition then bytes.now else []), self.old.1) }
+        ensures at_most { length self.new.0 ≤ length self.old.0 + length bytes.now }
     {
-        if condition {
-            self.bytes[self.len] = byte;
-            self.len += 1;
-        }
-    }
-
-    /// Appends bytes, or none if they do not fit.
-    #[inline]
-    pub(crate) fn append(&mut self, bytes: &[u8]) -> Result<(), SinkFault>
-        ensures ok { OnOk result (self.new ≡ (self.old.0 ++ bytes.now, false)) }
-        ensures had_not_failed { OnOk result (self.old.1 ≡ false) }
-        ensures at_most { OnOk result (length self.new.0 ≤ 192) }
-        ensures err { OnErr result (self.new ≡ (self.old.0, true)) }
-    {
-        if self.failed || !self.has_room(bytes.len()) {
-            self.failed = true;
-            return Err(SinkFault);
+        if !condition {
+            return;
         }
         let end = self.len + bytes.len();
         match bytes {
@@ -93,6 +78,21 @@ impl Block {
             _ => self.bytes[self.len..end].copy_from_slice(bytes),
         }
         self.len = end;
+    }
+
+    /// Appends bytes, or none if they do not fit.
+    #[inline]
+    pub(crate) fn append(&mut self, bytes: &[u8]) -> Result<(), SinkFault>
+        ensures ok { OnOk result (self.new ≡ (self.old.0 ++ bytes.now, false)) }
+        ensures had_not_failed { OnOk result (self.old.1 ≡ false) }
+        ensures at_most { OnOk result (length self.new.0 ≤ 192) }
+        ensures err { OnErr result (self.new ≡ (self.old.0, true)) }
+    {
+        if self.failed || !self.has_room(bytes.len()) {
+            self.failed = true;
+            return Err(SinkFault);
+        }
+        self.push_if(bytes, true);
         Ok(())
     }
 }

@@ -60,7 +60,10 @@ impl<'f> FormattedNumber<'f> {
         FormattedAbsolute::new(&formatter.symbols, formatter.strategy, &self.value.absolute)
     }
 
-    fn exponent_digits<'g>(&'g self, exponent: &'g Decimal) -> FormattedAbsolute<'g, DecimalStore>
+    pub(crate) fn exponent_digits<'g>(
+        &'g self,
+        exponent: &'g Decimal,
+    ) -> FormattedAbsolute<'g, DecimalStore>
         ensures { result ≡ formatted_absolute self.now.formatter.now.symbols Never exponent.now.absolute }
     {
         let symbols = &self.formatter.symbols;
@@ -80,7 +83,7 @@ impl<'f> FormattedNumber<'f> {
         self.exponent_digits(exponent).write_to(sink)
     }
 
-    pub(crate) fn write_number<W: Sink>(&self, sink: &mut W) -> Result<(), SinkFault>
+    fn write_number<W: Sink>(&self, sink: &mut W) -> Result<(), SinkFault>
         ensures ok { OnOk result
             (Appends (W.contents sink.old) (W.contents sink.new) (number_text self.now)) }
         ensures err { OnErr result

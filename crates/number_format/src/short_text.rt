@@ -1,6 +1,6 @@
 //! The text of a number in a block, piece by piece.
 ghost use Rattle.std.specs.Prelude.{◌≡◌, ◌++◌, ◌&&◌, OnOk};
-ghost use Rattle.number_format.specs.FormattedNumbers.{around_of, number_text, number_text_if, formatted_number_text};
+ghost use Rattle.number_format.specs.FormattedNumbers.{around_of, exponent_text, number_text, number_text_if, formatted_number_text};
 ghost use Rattle.number_format.specs.NumberStyles.{ends_with_currency, begins_with_currency};
 ghost use Rattle.number_format.specs.NumberText.{pattern_text, affix_pieces, space_if, sign_pieces, first_sign, last_sign, compact_word, currency_if, compact_prefix, compact_suffix, compact_around, around_by, literal};
 ghost use Rattle.number_format.specs.TextParts.{pieces_text};
@@ -9,7 +9,7 @@ use crate::formatted_number::FormattedNumber;
 use crate::number_around::{has_number, is_plain};
 use crate::number_formatter::NumberFormatter;
 use decimal_format::Block;
-use fixed_decimal::{Sign, Sink, SinkFault};
+use fixed_decimal::{Decimal, Sign, Sink, SinkFault};
 use locale_data::{Affix, AffixPair, CompactAffix, CompactAffixes, CompactForm, Piece};
 
 #[inline]
@@ -203,13 +203,24 @@ impl NumberFormatter {
 }
 
 impl<'f> FormattedNumber<'f> {
+    fn push_exponent(&self, exponent: &Decimal, block: &mut Block) -> Result<(), SinkFault>
+        ensures { OnOk result
+            (block.new.0 ≡ block.old.0 ++ exponent_text self.now.formatter.now exponent.now) }
+    {
+        let formatter = self.formatter;
+        block.put_bytes(formatter.separator.text.as_bytes())?;
+        block.put_bytes(formatter.symbols.affixes(exponent.sign).prefix.as_bytes())?;
+        self.exponent_digits(exponent).put_to_block(block)
+    }
+
     #[inline]
     fn put_digits(&self, block: &mut Block) -> Result<(), SinkFault>
         ensures { OnOk result (block.new.0 ≡ block.old.0 ++ number_text self.now) }
     {
+        self.digits().put_to_block(block)?;
         match &self.exponent {
-            None => self.digits().put_to_block(block),
-            Some(_) => self.write_number(block),
+            None => Ok(()),
+            Some(exponent) => self.push_exponent(exponent, block),
         }
     }
 

@@ -172,11 +172,9 @@ impl<'f, D: DigitStore> FormattedAbsolute<'f, D> {
             ≡ block.old.0 ++ absolute_text self.now.symbols self.now.strategy self.now.value) }
     {
         let count = self.shown_count();
-        if count <= SHORT && block.has_room(SHORT_ROOM) {
-            if let Some((decimal, grouping)) = self.byte_separators() {
-                self.push_digits(decimal, grouping, block);
-                return Ok(());
-            }
+        if count <= SHORT && block.has_room(SHORT_ROOM) && self.has_short_separators() {
+            self.push_digits(block);
+            return Ok(());
         }
         self.write_part(0, count, block)
     }

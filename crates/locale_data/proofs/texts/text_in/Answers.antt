@@ -6,13 +6,10 @@ use Rattle.locale_data.proofs.texts.text_in.Goals as goal
 pub part-requires : goal.part-requires
 part-requires c = (text-facts c.args.bytes.now c.args.range c.requires).inside
 
-pub unreachable-requires : goal.unreachable-requires
-unreachable-requires c =
-    let fails = c.in-Err.ensures.cases.0 in
-    fails (subst IsUtf8 (sym c.part.ensures) (text-facts c.args.bytes.now c.args.range c.requires).utf8)
+pub from_utf8_unchecked-requires : goal.from_utf8_unchecked-requires
+from_utf8_unchecked-requires c =
+    subst IsUtf8 (sym c.part.ensures) (text-facts c.args.bytes.now c.args.range c.requires).utf8
 
 pub returns-clause-short : goal.returns-clause-short
 returns-clause-short c =
-    let facts = text-facts c.args.bytes.now c.args.range c.requires in
-    let shown = c.in-Ok.ensures.cases.0 in
-    rw (shown, c.part.ensures) facts.short
+    rw (c.from_utf8_unchecked.ensures, c.part.ensures) (text-facts c.args.bytes.now c.args.range c.requires).short

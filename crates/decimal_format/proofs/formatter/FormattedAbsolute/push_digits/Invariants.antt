@@ -9,5 +9,5 @@ invariant-loop-below g l = record {
         l.initial.block.0 ++ first_magnitudes l.self.symbols l.self.strategy l.self.value l.below,
         l.initial.block.1,
       );
-  room : length l.block.0 ≤ length l.initial.block.0 + 3 * l.below;
+  room : length l.block.0 ≤ length l.initial.block.0 + 8 * l.below;
 }

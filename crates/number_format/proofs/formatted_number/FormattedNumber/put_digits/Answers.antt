@@ -1,7 +1,7 @@
-use Rattle.std.proofs.Common.{◌≡◌, ◌++◌, ◌∙◌, sym, ap, append-nil}
+use Rattle.std.proofs.Common.{◌≡◌, ◌++◌, ◌∙◌, sym, ap, append-nil, append_assoc}
 use Rattle.std.proofs.lemmas.Result.{on_ok_weaker}
 use Rattle.decimal_format.specs.Formatted.{absolute_text}
-use Rattle.number_format.specs.FormattedNumbers.{exponent_text_if}
+use Rattle.number_format.specs.FormattedNumbers.{exponent_text, exponent_text_if}
 use Rattle.number_format.proofs.formatted_number.FormattedNumber.put_digits.Goals as goal
 
 pub returns-in-None : goal.returns-in-None
@@ -9,7 +9,19 @@ returns-in-None c =
     let n = c.args.self.now in
     let f = n.formatter.now in
     let digits = absolute_text f.symbols f.strategy n.value.absolute in
-    on_ok_weaker c.put_to_block.result
-    (λ h. h ∙ ap (λ l. c.args.block.now.0 ++ l)
-    (sym (append-nil digits) ∙ ap (λ e. digits ++ exponent_text_if f e) (sym c.in-None.is)))
-    (rw c.digits.ensures at c.put_to_block.ensures)
+    (rw c.digits.ensures at c.in_ok-put_to_block.ensures)
+    ∙ ap (λ l. c.args.block.now.0 ++ l)
+    (sym (append-nil digits) ∙ ap (λ e. digits ++ exponent_text_if f e) (sym c.in-None.is))
+
+pub returns-in-Some : goal.returns-in-Some
+returns-in-Some c =
+    let n = c.args.self.now in
+    let f = n.formatter.now in
+    let b = c.args.block.now.0 in
+    let digits = absolute_text f.symbols f.strategy n.value.absolute in
+    let exponent = exponent_text f c.in-Some.exponent in
+    on_ok_weaker c.push_exponent.result
+    (λ h. h ∙ ap (λ l. l ++ exponent) (rw c.digits.ensures at c.in_ok-put_to_block.ensures)
+    ∙ append_assoc b digits exponent
+    ∙ ap (λ e. b ++ (digits ++ exponent_text_if f e)) (sym c.in-Some.is))
+    c.push_exponent.ensures
