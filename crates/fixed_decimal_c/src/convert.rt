@@ -14,10 +14,18 @@ use fixed_decimal::{Call, Decimal, ParseError, RunError, apply_calls};
 use std::alloc::Global;
 
 /// How a text is read, `None` as a decimal's own text, and how the result is written.
-#[derive(Drop)]
 pub(crate) struct Forms {
     pub(crate) reader: Option<LocaleReader<'static>>,
     pub(crate) format: Format,
+}
+
+// Not derived: a derived drop is proved again wherever a value is dropped.
+impl Drop for Forms {
+    fn drop(self) {
+        let Forms { reader, format } = self;
+        drop(reader);
+        drop(format);
+    }
 }
 
 impl Forms {

@@ -48,7 +48,6 @@ pub struct FdForms {
 }
 
 /// What a decimal is formatted by.
-#[derive(Drop)]
 pub(crate) enum Format {
     /// Nothing: it is written as its own text.
     Own,
@@ -56,6 +55,15 @@ pub(crate) enum Format {
     Symbols(DecimalFormatter<'static>),
     /// The options of a number skeleton.
     Skeleton(NumberFormatter),
+}
+
+// Not derived: a derived drop is proved again wherever a value is dropped.
+impl Drop for Format {
+    fn drop(self) {
+        match self {
+            Format::Own | Format::Symbols(_) | Format::Skeleton(_) => {}
+        }
+    }
 }
 
 fn grouping(code: u8) -> Option<GroupingStrategy>
