@@ -56,6 +56,10 @@ if python3 -c 'import sysconfig, os; assert os.path.exists(sysconfig.get_path("i
   python3 -m pip --version > /dev/null 2>&1; then
   try 'pip install' python3 -m pip install --no-index --quiet --target "$room/python" ./python
   PYTHONPATH=$room/python try 'Python beside decimal' python3 python/tests/test_fixed_decimal.py
+  example=$(grep -o 'Decimal("1234.565")[^`]*' README.md)
+  found=$(PYTHONPATH=$room/python python3 -c "from fixed_decimal import Decimal; print($example)")
+  [ "$found" = 1.234,56 ]
+  judge $? "README's example in Python: $found"
 else
   missing "Python's headers and pip"
 fi
@@ -82,7 +86,7 @@ if command -v sqlite3 > /dev/null && echo '#include <sqlite3ext.h>' | gcc -E -x 
   row "SELECT fixdec('1.234,5', 'read:de', 'shift:2', 'pad-end:-1', 'sign:minus', 'format:en-IN')" -1,23,450.0
   row "SELECT fixdec('12', 'concat:0.5', 'concat:0.005', 'display:always')" +12.505
   row "SELECT length(fixdec('1', 'pad-end:-32768')), fixdec(250)" '32770|250'
-  row "SELECT fixdec(NULL, 'trim-end') IS NULL, fixdec('1', NULL) IS NULL, plural(NULL, 1) IS NULL" '1|1|1'
+  row "SELECT fixdec() IS NULL, fixdec(NULL, 'trim-end') IS NULL, fixdec('1', NULL) IS NULL, plural(NULL, 1) IS NULL" '1|1|1|1'
   row "SELECT plural('one: i = 1 and v = 0', '1'), plural('one: i = 1 and v = 0', '1.0')" 'one|other'
   row "SELECT plural('ru', 2), plural('en:ordinal', '22'), plural('en_GB.UTF-8:cardinal', '1.0'), plural('ja', 1)" \
     'few|two|other|other'

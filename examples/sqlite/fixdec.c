@@ -1,92 +1,82 @@
 /* Decimals in SQLite: fixdec(text, word, ..) with the words of the programs, format_number(locale, skeleton, text),
- * plural(locale or rules, text), and the collation decimal_compare.
+ * plural(locale or rules, text), and the collation decimal_compare. NULL in, NULL out; an error is an SQL error.
  *   gcc -shared -fPIC -I ../../c fixdec.c ../../c/out/libfixed_decimal.a -o fixdec.so
- *   SELECT fixdec('1234.565', 'round:-2:half-even:1', 'format:de');  -- 1.234,56
- * NULL in, NULL out. A text, a word or rules that are rejected are an SQL error. */
+ *   SELECT fixdec('1234.565', 'round:-2:half-even:1', 'format:de');  -- 1.234,56 */
 #include <fixed_decimal.h>
 #include <sqlite3ext.h>
 #include <stdio.h>
 #include <string.h>
 SQLITE_EXTENSION_INIT1
 #define BYTES(value) (const uint8_t *)sqlite3_value_text(value), (size_t)sqlite3_value_bytes(value)
-enum { READ = FD_CONCAT + 1, MAX_CALLS = 32, MAX_TEXTS = 2000 };
-static const char *const modes[] = {"ceil", "floor", "expand", "trunc", "half-ceil", "half-floor", "half-expand",
-    "half-trunc", "half-even", NULL};
-static const char *const signs[] = {"none", "minus", "plus", NULL}, *const readings[] = {"strict", "lenient", NULL};
-static const char *const displays[] = {"auto", "never", "always", "except-zero", "negative", NULL};
-static const char *const groupings[] = {"auto", "never", "always", "min2", NULL};
-static const char *const kinds[] = {"shift", "trim-start", "trim-end", "trim-end-if-integer", "pad-start", "pad-end",
-    "max", "round", "sign", "display", "concat", "read", "format", NULL};
+enum { READ = FD_CONCAT + 1, MAX_WORDS = 40, MAX_TEXTS = 2000 };
+typedef struct { fd_call calls[MAX_WORDS]; size_t count; fd_forms forms; uint8_t texts[MAX_TEXTS]; size_t used; } job;
+/* Words, each with a space after it: the index of a word is its number in the library. */
+static const char kinds[] = "shift trim-start trim-end trim-end-if-integer pad-start pad-end max round sign display "
+                            "concat read format ";
+static const char modes[] = "ceil floor expand trunc half-ceil half-floor half-expand half-trunc half-even ";
 static const char *const reasons[] = {"", "start: syntax", "start: limit", "memory", "call %d: syntax",
     "call %d: limit", "call %d: overlap", "call %d: overflow", "", "no such call: %d", "unknown locale",
     "unknown option", "", "", "rules: syntax at %d", "rules: limit at %d", "skeleton: syntax at %d",
     "skeleton: unsupported at %d", "unknown numbering system", "skeleton: no reader"};
 
-typedef struct { fd_call calls[MAX_CALLS]; size_t count; fd_forms forms; uint8_t texts[MAX_TEXTS]; size_t used; } job;
-
-/* Sets an option by its word; 0: there is none. */
-static int choose(uint8_t *option, const char *const *words, const char *word, size_t count) {
-    for (*option = 0; words[*option]; ++*option)
-        if (strncmp(words[*option], word, count) == 0 && !words[*option][count]) return 1;
+/* Sets an option by the word that ends at one of `ends`, and returns its length; 0: it is none of the words. */
+static size_t choose(uint8_t *option, const char *words, const char *text, const char *ends) {
+    size_t count = strcspn(text, ends);
+    for (*option = 0; *words; words += strcspn(words, " ") + 1, ++*option)
+        if (strcspn(words, " ") == count && memcmp(words, text, count) == 0) return count;
     return *option = 0;
 }
 
 /* Parses a locale, which is at start of the texts, and after it an option, a skeleton or both; 0: it is none. */
-static int parse_form(fd_form *form, const char *const *options, const char *tag, size_t start) {
-    size_t count = strcspn(tag, ":");
-    const char *more = tag + count;
-    *form = (fd_form){.start = start, .count = count};
-    size_t option = !*more ? 0 : options == readings ? strcspn(more + 1, ":") : strlen(more + 1);
-    if (*more && choose(&form->option, options, more + 1, option)) more += 1 + option;
-    if (!count || !*more) return count > 0;
-    form->skeleton_start = start + (size_t)(++more - tag), form->skeleton_count = strlen(more);
-    return *more != 0;
+static int parse_form(fd_form *form, const char *options, const char *ends, const char *tag, size_t start) {
+    *form = (fd_form){.start = start, .count = strcspn(tag, ":")};
+    const char *more = tag + form->count;
+    size_t option = *more ? choose(&form->option, options, more + 1, ends) : 0;
+    if (option) more += 1 + option;
+    if (*more) form->skeleton_start = start + (size_t)(more + 1 - tag), form->skeleton_count = strlen(more + 1);
+    return form->count && (!*more || form->skeleton_count);
 }
 
 /* Parses a word of the programs; 0: it is none. */
 static int parse(job *j, const char *word) {
-    size_t count = strlen(word), name = strcspn(word, ":"), start = j->used + name + 1;
+    fd_call *call = &j->calls[j->count];
+    size_t count = strlen(word), name = choose(&call->kind, kinds, word, ":"), start = j->used + name + 1;
     const char *rest = word[name] ? word + name + 1 : "";
     char mode[16] = "half-even";
     int position, increment = 0, used = 0;
-    if (j->count == MAX_CALLS || count > MAX_TEXTS - j->used) return 0;
-    fd_call *call = &j->calls[j->count];
-    *call = (fd_call){.text_start = start, .text_count = strlen(rest)};
-    if (!choose(&call->kind, kinds, word, name)) return 0;
+    if (!name || count > MAX_TEXTS - j->used) return 0;
     memcpy(j->texts + j->used, word, count);
     j->used += count;
-    if (call->kind == READ) return parse_form(&j->forms.read, readings, rest, start);
-    if (call->kind > READ) return parse_form(&j->forms.format, groupings, rest, start);
+    if (call->kind == READ) return parse_form(&j->forms.read, "strict lenient ", ":", rest, start);
+    if (call->kind > READ) return parse_form(&j->forms.format, "auto never always min2 ", "", rest, start);
     j->count++;
+    call->text_start = start, call->text_count = strlen(rest);
     if (call->kind >= FD_TRIM_START && call->kind <= FD_TRIM_END_IF_INTEGER) return !word[name];
     if (call->kind == FD_CONCAT) return word[name] != 0;
-    if (call->kind == FD_SIGN) return choose(&call->option, signs, rest, strlen(rest));
-    if (call->kind == FD_DISPLAY) return choose(&call->option, displays, rest, strlen(rest));
-    int found = call->kind == FD_ROUND ? sscanf(rest, "%d:%15[a-z-]:%d%n", &position, mode, &increment, &used) == 3
-                                       : sscanf(rest, "%d%n", &position, &used) == 1;
-    if (!found || rest[used] || position != (int16_t)position) return 0;
-    call->position = (int16_t)position;
-    call->increment = increment < 0 || increment > 255 ? 0 : (uint8_t)increment;
-    return choose(&call->option, modes, mode, strlen(mode));
+    if (call->kind == FD_SIGN) return choose(&call->option, "none minus plus ", rest, "") > 0;
+    if (call->kind == FD_DISPLAY) return choose(&call->option, "auto never always except-zero negative ", rest, "") > 0;
+    int found = sscanf(rest, "%d%n:%15[a-z-]:%d%n", &position, &used, mode, &increment, &used);
+    if (found != (call->kind == FD_ROUND ? 3 : 1) || rest[used]) return 0;
+    call->position = (int16_t)position, call->increment = (uint8_t)increment;
+    return call->position == position && call->increment == increment && choose(&call->option, modes, mode, "");
 }
 
-/* The line of a status after some calls. */
-static void fail(sqlite3_context *context, uint32_t status, size_t at, size_t calls) {
+/* Returns a text, or the line of an error after some calls. */
+static void finish(sqlite3_context *context, uint32_t status, size_t at, size_t calls, const char *text, int count) {
     int formats = status == FD_OVERFLOW && at == calls;
-    char *line = sqlite3_mprintf(formats ? "format: overflow" : reasons[status], (int)at);
+    char line[64];
+    if (status == FD_OK) return sqlite3_result_text(context, text, count, SQLITE_TRANSIENT);
+    sqlite3_snprintf(sizeof line, line, formats ? "format: overflow" : reasons[status], (int)at);
     sqlite3_result_error(context, line, -1);
-    sqlite3_free(line);
 }
 
 static void plural(sqlite3_context *context, int count, sqlite3_value **values) {
     static const char *const names[] = {"zero", "one", "two", "few", "many", "other"};
     for (int i = 0; i < count; i++) if (sqlite3_value_type(values[i]) == SQLITE_NULL) return;
-    fd_unsigned rules = fd_rules(BYTES(values[0]));
-    if (rules.status != FD_OK) return fail(context, rules.status, rules.at, 0);
-    fd_number answer = rules.value ? fd_category_of(rules.value, BYTES(values[1]))
-                                   : fd_category(BYTES(values[0]), BYTES(values[1]));
-    if (answer.status == FD_OK) sqlite3_result_text(context, names[answer.value], -1, SQLITE_STATIC);
-    else fail(context, answer.status, answer.at, 0);
+    fd_unsigned rules = fd_rules(BYTES(values[0])); /* an unknown locale has the number 0: fd_category_of says so too */
+    fd_number answer = rules.value || rules.status ? fd_category_of(rules.value, BYTES(values[1]))
+                                                   : fd_category(BYTES(values[0]), BYTES(values[1]));
+    finish(context, answer.status, answer.at, 0, names[answer.value], -1);
 }
 
 /* fixdec, which has user data, and format_number. */
@@ -94,19 +84,18 @@ static void convert(sqlite3_context *context, int count, sqlite3_value **values)
     int fixdec = sqlite3_user_data(context) != NULL;
     job j = {.count = 0};
     uint8_t buffer[128], *out = buffer;
+    if (count == 0) return;
     for (int i = 0; i < count; i++) if (sqlite3_value_type(values[i]) == SQLITE_NULL) return;
     for (int i = 1; fixdec && i < count; i++)
-        if (!parse(&j, (const char *)sqlite3_value_text(values[i])))
+        if (i > MAX_WORDS || !parse(&j, (const char *)sqlite3_value_text(values[i])))
             return sqlite3_result_error(context, "no such call", -1);
-    fd_result answer;
-    for (size_t room = sizeof buffer;; room = answer.count) {
-        answer = fixdec ? fd_convert(BYTES(values[0]), &j.forms, j.calls, j.count, j.texts, j.used, out, room)
-                        : fd_format_number(BYTES(values[2]), BYTES(values[0]), BYTES(values[1]), out, room);
-        if (answer.status != FD_BUFFER_TOO_SMALL || !(out = sqlite3_malloc64(answer.count))) break;
-    }
-    if (answer.status == FD_OK) sqlite3_result_text(context, (char *)out, (int)answer.count, SQLITE_TRANSIENT);
-    else if (!out) sqlite3_result_error_nomem(context);
-    else fail(context, answer.status, answer.at, j.count);
+    fd_result answer = {.count = sizeof buffer};
+    do
+        answer = fixdec ? fd_convert(BYTES(values[0]), &j.forms, j.calls, j.count, j.texts, j.used, out, answer.count)
+                        : fd_format_number(BYTES(values[2]), BYTES(values[0]), BYTES(values[1]), out, answer.count);
+    while (answer.status == FD_BUFFER_TOO_SMALL && (out = sqlite3_malloc64(answer.count)));
+    if (!out) return sqlite3_result_error_nomem(context);
+    finish(context, answer.status, answer.at, j.count, (char *)out, (int)answer.count);
     if (out != buffer) sqlite3_free(out);
 }
 
@@ -124,9 +113,8 @@ int sqlite3_fixdec_init(sqlite3 *db, char **unused, const sqlite3_api_routines *
     SQLITE_EXTENSION_INIT2(api);
     (void)unused;
     int flags = SQLITE_UTF8 | SQLITE_DETERMINISTIC | SQLITE_INNOCUOUS;
-    int failed = sqlite3_create_function(db, "fixdec", -1, flags, db, convert, 0, 0)
-                 || sqlite3_create_function(db, "format_number", 3, flags, NULL, convert, 0, 0)
-                 || sqlite3_create_function(db, "plural", 2, flags, NULL, plural, 0, 0)
-                 || sqlite3_create_collation(db, "decimal_compare", SQLITE_UTF8, NULL, compare);
-    return failed ? SQLITE_ERROR : SQLITE_OK;
+    return sqlite3_create_function(db, "fixdec", -1, flags, db, convert, 0, 0)
+           || sqlite3_create_function(db, "format_number", 3, flags, NULL, convert, 0, 0)
+           || sqlite3_create_function(db, "plural", 2, flags, NULL, plural, 0, 0)
+           || sqlite3_create_collation(db, "decimal_compare", SQLITE_UTF8, NULL, compare) ? SQLITE_ERROR : SQLITE_OK;
 }

@@ -14,10 +14,11 @@ use Rattle.fixed_decimal_c.specs.declared.convert.Forms.{Forms}
 use Rattle.fixed_decimal_c.specs.declared.error.FdError.{FdError}
 use Rattle.fixed_decimal_c.specs.declared.error.FdError.TheVariants.{BufferTooSmall, Memory}
 use Rattle.fixed_decimal_c.specs.declared.forms.FdForms.{FdForms}
-use Rattle.fixed_decimal_c.specs.Calls.{AreCalls, DecodeFails}
+use Rattle.fixed_decimal_c.specs.Calls.{AreCalls}
 use Rattle.fixed_decimal_c.specs.Errors.{error_of_parsing, error_of_run}
 use Rattle.fixed_decimal_c.specs.Formats.{IsTextBy, FormatFails}
 use Rattle.fixed_decimal_c.specs.Forms.{IsReaderOf, ReaderFails, IsFormatOf, FormatFormFails}
+use Rattle.fixed_decimal_c.specs.Runs.{RunsNothing}
 use Rattle.fixed_decimal_c.specs.Texts.{IsWritten, IsTooLong, IsLongText}
 
 -- the forms that C passes
@@ -65,20 +66,15 @@ Converts f calls text end (Err (BufferTooSmall needed)) old new =
     HasText f calls text end (λ bytes. IsTooLong bytes needed old new)
 Converts f calls text end (Err error) old new = ConvertErrs f calls text end error × (new ≡ old)
 
--- the forms and the calls that C passes are these
-pub record AreDecoded (forms : FdForms) (calls : List FdCall) (texts : List ℕ) (f : Forms) (list : List Call) : Type 0
-  where
-    pub are_forms : AreForms forms texts f
-    pub are_calls : AreCalls calls texts list
+-- the text is converted by the forms and the calls that C passes; or these are none
+abbrev pub ConvertsDecoded : Forms → Result ℕ FdError → List ℕ → List FdCall → List ℕ → List ℕ → List ℕ → Type 0
+ConvertsDecoded f answer text calls texts old new =
+    ((list : List Call) × AreCalls calls texts list × Converts f list text [] answer old new)
+    ⊎ RunsNothing answer calls texts old new
 
--- there are no such forms, or a call is unknown, or out of memory for the list of the calls
-abbrev pub JobFails : FdError → FdForms → List FdCall → List ℕ → Type 0
-JobFails error forms calls texts = FormsFail error forms texts ⊎ DecodeFails error calls texts
-
--- the text is converted by the forms and the calls that C passes
+-- the same by the forms that C passes; or there are no such forms, and the buffer is as it was
 abbrev pub ConvertsCalls :
     Result ℕ FdError → List ℕ → FdForms → List FdCall → List ℕ → List ℕ → List ℕ → Type 0
 ConvertsCalls answer text forms calls texts old new =
-    ((f : Forms) × (list : List Call) × AreDecoded forms calls texts f list
-    × Converts f list text [] answer old new)
-    ⊎ ((error : FdError) × (answer ≡ Err error) × JobFails error forms calls texts × (new ≡ old))
+    ((f : Forms) × AreForms forms texts f × ConvertsDecoded f answer text calls texts old new)
+    ⊎ ((error : FdError) × (answer ≡ Err error) × FormsFail error forms texts × (new ≡ old))

@@ -2,7 +2,6 @@
 use Rattle.std.specs.Prelude.{◌≡◌, ◌≢◌, ℕ, ◌⊎◌, List, Option, Some, None}
 use Rattle.std.specs.Str.{IsUtf8}
 use Rattle.decimal_format.specs.Symbols.{Symbols}
-use Rattle.decimal_format.specs.Formatted.{Formatter}
 use Rattle.decimal_format.specs.declared.grouping.GroupingStrategy.{GroupingStrategy}
 use Rattle.decimal_format.specs.declared.grouping.GroupingStrategy.TheVariants.{Auto, Never, Always, Min2}
 use Rattle.locale_data.specs.Locales.{IsLocale, IsUnknown}
@@ -62,12 +61,6 @@ FormFails {A} code UnknownOption form texts =
     ((s : Symbols) × AreSymbolsOf form texts (Some s)) × ((option : A) → form.option ≡ code option → ⊥)
 FormFails code error form texts = ⊥
 
--- the formatter by the symbols of a form, with its strategy; no symbols, no formatter
-abbrev pub IsSymbolsFormatter : FdForm → List ℕ → Option Formatter → Type 0
-IsSymbolsFormatter form texts None = AreSymbolsOf form texts None
-IsSymbolsFormatter form texts (Some f) =
-    AreSymbolsOf form texts (Some f.symbols) × (form.option ≡ grouping_code f.strategy)
-
 -- a start and a number of bytes are no part of the texts
 abbrev pub HasNoPart : List ℕ → ℕ → ℕ → Type 0
 HasNoPart texts start count = (t : List ℕ) → IsPart texts start count t → ⊥
@@ -119,8 +112,9 @@ ReaderFails error form texts =
 
 -- what a form formats by: with a skeleton by it, else by its symbols; without either a decimal is its own text
 abbrev pub IsFormatOf : FdForm → List ℕ → Format → Type 0
-IsFormatOf form texts by.Own = (form.skeleton_count ≡ 0) × IsSymbolsFormatter form texts None
-IsFormatOf form texts (by.Symbols f) = (form.skeleton_count ≡ 0) × IsSymbolsFormatter form texts (Some f)
+IsFormatOf form texts by.Own = (form.skeleton_count ≡ 0) × AreSymbolsOf form texts None
+IsFormatOf form texts (by.Symbols f) =
+    (form.skeleton_count ≡ 0) × AreSymbolsOf form texts (Some f.symbols) × (form.option ≡ grouping_code f.strategy)
 IsFormatOf form texts (by.Skeleton f) = (form.skeleton_count ≢ 0) × IsSkeletonFormatter form texts f
 
 -- there is no such formatter

@@ -9,8 +9,9 @@ use Rattle.fixed_decimal_c.specs.declared.forms.FdForms.{FdForms}
 use Rattle.fixed_decimal_c.specs.declared.lines.Progress.{Progress}
 use Rattle.fixed_decimal_c.specs.declared.error.FdError.{FdError}
 use Rattle.fixed_decimal_c.specs.declared.error.FdError.TheVariants.{BufferTooSmall, Memory}
+use Rattle.fixed_decimal_c.specs.Calls.{AreCalls, DecodeFails}
 use Rattle.fixed_decimal_c.specs.Encodings.{fd_column}
-use Rattle.fixed_decimal_c.specs.Conversions.{IsConverted, ConversionFails, ConvertErrs, AreDecoded, JobFails}
+use Rattle.fixed_decimal_c.specs.Conversions.{IsConverted, ConversionFails, ConvertErrs, AreForms, FormsFail}
 use Rattle.fixed_decimal_c.specs.Texts.{IsWritten}
 
 -- a line has this result: its text; or, where lines that fail are skipped, the error of reading it or of a call
@@ -80,11 +81,18 @@ ConvertsLines f calls skip input done result old new =
 abbrev pub none : Progress
 none = record { lines = 0; read = 0; written = 0; failed = 0 }
 
--- the column is converted by the forms and the calls that C passes
+-- the column is converted by the forms and the calls that C passes; or these are none, and the buffer is as it was
+abbrev pub ConvertsColumnBy :
+    Forms → FdColumn → List ℕ → Bool → List FdCall → List ℕ → List ℕ → List ℕ → Type 0
+ConvertsColumnBy f answer input skip calls texts old new =
+    ((list : List Call) × AreCalls calls texts list
+    × ((done : Progress) × (result : Result Unit FdError) × (answer ≡ fd_column done result)
+    × ConvertsLines f list skip input done result old new))
+    ⊎ ((error : FdError) × (answer ≡ fd_column none (Err error)) × DecodeFails error calls texts × (new ≡ old))
+
+-- the same by the forms that C passes; or there are no such forms, and the buffer is as it was
 abbrev pub ConvertsColumn :
     FdColumn → List ℕ → Bool → FdForms → List FdCall → List ℕ → List ℕ → List ℕ → Type 0
 ConvertsColumn answer input skip forms calls texts old new =
-    ((f : Forms) × (list : List Call) × AreDecoded forms calls texts f list
-    × ((done : Progress) × (result : Result Unit FdError) × (answer ≡ fd_column done result)
-    × ConvertsLines f list skip input done result old new))
-    ⊎ ((error : FdError) × (answer ≡ fd_column none (Err error)) × JobFails error forms calls texts × (new ≡ old))
+    ((f : Forms) × AreForms forms texts f × ConvertsColumnBy f answer input skip calls texts old new)
+    ⊎ ((error : FdError) × (answer ≡ fd_column none (Err error)) × FormsFail error forms texts × (new ≡ old))

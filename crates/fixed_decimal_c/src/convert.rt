@@ -2,11 +2,11 @@
 ghost use Rattle.std.specs.Prelude.{◌≡◌, Ok, IfOk, IfErr};
 ghost use Rattle.cli.specs.Conversion.{IsReadBy, ReadingByFails};
 ghost use Rattle.fixed_decimal_c.specs.Formats.{WritesBy};
-ghost use Rattle.fixed_decimal_c.specs.Conversions.{AreForms, FormsFail, Converts, ConvertsCalls};
+ghost use Rattle.fixed_decimal_c.specs.Conversions.{AreForms, FormsFail, Converts, ConvertsDecoded, ConvertsCalls};
 
 use crate::calls::{FdCall, INLINE_CALLS, decode_long, decode_short};
 use crate::error::{FdError, error_of_parsing, error_of_run};
-use crate::forms::{FdForms, Format, reader, skeleton_formatter, symbols_formatter};
+use crate::forms::{FdForms, Format, formatter, reader};
 use crate::number_text::write_number;
 use crate::texts::write_value;
 use cli::LocaleReader;
@@ -14,10 +14,18 @@ use fixed_decimal::{Call, Decimal, ParseError, RunError, apply_calls};
 use std::alloc::Global;
 
 /// How a text is read, `None` as a decimal's own text, and how the result is written.
-#[derive(Drop)]
 pub(crate) struct Forms {
     pub(crate) reader: Option<LocaleReader<'static>>,
     pub(crate) format: Format,
+}
+
+// Not derived: a derived drop is proved again wherever a value is dropped.
+impl Drop for Forms {
+    fn drop(self) {
+        let Forms { reader, format } = self;
+        drop(reader);
+        drop(format);
+    }
 }
 
 impl Forms {
@@ -25,17 +33,14 @@ impl Forms {
         ensures ok { IfOk result (AreForms forms.now texts.now) }
         ensures err { IfErr result (λ error. FormsFail error forms.now texts.now) }
     {
-        let reader = reader(alloc, &forms.read, texts)?;
-        if forms.format.skeleton_count > 0 {
-            let formatter = skeleton_formatter(&forms.format, texts)?;
-            let format = Format::Skeleton(formatter);
-            return Ok(Forms { reader, format });
-        }
-        let format = match symbols_formatter(&forms.format, texts)? {
-            Some(formatter) => Format::Symbols(formatter),
-            None => Format::Own,
+        let reader = match reader(alloc, &forms.read, texts) {
+            Ok(reader) => reader,
+            Err(error) => return Err(error),
         };
-        Ok(Forms { reader, format })
+        match formatter(&forms.format, texts) {
+            Ok(format) => Ok(Forms { reader, format }),
+            Err(error) => Err(error),
+        }
     }
 
     fn read(&self, alloc: Global, text: &[u8]) -> Result<Decimal, ParseError>
@@ -91,6 +96,30 @@ impl Forms {
         }
         self.write(alloc, value, calls.len(), end, buffer)
     }
+
+    /// Converts a text, with the calls that C passes.
+    fn convert_decoded(
+        &self,
+        alloc: Global,
+        text: &[u8],
+        calls: &[FdCall],
+        texts: &[u8],
+        buffer: &mut [u8],
+    ) -> Result<usize, FdError>
+        ensures { ConvertsDecoded self.now result text.now calls.now texts.now buffer.old buffer.new }
+    {
+        if calls.len() <= INLINE_CALLS {
+            let mut list = [Call::TrimStart; INLINE_CALLS];
+            return match decode_short(calls, texts, &mut list) {
+                Ok(()) => self.convert(alloc, text, &list[..calls.len()], &[], buffer),
+                Err(error) => Err(error),
+            };
+        }
+        match decode_long(alloc, calls, texts) {
+            Ok(list) => self.convert(alloc, text, list.as_slice(), &[], buffer),
+            Err(error) => Err(error),
+        }
+    }
 }
 
 /// Reads a text in one form, makes the calls that C passes, and writes the text of the result in another form.
@@ -105,19 +134,8 @@ pub(crate) fn convert(
     ensures { ConvertsCalls result text.now forms.now calls.now texts.now buffer.old buffer.new }
 {
     let decoded = Forms::decode(alloc, forms, texts);
-    let forms = match &decoded {
-        Ok(forms) => forms,
-        Err(error) => return Err(*error),
-    };
-    if calls.len() <= INLINE_CALLS {
-        let mut list = [Call::TrimStart; INLINE_CALLS];
-        return match decode_short(calls, texts, &mut list) {
-            Ok(()) => forms.convert(alloc, text, &list[..calls.len()], &[], buffer),
-            Err(error) => Err(error),
-        };
-    }
-    match decode_long(alloc, calls, texts) {
-        Ok(list) => forms.convert(alloc, text, list.as_slice(), &[], buffer),
-        Err(error) => Err(error),
+    match &decoded {
+        Ok(forms) => forms.convert_decoded(alloc, text, calls, texts, buffer),
+        Err(error) => Err(*error),
     }
 }

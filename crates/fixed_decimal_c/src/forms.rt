@@ -3,7 +3,7 @@ ghost use Rattle.std.specs.Prelude.{◌≡◌, IfSome, IfNone, IfOk, IfErr};
 ghost use Rattle.decimal_format.specs.declared.grouping.GroupingStrategy.{GroupingStrategy};
 ghost use Rattle.decimal_format.specs.Readable.{IsReadable};
 ghost use Rattle.number_format.specs.declared.number_reader.ParseMode.{ParseMode};
-ghost use Rattle.fixed_decimal_c.specs.Forms.{grouping_code, reading_code, IsLocaleAt, HasNoLocale, AreSymbolsOf, HasNoSymbols, IsReaderOf, FormFails, IsSkeletonReader, SkeletonReaderFails, ReaderFails, IsSymbolsFormatter, IsSkeletonFormatter, SkeletonFormFails};
+ghost use Rattle.fixed_decimal_c.specs.Forms.{grouping_code, reading_code, IsLocaleAt, HasNoLocale, AreSymbolsOf, HasNoSymbols, IsReaderOf, FormFails, IsSkeletonReader, SkeletonReaderFails, ReaderFails, IsSkeletonFormatter, SkeletonFormFails, IsFormatOf, FormatFormFails};
 
 use crate::calls::part;
 use crate::error::FdError;
@@ -48,7 +48,6 @@ pub struct FdForms {
 }
 
 /// What a decimal is formatted by.
-#[derive(Drop)]
 pub(crate) enum Format {
     /// Nothing: it is written as its own text.
     Own,
@@ -56,6 +55,15 @@ pub(crate) enum Format {
     Symbols(DecimalFormatter<'static>),
     /// The options of a number skeleton.
     Skeleton(NumberFormatter),
+}
+
+// Not derived: a derived drop is proved again wherever a value is dropped.
+impl Drop for Format {
+    fn drop(self) {
+        match self {
+            Format::Own | Format::Symbols(_) | Format::Skeleton(_) => {}
+        }
+    }
 }
 
 fn grouping(code: u8) -> Option<GroupingStrategy>
@@ -125,8 +133,10 @@ fn skeleton_reader(alloc: Global, form: &FdForm, texts: &[u8]) -> Result<Skeleto
     let Some(mode) = reading(form.option) else {
         return Err(FdError::UnknownOption);
     };
-    let reader = number_reader(alloc, formatter)?;
-    Ok(SkeletonReader { reader, mode })
+    match number_reader(alloc, formatter) {
+        Ok(reader) => Ok(SkeletonReader { reader, mode }),
+        Err(error) => Err(error),
+    }
 }
 
 /// Returns the reader of a form, if it has one.
@@ -139,8 +149,10 @@ pub(crate) fn reader(
     ensures err { IfErr result (λ error. ReaderFails error form.now texts.now) }
 {
     if form.skeleton_count > 0 {
-        let reader = skeleton_reader(alloc, form, texts)?;
-        return Ok(Some(LocaleReader::Numbers(reader)));
+        return match skeleton_reader(alloc, form, texts) {
+            Ok(reader) => Ok(Some(LocaleReader::Numbers(reader))),
+            Err(error) => Err(error),
+        };
     }
     let Some(symbols) = symbols(form, texts)? else {
         return Ok(None);
@@ -151,25 +163,8 @@ pub(crate) fn reader(
     }
 }
 
-/// Returns the formatter by the symbols of the locale of a form, if it has one.
-pub(crate) fn symbols_formatter(
-    form: &FdForm,
-    texts: &[u8],
-) -> Result<Option<DecimalFormatter<'static>>, FdError>
-    ensures ok { IfOk result (IsSymbolsFormatter form.now texts.now) }
-    ensures err { IfErr result (λ error. FormFails grouping_code error form.now texts.now) }
-{
-    let Some(symbols) = symbols(form, texts)? else {
-        return Ok(None);
-    };
-    match grouping(form.option) {
-        Some(strategy) => Ok(Some(DecimalFormatter::new(symbols, strategy))),
-        None => Err(FdError::UnknownOption),
-    }
-}
-
 /// Returns the formatter by the tag and the skeleton of a form.
-pub(crate) fn skeleton_formatter(form: &FdForm, texts: &[u8]) -> Result<NumberFormatter, FdError>
+fn skeleton_formatter(form: &FdForm, texts: &[u8]) -> Result<NumberFormatter, FdError>
     ensures ok { IfOk result (IsSkeletonFormatter form.now texts.now) }
     ensures err { IfErr result (λ error. SkeletonFormFails error form.now texts.now) }
 {
@@ -180,4 +175,22 @@ pub(crate) fn skeleton_formatter(form: &FdForm, texts: &[u8]) -> Result<NumberFo
         return Err(FdError::UnknownLocale);
     };
     number_formatter(tag, skeleton)
+}
+
+/// Returns what a form formats by.
+pub(crate) fn formatter(form: &FdForm, texts: &[u8]) -> Result<Format, FdError>
+    ensures ok { IfOk result (IsFormatOf form.now texts.now) }
+    ensures err { IfErr result (λ error. FormatFormFails error form.now texts.now) }
+{
+    if form.skeleton_count == 0 {
+        let Some(symbols) = symbols(form, texts)? else {
+            return Ok(Format::Own);
+        };
+        return match grouping(form.option) {
+            Some(strategy) => Ok(Format::Symbols(DecimalFormatter::new(symbols, strategy))),
+            None => Err(FdError::UnknownOption),
+        };
+    }
+    let formatter = skeleton_formatter(form, texts)?;
+    Ok(Format::Skeleton(formatter))
 }

@@ -2,7 +2,7 @@
 ghost use Rattle.std.specs.Prelude.{◌≡◌, ◌<◌, ◌≤◌, [], ◌∷◌, length, take, drop, IfOk, IfErr, OnErr};
 ghost use Rattle.cli.specs.Lines.{lines_of};
 ghost use Rattle.fixed_decimal_c.specs.Texts.{IsWritten};
-ghost use Rattle.fixed_decimal_c.specs.Lines.{IsLineWritten, LineStops, ConvertsLines, ConvertsColumn};
+ghost use Rattle.fixed_decimal_c.specs.Lines.{IsLineWritten, LineStops, ConvertsLines, ConvertsColumnBy, ConvertsColumn};
 
 use crate::answer::{FdColumn, encode_column};
 use crate::calls::{FdCall, INLINE_CALLS, decode_long, decode_short};
@@ -148,6 +148,42 @@ impl Forms {
         }
         (done, Ok(()))
     }
+
+    /// Converts each line, with the calls that C passes.
+    fn convert_column(
+        &self,
+        alloc: Global,
+        input: &[u8],
+        skip: bool,
+        calls: &[FdCall],
+        texts: &[u8],
+        buffer: &mut [u8],
+    ) -> FdColumn
+        ensures { ConvertsColumnBy self.now result input.now skip calls.now texts.now buffer.old buffer.new }
+    {
+        if calls.len() <= INLINE_CALLS {
+            let mut list = [Call::TrimStart; INLINE_CALLS];
+            if let Err(error) = decode_short(calls, texts, &mut list) {
+                return encode_column(NONE, Err(error));
+            }
+            let calls = &list[..calls.len()];
+            let (done, result) = self.convert_lines(alloc, input, calls, skip, buffer);
+            return encode_column(done, result);
+        }
+        match decode_long(alloc, calls, texts) {
+            Ok(list) => {
+                let (done, result) = self.convert_lines(
+                    alloc,
+                    input,
+                    list.as_slice(),
+                    skip,
+                    buffer,
+                );
+                encode_column(done, result)
+            }
+            Err(error) => encode_column(NONE, Err(error)),
+        }
+    }
 }
 
 /// Converts each line by the forms and the calls that C passes.
@@ -163,31 +199,8 @@ pub(crate) fn convert_column(
     ensures { ConvertsColumn result input.now skip forms.now calls.now texts.now buffer.old buffer.new }
 {
     let decoded = Forms::decode(alloc, forms, texts);
-    let forms = match &decoded {
-        Ok(forms) => forms,
-        Err(error) => return encode_column(NONE, Err(*error)),
-    };
-    if calls.len() <= INLINE_CALLS {
-        let mut list = [Call::TrimStart; INLINE_CALLS];
-        return match decode_short(calls, texts, &mut list) {
-            Ok(()) => {
-                let (done, result) = forms.convert_lines(
-                    alloc,
-                    input,
-                    &list[..calls.len()],
-                    skip,
-                    buffer,
-                );
-                encode_column(done, result)
-            }
-            Err(error) => encode_column(NONE, Err(error)),
-        };
-    }
-    match decode_long(alloc, calls, texts) {
-        Ok(list) => {
-            let (done, result) = forms.convert_lines(alloc, input, list.as_slice(), skip, buffer);
-            encode_column(done, result)
-        }
-        Err(error) => encode_column(NONE, Err(error)),
+    match &decoded {
+        Ok(forms) => forms.convert_column(alloc, input, skip, calls, texts, buffer),
+        Err(error) => encode_column(NONE, Err(*error)),
     }
 }

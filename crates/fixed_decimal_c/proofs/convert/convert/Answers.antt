@@ -1,5 +1,5 @@
-use Rattle.std.proofs.Common.{inl, inr, refl}
+use Rattle.std.proofs.Common.{inr, refl}
 use Rattle.fixed_decimal_c.proofs.convert.convert.Goals as goal
 
-pub returns-in-Err : goal.returns-in-Err
-returns-in-Err c = inr (c.in-Err.error, refl, inl (rw c.in-Err.is at c.decode-decoded.ensures.err), refl)
+pub returns : goal.returns
+returns c = inr (c.in-Err.error, refl, rw c.in-Err.is at c.decode-decoded.ensures.err, refl)

@@ -1,7 +1,7 @@
-use Rattle.std.proofs.Common.{inl, inr, refl}
+use Rattle.std.proofs.Common.{inr, refl}
 use Rattle.fixed_decimal_c.proofs.lines.convert_column.Goals as goal
 
-pub returns-in-Err : goal.returns-in-Err
-returns-in-Err c =
+pub returns : goal.returns
+returns c =
     let fails = rw c.in-Err.is at c.decode-decoded.ensures.err in
-    inr (c.in-Err.error, c.encode_column.ensures, inl fails, refl)
+    inr (c.in-Err.error, c.encode_column.ensures, fails, refl)
