@@ -4,7 +4,7 @@ ghost use Rattle.std.specs.Str.{IsUtf8};
 ghost use Rattle.std.specs.String.{string_bytes};
 ghost use Rattle.decimal_format.specs.Readable.{IsReadable, BeginsWithDigit, EndsWithDigit};
 ghost use Rattle.decimal_format.specs.Symbols.{affixes};
-ghost use Rattle.number_format.specs.AffixedTexts.{affix_table, by_sign, ArePrefixesApart, AreSuffixesApart, ArePairApart, AreNamed};
+ghost use Rattle.number_format.specs.AffixedTexts.{by_sign, ArePrefixesApart, AreSuffixesApart, ArePairApart, AreNamed};
 ghost use Rattle.number_format.specs.TextParts.{parts_text};
 
 use crate::text_part::TextPart;
@@ -37,7 +37,6 @@ impl Model for AffixTexts {
     ghost view = { λ s. affixes (string_bytes s.prefix) (string_bytes s.suffix) };
 }
 
-/// Returns the texts of parts, one after another.
 pub(crate) fn joined(alloc: Global, parts: &[TextPart<'_>]) -> Result<String, AllocError>
     ensures { IfOk result (λ t. string_bytes t ≡ parts_text parts.now) }
 {
@@ -57,7 +56,6 @@ impl AffixTexts {
         Ok(AffixTexts { prefix, suffix })
     }
 
-    /// Returns the texts of the parts before a number and after it.
     pub(crate) fn of_parts(
         alloc: Global,
         prefix: &[TextPart<'_>],
@@ -83,9 +81,9 @@ impl AffixTexts {
 
 /// The texts before and after a number, by its sign.
 pub struct SignAffixes {
-    none: AffixTexts,
-    negative: AffixTexts,
-    positive: AffixTexts,
+    pub(crate) none: AffixTexts,
+    pub(crate) negative: AffixTexts,
+    pub(crate) positive: AffixTexts,
 }
 
 // Not derived: a derived drop is proved again wherever a value is dropped.
@@ -103,11 +101,13 @@ impl Drop for SignAffixes {
 }
 
 impl Model for SignAffixes {
-    ghost use Rattle.number_format.specs.AffixedTexts.{AffixTable, affix_table};
+    ghost use Rattle.fixed_decimal.specs.declared.variations.Sign.{Sign};
+    ghost use Rattle.decimal_format.specs.Symbols.{Affixes};
+    ghost use Rattle.number_format.specs.AffixedTexts.{by_sign};
 
-    ghost Value = { AffixTable };
+    ghost Value = { Sign → Affixes };
 
-    ghost view = { λ s. affix_table s.none s.negative s.positive };
+    ghost view = { λ s. by_sign s.none s.negative s.positive };
 }
 
 fn cut<'t>(text: &'t str, prefix: &str) -> Option<&'t str>
@@ -129,10 +129,7 @@ fn is_apart_after(symbols: &DecimalSymbols<'_>, rest: &str) -> bool
     ensures apart { IsTrue result ↔ ((rest.now ≢ []) × ¬ BeginsWithDigit symbols.now rest.now) }
     ensures utf8 { IsUtf8 rest.now }
 {
-    if rest.is_empty() {
-        return false;
-    }
-    !symbols.begins_with_digit(rest.as_bytes())
+    !rest.is_empty() && !symbols.begins_with_digit(rest.as_bytes())
 }
 
 fn is_apart_before(symbols: &DecimalSymbols<'_>, rest: &str) -> bool
@@ -140,10 +137,7 @@ fn is_apart_before(symbols: &DecimalSymbols<'_>, rest: &str) -> bool
     ensures apart { IsTrue result ↔ ((rest.now ≢ []) × ¬ EndsWithDigit symbols.now rest.now) }
     ensures utf8 { IsUtf8 rest.now }
 {
-    if rest.is_empty() {
-        return false;
-    }
-    !symbols.ends_with_digit(rest.as_bytes())
+    !rest.is_empty() && !symbols.ends_with_digit(rest.as_bytes())
 }
 
 fn are_prefixes_apart(symbols: &DecimalSymbols<'_>, first: &str, second: &str) -> bool
@@ -184,30 +178,24 @@ impl SignAffixes {
         negative: Affixes<'_>,
         positive: Affixes<'_>,
     ) -> Result<Self, AllocError>
-        ensures { IfOk result (λ t. t ≡ affix_table (affixes none.entry.prefix.now none.entry.suffix.now)
+        ensures { IfOk result (λ t. t ≡ by_sign (affixes none.entry.prefix.now none.entry.suffix.now)
             (affixes negative.entry.prefix.now negative.entry.suffix.now)
             (affixes positive.entry.prefix.now positive.entry.suffix.now)) }
     {
         let none = AffixTexts::new(alloc, none)?;
         let negative = AffixTexts::new(alloc, negative)?;
         let positive = AffixTexts::new(alloc, positive)?;
-        Ok(Self::of_texts(none, negative, positive))
-    }
-
-    pub(crate) fn of_texts(none: AffixTexts, negative: AffixTexts, positive: AffixTexts) -> Self
-        ensures { result ≡ affix_table none negative positive }
-    {
-        SignAffixes {
+        Ok(SignAffixes {
             none,
             negative,
             positive,
-        }
+        })
     }
 
     /// Returns the texts before and after a number with this sign.
     pub fn of_sign(&self, sign: Sign) -> Affixes<'_>
-        ensures prefix { result.prefix.now ≡ (by_sign self.now sign).prefix }
-        ensures suffix { result.suffix.now ≡ (by_sign self.now sign).suffix }
+        ensures prefix { result.prefix.now ≡ (self.now sign).prefix }
+        ensures suffix { result.suffix.now ≡ (self.now sign).suffix }
     {
         match sign {
             Sign::None => self.none.texts(),
@@ -218,7 +206,7 @@ impl SignAffixes {
 
     fn is_pair_apart(&self, symbols: &DecimalSymbols<'_>, first: Sign, second: Sign) -> bool
         requires { IsReadable symbols.now }
-        ensures { IsTrue result ↔ ArePairApart symbols.now (by_sign self.now first) (by_sign self.now second) }
+        ensures { IsTrue result ↔ ArePairApart symbols.now (self.now first) (self.now second) }
     {
         let one = self.of_sign(first);
         let two = self.of_sign(second);
@@ -234,7 +222,7 @@ impl SignAffixes {
     /// This holds for percent and all currencies in all locales of CLDR. Requires readable symbols.
     pub fn are_apart(&self, symbols: &DecimalSymbols<'_>) -> bool
         requires { IsReadable symbols.now }
-        ensures { IsTrue result ↔ AreNamed symbols.now (by_sign self.now) }
+        ensures { IsTrue result ↔ AreNamed symbols.now self.now }
     {
         if !self.is_pair_apart(symbols, Sign::None, Sign::Negative) {
             return false;
