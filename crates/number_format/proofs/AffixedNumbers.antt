@@ -19,7 +19,7 @@ use Rattle.decimal_format.proofs.NumeralLaws.{texts_are_unique, none_read, with_
 use Rattle.decimal_format.proofs.Around.{no_sign}
 use Rattle.decimal_format.proofs.NumeralTexts.{digits_of_value, absolute_is}
 use Rattle.decimal_format.proofs.Scans.{begins-append, number_begins, none_after_last, strategy_is}
-use Rattle.number_format.specs.AffixedTexts.{Reader, AreNamed, ArePairApart, between, text_with, IsShown, IsShownNumeral, IsBetween}
+use Rattle.number_format.specs.AffixedTexts.{AffixTable, Reader, AreNamed, ArePairApart, by_sign, between, text_with, IsShown, IsShownNumeral, IsBetween}
 use Rattle.number_format.proofs.NamedAffixes.{ends-append}
 
 -- ---- A number ends with a digit.
@@ -87,9 +87,9 @@ module _ (s : Symbols) where
       h (p.prefix ++ a) (q.prefix ++ b) (ends-append s p.prefix a x.ends) (ends-append s q.prefix b y.ends)
       (append_assoc p.prefix a p.suffix ∙ e ∙ sym (append_assoc q.prefix b q.suffix))
 
-  module _ (by : Sign → Affixes) (named : AreNamed s by) where
+  module _ (t : AffixTable) (named : AreNamed s t) where
     same_sign : (x y : Sign) (a b : List ℕ) → IsNumberText s a → IsNumberText s b
-        → (by x).prefix ++ (a ++ (by x).suffix) ≡ (by y).prefix ++ (b ++ (by y).suffix) → x ≡ y
+        → (by_sign t x).prefix ++ (a ++ (by_sign t x).suffix) ≡ (by_sign t y).prefix ++ (b ++ (by_sign t y).suffix) → x ≡ y
     same_sign None None a b p q e = refl
     same_sign None Negative a b p q e = absurd (clash _ _ a b (named.pair None Negative (λ h. cc)) p q e)
     same_sign None Positive a b p q e = absurd (clash _ _ a b (named.pair None Positive (λ h. cc)) p q e)
@@ -101,14 +101,14 @@ module _ (s : Symbols) where
     same_sign Positive Positive a b p q e = refl
 
     same_middle : (x y : Sign) (a b : List ℕ) → IsNumberText s a → IsNumberText s b
-        → (by x).prefix ++ (a ++ (by x).suffix) ≡ (by y).prefix ++ (b ++ (by y).suffix) → (x ≡ y) × (a ≡ b)
+        → (by_sign t x).prefix ++ (a ++ (by_sign t x).suffix) ≡ (by_sign t y).prefix ++ (b ++ (by_sign t y).suffix) → (x ≡ y) × (a ≡ b)
     same_middle x y a b p q e =
         let same = same_sign x y a b p q e in
-        let here : (by x).prefix ++ (a ++ (by x).suffix) ≡ (by x).prefix ++ (b ++ (by x).suffix) =
-        e ∙ sym (ap (λ z. (by z).prefix ++ (b ++ (by z).suffix)) same) in (
+        let here : (by_sign t x).prefix ++ (a ++ (by_sign t x).suffix) ≡ (by_sign t x).prefix ++ (b ++ (by_sign t x).suffix) =
+        e ∙ sym (ap (λ z. (by_sign t z).prefix ++ (b ++ (by_sign t z).suffix)) same) in (
           same,
-          append_cancel_right a b (by x).suffix
-              (append_cancel_left (by x).prefix (a ++ (by x).suffix) (b ++ (by x).suffix) here),
+          append_cancel_right a b (by_sign t x).suffix
+              (append_cancel_left (by_sign t x).prefix (a ++ (by_sign t x).suffix) (b ++ (by_sign t x).suffix) here),
         )
 
 -- two values have different texts

@@ -5,6 +5,7 @@ use Rattle.std.specs.Option.{option_map}
 use Rattle.decimal_unsigned.specs.Unsigned.{IsValue}
 use Rattle.fixed_decimal.specs.Decimal.{Decimal}
 use Rattle.fixed_decimal.specs.declared.variations.Sign.{Sign}
+use Rattle.fixed_decimal.specs.declared.variations.Sign.TheVariants as sign
 use Rattle.decimal_format.specs.Formatted.{absolute_text}
 use Rattle.number_format.specs.declared.number_formatter.NumberFormatter.{NumberFormatter}
 use Rattle.number_format.specs.declared.number_options.NumberNotation.TheVariants as notation
@@ -12,8 +13,8 @@ use Rattle.number_format.specs.declared.number_options.NumberOptions.{NumberOpti
 use Rattle.number_format.specs.declared.number_options.NumberStyle.{NumberStyle}
 use Rattle.number_format.specs.declared.number_options.NumberStyle.TheVariants as style
 use Rattle.number_format.specs.Formatters.{compact_style, exponent_options, IsFormatter}
-use Rattle.number_format.specs.AffixedTexts.{text_with}
-use Rattle.number_format.specs.NumberReading.{IsStandard, affixes_for, reader_of, CanRead, IsShownAs}
+use Rattle.number_format.specs.AffixedTexts.{by_sign, text_with}
+use Rattle.number_format.specs.NumberReading.{IsStandard, affixes_for, affixes_of_formatter, reader_of, CanRead, IsShownAs}
 use Rattle.number_format.specs.NumberText.{IsNumberText, AreTexts, literal, shown_sign, pattern_around, around_by, pieces_around, shown_exponent}
 use Rattle.number_format.specs.Scaled.{ScaledValue}
 use Rattle.number_format.specs.TextParts.{digit_pieces, pieces_text}
@@ -23,6 +24,11 @@ use Rattle.number_format.proofs.PieceTexts.{text-of_digits, text-three}
 
 some_same : (x y : ScaledValue) → Some x ≡ Some y → x ≡ y
 some_same x y e = cc
+
+by_is : (f : NumberFormatter) (s : Sign) → affixes_for f s ≡ by_sign (affixes_of_formatter f) s
+by_is f sign.None = refl
+by_is f sign.Negative = refl
+by_is f sign.Positive = refl
 
 -- the text of the pieces of a number between what a sign writes around it
 text_around : (f : NumberFormatter) (s : Sign) (x : ScaledValue)
@@ -49,7 +55,7 @@ formatter_text f v u text standard (pieces, is, of_pieces) shown =
     let after : is.texts.unit.suffix.now ≡ [] = none.1.1 in
     let s = shown_sign f shown.number.significand in
     let digits = digit_pieces kind.Integer f.symbols f.strategy shown.number.significand.absolute in
-    let affixes = ap (affixes_for f) (sym shown.sign) in
+    let affixes = ap (affixes_for f) (sym shown.sign) ∙ by_is f u.sign in
     of_pieces
     ∙ ap pieces_text is.value
     ∙ (λ i. pieces_text (pieces_around f (number i).significand.absolute

@@ -11,7 +11,7 @@ use Rattle.decimal_format.specs.Readable.{BeginsWithDigit, EndsWithDigit}
 use Rattle.decimal_format.specs.Symbols.{Symbols, Affixes, digit_text}
 use Rattle.decimal_format.proofs.Codes.{meet}
 use Rattle.decimal_format.proofs.Scans.{begins-append}
-use Rattle.number_format.specs.AffixedTexts.{ArePrefixesApart, AreSuffixesApart, ArePairApart, AreNamed}
+use Rattle.number_format.specs.AffixedTexts.{AffixTable, by_sign, ArePrefixesApart, AreSuffixesApart, ArePairApart, AreNamed}
 
 -- ---- Characters.
 
@@ -150,11 +150,11 @@ module _ (s : Symbols) where
   pair_swapped a b (inl h) = inl (prefixes_swapped a.prefix b.prefix h)
   pair_swapped a b (inr h) = inr (suffixes_swapped a.suffix b.suffix h)
 
-  pub named_if : (by : Sign → Affixes) → ArePairApart s (by None) (by Negative)
-      → ArePairApart s (by None) (by Positive) → ArePairApart s (by Negative) (by Positive) → AreNamed s by
-  named_if by a b c = record { pair = go }
+  pub named_if : (t : AffixTable) → ArePairApart s t.none t.negative → ArePairApart s t.none t.positive
+      → ArePairApart s t.negative t.positive → AreNamed s t
+  named_if t a b c = record { pair = go }
     where
-      go : (x y : Sign) → x ≢ y → ArePairApart s (by x) (by y)
+      go : (x y : Sign) → x ≢ y → ArePairApart s (by_sign t x) (by_sign t y)
       go None None other = absurd (other refl)
       go None Negative other = a
       go None Positive other = b

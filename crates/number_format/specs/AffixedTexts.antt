@@ -17,11 +17,19 @@ use Rattle.decimal_format.specs.declared.reader.alternatives.Alternative.{Altern
 
 -- ---- Affixes.
 
--- the affixes by sign
-abbrev pub by_sign : Affixes → Affixes → Affixes → Sign → Affixes
-by_sign none negative positive sign.None = none
-by_sign none negative positive sign.Negative = negative
-by_sign none negative positive sign.Positive = positive
+-- the affixes of the three signs
+pub record AffixTable : Type 0 where
+  pub none : Affixes
+  pub negative : Affixes
+  pub positive : Affixes
+
+abbrev pub affix_table : Affixes → Affixes → Affixes → AffixTable
+affix_table none negative positive = record { none = none; negative = negative; positive = positive }
+
+abbrev pub by_sign : AffixTable → Sign → Affixes
+by_sign t sign.None = t.none
+by_sign t sign.Negative = t.negative
+by_sign t sign.Positive = t.positive
 
 -- no text is both prefixes, each before a text that begins with a digit
 abbrev pub ArePrefixesApart : Symbols → List ℕ → List ℕ → Type 0
@@ -38,23 +46,23 @@ abbrev pub ArePairApart : Symbols → Affixes → Affixes → Type 0
 ArePairApart s a b = ArePrefixesApart s a.prefix b.prefix ⊎ AreSuffixesApart s a.suffix b.suffix
 
 -- the affixes around a number name its sign: those of each two signs are apart
-pub record AreNamed (s : Symbols) (by : Sign → Affixes) : Type 0 where
-  pub pair : (x y : Sign) → x ≢ y → ArePairApart s (by x) (by y)
+pub record AreNamed (s : Symbols) (t : AffixTable) : Type 0 where
+  pub pair : (x y : Sign) → x ≢ y → ArePairApart s (by_sign t x) (by_sign t y)
 
 -- ---- Texts.
 
 -- what texts are read with: symbols, affixes, and the power of ten by which the number shown is multiplied
 pub record Reader : Type 0 where
   pub symbols : Symbols
-  pub affixes : Sign → Affixes
+  pub affixes : AffixTable
   pub shift : ℤ
 
-abbrev pub reader : Symbols → (Sign → Affixes) → ℤ → Reader
+abbrev pub reader : Symbols → AffixTable → ℤ → Reader
 reader symbols affixes shift = record { symbols = symbols; affixes = affixes; shift = shift }
 
 -- a text between the affixes of a sign
 abbrev pub between : Reader → Sign → List ℕ → List ℕ
-between r sign text = (r.affixes sign).prefix ++ (text ++ (r.affixes sign).suffix)
+between r sign text = (by_sign r.affixes sign).prefix ++ (text ++ (by_sign r.affixes sign).suffix)
 
 -- the text of a decimal
 abbrev pub text_with : Reader → GroupingStrategy → Decimal → List ℕ

@@ -18,7 +18,7 @@ use Rattle.number_format.specs.declared.number_reader.NumberReaderError.TheVaria
 use Rattle.number_format.specs.declared.number_reader.ParseMode.{ParseMode}
 use Rattle.number_format.specs.declared.number_reader.ParseMode.TheVariants.{Strict, Lenient}
 use Rattle.number_format.specs.declared.number_style.CurrencyNames.{CurrencyNames}
-use Rattle.number_format.specs.AffixedTexts.{AreNamed, Reader, reader, IsReadExactly, IsReadTyped}
+use Rattle.number_format.specs.AffixedTexts.{AffixTable, affix_table, AreNamed, Reader, reader, IsReadExactly, IsReadTyped}
 use Rattle.number_format.specs.NumberStyles.{text_or_nothing}
 use Rattle.number_format.specs.NumberText.{pattern_around, shown_number, shown_sign}
 use Rattle.number_format.specs.Scaled.{ScaledValue}
@@ -36,23 +36,27 @@ abbrev pub affixes_for : NumberFormatter → Sign → Affixes
 affixes_for f s =
     affixes (pieces_text (pattern_around f s).prefix) (pieces_text (pattern_around f s).suffix)
 
+abbrev pub affixes_of_formatter : NumberFormatter → AffixTable
+affixes_of_formatter f =
+    affix_table (affixes_for f sign.None) (affixes_for f sign.Negative) (affixes_for f sign.Positive)
+
 -- the reader of its texts, which undoes its scale
 abbrev pub reader_of : NumberFormatter → Reader
-reader_of f = reader f.symbols (affixes_for f) (pos 0 -ℤ f.scale)
+reader_of f = reader f.symbols (affixes_of_formatter f) (pos 0 -ℤ f.scale)
 
 -- the texts of the formatter are read: a text has at most one sign and one number
 pub record CanRead (f : NumberFormatter) : Type 0 where
   pub standard : IsStandard f
   pub scale : f.scale ≢ negsuc 32767
   pub readable : IsReadable f.symbols
-  pub named : AreNamed f.symbols (affixes_for f)
+  pub named : AreNamed f.symbols (affixes_of_formatter f)
 
 -- what an error says
 abbrev pub CannotRead : NumberReaderError → NumberFormatter → Type 0
 CannotRead error.Notation f = ¬ IsStandard f
 CannotRead error.Scale f = f.scale ≡ negsuc 32767
 CannotRead error.Symbols f = ¬ IsReadable f.symbols
-CannotRead error.Affixes f = ¬ AreNamed f.symbols (affixes_for f)
+CannotRead error.Affixes f = ¬ AreNamed f.symbols (affixes_of_formatter f)
 CannotRead error.Memory f = ⊤
 
 -- u is the number that the formatter shows of v: scaled, rounded, and with the sign that is written
@@ -106,8 +110,8 @@ number_reader_of f = record { texts = reader_of f; names = flat_map forms_of_nam
 -- the affixes of the formatter, nothing, parentheses for a minus sign, and the names
 abbrev pub typed_forms : NumberReader → List (Affixes × Sign)
 typed_forms r =
-    (r.texts.affixes sign.None, sign.None) ∷ (r.texts.affixes sign.Negative, sign.Negative)
-    ∷ (r.texts.affixes sign.Positive, sign.Positive) ∷ form [] [] sign.None
+    (r.texts.affixes.none, sign.None) ∷ (r.texts.affixes.negative, sign.Negative)
+    ∷ (r.texts.affixes.positive, sign.Positive) ∷ form [] [] sign.None
     ∷ form (codes "(") (codes ")") sign.Negative ∷ r.names
 
 -- the result of lenient reading: by the first of these forms that has a number

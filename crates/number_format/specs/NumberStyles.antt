@@ -66,7 +66,7 @@ abbrev pub percent_text : NumberStyle → PercentSign → List ℕ
 percent_text style.Permille sign.Percent = 226 ∷ 128 ∷ 176 ∷ []
 percent_text style.Permille sign.Enclosed = 226 ∷ 128 ∷ 176 ∷ []
 percent_text style.Permille sign.Tilde = 226 ∷ 128 ∷ 176 ∷ []
-percent_text style.Permille arabic = 216 ∷ 137 ∷ []
+percent_text style.Permille other = 216 ∷ 137 ∷ []
 percent_text other s = pattern.percent_text s
 
 -- ---- Currencies.

@@ -4,7 +4,7 @@ ghost use Rattle.std.specs.Str.{IsUtf8};
 ghost use Rattle.std.specs.String.{string_bytes};
 ghost use Rattle.decimal_format.specs.Readable.{IsReadable, BeginsWithDigit, EndsWithDigit};
 ghost use Rattle.decimal_format.specs.Symbols.{affixes};
-ghost use Rattle.number_format.specs.AffixedTexts.{by_sign, ArePrefixesApart, AreSuffixesApart, ArePairApart, AreNamed};
+ghost use Rattle.number_format.specs.AffixedTexts.{affix_table, by_sign, ArePrefixesApart, AreSuffixesApart, ArePairApart, AreNamed};
 ghost use Rattle.number_format.specs.TextParts.{parts_text};
 
 use crate::text_part::TextPart;
@@ -101,13 +101,11 @@ impl Drop for SignAffixes {
 }
 
 impl Model for SignAffixes {
-    ghost use Rattle.fixed_decimal.specs.declared.variations.Sign.{Sign};
-    ghost use Rattle.decimal_format.specs.Symbols.{Affixes};
-    ghost use Rattle.number_format.specs.AffixedTexts.{by_sign};
+    ghost use Rattle.number_format.specs.AffixedTexts.{AffixTable, affix_table};
 
-    ghost Value = { Sign → Affixes };
+    ghost Value = { AffixTable };
 
-    ghost view = { λ s. by_sign s.none s.negative s.positive };
+    ghost view = { λ s. affix_table s.none s.negative s.positive };
 }
 
 fn cut<'t>(text: &'t str, prefix: &str) -> Option<&'t str>
@@ -178,7 +176,7 @@ impl SignAffixes {
         negative: Affixes<'_>,
         positive: Affixes<'_>,
     ) -> Result<Self, AllocError>
-        ensures { IfOk result (λ t. t ≡ by_sign (affixes none.entry.prefix.now none.entry.suffix.now)
+        ensures { IfOk result (λ t. t ≡ affix_table (affixes none.entry.prefix.now none.entry.suffix.now)
             (affixes negative.entry.prefix.now negative.entry.suffix.now)
             (affixes positive.entry.prefix.now positive.entry.suffix.now)) }
     {
@@ -194,8 +192,8 @@ impl SignAffixes {
 
     /// Returns the texts before and after a number with this sign.
     pub fn of_sign(&self, sign: Sign) -> Affixes<'_>
-        ensures prefix { result.prefix.now ≡ (self.now sign).prefix }
-        ensures suffix { result.suffix.now ≡ (self.now sign).suffix }
+        ensures prefix { result.prefix.now ≡ (by_sign self.now sign).prefix }
+        ensures suffix { result.suffix.now ≡ (by_sign self.now sign).suffix }
     {
         match sign {
             Sign::None => self.none.texts(),
@@ -206,7 +204,7 @@ impl SignAffixes {
 
     fn is_pair_apart(&self, symbols: &DecimalSymbols<'_>, first: Sign, second: Sign) -> bool
         requires { IsReadable symbols.now }
-        ensures { IsTrue result ↔ ArePairApart symbols.now (self.now first) (self.now second) }
+        ensures { IsTrue result ↔ ArePairApart symbols.now (by_sign self.now first) (by_sign self.now second) }
     {
         let one = self.of_sign(first);
         let two = self.of_sign(second);

@@ -169,8 +169,9 @@ impl NumberFormatter {
             return Err(NumberFormatError::UnknownLocale);
         };
         let formats = formats_of(tag, system);
-        let style = StyleParts::of(tag, system, symbols.sizes(), &formats, options);
-        let sizes = style_sizes(&style.written.pattern, options.grouping, symbols.sizes());
+        let own = symbols.sizes();
+        let style = StyleParts::of(tag, system, own, &formats, options);
+        let sizes = style_sizes(&style.written.pattern, options.grouping, own);
         let symbols = with_separators(symbols, &style.written).with_sizes(sizes);
         let signs = formats.signs();
         Ok(NumberFormatter {

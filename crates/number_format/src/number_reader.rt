@@ -1,7 +1,7 @@
 //! Readers of what formatters write.
 ghost use Rattle.std.specs.Prelude.{◌≡◌, ◌≢◌, ◌↔◌, ◌++◌, ◌∷◌, [], ◌-ℤ◌, pos, negsuc, map, flat_map, IsTrue, IfOk, IfErr, OnOk};
 ghost use Rattle.number_format.specs.AffixedTexts.{IsReadExactly};
-ghost use Rattle.number_format.specs.NumberReading.{IsStandard, affixes_for, CanRead, CannotRead, is_percent, has_percent, percent_name, names_by, form_of, forms_of_name, number_reader_of, typed_forms, IsReadLeniently, IsReadInMode};
+ghost use Rattle.number_format.specs.NumberReading.{IsStandard, affixes_for, affixes_of_formatter, CanRead, CannotRead, is_percent, has_percent, percent_name, names_by, form_of, forms_of_name, number_reader_of, typed_forms, IsReadLeniently, IsReadInMode};
 
 use crate::affixes::{AffixTexts, SignAffixes};
 use crate::compact_texts::NO_UNIT;
@@ -109,7 +109,7 @@ impl NumberFormatter {
     }
 
     fn sign_affixes(&self, alloc: Global) -> Result<SignAffixes, AllocError>
-        ensures { IfOk result (λ t. t ≡ affixes_for self.now) }
+        ensures { IfOk result (λ t. t ≡ affixes_of_formatter self.now) }
     {
         let none = self.affix_texts(alloc, Sign::None)?;
         let negative = self.affix_texts(alloc, Sign::Negative)?;

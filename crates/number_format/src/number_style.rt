@@ -49,7 +49,10 @@ pub(crate) fn percent_text(style: NumberStyle, sign: PercentSign) -> &'static st
     ensures short { length result.now ≤ 255 }
 {
     match (style, sign) {
-        (NumberStyle::Permille, PercentSign::Percent | PercentSign::Enclosed | PercentSign::Tilde) => "\u{2030}",
+        (
+            NumberStyle::Permille,
+            PercentSign::Percent | PercentSign::Enclosed | PercentSign::Tilde,
+        ) => "\u{2030}",
         (NumberStyle::Permille, _) => "\u{609}",
         _ => sign.text(),
     }

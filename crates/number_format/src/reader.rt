@@ -2,7 +2,7 @@
 ghost use Rattle.std.specs.Prelude.{◌≡◌, ◌≢◌, ℕ, List, ◌++◌, pos, Err, IfOk, MatchOption};
 ghost use Rattle.decimal_format.specs.Readable.{IsReadable, BeginsWithDigit, EndsWithDigit};
 ghost use Rattle.decimal_format.specs.Reading.{IsRead};
-ghost use Rattle.number_format.specs.AffixedTexts.{AreNamed, reader, shifted, IsShown, IsShownNumeral, IsTypedWith, IsTypedNumeralWith, IsBetween, IsReadExactly, IsReadTyped};
+ghost use Rattle.number_format.specs.AffixedTexts.{by_sign, AreNamed, reader, shifted, IsShown, IsShownNumeral, IsTypedWith, IsTypedNumeralWith, IsBetween, IsReadExactly, IsReadTyped};
 ghost use Rattle.number_format.specs.NumberReading.{form_of};
 
 use crate::affixes::SignAffixes;
@@ -126,7 +126,7 @@ impl<'a> AffixReader<'a> {
     }
 
     pub(crate) fn alternative(&self, sign: Sign) -> Alternative<'_>
-        ensures { form_of result ≡ (self.now.affixes sign, sign) }
+        ensures { form_of result ≡ (by_sign self.now.affixes sign, sign) }
     {
         let affixes = self.affixes.of_sign(sign);
         Alternative {

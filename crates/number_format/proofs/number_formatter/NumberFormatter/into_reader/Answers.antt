@@ -1,16 +1,14 @@
 use Rattle.std.proofs.Common.{◌≡◌, ◌++◌, w16, to_z, of_z, FitsSigned, ◌∙◌, subst, arith, rules}
 use Rattle.std.specs.Prelude.{pos, ◌-ℤ◌, flat_map}
 use Rattle.std.proofs.lemmas.Int.{ints}
-use Rattle.fixed_decimal.specs.declared.variations.Sign.{Sign}
-use Rattle.decimal_format.specs.Symbols.{Affixes}
-use Rattle.number_format.specs.AffixedTexts.{reader, AreNamed}
-use Rattle.number_format.specs.NumberReading.{affixes_for, reader_of, forms_of_name, names_by}
+use Rattle.number_format.specs.AffixedTexts.{AffixTable, reader, AreNamed}
+use Rattle.number_format.specs.NumberReading.{affixes_of_formatter, reader_of, forms_of_name, names_by}
 use Rattle.number_format.proofs.number_formatter.NumberFormatter.into_reader.Goals as goal
 
 pub returns-in-Ok-new-clause-ok : goal.returns-in-Ok-new-clause-ok
 returns-in-Ok-new-clause-ok c =
     let f = c.args.self in
-    let table : c.in-Ok-sign_affixes.affixes ≡ affixes_for f = c.in-Ok-sign_affixes.ensures in
+    let table : c.in-Ok-sign_affixes.affixes ≡ affixes_of_formatter f = c.in-Ok-sign_affixes.ensures in
     let own : FitsSigned w16 c.in_ok-shift.shift = search rules in
     let kept : to_z w16 (of_z w16 c.in_ok-shift.shift) ≡ c.in_ok-shift.shift = omega (arith, ints, own) in
     let shift : c.in_ok-shift.shift ≡ pos 0 -ℤ f.scale = c.in_ok-shift.ensures.value in
@@ -25,11 +23,11 @@ returns-in-Ok-new-clause-ok c =
         standard = c.in_ok-shift.ensures.standard;
         scale = c.in_ok-shift.ensures.scale;
         readable = can.0;
-        named = subst (λ (by : Sign → Affixes). AreNamed f.symbols by) table can.1;
+        named = subst (λ (t : AffixTable). AreNamed f.symbols t) table can.1;
       },
     )
 
 pub returns-clause-err : goal.returns-clause-err
 returns-clause-err c =
-    let table : c.in-Ok-sign_affixes.affixes ≡ affixes_for c.args.self = c.in-Ok-sign_affixes.ensures in
-    subst (λ (by : Sign → Affixes). ¬ AreNamed c.args.self.symbols by) table (c.new.ensures.affixes (cc)).1
+    let table : c.in-Ok-sign_affixes.affixes ≡ affixes_of_formatter c.args.self = c.in-Ok-sign_affixes.ensures in
+    subst (λ (t : AffixTable). ¬ AreNamed c.args.self.symbols t) table (c.new.ensures.affixes (cc)).1

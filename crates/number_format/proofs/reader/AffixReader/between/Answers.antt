@@ -3,19 +3,19 @@ use Rattle.std.specs.Prelude.{IsTrue}
 use Rattle.std.proofs.lemmas.List.{append_cancel_left, append_cancel_right}
 use Rattle.fixed_decimal.specs.declared.variations.Sign.{Sign}
 use Rattle.decimal_format.specs.Readable.{BeginsWithDigit, EndsWithDigit}
-use Rattle.number_format.specs.AffixedTexts.{Reader, reader, IsBetween}
+use Rattle.number_format.specs.AffixedTexts.{Reader, reader, by_sign, IsBetween}
 use Rattle.number_format.proofs.reader.AffixReader.between.Goals as goal
 
 -- only what was cut out can be between the affixes
 module _ (r inside : Reader) (text : List ℕ) (sign : Sign) (p q m : List ℕ) (view : inside ≡ r)
-    (prefix : p ≡ (inside.affixes sign).prefix) (suffix : q ≡ (inside.affixes sign).suffix)
+    (prefix : p ≡ (by_sign inside.affixes sign).prefix) (suffix : q ≡ (by_sign inside.affixes sign).suffix)
     (cut : text ≡ p ++ (m ++ q)) (n : List ℕ) (b : IsBetween r text sign n) where
   here : IsBetween inside text sign n
   here = subst (λ (x : Reader). IsBetween x text sign n) (sym view) b
 
   same : n ≡ m
   same =
-      let a = inside.affixes sign in
+      let a = by_sign inside.affixes sign in
       append_cancel_right n m a.suffix
       (append_cancel_left a.prefix (n ++ a.suffix) (m ++ a.suffix)
       (sym here.is ∙ cut ∙ (λ i. prefix i ++ (m ++ suffix i))))
