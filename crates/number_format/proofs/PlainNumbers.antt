@@ -1,6 +1,6 @@
 -- Plain numbers are written as decimals are.
 use Rattle.std.proofs.Common.{◌≡◌, ◌≢◌, ℕ, true, false, List, [], ◌++◌, refl, sym, ◌∙◌, ap, subst, append-nil}
-use Rattle.std.specs.Prelude.{Option, Some, None, pos, option_and_then, if◌then◌else◌, ◌&&◌, ◌==◌}
+use Rattle.std.specs.Prelude.{Option, Some, None, pos, option_and_then}
 use Rattle.decimal_unsigned.specs.Unsigned.{Unsigned, IsValue}
 use Rattle.fixed_decimal.specs.Decimal.{Decimal, with_absolute, with_sign_display, negative_or}
 use Rattle.fixed_decimal.specs.declared.variations.Sign.{Sign}

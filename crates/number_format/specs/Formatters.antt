@@ -76,8 +76,6 @@ abbrev pub style_sizes : Pattern → GroupingStrategy → GroupingSizes → Grou
 style_sizes p strategy own =
     record own { primary = if is_always strategy && p.primary == 0 then 3 else p.primary; secondary = p.secondary }
 
--- ---- What a style has in a locale.
-
 -- the separators of money, or else those of other numbers
 abbrev pub with_separators : Symbols → CurrencyPattern → Symbols
 with_separators s p = record s {
@@ -154,8 +152,6 @@ IsFormatterError tag name error.UnknownLocale = IsUnknown tag ⊎ HasNoRules tag
 IsFormatterError tag None error.UnknownNumberingSystem = ⊥
 IsFormatterError tag (Some name) error.UnknownNumberingSystem =
     IsListed LOCALES tag None ⊎ (system_named (text_or_nothing (unpadded name)) ≡ None)
-
--- ---- Plain numbers.
 
 -- a decimal in standard notation, without digits, a scale or a sign of their own
 abbrev pub plain_options : GroupingStrategy → Option (List ℕ) → NumberOptions

@@ -59,8 +59,6 @@ ends_with_currency a = is_currency (piece_or a.fourth (piece_or a.third (piece_o
 abbrev pub begins_with_currency : Affix → Bool
 begins_with_currency a = is_currency (piece_or a.first (piece_or a.second (piece_or a.third a.fourth)))
 
--- ---- Percent.
-
 -- the percent sign, or the per mille sign that belongs to it: U+2030, or in Arabic U+0609
 abbrev pub percent_text : NumberStyle → PercentSign → List ℕ
 percent_text style.Permille sign.Percent = 226 ∷ 128 ∷ 176 ∷ []

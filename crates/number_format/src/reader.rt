@@ -1,6 +1,6 @@
 //! Reading of numbers between affixes.
 ghost use Rattle.std.specs.Prelude.{◌≡◌, ◌≢◌, ℕ, List, ◌++◌, pos, Err, IfOk, MatchOption};
-ghost use Rattle.decimal_format.specs.Readable.{IsReadable, BeginsWithDigit, EndsWithDigit};
+ghost use Rattle.decimal_format.specs.Readable.{IsReadable};
 ghost use Rattle.decimal_format.specs.Reading.{IsRead};
 ghost use Rattle.number_format.specs.AffixedTexts.{by_sign, AreNamed, reader, shifted, IsShown, IsShownNumeral, IsTypedWith, IsTypedNumeralWith, IsBetween, IsReadExactly, IsReadTyped};
 ghost use Rattle.number_format.specs.NumberReading.{form_of};
