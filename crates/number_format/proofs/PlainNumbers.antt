@@ -59,7 +59,8 @@ is_plainly tag system own g name f made not_always =
     made.symbols
     ∙ (λ i. record (with_separators own (written i)) { sizes = style_sizes (written i).pattern g own.sizes })
     ∙ (λ i. record own { sizes = own_sizes own g not_always i }) in
-    let pattern : f.pattern ≡ plain_pattern own.sizes = made.pattern ∙ ap (λ (p : CurrencyPattern). p.pattern) written in
+    let pattern : f.pattern ≡ plain_pattern own.sizes =
+    made.pattern ∙ ap (λ (p : CurrencyPattern). p.pattern) written in
     let digits : f.digits ≡ None = no_digits g name f.digits made.digits in
     λ i. record f {
       symbols = symbols i;

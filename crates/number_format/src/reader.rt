@@ -98,7 +98,8 @@ impl<'a> AffixReader<'a> {
         ensures ok { IfOk result (λ r. r ≡ reader symbols.entry affixes (pos 0)) }
         ensures readable { IfOk result (λ r. IsReadable symbols.entry × AreNamed symbols.entry affixes) }
         ensures symbols { result ≡ Err AffixError.Symbols → ¬ IsReadable symbols.entry }
-        ensures affixes { result ≡ Err AffixError.Affixes → IsReadable symbols.entry × ¬ AreNamed symbols.entry affixes }
+        ensures affixes { result ≡ Err AffixError.Affixes
+            → IsReadable symbols.entry × ¬ AreNamed symbols.entry affixes }
     {
         if !symbols.is_readable() {
             return Err(AffixError::Symbols);
