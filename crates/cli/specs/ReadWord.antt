@@ -4,8 +4,7 @@ use Rattle.locale_data.specs.Locales.{IsLocale}
 use Rattle.number_format.specs.declared.number_formatter.NumberFormatter.{NumberFormatter}
 use Rattle.number_format.specs.declared.number_reader.ParseMode.{ParseMode}
 use Rattle.number_format.specs.declared.number_reader.ParseMode.TheVariants.{Strict, Lenient}
-use Rattle.number_format.specs.NumberReading.{CanRead}
-use Rattle.number_format.specs.TypedReading.{NumberReader, number_reader_of}
+use Rattle.number_format.specs.NumberReading.{CanRead, NumberReader, number_reader_of}
 use Rattle.cli.specs.declared.error.WordsError.{WordsError}
 use Rattle.cli.specs.declared.error.WordsError.TheVariants.{NoSuchWord, NoReader, Memory}
 use Rattle.cli.specs.declared.reader.LocaleReader.{LocaleReader}

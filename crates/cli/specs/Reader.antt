@@ -10,7 +10,7 @@ use Rattle.fixed_decimal.specs.Decimal.{Decimal}
 use Rattle.decimal_format.specs.Symbols.{Symbols}
 use Rattle.decimal_format.specs.Reading.{Numeral, IsNumeral, IsBeyondLimits, IsWritten, NeedsMemory}
 use Rattle.decimal_format.specs.Lenient.{IsTyped, IsTypedNumeral}
-use Rattle.number_format.specs.TypedReading.{NumberReader, IsReadInMode}
+use Rattle.number_format.specs.NumberReading.{NumberReader, IsReadInMode}
 use Rattle.number_format.specs.declared.number_reader.ParseMode.{ParseMode}
 use Rattle.number_format.specs.declared.number_reader.ParseMode.TheVariants.{Strict, Lenient}
 

@@ -2,8 +2,7 @@
 ghost use Rattle.std.specs.Prelude.{◌≡◌, IfOk, IfErr};
 ghost use Rattle.std.specs.Option.{option_copied};
 ghost use Rattle.locale_data.specs.Locales.{IsLocale};
-ghost use Rattle.number_format.specs.NumberReading.{CanRead};
-ghost use Rattle.number_format.specs.TypedReading.{number_reader_of};
+ghost use Rattle.number_format.specs.NumberReading.{CanRead, number_reader_of};
 ghost use Rattle.cli.specs.FormatWord.{IsUnknownLocale};
 ghost use Rattle.cli.specs.ReadWord.{IsReadOption, IsErrorOfReader, IsNumberReader, SkeletonReaderFails};
 ghost use Rattle.cli.specs.ReadWord.{NamesReader, ReaderFails};

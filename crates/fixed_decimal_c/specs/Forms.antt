@@ -8,8 +8,7 @@ use Rattle.locale_data.specs.Locales.{IsLocale, IsUnknown}
 use Rattle.cli.specs.declared.reader.LocaleReader.{LocaleReader}
 use Rattle.cli.specs.declared.reader.LocaleReader.TheVariants.{Decimals, Numbers}
 use Rattle.cli.specs.declared.reader.SkeletonReader.{SkeletonReader}
-use Rattle.number_format.specs.NumberReading.{CanRead}
-use Rattle.number_format.specs.TypedReading.{number_reader_of}
+use Rattle.number_format.specs.NumberReading.{CanRead, number_reader_of}
 use Rattle.number_format.specs.declared.number_formatter.NumberFormatter.{NumberFormatter}
 use Rattle.number_format.specs.declared.number_reader.ParseMode.{ParseMode}
 use Rattle.number_format.specs.declared.number_reader.ParseMode.TheVariants.{Strict, Lenient}

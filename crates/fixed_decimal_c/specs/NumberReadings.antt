@@ -4,8 +4,7 @@ use Rattle.decimal_unsigned.specs.declared.decimal.TheConstants.{INLINE_DIGITS}
 use Rattle.decimal_unsigned.specs.declared.error.ParseError.{ParseError}
 use Rattle.fixed_decimal.specs.Decimal.{Decimal}
 use Rattle.fixed_decimal.specs.DecimalText.{decimal_text}
-use Rattle.number_format.specs.NumberReading.{CanRead, CannotRead}
-use Rattle.number_format.specs.TypedReading.{number_reader_of, IsReadInMode}
+use Rattle.number_format.specs.NumberReading.{CanRead, CannotRead, number_reader_of, IsReadInMode}
 use Rattle.number_format.specs.declared.number_formatter.NumberFormatter.{NumberFormatter}
 use Rattle.number_format.specs.declared.number_reader.NumberReaderError.{NumberReaderError}
 use Rattle.number_format.specs.declared.number_reader.NumberReaderError.TheVariants as made

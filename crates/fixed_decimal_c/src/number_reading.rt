@@ -1,7 +1,6 @@
 //! Numbers as a locale writes them by a number skeleton, read.
 ghost use Rattle.std.specs.Prelude.{◌≡◌, IfOk, IfErr};
-ghost use Rattle.number_format.specs.NumberReading.{CanRead};
-ghost use Rattle.number_format.specs.TypedReading.{number_reader_of};
+ghost use Rattle.number_format.specs.NumberReading.{CanRead, number_reader_of};
 ghost use Rattle.fixed_decimal_c.specs.NumberReadings.{error_of_reader, HasNoReader, parse_mode, WritesRead, ReadsText, ReadsNumber};
 
 use crate::error::{FdError, error_of_parsing};

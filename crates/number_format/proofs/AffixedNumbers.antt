@@ -19,7 +19,7 @@ use Rattle.decimal_format.proofs.NumeralLaws.{texts_are_unique, none_read, with_
 use Rattle.decimal_format.proofs.Around.{no_sign}
 use Rattle.decimal_format.proofs.NumeralTexts.{digits_of_value, absolute_is}
 use Rattle.decimal_format.proofs.Scans.{begins-append, number_begins, none_after_last, strategy_is}
-use Rattle.number_format.specs.AffixedTexts.{Reader, AreNamed, ArePairApart, by_sign, text_with, IsShown, IsShownNumeral, IsBetween}
+use Rattle.number_format.specs.AffixedTexts.{Reader, AreNamed, ArePairApart, by_sign, between, text_with, IsShown, IsShownNumeral, IsBetween}
 use Rattle.number_format.proofs.NamedAffixes.{ends-append}
 
 -- ---- A number ends with a digit.
@@ -87,17 +87,17 @@ module _ (s : Symbols) where
       h (p.prefix ++ a) (q.prefix ++ b) (ends-append s p.prefix a x.ends) (ends-append s q.prefix b y.ends)
       (append_assoc p.prefix a p.suffix ∙ e ∙ sym (append_assoc q.prefix b q.suffix))
 
-  module _ (by : Sign → Affixes) (named : AreNamed s by) where
+  module _ (by : Sign → Affixes) (named : (x y : Sign) → x ≢ y → ArePairApart s (by x) (by y)) where
     same_sign : (x y : Sign) (a b : List ℕ) → IsNumberText s a → IsNumberText s b
         → (by x).prefix ++ (a ++ (by x).suffix) ≡ (by y).prefix ++ (b ++ (by y).suffix) → x ≡ y
     same_sign None None a b p q e = refl
-    same_sign None Negative a b p q e = absurd (clash _ _ a b (named.pair None Negative (λ h. cc)) p q e)
-    same_sign None Positive a b p q e = absurd (clash _ _ a b (named.pair None Positive (λ h. cc)) p q e)
-    same_sign Negative None a b p q e = absurd (clash _ _ a b (named.pair Negative None (λ h. cc)) p q e)
+    same_sign None Negative a b p q e = absurd (clash _ _ a b (named None Negative (λ h. cc)) p q e)
+    same_sign None Positive a b p q e = absurd (clash _ _ a b (named None Positive (λ h. cc)) p q e)
+    same_sign Negative None a b p q e = absurd (clash _ _ a b (named Negative None (λ h. cc)) p q e)
     same_sign Negative Negative a b p q e = refl
-    same_sign Negative Positive a b p q e = absurd (clash _ _ a b (named.pair Negative Positive (λ h. cc)) p q e)
-    same_sign Positive None a b p q e = absurd (clash _ _ a b (named.pair Positive None (λ h. cc)) p q e)
-    same_sign Positive Negative a b p q e = absurd (clash _ _ a b (named.pair Positive Negative (λ h. cc)) p q e)
+    same_sign Negative Positive a b p q e = absurd (clash _ _ a b (named Negative Positive (λ h. cc)) p q e)
+    same_sign Positive None a b p q e = absurd (clash _ _ a b (named Positive None (λ h. cc)) p q e)
+    same_sign Positive Negative a b p q e = absurd (clash _ _ a b (named Positive Negative (λ h. cc)) p q e)
     same_sign Positive Positive a b p q e = refl
 
     same_middle : (x y : Sign) (a b : List ℕ) → IsNumberText s a → IsNumberText s b
@@ -111,16 +111,18 @@ module _ (s : Symbols) where
               (append_cancel_left (by x).prefix (a ++ (by x).suffix) (b ++ (by x).suffix) here),
         )
 
-    -- two values have different texts
-    pub named_texts_are_unique : IsReadable s → (g h : GroupingStrategy) (v w : Decimal) → IsValue v.absolute
-        → IsValue w.absolute → text_with s by g v ≡ text_with s by h w → v ≡ w
-    named_texts_are_unique readable g h v w p q e =
-        let same = same_middle v.sign w.sign (absolute_text s g v.absolute) (absolute_text s h w.absolute)
-        (value_text_is s g v p) (value_text_is s h w q) e in
-        let plain = texts_are_unique s g h (record v { sign = None }) (record w { sign = None }) readable p q
-        (ap (λ t. t ++ []) same.1) in
-        let absolute = ap (λ (d : Decimal). d.absolute) plain in
-        λ i. record { sign = same.0 i; absolute = absolute i }
+-- two values have different texts
+pub named_texts_are_unique : (r : Reader) → AreNamed r.symbols r.affixes → IsReadable r.symbols
+    → (g h : GroupingStrategy) (v w : Decimal) → IsValue v.absolute → IsValue w.absolute
+    → text_with r g v ≡ text_with r h w → v ≡ w
+named_texts_are_unique r named readable g h v w p q e =
+    let s = r.symbols in
+    let same = same_middle s (by_sign r.affixes) named.pair v.sign w.sign (absolute_text s g v.absolute)
+    (absolute_text s h w.absolute) (value_text_is s g v p) (value_text_is s h w q) e in
+    let plain = texts_are_unique s g h (record v { sign = None }) (record w { sign = None }) readable p q
+    (ap (λ t. t ++ []) same.1) in
+    let absolute = ap (λ (d : Decimal). d.absolute) plain in
+    λ i. record { sign = same.0 i; absolute = absolute i }
 
 -- ---- What is read between the affixes.
 
@@ -144,25 +146,25 @@ module _ (r : Reader) (bytes : List ℕ) where
       none_read (λ w n. none w.sign _ (numeral_between w n))
       (λ v valid written. none v.sign _ (value_between v valid written))
 
-  module _ (readable : IsReadable r.symbols) (named : AreNamed r.symbols (by_sign r.affixes)) (sign : Sign)
-      (middle : List ℕ) (between : IsBetween r bytes sign middle) where
+  module _ (readable : IsReadable r.symbols) (named : AreNamed r.symbols r.affixes) (sign : Sign)
+      (middle : List ℕ) (inside : IsBetween r bytes sign middle) where
     only_middle : (x : Sign) (text : List ℕ) → IsBetween r bytes x text → (x ≡ sign) × (middle ≡ text)
     only_middle x text b =
-        let same = same_middle r.symbols (by_sign r.affixes) named x sign text middle
-        (record { begins = b.begins; ends = b.ends }) (record { begins = between.begins; ends = between.ends })
-        (sym b.is ∙ between.is) in
+        let same = same_middle r.symbols (by_sign r.affixes) named.pair x sign text middle
+        (record { begins = b.begins; ends = b.ends }) (record { begins = inside.begins; ends = inside.ends })
+        (sym b.is ∙ inside.is) in
         (same.0, sym same.1)
 
     whole_text : (text : List ℕ) → middle ≡ text
-        → bytes ≡ (by_sign r.affixes sign).prefix ++ (text ++ (by_sign r.affixes sign).suffix)
+        → bytes ≡ between r sign text
     whole_text text e =
-        between.is ∙ ap (λ m. (by_sign r.affixes sign).prefix ++ (m ++ (by_sign r.affixes sign).suffix)) e
+        inside.is ∙ ap (between r sign) e
 
     -- without a sign there are no affixes
     plain : (x : Sign) (text : List ℕ)
         → middle ≡ (sign_affixes r.symbols x).prefix ++ (text ++ (sign_affixes r.symbols x).suffix) → middle ≡ text
     plain x text e =
-        let none = no_sign r.symbols readable x middle (text ++ (sign_affixes r.symbols x).suffix) between.begins e in
+        let none = no_sign r.symbols readable x middle (text ++ (sign_affixes r.symbols x).suffix) inside.begins e in
         e ∙ ap (λ z. (sign_affixes r.symbols z).prefix ++ (text ++ (sign_affixes r.symbols z).suffix)) none
         ∙ append-nil text
 

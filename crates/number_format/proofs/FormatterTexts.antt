@@ -13,11 +13,10 @@ use Rattle.number_format.specs.declared.number_options.NumberOptions.{NumberOpti
 use Rattle.number_format.specs.declared.number_options.NumberStyle.{NumberStyle}
 use Rattle.number_format.specs.declared.number_options.NumberStyle.TheVariants as style
 use Rattle.number_format.specs.Formatters.{compact_style, exponent_options, IsFormatter}
-use Rattle.number_format.specs.AffixedTexts.{by_sign, text_with, IsShown}
+use Rattle.number_format.specs.AffixedTexts.{by_sign, text_with}
 use Rattle.number_format.specs.NumberReading.{IsStandard, affixes_for, affixes_of_formatter, reader_of, CanRead, IsShownAs}
 use Rattle.number_format.specs.NumberText.{IsNumberText, AreTexts, literal, shown_sign, pattern_around, around_by, pieces_around, shown_exponent}
 use Rattle.number_format.specs.Scaled.{ScaledValue}
-use Rattle.number_format.specs.ShiftedReading.{IsShifted, IsShiftOfShown}
 use Rattle.number_format.specs.TextParts.{digit_pieces, pieces_text}
 use Rattle.number_format.specs.declared.text_part.PartKind.TheVariants as kind
 use Rattle.number_format.proofs.AffixedNumbers.{named_texts_are_unique}
@@ -47,7 +46,7 @@ text_around f s x =
 
 -- the text of a number is that of the number that is shown
 pub formatter_text : (f : NumberFormatter) (v u : Decimal) (text : List ℕ) → IsStandard f → IsNumberText f v text
-    → IsShownAs f v u → text ≡ text_with f.symbols (by_sign (affixes_of_formatter f)) f.strategy u
+    → IsShownAs f v u → text ≡ text_with (reader_of f) f.strategy u
 formatter_text f v u text standard (pieces, is, of_pieces) shown =
     let number : is.number ≡ shown.number = some_same _ _ (sym is.number_is ∙ shown.number_is) in
     let none = subst (λ c. AreTexts f c is.number is.texts) standard.compact is.texts_are in
@@ -56,8 +55,7 @@ formatter_text f v u text standard (pieces, is, of_pieces) shown =
     let after : is.texts.unit.suffix.now ≡ [] = none.1.1 in
     let s = shown_sign f shown.number.significand in
     let digits = digit_pieces kind.Integer f.symbols f.strategy shown.number.significand.absolute in
-    let affixes : affixes_for f s ≡ by_sign (affixes_of_formatter f) u.sign =
-    ap (affixes_for f) (sym shown.sign) ∙ by_is f u.sign in
+    let affixes = ap (affixes_for f) (sym shown.sign) ∙ by_is f u.sign in
     of_pieces
     ∙ ap pieces_text is.value
     ∙ (λ i. pieces_text (pieces_around f (number i).significand.absolute
@@ -69,23 +67,11 @@ formatter_text f v u text standard (pieces, is, of_pieces) shown =
     ∙ (λ i. (affixes i).prefix
     ++ (absolute_text f.symbols f.strategy (sym shown.absolute i) ++ (affixes i).suffix))
 
--- the text of a number reads back as the number that is shown, with the scale undone
-pub reads_back : (f : NumberFormatter) (v u w : Decimal) (text : List ℕ) → CanRead f → IsNumberText f v text
-    → IsShownAs f v u → IsValue u.absolute → IsShifted u (reader_of f).shift w
-    → IsShiftOfShown (IsShown (reader_of f) text) (reader_of f).shift w
-reads_back f v u w text can is shown valid shifted = record {
-  shown = u;
-  valid = valid;
-  is = (f.strategy, formatter_text f v u text can.standard is shown);
-  shifted = shifted;
-}
-
 -- one text is shown of one number
 pub are_unique : (f : NumberFormatter) (v w x y : Decimal) (text : List ℕ) → CanRead f → IsNumberText f v text
     → IsNumberText f w text → IsShownAs f v x → IsShownAs f w y → IsValue x.absolute → IsValue y.absolute → x ≡ y
 are_unique f v w x y text can a b p q valid valid' =
-    named_texts_are_unique f.symbols (by_sign (affixes_of_formatter f)) can.named can.readable f.strategy f.strategy x y
-    valid valid'
+    named_texts_are_unique (reader_of f) can.named can.readable f.strategy f.strategy x y valid valid'
     (sym (formatter_text f v x text can.standard a p) ∙ formatter_text f w y text can.standard b q)
 
 -- ---- Standard notation.

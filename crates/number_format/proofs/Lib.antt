@@ -11,7 +11,6 @@ pub mod SkeletonLeast
 pub mod SkeletonGroups
 pub mod NamedAffixes
 pub mod AffixedNumbers
-pub mod ShiftedReads
 pub mod ReadBack
 pub mod StandardNotation
 pub mod PartTexts

@@ -151,7 +151,7 @@ module _ (s : Symbols) where
   pair_swapped a b (inr h) = inr (suffixes_swapped a.suffix b.suffix h)
 
   pub named_if : (t : AffixTable) → ArePairApart s t.none t.negative → ArePairApart s t.none t.positive
-      → ArePairApart s t.negative t.positive → AreNamed s (by_sign t)
+      → ArePairApart s t.negative t.positive → AreNamed s t
   named_if t a b c = record { pair = go }
     where
       go : (x y : Sign) → x ≢ y → ArePairApart s (by_sign t x) (by_sign t y)

@@ -1,22 +1,23 @@
 -- Plain numbers are written as decimals are.
-use Rattle.std.proofs.Common.{◌≡◌, ℕ, true, false, List, [], ◌++◌, refl, sym, ◌∙◌, ap, subst, append-nil}
-use Rattle.std.specs.Prelude.{Option, Some, None, pos, option_and_then, if◌then◌else◌, ◌&&◌, ◌==◌}
+use Rattle.std.proofs.Common.{◌≡◌, ◌≢◌, ℕ, true, false, List, [], ◌++◌, refl, sym, ◌∙◌, ap, subst, append-nil}
+use Rattle.std.specs.Prelude.{Option, Some, None, pos, option_and_then}
 use Rattle.decimal_unsigned.specs.Unsigned.{Unsigned, IsValue}
-use Rattle.fixed_decimal.specs.Decimal.{Decimal, with_absolute, negative_or}
+use Rattle.fixed_decimal.specs.Decimal.{Decimal, with_absolute, with_sign_display, negative_or}
 use Rattle.fixed_decimal.specs.declared.variations.Sign.{Sign}
 use Rattle.fixed_decimal.specs.declared.variations.Sign.TheVariants as sign
 use Rattle.fixed_decimal.specs.declared.variations.SignDisplay.TheVariants as display
 use Rattle.decimal_format.specs.declared.grouping.GroupingStrategy.{GroupingStrategy}
+use Rattle.decimal_format.specs.declared.grouping.GroupingStrategy.TheVariants.{Auto, Never, Always, Min2}
 use Rattle.decimal_format.specs.Formatted.{absolute_text, formatted}
 use Rattle.decimal_format.specs.Symbols.{Symbols, sign_affixes}
+use Rattle.locale_data.specs.declared.currency.CurrencyPattern.{CurrencyPattern}
 use Rattle.number_format.specs.declared.digit_options.DigitOptions.{DigitOptions}
 use Rattle.number_format.specs.declared.number_formatter.NumberFormatter.{NumberFormatter}
 use Rattle.number_format.specs.declared.text_part.PartKind.TheVariants as kind
 use Rattle.number_format.specs.DefaultDigits.{AreDefaultDigits}
-use Rattle.number_format.specs.Formatters.{IsFormatterIn, is_always, style_sizes, with_separators}
+use Rattle.number_format.specs.Formatters.{IsFormatterIn, plain_options, style_sizes, with_separators}
 use Rattle.number_format.specs.NumberStyles.{plain_pattern}
 use Rattle.number_format.specs.NumberText.{AreNumberPieces, IsNumberText, rounded_in, shown_sign, literal, pattern_around, around_by, pieces_around}
-use Rattle.number_format.specs.PlainTexts.{plain_options, shown_plain, IsPlainText}
 use Rattle.number_format.specs.Scaled.{ScaledValue, scaled_value}
 use Rattle.number_format.specs.TextParts.{Piece, pieces_text, pieces_of, digit_pieces}
 use Rattle.number_format.proofs.PieceTexts.{text-append, text-of, text-of_digits}
@@ -30,13 +31,12 @@ no_digits : (g : GroupingStrategy) (name : Option (List ℕ)) (d : Option DigitO
 no_digits g name None h = refl
 no_digits g name (Some digits) h = absurd (let t : true ≡ false = h.0 in cc)
 
--- no separators of money, and the sizes of the locale
-own_symbols : (own : Symbols) (g : GroupingStrategy) → is_always g ≡ false
-    → record (with_separators own None None) { sizes = style_sizes (plain_pattern own.sizes) g own.sizes } ≡ own
-own_symbols own g h =
-    ap (λ b. record own {
-      sizes = record own.sizes { primary = if b && own.sizes.primary == 0 then 3 else own.sizes.primary };
-    }) h
+own_sizes : (own : Symbols) (g : GroupingStrategy) → g ≢ Always
+    → style_sizes (plain_pattern own.sizes) g own.sizes ≡ own.sizes
+own_sizes own Always h = absurd (h refl)
+own_sizes own Auto h = refl
+own_sizes own Never h = refl
+own_sizes own Min2 h = refl
 
 -- the formatter with what plain options have
 abbrev plainly : NumberFormatter → Symbols → GroupingStrategy → NumberFormatter
@@ -52,17 +52,15 @@ plainly f own g = record f {
 }
 
 is_plainly : (tag system : List ℕ) (own : Symbols) (g : GroupingStrategy) (name : Option (List ℕ))
-    (f : NumberFormatter) → IsFormatterIn tag system own (plain_options g name) f → is_always g ≡ false
-    → f ≡ plainly f own g
+    (f : NumberFormatter) → IsFormatterIn tag system own (plain_options g name) f → g ≢ Always → f ≡ plainly f own g
 is_plainly tag system own g name f made not_always =
-    let s = made.style_parts in
-    let same : record (with_separators own s.decimal s.grouping) { sizes = style_sizes s.pattern g own.sizes } ≡ own =
-    (λ i. record (with_separators own (made.style_is.decimal i) (made.style_is.grouping i)) {
-      sizes = style_sizes (made.style_is.pattern_is i) g own.sizes;
-    })
-    ∙ own_symbols own g not_always in
-    let symbols : f.symbols ≡ own = made.symbols ∙ same in
-    let pattern : f.pattern ≡ plain_pattern own.sizes = made.pattern ∙ made.style_is.pattern_is in
+    let written = made.style_is.written in
+    let symbols : f.symbols ≡ own =
+    made.symbols
+    ∙ (λ i. record (with_separators own (written i)) { sizes = style_sizes (written i).pattern g own.sizes })
+    ∙ (λ i. record own { sizes = own_sizes own g not_always i }) in
+    let pattern : f.pattern ≡ plain_pattern own.sizes =
+    made.pattern ∙ ap (λ (p : CurrencyPattern). p.pattern) written in
     let digits : f.digits ≡ None = no_digits g name f.digits made.digits in
     λ i. record f {
       symbols = symbols i;
@@ -104,8 +102,8 @@ around_is f own g v sign.Negative e =
     ∙ ap (λ l. minus ++ (digits ++ l)) (sym e)
 
 of_plainly : (f : NumberFormatter) (own : Symbols) (g : GroupingStrategy) (v : Decimal) (text : List ℕ)
-    → IsValue v.absolute → (sign_affixes own (shown_plain v).sign).suffix ≡ []
-    → IsNumberText (plainly f own g) v text → text ≡ formatted own g (shown_plain v)
+    → IsValue v.absolute → (sign_affixes own (with_sign_display v display.Auto).sign).suffix ≡ []
+    → IsNumberText (plainly f own g) v text → text ≡ formatted own g (with_sign_display v display.Auto)
 of_plainly f own g v text valid no_suffix of_pieces =
     let p = plainly f own g in
     let is : AreNumberPieces p v of_pieces.0 = of_pieces.1 in
@@ -126,7 +124,9 @@ of_plainly f own g v text valid no_suffix of_pieces =
     ∙ around_is f own g v.absolute v.sign no_suffix
 
 pub plain_text : (tag system : List ℕ) (own : Symbols) (g : GroupingStrategy) (name : Option (List ℕ))
-    (f : NumberFormatter) (v : Decimal) (text : List ℕ) → IsPlainText tag system own g name f v text
+    (f : NumberFormatter) (v : Decimal) (text : List ℕ) → IsFormatterIn tag system own (plain_options g name) f
+    → g ≢ Always → IsValue v.absolute → (sign_affixes own (with_sign_display v display.Auto).sign).suffix ≡ []
+    → IsNumberText f v text → text ≡ formatted own g (with_sign_display v display.Auto)
 plain_text tag system own g name f v text made not_always valid no_suffix is =
     of_plainly f own g v text valid no_suffix
     (subst (λ h. IsNumberText h v text) (is_plainly tag system own g name f made not_always) is)

@@ -1,22 +1,22 @@
 -- Texts between affixes read back.
-use Rattle.std.proofs.Common.{◌≡◌, ℕ, suc, ◌*◌, ◌/◌, ◌^◌, Bool, true, false, ◌||◌, refl, sym, ◌∙◌, ap, arith}
-use Rattle.std.specs.Prelude.{Some, None, if◌then◌else◌, pos, negsuc, ◌+ℤ◌, int_lt}
+use Rattle.std.proofs.Common.{◌≡◌, ℕ, suc, ◌*◌, ◌/◌, ◌^◌, Bool, true, false, ◌||◌, List, refl, sym, ◌∙◌, ap, subst, arith, inl, inr}
+use Rattle.std.specs.Prelude.{Some, None, Result, Ok, Err, MatchResult, ok_or, ◌⊎◌, if◌then◌else◌, pos, negsuc, ◌+ℤ◌, int_lt}
 use Rattle.std.specs.Int.{int_max, int_min}
 use Rattle.std.proofs.lemmas.Int.{ints, clamps}
 use Rattle.std.proofs.Math.Nat.{mul-div_cancel}
 use Rattle.decimal_unsigned.specs.Edits.{leaves_limits, multiplied, multiplied_pow10}
 use Rattle.decimal_unsigned.specs.Unsigned.{Unsigned, IsValue}
-use Rattle.fixed_decimal.specs.Decimal.{Decimal}
+use Rattle.decimal_unsigned.specs.declared.error.ParseError.{ParseError}
+use Rattle.decimal_unsigned.specs.declared.error.ParseError.TheVariants.{Limit, Memory}
+use Rattle.fixed_decimal.specs.Decimal.{Decimal, with_absolute}
 use Rattle.fixed_decimal.proofs.Calling.{ten_pos}
-use Rattle.decimal_format.specs.Readable.{IsReadable}
 use Rattle.decimal_format.specs.declared.grouping.GroupingStrategy.{GroupingStrategy}
-use Rattle.number_format.specs.AffixedTexts.{Reader, by_sign, AreNamed, text_with, IsShown}
-use Rattle.number_format.specs.ShiftedReading.{IsShiftOfShown}
-use Rattle.number_format.proofs.AffixedNumbers.{named_texts_are_unique}
+use Rattle.number_format.specs.AffixedTexts.{Reader, text_with, shifted, IsShown, IsReadExactly}
 
-some_is : (b : Bool) (x w : Unsigned) → (if b then None else Some x) ≡ Some w → x ≡ w
-some_is true x w e = absurd (cc)
-some_is false x w e = cc
+ok_is : (b : Bool) (u : Decimal) (x : Unsigned) (w : Decimal)
+    → ok_or (with_absolute u (if b then None else Some x)) Limit ≡ Ok w → record u { absolute = x } ≡ w
+ok_is true u x w e = absurd (cc)
+ok_is false u x w e = cc
 
 pub unshifted : (v : Unsigned) → IsValue v → multiplied_pow10 v (pos 0) ≡ Some v
 unshifted v valid =
@@ -30,29 +30,42 @@ unshifted v valid =
     ap (λ b. if b then None else Some (multiplied v (pos 0))) (λ i. top i || low i)
     ∙ (λ i. Some (record { number = number i; hi = hi i; lo = lo i }))
 
-pub texts_read_back : (r : Reader) (g : GroupingStrategy) (v : Decimal) → IsValue v.absolute → r.shift ≡ pos 0
-    → IsShiftOfShown (IsShown r (text_with r.symbols (by_sign r.affixes) g v)) r.shift v
-texts_read_back r g v valid none = record {
-  shown = v;
-  valid = valid;
-  is = (g, refl);
-  shifted = record { sign = refl; absolute = ap (multiplied_pow10 v.absolute) none ∙ unshifted v.absolute valid };
-}
+-- a text reads as the decimal that is shown, shifted
+pub reads : (inline : ℕ) (r : Reader) (text : List ℕ) (u : Decimal) (result : Result Decimal ParseError)
+    → IsValue u.absolute → IsShown r text u → IsReadExactly inline r text result
+    → (result ≡ shifted r.shift (Ok u)) ⊎ (result ≡ Err Memory)
+reads inline r text u result valid shown (read, is, e) = go read e (is.reads_back u valid shown)
+  where
+    go : (read : Result Decimal ParseError) → result ≡ shifted r.shift read
+        → MatchResult read (λ x. x ≡ u) (λ x. x ≡ Memory)
+        → (result ≡ shifted r.shift (Ok u)) ⊎ (result ≡ Err Memory)
+    go (Ok x) e same = inl (e ∙ ap (λ y. shifted r.shift (Ok y)) same)
+    go (Err x) e memory = inr (e ∙ ap Err memory)
 
-pub scaled_texts_read_back : (r : Reader) (g : GroupingStrategy) (n : ℕ) (v u w : Decimal) → IsReadable r.symbols
-    → AreNamed r.symbols (by_sign r.affixes) → IsValue u.absolute → r.shift ≡ negsuc n → u.sign ≡ v.sign
-    → u.absolute.number ≡ v.absolute.number * 10 ^ suc n
-    → IsShiftOfShown (IsShown r (text_with r.symbols (by_sign r.affixes) g u)) r.shift w
+pub texts_read_back : (inline : ℕ) (r : Reader) (g : GroupingStrategy) (v : Decimal)
+    (result : Result Decimal ParseError) → IsValue v.absolute → r.shift ≡ pos 0
+    → IsReadExactly inline r (text_with r g v) result → MatchResult result (λ w. w ≡ v) (λ e. e ≡ Memory)
+texts_read_back inline r g v result valid none is =
+    let same : shifted r.shift (Ok v) ≡ Ok v =
+    (λ i. shifted (none i) (Ok v)) ∙ ap (λ x. ok_or (with_absolute v x) Limit) (unshifted v.absolute valid) in
+    elim (reads inline r (text_with r g v) v result valid (g, refl) is) [
+      | inl e ↦ subst (λ (x : Result Decimal ParseError). MatchResult x (λ w. w ≡ v) (λ e. e ≡ Memory))
+          (sym (e ∙ same)) refl
+      | inr e ↦ subst (λ (x : Result Decimal ParseError). MatchResult x (λ w. w ≡ v) (λ e. e ≡ Memory)) (sym e) refl
+    ]
+
+pub scaled_texts_read_back : (inline : ℕ) (r : Reader) (g : GroupingStrategy) (n : ℕ) (v u w : Decimal)
+    → IsValue u.absolute → r.shift ≡ negsuc n → u.sign ≡ v.sign
+    → u.absolute.number ≡ v.absolute.number * 10 ^ suc n → IsReadExactly inline r (text_with r g u) (Ok w)
     → (w.sign ≡ v.sign) × (w.absolute.number ≡ v.absolute.number)
-scaled_texts_read_back r g n v u w readable named valid shift signs scaled x =
-    let same : u ≡ x.shown =
-    named_texts_are_unique r.symbols (by_sign r.affixes) named readable g x.is.0 u x.shown valid x.valid x.is.1 in
-    let there : multiplied_pow10 x.shown.absolute (negsuc n) ≡ Some w.absolute =
-    ap (multiplied_pow10 x.shown.absolute) (sym shift) ∙ x.shifted.absolute in
-    let moved = some_is (leaves_limits x.shown.absolute (negsuc n)) (multiplied x.shown.absolute (negsuc n)) w.absolute
-    there in (
-      x.shifted.sign ∙ ap (λ (d : Decimal). d.sign) (sym same) ∙ signs,
-      ap (λ (d : Unsigned). d.number) (sym moved)
-          ∙ ap (λ m. m / 10 ^ suc n) (ap (λ (d : Decimal). d.absolute.number) (sym same) ∙ scaled)
-          ∙ mul-div_cancel v.absolute.number (ten_pos (suc n)),
-    )
+scaled_texts_read_back inline r g n v u w valid shift signs scaled is =
+    elim (reads inline r (text_with r g u) u (Ok w) valid (g, refl) is) [
+      | inl e ↦
+          let moved = ok_is (leaves_limits u.absolute (negsuc n)) u (multiplied u.absolute (negsuc n)) w
+          (sym (e ∙ (λ i. shifted (shift i) (Ok u)))) in (
+            ap (λ (d : Decimal). d.sign) (sym moved) ∙ signs,
+            ap (λ (d : Decimal). d.absolute.number) (sym moved) ∙ ap (λ m. m / 10 ^ suc n) scaled
+                ∙ mul-div_cancel v.absolute.number (ten_pos (suc n)),
+          )
+      | inr e ↦ absurd (cc)
+    ]

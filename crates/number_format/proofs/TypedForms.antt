@@ -1,11 +1,13 @@
 -- The elements of arrays of alternatives.
 use Rattle.std.proofs.Common.{◌≡◌, ℕ, List, [], ◌∷◌, length, map, refl, arith, slice_index_or}
 use Rattle.decimal_format.specs.declared.reader.alternatives.Alternative.{Alternative}
-use Rattle.number_format.specs.TypedReading.{Form, form_of}
+use Rattle.fixed_decimal.specs.declared.variations.Sign.{Sign}
+use Rattle.decimal_format.specs.Symbols.{Affixes}
+use Rattle.number_format.specs.NumberReading.{form_of}
 
 module _ (d : Alternative) where
   -- the form of an element
-  abbrev pub at : List Alternative → ℕ → Form
+  abbrev pub at : List Alternative → ℕ → Affixes × Sign
   at xs k = form_of (slice_index_or xs k d)
 
   pub five_forms : (xs : List Alternative) → length xs ≡ 5

@@ -1,18 +1,19 @@
--- Texts of decimals between affixes.
-use Rattle.std.specs.Prelude.{◌≡◌, ◌≢◌, ℕ, ◌⊎◌, List, ◌++◌, length, ℤ}
-use Rattle.fixed_decimal.specs.Decimal.{Decimal}
+-- Decimals between affixes: their texts, and what a reader of these returns.
+use Rattle.std.specs.Prelude.{◌≡◌, ◌≢◌, ℕ, ◌⊎◌, List, ◌++◌, length, ℤ, Result, Ok, Err, ok_or}
+use Rattle.decimal_unsigned.specs.Edits.{multiplied_pow10}
+use Rattle.decimal_unsigned.specs.declared.error.ParseError.{ParseError}
+use Rattle.decimal_unsigned.specs.declared.error.ParseError.TheVariants.{Limit}
+use Rattle.fixed_decimal.specs.Decimal.{Decimal, with_absolute}
 use Rattle.fixed_decimal.specs.declared.variations.Sign.{Sign}
 use Rattle.fixed_decimal.specs.declared.variations.Sign.TheVariants as sign
 use Rattle.decimal_format.specs.Alternatives.{IsNumeralOfFirst, IsWrittenOfFirst}
 use Rattle.decimal_format.specs.Formatted.{absolute_text}
 use Rattle.decimal_format.specs.Lenient.{normalized}
-use Rattle.decimal_format.specs.Readable.{IsReadable, BeginsWithDigit, EndsWithDigit}
-use Rattle.decimal_format.specs.Reading.{Numeral, AreDigits, absolute_numeral_text, separated_by}
+use Rattle.decimal_format.specs.Readable.{BeginsWithDigit, EndsWithDigit}
+use Rattle.decimal_format.specs.Reading.{Numeral, AreDigits, IsRead, absolute_numeral_text, separated_by}
 use Rattle.decimal_format.specs.Symbols.{Symbols, Affixes}
 use Rattle.decimal_format.specs.declared.grouping.GroupingStrategy.{GroupingStrategy}
 use Rattle.decimal_format.specs.declared.reader.alternatives.Alternative.{Alternative}
-use Rattle.number_format.specs.declared.reader.AffixError.{AffixError}
-use Rattle.number_format.specs.declared.reader.AffixError.TheVariants as error
 
 -- ---- Affixes.
 
@@ -25,7 +26,6 @@ pub record AffixTable : Type 0 where
 abbrev pub affix_table : Affixes → Affixes → Affixes → AffixTable
 affix_table none negative positive = record { none = none; negative = negative; positive = positive }
 
--- those of a sign
 abbrev pub by_sign : AffixTable → Sign → Affixes
 by_sign t sign.None = t.none
 by_sign t sign.Negative = t.negative
@@ -46,29 +46,10 @@ abbrev pub ArePairApart : Symbols → Affixes → Affixes → Type 0
 ArePairApart s a b = ArePrefixesApart s a.prefix b.prefix ⊎ AreSuffixesApart s a.suffix b.suffix
 
 -- the affixes around a number name its sign: those of each two signs are apart
-pub record AreNamed (s : Symbols) (by : Sign → Affixes) : Type 0 where
-  pub pair : (x y : Sign) → x ≢ y → ArePairApart s (by x) (by y)
+pub record AreNamed (s : Symbols) (t : AffixTable) : Type 0 where
+  pub pair : (x y : Sign) → x ≢ y → ArePairApart s (by_sign t x) (by_sign t y)
 
 -- ---- Texts.
-
--- the text of a decimal between the affixes of its sign
-abbrev pub text_with : Symbols → (Sign → Affixes) → GroupingStrategy → Decimal → List ℕ
-text_with s by strategy v =
-    (by v.sign).prefix ++ (absolute_text s strategy v.absolute ++ (by v.sign).suffix)
-
--- the text is that of the decimal by some strategy
-abbrev pub IsWrittenWith : Symbols → (Sign → Affixes) → Decimal → List ℕ → Type 0
-IsWrittenWith s by v bytes = (strategy : GroupingStrategy) × (bytes ≡ text_with s by strategy v)
-
--- the text is that of these digits, of any number, by some strategy
-pub record IsNumeralWith (s : Symbols) (by : Sign → Affixes) (bytes : List ℕ) (w : Numeral) : Type 0 where
-  pub digits : AreDigits w
-  pub strategy : GroupingStrategy
-  pub text : bytes
-      ≡ (by w.sign).prefix ++ (absolute_numeral_text s (separated_by s strategy (length w.whole)) w ++ (by
-      w.sign).suffix)
-
--- ---- Reading.
 
 -- what texts are read with: symbols, affixes, and the power of ten by which the number shown is multiplied
 pub record Reader : Type 0 where
@@ -79,14 +60,43 @@ pub record Reader : Type 0 where
 abbrev pub reader : Symbols → AffixTable → ℤ → Reader
 reader symbols affixes shift = record { symbols = symbols; affixes = affixes; shift = shift }
 
--- the text is that of the decimal, or of the digits, between the affixes
+-- a text between the affixes of a sign
+abbrev pub between : Reader → Sign → List ℕ → List ℕ
+between r sign text = (by_sign r.affixes sign).prefix ++ (text ++ (by_sign r.affixes sign).suffix)
+
+-- the text of a decimal
+abbrev pub text_with : Reader → GroupingStrategy → Decimal → List ℕ
+text_with r strategy v = between r v.sign (absolute_text r.symbols strategy v.absolute)
+
+-- the text is that of the decimal by some strategy
 abbrev pub IsShown : Reader → List ℕ → Decimal → Type 0
-IsShown r bytes v = IsWrittenWith r.symbols (by_sign r.affixes) v bytes
+IsShown r text v = (strategy : GroupingStrategy) × (text ≡ text_with r strategy v)
 
-abbrev pub IsShownNumeral : Reader → List ℕ → Numeral → Type 0
-IsShownNumeral r bytes w = IsNumeralWith r.symbols (by_sign r.affixes) bytes w
+-- the text is that of these digits, of any number, by some strategy
+pub record IsShownNumeral (r : Reader) (bytes : List ℕ) (w : Numeral) : Type 0 where
+  pub digits : AreDigits w
+  pub strategy : GroupingStrategy
+  pub text : bytes
+      ≡ between r w.sign (absolute_numeral_text r.symbols (separated_by r.symbols strategy (length w.whole)) w)
 
--- ---- Lenient reading.
+-- the text is this one between the affixes of the sign, and this one begins and ends with a digit
+pub record IsBetween (r : Reader) (bytes : List ℕ) (sign : Sign) (middle : List ℕ) : Type 0 where
+  pub begins : BeginsWithDigit r.symbols middle
+  pub ends : EndsWithDigit r.symbols middle
+  pub is : bytes ≡ between r sign middle
+
+-- ---- Reading.
+
+-- what is read, times 10 ^ shift, as 0.125 of 12.5 and -2; `Limit` beyond the limits
+abbrev pub shifted : ℤ → Result Decimal ParseError → Result Decimal ParseError
+shifted shift (Ok v) = ok_or (with_absolute v (multiplied_pow10 v.absolute shift)) Limit
+shifted shift (Err e) = Err e
+
+-- the result of reading a text exactly: `Syntax` if it is that of no digits
+abbrev pub IsReadExactly : ℕ → Reader → List ℕ → Result Decimal ParseError → Type 0
+IsReadExactly inline r text result =
+    (read : Result Decimal ParseError) × IsRead inline (IsShownNumeral r text) (IsShown r text) read
+    × (result ≡ shifted r.shift read)
 
 -- the text is that of the digits between the affixes; or it is that of none, and the first alternative with a numeral
 -- has these digits
@@ -101,17 +111,9 @@ IsTypedWith r alternatives text v =
     IsShown r text v ⊎ (((u : Numeral) → ¬ IsShownNumeral r text u)
     × IsWrittenOfFirst r.symbols (normalized r.symbols text) alternatives v)
 
--- ---- Errors.
-
--- what an error says of symbols and affixes
-abbrev pub Rejects : AffixError → Symbols → AffixTable → Type 0
-Rejects error.Symbols s t = ¬ IsReadable s
-Rejects error.Affixes s t = IsReadable s × ¬ AreNamed s (by_sign t)
-
--- ---- Private: used only in the contracts of private functions.
-
--- the text is this one between the affixes of the sign, and this one begins and ends with a digit
-pub record IsBetween (r : Reader) (bytes : List ℕ) (sign : Sign) (middle : List ℕ) : Type 0 where
-  pub begins : BeginsWithDigit r.symbols middle
-  pub ends : EndsWithDigit r.symbols middle
-  pub is : bytes ≡ (by_sign r.affixes sign).prefix ++ (middle ++ (by_sign r.affixes sign).suffix)
+-- the result of reading a text as people type it, with these alternatives
+abbrev pub IsReadTyped : ℕ → Reader → List Alternative → List ℕ → Result Decimal ParseError → Type 0
+IsReadTyped inline r alternatives text result =
+    (read : Result Decimal ParseError)
+    × IsRead inline (IsTypedNumeralWith r alternatives text) (IsTypedWith r alternatives text) read
+    × (result ≡ shifted r.shift read)

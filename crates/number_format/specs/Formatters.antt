@@ -1,5 +1,6 @@
 -- The formatter that a tag and options name.
-use Rattle.std.specs.Prelude.{◌≡◌, ℕ, ◌+◌, ◌<◌, ◌==◌, Bool, true, false, ◌⊎◌, ◌&&◌, if◌then◌else◌, List, slice_get, slice_index, Option, Some, None, IsSomeAnd, pos, ⊤}
+use Rattle.std.specs.Prelude.{◌≡◌, ℕ, ◌+◌, ◌<◌, ◌==◌, Bool, true, false, ◌⊎◌, ◌&&◌, if◌then◌else◌, List, [], slice_get, slice_index, Option, Some, None, unwrap_or, IsSomeAnd, MatchOption, pos, ⊤}
+use Rattle.std.specs.Option.{option_map}
 use Rattle.fixed_decimal.specs.declared.variations.SignDisplay.{SignDisplay}
 use Rattle.fixed_decimal.specs.declared.variations.SignDisplay.TheVariants as display
 use Rattle.decimal_format.specs.declared.grouping.GroupingSizes.{GroupingSizes}
@@ -13,7 +14,6 @@ use Rattle.locale_data.specs.declared.currency.CurrencySign.{CurrencySign}
 use Rattle.locale_data.specs.declared.currency.CurrencySign.TheVariants as sign
 use Rattle.locale_data.specs.declared.formats_table.TheConstants.{PATTERNS, NUMBER_SIGNS}
 use Rattle.locale_data.specs.declared.number_formats.NumberFormats.{NumberFormats}
-use Rattle.locale_data.specs.declared.patterns.MoneySeparator.{MoneySeparator}
 use Rattle.locale_data.specs.declared.patterns.NumberSigns.{NumberSigns}
 use Rattle.locale_data.specs.declared.patterns.Pattern.{Pattern}
 use Rattle.locale_data.specs.declared.symbols_table.TheConstants.{LOCALES}
@@ -25,8 +25,6 @@ use Rattle.locale_data.specs.Locales.{IsListed, IsLocale, IsLocaleIn, IsSystemNa
 use Rattle.locale_data.specs.Patterns.{separator_text, exponent_text}
 use Rattle.locale_data.specs.Plurals.{rules_text_at, IsRulesText, HasNoRules}
 use Rattle.locale_data.specs.Rows.{unpadded}
-use Rattle.number_format.specs.declared.digit_options.DigitOptions.{DigitOptions}
-use Rattle.number_format.specs.declared.for_locale.StyleParts.{StyleParts}
 use Rattle.number_format.specs.declared.notation.Notation.{Notation}
 use Rattle.number_format.specs.declared.notation.Notation.TheVariants as shown
 use Rattle.number_format.specs.declared.number_formatter.CompactUnit.{CompactUnit}
@@ -35,7 +33,6 @@ use Rattle.number_format.specs.declared.number_formatter.NumberFormatError.{Numb
 use Rattle.number_format.specs.declared.number_formatter.NumberFormatError.TheVariants as error
 use Rattle.number_format.specs.declared.number_formatter.NumberFormatter.{NumberFormatter}
 use Rattle.number_format.specs.declared.number_options.CompactLength.TheVariants as compact_length
-use Rattle.number_format.specs.declared.number_options.CurrencyStyle.{CurrencyStyle}
 use Rattle.number_format.specs.declared.number_options.ExponentOptions.{ExponentOptions}
 use Rattle.number_format.specs.declared.number_options.NumberNotation.{NumberNotation}
 use Rattle.number_format.specs.declared.number_options.NumberNotation.TheVariants as notation
@@ -44,7 +41,7 @@ use Rattle.number_format.specs.declared.number_options.NumberStyle.{NumberStyle}
 use Rattle.number_format.specs.declared.number_options.NumberStyle.TheVariants as style
 use Rattle.number_format.specs.declared.number_style.ShownCurrency.{ShownCurrency}
 use Rattle.number_format.specs.DefaultDigits.{AreDefaultDigits}
-use Rattle.number_format.specs.NumberStyles.{plain_pattern, percent_text, text_or_nothing, in_system, IsNoCurrency, IsShownCurrency}
+use Rattle.number_format.specs.NumberStyles.{plain_pattern, percent_text, text_or_nothing, in_system, IsShownBy, IsShownCurrency}
 
 -- ---- What options say by themselves.
 
@@ -70,62 +67,39 @@ abbrev pub currency_sign : SignDisplay → CurrencySign → CurrencySign
 currency_sign display.Never s = sign.Standard
 currency_sign other s = s
 
-abbrev pub is_permille : NumberStyle → Bool
-is_permille style.Permille = true
-is_permille other = false
-
 abbrev pub is_always : GroupingStrategy → Bool
 is_always grouping.Always = true
 is_always other = false
 
 -- the sizes of a pattern, by `Always` 3 if it has none; the least number of digits is that of the locale
 abbrev pub style_sizes : Pattern → GroupingStrategy → GroupingSizes → GroupingSizes
-style_sizes p strategy own = record {
-  primary = if is_always strategy && p.primary == 0 then 3 else p.primary;
-  secondary = p.secondary;
-  min_grouping = own.min_grouping;
+style_sizes p strategy own =
+    record own { primary = if is_always strategy && p.primary == 0 then 3 else p.primary; secondary = p.secondary }
+
+-- the separators of money, or else those of other numbers
+abbrev pub with_separators : Symbols → CurrencyPattern → Symbols
+with_separators s p = record s {
+  decimal = unwrap_or (option_map separator_text p.decimal) s.decimal;
+  grouping = unwrap_or (option_map separator_text p.grouping) s.grouping;
 }
 
--- ---- What a style has in a locale.
+-- a pattern with the separators of other numbers, and no currency
+pub record IsWithoutCurrency (pattern : Pattern) (p : CurrencyPattern) (shown : ShownCurrency) : Type 0 where
+  pub written : p ≡ record { pattern = pattern; decimal = None; grouping = None }
+  pub hidden : IsShownBy [] false false shown
+  pub unnamed : shown.names ≡ None
 
--- a separator of money, or else that of other numbers
-abbrev pub money_text : Option MoneySeparator → List ℕ → List ℕ
-money_text None own = own
-money_text (Some separator) own = separator_text separator
-
-abbrev pub with_separators : Symbols → Option MoneySeparator → Option MoneySeparator → Symbols
-with_separators s decimal grouping =
-    record s { decimal = money_text decimal s.decimal; grouping = money_text grouping s.grouping }
-
-pub record IsWithoutCurrency (pattern : Pattern) (s : StyleParts) : Type 0 where
-  pub pattern_is : s.pattern ≡ pattern
-  pub decimal : s.decimal ≡ None
-  pub grouping : s.grouping ≡ None
-  pub currency : IsNoCurrency s.currency
-
-abbrev pub IsPercent : NumberFormats → StyleParts → Type 0
-IsPercent formats s = (slice_get PATTERNS formats.percent ≡ Some s.pattern) × IsWithoutCurrency s.pattern s
-
-pub record IsMoney (tag system : List ℕ) (o : NumberOptions) (c : CurrencyStyle) (s : StyleParts) : Type 0 where
-  pub written : CurrencyPattern
-  pub displayed : ShownCurrency
-  pub listed : IsCurrencyPattern tag system c.code (currency_sign o.sign_display c.sign) written
-  pub shown_for : IsShownCurrency tag c displayed
-  pub pattern : s.pattern ≡ written.pattern
-  pub decimal : s.decimal ≡ written.decimal
-  pub grouping : s.grouping ≡ written.grouping
-  pub currency : s.currency ≡ in_system system displayed
-
--- percent in compact notation has the pattern of plain numbers
-abbrev pub IsStyleBy : NumberStyle → Option CompactStyle → List ℕ → List ℕ → Symbols → NumberFormats → NumberOptions
-    → StyleParts → Type 0
-IsStyleBy style.Decimal words tag system own formats o s = IsWithoutCurrency (plain_pattern own.sizes) s
-IsStyleBy (style.Currency c) words tag system own formats o s = IsMoney tag system o c s
-IsStyleBy other None tag system own formats o s = IsPercent formats s
-IsStyleBy other (Some words) tag system own formats o s = IsWithoutCurrency (plain_pattern own.sizes) s
-
-abbrev pub IsStyle : List ℕ → List ℕ → Symbols → NumberFormats → NumberOptions → StyleParts → Type 0
-IsStyle tag system own formats o s = IsStyleBy o.style (compact_style o.style o.notation) tag system own formats o s
+-- the pattern, the separators and the currency of a style; percent in compact notation has the pattern of plain numbers
+abbrev pub IsStyle : NumberStyle → NumberNotation → List ℕ → List ℕ → GroupingSizes → NumberFormats → SignDisplay
+    → CurrencyPattern → ShownCurrency → Type 0
+IsStyle style.Decimal n tag system sizes formats display p shown = IsWithoutCurrency (plain_pattern sizes) p shown
+IsStyle (style.Currency c) n tag system sizes formats display p shown =
+    IsCurrencyPattern tag system c.code (currency_sign display c.sign) p
+    × (own : ShownCurrency) × IsShownCurrency tag c own × (shown ≡ in_system system own)
+IsStyle other (notation.Compact words) tag system sizes formats display p shown =
+    IsWithoutCurrency (plain_pattern sizes) p shown
+IsStyle other n tag system sizes formats display p shown =
+    (slice_get PATTERNS formats.percent ≡ Some p.pattern) × IsWithoutCurrency p.pattern p shown
 
 -- ---- The formatter.
 
@@ -140,56 +114,53 @@ IsNotationBy formats (notation.Engineering o) None shown.Engineering = ⊤
 IsNotationBy formats notation.Standard None shown.Standard = ⊤
 IsNotationBy formats other words n = ⊥
 
-abbrev pub HasDigits : NumberOptions → Option DigitOptions → Option DigitOptions → Type 0
-HasDigits o (Some given) digits = digits ≡ Some given
-HasDigits o None digits = AreDefaultDigits o digits
-
--- the symbols and the name of the numbering system: that of the options, or else of the tag
-abbrev pub IsInSystem : List ℕ → Option (List ℕ) → List ℕ → Symbols → Type 0
-IsInSystem tag None system own = IsLocale tag own × IsSystemName tag system
-IsInSystem tag (Some name) system own =
-    IsLocaleIn tag system own × (system ≡ text_or_nothing (unpadded name))
-
 pub record IsFormatterIn (tag system : List ℕ) (own : Symbols) (o : NumberOptions) (f : NumberFormatter) : Type 0 where
   pub signs : NumberSigns
-  pub style_parts : StyleParts
+  pub written : CurrencyPattern
   pub formats : AreFormatsOf tag system f.formats
   pub signs_are : slice_get NUMBER_SIGNS f.formats.signs ≡ Some signs
   pub rules : IsSomeAnd (rules_text_at f.rules) (IsRulesText tag Cardinal)
-  pub style_is : IsStyle tag system own f.formats o style_parts
+  pub style_is : IsStyle o.style o.notation tag system own.sizes f.formats o.sign_display written f.currency
   pub symbols : f.symbols
-      ≡ record (with_separators own style_parts.decimal style_parts.grouping) {
-        sizes = style_sizes style_parts.pattern o.grouping own.sizes;
-      }
+      ≡ record (with_separators own written) { sizes = style_sizes written.pattern o.grouping own.sizes }
   pub strategy : f.strategy ≡ o.grouping
-  pub pattern : f.pattern ≡ style_parts.pattern
-  pub currency : f.currency ≡ style_parts.currency
-  pub percent : f.percent.text.now ≡ percent_text signs.percent (is_permille o.style)
+  pub pattern : f.pattern ≡ written.pattern
+  pub percent : f.percent.text.now ≡ percent_text o.style signs.percent
   pub separator : f.separator.text.now ≡ exponent_text signs.exponent
   pub unit_is : f.unit ≡ compact_unit o.style o.notation
   pub scale : f.scale ≡ o.scale
   pub notation_is : IsNotationBy f.formats o.notation (compact_style o.style o.notation) f.notation
   pub compact_is : f.compact ≡ compact_style o.style o.notation
   pub exponent : f.exponent ≡ exponent_options o.notation
-  pub digits : HasDigits o o.digits f.digits
+  pub digits : MatchOption o.digits (AreDefaultDigits o f.digits) (λ given. f.digits ≡ Some given)
   pub sign_display : f.sign_display ≡ o.sign_display
 
--- the formatter of a tag and options
+-- the formatter of a tag and options, in the numbering system of the options, or else that of the tag
 pub record IsFormatter (tag : List ℕ) (o : NumberOptions) (f : NumberFormatter) : Type 0 where
   pub system : List ℕ
   pub own : Symbols
-  pub in_system_of : IsInSystem tag o.numbering_system system own
+  pub in_system_of : MatchOption o.numbering_system (IsLocale tag own × IsSystemName tag system)
+      (λ name. IsLocaleIn tag system own × (system ≡ text_or_nothing (unpadded name)))
   pub made : IsFormatterIn tag system own o f
 
 -- ---- The errors.
 
--- the tag has no plural rules, which each listed locale has
-abbrev pub HasNoRulesFor : List ℕ → NumberFormatError → Type 0
-HasNoRulesFor tag e = (e ≡ error.UnknownLocale) × HasNoRules tag
-
--- the tag is unknown, or the numbering system of the options is not listed
+-- the tag is unknown, or has no plural rules, which each listed locale has; or the numbering system of the options is
+-- not listed
 abbrev pub IsFormatterError : List ℕ → Option (List ℕ) → NumberFormatError → Type 0
 IsFormatterError tag name error.UnknownLocale = IsUnknown tag ⊎ HasNoRules tag
 IsFormatterError tag None error.UnknownNumberingSystem = ⊥
 IsFormatterError tag (Some name) error.UnknownNumberingSystem =
     IsListed LOCALES tag None ⊎ (system_named (text_or_nothing (unpadded name)) ≡ None)
+
+-- a decimal in standard notation, without digits, a scale or a sign of their own
+abbrev pub plain_options : GroupingStrategy → Option (List ℕ) → NumberOptions
+plain_options grouping system = record {
+  style = style.Decimal;
+  scale = pos 0;
+  notation = notation.Standard;
+  digits = None;
+  sign_display = display.Auto;
+  grouping = grouping;
+  numbering_system = system;
+}

@@ -12,13 +12,10 @@ pub mod SkeletonDigits
 pub mod SkeletonMeaning
 pub mod SkeletonLengths
 pub mod AffixedTexts
-pub mod ShiftedReading
 pub mod TextParts
 pub mod DefaultDigits
 pub mod NumberStyles
 pub mod FormattedNumbers
 pub mod NumberText
 pub mod Formatters
-pub mod PlainTexts
 pub mod NumberReading
-pub mod TypedReading

@@ -1,17 +1,30 @@
--- Reading of what a formatter writes.
-use Rattle.std.specs.Prelude.{◌≡◌, ◌≢◌, ⊤, None, Some, ◌-ℤ◌, pos, negsuc}
+-- What a formatter writes, read exactly and as people type it.
+use Rattle.std.specs.Prelude.{◌≡◌, ◌≢◌, ⊤, ℕ, ◌⊎◌, Bool, true, false, ◌||◌, if◌then◌else◌, List, [], ◌∷◌, ◌++◌, map, flat_map, codes, Option, Some, None, Result, Err, ◌-ℤ◌, pos, negsuc}
+use Rattle.std.specs.Str.{IsUtf8}
+use Rattle.decimal_unsigned.specs.declared.error.ParseError.{ParseError}
+use Rattle.decimal_unsigned.specs.declared.error.ParseError.TheVariants.{Syntax}
 use Rattle.fixed_decimal.specs.Decimal.{Decimal}
 use Rattle.fixed_decimal.specs.declared.variations.Sign.{Sign}
 use Rattle.fixed_decimal.specs.declared.variations.Sign.TheVariants as sign
 use Rattle.decimal_format.specs.Readable.{IsReadable}
 use Rattle.decimal_format.specs.Symbols.{Affixes, affixes}
+use Rattle.decimal_format.specs.declared.reader.alternatives.Alternative.{Alternative}
+use Rattle.locale_data.specs.declared.patterns.Affix.{Affix}
+use Rattle.locale_data.specs.declared.patterns.Piece.{Piece}
+use Rattle.locale_data.specs.declared.patterns.Piece.TheVariants.{Percent}
 use Rattle.number_format.specs.declared.number_formatter.NumberFormatter.{NumberFormatter}
 use Rattle.number_format.specs.declared.number_reader.NumberReaderError.{NumberReaderError}
 use Rattle.number_format.specs.declared.number_reader.NumberReaderError.TheVariants as error
-use Rattle.number_format.specs.AffixedTexts.{AffixTable, affix_table, by_sign, AreNamed, Reader, reader}
+use Rattle.number_format.specs.declared.number_reader.ParseMode.{ParseMode}
+use Rattle.number_format.specs.declared.number_reader.ParseMode.TheVariants.{Strict, Lenient}
+use Rattle.number_format.specs.declared.number_style.CurrencyNames.{CurrencyNames}
+use Rattle.number_format.specs.AffixedTexts.{AffixTable, affix_table, AreNamed, Reader, reader, IsReadExactly, IsReadTyped}
+use Rattle.number_format.specs.NumberStyles.{text_or_nothing}
 use Rattle.number_format.specs.NumberText.{pattern_around, shown_number, shown_sign}
 use Rattle.number_format.specs.Scaled.{ScaledValue}
 use Rattle.number_format.specs.TextParts.{pieces_text}
+
+-- ---- Exactly.
 
 -- the notation is `Standard`: no words and no exponent
 pub record IsStandard (f : NumberFormatter) : Type 0 where
@@ -36,17 +49,15 @@ pub record CanRead (f : NumberFormatter) : Type 0 where
   pub standard : IsStandard f
   pub scale : f.scale ≢ negsuc 32767
   pub readable : IsReadable f.symbols
-  pub named : AreNamed f.symbols (by_sign (affixes_of_formatter f))
+  pub named : AreNamed f.symbols (affixes_of_formatter f)
 
 -- what an error says
 abbrev pub CannotRead : NumberReaderError → NumberFormatter → Type 0
 CannotRead error.Notation f = ¬ IsStandard f
 CannotRead error.Scale f = f.scale ≡ negsuc 32767
 CannotRead error.Symbols f = ¬ IsReadable f.symbols
-CannotRead error.Affixes f = ¬ AreNamed f.symbols (by_sign (affixes_of_formatter f))
+CannotRead error.Affixes f = ¬ AreNamed f.symbols (affixes_of_formatter f)
 CannotRead error.Memory f = ⊤
-
--- ---- What is read.
 
 -- u is the number that the formatter shows of v: scaled, rounded, and with the sign that is written
 pub record IsShownAs (f : NumberFormatter) (v u : Decimal) : Type 0 where
@@ -54,3 +65,63 @@ pub record IsShownAs (f : NumberFormatter) (v u : Decimal) : Type 0 where
   pub number_is : shown_number f v ≡ Some number
   pub absolute : u.absolute ≡ number.significand.absolute
   pub sign : u.sign ≡ shown_sign f number.significand
+
+-- ---- As people type it.
+
+abbrev pub is_percent : Piece → Bool
+is_percent Percent = true
+is_percent other = false
+
+abbrev pub has_percent : Affix → Bool
+has_percent a = is_percent a.first || (is_percent a.second || (is_percent a.third || is_percent a.fourth))
+
+-- the percent sign, if the pattern has one
+abbrev pub percent_name : NumberFormatter → List ℕ
+percent_name f =
+    if has_percent f.pattern.positive.prefix || has_percent f.pattern.positive.suffix then f.percent.text.now else []
+
+-- the names of a number: the symbol, the narrow symbol and the code of the currency, or the percent sign
+abbrev pub names_by : NumberFormatter → Option CurrencyNames → List (List ℕ)
+names_by f (Some n) = n.symbol.now ∷ n.narrow.now ∷ text_or_nothing n.code ∷ []
+names_by f None = percent_name f ∷ [] ∷ [] ∷ []
+
+-- what is around a number, and the sign that it shows
+abbrev pub form : List ℕ → List ℕ → Sign → Affixes × Sign
+form prefix suffix sign = (affixes prefix suffix, sign)
+
+abbrev pub form_of : Alternative → Affixes × Sign
+form_of a = form a.prefix.now a.suffix.now a.sign
+
+-- a name before the number or after it, with a space or without, or a sign and a name
+abbrev pub forms_of_name : List ℕ → List (Affixes × Sign)
+forms_of_name name =
+    form name [] sign.None ∷ form (name ++ codes " ") [] sign.None ∷ form [] name sign.None
+    ∷ form [] (codes " " ++ name) sign.None ∷ form (codes "-" ++ name) [] sign.Negative
+    ∷ form (codes "-" ++ (name ++ codes " ")) [] sign.Negative ∷ form (codes "+" ++ name) [] sign.Positive
+    ∷ form (codes "+" ++ (name ++ codes " ")) [] sign.Positive ∷ []
+
+pub record NumberReader : Type 0 where
+  pub texts : Reader
+  pub names : List (Affixes × Sign)
+
+abbrev pub number_reader_of : NumberFormatter → NumberReader
+number_reader_of f = record { texts = reader_of f; names = flat_map forms_of_name (names_by f f.currency.names) }
+
+-- the affixes of the formatter, nothing, parentheses for a minus sign, and the names
+abbrev pub typed_forms : NumberReader → List (Affixes × Sign)
+typed_forms r =
+    (r.texts.affixes.none, sign.None) ∷ (r.texts.affixes.negative, sign.Negative)
+    ∷ (r.texts.affixes.positive, sign.Positive) ∷ form [] [] sign.None
+    ∷ form (codes "(") (codes ")") sign.Negative ∷ r.names
+
+-- the result of lenient reading: by the first of these forms that has a number
+abbrev pub IsReadLeniently : ℕ → NumberReader → List ℕ → Result Decimal ParseError → Type 0
+IsReadLeniently inline r text result =
+    (alternatives : List Alternative) × (map form_of alternatives ≡ typed_forms r)
+    × IsReadTyped inline r.texts alternatives text result
+
+-- the result of reading in a mode; leniently, a text that is not UTF-8 is `Syntax`
+abbrev pub IsReadInMode : ℕ → ParseMode → NumberReader → List ℕ → Result Decimal ParseError → Type 0
+IsReadInMode inline Strict r text result = IsReadExactly inline r.texts text result
+IsReadInMode inline Lenient r text result =
+    (IsUtf8 text × IsReadLeniently inline r text result) ⊎ (¬ IsUtf8 text × (result ≡ Err Syntax))

@@ -1,5 +1,6 @@
 -- What a style of numbers writes: its pattern, its percent sign, and its currency.
-use Rattle.std.specs.Prelude.{◌≡◌, ℕ, Bool, true, false, not, codes, ◌&&◌, if◌then◌else◌, nat_le, ◌-◌, List, [], ◌∷◌, map, Option, None, IsSomeAnd, ◌⊎◌}
+use Rattle.std.specs.Prelude.{◌≡◌, ℕ, Bool, true, false, not, codes, ◌&&◌, if◌then◌else◌, List, [], ◌∷◌, map, None, IsSomeAnd, ◌⊎◌}
+use Rattle.std.specs.Char.{to_ascii_uppercase}
 use Rattle.std.specs.Str.{is_utf8, bytes_eq}
 use Rattle.decimal_format.specs.declared.grouping.GroupingSizes.{GroupingSizes}
 use Rattle.locale_data.specs.declared.currency.CurrencySymbol.{CurrencySymbol}
@@ -17,6 +18,8 @@ use Rattle.locale_data.specs.Patterns as pattern
 use Rattle.number_format.specs.declared.number_options.CurrencyDisplay.{CurrencyDisplay}
 use Rattle.number_format.specs.declared.number_options.CurrencyDisplay.TheVariants as display
 use Rattle.number_format.specs.declared.number_options.CurrencyStyle.{CurrencyStyle}
+use Rattle.number_format.specs.declared.number_options.NumberStyle.{NumberStyle}
+use Rattle.number_format.specs.declared.number_options.NumberStyle.TheVariants as style
 use Rattle.number_format.specs.declared.number_style.CurrencyNames.{CurrencyNames}
 use Rattle.number_format.specs.declared.number_style.ShownCurrency.{ShownCurrency}
 
@@ -56,18 +59,13 @@ ends_with_currency a = is_currency (piece_or a.fourth (piece_or a.third (piece_o
 abbrev pub begins_with_currency : Affix → Bool
 begins_with_currency a = is_currency (piece_or a.first (piece_or a.second (piece_or a.third a.fourth)))
 
--- ---- Percent.
-
--- the bytes of the per mille sign for a percent sign: U+2030, or in Arabic U+0609
-abbrev pub permille_text : PercentSign → List ℕ
-permille_text sign.Percent = 226 ∷ 128 ∷ 176 ∷ []
-permille_text sign.Enclosed = 226 ∷ 128 ∷ 176 ∷ []
-permille_text sign.Tilde = 226 ∷ 128 ∷ 176 ∷ []
-permille_text other = 216 ∷ 137 ∷ []
-
--- the percent sign, or the per mille sign
-abbrev pub percent_text : PercentSign → Bool → List ℕ
-percent_text s is_permille = if is_permille then permille_text s else pattern.percent_text s
+-- the percent sign, or the per mille sign that belongs to it: U+2030, or in Arabic U+0609
+abbrev pub percent_text : NumberStyle → PercentSign → List ℕ
+percent_text style.Permille sign.Percent = 226 ∷ 128 ∷ 176 ∷ []
+percent_text style.Permille sign.Enclosed = 226 ∷ 128 ∷ 176 ∷ []
+percent_text style.Permille sign.Tilde = 226 ∷ 128 ∷ 176 ∷ []
+percent_text style.Permille other = 216 ∷ 137 ∷ []
+percent_text other s = pattern.percent_text s
 
 -- ---- Currencies.
 
@@ -79,43 +77,27 @@ text_or_nothing bytes = if is_utf8 bytes then bytes else []
 abbrev pub currency_text : ShownCurrency → List ℕ
 currency_text c = if c.shows_code then text_or_nothing c.code else c.symbol.text.now
 
--- an ASCII letter as a capital
-abbrev pub capital : ℕ → ℕ
-capital b = if nat_le 97 b && nat_le b 122 then b - 32 else b
+-- a currency has this text, and spaces separate it or not from a digit before it and from one after it
+abbrev pub IsShownBy : List ℕ → Bool → Bool → ShownCurrency → Type 0
+IsShownBy text before after shown =
+    (currency_text shown ≡ text) × (shown.space_before ≡ before) × (shown.space_after ≡ after)
 
--- a currency that is not shown
-pub record IsHidden (shown : ShownCurrency) : Type 0 where
-  pub text : currency_text shown ≡ []
-  pub before : shown.space_before ≡ false
-  pub after : shown.space_after ≡ false
+-- its code in capitals, between spaces
+abbrev pub IsShownCode : List ℕ → ShownCurrency → Type 0
+IsShownCode code = IsShownBy (text_or_nothing (map to_ascii_uppercase code)) true true
 
-abbrev pub IsNoCurrency : ShownCurrency → Type 0
-IsNoCurrency shown = IsHidden shown × (shown.names ≡ None)
-
--- a code in capitals, which a space separates from digits
-pub record IsShownCode (code : List ℕ) (shown : ShownCurrency) : Type 0 where
-  pub text : currency_text shown ≡ text_or_nothing (map capital code)
-  pub before : shown.space_before ≡ true
-  pub after : shown.space_after ≡ true
-
--- the symbol that a tag has for a currency
-pub record HasSymbol (tag code : List ℕ) (width : SymbolWidth) (shown : ShownCurrency) : Type 0 where
-  pub symbol : CurrencySymbol
-  pub listed : IsSymbolOf tag code width symbol
-  pub text : currency_text shown ≡ symbol.text.now
-  pub before : shown.space_before ≡ symbol.space_before
-  pub after : shown.space_after ≡ symbol.space_after
-
--- that symbol, or the code if the currency is not listed
+-- the symbol that a tag has for it, or the code if it is not listed
 abbrev pub IsShownSymbol : List ℕ → List ℕ → SymbolWidth → ShownCurrency → Type 0
 IsShownSymbol tag code width shown =
-    HasSymbol tag code width shown ⊎ ((currency_with code ≡ None) × IsShownCode code shown)
+    ((symbol : CurrencySymbol) × IsSymbolOf tag code width symbol
+    × IsShownBy symbol.text.now symbol.space_before symbol.space_after shown)
+    ⊎ ((currency_with code ≡ None) × IsShownCode code shown)
 
 abbrev pub IsDisplayed : CurrencyDisplay → List ℕ → List ℕ → ShownCurrency → Type 0
-IsDisplayed display.Symbol tag code shown = IsShownSymbol tag code width.Wide shown
-IsDisplayed display.Narrow tag code shown = IsShownSymbol tag code width.Narrow shown
-IsDisplayed display.Code tag code shown = IsShownCode code shown
-IsDisplayed display.Hidden tag code shown = IsHidden shown
+IsDisplayed display.Symbol tag code = IsShownSymbol tag code width.Wide
+IsDisplayed display.Narrow tag code = IsShownSymbol tag code width.Narrow
+IsDisplayed display.Code tag code = IsShownCode code
+IsDisplayed display.Hidden tag code = IsShownBy [] false false
 
 -- the text of a symbol, or nothing if the currency is not listed
 abbrev pub IsSymbolText : List ℕ → List ℕ → SymbolWidth → List ℕ → Type 0
@@ -127,20 +109,15 @@ IsSymbolText tag code width text =
 pub record AreNamesOf (tag code : List ℕ) (names : CurrencyNames) : Type 0 where
   pub symbol : IsSymbolText tag code width.Wide names.symbol.now
   pub narrow : IsSymbolText tag code width.Narrow names.narrow.now
-  pub code_is : names.code ≡ map capital code
-
-abbrev pub HasNamesOf : List ℕ → List ℕ → Option CurrencyNames → Type 0
-HasNamesOf tag code names = IsSomeAnd names (AreNamesOf tag code)
+  pub code_is : names.code ≡ map to_ascii_uppercase code
 
 -- a currency as a style shows it for a tag
 abbrev pub IsShownCurrency : List ℕ → CurrencyStyle → ShownCurrency → Type 0
 IsShownCurrency tag style shown =
-    IsDisplayed style.display tag style.code shown × HasNamesOf tag style.code shown.names
+    IsDisplayed style.display tag style.code shown × IsSomeAnd shown.names (AreNamesOf tag style.code)
 
 -- a digit of `hanidec` is a letter, which no space separates from a currency
-abbrev pub has_spaces : List ℕ → Bool
-has_spaces system = not (bytes_eq system (codes "hanidec"))
-
 abbrev pub in_system : List ℕ → ShownCurrency → ShownCurrency
 in_system system c =
-    record c { space_before = c.space_before && has_spaces system; space_after = c.space_after && has_spaces system }
+    let spaced = not (bytes_eq system (codes "hanidec")) in
+    record c { space_before = c.space_before && spaced; space_after = c.space_after && spaced }

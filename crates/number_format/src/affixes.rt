@@ -37,7 +37,6 @@ impl Model for AffixTexts {
     ghost view = { λ s. affixes (string_bytes s.prefix) (string_bytes s.suffix) };
 }
 
-/// Returns the texts of parts, one after another.
 pub(crate) fn joined(alloc: Global, parts: &[TextPart<'_>]) -> Result<String, AllocError>
     ensures { IfOk result (λ t. string_bytes t ≡ parts_text parts.now) }
 {
@@ -57,7 +56,6 @@ impl AffixTexts {
         Ok(AffixTexts { prefix, suffix })
     }
 
-    /// Returns the texts of the parts before a number and after it.
     pub(crate) fn of_parts(
         alloc: Global,
         prefix: &[TextPart<'_>],
@@ -83,9 +81,9 @@ impl AffixTexts {
 
 /// The texts before and after a number, by its sign.
 pub struct SignAffixes {
-    none: AffixTexts,
-    negative: AffixTexts,
-    positive: AffixTexts,
+    pub(crate) none: AffixTexts,
+    pub(crate) negative: AffixTexts,
+    pub(crate) positive: AffixTexts,
 }
 
 // Not derived: a derived drop is proved again wherever a value is dropped.
@@ -129,10 +127,7 @@ fn is_apart_after(symbols: &DecimalSymbols<'_>, rest: &str) -> bool
     ensures apart { IsTrue result ↔ ((rest.now ≢ []) × ¬ BeginsWithDigit symbols.now rest.now) }
     ensures utf8 { IsUtf8 rest.now }
 {
-    if rest.is_empty() {
-        return false;
-    }
-    !symbols.begins_with_digit(rest.as_bytes())
+    !rest.is_empty() && !symbols.begins_with_digit(rest.as_bytes())
 }
 
 fn is_apart_before(symbols: &DecimalSymbols<'_>, rest: &str) -> bool
@@ -140,10 +135,7 @@ fn is_apart_before(symbols: &DecimalSymbols<'_>, rest: &str) -> bool
     ensures apart { IsTrue result ↔ ((rest.now ≢ []) × ¬ EndsWithDigit symbols.now rest.now) }
     ensures utf8 { IsUtf8 rest.now }
 {
-    if rest.is_empty() {
-        return false;
-    }
-    !symbols.ends_with_digit(rest.as_bytes())
+    !rest.is_empty() && !symbols.ends_with_digit(rest.as_bytes())
 }
 
 fn are_prefixes_apart(symbols: &DecimalSymbols<'_>, first: &str, second: &str) -> bool
@@ -191,17 +183,11 @@ impl SignAffixes {
         let none = AffixTexts::new(alloc, none)?;
         let negative = AffixTexts::new(alloc, negative)?;
         let positive = AffixTexts::new(alloc, positive)?;
-        Ok(Self::of_texts(none, negative, positive))
-    }
-
-    pub(crate) fn of_texts(none: AffixTexts, negative: AffixTexts, positive: AffixTexts) -> Self
-        ensures { result ≡ affix_table none negative positive }
-    {
-        SignAffixes {
+        Ok(SignAffixes {
             none,
             negative,
             positive,
-        }
+        })
     }
 
     /// Returns the texts before and after a number with this sign.
@@ -234,7 +220,7 @@ impl SignAffixes {
     /// This holds for percent and all currencies in all locales of CLDR. Requires readable symbols.
     pub fn are_apart(&self, symbols: &DecimalSymbols<'_>) -> bool
         requires { IsReadable symbols.now }
-        ensures { IsTrue result ↔ AreNamed symbols.now (by_sign self.now) }
+        ensures { IsTrue result ↔ AreNamed symbols.now self.now }
     {
         if !self.is_pair_apart(symbols, Sign::None, Sign::Negative) {
             return false;

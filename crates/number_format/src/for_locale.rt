@@ -1,20 +1,22 @@
 //! Formatters by locale and options.
-ghost use Rattle.std.specs.Prelude.{◌≡◌, IfOk, IfErr};
+ghost use Rattle.std.specs.Prelude.{◌≡◌, Some, IfOk, IfErr, MatchOption};
 ghost use Rattle.locale_data.specs.Formats.{AreFormatsOf};
-ghost use Rattle.number_format.specs.Formatters.{style_sizes, compact_style, compact_unit, exponent_options, currency_sign, is_permille, with_separators, IsWithoutCurrency, IsMoney, IsStyle, IsNotationBy, HasDigits, AreExponents, IsFormatterIn, IsFormatter, HasNoRulesFor, IsFormatterError};
+ghost use Rattle.locale_data.specs.Plurals.{HasNoRules};
+ghost use Rattle.number_format.specs.DefaultDigits.{AreDefaultDigits};
+ghost use Rattle.number_format.specs.Formatters.{style_sizes, compact_style, compact_unit, exponent_options, currency_sign, with_separators, IsWithoutCurrency, IsStyle, IsNotationBy, AreExponents, IsFormatterIn, IsFormatter, IsFormatterError};
 
 use crate::digit_options::DigitOptions;
 use crate::notation::{CompactExponents, Notation};
 use crate::number_formatter::{CompactUnit, NumberFormatError, NumberFormatter};
 use crate::number_options::{
-    CompactLength, CurrencyStyle, ExponentOptions, NumberNotation, NumberOptions, NumberStyle,
+    CompactLength, ExponentOptions, NumberNotation, NumberOptions, NumberStyle,
 };
 use crate::number_style::{ShownCurrency, percent_text, plain_pattern, text_or_nothing};
 use crate::text_part::{PartKind, TextPart};
 use decimal_format::{DecimalSymbols, GroupingSizes, GroupingStrategy};
 use fixed_decimal::SignDisplay;
 use locale_data::{
-    CompactStyle, CurrencySign, MoneySeparator, NumberFormats, Pattern, PluralRuleType,
+    CompactStyle, CurrencyPattern, CurrencySign, NumberFormats, Pattern, PluralRuleType,
     currency_pattern, formats_of, locale, locale_in, plural_rules_number, system_of, unpadded,
 };
 
@@ -30,15 +32,6 @@ fn style_sizes(pattern: &Pattern, strategy: GroupingStrategy, own: GroupingSizes
         },
         secondary: pattern.secondary,
         min_grouping: own.min_grouping,
-    }
-}
-
-fn is_permille(style: NumberStyle) -> bool
-    ensures { result ≡ is_permille style }
-{
-    match style {
-        NumberStyle::Permille => true,
-        _ => false,
     }
 }
 
@@ -86,23 +79,23 @@ impl NumberOptions {
         }
     }
 
-    // Node differs from ECMA-402: without a sign the pattern of accounts is not used.
-    fn currency_sign(&self, sign: CurrencySign) -> CurrencySign
-        ensures { result ≡ currency_sign self.now.sign_display sign }
-    {
-        match self.sign_display {
-            SignDisplay::Never => CurrencySign::Standard,
-            _ => sign,
-        }
-    }
-
     fn shown_digits(&self) -> Option<DigitOptions>
-        ensures { HasDigits self.now self.now.digits result }
+        ensures { MatchOption self.now.digits (AreDefaultDigits self.now result) (λ given. result ≡ Some given) }
     {
         match self.digits {
             Some(digits) => Some(digits),
             None => self.default_digits(),
         }
+    }
+}
+
+// Node differs from ECMA-402: without a sign the pattern of accounts is not used.
+fn currency_sign(display: SignDisplay, sign: CurrencySign) -> CurrencySign
+    ensures { result ≡ currency_sign display sign }
+{
+    match display {
+        SignDisplay::Never => CurrencySign::Standard,
+        _ => sign,
     }
 }
 
@@ -118,16 +111,15 @@ fn compact_exponents(formats: &NumberFormats, style: CompactStyle) -> CompactExp
 
 fn with_separators(
     symbols: DecimalSymbols<'static>,
-    decimal: Option<MoneySeparator>,
-    grouping: Option<MoneySeparator>,
+    pattern: &CurrencyPattern,
 ) -> DecimalSymbols<'static>
-    ensures { result ≡ with_separators symbols.entry decimal grouping }
+    ensures { result ≡ with_separators symbols.entry pattern.now }
 {
-    let symbols = match decimal {
+    let symbols = match pattern.decimal {
         Some(separator) => symbols.with_decimal_separator(separator.text()),
         None => symbols,
     };
-    match grouping {
+    match pattern.grouping {
         Some(separator) => symbols.with_grouping_separator(separator.text()),
         None => symbols,
     }
@@ -171,23 +163,24 @@ impl NumberFormatter {
         options: &NumberOptions,
     ) -> Result<NumberFormatter, NumberFormatError>
         ensures ok { IfOk result (λ f. IsFormatterIn tag.now system.now symbols.entry options.now f) }
-        ensures err { IfErr result (λ e. HasNoRulesFor tag.now e) }
+        ensures err { IfErr result (λ e. (e ≡ NumberFormatError.UnknownLocale) × HasNoRules tag.now) }
     {
         let Some(rules) = plural_rules_number(tag, PluralRuleType::Cardinal) else {
             return Err(NumberFormatError::UnknownLocale);
         };
         let formats = formats_of(tag, system);
-        let style = StyleParts::of(tag, system, &symbols, &formats, options);
-        let sizes = style_sizes(&style.pattern, options.grouping, symbols.sizes());
-        let symbols = with_separators(symbols, style.decimal, style.grouping).with_sizes(sizes);
+        let own = symbols.sizes();
+        let style = StyleParts::of(tag, system, own, &formats, options);
+        let sizes = style_sizes(&style.written.pattern, options.grouping, own);
+        let symbols = with_separators(symbols, &style.written).with_sizes(sizes);
         let signs = formats.signs();
         Ok(NumberFormatter {
             symbols,
             strategy: options.grouping,
-            pattern: style.pattern,
+            pattern: style.written.pattern,
             percent: TextPart::new(
                 PartKind::PercentSign,
-                percent_text(signs.percent, is_permille(options.style)),
+                percent_text(options.style, signs.percent),
             ),
             separator: TextPart::new(PartKind::ExponentSeparator, signs.exponent.text()),
             currency: style.currency,
@@ -207,20 +200,20 @@ impl NumberFormatter {
 /// What a style has in a locale.
 #[derive(Clone, Copy)]
 struct StyleParts {
-    pattern: Pattern,
-    decimal: Option<MoneySeparator>,
-    grouping: Option<MoneySeparator>,
+    written: CurrencyPattern,
     currency: ShownCurrency,
 }
 
 impl StyleParts {
     fn without_currency(pattern: Pattern) -> Self
-        ensures { IsWithoutCurrency pattern result }
+        ensures { IsWithoutCurrency pattern result.written result.currency }
     {
         StyleParts {
-            pattern,
-            decimal: None,
-            grouping: None,
+            written: CurrencyPattern {
+                pattern,
+                decimal: None,
+                grouping: None,
+            },
             currency: ShownCurrency::none(),
         }
     }
@@ -228,31 +221,26 @@ impl StyleParts {
     fn of(
         tag: &str,
         system: &str,
-        symbols: &DecimalSymbols<'static>,
+        sizes: GroupingSizes,
         formats: &NumberFormats,
         options: &NumberOptions,
     ) -> Self
         requires { AreFormatsOf tag.now system.now formats.now }
-        ensures { IsStyle tag.now system.now symbols.now formats.now options.now result }
+        ensures { IsStyle options.now.style options.now.notation tag.now system.now sizes formats.now
+            options.now.sign_display result.written result.currency }
     {
-        match (options.style, options.compact_style()) {
-            (NumberStyle::Decimal, _) => Self::without_currency(plain_pattern(symbols.sizes())),
-            (NumberStyle::Currency(style), _) => Self::of_currency(tag, system, options, &style),
-            (_, None) => Self::without_currency(*formats.percent()),
-            (_, Some(_)) => Self::without_currency(plain_pattern(symbols.sizes())),
-        }
-    }
-
-    fn of_currency(tag: &str, system: &str, options: &NumberOptions, style: &CurrencyStyle) -> Self
-        ensures { IsMoney tag.now system.now options.now style.now result }
-    {
-        let sign = options.currency_sign(style.sign);
-        let written = currency_pattern(tag, system, style.code, sign);
-        StyleParts {
-            pattern: written.pattern,
-            decimal: written.decimal,
-            grouping: written.grouping,
-            currency: ShownCurrency::of(tag, style).in_system(system),
+        match (options.style, options.notation) {
+            (NumberStyle::Currency(style), _) => {
+                let sign = currency_sign(options.sign_display, style.sign);
+                StyleParts {
+                    written: currency_pattern(tag, system, style.code, sign),
+                    currency: ShownCurrency::of(tag, &style).in_system(system),
+                }
+            }
+            (NumberStyle::Decimal, _) | (_, NumberNotation::Compact(_)) => {
+                Self::without_currency(plain_pattern(sizes))
+            }
+            _ => Self::without_currency(*formats.percent()),
         }
     }
 }

@@ -1,9 +1,14 @@
 //! Laws of digit options, of notations and of plain texts.
-ghost use Rattle.std.specs.Prelude.{◌≡◌, ℕ, ◌≤◌, List, Option, Some};
-ghost use Rattle.fixed_decimal.specs.Decimal.{Decimal};
+ghost use Rattle.std.specs.Prelude.{◌≡◌, ◌≢◌, ℕ, ◌≤◌, List, [], Option, Some};
+ghost use Rattle.decimal_unsigned.specs.Unsigned.{IsValue};
+ghost use Rattle.fixed_decimal.specs.Decimal.{Decimal, with_sign_display};
+ghost use Rattle.fixed_decimal.specs.declared.variations.SignDisplay.TheVariants.{Auto};
 ghost use Rattle.decimal_format.specs.declared.grouping.GroupingStrategy.{GroupingStrategy};
-ghost use Rattle.decimal_format.specs.Symbols.{Symbols};
-ghost use Rattle.number_format.specs.PlainTexts.{IsPlainText};
+ghost use Rattle.decimal_format.specs.declared.grouping.GroupingStrategy.TheVariants.{Always};
+ghost use Rattle.decimal_format.specs.Formatted.{formatted};
+ghost use Rattle.decimal_format.specs.Symbols.{Symbols, sign_affixes};
+ghost use Rattle.number_format.specs.Formatters.{plain_options, IsFormatterIn};
+ghost use Rattle.number_format.specs.NumberText.{IsNumberText};
 ghost use Rattle.number_format.specs.ShownDigits.{rounded_with, applied, IsFractional, KeepsDigits};
 ghost use Rattle.number_format.specs.Scaled.{KeepsExponent, KeepsValueOf};
 
@@ -51,10 +56,11 @@ pub fn the_value_is_the_rounded_number()
     ensures { (notation : Notation) (o : DigitOptions) (v : Decimal) → KeepsValueOf notation o v }
 {}
 
-/// With style `Decimal`, notation `Standard`, scale 0, sign display `Auto` and no digit options the text is that of
-/// `decimal_format` by the symbols of the locale, by each strategy but `Always`, which may group where the locale does
-/// not.
+/// By plain options the text is that of `decimal_format` by the symbols of the locale, if these have the minus sign
+/// before the number; by each strategy but `Always`, which may group where the locale does not.
 pub fn plain_texts_are_decimals()
     ensures { (tag system : List ℕ) (own : Symbols) (g : GroupingStrategy) (name : Option (List ℕ))
-        (f : NumberFormatter) (v : Decimal) (text : List ℕ) → IsPlainText tag system own g name f v text }
+        (f : NumberFormatter) (v : Decimal) (text : List ℕ) → IsFormatterIn tag system own (plain_options g name) f
+        → g ≢ Always → IsValue v.absolute → (sign_affixes own (with_sign_display v Auto).sign).suffix ≡ []
+        → IsNumberText f v text → text ≡ formatted own g (with_sign_display v Auto) }
 {}

@@ -1,21 +1,13 @@
 //! The texts of a name beside a number.
-ghost use Rattle.std.specs.Prelude.{◌≡◌, [], map, IfOk};
+ghost use Rattle.std.specs.Prelude.{◌≡◌, ◌++◌, [], map, IfOk};
 ghost use Rattle.std.specs.String.{string_bytes};
 ghost use Rattle.fixed_decimal.specs.declared.variations.Sign.TheVariants.{None};
-ghost use Rattle.number_format.specs.TypedReading.{form, form_of, beside, forms_of_name};
+ghost use Rattle.number_format.specs.NumberReading.{form, form_of, forms_of_name};
 
 use decimal_format::Alternative;
 use fixed_decimal::Sign;
 use std::alloc::{AllocError, Global};
 use std::marker::Model;
-
-/// The texts that name a number: the symbols and the code of a currency, or a percent sign.
-#[derive(Clone, Copy)]
-pub(crate) struct Names<'f> {
-    pub(crate) symbol: &'f str,
-    pub(crate) narrow: &'f str,
-    pub(crate) code: &'f str,
-}
 
 /// A name beside a number, with a space or without, or after a sign.
 pub(crate) struct NameTexts {
@@ -53,10 +45,12 @@ impl Drop for NameTexts {
 impl Model for NameTexts {
     ghost use Rattle.std.specs.Prelude.{List, [], ◌∷◌};
     ghost use Rattle.std.specs.String.{string_bytes};
+    ghost use Rattle.fixed_decimal.specs.declared.variations.Sign.{Sign};
     ghost use Rattle.fixed_decimal.specs.declared.variations.Sign.TheVariants.{None, Negative, Positive};
-    ghost use Rattle.number_format.specs.TypedReading.{Form, form};
+    ghost use Rattle.decimal_format.specs.Symbols.{Affixes};
+    ghost use Rattle.number_format.specs.NumberReading.{form};
 
-    ghost Value = { List Form };
+    ghost Value = { List (Affixes × Sign) };
 
     ghost view = { λ s.
         form (string_bytes s.plain) [] None ∷ form (string_bytes s.spaced) [] None
@@ -65,16 +59,14 @@ impl Model for NameTexts {
         ∷ form (string_bytes s.plus) [] Positive ∷ form (string_bytes s.plus_spaced) [] Positive ∷ [] };
 }
 
-fn beside(alloc: Global, before: &str, name: &str, after: &str) -> Result<String, AllocError>
-    ensures { IfOk result (λ t. string_bytes t ≡ beside before.now name.now after.now) }
+fn concat(alloc: Global, first: &str, second: &str) -> Result<String, AllocError>
+    ensures { IfOk result (λ t. string_bytes t ≡ first.now ++ second.now) }
 {
-    let mut text = String::from_str(alloc, before)?;
-    text.push_str(name)?;
-    text.push_str(after)?;
+    let mut text = String::from_str(alloc, first)?;
+    text.push_str(second)?;
     Ok(text)
 }
 
-/// Returns the alternative of a text before the number, which shows a sign.
 pub(crate) fn prefix(prefix: &str, sign: Sign) -> Alternative<'_>
     ensures { form_of result ≡ form prefix.now [] sign }
 {
@@ -99,13 +91,13 @@ impl NameTexts {
     pub(crate) fn new(alloc: Global, name: &str) -> Result<Self, AllocError>
         ensures { IfOk result (λ t. t ≡ forms_of_name name.now) }
     {
-        let plain = beside(alloc, "", name, "")?;
-        let spaced = beside(alloc, "", name, " ")?;
-        let after = beside(alloc, " ", name, "")?;
-        let minus = beside(alloc, "-", name, "")?;
-        let minus_spaced = beside(alloc, "-", name, " ")?;
-        let plus = beside(alloc, "+", name, "")?;
-        let plus_spaced = beside(alloc, "+", name, " ")?;
+        let plain = String::from_str(alloc, name)?;
+        let spaced = concat(alloc, name, " ")?;
+        let after = concat(alloc, " ", name)?;
+        let minus = concat(alloc, "-", name)?;
+        let minus_spaced = concat(alloc, "-", spaced.as_str())?;
+        let plus = concat(alloc, "+", name)?;
+        let plus_spaced = concat(alloc, "+", spaced.as_str())?;
         Ok(NameTexts {
             plain,
             spaced,
@@ -117,7 +109,6 @@ impl NameTexts {
         })
     }
 
-    /// Returns the texts as alternatives.
     pub(crate) fn alternatives(&self) -> [Alternative<'_>; 8]
         ensures { map form_of result ≡ self.now }
     {

@@ -1,13 +1,11 @@
 //! Readers of what formatters write.
-ghost use Rattle.std.specs.Prelude.{◌≡◌, ◌≢◌, ◌↔◌, ◌++◌, ◌-ℤ◌, pos, negsuc, map, IsTrue, IfOk, IfErr, OnOk};
-ghost use Rattle.number_format.specs.AffixedTexts.{IsShown, IsShownNumeral};
-ghost use Rattle.number_format.specs.NumberReading.{IsStandard, affixes_for, affixes_of_formatter, CanRead, CannotRead};
-ghost use Rattle.number_format.specs.ShiftedReading.{IsReadShifted};
-ghost use Rattle.number_format.specs.TypedReading.{is_percent, has_percent, percent_name, names_by, form_of, names_of, forms_of_names, number_reader_of, own_forms, typed_forms, IsReadLeniently, IsReadInMode};
+ghost use Rattle.std.specs.Prelude.{◌≡◌, ◌≢◌, ◌↔◌, ◌++◌, ◌∷◌, [], ◌-ℤ◌, pos, negsuc, map, flat_map, IsTrue, IfOk, IfErr, OnOk};
+ghost use Rattle.number_format.specs.AffixedTexts.{IsReadExactly};
+ghost use Rattle.number_format.specs.NumberReading.{IsStandard, affixes_for, affixes_of_formatter, CanRead, CannotRead, is_percent, has_percent, percent_name, names_by, form_of, forms_of_name, number_reader_of, typed_forms, IsReadLeniently, IsReadInMode};
 
 use crate::affixes::{AffixTexts, SignAffixes};
 use crate::compact_texts::NO_UNIT;
-use crate::name_texts::{NameTexts, Names, prefix};
+use crate::name_texts::{NameTexts, prefix};
 use crate::number_formatter::NumberFormatter;
 use crate::number_style::text_or_nothing;
 use crate::reader::{AffixError, AffixReader};
@@ -74,7 +72,7 @@ impl Drop for NumberReader {
 
 impl Model for NumberReader {
     ghost use Rattle.std.specs.Prelude.{◌++◌};
-    ghost use Rattle.number_format.specs.TypedReading.{NumberReader};
+    ghost use Rattle.number_format.specs.NumberReading.{NumberReader};
 
     ghost Value = { NumberReader };
 
@@ -116,7 +114,11 @@ impl NumberFormatter {
         let none = self.affix_texts(alloc, Sign::None)?;
         let negative = self.affix_texts(alloc, Sign::Negative)?;
         let positive = self.affix_texts(alloc, Sign::Positive)?;
-        Ok(SignAffixes::of_texts(none, negative, positive))
+        Ok(SignAffixes {
+            none,
+            negative,
+            positive,
+        })
     }
 
     fn percent_name(&self) -> &str
@@ -130,24 +132,15 @@ impl NumberFormatter {
         }
     }
 
-    fn names(&self) -> Names<'_>
-        ensures { names_of result ≡ names_by self.now self.now.currency.names }
+    fn names(&self) -> (&str, &str, &str)
+        ensures { result.0.now ∷ result.1.now ∷ result.2.now ∷ [] ≡ names_by self.now self.now.currency.names }
     {
         match &self.currency.names {
-            Some(names) => Names {
-                symbol: names.symbol,
-                narrow: names.narrow,
-                code: text_or_nothing(&names.code),
-            },
-            None => Names {
-                symbol: self.percent_name(),
-                narrow: "",
-                code: "",
-            },
+            Some(names) => (names.symbol, names.narrow, text_or_nothing(&names.code)),
+            None => (self.percent_name(), "", ""),
         }
     }
 
-    /// Returns the shift that undoes the scale, of a formatter whose notation is read.
     fn shift(&self) -> Result<i16, NumberReaderError>
         ensures value { IfOk result (λ shift. shift ≡ pos 0 -ℤ self.now.scale) }
         ensures standard { OnOk result (IsStandard self.now) }
@@ -164,12 +157,13 @@ impl NumberFormatter {
     }
 
     fn name_texts(&self, alloc: Global) -> Result<(NameTexts, NameTexts, NameTexts), AllocError>
-        ensures { IfOk result (λ t. t.0 ++ (t.1 ++ t.2) ≡ forms_of_names (names_by self.now self.now.currency.names)) }
+        ensures { IfOk result (λ t. t.0 ++ (t.1 ++ t.2)
+            ≡ flat_map forms_of_name (names_by self.now self.now.currency.names)) }
     {
-        let names = self.names();
-        let symbol = NameTexts::new(alloc, names.symbol)?;
-        let narrow = NameTexts::new(alloc, names.narrow)?;
-        let code = NameTexts::new(alloc, names.code)?;
+        let (symbol, narrow, code) = self.names();
+        let symbol = NameTexts::new(alloc, symbol)?;
+        let narrow = NameTexts::new(alloc, narrow)?;
+        let code = NameTexts::new(alloc, code)?;
         Ok((symbol, narrow, code))
     }
 
@@ -203,9 +197,8 @@ impl NumberFormatter {
 }
 
 impl NumberReader {
-    /// Returns the texts of the formatter, nothing, and parentheses for a minus sign.
     fn own_alternatives(&self) -> [Alternative<'_>; 5]
-        ensures { map form_of result ≡ own_forms self.now.texts }
+        ensures { map form_of result ++ self.now.names ≡ typed_forms self.now }
     {
         [
             self.reader.alternative(Sign::None),
@@ -250,8 +243,7 @@ impl NumberReader {
         alloc: Global,
         text: &[u8],
     ) -> Result<Signed<UnsignedOver<D>>, ParseError>
-        ensures { IsReadShifted D.L self.now.texts.shift (IsShownNumeral self.now.texts text.now)
-            (IsShown self.now.texts text.now) result }
+        ensures { IsReadExactly D.L self.now.texts text.now result }
     {
         self.reader.read(alloc, text)
     }

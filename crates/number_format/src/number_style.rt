@@ -1,9 +1,10 @@
 //! What a style of numbers writes: its pattern, its percent sign, and its currency.
-ghost use Rattle.std.specs.Prelude.{◌≡◌, ◌≤◌, length, map, true};
-ghost use Rattle.number_format.specs.NumberStyles.{affix_of, before, plain_pattern, percent_text, text_or_nothing, currency_text, capital, piece_or, ends_with_currency, begins_with_currency, has_spaces, in_system, IsHidden, IsNoCurrency, IsShownCode, IsShownSymbol, IsSymbolText, AreNamesOf, HasNamesOf, IsShownCurrency};
+ghost use Rattle.std.specs.Prelude.{◌≡◌, ◌≤◌, [], false, None, length, map, IsSomeAnd};
+ghost use Rattle.std.specs.Char.{to_ascii_uppercase};
+ghost use Rattle.number_format.specs.NumberStyles.{affix_of, before, plain_pattern, percent_text, text_or_nothing, currency_text, piece_or, ends_with_currency, begins_with_currency, in_system, IsShownBy, IsShownCode, IsShownSymbol, IsSymbolText, AreNamesOf, IsShownCurrency};
 ghost use Rattle.number_format.specs.TextParts.{part_pieces, pieces_of};
 
-use crate::number_options::{CurrencyDisplay, CurrencyStyle};
+use crate::number_options::{CurrencyDisplay, CurrencyStyle, NumberStyle};
 use crate::text_part::{PartKind, TextPart};
 use decimal_format::GroupingSizes;
 use locale_data::{
@@ -31,7 +32,6 @@ fn before(piece: Piece) -> AffixPair
     }
 }
 
-/// Returns the pattern of plain numbers: a sign before the number.
 pub(crate) fn plain_pattern(sizes: GroupingSizes) -> Pattern
     ensures { result ≡ plain_pattern sizes }
 {
@@ -44,26 +44,25 @@ pub(crate) fn plain_pattern(sizes: GroupingSizes) -> Pattern
     }
 }
 
-/// Returns the percent sign, or the per mille sign that belongs to it.
-pub(crate) fn percent_text(sign: PercentSign, is_permille: bool) -> &'static str
-    ensures value { result.now ≡ percent_text sign is_permille }
+pub(crate) fn percent_text(style: NumberStyle, sign: PercentSign) -> &'static str
+    ensures value { result.now ≡ percent_text style sign }
     ensures short { length result.now ≤ 255 }
 {
-    match (is_permille, sign) {
-        (false, _) => sign.text(),
-        (true, PercentSign::Percent | PercentSign::Enclosed | PercentSign::Tilde) => "\u{2030}",
-        (true, _) => "\u{609}",
+    match (style, sign) {
+        (
+            NumberStyle::Permille,
+            PercentSign::Percent | PercentSign::Enclosed | PercentSign::Tilde,
+        ) => "\u{2030}",
+        (NumberStyle::Permille, _) => "\u{609}",
+        _ => sign.text(),
     }
 }
 
 /// The texts that name a currency.
 #[derive(Clone, Copy, Debug)]
 pub(crate) struct CurrencyNames {
-    /// Its symbol; empty if it is not listed.
     pub(crate) symbol: &'static str,
-    /// Its narrow symbol; empty if it is not listed.
     pub(crate) narrow: &'static str,
-    /// Its code, in capitals.
     pub(crate) code: CurrencyCode,
 }
 
@@ -77,7 +76,7 @@ fn symbol_text(tag: &str, code: CurrencyCode, width: SymbolWidth) -> &'static st
 }
 
 fn capitals(code: CurrencyCode) -> CurrencyCode
-    ensures { result ≡ map capital code }
+    ensures { result ≡ map to_ascii_uppercase code }
 {
     let mut capitals = code;
     capitals.make_ascii_uppercase();
@@ -99,29 +98,14 @@ impl CurrencyNames {
 /// A currency as it is shown.
 #[derive(Clone, Copy, Debug)]
 pub(crate) struct ShownCurrency {
-    /// Its symbol, if not its code is shown.
     pub(crate) symbol: TextPart<'static>,
-    /// Its code, in capitals.
     pub(crate) code: [u8; 3],
-    /// Whether its code is shown.
     pub(crate) shows_code: bool,
-    /// Whether a space separates it from a digit before it.
     pub(crate) space_before: bool,
-    /// Whether a space separates it from a digit after it.
     pub(crate) space_after: bool,
-    /// The texts that name it.
     pub(crate) names: Option<CurrencyNames>,
 }
 
-/// Returns whether a space separates a digit of a numbering system from a currency: not in `hanidec`, whose digits are
-/// letters.
-fn has_spaces(system: &str) -> bool
-    ensures { result ≡ has_spaces system.now }
-{
-    system.as_bytes() != b"hanidec".as_slice()
-}
-
-/// Returns bytes as a text, or an empty text if they are none.
 pub(crate) fn text_or_nothing(bytes: &[u8]) -> &str
     ensures value { result.now ≡ text_or_nothing bytes.now }
     ensures short { length result.now ≤ length bytes.now }
@@ -133,7 +117,6 @@ pub(crate) fn text_or_nothing(bytes: &[u8]) -> &str
 }
 
 impl ShownCurrency {
-    /// Returns the text of the symbol or the code.
     pub(crate) fn text(&self) -> &str
         ensures value { result.now ≡ currency_text self.now }
         ensures short { length result.now ≤ 255 }
@@ -145,16 +128,15 @@ impl ShownCurrency {
         }
     }
 
-    /// Returns the symbol or the code.
     pub(crate) fn part(&self) -> TextPart<'_>
         ensures { part_pieces result ≡ pieces_of PartKind.Currency (currency_text self.now) }
     {
         TextPart::new(PartKind::Currency, self.text())
     }
 
-    /// Returns no currency.
     pub(crate) fn none() -> Self
-        ensures { IsNoCurrency result }
+        ensures shown { IsShownBy [] false false result }
+        ensures names { result.names ≡ None }
     {
         ShownCurrency {
             symbol: TextPart::empty(),
@@ -166,19 +148,9 @@ impl ShownCurrency {
         }
     }
 
-    fn hidden(tag: &str, code: CurrencyCode) -> Self
-        ensures shown { IsHidden result }
-        ensures names { HasNamesOf tag.now code result.names }
-    {
-        ShownCurrency {
-            names: Some(CurrencyNames::of(tag, code)),
-            ..Self::none()
-        }
-    }
-
     fn code(tag: &str, code: CurrencyCode) -> Self
         ensures shown { IsShownCode code result }
-        ensures names { HasNamesOf tag.now code result.names }
+        ensures names { IsSomeAnd result.names (AreNamesOf tag.now code) }
     {
         ShownCurrency {
             symbol: TextPart::empty(),
@@ -192,7 +164,7 @@ impl ShownCurrency {
 
     fn symbol(tag: &str, code: CurrencyCode, width: SymbolWidth) -> Self
         ensures shown { IsShownSymbol tag.now code width result }
-        ensures names { HasNamesOf tag.now code result.names }
+        ensures names { IsSomeAnd result.names (AreNamesOf tag.now code) }
     {
         let Some(symbol) = currency_symbol(tag, code, width) else {
             return Self::code(tag, code);
@@ -207,19 +179,17 @@ impl ShownCurrency {
         }
     }
 
-    /// Returns the currency as it is shown beside digits of a numbering system.
     pub(crate) fn in_system(self, system: &str) -> Self
         ensures { result ≡ in_system system.now self }
     {
-        let has_spaces = has_spaces(system);
+        let spaced = system.as_bytes() != b"hanidec".as_slice();
         ShownCurrency {
-            space_before: self.space_before && has_spaces,
-            space_after: self.space_after && has_spaces,
+            space_before: self.space_before && spaced,
+            space_after: self.space_after && spaced,
             ..self
         }
     }
 
-    /// Returns a currency as a style shows it for a tag.
     pub(crate) fn of(tag: &str, style: &CurrencyStyle) -> Self
         ensures { IsShownCurrency tag.now style.now result }
     {
@@ -227,7 +197,10 @@ impl ShownCurrency {
             CurrencyDisplay::Symbol => Self::symbol(tag, style.code, SymbolWidth::Wide),
             CurrencyDisplay::Narrow => Self::symbol(tag, style.code, SymbolWidth::Narrow),
             CurrencyDisplay::Code => Self::code(tag, style.code),
-            CurrencyDisplay::Hidden => Self::hidden(tag, style.code),
+            CurrencyDisplay::Hidden => ShownCurrency {
+                names: Some(CurrencyNames::of(tag, style.code)),
+                ..Self::none()
+            },
         }
     }
 }
@@ -241,7 +214,6 @@ fn piece_or(piece: Piece, other: Piece) -> Piece
     }
 }
 
-/// Returns whether the last piece of an affix is the currency.
 pub(crate) fn ends_with_currency(affix: Affix) -> bool
     ensures { result ≡ ends_with_currency affix }
 {
@@ -252,7 +224,6 @@ pub(crate) fn ends_with_currency(affix: Affix) -> bool
     matches!(last, Piece::Currency)
 }
 
-/// Returns whether the first piece of an affix is the currency.
 pub(crate) fn begins_with_currency(affix: Affix) -> bool
     ensures { result ≡ begins_with_currency affix }
 {

@@ -1,10 +1,9 @@
 //! Reading of numbers between affixes.
-ghost use Rattle.std.specs.Prelude.{◌≡◌, ◌≢◌, ℕ, List, ◌++◌, pos, IfOk, IfErr, MatchOption};
-ghost use Rattle.decimal_format.specs.Readable.{IsReadable, BeginsWithDigit, EndsWithDigit};
+ghost use Rattle.std.specs.Prelude.{◌≡◌, ◌≢◌, ℕ, List, ◌++◌, pos, Err, IfOk, MatchOption};
+ghost use Rattle.decimal_format.specs.Readable.{IsReadable};
 ghost use Rattle.decimal_format.specs.Reading.{IsRead};
-ghost use Rattle.number_format.specs.AffixedTexts.{by_sign, AreNamed, reader, Rejects, IsShown, IsShownNumeral, IsTypedWith, IsTypedNumeralWith, IsBetween};
-ghost use Rattle.number_format.specs.ShiftedReading.{IsReadShifted, IsShiftOf};
-ghost use Rattle.number_format.specs.TypedReading.{form_of, own_form};
+ghost use Rattle.number_format.specs.AffixedTexts.{by_sign, AreNamed, reader, shifted, IsShown, IsShownNumeral, IsTypedWith, IsTypedNumeralWith, IsBetween, IsReadExactly, IsReadTyped};
+ghost use Rattle.number_format.specs.NumberReading.{form_of};
 
 use crate::affixes::SignAffixes;
 use decimal_format::{Alternative, DecimalSymbols};
@@ -42,13 +41,13 @@ pub struct AffixReader<'a> {
 
 impl<'a> Model for AffixReader<'a> {
     ghost use Rattle.decimal_format.specs.Readable.{IsReadable};
-    ghost use Rattle.number_format.specs.AffixedTexts.{Reader, reader, by_sign, AreNamed};
+    ghost use Rattle.number_format.specs.AffixedTexts.{Reader, reader, AreNamed};
 
     ghost Value = { Reader };
 
     ghost view = { λ s. reader s.symbols s.affixes s.shift };
 
-    ghost invariant = { λ s. IsReadable s.symbols × AreNamed s.symbols (by_sign s.affixes) };
+    ghost invariant = { λ s. IsReadable s.symbols × AreNamed s.symbols s.affixes };
 }
 
 fn cut<'t>(text: &'t [u8], prefix: &[u8]) -> Option<&'t [u8]>
@@ -79,7 +78,7 @@ fn shifted<D: DigitStore>(
     read: Result<Signed<UnsignedOver<D>>, ParseError>,
     shift: i16,
 ) -> Result<Signed<UnsignedOver<D>>, ParseError>
-    ensures { IsShiftOf read shift result }
+    ensures { result ≡ shifted shift read }
 {
     let mut value = read?;
     match value.absolute.multiply_pow10(shift) {
@@ -97,8 +96,10 @@ impl<'a> AffixReader<'a> {
     /// - `Affixes`: they are, and the affixes do not [name the sign](SignAffixes::are_apart).
     pub fn new(symbols: DecimalSymbols<'a>, affixes: SignAffixes) -> Result<Self, AffixError>
         ensures ok { IfOk result (λ r. r ≡ reader symbols.entry affixes (pos 0)) }
-        ensures readable { IfOk result (λ r. IsReadable symbols.entry × AreNamed symbols.entry (by_sign affixes)) }
-        ensures err { IfErr result (λ e. Rejects e symbols.entry affixes) }
+        ensures readable { IfOk result (λ r. IsReadable symbols.entry × AreNamed symbols.entry affixes) }
+        ensures symbols { result ≡ Err AffixError.Symbols → ¬ IsReadable symbols.entry }
+        ensures affixes { result ≡ Err AffixError.Affixes
+            → IsReadable symbols.entry × ¬ AreNamed symbols.entry affixes }
     {
         if !symbols.is_readable() {
             return Err(AffixError::Symbols);
@@ -125,9 +126,8 @@ impl<'a> AffixReader<'a> {
         }
     }
 
-    /// Returns the affixes of a sign, as an alternative.
     pub(crate) fn alternative(&self, sign: Sign) -> Alternative<'_>
-        ensures { form_of result ≡ own_form self.now sign }
+        ensures { form_of result ≡ (by_sign self.now.affixes sign, sign) }
     {
         let affixes = self.affixes.of_sign(sign);
         Alternative {
@@ -200,8 +200,7 @@ impl<'a> AffixReader<'a> {
         alloc: Global,
         text: &[u8],
     ) -> Result<Signed<UnsignedOver<D>>, ParseError>
-        ensures { IsReadShifted D.L self.now.shift (IsShownNumeral self.now text.now)
-            (IsShown self.now text.now) result }
+        ensures { IsReadExactly D.L self.now text.now result }
     {
         shifted(self.read_shown(alloc, text), self.shift)
     }
@@ -239,8 +238,7 @@ impl<'a> AffixReader<'a> {
         alternatives: &[Alternative<'_>],
         text: &str,
     ) -> Result<Signed<UnsignedOver<D>>, ParseError>
-        ensures { IsReadShifted D.L self.now.shift (IsTypedNumeralWith self.now alternatives.now text.now)
-            (IsTypedWith self.now alternatives.now text.now) result }
+        ensures { IsReadTyped D.L self.now alternatives.now text.now result }
     {
         shifted(self.read_typed(alloc, alternatives, text), self.shift)
     }

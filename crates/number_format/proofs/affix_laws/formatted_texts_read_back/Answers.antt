@@ -1,7 +1,10 @@
-use Rattle.number_format.proofs.FormatterTexts.{reads_back}
+use Rattle.number_format.specs.NumberReading.{reader_of}
+use Rattle.number_format.proofs.FormatterTexts.{formatter_text}
+use Rattle.number_format.proofs.ReadBack.{reads}
 use Rattle.number_format.proofs.ShownValues.{shown_value}
 use Rattle.number_format.proofs.affix_laws.formatted_texts_read_back.Goals as goal
 
 pub returns : goal.returns
-returns c = λ f v u w text can valid is shown shifted.
-    reads_back f v u w text can is shown (shown_value f v u valid shown) shifted
+returns c = λ inline f v u text result can valid is shown.
+    reads inline (reader_of f) text u result (shown_value f v u valid shown)
+    (f.strategy, formatter_text f v u text can.standard is shown)

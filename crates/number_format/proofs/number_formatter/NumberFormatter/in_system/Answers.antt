@@ -1,30 +1,28 @@
-use Rattle.std.proofs.Common.{refl, ◌∙◌, ap, rules, w16, FitsSigned}
+use Rattle.std.proofs.Common.{refl, ◌∙◌, ap, subst, rules, w16, FitsSigned}
 use Rattle.std.proofs.lemmas.Int.{to_z-of_z}
-use Rattle.number_format.specs.Formatters.{style_sizes}
-use Rattle.number_format.specs.NumberStyles.{percent_text}
+use Rattle.number_format.specs.Formatters.{style_sizes, IsStyle}
 use Rattle.number_format.proofs.number_formatter.NumberFormatter.in_system.Goals as goal
 
 pub returns-clause-ok : goal.returns-clause-ok
 returns-clause-ok c =
     let o = c.args.options.now in
     let style = c.of-style.result in
-    let sizes = c.style_sizes-sizes.ensures ∙ ap (style_sizes style.pattern o.grouping) c.sizes.ensures in
+    let sizes = c.style_sizes-sizes.ensures ∙ ap (style_sizes style.written.pattern o.grouping) c.sizes-own.ensures in
     record {
       signs = c.signs-signs.result;
-      style_parts = style;
+      written = style.written;
       formats = c.formats_of-formats.ensures;
       signs_are = c.signs-signs.ensures;
       rules = c.in-Some.ensures.found;
-      style_is = c.of-style.ensures;
+      style_is =
+          subst (λ z. IsStyle o.style o.notation c.args.tag.now c.args.system.now z c.formats_of-formats.result
+          o.sign_display style.written style.currency) c.sizes-own.ensures c.of-style.ensures;
       symbols =
           c.with_sizes-symbols.ensures
           ∙ (λ i. record (c.with_separators.ensures i) { sizes = sizes i });
       strategy = refl;
       pattern = refl;
-      currency = refl;
-      percent =
-          c.new.ensures.text ∙ c.percent_text.ensures.value
-          ∙ ap (percent_text c.signs-signs.result.percent) c.is_permille.ensures;
+      percent = c.new.ensures.text ∙ c.percent_text.ensures.value;
       separator = c.new-2.ensures.text ∙ c.text.ensures;
       unit_is = c.compact_unit.ensures;
       scale = let fits : FitsSigned w16 o.scale = search rules in simp to_z-of_z;

@@ -1,12 +1,19 @@
-use Rattle.std.proofs.Common.{List, ℕ, subst, sym, ◌∙◌, ap}
-use Rattle.std.specs.Prelude.{Result, Ok, Err, IfOk}
+use Rattle.std.proofs.Common.{◌≡◌, List, ℕ, subst, sym, ◌∙◌, ap}
+use Rattle.std.specs.Prelude.{Option, Result, Ok, Err, IfOk, MatchOption}
 use Rattle.decimal_format.specs.Symbols.{Symbols}
+use Rattle.locale_data.specs.Locales.{IsLocale, IsLocaleIn, IsSystemName}
+use Rattle.locale_data.specs.Rows.{unpadded}
 use Rattle.number_format.specs.declared.number_formatter.NumberFormatError.{NumberFormatError}
 use Rattle.number_format.specs.declared.number_formatter.NumberFormatter.{NumberFormatter}
 use Rattle.number_format.specs.declared.number_options.NumberOptions.{NumberOptions}
-use Rattle.number_format.specs.Formatters.{IsInSystem, IsFormatterIn, IsFormatter}
+use Rattle.number_format.specs.Formatters.{IsFormatterIn, IsFormatter}
 use Rattle.number_format.specs.NumberStyles.{text_or_nothing}
 use Rattle.number_format.proofs.number_formatter.NumberFormatter.try_new.Goals as goal
+
+abbrev IsInSystem : List ℕ → Option (List ℕ) → List ℕ → Symbols → Type 0
+IsInSystem tag name system own =
+    MatchOption name (IsLocale tag own × IsSystemName tag system)
+    (λ n. IsLocaleIn tag system own × (system ≡ text_or_nothing (unpadded n)))
 
 formatter_by : (r : Result NumberFormatter NumberFormatError) (tag system : List ℕ) (own : Symbols) (o : NumberOptions)
     → IsInSystem tag o.numbering_system system own → IfOk r (λ f. IsFormatterIn tag system own o f)

@@ -1,7 +1,7 @@
 use Rattle.std.proofs.Common.{◌≡◌, Ok, Err, subst}
 use Rattle.decimal_format.specs.Readable.{IsReadable}
 use Rattle.decimal_format.specs.Reading.{IsNumeral, IsWritten, IsRead}
-use Rattle.number_format.specs.AffixedTexts.{Reader, reader, by_sign, AreNamed}
+use Rattle.number_format.specs.AffixedTexts.{Reader, reader, AreNamed}
 use Rattle.number_format.proofs.AffixedNumbers.{none_between, read_between}
 use Rattle.number_format.proofs.reader.AffixReader.read_shown.Goals as goal
 
@@ -9,7 +9,7 @@ pub returns-in_default : goal.returns-in_default
 returns-in_default g c = none_between c.args.self.now c.args.text.now g.D.DigitStore.L c.in_default.ensures
 
 abbrev CanRead : Reader → Type 0
-CanRead r = IsReadable r.symbols × AreNamed r.symbols (by_sign r.affixes)
+CanRead r = IsReadable r.symbols × AreNamed r.symbols r.affixes
 
 pub returns-in-Ok : goal.returns-in-Ok
 returns-in-Ok g c =
