@@ -9,6 +9,14 @@ pub mod SkeletonDecimalCosts
 pub mod SkeletonOptionCosts
 pub mod SkeletonLeast
 pub mod SkeletonGroups
+pub mod SkeletonNumerals
+pub mod SkeletonStemReads
+pub mod SkeletonTextReads
+pub mod SkeletonPrecisionReads
+pub mod SkeletonGroupReads
+pub mod SkeletonReadBack
+pub mod SkeletonTextLengths
+pub mod SkeletonFound
 pub mod NamedAffixes
 pub mod AffixedNumbers
 pub mod ReadBack

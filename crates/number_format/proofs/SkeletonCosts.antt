@@ -1,21 +1,25 @@
 -- The least number of bytes of the stems that give the choices of a skeleton, each with the white space after it.
-use Rattle.std.proofs.Common.{◌≡◌, ℕ, zero, suc, ◌+◌, ◌-◌, ◌<◌, ◌≤◌, max, Bool, true, false, refl, ap, sym, ◌∙◌, arith, List, [], ◌∷◌, ◌++◌, length, take, drop, length-drop, length-take, length-append}
-use Rattle.std.specs.Prelude.{◌==◌, nat_lt, nat_le, ◌&&◌, ◌||◌, not, if◌then◌else◌, is_some, unwrap_or, ℤ, pos, Option, Some, None, Result, Ok, Err}
+use Rattle.std.proofs.Common.{◌≡◌, ℕ, ◌+◌, ◌≤◌, max, Bool, true, false, refl, ap, arith, List, length, take}
+use Rattle.std.specs.Prelude.{◌==◌, nat_lt, ◌&&◌, ◌||◌, if◌then◌else◌, is_some, unwrap_or, ℤ, pos, codes, Option, Some, None, Result, Ok, Err}
+use Rattle.std.specs.Char.{to_ascii_uppercase}
 use Rattle.std.specs.List.{list_all}
 use Rattle.std.specs.Ordering.{int_eq}
-use Rattle.std.proofs.lemmas.Grind.{common_steps}
-use Rattle.std.proofs.lemmas.Bool.Decides.{nat_tests, Decides-int_eq}
+use Rattle.std.specs.Str.{bytes_eq}
+use Rattle.std.proofs.lemmas.Bool.Decides.{Decides-int_eq}
 use Rattle.decimal_format.specs.declared.grouping.GroupingStrategy.{GroupingStrategy}
 use Rattle.decimal_format.specs.declared.grouping.GroupingStrategy.TheVariants as grouping
 use Rattle.fixed_decimal.specs.declared.rounding.SignedRoundingMode.{SignedRoundingMode}
 use Rattle.fixed_decimal.specs.declared.variations.SignDisplay.{SignDisplay}
+use Rattle.fixed_decimal.specs.declared.variations.SignDisplay.TheVariants as display
 use Rattle.locale_data.specs.declared.currency.CurrencySign.{CurrencySign}
+use Rattle.locale_data.specs.declared.currency.CurrencySign.TheVariants as currency_sign
 use Rattle.number_format.specs.declared.number_options.CompactLength.TheVariants.{Short, Long}
 use Rattle.number_format.specs.declared.number_options.CurrencyDisplay.{CurrencyDisplay}
 use Rattle.number_format.specs.declared.number_options.CurrencyUsage.TheVariants as usage
 use Rattle.number_format.specs.declared.number_options.ExponentSign.{ExponentSign}
 use Rattle.number_format.specs.declared.number_options.ExponentSign.TheVariants as sign
 use Rattle.number_format.specs.declared.precision.Minimum.{Minimum}
+use Rattle.number_format.specs.declared.precision.Minimum.TheVariants.{Chosen, Both}
 use Rattle.number_format.specs.declared.settings.RoundingPriority.{RoundingPriority}
 use Rattle.number_format.specs.declared.settings.RoundingPriority.TheVariants.{LessPrecision}
 use Rattle.number_format.specs.declared.skeleton.SkeletonError.{SkeletonError}
@@ -30,15 +34,18 @@ use Rattle.number_format.specs.declared.skeleton.choices.ChosenUnit.{ChosenUnit}
 use Rattle.number_format.specs.declared.skeleton.choices.ChosenUnit.TheVariants as unit
 use Rattle.number_format.specs.declared.skeleton.choices.Exponent.{Exponent}
 use Rattle.number_format.specs.declared.skeleton.choices.Span.{Span}
-use Rattle.number_format.specs.declared.skeleton.choices.TwoCounts.{TwoCounts}
 use Rattle.number_format.specs.declared.skeleton.counts.Counts.{Counts}
 use Rattle.number_format.specs.declared.skeleton.decimal.SkeletonDecimal.{SkeletonDecimal}
 use Rattle.number_format.specs.declared.skeleton.stems.Expected.{Expected}
 use Rattle.number_format.specs.declared.skeleton.stems.Expected.TheVariants as expected
 use Rattle.number_format.specs.SkeletonChoices.{no_choices, has, with}
+use Rattle.number_format.specs.SkeletonCounts.{run}
 use Rattle.number_format.specs.SkeletonDigits.{increment_of_decimal}
 use Rattle.number_format.specs.SkeletonLengths.{exponent_length, scale_length, width_length, increment_length, priority_length, mode_length, sign_length, system_length}
 use Rattle.number_format.specs.SkeletonMeaning.{scale_power}
+use Rattle.number_format.specs.SkeletonOptions.{is_code_byte, decimal_system}
+use Rattle.number_format.specs.SkeletonStems.{is_name}
+use Rattle.number_format.proofs.SkeletonStemReads.{are_plain}
 
 -- ---- The least lengths of the stems of the groups.
 abbrev pub range_cost : ℕ → Option ℕ → ℕ
@@ -281,3 +288,76 @@ stem_at_most c s (choice.IsDecimalAlways always) expected.Stem p h = omega arith
 stem_at_most c s (choice.Scale d) expected.Scale p h =
     omega (arith, ap (style_cost c.unit) (none_is c.scale h))
 stem_at_most c s ch e p h = absurd (cc)
+
+-- ---- Choices that a text can make.
+abbrev pub is_capital : ℕ → Bool
+is_capital c = is_code_byte c && (to_ascii_uppercase c == c)
+
+abbrev pub is_code : List ℕ → Bool
+is_code code = (length code == 3) && list_all is_capital code
+
+abbrev pub is_same : Option (List ℕ) → List ℕ → Bool
+is_same None name = false
+is_same (Some other) name = bytes_eq other name
+
+-- the bytes of a numbering system's name, without the spaces after it
+abbrev pub system_bytes : List ℕ → List ℕ
+system_bytes name = take (run 33 126 name) name
+
+-- the text of a numbering system reads as this name
+abbrev pub is_system : List ℕ → Bool
+is_system name =
+    if is_name name (codes "latn") then bytes_eq (codes "latn            ") name
+    else nat_lt 0 (length (system_bytes name))
+    && (are_plain (system_bytes name) && is_same (decimal_system (system_bytes name)) name)
+
+abbrev pub one_if_both : Minimum → ℕ → Bool
+one_if_both Chosen least = true
+one_if_both Both least = least == 1
+
+abbrev pub is_fine : Choice → Bool
+is_fine (choice.Unit (unit.Currency code)) = is_code code
+is_fine (choice.Precision (precision.Both b)) = one_if_both b.minimum b.significant.min
+is_fine (choice.Sign display.Never currency_sign.Accounting) = false
+is_fine (choice.System (Some name)) = is_system name
+is_fine c = true
+
+abbrev pub fine_unit : Option (ChosenUnit × Span) → Bool
+fine_unit None = true
+fine_unit (Some (u, stem)) = is_fine (choice.Unit u)
+
+abbrev pub fine_precision : Option (ChosenPrecision × Span) → Bool
+fine_precision None = true
+fine_precision (Some (p, stem)) = is_fine (choice.Precision p)
+
+abbrev pub fine_sign : Option (SignDisplay × CurrencySign) → Bool
+fine_sign None = true
+fine_sign (Some (shown, sign)) = is_fine (choice.Sign shown sign)
+
+abbrev pub fine_system : Option (Option (List ℕ) × Span) → Bool
+fine_system None = true
+fine_system (Some (name, stem)) = is_fine (choice.System name)
+
+abbrev pub IsFine : Choices → Type 0
+IsFine c =
+    (fine_unit c.unit ≡ true) × (fine_precision c.precision ≡ true) × (fine_sign c.sign ≡ true)
+    × (fine_system c.system ≡ true)
+
+pub fine_with : (c : Choices) (s : Span) (ch : Choice) → IsFine c → is_fine ch ≡ true → IsFine (with s ch c)
+fine_with c s choice.Nothing h f = h
+fine_with c s (choice.Notation n) h f = h
+fine_with c s (choice.Unit u) h f = (f, h.1, h.2, h.3)
+fine_with c s choice.PercentTimes100 h f = (refl, h.1, h.2, h.3)
+fine_with c s choice.UnitPerUnit h f = (refl, h.1, h.2, h.3)
+fine_with c s choice.PerUnit h f = h
+fine_with c s choice.Usage h f = h
+fine_with c s (choice.Precision q) h f = (h.0, f, h.2, h.3)
+fine_with c s choice.StripIfInteger h f = h
+fine_with c s (choice.Mode m) h f = h
+fine_with c s (choice.Grouping g) h f = h
+fine_with c s (choice.Integer i) h f = h
+fine_with c s (choice.System n) h f = (h.0, h.1, h.2, f)
+fine_with c s (choice.Width w) h f = h
+fine_with c s (choice.Sign shown sign) h f = (h.0, h.1, f, h.3)
+fine_with c s (choice.IsDecimalAlways always) h f = h
+fine_with c s (choice.Scale d) h f = h

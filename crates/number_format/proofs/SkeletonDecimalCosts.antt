@@ -1,15 +1,12 @@
 -- The decimals of skeletons have at least the bytes that their values cost.
-use Rattle.std.proofs.Common.{◌≡◌, ◌≢◌, ℕ, zero, suc, ◌+◌, ◌-◌, ◌*◌, ◌%◌, ◌<◌, ◌≤◌, min, max, Bool, true, false, refl, ap, sym, ◌∙◌, subst, arith, List, [], ◌∷◌, ◌++◌, length, take, drop, length-drop, length-take, ◌⊎◌, inl, inr}
-use Rattle.std.specs.Prelude.{◌==◌, nat_lt, ◌&&◌, ◌||◌, not, if◌then◌else◌, slice_index, fold, cond, ℤ, pos, negsuc, neg_ℤ, ◌+ℤ◌, ◌-ℤ◌, int_lt, Option, Some, None, Result, Ok, Err}
-use Rattle.std.specs.List.{position_or_len}
-use Rattle.std.specs.Option.{option_map}
+use Rattle.std.proofs.Common.{◌≡◌, ◌≢◌, ℕ, zero, suc, ◌+◌, ◌-◌, ◌*◌, ◌%◌, ◌<◌, ◌≤◌, min, max, Bool, true, false, refl, ap, sym, ◌∙◌, subst, arith, List, [], ◌∷◌, ◌++◌, length, take, drop, length-drop, ◌⊎◌, inl, inr}
+use Rattle.std.specs.Prelude.{◌==◌, nat_lt, ◌&&◌, ◌||◌, not, if◌then◌else◌, slice_index, fold, ℤ, pos, negsuc, neg_ℤ, ◌+ℤ◌, ◌-ℤ◌, int_lt, Some, None, Ok, Err}
 use Rattle.std.specs.Ordering.{int_eq}
 use Rattle.std.proofs.Math.Numerals.{one-add, add-one}
 use Rattle.std.proofs.Math.Seq.{take-length, take-add}
 use Rattle.std.proofs.lemmas.List.Sums.{fold-append}
 use Rattle.std.proofs.lemmas.Bool.Decides.{nat_tests, Decides-int_eq}
 use Rattle.std.proofs.lemmas.Int.{ints}
-use Rattle.number_format.specs.declared.skeleton.SkeletonError.{SkeletonError}
 use Rattle.number_format.specs.declared.skeleton.choices.Span.{Span}
 use Rattle.number_format.specs.declared.skeleton.decimal.Significand.{Significand}
 use Rattle.number_format.specs.declared.skeleton.decimal.SkeletonDecimal.{SkeletonDecimal}
@@ -18,9 +15,8 @@ use Rattle.number_format.specs.SkeletonCounts.{is_outside, run}
 use Rattle.number_format.specs.SkeletonDecimals.{no_digits, with_byte, significand, sign_length, exponent_size, exponent, fraction_length, after_fraction, after_point, scaled, decimal}
 use Rattle.number_format.specs.SkeletonDigits.{unsupported, fraction_digits, unit_of_zeros, unit_of, multiples_of, increment_of_decimal}
 use Rattle.number_format.specs.SkeletonLengths.{decimal_length, power_length, scale_length, increment_length}
-use Rattle.number_format.specs.SkeletonMeaning.{scale_power}
 use Rattle.number_format.proofs.SkeletonCosts.{power_or_zero, power_of, increment_cost, or_left, or_right}
-use Rattle.number_format.proofs.SkeletonStemCosts.{if_some, unless_some, map_some, some_is, equal, run_at_most}
+use Rattle.number_format.proofs.SkeletonStemCosts.{unless_some, map_some, some_is, equal, run_at_most}
 
 -- ---- Numbers of digits.
 -- the numbers that have a number of digits

@@ -1,6 +1,6 @@
 -- The stems of options are no longer than the choices that are these options.
-use Rattle.std.proofs.Common.{◌≡◌, ℕ, zero, suc, ◌+◌, ◌-◌, ◌<◌, ◌≤◌, min, Bool, true, false, refl, ap, sym, ◌∙◌, subst, arith, List, [], ◌∷◌, length}
-use Rattle.std.specs.Prelude.{◌==◌, nat_lt, nat_le, ◌&&◌, ◌||◌, not, if◌then◌else◌, is_some, unwrap_or, find, ℤ, pos, Option, Some, None, Result, Ok, Err}
+use Rattle.std.proofs.Common.{◌≡◌, ℕ, ◌+◌, ◌≤◌, min, Bool, true, false, refl, ap, sym, ◌∙◌, subst, arith, List, length}
+use Rattle.std.specs.Prelude.{◌==◌, nat_lt, nat_le, ◌&&◌, ◌||◌, not, if◌then◌else◌, is_some, unwrap_or, ℤ, Option, Some, None, Result, Ok, Err}
 use Rattle.std.specs.List.{list_all}
 use Rattle.std.specs.Str.{bytes_eq}
 use Rattle.std.proofs.lemmas.Bool.Decides.{nat_tests}
@@ -24,7 +24,6 @@ use Rattle.number_format.specs.declared.number_options.NumberNotation.{NumberNot
 use Rattle.number_format.specs.declared.number_options.NumberNotation.TheVariants.{Standard, Scientific, Engineering, Compact}
 use Rattle.number_format.specs.declared.number_options.NumberStyle.{NumberStyle}
 use Rattle.number_format.specs.declared.number_options.NumberStyle.TheVariants as style
-use Rattle.number_format.specs.declared.precision.Minimum.TheVariants.{Chosen, Both}
 use Rattle.number_format.specs.declared.settings.RoundingPriority.{RoundingPriority}
 use Rattle.number_format.specs.declared.settings.RoundingPriority.TheVariants as priority
 use Rattle.number_format.specs.declared.skeleton.SkeletonError.{SkeletonError}
@@ -41,13 +40,13 @@ use Rattle.number_format.specs.declared.skeleton.choices.TwoCounts.{TwoCounts}
 use Rattle.number_format.specs.declared.skeleton.counts.Counts.{Counts}
 use Rattle.number_format.specs.declared.skeleton.decimal.SkeletonDecimal.{SkeletonDecimal}
 use Rattle.number_format.specs.DefaultDigits.{is_compact}
-use Rattle.number_format.specs.SkeletonDigits.{unsupported, PrecisionValue, Fraction, Multiples, Significant, More, Less, counts_within, fraction_of, significant_of, integer_of, increment_of_decimal, currency_of, by_priority, both_of, chosen_precision, is_compact as chooses_compact, default_precision, precision_by, precision_of, mode_of, trailing_zeros_of, DigitsValue, digits_of}
+use Rattle.number_format.specs.SkeletonDigits.{unsupported, PrecisionValue, Fraction, Multiples, Significant, counts_within, fraction_of, significant_of, integer_of, increment_of_decimal, currency_of, by_priority, both_of, chosen_precision, is_compact as chooses_compact, precision_by, precision_of, mode_of, trailing_zeros_of, DigitsValue, digits_of}
 use Rattle.number_format.specs.SkeletonLengths.{notation_length, width_length, style_length, fraction_length, beside_length, significant_length, precision_length, is_default, is_cash, strips, shown_precision_length, mode_length, integer_length, grouping_length, style_sign, sign_length, system_length, options_length}
 use Rattle.number_format.specs.SkeletonMeaning.{exponent_notation, notation_of, width_of, currency_sign_of, sign_display_of, usage_of, percent_style, style_by, style_of, scale_of, grouping_of, system_of, others_of, OptionsValue, options_of, skeleton_options}
 use Rattle.number_format.specs.SkeletonReading.{and_then, choices_of}
 use Rattle.number_format.proofs.SkeletonCosts.{counts_cost, beside_cost, range_cost, beside_range_cost, power_of, notation_cost, style_cost, precision_cost, increment_cost, strips_cost, mode_cost, grouping_cost, integer_cost, system_cost, width_cost, sign_cost, cost, power_or_zero}
 use Rattle.number_format.proofs.SkeletonStemCosts.{found}
-use Rattle.number_format.proofs.SkeletonLeast.{and_then_ok, Closed, choices_sound}
+use Rattle.number_format.proofs.SkeletonLeast.{and_then_ok, choices_sound}
 
 -- ---- Notations.
 exponent_fits :
@@ -68,7 +67,7 @@ exponent_fits e s v is = by_test (e.digits == 0 || nat_lt 65535 e.digits) e.is_e
       let same : ◌≡◌ {A = NumberNotation} (Scientific (record { digits = e.digits; sign = e.sign })) v = cc in
       rw (← same, w) (omega arith, refl)
 
-notation_fits :
+pub notation_fits :
     (n : Option (ChosenNotation × Span)) (v : NumberNotation) → notation_of n ≡ Ok v
     → (notation_length v ≤ notation_cost n) × (is_compact v ≡ chooses_compact n)
 notation_fits None v is =
@@ -82,7 +81,7 @@ notation_fits (Some (notation.Compact Long, s)) v is =
     let same : ◌≡◌ {A = NumberNotation} (Compact Long) v = cc in rw (← same) (omega arith, refl)
 
 -- ---- Numbers of digits.
-within_ok :
+pub within_ok :
     (low high : ℕ) (s : Span) (least greatest : ℕ) (v : ℕ × ℕ) → counts_within low high s least greatest ≡ Ok v
     → ((least, greatest) ≡ v) × ((low ≤ least) × ((least ≤ high) × (least ≤ greatest)))
 within_ok low high s least greatest v is =
@@ -152,7 +151,7 @@ few_digits c = nat_le c.digits 9
 all_few : list_all few_digits CURRENCIES ≡ true
 all_few = refl
 
-listed_few : (code : List ℕ) → (listed_digits (currency_with code)).digits ≤ 9
+pub listed_few : (code : List ℕ) → (listed_digits (currency_with code)).digits ≤ 9
 listed_few code = by_row (currency_with code) refl where
   by_row : (c : Option Currency) → currency_with code ≡ c → (listed_digits c).digits ≤ 9
   by_row None e = omega arith
@@ -224,7 +223,7 @@ chosen_fits u (precision.Increment d) s p n is = increment_fits d s p is
 
 -- ---- Styles.
 -- the style that a unit is
-abbrev style_for : Option (ChosenUnit × Span) → Choices → CurrencyDisplay → NumberStyle
+abbrev pub style_for : Option (ChosenUnit × Span) → Choices → CurrencyDisplay → NumberStyle
 style_for (Some (unit.Percent, s)) c w = style.Percent
 style_for (Some (unit.Permille, s)) c w = style.Permille
 style_for (Some (unit.Currency code, s)) c w =
@@ -249,7 +248,7 @@ permille_is :
 permille_is true s v e = absurd (cc)
 permille_is false s v e = ok_is _ v e
 
-style_is :
+pub style_is :
     (u : Option (ChosenUnit × Span)) (c : Choices) (w : CurrencyDisplay) (v : NumberStyle) → style_by u c w ≡ Ok v
     → style_for u c w ≡ v
 style_is None c w v e = ok_is _ v e

@@ -1,13 +1,7 @@
 -- No text that reads as options is shorter than the shortest stems for them.
-use Rattle.std.proofs.Common.{◌≡◌, ℕ, zero, suc, ◌+◌, ◌-◌, ◌<◌, ◌≤◌, Bool, true, false, refl, ap, sym, ◌∙◌, subst, arith, List, [], ◌∷◌, ◌++◌, length, take, length-take, length-append}
-use Rattle.std.specs.Prelude.{◌==◌, nat_lt, nat_le, ◌&&◌, ◌||◌, not, if◌then◌else◌, is_some, find, ℤ, pos, Option, Some, None, Result, Ok, Err}
-use Rattle.std.specs.List.{list_all}
-use Rattle.std.specs.Option.{option_map, option_and_then}
+use Rattle.std.proofs.Common.{◌≡◌, ℕ, ◌+◌, ◌-◌, ◌<◌, ◌≤◌, Bool, true, false, refl, ap, sym, subst, arith, List, [], ◌∷◌, ◌++◌, length, take, length-take, length-append}
+use Rattle.std.specs.Prelude.{◌==◌, if◌then◌else◌, is_some, Option, Some, None, Result, Ok, Err}
 use Rattle.std.proofs.lemmas.Bool.Decides.{nat_tests}
-use Rattle.decimal_format.specs.declared.grouping.GroupingStrategy.{GroupingStrategy}
-use Rattle.decimal_format.specs.declared.grouping.GroupingStrategy.TheVariants as grouping
-use Rattle.locale_data.specs.declared.currency.Currency.{Currency}
-use Rattle.locale_data.specs.declared.currency_table.TheConstants.{CURRENCIES}
 use Rattle.number_format.specs.declared.skeleton.SkeletonError.{SkeletonError}
 use Rattle.number_format.specs.declared.skeleton.choices.Choice.{Choice}
 use Rattle.number_format.specs.declared.skeleton.choices.Choice.TheVariants as choice
@@ -17,12 +11,12 @@ use Rattle.number_format.specs.declared.skeleton.reading.Reading.{Reading}
 use Rattle.number_format.specs.declared.skeleton.stems.Expected.{Expected}
 use Rattle.number_format.specs.declared.skeleton.stems.Expected.TheVariants as expected
 use Rattle.number_format.specs.declared.skeleton.stems.Meaning.{Meaning}
-use Rattle.number_format.specs.SkeletonChoices.{no_choices, has, with}
+use Rattle.number_format.specs.SkeletonChoices.{has, with}
 use Rattle.number_format.specs.SkeletonOptions.{option}
-use Rattle.number_format.specs.SkeletonReading.{Piece, separator_length, pieces, is_stem, needs_option, no_stems, read_stem, read_option, read_piece, at_end, after_piece, next, and_then, read_pieces, choices_of}
+use Rattle.number_format.specs.SkeletonReading.{separator_length, pieces, is_stem, needs_option, no_stems, read_stem, read_option, read_piece, after_piece, next, and_then, read_pieces, choices_of}
 use Rattle.number_format.specs.SkeletonStems.{stem}
-use Rattle.number_format.proofs.SkeletonCosts.{cost, open_cost, pairs, stem_at_most}
-use Rattle.number_format.proofs.SkeletonStemCosts.{stem_costs, map_some, then_some, unless_some, found}
+use Rattle.number_format.proofs.SkeletonCosts.{cost, open_cost, pairs, IsFine, fine_with, stem_at_most}
+use Rattle.number_format.proofs.SkeletonStemCosts.{stem_costs, map_some, then_some, unless_some}
 use Rattle.number_format.proofs.SkeletonOptionCosts.{takes_w, Sound, option_sound}
 
 pub and_then_ok :
@@ -85,6 +79,7 @@ stem_sound c s span text used after h is =
     subst (λ (r : Reading). Sound r.choices r.expected (used + (length text + 1))) same (record {
       few = omega (arith, h.few, few, costs.few);
       kept = kept_with c span m.0.choice m.0.expected costs.pair h.kept;
+      fine = fine_with c span m.0.choice h.fine costs.fine;
       chosen = chosen_with c span m.0.choice m.0.expected costs.pair;
     })
 
@@ -111,6 +106,7 @@ piece_at_stem c s span text used after true h is =
     subst (λ (r : Reading). Sound r.choices r.expected (used + (length text + 1))) same (record {
       few = omega (arith, h.few);
       kept = h.kept;
+      fine = h.fine;
       chosen = h.chosen;
     })
 piece_at_stem c s span text used after false h is = stem_sound c s span text used after h is
@@ -139,10 +135,11 @@ closed_at_most c (expected.Significant f) n = omega arith
 closed_at_most c expected.StripIfInteger n = omega arith
 closed_at_most c e n = absurd (cc)
 
--- choices whose cost is at most this, with `/w` only beside a precision
+-- choices that a text can make, whose cost is at most this, with `/w` only beside a precision
 pub record Closed (c : Choices) (used : ℕ) : Type 0 where
   pub few : cost c ≤ used
   pub kept : c.strips_if_integer ≡ true → is_some c.precision ≡ true
+  pub fine : IsFine c
 
 unless_err :
     (b : Bool) (e : SkeletonError) (x y : Reading) → (if b then Err e else Ok x) ≡ Ok y → (b ≡ false) × (x ≡ y)
@@ -170,10 +167,11 @@ next_sound r after start text slash used h is = by_piece (read_piece r start tex
       subst (λ (r : Reading). Sound r.choices r.expected (used + (length text + 1))) y.1 (record {
         few = omega (arith, sound.few, closed_at_most x.choices x.expected y.0);
         kept = sound.kept;
+        fine = sound.fine;
         chosen = λ w. absurd (cc);
       })
 
-last_expected :
+pub last_expected :
     (r after : Reading) (start : ℕ) (text : List ℕ) → next r start text false ≡ Ok after
     → after.expected ≡ expected.Stem
 unfolding next
@@ -202,6 +200,7 @@ text_sound [] bytes start r after used h is =
     subst (λ (a : Reading). Closed a.choices (used + (length bytes + length {A = ℕ} [] + 1))) same (record {
       few = omega (arith, closed);
       kept = sound.kept;
+      fine = sound.fine;
     })
 text_sound (c ∷ text) bytes start r after used h is =
     by_separator (separator_length (bytes ++ c ∷ []) == 0) refl
@@ -219,7 +218,7 @@ text_sound (c ∷ text) bytes start r after used h is =
           → Closed after.choices (used + (length bytes + length (c ∷ text) + 1))
       by_separator true none more is =
           let rest = more (bytes ++ c ∷ []) start r used h is in
-          record { few = omega (arith, rest.few, length-append bytes (c ∷ [])); kept = rest.kept }
+          record { few = omega (arith, rest.few, length-append bytes (c ∷ [])); kept = rest.kept; fine = rest.fine }
       by_separator false some more is =
           let longer = bytes ++ c ∷ [] in
           let piece = take (length longer - separator_length longer) longer in
@@ -237,6 +236,7 @@ text_sound (c ∷ text) bytes start r after used h is =
                   length-take (length longer - separator_length longer) longer,
                 );
             kept = rest.kept;
+            fine = rest.fine;
           }
 
 pub choices_sound :
@@ -246,6 +246,7 @@ choices_sound text c is =
     let begin : Sound no_stems.choices no_stems.expected 0 = record {
       few = omega arith;
       kept = λ w. absurd (cc);
+      fine = (refl, refl, refl, refl);
       chosen = λ w. absurd (cc);
     } in
     let sound = text_sound text [] 0 no_stems x.0 0 begin x.1 in
@@ -253,4 +254,5 @@ choices_sound text c is =
     subst (λ (d : Choices). Closed d (length text + 1)) same (record {
       few = omega (arith, sound.few);
       kept = sound.kept;
+      fine = sound.fine;
     })

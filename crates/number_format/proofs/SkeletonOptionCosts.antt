@@ -1,15 +1,16 @@
 -- An option of a stem has at least the bytes by which it makes the choices longer.
-use Rattle.std.proofs.Common.{◌≡◌, ℕ, zero, suc, ◌+◌, ◌-◌, ◌<◌, ◌≤◌, max, Bool, true, false, refl, ap, sym, ◌∙◌, subst, arith, List, [], ◌∷◌, length, drop, length-drop}
-use Rattle.std.specs.Prelude.{◌==◌, nat_lt, ◌&&◌, ◌||◌, not, if◌then◌else◌, is_some, is_none, slice_index, find, Option, Some, None}
+use Rattle.std.proofs.Common.{◌≡◌, ℕ, ◌+◌, ◌<◌, ◌≤◌, Bool, true, false, refl, ap, sym, ◌∙◌, subst, arith, List, [], ◌∷◌, length, drop, length-drop}
+use Rattle.std.specs.Prelude.{◌==◌, nat_lt, ◌&&◌, ◌||◌, if◌then◌else◌, is_some, slice_index, find, Option, Some, None}
+use Rattle.std.specs.Char.{to_ascii_uppercase}
 use Rattle.std.specs.List.{list_all}
-use Rattle.std.specs.Option.{option_map, option_and_then}
+use Rattle.std.proofs.lemmas.Bool.Decides.{nat_tests}
+use Rattle.std.proofs.lemmas.Str.Ascii.{uppercase-uppercase}
 use Rattle.locale_data.specs.declared.symbols.NumberingSystem.{NumberingSystem}
 use Rattle.locale_data.specs.declared.symbols_table.TheConstants.{NUMBERING_SYSTEMS}
 use Rattle.number_format.specs.declared.precision.Minimum.{Minimum}
 use Rattle.number_format.specs.declared.precision.Minimum.TheVariants as minimum
 use Rattle.number_format.specs.declared.settings.RoundingPriority.{RoundingPriority}
 use Rattle.number_format.specs.declared.settings.RoundingPriority.TheVariants.{MorePrecision, LessPrecision}
-use Rattle.number_format.specs.declared.skeleton.choices.Choice.{Choice}
 use Rattle.number_format.specs.declared.skeleton.choices.Choice.TheVariants as choice
 use Rattle.number_format.specs.declared.skeleton.choices.Choices.{Choices}
 use Rattle.number_format.specs.declared.skeleton.choices.ChosenNotation.TheVariants as notation
@@ -25,10 +26,10 @@ use Rattle.number_format.specs.declared.skeleton.stems.Meaning.{Meaning}
 use Rattle.number_format.specs.SkeletonChoices.{with}
 use Rattle.number_format.specs.SkeletonCounts.{run, is_byte, is_wild}
 use Rattle.number_format.specs.SkeletonDecimals.{decimal}
-use Rattle.number_format.specs.SkeletonLengths.{scale_length, system_length}
-use Rattle.number_format.specs.SkeletonOptions.{last, changed_exponent, exponent_option, currency_option, integer_option, decimal_system, system_option, scale_option, increment_option, both, from_to, strip_option, significant_option, option}
+use Rattle.number_format.specs.SkeletonLengths.{system_length}
+use Rattle.number_format.specs.SkeletonOptions.{last, changed_exponent, exponent_option, is_code_byte, currency_option, integer_option, decimal_system, system_option, scale_option, increment_option, both, from_to, strip_option, significant_option, option}
 use Rattle.number_format.specs.SkeletonStems.{is_name}
-use Rattle.number_format.proofs.SkeletonCosts.{unit_cost, style_cost, style_at_most, priority_cost, integer_range_cost, cost, open_cost, pairs}
+use Rattle.number_format.proofs.SkeletonCosts.{unit_cost, style_cost, style_at_most, priority_cost, integer_range_cost, cost, open_cost, is_capital, is_code, is_system, one_if_both, is_fine, IsFine}
 use Rattle.number_format.proofs.SkeletonDecimalCosts.{scale_at_most, increment_at_most}
 use Rattle.number_format.proofs.SkeletonStemCosts.{some_is, map_some, then_some, unless_some, found, name_at_most, run_at_most, wild_length, and_left, changed_at_most, exponent_at_most, equal}
 
@@ -43,6 +44,7 @@ takes_w e = false
 pub record Sound (c : Choices) (e : Expected) (used : ℕ) : Type 0 where
   pub few : open_cost c e ≤ used
   pub kept : c.strips_if_integer ≡ true → is_some c.precision ≡ true
+  pub fine : IsFine c
   pub chosen : takes_w e ≡ true → is_some c.precision ≡ true
 
 -- choices that a meaning makes
@@ -82,6 +84,49 @@ system_at_most text = by_system (decimal_system text) refl where
       choose_length (is_name name (108 ∷ 97 ∷ 116 ∷ 110 ∷ [])) (run 33 126 name) (length text)
       (name_at_most name text named)
 
+capital_is : (c : ℕ) → is_code_byte c ≡ true → is_capital (to_ascii_uppercase c) ≡ true
+capital_is c e =
+    let byte : is_code_byte (to_ascii_uppercase c) ≡ true = grind (arith, nat_tests) in
+    let same : (to_ascii_uppercase (to_ascii_uppercase c) == to_ascii_uppercase c) ≡ true =
+    rw (uppercase-uppercase c) (grind (arith, nat_tests)) in
+    rw (byte, same) refl
+
+four_are : (a b c d : Bool) → (a && b && c && d) ≡ true → (b ≡ true) × ((c ≡ true) × (d ≡ true))
+four_are true true true true e = (refl, (refl, refl))
+four_are false b c d e = absurd (cc)
+four_are true false c d e = absurd (cc)
+four_are true true false d e = absurd (cc)
+four_are true true true false e = absurd (cc)
+
+code_is :
+    (text : List ℕ)
+    → ((length text == 3) && is_code_byte (slice_index text 0) && is_code_byte (slice_index text 1)
+    && is_code_byte (slice_index text 2)) ≡ true
+    → is_code (to_ascii_uppercase (slice_index text 0) ∷ to_ascii_uppercase (slice_index text 1)
+    ∷ to_ascii_uppercase (slice_index text 2) ∷ []) ≡ true
+code_is text e =
+    let x = four_are (length text == 3) _ _ _ e in
+    rw (
+      capital_is (slice_index text 0) x.0,
+      capital_is (slice_index text 1) x.1.0,
+      capital_is (slice_index text 2) x.1.1,
+    ) refl
+
+abbrev is_system_row : NumberingSystem → Bool
+is_system_row s = is_system s.name
+
+all_systems : list_all is_system_row NUMBERING_SYSTEMS ≡ true
+all_systems = refl
+
+system_is : (text : List ℕ) → is_fine (choice.System (decimal_system text)) ≡ true
+system_is text = by_system (decimal_system text) refl where
+  by_system : (o : Option (List ℕ)) → decimal_system text ≡ o → is_fine (choice.System o) ≡ true
+  by_system None e = refl
+  by_system (Some name) e =
+      let x = map_some (λ (s : NumberingSystem). s.name) (find (λ s. is_name s.name text) NUMBERING_SYSTEMS) name e in
+      let row = found (λ (s : NumberingSystem). is_name s.name text) is_system_row NUMBERING_SYSTEMS x.0 all_systems x.1
+      in ap is_system (sym x.2) ∙ row.1
+
 none_scale : (u : Option (ChosenUnit × Span)) → unit_cost u ≤ style_cost u None
 none_scale u = grind arith
 
@@ -97,6 +142,7 @@ module _ (c : Choices) (s : Span) (text : List ℕ) (m : Meaning) (some : 0 < le
       subst (SoundWith c s (used + (length text + 1))) x.1 (record {
         few = omega arith;
         kept = λ _. chosen;
+        fine = h.fine;
         chosen = λ w. absurd (cc);
       })
 
@@ -111,6 +157,7 @@ module _ (c : Choices) (s : Span) (text : List ℕ) (m : Meaning) (some : 0 < le
       subst (SoundWith c s (used + (length text + 1))) x.2 (record {
         few = omega (arith, h.few, changed_at_most e x.0 text some x.1, exponent_at_most x.0 s);
         kept = h.kept;
+        fine = h.fine;
         chosen = λ w. absurd (cc);
       })
 
@@ -122,6 +169,7 @@ module _ (c : Choices) (s : Span) (text : List ℕ) (m : Meaning) (some : 0 < le
       subst (SoundWith c s (used + (length text + 1))) x.1 (record {
         few = omega (arith, h.few);
         kept = h.kept;
+        fine = (code_is text x.0, h.fine.1, h.fine.2, h.fine.3);
         chosen = λ w. absurd (cc);
       })
 
@@ -142,6 +190,7 @@ module _ (c : Choices) (s : Span) (text : List ℕ) (m : Meaning) (some : 0 < le
               (omega (arith, length-drop (if is_least then 1 else run 35 35 text) text)),
         );
         kept = h.kept;
+        fine = h.fine;
         chosen = λ w. absurd (cc);
       })
 
@@ -152,6 +201,7 @@ module _ (c : Choices) (s : Span) (text : List ℕ) (m : Meaning) (some : 0 < le
       subst (SoundWith c s (used + (length text + 1))) (some_is _ m x.1) (record {
         few = omega (arith, h.few, system_at_most text);
         kept = h.kept;
+        fine = (h.fine.0, h.fine.1, h.fine.2, system_is text);
         chosen = λ w. absurd (cc);
       })
 
@@ -169,6 +219,7 @@ module _ (c : Choices) (s : Span) (text : List ℕ) (m : Meaning) (some : 0 < le
               scale_at_most text x.0 s x.1,
             );
         kept = h.kept;
+        fine = h.fine;
         chosen = λ w. absurd (cc);
       })
 
@@ -182,17 +233,20 @@ module _ (c : Choices) (s : Span) (text : List ℕ) (m : Meaning) (some : 0 < le
       subst (SoundWith c s (used + (length text + 1))) x.2 (record {
         few = omega (arith, h.few, increment_at_most text x.0 s x.1);
         kept = λ _. refl;
+        fine = (h.fine.0, refl, h.fine.2, h.fine.3);
         chosen = λ _. refl;
       })
 
   both_sound :
       (f : Counts) (least greatest : ℕ) (priority : RoundingPriority) (shown : Minimum)
       → Sound c (expected.Significant f) used → greatest + priority_cost priority shown ≤ length text
-      → both f (from_to least greatest) priority shown ≡ Some m → SoundWith c s (used + (length text + 1)) m
-  both_sound f least greatest priority shown h few is =
+      → one_if_both shown least ≡ true → both f (from_to least greatest) priority shown ≡ Some m
+      → SoundWith c s (used + (length text + 1)) m
+  both_sound f least greatest priority shown h few fine is =
       subst (SoundWith c s (used + (length text + 1))) (some_is _ m is) (record {
         few = omega (arith, h.few);
         kept = λ _. refl;
+        fine = (h.fine.0, fine, h.fine.2, h.fine.3);
         chosen = λ _. refl;
       })
 
@@ -210,13 +264,13 @@ module _ (c : Choices) (s : Span) (text : List ℕ) (m : Meaning) (some : 0 < le
   significant_by f true wild single more less l g h w n r q is =
       strip_sound (expected.Significant f) h (omega (arith, h.few)) (h.chosen refl) is
   significant_by f false true single more less l g h w n r q is =
-      both_sound f 1 l MorePrecision minimum.Both h (w refl) is
+      both_sound f 1 l MorePrecision minimum.Both h (w refl) refl is
   significant_by f false false true more less l g h w n r q is =
-      both_sound f 1 g LessPrecision minimum.Both h (omega arith) is
+      both_sound f 1 g LessPrecision minimum.Both h (omega arith) refl is
   significant_by f false false false true less l g h w n r q is =
-      both_sound f l g MorePrecision minimum.Chosen h (r refl) is
+      both_sound f l g MorePrecision minimum.Chosen h (r refl) refl is
   significant_by f false false false false true l g h w n r q is =
-      both_sound f l g LessPrecision minimum.Chosen h (q refl) is
+      both_sound f l g LessPrecision minimum.Chosen h (q refl) refl is
   significant_by f false false false false false l g h w n r q is = absurd (cc)
 
   significant_sound :
@@ -249,6 +303,7 @@ module _ (c : Choices) (s : Span) (text : List ℕ) (m : Meaning) (some : 0 < le
       subst (SoundWith c s (used + (length text + 1))) (some_is _ m is) (record {
         few = omega (arith, h.few);
         kept = h.kept;
+        fine = h.fine;
         chosen = λ w. absurd (cc);
       })
   option_sound (expected.Significant f) h is = significant_sound f h is

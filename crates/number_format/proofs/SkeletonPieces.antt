@@ -40,13 +40,13 @@ drop_first :
     (text : List ℕ) (i : ℕ) → i < length text → drop i text ≡ get_or text i 0 ∷ drop (i + 1) text
 drop_first text i inside = rw (add-one, drop-cons text i 0)
 
-pieces_more :
+pub pieces_more :
     (start : ℕ) (bytes : List ℕ) (c : ℕ) (rest : List ℕ) → separator_length (bytes ++ c ∷ []) ≡ 0
     → pieces start bytes (c ∷ rest) ≡ pieces start (bytes ++ c ∷ []) rest
 unfolding pieces
 pieces_more start bytes c rest none = rw none
 
-pieces_next :
+pub pieces_next :
     (start : ℕ) (bytes : List ℕ) (c : ℕ) (rest : List ℕ) → (separator_length (bytes ++ c ∷ []) == 0) ≡ false
     → pieces start bytes (c ∷ rest)
     ≡ ended start (bytes ++ c ∷ []) c ∷ pieces (start + length (bytes ++ c ∷ [])) [] rest
@@ -80,7 +80,7 @@ from_next text start i ordered inside some =
     ∙ ap (λ n. ended start (between text start (i + 1)) (get_or text i 0)
     ∷ pieces (i + 1) (take n (drop (i + 1) text)) (drop (i + 1) text)) (sym none)
 
-pieces_last :
+pub pieces_last :
     (start : ℕ) (bytes : List ℕ)
     → pieces start bytes [] ≡ record { start = start; bytes = bytes; ends_in_slash = false } ∷ []
 unfolding pieces
@@ -96,7 +96,7 @@ from_end text start i ended =
     ap (pieces start (between text start i)) none ∙ pieces_last start (between text start i)
     ∙ ap (λ k. record { start = start; bytes = between text start k; ends_in_slash = false } ∷ []) ended
 
-read_next :
+pub read_next :
     (r after : Reading) (p : Piece) (ps : List Piece) → next r p.start p.bytes p.ends_in_slash ≡ Ok after
     → read_pieces r (p ∷ ps) ≡ read_pieces after ps
 unfolding read_pieces
@@ -108,7 +108,7 @@ read_error :
 unfolding read_pieces
 read_error r e p ps is = ap (and_then (λ n. read_pieces n ps)) is
 
-read_none : (r : Reading) → read_pieces r [] ≡ Ok r
+pub read_none : (r : Reading) → read_pieces r [] ≡ Ok r
 unfolding read_pieces
 read_none r = refl
 

@@ -1,16 +1,12 @@
 -- A stem, or an option, has at least the bytes that its choice costs.
-use Rattle.std.proofs.Common.{◌≡◌, ◌≢◌, ℕ, zero, suc, ◌+◌, ◌-◌, ◌<◌, ◌≤◌, max, Bool, true, false, refl, ap, sym, ◌∙◌, subst, arith, List, [], ◌∷◌, ◌++◌, length, take, drop, get_or, length-drop, length-take, length-append, ◌⊎◌, inl, inr}
-use Rattle.std.specs.Prelude.{◌==◌, nat_lt, nat_le, ◌&&◌, ◌||◌, not, if◌then◌else◌, is_some, is_none, slice_index, find, unwrap_or, ℤ, pos, Option, Some, None, Result, Ok, Err}
+use Rattle.std.proofs.Common.{◌≡◌, ◌≢◌, ℕ, ◌+◌, ◌<◌, ◌≤◌, Bool, true, false, refl, ap, sym, ◌∙◌, subst, arith, List, [], ◌∷◌, length, drop, get_or, length-drop, ◌⊎◌, inl, inr}
+use Rattle.std.specs.Prelude.{◌==◌, nat_lt, nat_le, ◌&&◌, ◌||◌, not, if◌then◌else◌, is_some, is_none, slice_index, find, unwrap_or, Option, Some, None}
 use Rattle.std.specs.List.{list_all, position_or_len}
 use Rattle.std.specs.Option.{option_map, option_and_then}
-use Rattle.std.proofs.lemmas.Grind.{common_steps}
 use Rattle.std.proofs.lemmas.Bool.Decides.{nat_tests}
 use Rattle.std.proofs.lemmas.List.Sums.{fails_before_first, prefix_len-le-length}
-use Rattle.locale_data.specs.declared.symbols_table.TheConstants.{NUMBERING_SYSTEMS}
 use Rattle.number_format.specs.declared.number_options.ExponentSign.{ExponentSign}
 use Rattle.number_format.specs.declared.number_options.ExponentSign.TheVariants as sign
-use Rattle.number_format.specs.declared.precision.Minimum.{Minimum}
-use Rattle.number_format.specs.declared.settings.RoundingPriority.{RoundingPriority}
 use Rattle.number_format.specs.declared.skeleton.choices.Choice.TheVariants as choice
 use Rattle.number_format.specs.declared.skeleton.choices.Choices.{Choices}
 use Rattle.number_format.specs.declared.skeleton.choices.ChosenNotation.TheVariants as notation
@@ -18,18 +14,17 @@ use Rattle.number_format.specs.declared.skeleton.choices.ChosenPrecision.TheVari
 use Rattle.number_format.specs.declared.skeleton.choices.Exponent.{Exponent}
 use Rattle.number_format.specs.declared.skeleton.choices.Span.{Span}
 use Rattle.number_format.specs.declared.skeleton.counts.Counts.{Counts}
-use Rattle.number_format.specs.declared.skeleton.decimal.SkeletonDecimal.{SkeletonDecimal}
 use Rattle.number_format.specs.declared.skeleton.stems.Expected.{Expected}
 use Rattle.number_format.specs.declared.skeleton.stems.Expected.TheVariants as expected
 use Rattle.number_format.specs.declared.skeleton.stems.Meaning.{Meaning}
 use Rattle.number_format.specs.declared.skeleton.stems.StemWord.{StemWord}
 use Rattle.number_format.specs.declared.skeleton.stems.TheConstants.{STEMS}
-use Rattle.number_format.specs.SkeletonChoices.{no_choices, has, with}
-use Rattle.number_format.specs.SkeletonCounts.{run, is_outside, is_byte, is_wild, counts}
-use Rattle.number_format.specs.SkeletonLengths.{exponent_length, scale_length, system_length}
-use Rattle.number_format.specs.SkeletonOptions.{chosen_exponent_sign, sign_option, changed_exponent, decimal_system}
+use Rattle.number_format.specs.SkeletonChoices.{no_choices, with}
+use Rattle.number_format.specs.SkeletonCounts.{run, is_outside, is_wild, counts}
+use Rattle.number_format.specs.SkeletonLengths.{exponent_length}
+use Rattle.number_format.specs.SkeletonOptions.{chosen_exponent_sign, sign_option, changed_exponent}
 use Rattle.number_format.specs.SkeletonStems.{is_name, named, is_any, precision_of, beside_significant, fraction_stem, significant_stem, exponent_sign, exponent_stem, integer_stem, stem}
-use Rattle.number_format.proofs.SkeletonCosts.{range_cost, counts_cost, beside_range_cost, beside_cost, cost, open_cost, pairs, stem_at_most, word_cost, precision_cost, notation_cost, short_word, long_word, sign_option_cost, or_left}
+use Rattle.number_format.proofs.SkeletonCosts.{range_cost, counts_cost, beside_range_cost, open_cost, pairs, is_fine, word_cost, notation_cost, short_word, long_word, sign_option_cost, or_left}
 
 -- ---- Tests and options.
 pub if_some :
@@ -61,9 +56,14 @@ pub and_left : (a b : Bool) → (a && b) ≡ true → a ≡ true
 and_left true b e = refl
 and_left false b e = absurd (cc)
 
-and_right : (a b : Bool) → (a && b) ≡ true → b ≡ true
+pub and_right : (a b : Bool) → (a && b) ≡ true → b ≡ true
 and_right true b e = e
 and_right false b e = absurd (cc)
+
+three_are : (a b c : Bool) → (a && b && c) ≡ true → (a ≡ true) × (b ≡ true) × (c ≡ true)
+three_are true true c e = (refl, refl, e)
+three_are true false c e = absurd (cc)
+three_are false b c e = absurd (cc)
 
 pub equal : (a b : ℕ) → (a == b) ≡ true → a ≡ b
 equal a b e = grind (arith, nat_tests)
@@ -113,11 +113,12 @@ name_at_most padded text is =
 -- a meaning costs no more than this number of bytes and the white space after them
 pub record Costs (s : Span) (n : ℕ) (m : Meaning) : Type 0 where
   pub pair : pairs m.choice m.expected ≡ true
+  pub fine : is_fine m.choice ≡ true
   pub few : open_cost (with s m.choice no_choices) m.expected ≤ n + 1
 
 abbrev fits : Span → StemWord → Bool
 fits s w =
-    pairs w.choice w.expected
+    pairs w.choice w.expected && is_fine w.choice
     && nat_le (open_cost (with s w.choice no_choices) w.expected) (word_length w.text + 1)
 
 all_fit : (s : Span) → list_all (fits s) STEMS ≡ true
@@ -133,9 +134,12 @@ named_costs s text m is =
     (find (λ w. is_name w.text text) STEMS) m is in
     let row = found (λ (w : StemWord). is_name w.text text) (fits s) STEMS x.0 (all_fit s) x.1 in
     let size = word_at_most x.0.text text row.0 in
+    let all = three_are (pairs x.0.choice x.0.expected) (is_fine x.0.choice)
+    (nat_le (open_cost (with s x.0.choice no_choices) x.0.expected) (word_length x.0.text + 1)) row.1 in
     subst (Costs s (length text)) x.2 (record {
-      pair = and_left (pairs x.0.choice x.0.expected) _ row.1;
-      few = omega (arith, at_most _ _ (and_right (pairs x.0.choice x.0.expected) _ row.1), size);
+      pair = all.0;
+      fine = all.1;
+      few = omega (arith, at_most _ _ all.2, size);
     })
 
 -- ---- Numbers of digits.
@@ -194,8 +198,8 @@ fraction_cases :
       choice = choice.Precision (if any then precision.Unlimited else precision.Fraction c);
       expected = expected.Significant (if any then record { min = 0; max = Some 0 } else c);
     })
-fraction_cases s true c n e h = record { pair = refl; few = omega (arith, any_cost c.min c.max e) }
-fraction_cases s false c n e h = record { pair = refl; few = omega (arith, some_cost c.min c.max e) }
+fraction_cases s true c n e h = record { pair = refl; fine = refl; few = omega (arith, any_cost c.min c.max e) }
+fraction_cases s false c n e h = record { pair = refl; fine = refl; few = omega (arith, some_cost c.min c.max e) }
 
 fraction_costs :
     (s : Span) (text : List ℕ) (m : Meaning) → 0 < length text → fraction_stem text ≡ Some m
@@ -217,6 +221,7 @@ significant_costs s text m is =
     }) (counts 64 35 text) m is in
     subst (Costs s (length text)) x.2 (record {
       pair = refl;
+      fine = refl;
       few = omega (arith, counts_at_most 64 35 text x.0 x.1);
     })
 
@@ -227,7 +232,7 @@ integer_costs s text m is =
       choice = choice.Integer (record { min = length text; max = None });
       expected = expected.Stem;
     })) m is in
-    subst (Costs s (length text)) (some_is _ m x.1) (record { pair = refl; few = omega arith })
+    subst (Costs s (length text)) (some_is _ m x.1) (record { pair = refl; fine = refl; few = omega arith })
 
 abbrev signed_by : Bool → Bool → Option ExponentSign
 signed_by always auto = if always then Some sign.Always else if auto then Some sign.Auto else None
@@ -244,12 +249,12 @@ exponent_cases :
       }));
       expected = expected.Stem;
     })
-exponent_cases s true true auto digits n h = record { pair = refl; few = omega arith }
-exponent_cases s true false true digits n h = record { pair = refl; few = omega arith }
-exponent_cases s true false false digits n h = record { pair = refl; few = omega arith }
-exponent_cases s false true auto digits n h = record { pair = refl; few = omega arith }
-exponent_cases s false false true digits n h = record { pair = refl; few = omega arith }
-exponent_cases s false false false digits n h = record { pair = refl; few = omega arith }
+exponent_cases s true true auto digits n h = record { pair = refl; fine = refl; few = omega arith }
+exponent_cases s true false true digits n h = record { pair = refl; fine = refl; few = omega arith }
+exponent_cases s true false false digits n h = record { pair = refl; fine = refl; few = omega arith }
+exponent_cases s false true auto digits n h = record { pair = refl; fine = refl; few = omega arith }
+exponent_cases s false false true digits n h = record { pair = refl; fine = refl; few = omega arith }
+exponent_cases s false false false digits n h = record { pair = refl; fine = refl; few = omega arith }
 
 dropped_twice :
     (i j digits : ℕ) (text : List ℕ)

@@ -11,6 +11,7 @@ pub mod SkeletonReading
 pub mod SkeletonDigits
 pub mod SkeletonMeaning
 pub mod SkeletonLengths
+pub mod SkeletonTexts
 pub mod AffixedTexts
 pub mod TextParts
 pub mod DefaultDigits

@@ -1,5 +1,5 @@
 -- The shortest skeletons: of each group of options the least number of bytes of its stem and the white space after it.
-use Rattle.std.specs.Prelude.{◌≡◌, ℕ, ◌+◌, ◌%◌, ◌==◌, ◌≤◌, nat_lt, max, Bool, true, false, ◌||◌, ◌&&◌, not, if◌then◌else◌, ℤ, pos, negsuc, List, [], ◌∷◌, length, Option, Some, None, Ok}
+use Rattle.std.specs.Prelude.{ℕ, ◌+◌, ◌%◌, ◌==◌, nat_lt, max, Bool, true, false, ◌||◌, ◌&&◌, not, if◌then◌else◌, ℤ, pos, negsuc, List, [], ◌∷◌, Option, Some, None}
 use Rattle.std.specs.Ordering.{int_eq}
 use Rattle.decimal_digits.specs.declared.rounding.UnsignedRoundingMode.TheVariants as unsigned
 use Rattle.decimal_format.specs.declared.grouping.GroupingStrategy.{GroupingStrategy}
@@ -29,7 +29,7 @@ use Rattle.number_format.specs.declared.precision.Minimum.TheVariants.{Chosen, B
 use Rattle.number_format.specs.DefaultDigits.{is_compact}
 use Rattle.number_format.specs.SkeletonCounts.{run}
 use Rattle.number_format.specs.SkeletonDigits.{PrecisionValue, Fraction, Multiples, Significant, More, Less, DigitsValue}
-use Rattle.number_format.specs.SkeletonMeaning.{OptionsValue, skeleton_options}
+use Rattle.number_format.specs.SkeletonMeaning.{OptionsValue}
 use Rattle.number_format.specs.SkeletonStems.{is_name}
 
 -- the number of digits of an integer below 100,000
@@ -193,9 +193,3 @@ options_length o =
     notation_length o.notation + style_length o.style o.scale + digit_options_length o.notation o.style o.digits
     + grouping_length (is_compact o.notation) o.grouping + sign_length (style_sign o.style) o.sign_display
     + system_length o.numbering_system
-
--- ---- The law.
--- the text reads as the options, and no shorter text does
-pub record IsShortest (text : List ℕ) (o : OptionsValue) : Type 0 where
-  pub reads : skeleton_options text ≡ Ok o
-  pub least : (other : List ℕ) → skeleton_options other ≡ Ok o → length text ≤ length other

@@ -59,7 +59,7 @@ exponent_option exponent text =
 -- the bytes of codes: letters, digits and some signs
 abbrev pub is_code_byte : ℕ → Bool
 is_code_byte c =
-    c == 32 || c == 34 || c == 95 || (nat_le 37 c && nat_le c 46) || (nat_le 48 c && nat_le c 63)
+    c == 34 || c == 95 || (nat_le 37 c && nat_le c 46) || (nat_le 48 c && nat_le c 63)
     || (nat_le 65 c && nat_le c 90) || (nat_le 97 c && nat_le c 122)
 
 abbrev pub currency_option : List ℕ → Option Meaning

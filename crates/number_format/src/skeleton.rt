@@ -1,7 +1,7 @@
 //! Number skeletons, the texts for formats of ICU.
-ghost use Rattle.std.specs.Prelude.{◌≡◌, [], Ok, Err, IfOk, IfSome, IsSome, MatchResult, string_bytes};
+ghost use Rattle.std.specs.Prelude.{◌≡◌, Ok, Err, IfOk, IfSome, IfNone, MatchResult, string_bytes};
 ghost use Rattle.number_format.specs.SkeletonMeaning.{skeleton_options, options_value, style_in_capitals, in_capitals};
-ghost use Rattle.number_format.specs.SkeletonLengths.{IsShortest};
+ghost use Rattle.number_format.specs.SkeletonTexts.{IsShortest, HasNoSkeleton};
 ghost use Rattle.number_format.specs.SkeletonReading.{choices_of};
 
 mod choices;
@@ -93,7 +93,7 @@ impl NumberOptions {
     }
 
     /// Returns the shortest skeleton that reads as these options, with the code of a currency in capitals, or `None` if
-    /// none is found, as of digits without a stem. The options of the empty skeleton are found.
+    /// no text does, as of options without digits.
     ///
     /// # Errors
     ///
@@ -101,8 +101,7 @@ impl NumberOptions {
     pub fn to_skeleton(&self, alloc: Global) -> Result<Option<String>, AllocError>
         ensures shortest { IfOk result (λ found. IfSome found
             (λ text. IsShortest (string_bytes text) (options_value (in_capitals self.now)))) }
-        ensures defaults { IfOk result
-            (λ found. skeleton_options [] ≡ Ok (options_value (in_capitals self.now)) → IsSome found) }
+        ensures none { IfOk result (λ found. IfNone found (HasNoSkeleton (options_value (in_capitals self.now)))) }
     {
         let options = self.in_capitals();
         let mut text = String::new(alloc);

@@ -70,7 +70,7 @@ fn is_code_byte(byte: u8) -> bool
     ensures { result ≡ is_code_byte byte }
 {
     match byte {
-        b' ' | b'"' | b'%'..=b'.' | b'0'..=b'?' | b'A'..=b'Z' | b'_' | b'a'..=b'z' => true,
+        b'"' | b'%'..=b'.' | b'0'..=b'?' | b'A'..=b'Z' | b'_' | b'a'..=b'z' => true,
         _ => false,
     }
 }

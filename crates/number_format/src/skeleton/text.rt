@@ -1,9 +1,12 @@
 //! The text of options as a skeleton, by the shortest stems.
-ghost use Rattle.std.specs.Prelude.{◌≡◌, ◌+◌, ◌≤◌, ◌<◌, max, if◌then◌else◌, ◌==◌, true, length, OnOk, pos, string_len, slice_get};
+ghost use Rattle.std.specs.Prelude.{◌≡◌, ◌≤◌, ◌<◌, ◌++◌, ◌∷◌, [], if◌then◌else◌, true, OnOk, pos, string_bytes, replicate, take, codes};
+ghost use Rattle.std.specs.Option.{option_map};
+ghost use Rattle.number_format.specs.SkeletonCounts.{run};
 ghost use Rattle.number_format.specs.ShownDigits.{increment_of};
 ghost use Rattle.number_format.specs.SkeletonDigits.{precision_value, digits_value};
 ghost use Rattle.number_format.specs.SkeletonMeaning.{options_value};
-ghost use Rattle.number_format.specs.SkeletonLengths.{decimal_length, exponent_length, notation_length, power_length, scale_length, width_length, style_length, fraction_length, beside_length, significant_length, increment_length, precision_length, is_default, is_cash, strips, shown_precision_length, mode_length, integer_length, grouping_length, style_sign, sign_length, system_length, options_length};
+ghost use Rattle.number_format.specs.SkeletonLengths.{decimal_length, is_default, is_cash, strips, style_sign};
+ghost use Rattle.number_format.specs.SkeletonTexts.{last_digits, decimal_text, power_text, thousands_text, whole_text, pointed_by, pointed_text, increment_text, least_digits_text, exponent_text, notation_text, width_text, scale_text, ascii, style_text, fraction_text, beside_text, range_text, significant_text, precision_text, strips_text, shown_precision_text, mode_text, integer_text, grouping_text, sign_text, system_text, digits_text, options_text};
 ghost use Rattle.number_format.specs.declared.precision.Precision.TheVariants.{MorePrecision, LessPrecision};
 
 use crate::digit_options::{DigitOptions, TrailingZeros};
@@ -22,7 +25,7 @@ use std::alloc::AllocError;
 
 fn push_run(text: &mut String, character: char, count: u32) -> Result<(), AllocError>
     requires { character < 128 }
-    ensures { OnOk result (string_len text.new ≤ string_len text.old + count) }
+    ensures { OnOk result (string_bytes text.new ≡ string_bytes text.old ++ replicate count character) }
 {
     for _ in 0..count {
         text.push(character)?;
@@ -32,7 +35,7 @@ fn push_run(text: &mut String, character: char, count: u32) -> Result<(), AllocE
 
 /// Appends the bytes that are ASCII.
 fn push_ascii(text: &mut String, bytes: &[u8]) -> Result<(), AllocError>
-    ensures { OnOk result (string_len text.new ≤ string_len text.old + length bytes.now) }
+    ensures { OnOk result (string_bytes text.new ≡ string_bytes text.old ++ ascii bytes.now) }
 {
     for byte in bytes {
         if *byte < 128 {
@@ -42,12 +45,15 @@ fn push_ascii(text: &mut String, bytes: &[u8]) -> Result<(), AllocError>
     Ok(())
 }
 
-/// Appends a stem and the space after it.
-fn push_stem(text: &mut String, stem: &str) -> Result<(), AllocError>
-    ensures { OnOk result (string_len text.new ≤ string_len text.old + (length stem.now + 1)) }
+/// Appends `/*ee`, or nothing for one digit.
+fn push_least_digits(text: &mut String, digits: u16) -> Result<(), AllocError>
+    ensures { OnOk result (string_bytes text.new ≡ string_bytes text.old ++ least_digits_text digits) }
 {
-    text.push_str(stem)?;
-    text.push(' ')
+    if digits <= 1 {
+        return Ok(());
+    }
+    text.push_str("/*")?;
+    push_run(text, 'e', digits as u32)
 }
 
 fn push_exponent(
@@ -56,17 +62,14 @@ fn push_exponent(
     long: &str,
     exponent: ExponentOptions,
 ) -> Result<(), AllocError>
-    ensures { OnOk result (string_len text.new
-        ≤ string_len text.old + exponent_length (length short.now) (length long.now) exponent.digits exponent.sign) }
+    ensures { OnOk result (string_bytes text.new
+        ≡ string_bytes text.old ++ exponent_text short.now long.now exponent.digits exponent.sign) }
 {
     match exponent.sign {
         ExponentSign::Never => {
             text.push_str(long)?;
-            if exponent.digits > 1 {
-                text.push_str("/*")?;
-                push_run(text, 'e', exponent.digits as u32)?;
-            }
-            push_stem(text, "/+_")
+            push_least_digits(text, exponent.digits)?;
+            text.push_str("/+_ ")
         }
         ExponentSign::Always => {
             text.push_str(short)?;
@@ -83,30 +86,31 @@ fn push_exponent(
 }
 
 fn push_notation(text: &mut String, notation: NumberNotation) -> Result<(), AllocError>
-    ensures { OnOk result (string_len text.new ≤ string_len text.old + notation_length notation) }
+    ensures { OnOk result (string_bytes text.new ≡ string_bytes text.old ++ notation_text notation) }
 {
     match notation {
         NumberNotation::Standard => Ok(()),
         NumberNotation::Scientific(exponent) => push_exponent(text, "E", "scientific", exponent),
         NumberNotation::Engineering(exponent) => push_exponent(text, "EE", "engineering", exponent),
-        NumberNotation::Compact(CompactLength::Short) => push_stem(text, "K"),
-        NumberNotation::Compact(CompactLength::Long) => push_stem(text, "KK"),
+        NumberNotation::Compact(CompactLength::Short) => text.push_str("K "),
+        NumberNotation::Compact(CompactLength::Long) => text.push_str("KK "),
     }
 }
 
 fn push_width(text: &mut String, display: CurrencyDisplay) -> Result<(), AllocError>
-    ensures { OnOk result (string_len text.new ≤ string_len text.old + width_length display) }
+    ensures { OnOk result (string_bytes text.new ≡ string_bytes text.old ++ width_text display) }
 {
     match display {
         CurrencyDisplay::Symbol => Ok(()),
-        CurrencyDisplay::Narrow => push_stem(text, "unit-width-narrow"),
-        CurrencyDisplay::Code => push_stem(text, "unit-width-iso-code"),
-        CurrencyDisplay::Hidden => push_stem(text, "unit-width-hidden"),
+        CurrencyDisplay::Narrow => text.push_str("unit-width-narrow "),
+        CurrencyDisplay::Code => text.push_str("unit-width-iso-code "),
+        CurrencyDisplay::Hidden => text.push_str("unit-width-hidden "),
     }
 }
 
 fn push_currency(text: &mut String, currency: CurrencyStyle) -> Result<(), AllocError>
-    ensures { OnOk result (string_len text.new ≤ string_len text.old + (13 + width_length currency.display)) }
+    ensures { OnOk result (string_bytes text.new
+        ≡ string_bytes text.old ++ codes "currency/" ++ ascii currency.code ++ 32 ∷ width_text currency.display) }
 {
     text.push_str("currency/")?;
     push_ascii(text, &currency.code)?;
@@ -117,7 +121,7 @@ fn push_currency(text: &mut String, currency: CurrencyStyle) -> Result<(), Alloc
 /// Appends the last digits of a number, at most five.
 fn push_last_digits(text: &mut String, number: u16, count: usize) -> Result<(), AllocError>
     requires { count ≤ 5 }
-    ensures { OnOk result (string_len text.new ≤ string_len text.old + count) }
+    ensures { OnOk result (string_bytes text.new ≡ string_bytes text.old ++ last_digits number count) }
 {
     let digits = [
         number / 10000,
@@ -126,10 +130,9 @@ fn push_last_digits(text: &mut String, number: u16, count: usize) -> Result<(), 
         number / 10,
         number,
     ];
-    for (index, digit) in digits.iter().enumerate() {
-        if index >= 5 - count {
-            text.push((b'0' + (*digit % 10) as u8) as char)?;
-        }
+    let last = &digits[5 - count..];
+    for number in last {
+        text.push((b'0' + (*number % 10) as u8) as char)?;
     }
     Ok(())
 }
@@ -148,13 +151,13 @@ fn decimal_length(number: u16) -> usize
 }
 
 fn push_number(text: &mut String, number: u16) -> Result<(), AllocError>
-    ensures { OnOk result (string_len text.new ≤ string_len text.old + decimal_length number) }
+    ensures { OnOk result (string_bytes text.new ≡ string_bytes text.old ++ decimal_text number) }
 {
     push_last_digits(text, number, decimal_length(number))
 }
 
 fn push_power(text: &mut String, power: i16) -> Result<(), AllocError>
-    ensures { OnOk result (string_len text.new ≤ string_len text.old + power_length power) }
+    ensures { OnOk result (string_bytes text.new ≡ string_bytes text.old ++ power_text power) }
 {
     match power {
         -2 => text.push_str(".01"),
@@ -174,7 +177,7 @@ fn push_power(text: &mut String, power: i16) -> Result<(), AllocError>
 }
 
 fn push_scale(text: &mut String, scale: i16) -> Result<(), AllocError>
-    ensures { OnOk result (string_len text.new ≤ string_len text.old + scale_length scale) }
+    ensures { OnOk result (string_bytes text.new ≡ string_bytes text.old ++ scale_text scale) }
 {
     if scale == 0 {
         return Ok(());
@@ -185,13 +188,13 @@ fn push_scale(text: &mut String, scale: i16) -> Result<(), AllocError>
 }
 
 fn push_style(text: &mut String, style: NumberStyle, scale: i16) -> Result<(), AllocError>
-    ensures { OnOk result (string_len text.new ≤ string_len text.old + style_length style scale) }
+    ensures { OnOk result (string_bytes text.new ≡ string_bytes text.old ++ style_text style scale) }
 {
     match style {
         NumberStyle::Decimal => {}
-        NumberStyle::Percent if scale == 2 => return push_stem(text, "%x100"),
-        NumberStyle::Percent => push_stem(text, "%")?,
-        NumberStyle::Permille => push_stem(text, "permille")?,
+        NumberStyle::Percent if scale == 2 => return text.push_str("%x100 "),
+        NumberStyle::Percent => text.push_str("% ")?,
+        NumberStyle::Permille => text.push_str("permille ")?,
         NumberStyle::Currency(currency) => push_currency(text, currency)?,
     }
     push_scale(text, scale)
@@ -199,8 +202,10 @@ fn push_style(text: &mut String, style: NumberStyle, scale: i16) -> Result<(), A
 
 /// Appends `.00##` or `.00*`.
 fn push_fraction(text: &mut String, fraction: FractionDigits) -> Result<(), AllocError>
-    ensures { OnOk result
-        (string_len text.new ≤ string_len text.old + (1 + fraction_length (fraction.min, fraction.max))) }
+    ensures { OnOk result (string_bytes text.new ≡ string_bytes text.old ++ fraction_text (
+      fraction.min,
+      fraction.max,
+    )) }
 {
     text.push('.')?;
     push_run(text, '0', fraction.min as u32)?;
@@ -212,8 +217,7 @@ fn push_fraction(text: &mut String, fraction: FractionDigits) -> Result<(), Allo
 
 /// Appends `.00##/` or `.00*/`.
 fn push_beside(text: &mut String, fraction: FractionDigits) -> Result<(), AllocError>
-    ensures { OnOk result
-        (string_len text.new ≤ string_len text.old + (2 + beside_length (fraction.min, fraction.max))) }
+    ensures { OnOk result (string_bytes text.new ≡ string_bytes text.old ++ beside_text (fraction.min, fraction.max)) }
 {
     if fraction.min == 0 {
         text.push('.')?;
@@ -226,7 +230,10 @@ fn push_beside(text: &mut String, fraction: FractionDigits) -> Result<(), AllocE
 
 /// Appends `@@##`.
 fn push_range(text: &mut String, significant: SignificantDigits) -> Result<(), AllocError>
-    ensures { OnOk result (string_len text.new ≤ string_len text.old + significant.max) }
+    ensures { OnOk result (string_bytes text.new ≡ string_bytes text.old ++ range_text (
+      significant.min,
+      significant.max,
+    )) }
 {
     push_run(text, '@', significant.min)?;
     push_run(text, '#', significant.max - significant.min)
@@ -235,7 +242,7 @@ fn push_range(text: &mut String, significant: SignificantDigits) -> Result<(), A
 /// Appends `@@##` or `@@*`.
 fn push_significant(text: &mut String, significant: SignificantDigits) -> Result<(), AllocError>
     ensures { OnOk result
-        (string_len text.new ≤ string_len text.old + significant_length (significant.min, significant.max)) }
+        (string_bytes text.new ≡ string_bytes text.old ++ significant_text (significant.min, significant.max)) }
 {
     if significant.max == 65536 && significant.min < 65536 {
         push_run(text, '@', significant.min)?;
@@ -246,7 +253,7 @@ fn push_significant(text: &mut String, significant: SignificantDigits) -> Result
 
 fn push_more_precision(text: &mut String, both: BothDigits) -> Result<(), AllocError>
     ensures { OnOk result
-        (string_len text.new ≤ string_len text.old + precision_length (precision_value (MorePrecision both))) }
+        (string_bytes text.new ≡ string_bytes text.old ++ precision_text (precision_value (MorePrecision both))) }
 {
     push_beside(text, both.fraction)?;
     match both.minimum {
@@ -263,7 +270,7 @@ fn push_more_precision(text: &mut String, both: BothDigits) -> Result<(), AllocE
 
 fn push_less_precision(text: &mut String, both: BothDigits) -> Result<(), AllocError>
     ensures { OnOk result
-        (string_len text.new ≤ string_len text.old + precision_length (precision_value (LessPrecision both))) }
+        (string_bytes text.new ≡ string_bytes text.old ++ precision_text (precision_value (LessPrecision both))) }
 {
     push_beside(text, both.fraction)?;
     push_range(text, both.significant)?;
@@ -294,45 +301,69 @@ pub(crate) fn increment_of(multiples: FractionMultiples) -> u16
 /// Appends an increment with an exponent: `5e3`, `5.e1` or `.5e1`.
 fn push_thousands(text: &mut String, digits: u16, increment: u16) -> Result<(), AllocError>
     requires few { increment ≤ 5000 }
-    ensures { OnOk result
-        (string_len text.new ≤ string_len text.old + (if digits == 0 then 3 else 4)) }
+    ensures { OnOk result (string_bytes text.new ≡ string_bytes text.old ++ thousands_text digits increment) }
 {
-    if digits == 3 {
-        text.push('.')?;
+    match digits {
+        0 => {
+            push_last_digits(text, increment / 1000, 1)?;
+            text.push_str("e3")
+        }
+        2 => {
+            push_last_digits(text, increment / 1000, 1)?;
+            text.push_str(".e1")
+        }
+        _ => {
+            text.push('.')?;
+            push_last_digits(text, increment / 1000, 1)?;
+            text.push_str("e1")
+        }
     }
-    push_last_digits(text, increment / 1000, 1)?;
-    text.push_str(match digits {
-        0 => "e3",
-        2 => ".e1",
-        _ => "e1",
-    })
+}
+
+/// Appends the integer digits of a number, of which 0 has none.
+fn push_whole(text: &mut String, number: u16) -> Result<(), AllocError>
+    ensures { OnOk result (string_bytes text.new ≡ string_bytes text.old ++ whole_text number) }
+{
+    if number == 0 {
+        return Ok(());
+    }
+    push_number(text, number)
+}
+
+fn push_pointed_by(
+    text: &mut String,
+    unit: u16,
+    places: usize,
+    zeros: u16,
+    increment: u16,
+) -> Result<(), AllocError>
+    requires some { 0 < unit }
+    requires few { places ≤ 5 }
+    ensures { OnOk result (string_bytes text.new ≡ string_bytes text.old ++ pointed_by unit places zeros increment) }
+{
+    push_whole(text, increment / unit)?;
+    text.push('.')?;
+    push_run(text, '0', zeros as u32)?;
+    push_last_digits(text, increment, places)
 }
 
 /// Appends an increment with a decimal point: `2.50` or `.050`.
 fn push_pointed(text: &mut String, digits: u16, increment: u16) -> Result<(), AllocError>
     requires some { 0 < digits }
-    requires few { increment ≤ 5000 }
-    ensures { OnOk result
-        (string_len text.new ≤ string_len text.old + (max digits (decimal_length increment) + 1)) }
+    ensures { OnOk result (string_bytes text.new ≡ string_bytes text.old ++ pointed_text digits increment) }
 {
-    let (unit, places) = match digits {
-        1 => (10, 1),
-        2 => (100, 2),
-        3 => (1000, 3),
-        _ => (10000, 4),
-    };
-    if increment >= unit {
-        push_number(text, increment / unit)?;
+    match digits {
+        1 => push_pointed_by(text, 10, 1, 0, increment),
+        2 => push_pointed_by(text, 100, 2, 0, increment),
+        3 => push_pointed_by(text, 1000, 3, 0, increment),
+        _ => push_pointed_by(text, 10000, 4, digits - 4, increment),
     }
-    text.push('.')?;
-    push_run(text, '0', (digits - places) as u32)?;
-    push_last_digits(text, increment, places as usize)
 }
 
 /// Appends an increment with a number of fraction digits.
 fn push_increment(text: &mut String, digits: u16, increment: u16) -> Result<(), AllocError>
     requires few { increment ≤ 5000 }
-    ensures { OnOk result (string_len text.new ≤ string_len text.old + increment_length digits increment) }
+    ensures { OnOk result (string_bytes text.new ≡ string_bytes text.old ++ increment_text digits increment) }
 {
     if increment % 1000 == 0 && (digits == 0 || digits == 2 || digits == 3) {
         return push_thousands(text, digits, increment);
@@ -348,15 +379,22 @@ fn push_increment(text: &mut String, digits: u16, increment: u16) -> Result<(), 
     push_pointed(text, digits, increment)
 }
 
+fn push_multiples(text: &mut String, multiples: FractionMultiples) -> Result<(), AllocError>
+    ensures { OnOk result (string_bytes text.new
+        ≡ string_bytes text.old ++ codes "precision-increment/"
+        ++ increment_text multiples.digits (increment_of multiples.increment)) }
+{
+    text.push_str("precision-increment/")?;
+    push_increment(text, multiples.digits, increment_of(multiples))
+}
+
 fn push_precision(text: &mut String, precision: Precision) -> Result<(), AllocError>
-    ensures { OnOk result (string_len text.new ≤ string_len text.old + precision_length (precision_value precision)) }
+    ensures { OnOk result (string_bytes text.new ≡ string_bytes text.old
+        ++ precision_text (precision_value precision)) }
 {
     match precision {
         Precision::Fraction(fraction) => push_fraction(text, fraction),
-        Precision::Multiples(multiples) => {
-            text.push_str("precision-increment/")?;
-            push_increment(text, multiples.digits, increment_of(multiples))
-        }
+        Precision::Multiples(multiples) => push_multiples(text, multiples),
         Precision::Significant(significant) => push_significant(text, significant),
         Precision::MorePrecision(both) => push_more_precision(text, both),
         Precision::LessPrecision(both) => push_less_precision(text, both),
@@ -413,9 +451,10 @@ fn push_stripped(
     style: NumberStyle,
     digits: DigitOptions,
 ) -> Result<(), AllocError>
-    ensures { OnOk result (string_len text.new ≤ string_len text.old
-        + ((if is_cash style then 24 else 1 + precision_length (precision_value digits.precision))
-        + (if strips digits.trailing_zeros then 2 else 0))) }
+    ensures { OnOk result (string_bytes text.new ≡ string_bytes text.old
+        ++ (if is_cash style then codes "precision-currency-cash" else precision_text (precision_value
+        digits.precision))
+        ++ strips_text (strips digits.trailing_zeros)) }
 {
     if is_cash(style) {
         text.push_str("precision-currency-cash")?;
@@ -423,7 +462,7 @@ fn push_stripped(
         push_precision(text, digits.precision)?;
     }
     if strips(digits.trailing_zeros) {
-        text.push_str("/w")?;
+        return text.push_str("/w ");
     }
     text.push(' ')
 }
@@ -433,8 +472,8 @@ fn push_shown_precision(
     options: &NumberOptions,
     digits: DigitOptions,
 ) -> Result<(), AllocError>
-    ensures { OnOk result (string_len text.new ≤ string_len text.old
-        + shown_precision_length options.now.notation options.now.style (digits_value digits)) }
+    ensures { OnOk result (string_bytes text.new ≡ string_bytes text.old
+        ++ shown_precision_text options.now.notation options.now.style (digits_value digits)) }
 {
     let style = options.style;
     if !is_cash(style)
@@ -447,25 +486,36 @@ fn push_shown_precision(
 }
 
 fn push_mode(text: &mut String, mode: SignedRoundingMode) -> Result<(), AllocError>
-    ensures { OnOk result (string_len text.new ≤ string_len text.old + mode_length mode) }
+    ensures { OnOk result (string_bytes text.new ≡ string_bytes text.old ++ mode_text mode) }
 {
     match mode {
-        SignedRoundingMode::Ceil => push_stem(text, "rounding-mode-ceiling"),
-        SignedRoundingMode::Floor => push_stem(text, "rounding-mode-floor"),
-        SignedRoundingMode::HalfCeil => push_stem(text, "rounding-mode-half-ceiling"),
-        SignedRoundingMode::HalfFloor => push_stem(text, "rounding-mode-half-floor"),
+        SignedRoundingMode::Ceil => text.push_str("rounding-mode-ceiling "),
+        SignedRoundingMode::Floor => text.push_str("rounding-mode-floor "),
+        SignedRoundingMode::HalfCeil => text.push_str("rounding-mode-half-ceiling "),
+        SignedRoundingMode::HalfFloor => text.push_str("rounding-mode-half-floor "),
         SignedRoundingMode::Unsigned(mode) => match mode {
-            UnsignedRoundingMode::Expand => push_stem(text, "rounding-mode-up"),
-            UnsignedRoundingMode::Trunc => push_stem(text, "rounding-mode-down"),
-            UnsignedRoundingMode::HalfExpand => push_stem(text, "rounding-mode-half-up"),
-            UnsignedRoundingMode::HalfTrunc => push_stem(text, "rounding-mode-half-down"),
+            UnsignedRoundingMode::Expand => text.push_str("rounding-mode-up "),
+            UnsignedRoundingMode::Trunc => text.push_str("rounding-mode-down "),
+            UnsignedRoundingMode::HalfExpand => text.push_str("rounding-mode-half-up "),
+            UnsignedRoundingMode::HalfTrunc => text.push_str("rounding-mode-half-down "),
             UnsignedRoundingMode::HalfEven => Ok(()),
         },
     }
 }
 
+/// Appends `integer-width/##00`.
+fn push_integer_width(text: &mut String, more: u16, least: u16) -> Result<(), AllocError>
+    ensures { OnOk result (string_bytes text.new
+        ≡ string_bytes text.old ++ codes "integer-width/" ++ replicate more 35 ++ replicate least 48 ++ 32 ∷ []) }
+{
+    text.push_str("integer-width/")?;
+    push_run(text, '#', more as u32)?;
+    push_run(text, '0', least as u32)?;
+    text.push(' ')
+}
+
 fn push_integer(text: &mut String, integer: IntegerDigits) -> Result<(), AllocError>
-    ensures { OnOk result (string_len text.new ≤ string_len text.old + integer_length (integer.min, integer.max)) }
+    ensures { OnOk result (string_bytes text.new ≡ string_bytes text.old ++ integer_text (integer.min, integer.max)) }
 {
     let (min, max) = (integer.min, integer.max);
     if max == 32768 {
@@ -475,10 +525,7 @@ fn push_integer(text: &mut String, integer: IntegerDigits) -> Result<(), AllocEr
         push_run(text, '0', min as u32)?;
         return text.push(' ');
     }
-    text.push_str("integer-width/")?;
-    push_run(text, '#', (max - min) as u32)?;
-    push_run(text, '0', min as u32)?;
-    text.push(' ')
+    push_integer_width(text, max - min, min)
 }
 
 fn push_grouping(
@@ -486,15 +533,15 @@ fn push_grouping(
     is_compact: bool,
     grouping: GroupingStrategy,
 ) -> Result<(), AllocError>
-    ensures { OnOk result (string_len text.new ≤ string_len text.old + grouping_length is_compact grouping) }
+    ensures { OnOk result (string_bytes text.new ≡ string_bytes text.old ++ grouping_text is_compact grouping) }
 {
     match (is_compact, grouping) {
         (true, GroupingStrategy::Min2) => Ok(()),
-        (true, GroupingStrategy::Auto) => push_stem(text, "group-auto"),
+        (true, GroupingStrategy::Auto) => text.push_str("group-auto "),
         (false, GroupingStrategy::Auto) => Ok(()),
-        (_, GroupingStrategy::Never) => push_stem(text, ",_"),
-        (_, GroupingStrategy::Always) => push_stem(text, ",!"),
-        (false, GroupingStrategy::Min2) => push_stem(text, ",?"),
+        (_, GroupingStrategy::Never) => text.push_str(",_ "),
+        (_, GroupingStrategy::Always) => text.push_str(",! "),
+        (false, GroupingStrategy::Min2) => text.push_str(",? "),
     }
 }
 
@@ -508,47 +555,62 @@ fn style_sign(style: NumberStyle) -> CurrencySign
 }
 
 fn push_sign(text: &mut String, sign: CurrencySign, display: SignDisplay) -> Result<(), AllocError>
-    ensures { OnOk result (string_len text.new ≤ string_len text.old + sign_length sign display) }
+    ensures { OnOk result (string_bytes text.new ≡ string_bytes text.old ++ sign_text sign display) }
 {
     match (sign, display) {
         (CurrencySign::Standard, SignDisplay::Auto) => Ok(()),
-        (CurrencySign::Standard, SignDisplay::Always) => push_stem(text, "+!"),
-        (CurrencySign::Standard, SignDisplay::ExceptZero) => push_stem(text, "+?"),
-        (CurrencySign::Standard, SignDisplay::Negative) => push_stem(text, "+-"),
-        (CurrencySign::Accounting, SignDisplay::Auto) => push_stem(text, "()"),
-        (CurrencySign::Accounting, SignDisplay::Always) => push_stem(text, "()!"),
-        (CurrencySign::Accounting, SignDisplay::ExceptZero) => push_stem(text, "()?"),
-        (CurrencySign::Accounting, SignDisplay::Negative) => push_stem(text, "()-"),
-        (_, SignDisplay::Never) => push_stem(text, "+_"),
+        (CurrencySign::Standard, SignDisplay::Always) => text.push_str("+! "),
+        (CurrencySign::Standard, SignDisplay::ExceptZero) => text.push_str("+? "),
+        (CurrencySign::Standard, SignDisplay::Negative) => text.push_str("+- "),
+        (CurrencySign::Accounting, SignDisplay::Auto) => text.push_str("() "),
+        (CurrencySign::Accounting, SignDisplay::Always) => text.push_str("()! "),
+        (CurrencySign::Accounting, SignDisplay::ExceptZero) => text.push_str("()? "),
+        (CurrencySign::Accounting, SignDisplay::Negative) => text.push_str("()- "),
+        (_, SignDisplay::Never) => text.push_str("+_ "),
     }
 }
 
-fn push_system(text: &mut String, system: Option<Name>) -> Result<(), AllocError>
-    ensures { OnOk result (string_len text.new ≤ string_len text.old + system_length system) }
+fn push_named_system(text: &mut String, name: Name) -> Result<(), AllocError>
+    ensures { OnOk result (string_bytes text.new
+        ≡ string_bytes text.old ++ codes "numbering-system/" ++ ascii (take (run 33 126 name) name) ++ 32 ∷ []) }
 {
-    let Some(name) = system else {
-        return Ok(());
-    };
-    if is_name(&name, b"latn") {
-        return push_stem(text, "latin");
-    }
     text.push_str("numbering-system/")?;
     let length = run(&name, b'!', b'~');
     push_ascii(text, before(&name, length))?;
     text.push(' ')
 }
 
+fn push_system(text: &mut String, system: Option<Name>) -> Result<(), AllocError>
+    ensures { OnOk result (string_bytes text.new ≡ string_bytes text.old ++ system_text system) }
+{
+    let Some(name) = system else {
+        return Ok(());
+    };
+    if is_name(&name, b"latn") {
+        return text.push_str("latin ");
+    }
+    push_named_system(text, name)
+}
+
+fn push_digits(text: &mut String, options: &NumberOptions) -> Result<(), AllocError>
+    ensures { OnOk result (string_bytes text.new ≡ string_bytes text.old
+        ++ digits_text options.now.notation options.now.style (option_map digits_value options.now.digits)) }
+{
+    let Some(digits) = options.digits else {
+        return Ok(());
+    };
+    push_shown_precision(text, options, digits)?;
+    push_mode(text, digits.mode)?;
+    push_integer(text, digits.integer)
+}
+
 /// Appends the skeleton of options, with a space after it.
 pub(crate) fn push_skeleton(text: &mut String, options: &NumberOptions) -> Result<(), AllocError>
-    ensures { OnOk result (string_len text.new ≤ string_len text.old + options_length (options_value options.now)) }
+    ensures { OnOk result (string_bytes text.new ≡ string_bytes text.old ++ options_text (options_value options.now)) }
 {
     push_notation(text, options.notation)?;
     push_style(text, options.style, options.scale)?;
-    if let Some(digits) = options.digits {
-        push_shown_precision(text, options, digits)?;
-        push_mode(text, digits.mode)?;
-        push_integer(text, digits.integer)?;
-    }
+    push_digits(text, options)?;
     push_grouping(text, options.is_compact(), options.grouping)?;
     push_sign(text, style_sign(options.style), options.sign_display)?;
     push_system(text, options.numbering_system)

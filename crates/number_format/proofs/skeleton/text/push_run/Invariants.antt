@@ -1,5 +1,6 @@
-use Rattle.std.proofs.Common.{◌+◌, ◌≤◌, string_len}
+use Rattle.std.proofs.Common.{◌≡◌, ◌++◌, replicate}
+use Rattle.std.specs.Prelude.{string_bytes}
 use Rattle.number_format.proofs.skeleton.text.push_run.Given as goal
 
 abbrev pub invariant-loop : goal.invariant-loop
-invariant-loop l = string_len l.text ≤ string_len l.fn.text + l.counter
+invariant-loop l = string_bytes l.text ≡ string_bytes l.fn.text ++ replicate l.counter l.character
