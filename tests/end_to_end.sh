@@ -290,6 +290,13 @@ lines 1 'y,x\n1\n"1,2\n3,4\n' $'\n\n\n3,4\n' \
   $'line 1: field 2: start: syntax\nline 2: field 2: field\nline 3: field 2: quote\n' skip csv field:2 field:1
 lines 1 'x,1\n3,4\n' $'x,1\n3,40\n' $'line 1: field 1: start: syntax\n' keep csv field:2 shift:1 field:1
 lines 1 '1,2\n' '' $'line 1: field 2: call 1: overflow\n' csv field:1 field:2 shift:9 shift:32767
+lines 0 'a,1,2,3\n' $'a,10,200,3000\n' '' delimiter:, field:4 shift:3 field:2 shift:1 field:3 shift:2
+lines 0 '1€x€2\n' $'100€x€20\n' '' delimiter:€ field:3 shift:1 field:1 shift:2
+lines 0 '1,"x,""y",2\n"3",",",4\r\n' $'10,"x,""y",20\n30,",",40\r\n' '' csv field:3 shift:1 field:1 shift:1
+lines 1 '1,,2\n,,\n' $'1,,2\n,,\n' $'line 1: field 2: start: syntax\nline 2: field 3: start: syntax\n' \
+  keep delimiter:, field:3 field:2 field:1
+lines 1 'x,1,z\n1,2\n1,2,3\n' $'\n\n1,2,3\n' $'line 1: field 3: start: syntax\nline 2: field 3: field\n' \
+  skip csv field:2 field:3 field:1
 mapfile -t words < <(for n in $(seq 200 -1 1); do printf 'field:%d\nshift:%d\n' "$n" $((n % 3)); done)
 lines 0 "$(seq -s, 200)\n" "$(seq 200 | awk '{ print $1 substr("00", 1, $1 % 3) }' | paste -sd,)"$'\n' '' \
   csv "${words[@]}"

@@ -1,54 +1,135 @@
--- The edits of a line.
-use Rattle.std.proofs.Common.{◌≡◌, ◌≢◌, ℕ, inl, inr, refl, Ok, Err, Result, Bool, List, [], ◌∷◌, subst}
-use Rattle.cli.specs.declared.edits.Edit.{Edit}
+-- The fields of a line that are replaced by their conversions.
+use Rattle.std.proofs.Common.{◌≡◌, ◌≢◌, ℕ, suc, ◌+◌, ◌<◌, ◌≤◌, inl, inr, refl, sym, ap, subst, ◌∙◌, arith, add-one, Some, Ok, Err, Option, Bool, false, List, ◌∷◌, ◌++◌, length, take, drop, get_or, append_assoc, take_all, drop-cons}
+use Rattle.std.specs.Prelude.{All, Contains}
+use Rattle.std.proofs.lemmas.List.Elements.{All-push, All-weaker}
+use Rattle.cli.specs.declared.columns.FieldLabel.{FieldLabel}
 use Rattle.cli.specs.declared.edits.FieldConversion.{FieldConversion}
 use Rattle.cli.specs.declared.error.LineError.{LineError}
 use Rattle.cli.specs.declared.error.OperationError.{OperationError}
 use Rattle.cli.specs.declared.error.OperationError.TheVariants.{Memory}
-use Rattle.cli.specs.Edits.{IsEdit, HasNoEdit, error_of_field, with_edit, AreEdits, edited_from, HasEditedText, EditingFails}
-use Rattle.cli.specs.Fields.{within, replaced}
+use Rattle.cli.specs.declared.fields.Field.{Field}
+use Rattle.cli.specs.Edits.{HasEdit, HasNoEdit, AreEdited, HasEditedText, IsEditedLine, EditingFails}
+use Rattle.cli.specs.Error.{line_error}
+use Rattle.cli.specs.FieldConversion.{IsFieldResult}
+use Rattle.cli.specs.Fields.{at_index, has_open_quote, bounds, located, record_of, within, replaced, bytes_of}
 use Rattle.cli.specs.Trim.{body_bounds}
+use Rattle.cli.proofs.Programs.{taken}
+
+module _ (trims : Bool) (base : Field) (line : List ℕ) where
+  -- ---- The line with the conversions.
+
+  module _ (fields : List FieldConversion) (written : List ℕ) (copied : ℕ) where
+    -- what follows the copied bytes is written, with the fields that are left
+    abbrev pub Continues : ℕ → Type 0
+    Continues i =
+        (rest : List ℕ) → AreEdited trims base line (drop i fields) copied rest
+        → AreEdited trims base line fields 0 (written ++ rest)
+
+  -- one more field
+  module _
+      (fields : List FieldConversion) (written : List ℕ) (copied i : ℕ) (h : Continues fields written copied i)
+      (it : FieldConversion) (inside : i < length fields) (is : it ≡ get_or fields i it)
+    where
+      first : drop i fields ≡ it ∷ drop (i + 1) fields
+      first = rw add-one (drop-cons fields i it inside ∙ ap (λ x. x ∷ drop (suc i) fields) (sym is))
+
+      pub continues_more :
+          (bounds : ℕ × ℕ) (text before after : List ℕ) → located (at_index base it.index) line ≡ Ok bounds
+          → before ≡ written ++ within line (copied, bounds.0)
+          → IsFieldResult trims base it.conversion.now (within line bounds) (Ok text)
+          → after ≡ before ++ bytes_of base text → Continues fields after bounds.1 (i + 1)
+      continues_more bounds text before after found copy result put rest are =
+          let part = within line (copied, bounds.0) in
+          let bytes = bytes_of base text in
+          subst (AreEdited trims base line fields 0)
+          (sym (append_assoc written part (bytes ++ rest))
+          ∙ ap (λ t. t ++ (bytes ++ rest)) (sym copy)
+          ∙ sym (append_assoc before bytes rest)
+          ∙ ap (λ t. t ++ rest) (sym put))
+          (h (part ++ (bytes ++ rest))
+          (rw first (bounds, text, rest, (found, result), are, refl)))
+
+  -- a field that is in the record
+  pub located_in :
+      (index : ℕ) (found : ℕ × ℕ) → has_open_quote base line ≡ false
+      → bounds (at_index base index) (record_of base line) ≡ Some found → located (at_index base index) line ≡ Ok found
+  located_in index found closed is = rw (closed, is) refl
+
+  -- ---- The first error.
+
+  -- this field, of this rank, has this error
+  abbrev pub Fails : List FieldConversion → ℕ → OperationError → Option FieldLabel → Type 0
+  Fails fields rank error failed =
+      (it : FieldConversion) × Contains fields it × HasNoEdit trims base line it error × (failed ≡ Some it.label)
+      × (it.rank ≡ rank)
+
+  -- of the first fields each one of a lower rank has a conversion
+  abbrev pub Convert : List FieldConversion → ℕ → ℕ → Type 0
+  Convert fields i rank = All (λ it. it.rank < rank → HasEdit trims base line it) (take i fields)
+
+  -- one more field
+  module _
+      (fields : List FieldConversion) (i : ℕ) (one : FieldConversion) (inside : i < length fields)
+      (is : one ≡ get_or fields i one)
+    where
+    pub convert_more :
+        (rank : ℕ) → Convert fields i rank → (one.rank < rank → HasEdit trims base line one)
+        → Convert fields (i + 1) rank
+    convert_more rank all has =
+        subst (All (λ it. it.rank < rank → HasEdit trims base line it))
+        (sym (taken fields i one inside is))
+        (All-push (λ it. it.rank < rank → HasEdit trims base line it) (take i fields) one all has)
+
+    -- it comes later
+    pub convert_past : (rank : ℕ) → Convert fields i rank → rank < one.rank → Convert fields (i + 1) rank
+    convert_past rank all past = convert_more rank all (λ below. absurd (omega (arith, below, past)))
+
+    -- it fails, and comes first
+    module _ (rank : ℕ) (all : Convert fields i rank) (lower : one.rank ≤ rank) where
+      pub convert_lower : Convert fields (i + 1) one.rank
+      convert_lower =
+          convert_more one.rank
+          (All-weaker (λ it. it.rank < rank → HasEdit trims base line it)
+          (λ it. it.rank < one.rank → HasEdit trims base line it)
+          (λ it has below. has (omega (arith, lower, below))) (take i fields) all)
+          (λ below. absurd (omega (arith, below)))
+
+    pub one_fails : (error : OperationError) → HasNoEdit trims base line one error
+        → Fails fields one.rank error (Some one.label)
+    one_fails error none = (one, (i, inside, sym is), none, refl, refl)
+
+  pub first_fails :
+      (fields : List FieldConversion) (i rank : ℕ) (error : OperationError) (failed : Option FieldLabel)
+      → length fields ≤ i → Convert fields i rank → Fails fields rank error failed
+      → IsEditedLine trims base line fields (Err (line_error failed error))
+  first_fails fields i rank error failed end all (it, contains, none, named, same) =
+      (it, contains, none, named, rw (take_all i fields end, sym same) at all)
+
+-- ---- The result of a line.
 
 module _
-    (trims : Bool) (fields rest : List FieldConversion) (it : FieldConversion) (line : List ℕ) (edits : List Edit)
-    (is : fields ≡ it ∷ rest)
-  where
-    -- the first field has an edit
-    pub edits_more :
-        (edit : Edit) (result : Result (List Edit) LineError) → IsEdit trims it line edit
-        → AreEdits trims rest line (with_edit edits edit) result → AreEdits trims fields line edits result
-    edits_more edit result first more = rw is (inl (edit, first, more))
-
-    -- or none
-    pub edits_end :
-        (error : OperationError) → HasNoEdit trims it line error
-        → AreEdits trims fields line edits (Err (error_of_field it error))
-    edits_end error none = rw is (inr (error, none, refl))
-
-module _ (trims : Bool) (number : ℕ) (line : List ℕ) (fields : List FieldConversion) (body : ℕ × ℕ)
+    (trims : Bool) (number : ℕ) (line : List ℕ) (base : Field) (fields : List FieldConversion) (body : ℕ × ℕ)
     (is_body : body ≡ body_bounds trims number line)
   where
-    -- all fields have edits
     pub edited_line :
-        (edits : List Edit) → AreEdits trims fields (within line body) [] (Ok edits) → (P : List ℕ → Type 0)
-        → P (replaced line body (edited_from (within line body) 0 edits))
-        → HasEditedText trims fields (within line (body_bounds trims number line))
+        (text : List ℕ) → IsEditedLine trims base (within line body) fields (Ok text) → (P : List ℕ → Type 0)
+        → P (replaced line body text)
+        → HasEditedText trims base (within line (body_bounds trims number line)) fields
         (λ text. P (replaced line (body_bounds trims number line) text))
-    edited_line edits are P p =
-        subst (λ b. HasEditedText trims fields (within line b) (λ text. P (replaced line b text))) is_body
-        (edited_from (within line body) 0 edits, (Ok edits, are, refl), p)
+    edited_line text is P p =
+        subst (λ b. HasEditedText trims base (within line b) fields (λ text. P (replaced line b text))) is_body
+        (text, is, p)
 
-    -- or the first one without has this error
     no_edit :
         (error : LineError) (why : OperationError) → error.error ≡ why
-        → (error.error ≢ Memory → AreEdits trims fields (within line body) [] (Err error))
-        → EditingFails trims fields (within line body) error
-    no_edit error Memory same are = inl same
-    no_edit error why same are = inr (Err error, are (λ memory. cc), refl)
+        → (error.error ≢ Memory → IsEditedLine trims base (within line body) fields (Err error))
+        → EditingFails trims base (within line body) fields error
+    no_edit error Memory same is = inl same
+    no_edit error why same is = inr (is (λ memory. cc))
 
     pub editing_fails :
         (error : LineError)
-        → (error.error ≢ Memory → AreEdits trims fields (within line body) [] (Err error))
-        → EditingFails trims fields (within line (body_bounds trims number line)) error
-    editing_fails error are =
-        subst (λ b. EditingFails trims fields (within line b) error) is_body (no_edit error error.error refl are)
+        → (error.error ≢ Memory → IsEditedLine trims base (within line body) fields (Err error))
+        → EditingFails trims base (within line (body_bounds trims number line)) fields error
+    editing_fails error is =
+        subst (λ b. EditingFails trims base (within line b) fields error) is_body (no_edit error error.error refl is)

@@ -1,6 +1,7 @@
 -- The result of a line, and of its field.
 use Rattle.std.proofs.Common.{◌≡◌, ◌≢◌, ◌≤◌, ◌+◌, ◌++◌, ℕ, inl, inr, refl, sym, Some, None, Ok, Err, Result, Bool, true, false, List, ◌-◌, length, take, drop, Option, ap, subst, append_assoc, take-append-drop, ◌∙◌, arith}
-use Rattle.std.specs.Prelude.{IfErr, MatchBool}
+use Rattle.std.specs.Prelude.{IfErr, MatchBool, not, ◌&&◌}
+use Rattle.std.proofs.lemmas.Bool.{false≢true}
 use Rattle.std.proofs.lemmas.List.{append-nil, length-drop, length-take-le, drop-drop, drop-take, take-take, take_rest}
 use Rattle.std.proofs.Math.Seq.{drop-length, take-add, take-length}
 use Rattle.std.specs.Borrow.{Bor}
@@ -15,8 +16,8 @@ use Rattle.cli.specs.declared.error.LineError.{LineError}
 use Rattle.cli.specs.declared.targets.Target.{Target}
 use Rattle.cli.specs.declared.targets.Target.TheVariants.{One, Fields}
 use Rattle.cli.specs.Error.{status_of_operation, error_of_line}
-use Rattle.cli.specs.FieldConversion.{IsTextResult, is_trimmed, IsFieldResult, IsLineResult, HasLineText, LineFails, map_text, with_text}
-use Rattle.cli.specs.Fields.{Holds, located, within, replaced, bytes_of}
+use Rattle.cli.specs.FieldConversion.{IsTextResult, is_trimmed, IsFieldResult, HasFieldText, IsLineResult, HasLineText, LineFails, map_text, with_text}
+use Rattle.cli.specs.Fields.{is_quoted, Holds, located, within, replaced, bytes_of}
 use Rattle.cli.specs.Filter.{body_of, IsTargetResult, TargetFails, HasConvertedLine, ConvertingFails, ConversionFails, IsResultOfLine, filtered_line, is_broken_row, RowFails, IsResultOfRow}
 use Rattle.cli.specs.Trim.{text_of, with_text_of, body_bounds}
 use Rattle.cli.proofs.Conversions.{error_is_outcome}
@@ -52,6 +53,18 @@ pub field_result :
     → result ≡ map_text (with_text_of trimmed text) converted → IsFieldResult trims field conversion bytes result
 field_result trims field conversion bytes text holds trimmed is converted result is_text same =
     inl (text, holds, rw is (converted, is_text, same))
+
+-- the bytes of a field that are its text as they are
+pub plain_field :
+    (trims : Bool) (field : Field) (conversion : Conversion) (bytes before after : List ℕ) → trims ≡ false
+    → field.is_csv ≡ false → HasOutcome conversion bytes (λ text. after ≡ before ++ text)
+    → HasFieldText trims field conversion bytes (λ text. after ≡ before ++ bytes_of field text)
+plain_field trims field conversion bytes before after off plain (text, is, put) = (
+  text,
+  field_result trims field conversion bytes bytes (inl (refl, λ csv. absurd (false≢true (sym plain ∙ csv)))) false
+  (ap (λ t. t && not (is_quoted field bytes)) off) (Ok text) (Ok text) (Ok text, is, refl) refl,
+  rw plain put,
+)
 
 -- ---- The result of a line.
 
@@ -102,9 +115,9 @@ target_is_result trims (One field conversion) bytes error one (none, fails) = (
   error_is_result trims field conversion.now bytes error.error one fails,
   ap (λ (field : Option FieldLabel). Err (record { field = field; error = error.error })) none,
 )
-target_is_result trims (Fields fields) bytes error one (inl memory) =
+target_is_result trims (Fields base fields) bytes error one (inl memory) =
     absurd (omega (arith, one, ap status_of_operation memory))
-target_is_result trims (Fields fields) bytes error one (inr is) = is
+target_is_result trims (Fields base fields) bytes error one (inr is) = is
 
 pub rejected_line :
     (filter : Filter) (number : ℕ) (line : List ℕ) (error : LineError) → status_of_operation error.error ≡ 1

@@ -4,7 +4,6 @@ use Rattle.std.specs.Prelude.{All, ◌==◌}
 use Rattle.std.specs.declared.alloc.Global.{Global}
 use Rattle.std.proofs.Math.Nat.{le_refl}
 use Rattle.std.proofs.lemmas.Bool.{false≢true}
-use Rattle.std.proofs.lemmas.List.Elements.{All-append}
 use Rattle.std.proofs.lemmas.List.{take_all, drop_all}
 use Rattle.cli.specs.declared.columns.Column.{Column}
 use Rattle.cli.specs.declared.error.WordsError.{WordsError}
@@ -15,16 +14,6 @@ use Rattle.cli.specs.Targets.{IsSplit, IsGroup, has_column, IsNamed, HasMore, Gr
 use Rattle.cli.specs.Words.{ConversionFails}
 
 -- ---- The words before a field.
-
-at_first : {X : Type 0} (P : X → Type 0) (x : X) → P x → (k : ℕ) (d : X) → k < 1 → P (get_or (x ∷ []) k d)
-at_first P x p zero d inside = p
-at_first P x p (suc k) d inside = absurd (omega (arith, inside))
-
--- one more word
-pub all_more :
-    (P : String Global → Type 0) (words : List (String Global)) (word : String Global) → All P words → P word
-    → All P (words ++ (word ∷ []))
-all_more P words word all p = All-append P words (word ∷ []) all (at_first P word p)
 
 -- this word is the first one that names a field
 pub split_here :

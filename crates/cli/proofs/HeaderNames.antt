@@ -5,7 +5,7 @@ use Rattle.std.proofs.lemmas.Bool.{and_parts, false≢true}
 use Rattle.std.proofs.lemmas.Grind.{common_steps}
 use Rattle.std.proofs.lemmas.Option.{slice_get_past}
 use Rattle.std.specs.List.{list_any}
-use Rattle.std.specs.Prelude.{IfOk}
+use Rattle.std.specs.Prelude.{IfOk, insert}
 use Rattle.cli.specs.declared.fields.Field.{Field}
 use Rattle.cli.specs.declared.columns.FieldLabel.TheVariants as label
 use Rattle.cli.specs.declared.edits.FieldConversion.{FieldConversion}
@@ -15,7 +15,7 @@ use Rattle.cli.specs.declared.targets.NamedField.{NamedField}
 use Rattle.cli.specs.FieldConversion.{is_trimmed}
 use Rattle.cli.specs.declared.headers.Header.{Header}
 use Rattle.cli.specs.Fields.{at_index, bounds, within, is_outside, is_quote, is_quoted, quoted}
-use Rattle.cli.specs.Headers.{HasBounds, HoldsName, HasName, NoneHas, IsIndexOf, HasNoIndex, has_index, IsPlaced, AreFields, FieldsFail}
+use Rattle.cli.specs.Headers.{HasBounds, HoldsName, HasName, NoneHas, IsIndexOf, HasNoIndex, has_index, IsPlaced, count_before, with_field, AreFields, FieldsFail}
 use Rattle.cli.specs.Trim.{text_of}
 use Rattle.cli.proofs.Separators.{Spaced, Scanned, scanned_start, scanned_end, scanned_separator, scanned_quoted, scanned_all, scanned_none}
 use Rattle.memchr.specs.Find.{matches}
@@ -232,6 +232,14 @@ pub ok_weaker :
 ok_weaker (Ok x) P Q f h = f x h
 ok_weaker (Err e) P Q f h = tt
 
+-- a field that is inserted
+pub inserted :
+    (before : List FieldConversion) (index count : ℕ) (it : FieldConversion) (after : List FieldConversion)
+    → it.index ≡ index → count ≡ count_before before index → after ≡ insert before count it
+    → after ≡ with_field before it
+inserted before index count it after same counted is =
+    is ∙ ap (λ n. insert before n it) (counted ∙ ap (count_before before) (sym same))
+
 module _
     (trims : Bool) (field : Field) (header : List ℕ) (before : List FieldConversion) (all rest : List NamedField)
     (first : NamedField) (index : ℕ) (is : all ≡ first ∷ rest)
@@ -239,16 +247,16 @@ module _
     -- the first word names a field
     module _
         (placed : FieldConversion) (indexed : IsIndexOf trims field header first.column index)
-        (new : has_index before index ≡ false) (places : IsPlaced field index first placed)
+        (new : has_index before index ≡ false) (places : IsPlaced index (length before) first placed)
       where
         pub fields_more :
             (after : List FieldConversion)
-            → AreFields trims field header (before ++ (placed ∷ [])) rest after
+            → AreFields trims field header (with_field before placed) rest after
             → AreFields trims field header before all after
         fields_more after more = rw is (index, placed, indexed, new, places, more)
 
         pub fields_fail :
-            (error : HeaderError) → FieldsFail trims field header (before ++ (placed ∷ [])) rest error
+            (error : HeaderError) → FieldsFail trims field header (with_field before placed) rest error
             → FieldsFail trims field header before all error
         fields_fail error fails = rw is (inr (index, indexed, inr (placed, new, places, fails)))
 

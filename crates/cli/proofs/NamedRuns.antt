@@ -34,10 +34,11 @@ one_filter it header field conversion filter is target = (One field conversion, 
 -- and of fields in a header
 pub fields_filter :
     (it : NamedFilter) (header : List ℕ) (field : Field) (list : Vec NamedField Global)
-    (fields : Vec FieldConversion Global) (filter : Filter) → filter ≡ filter_of it.options (Fields fields)
+    (fields : Vec FieldConversion Global) (filter : Filter) → filter ≡ filter_of it.options (Fields field fields)
     → it.target ≡ named.Fields field list → ArePlaced it.options field list.items header fields.items
     → IsFilter it header filter
-fields_filter it header field list fields filter is target places = (Fields fields, rw target places, is)
+fields_filter it header field list fields filter is target places =
+    (Fields field fields, rw target (refl, places), is)
 
 -- a row was read
 some_rows :

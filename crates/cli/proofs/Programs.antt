@@ -31,7 +31,7 @@ names_more ws cs w call h k = absurd h
 
 -- the first words, and the next one appended
 pub taken :
-    (ws : List (String Global)) (i : ℕ) (w : String Global) → i < length ws → w ≡ get_or ws i w
+    {X : Type 0} (ws : List X) (i : ℕ) (w : X) → i < length ws → w ≡ get_or ws i w
     → take (i + 1) ws ≡ take i ws ++ (w ∷ [])
 taken ws i w l e = rw add-one (take-suc ws i w l ∙ ap (λ x. take i ws ++ (x ∷ [])) (sym e))
 

@@ -1,13 +1,17 @@
 -- The delimiters of a line, from left to right, and the fields that are left after some of them.
-use Rattle.std.proofs.Common.{◌≡◌, ℕ, zero, suc, ◌+◌, ◌-◌, ◌<◌, ◌≤◌, Bool, true, false, List, [], ◌∷◌, ◌++◌, length, take, drop, slice_get, slice_index, Some, None, refl, sym, ap, ◌≢◌, ◌==◌, ◌&&◌, ⊎_elim, ◌∙◌, arith, eq-eqb, eqb-true}
-use Rattle.std.specs.Prelude.{⊤, filter}
-use Rattle.std.proofs.lemmas.Bool.{and_parts, cond_both, cond-true, cond-false, cases_Bool, false≢true}
+use Rattle.std.proofs.Common.{◌≡◌, ℕ, zero, suc, ◌+◌, ◌-◌, ◌<◌, ◌≤◌, Bool, true, false, List, [], ◌∷◌, ◌++◌, length, take, drop, slice_get, slice_index, Some, None, refl, sym, ap, ◌≢◌, ◌==◌, ◌&&◌, ⊎_elim, ◌∙◌, arith, eq-eqb, eqb-true, subst, inl, inr, Option}
+use Rattle.std.specs.Prelude.{⊤, filter, nat_le, not, ◌||◌, ◌%◌}
+use Rattle.std.proofs.lemmas.Bool.{and_parts, cond_both, cond-true, cond-false, cases_Bool, false≢true, le-leb}
+use Rattle.std.proofs.lemmas.Bool.Decides.{nat_tests}
 use Rattle.std.proofs.lemmas.Grind.{common_steps}
+use Rattle.std.proofs.lemmas.List.{drop-drop, drop_all}
+use Rattle.std.proofs.lemmas.List.Sums.{count_by_more_no}
 use Rattle.std.proofs.Math.Seq.{take-add}
 use Rattle.memchr.specs.Find.{OccursAt, occurs_at, match_len, matches_from, matches}
 use Rattle.memchr.proofs.lemmas.MatchLemmas.{OccursAt-true, occurs_at-true}
 use Rattle.cli.specs.declared.fields.Field.{Field}
-use Rattle.cli.specs.Fields.{is_outside, bounds_from, bounds}
+use Rattle.cli.specs.declared.fields.Cursor.{Cursor}
+use Rattle.cli.specs.Fields.{is_outside, is_quote, at_index, bounds_from, bounds, bounds_after, IsStart, IsNext, IsCursor}
 
 -- ---- The delimiters of a line.
 
@@ -194,99 +198,203 @@ module _ (line : List ℕ) (d : ℕ) where
       absurd (omega (arith, fits, is)))
       (λ no. cond-false _ _ _ no) (cases_Bool (occurs_at line (d ∷ []) at))
 
--- before the byte at an index, the field is one of those from `start` on
-pub record ByByte (field : Field) (line : List ℕ) (d start left : ℕ) (outside : Bool) (at : ℕ) : Type 0 where
-  pub start_inside : start ≤ at
-  pub inside : at ≤ length line
-  pub outside_is : outside ≡ is_outside field (take at line)
-  pub left_is : bounds field line ≡ slice_get (later field line start (rest line d at)) left
+-- ---- The fields that start at an index or later.
+
+module _ (field : Field) (line : List ℕ) (start : ℕ) where
+  after_inside :
+      start ≤ length line → bounds_after field line start ≡ later field line start (matches line field.delimiter.now start)
+  after_inside inside = cond-true (nat_le start (length line)) _ _ (le-leb start (length line) inside)
+
+  after_past : length line < start → bounds_after field line start ≡ []
+  after_past past =
+      let none : nat_le start (length line) ≡ false = grind (arith, nat_tests, past) in
+      cond-false (nat_le start (length line)) _ _ none
+
+-- the first byte of a field is outside of quotes if the separator before it is
+pub start_outside :
+    (field : Field) (line : List ℕ) (start : ℕ) → IsStart field line start → start ≢ 0 → start ≤ length line
+    → (now : Bool)
+    → (true ≡ is_outside field (take (start - 1) line)
+    → now ≡ is_outside field (take (start - 1) line ++ take (start - (start - 1)) (drop (start - 1) line)))
+    → now ≡ is_outside field (take start line)
+start_outside field line start (inl first) some inside now is = absurd (some first)
+start_outside field line start (inr out) some inside now is =
+    let ordered : start - 1 + (start - (start - 1)) ≡ start = omega (arith, some) in
+    let bytes = sym (take-add (start - 1) (start - (start - 1)) line) ∙ ap (λ n. take n line) ordered in
+    is (sym (out inside)) ∙ ap (is_outside field) bytes
+
+-- before the byte at an index, the fields that are sought are those that follow `left` of those from `start`
+pub record ByByte
+    (field : Field) (line : List ℕ) (d : ℕ) (fields : List (ℕ × ℕ)) (start left : ℕ) (outside : Bool) (at : ℕ)
+    : Type 0
+  where
+    pub start_inside : start ≤ at
+    pub inside : at ≤ length line
+    pub outside_is : outside ≡ is_outside field (take at line)
+    pub left_is : fields ≡ drop left (later field line start (rest line d at))
 
 module _ (field : Field) (line : List ℕ) (d : ℕ) (one : field.delimiter.now ≡ d ∷ []) where
   width : length field.delimiter.now ≡ 1
   width = ap length one
 
-  pub by_byte_start : ByByte field line d 0 field.index true 0
-  by_byte_start = record {
+  after_is : (start : ℕ) → start ≤ length line → bounds_after field line start ≡ later field line start (rest line d start)
+  after_is start inside =
+      after_inside field line start inside
+      ∙ ap (λ delimiter. later field line start (matches line delimiter start)) one
+
+  pub by_byte_start :
+      (first left : ℕ) → first ≤ length line → (outside : Bool) → outside ≡ is_outside field (take first line)
+      → ByByte field line d (drop left (bounds_after field line first)) first left outside first
+  by_byte_start first left inside outside is = record {
     start_inside = omega arith;
-    inside = omega arith;
-    outside_is = grind (arith, common_steps);
-    left_is = ap (λ delimiter. slice_get (later field line 0 (matches line delimiter 0)) field.index) one;
+    inside = inside;
+    outside_is = is;
+    left_is = ap (drop left) (after_is first inside);
   }
 
   module _
-      {start left at : ℕ} {before now : Bool} (h : ByByte field line d start left before at) (l : at < length line)
-      (is : before ≡ is_outside field (take at line)
-      → now ≡ is_outside field (take at line ++ take (at + 1 - at) (drop at line)))
+      {fields : List (ℕ × ℕ)} {start left at : ℕ} {before : Bool}
+      (h : ByByte field line d fields start left before at) (l : at < length line)
     where
-      after_is : now ≡ is_outside field (take (at + 1) line)
-      after_is =
-          let ordered : at + (at + 1 - at) ≡ at + 1 = omega arith in
-          let bytes = sym (take-add at (at + 1 - at) line) ∙ ap (λ n. take n line) ordered in
-          is h.outside_is ∙ ap (is_outside field) bytes
-
-      -- the byte separates two fields
-      separated_here :
-          (before && (slice_index line at == d)) ≡ true
-          → later field line start (rest line d at) ≡ (start, at) ∷ later field line (at + 1) (rest line d (at + 1))
-      separated_here both =
-          let (out, here) = and_parts _ _ both in
-          ap (later field line start) (rest-hit line d at l (eqb-true _ _ here))
-          ∙ ap (bounds_from field line start) (cond-true _ _ _ (sym h.outside_is ∙ out))
-          ∙ ap (λ n. (start, at) ∷ later field line (at + n) (rest line d (at + 1))) width
-
-      -- and the field ends at it
-      pub by_byte_end :
-          (before && (slice_index line at == d)) ≡ true → left ≡ 0 → bounds field line ≡ Some (start, at)
-      by_byte_end both none = let fields = separated_here both in cc
-
-      -- or comes after it
-      pub by_byte_separator :
-          (before && (slice_index line at == d)) ≡ true → left ≢ 0
-          → ByByte field line d (at + 1) (left - 1) now (at + 1)
-      by_byte_separator both some =
-          let next : left ≡ suc (left - 1) = omega arith in
-          let fields = separated_here both in
-          record {
-            start_inside = omega arith;
-            inside = omega arith;
-            outside_is = after_is;
-            left_is = cc h.left_is;
-          }
-
-      skipped :
-          (before && (slice_index line at == d)) ≡ false
-          → later field line start (rest line d at) ≡ later field line start (rest line d (at + 1))
-      skipped none =
-          ⊎_elim
-          (λ here. let same : slice_index line at ≡ d = eqb-true _ _ here in
-          let inner : before ≡ false = grind (arith, common_steps, none, here) in
-          ap (later field line start) (rest-hit line d at l same)
-          ∙ ap (bounds_from field line start) (cond-false _ _ _ (sym h.outside_is ∙ inner)))
-          (λ other. ap (later field line start)
-          (rest-miss line d at l (λ same. false≢true (sym other ∙ eq-eqb _ _ same))))
-          (cases_Bool (slice_index line at == d))
-
-      -- it separates no fields
-      pub by_byte_other :
-          (before && (slice_index line at == d)) ≡ false → ByByte field line d start left now (at + 1)
-      by_byte_other none = record {
+      -- the byte is neither a delimiter nor a quote
+      pub by_byte_plain :
+          slice_index line at ≢ d → is_quote (slice_index line at) ≡ false
+          → ByByte field line d fields start left before (at + 1)
+      by_byte_plain other plain = record {
         start_inside = omega (arith, h.start_inside);
         inside = omega arith;
-        outside_is = after_is;
-        left_is = h.left_is ∙ ap (λ fields. slice_get fields left) (skipped none);
+        outside_is =
+            h.outside_is
+            ∙ ap (λ n. not field.is_csv || n % 2 == 0) (sym (count_by_more_no is_quote line at 0 l plain));
+        left_is = h.left_is ∙ ap (λ ms. drop left (later field line start ms)) (rest-miss line d at l other);
       }
+
+      module _ {now : Bool}
+          (is : before ≡ is_outside field (take at line)
+          → now ≡ is_outside field (take at line ++ take (at + 1 - at) (drop at line)))
+        where
+          next_outside : now ≡ is_outside field (take (at + 1) line)
+          next_outside =
+              let ordered : at + (at + 1 - at) ≡ at + 1 = omega arith in
+              let bytes = sym (take-add at (at + 1 - at) line) ∙ ap (λ n. take n line) ordered in
+              is h.outside_is ∙ ap (is_outside field) bytes
+
+          -- the byte separates two fields
+          separated_here :
+              (before && (slice_index line at == d)) ≡ true
+              → later field line start (rest line d at) ≡ (start, at) ∷ later field line (at + 1) (rest line d (at + 1))
+          separated_here both =
+              let (out, here) = and_parts _ _ both in
+              ap (later field line start) (rest-hit line d at l (eqb-true _ _ here))
+              ∙ ap (bounds_from field line start) (cond-true _ _ _ (sym h.outside_is ∙ out))
+              ∙ ap (λ n. (start, at) ∷ later field line (at + n) (rest line d (at + 1))) width
+
+          -- and the field ends at it
+          pub by_byte_end :
+              (before && (slice_index line at == d)) ≡ true → left ≡ 0 → IsNext field line (Some (start, at)) fields
+          by_byte_end both none =
+              let same : at + 1 - 1 ≡ at = omega arith in
+              let (out, here) = and_parts _ _ both in (
+                h.left_is ∙ ap (λ n. drop n (later field line start (rest line d at))) none ∙ separated_here both
+                ∙ ap (λ fields. (start, at) ∷ fields) (sym (after_is (at + 1) (omega arith))),
+                inr (λ _. ap (λ n. is_outside field (take n line)) same ∙ sym h.outside_is ∙ out),
+              )
+
+          -- or comes after it
+          pub by_byte_separator :
+              (before && (slice_index line at == d)) ≡ true → left ≢ 0
+              → ByByte field line d fields (at + 1) (left - 1) now (at + 1)
+          by_byte_separator both some =
+              let next : left ≡ suc (left - 1) = omega arith in
+              record {
+                start_inside = omega arith;
+                inside = omega arith;
+                outside_is = next_outside;
+                left_is =
+                    h.left_is ∙ ap (drop left) (separated_here both)
+                    ∙ ap (λ n. drop n ((start, at) ∷ later field line (at + 1) (rest line d (at + 1)))) next;
+              }
+
+          skipped :
+              (before && (slice_index line at == d)) ≡ false
+              → later field line start (rest line d at) ≡ later field line start (rest line d (at + 1))
+          skipped none =
+              ⊎_elim
+              (λ here. let same : slice_index line at ≡ d = eqb-true _ _ here in
+              let inner : before ≡ false = grind (arith, common_steps, none, here) in
+              ap (later field line start) (rest-hit line d at l same)
+              ∙ ap (bounds_from field line start) (cond-false _ _ _ (sym h.outside_is ∙ inner)))
+              (λ other. ap (later field line start)
+              (rest-miss line d at l (λ same. false≢true (sym other ∙ eq-eqb _ _ same))))
+              (cases_Bool (slice_index line at == d))
+
+          -- it separates no fields
+          pub by_byte_other :
+              (before && (slice_index line at == d)) ≡ false → ByByte field line d fields start left now (at + 1)
+          by_byte_other none = record {
+            start_inside = omega (arith, h.start_inside);
+            inside = omega arith;
+            outside_is = next_outside;
+            left_is = h.left_is ∙ ap (drop left) (skipped none);
+          }
 
   -- no byte is left: the field ends at the end of the line, or the line has fewer fields
   module _
-      {start left at : ℕ} {before : Bool} (h : ByByte field line d start left before at) (end : at ≡ length line)
+      {fields : List (ℕ × ℕ)} {start left at : ℕ} {before : Bool}
+      (h : ByByte field line d fields start left before at) (end : at ≡ length line)
     where
-      pub by_byte_all : left ≡ 0 → bounds field line ≡ Some (start, length line)
-      by_byte_all none =
-          h.left_is ∙ ap (λ ms. slice_get (later field line start ms) left) (rest-end line d at end)
-          ∙ ap (slice_get (later field line start [])) none
+      last : fields ≡ drop left ((start, length line) ∷ [])
+      last = h.left_is ∙ ap (λ ms. drop left (later field line start ms)) (rest-end line d at end)
 
-      pub by_byte_none : 0 < left → bounds field line ≡ None
-      by_byte_none some =
-          let next : left ≡ suc (left - 1) = omega arith in
-          h.left_is ∙ ap (λ ms. slice_get (later field line start ms) left) (rest-end line d at end)
-          ∙ ap (slice_get (later field line start [])) next
+      pub by_byte_all : left ≡ 0 → IsNext field line (Some (start, length line)) fields
+      by_byte_all none = (
+        last ∙ ap (λ n. drop n ((start, length line) ∷ [])) none
+        ∙ ap (λ fields. (start, length line) ∷ fields) (sym (after_past field line (length line + 1) (omega arith))),
+        inr (λ inside. absurd (omega (arith, inside))),
+      )
+
+      pub by_byte_none : 0 < left → IsNext field line None fields
+      by_byte_none some = last ∙ drop_all left ((start, length line) ∷ []) (omega arith)
+
+-- ---- The field with an index.
+
+get_dropped : {X : Type 0} (xs : List X) (k : ℕ) (x : X) (rest : List X) → drop k xs ≡ x ∷ rest
+    → slice_get xs k ≡ Some x
+get_dropped [] zero x rest is = cc
+get_dropped [] (suc k) x rest is = cc
+get_dropped (y ∷ xs) zero x rest is = cc
+get_dropped (y ∷ xs) (suc k) x rest is = get_dropped xs k x rest is
+
+get_none : {X : Type 0} (xs : List X) (k : ℕ) → drop k xs ≡ [] → slice_get xs k ≡ None
+get_none [] k is = refl
+get_none (y ∷ xs) zero is = cc
+get_none (y ∷ xs) (suc k) is = get_none xs k is
+
+module _ (field : Field) (line : List ℕ) where
+  -- the first one of those that follow as many as its index is
+  pub next_is :
+      (index : ℕ) (found : Option (ℕ × ℕ)) → IsNext field line found (drop index (bounds_after field line 0))
+      → found ≡ bounds (at_index field index) line
+  next_is index None is =
+      sym (get_none (later field line 0 (matches line field.delimiter.now 0)) index
+      (ap (drop index) (sym (after_inside field line 0 (omega arith))) ∙ is))
+  next_is index (Some found) (is, start) =
+      sym (get_dropped (later field line 0 (matches line field.delimiter.now 0)) index found
+      (bounds_after field line (found.1 + 1)) (ap (drop index) (sym (after_inside field line 0 (omega arith))) ∙ is))
+
+  -- it is searched from a cursor
+  module _ (cursor : Cursor) (is : IsCursor field line cursor) (index left : ℕ) (same : cursor.index + left ≡ index) where
+    pub from_cursor :
+        (found : Option (ℕ × ℕ)) → IsNext field line found (drop left (bounds_after field line cursor.start))
+        → IsNext field line found (drop index (bounds_after field line 0))
+    from_cursor found next =
+        subst (IsNext field line found)
+        (ap (drop left) (sym is.0) ∙ drop-drop left cursor.index (bounds_after field line 0)
+        ∙ ap (λ n. drop n (bounds_after field line 0)) same) next
+
+  -- the cursor after it
+  pub cursor_moved :
+      (index : ℕ) (found : ℕ × ℕ) → IsNext field line (Some found) (drop index (bounds_after field line 0))
+      → IsCursor field line (record { index = index + 1; start = found.1 + 1 })
+  cursor_moved index found (is, start) =
+      (sym (drop-drop 1 index (bounds_after field line 0)) ∙ ap (drop 1) is, start)

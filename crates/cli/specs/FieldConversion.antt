@@ -40,6 +40,11 @@ IsFieldResult trims field conversion bytes result =
     × IsResultBetween (is_trimmed trims field bytes) conversion text result)
     ⊎ (((text : List ℕ) → ¬ Holds field bytes text) × (result ≡ Err Quote))
 
+-- P holds of the result, which is a text
+abbrev pub HasFieldText : Bool → Field → Conversion → List ℕ → (List ℕ → Type 0) → Type 0
+HasFieldText trims field conversion bytes P =
+    (text : List ℕ) × IsFieldResult trims field conversion bytes (Ok text) × P text
+
 -- a line with the bytes of a new text between these bounds
 abbrev pub with_text : Field → List ℕ → ℕ × ℕ → List ℕ → List ℕ
 with_text field line bounds text = replaced line bounds (bytes_of field text)

@@ -1,10 +1,11 @@
 -- The fields of a line.
-use Rattle.std.specs.Prelude.{◌≡◌, ◌⊎◌, ℕ, ◌+◌, ◌-◌, ◌%◌, ◌==◌, ◌||◌, ◌&&◌, if◌then◌else◌, Bool, true, false, not, List, [], ◌∷◌, ◌++◌, length, take, drop, count_by, filter, flat_map, slice_get, Option, Some, None, is_some, Result, Ok, Err}
+use Rattle.std.specs.Prelude.{◌≡◌, ◌⊎◌, ℕ, nat_le, ◌+◌, ◌-◌, ◌≤◌, ◌%◌, ◌==◌, ◌||◌, ◌&&◌, if◌then◌else◌, Bool, true, false, not, List, [], ◌∷◌, ◌++◌, length, take, drop, count_by, filter, flat_map, slice_get, Option, Some, None, is_some, Result, Ok, Err}
 use Rattle.std.specs.List.{list_any}
 use Rattle.std.specs.Io.BufRead.{strip_last}
 use Rattle.memchr.specs.Find.{matches, first_of}
 use Rattle.cli.specs.declared.error.OperationError.{OperationError}
 use Rattle.cli.specs.declared.error.OperationError.TheVariants as operation
+use Rattle.cli.specs.declared.fields.Cursor.{Cursor}
 use Rattle.cli.specs.declared.fields.Field.{Field}
 
 -- ---- Where a field is.
@@ -28,9 +29,9 @@ are_closed bytes = count_by is_quote bytes % 2 == 0
 abbrev pub is_outside : Field → List ℕ → Bool
 is_outside field before = not field.is_csv || are_closed before
 
--- the index of each separator: of each delimiter outside of quotes
-abbrev pub separators : Field → List ℕ → List ℕ
-separators field line = filter (λ at. is_outside field (take at line)) (matches line field.delimiter.now 0)
+-- the index of each separator that follows a start: of each delimiter outside of quotes
+abbrev pub separators : Field → List ℕ → ℕ → List ℕ
+separators field line start = filter (λ at. is_outside field (take at line)) (matches line field.delimiter.now start)
 
 -- the start and the end of each field of a line, the first of which starts here: a field ends at a separator or at the
 -- end of the line, and the next starts after the delimiter
@@ -41,7 +42,29 @@ bounds_from field line start (at ∷ separators) =
 
 -- the start and the end of the field, unless the line has fewer fields
 abbrev pub bounds : Field → List ℕ → Option (ℕ × ℕ)
-bounds field line = slice_get (bounds_from field line 0 (separators field line)) field.index
+bounds field line = slice_get (bounds_from field line 0 (separators field line 0)) field.index
+
+-- the start and the end of the field that starts here, which no delimiter overlaps, and of those that follow it; there
+-- are none after the end of the line
+abbrev pub bounds_after : Field → List ℕ → ℕ → List (ℕ × ℕ)
+bounds_after field line start =
+    if nat_le start (length line) then bounds_from field line start (separators field line start) else []
+
+-- a field starts here: at the start of the line, or after a separator that one byte is
+abbrev pub IsStart : Field → List ℕ → ℕ → Type 0
+IsStart field line start = (start ≡ 0) ⊎ (start ≤ length line → is_outside field (take (start - 1) line) ≡ true)
+
+-- of these fields the first one was found, and the others follow it; or there are none
+abbrev pub IsNext : Field → List ℕ → Option (ℕ × ℕ) → List (ℕ × ℕ) → Type 0
+IsNext field line None fields = fields ≡ []
+IsNext field line (Some found) fields =
+    (fields ≡ found ∷ bounds_after field line (found.1 + 1)) × IsStart field line (found.1 + 1)
+
+-- the fields that start at the cursor or later are those of the line without as many as its index is
+abbrev pub IsCursor : Field → List ℕ → Cursor → Type 0
+IsCursor field line cursor =
+    (drop cursor.index (bounds_after field line 0) ≡ bounds_after field line cursor.start)
+    × IsStart field line cursor.start
 
 -- the bytes of a line that its fields are in: in CSV a carriage return ends the line
 abbrev pub record_of : Field → List ℕ → List ℕ
@@ -52,10 +75,14 @@ abbrev pub bounds_or_error : Option (ℕ × ℕ) → Result (ℕ × ℕ) Operati
 bounds_or_error (Some bounds) = Ok bounds
 bounds_or_error None = Err operation.Field
 
--- the start and the end of the field in a line; or the error: in CSV a quote is left open, or the line has fewer fields
+-- whether a quote of a line is left open, which only CSV has
+abbrev pub has_open_quote : Field → List ℕ → Bool
+has_open_quote field line = field.is_csv && not (are_closed line)
+
+-- the start and the end of the field in a line; or the error: a quote is left open, or the line has fewer fields
 abbrev pub located : Field → List ℕ → Result (ℕ × ℕ) OperationError
 located field line =
-    if field.is_csv && not (are_closed line) then Err operation.Quote
+    if has_open_quote field line then Err operation.Quote
     else bounds_or_error (bounds field (record_of field line))
 
 -- the bytes of a line from a start up to an end, and the line with other bytes instead

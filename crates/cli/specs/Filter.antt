@@ -44,7 +44,7 @@ abbrev pub IsTargetResult : Bool → Target → List ℕ → Result (List ℕ) L
 IsTargetResult trims (One field conversion) bytes result =
     (found : Result (List ℕ) OperationError) × IsLineResult trims field conversion.now bytes found
     × (result ≡ result_of_line found)
-IsTargetResult trims (Fields fields) bytes result = IsEditedLine trims fields.items bytes result
+IsTargetResult trims (Fields base fields) bytes result = IsEditedLine trims base bytes fields.items result
 
 -- the result of converting the line with this number: what is around these bytes is copied
 abbrev pub IsConvertedLine : Filter → ℕ → List ℕ → Result (List ℕ) LineError → Type 0
@@ -71,7 +71,7 @@ HasText filter number line P = (text : List ℕ) × IsTextOrError filter number 
 abbrev pub TargetFails : Bool → Target → List ℕ → LineError → Type 0
 TargetFails trims (One field conversion) bytes error =
     (error.field ≡ None) × LineFails trims field conversion.now bytes error.error
-TargetFails trims (Fields fields) bytes error = EditingFails trims fields.items bytes error
+TargetFails trims (Fields base fields) bytes error = EditingFails trims base bytes fields.items error
 
 -- converting the line with this number fails with this error
 abbrev pub ConvertingFails : Filter → ℕ → List ℕ → LineError → Type 0

@@ -1,5 +1,5 @@
 -- The fields that words name, in a header.
-use Rattle.std.specs.Prelude.{◌≡◌, ◌≢◌, ◌⊎◌, ℕ, ◌<◌, ◌≤◌, ◌==◌, Bool, true, false, List, [], ◌∷◌, ◌++◌, slice_get, Some}
+use Rattle.std.specs.Prelude.{◌≡◌, ◌≢◌, ◌⊎◌, ℕ, nat_lt, ◌<◌, ◌≤◌, ◌==◌, Bool, true, false, List, [], ◌∷◌, length, insert, count_by, slice_get, Some}
 use Rattle.std.specs.List.{list_any}
 use Rattle.cli.specs.declared.columns.Column.{Column}
 use Rattle.cli.specs.declared.columns.Column.TheVariants.{Index, Name}
@@ -22,12 +22,20 @@ HoldsName trims field bytes name =
 
 -- whether one of these fields has this index
 abbrev pub has_index : List FieldConversion → ℕ → Bool
-has_index fields index = list_any (λ it. it.field.index == index) fields
+has_index fields index = list_any (λ it. it.index == index) fields
 
--- the field with this index, and the conversion of its words
-abbrev pub IsPlaced : Field → ℕ → NamedField → FieldConversion → Type 0
-IsPlaced field index it placed =
-    (placed.field ≡ at_index field index) × (placed.label ≡ it.label) × (placed.conversion.now ≡ it.conversion)
+-- the field with this index, which words name after as many others as its rank is, and the conversion of its words
+abbrev pub IsPlaced : ℕ → ℕ → NamedField → FieldConversion → Type 0
+IsPlaced index rank it placed =
+    (placed.index ≡ index) × (placed.rank ≡ rank) × (placed.label ≡ it.label) × (placed.conversion.now ≡ it.conversion)
+
+-- the number of these fields that precede the one with this index in a line
+abbrev pub count_before : List FieldConversion → ℕ → ℕ
+count_before fields index = count_by (λ it. nat_lt it.index index) fields
+
+-- fields in the order of a line, with another one
+abbrev pub with_field : List FieldConversion → FieldConversion → List FieldConversion
+with_field fields it = insert fields (count_before fields it.index) it
 
 -- the fields of these bytes, in a header: its first field has the delimiter and the quotes of all
 module _ (trims : Bool) (field : Field) (header : List ℕ) where
@@ -55,12 +63,12 @@ module _ (trims : Bool) (field : Field) (header : List ℕ) where
       × ((index : ℕ) × (other : ℕ) × (index ≢ other) × HasName name.now index × HasName name.now other)
   HasNoIndex column error = ⊥
 
-  -- after these fields words name these, none of them twice
+  -- these fields and those that words name, none of them twice, are these, in the order of a line
   abbrev pub AreFields : List FieldConversion → List NamedField → List FieldConversion → Type 0
   AreFields before [] fields = fields ≡ before
   AreFields before (it ∷ named) fields =
       (index : ℕ) × (placed : FieldConversion) × IsIndexOf it.column index × (has_index before index ≡ false)
-      × IsPlaced field index it placed × AreFields (before ++ (placed ∷ [])) named fields
+      × IsPlaced index (length before) it placed × AreFields (with_field before placed) named fields
 
   -- after these fields the first word that names none, or one of them, has this error
   abbrev pub FieldsFail : List FieldConversion → List NamedField → HeaderError → Type 0
@@ -69,8 +77,8 @@ module _ (trims : Bool) (field : Field) (header : List ℕ) where
       HasNoIndex it.column error
       ⊎ ((index : ℕ) × IsIndexOf it.column index
       × (((has_index before index ≡ true) × (error ≡ SameField (label.Index index)))
-      ⊎ ((placed : FieldConversion) × (has_index before index ≡ false) × IsPlaced field index it placed
-      × FieldsFail (before ++ (placed ∷ [])) named error)))
+      ⊎ ((placed : FieldConversion) × (has_index before index ≡ false) × IsPlaced index (length before) it placed
+      × FieldsFail (with_field before placed) named error)))
 
 -- this is the header with these bytes
 abbrev pub IsHeaderOf : Bool → Field → List ℕ → Header → Type 0

@@ -15,7 +15,7 @@ use Rattle.cli.specs.declared.targets.NamedTarget.{NamedTarget}
 use Rattle.cli.specs.declared.targets.NamedTarget.TheVariants as named
 use Rattle.cli.specs.declared.targets.Target.{Target}
 use Rattle.cli.specs.declared.targets.Target.TheVariants.{One, Fields}
-use Rattle.cli.specs.Fields.{are_closed, record_of, within}
+use Rattle.cli.specs.Fields.{has_open_quote, record_of, within}
 use Rattle.cli.specs.Filter.{Change, Effects, IsErrorOfReading}
 use Rattle.cli.specs.Headers.{AreFields, FieldsFail}
 use Rattle.cli.specs.Lines.{rows_of, Filters}
@@ -32,7 +32,7 @@ header_record options field header = record_of field (within header (body_bounds
 -- whether a header has no fields: it is a broken record, or in CSV a quote is left open
 abbrev pub is_broken_header : Options → Field → List ℕ → Bool
 is_broken_header options field header =
-    (options.has_records && is_broken header) || (field.is_csv && not (are_closed header))
+    (options.has_records && is_broken header) || has_open_quote field header
 
 -- the fields that words name in a header are these
 abbrev pub ArePlaced : Options → Field → List NamedField → List ℕ → List FieldConversion → Type 0
@@ -60,8 +60,8 @@ filter_of options target = record {
 -- with a header what words name is this
 abbrev pub IsTarget : Options → NamedTarget → List ℕ → Target → Type 0
 IsTarget options (named.One field conversion) header (One found by) = (found ≡ field) × (by.now ≡ conversion)
-IsTarget options (named.Fields field named) header (Fields fields) =
-    ArePlaced options field named.items header fields.items
+IsTarget options (named.Fields field named) header (Fields base fields) =
+    (base ≡ field) × ArePlaced options field named.items header fields.items
 IsTarget options it header target = ⊥
 
 -- with a header the filter is this

@@ -1,9 +1,9 @@
 //! The conversion of a field of a line, and of a whole line that is trimmed.
-ghost use Rattle.std.specs.Prelude.{◌≡◌, ◌≢◌, ◌≤◌, length, Ok, Err, Some, None, true, IfOk, IfErr, OnOk, OnErr};
+ghost use Rattle.std.specs.Prelude.{◌≡◌, ◌≢◌, ◌≤◌, ◌++◌, length, Ok, Err, Some, None, true, IfOk, IfErr, OnOk, OnErr};
 ghost use Rattle.std.specs.Io.KnownBytes.{Appends};
 ghost use Rattle.decimal_digits.specs.AppendsPrefix.{AppendsPrefix};
-ghost use Rattle.cli.specs.Fields.{within, replaced};
-ghost use Rattle.cli.specs.FieldConversion.{IsTextResult, is_trimmed, IsFieldResult, with_text, HasLineText, LineFails};
+ghost use Rattle.cli.specs.Fields.{within, replaced, bytes_of};
+ghost use Rattle.cli.specs.FieldConversion.{IsTextResult, is_trimmed, IsFieldResult, HasFieldText, with_text, HasLineText, LineFails};
 ghost use Rattle.cli.specs.Trim.{with_text_of};
 
 use crate::conversion::{Conversion, convert};
@@ -26,7 +26,7 @@ fn error_in_memory(error: OperationError) -> OperationError
 }
 
 /// Writes bytes with others between these bounds.
-fn write_replaced<W: Sink>(
+pub fn write_replaced<W: Sink>(
     bytes: &[u8],
     bounds: (usize, usize),
     others: &[u8],
@@ -108,6 +108,27 @@ pub fn converted(
         return with_text_between(alloc, text.as_slice(), written.as_bytes());
     }
     Ok(written)
+}
+
+/// Appends the conversion of the text of a field, as the bytes of a field.
+#[inline(always)]
+pub fn append_converted(
+    alloc: Global,
+    trims: bool,
+    conversion: &Conversion<'_>,
+    field: &Field<'_>,
+    bytes: &[u8],
+    line: &mut TextBuf,
+) -> Result<(), OperationError>
+    ensures { OnOk result (HasFieldText trims field.now conversion.now bytes.now
+        (λ text. line.new.0 ≡ line.old.0 ++ bytes_of field.now text)) }
+{
+    if !trims && !field.is_csv {
+        return convert(alloc, conversion, bytes, line);
+    }
+    let text = converted(alloc, trims, conversion, field, bytes)?;
+    field.write(text.as_bytes(), line)?;
+    Ok(())
 }
 
 /// Writes a line with a text as the field between these bounds.

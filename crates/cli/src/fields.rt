@@ -1,10 +1,10 @@
 //! The fields of a line.
-ghost use Rattle.std.specs.Prelude.{◌≡◌, ◌≢◌, ◌≤◌, ◌∷◌, ◌++◌, ℕ, List, [], length, slice_get, IfSome, IfOk, Ok, None, OnOk, OnErr, true};
+ghost use Rattle.std.specs.Prelude.{◌≡◌, ◌≢◌, ◌≤◌, ◌∷◌, ◌++◌, ℕ, List, [], length, take, drop, slice_get, IfSome, IfOk, Ok, None, OnOk, OnErr, true};
 ghost use Rattle.std.specs.List.{list_any};
 ghost use Rattle.std.specs.Cow.{cow_slice_items};
 ghost use Rattle.std.specs.Io.KnownBytes.{Appends};
 ghost use Rattle.decimal_digits.specs.AppendsPrefix.{AppendsPrefix};
-ghost use Rattle.cli.specs.Fields.{is_quote, are_closed, is_outside, at_index, bounds, double, doubled, between_quotes, quoted, Holds};
+ghost use Rattle.cli.specs.Fields.{is_quote, are_closed, is_outside, at_index, bounds, has_open_quote, bounds_after, IsStart, IsNext, IsCursor, double, doubled, between_quotes, quoted, Holds};
 ghost use Rattle.cli.specs.Fields.{is_quoted, is_special, needs_quotes, bytes_of, record_of, located};
 
 use crate::error::OperationError;
@@ -23,6 +23,15 @@ pub struct Field<'a> {
     pub delimiter: &'a [u8],
     /// Whether a field may be in quotes, as in RFC 4180.
     pub is_csv: bool,
+}
+
+/// Where a search for fields goes on in a line whose fields one byte separates.
+#[derive(Clone, Copy)]
+pub struct Cursor {
+    /// The index of the field that starts there.
+    pub index: usize,
+    /// The start of that field: after the end of the line there is none.
+    pub start: usize,
 }
 
 /// Returns whether each quote that opens is closed.
@@ -115,19 +124,44 @@ impl Field<'_> {
         !self.is_csv || outside == are_closed(bytes)
     }
 
-    /// Returns the start and the end of the field in a line whose fields one byte separates. None: it has fewer fields.
+    /// Returns whether the field that starts here is outside of quotes.
     #[inline(always)]
-    fn bounds_by_byte(&self, delimiter: u8, line: &[u8]) -> Option<(usize, usize)>
-        requires { self.now.delimiter.now ≡ delimiter ∷ [] }
-        ensures value { result ≡ bounds self.now line.now }
+    fn starts_outside(&self, line: &[u8], start: usize) -> bool
+        requires start { IsStart self.now line.now start }
+        requires inside { start ≤ length line.now }
+        ensures { result ≡ is_outside self.now (take start line.now) }
+    {
+        start == 0 || self.is_outside_after(true, &line[start - 1..start])
+    }
+
+    /// Returns the start and the end of a field in a line whose fields one byte separates: from the field that starts at
+    /// `first`, the one that `left` others precede. None: there are fewer.
+    #[inline(always)]
+    fn bounds_by_byte(
+        &self,
+        delimiter: u8,
+        line: &[u8],
+        first: usize,
+        left: usize,
+    ) -> Option<(usize, usize)>
+        requires delimiter { self.now.delimiter.now ≡ delimiter ∷ [] }
+        requires start { IsStart self.now line.now first }
+        ensures next { IsNext self.now line.now result (drop left (bounds_after self.now line.now first)) }
         ensures ordered { IfSome result (λ bounds. bounds.0 ≤ bounds.1) }
         ensures inside { IfSome result (λ bounds. bounds.1 ≤ length line.now) }
     {
-        let mut start = 0;
-        let mut left = self.index;
-        let mut outside = true;
-        for at in 0..line.len() {
-            let separates = outside & (line[at] == delimiter);
+        if first > line.len() {
+            return None;
+        }
+        let mut start = first;
+        let mut left = left;
+        let mut outside = self.starts_outside(line, first);
+        for at in first..line.len() {
+            let byte = line[at];
+            if byte != delimiter && byte != b'"' {
+                continue;
+            }
+            let separates = outside & (byte == delimiter);
             outside = self.is_outside_after(outside, &line[at..at + 1]);
             if !separates {
                 continue;
@@ -151,7 +185,7 @@ impl Field<'_> {
         ensures inside { IfSome result (λ bounds. bounds.1 ≤ length line.now) }
     {
         if let [delimiter] = self.delimiter {
-            return self.bounds_by_byte(*delimiter, line);
+            return self.bounds_by_byte(*delimiter, line, 0, self.index);
         }
         let mut start = 0;
         let mut left = self.index;
@@ -174,6 +208,51 @@ impl Field<'_> {
         Some((start, line.len()))
     }
 
+    /// Returns the field with an index.
+    pub fn at(self, index: usize) -> Self
+        ensures { result ≡ at_index self.entry index }
+    {
+        Field { index, ..self }
+    }
+
+    #[inline(never)]
+    fn bounds_at(&self, index: usize, line: &[u8]) -> Option<(usize, usize)>
+        ensures value { result ≡ bounds (at_index self.now index) line.now }
+        ensures ordered { IfSome result (λ bounds. bounds.0 ≤ bounds.1) }
+        ensures inside { IfSome result (λ bounds. bounds.1 ≤ length line.now) }
+    {
+        self.at(index).bounds(line)
+    }
+
+    /// Returns the start and the end of the field with an index, and moves the cursor after it.
+    #[inline(always)]
+    pub fn next_bounds(
+        &self,
+        index: usize,
+        line: &[u8],
+        cursor: &mut Cursor,
+    ) -> Option<(usize, usize)>
+        requires { IsCursor self.now line.now cursor.now }
+        ensures value { result ≡ bounds (at_index self.now index) line.now }
+        ensures ordered { IfSome result (λ bounds. bounds.0 ≤ bounds.1) }
+        ensures inside { IfSome result (λ bounds. bounds.1 ≤ length line.now) }
+        ensures cursor { IsCursor self.now line.now cursor.new }
+    {
+        let ([delimiter], Some(left), Some(next)) = (
+            self.delimiter,
+            index.checked_sub(cursor.index),
+            index.checked_add(1),
+        ) else {
+            return self.bounds_at(index, line);
+        };
+        let found = self.bounds_by_byte(*delimiter, line, cursor.start, left)?;
+        *cursor = Cursor {
+            index: next,
+            start: found.1 + 1,
+        };
+        Some(found)
+    }
+
     /// Returns the start and the end of each field of a line.
     pub fn all_bounds(&self, alloc: Global, line: &[u8]) -> Result<Vec<(usize, usize)>, AllocError>
         ensures { IfOk result (λ all. (index : ℕ)
@@ -193,6 +272,14 @@ impl Field<'_> {
         }
         all.push((start, line.len()))?;
         Ok(all)
+    }
+
+    /// Returns whether a quote of a line is left open, which only CSV has.
+    #[inline]
+    pub fn has_open_quote(&self, line: &[u8]) -> bool
+        ensures { result ≡ has_open_quote self.now line.now }
+    {
+        self.is_csv && !are_closed(line)
     }
 
     /// Returns the bytes of a line that its fields are in.
@@ -218,7 +305,7 @@ impl Field<'_> {
         ensures ordered { IfOk result (λ bounds. bounds.0 ≤ bounds.1) }
         ensures inside { IfOk result (λ bounds. bounds.1 ≤ length line.now) }
     {
-        if self.is_csv && !are_closed(line) {
+        if self.has_open_quote(line) {
             return Err(OperationError::Quote);
         }
         match self.bounds(self.record(line)) {

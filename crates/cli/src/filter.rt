@@ -15,9 +15,9 @@ ghost use Rattle.cli.specs.Lines.{Filters, IsConsumed};
 use crate::columns::FieldLabel;
 use crate::conversion::{Conversion, convert};
 use crate::diagnostics::Diagnostics;
-use crate::edits::{FieldConversion, insert_edits, write_edited};
+use crate::edits::{FieldConversion, edited, first_error};
 use crate::error::{LineError, OperationError, ProgramError};
-use crate::field_conversion::{convert_trimmed, converted, write_field};
+use crate::field_conversion::{convert_trimmed, converted, write_field, write_replaced};
 use crate::fields::Field;
 use crate::input::LineReader;
 use crate::line_feed::find_line_feed;
@@ -154,6 +154,7 @@ impl Filter<'_> {
     fn convert_fields<W: Sink>(
         &self,
         alloc: Global,
+        base: &Field<'_>,
         fields: &[FieldConversion<'_>],
         number: u64,
         line: &[u8],
@@ -161,30 +162,25 @@ impl Filter<'_> {
         failed: &mut Option<FieldLabel>,
     ) -> Result<(), OperationError>
         ensures printed { OnOk result
-            (HasEditedText self.now.trims fields.now (body_of self.now number line.now)
+            (HasEditedText self.now.trims base.now (body_of self.now number line.now) fields.now
             (λ text. Appends (W.contents sink.old) (W.contents sink.new)
             (replaced line.now (body_bounds self.now.trims number line.now) text))) }
         ensures fails_with { IfErr result (λ error. error ≢ OperationError.Output →
-            EditingFails self.now.trims fields.now (body_of self.now number line.now)
+            EditingFails self.now.trims base.now (body_of self.now number line.now) fields.now
             (line_error failed.new error)) }
         ensures unchanged_on_error { IfErr result (λ error. error ≢ OperationError.Output → sink.new ≡ sink.old) }
         ensures failed { result ≡ Err OperationError.Output → W.has_failed sink.new ≡ true }
         ensures prefix { result ≡ Err OperationError.Output →
-            HasEditedText self.now.trims fields.now (body_of self.now number line.now)
+            HasEditedText self.now.trims base.now (body_of self.now number line.now) fields.now
             (λ text. AppendsPrefix (W.contents sink.old) (W.contents sink.new)
             (replaced line.now (body_bounds self.now.trims number line.now) text)) }
     {
         let body = body_bounds(self.trims, number, line);
         let bytes = &line[body.0..body.1];
-        let mut edits = Vec::new(alloc);
-        match insert_edits(alloc, self.trims, fields, bytes, &mut edits) {
-            Ok(()) => {}
-            Err(error) => {
-                *failed = error.field;
-                return Err(error.error);
-            }
-        }
-        write_edited(line, body, edits.as_slice(), sink)?;
+        let Ok(text) = edited(alloc, self.trims, base, fields, bytes) else {
+            return Err(first_error(alloc, self.trims, base, fields, bytes, failed));
+        };
+        write_replaced(line, body, text.as_bytes(), sink)?;
         Ok(())
     }
 
@@ -211,8 +207,8 @@ impl Filter<'_> {
             Target::One(field, conversion) => {
                 self.convert_one(alloc, field, conversion, number, line, sink)
             }
-            Target::Fields(fields) => {
-                self.convert_fields(alloc, fields.as_slice(), number, line, sink, failed)
+            Target::Fields(base, fields) => {
+                self.convert_fields(alloc, base, fields.as_slice(), number, line, sink, failed)
             }
         }
     }

@@ -1,7 +1,7 @@
 //! The fields that words name, in a header.
-ghost use Rattle.std.specs.Prelude.{◌≡◌, ◌≢◌, ◌<◌, ◌≤◌, ℕ, None, true, false, vec_len, IfSome, IfOk, IfErr};
+ghost use Rattle.std.specs.Prelude.{◌≡◌, ◌≢◌, ◌<◌, ◌≤◌, ℕ, None, true, false, length, vec_len, IfSome, IfOk, IfErr};
 ghost use Rattle.cli.specs.Fields.{within, quoted};
-ghost use Rattle.cli.specs.Headers.{HoldsName, HasName, NoneHas, IsHeaderOf, HasBounds, IsIndexOf, HasNoIndex, has_index, IsPlaced, AreFields, FieldsFail};
+ghost use Rattle.cli.specs.Headers.{HoldsName, HasName, NoneHas, IsHeaderOf, HasBounds, IsIndexOf, HasNoIndex, has_index, count_before, IsPlaced, AreFields, FieldsFail};
 
 use crate::columns::{Column, FieldLabel};
 use crate::edits::{FieldConversion, within};
@@ -29,18 +29,26 @@ pub struct Header<'a> {
 fn has_index(fields: &[FieldConversion<'_>], index: usize) -> bool
     ensures { result ≡ has_index fields.now index }
 {
-    fields.iter().any(|it| it.field.index == index)
+    fields.iter().any(|it| it.index == index)
 }
 
 /// Returns the field with an index, with the conversion of its words.
-fn placed<'a>(field: Field<'a>, index: usize, it: &'a NamedField<'a>) -> FieldConversion<'a>
-    ensures { IsPlaced field.entry index it.now result }
+fn placed<'a>(index: usize, rank: usize, it: &'a NamedField<'a>) -> FieldConversion<'a>
+    ensures { IsPlaced index rank it.now result }
 {
     FieldConversion {
-        field: Field { index, ..field },
+        index,
+        rank,
         label: it.label,
         conversion: &it.conversion,
     }
+}
+
+fn count_before(fields: &[FieldConversion<'_>], index: usize) -> usize
+    ensures value { result ≡ count_before fields.now index }
+    ensures inside { result ≤ length fields.now }
+{
+    fields.iter().filter(|it| it.index < index).count()
 }
 
 impl<'a> Header<'a> {
@@ -147,7 +155,9 @@ impl<'a> Header<'a> {
         if has_index(fields.as_slice(), index) {
             return Err(HeaderError::SameField(FieldLabel::Index(index)));
         }
-        if let Err(_) = fields.push(placed(self.field, index, first)) {
+        let before = count_before(fields.as_slice(), index);
+        let it = placed(index, fields.len(), first);
+        if let Err(_) = fields.insert(before, it) {
             return Err(HeaderError::Memory);
         }
         self.with_fields(alloc, rest, fields)

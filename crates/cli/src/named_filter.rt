@@ -10,7 +10,7 @@ ghost use Rattle.cli.specs.NamedFilter.{header_record, is_broken_header, filter_
 use crate::diagnostics::Diagnostics;
 use crate::edits::FieldConversion;
 use crate::error::{HeaderError, ProgramError};
-use crate::fields::{Field, are_closed};
+use crate::fields::Field;
 use crate::filter::{Filter, error_of_reading, filter_line, filter_lines};
 use crate::headers::Header;
 use crate::input::LineReader;
@@ -49,7 +49,7 @@ impl<'a> Options<'a> {
     fn is_broken_header(self, field: &Field<'_>, header: &[u8]) -> bool
         ensures { result ≡ is_broken_header self.entry field.now header.now }
     {
-        (self.has_records && is_broken(header)) || (field.is_csv && !are_closed(header))
+        (self.has_records && is_broken(header)) || field.has_open_quote(header)
     }
 
     /// Returns the fields that words name in a header.
@@ -90,7 +90,7 @@ impl<'a> NamedFilter<'a> {
                 let fields = self
                     .options
                     .fields(alloc, *field, named.as_slice(), header)?;
-                Ok(self.options.filter(Target::Fields(fields)))
+                Ok(self.options.filter(Target::Fields(*field, fields)))
             }
         }
     }

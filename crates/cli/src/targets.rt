@@ -16,8 +16,8 @@ use std::alloc::Global;
 pub enum Target<'a> {
     /// The line, or one field of it by its number.
     One(Option<Field<'a>>, &'a Conversion<'a>),
-    /// Several fields, or fields by name, in the order of their words.
-    Fields(Vec<FieldConversion<'a>>),
+    /// Several fields, or fields by name, in the order of a line. Each has the delimiter and the quotes of this one.
+    Fields(Field<'a>, Vec<FieldConversion<'a>>),
 }
 
 /// A field that words name, and its conversion.
@@ -174,7 +174,7 @@ pub fn parse_target<'a>(
     let (own, others) = split_fields(words);
     let conversion = parse_conversion(alloc, own)?;
     if let Some(index) = only_index(column, others) {
-        return Ok(NamedTarget::One(Some(Field { index, ..field }), conversion));
+        return Ok(NamedTarget::One(Some(field.at(index)), conversion));
     }
     let mut fields = Vec::new(alloc);
     if let Err(_) = fields.push(NamedField::new(column, conversion)) {

@@ -1,6 +1,7 @@
 use Rattle.std.proofs.Common.{refl}
+use Rattle.std.proofs.lemmas.List.Elements.{All-push}
 use Rattle.cli.specs.Columns.{IsFieldWord}
-use Rattle.cli.proofs.FieldWords.{all_more, split_here, split_none}
+use Rattle.cli.proofs.FieldWords.{split_here, split_none}
 use Rattle.cli.proofs.Programs.{taken}
 use Rattle.cli.proofs.targets.split_fields.Goals as goal
 
@@ -18,7 +19,7 @@ loop-index-preserved c =
     let other : ¬ IsFieldWord word =
     λ field. c.in_default.ensures.none refl field.0 (rw c.as_str.ensures.value field.1) in
     rw (taken c.args.words.now c.loop-index.index word c.loop-index-test.true c.index-words-index.is)
-    (all_more (λ word. ¬ IsFieldWord word) _ word c.loop-index.invariant other)
+    (All-push (λ word. ¬ IsFieldWord word) _ word c.loop-index.invariant other)
 
 pub returns : goal.returns
 returns c =

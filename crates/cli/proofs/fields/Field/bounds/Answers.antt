@@ -1,5 +1,5 @@
 use Rattle.std.proofs.Common.{◌∷◌, true, take, sym, ◌∙◌, subst}
-use Rattle.cli.proofs.Separators.{Scanned, scanned_start, scanned_separator, scanned_quoted, scanned_end}
+use Rattle.cli.proofs.Separators.{next_is, Scanned, scanned_start, scanned_separator, scanned_quoted, scanned_end}
 use Rattle.cli.proofs.fields.Field.bounds.Goals as goal
 use Rattle.cli.proofs.fields.Field.bounds.Goals.{After-is_outside_after-outside}
 
@@ -45,3 +45,7 @@ pub returns-then-left-eq0-clause-value : goal.returns-then-left-eq0-clause-value
 returns-then-left-eq0-clause-value c =
     sym (scanned_end _ _ (scanned (goal.at.returns-then-left-eq0-clause-value c).After-is_outside_after-outside)
     (c.is_outside_after-outside.ensures (take c.loop-at.counted c.args.line.now)) c.if-outside.true c.if-left-eq0.true)
+
+pub returns-in-len1-clause-value : goal.returns-in-len1-clause-value
+returns-in-len1-clause-value c =
+    next_is c.args.self.now c.args.line.now c.args.self.now.index c.bounds_by_byte.result c.bounds_by_byte.ensures.next

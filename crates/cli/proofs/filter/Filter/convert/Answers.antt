@@ -41,7 +41,7 @@ pub returns-in-Fields-clause-printed : goal.returns-in-Fields-clause-printed
 returns-in-Fields-clause-printed g c =
     on_ok_weaker c.convert_fields.result
     (λ found. let (text, is, put) = found in
-    converted_line c.args.self.now c.args.number c.args.line.now (Fields c.in-Fields.fields)
+    converted_line c.args.self.now c.args.number c.args.line.now (Fields c.in-Fields.base c.in-Fields.fields)
     (Appends (g.W.Sink.contents c.args.sink.now) (g.W.Sink.contents c.convert_fields.new.sink)) c.in-Fields.is
     text is put)
     (rw c.as_slice.ensures.value at c.convert_fields.ensures.printed)
@@ -53,15 +53,15 @@ returns-in-Fields-clause-fails_with g c =
     let fields = c.in-Fields.fields in
     let failed = c.convert_fields.new.failed in
     err_weaker c.convert_fields.result
-    (λ error. error ≢ Output → EditingFails filter.trims fields.items body (line_error failed error))
+    (λ error. error ≢ Output → EditingFails filter.trims c.in-Fields.base body fields.items (line_error failed error))
     (λ error. error ≢ Output → ConvertingFails filter c.args.number c.args.line.now (line_error failed error))
-    (λ error fails other. converting_fails filter c.args.number c.args.line.now (Fields fields)
+    (λ error fails other. converting_fails filter c.args.number c.args.line.now (Fields c.in-Fields.base fields)
     (line_error failed error) c.in-Fields.is (fails other))
     (rw c.as_slice.ensures.value at c.convert_fields.ensures.fails_with)
 
 pub returns-in-Fields-clause-prefix : goal.returns-in-Fields-clause-prefix
 returns-in-Fields-clause-prefix g c = λ output.
     let (text, is, put) = (rw c.as_slice.ensures.value at c.convert_fields.ensures.prefix) output in
-    converted_line c.args.self.now c.args.number c.args.line.now (Fields c.in-Fields.fields)
+    converted_line c.args.self.now c.args.number c.args.line.now (Fields c.in-Fields.base c.in-Fields.fields)
     (AppendsPrefix (g.W.Sink.contents c.args.sink.now) (g.W.Sink.contents c.convert_fields.new.sink)) c.in-Fields.is
     text is put

@@ -1,5 +1,0 @@
-use Rattle.std.proofs.Common.{length}
-use Rattle.cli.proofs.edits.+write_from.Given as goal
-
-abbrev pub decreases-write_from : goal.decreases-write_from
-decreases-write_from g l = length l.edits.now
