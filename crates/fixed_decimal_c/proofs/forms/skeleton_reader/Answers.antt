@@ -7,4 +7,5 @@ returns-in-Ok-clause-ok c =
     ((c.in_ok-formatter.formatter, c.in_ok-formatter.ensures.ok, can, is), c.in-Some.ensures.some)
 
 pub returns-in-Err-clause-err : goal.returns-in-Err-clause-err
-returns-in-Err-clause-err c = inr (inl (c.in_ok-formatter.formatter, c.in_ok-formatter.ensures.ok, c.in-Err.ensures.err))
+returns-in-Err-clause-err c =
+    inr (inl (c.in_ok-formatter.formatter, c.in_ok-formatter.ensures.ok, c.in-Err.ensures.err))
