@@ -72,31 +72,31 @@ module _ (trims : Bool) (base : Field) (line : List ℕ) where
       (fields : List FieldConversion) (i : ℕ) (one : FieldConversion) (inside : i < length fields)
       (is : one ≡ get_or fields i one)
     where
-    pub convert_more :
-        (rank : ℕ) → Convert fields i rank → (one.rank < rank → HasEdit trims base line one)
-        → Convert fields (i + 1) rank
-    convert_more rank all has =
-        subst (All (λ it. it.rank < rank → HasEdit trims base line it))
-        (sym (taken fields i one inside is))
-        (All-push (λ it. it.rank < rank → HasEdit trims base line it) (take i fields) one all has)
+      pub convert_more :
+          (rank : ℕ) → Convert fields i rank → (one.rank < rank → HasEdit trims base line one)
+          → Convert fields (i + 1) rank
+      convert_more rank all has =
+          subst (All (λ it. it.rank < rank → HasEdit trims base line it))
+          (sym (taken fields i one inside is))
+          (All-push (λ it. it.rank < rank → HasEdit trims base line it) (take i fields) one all has)
 
-    -- it comes later
-    pub convert_past : (rank : ℕ) → Convert fields i rank → rank < one.rank → Convert fields (i + 1) rank
-    convert_past rank all past = convert_more rank all (λ below. absurd (omega (arith, below, past)))
+      -- it comes later
+      pub convert_past : (rank : ℕ) → Convert fields i rank → rank < one.rank → Convert fields (i + 1) rank
+      convert_past rank all past = convert_more rank all (λ below. absurd (omega (arith, below, past)))
 
-    -- it fails, and comes first
-    module _ (rank : ℕ) (all : Convert fields i rank) (lower : one.rank ≤ rank) where
-      pub convert_lower : Convert fields (i + 1) one.rank
-      convert_lower =
-          convert_more one.rank
-          (All-weaker (λ it. it.rank < rank → HasEdit trims base line it)
-          (λ it. it.rank < one.rank → HasEdit trims base line it)
-          (λ it has below. has (omega (arith, lower, below))) (take i fields) all)
-          (λ below. absurd (omega (arith, below)))
+      -- it fails, and comes first
+      module _ (rank : ℕ) (all : Convert fields i rank) (lower : one.rank ≤ rank) where
+        pub convert_lower : Convert fields (i + 1) one.rank
+        convert_lower =
+            convert_more one.rank
+            (All-weaker (λ it. it.rank < rank → HasEdit trims base line it)
+            (λ it. it.rank < one.rank → HasEdit trims base line it)
+            (λ it has below. has (omega (arith, lower, below))) (take i fields) all)
+            (λ below. absurd (omega (arith, below)))
 
-    pub one_fails : (error : OperationError) → HasNoEdit trims base line one error
-        → Fails fields one.rank error (Some one.label)
-    one_fails error none = (one, (i, inside, sym is), none, refl, refl)
+      pub one_fails : (error : OperationError) → HasNoEdit trims base line one error
+          → Fails fields one.rank error (Some one.label)
+      one_fails error none = (one, (i, inside, sym is), none, refl, refl)
 
   pub first_fails :
       (fields : List FieldConversion) (i rank : ℕ) (error : OperationError) (failed : Option FieldLabel)

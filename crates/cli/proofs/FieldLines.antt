@@ -62,7 +62,7 @@ pub plain_field :
 plain_field trims field conversion bytes before after off plain (text, is, put) = (
   text,
   field_result trims field conversion bytes bytes (inl (refl, λ csv. absurd (false≢true (sym plain ∙ csv)))) false
-  (ap (λ t. t && not (is_quoted field bytes)) off) (Ok text) (Ok text) (Ok text, is, refl) refl,
+      (ap (λ t. t && not (is_quoted field bytes)) off) (Ok text) (Ok text) (Ok text, is, refl) refl,
   rw plain put,
 )
 

@@ -296,7 +296,7 @@ module _ (field : Field) (line : List ℕ) (d : ℕ) (one : field.delimiter.now 
               let same : at + 1 - 1 ≡ at = omega arith in
               let (out, here) = and_parts _ _ both in (
                 h.left_is ∙ ap (λ n. drop n (later field line start (rest line d at))) none ∙ separated_here both
-                ∙ ap (λ fields. (start, at) ∷ fields) (sym (after_is (at + 1) (omega arith))),
+                    ∙ ap (λ fields. (start, at) ∷ fields) (sym (after_is (at + 1) (omega arith))),
                 inr (λ _. ap (λ n. is_outside field (take n line)) same ∙ sym h.outside_is ∙ out),
               )
 
@@ -349,7 +349,7 @@ module _ (field : Field) (line : List ℕ) (d : ℕ) (one : field.delimiter.now 
       pub by_byte_all : left ≡ 0 → IsNext field line (Some (start, length line)) fields
       by_byte_all none = (
         last ∙ ap (λ n. drop n ((start, length line) ∷ [])) none
-        ∙ ap (λ fields. (start, length line) ∷ fields) (sym (after_past field line (length line + 1) (omega arith))),
+            ∙ ap (λ fields. (start, length line) ∷ fields) (sym (after_past field line (length line + 1) (omega arith))),
         inr (λ inside. absurd (omega (arith, inside))),
       )
 
