@@ -1,4 +1,4 @@
-use Rattle.std.proofs.Common.{◌≡◌, false, rules}
+use Rattle.std.proofs.Common.{rules}
 use Rattle.std.proofs.lemmas.Result.{on_ok_weaker}
 use Rattle.cli.proofs.FieldLines.{plain_field}
 use Rattle.cli.proofs.field_conversion.append_converted.Goals as goal

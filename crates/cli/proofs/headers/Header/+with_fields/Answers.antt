@@ -1,6 +1,5 @@
-use Rattle.std.proofs.Common.{◌≡◌, ◌≢◌, ◌∷◌, List, length, false, sym, ◌∙◌, rules}
-use Rattle.cli.specs.declared.edits.FieldConversion.{FieldConversion}
-use Rattle.cli.specs.Headers.{has_index, IsPlaced, with_field, AreFields, FieldsFail}
+use Rattle.std.proofs.Common.{◌≡◌, ◌≢◌, ◌∷◌, length, false, sym, ◌∙◌, rules}
+use Rattle.cli.specs.Headers.{has_index, with_field, AreFields, FieldsFail}
 use Rattle.cli.specs.declared.error.HeaderError.TheVariants.{Memory}
 use Rattle.cli.proofs.FieldLines.{err_weaker}
 use Rattle.cli.proofs.HeaderNames.{inserted, fields_more, fields_fail, ok_weaker}
