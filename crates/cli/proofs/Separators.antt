@@ -202,7 +202,8 @@ module _ (line : List ℕ) (d : ℕ) where
 
 module _ (field : Field) (line : List ℕ) (start : ℕ) where
   after_inside :
-      start ≤ length line → bounds_after field line start ≡ later field line start (matches line field.delimiter.now start)
+      start ≤ length line
+      → bounds_after field line start ≡ later field line start (matches line field.delimiter.now start)
   after_inside inside = cond-true (nat_le start (length line)) _ _ (le-leb start (length line) inside)
 
   after_past : length line < start → bounds_after field line start ≡ []
@@ -237,7 +238,8 @@ module _ (field : Field) (line : List ℕ) (d : ℕ) (one : field.delimiter.now 
   width : length field.delimiter.now ≡ 1
   width = ap length one
 
-  after_is : (start : ℕ) → start ≤ length line → bounds_after field line start ≡ later field line start (rest line d start)
+  after_is :
+      (start : ℕ) → start ≤ length line → bounds_after field line start ≡ later field line start (rest line d start)
   after_is start inside =
       after_inside field line start inside
       ∙ ap (λ delimiter. later field line start (matches line delimiter start)) one
@@ -349,7 +351,8 @@ module _ (field : Field) (line : List ℕ) (d : ℕ) (one : field.delimiter.now 
       pub by_byte_all : left ≡ 0 → IsNext field line (Some (start, length line)) fields
       by_byte_all none = (
         last ∙ ap (λ n. drop n ((start, length line) ∷ [])) none
-            ∙ ap (λ fields. (start, length line) ∷ fields) (sym (after_past field line (length line + 1) (omega arith))),
+            ∙ ap (λ fields. (start, length line) ∷ fields)
+            (sym (after_past field line (length line + 1) (omega arith))),
         inr (λ inside. absurd (omega (arith, inside))),
       )
 
@@ -383,7 +386,8 @@ module _ (field : Field) (line : List ℕ) where
       (bounds_after field line (found.1 + 1)) (ap (drop index) (sym (after_inside field line 0 (omega arith))) ∙ is))
 
   -- it is searched from a cursor
-  module _ (cursor : Cursor) (is : IsCursor field line cursor) (index left : ℕ) (same : cursor.index + left ≡ index) where
+  module _
+      (cursor : Cursor) (is : IsCursor field line cursor) (index left : ℕ) (same : cursor.index + left ≡ index) where
     pub from_cursor :
         (found : Option (ℕ × ℕ)) → IsNext field line found (drop left (bounds_after field line cursor.start))
         → IsNext field line found (drop index (bounds_after field line 0))

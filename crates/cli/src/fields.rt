@@ -134,8 +134,8 @@ impl Field<'_> {
         start == 0 || self.is_outside_after(true, &line[start - 1..start])
     }
 
-    /// Returns the start and the end of a field in a line whose fields one byte separates: from the field that starts at
-    /// `first`, the one that `left` others precede. None: there are fewer.
+    /// Returns the start and the end of a field in a line whose fields one byte separates: from the field that starts
+    /// at `first`, the one that `left` others precede. None: there are fewer.
     #[inline(always)]
     fn bounds_by_byte(
         &self,

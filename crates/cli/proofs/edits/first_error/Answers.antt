@@ -19,19 +19,22 @@ loop-it-preserved c =
       | in-Err w ↦ record {
         convert =
             rw w.rank-is
-            (convert_lower c.args.trims c.args.base.now c.args.line.now c.args.fields.now c.loop-it.it-index c.it-item.result
-            c.loop-it-test.true c.it-item.is c.loop-it.rank c.loop-it.invariant.convert (omega (arith, c.if-it-rank.false)));
+            (convert_lower c.args.trims c.args.base.now c.args.line.now c.args.fields.now c.loop-it.it-index
+            c.it-item.result c.loop-it-test.true c.it-item.is c.loop-it.rank c.loop-it.invariant.convert
+            (omega (arith, c.if-it-rank.false)));
         fails =
             rw (w.first-is, w.failed-is, w.rank-is)
-            (λ other. one_fails c.args.trims c.args.base.now c.args.line.now c.args.fields.now c.loop-it.it-index c.it-item.result
+            (λ other. one_fails c.args.trims c.args.base.now c.args.line.now c.args.fields.now c.loop-it.it-index
+            c.it-item.result
             c.loop-it-test.true c.it-item.is w.in-Err.error (w.in-Err.ensures.err other));
         other = rw w.first-is w.in-Err.ensures.no_output;
       }
       | in_default w ↦ record {
         convert =
             rw w.rank-is
-            (convert_more c.args.trims c.args.base.now c.args.line.now c.args.fields.now c.loop-it.it-index c.it-item.result
-            c.loop-it-test.true c.it-item.is c.loop-it.rank c.loop-it.invariant.convert (λ lower. w.in_default.ensures.ok));
+            (convert_more c.args.trims c.args.base.now c.args.line.now c.args.fields.now c.loop-it.it-index
+            c.it-item.result c.loop-it-test.true c.it-item.is c.loop-it.rank c.loop-it.invariant.convert
+            (λ lower. w.in_default.ensures.ok));
         fails = rw (w.first-is, w.failed-is, w.rank-is) c.loop-it.invariant.fails;
         other = rw w.first-is c.loop-it.invariant.other;
       }

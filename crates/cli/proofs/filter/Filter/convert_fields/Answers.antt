@@ -15,7 +15,8 @@ returns-clause-printed g c =
 pub returns-in_default-clause-fails_with : goal.returns-in_default-clause-fails_with
 returns-in_default-clause-fails_with g c = λ other.
     editing_fails c.args.self.now.trims c.args.number c.args.line.now c.args.base.now c.args.fields.now
-    c.body_bounds-body.result c.body_bounds-body.ensures.value (line_error c.first_error.new.failed c.first_error.result)
+    c.body_bounds-body.result c.body_bounds-body.ensures.value
+    (line_error c.first_error.new.failed c.first_error.result)
     c.first_error.ensures.error
 
 pub returns-in_err-write_replaced-clause-prefix : goal.returns-in_err-write_replaced-clause-prefix
