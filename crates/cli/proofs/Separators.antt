@@ -1,17 +1,16 @@
 -- The delimiters of a line, from left to right, and the fields that are left after some of them.
 use Rattle.std.proofs.Common.{◌≡◌, ℕ, zero, suc, ◌+◌, ◌-◌, ◌<◌, ◌≤◌, Bool, true, false, List, [], ◌∷◌, ◌++◌, length, take, drop, slice_get, slice_index, Some, None, refl, sym, ap, ◌≢◌, ◌==◌, ◌&&◌, ⊎_elim, ◌∙◌, arith, eq-eqb, eqb-true, subst, inl, inr, Option}
-use Rattle.std.specs.Prelude.{⊤, filter, nat_le, not, ◌||◌, ◌%◌}
+use Rattle.std.specs.Prelude.{⊤, filter, nat_le}
 use Rattle.std.proofs.lemmas.Bool.{and_parts, cond_both, cond-true, cond-false, cases_Bool, false≢true, le-leb}
 use Rattle.std.proofs.lemmas.Bool.Decides.{nat_tests}
 use Rattle.std.proofs.lemmas.Grind.{common_steps}
 use Rattle.std.proofs.lemmas.List.{drop-drop, drop_all}
-use Rattle.std.proofs.lemmas.List.Sums.{count_by_more_no}
 use Rattle.std.proofs.Math.Seq.{take-add}
 use Rattle.memchr.specs.Find.{OccursAt, occurs_at, match_len, matches_from, matches}
 use Rattle.memchr.proofs.lemmas.MatchLemmas.{OccursAt-true, occurs_at-true}
 use Rattle.cli.specs.declared.fields.Field.{Field}
 use Rattle.cli.specs.declared.fields.Cursor.{Cursor}
-use Rattle.cli.specs.Fields.{is_outside, is_quote, at_index, bounds_from, bounds, bounds_after, IsStart, IsNext, IsCursor}
+use Rattle.cli.specs.Fields.{is_outside, at_index, bounds_from, bounds, bounds_after, IsStart, IsNext, IsCursor}
 
 -- ---- The delimiters of a line.
 
@@ -258,19 +257,6 @@ module _ (field : Field) (line : List ℕ) (d : ℕ) (one : field.delimiter.now 
       {fields : List (ℕ × ℕ)} {start left at : ℕ} {before : Bool}
       (h : ByByte field line d fields start left before at) (l : at < length line)
     where
-      -- the byte is neither a delimiter nor a quote
-      pub by_byte_plain :
-          slice_index line at ≢ d → is_quote (slice_index line at) ≡ false
-          → ByByte field line d fields start left before (at + 1)
-      by_byte_plain other plain = record {
-        start_inside = omega (arith, h.start_inside);
-        inside = omega arith;
-        outside_is =
-            h.outside_is
-            ∙ ap (λ n. not field.is_csv || n % 2 == 0) (sym (count_by_more_no is_quote line at 0 l plain));
-        left_is = h.left_is ∙ ap (λ ms. drop left (later field line start ms)) (rest-miss line d at l other);
-      }
-
       module _ {now : Bool}
           (is : before ≡ is_outside field (take at line)
           → now ≡ is_outside field (take at line ++ take (at + 1 - at) (drop at line)))

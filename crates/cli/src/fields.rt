@@ -157,11 +157,7 @@ impl Field<'_> {
         let mut left = left;
         let mut outside = self.starts_outside(line, first);
         for at in first..line.len() {
-            let byte = line[at];
-            if byte != delimiter && byte != b'"' {
-                continue;
-            }
-            let separates = outside & (byte == delimiter);
+            let separates = outside & (line[at] == delimiter);
             outside = self.is_outside_after(outside, &line[at..at + 1]);
             if !separates {
                 continue;
