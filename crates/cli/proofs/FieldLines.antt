@@ -133,7 +133,7 @@ rejected_line filter number line error one (other, fails) =
 all_within : (line : List ℕ) → within line (0, length line) ≡ line
 all_within line = take_rest line 0
 
-all_replaced : (line bytes : List ℕ) → replaced line (0, length line) bytes ≡ bytes
+pub all_replaced : (line bytes : List ℕ) → replaced line (0, length line) bytes ≡ bytes
 all_replaced line bytes = ap (λ rest. bytes ++ rest) (drop-length line) ∙ append-nil bytes
 
 -- bytes within others that are within a line

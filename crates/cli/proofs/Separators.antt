@@ -1,17 +1,16 @@
 -- The delimiters of a line, from left to right, and the fields that are left after some of them.
 use Rattle.std.proofs.Common.{◌≡◌, ℕ, zero, suc, ◌+◌, ◌-◌, ◌<◌, ◌≤◌, Bool, true, false, List, [], ◌∷◌, ◌++◌, length, take, drop, slice_get, slice_index, Some, None, refl, sym, ap, ◌≢◌, ◌==◌, ◌&&◌, ⊎_elim, ◌∙◌, arith, eq-eqb, eqb-true, subst, inl, inr, Option}
-use Rattle.std.specs.Prelude.{⊤, filter, nat_le, not, ◌||◌, ◌%◌}
+use Rattle.std.specs.Prelude.{⊤, filter, nat_le}
 use Rattle.std.proofs.lemmas.Bool.{and_parts, cond_both, cond-true, cond-false, cases_Bool, false≢true, le-leb}
 use Rattle.std.proofs.lemmas.Bool.Decides.{nat_tests}
 use Rattle.std.proofs.lemmas.Grind.{common_steps}
 use Rattle.std.proofs.lemmas.List.{drop-drop, drop_all}
-use Rattle.std.proofs.lemmas.List.Sums.{count_by_more_no}
 use Rattle.std.proofs.Math.Seq.{take-add}
 use Rattle.memchr.specs.Find.{OccursAt, occurs_at, match_len, matches_from, matches}
 use Rattle.memchr.proofs.lemmas.MatchLemmas.{OccursAt-true, occurs_at-true}
 use Rattle.cli.specs.declared.fields.Field.{Field}
 use Rattle.cli.specs.declared.fields.Cursor.{Cursor}
-use Rattle.cli.specs.Fields.{is_outside, is_quote, at_index, bounds_from, bounds, bounds_after, IsStart, IsNext, IsCursor}
+use Rattle.cli.specs.Fields.{is_outside, at_index, bounds_from, bounds, bounds_after, IsStart, IsNext, IsCursor}
 
 -- ---- The delimiters of a line.
 
@@ -212,16 +211,16 @@ module _ (field : Field) (line : List ℕ) (start : ℕ) where
 
 -- the first byte of a field is outside of quotes if the separator before it is
 pub start_outside :
-    (field : Field) (line : List ℕ) (start : ℕ) → IsStart field line start → start ≢ 0 → start ≤ length line
-    → (now : Bool)
+    (field : Field) (line : List ℕ) (start : ℕ) → IsStart field line start → start ≤ length line → (now : Bool)
     → (true ≡ is_outside field (take (start - 1) line)
     → now ≡ is_outside field (take (start - 1) line ++ take (start - (start - 1)) (drop (start - 1) line)))
     → now ≡ is_outside field (take start line)
-start_outside field line start (inl first) some inside now is = absurd (some first)
-start_outside field line start (inr out) some inside now is =
-    let ordered : start - 1 + (start - (start - 1)) ≡ start = omega (arith, some) in
+start_outside field line start starts inside now is =
+    let out : is_outside field (take (start - 1) line) ≡ true =
+    ⊎_elim (λ first. rw first (grind (arith, common_steps))) (λ out. out inside) starts in
+    let ordered : start - 1 + (start - (start - 1)) ≡ start = omega arith in
     let bytes = sym (take-add (start - 1) (start - (start - 1)) line) ∙ ap (λ n. take n line) ordered in
-    is (sym (out inside)) ∙ ap (is_outside field) bytes
+    is (sym out) ∙ ap (is_outside field) bytes
 
 -- before the byte at an index, the fields that are sought are those that follow `left` of those from `start`
 pub record ByByte
@@ -256,19 +255,6 @@ module _ (field : Field) (line : List ℕ) (d : ℕ) (one : field.delimiter.now 
       {fields : List (ℕ × ℕ)} {start left at : ℕ} {before : Bool}
       (h : ByByte field line d fields start left before at) (l : at < length line)
     where
-      -- the byte is neither a delimiter nor a quote
-      pub by_byte_plain :
-          slice_index line at ≢ d → is_quote (slice_index line at) ≡ false
-          → ByByte field line d fields start left before (at + 1)
-      by_byte_plain other plain = record {
-        start_inside = omega (arith, h.start_inside);
-        inside = omega arith;
-        outside_is =
-            h.outside_is
-            ∙ ap (λ n. not field.is_csv || n % 2 == 0) (sym (count_by_more_no is_quote line at 0 l plain));
-        left_is = h.left_is ∙ ap (λ ms. drop left (later field line start ms)) (rest-miss line d at l other);
-      }
-
       module _ {now : Bool}
           (is : before ≡ is_outside field (take at line)
           → now ≡ is_outside field (take at line ++ take (at + 1 - at) (drop at line)))

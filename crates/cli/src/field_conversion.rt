@@ -40,6 +40,9 @@ pub fn write_replaced<W: Sink>(
         (replaced bytes.now bounds others.now)) }
     ensures failed { OnErr result (W.has_failed sink.new ≡ true) }
 {
+    if bounds.0 == 0 && bounds.1 == bytes.len() {
+        return sink.put_bytes(others);
+    }
     sink.put_bytes(&bytes[..bounds.0])?;
     sink.put_bytes(others)?;
     sink.put_bytes(&bytes[bounds.1..])

@@ -1,7 +1,7 @@
-use Rattle.std.proofs.Common.{take, drop}
+use Rattle.std.proofs.Common.{◌≡◌, take, drop, rules}
 use Rattle.std.proofs.lemmas.Result.{on_err_weaker}
 use Rattle.fixed_decimal.proofs.Calling.{on_err, first_of_three, second_of_three, third_of_three}
-use Rattle.cli.proofs.FieldLines.{all_after}
+use Rattle.cli.proofs.FieldLines.{all_after, all_replaced}
 use Rattle.cli.proofs.field_conversion.write_replaced.Goals as goal
 
 pub returns-in_err-put_bytes-clause-err : goal.returns-in_err-put_bytes-clause-err
@@ -23,6 +23,12 @@ returns-clause-err g c =
     let bytes = c.args.bytes.now in
     let first = c.in_ok-put_bytes.ensures.appends in
     let second = c.in_ok-put_bytes-2.ensures.appends in
-    on_err_weaker c.put_bytes-3.result (λ third. third_of_three (take c.args.bounds.0 bytes) c.args.others.now
+    on_err_weaker c.put_bytes-4.result (λ third. third_of_three (take c.args.bounds.0 bytes) c.args.others.now
     (drop c.args.bounds.1 bytes) _ _ _ _ first second (rw (all_after c.args.bounds.1 bytes) at third))
-    c.put_bytes-3.ensures.prefix
+    c.put_bytes-4.ensures.prefix
+
+pub returns-then-bounds-bytes-clause-err : goal.returns-then-bounds-bytes-clause-err
+returns-then-bounds-bytes-clause-err g c =
+    let start : c.args.bounds.0 ≡ 0 = search rules in
+    rw (start, c.if-bounds-bytes.true, all_replaced c.args.bytes.now c.args.others.now)
+    c.put_bytes.ensures.prefix

@@ -1,17 +1,11 @@
 use Rattle.std.proofs.Common.{take, arith, rules}
-use Rattle.std.proofs.lemmas.Grind.{common_steps}
-use Rattle.cli.proofs.Separators.{by_byte_start, by_byte_plain, by_byte_other, by_byte_end, by_byte_separator, by_byte_all, by_byte_none}
+use Rattle.cli.proofs.Separators.{by_byte_start, by_byte_other, by_byte_end, by_byte_separator, by_byte_all, by_byte_none}
 use Rattle.cli.proofs.fields.Field.bounds_by_byte.Goals as goal
 
 pub loop-at-init : goal.loop-at-init
 loop-at-init c =
     by_byte_start c.args.self.now c.args.line.now c.args.delimiter c.requires.delimiter c.args.first c.args.left
     (search rules) _ c.starts_outside-outside.ensures
-
-pub loop-at-preserved-then-byte-ne34 : goal.loop-at-preserved-then-byte-ne34
-loop-at-preserved-then-byte-ne34 c =
-    by_byte_plain _ _ _ c.requires.delimiter c.loop-at.invariant c.loop-at-test.true c.if-byte-delimiter.true
-    (grind (arith, common_steps, c.if-byte-ne34.true))
 
 pub loop-at-preserved-then-not-separates : goal.loop-at-preserved-then-not-separates
 loop-at-preserved-then-not-separates c =
