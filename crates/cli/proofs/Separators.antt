@@ -1,5 +1,5 @@
 -- The delimiters of a line, from left to right, and the fields that are left after some of them.
-use Rattle.std.proofs.Common.{◌≡◌, ℕ, zero, suc, ◌+◌, ◌-◌, ◌<◌, ◌≤◌, Bool, true, false, List, [], ◌∷◌, ◌++◌, length, take, drop, slice_get, slice_index, Some, None, refl, sym, ap, ◌≢◌, ◌==◌, ◌&&◌, ⊎_elim, ◌∙◌, arith, eq-eqb, eqb-true, subst, inl, inr, Option}
+use Rattle.std.proofs.Common.{◌≡◌, ℕ, zero, suc, ◌+◌, ◌-◌, ◌<◌, ◌≤◌, Bool, true, false, List, [], ◌∷◌, ◌++◌, length, take, drop, slice_get, slice_index, Some, None, refl, sym, ap, ◌≢◌, ◌==◌, ◌&&◌, ⊎_elim, ◌∙◌, arith, eq-eqb, eqb-true, subst, inr, Option}
 use Rattle.std.specs.Prelude.{⊤, filter, nat_le}
 use Rattle.std.proofs.lemmas.Bool.{and_parts, cond_both, cond-true, cond-false, cases_Bool, false≢true, le-leb}
 use Rattle.std.proofs.lemmas.Bool.Decides.{nat_tests}
@@ -212,16 +212,16 @@ module _ (field : Field) (line : List ℕ) (start : ℕ) where
 
 -- the first byte of a field is outside of quotes if the separator before it is
 pub start_outside :
-    (field : Field) (line : List ℕ) (start : ℕ) → IsStart field line start → start ≢ 0 → start ≤ length line
-    → (now : Bool)
+    (field : Field) (line : List ℕ) (start : ℕ) → IsStart field line start → start ≤ length line → (now : Bool)
     → (true ≡ is_outside field (take (start - 1) line)
     → now ≡ is_outside field (take (start - 1) line ++ take (start - (start - 1)) (drop (start - 1) line)))
     → now ≡ is_outside field (take start line)
-start_outside field line start (inl first) some inside now is = absurd (some first)
-start_outside field line start (inr out) some inside now is =
-    let ordered : start - 1 + (start - (start - 1)) ≡ start = omega (arith, some) in
+start_outside field line start starts inside now is =
+    let out : is_outside field (take (start - 1) line) ≡ true =
+    ⊎_elim (λ first. rw first (grind (arith, common_steps))) (λ out. out inside) starts in
+    let ordered : start - 1 + (start - (start - 1)) ≡ start = omega arith in
     let bytes = sym (take-add (start - 1) (start - (start - 1)) line) ∙ ap (λ n. take n line) ordered in
-    is (sym (out inside)) ∙ ap (is_outside field) bytes
+    is (sym out) ∙ ap (is_outside field) bytes
 
 -- before the byte at an index, the fields that are sought are those that follow `left` of those from `start`
 pub record ByByte

@@ -131,7 +131,7 @@ impl Field<'_> {
         requires inside { start ≤ length line.now }
         ensures { result ≡ is_outside self.now (take start line.now) }
     {
-        start == 0 || self.is_outside_after(true, &line[start - 1..start])
+        self.is_outside_after(true, &line[start.saturating_sub(1)..start])
     }
 
     /// Returns the start and the end of a field in a line whose fields one byte separates: from the field that starts
