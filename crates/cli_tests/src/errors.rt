@@ -38,12 +38,15 @@ fn is_reported(error: &ProgramError, line: &str) -> bool {
     err.has_all() && err.writes() == 1
 }
 
+fn shown_word() -> ShownWord {
+    ShownWord::of("0123456789\u{1b}123456789\u{9b}123456789\n123456789+")
+}
+
 #[test]
 fn reports_a_line_in_one_write(rt: HostRuntime) -> Result<(), Fail> {
-    let word = ShownWord::of("0123456789\u{1b}123456789\u{9b}123456789\n123456789+");
     let lines = [
         (
-            ProgramError::start(Program::FixdecLines, WordsError::Misplaced(word)),
+            ProgramError::start(Program::FixdecLines, WordsError::Misplaced(shown_word())),
             "fixdec_lines: 0123456789?123456789?123456789?123456789 is not in its place (--help lists all)\n",
         ),
         (
@@ -62,18 +65,18 @@ fn reports_a_line_in_one_write(rt: HostRuntime) -> Result<(), Fail> {
             ProgramError::Line {
                 line: 18_446_744_073_709_551_615,
                 error: LineError {
-                    field: Some(FieldLabel::Name(word)),
+                    field: Some(FieldLabel::Name(shown_word())),
                     error: OperationError::Overflow { at: 0 },
                 },
             },
             "line 18446744073709551615: 0123456789?123456789?123456789?123456789: call 0: overflow\n",
         ),
         (
-            ProgramError::Header(HeaderError::NoField(word)),
+            ProgramError::Header(HeaderError::NoField(shown_word())),
             "line 1: no field 0123456789?123456789?123456789?123456789\n",
         ),
         (
-            ProgramError::Header(HeaderError::TwoFields(word)),
+            ProgramError::Header(HeaderError::TwoFields(shown_word())),
             "line 1: two fields 0123456789?123456789?123456789?123456789\n",
         ),
         (ProgramError::LongLine { line: 7 }, "line 7: memory\n"),
@@ -91,6 +94,24 @@ fn reports_a_line_in_one_write(rt: HostRuntime) -> Result<(), Fail> {
     Ok(())
 }
 
+/// Runs a filter of whole lines that goes on after a line that fails.
+fn skip(
+    alloc: Global,
+    conversion: &Conversion<'_>,
+    reader: &mut LineReader<&[u8]>,
+    out: &mut TextBuf,
+    log: &mut Log<ProgramError>,
+) -> Result<bool, ProgramError> {
+    let filter = Filter {
+        on_error: OnError::Skip,
+        target: Target::One(None, conversion),
+        has_header: false,
+        has_records: false,
+        trims: false,
+    };
+    filter_lines(alloc, &filter, 1, reader, out, log)
+}
+
 #[test]
 fn a_skipping_filter_reports_each_refusal(rt: HostRuntime) -> Result<(), Fail> {
     let alloc = rt.alloc();
@@ -105,14 +126,7 @@ fn a_skipping_filter_reports_each_refusal(rt: HostRuntime) -> Result<(), Fail> {
         calls: Vec::from_array(alloc, [Call::MultiplyPow10(-2)])?,
         formatter: None,
     };
-    let filter = Filter {
-        on_error: OnError::Skip,
-        target: Target::One(None, &conversion),
-        has_header: false,
-        has_records: false,
-        trims: false,
-    };
-    let answer = filter_lines(alloc, &filter, 1, &mut reader, &mut out, &mut log);
+    let answer = skip(alloc, &conversion, &mut reader, &mut out, &mut log);
     assert_eq!(rt; answer, Ok(false));
     assert_eq!(rt; out.as_bytes(), b"2.50\n\n0.07\n\n".as_slice());
     let wanted = [
