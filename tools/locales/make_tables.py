@@ -7,12 +7,13 @@ there, which are those that the data were made from. A locale is listed unless i
 tag before one of its hyphens.
 """
 import os
+import re
 import sys
 import unicodedata
 
 from compare_tables import compare
 from number_tables import number_tables
-from table_text import SKIP, SOURCES, Texts, array, listed_tags, rows
+from table_text import SKIP, SOURCES, Lists, Texts, array, listed_tags, rows
 
 SYMBOLS = {
     ".": "Period", ",": "Comma", "\u00a0": "NoBreakSpace", "\u202f": "NarrowNoBreakSpace", "\u2019": "RightQuote",
@@ -42,8 +43,11 @@ use decimal_format::GroupingSizes;
 '''
 PLURALS_HEAD = """//! The plural rules of languages.
 // Written by tools/locales/make_tables.py from data of CLDR 48; their license is tools/locales/LICENSE. Do not edit.
-use crate::plurals::LanguageRules;
+use crate::plural_rows::{LanguageRules, RelationRow, RuleRow, RuleSet};
 use crate::rows::TableRange;
+use plural_rules::Operand::*;
+use plural_rules::PluralCategory::*;
+use plural_rules::Range;
 """
 
 
@@ -118,20 +122,47 @@ def symbol_tables():
     return "\n".join([HEAD, *constants, *lists])
 
 
+def relation_text(text, ranges):
+    """The row of a relation."""
+    operand, modulus, sign, listed = re.fullmatch("([a-z])(?: % (\\d+))? (!?=) (.+)", text).groups()
+    ends = [(it.split("..")[0], it.split("..")[-1]) for it in listed.split(",")]
+    range_text = ranges.range([f"    Range {{ low: {low}, high: {high} }},\n" for low, high in ends])
+    return (f'    RelationRow {{ operand: {operand.upper().replace("E", "C")}, modulus: {modulus or 0}, '
+            f'is_equal: {str(sign == "=").lower()}, ranges: {range_text} }},\n')
+
+
+def rule_text(text, alternatives, relations, ranges):
+    """The row of a rule."""
+    category, condition = text.split(":")
+    listed = [[relation_text(it, ranges) for it in part.split(" and ")] for part in condition.strip().split(" or ") if part]
+    range_text = alternatives.range([f"    {relations.range(it)},\n" for it in listed])
+    return f"    RuleRow {{ category: {category.title()}, alternatives: {range_text} }},\n"
+
+
 def plural_tables():
     """The text of plurals_table.rt."""
-    rules = {}
+    given = {}
     for kind, tag, text in rows("plural_rules.tsv"):
-        rules.setdefault(tag.lower(), {})[kind] = text or "other:"
-    listed = {}
-    for tag in sorted(rules):
+        given.setdefault(tag.lower(), {})[kind] = text or "other:"
+    listed, names = {}, {"other:": "OTHER"}
+    for tag in sorted(given):
         parent = listed.get(tag.rpartition("-")[0], {})
-        listed[tag] = {kind: rules[tag].get(kind, parent.get(kind, "other:")) for kind in ("cardinal", "ordinal")}
-    texts = Texts(text for kinds in listed.values() for text in kinds.values())
-    items = [f'    LanguageRules {{ tag: *b"{tag:16}", cardinal: {texts.range(kinds["cardinal"])}, '
-             f'ordinal: {texts.range(kinds["ordinal"])} }},\n' for tag, kinds in listed.items()]
-    return "\n".join([PLURALS_HEAD, array("The languages that have plural rules.", "PLURAL_RULES", "LanguageRules", items),
-                      texts.array("The texts of plural rules.", "PLURAL_RULES_TEXTS")])
+        listed[tag] = {kind: given[tag].get(kind, parent.get(kind, "other:")) for kind in ("cardinal", "ordinal")}
+        for kind, text in listed[tag].items():
+            names.setdefault(text, (tag if kind == "cardinal" else f"{tag}_ordinal").upper().replace("-", "_"))
+    texts, rules, *parts = Texts(names), Lists(), Lists(), Lists(), Lists()
+    sets = {text: rules.range([rule_text(it, *parts) for it in text.split("; ")]) for text in names}
+    constants = [f"{'pub ' * (text == 'other:')}const {name}: RuleSet = RuleSet {{ text: {texts.range(text)}, rules: {sets[text]} }};\n"
+                 for text, name in names.items()]
+    items = [f'    LanguageRules {{ tag: *b"{tag:16}", cardinal: {names[kinds["cardinal"]]}, '
+             f'ordinal: {names[kinds["ordinal"]]} }},\n' for tag, kinds in listed.items()]
+    return "\n".join([PLURALS_HEAD, *(SKIP + it for it in constants),
+                      array("The languages that have plural rules.", "PLURAL_RULES", "LanguageRules", items),
+                      texts.array("The texts of plural rules.", "PLURAL_RULES_TEXTS"),
+                      rules.array("The rules of the texts.", "PLURAL_RULE_ROWS", "RuleRow"),
+                      parts[0].array("The alternatives of rules, as parts of `PLURAL_RELATIONS`.", "PLURAL_ALTERNATIVES", "TableRange"),
+                      parts[1].array("The relations of alternatives.", "PLURAL_RELATIONS", "RelationRow"),
+                      parts[2].array("The ranges of relations.", "PLURAL_RANGES", "Range")])
 
 
 def tables():

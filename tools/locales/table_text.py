@@ -63,3 +63,19 @@ class Texts:
             line += "\\x20" if shown == " " and not line else shown
         shown = "\\\n".join(["", *lines, line])
         return f'/// {title}\n{SKIP}pub static {name}: [u8; {len(self.bytes)}] = *b"{shown}";\n'
+
+
+class Lists:
+    """A pool of lists: each is a range of its items."""
+
+    def __init__(self):
+        self.items = []
+
+    def range(self, items):
+        starts = (at for at in range(len(self.items) + 1) if self.items[at:at + len(items)] == items)
+        start = next(starts, len(self.items))
+        self.items[start:start + len(items)] = items
+        return f"TableRange({start}, {start + len(items)})"
+
+    def array(self, title, name, kind):
+        return array(title, name, kind, self.items)

@@ -1,11 +1,10 @@
 -- The ranges of compact patterns are parts of tables, and their texts are texts, by computation.
-use Rattle.std.proofs.Common.{◌≡◌, ℕ, ℤ, ◌==◌, ◌&&◌, Bool, true, false, cond, List, [], ◌∷◌, length, Option, Some, None, refl, subst, sym, ap, ◌∙◌, ◌⊎◌, inl, inr}
+use Rattle.std.proofs.Common.{◌≡◌, ℕ, ℤ, ◌==◌, ◌&&◌, Bool, true, false, cond, List, [], ◌∷◌, Option, Some, None, refl, subst, sym, ap, ◌∙◌, ◌⊎◌, inl, inr}
 use Rattle.std.proofs.lemmas.Bool.{and_parts}
 use Rattle.std.proofs.lemmas.Option.{same_Some}
-use Rattle.std.specs.Prelude.{slice_get, IfSome, pos, int_le, not}
-use Rattle.std.specs.Borrow.{Bor}
+use Rattle.std.specs.Prelude.{slice_get, not}
 use Rattle.std.specs.List.{list_all, Contains}
-use Rattle.std.specs.Option.{option_copied, option_or, option_map_or}
+use Rattle.std.specs.Option.{option_or, option_map_or}
 use Rattle.std.specs.Str.{is_utf8, chars}
 use Rattle.plural_rules.specs.declared.rules.PluralCategory.{PluralCategory}
 use Rattle.plural_rules.specs.declared.rules.PluralCategory.TheVariants as category
@@ -14,45 +13,16 @@ use Rattle.locale_data.specs.declared.compact.CompactCount.{CompactCount}
 use Rattle.locale_data.specs.declared.compact.CompactCount.TheVariants.{ExactlyOne, Zero, One, Two, Few, Many, Other}
 use Rattle.locale_data.specs.declared.compact.CompactPattern.{CompactPattern}
 use Rattle.locale_data.specs.declared.compact.CompactRun.{CompactRun}
-use Rattle.locale_data.specs.declared.compact.CompactSet.{CompactSet}
 use Rattle.locale_data.specs.declared.compact.CompactStyle.{CompactStyle}
-use Rattle.locale_data.specs.declared.compact.CompactStyle.TheVariants.{Short, Long, Currency}
 use Rattle.locale_data.specs.declared.compact.PercentUnit.{PercentUnit}
-use Rattle.locale_data.specs.declared.compact_table.TheConstants.{COMPACT_SETS, COMPACT_RUNS, COMPACT_PATTERNS, PERCENT_UNITS}
+use Rattle.locale_data.specs.declared.compact_table.TheConstants.{COMPACT_RUNS, COMPACT_PATTERNS, PERCENT_UNITS}
 use Rattle.locale_data.specs.declared.number_formats.NumberFormats.{NumberFormats}
 use Rattle.locale_data.specs.Compact.{count_of, count_code, range_of, run_at, pattern_with, pattern_for, pattern_in, needs_category, unit_for, has_texts, has_unit_texts, AreAffixesOf, HasAffixes, NeedsCategory}
-use Rattle.locale_data.specs.Rows.{part, is_inside}
+use Rattle.locale_data.specs.declared.rows.TableRange.{TableRange}
+use Rattle.locale_data.specs.Rows.{part}
 use Rattle.locale_data.proofs.EachRow.{passes}
 use Rattle.locale_data.proofs.SortedRows.{find_some}
 use Rattle.locale_data.proofs.TableTexts.{passes_at, contains-part}
-
-abbrev has_runs : CompactSet → CompactStyle → Bool
-has_runs set style = is_inside (range_of set style) (length COMPACT_RUNS)
-
-sets_have_short : list_all (λ set. has_runs set Short) COMPACT_SETS ≡ true
-sets_have_short = refl
-
-sets_have_long : list_all (λ set. has_runs set Long) COMPACT_SETS ≡ true
-sets_have_long = refl
-
-sets_have_currency : list_all (λ set. has_runs set Currency) COMPACT_SETS ≡ true
-sets_have_currency = refl
-
-pub has_runs_if_listed : (set : CompactSet) (style : CompactStyle) → Contains COMPACT_SETS set
-    → has_runs set style ≡ true
-has_runs_if_listed set Short listed = passes (λ set. has_runs set Short) COMPACT_SETS set sets_have_short listed
-has_runs_if_listed set Long listed = passes (λ set. has_runs set Long) COMPACT_SETS set sets_have_long listed
-has_runs_if_listed set Currency listed =
-    passes (λ set. has_runs set Currency) COMPACT_SETS set sets_have_currency listed
-
-abbrev has_patterns : CompactRun → Bool
-has_patterns run = is_inside run.patterns (length COMPACT_PATTERNS)
-
-runs_have_patterns : list_all has_patterns COMPACT_RUNS ≡ true
-runs_have_patterns = refl
-
-pub has_patterns_if_listed : (run : CompactRun) → Contains COMPACT_RUNS run → has_patterns run ≡ true
-has_patterns_if_listed run listed = passes has_patterns COMPACT_RUNS run runs_have_patterns listed
 
 abbrev has_affixes : CompactPattern → Bool
 has_affixes p = has_texts p.prefix && has_texts p.suffix
@@ -91,15 +61,6 @@ has_unit_at i unit which at =
 
 -- ---- What is found is a row.
 
-pub listed_run : (set : CompactSet) (style : CompactStyle) (runs : List CompactRun) (magnitude : ℤ)
-    (found : Option (Bor CompactRun)) → Contains COMPACT_SETS set → runs ≡ part COMPACT_RUNS (range_of set style)
-    → option_copied found ≡ run_at runs magnitude → IfSome found (λ run. Contains COMPACT_RUNS run.now)
-listed_run set style runs magnitude None listed are e = tt
-listed_run set style runs magnitude (Some run) listed are e =
-    contains-part COMPACT_RUNS (range_of set style) run.now (has_runs_if_listed set style listed)
-    (subst (λ rows. Contains rows run.now) are
-    (find_some (λ r. int_le (pos r.first) magnitude) runs run.now (sym e)).0)
-
 or-some : {X : Type 0} (a b : Option X) (x : X) → option_or a b ≡ Some x → (a ≡ Some x) ⊎ (b ≡ Some x)
 or-some None b x e = inr e
 or-some (Some y) b x e = inl e
@@ -127,12 +88,10 @@ for-contains category is_one patterns p e =
     exactly true e = with-contains ExactlyOne patterns p e
     exactly false e = cc
 
-pub listed_pattern : (run : CompactRun) (category : PluralCategory) (is_one : Bool) (p : CompactPattern)
-    → Contains COMPACT_RUNS run → pattern_for category is_one (part COMPACT_PATTERNS run.patterns) ≡ Some p
-    → Contains COMPACT_PATTERNS p
-listed_pattern run category is_one p listed e =
-    contains-part COMPACT_PATTERNS run.patterns p (has_patterns_if_listed run listed)
-    (for-contains category is_one (part COMPACT_PATTERNS run.patterns) p e)
+pub listed_pattern : (range : TableRange) (category : PluralCategory) (is_one : Bool) (p : CompactPattern)
+    → pattern_for category is_one (part COMPACT_PATTERNS range) ≡ Some p → Contains COMPACT_PATTERNS p
+listed_pattern range category is_one p e =
+    contains-part COMPACT_PATTERNS range p (for-contains category is_one (part COMPACT_PATTERNS range) p e)
 
 -- ---- A pattern of `Other` alone is for each number.
 

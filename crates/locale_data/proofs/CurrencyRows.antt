@@ -17,7 +17,7 @@ use Rattle.locale_data.specs.declared.formats_table.TheConstants.{CURRENCY_OVERR
 use Rattle.locale_data.specs.declared.patterns.CurrencyOverride.{CurrencyOverride}
 use Rattle.locale_data.specs.Currencies.{currency_with, symbol_index, IsSymbolRow, IsOverrideRow}
 use Rattle.locale_data.specs.Rows.{part, unpadded}
-use Rattle.locale_data.specs.SortedRows.{number, is_table, is_table_part}
+use Rattle.locale_data.specs.SortedRows.{number, is_table}
 use Rattle.locale_data.specs.Tag.{compared}
 use Rattle.locale_data.specs.Texts.{is_text}
 use Rattle.locale_data.proofs.EachRow.{passes, below}
@@ -37,7 +37,7 @@ listed_currency code (Some c) e =
     (find_some (λ c. bytes_eq (unpadded c.code) (compared code)) CURRENCIES c.now (sym e)).0
 
 abbrev has_symbols : Currency → Bool
-has_symbols c = is_table_part (λ (l : LocaleCurrency). l.tag) CURRENCY_SYMBOLS c.symbols
+has_symbols c = is_table (λ (l : LocaleCurrency). l.tag) (part CURRENCY_SYMBOLS c.symbols)
 
 currencies_have_symbols : list_all has_symbols CURRENCIES ≡ true
 unfolding number
@@ -47,7 +47,7 @@ pub has_symbols_if_listed : (c : Currency) → Contains CURRENCIES c → has_sym
 has_symbols_if_listed c listed = passes has_symbols CURRENCIES c currencies_have_symbols listed
 
 abbrev has_overrides : Currency → Bool
-has_overrides c = is_table_part (λ (l : LocaleOverride). l.tag) OVERRIDES_BY_CURRENCY c.overrides
+has_overrides c = is_table (λ (l : LocaleOverride). l.tag) (part OVERRIDES_BY_CURRENCY c.overrides)
 
 currencies_have_overrides : list_all has_overrides CURRENCIES ≡ true
 unfolding number

@@ -13,13 +13,12 @@ use Rattle.locale_data.specs.declared.symbols.Symbol.{Symbol}
 use Rattle.locale_data.specs.declared.symbols.Symbol.TheVariants.{Period, Comma}
 use Rattle.locale_data.specs.declared.symbols.NumberingSystem.{NumberingSystem}
 use Rattle.locale_data.specs.declared.symbols.LocaleSymbols.{LocaleSymbols}
-use Rattle.locale_data.specs.declared.symbols_table.TheConstants.{LOCALES, LOCALES_BY_SYSTEM, NUMBERING_SYSTEMS}
+use Rattle.locale_data.specs.declared.symbols_table.TheConstants.{LOCALES, NUMBERING_SYSTEMS}
 use Rattle.locale_data.specs.Symbol.{symbol_text}
 use Rattle.locale_data.specs.Tag.{compared}
-use Rattle.locale_data.specs.declared.plurals.LanguageRules.{LanguageRules}
-use Rattle.locale_data.specs.declared.plurals_table.TheConstants.{PLURAL_RULES, PLURAL_RULES_TEXTS}
-use Rattle.locale_data.specs.Rows.{is_inside, unpadded}
-use Rattle.locale_data.specs.SortedRows.{number, is_table, is_table_part}
+use Rattle.locale_data.specs.declared.plurals_table.TheConstants.{PLURAL_RULES}
+use Rattle.locale_data.specs.Rows.{unpadded}
+use Rattle.locale_data.specs.SortedRows.{number, is_table}
 use Rattle.locale_data.specs.Locales.{own_rows, system_named, HasOneWidth}
 use Rattle.locale_data.proofs.SortedRows.{find_some}
 
@@ -81,39 +80,20 @@ pub systems_are_table : is_table (λ s. s.name) NUMBERING_SYSTEMS ≡ true
 unfolding number
 systems_are_table = refl
 
--- the rows of a numbering system are a part of the table, and sorted
+-- the rows of a numbering system are sorted
 abbrev has_rows : NumberingSystem → Bool
-has_rows s = is_table_part (λ (l : LocaleSymbols). l.tag) LOCALES_BY_SYSTEM s.rows
+has_rows s = is_table (λ (l : LocaleSymbols). l.tag) (own_rows s)
 
 systems_have_rows : list_all has_rows NUMBERING_SYSTEMS ≡ true
 unfolding number
 systems_have_rows = refl
 
-pub has_rows_if_listed : (s : NumberingSystem) → Contains NUMBERING_SYSTEMS s
-    → (is_inside s.rows (length LOCALES_BY_SYSTEM) ≡ true)
-    × (is_table (λ (l : LocaleSymbols). l.tag) (own_rows s) ≡ true)
-has_rows_if_listed s listed =
-    and_parts (is_inside s.rows (length LOCALES_BY_SYSTEM)) (is_table (λ (l : LocaleSymbols). l.tag) (own_rows s))
-    (passes has_rows NUMBERING_SYSTEMS s systems_have_rows listed)
+pub has_rows_if_listed : (s : NumberingSystem) → Contains NUMBERING_SYSTEMS s → has_rows s ≡ true
+has_rows_if_listed s listed = passes has_rows NUMBERING_SYSTEMS s systems_have_rows listed
 
 pub languages_are_table : is_table (λ l. l.tag) PLURAL_RULES ≡ true
 unfolding number
 languages_are_table = refl
-
--- the rules of a language are a part of the texts
-abbrev has_texts : LanguageRules → Bool
-has_texts l =
-    is_inside l.cardinal (length PLURAL_RULES_TEXTS) && is_inside l.ordinal (length PLURAL_RULES_TEXTS)
-
-languages_have_texts : list_all has_texts PLURAL_RULES ≡ true
-languages_have_texts = refl
-
-pub has_texts_if_listed : (l : LanguageRules) → Contains PLURAL_RULES l
-    → (is_inside l.cardinal (length PLURAL_RULES_TEXTS) ≡ true)
-    × (is_inside l.ordinal (length PLURAL_RULES_TEXTS) ≡ true)
-has_texts_if_listed l listed =
-    and_parts (is_inside l.cardinal (length PLURAL_RULES_TEXTS)) (is_inside l.ordinal (length PLURAL_RULES_TEXTS))
-    (passes has_texts PLURAL_RULES l languages_have_texts listed)
 
 -- ---- The default numbering system of a locale.
 

@@ -13,7 +13,7 @@ use Rattle.locale_data.specs.declared.formats.TheConstants.{NO_FORMATS}
 use Rattle.locale_data.specs.declared.formats_table.TheConstants.{PATTERNS, NUMBER_SIGNS, MONEY_FORMATS, LOCALE_FORMATS, ROOT_FORMATS, FORMATS_BY_SYSTEM, FORMAT_SYSTEMS}
 use Rattle.locale_data.specs.Formats.{chosen, format_system, IsRowElse, IsLatinFormats, AreOfSystem}
 use Rattle.locale_data.specs.Rows.{part, unpadded, IsRowOf}
-use Rattle.locale_data.specs.SortedRows.{number, is_table, is_table_part}
+use Rattle.locale_data.specs.SortedRows.{number, is_table}
 use Rattle.locale_data.specs.Tag.{compared}
 use Rattle.locale_data.proofs.EachRow.{passes, below}
 use Rattle.locale_data.proofs.SortedRows.{find_some}
@@ -29,7 +29,7 @@ unfolding number
 format_systems_are_table = refl
 
 abbrev has_formats : FormatSystem → Bool
-has_formats s = is_table_part (λ (l : SystemFormats). l.tag) FORMATS_BY_SYSTEM s.rows
+has_formats s = is_table (λ (l : SystemFormats). l.tag) (part FORMATS_BY_SYSTEM s.rows)
 
 systems_have_formats : list_all has_formats FORMAT_SYSTEMS ≡ true
 unfolding number

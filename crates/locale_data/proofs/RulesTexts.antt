@@ -1,10 +1,8 @@
--- The texts of the tables are rules, by computation.
-use Rattle.std.proofs.Common.{◌≡◌, ℕ, ◌<◌, ◌&&◌, Bool, true, List, length, codes, Option, Some, None, Result, Ok, Err, slice_get, refl, ap, subst, sym, ◌∙◌}
-use Rattle.std.proofs.lemmas.Bool.{and_parts}
-use Rattle.std.proofs.lemmas.Option.{same_Some}
-use Rattle.std.specs.Prelude.{is_some, IsSome, IsSomeAnd}
+-- The texts of the tables are the rules of the rows, by computation.
+use Rattle.std.proofs.Common.{◌≡◌, ℕ, ◌<◌, true, List, length, map, codes, Option, Some, None, Result, Ok, Err, slice_get, refl, ap, subst, sym, ◌∙◌}
+use Rattle.std.proofs.lemmas.Option.{same_Some, slice_get-map}
+use Rattle.std.specs.Prelude.{IsSome, IsSomeAnd}
 use Rattle.std.specs.Option.{option_map}
-use Rattle.std.specs.List.{list_all}
 use Rattle.plural_rules.specs.declared.parse.RulesError.{RulesError}
 use Rattle.plural_rules.specs.declared.parse.RulesError.TheVariants.{Syntax, Limit, Memory}
 use Rattle.plural_rules.specs.declared.parse.state.State.TheVariants as state
@@ -17,67 +15,97 @@ use Rattle.plural_rules.specs.RulesReader.{no_rules}
 use Rattle.plural_rules.proofs.ParserComplete.{grammar-unique}
 use Rattle.plural_rules.proofs.ParserSound.{read-sound}
 use Rattle.plural_rules.proofs.RulesRun.{read, read_fits}
-use Rattle.locale_data.specs.declared.plurals.LanguageRules.{LanguageRules}
+use Rattle.locale_data.specs.declared.plural_rows.LanguageRules.{LanguageRules}
+use Rattle.locale_data.specs.declared.plural_rows.RuleSet.{RuleSet}
 use Rattle.locale_data.specs.declared.plurals.PluralRuleType.{PluralRuleType}
 use Rattle.locale_data.specs.declared.plurals.PluralRuleType.TheVariants.{Cardinal, Ordinal}
-use Rattle.locale_data.specs.declared.plurals_table.TheConstants.{PLURAL_RULES, PLURAL_RULES_TEXTS}
+use Rattle.locale_data.specs.declared.plurals_table.TheConstants.{OTHER, PLURAL_RULES}
 use Rattle.locale_data.specs.declared.symbols.LocaleSymbols.{LocaleSymbols}
 use Rattle.locale_data.specs.declared.symbols_table.TheConstants.{LOCALES}
-use Rattle.locale_data.specs.Rows.{part, row_at}
+use Rattle.locale_data.specs.Rows.{row_at}
 use Rattle.locale_data.specs.declared.plurals.PluralRulesError.{PluralRulesError}
 use Rattle.locale_data.specs.declared.plurals.PluralRulesError.TheVariants as errors
 use Rattle.locale_data.specs.declared.plurals.RulesNumber.{RulesNumber}
 use Rattle.locale_data.specs.Plurals.IsRulesText.{of_language, of_locale}
-use Rattle.locale_data.specs.Plurals.{rules_text, indexed_text, rules_text_at, IsCategoryAt, IsLanguageOf, IsLocaleOf, IsRulesText, IsRulesAt, IsRulesOf}
-use Rattle.locale_data.proofs.EachRow.{passes, contains_at, not_past}
+use Rattle.locale_data.specs.PluralRows.{rules_in}
+use Rattle.locale_data.specs.Plurals.{set_of, text_of, indexed_set, set_at, rules_text_at, IsCategoryAt, IsLanguageOf, IsLocaleOf, IsRulesText, IsRulesAt, IsRulesOf}
+use Rattle.locale_data.proofs.EachRow.{not_past}
 
--- a text is rules whose numbers fit
-abbrev are_rules : List ℕ → Bool
-are_rules text = is_some (read true state.Category no_rules text)
+-- the rules of a text, or None if it is not rules or a number is too great
+abbrev rules_by : List ℕ → Option (List RuleValue)
+rules_by text = read true state.Category no_rules text
 
-abbrev has_rules : LanguageRules → Bool
-has_rules l = are_rules (part PLURAL_RULES_TEXTS l.cardinal) && are_rules (part PLURAL_RULES_TEXTS l.ordinal)
+-- the rows of each language make the rules of the text
+languages_have_rules : (rule_type : PluralRuleType)
+    → map (λ l. rules_by (text_of (set_of l rule_type))) PLURAL_RULES
+    ≡ map (λ l. Some (rules_in (set_of l rule_type).rules)) PLURAL_RULES
+languages_have_rules Cardinal = refl
+languages_have_rules Ordinal = refl
 
-languages_have_rules : list_all has_rules PLURAL_RULES ≡ true
-languages_have_rules = refl
+same_at : {A B : Type 0} (f g : A → B) (xs : List A) (k : ℕ) (x : A) → map f xs ≡ map g xs → slice_get xs k ≡ Some x
+    → f x ≡ g x
+same_at f g xs k x same at =
+    same_Some (f x) (g x) (sym (slice_get-map f xs k ∙ ap (option_map f) at)
+    ∙ ap (λ ys. slice_get ys k) same ∙ slice_get-map g xs k ∙ ap (option_map g) at)
 
-numbered_rules : (number : RulesNumber) (text : List ℕ) → rules_text_at number ≡ Some text → are_rules text ≡ true
-numbered_rules number text at = by number.language number.rule_type at
+abbrev HasRules : RuleSet → Type 0
+HasRules set = rules_by (text_of set) ≡ Some (rules_in set.rules)
+
+language_has_rules : (index : ℕ) (rule_type : PluralRuleType) (language : LanguageRules)
+    → slice_get PLURAL_RULES index ≡ Some language → HasRules (set_of language rule_type)
+language_has_rules index rule_type language at =
+    same_at (λ l. rules_by (text_of (set_of l rule_type))) (λ l. Some (rules_in (set_of l rule_type).rules))
+    PLURAL_RULES index language (languages_have_rules rule_type) at
+
+has_rules : (number : RulesNumber) (set : RuleSet) → set_at number ≡ Some set → HasRules set
+has_rules number set at = by number.language number.rule_type at
   where
     each : (index : ℕ) (rule_type : PluralRuleType) (o : Option LanguageRules) → slice_get PLURAL_RULES index ≡ o
-        → option_map (λ language. rules_text (Some language) rule_type) o ≡ Some text → are_rules text ≡ true
+        → option_map (λ language. set_of language rule_type) o ≡ Some set → HasRules set
     each index rule_type None at e = absurd (cc)
-    each index Cardinal (Some language) at e =
-        ap are_rules (sym (same_Some _ text e)) ∙ (and_parts _ (are_rules (part PLURAL_RULES_TEXTS language.ordinal))
-        (passes has_rules PLURAL_RULES language languages_have_rules (contains_at PLURAL_RULES index language at))).0
-    each index Ordinal (Some language) at e =
-        ap are_rules (sym (same_Some _ text e)) ∙ (and_parts (are_rules (part PLURAL_RULES_TEXTS language.cardinal)) _
-        (passes has_rules PLURAL_RULES language languages_have_rules (contains_at PLURAL_RULES index language at))).1
+    each index rule_type (Some language) at e =
+        subst HasRules (same_Some (set_of language rule_type) set e) (language_has_rules index rule_type language at)
 
-    by : (o : Option ℕ) (rule_type : PluralRuleType) → indexed_text o rule_type ≡ Some text → are_rules text ≡ true
-    by None rule_type e = ap are_rules (sym (same_Some _ text e))
+    by : (o : Option ℕ) (rule_type : PluralRuleType) → indexed_set o rule_type ≡ Some set → HasRules set
+    by None rule_type e = subst HasRules (same_Some OTHER set e) refl
     by (Some index) rule_type e = each index rule_type (slice_get PLURAL_RULES index) refl e
 
 -- so the text is rules
+rules_of_set : (number : RulesNumber) (set : RuleSet) → set_at number ≡ Some set
+    → Grammar (text_of set) (rules_in set.rules) × Fits (rules_in set.rules)
+rules_of_set number set at =
+    let fits = read_fits (text_of set) (rules_in set.rules) (has_rules number set at) in
+    (read-sound fits.1, fits.0)
+
 pub rules_of_number : (number : RulesNumber) (text : List ℕ) → rules_text_at number ≡ Some text
     → (rules : List RuleValue) × Grammar text rules × Fits rules
-rules_of_number number text at = by (read true state.Category no_rules text) refl (numbered_rules number text at)
+rules_of_number number text at = by (set_at number) refl at
   where
-    by : (o : Option (List RuleValue)) → read true state.Category no_rules text ≡ o → is_some o ≡ true
+    by : (o : Option RuleSet) → set_at number ≡ o → option_map text_of o ≡ Some text
         → (rules : List RuleValue) × Grammar text rules × Fits rules
-    by None read some = absurd (cc)
-    by (Some rules) read some = let fits = read_fits text rules read in (rules, read-sound fits.1, fits.0)
+    by None at e = absurd (cc)
+    by (Some set) at e =
+        let is = rules_of_set number set at in
+        let same = same_Some (text_of set) text e in
+        (rules_in set.rules, subst (λ t. Grammar t (rules_in set.rules)) same is.0, is.1)
 
--- and each number has a category
+-- the rows make the category
+pub category_by_rows : (number : RulesNumber) (set : RuleSet) (n : Operands) (category : PluralCategory)
+    → set_at number ≡ Some set → category ≡ category_of (rules_in set.rules) n → IsCategoryAt number n category
+category_by_rows number set n category at is =
+    subst (λ o. IsSomeAnd (option_map text_of o) (λ text. IsCategoryByText text n category)) (sym at)
+    (rules_in set.rules, (rules_of_set number set at).0, is)
+
+-- and each number has one
 pub category_exists : (number : RulesNumber) (n : Operands) → IsSome (rules_text_at number)
     → (category : PluralCategory) × IsCategoryAt number n category
-category_exists number n listed = by (rules_text_at number) refl listed
+category_exists number n listed = by (set_at number) refl listed
   where
-    by : (o : Option (List ℕ)) → rules_text_at number ≡ o → IsSome o
-        → (category : PluralCategory) × IsSomeAnd o (λ text. IsCategoryByText text n category)
+    by : (o : Option RuleSet) → set_at number ≡ o → IsSome (option_map text_of o)
+        → (category : PluralCategory) × IsCategoryAt number n category
     by None at listed = absurd (cc)
-    by (Some text) at listed =
-        let is = rules_of_number number text at in (category_of is.0 n, (is.0, is.1, refl))
+    by (Some set) at listed =
+        (category_of (rules_in set.rules) n, category_by_rows number set n _ at refl)
 
 -- and parsing it fails only out of memory
 pub parsing_succeeds : (number : RulesNumber) (text : List ℕ) → rules_text_at number ≡ Some text → (e : RulesError)
@@ -104,11 +132,12 @@ rules_of_tag tag rule_type number of_tag (Err errors.Memory) at =
 -- the text of the rules of a tag's language, and of a tag that has only symbols
 pub language_found : (tag : List ℕ) (rule_type : PluralRuleType) (index : ℕ)
     → IsLanguageOf tag (row_at PLURAL_RULES (Some index)) → index < length PLURAL_RULES
-    → IsSomeAnd (indexed_text (Some index) rule_type) (IsRulesText tag rule_type)
+    → IsSomeAnd (option_map text_of (indexed_set (Some index) rule_type)) (IsRulesText tag rule_type)
 language_found tag rule_type index of_tag inside = by rule_type (slice_get PLURAL_RULES index) refl of_tag
   where
     by : (rule_type : PluralRuleType) (o : Option LanguageRules) → slice_get PLURAL_RULES index ≡ o → IsLanguageOf tag o
-        → IsSomeAnd (option_map (λ language. rules_text (Some language) rule_type) o) (IsRulesText tag rule_type)
+        → IsSomeAnd (option_map text_of (option_map (λ language. set_of language rule_type) o))
+        (IsRulesText tag rule_type)
     by rule_type None at of_tag = absurd (not_past PLURAL_RULES index inside at)
     by rule_type (Some language) at of_tag = of_language language of_tag refl
 

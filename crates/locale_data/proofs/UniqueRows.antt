@@ -66,5 +66,5 @@ locale_is_unique tag s t a b =
     let system : a.system ≡ b.system = cc (locale, a.named, b.named) in
     let rows = has_rows_if_listed a.system (system_is_listed tag a.locale a.system a.named) in
     let in_system = subst (λ (n : NumberingSystem). IsListed (own_rows n) tag b.own) (sym system) b.in_system in
-    let own = row_is_unique tag_of (own_rows a.system) rows.1 tag a.own b.own a.in_system in_system in
+    let own = row_is_unique tag_of (own_rows a.system) rows tag a.own b.own a.in_system in_system in
     cc (a.value, b.value)

@@ -3,6 +3,7 @@ pub mod Rows
 pub mod SortedRows
 pub mod Symbol
 pub mod Locales
+pub mod PluralRows
 pub mod Plurals
 pub mod Patterns
 pub mod Formats

@@ -11,27 +11,32 @@ use Rattle.locale_data.specs.declared.plurals.PluralRulesError.{PluralRulesError
 use Rattle.locale_data.specs.declared.plurals.PluralRulesError.TheVariants.{UnknownLocale, Memory}
 use Rattle.locale_data.specs.declared.plurals.PluralRuleType.{PluralRuleType}
 use Rattle.locale_data.specs.declared.plurals.PluralRuleType.TheVariants.{Cardinal, Ordinal}
-use Rattle.locale_data.specs.declared.plurals.LanguageRules.{LanguageRules}
+use Rattle.locale_data.specs.declared.plural_rows.LanguageRules.{LanguageRules}
+use Rattle.locale_data.specs.declared.plural_rows.RuleSet.{RuleSet}
 use Rattle.locale_data.specs.declared.plurals.RulesNumber.{RulesNumber}
-use Rattle.locale_data.specs.declared.plurals_table.TheConstants.{PLURAL_RULES, PLURAL_RULES_TEXTS}
+use Rattle.locale_data.specs.declared.plurals_table.TheConstants.{OTHER, PLURAL_RULES, PLURAL_RULES_TEXTS}
 use Rattle.locale_data.specs.declared.symbols.LocaleSymbols.{LocaleSymbols}
 use Rattle.locale_data.specs.declared.symbols_table.TheConstants.{LOCALES}
 use Rattle.locale_data.specs.Rows.{part, IsRowOf}
 
--- the text of a language's rules, and without a language that of rules by which each number is `other`
-abbrev pub rules_text : Option LanguageRules → PluralRuleType → List ℕ
-rules_text None rule_type = codes "other:"
-rules_text (Some language) Cardinal = part PLURAL_RULES_TEXTS language.cardinal
-rules_text (Some language) Ordinal = part PLURAL_RULES_TEXTS language.ordinal
+-- the rules of a language for numbers of things or for places in an order
+abbrev pub set_of : LanguageRules → PluralRuleType → RuleSet
+set_of language Cardinal = language.cardinal
+set_of language Ordinal = language.ordinal
 
--- the text of the rules of the language with an index, if there is one, or of those without a language
-abbrev pub indexed_text : Option ℕ → PluralRuleType → Option (List ℕ)
-indexed_text None rule_type = Some (rules_text None rule_type)
-indexed_text (Some index) rule_type =
-    option_map (λ language. rules_text (Some language) rule_type) (slice_get PLURAL_RULES index)
+abbrev pub text_of : RuleSet → List ℕ
+text_of set = part PLURAL_RULES_TEXTS set.text
+
+-- the rules of the language with an index, if there is one; without a language each number is `other`
+abbrev pub indexed_set : Option ℕ → PluralRuleType → Option RuleSet
+indexed_set None rule_type = Some OTHER
+indexed_set (Some index) rule_type = option_map (λ language. set_of language rule_type) (slice_get PLURAL_RULES index)
+
+abbrev pub set_at : RulesNumber → Option RuleSet
+set_at number = indexed_set number.language number.rule_type
 
 abbrev pub rules_text_at : RulesNumber → Option (List ℕ)
-rules_text_at number = indexed_text number.language number.rule_type
+rules_text_at number = option_map text_of (set_at number)
 
 -- the language with the longest tag that is a prefix of a tag, or None
 abbrev pub IsLanguageOf : List ℕ → Option LanguageRules → Type 0
@@ -44,9 +49,9 @@ IsLocaleOf = IsRowOf (λ l. l.tag) LOCALES
 -- the text is that of the rules of the tag's language, or of a tag that has symbols and no rules
 pub data IsRulesText (tag : List ℕ) (rule_type : PluralRuleType) (text : List ℕ) : Type 0 where
   of_language : (language : LanguageRules) → IsLanguageOf tag (Some language)
-      → text ≡ rules_text (Some language) rule_type → IsRulesText tag rule_type text
+      → text ≡ text_of (set_of language rule_type) → IsRulesText tag rule_type text
   of_locale : (locale : LocaleSymbols) → IsLanguageOf tag None → IsLocaleOf tag (Some locale)
-      → text ≡ rules_text None rule_type → IsRulesText tag rule_type text
+      → text ≡ codes "other:" → IsRulesText tag rule_type text
 
 -- a tag has neither rules nor symbols
 abbrev pub HasNoRules : List ℕ → Type 0

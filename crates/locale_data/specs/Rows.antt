@@ -1,18 +1,14 @@
 -- Tables whose rows are sorted by name.
-use Rattle.std.specs.Prelude.{◌≡◌, ◌≤◌, ℕ, ◌==◌, ◌&&◌, nat_le, Bool, true, false, List, length, slice_range, find, slice_get, All, Contains, Option, None, Some}
+use Rattle.std.specs.Prelude.{◌≡◌, ◌≤◌, ℕ, ◌==◌, Bool, true, false, List, length, slice_range, find, slice_get, All, Contains, Option, None, Some}
 use Rattle.std.specs.List.{before_first}
 use Rattle.std.specs.Option.{option_and_then}
 use Rattle.std.specs.Str.{bytes_eq}
 use Rattle.locale_data.specs.declared.rows.TableRange.{TableRange}
 use Rattle.locale_data.specs.Tag.{is_tag_prefix}
 
--- the part of a table in a range
+-- the part of a table in a range, as far as the table goes
 abbrev pub part : {T : Type 0} → List T → TableRange → List T
 part table range = slice_range table range.0 range.1
-
--- a range is inside a table of this length
-abbrev pub is_inside : TableRange → ℕ → Bool
-is_inside range size = nat_le range.0 range.1 && nat_le range.1 size
 
 -- a text without the spaces after it
 abbrev pub unpadded : List ℕ → List ℕ

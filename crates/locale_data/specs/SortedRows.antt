@@ -3,8 +3,7 @@ use Rattle.std.specs.Prelude.{◌≡◌, ℕ, zero, suc, ◌+◌, ◌-◌, ◌*�
 use Rattle.std.specs.Int.{from_be_bytes, w128}
 use Rattle.std.specs.List.{list_all}
 use Rattle.locale_data.specs.Tag.{tag_byte}
-use Rattle.locale_data.specs.declared.rows.TableRange.{TableRange}
-use Rattle.locale_data.specs.Rows.{part, is_inside, unpadded, is_candidate}
+use Rattle.locale_data.specs.Rows.{unpadded, is_candidate}
 
 -- a byte of a text with spaces after it
 abbrev pub padded_byte : List ℕ → ℕ → ℕ
@@ -36,10 +35,6 @@ is_padded name = from_be_bytes w128 name == number (unpadded name)
 abbrev pub is_table : {R : Type 0} → (R → List ℕ) → List R → Bool
 is_table name_of rows =
     list_all (λ row. is_padded (name_of row)) rows && increases (map (λ row. from_be_bytes w128 (name_of row)) rows)
-
--- a range of a table is inside it, and its rows are sorted
-abbrev pub is_table_part : {R : Type 0} → (R → List ℕ) → List R → TableRange → Bool
-is_table_part name_of rows range = is_inside range (length rows) && is_table name_of (part rows range)
 
 -- a part of a tag ends at an index: at a hyphen, or with the tag
 abbrev pub ends_at : List ℕ → ℕ → Bool

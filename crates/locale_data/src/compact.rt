@@ -1,7 +1,7 @@
 //! The compact patterns of locales.
 ghost use Rattle.std.specs.Prelude.{◌≡◌, ◌≤◌, length, Contains, IfSome, true};
 ghost use Rattle.std.specs.Option.{option_copied};
-ghost use Rattle.locale_data.specs.declared.compact_table.TheConstants.{COMPACT_SETS, COMPACT_RUNS, COMPACT_PATTERNS};
+ghost use Rattle.locale_data.specs.declared.compact_table.TheConstants.{COMPACT_RUNS, COMPACT_PATTERNS};
 ghost use Rattle.locale_data.specs.Rows.{part};
 ghost use Rattle.locale_data.specs.Compact.{count_of, count_code, range_of, run_at, pattern_with, pattern_for, needs_category, has_texts, has_unit_texts, IsAffix, IsShortAffix, AreAffixes, IsRun, IsExponent, HasAffixes, NeedsCategory, unit_for, IsUnitText, IsUnit};
 
@@ -186,7 +186,6 @@ fn range_of(set: &CompactSet, style: CompactStyle) -> TableRange
 }
 
 fn runs_of(set: &CompactSet, style: CompactStyle) -> &'static [CompactRun]
-    requires { Contains COMPACT_SETS set.now }
     ensures { result.now ≡ part COMPACT_RUNS (range_of set.now style) }
 {
     part(&COMPACT_RUNS, range_of(set, style))
@@ -286,7 +285,6 @@ fn unit_for(unit: &PercentUnit, category: PluralCategory) -> &UnitPattern
 }
 
 fn patterns_of(run: &CompactRun) -> &'static [CompactPattern]
-    requires { Contains COMPACT_RUNS run.now }
     ensures { result.now ≡ part COMPACT_PATTERNS run.now.patterns }
 {
     part(&COMPACT_PATTERNS, run.patterns)
@@ -294,8 +292,7 @@ fn patterns_of(run: &CompactRun) -> &'static [CompactPattern]
 
 impl NumberFormats {
     fn run(&self, style: CompactStyle, magnitude: i16) -> Option<&'static CompactRun>
-        ensures value { IsRun self.now style magnitude (option_copied result) }
-        ensures listed { IfSome result (λ run. Contains COMPACT_RUNS run.now) }
+        ensures { IsRun self.now style magnitude (option_copied result) }
     {
         let set = indexed_row(&COMPACT_SETS, self.compact as usize);
         run_at(runs_of(set, style), magnitude)

@@ -18,6 +18,7 @@ pub mod laws;
 mod lookup;
 mod number_formats;
 mod patterns;
+mod plural_rows;
 mod plurals;
 mod plurals_table;
 mod rows;
@@ -43,9 +44,10 @@ pub use patterns::{
     Affix, AffixPair, CurrencyOverride, ExponentSeparator, MoneyFormat, MoneySeparator,
     NumberSigns, Pattern, PercentSign, Piece,
 };
+pub use plural_rows::{LanguageRules, RuleSet};
 pub use plurals::{
-    LanguageRules, PluralRuleType, PluralRulesError, RulesNumber, plural_category_at,
-    plural_rules_at, plural_rules_number, plural_rules_of, plural_rules_text, rules_text_at,
+    PluralRuleType, PluralRulesError, RulesNumber, plural_category_at, plural_rules_at,
+    plural_rules_number, plural_rules_of, plural_rules_text, rules_text_at,
 };
 pub use plurals_table::{PLURAL_RULES, PLURAL_RULES_TEXTS};
 pub use rows::{Name, Row, TableRange, unpadded};

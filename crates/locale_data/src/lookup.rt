@@ -32,7 +32,6 @@ fn system_number(tag: &[u8], locale: &LocaleSymbols) -> Option<usize>
 }
 
 pub(crate) fn own_rows(system: &NumberingSystem) -> &'static [LocaleSymbols]
-    requires { Contains NUMBERING_SYSTEMS system.now }
     ensures { result.now ≡ own_rows system.now }
 {
     part(&LOCALES_BY_SYSTEM, system.rows)

@@ -1,13 +1,14 @@
 //! The plural rules of a tag.
-ghost use Rattle.std.specs.Prelude.{◌≡◌, Some, None, IfSome, IfNone, IsSomeAnd, Contains};
+ghost use Rattle.std.specs.Prelude.{◌≡◌, None, IfSome, IfNone, IsSomeAnd};
 ghost use Rattle.std.specs.Option.{option_copied};
-ghost use Rattle.locale_data.specs.Plurals.{rules_text, rules_text_at, IsRulesText, HasNoRules, IsRulesAt, IsCategoryAt, IsRulesOf};
+ghost use Rattle.locale_data.specs.Plurals.{set_at, rules_text_at, IsRulesText, HasNoRules, IsRulesAt, IsCategoryAt, IsRulesOf};
 
-use crate::plurals_table::{PLURAL_RULES, PLURAL_RULES_TEXTS};
-use crate::rows::{Name, Row, TableRange, part, row_number};
+use crate::plural_rows::{RuleSet, category_in};
+use crate::plurals_table::{OTHER, PLURAL_RULES, PLURAL_RULES_TEXTS};
+use crate::rows::{part, row_number};
 use crate::symbols_table::LOCALES;
 use fixed_decimal::DigitStore;
-use plural_rules::{PluralCategory, PluralOperands, PluralRules, category_by_text};
+use plural_rules::{PluralCategory, PluralOperands, PluralRules};
 use std::alloc::Global;
 
 /// What plural rules are for.
@@ -17,35 +18,6 @@ pub enum PluralRuleType {
     Cardinal,
     /// Places in an order: `2nd day`.
     Ordinal,
-}
-
-/// The plural rules of a language, as ranges of `PLURAL_RULES_TEXTS`.
-#[derive(Clone, Copy, Debug)]
-pub struct LanguageRules {
-    /// The tag of the language.
-    pub tag: Name,
-    /// The rules of numbers of things.
-    pub cardinal: TableRange,
-    /// The rules of places in an order.
-    pub ordinal: TableRange,
-}
-
-impl Row for LanguageRules {
-    ghost name = { λ language. language.tag };
-
-    fn name(&self) -> Name {
-        self.tag
-    }
-}
-
-fn rules_text(language: &LanguageRules, rule_type: PluralRuleType) -> &'static [u8]
-    requires { Contains PLURAL_RULES language.now }
-    ensures { result.now ≡ rules_text (Some language.now) rule_type }
-{
-    match rule_type {
-        PluralRuleType::Cardinal => part(&PLURAL_RULES_TEXTS, language.cardinal),
-        PluralRuleType::Ordinal => part(&PLURAL_RULES_TEXTS, language.ordinal),
-    }
 }
 
 /// The plural rules of a tag: the index of its language in `PLURAL_RULES`, and the type. A tag that has no rules but
@@ -80,15 +52,24 @@ pub fn plural_rules_number(tag: &str, rule_type: PluralRuleType) -> Option<Rules
     }
 }
 
+fn set_at(number: RulesNumber) -> Option<RuleSet>
+    ensures { result ≡ set_at number }
+{
+    let Some(index) = number.language else {
+        return Some(OTHER);
+    };
+    match PLURAL_RULES.get(index as usize) {
+        Some(language) => Some(language.set(number.rule_type)),
+        None => None,
+    }
+}
+
 /// Returns the text of plural rules, and `None` if no language has the index.
 pub fn rules_text_at(number: RulesNumber) -> Option<&'static [u8]>
     ensures { option_copied result ≡ rules_text_at number }
 {
-    let Some(index) = number.language else {
-        return Some(b"other:");
-    };
-    match PLURAL_RULES.get(index as usize) {
-        Some(language) => Some(rules_text(language, number.rule_type)),
+    match set_at(number) {
+        Some(set) => Some(part(&PLURAL_RULES_TEXTS, set.text)),
         None => None,
     }
 }
@@ -140,7 +121,7 @@ pub fn plural_rules_at(alloc: Global, number: RulesNumber) -> Result<PluralRules
 }
 
 /// Returns the plural category of a number by the rules of `rules_text_at`, and `None` if no language has the index. It
-/// does not allocate: the text is read at each call.
+/// does not allocate.
 pub fn plural_category_at<D: DigitStore>(
     rules: RulesNumber,
     number: &PluralOperands<'_, D>,
@@ -148,8 +129,8 @@ pub fn plural_category_at<D: DigitStore>(
     ensures some { IfSome result (λ category. IsCategoryAt rules number.now category) }
     ensures none { IfNone result (rules_text_at rules ≡ None) }
 {
-    match rules_text_at(rules) {
-        Some(text) => category_by_text(text, number),
+    match set_at(rules) {
+        Some(set) => Some(category_in(set.rules, number)),
         None => None,
     }
 }

@@ -3,8 +3,8 @@ ghost use Rattle.std.specs.Prelude.{◌≡◌, ◌≤◌, ◌<◌, ℕ, List, le
 ghost use Rattle.std.specs.Option.{option_copied};
 ghost use Rattle.std.specs.Str.{bytes_eq};
 ghost use Rattle.locale_data.specs.Tag.{compared};
-ghost use Rattle.locale_data.specs.Rows.{part, is_inside, unpadded, row_at, row_named, IsRowOf};
-ghost use Rattle.locale_data.specs.SortedRows.{number, IsPadded, is_table, is_table_part, ends_at, IsFar, HasNoLonger};
+ghost use Rattle.locale_data.specs.Rows.{part, unpadded, row_at, row_named, IsRowOf};
+ghost use Rattle.locale_data.specs.SortedRows.{number, IsPadded, is_table, ends_at, IsFar, HasNoLonger};
 
 use crate::tag::tag_byte;
 
@@ -23,12 +23,13 @@ pub trait Row {
 #[derive(Clone, Copy, Debug)]
 pub struct TableRange(pub u16, pub u16);
 
-/// Returns the part of a table in a range.
-pub fn part<'a, T>(table: &'a [T], range: TableRange) -> &'a [T]
-    requires { is_inside range (length table.now) ≡ true }
+/// Returns the part of a table in a range, as far as the table goes.
+pub fn part<T>(table: &[T], range: TableRange) -> &[T]
     ensures { result.now ≡ part table.now range }
 {
-    &table[range.0 as usize..range.1 as usize]
+    let rest = &table[table.len().min(range.0 as usize)..];
+    let count = range.1.saturating_sub(range.0) as usize;
+    &rest[..count.min(rest.len())]
 }
 
 /// Returns the row with an index.
@@ -174,7 +175,7 @@ pub fn row_number<R: Row>(rows: &[R], tag: &[u8]) -> Option<usize>
 
 /// Returns the row of a part of a table with the longest name that is a tag, or has a hyphen after it there.
 pub fn row_in<'a, R: Row>(table: &'a [R], range: TableRange, tag: &[u8]) -> Option<&'a R>
-    requires { is_table_part R.name table.now range ≡ true }
+    requires { is_table R.name (part table.now range) ≡ true }
     ensures { IsRowOf R.name (part table.now range) tag.now (option_copied result) }
 {
     row_of(part(table, range), tag)

@@ -1,5 +1,5 @@
 -- Plural rules and their semantics.
-use Rattle.std.specs.Prelude.{ℕ, ◌%◌, ◌==◌, nat_le, Bool, true, ◌&&◌, not, if◌then◌else◌, List, codes, Option, Some, None, find}
+use Rattle.std.specs.Prelude.{ℕ, ◌%◌, ◌^◌, ◌==◌, nat_lt, nat_le, Bool, true, ◌&&◌, not, if◌then◌else◌, List, codes, Option, Some, None, find}
 use Rattle.std.specs.List.{list_any, list_all}
 use Rattle.std.specs.Option.{option_map_or}
 use Rattle.plural_rules.specs.declared.rules.PluralCategory.{PluralCategory}
@@ -20,6 +20,10 @@ name_of Two = codes "two"
 name_of Few = codes "few"
 name_of Many = codes "many"
 name_of Other = codes "other"
+
+-- the modulus of a number from 1 to 10^18; of every other number there is none
+abbrev pub modulus_of : ℕ → Option ℕ
+modulus_of n = if nat_lt 0 n && nat_le n (10 ^ 18) then Some n else None
 
 -- a relation: an operand, a modulus if there is one, whether it is = and not !=, and the ranges
 pub record RelationValue : Type 0 where

@@ -9,4 +9,5 @@ mod rules;
 
 pub use operands::PluralOperands;
 pub use parse::{RulesError, category_by_text};
-pub use rules::{PluralCategory, PluralRules};
+pub use rules::category::relation_holds;
+pub use rules::{Modulus, Operand, PluralCategory, PluralRules, Range};

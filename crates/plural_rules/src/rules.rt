@@ -1,6 +1,6 @@
 //! Plural rules as a value: a list of categories, each with its condition.
-ghost use Rattle.std.specs.Prelude.{◌≡◌, ◌<◌, ◌≤◌, ◌^◌, IfSome, IfNone, map};
-ghost use Rattle.plural_rules.specs.Rules.{name_of, relation, rule};
+ghost use Rattle.std.specs.Prelude.{◌≡◌, ◌<◌, ◌≤◌, ◌^◌, map};
+ghost use Rattle.plural_rules.specs.Rules.{name_of, modulus_of, relation, rule};
 
 pub(crate) mod category;
 
@@ -93,9 +93,7 @@ impl Model for Modulus {
 impl Modulus {
     /// Makes a modulus of a divisor from 1 to 10^18; `None` for every other divisor.
     pub fn new(divisor: u64) -> Option<Modulus>
-        ensures some { IfSome result (λ modulus. modulus ≡ divisor) }
-        ensures in_range { IfSome result (λ modulus. (0 < divisor) × (divisor ≤ 10 ^ 18)) }
-        ensures zero { IfNone result (divisor ≤ 10 ^ 18 → divisor ≡ 0) }
+        ensures { result ≡ modulus_of divisor }
     {
         if divisor == 0 || divisor > MAX_MODULUS {
             None

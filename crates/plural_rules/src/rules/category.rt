@@ -2,7 +2,7 @@
 ghost use Rattle.std.specs.Prelude.{◌≡◌, ℕ, ◌%◌, ◌^◌, ◌<◌, ◌≤◌};
 ghost use Rattle.std.specs.List.{list_any, list_all};
 ghost use Rattle.plural_rules.specs.DigitSlice.{IsUpTo};
-ghost use Rattle.plural_rules.specs.Rules.{operand_value, by_modulus, in_range, is_integer, equals, holds, is_met, category_of};
+ghost use Rattle.plural_rules.specs.Rules.{operand_value, by_modulus, in_range, is_integer, relation, holds, is_met, category_of};
 
 use super::{Modulus, Operand, PluralCategory, PluralRules, Range, Relation, Rule};
 use crate::operands::PluralOperands;
@@ -97,30 +97,42 @@ fn remainder_is_in(remainder: u64, ranges: &[Range]) -> bool
         .any(|range| range.low <= remainder && remainder <= range.high)
 }
 
-impl Relation {
-    fn equals<D: DigitStore>(&self, number: &PluralOperands<'_, D>) -> bool
-        ensures { result ≡ equals number.now self.now }
-    {
-        if !is_integer(number, self.operand) {
-            return false;
-        }
-        match self.modulus {
-            None => operand_is_in(number, self.operand, &self.ranges),
-            Some(modulus) => {
-                let remainder = operand_modulo(number, self.operand, modulus.divisor());
-                remainder_is_in(remainder, &self.ranges)
-            }
-        }
+/// Returns whether a relation holds: an operand, or its remainder by a modulus, is in one of the ranges, or for `!=` in
+/// none of them.
+///
+/// `n` is in no range where it is not an integer.
+pub fn relation_holds<D: DigitStore>(
+    number: &PluralOperands<'_, D>,
+    operand: Operand,
+    modulus: Option<Modulus>,
+    is_equal: bool,
+    ranges: &[Range],
+) -> bool
+    ensures { result ≡ holds number.now (relation operand modulus is_equal ranges.now) }
+{
+    if !is_integer(number, operand) {
+        return !is_equal;
     }
+    let is_in = match modulus {
+        None => operand_is_in(number, operand, ranges),
+        Some(modulus) => {
+            remainder_is_in(operand_modulo(number, operand, modulus.divisor()), ranges)
+        }
+    };
+    is_in == is_equal
+}
 
+impl Relation {
     fn holds<D: DigitStore>(&self, number: &PluralOperands<'_, D>) -> bool
         ensures { result ≡ holds number.now self.now }
     {
-        if self.is_equal {
-            self.equals(number)
-        } else {
-            !self.equals(number)
-        }
+        relation_holds(
+            number,
+            self.operand,
+            self.modulus,
+            self.is_equal,
+            &self.ranges,
+        )
     }
 }
 

@@ -15,16 +15,11 @@ returns-in_err-locale-clause-unknown c =
     (sym c.from_residual.ensures)
     (inl (subst (λ t. IsListed LOCALES t None) c.as_bytes.ensures.value c.in_err-locale.ensures))
 
-pub own_rows-requires : goal.own_rows-requires
-own_rows-requires c =
-    contains_at NUMBERING_SYSTEMS c.in_ok-system_named.field-0 c.indexed_row-system.result.now
-    c.indexed_row-system.ensures
-
 pub row_of-requires-2 : goal.row_of-requires-2
 row_of-requires-2 c =
     let system = c.indexed_row-system.result.now in
-    rw c.own_rows.ensures ((has_rows_if_listed system
-    (contains_at NUMBERING_SYSTEMS c.in_ok-system_named.field-0 system c.indexed_row-system.ensures)).1)
+    rw c.own_rows.ensures (has_rows_if_listed system
+    (contains_at NUMBERING_SYSTEMS c.in_ok-system_named.field-0 system c.indexed_row-system.ensures))
 
 pub symbols_in-requires : goal.symbols_in-requires
 symbols_in-requires c =

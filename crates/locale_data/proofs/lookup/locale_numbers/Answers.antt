@@ -9,15 +9,11 @@ use Rattle.locale_data.proofs.NumberedRows.{symbols_found}
 use Rattle.locale_data.proofs.Unknown.{rows_are_known}
 use Rattle.locale_data.proofs.lookup.locale_numbers.Goals as goal
 
-pub own_rows-requires : goal.own_rows-requires
-own_rows-requires c =
-    contains_at NUMBERING_SYSTEMS c.in_ok-locale.system c.indexed_row.result.now c.indexed_row.ensures
-
 pub row_number-own-requires : goal.row_number-own-requires
 row_number-own-requires c =
     let system = c.indexed_row.result.now in
     let listed = contains_at NUMBERING_SYSTEMS c.in_ok-locale.system system c.indexed_row.ensures in
-    rw c.own_rows.ensures ((has_rows_if_listed system listed).1)
+    rw c.own_rows.ensures (has_rows_if_listed system listed)
 
 pub returns-clause-found : goal.returns-clause-found
 returns-clause-found c =

@@ -39,12 +39,6 @@ pub returns-in_default-clause-readable : goal.returns-in_default-clause-readable
 returns-in_default-clause-readable c =
     rows_are_readable c.args.numbers c.symbols_in.result (sym (returns-in_default-clause-value c))
 
-pub own_rows-requires : goal.own_rows-requires
-own_rows-requires c =
-    let system = c.in_ok-system.system in
-    contains_at NUMBERING_SYSTEMS c.args.numbers.system system.now
-    (at_some NUMBERING_SYSTEMS c.args.numbers.system system c.in_ok-system.ensures.lookup)
-
 pub returns-in_err-own-clause-value : goal.returns-in_err-own-clause-value
 returns-in_err-own-clause-value c =
     let locale = c.in_ok-locale.locale in

@@ -1,6 +1,7 @@
 use Rattle.std.proofs.Common.{Some, None, subst}
 use Rattle.std.specs.Prelude.{IsSomeAnd}
-use Rattle.locale_data.specs.Plurals.{indexed_text, IsRulesText, HasNoRules}
+use Rattle.std.specs.Option.{option_map}
+use Rattle.locale_data.specs.Plurals.{text_of, indexed_set, IsRulesText, HasNoRules}
 use Rattle.locale_data.proofs.EachRow.{locales_are_table, languages_are_table}
 use Rattle.locale_data.proofs.RulesTexts.{language_found, locale_found}
 use Rattle.locale_data.proofs.plurals.plural_rules_number.Goals as goal
@@ -14,7 +15,8 @@ row_number-requires-2 c = locales_are_table
 pub returns-in-Some-clause-found : goal.returns-in-Some-clause-found
 returns-in-Some-clause-found c =
     let tag = c.as_bytes-tag.result.now in
-    subst (λ t. IsSomeAnd (indexed_text (Some c.in-Some.index) c.args.rule_type) (IsRulesText t c.args.rule_type))
+    subst (λ t. IsSomeAnd (option_map text_of (indexed_set (Some c.in-Some.index) c.args.rule_type))
+    (IsRulesText t c.args.rule_type))
     c.as_bytes-tag.ensures.value
     (language_found tag c.args.rule_type c.in-Some.index c.in-Some.ensures.value c.in-Some.ensures.inside)
 
@@ -22,7 +24,7 @@ pub returns-in-Some-row_number-clause-found : goal.returns-in-Some-row_number-cl
 returns-in-Some-row_number-clause-found c =
     let tag = c.as_bytes-tag.result.now in
     let locale = c.in-Some-row_number in
-    subst (λ t. IsSomeAnd (indexed_text None c.args.rule_type) (IsRulesText t c.args.rule_type))
+    subst (λ t. IsSomeAnd (option_map text_of (indexed_set None c.args.rule_type)) (IsRulesText t c.args.rule_type))
     c.as_bytes-tag.ensures.value
     (locale_found tag c.args.rule_type locale.field-0 c.in_default.ensures.value locale.ensures.value
     locale.ensures.inside)

@@ -3,9 +3,6 @@ use Rattle.std.specs.Str.{IsUtf8}
 use Rattle.locale_data.proofs.TableTexts.{text-facts}
 use Rattle.locale_data.proofs.texts.text_in.Goals as goal
 
-pub part-requires : goal.part-requires
-part-requires c = (text-facts c.args.bytes.now c.args.range c.requires).inside
-
 pub from_utf8_unchecked-requires : goal.from_utf8_unchecked-requires
 from_utf8_unchecked-requires c =
     subst IsUtf8 (sym c.part.ensures) (text-facts c.args.bytes.now c.args.range c.requires).utf8

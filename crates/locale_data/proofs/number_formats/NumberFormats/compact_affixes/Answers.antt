@@ -5,6 +5,5 @@ use Rattle.locale_data.proofs.number_formats.NumberFormats.compact_affixes.Goals
 
 pub affixes_of-requires : goal.affixes_of-requires
 affixes_of-requires c =
-    listed_pattern c.in_ok-run.run'.now c.args.category c.args.is_one c.in_ok-pattern.pattern.now
-    c.in_ok-run.ensures.listed
+    listed_pattern c.in_ok-run.run'.now.patterns c.args.category c.args.is_one c.in_ok-pattern.pattern.now
     (sym (ap (pattern_for c.args.category c.args.is_one) c.patterns_of.ensures) ∙ sym c.in_ok-pattern.ensures)
