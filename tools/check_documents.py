@@ -222,6 +222,9 @@ def check_modules():
                 check(path in FILES, f"DESIGN: there is no module {path}")
             for names, more in zip(table[crate], [modules + quoted(cells[1]), *(re.findall(r"\w+", it) for it in cells[2:])]):
                 names += more
+            for name in set(re.findall(r"\w+", cells[3])) - {"Calling"}:
+                path = f"crates/{crate}/proofs/lemmas/{modules[0]}/{name}.antt"
+                check(crate not in CRATES[:4] or path in FILES, f"DESIGN: there is no file {path}")
     for crate, (modules, *cited) in table.items():
         stems = lambda kind: [os.path.basename(path).rsplit(".", 1)[0] for path in FILES
                               if path.startswith(f"crates/{crate}/{kind}/") and path.endswith((".rt", ".antt"))]
@@ -229,7 +232,7 @@ def check_modules():
             check(name in modules + ["lib"], f"DESIGN: the module {name} of {crate} is missing")
         plain = {"".join(word.capitalize() for word in name.split("_")) for name in stems("src")}
         for kind, names in zip(["specs", "proofs"], cited):
-            found = sorted(set(stems(kind)) - {"Lib", "Answers", "Invariants", "Proof"} - plain)
+            found = sorted({it for it in stems(kind) if it[0].isupper()} - {"Lib", "Answers", "Invariants", "Proof"} - plain)
             check(sorted(names) == found, f"DESIGN: {kind} of {crate}: missing {sorted(set(found) - set(names))}, not there "
                   f"{sorted(set(names) - set(found))}, twice {sorted({it for it in names if names.count(it) > 1})}")
 

@@ -9,7 +9,7 @@ use crate::rounding::UnsignedRoundingMode as Mode;
 use std::cmp::Ordering;
 
 /// The number that is computed by a remainder is the multiple that the mode chooses among all multiples of the unit.
-#[tactic(auto, using(crate::proofs::Naming::rounded_number_is_named))]
+#[tactic(auto, using(crate::proofs::lemmas::rounding::Naming::rounded_number_is_named))]
 pub fn rounded_number_is_named()
     ensures { (mode : UnsignedRoundingMode) (unit number : ℕ) → 0 < unit
         → Named mode unit number (rounded_number mode unit number) }

@@ -44,7 +44,6 @@ impl Block {
         &self.bytes[..self.len]
     }
 
-    /// Returns whether there is room for a number of bytes.
     #[inline]
     pub(crate) fn has_room(&self, count: usize) -> bool
         ensures { IsTrue result ↔ (length self.now.0 + count ≤ 192) }
@@ -52,7 +51,6 @@ impl Block {
         count <= SIZE - self.len
     }
 
-    /// Appends bytes if a condition holds. Requires room for them.
     #[inline]
     pub(crate) fn push_if(&mut self, bytes: &[u8], condition: bool)
         requires { length self.old.0 + length bytes.now ≤ 192 }
@@ -80,7 +78,6 @@ impl Block {
         self.len = end;
     }
 
-    /// Appends bytes, or none if they do not fit.
     #[inline]
     pub(crate) fn append(&mut self, bytes: &[u8]) -> Result<(), SinkFault>
         ensures ok { OnOk result (self.new ≡ (self.old.0 ++ bytes.now, false)) }

@@ -4,6 +4,7 @@ ghost use Rattle.decimal_digits.specs.Number.{digit};
 ghost use Rattle.decimal_unsigned.specs.Unsigned.{IsValue};
 ghost use Rattle.decimal_format.specs.Symbols.{digit_text, sign_affixes};
 ghost use Rattle.decimal_format.specs.Formatted.{formatter, formatted_by, formatted_absolute, shown_count, separator_before, separator_after};
+ghost use Rattle.decimal_format.specs.Scanning.{separator_if};
 
 mod display;
 mod short;
@@ -65,6 +66,18 @@ impl<'f, D: DigitStore> Model for FormattedDecimal<'f, D> {
     ghost view = { λ s. with_sign s.absolute s.sign };
 }
 
+#[inline]
+fn grouping_if<'s>(symbols: &'s DecimalSymbols<'_>, separated: bool) -> &'s str
+    ensures value { result.now ≡ separator_if symbols.now separated }
+    ensures at_most { length result.now ≤ 255 }
+{
+    if separated {
+        symbols.grouping_separator()
+    } else {
+        ""
+    }
+}
+
 impl<'a> DecimalFormatter<'a> {
     /// Makes a formatter with the symbols of a locale and a strategy of grouping.
     #[inline]
@@ -115,38 +128,24 @@ impl<'f, D: DigitStore> FormattedAbsolute<'f, D> {
         }
     }
 
-    /// Returns the highest magnitude that is shown.
-    #[inline]
-    fn highest(&self) -> i16
-        ensures value { result ≡ self.now.value.hi }
-        ensures valid { IsValue self.now.value }
-    {
-        *self.value.magnitude_range().end()
-    }
-
-    /// Returns the number of magnitudes that are shown.
     #[inline]
     fn shown_count(&self) -> u32
         ensures value { result ≡ shown_count self.now.value }
         ensures at_most { result ≤ 65536 }
     {
-        let range = self.value.magnitude_range();
-        count_between(*range.start(), *range.end())
+        count_between(self.value.lowest(), self.value.highest())
     }
 
-    /// Returns the magnitude that is the given number below the highest. Requires one that is shown.
     #[inline]
     fn magnitude(&self, below: u32) -> i16
         requires { below < shown_count self.now.value }
         ensures value { result ≡ self.now.value.hi -ℤ pos below }
         ensures valid { IsValue self.now.value }
     {
-        let range = self.value.magnitude_range();
-        prove!(*range.start() <= 0);
-        magnitude_below(*range.end(), below)
+        prove!(self.value.lowest() <= 0);
+        magnitude_below(self.value.highest(), below)
     }
 
-    /// Returns whether the decimal separator is before the digit of a magnitude.
     #[inline]
     fn has_separator_before(&self, below: u32) -> bool
         requires { below < shown_count self.now.value }
@@ -156,7 +155,6 @@ impl<'f, D: DigitStore> FormattedAbsolute<'f, D> {
         self.magnitude(below) == -1
     }
 
-    /// Returns the text before the digit of a magnitude: the decimal separator or nothing.
     #[inline]
     fn separator_before(&self, below: u32) -> &str
         requires { below < shown_count self.now.value }
@@ -170,7 +168,6 @@ impl<'f, D: DigitStore> FormattedAbsolute<'f, D> {
         }
     }
 
-    /// Returns the digit of a magnitude.
     #[inline]
     fn digit(&self, below: u32) -> char
         requires { below < shown_count self.now.value }
@@ -181,7 +178,6 @@ impl<'f, D: DigitStore> FormattedAbsolute<'f, D> {
         self.symbols.digit(digit)
     }
 
-    /// Returns the text after the digit of a magnitude: a grouping separator or nothing.
     #[inline]
     fn separator_after(&self, below: u32) -> &str
         requires { below < shown_count self.now.value }
@@ -189,20 +185,13 @@ impl<'f, D: DigitStore> FormattedAbsolute<'f, D> {
             (self.now.value.hi -ℤ pos below) }
         ensures at_most { length result.now ≤ 255 }
     {
-        let symbols = self.symbols;
-        if symbols
-            .sizes()
-            .separates(self.strategy, self.highest(), self.magnitude(below))
-        {
-            symbols.grouping_separator()
-        } else {
-            ""
-        }
+        let (hi, magnitude) = (self.value.highest(), self.magnitude(below));
+        let separated = self.symbols.sizes().separates(self.strategy, hi, magnitude);
+        grouping_if(self.symbols, separated)
     }
 }
 
 impl<'f, D: DigitStore> FormattedDecimal<'f, D> {
-    /// Returns the text before the number.
     #[inline]
     fn prefix(&self) -> &str
         ensures value { result.now ≡ (sign_affixes self.now.symbols self.now.value.sign).prefix }
@@ -211,7 +200,6 @@ impl<'f, D: DigitStore> FormattedDecimal<'f, D> {
         self.absolute.symbols.affixes(self.sign).prefix
     }
 
-    /// Returns the text after the number.
     #[inline]
     fn suffix(&self) -> &str
         ensures value { result.now ≡ (sign_affixes self.now.symbols self.now.value.sign).suffix }

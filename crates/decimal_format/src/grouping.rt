@@ -47,7 +47,6 @@ fn remainder(dividend: usize, divisor: usize) -> usize
 }
 
 impl GroupingSizes {
-    /// Returns whether at least `least` digits are before the last group, where the highest magnitude is `hi`.
     #[inline]
     fn reaches(self, least: u8, hi: i16) -> bool
         ensures { result ≡ reaches self least hi }
@@ -55,7 +54,6 @@ impl GroupingSizes {
         self.primary as i32 + least as i32 <= hi as i32 + 1
     }
 
-    /// Returns whether a value with the highest magnitude `hi` is grouped.
     #[inline]
     pub(crate) fn is_grouped(self, strategy: GroupingStrategy, hi: i16) -> bool
         ensures { result ≡ is_grouped strategy self hi }
@@ -68,7 +66,6 @@ impl GroupingSizes {
         }
     }
 
-    /// Returns the size of every group except the last.
     #[inline]
     pub(crate) fn secondary_size(self) -> u8
         ensures { result ≡ secondary_size self }
@@ -90,7 +87,6 @@ impl GroupingSizes {
         self.separates_if(self.is_grouped(strategy, hi), magnitude)
     }
 
-    /// Returns whether a separator is after the digit at a magnitude of a value, which may be grouped.
     #[inline]
     pub(crate) fn separates_if(self, is_grouped: bool, magnitude: i16) -> bool
         ensures { result ≡ (is_grouped && ends_group_at self magnitude) }
@@ -154,7 +150,6 @@ impl GroupingSizes {
         (count as u32, ends)
     }
 
-    /// Returns the number of separators of a value with the highest magnitude `hi`, which is at least 0.
     #[inline]
     pub(crate) fn separator_count(self, strategy: GroupingStrategy, hi: i16) -> u32
         requires { pos 0 ≤ℤ hi }

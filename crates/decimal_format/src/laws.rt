@@ -13,21 +13,21 @@ ghost use Rattle.decimal_format.specs.declared.grouping.GroupingStrategy.{Groupi
 ghost use Rattle.decimal_format.specs.declared.grouping.GroupingStrategy.TheVariants.{Never};
 
 /// With the ASCII symbols and `Never`, the text of a decimal is its own.
-#[tactic(auto, using(crate::proofs::FormattedLaws::ascii_is_plain))]
+#[tactic(auto, using(crate::proofs::lemmas::formatter::FormattedLaws::ascii_is_plain))]
 pub fn ascii_is_plain()
     ensures { (grouping : List ℕ) (sizes : GroupingSizes) (v : Decimal)
         → formatted (ascii_with grouping sizes) Never v ≡ decimal_text v }
 {}
 
 /// Groups only insert separators: if the grouping separator is empty, the text is that of `Never`.
-#[tactic(auto, using(crate::proofs::FormattedLaws::groups_insert_separators))]
+#[tactic(auto, using(crate::proofs::lemmas::formatter::FormattedLaws::groups_insert_separators))]
 pub fn groups_insert_separators()
     ensures { (s : Symbols) (strategy : GroupingStrategy) (v : Decimal)
         → formatted (without_grouping s) strategy v ≡ formatted s Never v }
 {}
 
 /// With readable symbols, two values have different texts, whatever strategies they are formatted by.
-#[tactic(auto, using(crate::proofs::NumeralLaws::texts_are_unique))]
+#[tactic(auto, using(crate::proofs::lemmas::reader::NumeralLaws::texts_are_unique))]
 pub fn texts_are_unique()
     ensures { (s : Symbols) (g h : GroupingStrategy) (v w : Decimal) → IsReadable s → IsValue v.absolute
         → IsValue w.absolute → formatted s g v ≡ formatted s h w → v ≡ w }

@@ -38,7 +38,6 @@ struct Scanned<T> {
 }
 
 impl<'a> DecimalSymbols<'a> {
-    /// Returns whether a text begins with a grouping separator, where one is possible, and what follows it.
     fn skip_separator<T: Input>(&self, possible: bool, text: T) -> (bool, T)
         ensures { SkipsSeparator self.now possible (T.bytes text) (T.bytes result.1) result.0 }
     {
@@ -110,7 +109,6 @@ impl<'a> DecimalSymbols<'a> {
         Some((all | none, rest))
     }
 
-    /// Reads the decimal separator and the fraction digits, if there are any, to the end of a text.
     #[inline]
     fn read_fraction<T: Input>(&self, text: T) -> Option<Part<T>>
         requires { IsReadable self.now }
@@ -127,10 +125,7 @@ impl<'a> DecimalSymbols<'a> {
         }
         let digits = cut(text, self.decimal_separator().as_bytes())?;
         let (number, count, rest) = self.read_run(usize::MAX, digits);
-        if count == 0 {
-            return None;
-        }
-        if !rest.is_empty() {
+        if count == 0 || !rest.is_empty() {
             return None;
         }
         Some(Part {
@@ -140,7 +135,6 @@ impl<'a> DecimalSymbols<'a> {
         })
     }
 
-    /// Finds the sign and the digits of a text, with separators at any ends of groups.
     #[inline]
     fn scan<T: Input>(&self, text: T) -> Option<Scanned<T>>
         requires { IsReadable self.now }
@@ -169,7 +163,6 @@ impl<'a> DecimalSymbols<'a> {
         })
     }
 
-    /// Reads a decimal with separators at any of the ends of groups; or only with all of them, or none.
     fn read_groups<T: Input, D: DigitStore>(
         &self,
         alloc: Global,

@@ -10,7 +10,6 @@ use std::marker::Model;
 /// The greatest number of bytes of a separator, a prefix or a suffix.
 const MAX_TEXT: usize = 255;
 
-/// The ASCII digits.
 const ASCII_DIGITS: [char; 10] = ['0', '1', '2', '3', '4', '5', '6', '7', '8', '9'];
 
 /// The texts before and after a number that has a sign.
@@ -51,7 +50,6 @@ impl<'a> Model for DecimalSymbols<'a> {
         × (s.has_ascii_digits ≡ true → s.digits ≡ ascii_digits) };
 }
 
-/// Checks that ten digits have one length in UTF-8.
 fn check_widths(digits: &[char; 10]) -> Result<(), SymbolsError>
     ensures ok { OnOk result (HaveWidth digits.now (length (encode_utf8 (slice_index digits.now 0)))) }
     ensures err { IfErr result (λ e. (e ≡ SymbolsError.DigitWidths)
@@ -65,7 +63,6 @@ fn check_widths(digits: &[char; 10]) -> Result<(), SymbolsError>
     Ok(())
 }
 
-/// Checks that a text has at most 255 bytes.
 fn check_length(text: &str, error: SymbolsError) -> Result<(), SymbolsError>
     ensures ok { OnOk result (length text.now ≤ 255) }
     ensures err { IfErr result (λ e. (e ≡ error) × (255 < length text.now)) }
@@ -146,7 +143,7 @@ impl<'a> DecimalSymbols<'a> {
     /// Returns the symbols of a decimal's own text: `0` to `9`, `.`, `,` between groups of three, `-` and `+`.
     ///
     /// They are readable.
-    #[tactic(auto, using(crate::proofs::Apart::ascii_is_readable))]
+    #[tactic(auto, using(crate::proofs::lemmas::symbols::Apart::ascii_is_readable))]
     pub fn ascii() -> DecimalSymbols<'static>
         ensures value { result ≡ ascii_symbols }
         ensures readable { IsReadable result }
@@ -210,16 +207,13 @@ impl<'a> DecimalSymbols<'a> {
         ensures value { HaveWidth self.now.digits result }
         ensures at_most { result ≤ 4 }
     {
-        let _ = &self.minus;
         self.digits[0].len_utf8()
     }
 
-    /// Returns whether the digits are the ASCII digits.
     #[inline]
     pub(crate) fn has_ascii_digits(&self) -> bool
         ensures { result ≡ true → self.now.digits ≡ ascii_digits }
     {
-        let _ = &self.minus;
         self.has_ascii_digits
     }
 
@@ -256,7 +250,6 @@ impl<'a> DecimalSymbols<'a> {
         ensures suffix { result.suffix.now ≡ (sign_affixes self.now sign).suffix }
         ensures at_most { (length result.prefix.now ≤ 255) × (length result.suffix.now ≤ 255) }
     {
-        let _ = &self.minus;
         match sign {
             Sign::None => Affixes {
                 prefix: "",

@@ -105,7 +105,7 @@ impl<D: DigitStore> MadeWith<Global> for UnsignedOver<D> {
 
 impl<D: DigitStore> UnsignedOver<D> {
     /// Makes the number 0, which prints `0`, without an allocation.
-    #[tactic(auto, using(crate::proofs::Values::number_of_empty))]
+    #[tactic(auto, using(crate::proofs::lemmas::decimal::Values::number_of_empty))]
     pub fn zero(alloc: Global) -> Self
         ensures { result ≡ zero_value }
     {

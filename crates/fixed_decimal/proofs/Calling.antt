@@ -3,67 +3,67 @@ use Rattle.std.proofs.Common.{◌≡◌, ℕ, zero, suc, ◌+◌, ◌-◌, ◌*�
 use Rattle.std.proofs.Math.Nat.{mod-lt, mul_assoc, mul-le-mul_right, mul-lt-mul_of_pos_right, le-mul_of_pos_right, mul-div_cancel, mul-mod_left, div-add-mod', pow-le-pow_right}
 use Rattle.std.proofs.lemmas.{Bool.cases_lt, Bool.Decides.nat_tests, Int.{ints, clamps}}
 use Rattle.std.specs.{Int.{int_gap, abs_diff}, Io.KnownBytes.Appends}
-use Rattle.decimal_digits.proofs.Ends.{no_more_zeros}
+use Rattle.decimal_digits.proofs.lemmas.rounding.Ends.{no_more_zeros}
 use Rattle.decimal_digits.specs.{AppendsPrefix.AppendsPrefix, Number.{weight, digit, size, offset, magnitude_at, first, last}, Rounding.IsNearest}
-use Rattle.decimal_unsigned.proofs.{ConcatenationLaws.extent_of, FirstLast.{top_lt, first_sum, last_sum}}
+use Rattle.decimal_unsigned.proofs.lemmas.{decimal.FirstLast.{top_lt, first_sum, last_sum}, laws.ConcatenationLaws.extent_of}
 use Rattle.decimal_unsigned.specs.{Reading.read, Rounded.{with_number, rounded_to}, Text.{dot_before, text_down, text}, ToInteger.as_integer, Unsigned.{Unsigned, IsValue}, ValueLaws.trimmed, declared.error.IntegerError.TheVariants.{NotWhole, OutOfRange}}
 use Rattle.fixed_decimal.specs.Decimal.{Decimal, signed_number, with_absolute}
 -- for `omega`: an offset is the magnitude plus 32768
-pub use Rattle.decimal_digits.proofs.Offsets.{offset_is}
+pub use Rattle.decimal_digits.proofs.lemmas.ops.Offsets.{offset_is}
 -- for `omega`: how far one magnitude is above another
-pub use Rattle.decimal_digits.proofs.Offsets.{gap_is}
+pub use Rattle.decimal_digits.proofs.lemmas.ops.Offsets.{gap_is}
 -- a power of ten is above 0, as a divisor has to be
-pub use Rattle.decimal_digits.proofs.DigitLists.{ten_pos}
+pub use Rattle.decimal_digits.proofs.lemmas.digits.DigitLists.{ten_pos}
 -- a power of ten is the product of two
-pub use Rattle.decimal_digits.proofs.NumberAt.{powers}
+pub use Rattle.decimal_digits.proofs.lemmas.rounding.NumberAt.{powers}
 -- the number of a list of digits is below the power of ten of its places
-pub use Rattle.decimal_digits.proofs.NumberAt.{number_at-lt}
+pub use Rattle.decimal_digits.proofs.lemmas.rounding.NumberAt.{number_at-lt}
 -- the number that a concatenation of digits writes
-pub use Rattle.decimal_digits.proofs.DigitLists.{number-append}
+pub use Rattle.decimal_digits.proofs.lemmas.digits.DigitLists.{number-append}
 -- and that of digits after others; the first digit of a number
-pub use Rattle.decimal_digits.proofs.DigitLists.{number_after, number_first}
+pub use Rattle.decimal_digits.proofs.lemmas.digits.DigitLists.{number_after, number_first}
 -- digits below ten are below sixteen, and a digit takes four bits
-pub use Rattle.decimal_digits.proofs.LeadingBytes.{below_sixteen, hex_pow}
+pub use Rattle.decimal_digits.proofs.lemmas.digits.LeadingBytes.{below_sixteen, hex_pow}
 -- a magnitude that 16 bits hold is read as it was written
-pub use Rattle.decimal_unsigned.proofs.Values.{narrow_kept}
+pub use Rattle.decimal_unsigned.proofs.lemmas.decimal.Values.{narrow_kept}
 -- the greatest number that passes a test
-pub use Rattle.decimal_digits.proofs.Ends.{greatest_is}
+pub use Rattle.decimal_digits.proofs.lemmas.rounding.Ends.{greatest_is}
 -- a number times a power of ten, without its digits below an offset
-pub use Rattle.decimal_digits.proofs.Ends.{shift_down}
+pub use Rattle.decimal_digits.proofs.lemmas.rounding.Ends.{shift_down}
 -- the first digit of a number between two powers of ten
-pub use Rattle.decimal_digits.proofs.Ends.{first_is}
+pub use Rattle.decimal_digits.proofs.lemmas.rounding.Ends.{first_is}
 -- the last nonzero digit of v * 10 ^ e is at the offset e, if v does not end in 0
-pub use Rattle.decimal_digits.proofs.Ends.{last_is}
+pub use Rattle.decimal_digits.proofs.lemmas.rounding.Ends.{last_is}
 -- the last digit of a number that a power of ten divides, and no higher one; the first and the last one of 0
-pub use Rattle.decimal_digits.proofs.Ends.{last_at, last_zero, first_zero}
+pub use Rattle.decimal_digits.proofs.lemmas.rounding.Ends.{last_at, last_zero, first_zero}
 -- the first and the last digit of a number above 0: its powers of ten, and the two magnitudes
-pub use Rattle.decimal_unsigned.proofs.FirstLast.{Extent, extent, ordered, first_of, last_of}
+pub use Rattle.decimal_unsigned.proofs.lemmas.decimal.FirstLast.{Extent, extent, ordered, first_of, last_of}
 -- a value is below 10 to the 32768
-pub use Rattle.decimal_unsigned.proofs.ValueLaws.{below_limit}
+pub use Rattle.decimal_unsigned.proofs.lemmas.laws.ValueLaws.{below_limit}
 -- a number that a range up to hi holds has its first digit at hi or below
-pub use Rattle.decimal_unsigned.proofs.FirstLast.{first_le}
+pub use Rattle.decimal_unsigned.proofs.lemmas.decimal.FirstLast.{first_le}
 -- values do not overlap if the second, unless one of them is 0, begins below the end of the first
-pub use Rattle.decimal_unsigned.proofs.Concatenations.{not_overlapping}
+pub use Rattle.decimal_unsigned.proofs.lemmas.shift.Concatenations.{not_overlapping}
 -- a text is constructed digit by digit: one magnitude, and then the others
-pub use Rattle.decimal_unsigned.proofs.Writing.{text_down-suc}
+pub use Rattle.decimal_unsigned.proofs.lemmas.text.Writing.{text_down-suc}
 -- and the text of no magnitudes is empty
-pub use Rattle.decimal_unsigned.proofs.Writing.{text_down-zero}
+pub use Rattle.decimal_unsigned.proofs.lemmas.text.Writing.{text_down-zero}
 -- the text of a value reads as the value
-pub use Rattle.decimal_unsigned.proofs.ReadBack.{read_text}
+pub use Rattle.decimal_unsigned.proofs.lemmas.text.ReadBack.{read_text}
 -- each text is read as the grammar says
-pub use Rattle.decimal_unsigned.proofs.ReadingGrammar.{follows_grammar}
+pub use Rattle.decimal_unsigned.proofs.lemmas.parse.ReadingGrammar.{follows_grammar}
 -- two values have one number exactly if they are equal after both trims
-pub use Rattle.decimal_unsigned.proofs.ValueLaws.{trimmed_is_normal_form}
+pub use Rattle.decimal_unsigned.proofs.lemmas.laws.ValueLaws.{trimmed_is_normal_form}
 -- a multiple of the unit is rounded to itself
-pub use Rattle.decimal_digits.proofs.RoundingLaws.{rounded_number-multiple}
+pub use Rattle.decimal_digits.proofs.lemmas.rounding.RoundingLaws.{rounded_number-multiple}
 -- the same rounding again changes nothing
-pub use Rattle.decimal_digits.proofs.RoundingLaws.{rounded_number-idempotent}
+pub use Rattle.decimal_digits.proofs.lemmas.rounding.RoundingLaws.{rounded_number-idempotent}
 -- a greater number is rounded to no less
-pub use Rattle.decimal_digits.proofs.RoundingLaws.{rounded_number-monotone}
+pub use Rattle.decimal_digits.proofs.lemmas.rounding.RoundingLaws.{rounded_number-monotone}
 -- a prefix is a prefix of a longer text; a text and then a prefix of the next
-pub use Rattle.decimal_digits.proofs.Sinks.{prefix_more, then_prefix}
+pub use Rattle.decimal_digits.proofs.lemmas.sink.Sinks.{prefix_more, then_prefix}
 -- a true proposition holds on an error
-pub use Rattle.decimal_digits.proofs.Results.{on_err}
+pub use Rattle.decimal_digits.proofs.lemmas.rounding.Results.{on_err}
 
 -- ---- Magnitudes. `omega (arith, ints, offset_is m)` compares the offsets of magnitudes.
 -- the weight of a magnitude k higher is 10 to the k times as much

@@ -31,11 +31,7 @@ pub struct CompactDecimal {
 // Not derived: a derived drop is proved again in each crate that depends on this one.
 impl Drop for CompactDecimal {
     fn drop(self) {
-        let CompactDecimal {
-            significand,
-            exponent: _,
-        } = self;
-        drop(significand);
+        drop(self.into_significand());
     }
 }
 
@@ -85,7 +81,7 @@ fn split_at_c(text: &[u8]) -> Result<(&[u8], Option<&[u8]>), ParseError>
 }
 
 /// Returns the text of an exponent in the first bytes of an array, and its length: `c` and digits, or no bytes for 0.
-#[tactic(auto, using(crate::proofs::CompactTexts::exponents))]
+#[tactic(auto, using(crate::proofs::lemmas::integer::CompactTexts::exponents))]
 fn exponent_text(exponent: u8) -> ([u8; 4], usize)
     ensures text { take result.1 result.0 ≡ exponent_text exponent }
     ensures at_most { result.1 ≤ 4 }
@@ -150,7 +146,7 @@ impl CompactDecimal {
     /// - `Syntax`: the text after that `c` is empty, begins with `0`, or is not all digits, as in `1c01` and `1c1c1`.
     /// - `Limit`: the exponent is above 255.
     /// - `Memory`: out of memory, only for more than `INLINE_DIGITS` digits of the significand.
-    #[tactic(auto, using(crate::proofs::CompactTexts::compact_reads))]
+    #[tactic(auto, using(crate::proofs::lemmas::integer::CompactTexts::compact_reads))]
     pub fn try_from_str(alloc: Global, text: &str) -> Result<Self, ParseError>
         ensures parses { IsParseResult (HasLongSignificand INLINE_DIGITS) result (read_compact text.now) }
         // The result of reading, by the parts of the text.
@@ -164,7 +160,7 @@ impl CompactDecimal {
     }
 
     // Apart from `eq`, whose proof needs these clauses of one result.
-    #[tactic(auto, using(crate::proofs::CompactTexts::same_fields))]
+    #[tactic(auto, using(crate::proofs::lemmas::integer::CompactTexts::same_fields))]
     fn has_same_fields(&self, other: &Self) -> bool
         ensures value { IsTrue result ↔ (self.now ≡ other.now) }
         ensures texts { IsTrue result ↔ (compact_text self.now ≡ compact_text other.now) }
@@ -180,7 +176,7 @@ impl Writeable for CompactDecimal {
     /// Appends the text of the significand and, if the exponent is not 0, `c` and its digits: `1.20c6`.
     ///
     /// The text parses to an equal value.
-    #[tactic(auto, using(crate::proofs::CompactTexts::writing))]
+    #[tactic(auto, using(crate::proofs::lemmas::integer::CompactTexts::writing))]
     fn write_to<W: Sink>(&self, sink: &mut W) -> Result<(), SinkFault>
         ensures ok { OnOk result (Appends (W.contents sink.old) (W.contents sink.new) (compact_text self.now)) }
         ensures err { OnErr result
@@ -251,7 +247,7 @@ impl fmt::Display for CompactDecimal {
     ghost styled_output = { λ v _. Some (compact_text v) };
 
     /// Writes the text that `write_to` appends, and ignores the options of the format: `{:8}` writes `1.20c6` too.
-    #[tactic(auto, using(crate::proofs::Writing::formatting))]
+    #[tactic(auto, using(crate::proofs::lemmas::signed_decimal::Writing::formatting))]
     fn fmt<W: fmt::Write>(&self, f: &mut fmt::Formatter<W>) -> fmt::Result {
         let (exponent, length) = exponent_text(self.exponent);
         self.significand.fmt(f)?;

@@ -31,8 +31,7 @@ pub struct FixedInteger(Decimal);
 // Not derived: a derived drop is proved again in each crate that depends on this one.
 impl Drop for FixedInteger {
     fn drop(self) {
-        let FixedInteger(decimal) = self;
-        drop(decimal);
+        drop(self.into_decimal());
     }
 }
 
@@ -78,7 +77,7 @@ impl FixedInteger {
     /// - `Syntax`, `Limit`: those of `Decimal`.
     /// - `Limit`: the decimal has fraction digits, as that of `5.0` and of `100e-2`.
     /// - `Memory`: out of memory, only for more than `INLINE_DIGITS` digits.
-    #[tactic(auto, using(crate::proofs::IntegerTexts::integer_reads))]
+    #[tactic(auto, using(crate::proofs::lemmas::integer::IntegerTexts::integer_reads))]
     pub fn try_from_utf8(alloc: Global, text: &[u8]) -> Result<Self, ParseError>
         ensures parses { IsParseResult (IsLong INLINE_DIGITS) result (read_integer text.now) }
         // The result of reading, by the grammar.
@@ -93,7 +92,7 @@ impl FixedInteger {
     /// # Errors
     ///
     /// As there.
-    #[tactic(auto, using(crate::proofs::IntegerTexts::integer_reads))]
+    #[tactic(auto, using(crate::proofs::lemmas::integer::IntegerTexts::integer_reads))]
     pub fn try_from_str(alloc: Global, text: &str) -> Result<Self, ParseError>
         ensures parses { IsParseResult (IsLong INLINE_DIGITS) result (read_integer text.now) }
         ensures reads { ReadsInteger text.now (read_integer text.now) }
@@ -167,7 +166,7 @@ impl Writeable for FixedInteger {
     }
 
     /// Returns the exact length of the text, in bytes: 3 for `-05`, and at most 32,769.
-    #[tactic(auto, using(crate::proofs::DecimalBytes::integer_lengths))]
+    #[tactic(auto, using(crate::proofs::lemmas::signed_decimal::DecimalBytes::integer_lengths))]
     fn writeable_length_hint(&self) -> usize
         ensures exact { result ≡ length (decimal_text self.now) }
         ensures at_most { result ≤ 32769 }

@@ -28,7 +28,7 @@ use std::cmp::Ordering;
 
 /// Rounding commutes with negation: with the opposite sign and up and down exchanged, the rounded absolute value is the
 /// same, range included.
-#[tactic(auto, using(crate::proofs::SignedRoundings::rounding_commutes_with_negation))]
+#[tactic(auto, using(crate::proofs::lemmas::signed_decimal::SignedRoundings::rounding_commutes_with_negation))]
 pub fn rounding_commutes_with_negation()
     ensures { (v : Decimal) (rounding : Rounding SignedRoundingMode) → RoundingCommutesWithNegation v rounding }
 {}
@@ -36,27 +36,27 @@ pub fn rounding_commutes_with_negation()
 /// Rounding is monotone: if one number is at most another, so it is after both are rounded.
 ///
 /// A number whose rounding fails with `Limit` is unchanged.
-#[tactic(auto, using(crate::proofs::SignedRoundings::rounding_is_monotone))]
+#[tactic(auto, using(crate::proofs::lemmas::signed_decimal::SignedRoundings::rounding_is_monotone))]
 pub fn rounding_is_monotone()
     ensures { (v w : Decimal) (rounding : Rounding SignedRoundingMode) → RoundingIsMonotone v w rounding }
 {}
 
 /// Two truncations give the number of one truncation at the greater position.
-#[tactic(auto, using(crate::proofs::RunLaws::truncations_compose))]
+#[tactic(auto, using(crate::proofs::lemmas::runs::RunLaws::truncations_compose))]
 pub fn truncations_compose()
     ensures { (v : Decimal) (p q : ℤ) → IsValue v.absolute → IsPosition p → IsPosition q → TruncationsCompose v p q }
 {}
 
 /// Two expansions give the number of one expansion at the greater position; one of them fails if and only if that one
 /// does.
-#[tactic(auto, using(crate::proofs::RunLaws::expansions_compose))]
+#[tactic(auto, using(crate::proofs::lemmas::runs::RunLaws::expansions_compose))]
 pub fn expansions_compose()
     ensures { (v : Decimal) (p q : ℤ) → IsPosition p → IsPosition q → ExpansionsCompose v p q }
 {}
 
 /// Successive roundings, all toward zero or all away from zero, give the number of one rounding at their greatest
 /// position; one of them fails if and only if that one does.
-#[tactic(auto, using(crate::proofs::RunLaws::roundings_compose))]
+#[tactic(auto, using(crate::proofs::lemmas::runs::RunLaws::roundings_compose))]
 pub fn roundings_compose()
     ensures toward_zero { RoundsOnce Trunc }
     // A rounding toward zero never fails.

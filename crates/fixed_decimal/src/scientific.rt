@@ -31,12 +31,7 @@ pub struct ScientificDecimal {
 // Not derived: a derived drop is proved again in each crate that depends on this one.
 impl Drop for ScientificDecimal {
     fn drop(self) {
-        let ScientificDecimal {
-            significand,
-            exponent,
-        } = self;
-        drop(significand);
-        drop(exponent);
+        drop(self.into_parts());
     }
 }
 
@@ -110,7 +105,7 @@ impl ScientificDecimal {
     /// - `Syntax`, `Limit`: those of `Decimal`, for the text before the `e`.
     /// - `Syntax`, `Limit`: those of `FixedInteger`, for the text after the `e`; so `1e1.0` is `Limit`.
     /// - `Memory`: out of memory, only for more than `INLINE_DIGITS` digits of a part; the other part is dropped.
-    #[tactic(auto, using(crate::proofs::ScientificTexts::scientific_reads))]
+    #[tactic(auto, using(crate::proofs::lemmas::integer::ScientificTexts::scientific_reads))]
     pub fn try_from_utf8(alloc: Global, text: &[u8]) -> Result<Self, ParseError>
         ensures parses { IsParseResult (HasLongField INLINE_DIGITS) result (read_scientific text.now) }
         // The result of reading, by the parts of the text.
@@ -129,7 +124,7 @@ impl ScientificDecimal {
     /// # Errors
     ///
     /// As there.
-    #[tactic(auto, using(crate::proofs::ScientificTexts::scientific_reads))]
+    #[tactic(auto, using(crate::proofs::lemmas::integer::ScientificTexts::scientific_reads))]
     pub fn try_from_str(alloc: Global, text: &str) -> Result<Self, ParseError>
         ensures parses { IsParseResult (HasLongField INLINE_DIGITS) result (read_scientific text.now) }
         ensures reads { ReadsScientific text.now (read_scientific text.now) }
@@ -138,7 +133,7 @@ impl ScientificDecimal {
     }
 
     // Apart from `eq`, whose proof needs these clauses of one result.
-    #[tactic(auto, using(crate::proofs::ScientificTexts::same_fields))]
+    #[tactic(auto, using(crate::proofs::lemmas::integer::ScientificTexts::same_fields))]
     fn has_same_fields(&self, other: &Self) -> bool
         ensures value { IsTrue result ↔ (self.now ≡ other.now) }
         ensures texts { IsTrue result ↔ (scientific_text self.now ≡ scientific_text other.now) }
@@ -153,7 +148,7 @@ impl Writeable for ScientificDecimal {
     /// Appends the text of the significand, `e`, and the text of the exponent: `1.20e-03`.
     ///
     /// The text parses to an equal value.
-    #[tactic(auto, using(crate::proofs::ScientificTexts::writing))]
+    #[tactic(auto, using(crate::proofs::lemmas::integer::ScientificTexts::writing))]
     fn write_to<W: Sink>(&self, sink: &mut W) -> Result<(), SinkFault>
         ensures ok { OnOk result (Appends (W.contents sink.old) (W.contents sink.new) (scientific_text self.now)) }
         ensures err { OnErr result

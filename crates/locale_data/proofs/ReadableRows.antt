@@ -9,7 +9,7 @@ use Rattle.std.specs.Option.{option_map, option_map_or}
 use Rattle.std.specs.Str.{bytes_eq}
 use Rattle.decimal_format.specs.declared.grouping.GroupingSizes.{GroupingSizes}
 use Rattle.decimal_format.specs.Symbols.{Symbols}
-use Rattle.decimal_format.proofs.Apart.{are_apart, each_below, passes_below, texts_are_apart, other, texts_apart}
+use Rattle.decimal_format.proofs.lemmas.symbols.Apart.{are_apart, each_below, passes_below, texts_are_apart, other, texts_apart}
 use Rattle.decimal_format.specs.Readable.{BeginsWith, code, IsOther, IsReadable}
 use Rattle.locale_data.specs.declared.lookup.LocaleNumbers.{LocaleNumbers}
 use Rattle.locale_data.specs.declared.symbols.LocaleSymbols.{LocaleSymbols}

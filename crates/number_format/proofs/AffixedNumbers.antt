@@ -15,10 +15,10 @@ use Rattle.decimal_format.specs.Grouping.{is_grouped}
 use Rattle.decimal_format.specs.Readable.{IsReadable, BeginsWithDigit, EndsWithDigit}
 use Rattle.decimal_format.specs.Reading.{Numeral, AreDigits, IsNumeral, IsWritten, IsRead, digits_text, fraction_text, absolute_numeral_text, separated_by}
 use Rattle.decimal_format.specs.Symbols.{Symbols, Affixes, digit_text, sign_affixes}
-use Rattle.decimal_format.proofs.NumeralLaws.{texts_are_unique, none_read, with_sign, read_inside}
-use Rattle.decimal_format.proofs.Around.{no_sign}
-use Rattle.decimal_format.proofs.NumeralTexts.{digits_of_value, absolute_is}
-use Rattle.decimal_format.proofs.Scans.{begins-append, number_begins, none_after_last, strategy_is}
+use Rattle.decimal_format.proofs.lemmas.reader.NumeralLaws.{texts_are_unique, none_read, with_sign, read_inside}
+use Rattle.decimal_format.proofs.lemmas.reader.Around.{no_sign}
+use Rattle.decimal_format.proofs.lemmas.reader.NumeralTexts.{digits_of_value, absolute_is}
+use Rattle.decimal_format.proofs.lemmas.reader.Scans.{begins-append, number_begins, none_after_last, strategy_is}
 use Rattle.number_format.specs.AffixedTexts.{Reader, AreNamed, ArePairApart, by_sign, between, text_with, IsShown, IsShownNumeral, IsBetween}
 use Rattle.number_format.proofs.NamedAffixes.{ends-append}
 

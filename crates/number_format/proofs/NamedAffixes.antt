@@ -9,8 +9,8 @@ use Rattle.fixed_decimal.specs.declared.variations.Sign.{Sign}
 use Rattle.fixed_decimal.specs.declared.variations.Sign.TheVariants.{None, Negative, Positive}
 use Rattle.decimal_format.specs.Readable.{BeginsWithDigit, EndsWithDigit}
 use Rattle.decimal_format.specs.Symbols.{Symbols, Affixes, digit_text}
-use Rattle.decimal_format.proofs.Codes.{meet}
-use Rattle.decimal_format.proofs.Scans.{begins-append}
+use Rattle.decimal_format.proofs.lemmas.reader.Codes.{meet}
+use Rattle.decimal_format.proofs.lemmas.reader.Scans.{begins-append}
 use Rattle.number_format.specs.AffixedTexts.{AffixTable, by_sign, ArePrefixesApart, AreSuffixesApart, ArePairApart, AreNamed}
 
 -- ---- Characters.

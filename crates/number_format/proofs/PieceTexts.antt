@@ -11,7 +11,7 @@ use Rattle.decimal_digits.specs.Number.{digit}
 use Rattle.decimal_format.specs.declared.grouping.GroupingStrategy.TheVariants.{Never}
 use Rattle.decimal_format.specs.Formatted.{separator_before, separator_after, magnitude_text, formatted_down, absolute_text, shown_count}
 use Rattle.decimal_format.specs.Symbols.{Symbols, digit_text}
-use Rattle.decimal_format.proofs.Magnitudes.{one_more}
+use Rattle.decimal_format.proofs.lemmas.formatter.Magnitudes.{one_more}
 use Rattle.number_format.specs.declared.formatted_number.FormattedNumber.{FormattedNumber}
 use Rattle.number_format.specs.declared.number_around.NumberAffixes.{NumberAffixes}
 use Rattle.number_format.specs.declared.number_formatter.NumberFormatter.{NumberFormatter}

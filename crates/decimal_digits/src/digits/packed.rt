@@ -53,7 +53,7 @@ impl PackedDigits {
     }
 }
 
-#[tactic(auto, using(crate::proofs::Packing::packing))]
+#[tactic(auto, using(crate::proofs::lemmas::digits::Packing::packing))]
 impl DigitStore for PackedDigits {
     ghost use Rattle.std.proofs.Common.{arith};
     ghost use Rattle.decimal_digits.specs.Packing.{room_to_L};

@@ -1,14 +1,13 @@
 //! Formatting of a formatted decimal by `{}`.
 ghost use Rattle.std.specs.Prelude.{◌<◌, Some};
 ghost use Rattle.std.specs.Fmt.{WritesStyledOnOk};
-ghost use Rattle.decimal_format.specs.Formatted.{shown_count, nth_text, absolute_text, formatted_absolute_text, formatted_text};
+ghost use Rattle.decimal_format.specs.Formatted.{shown_count, nth_text, formatted_absolute_text, formatted_text};
 
 use super::{FormattedAbsolute, FormattedDecimal};
 use fixed_decimal::DigitStore;
 use std::fmt;
 
 impl<'f, D: DigitStore> FormattedAbsolute<'f, D> {
-    /// Formats the text of a magnitude.
     fn fmt_nth<W: fmt::Write>(&self, below: u32, f: &mut fmt::Formatter<W>) -> fmt::Result
         requires { below < shown_count self.now.value }
         ensures { WritesStyledOnOk W.write_str_gives f.old result
@@ -17,17 +16,6 @@ impl<'f, D: DigitStore> FormattedAbsolute<'f, D> {
         f.write_str(self.separator_before(below))?;
         f.write_char(self.digit(below))?;
         f.write_str(self.separator_after(below))
-    }
-
-    /// Formats the text without the sign.
-    fn fmt_absolute<W: fmt::Write>(&self, f: &mut fmt::Formatter<W>) -> fmt::Result
-        ensures { WritesStyledOnOk W.write_str_gives f.old result
-            (absolute_text self.now.symbols self.now.strategy self.now.value) f.new }
-    {
-        for below in 0..self.shown_count() {
-            self.fmt_nth(below, f)?;
-        }
-        Ok(())
     }
 }
 
@@ -42,7 +30,10 @@ impl<'f, D: DigitStore> fmt::Display for FormattedAbsolute<'f, D> {
     ///
     /// The formatter fails.
     fn fmt<W: fmt::Write>(&self, f: &mut fmt::Formatter<W>) -> fmt::Result {
-        self.fmt_absolute(f)
+        for below in 0..self.shown_count() {
+            self.fmt_nth(below, f)?;
+        }
+        Ok(())
     }
 }
 
@@ -58,7 +49,7 @@ impl<'f, D: DigitStore> fmt::Display for FormattedDecimal<'f, D> {
     /// The formatter fails.
     fn fmt<W: fmt::Write>(&self, f: &mut fmt::Formatter<W>) -> fmt::Result {
         f.write_str(self.prefix())?;
-        self.absolute.fmt_absolute(f)?;
+        self.absolute.fmt(f)?;
         f.write_str(self.suffix())
     }
 }

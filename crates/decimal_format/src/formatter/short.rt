@@ -18,7 +18,6 @@ pub(super) const SHORT_ROOM: usize = 132;
 /// The greatest number of bytes of a digit and of a short separator.
 const WIDTH: usize = 4;
 
-/// Appends a digit. Requires room for it.
 #[inline]
 fn push_digit(symbols: &DecimalSymbols<'_>, digit: u8, block: &mut Block)
     requires digit { digit < 10 }
@@ -35,7 +34,6 @@ fn push_digit(symbols: &DecimalSymbols<'_>, digit: u8, block: &mut Block)
 }
 
 impl<'f, D: DigitStore> FormattedAbsolute<'f, D> {
-    /// Returns whether each separator has at most four bytes.
     #[inline]
     pub(super) fn has_short_separators(&self) -> bool
         ensures { result ≡ true → HasShortSeparators self.now.symbols }
@@ -44,7 +42,6 @@ impl<'f, D: DigitStore> FormattedAbsolute<'f, D> {
         symbols.decimal_separator().len() <= WIDTH && symbols.grouping_separator().len() <= WIDTH
     }
 
-    /// Appends the text without the sign, of up to 16 magnitudes.
     #[inline]
     pub(super) fn push_digits(&self, block: &mut Block)
         requires few { shown_count self.now.value ≤ 16 }
@@ -58,7 +55,7 @@ impl<'f, D: DigitStore> FormattedAbsolute<'f, D> {
     {
         let symbols = self.symbols;
         let sizes = symbols.sizes();
-        let is_grouped = sizes.is_grouped(self.strategy, self.highest());
+        let is_grouped = sizes.is_grouped(self.strategy, self.value.highest());
         let decimal = symbols.decimal_separator().as_bytes();
         let grouping = symbols.grouping_separator().as_bytes();
         let digits = self.value.leading_bcd();

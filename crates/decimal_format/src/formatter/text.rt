@@ -6,10 +6,9 @@ ghost use Rattle.decimal_digits.specs.AppendsPrefix.{AppendsPrefix};
 ghost use Rattle.decimal_unsigned.specs.Unsigned.{IsValue};
 ghost use Rattle.decimal_format.specs.Formatted.{shown_count, separator_before, separator_after, absolute_text, formatted_absolute_text, formatted_text};
 ghost use Rattle.decimal_format.specs.Parts.{magnitude_of, part_text, AreDigits, IsRun, digits_text, run_text, separators_below};
-ghost use Rattle.decimal_format.specs.Scanning.{separator_if};
 
 use super::short::{SHORT, SHORT_ROOM};
-use super::{FormattedAbsolute, FormattedDecimal};
+use super::{FormattedAbsolute, FormattedDecimal, grouping_if};
 use crate::block::Block;
 use crate::symbols::DecimalSymbols;
 use fixed_decimal::{DigitStore, Sink, SinkFault, Writeable};
@@ -25,7 +24,6 @@ struct Run<'s> {
     after: &'s str,
 }
 
-/// Appends ASCII digits by the symbols.
 fn write_digits<W: Sink>(
     symbols: &DecimalSymbols<'_>,
     digits: &[u8],
@@ -49,20 +47,7 @@ fn write_digits<W: Sink>(
     Ok(())
 }
 
-/// Returns the grouping separator or nothing.
-#[inline]
-fn grouping_if<'s>(symbols: &'s DecimalSymbols<'_>, separated: bool) -> &'s str
-    ensures { result.now ≡ separator_if symbols.now separated }
-{
-    if separated {
-        symbols.grouping_separator()
-    } else {
-        ""
-    }
-}
-
 impl<'f, D: DigitStore> FormattedAbsolute<'f, D> {
-    /// Returns the run of up to `most` digits that begins at a magnitude.
     #[inline]
     fn run_at(&self, below: u32, most: u32) -> Run<'_>
         requires some { 0 < most }
@@ -84,9 +69,12 @@ impl<'f, D: DigitStore> FormattedAbsolute<'f, D> {
             };
         }
         let symbols = self.symbols;
-        let (count, separated) = symbols
-            .sizes()
-            .run_from(self.strategy, self.highest(), magnitude as u32, most);
+        let (count, separated) = symbols.sizes().run_from(
+            self.strategy,
+            self.value.highest(),
+            magnitude as u32,
+            most,
+        );
         let after = grouping_if(symbols, separated);
         Run {
             count,
@@ -95,7 +83,6 @@ impl<'f, D: DigitStore> FormattedAbsolute<'f, D> {
         }
     }
 
-    /// Appends ASCII digits between the separators of a run.
     #[inline]
     fn write_run<W: Sink>(&self, run: Run<'_>, digits: &[u8], sink: &mut W) -> Result<(), SinkFault>
         requires { EachIndex digits.now (λ k. (48 ≤ slice_index digits.now k) × (slice_index digits.now k < 58)) }
@@ -110,7 +97,6 @@ impl<'f, D: DigitStore> FormattedAbsolute<'f, D> {
         sink.put_bytes(run.after.as_bytes())
     }
 
-    /// Writes the ASCII digits at consecutive magnitudes, one to each byte of the buffer.
     #[inline]
     fn copy_digits(&self, below: u32, buffer: &mut [u8])
         requires some { 0 < length buffer.old }
@@ -120,7 +106,6 @@ impl<'f, D: DigitStore> FormattedAbsolute<'f, D> {
         self.value.write_digits(self.magnitude(below), buffer);
     }
 
-    /// Appends the text of up to 32 magnitudes.
     fn write_part<W: Sink>(&self, below: u32, count: u32, sink: &mut W) -> Result<(), SinkFault>
         requires some { 0 < count }
         requires at_most { count ≤ 32 }
@@ -164,7 +149,6 @@ impl<'f, D: DigitStore> FormattedAbsolute<'f, D> {
         }
     }
 
-    /// Appends the text of up to 32 magnitudes without the sign, if it fits the block.
     #[inline]
     fn put_absolute(&self, block: &mut Block) -> Result<(), SinkFault>
         requires { shown_count self.now.value ≤ 32 }
@@ -194,7 +178,6 @@ impl<'f, D: DigitStore> FormattedAbsolute<'f, D> {
         self.put_absolute(block)
     }
 
-    /// Appends the text without the sign.
     fn write_absolute<W: Sink>(&self, sink: &mut W) -> Result<(), SinkFault>
         ensures ok { OnOk result (Appends (W.contents sink.old) (W.contents sink.new)
             (absolute_text self.now.symbols self.now.strategy self.now.value)) }
@@ -214,21 +197,19 @@ impl<'f, D: DigitStore> FormattedAbsolute<'f, D> {
 }
 
 impl<'f, D: DigitStore> FormattedAbsolute<'f, D> {
-    /// Returns the decimal separator if there are fraction digits.
     fn fraction_separator(&self) -> &str
         ensures fraction { self.now.value.lo <ℤ pos 0 → result.now ≡ self.now.symbols.decimal }
         ensures whole { pos 0 ≤ℤ self.now.value.lo → result.now ≡ [] }
         ensures at_most { length result.now ≤ 255 }
         ensures valid { IsValue self.now.value }
     {
-        if *self.value.magnitude_range().start() < 0 {
+        if self.value.lowest() < 0 {
             self.symbols.decimal_separator()
         } else {
             ""
         }
     }
 
-    /// Returns the number of bytes of all grouping separators.
     fn separators_length(&self) -> usize
         ensures value { result ≡ separators_below self.now.strategy self.now.symbols.sizes self.now.value.hi
             (int_gap (pos 0) self.now.value.hi + 1) * length self.now.symbols.grouping }
@@ -237,7 +218,7 @@ impl<'f, D: DigitStore> FormattedAbsolute<'f, D> {
         let symbols = self.symbols;
         let count = symbols
             .sizes()
-            .separator_count(self.strategy, self.highest());
+            .separator_count(self.strategy, self.value.highest());
         count as usize * symbols.grouping_separator().len()
     }
 }
@@ -274,7 +255,6 @@ impl<'f, D: DigitStore> Writeable for FormattedAbsolute<'f, D> {
 }
 
 impl<'f, D: DigitStore> FormattedDecimal<'f, D> {
-    /// Appends the text of up to 32 magnitudes with the sign, if it fits the block.
     #[inline]
     fn write_short(&self, block: &mut Block) -> Result<(), SinkFault>
         requires { shown_count self.now.value.absolute ≤ 32 }

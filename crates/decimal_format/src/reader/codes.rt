@@ -44,7 +44,6 @@ pub fn cut_end<T: Input>(text: T, code: &[u8]) -> Option<T>
     Some(text.first(front))
 }
 
-/// Returns the ASCII digit that a text begins with, and what follows it.
 #[inline(always)]
 fn next_ascii_digit<T: Input>(text: T) -> Option<(u8, T)>
     ensures { MatchOption result ((d : ℕ) (rest : List ℕ) → d < 10 → T.bytes text ≢ (48 + d) ∷ rest)
@@ -59,7 +58,6 @@ fn next_ascii_digit<T: Input>(text: T) -> Option<(u8, T)>
 }
 
 impl<'a> DecimalSymbols<'a> {
-    /// Returns one of the fourteen codes.
     fn code<'t>(&'t self, index: u8, buffer: &'t mut [u8; 4]) -> &'t [u8]
         requires { index < 14 }
         ensures { result.now ≡ code self.now index }
@@ -73,7 +71,6 @@ impl<'a> DecimalSymbols<'a> {
         }
     }
 
-    /// Returns whether a code begins with another one.
     fn begins(&self, all: u8, part: u8) -> bool
         requires all_in { all < 14 }
         requires part_in { part < 14 }
@@ -84,7 +81,6 @@ impl<'a> DecimalSymbols<'a> {
         cut(self.code(all, &mut first), self.code(part, &mut second)).is_some()
     }
 
-    /// Returns whether a code begins with this one only if it is this one.
     fn is_other(&self, all: u8, part: u8) -> bool
         requires all_in { all < 14 }
         requires part_in { part < 14 }
@@ -93,7 +89,6 @@ impl<'a> DecimalSymbols<'a> {
         all == part || !self.begins(all, part)
     }
 
-    /// Returns whether no other code begins with this one.
     fn is_apart(&self, part: u8) -> bool
         requires { part < 14 }
         ensures { IsTrue result ↔ IsApart self.now part }
@@ -121,7 +116,6 @@ impl<'a> DecimalSymbols<'a> {
         true
     }
 
-    /// Returns what follows a digit at the start of a text.
     fn cut_digit<T: Input>(&self, text: T, digit: u8) -> Option<T>
         requires { digit < 10 }
         ensures { MatchOption result ((rest : List ℕ) → T.bytes text ≢ digit_text self.now digit ++ rest)
@@ -143,7 +137,6 @@ impl<'a> DecimalSymbols<'a> {
         if digit < 10 { Some(digit as u8) } else { None }
     }
 
-    /// Returns the digit that a text begins with, and what follows it.
     #[inline(always)]
     pub(crate) fn next_digit<T: Input>(&self, text: T) -> Option<(u8, T)>
         requires { IsReadable self.now }
@@ -156,21 +149,14 @@ impl<'a> DecimalSymbols<'a> {
         self.next_other_digit(text)
     }
 
-    /// Returns whether a text begins with a separator, and so with no digit.
     fn begins_with_separator<T: Input>(&self, text: T) -> bool
         requires { IsReadable self.now }
         ensures { IsTrue result → (d : ℕ) (rest : List ℕ) → d < 10 → T.bytes text ≢ digit_text self.now d ++ rest }
     {
-        if let Some(_) = cut(text, self.grouping_separator().as_bytes()) {
-            return true;
-        }
-        if let Some(_) = cut(text, self.decimal_separator().as_bytes()) {
-            return true;
-        }
-        false
+        cut(text, self.grouping_separator().as_bytes()).is_some()
+            || cut(text, self.decimal_separator().as_bytes()).is_some()
     }
 
-    /// Returns the digit that a text begins with, and what follows it, by any digits.
     #[inline(never)]
     fn next_other_digit<T: Input>(&self, text: T) -> Option<(u8, T)>
         requires { IsReadable self.now }
@@ -236,7 +222,6 @@ impl<'a> DecimalSymbols<'a> {
         (number, count, rest)
     }
 
-    /// Returns the sign whose prefix a text begins with, and what follows the prefix.
     #[inline(never)]
     fn split_prefix<T: Input>(&self, text: T) -> (Sign, T)
         requires { IsReadable self.now }
@@ -254,7 +239,6 @@ impl<'a> DecimalSymbols<'a> {
         (Sign::None, text)
     }
 
-    /// Returns the sign that a text shows, and what is between its prefix and its suffix.
     #[inline(always)]
     pub(crate) fn split_sign<T: Input>(&self, text: T) -> Option<(Sign, T)>
         requires { IsReadable self.now }

@@ -13,14 +13,12 @@ use crate::symbols::DecimalSymbols;
 use fixed_decimal::{DigitStore, ParseError, Sign, Signed, UnsignedOver};
 use std::alloc::Global;
 
-/// Returns whether a character is a direction mark.
 fn is_mark(c: char) -> bool
     ensures { result ≡ is_mark c }
 {
     c == '\u{200e}' || c == '\u{200f}' || c == '\u{61c}'
 }
 
-/// Returns whether a character is a minus sign or a hyphen.
 fn is_minus(c: char) -> bool
     ensures { result ≡ is_minus c }
 {
@@ -30,28 +28,24 @@ fn is_minus(c: char) -> bool
     )
 }
 
-/// Returns whether a character is a plus sign.
 fn is_plus(c: char) -> bool
     ensures { result ≡ is_plus c }
 {
     matches!(c, '+' | '\u{ff0b}')
 }
 
-/// Returns whether a character is a space.
 fn is_space(c: char) -> bool
     ensures { result ≡ is_space c }
 {
     matches!(c, ' ' | '\u{a0}' | '\u{202f}' | '\u{2009}')
 }
 
-/// Returns whether a character is an apostrophe.
 fn is_apostrophe(c: char) -> bool
     ensures { result ≡ is_apostrophe c }
 {
     matches!(c, '\'' | '\u{2019}')
 }
 
-/// Returns the first character of a text, and what follows it.
 fn split_first_char(text: &str) -> Option<(char, &str)>
     ensures { MatchOption result (chars text.now ≡ []) (λ r. (chars text.now ≡ r.0 ∷ chars r.1.now) × IsUtf8 r.1.now) }
 {
@@ -133,28 +127,24 @@ impl<'t, 'a> Input for Normalized<'t, 'a> {
 }
 
 impl<'a> DecimalSymbols<'a> {
-    /// Returns whether the grouping separator has a space.
     fn groups_by_space(&self) -> bool
         ensures { result ≡ list_any is_space (chars self.now.grouping) }
     {
         self.grouping_separator().chars().any(|c| is_space(c))
     }
 
-    /// Returns whether the grouping separator has an apostrophe.
     fn groups_by_apostrophe(&self) -> bool
         ensures { result ≡ list_any is_apostrophe (chars self.now.grouping) }
     {
         self.grouping_separator().chars().any(|c| is_apostrophe(c))
     }
 
-    /// Returns whether a character stands for the grouping separator.
     fn is_separator(&self, c: char) -> bool
         ensures { result ≡ is_separator self.now c }
     {
         is_space(c) && self.groups_by_space() || is_apostrophe(c) && self.groups_by_apostrophe()
     }
 
-    /// Returns the bytes that a character stands for.
     fn replacement<'t>(&'t self, c: char, buffer: &'t mut [u8; 4]) -> &'t [u8]
         ensures { result.now ≡ replacement self.now c }
     {
@@ -180,7 +170,6 @@ impl<'a> DecimalSymbols<'a> {
         c.encode_utf8(buffer).as_bytes()
     }
 
-    /// Puts the normal form of a text into a block, if it fits.
     pub(crate) fn normal_block(&self, text: &str) -> Option<Block>
         ensures { IfSome result (λ b. (b.0 ≡ replaced self.now text.now) × (length b.0 ≤ 192)) }
     {

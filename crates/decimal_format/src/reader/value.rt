@@ -19,7 +19,6 @@ const WORD: usize = 16;
 /// The greatest number of integer digits, and of fraction digits, of a value.
 const MAX_DIGITS: usize = 32768;
 
-/// Makes the number 0 with the given number of integer digits, of which at least one is shown.
 fn zero_with_digits<D: DigitStore>(alloc: Global, integer_digits: usize) -> UnsignedOver<D>
     requires { integer_digits ≤ 32768 }
     ensures { result ≡ value_of_first integer_digits [] }
@@ -30,7 +29,6 @@ fn zero_with_digits<D: DigitStore>(alloc: Global, integer_digits: usize) -> Unsi
     zero
 }
 
-/// Returns the magnitude of the last of some digits of a number with `whole` integer digits.
 fn last_magnitude(whole: usize, count: usize) -> i16
     requires { (0 < count) × (whole ≤ 32768) × (count ≤ whole + 32768) }
     ensures { result ≡ pos whole -ℤ pos count }
@@ -38,7 +36,6 @@ fn last_magnitude(whole: usize, count: usize) -> i16
     to_magnitude(subtract_counts(whole, count))
 }
 
-/// Appends up to sixteen digits, packed BCD, to the first `written` digits of a number with `whole` integer digits.
 fn append<D: DigitStore>(
     value: &mut UnsignedOver<D>,
     alloc: Global,
@@ -67,7 +64,6 @@ fn append<D: DigitStore>(
 }
 
 impl<'a> DecimalSymbols<'a> {
-    /// Appends the digits of a part, sixteen at a time.
     fn append_digits<T: Input, D: DigitStore>(
         &self,
         value: &mut UnsignedOver<D>,
@@ -96,7 +92,6 @@ impl<'a> DecimalSymbols<'a> {
         Ok(())
     }
 
-    /// Makes the value of integer digits and fraction digits.
     #[inline]
     fn absolute<T: Input, D: DigitStore>(
         &self,
@@ -125,7 +120,6 @@ impl<'a> DecimalSymbols<'a> {
         Ok(value)
     }
 
-    /// Makes the value of a text that was scanned.
     #[inline]
     pub(super) fn value<T: Input, D: DigitStore>(
         &self,

@@ -36,7 +36,7 @@ fn trimmed_len(digits: &[u8]) -> usize
     0
 }
 
-#[tactic(auto, using(crate::proofs::Integers::ranges))]
+#[tactic(auto, using(crate::proofs::lemmas::from_bcd::Integers::ranges))]
 impl<D: DigitStore> UnsignedOver<D> {
     /// Makes the number 1, which prints `1`, without an allocation.
     pub fn one(alloc: Global) -> Self

@@ -23,7 +23,7 @@ fn highest_after(hi: i16, position: i16, first: i16) -> i16
     }
 }
 
-#[tactic(auto, using(crate::proofs::Rules::kept))]
+#[tactic(auto, using(crate::proofs::lemmas::decimal::Rules::kept))]
 impl<D: DigitStore> UnsignedOver<D> {
     /// Rounds to a multiple of an increment at a position, and counts the digit accesses.
     ///

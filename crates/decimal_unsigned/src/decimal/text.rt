@@ -16,7 +16,7 @@ use decimal_digits::sink::{Sink, SinkFault, Writeable};
 /// The number of bytes of a text that are made and written at a time. Most texts are shorter.
 pub(super) const BLOCK: usize = 64;
 
-#[tactic(auto, using(crate::proofs::Rules::kept))]
+#[tactic(auto, using(crate::proofs::lemmas::decimal::Rules::kept))]
 impl<D: DigitStore> UnsignedOver<D> {
     /// Writes the digits at consecutive magnitudes, from `highest` down, one to each byte of the buffer.
     ///
@@ -127,7 +127,7 @@ impl<D: DigitStore> Writeable for UnsignedOver<D> {
     /// magnitude -1.
     ///
     /// Parsing the text gives this value again.
-    #[tactic(auto, using(crate::proofs::ReadBack::read_text))]
+    #[tactic(auto, using(crate::proofs::lemmas::text::ReadBack::read_text))]
     fn write_to<W: Sink>(&self, sink: &mut W) -> Result<(), SinkFault>
         ensures ok { OnOk result (Appends (W.contents sink.old) (W.contents sink.new) (text self.now)) }
         ensures err { OnErr result (AppendsPrefix (W.contents sink.old) (W.contents sink.new) (text self.now)) }

@@ -50,7 +50,7 @@ fn leading_u64<D: DigitStore>(digits: &D, count: usize) -> u64
     number_of_bcd(front) * power_of_ten(count - 16) + rest
 }
 
-#[tactic(auto, using(crate::proofs::WholeNumbers::to_u128), unfolding(decimal_digits::specs::Digits::number_at))]
+#[tactic(auto, using(crate::proofs::lemmas::from_bcd::WholeNumbers::to_u128), unfolding(decimal_digits::specs::Digits::number_at))]
 fn leading_u128<D: DigitStore>(digits: &D, count: usize) -> u128
     requires { count ≤ 38 }
     ensures { result ≡ leading count (D.digits digits.now) }
@@ -62,7 +62,7 @@ fn leading_u128<D: DigitStore>(digits: &D, count: usize) -> u128
     number
 }
 
-#[tactic(auto, using(crate::proofs::WholeNumbers::leading_39))]
+#[tactic(auto, using(crate::proofs::lemmas::from_bcd::WholeNumbers::leading_39))]
 fn leading_39_digits<D: DigitStore>(digits: &D) -> Result<u128, IntegerError>
     ensures { result ≡ in_range (2 ^ 128) (leading 39 (D.digits digits.now)) }
 {

@@ -1,7 +1,7 @@
 use Rattle.std.proofs.Common.{◌+◌, ◌*◌, ◌≤◌, length, ap, ◌∙◌, arith, rules, w16, negsuc, ◌≤ℤ◌}
 use Rattle.std.proofs.lemmas.{Int.{ints, to_z-of_z}, List.Elements.recursion_from_All}
 use Rattle.std.specs.Int.RustNames.{FitsSigned}
-use Rattle.decimal_digits.proofs.{NumberAt.number_at-none, Offsets.offset_is, SplitAtPosition.{represents, represents_none, number_up}}
+use Rattle.decimal_digits.proofs.lemmas.{ops.Offsets.offset_is, rounding.{NumberAt.number_at-none, SplitAtPosition.{represents, represents_none, number_up}}}
 use Rattle.decimal_digits.specs.Number.{offset, weight}
 use Rattle.decimal_digits.proofs.rounding.magnitude_after.Goals as goal
 

@@ -1,6 +1,6 @@
 use Rattle.std.proofs.Common.{arith}
 use Rattle.std.proofs.lemmas.{Int.{ints, to_z-of_z}, List.Elements.recursion_from_All}
-use Rattle.decimal_digits.proofs.{Offsets.offset_is, SplitAtPosition.{splits_above, splits_below}}
+use Rattle.decimal_digits.proofs.lemmas.{ops.Offsets.offset_is, rounding.SplitAtPosition.{splits_above, splits_below}}
 use Rattle.decimal_digits.proofs.rounding.split_at_position.Goals as goal
 
 pub returns-in-Some-clause-splits_as : goal.returns-in-Some-clause-splits_as

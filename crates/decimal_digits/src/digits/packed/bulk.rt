@@ -1,5 +1,5 @@
 //! Operations on many digits at once: conversions from and to text, and counts of equal digits at the end.
-#![tactic(auto, using(crate::proofs::Nibbles::nibble_rules))]
+#![tactic(auto, using(crate::proofs::lemmas::digits::Nibbles::nibble_rules))]
 
 ghost use Rattle.std.specs.Prelude.{◌≡◌, ℕ, ◌+◌, ◌-◌, ◌*◌, ◌/◌, ◌%◌, ◌^◌, ◌<◌, ◌≤◌, ◌≢◌, ◌++◌, length, map, take, drop, replicate, slice_index};
 ghost use Rattle.std.specs.Char.{digit_value};

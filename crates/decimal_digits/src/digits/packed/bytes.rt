@@ -1,5 +1,5 @@
 //! Packed BCD: lists of digits in bytes, two digits to a byte.
-#![tactic(auto, using(crate::proofs::Nibbles::nibble_rules))]
+#![tactic(auto, using(crate::proofs::lemmas::digits::Nibbles::nibble_rules))]
 
 ghost use Rattle.std.specs.Prelude.{◌≡◌, ℕ, ◌+◌, ◌-◌, ◌*◌, ◌%◌, ◌^◌, ◌<◌, ◌≤◌, ◌↔◌, [], ◌∷◌, ◌++◌, length, map, take, drop, replicate, slice_set, All, IsTrue, IsOk, IfOk, IfSome, OnOk};
 ghost use Rattle.std.specs.Int.{w64, to_be_bytes};
@@ -31,7 +31,7 @@ pub(super) fn pack_digits(alloc: Global, digits: &[u8]) -> Result<Bytes, AllocEr
     Ok(bytes)
 }
 
-#[tactic(auto, using(crate::proofs::Nibbles::nibble_rules), unfolding(crate::specs::Nibbles::wide_leading_bytes))]
+#[tactic(auto, unfolding(crate::specs::Nibbles::wide_leading_bytes))]
 #[inline]
 pub(super) fn copy_wide(alloc: Global, number: u128, len: usize) -> Result<Bytes, AllocError>
     requires many { 16 < len }

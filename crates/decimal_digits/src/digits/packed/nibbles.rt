@@ -1,5 +1,5 @@
 //! Nibbles: access to single ones, and passes over bytes that move them.
-#![tactic(auto, using(crate::proofs::Nibbles::nibble_rules))]
+#![tactic(auto, using(crate::proofs::lemmas::digits::Nibbles::nibble_rules))]
 
 ghost use Rattle.std.specs.Prelude.{◌≡◌, ℕ, ◌+◌, ◌*◌, ◌/◌, ◌%◌, ◌-◌, ◌^◌, ◌<◌, ◌≤◌, [], ◌∷◌, ◌++◌, length, map, take, drop, replicate, slice_index, slice_set, All};
 ghost use Rattle.smallvec.specs.SmallVec.{small_vec_len, HasRoomFor};

@@ -1,5 +1,5 @@
 //! Words: the first eight bytes of packed BCD as one big-endian number, whose highest nibble is the first digit.
-#![tactic(auto, using(crate::proofs::Nibbles::nibble_rules))]
+#![tactic(auto, using(crate::proofs::lemmas::digits::Nibbles::nibble_rules))]
 
 ghost use Rattle.std.specs.Prelude.{◌≡◌, ◌≢◌, ℕ, ◌+◌, ◌-◌, ◌*◌, ◌%◌, ◌<◌, ◌≤◌, ◌∷◌, ◌++◌, length, map, take, drop, replicate, slice_index};
 ghost use Rattle.decimal_digits.specs.Nibbles.{nibbles, word_nibbles};

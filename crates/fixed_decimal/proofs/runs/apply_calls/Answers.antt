@@ -1,5 +1,5 @@
 use Rattle.std.proofs.Common.{rules}
-use Rattle.fixed_decimal.proofs.RunInvariant.{continues, fails_with, stops_at}
+use Rattle.fixed_decimal.proofs.lemmas.runs.RunInvariant.{continues, fails_with, stops_at}
 use Rattle.fixed_decimal.specs.Calls.{CallsFail}
 use Rattle.fixed_decimal.proofs.runs.apply_calls.Goals as goal
 

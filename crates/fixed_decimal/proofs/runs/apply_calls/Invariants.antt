@@ -1,4 +1,4 @@
-use Rattle.fixed_decimal.proofs.RunInvariant.{IsAt}
+use Rattle.fixed_decimal.proofs.lemmas.runs.RunInvariant.{IsAt}
 use Rattle.fixed_decimal.proofs.runs.apply_calls.Given as goal
 
 abbrev pub invariant-loop-at : goal.invariant-loop-at

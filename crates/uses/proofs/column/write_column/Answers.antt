@@ -1,4 +1,4 @@
-use Rattle.std.proofs.Common.{◌≡◌, ℕ, suc, ◌<◌, List, take, drop, length, get_or, [], ◌∷◌, ◌++◌, Ok, Err, refl, sym, ◌∙◌, ap, subst, append_assoc, append-nil}
+use Rattle.std.proofs.Common.{◌≡◌, ℕ, suc, ◌<◌, List, take, drop, length, get_or, [], ◌∷◌, ◌++◌, Ok, Err, refl, sym, ◌∙◌, ap, subst, arith, append_assoc, append-nil}
 use Rattle.std.specs.Prelude.{Option, Result, IsOkAnd, IsErrAnd, IfErr}
 use Rattle.std.specs.Borrow.{Bor}
 use Rattle.std.specs.Io.KnownBytes.{Keeps, Appends}
@@ -7,7 +7,6 @@ use Rattle.std.proofs.Math.Seq.{split_at}
 use Rattle.std.proofs.lemmas.List.{take_more}
 use Rattle.decimal_digits.specs.AppendsPrefix.{AppendsPrefix}
 use Rattle.decimal_unsigned.specs.Reading.{ReadError}
-use Rattle.fixed_decimal.specs.DecimalText.{and_then}
 use Rattle.fixed_decimal.proofs.Calling.{prefix_more, then_prefix}
 use Rattle.uses.specs.Column.{normal_form, column_text, AmountFails, Stops}
 use Rattle.uses.specs.declared.column.ColumnError.{ColumnError}
@@ -21,22 +20,7 @@ one_more : (amounts : List (Bor (List ℕ))) (amount : Bor (List ℕ)) (form lin
 one_more [] amount form lines e h =
     let none : [] ≡ lines = cc in
     rw e (ap Ok (append-nil (form ++ 10 ∷ []) ∙ ap (λ l. l ++ (form ++ 10 ∷ [])) none))
-one_more (first ∷ rest) amount form lines e h =
-    go (normal_form first.now) (column_text rest) (one_more rest amount form) refl h
-  where
-    go : (head rest_text : Result (List ℕ) ReadError)
-        → ((ls : List ℕ) → normal_form amount.now ≡ Ok form → column_text rest ≡ Ok ls
-        → column_text (rest ++ amount ∷ []) ≡ Ok (ls ++ (form ++ 10 ∷ [])))
-        → column_text rest ≡ rest_text
-        → and_then head (λ f. and_then rest_text (λ ls. Ok ((f ++ 10 ∷ []) ++ ls))) ≡ Ok lines
-        → and_then head (λ f. and_then (column_text (rest ++ amount ∷ [])) (λ ls. Ok ((f ++ 10 ∷ []) ++ ls)))
-        ≡ Ok (lines ++ (form ++ 10 ∷ []))
-    go (Ok f) (Ok ls) more q p =
-        let all : (f ++ 10 ∷ []) ++ ls ≡ lines = cc in
-        rw (more ls e q)
-        (ap Ok (sym (append_assoc (f ++ 10 ∷ []) ls (form ++ 10 ∷ [])) ∙ ap (λ l. l ++ (form ++ 10 ∷ [])) all))
-    go (Ok f) (Err x) more q p = absurd (cc)
-    go (Err x) t more q p = absurd (cc)
+one_more (first ∷ rest) amount form lines e h = grind (arith, one_more rest amount form, append_assoc)
 
 -- the text of a result that is Ok
 text_of : (r : Result (List ℕ) ReadError) (P : List ℕ → Type 0) → IsOkAnd r P → (t : List ℕ) × (r ≡ Ok t) × P t

@@ -1,7 +1,7 @@
 use Rattle.std.proofs.Common.{◌≡◌, ◌-◌, get_or, refl, arith}
 use Rattle.std.proofs.lemmas.List.{map_more, append_assoc}
 use Rattle.std.specs.Char.{digit_value}
-use Rattle.decimal_digits.proofs.DigitTexts.{ascii_at}
+use Rattle.decimal_digits.proofs.lemmas.digits.DigitTexts.{ascii_at}
 use Rattle.decimal_digits.proofs.digits.DigitStore.push_text.Goals as goal
 
 pub overflow_sub-ascii : goal.overflow_sub-ascii

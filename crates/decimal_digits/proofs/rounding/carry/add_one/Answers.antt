@@ -1,5 +1,5 @@
 use Rattle.std.proofs.Common.{◌-◌, arith}
-use Rattle.decimal_digits.proofs.{Leading.leading_raised, Nibbles.nibble_rules}
+use Rattle.decimal_digits.proofs.lemmas.{digits.Nibbles.nibble_rules, rounding.Leading.leading_raised}
 use Rattle.decimal_digits.proofs.rounding.carry.add_one.Goals as goal
 
 pub returns-clause-value : goal.returns-clause-value

@@ -1,5 +1,5 @@
 use Rattle.std.proofs.Common.{◌^◌, sym, ◌∙◌, ap, arith}
-use Rattle.decimal_digits.proofs.Leading.{leading_carry}
+use Rattle.decimal_digits.proofs.lemmas.rounding.Leading.{leading_carry}
 use Rattle.decimal_digits.proofs.rounding.carry.carry_out.Goals as goal
 
 pub returns-then-places-max_places-clause-full : goal.returns-then-places-max_places-clause-full

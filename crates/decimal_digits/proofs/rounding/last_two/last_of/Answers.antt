@@ -1,5 +1,5 @@
 use Rattle.std.proofs.Common.{arith}
-use Rattle.decimal_digits.proofs.Leading.{last_digit}
+use Rattle.decimal_digits.proofs.lemmas.rounding.Leading.{last_digit}
 use Rattle.decimal_digits.proofs.rounding.last_two.last_of.Goals as goal
 
 pub returns-then-keep-len-clause-value : goal.returns-then-keep-len-clause-value

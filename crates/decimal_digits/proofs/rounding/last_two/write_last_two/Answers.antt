@@ -1,5 +1,5 @@
 use Rattle.std.proofs.Common.{arith}
-use Rattle.decimal_digits.proofs.{Leading.leading_put, Nibbles.nibble_rules}
+use Rattle.decimal_digits.proofs.lemmas.{digits.Nibbles.nibble_rules, rounding.Leading.leading_put}
 use Rattle.decimal_digits.proofs.rounding.last_two.write_last_two.Goals as goal
 
 pub returns-then-number-eq0-clause-value : goal.returns-then-number-eq0-clause-value

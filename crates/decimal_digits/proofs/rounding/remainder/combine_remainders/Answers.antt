@@ -1,5 +1,5 @@
 use Rattle.std.proofs.Common.{arith}
-use Rattle.decimal_digits.proofs.Remainders.{part_below, part_half, part_above}
+use Rattle.decimal_digits.proofs.lemmas.rounding.Remainders.{part_below, part_half, part_above}
 use Rattle.decimal_digits.proofs.rounding.remainder.combine_remainders.Goals as goal
 
 pub returns-then-quarters-step : goal.returns-then-quarters-step

@@ -1,5 +1,5 @@
 use Rattle.std.proofs.Common.{true, false, refl, arith}
-use Rattle.decimal_digits.proofs.Remainders.{two_split}
+use Rattle.decimal_digits.proofs.lemmas.rounding.Remainders.{two_split}
 use Rattle.decimal_digits.proofs.rounding.remainder.round_last_two.Goals as goal
 
 pub returns-then-rounds_up-clause-rounds : goal.returns-then-rounds_up-clause-rounds

@@ -1,6 +1,6 @@
 use Rattle.std.proofs.Common.{◌-◌, true, false, refl, arith, rules}
 use Rattle.std.proofs.lemmas.Option.{IfSome_then}
-use Rattle.decimal_digits.proofs.{Leading.leading_raised, Nibbles.nibble_rules, Remainders.{one_by, exact_stays}, Results.if_none}
+use Rattle.decimal_digits.proofs.lemmas.{digits.Nibbles.nibble_rules, rounding.{Leading.leading_raised, Remainders.{one_by, exact_stays}, Results.if_none}}
 use Rattle.decimal_digits.proofs.rounding.round_digits.round_by_one.Goals as goal
 
 pub returns-then-eq-clause-value : goal.returns-then-eq-clause-value

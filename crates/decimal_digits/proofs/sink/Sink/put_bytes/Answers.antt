@@ -1,4 +1,4 @@
-use Rattle.decimal_digits.proofs.{Results.on_err, Sinks.prefix_kept}
+use Rattle.decimal_digits.proofs.lemmas.{rounding.Results.on_err, sink.Sinks.prefix_kept}
 use Rattle.decimal_digits.proofs.sink.Sink.put_bytes.Goals as goal
 
 pub returns-in_err-put_byte-clause-prefix : goal.returns-in_err-put_byte-clause-prefix

@@ -1,6 +1,6 @@
 use Rattle.std.proofs.Common.{arith}
 use Rattle.std.proofs.lemmas.List.{length-drop, length-take}
-use Rattle.decimal_digits.proofs.Sinks.{took_more}
+use Rattle.decimal_digits.proofs.lemmas.sink.Sinks.{took_more}
 use Rattle.decimal_digits.proofs.sink.write_error.write_whole.Goals as goal
 
 pub loop-written-preserved : goal.loop-written-preserved

@@ -1,5 +1,5 @@
 use Rattle.std.proofs.Common.{length, sym, ◌∙◌, ap, rules}
-use Rattle.decimal_digits.proofs.Integers.{ascending_digits-step}
+use Rattle.decimal_digits.proofs.lemmas.ops.Integers.{ascending_digits-step}
 use Rattle.decimal_digits.proofs.uint_iterator.IntIteratorIterator.next.Goals as goal
 
 pub returns-clause-steps : goal.returns-clause-steps

@@ -1,12 +1,8 @@
-use Rattle.std.proofs.Common.{◌≡◌, w16, to_z, of_z, ◌∙◌, arith}
-use Rattle.std.proofs.lemmas.Int.{ints}
-use Rattle.fixed_decimal.proofs.Calling.{gap_is, narrow_kept}
+use Rattle.std.proofs.Common.{◌≡◌, w16, to_z, of_z, ◌∙◌}
+use Rattle.fixed_decimal.proofs.Calling.{narrow_kept}
 use Rattle.decimal_format.specs.Parts.{magnitude_of}
-use Rattle.decimal_format.proofs.Parts.{digits_from}
+use Rattle.decimal_format.proofs.lemmas.formatter.Parts.{digits_from}
 use Rattle.decimal_format.proofs.formatter.FormattedAbsolute.copy_digits.Goals as goal
-
-pub write_digits-requires : goal.write_digits-requires
-write_digits-requires g c = grind (arith, ints, narrow_kept, gap_is)
 
 pub returns : goal.returns
 returns g c =

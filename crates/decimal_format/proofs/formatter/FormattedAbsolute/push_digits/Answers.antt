@@ -1,8 +1,8 @@
 use Rattle.std.proofs.Common.{sym, ap, arith, append_assoc, append-nil, length-append}
 use Rattle.fixed_decimal.proofs.Calling.{narrow_kept}
 use Rattle.decimal_format.specs.Formatted.{formatted_down}
-use Rattle.decimal_format.proofs.Magnitudes.{first_magnitudes, one_more}
-use Rattle.decimal_format.proofs.ShortTexts.{separates_if, pushed, length-magnitude}
+use Rattle.decimal_format.proofs.lemmas.formatter.Magnitudes.{first_magnitudes, one_more}
+use Rattle.decimal_format.proofs.lemmas.formatter.ShortTexts.{separates_if, pushed, length-magnitude}
 use Rattle.decimal_format.proofs.formatter.FormattedAbsolute.push_digits.Goals as goal
 
 pub loop-below-init : goal.loop-below-init
@@ -17,6 +17,3 @@ loop-below-preserved g c =
       room =
           grind (arith, narrow_kept, separates_if, first_magnitudes, length-append, length-magnitude, pushed, one_more);
     }
-
-pub returns : goal.returns
-returns g c = grind (arith, first_magnitudes)

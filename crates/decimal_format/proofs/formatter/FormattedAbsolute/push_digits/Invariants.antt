@@ -1,5 +1,5 @@
 use Rattle.std.proofs.Common.{◌≡◌, ◌+◌, ◌*◌, ◌≤◌, ◌++◌, length}
-use Rattle.decimal_format.proofs.Magnitudes.{first_magnitudes}
+use Rattle.decimal_format.proofs.lemmas.formatter.Magnitudes.{first_magnitudes}
 use Rattle.decimal_format.proofs.formatter.FormattedAbsolute.push_digits.Given as goal
 
 abbrev pub invariant-loop-below : goal.invariant-loop-below

@@ -5,7 +5,7 @@ use Rattle.fixed_decimal.proofs.Calling.{narrow_kept}
 use Rattle.decimal_format.specs.Formatted.{separator_before}
 use Rattle.decimal_format.specs.Parts.{magnitude_of}
 use Rattle.decimal_format.specs.Scanning.{separator_if}
-use Rattle.decimal_format.proofs.Parts.{integer_run, after_run}
+use Rattle.decimal_format.proofs.lemmas.formatter.Parts.{integer_run, after_run}
 use Rattle.decimal_format.proofs.formatter.FormattedAbsolute.run_at.Goals as goal
 
 pub returns : goal.returns
@@ -18,7 +18,9 @@ returns g c =
     let sizes : c.sizes.result ≡ f.symbols.sizes = cc in
     let strategy : c.self.inside.strategy ≡ f.strategy = cc in
     let symbols : c.self.inside.symbols.now ≡ f.symbols = cc in
-    let hi = narrow_kept {z = c.highest.result} c.highest.type_inv ∙ c.highest.ensures.value in
+    let value : c.self.inside.value.now ≡ f.value = cc in
+    let hi =
+    narrow_kept {z = c.highest.result} c.highest.type_inv ∙ c.highest.ensures.value ∙ ap (λ v. v.hi) value in
     let run = rw (sizes, strategy, hi) at c.run_from-count.ensures in
     record {
       some = run.some;
@@ -26,7 +28,7 @@ returns g c =
       run = integer_run f c.args.below m c.run_from-count.result.0 is run.within run.none_between;
       before = ap (separator_before f.symbols) (sym is);
       after =
-          c.grouping_if-after.ensures ∙ ap (λ s. separator_if s c.run_from-count.result.1) symbols
+          c.grouping_if-after.ensures.value ∙ ap (λ s. separator_if s c.run_from-count.result.1) symbols
           ∙ after_run f c.args.below m c.run_from-count.result.0 c.run_from-count.result.1 is run.some run.within
           run.last;
     }

@@ -3,7 +3,7 @@ use Rattle.decimal_digits.specs.AppendsPrefix.{AppendsPrefix}
 use Rattle.fixed_decimal.proofs.Calling.{on_err}
 use Rattle.decimal_format.specs.Formatted.{shown_count}
 use Rattle.decimal_format.specs.Parts.{part_text}
-use Rattle.decimal_format.proofs.Parts.{part_none, part_more, part_failed, whole_part}
+use Rattle.decimal_format.proofs.lemmas.formatter.Parts.{part_none, part_more, part_failed, whole_part}
 use Rattle.decimal_format.proofs.formatter.FormattedAbsolute.write_absolute.Goals as goal
 
 pub loop-written-init : goal.loop-written-init
@@ -34,6 +34,3 @@ loop-written-preserved g c =
       appended =
           part_more f 0 i n _ _ _ _ here c.loop-written.invariant.appended c.in_ok-put_part.ensures.ok;
     }
-
-pub returns-clause-ok : goal.returns-clause-ok
-returns-clause-ok g c = grind (arith, whole_part)

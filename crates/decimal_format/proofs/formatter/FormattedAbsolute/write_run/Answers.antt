@@ -1,8 +1,7 @@
 use Rattle.std.proofs.Common.{◌≡◌}
-use Rattle.std.proofs.lemmas.Result.{on_err_weaker, on_ok_weaker}
+use Rattle.std.proofs.lemmas.Result.{on_err_weaker}
 use Rattle.fixed_decimal.proofs.Calling.{on_err, first_of_three, second_of_three, third_of_three}
 use Rattle.decimal_format.proofs.formatter.FormattedAbsolute.write_run.Goals as goal
-use Rattle.decimal_format.proofs.Rules.{steps}
 use Rattle.std.proofs.Common.{arith}
 
 pub returns-in_err-put_bytes-clause-err : goal.returns-in_err-put_bytes-clause-err
@@ -14,9 +13,6 @@ returns-in_err-write_digits-clause-err g c =
     on_err c.from_residual-in_err-write_digits.result _
     (second_of_three _ _ _ _ _ _ (rw c.as_bytes.ensures.value at c.in_ok-put_bytes.ensures.appends)
     (rw symbols at c.in_err-write_digits.ensures.err))
-
-pub returns-clause-ok : goal.returns-clause-ok
-returns-clause-ok g c = grind (steps, on_ok_weaker)
 
 pub returns-clause-err : goal.returns-clause-err
 returns-clause-err g c =

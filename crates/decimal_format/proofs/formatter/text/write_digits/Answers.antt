@@ -1,7 +1,7 @@
 use Rattle.std.proofs.Common.{subst, arith}
 use Rattle.decimal_digits.specs.AppendsPrefix.{AppendsPrefix}
 use Rattle.fixed_decimal.proofs.Calling.{on_err, second_of_three}
-use Rattle.decimal_format.proofs.AsciiDigits.{digits_text-ascii, digits_text-parts}
+use Rattle.decimal_format.proofs.lemmas.symbols.AsciiDigits.{digits_text-ascii, digits_text-parts}
 use Rattle.decimal_format.proofs.formatter.text.write_digits.Goals as goal
 
 pub returns-then-has_ascii_digits-clause-ok : goal.returns-then-has_ascii_digits-clause-ok

@@ -1,6 +1,6 @@
 use Rattle.std.proofs.Common.{◌≡◌, ◌+◌, ◌-◌, ◌%◌, ap, ◌∙◌, arith}
 use Rattle.decimal_format.specs.Grouping.{ends_group, secondary_size}
-use Rattle.decimal_format.proofs.Separators.{ends_none, ends_last}
+use Rattle.decimal_format.proofs.lemmas.symbols.Separators.{ends_none, ends_last}
 use Rattle.decimal_format.proofs.grouping.GroupingSizes.run_to_end.Goals as goal
 
 pub returns-then-before_last-most-clause-none_between : goal.returns-then-before_last-most-clause-none_between

@@ -6,7 +6,7 @@ use Rattle.std.proofs.lemmas.Bool.Decides.{nat_tests}
 use Rattle.fixed_decimal.proofs.Calling.{narrow_kept, gap_is}
 use Rattle.decimal_format.specs.Grouping.{is_grouped}
 use Rattle.decimal_format.specs.Parts.{separators_below}
-use Rattle.decimal_format.proofs.Separators.{count-none, count-some, grouped_least}
+use Rattle.decimal_format.proofs.lemmas.symbols.Separators.{count-none, count-some, grouped_least}
 use Rattle.decimal_format.proofs.grouping.GroupingSizes.separator_count.Goals.{then-self-eq0-via-then-self-eq0, then-self-eq0-via-else-self-eq0+then-not-is_grouped}
 use Rattle.decimal_format.proofs.grouping.GroupingSizes.separator_count.Goals as goal
 

@@ -1,5 +1,5 @@
 use Rattle.std.proofs.Common.{◌≡◌, ◌+◌, length, ◌∙◌, arith}
-use Rattle.decimal_format.proofs.NormalForms.{end_cut, end_fails}
+use Rattle.decimal_format.proofs.lemmas.reader.NormalForms.{end_cut, end_fails}
 use Rattle.decimal_format.proofs.reader.codes.cut_end.Goals as goal
 
 pub returns-in_err-cut : goal.returns-in_err-cut

@@ -4,11 +4,8 @@ use Rattle.std.proofs.lemmas.Int.{to_z-of_z}
 use Rattle.decimal_unsigned.specs.declared.error.ConcatenateError.TheVariants.{Overlap, Memory}
 use Rattle.decimal_unsigned.specs.Edits.{leaves_limits}
 use Rattle.fixed_decimal.proofs.Calling.{on_err}
-use Rattle.decimal_format.proofs.Values.{next_at, bcd_only, memory_for_integer, stays_in_limits, is_apart, joined_is, memory_for_sum}
+use Rattle.decimal_format.proofs.lemmas.reader.Values.{next_at, bcd_only, memory_for_integer, stays_in_limits, is_apart, joined_is, memory_for_sum}
 use Rattle.decimal_format.proofs.reader.value.append.Goals as goal
-
-pub from_bcd_digits-requires-clause-digits : goal.from_bcd_digits-requires-clause-digits
-from_bcd_digits-requires-clause-digits g c = let d = c.requires.4 in (d.0, bcd_only d.1)
 
 pub returns-in_err-next-clause-memory : goal.returns-in_err-next-clause-memory
 returns-in_err-next-clause-memory g c = on_err c.from_residual.result _ (λ ds es holds bcd.

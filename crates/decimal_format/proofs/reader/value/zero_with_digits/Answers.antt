@@ -1,10 +1,7 @@
 use Rattle.std.proofs.Common.{arith}
 use Rattle.std.proofs.lemmas.Int.{to_z_pos}
-use Rattle.decimal_format.proofs.Values.{zero_in_limits, zero_moved}
+use Rattle.decimal_format.proofs.lemmas.reader.Values.{zero_moved}
 use Rattle.decimal_format.proofs.reader.value.zero_with_digits.Goals as goal
-
-pub unwrap-requires : goal.unwrap-requires
-unwrap-requires g c = grind (arith, to_z_pos, zero_in_limits)
 
 pub returns : goal.returns
 returns g c = grind (arith, to_z_pos, zero_moved)

@@ -1,6 +1,6 @@
 use Rattle.std.proofs.Common.{Ok, Err}
 use Rattle.decimal_unsigned.specs.declared.error.ParseError.TheVariants.{Limit, Memory}
-use Rattle.decimal_format.proofs.Around.{first_reads, rest_reads}
+use Rattle.decimal_format.proofs.lemmas.reader.Around.{first_reads, rest_reads}
 use Rattle.decimal_format.proofs.symbols.DecimalSymbols.+read_first.Goals as goal
 
 pub returns-in-Ok : goal.returns-in-Ok

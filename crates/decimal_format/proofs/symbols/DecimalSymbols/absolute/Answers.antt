@@ -4,8 +4,8 @@ use Rattle.std.proofs.lemmas.Result.{IfOk-weaker}
 use Rattle.decimal_digits.specs.Number.{size}
 use Rattle.decimal_unsigned.specs.DigitValues.{value_of_first}
 use Rattle.fixed_decimal.proofs.Calling.{on_err}
-use Rattle.decimal_format.proofs.Bcd.{below_append, short_word}
-use Rattle.decimal_format.proofs.Values.{holds_none, holds_part, on_err_unless, size_more}
+use Rattle.decimal_format.proofs.lemmas.reader.Bcd.{below_append, short_word}
+use Rattle.decimal_format.proofs.lemmas.reader.Values.{holds_none, holds_part, on_err_unless, size_more}
 use Rattle.decimal_format.proofs.symbols.DecimalSymbols.absolute.Goals as goal
 
 -- ---- Up to sixteen digits.
@@ -33,11 +33,6 @@ returns-then-whole-fraction-le-WORD-clause-memory g c = on_err_unless c.from_bcd
           let word = (short_word p.bcd q.bcd c.if-whole-fraction-le-WORD.true).0 in
           absurd (fails (c.from_bcd_digits.ensures.succeeds (ds ++ es) word few))
     ])
-
--- ---- More digits.
-pub append_digits-requires-clause-digits : goal.append_digits-requires-clause-digits
-append_digits-requires-clause-digits g c =
-    let d = c.requires.digits in ([], d.0, holds_none c.zero_with_digits-value.ensures, d.2)
 
 pub returns-in_err-append_digits-clause-memory : goal.returns-in_err-append_digits-clause-memory
 returns-in_err-append_digits-clause-memory g c = on_err c.from_residual.result _ (λ ds es p q.

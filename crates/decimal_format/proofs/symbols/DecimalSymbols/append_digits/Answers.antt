@@ -1,11 +1,8 @@
 use Rattle.std.proofs.Common.{◌++◌, length-append, arith}
 use Rattle.fixed_decimal.proofs.Calling.{on_err}
-use Rattle.decimal_format.proofs.Bcd.{below_append}
-use Rattle.decimal_format.proofs.Values.{appended_none, appended_all, appended_more, next_word, memory_for_word}
+use Rattle.decimal_format.proofs.lemmas.reader.Bcd.{below_append}
+use Rattle.decimal_format.proofs.lemmas.reader.Values.{appended_all, appended_more, next_word, memory_for_word}
 use Rattle.decimal_format.proofs.symbols.DecimalSymbols.append_digits.Goals as goal
-
-pub loop-done-init : goal.loop-done-init
-loop-done-init g c = λ ds es holds part. appended_none holds part.spelled
 
 pub append-requires : goal.append-requires
 append-requires g c =

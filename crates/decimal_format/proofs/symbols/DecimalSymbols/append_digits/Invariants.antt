@@ -1,6 +1,6 @@
 use Rattle.std.proofs.Common.{ℕ, ◌-◌, List}
 use Rattle.decimal_format.specs.Scanning.{HoldsDigits, HasPart}
-use Rattle.decimal_format.proofs.Values.{IsAppended}
+use Rattle.decimal_format.proofs.lemmas.reader.Values.{IsAppended}
 use Rattle.decimal_format.proofs.symbols.DecimalSymbols.append_digits.Given as goal
 
 abbrev pub invariant-loop-done : goal.invariant-loop-done

@@ -1,9 +1,9 @@
-use Rattle.decimal_format.proofs.Codes.{digit_not_decimal, digit_not_grouping}
-use Rattle.decimal_format.proofs.symbols.DecimalSymbols.begins_with_separator.Goals as goal
 use Rattle.std.proofs.Common.{arith}
+use Rattle.decimal_format.proofs.lemmas.reader.Codes.{digit_not_decimal, digit_not_grouping}
+use Rattle.decimal_format.proofs.symbols.DecimalSymbols.begins_with_separator.Goals as goal
 
-pub returns-in-Some : goal.returns-in-Some
-returns-in-Some g c = grind (arith, digit_not_grouping)
+pub returns-then-is_some : goal.returns-then-is_some
+returns-then-is_some g c = grind (arith, digit_not_grouping)
 
-pub returns-in-Some-cut : goal.returns-in-Some-cut
-returns-in-Some-cut g c = grind (arith, digit_not_decimal)
+pub returns-else-is_some : goal.returns-else-is_some
+returns-else-is_some g c = grind (arith, digit_not_decimal)

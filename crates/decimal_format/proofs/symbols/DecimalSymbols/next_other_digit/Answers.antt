@@ -1,5 +1,5 @@
 use Rattle.std.proofs.Common.{refl, sym, ◌∙◌}
-use Rattle.decimal_format.proofs.Codes.{none_not_digit}
+use Rattle.decimal_format.proofs.lemmas.reader.Codes.{none_not_digit}
 use Rattle.decimal_format.proofs.symbols.DecimalSymbols.next_other_digit.Goals as goal
 
 pub returns-then-is_empty : goal.returns-then-is_empty

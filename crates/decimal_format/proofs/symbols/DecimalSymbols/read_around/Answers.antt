@@ -1,7 +1,7 @@
 use Rattle.std.proofs.Common.{◌≡◌, Ok, Err}
 use Rattle.fixed_decimal.specs.declared.variations.Sign.TheVariants.{None}
 use Rattle.decimal_format.specs.Readable.{BeginsWithDigit}
-use Rattle.decimal_format.proofs.Around.{plain_read, two_signs, signed_read}
+use Rattle.decimal_format.proofs.lemmas.reader.Around.{plain_read, two_signs, signed_read}
 use Rattle.decimal_format.proofs.symbols.DecimalSymbols.read_around.Goals as goal
 
 pub returns-in-None : goal.returns-in-None

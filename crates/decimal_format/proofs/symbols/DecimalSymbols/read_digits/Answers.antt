@@ -1,5 +1,5 @@
 use Rattle.std.proofs.Common.{[], ◌++◌, arith}
-use Rattle.decimal_format.proofs.Scans.{none_after_last, read_none, read_run, read_all, read_last, read_fails}
+use Rattle.decimal_format.proofs.lemmas.reader.Scans.{none_after_last, read_none, read_run, read_all, read_last, read_fails}
 use Rattle.decimal_format.proofs.symbols.DecimalSymbols.read_digits.Goals as goal
 
 pub loop-left-init : goal.loop-left-init

@@ -1,6 +1,6 @@
 use Rattle.std.proofs.Common.{ℕ, List}
 use Rattle.decimal_format.specs.Grouping.{ends_group}
-use Rattle.decimal_format.proofs.Scans.{IsReadTo}
+use Rattle.decimal_format.proofs.lemmas.reader.Scans.{IsReadTo}
 use Rattle.decimal_format.proofs.symbols.DecimalSymbols.read_digits.Given as goal
 
 abbrev pub invariant-loop-left : goal.invariant-loop-left

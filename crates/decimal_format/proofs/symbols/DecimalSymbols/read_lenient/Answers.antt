@@ -1,7 +1,7 @@
 use Rattle.std.proofs.Common.{◌≡◌, ◌≤◌, ◌-◌, ◌^◌, length, sym, ◌∙◌, ap, arith}
 use Rattle.std.proofs.lemmas.List.{take_all}
 use Rattle.decimal_format.specs.Lenient.{replaced, normalized}
-use Rattle.decimal_format.proofs.NumeralLaws.{read_first, read_next}
+use Rattle.decimal_format.proofs.lemmas.reader.NumeralLaws.{read_first, read_next}
 use Rattle.decimal_format.proofs.symbols.DecimalSymbols.read_lenient.Goals as goal
 
 pub returns-in-Ok : goal.returns-in-Ok

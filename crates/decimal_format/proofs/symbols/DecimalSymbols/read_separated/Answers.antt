@@ -1,9 +1,6 @@
 use Rattle.std.proofs.Common.{arith}
-use Rattle.decimal_format.proofs.Scans.{shorter, shorter_by_separator, spelled_start, spelled_push, spelled_skip, spelled_most, spelled_none}
+use Rattle.decimal_format.proofs.lemmas.reader.Scans.{shorter, shorter_by_separator, spelled_push, spelled_skip, spelled_most, spelled_none}
 use Rattle.decimal_format.proofs.symbols.DecimalSymbols.read_separated.Goals as goal
-
-pub loop-count-init : goal.loop-count-init
-loop-count-init g c = grind (arith, spelled_start)
 
 pub loop-count-smaller-in-Some : goal.loop-count-smaller-in-Some
 loop-count-smaller-in-Some g c = grind (arith, shorter)
@@ -23,6 +20,3 @@ returns-in_default-cut g c = λ ds spelled.
     spelled_most c.args.self.now c.requires (g.T.Input.bytes c.loop-count.rest) (c.loop-count.invariant.read ds spelled)
     c.args.most c.loop-count.invariant.at_most
     (λ few. spelled_none c.args.self.now c.requires (g.T.Input.bytes c.loop-count.rest) c.in_default.ensures none)
-
-pub returns : goal.returns
-returns g c = grind (arith, spelled_most)

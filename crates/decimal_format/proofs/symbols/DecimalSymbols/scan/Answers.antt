@@ -7,9 +7,9 @@ use Rattle.decimal_format.specs.Lenient.{separated_at, IsLenientNumeral}
 use Rattle.decimal_format.specs.Readable.{IsReadable, BeginsWithDigit}
 use Rattle.decimal_format.specs.Reading.{Numeral, AreDigits, absolute_numeral_text, digits_text}
 use Rattle.decimal_format.specs.Scanning.{HasBcd, IsSpelled, ReadsSpelled, IsUniform}
-use Rattle.decimal_format.proofs.Codes.{none_not_digit}
-use Rattle.decimal_format.proofs.NumeralLaws.{numeral_if_uniform}
-use Rattle.decimal_format.proofs.Scans.{number_begins, whole_bcd, spelled_whole}
+use Rattle.decimal_format.proofs.lemmas.reader.Codes.{none_not_digit}
+use Rattle.decimal_format.proofs.lemmas.reader.NumeralLaws.{numeral_if_uniform}
+use Rattle.decimal_format.proofs.lemmas.reader.Scans.{number_begins, whole_bcd, spelled_whole}
 use Rattle.decimal_format.proofs.symbols.DecimalSymbols.scan.Goals as goal
 
 pub returns-in_err-sign-clause-none : goal.returns-in_err-sign-clause-none

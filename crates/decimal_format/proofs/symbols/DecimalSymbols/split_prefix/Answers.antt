@@ -1,6 +1,6 @@
 use Rattle.std.proofs.Common.{sym, ◌∙◌}
 use Rattle.fixed_decimal.specs.declared.variations.Sign.TheVariants.{Negative, Positive}
-use Rattle.decimal_format.proofs.Scans.{sign-unique}
+use Rattle.decimal_format.proofs.lemmas.reader.Scans.{sign-unique}
 use Rattle.decimal_format.proofs.symbols.DecimalSymbols.split_prefix.Goals as goal
 
 pub returns-in-Some-clause-unique : goal.returns-in-Some-clause-unique

@@ -1,9 +1,9 @@
 use Rattle.std.proofs.Common.{◌≡◌, w16, to_z, of_z, arith, ◌+ℤ◌, ◌+◌, ◌-◌, pos}
 use Rattle.std.proofs.lemmas.{Bool.false≢true, Int.{ints, clamps}}
 use Rattle.std.specs.Int.{int_max, int_min}
-use Rattle.decimal_digits.proofs.Offsets.{gap_is}
+use Rattle.decimal_digits.proofs.lemmas.ops.Offsets.{gap_is}
 use Rattle.decimal_digits.specs.Number.{first, last}
-use Rattle.decimal_unsigned.proofs.{Concatenations.{append_size, append_stored, append_value}, Values.{hi_kept, lo_kept, counted}, decimal.UnsignedOver.append.Goals.After-count_between}
+use Rattle.decimal_unsigned.proofs.{lemmas.{decimal.Values.{hi_kept, lo_kept, counted}, shift.Concatenations.{append_size, append_stored, append_value}}, decimal.UnsignedOver.append.Goals.After-count_between}
 use Rattle.decimal_unsigned.proofs.decimal.UnsignedOver.append.Goals as goal
 
 -- the zeros are between the last digit of the first number and the first digit of the second

@@ -1,6 +1,6 @@
 use Rattle.std.proofs.Common.{w16, to_z, of_z, sym, ◌∙◌, ap, arith, inl, inr}
 use Rattle.std.specs.Ordering.{nat_cmp}
-use Rattle.decimal_unsigned.proofs.{Comparing.{none_order, magnitudes_order, numbers_order, ordered}, Values.magnitude_kept}
+use Rattle.decimal_unsigned.proofs.lemmas.decimal.{Comparing.{none_order, magnitudes_order, numbers_order, ordered}, Values.magnitude_kept}
 use Rattle.decimal_unsigned.proofs.decimal.UnsignedOver.compare.Goals as goal
 
 pub returns-then-len-eq0 : goal.returns-then-len-eq0

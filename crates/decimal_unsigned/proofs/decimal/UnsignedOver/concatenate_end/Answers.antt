@@ -1,5 +1,5 @@
 use Rattle.std.proofs.Common.{sym, ◌∙◌, rules, ◌<◌}
-use Rattle.decimal_unsigned.proofs.Concatenations.{disjoint, not_overlapping}
+use Rattle.decimal_unsigned.proofs.lemmas.shift.Concatenations.{disjoint, not_overlapping}
 use Rattle.decimal_unsigned.proofs.decimal.UnsignedOver.concatenate_end.Goals as goal
 
 pub append-requires-clause-disjoint : goal.append-requires-clause-disjoint

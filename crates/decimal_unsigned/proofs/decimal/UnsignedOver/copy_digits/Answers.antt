@@ -2,7 +2,7 @@ use Rattle.std.proofs.Common.{◌≡◌, ◌+◌, ◌-◌, length, take, drop, w
 use Rattle.std.proofs.lemmas.{Int.{ints, to_z-of_z}, List.{length-take-le, length-drop}}
 use Rattle.std.specs.Int.{int_gap}
 use Rattle.decimal_digits.specs.Number.{offset, digit}
-use Rattle.decimal_unsigned.proofs.{Pieces.{index_gap, block_digit}, Values.{magnitude_kept, value_of_view}}
+use Rattle.decimal_unsigned.proofs.lemmas.{decimal.Values.{magnitude_kept, value_of_view}, text.Pieces.{index_gap, block_digit}}
 use Rattle.decimal_unsigned.specs.Unsigned.{Unsigned}
 use Rattle.decimal_unsigned.proofs.decimal.UnsignedOver.copy_digits.Goals as goal
 

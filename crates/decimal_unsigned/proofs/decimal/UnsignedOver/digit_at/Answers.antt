@@ -1,6 +1,6 @@
 use Rattle.std.proofs.Common.{◌∙◌}
 use Rattle.decimal_digits.specs.Number.{digit}
-use Rattle.decimal_unsigned.proofs.{ShownDigits.digit_by_index, Values.told}
+use Rattle.decimal_unsigned.proofs.lemmas.{decimal.Values.told, text.ShownDigits.digit_by_index}
 use Rattle.decimal_unsigned.proofs.decimal.UnsignedOver.digit_at.Goals as goal
 
 pub returns : goal.returns

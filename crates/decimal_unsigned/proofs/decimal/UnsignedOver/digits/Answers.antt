@@ -1,6 +1,6 @@
 use Rattle.std.proofs.Common.{◌≡◌, ◌-◌, ◌+◌, ◌∙◌, arith}
 use Rattle.std.specs.Int.{int_gap}
-use Rattle.decimal_unsigned.proofs.{ShownDigits.stored_shown, Values.{hi_kept, lo_kept, magnitude_kept, told}}
+use Rattle.decimal_unsigned.proofs.lemmas.{decimal.Values.{hi_kept, lo_kept, magnitude_kept, told}, text.ShownDigits.stored_shown}
 use Rattle.decimal_unsigned.specs.ShownDigits.{shown_digits}
 use Rattle.decimal_unsigned.proofs.decimal.UnsignedOver.digits.Goals as goal
 

@@ -1,7 +1,7 @@
 use Rattle.std.proofs.Common.{arith, refl, ap, w16, of_z, to_z, ◌≡◌, ◌-◌, ◌<◌, take, drop, length}
 use Rattle.std.proofs.lemmas.{Int.{ints, clamps}, Int.Digits.{length-digits_of-le, number_digits_of}, List.Elements.All-take}
 use Rattle.std.specs.Int.Digits.{digits_of}
-use Rattle.decimal_unsigned.proofs.{Integers.{UpToLast, digits_at_end, digits_of-below, digits_of-front, whole_stored, whole_value, whole_size}, decimal.UnsignedOver.from_integer.Goals.After-trimmed_len}
+use Rattle.decimal_unsigned.proofs.{lemmas.from_bcd.Integers.{UpToLast, digits_at_end, digits_of-below, digits_of-front, whole_stored, whole_value, whole_size}, decimal.UnsignedOver.from_integer.Goals.After-trimmed_len}
 use Rattle.decimal_unsigned.proofs.decimal.UnsignedOver.from_integer.Goals as goal
 
 digits_are : (g : _) (c : After-trimmed_len g)

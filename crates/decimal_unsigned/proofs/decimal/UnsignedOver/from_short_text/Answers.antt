@@ -1,6 +1,6 @@
 use Rattle.std.proofs.Common.{Result, Ok, Err, ◌∙◌, ap, sym, IfOk, IfSome}
 use Rattle.std.specs.Result.{result_ok}
-use Rattle.decimal_unsigned.proofs.BcdValues.{plain_bcd, plain_digits, plain_read}
+use Rattle.decimal_unsigned.proofs.lemmas.parse.BcdValues.{plain_bcd, plain_digits, plain_read}
 use Rattle.decimal_unsigned.proofs.decimal.UnsignedOver.from_short_text.Goals as goal
 
 some_of_ok : {A E : Type 0} (r : Result A E) (P Q : A → Type 0) → IfOk r P → ((v : A) → P v → Q v)

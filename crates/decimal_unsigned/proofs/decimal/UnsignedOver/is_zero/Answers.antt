@@ -1,5 +1,5 @@
 use Rattle.std.proofs.Common.{sym, ◌∙◌, ap, rules}
-use Rattle.decimal_unsigned.proofs.Values.{none_of, number_of-none, value_of_view}
+use Rattle.decimal_unsigned.proofs.lemmas.decimal.Values.{none_of, number_of-none, value_of_view}
 use Rattle.decimal_unsigned.specs.Unsigned.{Unsigned}
 use Rattle.decimal_unsigned.proofs.decimal.UnsignedOver.is_zero.Goals as goal
 

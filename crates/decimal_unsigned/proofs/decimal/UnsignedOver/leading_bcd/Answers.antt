@@ -1,8 +1,8 @@
 use Rattle.std.proofs.Common.{◌≡◌, ◌-◌, w16, to_z, of_z, ◌∙◌, ap, arith, pos, ◌+ℤ◌, ◌-ℤ◌}
 use Rattle.std.proofs.lemmas.Int.{ints}
-use Rattle.decimal_digits.proofs.Offsets.{gap_is}
+use Rattle.decimal_digits.proofs.lemmas.ops.Offsets.{gap_is}
 use Rattle.decimal_digits.specs.Number.{digit}
-use Rattle.decimal_unsigned.proofs.{ShownDigits.digit_of_nibble, Values.{magnitude_kept, hi_kept}}
+use Rattle.decimal_unsigned.proofs.lemmas.{decimal.Values.{magnitude_kept, hi_kept}, text.ShownDigits.digit_of_nibble}
 use Rattle.decimal_unsigned.specs.Unsigned.{Unsigned}
 use Rattle.decimal_unsigned.proofs.decimal.UnsignedOver.leading_bcd.Goals as goal
 

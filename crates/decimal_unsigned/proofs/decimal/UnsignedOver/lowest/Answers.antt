@@ -1,4 +1,4 @@
-use Rattle.decimal_unsigned.proofs.Values.{value_of_view}
+use Rattle.decimal_unsigned.proofs.lemmas.decimal.Values.{value_of_view}
 use Rattle.decimal_unsigned.proofs.decimal.UnsignedOver.lowest.Goals as goal
 
 pub returns-clause-valid : goal.returns-clause-valid

@@ -1,6 +1,6 @@
 use Rattle.std.proofs.Common.{◌≡◌, w16, to_z, of_z, refl, sym, ◌∙◌, ap, arith, inl, inr}
 use Rattle.std.proofs.lemmas.Int.{ints, clamps, to_z-of_z}
-use Rattle.decimal_unsigned.proofs.{Shifts.{Moves, moved, stays_in, multiplied_is, multiplied_pow10_is, multiplied_pow10_over}, Values.{hi_kept, lo_kept, magnitude_kept, narrow_kept, wide_kept}, decimal.UnsignedOver.multiply_pow10.Goals.{then-len-eq0, else-len-eq0}}
+use Rattle.decimal_unsigned.proofs.{lemmas.{decimal.Values.{hi_kept, lo_kept, magnitude_kept, narrow_kept, wide_kept}, shift.Shifts.{Moves, moved, stays_in, multiplied_is, multiplied_pow10_is, multiplied_pow10_over}}, decimal.UnsignedOver.multiply_pow10.Goals.{then-len-eq0, else-len-eq0}}
 use Rattle.decimal_unsigned.specs.{Edits.{multiplied, leaves_limits, multiplied_pow10}, Unsigned.Unsigned}
 use Rattle.decimal_unsigned.proofs.decimal.UnsignedOver.multiply_pow10.Goals as goal
 

@@ -1,7 +1,7 @@
 use Rattle.std.proofs.Common.{sym, ◌∙◌, arith, rules}
 use Rattle.std.proofs.lemmas.Int.{ints}
-use Rattle.decimal_digits.proofs.Offsets.{offset_is}
-use Rattle.decimal_unsigned.proofs.Values.{last-number_of, last_of_none, magnitude_kept, narrow_kept, last_told}
+use Rattle.decimal_digits.proofs.lemmas.ops.Offsets.{offset_is}
+use Rattle.decimal_unsigned.proofs.lemmas.decimal.Values.{last-number_of, last_of_none, magnitude_kept, narrow_kept, last_told}
 use Rattle.decimal_unsigned.proofs.decimal.UnsignedOver.nonzero_magnitude_end.Goals as goal
 
 pub magnitude_of-requires : goal.magnitude_of-requires

@@ -1,4 +1,4 @@
-use Rattle.decimal_unsigned.proofs.Values.{magnitude_kept, first_told}
+use Rattle.decimal_unsigned.proofs.lemmas.decimal.Values.{magnitude_kept, first_told}
 use Rattle.decimal_unsigned.proofs.decimal.UnsignedOver.nonzero_magnitude_start.Goals as goal
 
 pub returns : goal.returns

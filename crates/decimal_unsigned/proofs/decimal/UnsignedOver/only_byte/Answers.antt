@@ -1,5 +1,5 @@
 use Rattle.std.proofs.Common.{◌+◌, ◌∷◌, [], ◌∙◌, ap, refl}
-use Rattle.decimal_unsigned.proofs.Pieces.{one_byte}
+use Rattle.decimal_unsigned.proofs.lemmas.text.Pieces.{one_byte}
 use Rattle.decimal_unsigned.proofs.decimal.UnsignedOver.only_byte.Goals as goal
 
 pub returns : goal.returns

@@ -1,5 +1,5 @@
 use Rattle.std.proofs.Common.{rules}
-use Rattle.decimal_unsigned.proofs.BcdValues.{wide_allocates}
+use Rattle.decimal_unsigned.proofs.lemmas.parse.BcdValues.{wide_allocates}
 use Rattle.decimal_unsigned.specs.Reading.{read}
 use Rattle.decimal_unsigned.proofs.decimal.UnsignedOver.scan_any.Goals as goal
 

@@ -1,7 +1,7 @@
 use Rattle.std.proofs.Common.{ap, arith}
 use Rattle.std.proofs.lemmas.Int.{ints}
 use Rattle.decimal_digits.specs.Number.{first}
-use Rattle.decimal_unsigned.proofs.Values.{upper_stored}
+use Rattle.decimal_unsigned.proofs.lemmas.decimal.Values.{upper_stored}
 use Rattle.decimal_unsigned.specs.Unsigned.{Unsigned}
 use Rattle.decimal_unsigned.proofs.decimal.UnsignedOver.set_highest.Goals as goal
 

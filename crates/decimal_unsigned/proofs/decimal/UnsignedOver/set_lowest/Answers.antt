@@ -1,7 +1,7 @@
 use Rattle.std.proofs.Common.{ap, arith}
 use Rattle.std.proofs.lemmas.Int.{ints}
 use Rattle.decimal_digits.specs.Number.{last}
-use Rattle.decimal_unsigned.proofs.Values.{lower_stored}
+use Rattle.decimal_unsigned.proofs.lemmas.decimal.Values.{lower_stored}
 use Rattle.decimal_unsigned.specs.Unsigned.{Unsigned}
 use Rattle.decimal_unsigned.proofs.decimal.UnsignedOver.set_lowest.Goals as goal
 

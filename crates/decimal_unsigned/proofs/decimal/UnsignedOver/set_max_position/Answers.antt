@@ -1,8 +1,8 @@
 use Rattle.std.proofs.Common.{◌≡◌, ◌≤◌, min, length, w16, w32, pos, ◌+ℤ◌, ◌-ℤ◌, to_z, of_z, refl, sym, ◌∙◌, ap, subst, arith}
 use Rattle.std.proofs.lemmas.Int.{ints, to_z-of_z}
 use Rattle.std.specs.Int.{int_max, int_gap}
-use Rattle.decimal_digits.proofs.Offsets.{offset_is}
-use Rattle.decimal_unsigned.proofs.{Cuts.{Cuts, stored_cut, with_max_position_is}, Pieces.index_gap, ValueLaws.splits, Values.{lo_kept, magnitude_kept, narrow_kept, lowest, value_of_view}, decimal.UnsignedOver.set_max_position.Goals.{then-start-len, else-start-len}}
+use Rattle.decimal_digits.proofs.lemmas.ops.Offsets.{offset_is}
+use Rattle.decimal_unsigned.proofs.{lemmas.{decimal.Values.{lo_kept, magnitude_kept, narrow_kept, lowest, value_of_view}, laws.ValueLaws.splits, shift.Cuts.{Cuts, stored_cut, with_max_position_is}, text.Pieces.index_gap}, decimal.UnsignedOver.set_max_position.Goals.{then-start-len, else-start-len}}
 use Rattle.decimal_unsigned.specs.{Edits.with_max_position, Unsigned.Unsigned, ValueLaws.{trunced, SplitsAt}}
 use Rattle.decimal_unsigned.proofs.decimal.UnsignedOver.set_max_position.Goals as goal
 

@@ -1,6 +1,6 @@
 use Rattle.std.proofs.Common.{sym, ◌∙◌, arith}
-use Rattle.decimal_digits.proofs.Words.{length-word_nibbles, word_nibble}
-use Rattle.decimal_unsigned.proofs.Pieces.{short_text_is}
+use Rattle.decimal_digits.proofs.lemmas.digits.Words.{length-word_nibbles, word_nibble}
+use Rattle.decimal_unsigned.proofs.lemmas.text.Pieces.{short_text_is}
 use Rattle.decimal_unsigned.proofs.decimal.UnsignedOver.short_text.Goals as goal
 
 pub returns : goal.returns

@@ -1,6 +1,6 @@
 use Rattle.std.proofs.Common.{sym, ◌∙◌, ap}
 use Rattle.decimal_digits.specs.{Digits.number_of, Number.{first, size}}
-use Rattle.decimal_unsigned.proofs.Values.{first_of, size-number_of, value_of_view}
+use Rattle.decimal_unsigned.proofs.lemmas.decimal.Values.{first_of, size-number_of, value_of_view}
 use Rattle.decimal_unsigned.specs.Unsigned.{Unsigned}
 use Rattle.decimal_unsigned.proofs.decimal.UnsignedOver.store.Goals as goal
 

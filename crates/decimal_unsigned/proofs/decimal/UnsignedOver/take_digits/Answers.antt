@@ -1,5 +1,5 @@
 use Rattle.std.proofs.Common.{◌∙◌}
-use Rattle.decimal_unsigned.proofs.{Concatenations.taken, Values.magnitude_kept}
+use Rattle.decimal_unsigned.proofs.lemmas.{decimal.Values.magnitude_kept, shift.Concatenations.taken}
 use Rattle.decimal_unsigned.proofs.decimal.UnsignedOver.take_digits.Goals as goal
 
 pub invariant_of-self : goal.invariant_of-self

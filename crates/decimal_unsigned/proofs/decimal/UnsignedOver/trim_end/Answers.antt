@@ -1,6 +1,6 @@
 use Rattle.std.proofs.Common.{pos, ◌∙◌, ap}
 use Rattle.std.specs.Int.{int_min}
-use Rattle.decimal_unsigned.proofs.{ValueLaws.{greatest_lo, shortest}, Values.narrow_kept}
+use Rattle.decimal_unsigned.proofs.lemmas.{decimal.Values.narrow_kept, laws.ValueLaws.{greatest_lo, shortest}}
 use Rattle.decimal_unsigned.proofs.decimal.UnsignedOver.trim_end.Goals as goal
 
 pub returns : goal.returns

@@ -1,6 +1,6 @@
 use Rattle.std.proofs.Common.{pos, ◌∙◌, ap}
 use Rattle.std.specs.Int.{int_max}
-use Rattle.decimal_unsigned.proofs.{ValueLaws.{least_hi, shortest}, Values.narrow_kept}
+use Rattle.decimal_unsigned.proofs.lemmas.{decimal.Values.narrow_kept, laws.ValueLaws.{least_hi, shortest}}
 use Rattle.decimal_unsigned.proofs.decimal.UnsignedOver.trim_start.Goals as goal
 
 pub returns : goal.returns

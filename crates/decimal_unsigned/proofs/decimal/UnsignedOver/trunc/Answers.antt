@@ -2,7 +2,7 @@ use Rattle.std.proofs.Common.{ap, subst}
 use Rattle.std.proofs.lemmas.Int.{to_z-of_z}
 use Rattle.std.specs.Option.{unwrap_or}
 use Rattle.decimal_digits.specs.{declared.rounding.RoundingIncrement.TheVariants.MultiplesOf1, declared.rounding.UnsignedRoundingMode.TheVariants.Trunc}
-use Rattle.decimal_unsigned.proofs.{Roundings.ok_unless_none, ValueLaws.{splits, trunc_succeeds}}
+use Rattle.decimal_unsigned.proofs.lemmas.{laws.ValueLaws.{splits, trunc_succeeds}, shift.Roundings.ok_unless_none}
 use Rattle.decimal_unsigned.specs.{Edits.with_max_position, Rounded.{IsRounded, rounding_by_1}, ValueLaws.SplitsAt}
 use Rattle.decimal_unsigned.proofs.decimal.UnsignedOver.trunc.Goals as goal
 

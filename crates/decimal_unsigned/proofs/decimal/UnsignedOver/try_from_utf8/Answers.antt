@@ -1,6 +1,6 @@
 use Rattle.std.proofs.Common.{◌<◌}
 use Rattle.decimal_digits.specs.Number.{size}
-use Rattle.decimal_unsigned.proofs.{FewDigits.{never_limit, never_memory}, ReadingGrammar.result_follows_grammar}
+use Rattle.decimal_unsigned.proofs.lemmas.parse.{FewDigits.{never_limit, never_memory}, ReadingGrammar.result_follows_grammar}
 use Rattle.decimal_unsigned.proofs.decimal.UnsignedOver.try_from_utf8.Goals as goal
 
 pub returns-in-Some-clause-grammar : goal.returns-in-Some-clause-grammar

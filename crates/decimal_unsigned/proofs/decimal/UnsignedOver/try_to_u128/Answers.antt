@@ -1,6 +1,6 @@
 use Rattle.std.proofs.Common.{◌≡◌, ◌^◌, ◌∙◌, ap, arith}
 use Rattle.decimal_digits.specs.Remainders.{leading}
-use Rattle.decimal_unsigned.proofs.WholeNumbers.{part_result, whole_result, few_digits_result, many_digits_result}
+use Rattle.decimal_unsigned.proofs.lemmas.from_bcd.WholeNumbers.{part_result, whole_result, few_digits_result, many_digits_result}
 use Rattle.decimal_unsigned.specs.ToInteger.{in_range}
 use Rattle.decimal_unsigned.proofs.decimal.UnsignedOver.try_to_u128.Goals as goal
 

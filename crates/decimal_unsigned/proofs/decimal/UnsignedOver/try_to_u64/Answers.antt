@@ -1,5 +1,5 @@
 use Rattle.std.proofs.Common.{arith}
-use Rattle.decimal_unsigned.proofs.WholeNumbers.{part_result, few_digits_result}
+use Rattle.decimal_unsigned.proofs.lemmas.from_bcd.WholeNumbers.{part_result, few_digits_result}
 use Rattle.decimal_unsigned.proofs.decimal.UnsignedOver.try_to_u64.Goals as goal
 
 pub returns-in_default : goal.returns-in_default

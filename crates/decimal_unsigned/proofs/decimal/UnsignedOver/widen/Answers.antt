@@ -1,6 +1,6 @@
 use Rattle.std.proofs.Common.{arith}
 use Rattle.std.proofs.lemmas.Int.{ints, clamps}
-use Rattle.decimal_unsigned.proofs.Concatenations.{wider}
+use Rattle.decimal_unsigned.proofs.lemmas.shift.Concatenations.{wider}
 use Rattle.decimal_unsigned.proofs.decimal.UnsignedOver.widen.Goals as goal
 
 pub invariant_of-self : goal.invariant_of-self

@@ -1,6 +1,6 @@
 use Rattle.std.proofs.Common.{w16, to_z, of_z, arith}
 use Rattle.std.proofs.lemmas.Int.{ints}
-use Rattle.decimal_digits.proofs.Offsets.{offset_is}
+use Rattle.decimal_digits.proofs.lemmas.ops.Offsets.{offset_is}
 use Rattle.decimal_unsigned.proofs.decimal.UnsignedOver.write_digits.Goals as goal
 
 pub copy_digits-requires-clause-in_limits : goal.copy_digits-requires-clause-in_limits

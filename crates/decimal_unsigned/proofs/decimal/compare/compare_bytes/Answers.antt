@@ -1,7 +1,7 @@
 use Rattle.std.proofs.Common.{◌≡◌, length, take, sym, ◌∙◌, arith}
 use Rattle.std.proofs.lemmas.List.{take_rest}
 use Rattle.std.specs.{Int.Digits.number_from_digits, Ordering.nat_cmp}
-use Rattle.decimal_unsigned.proofs.Comparing.{all_below, ends_order}
+use Rattle.decimal_unsigned.proofs.lemmas.decimal.Comparing.{all_below, ends_order}
 use Rattle.decimal_unsigned.proofs.decimal.compare.compare_bytes.Goals as goal
 
 pub returns : goal.returns

@@ -1,6 +1,6 @@
 use Rattle.std.proofs.Common.{sym, ◌∙◌, inl, inr, arith}
 use Rattle.std.specs.Ordering.{nat_cmp}
-use Rattle.decimal_unsigned.proofs.Comparing.{fronts_order}
+use Rattle.decimal_unsigned.proofs.lemmas.decimal.Comparing.{fronts_order}
 use Rattle.decimal_unsigned.proofs.decimal.compare.compare_digits.Goals as goal
 
 pub returns-then-front-other_front : goal.returns-then-front-other_front

@@ -1,6 +1,6 @@
 use Rattle.std.proofs.Common.{◌≡◌, length, sym, ◌∙◌, arith, min}
 use Rattle.std.specs.{Cmp.Lexicographic.slice_cmp, Ordering.nat_cmp}
-use Rattle.decimal_unsigned.proofs.Comparing.{lengths_decide, bytes_order}
+use Rattle.decimal_unsigned.proofs.lemmas.decimal.Comparing.{lengths_decide, bytes_order}
 use Rattle.decimal_unsigned.proofs.decimal.compare.compare_long.Goals as goal
 
 pub returns : goal.returns

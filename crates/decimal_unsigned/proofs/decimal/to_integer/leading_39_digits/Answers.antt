@@ -1,5 +1,5 @@
 use Rattle.std.proofs.Common.{sym, arith}
-use Rattle.decimal_unsigned.proofs.WholeNumbers.{leading_39, in_range-above}
+use Rattle.decimal_unsigned.proofs.lemmas.from_bcd.WholeNumbers.{leading_39, in_range-above}
 use Rattle.decimal_unsigned.proofs.decimal.to_integer.leading_39_digits.Goals as goal
 
 pub returns-in_default : goal.returns-in_default

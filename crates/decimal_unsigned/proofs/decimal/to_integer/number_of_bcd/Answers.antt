@@ -1,4 +1,4 @@
-use Rattle.decimal_unsigned.proofs.BcdNumber.{joined_all}
+use Rattle.decimal_unsigned.proofs.lemmas.from_bcd.BcdNumber.{joined_all}
 use Rattle.decimal_unsigned.proofs.decimal.to_integer.number_of_bcd.Goals as goal
 
 pub returns : goal.returns

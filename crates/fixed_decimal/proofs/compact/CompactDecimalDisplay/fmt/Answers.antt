@@ -1,6 +1,6 @@
 use Rattle.std.proofs.Common.{sym, subst, arith}
 use Rattle.std.specs.Str.{IsUtf8}
-use Rattle.fixed_decimal.proofs.CompactTexts.{exponent_utf8}
+use Rattle.fixed_decimal.proofs.lemmas.integer.CompactTexts.{exponent_utf8}
 use Rattle.fixed_decimal.proofs.compact.CompactDecimalDisplay.fmt.Goals as goal
 
 pub from_utf8_unchecked-requires : goal.from_utf8_unchecked-requires

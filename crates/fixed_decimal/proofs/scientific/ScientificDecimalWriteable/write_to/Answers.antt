@@ -1,4 +1,4 @@
-use Rattle.fixed_decimal.proofs.Writing.{second_fails}
+use Rattle.fixed_decimal.proofs.lemmas.signed_decimal.Writing.{second_fails}
 use Rattle.fixed_decimal.proofs.scientific.ScientificDecimalWriteable.write_to.Goals as goal
 
 pub returns-clause-err : goal.returns-clause-err

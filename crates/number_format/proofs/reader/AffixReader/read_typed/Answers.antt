@@ -3,7 +3,7 @@ use Rattle.decimal_format.specs.Alternatives.{IsNumeralOfFirst, IsWrittenOfFirst
 use Rattle.decimal_format.specs.Lenient.{normalized}
 use Rattle.decimal_format.specs.Reading.{IsRead}
 use Rattle.decimal_format.specs.Symbols.{Symbols}
-use Rattle.decimal_format.proofs.NumeralLaws.{read_first, read_next}
+use Rattle.decimal_format.proofs.lemmas.reader.NumeralLaws.{read_first, read_next}
 use Rattle.number_format.proofs.reader.AffixReader.read_typed.Goals as goal
 
 pub returns-in-Ok : goal.returns-in-Ok

@@ -1,10 +1,7 @@
-use Rattle.std.proofs.Common.{◌≡◌, sym, ◌∙◌, arith}
-use Rattle.decimal_digits.proofs.Packing.{same_bytes}
-use Rattle.decimal_digits.specs.{Nibbles.digits_in, Packing.padding}
+use Rattle.std.proofs.Common.{◌≡◌, sym, ◌∙◌}
+use Rattle.decimal_digits.proofs.lemmas.digits.Packing.{same_bytes}
+use Rattle.decimal_digits.specs.{Nibbles.digits_in}
 use Rattle.decimal_digits.proofs.digits.packed.PackedDigitsDigitStore.eq.Goals as goal
-
-pub returns-then-self-other : goal.returns-then-self-other
-returns-then-self-other c = grind (arith, padding)
 
 pub returns : goal.returns
 returns c =

@@ -1,5 +1,5 @@
 use Rattle.std.proofs.Common.{◌∙◌}
-use Rattle.decimal_digits.proofs.Words.{leading_pads}
+use Rattle.decimal_digits.proofs.lemmas.digits.Words.{leading_pads}
 use Rattle.decimal_digits.proofs.digits.packed.PackedDigitsDigitStore.from_padded_bcd.Goals as goal
 
 pub invariant_of-result-clause-padded : goal.invariant_of-result-clause-padded

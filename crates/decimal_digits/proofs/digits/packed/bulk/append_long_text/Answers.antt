@@ -1,5 +1,5 @@
 use Rattle.std.proofs.Common.{length, ap, arith}
-use Rattle.decimal_digits.proofs.{DigitTexts.ascii_at, Nibbles.nibble_rules, Packing.{encodes, encodes_many}}
+use Rattle.decimal_digits.proofs.lemmas.digits.{DigitTexts.ascii_at, Nibbles.nibble_rules, Packing.{encodes, encodes_many}}
 use Rattle.decimal_digits.proofs.digits.packed.bulk.append_long_text.Goals as goal
 
 pub returns-then-odd-eq0-clause-encodes : goal.returns-then-odd-eq0-clause-encodes

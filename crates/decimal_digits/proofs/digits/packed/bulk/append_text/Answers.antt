@@ -1,5 +1,5 @@
 use Rattle.std.proofs.Common.{arith}
-use Rattle.decimal_digits.proofs.Words.{join_text, zeros_after}
+use Rattle.decimal_digits.proofs.lemmas.digits.Words.{join_text, zeros_after}
 use Rattle.decimal_digits.proofs.digits.packed.bulk.append_text.Goals as goal
 
 pub join_nibbles-word-requires-clause-zeros : goal.join_nibbles-word-requires-clause-zeros

@@ -1,5 +1,5 @@
 use Rattle.std.proofs.Common.{length, ap, arith}
-use Rattle.decimal_digits.proofs.{Nibbles.nibble_rules, Packing.encodes}
+use Rattle.decimal_digits.proofs.lemmas.digits.{Nibbles.nibble_rules, Packing.encodes}
 use Rattle.decimal_digits.proofs.digits.packed.bytes.append_digits.Goals as goal
 
 pub returns-then-len-eq0-clause-encodes : goal.returns-then-len-eq0-clause-encodes

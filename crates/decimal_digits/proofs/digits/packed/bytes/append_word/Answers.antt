@@ -1,5 +1,5 @@
 use Rattle.std.proofs.Common.{arith}
-use Rattle.decimal_digits.proofs.Words.{join_pads, few_at, zeros_after}
+use Rattle.decimal_digits.proofs.lemmas.digits.Words.{join_pads, few_at, zeros_after}
 use Rattle.decimal_digits.specs.Packing.{length_digits}
 use Rattle.decimal_digits.proofs.digits.packed.bytes.append_word.Goals as goal
 

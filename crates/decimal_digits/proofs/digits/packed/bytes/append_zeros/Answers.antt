@@ -1,5 +1,5 @@
 use Rattle.std.proofs.Common.{arith}
-use Rattle.decimal_digits.proofs.{Nibbles.nibble_rules, Packing.encodes}
+use Rattle.decimal_digits.proofs.lemmas.digits.{Nibbles.nibble_rules, Packing.encodes}
 use Rattle.decimal_digits.proofs.digits.packed.bytes.append_zeros.Goals as goal
 
 pub returns-clause-encodes : goal.returns-clause-encodes

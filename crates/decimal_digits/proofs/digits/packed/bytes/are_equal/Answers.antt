@@ -1,7 +1,7 @@
 use Rattle.std.proofs.Common.{◌++◌, sym, ◌∙◌, rules, arith}
 use Rattle.std.proofs.Math.Seq.{take-add}
 use Rattle.std.proofs.lemmas.List.{take_rest}
-use Rattle.decimal_digits.proofs.Overlaps.{by_ends}
+use Rattle.decimal_digits.proofs.lemmas.digits.Overlaps.{by_ends}
 use Rattle.decimal_digits.proofs.digits.packed.bytes.are_equal.Goals as goal
 
 pub loop-start-preserved : goal.loop-start-preserved

@@ -1,5 +1,5 @@
 use Rattle.std.proofs.Common.{◌≡◌, ◌+◌, ◌*◌, ◌/◌, length, get_or, ap, refl, arith}
-use Rattle.decimal_digits.proofs.{Nibbles.nibble_rules, Words.cut_encodes, digits.packed.bytes.cut_bytes.Goals.{then-count-eq1, else-count-eq1}}
+use Rattle.decimal_digits.proofs.{lemmas.digits.{Nibbles.nibble_rules, Words.cut_encodes}, digits.packed.bytes.cut_bytes.Goals.{then-count-eq1, else-count-eq1}}
 use Rattle.decimal_digits.specs.{Nibbles.nibbles, Packing.padding}
 use Rattle.decimal_digits.proofs.digits.packed.bytes.cut_bytes.Goals as goal
 

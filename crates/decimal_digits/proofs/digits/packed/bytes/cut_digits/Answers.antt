@@ -1,5 +1,5 @@
 use Rattle.std.proofs.Common.{arith}
-use Rattle.decimal_digits.proofs.{Packing.encodes_many, Words.cut_pads}
+use Rattle.decimal_digits.proofs.lemmas.digits.Words.{cut_pads}
 use Rattle.decimal_digits.proofs.digits.packed.bytes.cut_digits.Goals as goal
 
 pub returns-then-len-le16-clause-encodes : goal.returns-then-len-le16-clause-encodes
@@ -8,6 +8,3 @@ returns-then-len-le16-clause-encodes c =
     (cut_pads c.args.bytes.now.items c.args.len c.args.count c.front_word.result c.cut_nibbles-word.result
     c.requires.padded c.requires.in_range c.if-len-le16.true (rw c.as_slice.ensures at c.front_word.ensures)
     c.cut_nibbles-word.ensures)
-
-pub returns-else-len-count-lt16-clause-encodes : goal.returns-else-len-count-lt16-clause-encodes
-returns-else-len-count-lt16-clause-encodes c = encodes_many _ _ _ (omega arith) c.cut_bytes.ensures.encodes

@@ -1,5 +1,5 @@
 use Rattle.std.proofs.Common.{arith}
-use Rattle.decimal_digits.proofs.Words.{cut_end_pads}
+use Rattle.decimal_digits.proofs.lemmas.digits.Words.{cut_end_pads}
 use Rattle.decimal_digits.proofs.digits.packed.bytes.cut_to_word.Goals as goal
 
 pub returns-clause-encodes : goal.returns-clause-encodes

@@ -1,5 +1,5 @@
 use Rattle.std.proofs.Common.{arith}
-use Rattle.decimal_digits.proofs.{Nibbles.nibble_rules, Packing.encodes}
+use Rattle.decimal_digits.proofs.lemmas.digits.{Nibbles.nibble_rules, Packing.encodes}
 use Rattle.decimal_digits.specs.Packing.{padding}
 use Rattle.decimal_digits.proofs.digits.packed.bytes.drop_unused.Goals as goal
 

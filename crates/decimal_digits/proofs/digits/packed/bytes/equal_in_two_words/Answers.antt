@@ -1,6 +1,6 @@
 use Rattle.std.proofs.Common.{rules}
 use Rattle.std.proofs.lemmas.List.{take_rest}
-use Rattle.decimal_digits.proofs.Overlaps.{by_ends}
+use Rattle.decimal_digits.proofs.lemmas.digits.Overlaps.{by_ends}
 use Rattle.decimal_digits.proofs.digits.packed.bytes.equal_in_two_words.Goals as goal
 
 pub returns-then-have_equal_fronts : goal.returns-then-have_equal_fronts

@@ -1,5 +1,5 @@
 use Rattle.std.proofs.Common.{arith}
-use Rattle.decimal_digits.proofs.Words.{keep_pads}
+use Rattle.decimal_digits.proofs.lemmas.digits.Words.{keep_pads}
 use Rattle.decimal_digits.proofs.digits.packed.bytes.keep_digits.Goals as goal
 
 pub returns-then-len-le16-clause-encodes : goal.returns-then-len-le16-clause-encodes

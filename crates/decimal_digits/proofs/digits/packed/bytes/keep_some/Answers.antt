@@ -1,5 +1,5 @@
 use Rattle.std.proofs.Common.{◌*◌, length, take, ◌∙◌, ap, arith}
-use Rattle.decimal_digits.proofs.{Nibbles.nibble_rules, Packing.{encodes, encodes_many}, Words.{keep_pads, nibbles_take}, digits.packed.bytes.keep_some.Goals.{then-count-eq1, else-count-eq1}}
+use Rattle.decimal_digits.proofs.{lemmas.digits.{Nibbles.nibble_rules, Packing.{encodes, encodes_many}, Words.{keep_pads, nibbles_take}}, digits.packed.bytes.keep_some.Goals.{then-count-eq1, else-count-eq1}}
 use Rattle.decimal_digits.specs.{Nibbles.nibbles, Packing.padding}
 use Rattle.decimal_digits.proofs.digits.packed.bytes.keep_some.Goals as goal
 

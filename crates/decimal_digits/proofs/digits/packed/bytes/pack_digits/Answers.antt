@@ -1,5 +1,5 @@
 use Rattle.std.proofs.Common.{length, get_or, refl, ap, ◌∙◌, arith}
-use Rattle.decimal_digits.proofs.{Nibbles.nibble_rules, Packing.{encodes, encodes_many}, Words.word_pads}
+use Rattle.decimal_digits.proofs.lemmas.digits.{Nibbles.nibble_rules, Packing.{encodes, encodes_many}, Words.word_pads}
 use Rattle.decimal_digits.proofs.digits.packed.bytes.pack_digits.Goals as goal
 
 pub returns-then-digits-le16-clause-ok : goal.returns-then-digits-le16-clause-ok

@@ -1,5 +1,5 @@
 use Rattle.std.proofs.Common.{arith}
-use Rattle.decimal_digits.proofs.{Nibbles.nibble_rules, digits.packed.nibbles.append_nibbles.Goals.{then-count-eq1, else-count-eq1}}
+use Rattle.decimal_digits.proofs.{lemmas.digits.Nibbles.nibble_rules, digits.packed.nibbles.append_nibbles.Goals.{then-count-eq1, else-count-eq1}}
 use Rattle.decimal_digits.proofs.digits.packed.nibbles.append_nibbles.Goals as goal
 
 pub returns-clause-joined : goal.returns-clause-joined

@@ -1,6 +1,6 @@
 use Rattle.std.proofs.Common.{length, get_or, ap, arith}
 use Rattle.std.proofs.lemmas.Grind.{same_number_lists}
-use Rattle.decimal_digits.proofs.Nibbles.{nibble_rules}
+use Rattle.decimal_digits.proofs.lemmas.digits.Nibbles.{nibble_rules}
 use Rattle.decimal_digits.proofs.digits.packed.nibbles.remove_low_nibble.Goals as goal
 
 pub returns : goal.returns

@@ -1,5 +1,5 @@
 use Rattle.std.proofs.Common.{refl, ◌∙◌, sym, arith}
-use Rattle.decimal_digits.proofs.TrailingNibbles.{trailing}
+use Rattle.decimal_digits.proofs.lemmas.digits.TrailingNibbles.{trailing}
 use Rattle.decimal_digits.proofs.digits.packed.words.count_equal_nibbles.Goals as goal
 
 pub returns-clause-equal : goal.returns-clause-equal

@@ -1,6 +1,6 @@
 use Rattle.std.proofs.Common.{◌≡◌, drop, [], refl, ◌∙◌, arith}
 use Rattle.std.proofs.lemmas.List.{drop_all}
-use Rattle.decimal_digits.proofs.Words.{cut, zero_word, length-word_nibbles}
+use Rattle.decimal_digits.proofs.lemmas.digits.Words.{cut, zero_word, length-word_nibbles}
 use Rattle.decimal_digits.specs.Nibbles.{word_nibbles}
 use Rattle.decimal_digits.proofs.digits.packed.words.cut_nibbles.Goals as goal
 

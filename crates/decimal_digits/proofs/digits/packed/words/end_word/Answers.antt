@@ -1,6 +1,6 @@
 use Rattle.std.proofs.Common.{◌≡◌, ◌+◌, ◌-◌, ◌*◌, ◌++◌, length, drop, replicate, ◌∙◌, ap, arith}
 use Rattle.std.proofs.lemmas.List.{drop-drop, get_or-drop}
-use Rattle.decimal_digits.proofs.{Nibbles.nibble_rules, Words.{word_of_bytes, nibbles_drop}}
+use Rattle.decimal_digits.proofs.lemmas.digits.{Nibbles.nibble_rules, Words.{word_of_bytes, nibbles_drop}}
 use Rattle.decimal_digits.specs.Nibbles.{nibbles}
 use Rattle.decimal_digits.proofs.digits.packed.words.end_word.Goals as goal
 
@@ -18,6 +18,3 @@ returns-in-Some c =
     c.cut_nibbles.ensures
     ∙ ap (λ l. drop k l ++ replicate k 0) word
     ∙ ap (λ l. l ++ replicate k 0) (drop-drop k (2 * n) (nibbles bs) ∙ ap (λ j. drop j (nibbles bs)) at)
-
-pub returns-in-None : goal.returns-in-None
-returns-in-None c = absurd (omega (arith, c.in-None.ensures.cases))

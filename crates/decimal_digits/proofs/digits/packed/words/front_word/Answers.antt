@@ -1,6 +1,5 @@
 use Rattle.std.proofs.Common.{◌≡◌, ℕ, ◌<◌, length, get_or, take, ◌∙◌, ap, arith}
-use Rattle.std.proofs.lemmas.List.{length-take-le}
-use Rattle.decimal_digits.proofs.{Nibbles.nibble_rules, Words.{word_of_bytes, nibbles_take}}
+use Rattle.decimal_digits.proofs.lemmas.digits.{Nibbles.nibble_rules, Words.{word_of_bytes, nibbles_take}}
 use Rattle.decimal_digits.specs.Nibbles.{nibbles}
 use Rattle.decimal_digits.proofs.digits.packed.words.front_word.Goals as goal
 
@@ -15,6 +14,3 @@ returns-in-Some c =
     let eight : length front ≡ 8 = grind (arith, nibble_rules, ap length first, c.requires) in
     word_of_bytes front c.from_be_bytes.result eight small c.from_be_bytes.ensures
     ∙ ap nibbles first ∙ nibbles_take 8 c.args.bytes.now
-
-pub returns-in-None : goal.returns-in-None
-returns-in-None c = absurd (c.in-None.ensures.cases (length-take-le 8 c.args.bytes.now c.requires))

@@ -1,5 +1,5 @@
 use Rattle.std.proofs.Common.{refl, ◌∙◌}
-use Rattle.decimal_digits.proofs.Words.{kept, zero_word}
+use Rattle.decimal_digits.proofs.lemmas.digits.Words.{kept, zero_word}
 use Rattle.decimal_digits.proofs.digits.packed.words.keep_nibbles.Goals as goal
 
 pub returns-then-count-eq0 : goal.returns-then-count-eq0

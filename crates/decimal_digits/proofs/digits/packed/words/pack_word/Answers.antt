@@ -1,6 +1,6 @@
 use Rattle.std.proofs.Common.{◌≡◌, take, refl, ◌∙◌, arith}
 use Rattle.std.proofs.lemmas.{Grind.same_number_lists, List.take_all}
-use Rattle.decimal_digits.proofs.{Nibbles.nibble_rules, Words.{pack_more, packed, zero_word}}
+use Rattle.decimal_digits.proofs.lemmas.digits.{Nibbles.nibble_rules, Words.{pack_more, packed, zero_word}}
 use Rattle.decimal_digits.proofs.digits.packed.words.pack_word.Goals as goal
 
 pub returns-then-is_empty : goal.returns-then-is_empty

@@ -1,6 +1,6 @@
 use Rattle.std.proofs.Common.{◌≡◌, [], rules}
 use Rattle.std.specs.Io.KnownBytes.{Keeps, append_known}
-use Rattle.decimal_digits.proofs.{Results.on_err_of, Sinks.{prefix_passed, none_passed}}
+use Rattle.decimal_digits.proofs.lemmas.{rounding.Results.on_err_of, sink.Sinks.{prefix_passed, none_passed}}
 use Rattle.decimal_digits.specs.Buffered.{buffered_contents}
 use Rattle.decimal_digits.proofs.sink.buffered_out.BufferedOut.put_after_block.Goals as goal
 

@@ -1,6 +1,6 @@
 use Rattle.std.proofs.Common.{◌≡◌, drop, rules}
 use Rattle.std.specs.Io.Buffered.{writer_buffer, writer_inner}
-use Rattle.decimal_digits.proofs.Sinks.{moved}
+use Rattle.decimal_digits.proofs.lemmas.sink.Sinks.{moved}
 use Rattle.decimal_digits.proofs.sink.out.Out+BufWriter+W.close.Goals as goal
 
 pub returns-clause-prefix : goal.returns-clause-prefix

@@ -1,6 +1,6 @@
 use Rattle.std.proofs.Common.{◌≡◌, ℕ, ◌+◌, ◌-◌, ◌<◌, List, ◌∷◌, take, drop, ◌∙◌, arith}
 use Rattle.decimal_format.specs.Lenient.{replaced}
-use Rattle.decimal_format.proofs.NormalForms.{byte_read, character_read}
+use Rattle.decimal_format.proofs.lemmas.reader.NormalForms.{byte_read, character_read}
 use Rattle.decimal_format.proofs.reader.lenient.NormalizedInput.split_first.Goals as goal
 
 -- the first of a number of elements, and then one fewer

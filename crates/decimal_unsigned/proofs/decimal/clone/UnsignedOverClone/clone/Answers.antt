@@ -1,7 +1,7 @@
 use Rattle.std.proofs.Common.{sym, ◌∙◌, ap}
 use Rattle.std.proofs.lemmas.Result.{err_from_is_err_and}
 use Rattle.decimal_digits.specs.Number.{size}
-use Rattle.decimal_unsigned.proofs.Values.{size-number_of}
+use Rattle.decimal_unsigned.proofs.lemmas.decimal.Values.{size-number_of}
 use Rattle.decimal_unsigned.specs.Unsigned.{Unsigned}
 use Rattle.decimal_unsigned.proofs.decimal.clone.UnsignedOverClone.clone.Goals as goal
 

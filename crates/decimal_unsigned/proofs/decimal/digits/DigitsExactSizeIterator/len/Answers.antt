@@ -1,5 +1,5 @@
 use Rattle.std.proofs.Common.{◌∙◌, ap, length}
-use Rattle.decimal_unsigned.proofs.ShownDigits.{length-left}
+use Rattle.decimal_unsigned.proofs.lemmas.text.ShownDigits.{length-left}
 use Rattle.decimal_unsigned.proofs.decimal.digits.DigitsExactSizeIterator.len.Goals as goal
 
 pub returns-clause-value : goal.returns-clause-value

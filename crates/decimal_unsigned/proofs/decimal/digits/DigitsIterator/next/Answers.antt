@@ -1,6 +1,6 @@
 use Rattle.std.proofs.Common.{◌++◌, drop, length, sym, ◌∙◌, ap, arith, rules}
 use Rattle.decimal_digits.specs.Nibbles.{padded}
-use Rattle.decimal_unsigned.proofs.ShownDigits.{none_left, refilled, word_next}
+use Rattle.decimal_unsigned.proofs.lemmas.text.ShownDigits.{none_left, refilled, word_next}
 use Rattle.decimal_unsigned.proofs.decimal.digits.DigitsIterator.next.Goals as goal
 
 pub returns-then-self-gt0-clause-steps : goal.returns-then-self-gt0-clause-steps

@@ -2,7 +2,7 @@ use Rattle.std.proofs.Common.{◌+◌, ◌++◌, length, take, refl, sym, subst,
 use Rattle.std.proofs.Output.{has_written_styled_append, has_written_styled_of_eq}
 use Rattle.std.proofs.lemmas.{List.length-take, Str.{IsUtf8-from_ascii, IsAscii-take, IsAscii-drop}}
 use Rattle.std.specs.{Fmt.HasWrittenStyled, Str.IsAscii}
-use Rattle.decimal_unsigned.proofs.{Pieces.{block_of, zeros_first}, Writing.{text_ascii, piece_taken}}
+use Rattle.decimal_unsigned.proofs.lemmas.text.{Pieces.{block_of, zeros_first}, Writing.{text_ascii, piece_taken}}
 use Rattle.decimal_unsigned.specs.Text.{text}
 use Rattle.decimal_unsigned.proofs.decimal.display.UnsignedOverDisplay.fmt.Goals as goal
 

@@ -1,6 +1,6 @@
 use Rattle.std.proofs.Common.{◌≡◌, w16, to_z, of_z, sym, ◌∙◌, ap}
 use Rattle.std.specs.Cmp.{both_ways}
-use Rattle.decimal_unsigned.proofs.{Comparing.{same_magnitude, same_digits, same_is, is_same, not_same, tells}, Values.{value_of_view, magnitude_kept, hi_kept, lo_kept}}
+use Rattle.decimal_unsigned.proofs.lemmas.decimal.{Comparing.{same_magnitude, same_digits, same_is, is_same, not_same, tells}, Values.{value_of_view, magnitude_kept, hi_kept, lo_kept}}
 use Rattle.decimal_unsigned.specs.Unsigned.{Unsigned}
 use Rattle.decimal_unsigned.proofs.decimal.equality.UnsignedOverPartialEq.eq.Goals as goal
 

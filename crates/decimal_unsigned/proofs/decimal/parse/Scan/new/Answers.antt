@@ -1,5 +1,5 @@
 use Rattle.std.proofs.Common.{◌∙◌}
-use Rattle.decimal_unsigned.proofs.Plans.{read_none, read_some}
+use Rattle.decimal_unsigned.proofs.lemmas.parse.Plans.{read_none, read_some}
 use Rattle.decimal_unsigned.specs.Parts.{view}
 use Rattle.decimal_unsigned.proofs.decimal.parse.Scan.new.Goals as goal
 

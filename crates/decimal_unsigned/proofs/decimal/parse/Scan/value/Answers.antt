@@ -2,7 +2,7 @@ use Rattle.std.proofs.Common.{ap, arith, length, map}
 use Rattle.std.proofs.lemmas.List.{length-append, length-map}
 use Rattle.std.specs.Char.{digit_value}
 use Rattle.decimal_digits.specs.Number.{size}
-use Rattle.decimal_unsigned.proofs.Values.{size-number_of}
+use Rattle.decimal_unsigned.proofs.lemmas.decimal.Values.{size-number_of}
 use Rattle.decimal_unsigned.proofs.decimal.parse.Scan.value.Goals as goal
 
 pub returns-in_err-reserve-clause-succeeds : goal.returns-in_err-reserve-clause-succeeds

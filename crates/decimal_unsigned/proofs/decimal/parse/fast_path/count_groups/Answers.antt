@@ -1,16 +1,7 @@
-use Rattle.std.proofs.Common.{◌≡◌, ◌+◌, ◌-◌, length, take, drop, ap, ◌∙◌, refl, arith}
+use Rattle.std.proofs.Common.{◌≡◌, ◌+◌, ◌-◌, length, take, drop, ap, ◌∙◌, arith}
 use Rattle.std.proofs.lemmas.List.{drop-drop}
-use Rattle.decimal_unsigned.proofs.BcdValues.{read_eight}
+use Rattle.decimal_unsigned.proofs.lemmas.parse.BcdValues.{read_eight}
 use Rattle.decimal_unsigned.proofs.decimal.parse.fast_path.count_groups.Goals as goal
-
-pub loop-bytes-init : goal.loop-bytes-init
-loop-bytes-init c =
-    let none : length c.args.text.now - length c.args.text.now ≡ 0 = omega arith in
-    rw none (record {
-      size = omega arith;
-      rest = refl;
-      read = record { digits = omega arith; value = omega (arith, c.ranges.before.fits) };
-    })
 
 pub loop-bytes-preserved : goal.loop-bytes-preserved
 loop-bytes-preserved c =

@@ -1,5 +1,5 @@
-use Rattle.std.proofs.Common.{get_or, arith}
-use Rattle.decimal_unsigned.proofs.{BcdValues.{read_digit, read_stop, read_end}, GrammarParts.{digit_at_most, digit_above}}
+use Rattle.std.proofs.Common.{get_or}
+use Rattle.decimal_unsigned.proofs.lemmas.parse.{BcdValues.{read_digit}, GrammarParts.{digit_at_most}}
 use Rattle.decimal_unsigned.proofs.decimal.parse.fast_path.count_wide.Goals as goal
 
 pub loop-i-preserved : goal.loop-i-preserved
@@ -9,14 +9,3 @@ loop-i-preserved c =
     digit_at_most (get_or text c.loop-i.i 0) _ _ (c.type_inv.text c.loop-i.i).fits c.from.ensures
     c.from-in-loop-i.ensures c.if-digit-gt9.false in
     rw digit (read_digit c.loop-i.invariant c.loop-i-test.true d)
-
-pub returns-then-digit-gt9-clause-count : goal.returns-then-digit-gt9-clause-count
-returns-then-digit-gt9-clause-count c =
-    read_stop c.loop-i.invariant c.loop-i-test.true
-    (digit_above (get_or c.args.text.now c.loop-i.i 0) _ _ (c.type_inv.text c.loop-i.i).fits c.from.ensures
-    c.from-in-loop-i.ensures c.if-digit-gt9.true)
-
-pub returns : goal.returns
-returns c =
-    let e = read_end c.loop-i.invariant c.loop-i-test.false (omega arith) in
-    record { count = e.0; number = e.1 }

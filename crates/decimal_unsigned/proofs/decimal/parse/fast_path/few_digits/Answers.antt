@@ -1,7 +1,6 @@
-use Rattle.std.proofs.Common.{ap, ◌+◌, ◌≡◌, ◌-◌, ◌<◌, length, get_or, drop, arith}
-use Rattle.std.proofs.lemmas.{Grind.elements, List.{length-take, length-drop, drop_all}, List.Sums.prefix_len-le-length}
-use Rattle.std.specs.{Char.is_ascii_digit, List.prefix_len}
-use Rattle.decimal_unsigned.proofs.BcdValues.{plain_whole, plain_point, after_byte}
+use Rattle.std.proofs.Common.{◌≡◌, ◌-◌, ◌<◌, length, get_or, drop, arith}
+use Rattle.std.proofs.lemmas.{Grind.elements, List.{length-take, length-drop, drop_all}}
+use Rattle.decimal_unsigned.proofs.lemmas.parse.BcdValues.{plain_whole, plain_point, after_byte}
 use Rattle.decimal_unsigned.proofs.decimal.parse.fast_path.few_digits.Goals as goal
 
 pub returns-in-empty-clause-plain : goal.returns-in-empty-clause-plain
@@ -29,16 +28,3 @@ returns-else-fraction-rest-clause-plain c =
     c.count_digits-whole.ensures.number _ fraction.result.0 _ (in_text c) byte (after_byte text whole)
     fraction.ensures.count (omega arith)
     c.if-fraction-rest.false fraction.ensures.number
-
-pub returns-else-fraction-rest-clause-few : goal.returns-else-fraction-rest-clause-few
-returns-else-fraction-rest-clause-few c =
-    let text = c.args.text.now in
-    let whole = c.count_digits-whole.result.0 in
-    omega (
-      arith,
-      in_text c,
-      c.count_digits-fraction.ensures.count,
-      ap (prefix_len is_ascii_digit) (after_byte text whole),
-      prefix_len-le-length is_ascii_digit (drop (whole + 1) text),
-      length-drop (whole + 1) text,
-    )

@@ -1,8 +1,8 @@
 use Rattle.std.proofs.Common.{arith, refl}
 use Rattle.std.proofs.lemmas.Int.{ints}
 use Rattle.std.specs.Int.{w128}
-use Rattle.decimal_digits.proofs.LeadingBytes.{wide_bytes_encode}
-use Rattle.decimal_unsigned.proofs.BcdValues.{few_digits, number_fits, plain_bcd, plain_read, bcd_sizes, bcd_value}
+use Rattle.decimal_digits.proofs.lemmas.digits.LeadingBytes.{wide_bytes_encode}
+use Rattle.decimal_unsigned.proofs.lemmas.parse.BcdValues.{few_digits, number_fits, plain_bcd, plain_read, bcd_sizes, bcd_value}
 use Rattle.decimal_unsigned.proofs.decimal.parse.fast_path.wide_bcd_value.Goals as goal
 
 pub overflow_sub-len : goal.overflow_sub-len

@@ -1,5 +1,5 @@
 use Rattle.std.proofs.Common.{sym}
-use Rattle.decimal_unsigned.proofs.GrammarParts.{digits_more}
+use Rattle.decimal_unsigned.proofs.lemmas.parse.GrammarParts.{digits_more}
 use Rattle.decimal_unsigned.proofs.decimal.parse.parts.are_digits.Goals as goal
 
 pub loop-byte-preserved : goal.loop-byte-preserved

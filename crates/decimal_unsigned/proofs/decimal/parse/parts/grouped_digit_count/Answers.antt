@@ -1,6 +1,6 @@
 use Rattle.std.proofs.Common.{◌≡◌, ◌+◌, ◌-◌, ◌∙◌, sym, ap, true, take, drop, arith}
 use Rattle.std.specs.Str.{all_ascii_digits}
-use Rattle.decimal_unsigned.proofs.GrammarParts.{count_group}
+use Rattle.decimal_unsigned.proofs.lemmas.parse.GrammarParts.{count_group}
 use Rattle.decimal_unsigned.proofs.decimal.parse.parts.grouped_digit_count.Goals as goal
 
 pub loop-count-preserved : goal.loop-count-preserved

@@ -1,6 +1,6 @@
 use Rattle.std.proofs.Common.{◌≡◌, sym, ◌∙◌, refl, get_or, true, arith}
 use Rattle.std.specs.Char.{is_ascii_digit}
-use Rattle.decimal_unsigned.proofs.GrammarParts.{numeral_more, digits_step}
+use Rattle.decimal_unsigned.proofs.lemmas.parse.GrammarParts.{numeral_more, digits_step}
 use Rattle.decimal_unsigned.proofs.decimal.parse.parts.numeral.Goals as goal
 
 pub loop-byte-preserved : goal.loop-byte-preserved

@@ -1,5 +1,5 @@
 use Rattle.std.proofs.Common.{◌≡◌, ◌∙◌, option_map}
-use Rattle.decimal_unsigned.proofs.Plans.{digits_found, exponent_found}
+use Rattle.decimal_unsigned.proofs.lemmas.parse.Plans.{digits_found}
 use Rattle.decimal_unsigned.specs.{Parts.{views, saturated_parts}, Reading.{after_whole, parts_of}}
 use Rattle.decimal_unsigned.proofs.decimal.parse.parts.split.Goals as goal
 
@@ -13,6 +13,3 @@ found c =
 
 pub returns-clause-digits : goal.returns-clause-digits
 returns-clause-digits c = digits_found c.args.text.now c.after_whole.result (found c)
-
-pub returns-clause-exponent : goal.returns-clause-exponent
-returns-clause-exponent c = exponent_found c.args.text.now c.after_whole.result (found c)

@@ -1,6 +1,6 @@
 use Rattle.std.proofs.Common.{◌≡◌, ℕ, ◌<◌, ◌≤◌, ◌+◌, ◌-◌, ◌∙◌, length, to_z, of_z, refl, arith, inl, inr, ℤ, pos, negsuc, ◌+ℤ◌, ◌-ℤ◌, ◌≤ℤ◌, w32}
 use Rattle.std.proofs.lemmas.Int.{ints}
-use Rattle.decimal_unsigned.proofs.{Plans.{length_digits, limit_scaled, makes_scaled}, Values.{narrow_kept, wide_kept}, decimal.parse.plan.plan_with_exponent.Goals.{After-subtract_counts-4, then-hi-gt32767-via-then-hi-gt32767, then-hi-gt32767-via-else-hi-gt32767+then-lo-ltminus32768}}
+use Rattle.decimal_unsigned.proofs.{lemmas.{decimal.Values.{narrow_kept, wide_kept}, parse.Plans.{length_digits, limit_scaled, makes_scaled}}, decimal.parse.plan.plan_with_exponent.Goals.{After-subtract_counts-4, then-hi-gt32767-via-then-hi-gt32767, then-hi-gt32767-via-else-hi-gt32767+then-lo-ltminus32768}}
 use Rattle.decimal_unsigned.specs.Parts.{view}
 use lib.Signed.{mag}
 use Rattle.decimal_unsigned.proofs.decimal.parse.plan.plan_with_exponent.Goals as goal

@@ -1,4 +1,4 @@
-use Rattle.decimal_unsigned.proofs.PlainTexts.{flags_clear}
+use Rattle.decimal_unsigned.proofs.lemmas.parse.PlainTexts.{flags_clear}
 use Rattle.decimal_unsigned.proofs.decimal.parse.words.flag_bytes.Goals as goal
 
 pub returns : goal.returns

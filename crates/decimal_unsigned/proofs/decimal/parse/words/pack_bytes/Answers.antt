@@ -1,4 +1,4 @@
-use Rattle.decimal_unsigned.proofs.PlainTexts.{packed_digits}
+use Rattle.decimal_unsigned.proofs.lemmas.parse.PlainTexts.{packed_digits}
 use Rattle.decimal_unsigned.proofs.decimal.parse.words.pack_bytes.Goals as goal
 
 pub returns : goal.returns

@@ -1,5 +1,5 @@
 use Rattle.std.proofs.Common.{refl}
-use Rattle.decimal_unsigned.proofs.PlainTexts.{group_found, group_number}
+use Rattle.decimal_unsigned.proofs.lemmas.parse.PlainTexts.{group_found, group_number}
 use Rattle.decimal_unsigned.proofs.decimal.parse.words.read_group.Goals as goal
 
 pub returns-then-flag_bytes-eq0-clause-digits : goal.returns-then-flag_bytes-eq0-clause-digits

@@ -1,7 +1,7 @@
 use Rattle.std.proofs.Common.{inr, arith}
 use Rattle.std.proofs.lemmas.List.{length-take}
-use Rattle.decimal_digits.proofs.{Results.on_err, Sinks.{fresh_more, fresh_some, fresh_keeps, fresh_ends}}
-use Rattle.decimal_unsigned.proofs.{Lengths.text_some, Pieces.{block_of, zeros_first}, Writing.{wrote_more, wrote_part}}
+use Rattle.decimal_digits.proofs.lemmas.{rounding.Results.on_err, sink.Sinks.{fresh_more, fresh_some}}
+use Rattle.decimal_unsigned.proofs.lemmas.text.{Lengths.text_some, Pieces.{block_of, zeros_first}, Writing.{wrote_more, wrote_part}}
 use Rattle.decimal_unsigned.specs.Text.{text}
 use Rattle.decimal_unsigned.proofs.decimal.text.UnsignedOverWriteable.write_to.Goals as goal
 
@@ -31,23 +31,9 @@ returns-in_err-put_bytes-clause-err g c =
     (omega (arith, few, c.min.ensures, c.writeable_length_hint-length.ensures.length)) c.copy_text.ensures
     c.loop-written.invariant.appended c.in_err-put_bytes.ensures.prefix)
 
-pub returns-in_err-put_bytes-clause-unchanged : goal.returns-in_err-put_bytes-clause-unchanged
-returns-in_err-put_bytes-clause-unchanged g c =
-    fresh_keeps g.W.Sink.has_failed g.W.Sink.contents _ _ _ _ c.loop-written.invariant.fresh
-    c.in_err-put_bytes.ensures.unchanged
-
 pub returns-clause-had_not_failed : goal.returns-clause-had_not_failed
 returns-clause-had_not_failed g c =
     fresh_some g.W.Sink.has_failed _ _ _ c.loop-written.invariant.fresh
-    (omega (
-      arith,
-      text_some c.args.self.now c.writeable_length_hint-length.ensures.valid,
-      c.writeable_length_hint-length.ensures.length,
-    ))
-
-pub returns-clause-unchanged : goal.returns-clause-unchanged
-returns-clause-unchanged g c =
-    fresh_ends g.W.Sink.has_failed g.W.Sink.contents _ _ _ c.loop-written.invariant.fresh
     (omega (
       arith,
       text_some c.args.self.now c.writeable_length_hint-length.ensures.valid,

@@ -1,6 +1,6 @@
 use Rattle.std.proofs.Common.{◌-◌, ◌≤◌, take}
 use Rattle.std.specs.Io.KnownBytes.{Appends}
-use Rattle.decimal_digits.proofs.Sinks.{IsFresh}
+use Rattle.decimal_digits.proofs.lemmas.sink.Sinks.{IsFresh}
 use Rattle.decimal_unsigned.specs.Text.{text}
 use Rattle.decimal_unsigned.proofs.decimal.text.UnsignedOverWriteable.write_to.Given as goal
 

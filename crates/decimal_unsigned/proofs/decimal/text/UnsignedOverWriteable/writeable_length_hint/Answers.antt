@@ -1,6 +1,6 @@
 use Rattle.std.proofs.Common.{◌+◌, sym, ◌∙◌, ap, arith}
 use Rattle.std.proofs.lemmas.Int.{ints}
-use Rattle.decimal_unsigned.proofs.{Lengths.{length-text_whole, length-text_dotted, text_short}, Values.counted}
+use Rattle.decimal_unsigned.proofs.lemmas.{decimal.Values.counted, text.Lengths.{length-text_whole, length-text_dotted, text_short}}
 use Rattle.decimal_unsigned.proofs.decimal.text.UnsignedOverWriteable.writeable_length_hint.Goals as goal
 
 pub returns-then-lo-lt0 : goal.returns-then-lo-lt0

@@ -1,5 +1,5 @@
 use Rattle.std.proofs.Common.{◌≡◌, ap, rules, IsTrue, ◌↔◌}
-use Rattle.fixed_decimal.proofs.DecimalTexts.{decimal_text_same}
+use Rattle.fixed_decimal.proofs.lemmas.signed_decimal.DecimalTexts.{decimal_text_same}
 use Rattle.fixed_decimal.specs.DecimalText.{decimal_text}
 use Rattle.fixed_decimal.proofs.signed_decimal.equality.Signed+UnsignedOver+D.has_same_text.Goals as goal
 

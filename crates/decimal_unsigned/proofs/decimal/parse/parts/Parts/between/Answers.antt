@@ -1,4 +1,4 @@
-use Rattle.decimal_unsigned.proofs.{GrammarParts.{digits_within, digits_left, digits_right}, Middle.middle_written}
+use Rattle.decimal_unsigned.proofs.lemmas.parse.{GrammarParts.{digits_within, digits_left, digits_right}, Middle.middle_written}
 use Rattle.decimal_unsigned.proofs.decimal.parse.parts.Parts.between.Goals as goal
 
 pub returns-clause-whole : goal.returns-clause-whole

@@ -1,7 +1,7 @@
 use Rattle.std.proofs.Common.{◌++◌, arith}
 use Rattle.std.proofs.lemmas.List.{length-map}
 use Rattle.std.specs.Char.{digit_value}
-use Rattle.decimal_unsigned.proofs.GrammarParts.{writes_at}
+use Rattle.decimal_unsigned.proofs.lemmas.parse.GrammarParts.{writes_at}
 use Rattle.decimal_unsigned.proofs.decimal.parse.parts.Parts.digit.Goals as goal
 
 pub overflow_sub-result : goal.overflow_sub-result

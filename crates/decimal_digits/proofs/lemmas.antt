@@ -1,0 +1,4 @@
+pub mod digits
+pub mod rounding
+pub mod ops
+pub mod sink

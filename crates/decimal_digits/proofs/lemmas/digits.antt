@@ -1,0 +1,10 @@
+pub mod Rules
+pub mod DigitLists
+pub mod DigitTexts
+pub mod Counters
+pub mod Nibbles
+pub mod Packing
+pub mod Words
+pub mod Overlaps
+pub mod LeadingBytes
+pub mod TrailingNibbles

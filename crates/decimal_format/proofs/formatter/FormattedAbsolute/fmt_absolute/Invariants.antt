@@ -1,9 +1,0 @@
-use Rattle.std.specs.Fmt.{IsFlush, HasWrittenStyled}
-use Rattle.decimal_format.proofs.Magnitudes.{first_magnitudes}
-use Rattle.decimal_format.proofs.formatter.FormattedAbsolute.fmt_absolute.Given as goal
-
-abbrev pub invariant-loop-below : goal.invariant-loop-below
-invariant-loop-below g l =
-    IsFlush l.initial.f
-    → HasWrittenStyled g.W.Write.write_str_gives l.initial.f
-    (first_magnitudes l.self.symbols l.self.strategy l.self.value l.below) l.f

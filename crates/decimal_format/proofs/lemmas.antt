@@ -1,0 +1,3 @@
+pub mod symbols
+pub mod formatter
+pub mod reader

@@ -1,0 +1,9 @@
+pub mod Codes
+pub mod NormalForms
+pub mod Scans
+pub mod DigitTexts
+pub mod NumeralTexts
+pub mod NumeralLaws
+pub mod Around
+pub mod Bcd
+pub mod Values

@@ -1,0 +1,4 @@
+pub mod AsciiDigits
+pub mod Apart
+pub mod Rules
+pub mod Separators

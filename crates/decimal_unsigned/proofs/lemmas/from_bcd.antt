@@ -1,0 +1,3 @@
+pub mod BcdNumber
+pub mod Integers
+pub mod WholeNumbers

@@ -1,0 +1,5 @@
+pub mod ShownDigits
+pub mod Pieces
+pub mod Lengths
+pub mod Writing
+pub mod ReadBack

@@ -1,0 +1,3 @@
+pub mod signed_decimal
+pub mod integer
+pub mod runs

@@ -1,0 +1,4 @@
+pub mod IntegerTexts
+pub mod ScientificTexts
+pub mod CompactTexts
+pub mod Splitting

@@ -1,0 +1,2 @@
+pub mod RunInvariant
+pub mod RunLaws

@@ -1,0 +1,5 @@
+pub mod DecimalTexts
+pub mod DecimalBytes
+pub mod SignedRoundings
+pub mod SignedNaming
+pub mod Writing
