@@ -203,7 +203,7 @@ def check_counts():
         lines = sum(read(document).count("\n") for document in documents)
         check(lines <= most, f"{' and '.join(documents)}: {lines} lines, and at most {most} are allowed")
     words = sum(len(read(document).split()) for document in [*DOCUMENTS, "bench/README.md", "diff/README.md"])
-    check(words <= 13_500, f"the documents have {words:,} words, and at most 13,500 are allowed")
+    check(words <= 13_000, f"the documents have {words:,} words, and at most 13,000 are allowed")
 
 
 def check_modules():

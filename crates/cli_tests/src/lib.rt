@@ -1,12 +1,7 @@
-//! The tests of `fixdec_lines`, of `plural` and of error lines: inputs, with their output and the errors that are
-//! reported.
+//! The tests of `fixdec`, and of the longest lines of errors; `cli_vectors` has the rows of all programs.
 //!
 //! A separate crate, so that `cli` is not proved a second time with them.
 #![tactic(auto)]
 
 #[cfg(test)]
-mod errors;
-#[cfg(test)]
-mod fixdec_lines;
-#[cfg(test)]
-mod plural;
+mod tests;

@@ -15,7 +15,7 @@ use locale_data::{PluralRuleType, PluralRulesError, locale, plural_rules_of};
 use plural_rules::PluralOperands;
 use std::alloc::Global;
 use std::process::ExitCode;
-use test_support::{check_rows, fails_without_room, has_text, is_outcome};
+use test_support::{check_rows, fails_without_room, has_text, is_outcome, named};
 
 const STRATEGIES: &[(&str, GroupingStrategy)] = &[
     ("auto", GroupingStrategy::Auto),
@@ -23,16 +23,6 @@ const STRATEGIES: &[(&str, GroupingStrategy)] = &[
     ("always", GroupingStrategy::Always),
     ("min2", GroupingStrategy::Min2),
 ];
-
-/// Returns the strategy with a name.
-fn strategy(word: &str) -> Option<GroupingStrategy> {
-    for (name, strategy) in STRATEGIES {
-        if *name == word {
-            return Some(*strategy);
-        }
-    }
-    None
-}
 
 /// Whether a formatter writes a number as this text, and fails with each sink without room.
 fn writes(formatter: &DecimalFormatter<'_>, value: &Decimal, text: &str) -> bool {
@@ -103,7 +93,7 @@ fn holds_in(
     match word {
         "read" => Some(is_outcome::<Decimal>(symbols.read(alloc, number.as_bytes()), text)),
         "lenient" => Some(is_outcome::<Decimal>(symbols.read_lenient(alloc, number), text)),
-        _ => Some(formats(alloc, symbols, strategy(word)?, number, text)),
+        _ => Some(formats(alloc, symbols, named(STRATEGIES, word)?, number, text)),
     }
 }
 

@@ -26,6 +26,6 @@ pub use joins::{Join, Joined, Joins};
 pub use limited_sink::{LimitedSink, displays, fails_without_room, shows};
 pub use limited_store::{CountingStore, LimitedStore};
 pub use rounds::{RoundedResult, Rounding, RoundingMethod, Rounds, rounded, rounding_methods};
-pub use rows::check_rows;
+pub use rows::{check_rows, named};
 pub use runs::expand_runs;
 pub use value::{Value, has_text, is_outcome, parse_outcome};

@@ -1,7 +1,17 @@
-//! Tables of rows on standard input.
+//! Tables of rows on standard input, and of words.
 use std::alloc::Global;
 use std::io;
 use std::process::ExitCode;
+
+/// Returns the value of a word in a table.
+pub fn named<T: Copy>(table: &[(&str, T)], word: &str) -> Option<T> {
+    for (name, value) in table {
+        if *name == word {
+            return Some(*value);
+        }
+    }
+    None
+}
 
 /// Returns whether a line is a row: it is not blank, and if it starts with `#` it has a tab.
 fn is_row(line: &str) -> bool {

@@ -6,16 +6,7 @@ use fixed_decimal::SignedRoundingMode::{self, Ceil, Floor, HalfCeil, HalfFloor, 
 use fixed_decimal::UnsignedRoundingMode::{Expand, HalfEven, HalfExpand, HalfTrunc, Trunc};
 use fixed_decimal::{Call, Sign, SignDisplay};
 use std::alloc::Global;
-
-/// Returns the value of a word in a table.
-pub fn named<T: Copy>(table: &[(&str, T)], word: &str) -> Option<T> {
-    for (name, value) in table {
-        if *name == word {
-            return Some(*value);
-        }
-    }
-    None
-}
+use test_support::named;
 
 /// The modes, in the order of the results of a row by each mode.
 pub const MODES: &[(&str, SignedRoundingMode)] = &[

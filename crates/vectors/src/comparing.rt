@@ -1,5 +1,4 @@
 //! The order of two values, and which are equal.
-use crate::calls::named;
 use crate::edited::{Edited, has_sign};
 use crate::rows::Kind;
 use fixed_decimal::{
@@ -8,7 +7,7 @@ use fixed_decimal::{
 };
 use std::alloc::Global;
 use std::cmp::Ordering;
-use test_support::{RoundingMethod, Value};
+use test_support::{RoundingMethod, Value, named};
 
 /// The order of the values without a sign of two texts.
 fn unsigned_order<D: DigitStore, E: DigitStore>(

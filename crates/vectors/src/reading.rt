@@ -1,5 +1,5 @@
 //! The parser of each kind of value, and the parts of the values.
-use crate::calls::{SIGNS, named};
+use crate::calls::SIGNS;
 use crate::rows::Kind;
 use decimal_unsigned::decimal::lowest_of;
 use fixed_decimal::{
@@ -9,7 +9,7 @@ use fixed_decimal::{
 use std::alloc::Global;
 use std::convert::TryFrom;
 use std::fmt::Display;
-use test_support::{Value, displays, has_text, parse_outcome};
+use test_support::{Value, displays, has_text, named, parse_outcome};
 
 /// Whether a value has a text, also for `{}`.
 fn is_shown<T: Value + Display>(value: &T, text: &str) -> bool {

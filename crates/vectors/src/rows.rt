@@ -1,8 +1,7 @@
 //! Rows by their kinds.
-use crate::calls::named;
 use crate::{comparing, digits, edited, plural, reading, runs};
 use std::alloc::{AllocError, Global};
-use test_support::expand_runs;
+use test_support::{expand_runs, named};
 
 /// The kind of a row.
 #[derive(Clone, Copy)]

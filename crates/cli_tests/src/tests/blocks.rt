@@ -67,21 +67,3 @@ fn writes_blocks(rt: HostRuntime) -> Result<(), Fail> {
     }
     Ok(())
 }
-
-/// Returns the number of calls of the writer of standard error for a line.
-fn writes_of_a_line(alloc: Global, line: &str) -> Result<usize, Fail> {
-    let mut err = writer(64, StorageFull);
-    let arguments = words(alloc, line)?.into_iter();
-    let (_, _) = run_arguments(alloc, Ok(arguments), io::sink(), &mut err);
-    Ok(err.writes())
-}
-
-#[test]
-fn reports_a_line_in_one_write(rt: HostRuntime) -> Result<(), Fail> {
-    let alloc = rt.alloc();
-    for line in ["fixdec 5.", "fixdec", "fixdec 5 concat:x"] {
-        assert_eq!(rt; writes_of_a_line(alloc, line)?, 1);
-    }
-    assert_eq!(rt; writes_of_a_line(alloc, "fixdec 5")?, 0);
-    Ok(())
-}

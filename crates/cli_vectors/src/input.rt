@@ -1,0 +1,45 @@
+//! Standard input in pieces.
+use crate::row::Fault;
+use std::io;
+use std::io::Read;
+
+/// A reader of a text, with at most `most` bytes a read, which may fail after the text.
+#[derive(Drop)]
+pub struct ChunkReader<'a> {
+    text: &'a [u8],
+    most: usize,
+    fault: Fault,
+    is_read: bool,
+}
+
+impl<'a> ChunkReader<'a> {
+    pub fn new(text: &'a [u8], most: usize, fault: Fault) -> Self {
+        ChunkReader {
+            text,
+            most,
+            fault,
+            is_read: false,
+        }
+    }
+
+    /// Whether the reader was called.
+    pub fn is_read(&self) -> bool {
+        self.is_read
+    }
+}
+
+impl Read for ChunkReader<'_> {
+    fn read(&mut self, buf: &mut [u8]) -> io::Result<usize> {
+        self.is_read = true;
+        if let Fault::Read(kind) = self.fault
+            && self.text.is_empty()
+        {
+            return Err(io::Error::from(kind));
+        }
+        let count = self.most.min(buf.len()).min(self.text.len());
+        let (taken, rest) = self.text.split_at(count);
+        buf[..count].copy_from_slice(taken);
+        self.text = rest;
+        Ok(count)
+    }
+}

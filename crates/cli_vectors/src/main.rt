@@ -1,0 +1,91 @@
+//! Checks what the programs write, and their statuses.
+//!
+//! Each line of standard input is a row of six fields with tabs between them; empty last ones may be left out:
+//!
+//! 1. `fixdec`, `lines` (`fixdec_lines`) or `plural`, and after a blank perhaps what fails: `read` (each read after the
+//!    input), `memory` (the same, out of memory), `flush` (of a closed pipe), `no-words` (out of memory) or `not-utf8`.
+//! 2. The words, with bars between them.
+//! 3. Standard input.
+//! 4. The status.
+//! 5. and 6. Standard output and standard error. A bar ends the bytes for which there is room.
+//!
+//! `\n`, `\r`, `\t` and `\xff` are bytes. A row is checked with several sizes of reads and writes, and several failures
+//! of a writer without room. Blank lines, and lines that start with `#` and have no tab, are not rows. Each row that
+//! fails is printed with its line number; the last line counts the rows.
+#![tactic(auto)]
+
+mod input;
+mod row;
+
+use cli::{ErrorLines, LineReader, Program, fixdec, fixdec_lines, plural};
+use fixed_decimal::Closed;
+use input::ChunkReader;
+use row::{Fault, Row};
+use std::alloc::Global;
+use std::env::Args;
+use std::io;
+use std::process::ExitCode;
+use test_support::{FailingWriter, WriteFailure, check_rows};
+
+/// The most bytes of a read and of a write, and how a writer without room fails.
+type Chunking = (usize, usize, WriteFailure);
+
+const CHUNKINGS: &[Chunking] = &[
+    (1, usize::MAX, WriteFailure::StorageFull),
+    (2, 1, WriteFailure::Zero),
+    (5, 1, WriteFailure::StorageFull),
+    (100, usize::MAX, WriteFailure::Zero),
+];
+
+const CLOSED_PIPE: &[Chunking] = &[(100, 1, WriteFailure::Flush)];
+
+/// Runs `fixdec_lines` on arguments and an input.
+fn run_lines<'a>(
+    alloc: Global,
+    arguments: io::Result<Args>,
+    input: &mut ChunkReader<'_>,
+    out: FailingWriter<'a>,
+    err: &mut FailingWriter<'_>,
+) -> Option<(u8, Option<Closed<FailingWriter<'a>>>)> {
+    let mut reader = LineReader::open(alloc, input).ok()?;
+    let mut lines = ErrorLines::new(err);
+    Some(fixdec_lines::run_arguments(alloc, arguments, &mut reader, out, &mut lines))
+}
+
+/// Whether a row holds. With status 2 the input is not read. Errors are one write a line, where a write takes a line.
+fn holds_by(alloc: Global, row: &Row<'_>, (most, width, failure): Chunking) -> Option<bool> {
+    let arguments = row.arguments(alloc)?;
+    let mut input = ChunkReader::new(row.input.as_slice(), most, row.fault);
+    let out = row.output.writer(failure).with_width(width);
+    let mut err = row.errors.writer(failure).with_width(width);
+    let (status, back) = match row.program {
+        Program::Fixdec => fixdec::run_arguments(alloc, arguments, out, &mut err),
+        Program::FixdecLines => run_lines(alloc, arguments, &mut input, out, &mut err)?,
+        Program::Plural => {
+            plural::run_arguments(alloc, arguments, out, &mut ErrorLines::new(&mut err))
+        }
+    };
+    let is_whole = width == 1 || row.errors.is_in_lines(&err);
+    let is_unread = status != 2 || !input.is_read();
+    let is_written = back.is_some_and(|closed| row.output.is_in(&closed.into_writer()));
+    Some(status == row.status && is_written && row.errors.is_in(&err) && is_whole && is_unread)
+}
+
+/// Whether a row holds with each size of reads and writes.
+fn holds(alloc: Global, line: &str) -> Option<bool> {
+    let row = Row::parse(alloc, line)?;
+    let chunkings = match row.fault {
+        Fault::Flush => CLOSED_PIPE,
+        _ => CHUNKINGS,
+    };
+    for chunking in chunkings {
+        if holds_by(alloc, &row, *chunking) != Some(true) {
+            return Some(false);
+        }
+    }
+    Some(true)
+}
+
+fn main(rt: HostRuntime) -> ExitCode {
+    check_rows(&rt, |alloc, row| holds(alloc, row))
+}

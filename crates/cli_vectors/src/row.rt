@@ -1,0 +1,152 @@
+//! A row: a program, its words and input, and what it writes.
+use cli::Program;
+use std::alloc::Global;
+use std::env::Args;
+use std::io;
+use std::io::ErrorKind;
+use test_support::{FailingWriter, WriteFailure, named};
+
+/// What fails.
+#[derive(Clone, Copy)]
+pub enum Fault {
+    Nothing,
+    /// Each read after the input.
+    Read(ErrorKind),
+    /// The flush of standard output.
+    Flush,
+    /// Reading the arguments.
+    Words(ErrorKind),
+}
+
+const FAULTS: &[(&str, Fault)] = &[
+    ("", Fault::Nothing),
+    ("read", Fault::Read(ErrorKind::BrokenPipe)),
+    ("memory", Fault::Read(ErrorKind::OutOfMemory)),
+    ("flush", Fault::Flush),
+    ("no-words", Fault::Words(ErrorKind::OutOfMemory)),
+    ("not-utf8", Fault::Words(ErrorKind::InvalidData)),
+];
+
+const PROGRAMS: &[(&str, Program)] = &[
+    ("fixdec", Program::Fixdec),
+    ("lines", Program::FixdecLines),
+    ("plural", Program::Plural),
+];
+
+/// Splits the byte of an escape from what follows it.
+fn escaped_byte(part: &str) -> Option<(u8, &str)> {
+    match part.split_at_checked(1)? {
+        ("n", rest) => Some((b'\n', rest)),
+        ("r", rest) => Some((b'\r', rest)),
+        ("t", rest) => Some((b'\t', rest)),
+        ("x", rest) => {
+            let (digits, rest) = rest.split_at_checked(2)?;
+            Some((u8::from_str_radix(digits, 16).ok()?, rest))
+        }
+        _ => None,
+    }
+}
+
+/// Returns the bytes of a text with escapes.
+fn unescaped(alloc: Global, text: &str) -> Option<Vec<u8>> {
+    let mut bytes = Vec::new(alloc);
+    for (index, part) in text.split('\\').enumerate() {
+        let mut rest = part;
+        if index > 0 {
+            let (byte, after) = escaped_byte(part)?;
+            bytes.push(byte).ok()?;
+            rest = after;
+        }
+        bytes.extend_from_slice(rest.as_bytes()).ok()?;
+    }
+    Some(bytes)
+}
+
+/// A text that is expected, and the number of its bytes for which there is room.
+#[derive(Drop)]
+pub struct Expected {
+    text: Vec<u8>,
+    room: usize,
+}
+
+impl Expected {
+    /// Parses a field.
+    fn parse(alloc: Global, field: &str) -> Option<Self> {
+        let Some((taken, rest)) = field.split_once('|') else {
+            return Some(Expected {
+                text: unescaped(alloc, field)?,
+                room: usize::MAX,
+            });
+        };
+        let mut text = unescaped(alloc, taken)?;
+        let room = text.len();
+        text.extend_from_slice(unescaped(alloc, rest)?.as_slice())
+            .ok()?;
+        Some(Expected { text, room })
+    }
+
+    /// Makes a writer that expects the text.
+    pub fn writer(&self, failure: WriteFailure) -> FailingWriter<'_> {
+        FailingWriter::new(self.text.as_slice(), self.room, failure)
+    }
+
+    /// Whether a writer took the text, as far as there is room.
+    pub fn is_in(&self, writer: &FailingWriter<'_>) -> bool {
+        writer.has_taken(self.room.min(self.text.len()))
+    }
+
+    /// Whether a writer took each line in one write, if there is room for all.
+    pub fn is_in_lines(&self, writer: &FailingWriter<'_>) -> bool {
+        let lines = self.text.iter().filter(|byte| **byte == b'\n').count();
+        self.room < self.text.len() || writer.writes() == lines
+    }
+}
+
+/// A program, its words and input, and what it writes.
+#[derive(Drop)]
+pub struct Row<'a> {
+    pub program: Program,
+    pub fault: Fault,
+    words: &'a str,
+    pub input: Vec<u8>,
+    pub status: u8,
+    pub output: Expected,
+    pub errors: Expected,
+}
+
+impl<'a> Row<'a> {
+    /// Parses a line.
+    pub fn parse(alloc: Global, line: &'a str) -> Option<Self> {
+        let (program, line) = line.split_once('\t')?;
+        let (words, line) = line.split_once('\t')?;
+        let (text, line) = line.split_once('\t')?;
+        let (status, line) = line.split_once('\t').unwrap_or((line, ""));
+        let (output, errors) = line.split_once('\t').unwrap_or((line, ""));
+        let (program, fault) = program.split_once(' ').unwrap_or((program, ""));
+        Some(Row {
+            program: named(PROGRAMS, program)?,
+            fault: named(FAULTS, fault)?,
+            words,
+            input: unescaped(alloc, text)?,
+            status: status.parse().ok()?,
+            output: Expected::parse(alloc, output)?,
+            errors: Expected::parse(alloc, errors)?,
+        })
+    }
+
+    /// Returns the arguments: the name of the program, and the words.
+    pub fn arguments(&self, alloc: Global) -> Option<io::Result<Args>> {
+        if let Fault::Words(kind) = self.fault {
+            return Some(Err(io::Error::from(kind)));
+        }
+        let mut words = Vec::new(alloc);
+        words.push(String::from_str(alloc, "program").ok()?).ok()?;
+        if !self.words.is_empty() {
+            for word in self.words.split('|') {
+                let bytes = unescaped(alloc, word)?;
+                words.push(String::from_utf8(bytes).ok()?).ok()?;
+            }
+        }
+        Some(Ok(words.into_iter()))
+    }
+}
