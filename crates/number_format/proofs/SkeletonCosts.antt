@@ -1,6 +1,6 @@
 -- The least number of bytes of the stems that give the choices of a skeleton, each with the white space after it.
 use Rattle.std.proofs.Common.{◌≡◌, ℕ, ◌+◌, ◌≤◌, max, Bool, true, false, refl, ap, arith, List, length, take}
-use Rattle.std.specs.Prelude.{◌==◌, nat_lt, ◌&&◌, ◌||◌, if◌then◌else◌, is_some, unwrap_or, ℤ, pos, codes, Option, Some, None, Result, Ok, Err}
+use Rattle.std.specs.Prelude.{◌==◌, nat_lt, ◌&&◌, if◌then◌else◌, is_some, unwrap_or, ℤ, pos, codes, Option, Some, None, Result, Ok, Err}
 use Rattle.std.specs.Char.{to_ascii_uppercase}
 use Rattle.std.specs.List.{list_all}
 use Rattle.std.specs.Ordering.{int_eq}
@@ -13,11 +13,11 @@ use Rattle.fixed_decimal.specs.declared.variations.SignDisplay.{SignDisplay}
 use Rattle.fixed_decimal.specs.declared.variations.SignDisplay.TheVariants as display
 use Rattle.locale_data.specs.declared.currency.CurrencySign.{CurrencySign}
 use Rattle.locale_data.specs.declared.currency.CurrencySign.TheVariants as currency_sign
-use Rattle.number_format.specs.declared.number_options.CompactLength.TheVariants.{Short, Long}
 use Rattle.number_format.specs.declared.number_options.CurrencyDisplay.{CurrencyDisplay}
 use Rattle.number_format.specs.declared.number_options.CurrencyUsage.TheVariants as usage
 use Rattle.number_format.specs.declared.number_options.ExponentSign.{ExponentSign}
 use Rattle.number_format.specs.declared.number_options.ExponentSign.TheVariants as sign
+use Rattle.number_format.specs.declared.number_options.NumberNotation.TheVariants.{Compact}
 use Rattle.number_format.specs.declared.precision.Minimum.{Minimum}
 use Rattle.number_format.specs.declared.precision.Minimum.TheVariants.{Chosen, Both}
 use Rattle.number_format.specs.declared.settings.RoundingPriority.{RoundingPriority}
@@ -41,11 +41,16 @@ use Rattle.number_format.specs.declared.skeleton.stems.Expected.TheVariants as e
 use Rattle.number_format.specs.SkeletonChoices.{no_choices, has, with}
 use Rattle.number_format.specs.SkeletonCounts.{run}
 use Rattle.number_format.specs.SkeletonDigits.{increment_of_decimal}
-use Rattle.number_format.specs.SkeletonLengths.{exponent_length, scale_length, width_length, increment_length, priority_length, mode_length, sign_length, system_length}
 use Rattle.number_format.specs.SkeletonMeaning.{scale_power}
 use Rattle.number_format.specs.SkeletonOptions.{is_code_byte, decimal_system}
 use Rattle.number_format.specs.SkeletonStems.{is_name}
+use Rattle.number_format.specs.SkeletonTexts.{notation_text, width_text, scale_text, increment_text, mode_text, sign_text, system_text}
 use Rattle.number_format.proofs.SkeletonStemReads.{are_plain}
+use Rattle.number_format.proofs.TestLaws.{none_is, or_left}
+
+-- a choice with its stem, if there is one
+abbrev pub Of : Type 0 → Type 0
+Of A = Option (A × Span)
 
 -- ---- The least lengths of the stems of the groups.
 abbrev pub range_cost : ℕ → Option ℕ → ℕ
@@ -68,21 +73,25 @@ short_word engineering = if engineering then 2 else 1
 abbrev pub long_word : Bool → ℕ
 long_word engineering = if engineering then 11 else 10
 
-abbrev pub notation_cost : Option (ChosenNotation × Span) → ℕ
-notation_cost None = 0
-notation_cost (Some (notation.Simple, stem)) = 0
-notation_cost (Some (notation.Compact Short, stem)) = 2
-notation_cost (Some (notation.Compact Long, stem)) = 3
+-- `scientific/*ee/+_`, `E+!00` or `E00`, by the lengths of `E` and `scientific`
+abbrev pub exponent_length : ℕ → ℕ → ℕ → ExponentSign → ℕ
+exponent_length short long digits sign.Never = long + (if nat_lt 1 digits then digits + 2 else 0) + 4
+exponent_length short long digits sign.Always = short + digits + 3
+exponent_length short long digits sign.Auto = short + digits + 1
+
+abbrev pub notation_cost : Of ChosenNotation → ℕ
+notation_cost (Some (notation.Compact words, stem)) = length (notation_text (Compact words))
 notation_cost (Some (notation.Exponent e, stem)) =
     exponent_length (short_word e.is_engineering) (long_word e.is_engineering) e.digits e.sign
+notation_cost n = 0
 
-abbrev pub unit_cost : Option (ChosenUnit × Span) → ℕ
+abbrev pub unit_cost : Of ChosenUnit → ℕ
 unit_cost (Some (unit.Percent, stem)) = 2
 unit_cost (Some (unit.Permille, stem)) = 9
 unit_cost (Some (unit.Currency code, stem)) = 13
 unit_cost u = 0
 
-abbrev pub is_percent : Option (ChosenUnit × Span) → Bool
+abbrev pub is_percent : Of ChosenUnit → Bool
 is_percent (Some (unit.Percent, stem)) = true
 is_percent u = false
 
@@ -90,24 +99,24 @@ abbrev pub power_or_zero : Result ℤ SkeletonError → ℤ
 power_or_zero (Ok power) = power
 power_or_zero (Err e) = pos 0
 
-abbrev pub power_of : Option (SkeletonDecimal × Span) → ℤ
+abbrev pub power_of : Of SkeletonDecimal → ℤ
 power_of None = pos 0
 power_of (Some (d, stem)) = power_or_zero (scale_power d stem)
 
 -- `%x100` spares six bytes
-abbrev pub style_cost : Option (ChosenUnit × Span) → Option (SkeletonDecimal × Span) → ℕ
+abbrev pub style_cost : Of ChosenUnit → Of SkeletonDecimal → ℕ
 style_cost u scale =
-    if is_percent u && int_eq (power_of scale) (pos 2) then 6 else unit_cost u + scale_length (power_of scale)
+    if is_percent u && int_eq (power_of scale) (pos 2) then 6 else unit_cost u + length (scale_text (power_of scale))
 
 abbrev pub increment_cost : Result (ℕ × ℕ) SkeletonError → ℕ
-increment_cost (Ok m) = increment_length m.0 m.1
+increment_cost (Ok m) = length (increment_text m.0 m.1)
 increment_cost (Err e) = 0
 
 abbrev pub priority_cost : RoundingPriority → Minimum → ℕ
-priority_cost LessPrecision minimum = priority_length minimum
+priority_cost LessPrecision Both = 0
 priority_cost priority minimum = 1
 
-abbrev pub precision_cost : Option (ChosenPrecision × Span) → ℕ
+abbrev pub precision_cost : Of ChosenPrecision → ℕ
 precision_cost None = 0
 precision_cost (Some (precision.Unlimited, stem)) = 3
 precision_cost (Some (precision.Fraction c, stem)) = 2 + counts_cost c
@@ -121,15 +130,15 @@ precision_cost (Some (precision.Increment d, stem)) = 21 + increment_cost (incre
 abbrev pub strips_cost : Bool → ℕ
 strips_cost strips = if strips then 2 else 0
 
-abbrev pub mode_cost : Option (Option SignedRoundingMode × Span) → ℕ
-mode_cost (Some (Some mode, stem)) = mode_length mode
+abbrev pub mode_cost : Of (Option SignedRoundingMode) → ℕ
+mode_cost (Some (Some mode, stem)) = length (mode_text mode)
 mode_cost m = 0
 
 abbrev pub strategy_cost : GroupingStrategy → ℕ
 strategy_cost grouping.Auto = 11
 strategy_cost g = 3
 
-abbrev pub grouping_cost : Option (Option GroupingStrategy × Span) → ℕ
+abbrev pub grouping_cost : Of (Option GroupingStrategy) → ℕ
 grouping_cost (Some (Some g, stem)) = strategy_cost g
 grouping_cost g = 0
 
@@ -137,20 +146,20 @@ abbrev pub integer_range_cost : ℕ → Option ℕ → ℕ
 integer_range_cost min None = min + 1
 integer_range_cost min (Some max) = 15 + max
 
-abbrev pub integer_cost : Option (Counts × Span) → ℕ
+abbrev pub integer_cost : Of Counts → ℕ
 integer_cost (Some (c, stem)) = integer_range_cost c.min c.max
 integer_cost None = 0
 
-abbrev pub system_cost : Option (Option (List ℕ) × Span) → ℕ
-system_cost (Some (name, stem)) = system_length name
+abbrev pub system_cost : Of (Option (List ℕ)) → ℕ
+system_cost (Some (name, stem)) = length (system_text name)
 system_cost None = 0
 
-abbrev pub width_cost : Option (Option CurrencyDisplay × Span) → ℕ
-width_cost (Some (Some width, stem)) = width_length width
+abbrev pub width_cost : Of (Option CurrencyDisplay) → ℕ
+width_cost (Some (Some width, stem)) = length (width_text width)
 width_cost w = 0
 
 abbrev pub sign_cost : Option (SignDisplay × CurrencySign) → ℕ
-sign_cost (Some (shown, sign)) = sign_length sign shown
+sign_cost (Some (shown, sign)) = length (sign_text sign shown)
 sign_cost None = 0
 
 -- all groups
@@ -183,37 +192,20 @@ open_cost c (expected.Significant f) = max (cost c) (cost (record c { precision 
 open_cost c expected.StripIfInteger = cost c
 
 -- ---- One stem more.
-pub none_is : {A : Type 0} (x : Option A) → is_some x ≡ false → x ≡ None
-none_is None e = refl
-none_is (Some x) e = absurd (cc)
-
-pub or_left : (a b : Bool) → (a || b) ≡ false → a ≡ false
-or_left true b e = e
-or_left false b e = refl
-
-pub or_right : (a b : Bool) → (a || b) ≡ false → b ≡ false
-or_right true b e = absurd (cc)
-or_right false b e = e
-
-scale_hundred : (power : ℤ) → int_eq power (pos 2) ≡ true → scale_length power ≡ 10
-scale_hundred power is = ap scale_length ((Decides-int_eq power (pos 2)).0 is)
-
-choose_at_most : (b : Bool) (n m : ℕ) → (b ≡ true → 6 ≤ m) → n ≤ m → (if b then 6 else n) ≤ m
-choose_at_most true n m some none = some refl
-choose_at_most false n m some none = none
+scale_hundred : (power : ℤ) → int_eq power (pos 2) ≡ true → length (scale_text power) ≡ 10
+scale_hundred power is = ap (λ p. length (scale_text p)) ((Decides-int_eq power (pos 2)).0 is)
 
 -- a unit and a scale are no longer than both
 pub style_at_most :
-    (u : Option (ChosenUnit × Span)) (scale : Option (SkeletonDecimal × Span))
-    → style_cost u scale ≤ unit_cost u + scale_length (power_of scale)
-style_at_most None scale = omega arith
-style_at_most (Some (unit.Base, stem)) scale = omega arith
-style_at_most (Some (unit.Percent, stem)) scale =
-    choose_at_most (int_eq (power_of scale) (pos 2)) _ _
-    (λ is. omega (arith, scale_hundred (power_of scale) is)) (omega arith)
-style_at_most (Some (unit.Permille, stem)) scale = omega arith
-style_at_most (Some (unit.Currency code, stem)) scale = omega arith
-style_at_most (Some (unit.Other, stem)) scale = omega arith
+    (u : Of ChosenUnit) (scale : Of SkeletonDecimal)
+    → style_cost u scale ≤ unit_cost u + length (scale_text (power_of scale))
+style_at_most (Some (unit.Percent, stem)) scale = by_test (int_eq (power_of scale) (pos 2)) refl where
+  by_test :
+      (b : Bool) → int_eq (power_of scale) (pos 2) ≡ b
+      → (if b then 6 else 2 + length (scale_text (power_of scale))) ≤ 2 + length (scale_text (power_of scale))
+  by_test true is = omega (arith, scale_hundred (power_of scale) is)
+  by_test false is = omega arith
+style_at_most u scale = omega arith
 
 -- a stem without options, or one with the options that its group has
 abbrev pub pairs : Choice → Expected → Bool
@@ -246,48 +238,23 @@ none_costs :
 none_costs c none = ap (λ u. style_cost u c.scale) (none_is c.unit none)
 
 unit_at_most :
-    (u : ChosenUnit) (s : Span) (scale : Option (SkeletonDecimal × Span))
+    (u : ChosenUnit) (s : Span) (scale : Of SkeletonDecimal)
     → style_cost (Some (u, s)) scale ≤ style_cost None scale + style_cost (Some (u, s)) None
-unit_at_most unit.Base s scale = omega arith
-unit_at_most unit.Percent s scale =
-    omega (arith, style_at_most (Some (unit.Percent, s)) scale)
-unit_at_most unit.Permille s scale = omega arith
-unit_at_most (unit.Currency code) s scale = omega arith
-unit_at_most unit.Other s scale = omega arith
+unit_at_most unit.Percent s scale = omega (arith, style_at_most (Some (unit.Percent, s)) scale)
+unit_at_most u s scale = omega arith
 
 -- a choice adds no more to others than it takes alone
 pub stem_at_most :
     (c : Choices) (s : Span) (ch : Choice) (e : Expected) → pairs ch e ≡ true → has c ch ≡ false
     → open_cost (with s ch c) e ≤ cost c + open_cost (with s ch no_choices) e
-stem_at_most c s (choice.Notation n) expected.Stem p h = omega (arith, ap notation_cost (none_is c.notation h))
-stem_at_most c s (choice.Notation n) (expected.Exponent e) p h =
-    omega (arith, ap notation_cost (none_is c.notation h))
-stem_at_most c s (choice.Unit u) expected.Stem p h = omega (arith, none_costs c h, unit_at_most u s c.scale)
 stem_at_most c s (choice.Unit u) expected.Currency p h = omega (arith, none_costs c h)
+stem_at_most c s (choice.Unit u) expected.Stem p h = omega (arith, none_costs c h, unit_at_most u s c.scale)
 stem_at_most c s (choice.Unit u) expected.Name p h = omega (arith, none_costs c h, unit_at_most u s c.scale)
-stem_at_most c s choice.PercentTimes100 expected.Stem p h = omega arith
 stem_at_most c s choice.UnitPerUnit expected.Name p h =
     omega (arith, none_costs c (or_left (is_some c.unit) (is_some c.per_unit) h))
-stem_at_most c s choice.PerUnit expected.Name p h = omega arith
-stem_at_most c s choice.Usage expected.Name p h = omega arith
-stem_at_most c s (choice.Precision q) expected.Increment p h =
-    omega (arith, ap precision_cost (none_is c.precision h))
-stem_at_most c s (choice.Precision q) (expected.Significant f) p h =
-    omega (arith, ap precision_cost (none_is c.precision h))
-stem_at_most c s (choice.Precision q) expected.StripIfInteger p h =
-    omega (arith, ap precision_cost (none_is c.precision h))
-stem_at_most c s (choice.Mode m) expected.Stem p h = omega arith
-stem_at_most c s (choice.Grouping g) expected.Stem p h = omega arith
-stem_at_most c s (choice.Integer i) expected.Stem p h = omega arith
-stem_at_most c s (choice.Integer i) expected.Integer p h = omega (arith, ap integer_cost (none_is c.integer h))
-stem_at_most c s (choice.System n) expected.Stem p h = omega arith
-stem_at_most c s (choice.System n) expected.System p h = omega (arith, ap system_cost (none_is c.system h))
-stem_at_most c s (choice.Width w) expected.Stem p h = omega arith
-stem_at_most c s (choice.Sign shown sign) expected.Stem p h = omega arith
-stem_at_most c s (choice.IsDecimalAlways always) expected.Stem p h = omega arith
-stem_at_most c s (choice.Scale d) expected.Scale p h =
-    omega (arith, ap (style_cost c.unit) (none_is c.scale h))
-stem_at_most c s ch e p h = absurd (cc)
+stem_at_most c s (choice.Scale d) expected.Scale p h = omega (arith, ap (style_cost c.unit) (none_is c.scale h))
+stem_at_most c s ch expected.Stem p h = first_of (cc, omega arith)
+stem_at_most c s ch e p h = first_of (cc, omega arith)
 
 -- ---- Choices that a text can make.
 abbrev pub is_capital : ℕ → Bool
@@ -322,11 +289,11 @@ is_fine (choice.Sign display.Never currency_sign.Accounting) = false
 is_fine (choice.System (Some name)) = is_system name
 is_fine c = true
 
-abbrev pub fine_unit : Option (ChosenUnit × Span) → Bool
+abbrev pub fine_unit : Of ChosenUnit → Bool
 fine_unit None = true
 fine_unit (Some (u, stem)) = is_fine (choice.Unit u)
 
-abbrev pub fine_precision : Option (ChosenPrecision × Span) → Bool
+abbrev pub fine_precision : Of ChosenPrecision → Bool
 fine_precision None = true
 fine_precision (Some (p, stem)) = is_fine (choice.Precision p)
 
@@ -334,7 +301,7 @@ abbrev pub fine_sign : Option (SignDisplay × CurrencySign) → Bool
 fine_sign None = true
 fine_sign (Some (shown, sign)) = is_fine (choice.Sign shown sign)
 
-abbrev pub fine_system : Option (Option (List ℕ) × Span) → Bool
+abbrev pub fine_system : Of (Option (List ℕ)) → Bool
 fine_system None = true
 fine_system (Some (name, stem)) = is_fine (choice.System name)
 
@@ -344,20 +311,10 @@ IsFine c =
     × (fine_system c.system ≡ true)
 
 pub fine_with : (c : Choices) (s : Span) (ch : Choice) → IsFine c → is_fine ch ≡ true → IsFine (with s ch c)
-fine_with c s choice.Nothing h f = h
-fine_with c s (choice.Notation n) h f = h
 fine_with c s (choice.Unit u) h f = (f, h.1, h.2, h.3)
 fine_with c s choice.PercentTimes100 h f = (refl, h.1, h.2, h.3)
 fine_with c s choice.UnitPerUnit h f = (refl, h.1, h.2, h.3)
-fine_with c s choice.PerUnit h f = h
-fine_with c s choice.Usage h f = h
 fine_with c s (choice.Precision q) h f = (h.0, f, h.2, h.3)
-fine_with c s choice.StripIfInteger h f = h
-fine_with c s (choice.Mode m) h f = h
-fine_with c s (choice.Grouping g) h f = h
-fine_with c s (choice.Integer i) h f = h
 fine_with c s (choice.System n) h f = (h.0, h.1, h.2, f)
-fine_with c s (choice.Width w) h f = h
 fine_with c s (choice.Sign shown sign) h f = (h.0, h.1, f, h.3)
-fine_with c s (choice.IsDecimalAlways always) h f = h
-fine_with c s (choice.Scale d) h f = h
+fine_with c s ch h f = h

@@ -1,6 +1,6 @@
 -- No text that reads as options is shorter than the shortest stems for them.
 use Rattle.std.proofs.Common.{◌≡◌, ℕ, ◌+◌, ◌-◌, ◌<◌, ◌≤◌, Bool, true, false, refl, ap, sym, subst, arith, List, [], ◌∷◌, ◌++◌, length, take, length-take, length-append}
-use Rattle.std.specs.Prelude.{◌==◌, if◌then◌else◌, is_some, Option, Some, None, Result, Ok, Err}
+use Rattle.std.specs.Prelude.{◌==◌, if◌then◌else◌, is_some, Option, Some, None, Ok, Err}
 use Rattle.std.proofs.lemmas.Bool.Decides.{nat_tests}
 use Rattle.number_format.specs.declared.skeleton.SkeletonError.{SkeletonError}
 use Rattle.number_format.specs.declared.skeleton.choices.Choice.{Choice}
@@ -13,17 +13,12 @@ use Rattle.number_format.specs.declared.skeleton.stems.Expected.TheVariants as e
 use Rattle.number_format.specs.declared.skeleton.stems.Meaning.{Meaning}
 use Rattle.number_format.specs.SkeletonChoices.{has, with}
 use Rattle.number_format.specs.SkeletonOptions.{option}
-use Rattle.number_format.specs.SkeletonReading.{separator_length, pieces, is_stem, needs_option, no_stems, read_stem, read_option, read_piece, after_piece, next, and_then, read_pieces, choices_of}
+use Rattle.number_format.specs.SkeletonReading.{separator_length, pieces, is_stem, needs_option, no_stems, read_stem, read_option, read_piece, after_piece, next, read_pieces, choices_of}
 use Rattle.number_format.specs.SkeletonStems.{stem}
 use Rattle.number_format.proofs.SkeletonCosts.{cost, open_cost, pairs, IsFine, fine_with, stem_at_most}
-use Rattle.number_format.proofs.SkeletonStemCosts.{stem_costs, map_some, then_some, unless_some}
+use Rattle.number_format.proofs.SkeletonStemCosts.{stem_costs}
 use Rattle.number_format.proofs.SkeletonOptionCosts.{takes_w, Sound, option_sound}
-
-pub and_then_ok :
-    {A B : Type 0} (f : A → Result B SkeletonError) (r : Result A SkeletonError) (y : B) → and_then f r ≡ Ok y
-    → (x : A) × (r ≡ Ok x) × (f x ≡ Ok y)
-and_then_ok f (Ok x) y e = (x, refl, e)
-and_then_ok f (Err x) y e = absurd (cc)
+use Rattle.number_format.proofs.TestLaws.{unless_some, map_some, then_some, and_then_ok}
 
 -- ---- One stem more.
 kept_with :
@@ -31,22 +26,9 @@ kept_with :
     → (c.strips_if_integer ≡ true → is_some c.precision ≡ true)
     → (with s ch c).strips_if_integer ≡ true → is_some (with s ch c).precision ≡ true
 kept_with c s choice.Nothing e p k w = absurd (cc)
-kept_with c s (choice.Notation n) e p k w = k w
-kept_with c s (choice.Unit u) e p k w = k w
-kept_with c s choice.PercentTimes100 e p k w = k w
-kept_with c s choice.UnitPerUnit e p k w = k w
-kept_with c s choice.PerUnit e p k w = k w
-kept_with c s choice.Usage e p k w = k w
-kept_with c s (choice.Precision q) e p k w = refl
 kept_with c s choice.StripIfInteger e p k w = absurd (cc)
-kept_with c s (choice.Mode m) e p k w = k w
-kept_with c s (choice.Grouping g) e p k w = k w
-kept_with c s (choice.Integer i) e p k w = k w
-kept_with c s (choice.System n) e p k w = k w
-kept_with c s (choice.Width x) e p k w = k w
-kept_with c s (choice.Sign shown sign) e p k w = k w
-kept_with c s (choice.IsDecimalAlways always) e p k w = k w
-kept_with c s (choice.Scale d) e p k w = k w
+kept_with c s (choice.Precision q) e p k w = refl
+kept_with c s ch e p k w = k w
 
 chosen_with :
     (c : Choices) (s : Span) (ch : Choice) (e : Expected) → pairs ch e ≡ true → takes_w e ≡ true
@@ -56,9 +38,6 @@ chosen_with c s ch expected.Increment p w = absurd (cc)
 chosen_with c s ch (expected.Significant f) p w = absurd (cc)
 chosen_with c s ch expected.StripIfInteger p w = absurd (cc)
 chosen_with c s ch e p w = absurd (cc)
-
-Reads : Reading → ℕ → Type 0
-Reads r used = Sound r.choices r.expected used
 
 stem_sound :
     (c : Choices) (s span : Span) (text : List ℕ) (used : ℕ) (after : Reading) → Sound c expected.Stem used
@@ -117,23 +96,12 @@ piece_sound :
     → Sound after.choices after.expected (used + (length text + 1))
 unfolding read_piece
 piece_sound c expected.Stem s start text used after h is = piece_at_stem c s _ text used after (length text == 0) h is
-piece_sound c (expected.Exponent x) s start text used after h is = piece_after_stem c _ s text used after h is
-piece_sound c expected.Currency s start text used after h is = piece_after_stem c _ s text used after h is
-piece_sound c expected.Integer s start text used after h is = piece_after_stem c _ s text used after h is
-piece_sound c expected.System s start text used after h is = piece_after_stem c _ s text used after h is
-piece_sound c expected.Scale s start text used after h is = piece_after_stem c _ s text used after h is
-piece_sound c expected.Increment s start text used after h is = piece_after_stem c _ s text used after h is
-piece_sound c expected.Name s start text used after h is = piece_after_stem c _ s text used after h is
-piece_sound c (expected.Significant f) s start text used after h is = piece_after_stem c _ s text used after h is
-piece_sound c expected.StripIfInteger s start text used after h is = piece_after_stem c _ s text used after h is
+piece_sound c e s start text used after h is = piece_after_stem c _ s text used after h is
 
 -- ---- The end of a piece.
 closed_at_most : (c : Choices) (e : Expected) → needs_option e ≡ false → cost c ≤ open_cost c e
 closed_at_most c expected.Stem n = omega arith
-closed_at_most c (expected.Exponent e) n = omega arith
-closed_at_most c (expected.Significant f) n = omega arith
-closed_at_most c expected.StripIfInteger n = omega arith
-closed_at_most c e n = absurd (cc)
+closed_at_most c e n = first_of (cc, omega arith)
 
 -- choices that a text can make, whose cost is at most this, with `/w` only beside a precision
 pub record Closed (c : Choices) (used : ℕ) : Type 0 where

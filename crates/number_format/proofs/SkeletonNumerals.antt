@@ -14,10 +14,9 @@ use Rattle.number_format.specs.SkeletonMeaning.{scale_power}
 use Rattle.number_format.specs.Increments.{is_increment}
 use Rattle.number_format.specs.SkeletonCounts.{is_outside, run}
 use Rattle.number_format.specs.SkeletonDecimals.{with_byte, exponent_size, exponent, scaled, decimal}
-use Rattle.number_format.specs.SkeletonTexts.{digit_bytes, last_digits, decimal_text, power_text, pointed_by, increment_text}
-
-equal : (a b : ℕ) → (a == b) ≡ true → a ≡ b
-equal a b e = grind (arith, nat_tests)
+use Rattle.number_format.specs.SkeletonTexts.{digit_bytes, decimal_text, power_text, pointed_by, increment_text}
+use Rattle.number_format.proofs.SkeletonIncrements.{IsIncrement, of_1, of_2, of_5, of_25, scaled_by, increment_is, Places, none, many, places_of}
+use Rattle.number_format.proofs.TestLaws.{equal}
 
 -- ---- Runs.
 abbrev pub are_within : ℕ → ℕ → List ℕ → Bool
@@ -56,15 +55,7 @@ digits_within (n ∷ numbers) = rw (digit_within n) (digits_within numbers)
 -- ---- Exponents.
 -- the digits of a number below 100,000, in the cases of their count
 size_is : (n : ℕ) → n < 100000 → exponent_size (decimal_text n) ≡ n
-size_is n few = by_test (nat_lt n 10) (nat_lt n 100) (nat_lt n 1000) (nat_lt n 10000) refl refl refl refl where
-  by_test :
-      (a b c d : Bool) → nat_lt n 10 ≡ a → nat_lt n 100 ≡ b → nat_lt n 1000 ≡ c → nat_lt n 10000 ≡ d
-      → exponent_size (last_digits n (if a then 1 else if b then 2 else if c then 3 else if d then 4 else 5)) ≡ n
-  by_test true b c d p q r s = grind (arith, nat_tests)
-  by_test false true c d p q r s = grind (arith, nat_tests)
-  by_test false false true d p q r s = grind (arith, nat_tests)
-  by_test false false false true p q r s = grind (arith, nat_tests)
-  by_test false false false false p q r s = grind (arith, nat_tests)
+size_is n few = grind (arith, nat_tests)
 
 sign_is : (n : ℕ) → (48 + n % 10 == 43 || 48 + n % 10 == 45) ≡ false
 sign_is n = grind (arith, nat_tests)
@@ -216,96 +207,6 @@ abbrev IsMultiple : ℕ → ℕ → List ℕ → Type 0
 IsMultiple digits increment text =
     (s : Span) → (d : SkeletonDecimal) × (decimal text ≡ Some d) × (increment_of_decimal d s ≡ Ok (digits, increment))
 
-any_is :
-    (P : ℕ → Type 0) (i n : ℕ) (b : Bool) → P i → (b ≡ true → P n) → (i == n || b) ≡ true → P n
-any_is P i n b here rest is = by_test (i == n) refl is where
-  by_test : (c : Bool) → (i == n) ≡ c → (c || b) ≡ true → P n
-  by_test true e h = subst P (equal i n e) here
-  by_test false e h = rest h
-
--- of the fifteen increments
-pub each_increment :
-    (P : ℕ → Type 0) → P 1 → P 2 → P 5 → P 10 → P 20 → P 25 → P 50 → P 100 → P 200 → P 250 → P 500 → P 1000 → P 2000
-    → P 2500 → P 5000 → (n : ℕ) → is_increment n ≡ true → P n
-each_increment P a b c d e f g h i j k l m o q n is =
-    any_is P 1 n _ a (any_is P 2 n _ b (any_is P 5 n _ c (any_is P 10 n _ d (any_is P 20 n _ e (any_is P 25 n _ f
-    (any_is P 50 n _ g (any_is P 100 n _ h (any_is P 200 n _ i (any_is P 250 n _ j (any_is P 500 n _ k
-    (any_is P 1000 n _ l (any_is P 2000 n _ m (any_is P 2500 n _ o (any_is P 5000 n false q
-    (λ no. absurd (cc)))))))))))))))) is
-
-abbrev Few : ℕ → ℕ → Type 0
-Few digits n = IsMultiple digits n (increment_text digits n)
-
-few_multiples : (digits n : ℕ) → digits ≤ 3 → is_increment n ≡ true → Few digits n
-few_multiples digits n few is = by_test (digits == 0) (digits == 1) (digits == 2) refl refl refl where
-  by_test : (a b c : Bool) → (digits == 0) ≡ a → (digits == 1) ≡ b → (digits == 2) ≡ c → Few digits n
-  by_test true b c p q r = subst (λ k. Few k n) (sym (equal digits 0 p)) (each_increment (Few 0) (λ s. (
-    _,
-    refl,
-    refl,
-  )) (λ s. (_, refl, refl)) (λ s. (_, refl, refl)) (λ s. (_, refl, refl)) (λ s. (_, refl, refl)) (λ s. (
-    _,
-    refl,
-    refl,
-  )) (λ s. (_, refl, refl)) (λ s. (_, refl, refl)) (λ s. (_, refl, refl)) (λ s. (
-    _,
-    refl,
-    refl,
-  )) (λ s. (_, refl, refl)) (λ s. (_, refl, refl)) (λ s. (_, refl, refl)) (λ s. (
-    _,
-    refl,
-    refl,
-  )) (λ s. (_, refl, refl)) n is)
-  by_test false true c p q r = subst (λ k. Few k n) (sym (equal digits 1 q)) (each_increment (Few 1) (λ s. (
-    _,
-    refl,
-    refl,
-  )) (λ s. (_, refl, refl)) (λ s. (_, refl, refl)) (λ s. (_, refl, refl)) (λ s. (_, refl, refl)) (λ s. (
-    _,
-    refl,
-    refl,
-  )) (λ s. (_, refl, refl)) (λ s. (_, refl, refl)) (λ s. (_, refl, refl)) (λ s. (
-    _,
-    refl,
-    refl,
-  )) (λ s. (_, refl, refl)) (λ s. (_, refl, refl)) (λ s. (_, refl, refl)) (λ s. (
-    _,
-    refl,
-    refl,
-  )) (λ s. (_, refl, refl)) n is)
-  by_test false false true p q r = subst (λ k. Few k n) (sym (equal digits 2 r)) (each_increment (Few 2) (λ s. (
-    _,
-    refl,
-    refl,
-  )) (λ s. (_, refl, refl)) (λ s. (_, refl, refl)) (λ s. (_, refl, refl)) (λ s. (
-    _,
-    refl,
-    refl,
-  )) (λ s. (_, refl, refl)) (λ s. (_, refl, refl)) (λ s. (_, refl, refl)) (λ s. (_, refl, refl)) (λ s. (
-    _,
-    refl,
-    refl,
-  )) (λ s. (_, refl, refl)) (λ s. (_, refl, refl)) (λ s. (_, refl, refl)) (λ s. (
-    _,
-    refl,
-    refl,
-  )) (λ s. (_, refl, refl)) n is)
-  by_test false false false p q r =
-      let three : 3 ≡ digits = grind (arith, nat_tests) in
-      subst (λ k. Few k n) three (each_increment (Few 3) (λ s. (_, refl, refl)) (λ s. (_, refl, refl)) (λ s. (
-        _,
-        refl,
-        refl,
-      )) (λ s. (_, refl, refl)) (λ s. (_, refl, refl)) (λ s. (_, refl, refl)) (λ s. (_, refl, refl)) (λ s. (
-        _,
-        refl,
-        refl,
-      )) (λ s. (_, refl, refl)) (λ s. (_, refl, refl)) (λ s. (_, refl, refl)) (λ s. (
-        _,
-        refl,
-        refl,
-      )) (λ s. (_, refl, refl)) (λ s. (_, refl, refl)) (λ s. (_, refl, refl)) n is)
-
 multiple_is :
     (d : SkeletonDecimal) (digits u : ℕ) (s : Span) → d.is_negative ≡ false → nat_lt 25 d.digits ≡ false
     → negsuc 32767 ≤ℤ d.power → d.power ≤ℤ pos 3 → fraction_digits d.power d.after_point ≡ digits
@@ -314,15 +215,15 @@ multiple_is :
 multiple_is d digits u s plain small low high fraction unit is few =
     let below : int_lt d.power (negsuc 32767) ≡ false = grind (arith, ints) in
     let above : int_lt (pos 3) d.power ≡ false = grind (arith, ints) in
-    let many : nat_lt 32768 digits ≡ false = grind (arith, nat_tests) in
-    rw (plain, small, below, above, fraction, unit, is, many) refl
+    let most : nat_lt 32768 digits ≡ false = grind (arith, nat_tests) in
+    rw (plain, small, below, above, fraction, unit, is, most) refl
 
 pointed_multiple :
     (k z n : ℕ) (ds : List ℕ) → length ds ≡ 4 → are_within 48 57 ds ≡ true
     → fold with_byte (record { digits = 0; zeros = k }) ds ≡ record { digits = n; zeros = z } → z ≤ 3
     → nat_lt 25 n ≡ false → is_increment (n * unit_of_zeros (pos z)) ≡ true → k + 4 ≤ 32768
     → IsMultiple (k + 4) (n * unit_of_zeros (pos z)) (46 ∷ replicate k 48 ++ ds)
-pointed_multiple k z n ds four all sum few small is many s =
+pointed_multiple k z n ds four all sum few small is most s =
     let fs = replicate k 48 ++ ds in
     let size : length fs ≡ k + 4 = omega (
       arith,
@@ -340,7 +241,7 @@ pointed_multiple k z n ds four all sum few small is many s =
             arith,
             size,
           )) (ap unit_of_zeros zeros) is
-          many,
+          most,
     )
 
 -- an increment, and an exponent that is the number of fraction digits
@@ -351,7 +252,7 @@ exponent_multiple :
       power = (pos 0 +ℤ neg_ℤ (pos (k + 4))) -ℤ pos 0;
       after_point = None;
     }) → nat_lt 25 n ≡ false → is_increment (n * 1) ≡ true → k + 4 ≤ 32768 → IsMultiple (k + 4) (n * 1) text
-exponent_multiple k n text is small increment many s =
+exponent_multiple k n text is small increment most s =
     let p = (pos 0 +ℤ neg_ℤ (pos (k + 4))) -ℤ pos 0 in
     let power : p ≡ negsuc (k + 3) = omega (arith, ints) in
     let fraction : fraction_digits p None ≡ k + 4 = ap (λ z. fraction_digits z None) power ∙ omega arith in
@@ -360,59 +261,63 @@ exponent_multiple k n text is small increment many s =
       d,
       is,
       multiple_is d (k + 4) 1 s refl small (omega (arith, ints)) (omega (arith, ints)) fraction
-          (ap unit_of_zeros zeros) increment many,
+          (ap unit_of_zeros zeros) increment most,
     )
 
-and_none : (b : Bool) → (b && false) ≡ false
-and_none true = refl
-and_none false = refl
+pub and_none : (b : Bool) → (b && false) ≡ false
+and_none b = grind arith
 
-pub many_text :
+not_few : (k n : ℕ) → n < 4 → (k + 4 == n) ≡ false
+not_few k n h = grind (arith, nat_tests)
+
+many_text :
     (k n : ℕ)
     → increment_text (k + 4) n
     ≡ (if not (n % 10 == 0) then decimal_text n ++ 101 ∷ 45 ∷ decimal_text (k + 4) else pointed_by 10000 4 k n)
 many_text k n =
-    let not_zero : (k + 4 == 0) ≡ false = grind (arith, nat_tests) in
-    let not_one : (k + 4 == 1) ≡ false = grind (arith, nat_tests) in
-    let not_two : (k + 4 == 2) ≡ false = grind (arith, nat_tests) in
-    let not_three : (k + 4 == 3) ≡ false = grind (arith, nat_tests) in
     let more : nat_lt 3 (k + 4) ≡ true = grind (arith, nat_tests) in
     let rest : k + 4 - 4 ≡ k = omega arith in
-    rw (not_zero, not_one, not_two, not_three, more, rest, and_none (n % 1000 == 0)) refl
+    rw (
+      not_few k 0 (omega arith),
+      not_few k 1 (omega arith),
+      not_few k 2 (omega arith),
+      not_few k 3 (omega arith),
+      more,
+      rest,
+      and_none (n % 1000 == 0),
+    ) refl
 
-abbrev Many : ℕ → ℕ → Type 0
-Many k n =
-    IsMultiple (k + 4) n
-    (if not (n % 10 == 0) then decimal_text n ++ 101 ∷ 45 ∷ decimal_text (k + 4) else pointed_by 10000 4 k n)
+tail_is : (k : ℕ) → k + 4 ≤ 32768 → exponent (101 ∷ 45 ∷ decimal_text (k + 4)) ≡ Some (neg_ℤ (pos (k + 4)))
+tail_is k few = (exponents_are (k + 4) (omega arith)).1
 
-many_multiples : (k n : ℕ) → k + 4 ≤ 32768 → is_increment n ≡ true → Many k n
-many_multiples k n few is =
-    let tail = 45 ∷ decimal_text (k + 4) in
-    let e = (exponents_are (k + 4) (omega arith)).1 in
-    each_increment (Many k)
-    (exponent_multiple k 1 (49 ∷ 101 ∷ tail) (rw (take_front (49 ∷ []) (101 ∷ tail), e) refl) refl refl few)
-    (exponent_multiple k 2 (50 ∷ 101 ∷ tail) (rw (take_front (50 ∷ []) (101 ∷ tail), e) refl) refl refl few)
-    (exponent_multiple k 5 (53 ∷ 101 ∷ tail) (rw (take_front (53 ∷ []) (101 ∷ tail), e) refl) refl refl few)
-    (pointed_multiple k 1 1 _ refl refl refl (omega arith) refl refl few)
-    (pointed_multiple k 1 2 _ refl refl refl (omega arith) refl refl few)
-    (exponent_multiple k 25 (50 ∷ 53 ∷ 101 ∷ tail) (rw (take_front (50 ∷ 53 ∷ []) (101 ∷ tail), e) refl) refl refl few)
-    (pointed_multiple k 1 5 _ refl refl refl (omega arith) refl refl few)
-    (pointed_multiple k 2 1 _ refl refl refl (omega arith) refl refl few)
-    (pointed_multiple k 2 2 _ refl refl refl (omega arith) refl refl few)
-    (pointed_multiple k 1 25 _ refl refl refl (omega arith) refl refl few)
-    (pointed_multiple k 2 5 _ refl refl refl (omega arith) refl refl few)
-    (pointed_multiple k 3 1 _ refl refl refl (omega arith) refl refl few)
-    (pointed_multiple k 3 2 _ refl refl refl (omega arith) refl refl few)
-    (pointed_multiple k 2 25 _ refl refl refl (omega arith) refl refl few)
-    (pointed_multiple k 3 5 _ refl refl refl (omega arith) refl refl few) n is
+-- an increment and an exponent
+abbrev exponent_text : ℕ → List ℕ
+exponent_text k = 101 ∷ 45 ∷ decimal_text (k + 4)
+
+many_multiples :
+    {base zeros : ℕ} → IsIncrement base zeros → (k : ℕ) → k + 4 ≤ 32768
+    → IsMultiple (k + 4) (scaled_by base zeros) (if not (scaled_by base zeros % 10 == 0)
+    then decimal_text (scaled_by base zeros) ++ exponent_text k else pointed_by 10000 4 k (scaled_by base zeros))
+many_multiples of_1 k few =
+    exponent_multiple k 1 (49 ∷ exponent_text k) (rw (take_front (49 ∷ []) (exponent_text k), tail_is k few) refl) refl refl few
+many_multiples of_2 k few =
+    exponent_multiple k 2 (50 ∷ exponent_text k) (rw (take_front (50 ∷ []) (exponent_text k), tail_is k few) refl) refl refl few
+many_multiples of_5 k few =
+    exponent_multiple k 5 (53 ∷ exponent_text k) (rw (take_front (53 ∷ []) (exponent_text k), tail_is k few) refl) refl refl few
+many_multiples of_25 k few =
+    exponent_multiple k 25 (50 ∷ 53 ∷ exponent_text k) (rw (take_front (50 ∷ 53 ∷ []) (exponent_text k), tail_is k few) refl) refl refl few
+many_multiples {base = b} {zeros = z} i k few = pointed_multiple k z b _ refl refl refl (omega arith) refl refl few
+
+multiples :
+    {digits base zeros : ℕ} → IsIncrement base zeros → Places digits → digits ≤ 32768
+    → IsMultiple digits (scaled_by base zeros) (increment_text digits (scaled_by base zeros))
+multiples of_1 none few s = (_, refl, refl)
+multiples {base = b} {zeros = z} i (many k) few s =
+    subst (IsMultiple (k + 4) (scaled_by b z)) (sym (many_text k (scaled_by b z))) (many_multiples i k few) s
+multiples i p few s = (_, refl, refl)
 
 pub multiple_text_is :
     (digits n : ℕ) → digits ≤ 32768 → is_increment n ≡ true → IsMultiple digits n (increment_text digits n)
-multiple_text_is digits n few is = by_size (nat_lt 3 digits) refl where
-  by_size : (b : Bool) → nat_lt 3 digits ≡ b → IsMultiple digits n (increment_text digits n)
-  by_size false e = few_multiples digits n (grind (arith, nat_tests)) is
-  by_size true e =
-      let same : digits - 4 + 4 ≡ digits = grind (arith, nat_tests) in
-      subst (λ k. IsMultiple k n (increment_text k n)) same
-      (subst (IsMultiple (digits - 4 + 4) n) (sym (many_text (digits - 4) n))
-      (many_multiples (digits - 4) n (omega (arith, same)) is))
+multiple_text_is digits n few is =
+    let i = increment_is n is in
+    subst (λ m. IsMultiple digits m (increment_text digits m)) i.same (multiples i.is (places_of digits) few)

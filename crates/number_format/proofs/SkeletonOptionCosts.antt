@@ -1,5 +1,5 @@
 -- An option of a stem has at least the bytes by which it makes the choices longer.
-use Rattle.std.proofs.Common.{◌≡◌, ℕ, ◌+◌, ◌<◌, ◌≤◌, Bool, true, false, refl, ap, sym, ◌∙◌, subst, arith, List, [], ◌∷◌, length, drop, length-drop}
+use Rattle.std.proofs.Common.{◌≡◌, ℕ, ◌+◌, ◌<◌, ◌≤◌, Bool, true, false, refl, ap, sym, ◌∙◌, subst, arith, List, [], ◌∷◌, length, drop, length-append, length-drop, length-take}
 use Rattle.std.specs.Prelude.{◌==◌, nat_lt, ◌&&◌, ◌||◌, if◌then◌else◌, is_some, slice_index, find, Option, Some, None}
 use Rattle.std.specs.Char.{to_ascii_uppercase}
 use Rattle.std.specs.List.{list_all}
@@ -26,12 +26,13 @@ use Rattle.number_format.specs.declared.skeleton.stems.Meaning.{Meaning}
 use Rattle.number_format.specs.SkeletonChoices.{with}
 use Rattle.number_format.specs.SkeletonCounts.{run, is_byte, is_wild}
 use Rattle.number_format.specs.SkeletonDecimals.{decimal}
-use Rattle.number_format.specs.SkeletonLengths.{system_length}
 use Rattle.number_format.specs.SkeletonOptions.{last, changed_exponent, exponent_option, is_code_byte, currency_option, integer_option, decimal_system, system_option, scale_option, increment_option, both, from_to, strip_option, significant_option, option}
 use Rattle.number_format.specs.SkeletonStems.{is_name}
+use Rattle.number_format.specs.SkeletonTexts.{ascii, system_text}
 use Rattle.number_format.proofs.SkeletonCosts.{unit_cost, style_cost, style_at_most, priority_cost, integer_range_cost, cost, open_cost, is_capital, is_code, is_system, one_if_both, is_fine, IsFine}
 use Rattle.number_format.proofs.SkeletonDecimalCosts.{scale_at_most, increment_at_most}
-use Rattle.number_format.proofs.SkeletonStemCosts.{some_is, map_some, then_some, unless_some, found, name_at_most, run_at_most, wild_length, and_left, changed_at_most, exponent_at_most, equal}
+use Rattle.number_format.proofs.SkeletonStemCosts.{name_at_most, run_at_most, wild_length, changed_at_most, exponent_at_most}
+use Rattle.number_format.proofs.TestLaws.{and_both, equal, some_is, unless_some, map_some, then_some, if_then, found}
 
 -- only a precision takes `/w`
 abbrev pub takes_w : Expected → Bool
@@ -51,38 +52,39 @@ pub record Sound (c : Choices) (e : Expected) (used : ℕ) : Type 0 where
 abbrev pub SoundWith : Choices → Span → ℕ → Meaning → Type 0
 SoundWith c s used m = Sound (with s m.choice c) m.expected used
 
-if_then :
-    {A : Type 0} (b : Bool) (x z : A) → (if b then Some x else None) ≡ Some z → (b ≡ true) × (x ≡ z)
-if_then true x z e = (refl, cc)
-if_then false x z e = absurd (cc)
-
-first_of_four : (a b c d : Bool) → (a && b && c && d) ≡ true → a ≡ true
-first_of_four true b c d e = refl
-first_of_four false b c d e = absurd (cc)
-
 integer_at_most : (b : Bool) (k n : ℕ) → k ≤ n → integer_range_cost k (if b then None else Some n) ≤ 15 + n
 integer_at_most true k n h = omega arith
 integer_at_most false k n h = omega arith
 
-all_rows : {A : Type 0} (rows : List A) → list_all (λ _. true) rows ≡ true
-all_rows [] = refl
-all_rows (x ∷ xs) = all_rows xs
+pub ascii_few : (text : List ℕ) → length (ascii text) ≤ length text
+ascii_few [] = omega arith
+ascii_few (c ∷ text) = grind (arith, ascii_few text)
 
-choose_length : (b : Bool) (n m : ℕ) → n ≤ m → (if b then 6 else 18 + n) ≤ 18 + m
-choose_length true n m h = omega arith
-choose_length false n m h = omega arith
+system_few : (name : List ℕ) (n : ℕ) → run 33 126 name ≤ n → length (system_text (Some name)) ≤ 18 + n
+system_few name n h = grind (arith, length-append {A = ℕ}, ascii_few, length-take {A = ℕ})
 
-system_at_most : (text : List ℕ) → system_length (decimal_system text) ≤ 18 + length text
-system_at_most text = by_system (decimal_system text) refl where
-  by_system : (o : Option (List ℕ)) → decimal_system text ≡ o → system_length o ≤ 18 + length text
-  by_system None e = omega arith
+abbrev is_system_row : NumberingSystem → Bool
+is_system_row s = is_system s.name
+
+all_systems : list_all is_system_row NUMBERING_SYSTEMS ≡ true
+all_systems = refl
+
+system_is :
+    (text : List ℕ)
+    → (is_fine (choice.System (decimal_system text)) ≡ true)
+    × (length (system_text (decimal_system text)) ≤ 18 + length text)
+system_is text = by_system (decimal_system text) refl where
+  by_system :
+      (o : Option (List ℕ)) → decimal_system text ≡ o
+      → (is_fine (choice.System o) ≡ true) × (length (system_text o) ≤ 18 + length text)
+  by_system None e = (refl, omega arith)
   by_system (Some name) e =
       let x = map_some (λ (s : NumberingSystem). s.name) (find (λ s. is_name s.name text) NUMBERING_SYSTEMS) name e in
-      let row = found (λ (s : NumberingSystem). is_name s.name text) (λ _. true) NUMBERING_SYSTEMS x.0
-      (all_rows NUMBERING_SYSTEMS) x.1 in
-      let named : is_name name text ≡ true = ap (λ n. is_name n text) (sym x.2) ∙ row.0 in
-      choose_length (is_name name (108 ∷ 97 ∷ 116 ∷ 110 ∷ [])) (run 33 126 name) (length text)
-      (name_at_most name text named)
+      let row = found (λ (s : NumberingSystem). is_name s.name text) is_system_row NUMBERING_SYSTEMS x.0 all_systems x.1
+      in (
+        ap is_system (sym x.2) ∙ row.1,
+        system_few name (length text) (name_at_most name text (ap (λ n. is_name n text) (sym x.2) ∙ row.0)),
+      )
 
 capital_is : (c : ℕ) → is_code_byte c ≡ true → is_capital (to_ascii_uppercase c) ≡ true
 capital_is c e =
@@ -91,47 +93,29 @@ capital_is c e =
     rw (uppercase-uppercase c) (grind (arith, nat_tests)) in
     rw (byte, same) refl
 
-four_are : (a b c d : Bool) → (a && b && c && d) ≡ true → (b ≡ true) × ((c ≡ true) × (d ≡ true))
-four_are true true true true e = (refl, (refl, refl))
-four_are false b c d e = absurd (cc)
-four_are true false c d e = absurd (cc)
-four_are true true false d e = absurd (cc)
-four_are true true true false e = absurd (cc)
-
 code_is :
     (text : List ℕ)
     → ((length text == 3) && is_code_byte (slice_index text 0) && is_code_byte (slice_index text 1)
     && is_code_byte (slice_index text 2)) ≡ true
-    → is_code (to_ascii_uppercase (slice_index text 0) ∷ to_ascii_uppercase (slice_index text 1)
-    ∷ to_ascii_uppercase (slice_index text 2) ∷ []) ≡ true
+    → (length text ≡ 3) × (is_code (to_ascii_uppercase (slice_index text 0) ∷ to_ascii_uppercase (slice_index text 1)
+    ∷ to_ascii_uppercase (slice_index text 2) ∷ []) ≡ true)
 code_is text e =
-    let x = four_are (length text == 3) _ _ _ e in
-    rw (
-      capital_is (slice_index text 0) x.0,
-      capital_is (slice_index text 1) x.1.0,
-      capital_is (slice_index text 2) x.1.1,
-    ) refl
-
-abbrev is_system_row : NumberingSystem → Bool
-is_system_row s = is_system s.name
-
-all_systems : list_all is_system_row NUMBERING_SYSTEMS ≡ true
-all_systems = refl
-
-system_is : (text : List ℕ) → is_fine (choice.System (decimal_system text)) ≡ true
-system_is text = by_system (decimal_system text) refl where
-  by_system : (o : Option (List ℕ)) → decimal_system text ≡ o → is_fine (choice.System o) ≡ true
-  by_system None e = refl
-  by_system (Some name) e =
-      let x = map_some (λ (s : NumberingSystem). s.name) (find (λ s. is_name s.name text) NUMBERING_SYSTEMS) name e in
-      let row = found (λ (s : NumberingSystem). is_name s.name text) is_system_row NUMBERING_SYSTEMS x.0 all_systems x.1
-      in ap is_system (sym x.2) ∙ row.1
+    let x = and_both ((length text == 3) && is_code_byte (slice_index text 0) && is_code_byte (slice_index text 1)) _ e in
+    let y = and_both ((length text == 3) && is_code_byte (slice_index text 0)) _ x.0 in
+    let z = and_both (length text == 3) _ y.0 in (
+      equal (length text) 3 z.0,
+      rw (
+        capital_is (slice_index text 0) z.1,
+        capital_is (slice_index text 1) y.1,
+        capital_is (slice_index text 2) x.1,
+      ) refl,
+    )
 
 none_scale : (u : Option (ChosenUnit × Span)) → unit_cost u ≤ style_cost u None
 none_scale u = grind arith
 
 byte_length : (b : ℕ) (text : List ℕ) → is_byte b text ≡ true → length text ≡ 1
-byte_length b text is = equal (length text) 1 (and_left (length text == 1) (slice_index text 0 == b) is)
+byte_length b text is = equal (length text) 1 (and_both (length text == 1) (slice_index text 0 == b) is).0
 
 module _ (c : Choices) (s : Span) (text : List ℕ) (m : Meaning) (some : 0 < length text) (used : ℕ) where
   strip_sound :
@@ -165,11 +149,11 @@ module _ (c : Choices) (s : Span) (text : List ℕ) (m : Meaning) (some : 0 < le
       Sound c expected.Currency used → currency_option text ≡ Some m → SoundWith c s (used + (length text + 1)) m
   currency_sound h is =
       let x = if_then _ _ m is in
-      let size = equal (length text) 3 (first_of_four (length text == 3) _ _ _ x.0) in
+      let code = code_is text x.0 in
       subst (SoundWith c s (used + (length text + 1))) x.1 (record {
-        few = omega (arith, h.few);
+        few = omega (arith, h.few, code.0);
         kept = h.kept;
-        fine = (code_is text x.0, h.fine.1, h.fine.2, h.fine.3);
+        fine = (code.1, h.fine.1, h.fine.2, h.fine.3);
         chosen = λ w. absurd (cc);
       })
 
@@ -199,9 +183,9 @@ module _ (c : Choices) (s : Span) (text : List ℕ) (m : Meaning) (some : 0 < le
   system_sound h is =
       let x = unless_some _ (last (choice.System (decimal_system text))) m is in
       subst (SoundWith c s (used + (length text + 1))) (some_is _ m x.1) (record {
-        few = omega (arith, h.few, system_at_most text);
+        few = omega (arith, h.few, (system_is text).1);
         kept = h.kept;
-        fine = (h.fine.0, h.fine.1, h.fine.2, system_is text);
+        fine = (h.fine.0, h.fine.1, h.fine.2, (system_is text).0);
         chosen = λ w. absurd (cc);
       })
 

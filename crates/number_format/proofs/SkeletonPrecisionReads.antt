@@ -31,17 +31,14 @@ use Rattle.number_format.specs.SkeletonOptions.{option, from_to, both, significa
 use Rattle.number_format.specs.SkeletonReading.{is_stem, needs_option, read_piece, pieces, read_pieces}
 use Rattle.number_format.specs.SkeletonStems.{stem, is_any, precision_of, beside_significant}
 use Rattle.number_format.specs.SkeletonTexts.{last_digits, decimal_text, pointed_by, increment_text, fraction_text, beside_text, range_text, significant_text, precision_text, strips_text}
-use Rattle.number_format.proofs.SkeletonCosts.{one_if_both}
-use Rattle.number_format.proofs.SkeletonNumerals.{within_replicate, run_append, multiple_text_is}
-use Rattle.number_format.proofs.SkeletonStemCosts.{and_left, equal}
+use Rattle.number_format.proofs.SkeletonCosts.{Of}
+use Rattle.number_format.proofs.SkeletonNumerals.{within_replicate, run_append, and_none, multiple_text_is}
+use Rattle.number_format.proofs.SkeletonResolved.{IsFraction, IsSignificant, IsGood}
 use Rattle.number_format.proofs.SkeletonStemReads.{are_plain, at, stem_piece, option_piece, opens, closes}
-use Rattle.number_format.proofs.SkeletonTextReads.{ok_is, plain_replicate, plain_append, plain_digits, plain_decimal, run_replicate, not_less, not_zero}
+use Rattle.number_format.proofs.SkeletonTextReads.{plain_replicate, plain_append, plain_digits, plain_decimal, run_replicate, not_less, not_zero}
+use Rattle.number_format.proofs.TestLaws.{and_both, equal, ok_is}
 
 -- ---- Numbers of digits.
-and_none : (b : Bool) → (b && false) ≡ false
-and_none true = refl
-and_none false = refl
-
 abbrev counted : ℕ → Option ℕ → Counts
 counted min max = record { min = min; max = max }
 
@@ -106,15 +103,8 @@ record Last (c : Choices) (s : Span) (start : ℕ) (text : List ℕ) (p : Precis
   opens_option : is_stem e ≡ false
   done : needs_option e ≡ false
   strip : option e (119 ∷ []) ≡ Some (record { choice = choice.StripIfInteger; expected = expected.Stem })
-  value : (u : Option (ChosenUnit × Span)) → chosen_precision u q span ≡ Ok p
+  value : (u : Of ChosenUnit) → chosen_precision u q span ≡ Ok p
   usual : usage_of (Some (q, span)) ≡ usage.Standard
-
--- numbers of digits that the options have
-abbrev pub IsFraction : ℕ × ℕ → Type 0
-IsFraction f = (f.0 ≤ 32768) × (f.0 ≤ f.1) × (f.1 ≤ 65535)
-
-abbrev pub IsSignificant : ℕ × ℕ → Type 0
-IsSignificant v = (1 ≤ v.0) × (v.0 ≤ v.1) × (v.1 ≤ 65536)
 
 one_piece :
     (c : Choices) (s : Span) (start : ℕ) (text : List ℕ) (p : PrecisionValue) (q : ChosenPrecision) (e : Expected)
@@ -122,7 +112,7 @@ one_piece :
     → stem text ≡ Some (record { choice = choice.Precision q; expected = e }) → is_stem e ≡ false
     → needs_option e ≡ false
     → option e (119 ∷ []) ≡ Some (record { choice = choice.StripIfInteger; expected = expected.Stem })
-    → ((u : Option (ChosenUnit × Span)) (t : Span) → chosen_precision u q t ≡ Ok p)
+    → ((u : Of ChosenUnit) (t : Span) → chosen_precision u q t ≡ Ok p)
     → ((t : Span) → usage_of (Some (q, t)) ≡ usage.Standard) → Last c s start text p
 one_piece c s start text p q e none plain some is more done strip value usual = record {
   q = q;
@@ -194,13 +184,13 @@ any_counts :
 any_counts least (Some n) f t e is =
     let no : false ≡ true = sym (and_none (least == 0)) ∙ e in absurd (cc)
 any_counts least None f t e is =
-    let zero_least : least ≡ 0 = equal least 0 (and_left (least == 0) true e) in
+    let zero_least : least ≡ 0 = equal least 0 (and_both (least == 0) true e).0 in
     let whole : ◌≡◌ {A = Result (ℕ × ℕ) SkeletonError} (Ok (0, 65535)) (Ok f) =
     sym (ap (λ n. fraction_of (counted n None) t) zero_least) ∙ is in
     ap ok_fraction (ok_is _ f whole)
 
 any_value :
-    (k : Counts) (f : ℕ × ℕ) (t : Span) (u : Option (ChosenUnit × Span)) → fraction_of k t ≡ Ok f
+    (k : Counts) (f : ℕ × ℕ) (t : Span) (u : Of ChosenUnit) → fraction_of k t ≡ Ok f
     → chosen_precision u (precision_of k) t ≡ Ok (Fraction f)
 any_value k f t u is = by_any (is_any k) refl where
   by_any :
@@ -210,10 +200,7 @@ any_value k f t u is = by_any (is_any k) refl where
   by_any true e = any_counts k.min k.max f t e is
 
 any_usual : (k : Counts) (t : Span) → usage_of (Some (precision_of k, t)) ≡ usage.Standard
-any_usual k t = by_any (is_any k) where
-  by_any : (b : Bool) → usage_of (Some ((if b then precision.Unlimited else precision.Fraction k), t)) ≡ usage.Standard
-  by_any true = refl
-  by_any false = refl
+any_usual k t = grind arith
 
 fraction_last :
     (c : Choices) (s : Span) (start : ℕ) (f : ℕ × ℕ) → c.precision ≡ None → IsFraction f
@@ -259,7 +246,7 @@ significant_last c s start v none h = by_least v.0 refl where
       ++ replicate (v.1 - suc n) 35)
       (Significant v)
   by_test n true first e =
-      let last : v.1 ≡ 65536 = equal v.1 65536 (and_left (v.1 == 65536) (nat_lt (suc n) 65536) e) in
+      let last : v.1 ≡ 65536 = equal v.1 65536 (and_both (v.1 == 65536) (nat_lt (suc n) 65536) e).0 in
       let k = counted (suc n) None in
       one_piece c s start (replicate (suc n) 64 ++ 42 ∷ []) (Significant v) (precision.Significant k)
       expected.StripIfInteger none (plain_append (replicate (suc n) 64) (42 ∷ []) (plain_replicate (suc n) 64 refl)
@@ -531,13 +518,6 @@ most_is k b =
       by_size (suc b) = refl
 
 -- ---- All precisions.
-abbrev pub IsGood : PrecisionValue → Type 0
-IsGood (Fraction f) = IsFraction f
-IsGood (Multiples m) = (m.0 ≤ 32768) × (is_increment m.1 ≡ true)
-IsGood (Significant v) = IsSignificant v
-IsGood (More f v shown) = IsFraction f × IsSignificant v × (one_if_both shown v.0 ≡ true)
-IsGood (Less f v shown) = IsFraction f × IsSignificant v × (one_if_both shown v.0 ≡ true)
-
 chosen_last :
     (c : Choices) (s : Span) (start : ℕ) (f v : ℕ × ℕ) (p : PrecisionValue) (byte : ℕ) (priority : RoundingPriority)
     → c.precision ≡ None → IsFraction f → IsSignificant v → are_plain (byte ∷ []) ≡ true
@@ -593,7 +573,7 @@ pub record Ended (c : Choices) (s : Span) (start : ℕ) (text rest : List ℕ) (
   pub q : ChosenPrecision
   pub span : Span
   pub offset : ℕ
-  pub value : (u : Option (ChosenUnit × Span)) → chosen_precision u q span ≡ Ok p
+  pub value : (u : Of ChosenUnit) → chosen_precision u q span ≡ Ok p
   pub usual : usage_of (Some (q, span)) ≡ usage.Standard
   pub same : read_pieces (at c expected.Stem s) (pieces start [] ((text ++ strips_text strips) ++ rest))
       ≡ read_pieces (at (record c { precision = Some (q, span); strips_if_integer = strips }) expected.Stem span)

@@ -1,87 +1,28 @@
 -- A stem, or an option, has at least the bytes that its choice costs.
-use Rattle.std.proofs.Common.{◌≡◌, ◌≢◌, ℕ, ◌+◌, ◌<◌, ◌≤◌, Bool, true, false, refl, ap, sym, ◌∙◌, subst, arith, List, [], ◌∷◌, length, drop, get_or, length-drop, ◌⊎◌, inl, inr}
-use Rattle.std.specs.Prelude.{◌==◌, nat_lt, nat_le, ◌&&◌, ◌||◌, not, if◌then◌else◌, is_some, is_none, slice_index, find, unwrap_or, Option, Some, None}
-use Rattle.std.specs.List.{list_all, position_or_len}
-use Rattle.std.specs.Option.{option_map, option_and_then}
+use Rattle.std.proofs.Common.{◌≡◌, ◌≢◌, ℕ, ◌+◌, ◌<◌, ◌≤◌, Bool, true, false, refl, ap, ◌∙◌, subst, arith, List, [], ◌∷◌, length, drop, get_or, length-drop}
+use Rattle.std.specs.Prelude.{◌==◌, nat_eq, nat_lt, nat_le, ◌&&◌, ◌||◌, not, if◌then◌else◌, is_some, is_none, slice_index, find, unwrap_or, Option, Some, None}
+use Rattle.std.specs.List.{list_all, position_or_len, starts_with}
+use Rattle.std.specs.Option.{option_map}
 use Rattle.std.proofs.lemmas.Bool.Decides.{nat_tests}
 use Rattle.std.proofs.lemmas.List.Sums.{fails_before_first, prefix_len-le-length}
 use Rattle.number_format.specs.declared.number_options.ExponentSign.{ExponentSign}
 use Rattle.number_format.specs.declared.number_options.ExponentSign.TheVariants as sign
 use Rattle.number_format.specs.declared.skeleton.choices.Choice.TheVariants as choice
-use Rattle.number_format.specs.declared.skeleton.choices.Choices.{Choices}
 use Rattle.number_format.specs.declared.skeleton.choices.ChosenNotation.TheVariants as notation
 use Rattle.number_format.specs.declared.skeleton.choices.ChosenPrecision.TheVariants as precision
 use Rattle.number_format.specs.declared.skeleton.choices.Exponent.{Exponent}
 use Rattle.number_format.specs.declared.skeleton.choices.Span.{Span}
 use Rattle.number_format.specs.declared.skeleton.counts.Counts.{Counts}
-use Rattle.number_format.specs.declared.skeleton.stems.Expected.{Expected}
 use Rattle.number_format.specs.declared.skeleton.stems.Expected.TheVariants as expected
 use Rattle.number_format.specs.declared.skeleton.stems.Meaning.{Meaning}
 use Rattle.number_format.specs.declared.skeleton.stems.StemWord.{StemWord}
 use Rattle.number_format.specs.declared.skeleton.stems.TheConstants.{STEMS}
 use Rattle.number_format.specs.SkeletonChoices.{no_choices, with}
 use Rattle.number_format.specs.SkeletonCounts.{run, is_outside, is_wild, counts}
-use Rattle.number_format.specs.SkeletonLengths.{exponent_length}
 use Rattle.number_format.specs.SkeletonOptions.{chosen_exponent_sign, sign_option, changed_exponent}
 use Rattle.number_format.specs.SkeletonStems.{is_name, named, is_any, precision_of, beside_significant, fraction_stem, significant_stem, exponent_sign, exponent_stem, integer_stem, stem}
-use Rattle.number_format.proofs.SkeletonCosts.{range_cost, counts_cost, beside_range_cost, open_cost, pairs, is_fine, word_cost, notation_cost, short_word, long_word, sign_option_cost, or_left}
-
--- ---- Tests and options.
-pub if_some :
-    {A : Type 0} (b : Bool) (x y : Option A) (z : A) → (if b then x else y) ≡ Some z
-    → ((b ≡ true) × (x ≡ Some z)) ⊎ ((b ≡ false) × (y ≡ Some z))
-if_some true x y z e = inl (refl, e)
-if_some false x y z e = inr (refl, e)
-
-pub unless_some :
-    {A : Type 0} (b : Bool) (y : Option A) (z : A) → (if b then None else y) ≡ Some z → (b ≡ false) × (y ≡ Some z)
-unless_some true y z e = absurd (cc)
-unless_some false y z e = (refl, e)
-
-pub some_is : {A : Type 0} (x z : A) → Some x ≡ Some z → x ≡ z
-some_is x z e = cc
-
-pub map_some :
-    {A B : Type 0} (f : A → B) (o : Option A) (y : B) → option_map f o ≡ Some y → (x : A) × (o ≡ Some x) × (f x ≡ y)
-map_some f None y e = absurd (cc)
-map_some f (Some x) y e = (x, refl, cc)
-
-pub then_some :
-    {A B : Type 0} (f : A → Option B) (o : Option A) (y : B) → option_and_then f o ≡ Some y
-    → (x : A) × (o ≡ Some x) × (f x ≡ Some y)
-then_some f None y e = absurd (cc)
-then_some f (Some x) y e = (x, refl, e)
-
-pub and_left : (a b : Bool) → (a && b) ≡ true → a ≡ true
-and_left true b e = refl
-and_left false b e = absurd (cc)
-
-pub and_right : (a b : Bool) → (a && b) ≡ true → b ≡ true
-and_right true b e = e
-and_right false b e = absurd (cc)
-
-three_are : (a b c : Bool) → (a && b && c) ≡ true → (a ≡ true) × (b ≡ true) × (c ≡ true)
-three_are true true c e = (refl, refl, e)
-three_are true false c e = absurd (cc)
-three_are false b c e = absurd (cc)
-
-pub equal : (a b : ℕ) → (a == b) ≡ true → a ≡ b
-equal a b e = grind (arith, nat_tests)
-
--- a row that is found passes the test by which it is looked for, and each test that all rows pass
-pub found :
-    {A : Type 0} (test holds : A → Bool) (rows : List A) (row : A) → list_all holds rows ≡ true
-    → find test rows ≡ Some row → (test row ≡ true) × (holds row ≡ true)
-found test holds [] row all e = absurd (cc)
-found test holds (x ∷ xs) row all e =
-    found_in (test x) refl (found test holds xs row (and_right (holds x) (list_all holds xs) all)) e where
-      found_in :
-          (b : Bool) → test x ≡ b → (find test xs ≡ Some row → (test row ≡ true) × (holds row ≡ true))
-          → (if b then Some x else find test xs) ≡ Some row → (test row ≡ true) × (holds row ≡ true)
-      found_in true is rest here =
-          let same : x ≡ row = cc in
-          (ap test (sym same) ∙ is, ap holds (sym same) ∙ and_left (holds x) (list_all holds xs) all)
-      found_in false is rest there = rest there
+use Rattle.number_format.proofs.SkeletonCosts.{range_cost, counts_cost, beside_range_cost, open_cost, pairs, is_fine, word_cost, notation_cost, sign_option_cost}
+use Rattle.number_format.proofs.TestLaws.{and_both, or_left, equal, not_below, some_is, unless_some, map_some, then_some, found}
 
 -- ---- Words.
 -- the number of bytes of a padded word
@@ -93,22 +34,17 @@ first_at_most :
 first_at_most p xs k is = at_most (nat_lt k (position_or_len p xs)) refl where
   at_most : (b : Bool) → nat_lt k (position_or_len p xs) ≡ b → position_or_len p xs ≤ k
   at_most true before =
-      let inside : k < position_or_len p xs = grind (arith, nat_tests) in
-      let fails : p (get_or xs k 0) ≡ false = fails_before_first p xs k 0 inside in
+      let fails : p (get_or xs k 0) ≡ false = fails_before_first p xs k 0 (grind (arith, nat_tests)) in
       absurd (cc)
-  at_most false after = grind (arith, nat_tests)
+  at_most false after = not_below k (position_or_len p xs) after
 
 pub word_at_most : (padded text : List ℕ) → is_name padded text ≡ true → word_length padded ≤ length text
-word_at_most padded text is =
-    first_at_most (λ c. c == 32) padded (length text) (and_right _ (slice_index padded (length text) == 32) is)
-
-outside_blank : (c : ℕ) → (c == 32) ≡ true → is_outside 33 126 c ≡ true
-outside_blank c e = ap (is_outside 33 126) (equal c 32 e)
+word_at_most padded text is = first_at_most (λ c. c == 32) padded (length text) (and_both _ _ is).1
 
 pub name_at_most : (padded text : List ℕ) → is_name padded text ≡ true → run 33 126 padded ≤ length text
 name_at_most padded text is =
     first_at_most (is_outside 33 126) padded (length text)
-    (outside_blank (slice_index padded (length text)) (and_right _ (slice_index padded (length text) == 32) is))
+    (ap (is_outside 33 126) (equal _ 32 (and_both (starts_with nat_eq padded text) _ is).1))
 
 -- a meaning costs no more than this number of bytes and the white space after them
 pub record Costs (s : Span) (n : ℕ) (m : Meaning) : Type 0 where
@@ -129,17 +65,16 @@ at_most a b e = grind (arith, nat_tests)
 
 named_costs : (s : Span) (text : List ℕ) (m : Meaning) → named text ≡ Some m → Costs s (length text) m
 named_costs s text m is =
-    let f = λ (w : StemWord). ◌≡◌ {A = Meaning} (record { choice = w.choice; expected = w.expected }) m in
-    let x = map_some (λ (w : StemWord). record { choice = w.choice; expected = w.expected })
+    let w = map_some (λ (w : StemWord). record { choice = w.choice; expected = w.expected })
     (find (λ w. is_name w.text text) STEMS) m is in
-    let row = found (λ (w : StemWord). is_name w.text text) (fits s) STEMS x.0 (all_fit s) x.1 in
-    let size = word_at_most x.0.text text row.0 in
-    let all = three_are (pairs x.0.choice x.0.expected) (is_fine x.0.choice)
-    (nat_le (open_cost (with s x.0.choice no_choices) x.0.expected) (word_length x.0.text + 1)) row.1 in
-    subst (Costs s (length text)) x.2 (record {
-      pair = all.0;
-      fine = all.1;
-      few = omega (arith, at_most _ _ all.2, size);
+    let row = found (λ (w : StemWord). is_name w.text text) (fits s) STEMS w.0 (all_fit s) w.1 in
+    let size = word_at_most w.0.text text row.0 in
+    let x = and_both (pairs w.0.choice w.0.expected && is_fine w.0.choice) _ row.1 in
+    let y = and_both (pairs w.0.choice w.0.expected) (is_fine w.0.choice) x.0 in
+    subst (Costs s (length text)) w.2 (record {
+      pair = y.0;
+      fine = y.1;
+      few = omega (arith, at_most _ _ x.1, size);
     })
 
 -- ---- Numbers of digits.
@@ -152,18 +87,13 @@ counts_cases :
     else if less then None else Some (record { min = min; max = Some (min + more) })) ≡ Some k
     → (wild ≡ true → min + 1 ≤ n) → (less ≡ false → min + more ≤ n) → counts_cost k ≤ n
 counts_cases true less min more n k is star rest =
-    let same : ◌≡◌ {A = Counts} (record { min = min; max = None }) k = cc in
-    subst (λ (j : Counts). counts_cost j ≤ n) same (star refl)
+    subst (λ (j : Counts). counts_cost j ≤ n) (some_is _ k is) (star refl)
 counts_cases false true min more n k is star rest = absurd (cc)
 counts_cases false false min more n k is star rest =
-    let same : ◌≡◌ {A = Counts} (record { min = min; max = Some (min + more) }) k = cc in
-    subst (λ (j : Counts). counts_cost j ≤ n) same (rest refl)
+    subst (λ (j : Counts). counts_cost j ≤ n) (some_is _ k is) (rest refl)
 
 pub wild_length : (text : List ℕ) → is_wild text ≡ true → length text ≡ 1
-wild_length text is = wild_in (length text == 1) refl is where
-  wild_in : (b : Bool) → (length text == 1) ≡ b → is_wild text ≡ true → length text ≡ 1
-  wild_in true e h = equal (length text) 1 e
-  wild_in false e h = let no : false ≡ true = rw e at h in absurd (cc)
+wild_length text is = grind (arith, nat_tests)
 
 pub counts_at_most :
     (least more : ℕ) (text : List ℕ) (k : Counts) → counts least more text ≡ Some k → counts_cost k ≤ length text
@@ -181,16 +111,11 @@ nonempty [] c some is = absurd (grind (arith, nat_tests))
 nonempty (x ∷ xs) c some is = omega arith
 
 any_cost : (min : ℕ) (max : Option ℕ) → ((min == 0) && is_none max) ≡ true → 1 ≤ range_cost min max
-any_cost min None e = omega arith
-any_cost min (Some k) e = let no : false ≡ true = and_right (min == 0) false e in absurd (cc)
+any_cost min max e = grind (arith, nat_tests)
 
 some_cost :
     (min : ℕ) (max : Option ℕ) → ((min == 0) && is_none max) ≡ false → beside_range_cost min max ≤ range_cost min max
-some_cost min None e = beside (min == 0) refl e where
-  beside : (b : Bool) → (min == 0) ≡ b → (b && true) ≡ false → beside_range_cost min None ≤ range_cost min None
-  beside true is h = absurd (cc)
-  beside false is h = grind (arith, nat_tests)
-some_cost min (Some k) e = omega arith
+some_cost min max e = grind (arith, nat_tests)
 
 fraction_cases :
     (s : Span) (any : Bool) (c : Counts) (n : ℕ) → is_any c ≡ any → counts_cost c + 1 ≤ n
@@ -250,11 +175,10 @@ exponent_cases :
       expected = expected.Stem;
     })
 exponent_cases s true true auto digits n h = record { pair = refl; fine = refl; few = omega arith }
-exponent_cases s true false true digits n h = record { pair = refl; fine = refl; few = omega arith }
-exponent_cases s true false false digits n h = record { pair = refl; fine = refl; few = omega arith }
-exponent_cases s false true auto digits n h = record { pair = refl; fine = refl; few = omega arith }
-exponent_cases s false false true digits n h = record { pair = refl; fine = refl; few = omega arith }
-exponent_cases s false false false digits n h = record { pair = refl; fine = refl; few = omega arith }
+exponent_cases s true always true digits n h = record { pair = refl; fine = refl; few = omega arith }
+exponent_cases s engineering true auto digits n h = record { pair = refl; fine = refl; few = omega arith }
+exponent_cases s engineering always true digits n h = record { pair = refl; fine = refl; few = omega arith }
+exponent_cases s engineering always auto digits n h = record { pair = refl; fine = refl; few = omega arith }
 
 dropped_twice :
     (i j digits : ℕ) (text : List ℕ)
@@ -305,10 +229,6 @@ stem_costs s text m is =
       by_byte false false false false first e = named_costs s text m e
 
 -- ---- Options of stems.
--- an option after a stem adds no more than its bytes and the byte after it
-abbrev pub Adds : Choices → Span → Expected → ℕ → Meaning → Type 0
-Adds c s e n m = open_cost (with s m.choice c) m.expected ≤ open_cost c e + (n + 1)
-
 abbrev is_long_sign : StemWord → Bool
 is_long_sign w = is_none (chosen_exponent_sign w.choice) || nat_le 2 (word_length w.text)
 
@@ -333,13 +253,7 @@ sign_option_length text x is =
     omega (arith, at_most 2 (word_length w.0.text) long)
 
 sign_at_most : (x : ExponentSign) → sign_option_cost x ≤ 3
-sign_at_most sign.Never = omega arith
-sign_at_most sign.Always = omega arith
-sign_at_most sign.Auto = omega arith
-
-digits_at_most : (b : Bool) (n : ℕ) → (if b then n + 2 else 0) ≤ n + 2
-digits_at_most true n = omega arith
-digits_at_most false n = omega arith
+sign_at_most x = grind arith
 
 pub changed_at_most :
     (e x : Exponent) (text : List ℕ) → 0 < length text → changed_exponent e text ≡ Some x
@@ -356,21 +270,11 @@ changed_at_most e x text some is =
       by_test true h =
           let same : ◌≡◌ {A = Exponent} (record e { digits = length (drop 1 text) }) x = cc in
           subst (λ (y : Exponent). word_cost y ≤ word_cost e + (length text + 1)) same
-          (omega (arith, digits_at_most (nat_lt 1 (length (drop 1 text))) (length (drop 1 text)), length-drop 1 text))
+          (grind (arith, nat_tests, length-drop 1 text))
       by_test false h =
           let y = map_some (λ (s : ExponentSign). record e { sign = s }) (sign_option text) x h in
           subst (λ (z : Exponent). word_cost z ≤ word_cost e + (length text + 1)) y.2
           (omega (arith, sign_at_most y.0, sign_option_length text y.0 y.1))
 
 pub exponent_at_most : (e : Exponent) (s : Span) → notation_cost (Some (notation.Exponent e, s)) ≤ word_cost e
-exponent_at_most e s = by_sign e.is_engineering e.digits e.sign where
-  by_sign :
-      (engineering : Bool) (digits : ℕ) (x : ExponentSign)
-      → exponent_length (short_word engineering) (long_word engineering) digits x
-      ≤ long_word engineering + (if nat_lt 1 digits then digits + 2 else 0) + sign_option_cost x + 1
-  by_sign true digits sign.Never = omega arith
-  by_sign false digits sign.Never = omega arith
-  by_sign true digits sign.Always = grind (arith, nat_tests)
-  by_sign false digits sign.Always = grind (arith, nat_tests)
-  by_sign true digits sign.Auto = grind (arith, nat_tests)
-  by_sign false digits sign.Auto = grind (arith, nat_tests)
+exponent_at_most e s = grind (arith, nat_tests)

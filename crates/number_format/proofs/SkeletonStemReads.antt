@@ -1,5 +1,5 @@
 -- Pieces without a separator are read as they are written.
-use Rattle.std.proofs.Common.{◌≡◌, ℕ, ◌+◌, ◌-◌, ◌<◌, Bool, true, false, refl, ap, sym, ◌∙◌, arith, List, [], ◌∷◌, ◌++◌, length, take, append_assoc, length-append}
+use Rattle.std.proofs.Common.{◌≡◌, ℕ, ◌+◌, ◌-◌, ◌<◌, Bool, true, false, refl, ap, sym, ◌∙◌, subst, arith, ◌⊎◌, inl, inr, List, [], ◌∷◌, ◌++◌, length, take, append_assoc, length-append}
 use Rattle.std.specs.Prelude.{◌==◌, nat_le, ◌&&◌, ◌||◌, not, slice_index, Some, Ok}
 use Rattle.std.specs.List.{list_all}
 use Rattle.std.proofs.Math.Seq.{take-append_seam, get_or-append_seam}
@@ -17,6 +17,7 @@ use Rattle.number_format.specs.SkeletonOptions.{option}
 use Rattle.number_format.specs.SkeletonReading.{from_end, separator_length, pieces, is_stem, needs_option, read_piece, next, read_pieces}
 use Rattle.number_format.specs.SkeletonStems.{stem}
 use Rattle.number_format.proofs.SkeletonPieces.{ended, pieces_more, pieces_next, read_next}
+use Rattle.number_format.proofs.TestLaws.{and_both}
 
 -- ---- Bytes that are no separator.
 abbrev pub is_plain : ℕ → Bool
@@ -60,10 +61,6 @@ pub separator_is : (bytes : List ℕ) {c : ℕ} → IsSeparator c → separator_
 unfolding separator_length
 separator_is bytes slash = rw (some_bytes bytes 47, last_is bytes 47) refl
 separator_is bytes space = rw (some_bytes bytes 32, last_is bytes 32) refl
-
-and_both : (a b : Bool) → (a && b) ≡ true → (a ≡ true) × (b ≡ true)
-and_both true b e = (refl, e)
-and_both false b e = absurd (cc)
 
 -- ---- One piece.
 plain_more :
@@ -142,6 +139,19 @@ closes r start p rest c e s plain is done =
     let reads : next r start p false ≡ Ok (at c expected.Stem s) = rw (is, done) refl in
     piece_read p rest 32 start r (at c expected.Stem s) plain space reads
 
+-- ---- The last space.
+-- no bytes, or a space after others
+abbrev pub Ends : List ℕ → Type 0
+Ends text = (text ≡ []) ⊎ ((front : List ℕ) × (text ≡ front ++ 32 ∷ []))
+
+-- any bytes before
+pub ends_after : (a b front : List ℕ) → b ≡ front ++ 32 ∷ [] → Ends (a ++ b)
+ends_after a b front e = inr (a ++ front, ap (λ t. a ++ t) e ∙ sym (append_assoc a front (32 ∷ [])))
+
+pub ends_append : (a b : List ℕ) → Ends a → Ends b → Ends (a ++ b)
+ends_append a b x (inl e) = subst Ends (sym (ap (λ t. a ++ t) e ∙ append-nil a)) x
+ends_append a b x (inr (front, e)) = ends_after a b front e
+
 -- ---- Texts that choose something.
 -- after `text` the choices are `set x`, and the rest is read from an offset
 pub record Step {X : Type 0} (set : X → Choices) (Holds : X → Type 0) (c : Choices) (s : Span) (start : ℕ)
@@ -152,3 +162,74 @@ pub record Step {X : Type 0} (set : X → Choices) (Holds : X → Type 0) (c : C
   pub offset : ℕ
   pub same : read_pieces (at c expected.Stem s) (pieces start [] (text ++ rest))
       ≡ read_pieces (at (set x) expected.Stem stem) (pieces offset [] rest)
+  pub ends : Ends text
+
+-- no stem
+pub no_stem :
+    {X : Type 0} (set : X → Choices) (Holds : X → Type 0) (s : Span) (start : ℕ) (rest : List ℕ) (x : X) → Holds x
+    → Step set Holds (set x) s start [] rest
+no_stem set Holds s start rest x holds =
+    record { x = x; holds = holds; stem = s; offset = start; same = refl; ends = inl refl }
+
+-- a stem
+pub one_stem :
+    {X : Type 0} (set : X → Choices) (Holds : X → Type 0) (c : Choices) (s : Span) (start : ℕ) (p rest : List ℕ)
+    (m : Meaning) (x : Span → X) → are_plain p ≡ true → 0 < length p → stem p ≡ Some m → has c m.choice ≡ false
+    → needs_option m.expected ≡ false → ((t : Span) → Holds (x t)) → ((t : Span) → with t m.choice c ≡ set (x t))
+    → Step set Holds c s start (p ++ 32 ∷ []) rest
+one_stem set Holds c s start p rest m x plain some is none done holds sets =
+    let t : Span = record { start = start; end = start + length p } in
+    let k = start + length (p ++ 32 ∷ []) in
+    record {
+      x = x t;
+      holds = holds t;
+      stem = t;
+      offset = k;
+      same = ap (λ b. read_pieces (at c expected.Stem s) (pieces start [] b)) (append_assoc p (32 ∷ []) rest)
+          ∙ closes (at c expected.Stem s) start p rest _ m.expected t plain (stem_piece c s start p m some is none) done
+          ∙ ap (λ d. read_pieces (at d expected.Stem t) (pieces k [] rest)) (sets t);
+      ends = inr (p, refl);
+    }
+
+-- a stem and its option
+pub with_option :
+    {X : Type 0} (set : X → Choices) (Holds : X → Type 0) (c : Choices) (s : Span) (start : ℕ) (p q rest : List ℕ)
+    (m : Meaning) (n : Span → Meaning) (x : Span → X) → are_plain p ≡ true → 0 < length p → stem p ≡ Some m
+    → has c m.choice ≡ false → is_stem m.expected ≡ false → are_plain q ≡ true → 0 < length q
+    → ((t : Span) → option m.expected q ≡ Some (n t)) → ((t : Span) → needs_option (n t).expected ≡ false)
+    → ((t : Span) → Holds (x t)) → ((t : Span) → with t (n t).choice (with t m.choice c) ≡ set (x t))
+    → Step set Holds c s start (p ++ 47 ∷ (q ++ 32 ∷ [])) rest
+with_option set Holds c s start p q rest m n x plain some is none opened shown more found done holds sets =
+    let t : Span = record { start = start; end = start + length p } in
+    let k = start + length (p ++ 47 ∷ []) in
+    let d = with t m.choice c in
+    record {
+      x = x t;
+      holds = holds t;
+      stem = t;
+      offset = k + length (q ++ 32 ∷ []);
+      same = ap (λ b. read_pieces (at c expected.Stem s) (pieces start [] b))
+          (append_assoc p (47 ∷ (q ++ 32 ∷ [])) rest ∙ ap (λ b. p ++ 47 ∷ b) (append_assoc q (32 ∷ []) rest))
+          ∙ opens (at c expected.Stem s) start p (q ++ 32 ∷ rest) d m.expected t plain
+          (stem_piece c s start p m some is none) opened
+          ∙ closes (at d m.expected t) k q rest _ (n t).expected t shown
+          (option_piece d m.expected t k q (n t) more opened (found t)) (done t)
+          ∙ ap (λ e. read_pieces (at e expected.Stem t) (pieces (k + length (q ++ 32 ∷ [])) [] rest)) (sets t);
+      ends = ends_after p (47 ∷ (q ++ 32 ∷ [])) (47 ∷ q) refl;
+    }
+
+-- a text after another
+pub joined :
+    {X Y Z : Type 0} {set : X → Choices} {Holds : X → Type 0} {next : Y → Choices} {Also : Y → Type 0}
+    (last : Z → Choices) (All : Z → Type 0) {c : Choices} {s : Span} {start : ℕ} {p q rest : List ℕ}
+    → (t : Step set Holds c s start p (q ++ rest)) → (u : Step next Also (set t.x) t.stem t.offset q rest) → (z : Z)
+    → All z → next u.x ≡ last z → Step last All c s start (p ++ q) rest
+joined last All {c = c} {s = s} {start = start} {p = p} {q = q} {rest = rest} t u z all e = record {
+  x = z;
+  holds = all;
+  stem = u.stem;
+  offset = u.offset;
+  same = ap (λ b. read_pieces (at c expected.Stem s) (pieces start [] b)) (append_assoc p q rest) ∙ t.same ∙ u.same
+      ∙ ap (λ d. read_pieces (at d expected.Stem u.stem) (pieces u.offset [] rest)) e;
+  ends = ends_append p q t.ends u.ends;
+}

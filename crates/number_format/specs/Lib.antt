@@ -10,7 +10,6 @@ pub mod SkeletonOptions
 pub mod SkeletonReading
 pub mod SkeletonDigits
 pub mod SkeletonMeaning
-pub mod SkeletonLengths
 pub mod SkeletonTexts
 pub mod AffixedTexts
 pub mod TextParts

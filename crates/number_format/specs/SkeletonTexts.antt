@@ -8,6 +8,7 @@ use Rattle.fixed_decimal.specs.declared.rounding.SignedRoundingMode.{SignedRound
 use Rattle.fixed_decimal.specs.declared.rounding.SignedRoundingMode.TheVariants as mode
 use Rattle.fixed_decimal.specs.declared.variations.SignDisplay.{SignDisplay}
 use Rattle.fixed_decimal.specs.declared.variations.SignDisplay.TheVariants as display
+use Rattle.locale_data.specs.Currencies.{currency_with, digits_of as listed_digits}
 use Rattle.locale_data.specs.declared.currency.CurrencySign.{CurrencySign}
 use Rattle.locale_data.specs.declared.currency.CurrencySign.TheVariants as currency_sign
 use Rattle.number_format.specs.declared.number_options.CompactLength.TheVariants.{Short, Long}
@@ -19,11 +20,14 @@ use Rattle.number_format.specs.declared.number_options.NumberNotation.{NumberNot
 use Rattle.number_format.specs.declared.number_options.NumberNotation.TheVariants.{Standard, Scientific, Engineering, Compact}
 use Rattle.number_format.specs.declared.number_options.NumberStyle.{NumberStyle}
 use Rattle.number_format.specs.declared.number_options.NumberStyle.TheVariants as style
+use Rattle.number_format.specs.declared.digit_options.TrailingZeros.{TrailingZeros}
+use Rattle.number_format.specs.declared.digit_options.TrailingZeros.TheVariants as zeros
+use Rattle.number_format.specs.declared.number_options.CurrencyUsage.{CurrencyUsage}
+use Rattle.number_format.specs.declared.number_options.CurrencyUsage.TheVariants as usage
 use Rattle.number_format.specs.declared.precision.Minimum.TheVariants.{Chosen, Both}
 use Rattle.number_format.specs.DefaultDigits.{is_compact}
 use Rattle.number_format.specs.SkeletonCounts.{run}
 use Rattle.number_format.specs.SkeletonDigits.{PrecisionValue, Fraction, Multiples, Significant, More, Less, DigitsValue}
-use Rattle.number_format.specs.SkeletonLengths.{decimal_length, is_default, is_cash, strips, style_sign}
 use Rattle.number_format.specs.SkeletonMeaning.{OptionsValue, skeleton_options}
 use Rattle.number_format.specs.SkeletonStems.{is_name}
 
@@ -34,6 +38,15 @@ digit_bytes numbers = map (λ n. 48 + n % 10) numbers
 -- the last digits of an integer, at most five
 abbrev pub last_digits : ℕ → ℕ → List ℕ
 last_digits n count = digit_bytes (drop (5 - count) (n / 10000 ∷ n / 1000 ∷ n / 100 ∷ n / 10 ∷ n ∷ []))
+
+-- the number of digits of an integer below 100,000
+abbrev pub decimal_length : ℕ → ℕ
+decimal_length n =
+    if nat_lt n 10 then 1
+    else if nat_lt n 100 then 2
+    else if nat_lt n 1000 then 3
+    else if nat_lt n 10000 then 4
+    else 5
 
 -- an integer below 100,000
 abbrev pub decimal_text : ℕ → List ℕ
@@ -151,6 +164,25 @@ precision_text (More f s Chosen) = beside_text f ++ (range_text s ++ 114 ∷ [])
 precision_text (Less f s Both) = beside_text f ++ range_text s
 precision_text (Less f s Chosen) = beside_text f ++ (range_text s ++ 115 ∷ [])
 
+-- the precision that a skeleton without a stem for it has
+abbrev pub is_default : Bool → NumberStyle → PrecisionValue → Bool
+is_default true style (More f s Chosen) = (f.0 == 0) && (f.1 == 0) && (s.0 == 1) && (s.1 == 2)
+is_default false (style.Currency c) (Fraction f) =
+    (f.0 == (listed_digits (currency_with c.code)).digits) && (f.1 == (listed_digits (currency_with c.code)).digits)
+is_default false style (Fraction f) = (f.0 == 0) && (f.1 == 6)
+is_default compact style precision = false
+
+abbrev pub is_cash : NumberStyle → Bool
+is_cash (style.Currency c) = is_cash_usage c.usage where
+  is_cash_usage : CurrencyUsage → Bool
+  is_cash_usage usage.Standard = false
+  is_cash_usage usage.Cash = true
+is_cash style = false
+
+abbrev pub strips : TrailingZeros → Bool
+strips zeros.StripIfInteger = true
+strips zeros.Auto = false
+
 abbrev pub strips_text : Bool → List ℕ
 strips_text strips = if strips then 47 ∷ 119 ∷ 32 ∷ [] else 32 ∷ []
 
@@ -187,6 +219,10 @@ grouping_text false grouping.Auto = []
 grouping_text false grouping.Min2 = codes ",? "
 grouping_text compact grouping.Never = codes ",_ "
 grouping_text compact grouping.Always = codes ",! "
+
+abbrev pub style_sign : NumberStyle → CurrencySign
+style_sign (style.Currency c) = c.sign
+style_sign style = currency_sign.Standard
 
 abbrev pub sign_text : CurrencySign → SignDisplay → List ℕ
 sign_text currency_sign.Standard display.Auto = []

@@ -5,8 +5,7 @@ ghost use Rattle.number_format.specs.SkeletonCounts.{run};
 ghost use Rattle.number_format.specs.ShownDigits.{increment_of};
 ghost use Rattle.number_format.specs.SkeletonDigits.{precision_value, digits_value};
 ghost use Rattle.number_format.specs.SkeletonMeaning.{options_value};
-ghost use Rattle.number_format.specs.SkeletonLengths.{decimal_length, is_default, is_cash, strips, style_sign};
-ghost use Rattle.number_format.specs.SkeletonTexts.{last_digits, decimal_text, power_text, thousands_text, whole_text, pointed_by, pointed_text, increment_text, least_digits_text, exponent_text, notation_text, width_text, scale_text, ascii, style_text, fraction_text, beside_text, range_text, significant_text, precision_text, strips_text, shown_precision_text, mode_text, integer_text, grouping_text, sign_text, system_text, digits_text, options_text};
+ghost use Rattle.number_format.specs.SkeletonTexts.{decimal_length, is_default, is_cash, strips, style_sign, last_digits, decimal_text, power_text, thousands_text, whole_text, pointed_by, pointed_text, increment_text, least_digits_text, exponent_text, notation_text, width_text, scale_text, ascii, style_text, fraction_text, beside_text, range_text, significant_text, precision_text, strips_text, shown_precision_text, mode_text, integer_text, grouping_text, sign_text, system_text, digits_text, options_text};
 ghost use Rattle.number_format.specs.declared.precision.Precision.TheVariants.{MorePrecision, LessPrecision};
 
 use crate::digit_options::{DigitOptions, TrailingZeros};
