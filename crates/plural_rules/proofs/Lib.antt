@@ -6,4 +6,3 @@ pub mod ParserComplete
 pub mod ParserSound
 pub mod ViablePrefixes
 pub mod ParserInvariants
-pub mod Evaluations

@@ -54,18 +54,19 @@ pub record Checked (text : List ℕ) (i : ℕ) (s : State) (seen : Categories) (
   pub parsed : Parsed text i s seen numbers p
   pub built : is_built ≡ true → partial seen builder ≡ p
 
-pub parsed_first : (text : List ℕ) → Parsed text 0 state.Category no_categories (Fit 0 false 0) no_rules
-parsed_first text = record {
-  runs = refl;
-  seen_is = refl;
-  opens = refl;
-  front = λ h. absurd (false≢true h);
-  numbers_are = (refl, refl, refl, λ h. absurd (false≢true h));
-}
-
 pub checked_first : (text : List ℕ) (b : Builder) → partial no_categories b ≡ no_rules
     → Checked text 0 state.Category no_categories (Fit 0 false 0) b true
-checked_first text b empty = record { p = no_rules; parsed = parsed_first text; built = λ h. empty }
+checked_first text b empty = record {
+  p = no_rules;
+  parsed = record {
+    runs = refl;
+    seen_is = refl;
+    opens = refl;
+    front = λ h. absurd (false≢true h);
+    numbers_are = (refl, refl, refl, λ h. absurd (false≢true h));
+  };
+  built = λ h. empty;
+}
 
 -- an event changes the categories of the reader and those of the rules in the same way
 seen_after_is : (e : Event) (p : Partial) → (after e p).seen ≡ seen_after e p.seen
@@ -139,17 +140,17 @@ module _ (text : List ℕ) (i : ℕ) (s : State) (p : Partial) (s2 : State) (les
   numbers_more e (Fit n is_modulus begin) to h = (run_on e to refl h.0, (cc), (cc), apart e to refl)
 
 -- the event of the next byte is small, while all numbers fit
-pub small_after : {text : List ℕ} {i : ℕ} {s : State} {seen : Categories} {numbers : Numbers} {p : Partial} (e : Event)
-    → Parsed text i s seen numbers p → all_fit (numbers_after numbers i e) ≡ true → IsSmall e p.number p.is_divided
-small_after {text} {i} {s} {seen} {numbers} {p} e h fit = grind (arith, nat_tests, reached_strictly)
-
 pub small : {text : List ℕ} {i : ℕ} {s : State} {seen : Categories} {numbers : Numbers} {b : Builder} {is_built : Bool}
     (e : Event) → Checked text i s seen numbers b is_built → is_built ≡ true
     → all_fit (numbers_after numbers i e) ≡ true → IsSmall e b.number b.is_divided
 small {text} {i} {s} {seen} {numbers} {b} e h built fit =
-    subst (λ p. IsSmall e p.number p.is_divided) (sym (h.built built)) (small_after e h.parsed fit)
+    subst (λ p. IsSmall e p.number p.is_divided) (sym (h.built built)) (of_numbers numbers h.parsed.numbers_are fit)
+  where
+    of_numbers : (numbers : Numbers) → NumbersAre text i s h.p numbers → all_fit (numbers_after numbers i e) ≡ true
+        → IsSmall e h.p.number h.p.is_divided
+    of_numbers numbers are fit = grind (arith, nat_tests, reached_strictly)
 
-pub parsed_more :
+parsed_more :
     {text : List ℕ} {i : ℕ} {s : State} {seen : Categories} {numbers : Numbers} {p : Partial} (s2 : State) (e : Event)
     → i < length text → Parsed text i s seen numbers p → next seen s (get_or text i 0) ≡ Some (s2, e)
     → Parsed text (i + 1) s2 (seen_after e seen) (numbers_after numbers i e) (after e p)
@@ -192,7 +193,7 @@ module _ {text : List ℕ} {i : ℕ} {s : State} {seen : Categories} {numbers : 
       → read_text strict text ≡ Some (after e p).rules
   reads strict runs = grind (arith, finish, run_text, take_all, finished)
 
-  pub grammar : Grammar text (after e p).rules
+  grammar : Grammar text (after e p).rules
   grammar = read-sound (reads false h.runs)
 
   pub checked_whole : AreNumbersOf text numbers

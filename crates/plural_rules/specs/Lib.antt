@@ -5,4 +5,3 @@ pub mod RulesGrammar
 pub mod RulesReader
 pub mod RulesParseResult
 pub mod RulesBuilder
-pub mod RulesEvaluation

@@ -222,8 +222,8 @@ range_of None n = record { low = n; high = n }
 range_of (Some low) n = record { low = low; high = n }
 
 -- the modulus that was read, if any; it is not 0
-abbrev pub modulus_of : Bool → ℕ → Option ℕ
-modulus_of is_divided n = if is_divided && nat_lt 0 n then Some n else None
+abbrev pub modulus_read : Bool → ℕ → Option ℕ
+modulus_read is_divided n = if is_divided && nat_lt 0 n then Some n else None
 
 abbrev pub end_range : Partial → Partial
 end_range p = record p { ranges = p.ranges ++ range_of p.low p.number ∷ []; low = None }
@@ -248,7 +248,7 @@ after event.Percent p = record p { is_divided = true; number = 0 }
 after (event.First d) p = record p { number = d }
 after (event.Digit d) p = record p { number = p.number * 10 + d }
 after (event.Equal is_equal) p =
-    record p { is_equal = is_equal; modulus = modulus_of p.is_divided p.number; is_divided = false; low = None }
+    record p { is_equal = is_equal; modulus = modulus_read p.is_divided p.number; is_divided = false; low = None }
 after event.To p = record p { low = Some p.number }
 after event.Comma p = end_range p
 after event.And p = end_relation (end_range p)

@@ -8,6 +8,6 @@ mod parse;
 mod rules;
 
 pub use operands::PluralOperands;
-pub use parse::{RulesError, category_by_text};
+pub use parse::RulesError;
 pub use rules::category::relation_holds;
 pub use rules::{Modulus, Operand, PluralCategory, PluralRules, Range};

@@ -1,19 +1,15 @@
 //! The parser of rules.
-ghost use Rattle.std.specs.Prelude.{◌≡◌, List, IfSome, IfNone};
+ghost use Rattle.std.specs.Prelude.{◌≡◌, List};
 ghost use Rattle.plural_rules.specs.Rules.{RuleValue};
-ghost use Rattle.plural_rules.specs.RulesGrammar.{Grammar, IsCategoryByText};
-ghost use Rattle.plural_rules.specs.RulesParseResult.{Fits, IsParseResult};
+ghost use Rattle.plural_rules.specs.RulesGrammar.{Grammar};
+ghost use Rattle.plural_rules.specs.RulesParseResult.{IsParseResult};
 
 mod builder;
-mod evaluation;
 mod numbers;
 mod state;
 
-use crate::operands::PluralOperands;
-use crate::rules::{PluralCategory, PluralRules};
+use crate::rules::PluralRules;
 use builder::Builder;
-use evaluation::Evaluation;
-use fixed_decimal::DigitStore;
 use numbers::Numbers;
 use state::{Categories, State};
 use std::alloc::Global;
@@ -49,46 +45,6 @@ fn read(alloc: Global, text: &[u8]) -> Result<PluralRules, RulesError>
         return Err(RulesError::Memory);
     }
     Ok(builder.into_rules())
-}
-
-/// Returns the category of a number by a text of rules, as [`PluralRules::category`] does. It does not allocate.
-/// `None`: the text is not rules, or a number of it is too great.
-///
-/// ```
-/// category_by_text(b"one: i = 1 and v = 0", &PluralOperands::of_decimal(&one)) // one
-/// ```
-pub fn category_by_text<D: DigitStore>(
-    text: &[u8],
-    number: &PluralOperands<'_, D>,
-) -> Option<PluralCategory>
-    ensures some { IfSome result (λ category. IsCategoryByText text.now number.now category) }
-    ensures none { IfNone result ((rules : List RuleValue) → Grammar text.now rules → ¬ Fits rules) }
-{
-    let mut state = State::Category;
-    let mut seen = Categories::none();
-    let mut numbers = Numbers::Fit {
-        number: 0,
-        is_modulus: false,
-        begin: 0,
-    };
-    let mut evaluation = Evaluation::new();
-    for (at, byte) in text.iter().enumerate() {
-        let Some((next, event)) = state.next(seen, *byte) else {
-            return None;
-        };
-        numbers = numbers.after(at, event);
-        if !numbers.all_fit() {
-            return None;
-        }
-        evaluation.take(number, event);
-        seen = seen.after(event);
-        state = next;
-    }
-    let Some(event) = state.at_end() else {
-        return None;
-    };
-    evaluation.take(number, event);
-    Some(evaluation.category())
 }
 
 /// The reason for which a text of rules is rejected.

@@ -27,9 +27,9 @@ pub struct Builder {
     number: u64,
 }
 
-pub fn modulus_read(is_divided: bool, number: u64) -> Option<Modulus>
+fn modulus_read(is_divided: bool, number: u64) -> Option<Modulus>
     requires { is_divided ≡ true → number ≤ 10 ^ 18 }
-    ensures { result ≡ reader.modulus_of is_divided number }
+    ensures { result ≡ reader.modulus_read is_divided number }
 {
     if is_divided {
         Modulus::new(number)

@@ -2,7 +2,7 @@
 ghost use Rattle.std.specs.Prelude.{◌≡◌, ℕ, ◌%◌, ◌^◌, ◌<◌, ◌≤◌};
 ghost use Rattle.std.specs.List.{list_any, list_all};
 ghost use Rattle.plural_rules.specs.DigitSlice.{IsUpTo};
-ghost use Rattle.plural_rules.specs.Rules.{operand_value, by_modulus, in_range, is_integer, relation, holds, is_met, category_of};
+ghost use Rattle.plural_rules.specs.Rules.{operand_value, in_range, is_integer, relation, holds, is_met, category_of};
 
 use super::{Modulus, Operand, PluralCategory, PluralRules, Range, Relation, Rule};
 use crate::operands::PluralOperands;
@@ -55,25 +55,7 @@ impl Range {
     }
 }
 
-/// Returns whether an operand, or its remainder by a modulus, is in a range.
-pub(crate) fn is_in_range<D: DigitStore>(
-    number: &PluralOperands<'_, D>,
-    operand: Operand,
-    modulus: Option<Modulus>,
-    range: &Range,
-) -> bool
-    ensures { result ≡ in_range (by_modulus modulus (operand_value number.now operand)) range.now }
-{
-    match modulus {
-        None => range.contains(operand_up_to(number, operand, range.high)),
-        Some(modulus) => {
-            let remainder = operand_modulo(number, operand, modulus.divisor());
-            range.low <= remainder && remainder <= range.high
-        }
-    }
-}
-
-pub(crate) fn is_integer<D: DigitStore>(number: &PluralOperands<'_, D>, operand: Operand) -> bool
+fn is_integer<D: DigitStore>(number: &PluralOperands<'_, D>, operand: Operand) -> bool
     ensures { result ≡ is_integer number.now operand }
 {
     operand != Operand::N || number.w() == 0

@@ -8,8 +8,9 @@ use Rattle.plural_rules.specs.declared.rules.PluralCategory.TheVariants.{Other}
 use Rattle.plural_rules.specs.Operands.{Operands}
 use Rattle.plural_rules.specs.Rules.{is_met, category_of}
 use Rattle.locale_data.specs.declared.plural_rows.RuleRow.{RuleRow}
-use Rattle.locale_data.specs.PluralRows.{rule_of}
+use Rattle.locale_data.specs.PluralRows.{rule_of, rules_in}
 use Rattle.locale_data.proofs.plural_rows.category_in.Goals as goal
+use Rattle.locale_data.proofs.plural_rows.category_in.Goals.{After-find}
 
 abbrev category : Option RuleRow → PluralCategory
 category row = option_map_or (λ r. r.category) row Other
@@ -25,26 +26,22 @@ category_of_rows n (row ∷ rows) =
       | false ↦ category_of_rows n rows
     ]
 
-pub returns-in-None : goal.returns-in-None
-returns-in-None g c =
-    let rows = c.part-rows.result.now in
+category_is : (g : _) (c : After-find g) → category (option_map (λ r. r.now) c.find.result)
+    ≡ category_of (rules_in c.args.rules) c.args.number.now
+category_is g c =
     let n = c.args.number.now in
-    let found : option_map (λ r. r.now) c.find.result ≡ find (λ r. is_met n (rule_of r)) rows =
-    find_from_yields_List (λ r. is_met n (rule_of r)) _ _ c.find.result c.find.ensures.ran
-    (YieldsList-from_slice rows cc) (λ x b q k. search (rules, tests)) in
-    ap (λ r. category (option_map (λ r. r.now) r)) (sym c.in-None.is)
-    ∙ ap category found
+    let rows = c.part-rows.result.now in
+    ap category (find_from_yields_List (λ r. is_met n (rule_of r)) _ _ c.find.result c.find.ensures.ran
+    (YieldsList-from_slice rows cc) (λ x b q k. search (rules, tests)))
     ∙ category_of_rows n rows
     ∙ ap (λ rows. category_of (map rule_of rows) n) c.part-rows.ensures
 
+pub returns-in-None : goal.returns-in-None
+returns-in-None g c =
+    ap (λ r. category (option_map (λ r. r.now) r)) (sym c.in-None.is)
+    ∙ category_is g (goal.at.returns-in-None g c).After-find
+
 pub returns-in-Some : goal.returns-in-Some
 returns-in-Some g c =
-    let rows = c.part-rows.result.now in
-    let n = c.args.number.now in
-    let found : option_map (λ r. r.now) c.find.result ≡ find (λ r. is_met n (rule_of r)) rows =
-    find_from_yields_List (λ r. is_met n (rule_of r)) _ _ c.find.result c.find.ensures.ran
-    (YieldsList-from_slice rows cc) (λ x b q k. search (rules, tests)) in
     ap (λ r. category (option_map (λ r. r.now) r)) (sym c.in-Some.is)
-    ∙ ap category found
-    ∙ category_of_rows n rows
-    ∙ ap (λ rows. category_of (map rule_of rows) n) c.part-rows.ensures
+    ∙ category_is g (goal.at.returns-in-Some g c).After-find
