@@ -8,16 +8,16 @@ use Rattle.std.specs.Option.{option_or, option_map_or}
 use Rattle.std.specs.Str.{is_utf8, chars}
 use Rattle.plural_rules.specs.declared.rules.PluralCategory.{PluralCategory}
 use Rattle.plural_rules.specs.declared.rules.PluralCategory.TheVariants as category
-use Rattle.locale_data.specs.declared.compact.CompactAffixes.{CompactAffixes}
 use Rattle.locale_data.specs.declared.compact.CompactCount.{CompactCount}
 use Rattle.locale_data.specs.declared.compact.CompactCount.TheVariants.{ExactlyOne, Zero, One, Two, Few, Many, Other}
 use Rattle.locale_data.specs.declared.compact.CompactPattern.{CompactPattern}
 use Rattle.locale_data.specs.declared.compact.CompactRun.{CompactRun}
+use Rattle.locale_data.specs.declared.compact.CompactSet.{CompactSet}
 use Rattle.locale_data.specs.declared.compact.CompactStyle.{CompactStyle}
 use Rattle.locale_data.specs.declared.compact.PercentUnit.{PercentUnit}
-use Rattle.locale_data.specs.declared.compact_table.TheConstants.{COMPACT_RUNS, COMPACT_PATTERNS, PERCENT_UNITS}
+use Rattle.locale_data.specs.declared.compact_table.TheConstants.{COMPACT_SETS, COMPACT_RUNS, COMPACT_PATTERNS, PERCENT_UNITS}
 use Rattle.locale_data.specs.declared.number_formats.NumberFormats.{NumberFormats}
-use Rattle.locale_data.specs.Compact.{count_of, count_code, range_of, run_at, pattern_with, pattern_for, pattern_in, needs_category, unit_for, has_texts, has_unit_texts, AreAffixesOf, HasAffixes, NeedsCategory}
+use Rattle.locale_data.specs.Compact.{count_of, count_code, range_of, run_at, pattern_with, pattern_for, pattern_in, needs_category, unit_for, has_texts, has_unit_texts, NeedsCategory}
 use Rattle.locale_data.specs.declared.rows.TableRange.{TableRange}
 use Rattle.locale_data.specs.Rows.{part}
 use Rattle.locale_data.proofs.EachRow.{passes}
@@ -134,25 +134,22 @@ same_pattern (p ∷ []) a b x y e = for_each a x ∙ sym (for_each b y)
         (sym (is_other p.count e)) (only_other p category is_one)
 same_pattern (p ∷ (q ∷ patterns)) a b x y e = absurd (cc)
 
-pub same_affixes : (f : NumberFormats) (style : CompactStyle) (magnitude : ℤ) (a b : PluralCategory) (x y : Bool)
-    (shown : Option CompactAffixes) → NeedsCategory f style magnitude false → HasAffixes f style magnitude a x shown
-    → HasAffixes f style magnitude b y shown
-same_affixes f style magnitude a b x y shown needs has = record {
-  run = has.run;
-  of_magnitude = has.of_magnitude;
-  value = subst (λ p. AreAffixesOf p shown) (by has.run none_needed) has.value;
-}
+-- the pattern of a magnitude that needs no category is the same for each number
+pub same_patterns : (f : NumberFormats) (style : CompactStyle) (magnitude : ℤ) (a b : PluralCategory) (x y : Bool)
+    (set : CompactSet) → slice_get COMPACT_SETS f.compact ≡ Some set → NeedsCategory f style magnitude false
+    → pattern_in (run_at (part COMPACT_RUNS (range_of set style)) magnitude) a x
+    ≡ pattern_in (run_at (part COMPACT_RUNS (range_of set style)) magnitude) b y
+same_patterns f style magnitude a b x y set listed needs =
+    by (run_at (part COMPACT_RUNS (range_of set style)) magnitude) none_needed
   where
-    set_is : has.of_magnitude.set ≡ needs.of_magnitude.set
-    set_is = same_Some _ _ (sym has.of_magnitude.listed ∙ needs.of_magnitude.listed)
-
-    run_is : has.run ≡ needs.run
+    run_is : run_at (part COMPACT_RUNS (range_of set style)) magnitude ≡ needs.run
     run_is =
-        has.of_magnitude.value
-        ∙ ap (λ set. run_at (part COMPACT_RUNS (range_of set style)) magnitude) set_is
+        ap (λ set. run_at (part COMPACT_RUNS (range_of set style)) magnitude)
+        (same_Some _ _ (sym listed ∙ needs.of_magnitude.listed))
         ∙ sym needs.of_magnitude.value
 
-    none_needed : option_map_or (λ r. needs_category (part COMPACT_PATTERNS r.patterns)) has.run false ≡ false
+    none_needed : option_map_or (λ r. needs_category (part COMPACT_PATTERNS r.patterns))
+        (run_at (part COMPACT_RUNS (range_of set style)) magnitude) false ≡ false
     none_needed =
         ap (λ r. option_map_or (λ r. needs_category (part COMPACT_PATTERNS r.patterns)) r false) run_is
         ∙ sym needs.value

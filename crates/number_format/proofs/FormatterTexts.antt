@@ -15,7 +15,7 @@ use Rattle.number_format.specs.declared.number_options.NumberStyle.TheVariants a
 use Rattle.number_format.specs.Formatters.{compact_style, exponent_options, IsFormatter}
 use Rattle.number_format.specs.AffixedTexts.{by_sign, text_with}
 use Rattle.number_format.specs.NumberReading.{IsStandard, affixes_for, affixes_of_formatter, reader_of, CanRead, IsShownAs}
-use Rattle.number_format.specs.NumberText.{IsNumberText, AreTexts, literal, shown_sign, pattern_around, around_by, pieces_around, shown_exponent}
+use Rattle.number_format.specs.NumberText.{IsNumberText, shown_sign, compact_magnitude, is_one, words_by, unit_by, pattern_around, around_by, pieces_around, shown_exponent}
 use Rattle.number_format.specs.Scaled.{ScaledValue}
 use Rattle.number_format.specs.TextParts.{digit_pieces, pieces_text}
 use Rattle.number_format.specs.declared.text_part.PartKind.TheVariants as kind
@@ -49,20 +49,15 @@ pub formatter_text : (f : NumberFormatter) (v u : Decimal) (text : List ℕ) →
     → IsShownAs f v u → text ≡ text_with (reader_of f) f.strategy u
 formatter_text f v u text standard (pieces, is, of_pieces) shown =
     let number : is.number ≡ shown.number = some_same _ _ (sym is.number_is ∙ shown.number_is) in
-    let none = subst (λ c. AreTexts f c is.number is.texts) standard.compact is.texts_are in
-    let compact : is.texts.around ≡ None = none.0 in
-    let before : is.texts.unit.prefix.now ≡ [] = none.1.0 in
-    let after : is.texts.unit.suffix.now ≡ [] = none.1.1 in
     let s = shown_sign f shown.number.significand in
-    let digits = digit_pieces kind.Integer f.symbols f.strategy shown.number.significand.absolute in
     let affixes = ap (affixes_for f) (sym shown.sign) ∙ by_is f u.sign in
     of_pieces
     ∙ ap pieces_text is.value
     ∙ (λ i. pieces_text (pieces_around f (number i).significand.absolute
     (option_map (λ o. shown_exponent o (number i).exponent) (standard.exponent i))
-    (around_by f (shown_sign f (number i).significand) (compact i)) is.texts.unit))
-    ∙ (λ i. pieces_text ((literal (before i) ++ (pattern_around f s).prefix)
-    ++ ((digits ++ []) ++ ((pattern_around f s).suffix ++ literal (after i)))))
+    (around_by f (shown_sign f (number i).significand) (words_by f.formats (standard.compact i)
+    (compact_magnitude (number i).significand (number i).exponent) is.category (is_one (number i).significand)))
+    (unit_by f (standard.compact i) is.whole)))
     ∙ text_around f s shown.number
     ∙ (λ i. (affixes i).prefix
     ++ (absolute_text f.symbols f.strategy (sym shown.absolute i) ++ (affixes i).suffix))

@@ -19,8 +19,9 @@ use Rattle.number_format.specs.declared.text_part.PartKind.{PartKind}
 use Rattle.number_format.specs.declared.text_part.PartKind.TheVariants as kind
 use Rattle.number_format.specs.declared.text_part.TextPart.{TextPart}
 use Rattle.number_format.specs.TextParts.{Piece, Puts, part_pieces, parts_text, pieces_text, pieces_of, parts_pieces, digit_kind, magnitude_pieces, first_pieces, digit_pieces}
-use Rattle.number_format.specs.FormattedNumbers.{around_of, exponent_text_if, number_text, number_text_if, formatted_number_text}
-use Rattle.number_format.specs.NumberText.{literal, sign_text, exponent_kind, exponent_part, number_part, AreParts}
+use Rattle.number_format.specs.FormattedNumbers.{around_of, unit_of, exponent_text_if, number_text, number_text_if, around_text, formatted_number_text}
+use Rattle.number_format.specs.NumberText.{pattern_around, compact_magnitude, words_by, unit_by, around_by, exponent_kind, exponent_part, exponent_of, number_part, AreParts}
+use Rattle.number_format.specs.PatternTexts.{Around, literal, sign_text}
 
 pub puts_nil : (a : Option (List Piece)) → Puts a a []
 puts_nil None = tt
@@ -106,18 +107,20 @@ text-of_digits k s strategy v = text-of_first k s strategy v (shown_count v)
 text-of_exponent : (f : NumberFormatter) (e : Option Decimal) → pieces_text (exponent_part f e) ≡ exponent_text_if f e
 text-of_exponent f None = refl
 text-of_exponent f (Some e) =
-    let sign = sign_text f e.sign in
+    let sign = sign_text f.symbols e.sign in
     text-three (pieces_of kind.ExponentSeparator f.separator.text.now) (pieces_of (exponent_kind e.sign) sign)
     (digit_pieces kind.ExponentInteger f.symbols Never e.absolute) f.separator.text.now sign
     (absolute_text f.symbols Never e.absolute) (text-of kind.ExponentSeparator f.separator.text.now)
     (text-of (exponent_kind e.sign) sign) (text-of_digits kind.ExponentInteger f.symbols Never e.absolute)
 
 text-of_number : (n : FormattedNumber)
-    → pieces_text (number_part n.formatter.now n.value.absolute n.exponent) ≡ number_text n
+    → pieces_text (number_part n.formatter.now n.value.absolute (exponent_of n.formatter.now n.exponent))
+    ≡ number_text n
 text-of_number n =
     let f = n.formatter.now in
-    text-append (digit_pieces kind.Integer f.symbols f.strategy n.value.absolute) (exponent_part f n.exponent)
-    ∙ (λ i. text-of_digits kind.Integer f.symbols f.strategy n.value.absolute i ++ text-of_exponent f n.exponent i)
+    let e = exponent_of f n.exponent in
+    text-append (digit_pieces kind.Integer f.symbols f.strategy n.value.absolute) (exponent_part f e)
+    ∙ (λ i. text-of_digits kind.Integer f.symbols f.strategy n.value.absolute i ++ text-of_exponent f e i)
 
 text-if : (b : Bool) (ps : List Piece) (text : List ℕ) → pieces_text ps ≡ text
     → pieces_text (if b then ps else []) ≡ (if b then text else [])
@@ -125,28 +128,44 @@ text-if true ps text e = e
 text-if false ps text e = refl
 
 -- the number between the texts of the parts before and after it is the text
-pub text-of_affixes : (n : FormattedNumber) (shown : NumberAffixes) → AreParts (around_of n) n.texts.unit shown
+pub text-of_affixes : (n : FormattedNumber) (shown : NumberAffixes) → AreParts (around_of n) (unit_of n) shown
     → parts_text shown.prefix ++ (number_text_if n shown.has_number ++ parts_text shown.suffix)
     ≡ formatted_number_text n
 text-of_affixes n shown is =
     let a = around_of n in
-    let number = number_part n.formatter.now n.value.absolute n.exponent in
-    sym (text-three (literal n.texts.unit.prefix.now ++ a.prefix) (if a.has_number then number else [])
-    (a.suffix ++ literal n.texts.unit.suffix.now) (parts_text shown.prefix) (number_text_if n shown.has_number)
+    let number = number_part n.formatter.now n.value.absolute (exponent_of n.formatter.now n.exponent) in
+    sym (text-three (literal (unit_of n).prefix ++ a.prefix) (if a.has_number then number else [])
+    (a.suffix ++ literal (unit_of n).suffix) (parts_text shown.prefix) (number_text_if n shown.has_number)
     (parts_text shown.suffix) (ap pieces_text (sym is.prefix) ∙ text-of_parts shown.prefix)
     (text-if a.has_number number (number_text n) (text-of_number n) ∙ ap (number_text_if n) (sym is.has_number))
     (ap pieces_text (sym is.suffix) ∙ text-of_parts shown.suffix))
 
--- what is written before and after the number, piece by piece
+-- what is written around the whole text, before and after what is written around the number
 pub text-of_around : (n : FormattedNumber)
-    → (pieces_text (literal n.texts.unit.prefix.now) ++ pieces_text (around_of n).prefix)
-    ++ (number_text_if n (around_of n).has_number
-    ++ (pieces_text (around_of n).suffix ++ pieces_text (literal n.texts.unit.suffix.now))) ≡ formatted_number_text n
+    → pieces_text (literal (unit_of n).prefix) ++ (around_text n (around_of n)
+    ++ pieces_text (literal (unit_of n).suffix)) ≡ formatted_number_text n
 text-of_around n =
     let a = around_of n in
-    let p = literal n.texts.unit.prefix.now in
-    let q = literal n.texts.unit.suffix.now in
-    let number = number_part n.formatter.now n.value.absolute n.exponent in
-    sym (text-three (p ++ a.prefix) (if a.has_number then number else []) (a.suffix ++ q)
+    let p = literal (unit_of n).prefix in
+    let q = literal (unit_of n).suffix in
+    let number = number_part n.formatter.now n.value.absolute (exponent_of n.formatter.now n.exponent) in
+    regroup (pieces_text p) (pieces_text a.prefix) (number_text_if n a.has_number) (pieces_text a.suffix)
+    (pieces_text q)
+    ∙ sym (text-three (p ++ a.prefix) (if a.has_number then number else []) (a.suffix ++ q)
     (pieces_text p ++ pieces_text a.prefix) (number_text_if n a.has_number) (pieces_text a.suffix ++ pieces_text q)
     (text-append p a.prefix) (text-if a.has_number number (number_text n) (text-of_number n)) (text-append a.suffix q))
+  where
+    regroup : (p q m r s : List ℕ) → p ++ ((q ++ (m ++ r)) ++ s) ≡ (p ++ q) ++ (m ++ (r ++ s))
+    regroup p q m r s = simp append_assoc
+
+-- in another notation than compact that is the pattern alone
+pub text-of_pattern : (n : FormattedNumber) → n.formatter.now.compact ≡ None
+    → around_text n (pattern_around n.formatter.now n.value.sign) ≡ formatted_number_text n
+text-of_pattern n none =
+    let f = n.formatter.now in
+    let magnitude = compact_magnitude n.value n.exponent in
+    sym (append-nil (around_text n (pattern_around f n.value.sign)))
+    ∙ ap (λ style. pieces_text (literal (unit_by f style n.choice.whole).prefix) ++ (around_text n
+    (around_by f n.value.sign (words_by f.formats style magnitude n.choice.category n.choice.is_one))
+    ++ pieces_text (literal (unit_by f style n.choice.whole).suffix))) (sym none)
+    ∙ text-of_around n

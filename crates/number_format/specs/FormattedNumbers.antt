@@ -1,20 +1,38 @@
 -- The text of a formatted number.
-use Rattle.std.specs.Prelude.{ℕ, Bool, if◌then◌else◌, List, [], ◌++◌, Option, Some, None}
+use Rattle.std.specs.Prelude.{◌≡◌, ℕ, Bool, if◌then◌else◌, List, [], ◌++◌, Option, Some, None, unsigned_abs, ℤ}
 use Rattle.fixed_decimal.specs.Decimal.{Decimal}
 use Rattle.decimal_format.specs.declared.grouping.GroupingStrategy.TheVariants.{Never}
 use Rattle.decimal_format.specs.Formatted.{absolute_text}
+use Rattle.decimal_format.specs.Symbols.{Affixes}
+use Rattle.locale_data.specs.declared.compact.CompactStyle.{CompactStyle}
+use Rattle.locale_data.specs.Plurals.{IsCategoryAt}
+use Rattle.plural_rules.specs.Operands as operands
+use Rattle.plural_rules.specs.declared.rules.PluralCategory.{PluralCategory}
+use Rattle.number_format.specs.declared.compact_texts.CompactChoice.{CompactChoice}
 use Rattle.number_format.specs.declared.formatted_number.FormattedNumber.{FormattedNumber}
 use Rattle.number_format.specs.declared.number_formatter.NumberFormatter.{NumberFormatter}
-use Rattle.number_format.specs.NumberText.{Around, literal, sign_text, around_by, pieces_around}
+use Rattle.number_format.specs.NumberText.{CompactWords, around_by, words_by, compact_magnitude, compact_power, is_one, unit_texts, unit_by, exponent_of, pieces_around}
+use Rattle.number_format.specs.PatternTexts.{Around, sign_text}
 use Rattle.number_format.specs.TextParts.{Piece, pieces_text}
+
+-- the texts of the compact pattern
+abbrev pub words_of : FormattedNumber → Option CompactWords
+words_of n =
+    let f = n.formatter.now in
+    words_by f.formats f.compact (compact_magnitude n.value n.exponent) n.choice.category n.choice.is_one
 
 -- what is around the number
 abbrev pub around_of : FormattedNumber → Around
-around_of n = around_by n.formatter.now n.value.sign n.texts.around
+around_of n = around_by n.formatter.now n.value.sign (words_of n)
+
+-- and around the whole text
+abbrev pub unit_of : FormattedNumber → Affixes
+unit_of n = unit_by n.formatter.now n.formatter.now.compact n.choice.whole
 
 -- the pieces of the text, with their kinds
 abbrev pub formatted_number_pieces : FormattedNumber → List Piece
-formatted_number_pieces n = pieces_around n.formatter.now n.value.absolute n.exponent (around_of n) n.texts.unit
+formatted_number_pieces n =
+    pieces_around n.formatter.now n.value.absolute (exponent_of n.formatter.now n.exponent) (around_of n) (unit_of n)
 
 -- the text: that of the pieces
 abbrev pub formatted_number_text : FormattedNumber → List ℕ
@@ -24,7 +42,7 @@ formatted_number_text n = pieces_text (formatted_number_pieces n)
 
 -- an exponent: its separator, its sign and its digits, which are not grouped
 abbrev pub exponent_text : NumberFormatter → Decimal → List ℕ
-exponent_text f e = f.separator.text.now ++ (sign_text f e.sign ++ absolute_text f.symbols Never e.absolute)
+exponent_text f e = f.separator.text.now ++ (sign_text f.symbols e.sign ++ absolute_text f.symbols Never e.absolute)
 
 abbrev pub exponent_text_if : NumberFormatter → Option Decimal → List ℕ
 exponent_text_if f None = []
@@ -34,8 +52,30 @@ exponent_text_if f (Some e) = exponent_text f e
 abbrev pub number_text : FormattedNumber → List ℕ
 number_text n =
     absolute_text n.formatter.now.symbols n.formatter.now.strategy n.value.absolute
-    ++ exponent_text_if n.formatter.now n.exponent
+    ++ exponent_text_if n.formatter.now (exponent_of n.formatter.now n.exponent)
 
 -- the same, if the text has a number
 abbrev pub number_text_if : FormattedNumber → Bool → List ℕ
 number_text_if n has_number = if has_number then number_text n else []
+
+-- the number with what is around it
+abbrev pub around_text : FormattedNumber → Around → List ℕ
+around_text n a = pieces_text a.prefix ++ (number_text_if n a.has_number ++ pieces_text a.suffix)
+
+-- what chooses the same compact pattern as a significand does
+pub record ChoosesWords (f : NumberFormatter) (style : Option CompactStyle) (significand : Decimal) (e : ℤ)
+    (chosen : PluralCategory) (one : Bool) : Type 0 where
+  pub category : PluralCategory
+  pub of_significand : IsCategoryAt f.rules (operands.plain significand.absolute) category
+  pub words : words_by f.formats style (compact_magnitude significand e) chosen one
+      ≡ words_by f.formats style (compact_magnitude significand e) category (is_one significand)
+
+-- and the same texts around the whole text
+pub record ChoosesUnit (f : NumberFormatter) (significand : Decimal) (e : ℤ) (chosen : PluralCategory) : Type 0 where
+  pub category : PluralCategory
+  pub of_whole : IsCategoryAt f.rules (operands.compact significand.absolute (unsigned_abs (compact_power e))) category
+  pub texts : unit_texts f.formats f.unit chosen ≡ unit_texts f.formats f.unit category
+
+pub record IsChoice (f : NumberFormatter) (significand : Decimal) (e : ℤ) (choice : CompactChoice) : Type 0 where
+  pub words : ChoosesWords f f.compact significand e choice.category choice.is_one
+  pub unit : ChoosesUnit f significand e choice.whole

@@ -15,6 +15,7 @@ pub mod AffixedTexts
 pub mod TextParts
 pub mod DefaultDigits
 pub mod NumberStyles
+pub mod PatternTexts
 pub mod FormattedNumbers
 pub mod NumberText
 pub mod Formatters

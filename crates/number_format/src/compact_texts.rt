@@ -1,18 +1,16 @@
 //! What is written around a number in compact notation.
-ghost use Rattle.std.specs.Prelude.{◌≤◌, length};
-ghost use Rattle.std.specs.Option.{ForSome};
-ghost use Rattle.locale_data.specs.Compact.{IsShortAffix};
+use locale_data::UnitAffixes;
+use plural_rules::PluralCategory;
 
-use locale_data::{CompactAffixes, UnitAffixes};
-
-/// What is written around a number in compact notation, and around the whole text: at most 255 bytes each.
+/// By what the compact patterns of a number are chosen.
 #[derive(Clone, Copy)]
-pub(crate) struct CompactTexts {
-    pub(crate) around: Option<CompactAffixes>,
-    pub(crate) unit: UnitAffixes,
-    pub ghost around_short: { ForSome around (λ c. IsShortAffix c.prefix × IsShortAffix c.suffix) },
-    pub ghost prefix_short: { length unit.prefix.now ≤ 255 },
-    pub ghost suffix_short: { length unit.suffix.now ≤ 255 },
+pub(crate) struct CompactChoice {
+    /// The plural category of the significand.
+    pub(crate) category: PluralCategory,
+    /// Whether the significand is 1, without a minus sign.
+    pub(crate) is_one: bool,
+    /// The plural category of the whole number.
+    pub(crate) whole: PluralCategory,
 }
 
 /// No texts around the whole text.

@@ -174,7 +174,7 @@ impl NumberFormatter {
         let sizes = style_sizes(&style.written.pattern, options.grouping, own);
         let symbols = with_separators(symbols, &style.written).with_sizes(sizes);
         let signs = formats.signs();
-        Ok(NumberFormatter {
+        let mut formatter = NumberFormatter {
             symbols,
             strategy: options.grouping,
             pattern: style.written.pattern,
@@ -193,7 +193,11 @@ impl NumberFormatter {
             exponent: options.exponent_options(),
             digits: options.shown_digits(),
             sign_display: options.sign_display,
-        })
+            sign_texts: None,
+        };
+        let texts = formatter.sign_texts();
+        formatter.sign_texts = texts;
+        Ok(formatter)
     }
 }
 

@@ -1,23 +1,21 @@
 //! Formatting of a number.
-ghost use Rattle.std.specs.Prelude.{◌≡◌, ◌≤◌, length, Some, None, IfOk, IfErr, IfSome, IsErrOf, IsSomeAnd, OnErr};
-ghost use Rattle.std.specs.Option.{option_map};
+ghost use Rattle.std.specs.Prelude.{◌≡◌, Some, None, pos, IfOk, IfErr, IsErrOf, IsSomeAnd, OnErr};
 ghost use Rattle.decimal_unsigned.specs.Unsigned.{IsValue};
 ghost use Rattle.fixed_decimal.specs.Decimal.{Decimal};
 ghost use Rattle.decimal_digits.specs.declared.rounding.RoundingIncrement.TheVariants.{MultiplesOf25};
-ghost use Rattle.locale_data.specs.Compact.{IsShortAffix};
 ghost use Rattle.locale_data.specs.Plurals.{IsCategoryAt};
-ghost use Rattle.number_format.specs.FormattedNumbers.{formatted_number_pieces, formatted_number_text};
-ghost use Rattle.number_format.specs.NumberText.{shown_number, is_one, compact_magnitude, IsCompactExponent, exponent_sign, shown_exponent, rounded_in, HasAround, HasUnit, HasCompactTexts, AreTexts, AreNumberPieces, IsNumberText, NeedsMemory};
+ghost use Rattle.number_format.specs.FormattedNumbers.{formatted_number_pieces, formatted_number_text, ChoosesWords, ChoosesUnit, IsChoice};
+ghost use Rattle.number_format.specs.NumberText.{shown_number, is_one, compact_magnitude, compact_power, exponent_sign, shown_exponent, rounded_in, AreNumberPieces, IsNumberText, NeedsMemory};
 ghost use Rattle.number_format.specs.Scaled.{scaled_value};
 ghost use Rattle.number_format.specs.ShownDigits.{base_of};
 
-use crate::compact_texts::{CompactTexts, NO_UNIT};
+use crate::compact_texts::CompactChoice;
 use crate::formatted_number::FormattedNumber;
 use crate::notation::Notation;
 use crate::number_formatter::{CompactUnit, NumberFormatter};
 use crate::number_options::{ExponentOptions, ExponentSign};
 use fixed_decimal::{Decimal, DecimalStore, RoundError, Sign, UnsignedDecimal};
-use locale_data::{CompactAffixes, CompactStyle, UnitAffixes, plural_category_at};
+use locale_data::{CompactStyle, plural_category_at};
 use plural_rules::{PluralCategory, PluralOperands};
 use std::alloc::Global;
 
@@ -40,15 +38,15 @@ fn is_one(significand: &Decimal) -> bool
     operands.i() == Some(1) && operands.w() == 0
 }
 
-fn magnitude_of(significand: &Decimal, exponent: u8) -> i16
+pub(crate) fn compact_magnitude(significand: &Decimal, exponent: i32) -> i16
     ensures { result ≡ compact_magnitude significand.now exponent }
 {
-    let magnitude = significand.absolute.nonzero_magnitude_start() as i32 + exponent as i32;
-    magnitude.min(32767) as i16
+    let first = significand.absolute.nonzero_magnitude_start();
+    (first as i32 + compact_power(exponent) as i32).min(32767) as i16
 }
 
-fn compact_exponent(exponent: i32) -> u8
-    ensures { IsCompactExponent exponent result }
+fn compact_power(exponent: i32) -> u8
+    ensures { pos result ≡ compact_power exponent }
 {
     exponent.clamp(0, 255) as u8
 }
@@ -64,7 +62,7 @@ fn exponent_sign(sign: ExponentSign, exponent: i32) -> Sign
     }
 }
 
-fn shown_exponent(alloc: Global, options: ExponentOptions, exponent: i32) -> Decimal
+pub(crate) fn shown_exponent(alloc: Global, options: ExponentOptions, exponent: i32) -> Decimal
     ensures { result ≡ shown_exponent options exponent }
 {
     let mut absolute = UnsignedDecimal::try_from_u32(alloc, exponent.unsigned_abs()).unwrap();
@@ -155,78 +153,46 @@ impl NumberFormatter {
         }
     }
 
-    fn unit(&self, significand: &Decimal, exponent: u8) -> UnitAffixes
-        ensures value { HasUnit self.now significand.now exponent result }
-        ensures short { (length result.prefix.now ≤ 255) × (length result.suffix.now ≤ 255) }
-    {
-        match self.unit {
-            CompactUnit::Nothing => NO_UNIT,
-            CompactUnit::Percent => {
-                let number = PluralOperands::of_scaled(&significand.absolute, exponent);
-                self.formats.percent_unit(self.category(&number))
-            }
-            CompactUnit::Permille => UnitAffixes {
-                prefix: "",
-                suffix: "\u{2030}",
-            },
-        }
-    }
-
-    fn around(
-        &self,
-        style: CompactStyle,
-        significand: &Decimal,
-        exponent: u8,
-    ) -> Option<CompactAffixes>
-        ensures value { HasAround self.now style significand.now exponent result }
-        ensures short { IfSome result (λ c. IsShortAffix c.prefix × IsShortAffix c.suffix) }
-    {
-        let magnitude = magnitude_of(significand, exponent);
-        if !self.formats.needs_category(style, magnitude) {
-            let other = PluralCategory::Other;
-            return self.formats.compact_affixes(style, magnitude, other, false);
-        }
-        let category = self.category(&PluralOperands::of_decimal(significand));
-        self.formats
-            .compact_affixes(style, magnitude, category, is_one(significand))
-    }
-
-    /// Returns what is written around a significand in compact notation.
-    fn compact_texts(
+    /// Returns what chooses a compact pattern: the category of the significand, and whether it is 1.
+    fn category_and_one(
         &self,
         style: CompactStyle,
         significand: &Decimal,
         exponent: i32,
-    ) -> CompactTexts
-        ensures { HasCompactTexts self.now style (scaled_value significand.now exponent) result }
+    ) -> (PluralCategory, bool)
+        ensures { ChoosesWords self.now (Some style) significand.now exponent result.0 result.1 }
     {
-        let exponent = compact_exponent(exponent);
-        CompactTexts {
-            around: self.around(style, significand, exponent),
-            unit: self.unit(significand, exponent),
+        let magnitude = compact_magnitude(significand, exponent);
+        if !self.formats.needs_category(style, magnitude) {
+            return (PluralCategory::Other, false);
+        }
+        let category = self.category(&PluralOperands::of_decimal(significand));
+        (category, is_one(significand))
+    }
+
+    fn whole_category(&self, significand: &Decimal, exponent: i32) -> PluralCategory
+        ensures { ChoosesUnit self.now significand.now exponent result }
+    {
+        match self.unit {
+            CompactUnit::Percent => {
+                let power = compact_power(exponent);
+                self.category(&PluralOperands::of_scaled(&significand.absolute, power))
+            }
+            _ => PluralCategory::Other,
         }
     }
 
-    /// Returns what is written around a significand.
-    fn texts(&self, significand: &Decimal, exponent: i32) -> CompactTexts
-        ensures { AreTexts self.now self.now.compact (scaled_value significand.now exponent) result }
+    fn choice(&self, significand: &Decimal, exponent: i32) -> CompactChoice
+        ensures { IsChoice self.now significand.now exponent result }
     {
-        match self.compact {
-            Some(style) => self.compact_texts(style, significand, exponent),
-            None => CompactTexts {
-                around: None,
-                unit: NO_UNIT,
-            },
-        }
-    }
-
-    /// Returns the exponent as it is shown, if the notation has one.
-    fn exponent(&self, alloc: Global, exponent: i32) -> Option<Decimal>
-        ensures { result ≡ option_map (λ o. shown_exponent o exponent) self.now.exponent }
-    {
-        match self.exponent {
-            Some(options) => Some(shown_exponent(alloc, options, exponent)),
-            None => None,
+        let (category, is_one) = match self.compact {
+            Some(style) => self.category_and_one(style, significand, exponent),
+            None => (PluralCategory::Other, false),
+        };
+        CompactChoice {
+            category,
+            is_one,
+            whole: self.whole_category(significand, exponent),
         }
     }
 
@@ -235,13 +201,14 @@ impl NumberFormatter {
         ensures { (v : Decimal) → shown_number self.now v ≡ Some (scaled_value value exponent)
             → AreNumberPieces self.now v (formatted_number_pieces result) }
     {
-        let texts = self.texts(&value, exponent);
+        let choice = self.choice(&value, exponent);
         value.apply_sign_display(self.sign_display);
         FormattedNumber {
             formatter: self,
+            alloc,
             value,
-            exponent: self.exponent(alloc, exponent),
-            texts,
+            exponent,
+            choice,
         }
     }
 

@@ -1,54 +1,103 @@
 //! A number as a locale writes it.
-ghost use Rattle.std.specs.Prelude.{◌≡◌, ◌≤◌, ◌++◌, length, Some, OnOk, OnErr, true};
+ghost use Rattle.std.specs.Prelude.{◌≡◌, ◌≤◌, ◌++◌, length, Some, IfSome, OnOk, OnErr, true};
+ghost use Rattle.std.specs.Option.{option_map};
 ghost use Rattle.std.specs.Fmt.{WritesStyledOnOk};
 ghost use Rattle.std.specs.Io.KnownBytes.{Keeps, Appends};
 ghost use Rattle.decimal_digits.specs.AppendsPrefix.{AppendsPrefix};
 ghost use Rattle.decimal_format.specs.Formatted.{formatted_absolute};
+ghost use Rattle.decimal_format.specs.Symbols.{affixes};
 ghost use Rattle.decimal_format.specs.declared.grouping.GroupingStrategy.TheVariants.{Never};
-ghost use Rattle.number_format.specs.FormattedNumbers.{around_of, exponent_text, number_text, number_text_if, formatted_number_text};
-ghost use Rattle.number_format.specs.NumberText.{AreParts};
+ghost use Rattle.number_format.specs.FormattedNumbers.{words_of, around_of, unit_of, exponent_text, number_text, number_text_if, formatted_number_text};
+ghost use Rattle.locale_data.specs.Compact.{IsShortAffix};
+ghost use Rattle.number_format.specs.NumberText.{compact_words, exponent_of, AreParts};
 ghost use Rattle.number_format.specs.TextParts.{parts_text};
 
-use crate::compact_texts::CompactTexts;
+use crate::compact_texts::{CompactChoice, NO_UNIT};
+use crate::format::{compact_magnitude, shown_exponent};
 use crate::number_around::NumberAffixes;
-use crate::number_formatter::NumberFormatter;
+use crate::number_formatter::{CompactUnit, NumberFormatter};
 use crate::parts::{fmt_parts, parts_length, write_parts};
 use decimal_format::{Block, FormattedAbsolute, GroupingStrategy};
 use fixed_decimal::{Decimal, DecimalStore, Sink, SinkFault, Writeable};
+use locale_data::{CompactAffixes, UnitAffixes};
+use std::alloc::Global;
 use std::fmt;
 
 /// A number as a locale writes it. It borrows the formatter.
 pub struct FormattedNumber<'f> {
     pub(crate) formatter: &'f NumberFormatter,
+    pub(crate) alloc: Global,
     /// The significand, with the sign that is shown.
     pub(crate) value: Decimal,
-    /// The exponent, with the sign and the zeros that are shown.
-    pub(crate) exponent: Option<Decimal>,
-    pub(crate) texts: CompactTexts,
+    pub(crate) exponent: i32,
+    pub(crate) choice: CompactChoice,
 }
 
 impl<'f> Drop for FormattedNumber<'f> {
     fn drop(self) {
         let FormattedNumber {
             formatter: _,
+            alloc: _,
             value,
-            exponent,
-            texts: _,
+            exponent: _,
+            choice: _,
         } = self;
         drop(value);
-        drop(exponent);
     }
 }
 
 impl<'f> FormattedNumber<'f> {
+    /// Returns what a compact pattern writes around the number, if there is one.
+    pub(crate) fn compact_affixes(&self) -> Option<CompactAffixes>
+        ensures value { option_map compact_words result ≡ words_of self.now }
+        ensures short { IfSome result (λ c. IsShortAffix c.prefix × IsShortAffix c.suffix) }
+    {
+        let style = self.formatter.compact?;
+        let magnitude = compact_magnitude(&self.value, self.exponent);
+        let CompactChoice {
+            category,
+            is_one,
+            whole: _,
+        } = self.choice;
+        self.formatter
+            .formats
+            .compact_affixes(style, magnitude, category, is_one)
+    }
+
+    /// Returns what is written around the whole text.
+    pub(crate) fn unit(&self) -> UnitAffixes
+        ensures value { affixes result.prefix.now result.suffix.now ≡ unit_of self.now }
+        ensures short { (length result.prefix.now ≤ 255) × (length result.suffix.now ≤ 255) }
+    {
+        let formatter = self.formatter;
+        match (formatter.compact, formatter.unit) {
+            (None, _) | (_, CompactUnit::Nothing) => NO_UNIT,
+            (_, CompactUnit::Percent) => formatter.formats.percent_unit(self.choice.whole),
+            (_, CompactUnit::Permille) => UnitAffixes {
+                prefix: "",
+                suffix: "\u{2030}",
+            },
+        }
+    }
+
+    /// Returns the exponent as it is shown, if the notation has one.
+    pub(crate) fn shown_exponent(&self) -> Option<Decimal>
+        ensures { result ≡ exponent_of self.now.formatter.now self.now.exponent }
+    {
+        match self.formatter.exponent {
+            Some(options) => Some(shown_exponent(self.alloc, options, self.exponent)),
+            None => None,
+        }
+    }
+
     /// Returns the parts before and after the number.
     pub(crate) fn affixes(&self) -> NumberAffixes<'_>
-        ensures parts { AreParts (around_of self.now) self.now.texts.unit result }
+        ensures parts { AreParts (around_of self.now) (unit_of self.now) result }
         ensures text { parts_text result.prefix ++ (number_text_if self.now result.has_number
             ++ parts_text result.suffix) ≡ formatted_number_text self.now }
     {
-        let CompactTexts { around, unit } = self.texts;
-        self.formatter.affixes(self.value.sign, around, unit)
+        self.formatter
+            .affixes(self.value.sign, self.compact_affixes(), self.unit())
     }
 
     #[inline]
@@ -91,7 +140,7 @@ impl<'f> FormattedNumber<'f> {
         ensures failed { OnErr result (W.has_failed sink.new ≡ true) }
     {
         self.digits().write_to(sink)?;
-        match &self.exponent {
+        match &self.shown_exponent() {
             Some(exponent) => self.write_exponent(exponent, sink),
             None => Ok(()),
         }
@@ -128,7 +177,7 @@ impl<'f> FormattedNumber<'f> {
         ensures { WritesStyledOnOk W.write_str_gives f.old result (number_text self.now) f.new }
     {
         fmt::Display::fmt(&self.digits(), f)?;
-        match &self.exponent {
+        match &self.shown_exponent() {
             Some(exponent) => self.fmt_exponent(exponent, f),
             None => Ok(()),
         }
@@ -166,7 +215,7 @@ impl<'f> FormattedNumber<'f> {
     {
         let formatter = self.formatter;
         let digits = self.digits().writeable_length_hint();
-        match &self.exponent {
+        match &self.shown_exponent() {
             Some(exponent) => {
                 digits
                     + formatter.separator.text.len()

@@ -43,6 +43,7 @@ mod reader;
 mod scale;
 mod settings;
 mod short_text;
+mod sign_texts;
 mod skeleton;
 mod text_part;
 

@@ -1,8 +1,11 @@
 //! What is written before and after the digits of a number.
 ghost use Rattle.std.specs.Prelude.{◌≡◌, ◌≤◌, ◌&&◌, length, IfSome};
+ghost use Rattle.std.specs.Option.{option_map};
+ghost use Rattle.decimal_format.specs.Symbols.{affixes};
 ghost use Rattle.locale_data.specs.Compact.{IsShortAffix};
 ghost use Rattle.number_format.specs.NumberStyles.{ends_with_currency, begins_with_currency};
-ghost use Rattle.number_format.specs.NumberText.{sign_kind, sign_pieces, pattern_kind, pattern_text, pattern_pieces, currency_if, space_if, is_plain, is_empty, has_number, first_sign, last_sign, pattern_around, compact_around, around_by, AreParts};
+ghost use Rattle.number_format.specs.PatternTexts.{sign_kind, sign_pieces, pattern_kind, pattern_text, pattern_pieces, space_if};
+ghost use Rattle.number_format.specs.NumberText.{style_of, compact_words, currency_if, is_plain, is_empty, has_number, first_sign, last_sign, pattern_around, compact_around, around_by, AreParts};
 ghost use Rattle.number_format.specs.TextParts.{part_pieces};
 
 use crate::number_formatter::NumberFormatter;
@@ -42,7 +45,7 @@ fn is_empty(text: &str) -> bool
     text.len() == 0
 }
 
-fn space_if(condition: bool) -> TextPart<'static>
+pub(crate) fn space_if(condition: bool) -> TextPart<'static>
     ensures { part_pieces result ≡ space_if condition }
 {
     let text = if condition { "\u{a0}" } else { "" };
@@ -72,14 +75,14 @@ fn pattern_kind(piece: Piece) -> PartKind
 
 impl NumberFormatter {
     fn sign_part(&self, sign: Sign) -> TextPart<'_>
-        ensures { part_pieces result ≡ sign_pieces self.now sign }
+        ensures { part_pieces result ≡ sign_pieces self.now.symbols sign }
     {
         TextPart::new(sign_kind(sign), self.symbols.affixes(sign).prefix)
     }
 
     #[inline]
     pub(crate) fn pattern_text(&self, piece: Piece) -> &str
-        ensures value { result.now ≡ pattern_text self.now piece }
+        ensures value { result.now ≡ pattern_text (style_of self.now) piece }
         ensures short { length result.now ≤ 255 }
     {
         match piece {
@@ -92,12 +95,12 @@ impl NumberFormatter {
     }
 
     fn pattern_part(&self, piece: Piece) -> TextPart<'_>
-        ensures { part_pieces result ≡ pattern_pieces self.now piece }
+        ensures { part_pieces result ≡ pattern_pieces (style_of self.now) piece }
     {
         TextPart::new(pattern_kind(piece), self.pattern_text(piece))
     }
 
-    fn currency_if(&self, has_currency: bool) -> TextPart<'_>
+    pub(crate) fn currency_if(&self, has_currency: bool) -> TextPart<'_>
         ensures { part_pieces result ≡ currency_if self.now has_currency }
     {
         if has_currency {
@@ -125,7 +128,7 @@ impl NumberFormatter {
     fn pattern_affixes(&self, sign: Sign, unit: UnitAffixes) -> NumberAffixes<'_>
         requires prefix { length unit.prefix.now ≤ 255 }
         requires suffix { length unit.suffix.now ≤ 255 }
-        ensures { AreParts (pattern_around self.now sign) unit result }
+        ensures { AreParts (pattern_around self.now sign) (affixes unit.prefix.now unit.suffix.now) result }
     {
         let AffixPair { prefix, suffix } = self.pattern.affixes(sign);
         NumberAffixes {
@@ -150,7 +153,7 @@ impl NumberFormatter {
         }
     }
 
-    fn first_sign(&self, sign: Sign, form: CompactForm) -> TextPart<'_>
+    pub(crate) fn first_sign(&self, sign: Sign, form: CompactForm) -> TextPart<'_>
         ensures { part_pieces result ≡ first_sign self.now sign form }
     {
         match form {
@@ -159,7 +162,7 @@ impl NumberFormatter {
         }
     }
 
-    fn last_sign(&self, sign: Sign, form: CompactForm) -> TextPart<'_>
+    pub(crate) fn last_sign(&self, sign: Sign, form: CompactForm) -> TextPart<'_>
         ensures { part_pieces result ≡ last_sign self.now sign form }
     {
         match form {
@@ -191,7 +194,8 @@ impl NumberFormatter {
         requires suffix { length unit.suffix.now ≤ 255 }
         requires compact_prefix { IsShortAffix compact.prefix }
         requires compact_suffix { IsShortAffix compact.suffix }
-        ensures { AreParts (compact_around self.now sign compact) unit result }
+        ensures { AreParts (compact_around self.now sign (compact_words compact))
+            (affixes unit.prefix.now unit.suffix.now) result }
     {
         let CompactAffixes {
             form,
@@ -230,7 +234,8 @@ impl NumberFormatter {
         requires prefix { length unit.prefix.now ≤ 255 }
         requires suffix { length unit.suffix.now ≤ 255 }
         requires short { IfSome compact (λ shown. IsShortAffix shown.prefix × IsShortAffix shown.suffix) }
-        ensures { AreParts (around_by self.now sign compact) unit result }
+        ensures { AreParts (around_by self.now sign (option_map compact_words compact))
+            (affixes unit.prefix.now unit.suffix.now) result }
     {
         let Some(shown) = compact else {
             return self.pattern_affixes(sign, unit);

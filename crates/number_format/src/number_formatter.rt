@@ -1,11 +1,14 @@
 //! The formatter of numbers.
 ghost use Rattle.std.specs.Prelude.{IsSome};
+ghost use Rattle.std.specs.Option.{ForSome};
 ghost use Rattle.locale_data.specs.Plurals.{rules_text_at};
+ghost use Rattle.number_format.specs.PatternTexts.{AreSignTexts};
 
 use crate::digit_options::DigitOptions;
 use crate::notation::Notation;
 use crate::number_options::ExponentOptions;
 use crate::number_style::ShownCurrency;
+use crate::sign_texts::SignTexts;
 use crate::text_part::TextPart;
 use decimal_format::{DecimalSymbols, GroupingStrategy};
 use fixed_decimal::SignDisplay;
@@ -49,5 +52,9 @@ pub struct NumberFormatter {
     pub(crate) exponent: Option<ExponentOptions>,
     pub(crate) digits: Option<DigitOptions>,
     pub(crate) sign_display: SignDisplay,
+    /// What is written around a number of standard notation, if it is short.
+    pub(crate) sign_texts: Option<SignTexts>,
     pub ghost rules_listed: { IsSome (rules_text_at rules) },
+    pub ghost sign_texts_are: { ForSome sign_texts (AreSignTexts
+        (record { symbols = symbols; percent = percent.text.now; currency = currency; pattern = pattern })) },
 }

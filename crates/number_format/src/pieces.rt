@@ -6,7 +6,7 @@ ghost use Rattle.decimal_format.specs.Formatted.{separator_before, separator_aft
 ghost use Rattle.decimal_format.specs.Symbols.{digit_text};
 ghost use Rattle.number_format.specs.TextParts.{Puts, pieces_of, parts_pieces, pieces_text, digit_kind, magnitude_pieces, digit_pieces};
 ghost use Rattle.number_format.specs.FormattedNumbers.{formatted_number_pieces, formatted_number_text};
-ghost use Rattle.number_format.specs.NumberText.{exponent_kind, exponent_pieces, number_part};
+ghost use Rattle.number_format.specs.NumberText.{exponent_kind, exponent_pieces, exponent_of, number_part};
 
 use crate::formatted_number::FormattedNumber;
 use crate::part_sink::PartSink;
@@ -176,7 +176,8 @@ impl<'f> FormattedNumber<'f> {
 
     fn put_number<P: PartSink>(&self, sink: &mut P) -> Result<(), SinkFault>
         ensures { OnOk result (Puts (P.pieces sink.old) (P.pieces sink.new)
-            (number_part self.now.formatter.now self.now.value.absolute self.now.exponent)) }
+            (number_part self.now.formatter.now self.now.value.absolute
+            (exponent_of self.now.formatter.now self.now.exponent))) }
     {
         let formatter = self.formatter;
         let digits = Digits {
@@ -186,7 +187,7 @@ impl<'f> FormattedNumber<'f> {
             value: &self.value.absolute,
         };
         digits.put_to(sink)?;
-        match &self.exponent {
+        match &self.shown_exponent() {
             Some(exponent) => self.put_exponent(exponent, sink),
             None => Ok(()),
         }
@@ -194,7 +195,8 @@ impl<'f> FormattedNumber<'f> {
 
     fn put_number_if<P: PartSink>(&self, has_number: bool, sink: &mut P) -> Result<(), SinkFault>
         ensures { OnOk result (Puts (P.pieces sink.old) (P.pieces sink.new) (if has_number
-            then number_part self.now.formatter.now self.now.value.absolute self.now.exponent else [])) }
+            then number_part self.now.formatter.now self.now.value.absolute
+            (exponent_of self.now.formatter.now self.now.exponent) else [])) }
     {
         if has_number {
             return self.put_number(sink);

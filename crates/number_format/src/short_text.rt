@@ -1,204 +1,78 @@
-//! The text of a number in a block, piece by piece.
-ghost use Rattle.std.specs.Prelude.{◌≡◌, ◌++◌, ◌&&◌, OnOk};
-ghost use Rattle.number_format.specs.FormattedNumbers.{around_of, exponent_text, number_text, number_text_if, formatted_number_text};
-ghost use Rattle.number_format.specs.NumberStyles.{ends_with_currency, begins_with_currency};
-ghost use Rattle.number_format.specs.NumberText.{pattern_text, affix_pieces, space_if, sign_pieces, first_sign, last_sign, compact_word, currency_if, compact_prefix, compact_suffix, compact_around, around_by, literal};
-ghost use Rattle.number_format.specs.TextParts.{pieces_text};
+//! The text of a number in a block.
+ghost use Rattle.std.specs.Prelude.{◌≡◌, ◌++◌, ◌≤◌, length, OnOk};
+ghost use Rattle.locale_data.specs.Compact.{IsShortAffix};
+ghost use Rattle.number_format.specs.FormattedNumbers.{around_of, exponent_text, number_text, around_text, formatted_number_text};
+ghost use Rattle.number_format.specs.NumberText.{affix_words, compact_words, compact_around, compact_suffix, pattern_around};
+ghost use Rattle.number_format.specs.TextParts.{part_pieces, pieces_text};
 
+use crate::format::shown_exponent;
 use crate::formatted_number::FormattedNumber;
-use crate::number_around::{has_number, is_plain};
+use crate::number_around::{has_number, is_plain, space_if};
 use crate::number_formatter::NumberFormatter;
+use crate::text_part::{PartKind, TextPart};
 use decimal_format::Block;
 use fixed_decimal::{Decimal, Sign, Sink, SinkFault};
-use locale_data::{Affix, AffixPair, CompactAffix, CompactAffixes, CompactForm, Piece};
-
-#[inline]
-fn put_space_if(needed: bool, block: &mut Block) -> Result<(), SinkFault>
-    ensures { OnOk result (block.new.0 ≡ block.old.0 ++ pieces_text (space_if needed)) }
-{
-    if needed {
-        return block.put_bytes("\u{a0}".as_bytes());
-    }
-    Ok(())
-}
+use locale_data::{CompactAffix, CompactAffixes};
 
 #[inline(always)]
 #[tactic(auto, using(crate::proofs::PieceTexts::text_of))]
-fn put_literal(text: &str, block: &mut Block) -> Result<(), SinkFault>
-    ensures { OnOk result (block.new.0 ≡ block.old.0 ++ pieces_text (literal text.now)) }
+fn put_part(part: TextPart<'_>, block: &mut Block) -> Result<(), SinkFault>
+    ensures { OnOk result (block.new.0 ≡ block.old.0 ++ pieces_text (part_pieces part.entry)) }
 {
-    block.put_bytes(text.as_bytes())
+    block.put_bytes(part.text.as_bytes())
 }
 
 impl NumberFormatter {
-    fn put_shown_piece(&self, piece: Piece, block: &mut Block) -> Result<(), SinkFault>
-        ensures { OnOk result (block.new.0 ≡ block.old.0 ++ pattern_text self.now piece) }
-    {
-        block.put_bytes(self.pattern_text(piece).as_bytes())
-    }
-
-    #[inline(always)]
-    fn put_piece(&self, piece: Piece, block: &mut Block) -> Result<(), SinkFault>
-        ensures { OnOk result (block.new.0 ≡ block.old.0 ++ pattern_text self.now piece) }
-    {
-        match piece {
-            Piece::Empty => Ok(()),
-            _ => self.put_shown_piece(piece, block),
-        }
-    }
-
-    #[inline(always)]
-    fn put_affix(&self, affix: Affix, block: &mut Block) -> Result<(), SinkFault>
-        ensures { OnOk result (block.new.0 ≡ block.old.0 ++ pieces_text (affix_pieces self.now affix)) }
-    {
-        self.put_piece(affix.first, block)?;
-        self.put_piece(affix.second, block)?;
-        self.put_piece(affix.third, block)?;
-        self.put_piece(affix.fourth, block)
-    }
-
-    #[inline]
-    fn put_prefix(&self, prefix: Affix, block: &mut Block) -> Result<(), SinkFault>
-        ensures { OnOk result (block.new.0 ≡ block.old.0 ++ pieces_text (affix_pieces self.now prefix
-            ++ space_if (ends_with_currency prefix && self.now.currency.space_after))) }
-    {
-        self.put_affix(prefix, block)?;
-        put_space_if(self.has_space_after(prefix), block)
-    }
-
-    #[inline]
-    fn put_suffix(&self, suffix: Affix, block: &mut Block) -> Result<(), SinkFault>
-        ensures { OnOk result (block.new.0 ≡ block.old.0
-            ++ pieces_text (space_if (begins_with_currency suffix && self.now.currency.space_before)
-            ++ affix_pieces self.now suffix)) }
-    {
-        put_space_if(self.has_space_before(suffix), block)?;
-        self.put_affix(suffix, block)
-    }
-
-    #[inline]
-    #[tactic(auto, using(crate::proofs::PieceTexts::text_of))]
-    fn put_sign(&self, sign: Sign, block: &mut Block) -> Result<(), SinkFault>
-        ensures { OnOk result (block.new.0 ≡ block.old.0 ++ pieces_text (sign_pieces self.now sign)) }
-    {
-        block.put_bytes(self.symbols.affixes(sign).prefix.as_bytes())
-    }
-
-    #[inline]
-    fn put_first_sign(
+    fn put_compact_prefix(
         &self,
         sign: Sign,
-        form: CompactForm,
+        compact: &CompactAffixes,
         block: &mut Block,
     ) -> Result<(), SinkFault>
-        ensures { OnOk result (block.new.0 ≡ block.old.0 ++ pieces_text (first_sign self.now sign form)) }
+        requires { IsShortAffix compact.now.prefix }
+        ensures { OnOk result (block.new.0
+            ≡ block.old.0 ++ pieces_text (compact_around self.now sign (compact_words compact.now)).prefix) }
     {
-        match form {
-            CompactForm::SignLast => Ok(()),
-            _ => self.put_sign(sign, block),
-        }
-    }
-
-    #[inline]
-    fn put_last_sign(
-        &self,
-        sign: Sign,
-        form: CompactForm,
-        block: &mut Block,
-    ) -> Result<(), SinkFault>
-        ensures { OnOk result (block.new.0 ≡ block.old.0 ++ pieces_text (last_sign self.now sign form)) }
-    {
-        match form {
-            CompactForm::SignLast => self.put_sign(sign, block),
-            _ => Ok(()),
-        }
-    }
-
-    #[inline]
-    #[tactic(auto, using(crate::proofs::PieceTexts::text_of))]
-    fn put_word(text: &str, block: &mut Block) -> Result<(), SinkFault>
-        ensures { OnOk result (block.new.0 ≡ block.old.0 ++ pieces_text (compact_word text.now)) }
-    {
-        block.put_bytes(text.as_bytes())
-    }
-
-    #[inline]
-    #[tactic(auto, using(crate::proofs::PieceTexts::text_of))]
-    fn put_currency_if(&self, has_currency: bool, block: &mut Block) -> Result<(), SinkFault>
-        ensures { OnOk result (block.new.0 ≡ block.old.0 ++ pieces_text (currency_if self.now has_currency)) }
-    {
-        if has_currency {
-            return block.put_bytes(self.currency.text().as_bytes());
-        }
-        Ok(())
-    }
-
-    fn put_compact_prefix(&self, affix: CompactAffix, block: &mut Block) -> Result<(), SinkFault>
-        ensures { OnOk result (block.new.0 ≡ block.old.0 ++ pieces_text (compact_prefix self.now affix)) }
-    {
-        Self::put_word(affix.before, block)?;
-        self.put_currency_if(affix.has_currency, block)?;
-        Self::put_word(affix.after, block)?;
-        put_space_if(self.space_after(affix), block)
+        let affix = compact.prefix;
+        put_part(self.first_sign(sign, compact.form), block)?;
+        put_part(TextPart::new(PartKind::Compact, affix.before), block)?;
+        put_part(self.currency_if(affix.has_currency), block)?;
+        put_part(TextPart::new(PartKind::Compact, affix.after), block)?;
+        put_part(space_if(self.space_after(affix)), block)?;
+        put_part(self.last_sign(sign, compact.form), block)
     }
 
     fn put_compact_suffix(&self, affix: CompactAffix, block: &mut Block) -> Result<(), SinkFault>
-        ensures { OnOk result (block.new.0 ≡ block.old.0 ++ pieces_text (compact_suffix self.now affix)) }
-    {
-        put_space_if(self.space_before(affix), block)?;
-        Self::put_word(affix.before, block)?;
-        self.put_currency_if(affix.has_currency, block)?;
-        Self::put_word(affix.after, block)
-    }
-
-    fn put_compact_before(
-        &self,
-        sign: Sign,
-        shown: &CompactAffixes,
-        block: &mut Block,
-    ) -> Result<(), SinkFault>
+        requires { IsShortAffix affix }
         ensures { OnOk result
-            (block.new.0 ≡ block.old.0 ++ pieces_text (compact_around self.now sign shown.now).prefix) }
+            (block.new.0 ≡ block.old.0 ++ pieces_text (compact_suffix self.now (affix_words affix))) }
     {
-        self.put_first_sign(sign, shown.form, block)?;
-        self.put_compact_prefix(shown.prefix, block)?;
-        self.put_last_sign(sign, shown.form, block)
+        put_part(space_if(self.space_before(affix)), block)?;
+        put_part(TextPart::new(PartKind::Compact, affix.before), block)?;
+        put_part(self.currency_if(affix.has_currency), block)?;
+        put_part(TextPart::new(PartKind::Compact, affix.after), block)
     }
 
-    fn put_before(
-        &self,
-        sign: Sign,
-        compact: &Option<CompactAffixes>,
-        block: &mut Block,
-    ) -> Result<(), SinkFault>
-        ensures { OnOk result (block.new.0 ≡ block.old.0 ++ pieces_text (around_by self.now sign compact.now).prefix) }
+    #[inline]
+    fn put_prefix(&self, sign: Sign, block: &mut Block) -> Result<(), SinkFault>
+        ensures { OnOk result
+            (block.new.0 ≡ block.old.0 ++ pieces_text (pattern_around self.now sign).prefix) }
     {
-        let AffixPair { prefix, suffix: _ } = self.pattern.affixes(sign);
-        let Some(shown) = compact else {
-            return self.put_prefix(prefix, block);
-        };
-        if is_plain(shown.form) {
-            return self.put_prefix(prefix, block);
+        match &self.sign_texts {
+            Some(texts) => block.put_bytes(texts.of(sign).prefix.as_str().as_bytes()),
+            None => Err(SinkFault),
         }
-        self.put_compact_before(sign, shown, block)
     }
 
-    fn put_after(
-        &self,
-        sign: Sign,
-        compact: &Option<CompactAffixes>,
-        block: &mut Block,
-    ) -> Result<(), SinkFault>
-        ensures { OnOk result (block.new.0 ≡ block.old.0 ++ pieces_text (around_by self.now sign compact.now).suffix) }
+    #[inline]
+    fn put_suffix(&self, sign: Sign, block: &mut Block) -> Result<(), SinkFault>
+        ensures { OnOk result
+            (block.new.0 ≡ block.old.0 ++ pieces_text (pattern_around self.now sign).suffix) }
     {
-        let AffixPair { prefix: _, suffix } = self.pattern.affixes(sign);
-        let Some(shown) = compact else {
-            return self.put_suffix(suffix, block);
-        };
-        if is_plain(shown.form) {
-            return self.put_suffix(suffix, block);
+        match &self.sign_texts {
+            Some(texts) => block.put_bytes(texts.of(sign).suffix.as_str().as_bytes()),
+            None => Err(SinkFault),
         }
-        self.put_compact_suffix(shown.suffix, block)
     }
 }
 
@@ -218,43 +92,66 @@ impl<'f> FormattedNumber<'f> {
         ensures { OnOk result (block.new.0 ≡ block.old.0 ++ number_text self.now) }
     {
         self.digits().put_to_block(block)?;
-        match &self.exponent {
+        match self.formatter.exponent {
             None => Ok(()),
-            Some(exponent) => self.push_exponent(exponent, block),
+            Some(options) => {
+                let exponent = shown_exponent(self.alloc, options, self.exponent);
+                self.push_exponent(&exponent, block)
+            }
         }
     }
 
-    fn has_number(&self) -> bool
-        ensures { result ≡ (around_of self.now).has_number }
+    fn put_compact(&self, compact: &CompactAffixes, block: &mut Block) -> Result<(), SinkFault>
+        requires prefix { IsShortAffix compact.now.prefix }
+        requires suffix { IsShortAffix compact.now.suffix }
+        ensures { OnOk result (block.new.0 ≡ block.old.0 ++ around_text self.now
+            (compact_around self.now.formatter.now self.now.value.sign (compact_words compact.now))) }
     {
-        match &self.texts.around {
-            None => true,
-            Some(shown) => is_plain(shown.form) || has_number(shown.form),
+        let formatter = self.formatter;
+        formatter.put_compact_prefix(self.value.sign, compact, block)?;
+        if has_number(compact.form) {
+            self.put_digits(block)?;
         }
+        formatter.put_compact_suffix(compact.suffix, block)
     }
 
     #[inline]
-    fn put_digits_if(&self, block: &mut Block) -> Result<(), SinkFault>
-        ensures { OnOk result
-            (block.new.0 ≡ block.old.0 ++ number_text_if self.now (around_of self.now).has_number) }
+    fn put_pattern(&self, block: &mut Block) -> Result<(), SinkFault>
+        ensures { OnOk result (block.new.0 ≡ block.old.0 ++ around_text self.now
+            (pattern_around self.now.formatter.now self.now.value.sign)) }
     {
-        if self.has_number() {
-            return self.put_digits(block);
+        let formatter = self.formatter;
+        formatter.put_prefix(self.value.sign, block)?;
+        self.put_digits(block)?;
+        formatter.put_suffix(self.value.sign, block)
+    }
+
+    fn put_around(&self, block: &mut Block) -> Result<(), SinkFault>
+        ensures { OnOk result (block.new.0 ≡ block.old.0 ++ around_text self.now (around_of self.now)) }
+    {
+        match &self.compact_affixes() {
+            Some(compact) if !is_plain(compact.form) => self.put_compact(compact, block),
+            _ => self.put_pattern(block),
         }
-        Ok(())
+    }
+
+    fn put_with_unit(&self, block: &mut Block) -> Result<(), SinkFault>
+        ensures { OnOk result (block.new.0 ≡ block.old.0 ++ formatted_number_text self.now) }
+    {
+        let unit = self.unit();
+        put_part(TextPart::new(PartKind::Literal, unit.prefix), block)?;
+        self.put_around(block)?;
+        put_part(TextPart::new(PartKind::Literal, unit.suffix), block)
     }
 
     /// Appends the text, if it fits the block.
+    #[inline]
     pub(crate) fn put_text(&self, block: &mut Block) -> Result<(), SinkFault>
         ensures { OnOk result (block.new.0 ≡ block.old.0 ++ formatted_number_text self.now) }
     {
-        let formatter = self.formatter;
-        let sign = self.value.sign;
-        let texts = &self.texts;
-        put_literal(texts.unit.prefix, block)?;
-        formatter.put_before(sign, &texts.around, block)?;
-        self.put_digits_if(block)?;
-        formatter.put_after(sign, &texts.around, block)?;
-        put_literal(texts.unit.suffix, block)
+        match self.formatter.compact {
+            None => self.put_pattern(block),
+            Some(_) => self.put_with_unit(block),
+        }
     }
 }

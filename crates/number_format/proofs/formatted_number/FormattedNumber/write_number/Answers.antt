@@ -1,4 +1,4 @@
-use Rattle.std.proofs.Common.{ap, subst, sym, arith, ◌++◌}
+use Rattle.std.proofs.Common.{ap, subst, sym, arith, ◌++◌, ◌∙◌}
 use Rattle.std.proofs.lemmas.Result.{on_err_weaker}
 use Rattle.std.specs.Prelude.{OnErr}
 use Rattle.decimal_digits.specs.AppendsPrefix.{AppendsPrefix}
@@ -15,7 +15,7 @@ returns-in-Some-clause-err g c =
     let f = c.args.self.now.formatter.now in
     let digits = absolute_text f.symbols f.strategy c.args.self.now.value.absolute in
     let exponent = exponent_text f c.in-Some.exponent in
-    let e = ap (exponent_text_if f) c.in-Some.is in
+    let e = ap (exponent_text_if f) (sym c.shown_exponent.ensures ∙ c.in-Some.is) in
     let start = g.W.Sink.contents c.args.sink.now in
     let end = g.W.Sink.contents c.write_exponent.new.sink in
     subst (λ l. OnErr c.write_exponent.result (AppendsPrefix start end (digits ++ l))) (sym e)

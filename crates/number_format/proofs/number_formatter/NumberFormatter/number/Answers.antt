@@ -1,23 +1,31 @@
-use Rattle.std.proofs.Common.{◌≡◌, rules, w32, FitsSigned, sym}
-use Rattle.std.specs.Option.{option_map}
+use Rattle.std.proofs.Common.{◌≡◌, ◌∙◌, rules, w32, FitsSigned}
 use Rattle.std.proofs.lemmas.Int.{to_z-of_z}
-use Rattle.number_format.specs.NumberText.{shown_exponent, pieces_around, around_by}
+use Rattle.number_format.specs.FormattedNumbers.{IsChoice}
+use Rattle.number_format.specs.NumberText.{exponent_of, pieces_around, around_by, words_by, compact_magnitude, shown_sign, unit_by}
 use Rattle.number_format.specs.Scaled.{scaled_value}
+use Rattle.number_format.proofs.Choices.{same_unit}
 use Rattle.number_format.proofs.number_formatter.NumberFormatter.number.Goals as goal
 
 pub returns : goal.returns
 returns c v is =
     let fits : FitsSigned w32 c.args.exponent = search rules in
     let f = c.args.self.now in
-    let t = c.texts-texts.result in
-    let texts = simp to_z-of_z at c.texts-texts.ensures in
-    let exponent : c.exponent.result ≡ option_map (λ o. shown_exponent o c.args.exponent) f.exponent =
-    simp to_z-of_z at c.exponent.ensures in
+    let value = c.args.value in
+    let e = c.args.exponent in
+    let t = c.choice-choice.result in
+    let choice : IsChoice f value e t = simp to_z-of_z at c.choice-choice.ensures in
     let shown = c.apply_sign_display.ensures.value in
-    record {
-      number = scaled_value c.args.value c.args.exponent;
-      texts = t;
+    let unit = same_unit f f.compact t.whole choice.unit.category choice.unit.texts in
+    simp to_z-of_z (record {
+      number = scaled_value value e;
+      category = choice.words.category;
+      whole = choice.unit.category;
       number_is = is;
-      texts_are = texts;
-      value = λ i. pieces_around f (shown i).absolute (exponent i) (around_by f (shown i).sign t.around) t.unit;
-    }
+      of_significand = choice.words.of_significand;
+      of_whole = choice.unit.of_whole;
+      value =
+          (λ i. pieces_around f (shown i).absolute (exponent_of f e) (around_by f (shown i).sign
+          (words_by f.formats f.compact (compact_magnitude (shown i) e) t.category t.is_one)) (unit_by f f.compact t.whole))
+          ∙ (λ i. pieces_around f value.absolute (exponent_of f e) (around_by f (shown_sign f value)
+          (choice.words.words i)) (unit i));
+    })
