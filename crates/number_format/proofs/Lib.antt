@@ -30,4 +30,3 @@ pub mod DefaultsResolve
 pub mod ExponentDigits
 pub mod FormatterTexts
 pub mod ShownValues
-pub mod TypedForms

@@ -1,12 +1,14 @@
 -- Affixes that name the sign of a number.
-use Rattle.std.proofs.Common.{◌≡◌, ◌≢◌, ℕ, ◌%◌, suc, ◌+◌, ◌<◌, ◌≤◌, inl, inr, List, [], ◌∷◌, ◌++◌, length, get_or, refl, sym, ◌∙◌, ap, subst, arith, append_assoc, append-nil, length-append}
-use Rattle.std.specs.Prelude.{encode_utf8, slice_index}
+use Rattle.std.proofs.Common.{◌≡◌, ◌≢◌, ℕ, Bool, true, false, ◌%◌, suc, ◌+◌, ◌<◌, ◌≤◌, inl, inr, List, [], ◌∷◌, ◌++◌, length, get_or, refl, sym, ◌∙◌, ap, subst, arith, append_assoc, append-nil, length-append, Bor}
+use Rattle.std.specs.Prelude.{◌↔◌, not, nat_eq, IsTrue, Option, Some, None, MatchOption, encode_utf8, slice_index}
+use Rattle.std.specs.Option.{option_or}
 use Rattle.std.specs.Str.{IsUtf8}
 use Rattle.std.proofs.Math.Utf8.{encode}
 use Rattle.std.proofs.lemmas.Str.{encode_same, IsCharBoundary-at_seam}
+use Rattle.std.proofs.lemmas.Bool.Decides.{nat_tests}
 use Rattle.std.proofs.lemmas.List.{append_cancel_left, append_cancel_right}
 use Rattle.fixed_decimal.specs.declared.variations.Sign.{Sign}
-use Rattle.fixed_decimal.specs.declared.variations.Sign.TheVariants.{None, Negative, Positive}
+use Rattle.fixed_decimal.specs.declared.variations.Sign.TheVariants as sign
 use Rattle.decimal_format.specs.Readable.{BeginsWithDigit, EndsWithDigit}
 use Rattle.decimal_format.specs.Symbols.{Symbols, Affixes, digit_text}
 use Rattle.decimal_format.proofs.lemmas.reader.Codes.{meet}
@@ -41,6 +43,16 @@ whole_char c (x ∷ before) (y ∷ r) utf8 some e =
     let next = continuation c (length before) inside in
     let lead = (IsCharBoundary-at_seam (encode_utf8 c) (x ∷ before) (y ∷ r) e utf8).1 inside next.0 in
     absurd (omega (arith, next.1, lead))
+
+-- ---- Tests.
+
+pub unless : (b : Bool) (P Q : Type 0) → IsTrue b ↔ P → Q ↔ ¬ P → IsTrue (not b) ↔ Q
+unless true P Q h q = (λ t. absurd (cc), λ x. absurd (q.0 x (h.0 refl)))
+unless false P Q h q = (λ t. q.1 (λ p. let t = h.1 p in absurd (cc)), λ x. refl)
+
+pub none_is : (xs : List ℕ) → nat_eq (length xs) 0 ≡ true → xs ≡ []
+none_is [] e = refl
+none_is (x ∷ xs) e = absurd (grind (arith, nat_tests))
 
 -- ---- Digits.
 
@@ -87,14 +99,14 @@ module _ (s : Symbols) where
 
   -- ---- Two prefixes.
 
-  pub prefix_after : (p q r : List ℕ) → p ≡ q ++ r → IsUtf8 r → (r ≢ []) × ¬ BeginsWithDigit s r
+  prefix_after : (p q r : List ℕ) → p ≡ q ++ r → IsUtf8 r → (r ≢ []) × ¬ BeginsWithDigit s r
       → ArePrefixesApart s p q
   prefix_after p q r is utf8 apart a b x y e =
       let rest : r ++ a ≡ b =
       append_cancel_left q _ _ (sym (append_assoc q r a) ∙ ap (λ t. t ++ a) (sym is) ∙ e) in
       apart.1 (begins_early r a utf8 apart.0 (subst (BeginsWithDigit s) (sym rest) y))
 
-  pub after_prefix : (p q r : List ℕ) → p ≡ q ++ r → ArePrefixesApart s p q → (r ≢ []) × ¬ BeginsWithDigit s r
+  after_prefix : (p q r : List ℕ) → p ≡ q ++ r → ArePrefixesApart s p q → (r ≢ []) × ¬ BeginsWithDigit s r
   after_prefix p q r is apart = (
     λ none. apart (digit_text s 0) (digit_text s 0) zero_begins zero_begins
         (ap (λ t. t ++ digit_text s 0) (is ∙ ap (λ t. q ++ t) none ∙ append-nil q)),
@@ -102,16 +114,33 @@ module _ (s : Symbols) where
         (ap (λ t. t ++ digit_text s 0) is ∙ append_assoc q r (digit_text s 0)),
   )
 
-  pub prefixes_swapped : (p q : List ℕ) → ArePrefixesApart s p q → ArePrefixesApart s q p
+  prefixes_swapped : (p q : List ℕ) → ArePrefixesApart s p q → ArePrefixesApart s q p
   prefixes_swapped p q apart a b x y e = apart b a y x (sym e)
 
-  pub neither_prefix : (p q : List ℕ) → ((r : List ℕ) → p ≢ q ++ r) → ((r : List ℕ) → q ≢ p ++ r)
+  neither_prefix : (p q : List ℕ) → ((r : List ℕ) → p ≢ q ++ r) → ((r : List ℕ) → q ≢ p ++ r)
       → ArePrefixesApart s p q
   neither_prefix p q f g a b x y e = elim (meet p q a b e) [ inl l ↦ g l.0 l.1 | inr r ↦ f r.0 r.1 ]
 
+  -- what is left of the longer prefix decides
+  abbrev pub DecidesPrefixes : List ℕ → List ℕ → Option (Bor (List ℕ)) → Type 0
+  DecidesPrefixes p q rest = MatchOption rest (ArePrefixesApart s p q)
+      (λ r. (IsUtf8 r.now → (r.now ≢ []) × ¬ BeginsWithDigit s r.now → ArePrefixesApart s p q)
+      × (ArePrefixesApart s p q → (r.now ≢ []) × ¬ BeginsWithDigit s r.now))
+
+  pub prefixes_by_rest : (p q : List ℕ) (a b : Option (Bor (List ℕ)))
+      → MatchOption a ((r : List ℕ) → p ≢ q ++ r) (λ r. p ≡ q ++ r.now)
+      → MatchOption b ((r : List ℕ) → q ≢ p ++ r) (λ r. q ≡ p ++ r.now)
+      → DecidesPrefixes p q (option_or a b)
+  prefixes_by_rest p q None None f g = neither_prefix p q f g
+  prefixes_by_rest p q None (Some r) f g = (
+    λ utf8 apart. prefixes_swapped q p (prefix_after q p r.now g utf8 apart),
+    λ apart. after_prefix q p r.now g (prefixes_swapped p q apart),
+  )
+  prefixes_by_rest p q (Some r) b f g = (prefix_after p q r.now f, after_prefix p q r.now f)
+
   -- ---- Two suffixes.
 
-  pub suffix_before : (p q r : List ℕ) → p ≡ r ++ q → IsUtf8 r → (r ≢ []) × ¬ EndsWithDigit s r
+  suffix_before : (p q r : List ℕ) → p ≡ r ++ q → IsUtf8 r → (r ≢ []) × ¬ EndsWithDigit s r
       → AreSuffixesApart s p q
   suffix_before p q r is utf8 apart a b x y e =
       let rest : a ++ r ≡ b =
@@ -126,7 +155,7 @@ module _ (s : Symbols) where
     is = ap (λ t. a ++ t) ends.is ∙ sym (append_assoc a ends.before (digit_text s ends.digit));
   }
 
-  pub before_suffix : (p q r : List ℕ) → p ≡ r ++ q → AreSuffixesApart s p q → (r ≢ []) × ¬ EndsWithDigit s r
+  before_suffix : (p q r : List ℕ) → p ≡ r ++ q → AreSuffixesApart s p q → (r ≢ []) × ¬ EndsWithDigit s r
   before_suffix p q r is apart = (
     λ none. apart (digit_text s 0) (digit_text s 0) zero_ends zero_ends
         (ap (λ t. digit_text s 0 ++ t) (is ∙ ap (λ t. t ++ q) none)),
@@ -134,15 +163,32 @@ module _ (s : Symbols) where
         (ap (λ t. digit_text s 0 ++ t) is ∙ sym (append_assoc (digit_text s 0) r q)),
   )
 
-  pub suffixes_swapped : (p q : List ℕ) → AreSuffixesApart s p q → AreSuffixesApart s q p
+  suffixes_swapped : (p q : List ℕ) → AreSuffixesApart s p q → AreSuffixesApart s q p
   suffixes_swapped p q apart a b x y e = apart b a y x (sym e)
 
-  pub neither_suffix : (p q : List ℕ) → ((r : List ℕ) → p ≢ r ++ q) → ((r : List ℕ) → q ≢ r ++ p)
+  neither_suffix : (p q : List ℕ) → ((r : List ℕ) → p ≢ r ++ q) → ((r : List ℕ) → q ≢ r ++ p)
       → AreSuffixesApart s p q
   neither_suffix p q f g a b x y e = elim (meet a b p q e) [
     | inl l ↦ f l.0 (append_cancel_left a _ _ (e ∙ ap (λ t. t ++ q) l.1 ∙ append_assoc a l.0 q))
     | inr r ↦ g r.0 (append_cancel_left b _ _ (sym e ∙ ap (λ t. t ++ p) r.1 ∙ append_assoc b r.0 p))
   ]
+
+  -- what is left of the longer suffix decides
+  abbrev pub DecidesSuffixes : List ℕ → List ℕ → Option (Bor (List ℕ)) → Type 0
+  DecidesSuffixes p q rest = MatchOption rest (AreSuffixesApart s p q)
+      (λ r. (IsUtf8 r.now → (r.now ≢ []) × ¬ EndsWithDigit s r.now → AreSuffixesApart s p q)
+      × (AreSuffixesApart s p q → (r.now ≢ []) × ¬ EndsWithDigit s r.now))
+
+  pub suffixes_by_rest : (p q : List ℕ) (a b : Option (Bor (List ℕ)))
+      → MatchOption a ((r : List ℕ) → p ≢ r ++ q) (λ r. p ≡ r.now ++ q)
+      → MatchOption b ((r : List ℕ) → q ≢ r ++ p) (λ r. q ≡ r.now ++ p)
+      → DecidesSuffixes p q (option_or a b)
+  suffixes_by_rest p q None None f g = neither_suffix p q f g
+  suffixes_by_rest p q None (Some r) f g = (
+    λ utf8 apart. suffixes_swapped q p (suffix_before q p r.now g utf8 apart),
+    λ apart. before_suffix q p r.now g (suffixes_swapped p q apart),
+  )
+  suffixes_by_rest p q (Some r) b f g = (suffix_before p q r.now f, before_suffix p q r.now f)
 
   -- ---- Three signs.
 
@@ -155,12 +201,12 @@ module _ (s : Symbols) where
   named_if t a b c = record { pair = go }
     where
       go : (x y : Sign) → x ≢ y → ArePairApart s (by_sign t x) (by_sign t y)
-      go None None other = absurd (other refl)
-      go None Negative other = a
-      go None Positive other = b
-      go Negative None other = pair_swapped _ _ a
-      go Negative Negative other = absurd (other refl)
-      go Negative Positive other = c
-      go Positive None other = pair_swapped _ _ b
-      go Positive Negative other = pair_swapped _ _ c
-      go Positive Positive other = absurd (other refl)
+      go sign.None sign.None other = absurd (other refl)
+      go sign.None sign.Negative other = a
+      go sign.None sign.Positive other = b
+      go sign.Negative sign.None other = pair_swapped _ _ a
+      go sign.Negative sign.Negative other = absurd (other refl)
+      go sign.Negative sign.Positive other = c
+      go sign.Positive sign.None other = pair_swapped _ _ b
+      go sign.Positive sign.Negative other = pair_swapped _ _ c
+      go sign.Positive sign.Positive other = absurd (other refl)

@@ -92,11 +92,14 @@ abbrev pub shifted : ℤ → Result Decimal ParseError → Result Decimal ParseE
 shifted shift (Ok v) = ok_or (with_absolute v (multiplied_pow10 v.absolute shift)) Limit
 shifted shift (Err e) = Err e
 
+-- the result of reading these numerals and decimals
+abbrev pub IsReadAs : ℕ → Reader → (Numeral → Type 0) → (Decimal → Type 0) → Result Decimal ParseError → Type 0
+IsReadAs inline r is_numeral is_written result =
+    (read : Result Decimal ParseError) × IsRead inline is_numeral is_written read × (result ≡ shifted r.shift read)
+
 -- the result of reading a text exactly: `Syntax` if it is that of no digits
 abbrev pub IsReadExactly : ℕ → Reader → List ℕ → Result Decimal ParseError → Type 0
-IsReadExactly inline r text result =
-    (read : Result Decimal ParseError) × IsRead inline (IsShownNumeral r text) (IsShown r text) read
-    × (result ≡ shifted r.shift read)
+IsReadExactly inline r text = IsReadAs inline r (IsShownNumeral r text) (IsShown r text)
 
 -- the text is that of the digits between the affixes; or it is that of none, and the first alternative with a numeral
 -- has these digits
@@ -113,7 +116,5 @@ IsTypedWith r alternatives text v =
 
 -- the result of reading a text as people type it, with these alternatives
 abbrev pub IsReadTyped : ℕ → Reader → List Alternative → List ℕ → Result Decimal ParseError → Type 0
-IsReadTyped inline r alternatives text result =
-    (read : Result Decimal ParseError)
-    × IsRead inline (IsTypedNumeralWith r alternatives text) (IsTypedWith r alternatives text) read
-    × (result ≡ shifted r.shift read)
+IsReadTyped inline r alternatives text =
+    IsReadAs inline r (IsTypedNumeralWith r alternatives text) (IsTypedWith r alternatives text)

@@ -1,5 +1,5 @@
 -- What a formatter writes, read exactly and as people type it.
-use Rattle.std.specs.Prelude.{◌≡◌, ◌≢◌, ⊤, ℕ, ◌⊎◌, Bool, true, false, ◌||◌, if◌then◌else◌, List, [], ◌∷◌, ◌++◌, map, flat_map, codes, Option, Some, None, Result, Err, ◌-ℤ◌, pos, negsuc}
+use Rattle.std.specs.Prelude.{◌≡◌, ◌≢◌, ℕ, ◌⊎◌, Bool, true, false, ◌||◌, if◌then◌else◌, List, [], ◌∷◌, ◌++◌, map, flat_map, codes, Option, Some, None, Result, Err, ◌-ℤ◌, pos, negsuc}
 use Rattle.std.specs.Str.{IsUtf8}
 use Rattle.decimal_unsigned.specs.declared.error.ParseError.{ParseError}
 use Rattle.decimal_unsigned.specs.declared.error.ParseError.TheVariants.{Syntax}
@@ -51,13 +51,17 @@ pub record CanRead (f : NumberFormatter) : Type 0 where
   pub readable : IsReadable f.symbols
   pub named : AreNamed f.symbols (affixes_of_formatter f)
 
+-- the notation and the scale can be undone
+abbrev pub CanUndo : NumberFormatter → Type 0
+CanUndo f = IsStandard f × (f.scale ≢ negsuc 32767)
+
 -- what an error says
 abbrev pub CannotRead : NumberReaderError → NumberFormatter → Type 0
 CannotRead error.Notation f = ¬ IsStandard f
-CannotRead error.Scale f = f.scale ≡ negsuc 32767
-CannotRead error.Symbols f = ¬ IsReadable f.symbols
-CannotRead error.Affixes f = ¬ AreNamed f.symbols (affixes_of_formatter f)
-CannotRead error.Memory f = ⊤
+CannotRead error.Scale f = IsStandard f × (f.scale ≡ negsuc 32767)
+CannotRead error.Memory f = CanUndo f
+CannotRead error.Symbols f = CanUndo f × ¬ IsReadable f.symbols
+CannotRead error.Affixes f = CanUndo f × (IsReadable f.symbols × ¬ AreNamed f.symbols (affixes_of_formatter f))
 
 -- u is the number that the formatter shows of v: scaled, rounded, and with the sign that is written
 pub record IsShownAs (f : NumberFormatter) (v u : Decimal) : Type 0 where
@@ -100,24 +104,24 @@ forms_of_name name =
     ∷ form (codes "-" ++ (name ++ codes " ")) [] sign.Negative ∷ form (codes "+" ++ name) [] sign.Positive
     ∷ form (codes "+" ++ (name ++ codes " ")) [] sign.Positive ∷ []
 
+-- what may be around a number: what the formatter writes, nothing, parentheses for a minus sign, and the names
+abbrev pub typed_forms : NumberFormatter → List (Affixes × Sign)
+typed_forms f =
+    (affixes_for f sign.None, sign.None) ∷ (affixes_for f sign.Negative, sign.Negative)
+    ∷ (affixes_for f sign.Positive, sign.Positive) ∷ form [] [] sign.None
+    ∷ form (codes "(") (codes ")") sign.Negative ∷ flat_map forms_of_name (names_by f f.currency.names)
+
 pub record NumberReader : Type 0 where
   pub texts : Reader
-  pub names : List (Affixes × Sign)
+  pub forms : List (Affixes × Sign)
 
 abbrev pub number_reader_of : NumberFormatter → NumberReader
-number_reader_of f = record { texts = reader_of f; names = flat_map forms_of_name (names_by f f.currency.names) }
-
--- the affixes of the formatter, nothing, parentheses for a minus sign, and the names
-abbrev pub typed_forms : NumberReader → List (Affixes × Sign)
-typed_forms r =
-    (r.texts.affixes.none, sign.None) ∷ (r.texts.affixes.negative, sign.Negative)
-    ∷ (r.texts.affixes.positive, sign.Positive) ∷ form [] [] sign.None
-    ∷ form (codes "(") (codes ")") sign.Negative ∷ r.names
+number_reader_of f = record { texts = reader_of f; forms = typed_forms f }
 
 -- the result of lenient reading: by the first of these forms that has a number
 abbrev pub IsReadLeniently : ℕ → NumberReader → List ℕ → Result Decimal ParseError → Type 0
 IsReadLeniently inline r text result =
-    (alternatives : List Alternative) × (map form_of alternatives ≡ typed_forms r)
+    (alternatives : List Alternative) × (map form_of alternatives ≡ r.forms)
     × IsReadTyped inline r.texts alternatives text result
 
 -- the result of reading in a mode; leniently, a text that is not UTF-8 is `Syntax`

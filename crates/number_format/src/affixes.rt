@@ -1,16 +1,14 @@
 //! The texts around numbers, by sign.
-ghost use Rattle.std.specs.Prelude.{◌≡◌, ◌≢◌, ℕ, List, [], ◌++◌, ◌↔◌, MatchOption, IsTrue, IfOk};
-ghost use Rattle.std.specs.Str.{IsUtf8};
-ghost use Rattle.std.specs.String.{string_bytes};
-ghost use Rattle.decimal_format.specs.Readable.{IsReadable, BeginsWithDigit, EndsWithDigit};
+ghost use Rattle.std.specs.Prelude.{◌≡◌, ◌↔◌, flat_map, IsTrue, IfOk};
+ghost use Rattle.decimal_format.specs.Readable.{IsReadable};
 ghost use Rattle.decimal_format.specs.Symbols.{affixes};
 ghost use Rattle.number_format.specs.AffixedTexts.{affix_table, by_sign, ArePrefixesApart, AreSuffixesApart, ArePairApart, AreNamed};
-ghost use Rattle.number_format.specs.TextParts.{parts_text};
 
 use crate::text_part::TextPart;
 use decimal_format::{Affixes, DecimalSymbols};
 use fixed_decimal::Sign;
 use std::alloc::{AllocError, Global};
+use std::convert::AsStr;
 use std::marker::Model;
 
 /// The text before a number and the text after it.
@@ -37,38 +35,28 @@ impl Model for AffixTexts {
     ghost view = { λ s. affixes (string_bytes s.prefix) (string_bytes s.suffix) };
 }
 
-pub(crate) fn joined(alloc: Global, parts: &[TextPart<'_>]) -> Result<String, AllocError>
-    ensures { IfOk result (λ t. string_bytes t ≡ parts_text parts.now) }
-{
-    let mut text = String::new(alloc);
-    for part in parts {
-        text.push_str(part.text)?;
+impl<'f> AsStr for TextPart<'f> {
+    ghost text = { λ part. part.text.now };
+
+    fn as_str(&self) -> &str {
+        self.text
     }
-    Ok(text)
 }
 
 impl AffixTexts {
-    fn new(alloc: Global, texts: Affixes<'_>) -> Result<Self, AllocError>
-        ensures { IfOk result (λ t. t ≡ affixes texts.entry.prefix.now texts.entry.suffix.now) }
-    {
-        let prefix = String::from_str(alloc, texts.prefix)?;
-        let suffix = String::from_str(alloc, texts.suffix)?;
-        Ok(AffixTexts { prefix, suffix })
-    }
-
-    pub(crate) fn of_parts(
+    pub(crate) fn joined<S: AsStr>(
         alloc: Global,
-        prefix: &[TextPart<'_>],
-        suffix: &[TextPart<'_>],
+        prefix: &[S],
+        suffix: &[S],
     ) -> Result<Self, AllocError>
-        ensures { IfOk result (λ t. t ≡ affixes (parts_text prefix.now) (parts_text suffix.now)) }
+        ensures { IfOk result (λ t. t ≡ affixes (flat_map S.text prefix.now) (flat_map S.text suffix.now)) }
     {
-        let prefix = joined(alloc, prefix)?;
-        let suffix = joined(alloc, suffix)?;
+        let prefix = prefix.join(alloc, "")?;
+        let suffix = suffix.join(alloc, "")?;
         Ok(AffixTexts { prefix, suffix })
     }
 
-    fn texts(&self) -> Affixes<'_>
+    pub(crate) fn texts(&self) -> Affixes<'_>
         ensures prefix { result.prefix.now ≡ self.now.prefix }
         ensures suffix { result.suffix.now ≡ self.now.suffix }
     {
@@ -108,60 +96,24 @@ impl Model for SignAffixes {
     ghost view = { λ s. affix_table s.none s.negative s.positive };
 }
 
-fn cut<'t>(text: &'t str, prefix: &str) -> Option<&'t str>
-    ensures { MatchOption result ((rest : List ℕ) → text.now ≢ prefix.now ++ rest)
-        (λ rest. text.now ≡ prefix.now ++ rest.now) }
-{
-    text.strip_prefix(prefix)
-}
-
-fn cut_end<'t>(text: &'t str, suffix: &str) -> Option<&'t str>
-    ensures { MatchOption result ((rest : List ℕ) → text.now ≢ rest ++ suffix.now)
-        (λ rest. text.now ≡ rest.now ++ suffix.now) }
-{
-    text.strip_suffix(suffix)
-}
-
-fn is_apart_after(symbols: &DecimalSymbols<'_>, rest: &str) -> bool
-    requires { IsReadable symbols.now }
-    ensures apart { IsTrue result ↔ ((rest.now ≢ []) × ¬ BeginsWithDigit symbols.now rest.now) }
-    ensures utf8 { IsUtf8 rest.now }
-{
-    !rest.is_empty() && !symbols.begins_with_digit(rest.as_bytes())
-}
-
-fn is_apart_before(symbols: &DecimalSymbols<'_>, rest: &str) -> bool
-    requires { IsReadable symbols.now }
-    ensures apart { IsTrue result ↔ ((rest.now ≢ []) × ¬ EndsWithDigit symbols.now rest.now) }
-    ensures utf8 { IsUtf8 rest.now }
-{
-    !rest.is_empty() && !symbols.ends_with_digit(rest.as_bytes())
-}
-
 fn are_prefixes_apart(symbols: &DecimalSymbols<'_>, first: &str, second: &str) -> bool
     requires { IsReadable symbols.now }
     ensures { IsTrue result ↔ ArePrefixesApart symbols.now first.now second.now }
 {
-    if let Some(rest) = cut(first, second) {
-        return is_apart_after(symbols, rest);
+    match first.strip_prefix(second).or(second.strip_prefix(first)) {
+        Some(rest) => !rest.is_empty() && !symbols.begins_with_digit(rest.as_bytes()),
+        None => true,
     }
-    if let Some(rest) = cut(second, first) {
-        return is_apart_after(symbols, rest);
-    }
-    true
 }
 
 fn are_suffixes_apart(symbols: &DecimalSymbols<'_>, first: &str, second: &str) -> bool
     requires { IsReadable symbols.now }
     ensures { IsTrue result ↔ AreSuffixesApart symbols.now first.now second.now }
 {
-    if let Some(rest) = cut_end(first, second) {
-        return is_apart_before(symbols, rest);
+    match first.strip_suffix(second).or(second.strip_suffix(first)) {
+        Some(rest) => !rest.is_empty() && !symbols.ends_with_digit(rest.as_bytes()),
+        None => true,
     }
-    if let Some(rest) = cut_end(second, first) {
-        return is_apart_before(symbols, rest);
-    }
-    true
 }
 
 impl SignAffixes {
@@ -180,9 +132,9 @@ impl SignAffixes {
             (affixes negative.entry.prefix.now negative.entry.suffix.now)
             (affixes positive.entry.prefix.now positive.entry.suffix.now)) }
     {
-        let none = AffixTexts::new(alloc, none)?;
-        let negative = AffixTexts::new(alloc, negative)?;
-        let positive = AffixTexts::new(alloc, positive)?;
+        let none = AffixTexts::joined(alloc, &[none.prefix], &[none.suffix])?;
+        let negative = AffixTexts::joined(alloc, &[negative.prefix], &[negative.suffix])?;
+        let positive = AffixTexts::joined(alloc, &[positive.prefix], &[positive.suffix])?;
         Ok(SignAffixes {
             none,
             negative,
@@ -206,12 +158,10 @@ impl SignAffixes {
         requires { IsReadable symbols.now }
         ensures { IsTrue result ↔ ArePairApart symbols.now (by_sign self.now first) (by_sign self.now second) }
     {
-        let one = self.of_sign(first);
-        let two = self.of_sign(second);
-        if are_prefixes_apart(symbols, one.prefix, two.prefix) {
-            return true;
-        }
-        are_suffixes_apart(symbols, one.suffix, two.suffix)
+        let first = self.of_sign(first);
+        let second = self.of_sign(second);
+        are_prefixes_apart(symbols, first.prefix, second.prefix)
+            || are_suffixes_apart(symbols, first.suffix, second.suffix)
     }
 
     /// Returns whether the prefix before a number or the suffix after it names its sign, so that no text is that of
@@ -222,12 +172,8 @@ impl SignAffixes {
         requires { IsReadable symbols.now }
         ensures { IsTrue result ↔ AreNamed symbols.now self.now }
     {
-        if !self.is_pair_apart(symbols, Sign::None, Sign::Negative) {
-            return false;
-        }
-        if !self.is_pair_apart(symbols, Sign::None, Sign::Positive) {
-            return false;
-        }
-        self.is_pair_apart(symbols, Sign::Negative, Sign::Positive)
+        self.is_pair_apart(symbols, Sign::None, Sign::Negative)
+            && self.is_pair_apart(symbols, Sign::None, Sign::Positive)
+            && self.is_pair_apart(symbols, Sign::Negative, Sign::Positive)
     }
 }

@@ -1,11 +1,11 @@
 //! Readers of what formatters write.
-ghost use Rattle.std.specs.Prelude.{◌≡◌, ◌≢◌, ◌↔◌, ◌++◌, ◌∷◌, [], ◌-ℤ◌, pos, negsuc, map, flat_map, IsTrue, IfOk, IfErr, OnOk};
+ghost use Rattle.std.specs.Prelude.{◌≡◌, ◌∷◌, [], ◌-ℤ◌, pos, length, map, IfOk, IfErr, OnOk};
 ghost use Rattle.number_format.specs.AffixedTexts.{IsReadExactly};
-ghost use Rattle.number_format.specs.NumberReading.{IsStandard, affixes_for, affixes_of_formatter, CanRead, CannotRead, is_percent, has_percent, percent_name, names_by, form_of, forms_of_name, number_reader_of, typed_forms, IsReadLeniently, IsReadInMode};
+ghost use Rattle.number_format.specs.NumberReading.{affixes_for, affixes_of_formatter, CanRead, CanUndo, CannotRead, is_percent, has_percent, percent_name, names_by, form_of, number_reader_of, typed_forms, IsReadLeniently, IsReadInMode};
 
 use crate::affixes::{AffixTexts, SignAffixes};
 use crate::compact_texts::NO_UNIT;
-use crate::name_texts::{NameTexts, prefix};
+use crate::forms::{Form, alternative, push_form, push_name};
 use crate::number_formatter::NumberFormatter;
 use crate::number_style::text_or_nothing;
 use crate::reader::{AffixError, AffixReader};
@@ -16,7 +16,7 @@ use std::alloc::{AllocError, Global};
 use std::marker::Model;
 use std::str;
 
-/// Why the texts of a formatter cannot be read.
+/// Why the texts of a formatter cannot be read: the first of these that holds, or out of memory after the first two.
 #[derive(Clone, Copy, Debug, PartialEq, Eq)]
 pub enum NumberReaderError {
     /// The notation is compact, scientific or engineering.
@@ -49,34 +49,27 @@ pub enum ParseMode {
 /// ```
 pub struct NumberReader {
     reader: AffixReader<'static>,
-    symbol: NameTexts,
-    narrow: NameTexts,
-    code: NameTexts,
+    forms: Vec<Form>,
 }
 
 // Not derived: a derived drop is proved again wherever a value is dropped.
 impl Drop for NumberReader {
     fn drop(self) {
-        let NumberReader {
-            reader,
-            symbol,
-            narrow,
-            code,
-        } = self;
+        let NumberReader { reader, forms } = self;
         drop(reader);
-        drop(symbol);
-        drop(narrow);
-        drop(code);
+        drop(forms);
     }
 }
 
 impl Model for NumberReader {
-    ghost use Rattle.std.specs.Prelude.{◌++◌};
+    ghost use Rattle.std.specs.Prelude.{◌≡◌, length};
     ghost use Rattle.number_format.specs.NumberReading.{NumberReader};
 
     ghost Value = { NumberReader };
 
-    ghost view = { λ s. record { texts = s.reader; names = s.symbol ++ (s.narrow ++ s.code) } };
+    ghost view = { λ s. record { texts = s.reader; forms = s.forms.items } };
+
+    ghost invariant = { λ s. length s.forms.items ≡ 29 };
 }
 
 fn is_percent(piece: Piece) -> bool
@@ -95,17 +88,11 @@ fn has_percent(affix: Affix) -> bool
 }
 
 impl NumberFormatter {
-    fn is_standard(&self) -> bool
-        ensures { IsTrue result ↔ IsStandard self.now }
-    {
-        self.compact.is_none() && self.exponent.is_none()
-    }
-
     fn affix_texts(&self, alloc: Global, sign: Sign) -> Result<AffixTexts, AllocError>
         ensures { IfOk result (λ t. t ≡ affixes_for self.now sign) }
     {
         let affixes = self.affixes(sign, None, NO_UNIT);
-        AffixTexts::of_parts(alloc, &affixes.prefix, &affixes.suffix)
+        AffixTexts::joined(alloc, &affixes.prefix, &affixes.suffix)
     }
 
     fn sign_affixes(&self, alloc: Global) -> Result<SignAffixes, AllocError>
@@ -141,30 +128,32 @@ impl NumberFormatter {
         }
     }
 
-    fn shift(&self) -> Result<i16, NumberReaderError>
-        ensures value { IfOk result (λ shift. shift ≡ pos 0 -ℤ self.now.scale) }
-        ensures standard { OnOk result (IsStandard self.now) }
-        ensures scale { OnOk result (self.now.scale ≢ negsuc 32767) }
-        ensures err { IfErr result (λ e. CannotRead e self.now) }
-    {
-        if !self.is_standard() {
-            return Err(NumberReaderError::Notation);
-        }
-        match self.scale.checked_neg() {
-            Some(shift) => Ok(shift),
-            None => Err(NumberReaderError::Scale),
-        }
-    }
-
-    fn name_texts(&self, alloc: Global) -> Result<(NameTexts, NameTexts, NameTexts), AllocError>
-        ensures { IfOk result (λ t. t.0 ++ (t.1 ++ t.2)
-            ≡ flat_map forms_of_name (names_by self.now self.now.currency.names)) }
+    fn forms(&self, alloc: Global) -> Result<Vec<Form>, AllocError>
+        ensures forms { IfOk result (λ forms. forms.items ≡ typed_forms self.now) }
+        ensures count { IfOk result (λ forms. length forms.items ≡ 29) }
     {
         let (symbol, narrow, code) = self.names();
-        let symbol = NameTexts::new(alloc, symbol)?;
-        let narrow = NameTexts::new(alloc, narrow)?;
-        let code = NameTexts::new(alloc, code)?;
-        Ok((symbol, narrow, code))
+        let mut forms = Vec::new(alloc);
+        forms.push((self.affix_texts(alloc, Sign::None)?, Sign::None))?;
+        forms.push((self.affix_texts(alloc, Sign::Negative)?, Sign::Negative))?;
+        forms.push((self.affix_texts(alloc, Sign::Positive)?, Sign::Positive))?;
+        push_form(&mut forms, alloc, &[], &[], Sign::None)?;
+        push_form(&mut forms, alloc, &["("], &[")"], Sign::Negative)?;
+        push_name(&mut forms, alloc, symbol)?;
+        push_name(&mut forms, alloc, narrow)?;
+        push_name(&mut forms, alloc, code)?;
+        Ok(forms)
+    }
+
+    fn shift(&self) -> Result<i16, NumberReaderError>
+        ensures value { IfOk result (λ shift. shift ≡ pos 0 -ℤ self.now.scale) }
+        ensures ok { OnOk result (CanUndo self.now) }
+        ensures err { IfErr result (λ e. CannotRead e self.now) }
+    {
+        if self.compact.is_some() || self.exponent.is_some() {
+            return Err(NumberReaderError::Notation);
+        }
+        self.scale.checked_neg().ok_or(NumberReaderError::Scale)
     }
 
     /// Makes the reader of what this formatter writes.
@@ -177,7 +166,7 @@ impl NumberFormatter {
         ensures err { IfErr result (λ e. CannotRead e self) }
     {
         let shift = self.shift()?;
-        let Ok((symbol, narrow, code)) = self.name_texts(alloc) else {
+        let Ok(forms) = self.forms(alloc) else {
             return Err(NumberReaderError::Memory);
         };
         let Ok(affixes) = self.sign_affixes(alloc) else {
@@ -186,9 +175,7 @@ impl NumberFormatter {
         match AffixReader::new(self.symbols, affixes) {
             Ok(reader) => Ok(NumberReader {
                 reader: reader.with_shift(shift),
-                symbol,
-                narrow,
-                code,
+                forms,
             }),
             Err(AffixError::Symbols) => Err(NumberReaderError::Symbols),
             Err(AffixError::Affixes) => Err(NumberReaderError::Affixes),
@@ -197,34 +184,15 @@ impl NumberFormatter {
 }
 
 impl NumberReader {
-    fn own_alternatives(&self) -> [Alternative<'_>; 5]
-        ensures { map form_of result ++ self.now.names ≡ typed_forms self.now }
-    {
-        [
-            self.reader.alternative(Sign::None),
-            self.reader.alternative(Sign::Negative),
-            self.reader.alternative(Sign::Positive),
-            prefix("", Sign::None),
-            Alternative {
-                prefix: "(",
-                suffix: ")",
-                sign: Sign::Negative,
-            },
-        ]
-    }
-
     fn alternatives(&self) -> [Alternative<'_>; 29]
-        ensures { map form_of result ≡ typed_forms self.now }
+        ensures { map form_of result ≡ self.now.forms }
     {
-        let o = self.own_alternatives();
-        let s = self.symbol.alternatives();
-        let n = self.narrow.alternatives();
-        let c = self.code.alternatives();
-        [
-            o[0], o[1], o[2], o[3], o[4], s[0], s[1], s[2], s[3], s[4], s[5], s[6], s[7], n[0],
-            n[1], n[2], n[3], n[4], n[5], n[6], n[7], c[0], c[1], c[2], c[3], c[4], c[5], c[6],
-            c[7],
-        ]
+        let forms = self.forms.as_slice();
+        let mut alternatives = [alternative(&forms[0]); 29];
+        for i in 0..29 {
+            alternatives[i] = alternative(&forms[i]);
+        }
+        alternatives
     }
 
     /// Reads a number in exactly one of the forms that the formatter writes, and undoes its scale: by style `Percent`

@@ -2,8 +2,7 @@
 ghost use Rattle.std.specs.Prelude.{◌≡◌, ◌≢◌, ℕ, List, ◌++◌, pos, Err, IfOk, MatchOption};
 ghost use Rattle.decimal_format.specs.Readable.{IsReadable};
 ghost use Rattle.decimal_format.specs.Reading.{IsRead};
-ghost use Rattle.number_format.specs.AffixedTexts.{by_sign, AreNamed, reader, shifted, IsShown, IsShownNumeral, IsTypedWith, IsTypedNumeralWith, IsBetween, IsReadExactly, IsReadTyped};
-ghost use Rattle.number_format.specs.NumberReading.{form_of};
+ghost use Rattle.number_format.specs.AffixedTexts.{AreNamed, reader, shifted, IsShown, IsShownNumeral, IsTypedWith, IsTypedNumeralWith, IsBetween, IsReadExactly, IsReadTyped};
 
 use crate::affixes::SignAffixes;
 use decimal_format::{Alternative, DecimalSymbols};
@@ -50,28 +49,11 @@ impl<'a> Model for AffixReader<'a> {
     ghost invariant = { λ s. IsReadable s.symbols × AreNamed s.symbols s.affixes };
 }
 
-fn cut<'t>(text: &'t [u8], prefix: &[u8]) -> Option<&'t [u8]>
-    ensures { MatchOption result ((rest : List ℕ) → text.now ≢ prefix.now ++ rest)
-        (λ rest. text.now ≡ prefix.now ++ rest.now) }
-{
-    text.strip_prefix(prefix)
-}
-
-fn cut_end<'t>(text: &'t [u8], suffix: &[u8]) -> Option<&'t [u8]>
-    ensures { MatchOption result ((rest : List ℕ) → text.now ≢ rest ++ suffix.now)
-        (λ rest. text.now ≡ rest.now ++ suffix.now) }
-{
-    text.strip_suffix(suffix)
-}
-
 fn cut_affixes<'t>(text: &'t [u8], prefix: &[u8], suffix: &[u8]) -> Option<&'t [u8]>
     ensures { MatchOption result ((middle : List ℕ) → text.now ≢ prefix.now ++ (middle ++ suffix.now))
         (λ middle. text.now ≡ prefix.now ++ (middle.now ++ suffix.now)) }
 {
-    match cut(text, prefix) {
-        Some(rest) => cut_end(rest, suffix),
-        None => None,
-    }
+    text.strip_prefix(prefix)?.strip_suffix(suffix)
 }
 
 fn shifted<D: DigitStore>(
@@ -119,22 +101,7 @@ impl<'a> AffixReader<'a> {
     pub fn with_shift(self, shift: i16) -> Self
         ensures { result ≡ record self.entry { shift = shift } }
     {
-        AffixReader {
-            symbols: self.symbols,
-            affixes: self.affixes,
-            shift,
-        }
-    }
-
-    pub(crate) fn alternative(&self, sign: Sign) -> Alternative<'_>
-        ensures { form_of result ≡ (by_sign self.now.affixes sign, sign) }
-    {
-        let affixes = self.affixes.of_sign(sign);
-        Alternative {
-            prefix: affixes.prefix,
-            suffix: affixes.suffix,
-            sign,
-        }
+        AffixReader { shift, ..self }
     }
 
     fn between<'t>(&self, sign: Sign, text: &'t [u8]) -> Option<&'t [u8]>

@@ -1,32 +1,39 @@
-use Rattle.std.proofs.Common.{refl}
-use Rattle.number_format.proofs.NamedAffixes.{prefix_after, after_prefix, neither_prefix, prefixes_swapped}
+use Rattle.std.proofs.Common.{◌≡◌, ◌≢◌, [], refl, sym, ◌∙◌, subst, rules}
+use Rattle.decimal_format.specs.Readable.{BeginsWithDigit}
+use Rattle.number_format.specs.AffixedTexts.{ArePrefixesApart}
+use Rattle.number_format.proofs.NamedAffixes.{DecidesPrefixes, prefixes_by_rest, none_is, unless}
 use Rattle.number_format.proofs.affixes.are_prefixes_apart.Goals as goal
 
-pub returns-in-Some : goal.returns-in-Some
-returns-in-Some c =
+pub returns-in-None : goal.returns-in-None
+returns-in-None c =
     let s = c.args.symbols.now in
     let p = c.args.first.now in
     let q = c.args.second.now in
-    let r = c.in-Some.rest.now in
-    let e = c.is_apart_after.ensures in (
-      λ t. prefix_after s p q r c.in-Some.ensures e.utf8 (e.apart.0 t),
-      λ apart. e.apart.1 (after_prefix s p q r c.in-Some.ensures apart),
-    )
+    let e = subst (DecidesPrefixes s p q) (sym c.or.ensures ∙ c.in-None.is)
+    (prefixes_by_rest s p q c.strip_prefix.result c.strip_prefix-2.result (search rules) (search rules)) in
+    (λ t. e, λ apart. refl)
 
-pub returns-in-Some-cut : goal.returns-in-Some-cut
-returns-in-Some-cut c =
+pub returns-then-not-is_empty : goal.returns-then-not-is_empty
+returns-then-not-is_empty c =
     let s = c.args.symbols.now in
     let p = c.args.first.now in
     let q = c.args.second.now in
-    let r = c.in-Some-cut.rest.now in
-    let e = c.is_apart_after-in-Some-cut.ensures in (
-      λ t. prefixes_swapped s q p (prefix_after s q p r c.in-Some-cut.ensures e.utf8 (e.apart.0 t)),
-      λ apart. e.apart.1 (after_prefix s q p r c.in-Some-cut.ensures (prefixes_swapped s p q apart)),
+    let e = subst (DecidesPrefixes s p q) (sym c.or.ensures ∙ c.in-Some.is)
+    (prefixes_by_rest s p q c.strip_prefix.result c.strip_prefix-2.result (search rules) (search rules)) in
+    let some : c.in-Some.rest.now ≢ [] = search rules in
+    let digit = subst (BeginsWithDigit s) c.as_bytes.ensures.value in
+    unless c.begins_with_digit.result (BeginsWithDigit s c.as_bytes.result.now) (ArePrefixesApart s p q) c.begins_with_digit.ensures (
+      λ apart d. (e.1 apart).1 (digit d),
+      λ none. e.0 (rw c.as_bytes.ensures.value at c.as_bytes.ensures.utf8)
+          (some, λ d. none (subst (BeginsWithDigit s) (sym c.as_bytes.ensures.value) d)),
     )
 
-pub returns : goal.returns
-returns c = (
-  λ t. neither_prefix c.args.symbols.now c.args.first.now c.args.second.now c.in_default.ensures
-      c.in_default-cut.ensures,
-  λ apart. refl,
-)
+pub returns-else-not-is_empty : goal.returns-else-not-is_empty
+returns-else-not-is_empty c =
+    let s = c.args.symbols.now in
+    let p = c.args.first.now in
+    let q = c.args.second.now in
+    let e = subst (DecidesPrefixes s p q) (sym c.or.ensures ∙ c.in-Some.is)
+    (prefixes_by_rest s p q c.strip_prefix.result c.strip_prefix-2.result (search rules) (search rules)) in
+    let none = none_is c.in-Some.rest.now (sym c.is_empty.ensures ∙ c.if-not-is_empty.false) in
+    (λ t. absurd (cc), λ apart. absurd ((e.1 apart).0 none))

@@ -1,6 +1,8 @@
 use Rattle.std.proofs.Common.{◌≡◌, ◌≢◌, ℕ, List, ◌++◌, sym, ◌∙◌, ap, Bor}
 use Rattle.std.specs.Prelude.{Option, Some, None, MatchOption}
+use Rattle.std.proofs.lemmas.Bool.Decides.{Decides-eqb}
 use Rattle.std.proofs.lemmas.List.{append_cancel_left}
+use Rattle.std.proofs.lemmas.Slice.Eq.{strip_prefix_is, strip_suffix_is}
 use Rattle.number_format.proofs.reader.cut_affixes.Goals as goal
 
 joined : (text p q rest : List ℕ) (r : Option (Bor (List ℕ))) → text ≡ p ++ rest
@@ -9,7 +11,15 @@ joined : (text p q rest : List ℕ) (r : Option (Bor (List ℕ))) → text ≡ p
 joined text p q rest None is e = λ m h. e m (append_cancel_left p rest (m ++ q) (sym is ∙ h))
 joined text p q rest (Some x) is e = is ∙ ap (λ l. p ++ l) e
 
-pub returns-in-Some : goal.returns-in-Some
-returns-in-Some c =
-    joined c.args.text.now c.args.prefix.now c.args.suffix.now c.in-Some.rest.now c.cut_end.result c.in-Some.ensures
-    c.cut_end.ensures
+pub returns-in_err-strip_prefix : goal.returns-in_err-strip_prefix
+returns-in_err-strip_prefix c =
+    rw c.from_residual.ensures
+    (λ m. strip_prefix_is Decides-eqb c.args.text.now c.args.prefix.now None c.in_err-strip_prefix.ensures.cases
+    (m ++ c.args.suffix.now))
+
+pub returns : goal.returns
+returns c =
+    let rest = c.in_ok-strip_prefix.field-0 in
+    joined c.args.text.now c.args.prefix.now c.args.suffix.now rest.now c.strip_suffix.result
+    (strip_prefix_is Decides-eqb c.args.text.now c.args.prefix.now (Some rest) c.in_ok-strip_prefix.ensures.cases)
+    (strip_suffix_is Decides-eqb rest.now c.args.suffix.now c.strip_suffix.result c.strip_suffix.ensures.cases)

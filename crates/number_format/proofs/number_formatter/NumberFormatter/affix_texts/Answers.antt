@@ -9,4 +9,4 @@ returns c =
     let a = c.affixes-affixes in
     let before = sym (text-of_parts a.result.prefix) ∙ ap pieces_text a.ensures.prefix in
     let after = sym (text-of_parts a.result.suffix) ∙ ap pieces_text (a.ensures.suffix ∙ append-nil _) in
-    subst (λ x. IfOk c.of_parts.result (λ t. t ≡ x)) (λ i. affixes (before i) (after i)) c.of_parts.ensures
+    subst (λ x. IfOk c.joined.result (λ t. t ≡ x)) (λ i. affixes (before i) (after i)) c.joined.ensures

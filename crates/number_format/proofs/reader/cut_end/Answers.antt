@@ -1,7 +1,0 @@
-use Rattle.std.proofs.lemmas.Bool.Decides.{Decides-eqb}
-use Rattle.std.proofs.lemmas.Slice.Eq.{strip_suffix_is}
-use Rattle.number_format.proofs.reader.cut_end.Goals as goal
-
-pub returns : goal.returns
-returns c =
-    strip_suffix_is Decides-eqb c.args.text.now c.args.suffix.now c.strip_suffix.result c.strip_suffix.ensures.cases
