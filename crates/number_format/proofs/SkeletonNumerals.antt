@@ -245,8 +245,8 @@ many_multiples of_5 k few =
     exponent_multiple k 5 (53 ∷ exponent_text k) (rw (take_front (53 ∷ []) (exponent_text k), tail_is k few) refl) refl
     refl few
 many_multiples of_25 k few =
-    exponent_multiple k 25 (50 ∷ 53 ∷ exponent_text k) (rw (take_front (50 ∷ 53 ∷ []) (exponent_text k), tail_is k few) refl) refl
-    refl few
+    exponent_multiple k 25 (50 ∷ 53 ∷ exponent_text k)
+    (rw (take_front (50 ∷ 53 ∷ []) (exponent_text k), tail_is k few) refl) refl refl few
 many_multiples {base = b} {zeros = z} i k few = pointed_multiple k z b _ refl refl refl (omega arith) refl refl few
 
 multiples :
