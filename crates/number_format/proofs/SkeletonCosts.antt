@@ -13,27 +13,17 @@ use Rattle.fixed_decimal.specs.declared.variations.SignDisplay.{SignDisplay}
 use Rattle.fixed_decimal.specs.declared.variations.SignDisplay.TheVariants as display
 use Rattle.locale_data.specs.declared.currency.CurrencySign.{CurrencySign}
 use Rattle.locale_data.specs.declared.currency.CurrencySign.TheVariants as currency_sign
-use Rattle.number_format.specs.declared.number_options.CurrencyDisplay.{CurrencyDisplay}
+use Rattle.number_format.specs.declared.number_options.{CurrencyDisplay.CurrencyDisplay, ExponentSign.ExponentSign, NumberNotation.TheVariants.{Compact}}
 use Rattle.number_format.specs.declared.number_options.CurrencyUsage.TheVariants as usage
-use Rattle.number_format.specs.declared.number_options.ExponentSign.{ExponentSign}
 use Rattle.number_format.specs.declared.number_options.ExponentSign.TheVariants as sign
-use Rattle.number_format.specs.declared.number_options.NumberNotation.TheVariants.{Compact}
-use Rattle.number_format.specs.declared.precision.Minimum.{Minimum}
-use Rattle.number_format.specs.declared.precision.Minimum.TheVariants.{Chosen, Both}
-use Rattle.number_format.specs.declared.settings.RoundingPriority.{RoundingPriority}
-use Rattle.number_format.specs.declared.settings.RoundingPriority.TheVariants.{LessPrecision}
+use Rattle.number_format.specs.declared.precision.{Minimum.Minimum, Minimum.TheVariants.{Chosen, Both}}
+use Rattle.number_format.specs.declared.settings.{RoundingPriority.RoundingPriority, RoundingPriority.TheVariants.{LessPrecision}}
 use Rattle.number_format.specs.declared.skeleton.SkeletonError.{SkeletonError}
-use Rattle.number_format.specs.declared.skeleton.choices.Choice.{Choice}
+use Rattle.number_format.specs.declared.skeleton.choices.{Choice.Choice, Choices.Choices, ChosenNotation.ChosenNotation, ChosenPrecision.ChosenPrecision, ChosenUnit.ChosenUnit, Exponent.Exponent, Span.Span}
 use Rattle.number_format.specs.declared.skeleton.choices.Choice.TheVariants as choice
-use Rattle.number_format.specs.declared.skeleton.choices.Choices.{Choices}
-use Rattle.number_format.specs.declared.skeleton.choices.ChosenNotation.{ChosenNotation}
 use Rattle.number_format.specs.declared.skeleton.choices.ChosenNotation.TheVariants as notation
-use Rattle.number_format.specs.declared.skeleton.choices.ChosenPrecision.{ChosenPrecision}
 use Rattle.number_format.specs.declared.skeleton.choices.ChosenPrecision.TheVariants as precision
-use Rattle.number_format.specs.declared.skeleton.choices.ChosenUnit.{ChosenUnit}
 use Rattle.number_format.specs.declared.skeleton.choices.ChosenUnit.TheVariants as unit
-use Rattle.number_format.specs.declared.skeleton.choices.Exponent.{Exponent}
-use Rattle.number_format.specs.declared.skeleton.choices.Span.{Span}
 use Rattle.number_format.specs.declared.skeleton.counts.Counts.{Counts}
 use Rattle.number_format.specs.declared.skeleton.decimal.SkeletonDecimal.{SkeletonDecimal}
 use Rattle.number_format.specs.declared.skeleton.stems.Expected.{Expected}

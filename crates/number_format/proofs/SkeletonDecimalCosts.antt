@@ -8,8 +8,7 @@ use Rattle.std.proofs.lemmas.List.Sums.{fold-append}
 use Rattle.std.proofs.lemmas.Bool.Decides.{nat_tests, Decides-int_eq}
 use Rattle.std.proofs.lemmas.Int.{ints}
 use Rattle.number_format.specs.declared.skeleton.choices.Span.{Span}
-use Rattle.number_format.specs.declared.skeleton.decimal.Significand.{Significand}
-use Rattle.number_format.specs.declared.skeleton.decimal.SkeletonDecimal.{SkeletonDecimal}
+use Rattle.number_format.specs.declared.skeleton.decimal.{Significand.Significand, SkeletonDecimal.SkeletonDecimal}
 use Rattle.number_format.specs.Increments.{is_increment}
 use Rattle.number_format.specs.SkeletonCounts.{is_outside, run}
 use Rattle.number_format.specs.SkeletonDecimals.{no_digits, with_byte, significand, sign_length, exponent_size, exponent, fraction_length, after_fraction, after_point, scaled, decimal}
@@ -104,9 +103,12 @@ exponent_costs text e is =
     (λ h. grind (arith, nat_tests, size, length-drop 1 text, size_at_most digits)) is
 
 -- ---- The significant digits.
+abbrev figures_kept : ℕ → ℕ
+figures_kept n = if n == 0 then 0 else if nat_lt n 10 then 1 else 2
+
 -- the digits among `n` of a number, of which two are kept
 record HasSignificand (s : Significand) (n : ℕ) : Type 0 where
-  fits : s.zeros + (if s.digits == 0 then 0 else if nat_lt s.digits 10 then 1 else 2) ≤ n
+  fits : s.zeros + figures_kept s.digits ≤ n
   not_ten : s.digits ≢ 10
   not_twenty : s.digits ≢ 20
 
@@ -153,7 +155,8 @@ pointed_significand text rest is point =
     let begin = fold with_byte no_digits (take i text) in
     let second = fold_digits with_byte HasSignificand significand_step (drop 1 rest) begin (0 + i) first in
     let parts : take (i + suc f) text ≡ take i text ++ 46 ∷ take f (drop 1 rest) =
-    take-add i (suc f) text ∙ ap (λ r. take i text ++ take (suc f) r) (sym is ∙ first_byte rest 46 (omega arith) point) in
+    take-add i (suc f) text
+    ∙ ap (λ r. take i text ++ take (suc f) r) (sym is ∙ first_byte rest 46 (omega arith) point) in
     let same : significand (take (i + suc f) text) ≡ fold with_byte begin (take f (drop 1 rest)) =
     ap significand parts ∙ fold-append with_byte no_digits (take i text) _ in
     rw same (subst (HasSignificand (fold with_byte begin (take f (drop 1 rest)))) (omega arith) second)
@@ -202,7 +205,8 @@ decimal_is text d is =
       significand = mantissa_is unsigned rest refl (slice_index rest 0 == 46) refl;
       power = refl;
       costs = exponent_costs tail y.0 y.1;
-      point = point_is text rest integer (length unsigned) (omega (arith, length-drop (sign_length text) text)) (omega (arith, length-drop integer unsigned, run_at_most 48 57 unsigned))
+      point = point_is text rest integer (length unsigned) (omega (arith, length-drop (sign_length text) text))
+          (omega (arith, length-drop integer unsigned, run_at_most 48 57 unsigned))
           (slice_index rest 0 == 46) refl;
       begun = grind (arith, nat_tests);
     }) where
@@ -278,7 +282,8 @@ scale_at_most text d s is =
           (negative single outside : Bool) → (d.digits == 1) ≡ single
           → length (scale_text (power_or_zero (if negative || (not single || outside) then Err (unsupported s)
           else Ok d.power))) ≤ 7 + length text
-      by_test false true false e = scale_length d.power (length text) (scale_cost (length text) d (decimal_is text d is) (equal d.digits 1 e))
+      by_test false true false e =
+          scale_length d.power (length text) (scale_cost (length text) d (decimal_is text d is) (equal d.digits 1 e))
       by_test negative single outside e = omega arith
 
 -- ---- Increments.
@@ -331,7 +336,8 @@ integer_fits i z t w j n size some narrow total few whole c = grind (arith, nat_
 fraction_fits :
     (i z t w k n size : ℕ) → 1 ≤ w → w ≤ 2 → z + w ≤ i → i + t ≤ size → z + k ≡ n → 2 + decimal_length (n + 1) ≤ t
     → increment_size (k + 1) w 0 ≤ size
-fraction_fits i z t w k n size some narrow few whole sum c = grind (arith, nat_tests, shift (n + 1) (k + 1) 0, some_digits)
+fraction_fits i z t w k n size some narrow few whole sum c =
+    grind (arith, nat_tests, shift (n + 1) (k + 1) 0, some_digits)
 
 exponent_cases :
     (z t j m : ℕ) (e : ℤ) → (pos z +ℤ e) +ℤ pos m ≡ pos j → ExponentCost e t
@@ -344,7 +350,7 @@ record IsWide (base zeros : ℕ) : Type 0 where
   some : 1 ≤ decimal_length base
   narrow : decimal_length base ≤ 2
   total : decimal_length base + zeros ≤ 4
-  figures : (if base == 0 then 0 else if nat_lt base 10 then 1 else 2) ≡ decimal_length base
+  figures : figures_kept base ≡ decimal_length base
 
 wide_is : {base zeros : ℕ} → IsIncrement base zeros → IsWide base zeros
 wide_is of_1 = record { some = omega arith; narrow = omega arith; total = omega arith; figures = refl }
@@ -390,8 +396,8 @@ module _ (size base zeros : ℕ) (d : SkeletonDecimal) (w : IsWritten size d) (x
           let digits : fraction_digits d.power d.after_point ≡ w.fraction + w.tail = by_bytes h.0 in
           let sum : (pos w.zeros +ℤ w.exponent) +ℤ pos w.tail ≡ pos zeros = omega (arith, ints, w.power, at, digits) in
           let c = exponent_cases w.zeros w.tail zeros w.tail w.exponent sum w.costs in
-          rw digits (pointed_fits w.integer w.fraction w.zeros w.tail (decimal_length base) zeros c.0 size x.some x.narrow
-          x.total few h.1 c.1) where
+          rw digits (pointed_fits w.integer w.fraction w.zeros w.tail (decimal_length base) zeros c.0 size x.some
+          x.narrow x.total few h.1 c.1) where
             by_bytes :
                 d.after_point ≡ Some (w.fraction + w.tail)
                 → fraction_digits d.power d.after_point ≡ w.fraction + w.tail
@@ -425,7 +431,12 @@ increment_at_most text d s is =
           let x = wide_is i.is in
           let size = increment_text_few i.is (places_of digits) in
           let few : w.zeros + decimal_length i.base ≤ w.integer + w.fraction =
-          omega (arith, x.figures, subst (λ k. w.zeros + (if k == 0 then 0 else if nat_lt k 10 then 1 else 2) ≤ w.integer + w.fraction) same.0 w.significand.fits) in
+          omega (
+            arith,
+            x.figures,
+            subst (λ k. w.zeros + figures_kept k ≤ w.integer + w.fraction) same.0
+                w.significand.fits,
+          ) in
           let fits = increment_fits (length text) i.base i.zeros d w x few same.1 (not_below 32768 digits r) in
           subst (λ k. length (increment_text digits k) ≤ length text) i.same (omega (arith, size, fits))
       by_test negative large outside valid long p q r = omega arith

@@ -8,14 +8,10 @@ use Rattle.fixed_decimal.specs.declared.variations.SignDisplay.{SignDisplay}
 use Rattle.number_format.specs.declared.digit_options.TrailingZeros.{TrailingZeros}
 use Rattle.number_format.specs.declared.digit_options.TrailingZeros.TheVariants as zeros
 use Rattle.number_format.specs.declared.number_options.CurrencyUsage.TheVariants as usage
-use Rattle.number_format.specs.declared.number_options.NumberNotation.{NumberNotation}
-use Rattle.number_format.specs.declared.number_options.NumberStyle.{NumberStyle}
+use Rattle.number_format.specs.declared.number_options.{NumberNotation.NumberNotation, NumberStyle.NumberStyle}
 use Rattle.number_format.specs.declared.skeleton.SkeletonError.{SkeletonError}
 use Rattle.number_format.specs.declared.skeleton.choices.Choice.TheVariants as choice
-use Rattle.number_format.specs.declared.skeleton.choices.Choices.{Choices}
-use Rattle.number_format.specs.declared.skeleton.choices.ChosenNotation.{ChosenNotation}
-use Rattle.number_format.specs.declared.skeleton.choices.ChosenUnit.{ChosenUnit}
-use Rattle.number_format.specs.declared.skeleton.choices.Span.{Span}
+use Rattle.number_format.specs.declared.skeleton.choices.{Choices.Choices, ChosenNotation.ChosenNotation, ChosenUnit.ChosenUnit, Span.Span}
 use Rattle.number_format.specs.declared.skeleton.reading.Reading.{Reading}
 use Rattle.number_format.specs.declared.skeleton.stems.Expected.TheVariants as expected
 use Rattle.number_format.specs.DefaultDigits.{is_compact}
@@ -130,7 +126,8 @@ module _ (notation : NumberNotation) (v : NumberStyle) (z : ℤ) (d : DigitsValu
         → good_style (is_compact notation) v ≡ true → is_fine (choice.System y) ≡ true
         → is_fine (choice.Sign shown (style_sign v)) ≡ true → IsInteger d.integer
         → (is_cash v ≡ false → IsGood d.precision)
-        → (is_cash v ≡ true → (u : Of ChosenUnit) → IsUnit u v → (t : Span) → currency_of u usage.Cash t ≡ Ok d.precision)
+        → (is_cash v ≡ true → (u : Of ChosenUnit) → IsUnit u v → (t : Span)
+        → currency_of u usage.Cash t ≡ Ok d.precision)
         → Reads whole (options_text whole)
     all_groups n is power good system sign integer digits cash =
         let n_ = notation_step n notation is no_stems.stem 0 (style_text v z ++ (shown_precision_text notation v d

@@ -1,8 +1,7 @@
 -- The shortest stems of the other groups read as their options.
-use Rattle.std.proofs.Common.{◌≡◌, ℕ, zero, suc, ◌+◌, ◌-◌, ◌<◌, min, Bool, true, false, refl, ap, sym, ◌∙◌, subst, arith, List, [], ◌∷◌, ◌++◌, length, drop, replicate, length-append}
+use Rattle.std.proofs.Common.{◌≡◌, ℕ, zero, suc, ◌+◌, ◌-◌, ◌<◌, min, Bool, true, false, refl, ap, sym, ◌∙◌, subst, arith, List, [], ◌∷◌, ◌++◌, length, replicate, length-append}
 use Rattle.std.specs.Prelude.{◌==◌, nat_lt, ◌&&◌, ◌||◌, if◌then◌else◌, is_some, slice_index, unwrap_or, codes, Option, Some, None, Ok}
 use Rattle.std.specs.Str.{bytes_eq}
-use Rattle.std.proofs.Math.Seq.{drop-append_seam}
 use Rattle.std.proofs.lemmas.Bool.Decides.{nat_tests}
 use Rattle.std.proofs.lemmas.List.{length-replicate}
 use Rattle.std.proofs.lemmas.Slice.Eq.{bytes_eq-Decides}
@@ -16,8 +15,7 @@ use Rattle.fixed_decimal.specs.declared.variations.SignDisplay.TheVariants as di
 use Rattle.locale_data.specs.declared.currency.CurrencySign.{CurrencySign}
 use Rattle.locale_data.specs.declared.currency.CurrencySign.TheVariants as currency_sign
 use Rattle.number_format.specs.declared.skeleton.choices.Choice.TheVariants as choice
-use Rattle.number_format.specs.declared.skeleton.choices.Choices.{Choices}
-use Rattle.number_format.specs.declared.skeleton.choices.Span.{Span}
+use Rattle.number_format.specs.declared.skeleton.choices.{Choices.Choices, Span.Span}
 use Rattle.number_format.specs.declared.skeleton.counts.Counts.{Counts}
 use Rattle.number_format.specs.declared.skeleton.stems.Expected.TheVariants as expected
 use Rattle.number_format.specs.SkeletonCounts.{run}
@@ -27,11 +25,11 @@ use Rattle.number_format.specs.SkeletonOptions.{decimal_system, option}
 use Rattle.number_format.specs.SkeletonStems.{is_name, stem}
 use Rattle.number_format.specs.SkeletonTexts.{ascii, mode_text, integer_text, grouping_text, sign_text, system_text}
 use Rattle.number_format.proofs.SkeletonCosts.{Of, system_bytes, is_same, is_fine}
-use Rattle.number_format.proofs.SkeletonNumerals.{within_replicate, run_append}
+use Rattle.number_format.proofs.SkeletonNumerals.{run_of, run_replicate, drop_run}
 use Rattle.number_format.proofs.SkeletonPrecisionReads.{within_is}
 use Rattle.number_format.proofs.SkeletonResolved.{IsInteger}
 use Rattle.number_format.proofs.SkeletonStemReads.{is_plain, are_plain, Step, no_stem, one_stem, with_option}
-use Rattle.number_format.proofs.SkeletonTextReads.{plain_replicate, plain_append, run_replicate, not_less}
+use Rattle.number_format.proofs.SkeletonTextReads.{plain_replicate, plain_append, not_less}
 use Rattle.number_format.proofs.TestLaws.{and_both, equal}
 
 -- ---- Rounding modes.
@@ -75,7 +73,7 @@ zeros_stem :
       expected = expected.Stem;
     })
 zeros_stem n =
-    rw (run_replicate 48 (suc n) refl, length-replicate {A = ℕ} (suc n) 48, not_less (suc n)) refl
+    rw (run_replicate 48 (suc n), length-replicate {A = ℕ} (suc n) 48, not_less (suc n)) refl
 
 range_option :
     (a n : ℕ)
@@ -87,14 +85,18 @@ range_option a n =
     let zeros = replicate {A = ℕ} (suc n) 48 in
     let word = replicate a 35 ++ zeros in
     let first : (slice_index word 0 == 42 || slice_index word 0 == 43) ≡ false = by_size a in
-    let many : run 35 35 word ≡ a =
-    run_append 35 35 (replicate a 35) zeros (within_replicate 35 35 a 35 refl)
-    ∙ omega (arith, length-replicate {A = ℕ} a 35) in
-    let after : drop a word ≡ zeros =
-    ap (λ k. drop k word) (sym (length-replicate a 35)) ∙ drop-append_seam (replicate a 35) zeros in
+    let many : run 35 35 word ≡ a = omega (arith, run_of 35 a zeros) in
     let size : length word ≡ a + suc n =
     omega (arith, length-append (replicate a 35) zeros, length-replicate {A = ℕ} a 35, length-replicate {A = ℕ} n 48) in
-    rw (first, many, after, run_replicate 48 (suc n) refl, length-replicate {A = ℕ} (suc n) 48, not_less (suc n), size)
+    rw (
+      first,
+      many,
+      drop_run a 35 zeros,
+      run_replicate 48 (suc n),
+      length-replicate {A = ℕ} (suc n) 48,
+      not_less (suc n),
+      size,
+    )
     refl where
       by_size :
           (a : ℕ) → (slice_index (replicate a 35 ++ replicate (suc n) 48) 0 == 42

@@ -3,14 +3,11 @@ use Rattle.std.proofs.Common.{◌≡◌, ℕ, ◌+◌, ◌-◌, ◌<◌, ◌≤�
 use Rattle.std.specs.Prelude.{◌==◌, if◌then◌else◌, is_some, Option, Some, None, Ok, Err}
 use Rattle.std.proofs.lemmas.Bool.Decides.{nat_tests}
 use Rattle.number_format.specs.declared.skeleton.SkeletonError.{SkeletonError}
-use Rattle.number_format.specs.declared.skeleton.choices.Choice.{Choice}
+use Rattle.number_format.specs.declared.skeleton.choices.{Choice.Choice, Choices.Choices, Span.Span}
 use Rattle.number_format.specs.declared.skeleton.choices.Choice.TheVariants as choice
-use Rattle.number_format.specs.declared.skeleton.choices.Choices.{Choices}
-use Rattle.number_format.specs.declared.skeleton.choices.Span.{Span}
 use Rattle.number_format.specs.declared.skeleton.reading.Reading.{Reading}
-use Rattle.number_format.specs.declared.skeleton.stems.Expected.{Expected}
+use Rattle.number_format.specs.declared.skeleton.stems.{Expected.Expected, Meaning.Meaning}
 use Rattle.number_format.specs.declared.skeleton.stems.Expected.TheVariants as expected
-use Rattle.number_format.specs.declared.skeleton.stems.Meaning.{Meaning}
 use Rattle.number_format.specs.SkeletonChoices.{has, with}
 use Rattle.number_format.specs.SkeletonOptions.{option}
 use Rattle.number_format.specs.SkeletonReading.{separator_length, pieces, is_stem, needs_option, no_stems, read_stem, read_option, read_piece, after_piece, next, read_pieces, choices_of}

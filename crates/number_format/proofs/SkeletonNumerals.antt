@@ -1,6 +1,6 @@
 -- The decimals of skeletons read as they are written.
-use Rattle.std.proofs.Common.{◌≡◌, ℕ, zero, suc, ◌+◌, ◌-◌, ◌*◌, ◌/◌, ◌%◌, ◌<◌, ◌≤◌, Bool, true, false, refl, ap, sym, ◌∙◌, subst, arith, List, [], ◌∷◌, ◌++◌, length, take, drop, replicate, length-append}
-use Rattle.std.specs.Prelude.{◌==◌, nat_lt, ◌&&◌, ◌||◌, not, if◌then◌else◌, fold, ℤ, pos, negsuc, neg_ℤ, ◌+ℤ◌, ◌-ℤ◌, ◌≤ℤ◌, int_lt, Ok, Some, None}
+use Rattle.std.proofs.Common.{◌≡◌, ℕ, zero, suc, ◌+◌, ◌-◌, ◌*◌, ◌%◌, ◌<◌, ◌≤◌, Bool, true, false, refl, ap, sym, ◌∙◌, subst, arith, List, [], ◌∷◌, ◌++◌, length, take, drop, replicate, length-append}
+use Rattle.std.specs.Prelude.{◌==◌, nat_lt, ◌&&◌, not, if◌then◌else◌, fold, ℤ, pos, negsuc, neg_ℤ, ◌+ℤ◌, ◌-ℤ◌, ◌≤ℤ◌, int_lt, Ok, Some, None}
 use Rattle.std.specs.List.{list_all}
 use Rattle.std.proofs.lemmas.Bool.Decides.{nat_tests}
 use Rattle.std.proofs.lemmas.List.{append-nil, drop_all, length-replicate}
@@ -13,111 +13,51 @@ use Rattle.number_format.specs.SkeletonDigits.{increment_of_decimal, fraction_di
 use Rattle.number_format.specs.SkeletonMeaning.{scale_power}
 use Rattle.number_format.specs.Increments.{is_increment}
 use Rattle.number_format.specs.SkeletonCounts.{is_outside, run}
-use Rattle.number_format.specs.SkeletonDecimals.{with_byte, exponent_size, exponent, scaled, decimal}
-use Rattle.number_format.specs.SkeletonTexts.{digit_bytes, decimal_text, power_text, pointed_by, increment_text}
+use Rattle.number_format.specs.SkeletonDecimals.{with_byte, exponent, scaled, decimal}
+use Rattle.number_format.specs.SkeletonTexts.{decimal_text, power_text, pointed_by, increment_text}
 use Rattle.number_format.proofs.SkeletonIncrements.{IsIncrement, of_1, of_2, of_5, of_25, scaled_by, increment_is, Places, none, many, places_of}
 use Rattle.number_format.proofs.TestLaws.{equal}
 
 -- ---- Runs.
-abbrev pub are_within : ℕ → ℕ → List ℕ → Bool
+abbrev are_within : ℕ → ℕ → List ℕ → Bool
 are_within low high text = list_all (λ c. not (is_outside low high c)) text
 
-pub within_replicate :
+within_replicate :
     (low high n c : ℕ) → is_outside low high c ≡ false → are_within low high (replicate n c) ≡ true
 within_replicate low high zero c e = refl
 within_replicate low high (suc n) c e = rw e (within_replicate low high n c e)
 
 -- bytes of a run, and what follows them
-pub run_append :
+run_append :
     (low high : ℕ) (xs rest : List ℕ) → are_within low high xs ≡ true
     → run low high (xs ++ rest) ≡ length xs + run low high rest
 run_append low high [] rest all = omega arith
-run_append low high (x ∷ xs) rest all = by_first (is_outside low high x) refl all (run_append low high xs rest) where
-  by_first :
-      (b : Bool) → is_outside low high x ≡ b → (not b && are_within low high xs) ≡ true
-      → (are_within low high xs ≡ true → run low high (xs ++ rest) ≡ length xs + run low high rest)
-      → run low high (x ∷ (xs ++ rest)) ≡ suc (length xs) + run low high rest
-  by_first true e all more = absurd (cc)
-  by_first false e all more = rw e (omega (arith, more all))
+run_append low high (x ∷ xs) rest all = grind (arith, nat_tests, run_append low high xs rest)
 
-pub run_all :
+run_all :
     (low high : ℕ) (xs : List ℕ) → are_within low high xs ≡ true → run low high xs ≡ length xs
 run_all low high xs all =
     ap (run low high) (sym (append-nil xs)) ∙ run_append low high xs [] all ∙ omega arith
 
-digit_within : (n : ℕ) → is_outside 48 57 (48 + n % 10) ≡ false
-digit_within n = grind (arith, nat_tests)
+-- a run of one byte, and what follows it
+pub run_of : (b n : ℕ) (rest : List ℕ) → run b b (replicate n b ++ rest) ≡ n + run b b rest
+run_of b zero rest = omega arith
+run_of b (suc n) rest = grind (arith, nat_tests, run_of b n rest)
 
-pub digits_within : (numbers : List ℕ) → are_within 48 57 (digit_bytes numbers) ≡ true
-digits_within [] = refl
-digits_within (n ∷ numbers) = rw (digit_within n) (digits_within numbers)
+pub run_replicate : (b n : ℕ) → run b b (replicate n b) ≡ n
+run_replicate b zero = refl
+run_replicate b (suc n) = grind (arith, nat_tests, run_replicate b n)
+
+pub drop_run : (n b : ℕ) (rest : List ℕ) → drop n (replicate n b ++ rest) ≡ rest
+drop_run zero b rest = refl
+drop_run (suc n) b rest = drop_run n b rest
 
 -- ---- Exponents.
--- the digits of a number below 100,000, in the cases of their count
-size_is : (n : ℕ) → n < 100000 → exponent_size (decimal_text n) ≡ n
-size_is n few = grind (arith, nat_tests)
+exponent_is : (n : ℕ) → n < 100000 → exponent (101 ∷ decimal_text n) ≡ Some (pos n)
+exponent_is n few = grind (arith, nat_tests)
 
-sign_is : (n : ℕ) → (48 + n % 10 == 43 || 48 + n % 10 == 45) ≡ false
-sign_is n = grind (arith, nat_tests)
-
-minus_is : (n : ℕ) → (48 + n % 10 == 45) ≡ false
-minus_is n = grind (arith, nat_tests)
-
-none_is_not : (n : ℕ) → (suc n == 0) ≡ false
-none_is_not n = grind (arith, nat_tests)
-
-not_zero : (n : ℕ) → 0 < n → (n == 0) ≡ false
-not_zero n some = grind (arith, nat_tests)
-
-small_is_not : (n : ℕ) → n < 100000 → (n == 1000000000) ≡ false
-small_is_not n few = grind (arith, nat_tests)
-
-not_fewer : (n m : ℕ) → n ≡ m → nat_lt n m ≡ false
-not_fewer n m e = grind (arith, nat_tests)
-
--- an exponent, and a negative one
-exponent_is :
-    (n : ℕ) (numbers : List ℕ) → exponent_size (digit_bytes (n ∷ numbers)) < 100000
-    → (exponent (101 ∷ digit_bytes (n ∷ numbers)) ≡ Some (pos (exponent_size (digit_bytes (n ∷ numbers)))))
-    × (exponent (101 ∷ 45 ∷ digit_bytes (n ∷ numbers))
-    ≡ Some (neg_ℤ (pos (exponent_size (digit_bytes (n ∷ numbers))))))
-exponent_is n numbers few =
-    let ds = digit_bytes (n ∷ numbers) in
-    let all = not_fewer _ _ (run_all 48 57 ds (digits_within (n ∷ numbers))) in
-    let some = none_is_not (length (digit_bytes numbers)) in
-    let small = small_is_not (exponent_size ds) few in
-    let begun : (length (101 ∷ ds) == 0) ≡ false = none_is_not _ in
-    let signed : (length (101 ∷ 45 ∷ ds) == 0) ≡ false = none_is_not _ in
-    (rw (begun, sign_is n, some, all, small, minus_is n) refl, rw (signed, some, all, small) refl)
-
--- the first of the digits of a number
-record HasFirst (n : ℕ) : Type 0 where
-  first : ℕ
-  more : List ℕ
-  same : decimal_text n ≡ digit_bytes (first ∷ more)
-
-first_of : (n : ℕ) → HasFirst n
-first_of n = by_test (nat_lt n 10) (nat_lt n 100) (nat_lt n 1000) (nat_lt n 10000) refl refl refl refl where
-  by_test :
-      (a b c d : Bool) → nat_lt n 10 ≡ a → nat_lt n 100 ≡ b → nat_lt n 1000 ≡ c → nat_lt n 10000 ≡ d → HasFirst n
-  by_test true b c d p q r s = record { first = n; more = []; same = rw p refl }
-  by_test false true c d p q r s = record { first = n / 10; more = n ∷ []; same = rw (p, q) refl }
-  by_test false false true d p q r s = record { first = n / 100; more = n / 10 ∷ n ∷ []; same = rw (p, q, r) refl }
-  by_test false false false true p q r s =
-      record { first = n / 1000; more = n / 100 ∷ n / 10 ∷ n ∷ []; same = rw (p, q, r, s) refl }
-  by_test false false false false p q r s =
-      record { first = n / 10000; more = n / 1000 ∷ n / 100 ∷ n / 10 ∷ n ∷ []; same = rw (p, q, r, s) refl }
-
-exponents_are :
-    (n : ℕ) → n < 100000
-    → (exponent (101 ∷ decimal_text n) ≡ Some (pos n)) × (exponent (101 ∷ 45 ∷ decimal_text n) ≡ Some (neg_ℤ (pos n)))
-exponents_are n few =
-    let x = first_of n in
-    let size : exponent_size (digit_bytes (x.first ∷ x.more)) ≡ n = ap exponent_size (sym x.same) ∙ size_is n few in
-    let e = exponent_is x.first x.more (omega (arith, size)) in (
-      ap (λ ds. exponent (101 ∷ ds)) x.same ∙ e.0 ∙ ap (λ k. Some (pos k)) size,
-      ap (λ ds. exponent (101 ∷ 45 ∷ ds)) x.same ∙ e.1 ∙ ap (λ k. Some (neg_ℤ (pos k))) size,
-    )
+negative_is : (n : ℕ) → n < 100000 → exponent (101 ∷ 45 ∷ decimal_text n) ≡ Some (neg_ℤ (pos n))
+negative_is n few = grind (arith, nat_tests)
 
 -- ---- Decimals.
 take_front : (xs ys : List ℕ) → take (length (xs ++ ys) - length ys) (xs ++ ys) ≡ xs
@@ -130,7 +70,7 @@ one_digit :
     (tail : List ℕ) (e : ℤ) → exponent (101 ∷ tail) ≡ Some e
     → decimal (49 ∷ 101 ∷ tail)
     ≡ Some (record { is_negative = false; digits = 1; power = (pos 0 +ℤ e) -ℤ pos 0; after_point = None })
-one_digit tail e is = rw (take_front (49 ∷ []) (101 ∷ tail), is) refl
+one_digit tail e is = grind (arith, nat_tests)
 
 abbrev IsScale : ℤ → List ℕ → Type 0
 IsScale z text = (s : Span) → (d : SkeletonDecimal) × (decimal text ≡ Some d) × (scale_power d s ≡ Ok z)
@@ -153,10 +93,7 @@ scale_is (pos n) low high = by_test (n == 0) (n == 1) (n == 2) refl refl refl wh
   by_test false true c p q r s = rw (equal n 1 q) (_, refl, refl)
   by_test false false true p q r s = rw (equal n 2 r) (_, refl, refl)
   by_test false false false p q r s =
-      scale_by (pos n) (pos n) (decimal_text n) (exponents_are n (omega (arith, ints, high))).0 (omega (
-        arith,
-        ints,
-      )) low
+      scale_by (pos n) (pos n) (decimal_text n) (exponent_is n (omega (arith, ints, high))) (omega (arith, ints)) low
       high s
 scale_is (negsuc n) low high = by_test (n == 0) (n == 1) refl refl where
   by_test :
@@ -167,7 +104,7 @@ scale_is (negsuc n) low high = by_test (n == 0) (n == 1) refl refl where
   by_test false true p q s = rw (equal n 1 q) (_, refl, refl)
   by_test false false p q s =
       scale_by (negsuc n) (neg_ℤ (pos (n + 1))) (45 ∷ decimal_text (n + 1))
-      (exponents_are (n + 1) (omega (arith, ints, low))).1 (omega (arith, ints)) low high s
+      (negative_is (n + 1) (omega (arith, ints, low))) (omega (arith, ints)) low high s
 
 -- ---- Increments.
 zeros_fold :
@@ -192,7 +129,7 @@ pointed_is k ds some all =
     let fs = replicate k 48 ++ ds in
     let whole = run_all 48 57 fs (within_append 48 57 (replicate k 48) ds (within_replicate 48 57 k 48 refl) all) in
     let found : (run 48 57 fs == 0) ≡ false =
-    not_zero (run 48 57 fs) (omega (arith, whole, some, length-append (replicate k 48) ds)) in
+    grind (arith, nat_tests, whole, some, length-append (replicate k 48) ds) in
     let none : drop (run 48 57 fs + 1) (46 ∷ fs) ≡ [] = drop_all _ (46 ∷ fs) (omega (arith, whole)) in
     let whole_size : length (46 ∷ fs) - length {A = ℕ} [] ≡ length (46 ∷ fs) = omega arith in
     let full : take (length (46 ∷ fs) - length {A = ℕ} []) (46 ∷ fs) ≡ 46 ∷ fs =
@@ -288,7 +225,7 @@ many_text k n =
     ) refl
 
 tail_is : (k : ℕ) → k + 4 ≤ 32768 → exponent (101 ∷ 45 ∷ decimal_text (k + 4)) ≡ Some (neg_ℤ (pos (k + 4)))
-tail_is k few = (exponents_are (k + 4) (omega arith)).1
+tail_is k few = negative_is (k + 4) (omega arith)
 
 -- an increment and an exponent
 abbrev exponent_text : ℕ → List ℕ
@@ -299,13 +236,17 @@ many_multiples :
     → IsMultiple (k + 4) (scaled_by base zeros) (if not (scaled_by base zeros % 10 == 0)
     then decimal_text (scaled_by base zeros) ++ exponent_text k else pointed_by 10000 4 k (scaled_by base zeros))
 many_multiples of_1 k few =
-    exponent_multiple k 1 (49 ∷ exponent_text k) (rw (take_front (49 ∷ []) (exponent_text k), tail_is k few) refl) refl refl few
+    exponent_multiple k 1 (49 ∷ exponent_text k) (rw (take_front (49 ∷ []) (exponent_text k), tail_is k few) refl) refl
+    refl few
 many_multiples of_2 k few =
-    exponent_multiple k 2 (50 ∷ exponent_text k) (rw (take_front (50 ∷ []) (exponent_text k), tail_is k few) refl) refl refl few
+    exponent_multiple k 2 (50 ∷ exponent_text k) (rw (take_front (50 ∷ []) (exponent_text k), tail_is k few) refl) refl
+    refl few
 many_multiples of_5 k few =
-    exponent_multiple k 5 (53 ∷ exponent_text k) (rw (take_front (53 ∷ []) (exponent_text k), tail_is k few) refl) refl refl few
+    exponent_multiple k 5 (53 ∷ exponent_text k) (rw (take_front (53 ∷ []) (exponent_text k), tail_is k few) refl) refl
+    refl few
 many_multiples of_25 k few =
-    exponent_multiple k 25 (50 ∷ 53 ∷ exponent_text k) (rw (take_front (50 ∷ 53 ∷ []) (exponent_text k), tail_is k few) refl) refl refl few
+    exponent_multiple k 25 (50 ∷ 53 ∷ exponent_text k)
+    (rw (take_front (50 ∷ 53 ∷ []) (exponent_text k), tail_is k few) refl) refl refl few
 many_multiples {base = b} {zeros = z} i k few = pointed_multiple k z b _ refl refl refl (omega arith) refl refl few
 
 multiples :

@@ -9,20 +9,15 @@ use Rattle.locale_data.specs.declared.symbols.NumberingSystem.{NumberingSystem}
 use Rattle.locale_data.specs.declared.symbols_table.TheConstants.{NUMBERING_SYSTEMS}
 use Rattle.number_format.specs.declared.precision.Minimum.{Minimum}
 use Rattle.number_format.specs.declared.precision.Minimum.TheVariants as minimum
-use Rattle.number_format.specs.declared.settings.RoundingPriority.{RoundingPriority}
-use Rattle.number_format.specs.declared.settings.RoundingPriority.TheVariants.{MorePrecision, LessPrecision}
+use Rattle.number_format.specs.declared.settings.{RoundingPriority.RoundingPriority, RoundingPriority.TheVariants.{MorePrecision, LessPrecision}}
 use Rattle.number_format.specs.declared.skeleton.choices.Choice.TheVariants as choice
-use Rattle.number_format.specs.declared.skeleton.choices.Choices.{Choices}
+use Rattle.number_format.specs.declared.skeleton.choices.{Choices.Choices, ChosenUnit.ChosenUnit, Exponent.Exponent, Span.Span}
 use Rattle.number_format.specs.declared.skeleton.choices.ChosenNotation.TheVariants as notation
 use Rattle.number_format.specs.declared.skeleton.choices.ChosenPrecision.TheVariants as precision
-use Rattle.number_format.specs.declared.skeleton.choices.ChosenUnit.{ChosenUnit}
-use Rattle.number_format.specs.declared.skeleton.choices.Exponent.{Exponent}
-use Rattle.number_format.specs.declared.skeleton.choices.Span.{Span}
 use Rattle.number_format.specs.declared.skeleton.counts.Counts.{Counts}
 use Rattle.number_format.specs.declared.skeleton.decimal.SkeletonDecimal.{SkeletonDecimal}
-use Rattle.number_format.specs.declared.skeleton.stems.Expected.{Expected}
+use Rattle.number_format.specs.declared.skeleton.stems.{Expected.Expected, Meaning.Meaning}
 use Rattle.number_format.specs.declared.skeleton.stems.Expected.TheVariants as expected
-use Rattle.number_format.specs.declared.skeleton.stems.Meaning.{Meaning}
 use Rattle.number_format.specs.SkeletonChoices.{with}
 use Rattle.number_format.specs.SkeletonCounts.{run, is_byte, is_wild}
 use Rattle.number_format.specs.SkeletonDecimals.{decimal}
@@ -100,8 +95,9 @@ code_is :
     → (length text ≡ 3) × (is_code (to_ascii_uppercase (slice_index text 0) ∷ to_ascii_uppercase (slice_index text 1)
     ∷ to_ascii_uppercase (slice_index text 2) ∷ []) ≡ true)
 code_is text e =
-    let x = and_both ((length text == 3) && is_code_byte (slice_index text 0) && is_code_byte (slice_index text 1)) _ e in
-    let y = and_both ((length text == 3) && is_code_byte (slice_index text 0)) _ x.0 in
+    let two = (length text == 3) && is_code_byte (slice_index text 0) in
+    let x = and_both (two && is_code_byte (slice_index text 1)) _ e in
+    let y = and_both two _ x.0 in
     let z = and_both (length text == 3) _ y.0 in (
       equal (length text) 3 z.0,
       rw (

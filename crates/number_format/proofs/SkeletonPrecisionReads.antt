@@ -6,17 +6,12 @@ use Rattle.std.proofs.Math.Seq.{drop-append_seam}
 use Rattle.std.proofs.lemmas.Bool.Decides.{nat_tests}
 use Rattle.std.proofs.lemmas.List.{length-replicate, drop_all}
 use Rattle.number_format.specs.declared.number_options.CurrencyUsage.TheVariants as usage
-use Rattle.number_format.specs.declared.precision.Minimum.{Minimum}
-use Rattle.number_format.specs.declared.precision.Minimum.TheVariants.{Chosen, Both}
-use Rattle.number_format.specs.declared.settings.RoundingPriority.{RoundingPriority}
-use Rattle.number_format.specs.declared.settings.RoundingPriority.TheVariants.{MorePrecision, LessPrecision}
+use Rattle.number_format.specs.declared.precision.{Minimum.Minimum, Minimum.TheVariants.{Chosen, Both}}
+use Rattle.number_format.specs.declared.settings.{RoundingPriority.RoundingPriority, RoundingPriority.TheVariants.{MorePrecision, LessPrecision}}
 use Rattle.number_format.specs.declared.skeleton.SkeletonError.{SkeletonError}
 use Rattle.number_format.specs.declared.skeleton.choices.Choice.TheVariants as choice
-use Rattle.number_format.specs.declared.skeleton.choices.Choices.{Choices}
-use Rattle.number_format.specs.declared.skeleton.choices.ChosenPrecision.{ChosenPrecision}
+use Rattle.number_format.specs.declared.skeleton.choices.{Choices.Choices, ChosenPrecision.ChosenPrecision, ChosenUnit.ChosenUnit, Span.Span}
 use Rattle.number_format.specs.declared.skeleton.choices.ChosenPrecision.TheVariants as precision
-use Rattle.number_format.specs.declared.skeleton.choices.ChosenUnit.{ChosenUnit}
-use Rattle.number_format.specs.declared.skeleton.choices.Span.{Span}
 use Rattle.number_format.specs.declared.skeleton.counts.Counts.{Counts}
 use Rattle.number_format.specs.declared.skeleton.decimal.SkeletonDecimal.{SkeletonDecimal}
 use Rattle.number_format.specs.declared.skeleton.reading.Reading.{Reading}
@@ -32,10 +27,10 @@ use Rattle.number_format.specs.SkeletonReading.{is_stem, needs_option, read_piec
 use Rattle.number_format.specs.SkeletonStems.{stem, is_any, precision_of, beside_significant}
 use Rattle.number_format.specs.SkeletonTexts.{last_digits, decimal_text, pointed_by, increment_text, fraction_text, beside_text, range_text, significant_text, precision_text, strips_text}
 use Rattle.number_format.proofs.SkeletonCosts.{Of}
-use Rattle.number_format.proofs.SkeletonNumerals.{within_replicate, run_append, and_none, multiple_text_is}
+use Rattle.number_format.proofs.SkeletonNumerals.{run_of, run_replicate, drop_run, and_none, multiple_text_is}
 use Rattle.number_format.proofs.SkeletonResolved.{IsFraction, IsSignificant, IsGood}
 use Rattle.number_format.proofs.SkeletonStemReads.{are_plain, at, stem_piece, option_piece, opens, closes}
-use Rattle.number_format.proofs.SkeletonTextReads.{plain_replicate, plain_append, plain_digits, plain_decimal, run_replicate, not_less, not_zero}
+use Rattle.number_format.proofs.SkeletonTextReads.{plain_replicate, plain_append, plain_digits, plain_decimal, not_less, not_zero}
 use Rattle.number_format.proofs.TestLaws.{and_both, equal, ok_is}
 
 -- ---- Numbers of digits.
@@ -53,30 +48,28 @@ run_more least (suc b) e = rw e refl
 
 -- `00##`
 range_is :
-    (least a b : ℕ) → is_outside least least least ≡ false → is_outside least least 35 ≡ true
+    (least a b : ℕ) → is_outside least least 35 ≡ true
     → counts least 35 (replicate a least ++ replicate b 35) ≡ Some (counted a (Some (a + b)))
-range_is least a b e f =
+range_is least a b f =
     let first : run least least (replicate a least ++ replicate b 35) ≡ a =
-    run_append least least (replicate a least) (replicate b 35) (within_replicate least least a least e)
-    ∙ omega (arith, length-replicate a least, run_more least b f) in
-    let rest : drop a (replicate a least ++ replicate b 35) ≡ replicate b 35 =
-    ap (λ n. drop n (replicate a least ++ replicate b 35)) (sym (length-replicate a least))
-    ∙ drop-append_seam (replicate a least) (replicate b 35) in
-    rw (first, rest, more_not_wild b, run_replicate 35 b refl, length-replicate {A = ℕ} b 35, not_less b) refl
+    omega (arith, run_of least a (replicate b 35), run_more least b f) in
+    rw (
+      first,
+      drop_run a least (replicate b 35),
+      more_not_wild b,
+      run_replicate 35 b,
+      length-replicate {A = ℕ} b 35,
+      not_less b,
+    ) refl
 
 -- `00*`
 wild_is :
-    (least a : ℕ) → is_outside least least least ≡ false → is_outside least least 42 ≡ true
+    (least a : ℕ) → is_outside least least 42 ≡ true
     → counts least 35 (replicate a least ++ 42 ∷ []) ≡ Some (counted a None)
-wild_is least a e f =
+wild_is least a f =
     let star : run least least (42 ∷ []) ≡ 0 = rw f refl in
-    let first : run least least (replicate a least ++ 42 ∷ []) ≡ a =
-    run_append least least (replicate a least) (42 ∷ []) (within_replicate least least a least e)
-    ∙ omega (arith, length-replicate a least, star) in
-    let rest : drop a (replicate a least ++ 42 ∷ []) ≡ 42 ∷ [] =
-    ap (λ n. drop n (replicate a least ++ 42 ∷ [])) (sym (length-replicate a least))
-    ∙ drop-append_seam (replicate a least) (42 ∷ []) in
-    rw (first, rest) refl
+    let first : run least least (replicate a least ++ 42 ∷ []) ≡ a = omega (arith, run_of least a (42 ∷ []), star) in
+    rw (first, drop_run a least (42 ∷ [])) refl
 
 pub within_is :
     (low high least greatest : ℕ) (s : Span) → low ≤ least → least ≤ high → least ≤ greatest
@@ -142,10 +135,10 @@ fraction_stem_is f ordered = by_test (f.1 == 65535) refl where
       (b : Bool) → (f.1 == 65535) ≡ b
       → counts 48 35 (replicate f.0 48 ++ (if b then 42 ∷ [] else replicate (f.1 - f.0) 35))
       ≡ Some (counted f.0 (if b then None else Some f.1))
-  by_test true e = wild_is 48 f.0 refl refl
+  by_test true e = wild_is 48 f.0 refl
   by_test false e =
       let sum : f.0 + (f.1 - f.0) ≡ f.1 = omega arith in
-      range_is 48 f.0 (f.1 - f.0) refl refl ∙ ap (λ n. Some (counted f.0 (Some n))) sum
+      range_is 48 f.0 (f.1 - f.0) refl ∙ ap (λ n. Some (counted f.0 (Some n))) sum
 
 fraction_is : (f : ℕ × ℕ) (s : Span) → IsFraction f → fraction_of (fraction_counts f) s ≡ Ok f
 fraction_is f s h = by_test (f.1 == 65535) refl where
@@ -214,11 +207,6 @@ fraction_last c s start f none h =
     })) (fraction_stem_is f h.1)) refl refl refl (λ u t. any_value k f t u (fraction_is f t h)) (λ t. any_usual k t)
 
 -- ---- Significant digits.
-plain_range : (v : ℕ × ℕ) → are_plain (range_text v) ≡ true
-plain_range v =
-    plain_append (replicate v.0 64) (replicate (v.1 - v.0) 35) (plain_replicate v.0 64 refl)
-    (plain_replicate (v.1 - v.0) 35 refl)
-
 significant_is :
     (least : ℕ) (greatest : Option ℕ) (v : ℕ × ℕ) (t : Span) → IsSignificant v → least ≡ v.0
     → min (unwrap_or greatest 65536) 65536 ≡ v.1 → significant_of (counted least greatest) t ≡ Ok v
@@ -251,7 +239,7 @@ significant_last c s start v none h = by_least v.0 refl where
       one_piece c s start (replicate (suc n) 64 ++ 42 ∷ []) (Significant v) (precision.Significant k)
       expected.StripIfInteger none (plain_append (replicate (suc n) 64) (42 ∷ []) (plain_replicate (suc n) 64 refl)
       refl)
-      (omega arith) (at_stem n (42 ∷ []) k (wild_is 64 (suc n) refl refl)) refl refl refl
+      (omega arith) (at_stem n (42 ∷ []) k (wild_is 64 (suc n) refl)) refl refl refl
       (λ u t. rw (significant_is (suc n) None v t h (sym first) (sym last)) refl) (λ t. refl)
   by_test n false first e =
       let sum : suc n + (v.1 - suc n) ≡ v.1 = omega (arith, h.1, first) in
@@ -259,7 +247,7 @@ significant_last c s start v none h = by_least v.0 refl where
       one_piece c s start (replicate (suc n) 64 ++ replicate (v.1 - suc n) 35) (Significant v) (precision.Significant k)
       expected.StripIfInteger none (plain_append (replicate (suc n) 64) (replicate (v.1 - suc n) 35)
       (plain_replicate (suc n) 64 refl) (plain_replicate (v.1 - suc n) 35 refl)) (omega arith)
-      (at_stem n (replicate (v.1 - suc n) 35) k (range_is 64 (suc n) (v.1 - suc n) refl refl)) refl refl refl
+      (at_stem n (replicate (v.1 - suc n) 35) k (range_is 64 (suc n) (v.1 - suc n) refl)) refl refl refl
       (λ u t. rw (significant_is (suc n) (Some (suc n + (v.1 - suc n))) v t h (sym first) (omega (arith, sum, h.2)))
       refl) (λ t. refl)
 
@@ -352,10 +340,6 @@ multiples_last c s start m none few is =
     }
 
 -- ---- Fraction and significant digits.
--- the numbers of the first piece, where `*` alone is no fraction digit
-abbrev beside_counts : ℕ × ℕ → Counts
-beside_counts f = if f.0 == 0 then counted 0 (Some f.1) else fraction_counts f
-
 -- a first piece, without its slash
 record Beside (f : ℕ × ℕ) : Type 0 where
   word : List ℕ
@@ -391,7 +375,7 @@ beside_is f h = by_least f.0 refl where
         some = omega arith;
         first = precision.Fraction k;
         k = k;
-        is = counts_are k (replicate f.1 35) (range_is 48 0 f.1 refl refl);
+        is = counts_are k (replicate f.1 35) (range_is 48 0 f.1 refl);
         value = λ t. rw (sum, most) (within_is 0 32768 0 f.1 t (omega arith) (omega arith) (omega arith)
             ∙ ap (λ n. Ok (n, f.1)) (sym e));
       }
@@ -454,13 +438,8 @@ rest_not_wild : (b c : ℕ) → is_wild (c ∷ []) ≡ false → is_wild (replic
 rest_not_wild zero c e = e
 rest_not_wild (suc b) c e = rw (and_none (length (replicate {A = ℕ} (suc b) 35 ++ c ∷ []) == 1)) refl
 
-run_ended :
-    (low b x c : ℕ) → is_outside low low x ≡ false → is_outside low low c ≡ true
-    → run low low (replicate b x ++ c ∷ []) ≡ b
-run_ended low b x c e f =
-    let end : run low low (c ∷ []) ≡ 0 = rw f refl in
-    run_append low low (replicate b x) (c ∷ []) (within_replicate low low b x e)
-    ∙ omega (arith, length-replicate b x, end)
+run_ended : (b x c : ℕ) → is_outside x x c ≡ true → run x x (replicate b x ++ c ∷ []) ≡ b
+run_ended b x c f = let end : run x x (c ∷ []) ≡ 0 = rw f refl in omega (arith, run_of x b (c ∷ []), end)
 
 -- `@@#r` and `@@#s`
 priority_is :
@@ -475,11 +454,8 @@ priority_is k n b c wild e f =
     let word = (ats ++ replicate b 35) ++ c ∷ [] in
     let same : word ≡ ats ++ rest = append_assoc ats (replicate b 35) (c ∷ []) in
     let none : run 64 64 rest ≡ 0 = by_size b in
-    let least : run 64 64 word ≡ suc n = ap (run 64 64) same
-    ∙ run_append 64 64 ats rest (within_replicate 64 64 (suc n) 64 refl)
-    ∙ omega (arith, length-replicate {A = ℕ} (suc n) 64, none) in
-    let after : drop (suc n) word ≡ rest = ap (drop (suc n)) same
-    ∙ ap (λ n. drop n (ats ++ rest)) (sym (length-replicate (suc n) 64)) ∙ drop-append_seam ats rest in
+    let least : run 64 64 word ≡ suc n = ap (run 64 64) same ∙ omega (arith, run_of 64 (suc n) rest, none) in
+    let after : drop (suc n) word ≡ rest = ap (drop (suc n)) same ∙ drop_run (suc n) 64 rest in
     let size : suc n + b ≡ length (ats ++ replicate b 35) =
     omega (
       arith,
@@ -489,7 +465,7 @@ priority_is k n b c wild e f =
     ) in
     let end : drop (suc n + b) word ≡ c ∷ [] =
     ap (λ n. drop n word) size ∙ drop-append_seam (ats ++ replicate b 35) (c ∷ []) in
-    rw (least, not_zero n, after, rest_not_wild b c wild, run_ended 35 b 35 c refl e, end) refl where
+    rw (least, not_zero n, after, rest_not_wild b c wild, run_ended b 35 c e, end) refl where
       by_size : (b : ℕ) → run 64 64 (replicate b 35 ++ c ∷ []) ≡ 0
       by_size zero = rw f refl
       by_size (suc b) = refl
@@ -499,10 +475,7 @@ least_is :
     (k : Counts) (n : ℕ)
     → significant_option k (replicate (suc n) 64 ++ 42 ∷ []) ≡ both k (from_to 1 (suc n)) MorePrecision Both
 least_is k n =
-    let ats = replicate {A = ℕ} (suc n) 64 in
-    let after : drop (suc n) (ats ++ 42 ∷ []) ≡ 42 ∷ [] =
-    ap (λ n. drop n (ats ++ 42 ∷ [])) (sym (length-replicate (suc n) 64)) ∙ drop-append_seam ats (42 ∷ []) in
-    rw (run_ended 64 (suc n) 64 42 refl refl, not_zero n, after) refl
+    rw (run_ended (suc n) 64 42 refl, not_zero n, drop_run (suc n) 64 (42 ∷ [])) refl
 
 -- `@##`
 most_is :
@@ -512,7 +485,7 @@ most_is k b =
     let least : run 64 64 (64 ∷ replicate b 35) ≡ 1 = by_size b in
     let size : length (64 ∷ replicate {A = ℕ} b 35) ≤ 1 + b = omega (arith, length-replicate {A = ℕ} b 35) in
     let end : drop (1 + b) (64 ∷ replicate {A = ℕ} b 35) ≡ [] = drop_all (1 + b) (64 ∷ replicate b 35) size in
-    rw (least, more_not_wild b, run_replicate 35 b refl, end) refl where
+    rw (least, more_not_wild b, run_replicate 35 b, end) refl where
       by_size : (b : ℕ) → run 64 64 (64 ∷ replicate b 35) ≡ 1
       by_size zero = refl
       by_size (suc b) = refl

@@ -6,12 +6,9 @@ use Rattle.number_format.specs.declared.number_options.NumberStyle.{NumberStyle}
 use Rattle.number_format.specs.declared.number_options.NumberStyle.TheVariants as style
 use Rattle.number_format.specs.declared.precision.Minimum.TheVariants.{Chosen}
 use Rattle.number_format.specs.declared.skeleton.SkeletonError.{SkeletonError}
-use Rattle.number_format.specs.declared.skeleton.choices.Choices.{Choices}
-use Rattle.number_format.specs.declared.skeleton.choices.ChosenPrecision.{ChosenPrecision}
+use Rattle.number_format.specs.declared.skeleton.choices.{Choices.Choices, ChosenPrecision.ChosenPrecision, ChosenUnit.ChosenUnit, Span.Span}
 use Rattle.number_format.specs.declared.skeleton.choices.ChosenPrecision.TheVariants as precision
-use Rattle.number_format.specs.declared.skeleton.choices.ChosenUnit.{ChosenUnit}
 use Rattle.number_format.specs.declared.skeleton.choices.ChosenUnit.TheVariants as unit
-use Rattle.number_format.specs.declared.skeleton.choices.Span.{Span}
 use Rattle.number_format.specs.declared.skeleton.stems.Expected.TheVariants as expected
 use Rattle.number_format.specs.SkeletonDigits.{PrecisionValue, Fraction, More, currency_of, default_precision, precision_by}
 use Rattle.number_format.specs.SkeletonMeaning.{usage_of}

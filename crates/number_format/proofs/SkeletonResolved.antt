@@ -15,34 +15,22 @@ use Rattle.fixed_decimal.specs.declared.variations.SignDisplay.TheVariants as di
 use Rattle.locale_data.specs.Currencies.{currency_with, digits_of as listed_digits}
 use Rattle.locale_data.specs.Rows.{unpadded}
 use Rattle.locale_data.specs.Tag.{compared}
-use Rattle.locale_data.specs.declared.currency.Currency.{Currency}
-use Rattle.locale_data.specs.declared.currency.CurrencySign.{CurrencySign}
+use Rattle.locale_data.specs.declared.currency.{Currency.Currency, CurrencySign.CurrencySign}
 use Rattle.locale_data.specs.declared.currency.CurrencySign.TheVariants as currency_sign
 use Rattle.locale_data.specs.declared.currency_table.TheConstants.{CURRENCIES}
-use Rattle.number_format.specs.declared.number_options.CurrencyDisplay.{CurrencyDisplay}
+use Rattle.number_format.specs.declared.number_options.{CurrencyDisplay.CurrencyDisplay, ExponentSign.ExponentSign, NumberNotation.NumberNotation, NumberNotation.TheVariants.{Scientific, Engineering}, NumberStyle.NumberStyle}
 use Rattle.number_format.specs.declared.number_options.CurrencyDisplay.TheVariants as width
 use Rattle.number_format.specs.declared.number_options.CurrencyUsage.TheVariants as usage
-use Rattle.number_format.specs.declared.number_options.ExponentSign.{ExponentSign}
-use Rattle.number_format.specs.declared.number_options.NumberNotation.{NumberNotation}
-use Rattle.number_format.specs.declared.number_options.NumberNotation.TheVariants.{Scientific, Engineering}
-use Rattle.number_format.specs.declared.number_options.NumberStyle.{NumberStyle}
 use Rattle.number_format.specs.declared.number_options.NumberStyle.TheVariants as style
-use Rattle.number_format.specs.declared.precision.Minimum.{Minimum}
-use Rattle.number_format.specs.declared.precision.Minimum.TheVariants.{Chosen, Both}
+use Rattle.number_format.specs.declared.precision.{Minimum.Minimum, Minimum.TheVariants.{Chosen, Both}}
 use Rattle.number_format.specs.declared.settings.RoundingPriority.{RoundingPriority}
 use Rattle.number_format.specs.declared.settings.RoundingPriority.TheVariants as priority
 use Rattle.number_format.specs.declared.skeleton.SkeletonError.{SkeletonError}
 use Rattle.number_format.specs.declared.skeleton.choices.Choice.TheVariants as choice
-use Rattle.number_format.specs.declared.skeleton.choices.Choices.{Choices}
-use Rattle.number_format.specs.declared.skeleton.choices.ChosenNotation.{ChosenNotation}
+use Rattle.number_format.specs.declared.skeleton.choices.{Choices.Choices, ChosenNotation.ChosenNotation, ChosenPrecision.ChosenPrecision, ChosenUnit.ChosenUnit, Exponent.Exponent, Span.Span, TwoCounts.TwoCounts}
 use Rattle.number_format.specs.declared.skeleton.choices.ChosenNotation.TheVariants as notation
-use Rattle.number_format.specs.declared.skeleton.choices.ChosenPrecision.{ChosenPrecision}
 use Rattle.number_format.specs.declared.skeleton.choices.ChosenPrecision.TheVariants as precision
-use Rattle.number_format.specs.declared.skeleton.choices.ChosenUnit.{ChosenUnit}
 use Rattle.number_format.specs.declared.skeleton.choices.ChosenUnit.TheVariants as unit
-use Rattle.number_format.specs.declared.skeleton.choices.Exponent.{Exponent}
-use Rattle.number_format.specs.declared.skeleton.choices.Span.{Span}
-use Rattle.number_format.specs.declared.skeleton.choices.TwoCounts.{TwoCounts}
 use Rattle.number_format.specs.declared.skeleton.counts.Counts.{Counts}
 use Rattle.number_format.specs.declared.skeleton.decimal.SkeletonDecimal.{SkeletonDecimal}
 use Rattle.number_format.specs.DefaultDigits.{is_compact, usage_digits}

@@ -10,12 +10,10 @@ use Rattle.number_format.specs.declared.number_options.ExponentSign.TheVariants 
 use Rattle.number_format.specs.declared.skeleton.choices.Choice.TheVariants as choice
 use Rattle.number_format.specs.declared.skeleton.choices.ChosenNotation.TheVariants as notation
 use Rattle.number_format.specs.declared.skeleton.choices.ChosenPrecision.TheVariants as precision
-use Rattle.number_format.specs.declared.skeleton.choices.Exponent.{Exponent}
-use Rattle.number_format.specs.declared.skeleton.choices.Span.{Span}
+use Rattle.number_format.specs.declared.skeleton.choices.{Exponent.Exponent, Span.Span}
 use Rattle.number_format.specs.declared.skeleton.counts.Counts.{Counts}
 use Rattle.number_format.specs.declared.skeleton.stems.Expected.TheVariants as expected
-use Rattle.number_format.specs.declared.skeleton.stems.Meaning.{Meaning}
-use Rattle.number_format.specs.declared.skeleton.stems.StemWord.{StemWord}
+use Rattle.number_format.specs.declared.skeleton.stems.{Meaning.Meaning, StemWord.StemWord}
 use Rattle.number_format.specs.declared.skeleton.stems.TheConstants.{STEMS}
 use Rattle.number_format.specs.SkeletonChoices.{no_choices, with}
 use Rattle.number_format.specs.SkeletonCounts.{run, is_outside, is_wild, counts}

@@ -5,12 +5,10 @@ use Rattle.std.specs.List.{list_all}
 use Rattle.std.proofs.Math.Seq.{take-append_seam, get_or-append_seam}
 use Rattle.std.proofs.lemmas.Bool.Decides.{nat_tests}
 use Rattle.std.proofs.lemmas.List.{append-nil}
-use Rattle.number_format.specs.declared.skeleton.choices.Choices.{Choices}
-use Rattle.number_format.specs.declared.skeleton.choices.Span.{Span}
+use Rattle.number_format.specs.declared.skeleton.choices.{Choices.Choices, Span.Span}
 use Rattle.number_format.specs.declared.skeleton.reading.Reading.{Reading}
-use Rattle.number_format.specs.declared.skeleton.stems.Expected.{Expected}
+use Rattle.number_format.specs.declared.skeleton.stems.{Expected.Expected, Meaning.Meaning}
 use Rattle.number_format.specs.declared.skeleton.stems.Expected.TheVariants as expected
-use Rattle.number_format.specs.declared.skeleton.stems.Meaning.{Meaning}
 use Rattle.number_format.specs.SkeletonChoices.{has, with}
 use Rattle.number_format.specs.SkeletonCounts.{is_outside}
 use Rattle.number_format.specs.SkeletonOptions.{option}

@@ -7,31 +7,19 @@ use Rattle.std.proofs.lemmas.Bool.Decides.{nat_tests, Decides-int_eq}
 use Rattle.std.proofs.lemmas.List.{length-replicate}
 use Rattle.std.proofs.lemmas.List.Folds.{list_all-append}
 use Rattle.locale_data.specs.declared.currency.CurrencySign.{CurrencySign}
-use Rattle.number_format.specs.declared.number_options.CompactLength.{CompactLength}
-use Rattle.number_format.specs.declared.number_options.CompactLength.TheVariants.{Short, Long}
-use Rattle.number_format.specs.declared.number_options.CurrencyDisplay.{CurrencyDisplay}
+use Rattle.number_format.specs.declared.number_options.{CompactLength.CompactLength, CompactLength.TheVariants.{Short, Long}, CurrencyDisplay.CurrencyDisplay, CurrencyUsage.CurrencyUsage, ExponentSign.ExponentSign, NumberNotation.NumberNotation, NumberNotation.TheVariants.{Standard, Scientific, Engineering, Compact}, NumberStyle.NumberStyle}
 use Rattle.number_format.specs.declared.number_options.CurrencyDisplay.TheVariants as width
-use Rattle.number_format.specs.declared.number_options.CurrencyUsage.{CurrencyUsage}
 use Rattle.number_format.specs.declared.number_options.CurrencyUsage.TheVariants as usage
-use Rattle.number_format.specs.declared.number_options.ExponentSign.{ExponentSign}
 use Rattle.number_format.specs.declared.number_options.ExponentSign.TheVariants as sign
-use Rattle.number_format.specs.declared.number_options.NumberNotation.{NumberNotation}
-use Rattle.number_format.specs.declared.number_options.NumberNotation.TheVariants.{Standard, Scientific, Engineering, Compact}
-use Rattle.number_format.specs.declared.number_options.NumberStyle.{NumberStyle}
 use Rattle.number_format.specs.declared.number_options.NumberStyle.TheVariants as style
 use Rattle.number_format.specs.declared.skeleton.choices.Choice.TheVariants as choice
-use Rattle.number_format.specs.declared.skeleton.choices.Choices.{Choices}
-use Rattle.number_format.specs.declared.skeleton.choices.ChosenNotation.{ChosenNotation}
+use Rattle.number_format.specs.declared.skeleton.choices.{Choices.Choices, ChosenNotation.ChosenNotation, ChosenUnit.ChosenUnit, Exponent.Exponent, Span.Span}
 use Rattle.number_format.specs.declared.skeleton.choices.ChosenNotation.TheVariants as notation
-use Rattle.number_format.specs.declared.skeleton.choices.ChosenUnit.{ChosenUnit}
 use Rattle.number_format.specs.declared.skeleton.choices.ChosenUnit.TheVariants as unit
-use Rattle.number_format.specs.declared.skeleton.choices.Exponent.{Exponent}
-use Rattle.number_format.specs.declared.skeleton.choices.Span.{Span}
 use Rattle.number_format.specs.declared.skeleton.decimal.SkeletonDecimal.{SkeletonDecimal}
 use Rattle.number_format.specs.declared.skeleton.stems.Expected.TheVariants as expected
 use Rattle.number_format.specs.DefaultDigits.{is_compact}
 use Rattle.number_format.specs.SkeletonChoices.{no_choices}
-use Rattle.number_format.specs.SkeletonCounts.{run, is_outside}
 use Rattle.number_format.specs.SkeletonDecimals.{hundred}
 use Rattle.number_format.specs.SkeletonDigits.{unsupported, is_compact as chooses_compact}
 use Rattle.number_format.specs.SkeletonMeaning.{exponent_notation, notation_of, width_of, currency_sign_of, usage_of, percent_style, style_of, scale_of}
@@ -40,7 +28,7 @@ use Rattle.number_format.specs.SkeletonOptions.{is_code_byte, option}
 use Rattle.number_format.specs.SkeletonStems.{stem}
 use Rattle.number_format.specs.SkeletonTexts.{digit_bytes, decimal_length, is_cash, style_sign, decimal_text, power_text, exponent_text, notation_text, width_text, scale_text, ascii, style_text}
 use Rattle.number_format.proofs.SkeletonCosts.{Of, is_capital, is_code}
-use Rattle.number_format.proofs.SkeletonNumerals.{within_replicate, run_all, scale_is}
+use Rattle.number_format.proofs.SkeletonNumerals.{run_replicate, scale_is}
 use Rattle.number_format.proofs.SkeletonResolved.{good_style, IsUnit}
 use Rattle.number_format.proofs.SkeletonStemReads.{is_plain, are_plain, at, stem_piece, option_piece, opens, closes, Ends, ends_after, Step, no_stem, one_stem, with_option, joined}
 use Rattle.number_format.proofs.TestLaws.{and_both, equal, ok_is}
@@ -52,9 +40,6 @@ plain_replicate (suc n) c e = rw e (plain_replicate n c e)
 
 pub plain_append : (xs ys : List ℕ) → are_plain xs ≡ true → are_plain ys ≡ true → are_plain (xs ++ ys) ≡ true
 plain_append xs ys p q = list_all-append is_plain xs ys ∙ rw (p, q) refl
-
-pub run_replicate : (b n : ℕ) → is_outside b b b ≡ false → run b b (replicate n b) ≡ n
-run_replicate b n e = run_all b b (replicate n b) (within_replicate b b n b e) ∙ length-replicate n b
 
 pub not_less : (n : ℕ) → nat_lt n n ≡ false
 not_less n = grind (arith, nat_tests)
@@ -81,11 +66,11 @@ exponent_stem_is :
       expected = expected.Stem;
     })
 exponent_stem_is true true n =
-    rw (run_replicate 48 (suc n) refl, length-replicate {A = ℕ} (suc n) 48, not_zero n, not_less (suc n)) refl
+    rw (run_replicate 48 (suc n), length-replicate {A = ℕ} (suc n) 48, not_zero n, not_less (suc n)) refl
 exponent_stem_is engineering true n =
-    rw (run_replicate 48 (suc n) refl, length-replicate {A = ℕ} (suc n) 48, not_zero n, not_less (suc n)) refl
+    rw (run_replicate 48 (suc n), length-replicate {A = ℕ} (suc n) 48, not_zero n, not_less (suc n)) refl
 exponent_stem_is engineering always n =
-    rw (run_replicate 48 (suc n) refl, length-replicate {A = ℕ} (suc n) 48, not_zero n, not_less (suc n)) refl
+    rw (run_replicate 48 (suc n), length-replicate {A = ℕ} (suc n) 48, not_zero n, not_less (suc n)) refl
 
 -- the words and the options of an exponent without a sign
 abbrev long_word : Bool → List ℕ
@@ -119,7 +104,7 @@ wide_is :
     })
 wide_is engineering n =
     let same : (n == n) ≡ true = grind (arith, nat_tests) in
-    rw (run_replicate 101 n refl, length-replicate {A = ℕ} n 101, same) refl
+    rw (run_replicate 101 n, length-replicate {A = ℕ} n 101, same) refl
 
 word_is :
     (engineering : Bool)
@@ -226,8 +211,8 @@ signed_step engineering always n v is s start rest =
     one_stem (λ x. record no_choices { notation = x }) (λ x. (notation_of x ≡ Ok v) × (chooses_compact x ≡ is_compact
     v))
     no_choices s start (short_word engineering ++ signed_word always ++ replicate (suc n) 48) rest _
-    (λ t. Some (notation.Exponent (exponent engineering (suc n) (if always then sign.Always else sign.Auto)), t)) piece.0
-    piece.1 (exponent_stem_is engineering always n) refl refl is (λ t. refl) where
+    (λ t. Some (notation.Exponent (exponent engineering (suc n) (if always then sign.Always else sign.Auto)), t))
+    piece.0 piece.1 (exponent_stem_is engineering always n) refl refl is (λ t. refl) where
       short_piece :
           (engineering always : Bool)
           → (are_plain (short_word engineering ++ signed_word always ++ replicate (suc n) 48) ≡ true)
@@ -371,7 +356,8 @@ permille_style n s plain d p q r g h = rw (q, r, p, plain) refl
 currency_style :
     (n : Of ChosenNotation) (code : List ℕ) (x : CurrencyDisplay) (sign : CurrencySign) (paid : CurrencyUsage)
     (u : Of ChosenUnit) → ((s : Span) × (u ≡ Some (unit.Currency code, s))) → (w : Of (Option CurrencyDisplay))
-    → width_of w ≡ Ok x → IsStyle n (style.Currency (record { code = code; display = x; sign = sign; usage = paid })) u w
+    → width_of w ≡ Ok x
+    → IsStyle n (style.Currency (record { code = code; display = x; sign = sign; usage = paid })) u w
 unfolding style_of
 currency_style n code x sign paid u (s, e) w shown d p q r g h =
     rw (q, e, r, shown, g, h, usage_is code x sign paid) refl

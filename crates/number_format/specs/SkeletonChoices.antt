@@ -1,10 +1,7 @@
 -- What the stems of a skeleton choose, by groups.
 use Rattle.std.specs.Prelude.{Bool, true, false, ◌||◌, is_some, Some, None}
-use Rattle.number_format.specs.declared.skeleton.choices.Span.{Span}
+use Rattle.number_format.specs.declared.skeleton.choices.{Span.Span, Choice.Choice, Choice.TheVariants.{Nothing, Notation, Unit, PercentTimes100, UnitPerUnit, PerUnit, Usage, Precision, StripIfInteger, Mode, Grouping, Integer, System, Width, Sign, IsDecimalAlways, Scale}, Choices.Choices}
 use Rattle.number_format.specs.declared.skeleton.choices.ChosenUnit.TheVariants as unit
-use Rattle.number_format.specs.declared.skeleton.choices.Choice.{Choice}
-use Rattle.number_format.specs.declared.skeleton.choices.Choice.TheVariants.{Nothing, Notation, Unit, PercentTimes100, UnitPerUnit, PerUnit, Usage, Precision, StripIfInteger, Mode, Grouping, Integer, System, Width, Sign, IsDecimalAlways, Scale}
-use Rattle.number_format.specs.declared.skeleton.choices.Choices.{Choices}
 use Rattle.number_format.specs.SkeletonDecimals.{hundred}
 
 abbrev pub no_choices : Choices

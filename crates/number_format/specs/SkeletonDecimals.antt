@@ -1,8 +1,7 @@
 -- The decimals of `scale/` and `precision-increment/`.
 use Rattle.std.specs.Prelude.{ℕ, ◌+◌, ◌-◌, ◌*◌, ◌==◌, nat_lt, min, Bool, false, ◌||◌, ◌&&◌, not, if◌then◌else◌, ℤ, pos, neg_ℤ, ◌+ℤ◌, ◌-ℤ◌, List, length, take, drop, slice_index, fold, Option, Some, None}
 use Rattle.std.specs.Option.{option_map}
-use Rattle.number_format.specs.declared.skeleton.decimal.Significand.{Significand}
-use Rattle.number_format.specs.declared.skeleton.decimal.SkeletonDecimal.{SkeletonDecimal}
+use Rattle.number_format.specs.declared.skeleton.decimal.{Significand.Significand, SkeletonDecimal.SkeletonDecimal}
 use Rattle.number_format.specs.SkeletonCounts.{run}
 
 -- ---- The significant digits, of which two are kept, and the zeros after them.

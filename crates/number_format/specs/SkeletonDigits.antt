@@ -1,33 +1,18 @@
 -- The digits that the choices of a skeleton show, by ICU's defaults. An error names the stem that this library has not.
 use Rattle.std.specs.Prelude.{ℕ, ◌-◌, ◌*◌, ◌/◌, ◌%◌, ◌==◌, nat_lt, min, Bool, true, false, ◌||◌, ◌&&◌, not, if◌then◌else◌, ℤ, pos, negsuc, ◌+ℤ◌, int_lt, nat_abs, Option, Some, None, unwrap_or, Result, Ok, Err}
 use Rattle.std.specs.Ordering.{int_eq}
-use Rattle.fixed_decimal.specs.declared.rounding.SignedRoundingMode.{SignedRoundingMode}
-use Rattle.fixed_decimal.specs.declared.rounding.SignedRoundingMode.TheVariants.{Unsigned}
+use Rattle.fixed_decimal.specs.declared.rounding.{SignedRoundingMode.SignedRoundingMode, SignedRoundingMode.TheVariants.{Unsigned}}
 use Rattle.decimal_digits.specs.declared.rounding.UnsignedRoundingMode.TheVariants.{HalfEven}
 use Rattle.locale_data.specs.declared.currency.CurrencyDigits.{CurrencyDigits}
 use Rattle.locale_data.specs.Currencies.{currency_with, digits_of as listed_digits}
-use Rattle.number_format.specs.declared.digit_options.DigitOptions.{DigitOptions}
-use Rattle.number_format.specs.declared.digit_options.TrailingZeros.{TrailingZeros}
-use Rattle.number_format.specs.declared.digit_options.TrailingZeros.TheVariants.{Auto, StripIfInteger}
-use Rattle.number_format.specs.declared.number_options.CurrencyUsage.{CurrencyUsage}
-use Rattle.number_format.specs.declared.number_options.CurrencyUsage.TheVariants.{Standard}
-use Rattle.number_format.specs.declared.precision.Minimum.{Minimum}
-use Rattle.number_format.specs.declared.precision.Minimum.TheVariants.{Chosen}
-use Rattle.number_format.specs.declared.precision.Precision.{Precision}
+use Rattle.number_format.specs.declared.digit_options.{DigitOptions.DigitOptions, TrailingZeros.TrailingZeros, TrailingZeros.TheVariants.{Auto, StripIfInteger}}
+use Rattle.number_format.specs.declared.number_options.{CurrencyUsage.CurrencyUsage, CurrencyUsage.TheVariants.{Standard}}
+use Rattle.number_format.specs.declared.precision.{Minimum.Minimum, Minimum.TheVariants.{Chosen}, Precision.Precision}
 use Rattle.number_format.specs.declared.precision.Precision.TheVariants as precision
-use Rattle.number_format.specs.declared.settings.RoundingPriority.{RoundingPriority}
-use Rattle.number_format.specs.declared.settings.RoundingPriority.TheVariants.{LessPrecision}
-use Rattle.number_format.specs.declared.skeleton.SkeletonError.{SkeletonError}
-use Rattle.number_format.specs.declared.skeleton.SkeletonError.TheVariants.{Unsupported}
-use Rattle.number_format.specs.declared.skeleton.choices.Choices.{Choices}
-use Rattle.number_format.specs.declared.skeleton.choices.ChosenNotation.{ChosenNotation}
-use Rattle.number_format.specs.declared.skeleton.choices.ChosenNotation.TheVariants.{Compact}
-use Rattle.number_format.specs.declared.skeleton.choices.ChosenPrecision.{ChosenPrecision}
+use Rattle.number_format.specs.declared.settings.{RoundingPriority.RoundingPriority, RoundingPriority.TheVariants.{LessPrecision}}
+use Rattle.number_format.specs.declared.skeleton.{SkeletonError.SkeletonError, SkeletonError.TheVariants.{Unsupported}}
+use Rattle.number_format.specs.declared.skeleton.choices.{Choices.Choices, ChosenNotation.ChosenNotation, ChosenNotation.TheVariants.{Compact}, ChosenPrecision.ChosenPrecision, Span.Span, TwoCounts.TwoCounts, ChosenUnit.ChosenUnit, ChosenUnit.TheVariants.{Currency}}
 use Rattle.number_format.specs.declared.skeleton.choices.ChosenPrecision.TheVariants as chosen
-use Rattle.number_format.specs.declared.skeleton.choices.Span.{Span}
-use Rattle.number_format.specs.declared.skeleton.choices.TwoCounts.{TwoCounts}
-use Rattle.number_format.specs.declared.skeleton.choices.ChosenUnit.{ChosenUnit}
-use Rattle.number_format.specs.declared.skeleton.choices.ChosenUnit.TheVariants.{Currency}
 use Rattle.number_format.specs.declared.skeleton.counts.Counts.{Counts}
 use Rattle.number_format.specs.declared.skeleton.decimal.SkeletonDecimal.{SkeletonDecimal}
 use Rattle.number_format.specs.DefaultDigits.{usage_digits}

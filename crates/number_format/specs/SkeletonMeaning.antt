@@ -8,24 +8,14 @@ use Rattle.fixed_decimal.specs.declared.variations.SignDisplay.{SignDisplay}
 use Rattle.fixed_decimal.specs.declared.variations.SignDisplay.TheVariants as sign
 use Rattle.locale_data.specs.declared.currency.CurrencySign.{CurrencySign}
 use Rattle.locale_data.specs.declared.currency.CurrencySign.TheVariants as currency_sign
-use Rattle.number_format.specs.declared.number_options.CurrencyDisplay.{CurrencyDisplay}
+use Rattle.number_format.specs.declared.number_options.{CurrencyDisplay.CurrencyDisplay, CurrencyUsage.CurrencyUsage, NumberNotation.NumberNotation, NumberNotation.TheVariants.{Standard, Scientific, Engineering, Compact}, NumberOptions.NumberOptions, NumberStyle.NumberStyle}
 use Rattle.number_format.specs.declared.number_options.CurrencyDisplay.TheVariants as display
-use Rattle.number_format.specs.declared.number_options.CurrencyUsage.{CurrencyUsage}
 use Rattle.number_format.specs.declared.number_options.CurrencyUsage.TheVariants as usage
-use Rattle.number_format.specs.declared.number_options.NumberNotation.{NumberNotation}
-use Rattle.number_format.specs.declared.number_options.NumberNotation.TheVariants.{Standard, Scientific, Engineering, Compact}
-use Rattle.number_format.specs.declared.number_options.NumberOptions.{NumberOptions}
-use Rattle.number_format.specs.declared.number_options.NumberStyle.{NumberStyle}
 use Rattle.number_format.specs.declared.number_options.NumberStyle.TheVariants as style
 use Rattle.number_format.specs.declared.skeleton.SkeletonError.{SkeletonError}
-use Rattle.number_format.specs.declared.skeleton.choices.Choices.{Choices}
-use Rattle.number_format.specs.declared.skeleton.choices.ChosenNotation.{ChosenNotation}
+use Rattle.number_format.specs.declared.skeleton.choices.{Choices.Choices, ChosenNotation.ChosenNotation, ChosenPrecision.ChosenPrecision, Exponent.Exponent, Span.Span, ChosenUnit.ChosenUnit}
 use Rattle.number_format.specs.declared.skeleton.choices.ChosenNotation.TheVariants as chosen
-use Rattle.number_format.specs.declared.skeleton.choices.ChosenPrecision.{ChosenPrecision}
 use Rattle.number_format.specs.declared.skeleton.choices.ChosenPrecision.TheVariants as precision
-use Rattle.number_format.specs.declared.skeleton.choices.Exponent.{Exponent}
-use Rattle.number_format.specs.declared.skeleton.choices.Span.{Span}
-use Rattle.number_format.specs.declared.skeleton.choices.ChosenUnit.{ChosenUnit}
 use Rattle.number_format.specs.declared.skeleton.choices.ChosenUnit.TheVariants as unit
 use Rattle.number_format.specs.declared.skeleton.decimal.SkeletonDecimal.{SkeletonDecimal}
 use Rattle.number_format.specs.SkeletonDigits.{unsupported, is_compact, DigitsValue, digits_value, digits_of}

@@ -10,19 +10,16 @@ use Rattle.number_format.specs.declared.number_options.ExponentSign.{ExponentSig
 use Rattle.number_format.specs.declared.number_options.ExponentSign.TheVariants as sign
 use Rattle.number_format.specs.declared.precision.Minimum.{Minimum}
 use Rattle.number_format.specs.declared.precision.Minimum.TheVariants as minimum
-use Rattle.number_format.specs.declared.settings.RoundingPriority.{RoundingPriority}
-use Rattle.number_format.specs.declared.settings.RoundingPriority.TheVariants.{MorePrecision, LessPrecision}
-use Rattle.number_format.specs.declared.skeleton.choices.Choice.{Choice}
+use Rattle.number_format.specs.declared.settings.{RoundingPriority.RoundingPriority, RoundingPriority.TheVariants.{MorePrecision, LessPrecision}}
+use Rattle.number_format.specs.declared.skeleton.choices.{Choice.Choice, Exponent.Exponent}
 use Rattle.number_format.specs.declared.skeleton.choices.Choice.TheVariants as choice
 use Rattle.number_format.specs.declared.skeleton.choices.ChosenNotation.TheVariants as notation
 use Rattle.number_format.specs.declared.skeleton.choices.ChosenPrecision.TheVariants as precision
-use Rattle.number_format.specs.declared.skeleton.choices.Exponent.{Exponent}
 use Rattle.number_format.specs.declared.skeleton.choices.ChosenUnit.TheVariants as unit
 use Rattle.number_format.specs.declared.skeleton.counts.Counts.{Counts}
 use Rattle.number_format.specs.declared.skeleton.options.TheConstants.{ALGORITHMIC}
-use Rattle.number_format.specs.declared.skeleton.stems.Expected.{Expected}
+use Rattle.number_format.specs.declared.skeleton.stems.{Expected.Expected, Meaning.Meaning}
 use Rattle.number_format.specs.declared.skeleton.stems.Expected.TheVariants as expected
-use Rattle.number_format.specs.declared.skeleton.stems.Meaning.{Meaning}
 use Rattle.number_format.specs.SkeletonCounts.{run, is_byte, is_wild}
 use Rattle.number_format.specs.SkeletonDecimals.{decimal}
 use Rattle.number_format.specs.SkeletonStems.{is_name, named}

@@ -1,10 +1,8 @@
 -- Skeletons: pieces between slashes and white space, of which each is a stem or an option of the last stem.
 use Rattle.std.specs.Prelude.{ℕ, ◌+◌, ◌-◌, ◌==◌, nat_lt, nat_le, Bool, true, false, ◌||◌, ◌&&◌, not, if◌then◌else◌, List, [], ◌∷◌, ◌++◌, length, take, slice_index, Option, Some, None, Result, Ok, Err}
 use Rattle.std.specs.Option.{option_and_then, option_map}
-use Rattle.number_format.specs.declared.skeleton.SkeletonError.{SkeletonError}
-use Rattle.number_format.specs.declared.skeleton.SkeletonError.TheVariants.{Syntax}
-use Rattle.number_format.specs.declared.skeleton.choices.Choices.{Choices}
-use Rattle.number_format.specs.declared.skeleton.choices.Span.{Span}
+use Rattle.number_format.specs.declared.skeleton.{SkeletonError.SkeletonError, SkeletonError.TheVariants.{Syntax}}
+use Rattle.number_format.specs.declared.skeleton.choices.{Choices.Choices, Span.Span}
 use Rattle.number_format.specs.declared.skeleton.reading.Reading.{Reading}
 use Rattle.number_format.specs.declared.skeleton.stems.Expected.{Expected}
 use Rattle.number_format.specs.declared.skeleton.stems.Expected.TheVariants as expected

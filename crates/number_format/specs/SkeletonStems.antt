@@ -6,8 +6,7 @@ use Rattle.number_format.specs.declared.number_options.ExponentSign.{ExponentSig
 use Rattle.number_format.specs.declared.number_options.ExponentSign.TheVariants as sign
 use Rattle.number_format.specs.declared.skeleton.choices.Choice.TheVariants as choice
 use Rattle.number_format.specs.declared.skeleton.choices.ChosenNotation.TheVariants as notation
-use Rattle.number_format.specs.declared.skeleton.choices.ChosenPrecision.{ChosenPrecision}
-use Rattle.number_format.specs.declared.skeleton.choices.ChosenPrecision.TheVariants.{Unlimited, Fraction, Significant}
+use Rattle.number_format.specs.declared.skeleton.choices.{ChosenPrecision.ChosenPrecision, ChosenPrecision.TheVariants.{Unlimited, Fraction, Significant}}
 use Rattle.number_format.specs.declared.skeleton.counts.Counts.{Counts}
 use Rattle.number_format.specs.declared.skeleton.stems.Expected.TheVariants as expected
 use Rattle.number_format.specs.declared.skeleton.stems.Meaning.{Meaning}

@@ -1,5 +1,5 @@
 -- The shortest skeletons: of each group of options the text of its stem, with a space after it.
-use Rattle.std.specs.Prelude.{◌≡◌, ℕ, ◌+◌, ◌-◌, ◌/◌, ◌%◌, ◌==◌, ◌≤◌, nat_lt, Bool, true, false, ◌||◌, ◌&&◌, not, if◌then◌else◌, ℤ, pos, negsuc, List, [], ◌∷◌, ◌++◌, length, take, drop, map, filter, replicate, codes, Option, Some, None, Ok}
+use Rattle.std.specs.Prelude.{◌≡◌, ℕ, ◌+◌, ◌-◌, ◌/◌, ◌%◌, ◌==◌, ◌≤◌, nat_lt, Bool, true, false, ◌||◌, ◌&&◌, not, if◌then◌else◌, ℤ, pos, negsuc, List, [], ◌∷◌, ◌++◌, length, take, drop, map, filter, replicate, codes, String, string_bytes, Option, Some, None, Result, Ok, OnOk}
 use Rattle.std.specs.Ordering.{int_eq}
 use Rattle.decimal_digits.specs.declared.rounding.UnsignedRoundingMode.TheVariants as unsigned
 use Rattle.decimal_format.specs.declared.grouping.GroupingStrategy.{GroupingStrategy}
@@ -11,18 +11,12 @@ use Rattle.fixed_decimal.specs.declared.variations.SignDisplay.TheVariants as di
 use Rattle.locale_data.specs.Currencies.{currency_with, digits_of as listed_digits}
 use Rattle.locale_data.specs.declared.currency.CurrencySign.{CurrencySign}
 use Rattle.locale_data.specs.declared.currency.CurrencySign.TheVariants as currency_sign
-use Rattle.number_format.specs.declared.number_options.CompactLength.TheVariants.{Short, Long}
-use Rattle.number_format.specs.declared.number_options.CurrencyDisplay.{CurrencyDisplay}
+use Rattle.number_format.specs.declared.number_options.{CompactLength.TheVariants.{Short, Long}, CurrencyDisplay.CurrencyDisplay, ExponentSign.ExponentSign, NumberNotation.NumberNotation, NumberNotation.TheVariants.{Standard, Scientific, Engineering, Compact}, NumberStyle.NumberStyle, CurrencyUsage.CurrencyUsage}
 use Rattle.number_format.specs.declared.number_options.CurrencyDisplay.TheVariants as width
-use Rattle.number_format.specs.declared.number_options.ExponentSign.{ExponentSign}
 use Rattle.number_format.specs.declared.number_options.ExponentSign.TheVariants as exponent
-use Rattle.number_format.specs.declared.number_options.NumberNotation.{NumberNotation}
-use Rattle.number_format.specs.declared.number_options.NumberNotation.TheVariants.{Standard, Scientific, Engineering, Compact}
-use Rattle.number_format.specs.declared.number_options.NumberStyle.{NumberStyle}
 use Rattle.number_format.specs.declared.number_options.NumberStyle.TheVariants as style
 use Rattle.number_format.specs.declared.digit_options.TrailingZeros.{TrailingZeros}
 use Rattle.number_format.specs.declared.digit_options.TrailingZeros.TheVariants as zeros
-use Rattle.number_format.specs.declared.number_options.CurrencyUsage.{CurrencyUsage}
 use Rattle.number_format.specs.declared.number_options.CurrencyUsage.TheVariants as usage
 use Rattle.number_format.specs.declared.precision.Minimum.TheVariants.{Chosen, Both}
 use Rattle.number_format.specs.DefaultDigits.{is_compact}
@@ -30,6 +24,10 @@ use Rattle.number_format.specs.SkeletonCounts.{run}
 use Rattle.number_format.specs.SkeletonDigits.{PrecisionValue, Fraction, Multiples, Significant, More, Less, DigitsValue}
 use Rattle.number_format.specs.SkeletonMeaning.{OptionsValue, skeleton_options}
 use Rattle.number_format.specs.SkeletonStems.{is_name}
+
+-- these bytes are appended to a text, unless memory is out
+abbrev pub Appends : {Z T E : Type 0} → Result T E → String Z → String Z → List ℕ → Type 0
+Appends result old new bytes = OnOk result (string_bytes new ≡ string_bytes old ++ bytes)
 
 -- ---- Numbers.
 abbrev pub digit_bytes : List ℕ → List ℕ

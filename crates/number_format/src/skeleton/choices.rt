@@ -153,74 +153,32 @@ impl Choices {
     pub(crate) fn with(self, choice: Choice, stem: Span) -> Self
         ensures { result ≡ with stem choice self }
     {
+        let mut all = self;
         match choice {
-            Choice::Nothing => self,
-            Choice::Notation(notation) => Choices {
-                notation: Some((notation, stem)),
-                ..self
-            },
-            Choice::Unit(unit) => Choices {
-                unit: Some((unit, stem)),
-                ..self
-            },
-            Choice::PercentTimes100 => Choices {
-                unit: Some((ChosenUnit::Percent, stem)),
-                scale: Some((SkeletonDecimal::hundred(), stem)),
-                ..self
-            },
-            Choice::UnitPerUnit => Choices {
-                unit: Some((ChosenUnit::Other, stem)),
-                per_unit: Some(stem),
-                ..self
-            },
-            Choice::PerUnit => Choices {
-                per_unit: Some(stem),
-                ..self
-            },
-            Choice::Usage => Choices {
-                usage: Some(stem),
-                ..self
-            },
-            Choice::Precision(precision) => Choices {
-                precision: Some((precision, stem)),
-                ..self
-            },
-            Choice::StripIfInteger => Choices {
-                strips_if_integer: true,
-                ..self
-            },
-            Choice::Mode(mode) => Choices {
-                mode: Some((mode, stem)),
-                ..self
-            },
-            Choice::Grouping(grouping) => Choices {
-                grouping: Some((grouping, stem)),
-                ..self
-            },
-            Choice::Integer(counts) => Choices {
-                integer: Some((counts, stem)),
-                ..self
-            },
-            Choice::System(system) => Choices {
-                system: Some((system, stem)),
-                ..self
-            },
-            Choice::Width(width) => Choices {
-                width: Some((width, stem)),
-                ..self
-            },
-            Choice::Sign(display, sign) => Choices {
-                sign: Some((display, sign)),
-                ..self
-            },
-            Choice::IsDecimalAlways(always) => Choices {
-                decimal: Some((always, stem)),
-                ..self
-            },
-            Choice::Scale(scale) => Choices {
-                scale: Some((scale, stem)),
-                ..self
-            },
+            Choice::Nothing => {}
+            Choice::Notation(notation) => all.notation = Some((notation, stem)),
+            Choice::Unit(unit) => all.unit = Some((unit, stem)),
+            Choice::PercentTimes100 => {
+                all.unit = Some((ChosenUnit::Percent, stem));
+                all.scale = Some((SkeletonDecimal::hundred(), stem));
+            }
+            Choice::UnitPerUnit => {
+                all.unit = Some((ChosenUnit::Other, stem));
+                all.per_unit = Some(stem);
+            }
+            Choice::PerUnit => all.per_unit = Some(stem),
+            Choice::Usage => all.usage = Some(stem),
+            Choice::Precision(precision) => all.precision = Some((precision, stem)),
+            Choice::StripIfInteger => all.strips_if_integer = true,
+            Choice::Mode(mode) => all.mode = Some((mode, stem)),
+            Choice::Grouping(grouping) => all.grouping = Some((grouping, stem)),
+            Choice::Integer(counts) => all.integer = Some((counts, stem)),
+            Choice::System(system) => all.system = Some((system, stem)),
+            Choice::Width(width) => all.width = Some((width, stem)),
+            Choice::Sign(display, sign) => all.sign = Some((display, sign)),
+            Choice::IsDecimalAlways(always) => all.decimal = Some((always, stem)),
+            Choice::Scale(scale) => all.scale = Some((scale, stem)),
         }
+        all
     }
 }

@@ -29,29 +29,18 @@ impl Significand {
         ensures { result ≡ with_byte self byte }
     {
         let digit = byte.saturating_sub(b'0') as u16;
-        if byte == b'.' {
-            self
+        let (digits, zeros) = if byte == b'.' {
+            (self.digits, self.zeros)
         } else if byte == b'0' {
-            Significand {
-                digits: self.digits,
-                zeros: self.zeros + 1,
-            }
+            (self.digits, self.zeros + 1)
         } else if self.digits == 0 {
-            Significand {
-                digits: digit,
-                zeros: 0,
-            }
+            (digit, 0)
         } else if self.digits < 10 && self.zeros == 0 {
-            Significand {
-                digits: self.digits * 10 + digit,
-                zeros: 0,
-            }
+            (self.digits * 10 + digit, 0)
         } else {
-            Significand {
-                digits: 100,
-                zeros: 0,
-            }
-        }
+            (100, 0)
+        };
+        Significand { digits, zeros }
     }
 }
 

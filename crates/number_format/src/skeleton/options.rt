@@ -1,10 +1,10 @@
 //! The options of stems.
 ghost use Rattle.std.specs.Prelude.{◌≡◌};
-ghost use Rattle.number_format.specs.SkeletonOptions.{last, chosen_exponent_sign, sign_option, changed_exponent, exponent_option, is_code_byte, currency_option, integer_option, decimal_system, is_algorithmic, system_option, scale_option, increment_option, both, strip_option, significant_option, option};
+ghost use Rattle.number_format.specs.SkeletonOptions.{last, chosen_exponent_sign, sign_option, changed_exponent, exponent_option, is_code_byte, currency_option, integer_option, decimal_system, is_algorithmic, system_option, scale_option, increment_option, both, from_to, strip_option, significant_option, option};
 
 use crate::number_options::ExponentSign;
 use crate::precision::Minimum;
-use crate::settings::RoundingPriority;
+use crate::settings::RoundingPriority::{self, LessPrecision, MorePrecision};
 use crate::skeleton::choices::{
     Choice, ChosenNotation, ChosenPrecision, ChosenUnit, Exponent, TwoCounts,
 };
@@ -185,6 +185,15 @@ fn strip_option(text: &[u8]) -> Option<Meaning>
     last(Choice::StripIfInteger)
 }
 
+fn from_to(min: usize, max: usize) -> Counts
+    ensures { result ≡ from_to min max }
+{
+    Counts {
+        min,
+        max: Some(max),
+    }
+}
+
 fn significant_option(fraction: Counts, text: &[u8]) -> Option<Meaning>
     ensures { result ≡ significant_option fraction text.now }
 {
@@ -195,47 +204,21 @@ fn significant_option(fraction: Counts, text: &[u8]) -> Option<Meaning>
     if least == 0 {
         strip_option(text)
     } else if is_wild(rest) {
-        let significant = Counts {
-            min: 1,
-            max: Some(least),
-        };
-        both(
-            fraction,
-            significant,
-            RoundingPriority::MorePrecision,
-            Minimum::Both,
-        )
+        both(fraction, from_to(1, least), MorePrecision, Minimum::Both)
     } else if priority.is_empty() && least == 1 {
-        let significant = Counts {
-            min: 1,
-            max: Some(greatest),
-        };
-        both(
-            fraction,
-            significant,
-            RoundingPriority::LessPrecision,
-            Minimum::Both,
-        )
+        both(fraction, from_to(1, greatest), LessPrecision, Minimum::Both)
     } else if is_byte(priority, b'r') {
-        let significant = Counts {
-            min: least,
-            max: Some(greatest),
-        };
         both(
             fraction,
-            significant,
-            RoundingPriority::MorePrecision,
+            from_to(least, greatest),
+            MorePrecision,
             Minimum::Chosen,
         )
     } else if is_byte(priority, b's') {
-        let significant = Counts {
-            min: least,
-            max: Some(greatest),
-        };
         both(
             fraction,
-            significant,
-            RoundingPriority::LessPrecision,
+            from_to(least, greatest),
+            LessPrecision,
             Minimum::Chosen,
         )
     } else {

@@ -62,15 +62,6 @@ fn percent_style(
     }
 }
 
-fn scale_power(scale: SkeletonDecimal, stem: Span) -> Result<i16, SkeletonError>
-    ensures { result ≡ scale_power scale stem }
-{
-    if scale.is_negative || scale.digits != 1 || scale.power < -32768 || scale.power > 32767 {
-        return Err(unsupported(stem));
-    }
-    Ok(scale.power as i16)
-}
-
 fn fraction(counts: Counts, stem: Span) -> Result<FractionDigits, SkeletonError>
     ensures { MatchResult result (λ f. fraction_of counts stem ≡ Ok (f.min, f.max))
         (λ e. fraction_of counts stem ≡ Err e) }
@@ -263,10 +254,13 @@ impl Choices {
     fn power_of_ten(&self) -> Result<i16, SkeletonError>
         ensures { result ≡ scale_of self.now.scale }
     {
-        match self.scale {
-            Some((scale, stem)) => scale_power(scale, stem),
-            None => Ok(0),
+        let Some((scale, stem)) = self.scale else {
+            return Ok(0);
+        };
+        if scale.is_negative || scale.digits != 1 || scale.power < -32768 || scale.power > 32767 {
+            return Err(unsupported(stem));
         }
+        Ok(scale.power as i16)
     }
 
     fn rounding_mode(&self) -> Result<SignedRoundingMode, SkeletonError>
@@ -397,15 +391,6 @@ impl Choices {
         }
     }
 
-    fn trailing_zeros(&self) -> TrailingZeros
-        ensures { result ≡ trailing_zeros_of self.now.strips_if_integer }
-    {
-        if self.strips_if_integer {
-            return TrailingZeros::StripIfInteger;
-        }
-        TrailingZeros::Auto
-    }
-
     #[tactic(auto, unfolding(crate::specs::SkeletonDigits::digits_of))]
     fn digit_options(&self) -> Result<DigitOptions, SkeletonError>
         ensures { MatchResult result (λ d. digits_of self.now ≡ Ok (digits_value d)) (λ e. digits_of self.now ≡ Err e) }
@@ -414,7 +399,11 @@ impl Choices {
             integer: self.integer_digits()?,
             precision: self.number_precision()?,
             mode: self.rounding_mode()?,
-            trailing_zeros: self.trailing_zeros(),
+            trailing_zeros: if self.strips_if_integer {
+                TrailingZeros::StripIfInteger
+            } else {
+                TrailingZeros::Auto
+            },
         })
     }
 

@@ -5,7 +5,7 @@ ghost use Rattle.number_format.specs.SkeletonCounts.{run};
 ghost use Rattle.number_format.specs.ShownDigits.{increment_of};
 ghost use Rattle.number_format.specs.SkeletonDigits.{precision_value, digits_value};
 ghost use Rattle.number_format.specs.SkeletonMeaning.{options_value};
-ghost use Rattle.number_format.specs.SkeletonTexts.{decimal_length, is_default, is_cash, strips, style_sign, last_digits, decimal_text, power_text, thousands_text, whole_text, pointed_by, pointed_text, increment_text, least_digits_text, exponent_text, notation_text, width_text, scale_text, ascii, style_text, fraction_text, beside_text, range_text, significant_text, precision_text, strips_text, shown_precision_text, mode_text, integer_text, grouping_text, sign_text, system_text, digits_text, options_text};
+ghost use Rattle.number_format.specs.SkeletonTexts.{Appends, decimal_length, is_default, is_cash, strips, style_sign, last_digits, decimal_text, power_text, thousands_text, whole_text, pointed_by, pointed_text, increment_text, least_digits_text, exponent_text, notation_text, width_text, scale_text, ascii, style_text, fraction_text, beside_text, range_text, significant_text, precision_text, strips_text, shown_precision_text, mode_text, integer_text, grouping_text, sign_text, system_text, digits_text, options_text};
 ghost use Rattle.number_format.specs.declared.precision.Precision.TheVariants.{MorePrecision, LessPrecision};
 
 use crate::digit_options::{DigitOptions, TrailingZeros};
@@ -24,7 +24,7 @@ use std::alloc::AllocError;
 
 fn push_run(text: &mut String, character: char, count: u32) -> Result<(), AllocError>
     requires { character < 128 }
-    ensures { OnOk result (string_bytes text.new ≡ string_bytes text.old ++ replicate count character) }
+    ensures { Appends result text.old text.new (replicate count character) }
 {
     for _ in 0..count {
         text.push(character)?;
@@ -34,7 +34,7 @@ fn push_run(text: &mut String, character: char, count: u32) -> Result<(), AllocE
 
 /// Appends the bytes that are ASCII.
 fn push_ascii(text: &mut String, bytes: &[u8]) -> Result<(), AllocError>
-    ensures { OnOk result (string_bytes text.new ≡ string_bytes text.old ++ ascii bytes.now) }
+    ensures { Appends result text.old text.new (ascii bytes.now) }
 {
     for byte in bytes {
         if *byte < 128 {
@@ -46,7 +46,7 @@ fn push_ascii(text: &mut String, bytes: &[u8]) -> Result<(), AllocError>
 
 /// Appends `/*ee`, or nothing for one digit.
 fn push_least_digits(text: &mut String, digits: u16) -> Result<(), AllocError>
-    ensures { OnOk result (string_bytes text.new ≡ string_bytes text.old ++ least_digits_text digits) }
+    ensures { Appends result text.old text.new (least_digits_text digits) }
 {
     if digits <= 1 {
         return Ok(());
@@ -61,8 +61,7 @@ fn push_exponent(
     long: &str,
     exponent: ExponentOptions,
 ) -> Result<(), AllocError>
-    ensures { OnOk result (string_bytes text.new
-        ≡ string_bytes text.old ++ exponent_text short.now long.now exponent.digits exponent.sign) }
+    ensures { Appends result text.old text.new (exponent_text short.now long.now exponent.digits exponent.sign) }
 {
     match exponent.sign {
         ExponentSign::Never => {
@@ -85,7 +84,7 @@ fn push_exponent(
 }
 
 fn push_notation(text: &mut String, notation: NumberNotation) -> Result<(), AllocError>
-    ensures { OnOk result (string_bytes text.new ≡ string_bytes text.old ++ notation_text notation) }
+    ensures { Appends result text.old text.new (notation_text notation) }
 {
     match notation {
         NumberNotation::Standard => Ok(()),
@@ -97,7 +96,7 @@ fn push_notation(text: &mut String, notation: NumberNotation) -> Result<(), Allo
 }
 
 fn push_width(text: &mut String, display: CurrencyDisplay) -> Result<(), AllocError>
-    ensures { OnOk result (string_bytes text.new ≡ string_bytes text.old ++ width_text display) }
+    ensures { Appends result text.old text.new (width_text display) }
 {
     match display {
         CurrencyDisplay::Symbol => Ok(()),
@@ -108,8 +107,8 @@ fn push_width(text: &mut String, display: CurrencyDisplay) -> Result<(), AllocEr
 }
 
 fn push_currency(text: &mut String, currency: CurrencyStyle) -> Result<(), AllocError>
-    ensures { OnOk result (string_bytes text.new
-        ≡ string_bytes text.old ++ codes "currency/" ++ ascii currency.code ++ 32 ∷ width_text currency.display) }
+    ensures { Appends result text.old text.new
+        (codes "currency/" ++ ascii currency.code ++ 32 ∷ width_text currency.display) }
 {
     text.push_str("currency/")?;
     push_ascii(text, &currency.code)?;
@@ -120,7 +119,7 @@ fn push_currency(text: &mut String, currency: CurrencyStyle) -> Result<(), Alloc
 /// Appends the last digits of a number, at most five.
 fn push_last_digits(text: &mut String, number: u16, count: usize) -> Result<(), AllocError>
     requires { count ≤ 5 }
-    ensures { OnOk result (string_bytes text.new ≡ string_bytes text.old ++ last_digits number count) }
+    ensures { Appends result text.old text.new (last_digits number count) }
 {
     let digits = [
         number / 10000,
@@ -150,13 +149,13 @@ fn decimal_length(number: u16) -> usize
 }
 
 fn push_number(text: &mut String, number: u16) -> Result<(), AllocError>
-    ensures { OnOk result (string_bytes text.new ≡ string_bytes text.old ++ decimal_text number) }
+    ensures { Appends result text.old text.new (decimal_text number) }
 {
     push_last_digits(text, number, decimal_length(number))
 }
 
 fn push_power(text: &mut String, power: i16) -> Result<(), AllocError>
-    ensures { OnOk result (string_bytes text.new ≡ string_bytes text.old ++ power_text power) }
+    ensures { Appends result text.old text.new (power_text power) }
 {
     match power {
         -2 => text.push_str(".01"),
@@ -176,7 +175,7 @@ fn push_power(text: &mut String, power: i16) -> Result<(), AllocError>
 }
 
 fn push_scale(text: &mut String, scale: i16) -> Result<(), AllocError>
-    ensures { OnOk result (string_bytes text.new ≡ string_bytes text.old ++ scale_text scale) }
+    ensures { Appends result text.old text.new (scale_text scale) }
 {
     if scale == 0 {
         return Ok(());
@@ -187,7 +186,7 @@ fn push_scale(text: &mut String, scale: i16) -> Result<(), AllocError>
 }
 
 fn push_style(text: &mut String, style: NumberStyle, scale: i16) -> Result<(), AllocError>
-    ensures { OnOk result (string_bytes text.new ≡ string_bytes text.old ++ style_text style scale) }
+    ensures { Appends result text.old text.new (style_text style scale) }
 {
     match style {
         NumberStyle::Decimal => {}
@@ -201,10 +200,7 @@ fn push_style(text: &mut String, style: NumberStyle, scale: i16) -> Result<(), A
 
 /// Appends `.00##` or `.00*`.
 fn push_fraction(text: &mut String, fraction: FractionDigits) -> Result<(), AllocError>
-    ensures { OnOk result (string_bytes text.new ≡ string_bytes text.old ++ fraction_text (
-      fraction.min,
-      fraction.max,
-    )) }
+    ensures { Appends result text.old text.new (fraction_text (fraction.min, fraction.max)) }
 {
     text.push('.')?;
     push_run(text, '0', fraction.min as u32)?;
@@ -216,7 +212,7 @@ fn push_fraction(text: &mut String, fraction: FractionDigits) -> Result<(), Allo
 
 /// Appends `.00##/` or `.00*/`.
 fn push_beside(text: &mut String, fraction: FractionDigits) -> Result<(), AllocError>
-    ensures { OnOk result (string_bytes text.new ≡ string_bytes text.old ++ beside_text (fraction.min, fraction.max)) }
+    ensures { Appends result text.old text.new (beside_text (fraction.min, fraction.max)) }
 {
     if fraction.min == 0 {
         text.push('.')?;
@@ -229,10 +225,7 @@ fn push_beside(text: &mut String, fraction: FractionDigits) -> Result<(), AllocE
 
 /// Appends `@@##`.
 fn push_range(text: &mut String, significant: SignificantDigits) -> Result<(), AllocError>
-    ensures { OnOk result (string_bytes text.new ≡ string_bytes text.old ++ range_text (
-      significant.min,
-      significant.max,
-    )) }
+    ensures { Appends result text.old text.new (range_text (significant.min, significant.max)) }
 {
     push_run(text, '@', significant.min)?;
     push_run(text, '#', significant.max - significant.min)
@@ -240,8 +233,7 @@ fn push_range(text: &mut String, significant: SignificantDigits) -> Result<(), A
 
 /// Appends `@@##` or `@@*`.
 fn push_significant(text: &mut String, significant: SignificantDigits) -> Result<(), AllocError>
-    ensures { OnOk result
-        (string_bytes text.new ≡ string_bytes text.old ++ significant_text (significant.min, significant.max)) }
+    ensures { Appends result text.old text.new (significant_text (significant.min, significant.max)) }
 {
     if significant.max == 65536 && significant.min < 65536 {
         push_run(text, '@', significant.min)?;
@@ -251,8 +243,7 @@ fn push_significant(text: &mut String, significant: SignificantDigits) -> Result
 }
 
 fn push_more_precision(text: &mut String, both: BothDigits) -> Result<(), AllocError>
-    ensures { OnOk result
-        (string_bytes text.new ≡ string_bytes text.old ++ precision_text (precision_value (MorePrecision both))) }
+    ensures { Appends result text.old text.new (precision_text (precision_value (MorePrecision both))) }
 {
     push_beside(text, both.fraction)?;
     match both.minimum {
@@ -268,8 +259,7 @@ fn push_more_precision(text: &mut String, both: BothDigits) -> Result<(), AllocE
 }
 
 fn push_less_precision(text: &mut String, both: BothDigits) -> Result<(), AllocError>
-    ensures { OnOk result
-        (string_bytes text.new ≡ string_bytes text.old ++ precision_text (precision_value (LessPrecision both))) }
+    ensures { Appends result text.old text.new (precision_text (precision_value (LessPrecision both))) }
 {
     push_beside(text, both.fraction)?;
     push_range(text, both.significant)?;
@@ -300,7 +290,7 @@ pub(crate) fn increment_of(multiples: FractionMultiples) -> u16
 /// Appends an increment with an exponent: `5e3`, `5.e1` or `.5e1`.
 fn push_thousands(text: &mut String, digits: u16, increment: u16) -> Result<(), AllocError>
     requires few { increment ≤ 5000 }
-    ensures { OnOk result (string_bytes text.new ≡ string_bytes text.old ++ thousands_text digits increment) }
+    ensures { Appends result text.old text.new (thousands_text digits increment) }
 {
     match digits {
         0 => {
@@ -321,7 +311,7 @@ fn push_thousands(text: &mut String, digits: u16, increment: u16) -> Result<(), 
 
 /// Appends the integer digits of a number, of which 0 has none.
 fn push_whole(text: &mut String, number: u16) -> Result<(), AllocError>
-    ensures { OnOk result (string_bytes text.new ≡ string_bytes text.old ++ whole_text number) }
+    ensures { Appends result text.old text.new (whole_text number) }
 {
     if number == 0 {
         return Ok(());
@@ -338,7 +328,7 @@ fn push_pointed_by(
 ) -> Result<(), AllocError>
     requires some { 0 < unit }
     requires few { places ≤ 5 }
-    ensures { OnOk result (string_bytes text.new ≡ string_bytes text.old ++ pointed_by unit places zeros increment) }
+    ensures { Appends result text.old text.new (pointed_by unit places zeros increment) }
 {
     push_whole(text, increment / unit)?;
     text.push('.')?;
@@ -349,7 +339,7 @@ fn push_pointed_by(
 /// Appends an increment with a decimal point: `2.50` or `.050`.
 fn push_pointed(text: &mut String, digits: u16, increment: u16) -> Result<(), AllocError>
     requires some { 0 < digits }
-    ensures { OnOk result (string_bytes text.new ≡ string_bytes text.old ++ pointed_text digits increment) }
+    ensures { Appends result text.old text.new (pointed_text digits increment) }
 {
     match digits {
         1 => push_pointed_by(text, 10, 1, 0, increment),
@@ -362,7 +352,7 @@ fn push_pointed(text: &mut String, digits: u16, increment: u16) -> Result<(), Al
 /// Appends an increment with a number of fraction digits.
 fn push_increment(text: &mut String, digits: u16, increment: u16) -> Result<(), AllocError>
     requires few { increment ≤ 5000 }
-    ensures { OnOk result (string_bytes text.new ≡ string_bytes text.old ++ increment_text digits increment) }
+    ensures { Appends result text.old text.new (increment_text digits increment) }
 {
     if increment % 1000 == 0 && (digits == 0 || digits == 2 || digits == 3) {
         return push_thousands(text, digits, increment);
@@ -388,8 +378,7 @@ fn push_multiples(text: &mut String, multiples: FractionMultiples) -> Result<(),
 }
 
 fn push_precision(text: &mut String, precision: Precision) -> Result<(), AllocError>
-    ensures { OnOk result (string_bytes text.new ≡ string_bytes text.old
-        ++ precision_text (precision_value precision)) }
+    ensures { Appends result text.old text.new (precision_text (precision_value precision)) }
 {
     match precision {
         Precision::Fraction(fraction) => push_fraction(text, fraction),
@@ -450,10 +439,8 @@ fn push_stripped(
     style: NumberStyle,
     digits: DigitOptions,
 ) -> Result<(), AllocError>
-    ensures { OnOk result (string_bytes text.new ≡ string_bytes text.old
-        ++ (if is_cash style then codes "precision-currency-cash" else precision_text (precision_value
-        digits.precision))
-        ++ strips_text (strips digits.trailing_zeros)) }
+    ensures { Appends result text.old text.new ((if is_cash style then codes "precision-currency-cash"
+        else precision_text (precision_value digits.precision)) ++ strips_text (strips digits.trailing_zeros)) }
 {
     if is_cash(style) {
         text.push_str("precision-currency-cash")?;
@@ -471,8 +458,8 @@ fn push_shown_precision(
     options: &NumberOptions,
     digits: DigitOptions,
 ) -> Result<(), AllocError>
-    ensures { OnOk result (string_bytes text.new ≡ string_bytes text.old
-        ++ shown_precision_text options.now.notation options.now.style (digits_value digits)) }
+    ensures { Appends result text.old text.new
+        (shown_precision_text options.now.notation options.now.style (digits_value digits)) }
 {
     let style = options.style;
     if !is_cash(style)
@@ -485,7 +472,7 @@ fn push_shown_precision(
 }
 
 fn push_mode(text: &mut String, mode: SignedRoundingMode) -> Result<(), AllocError>
-    ensures { OnOk result (string_bytes text.new ≡ string_bytes text.old ++ mode_text mode) }
+    ensures { Appends result text.old text.new (mode_text mode) }
 {
     match mode {
         SignedRoundingMode::Ceil => text.push_str("rounding-mode-ceiling "),
@@ -514,7 +501,7 @@ fn push_integer_width(text: &mut String, more: u16, least: u16) -> Result<(), Al
 }
 
 fn push_integer(text: &mut String, integer: IntegerDigits) -> Result<(), AllocError>
-    ensures { OnOk result (string_bytes text.new ≡ string_bytes text.old ++ integer_text (integer.min, integer.max)) }
+    ensures { Appends result text.old text.new (integer_text (integer.min, integer.max)) }
 {
     let (min, max) = (integer.min, integer.max);
     if max == 32768 {
@@ -532,7 +519,7 @@ fn push_grouping(
     is_compact: bool,
     grouping: GroupingStrategy,
 ) -> Result<(), AllocError>
-    ensures { OnOk result (string_bytes text.new ≡ string_bytes text.old ++ grouping_text is_compact grouping) }
+    ensures { Appends result text.old text.new (grouping_text is_compact grouping) }
 {
     match (is_compact, grouping) {
         (true, GroupingStrategy::Min2) => Ok(()),
@@ -554,7 +541,7 @@ fn style_sign(style: NumberStyle) -> CurrencySign
 }
 
 fn push_sign(text: &mut String, sign: CurrencySign, display: SignDisplay) -> Result<(), AllocError>
-    ensures { OnOk result (string_bytes text.new ≡ string_bytes text.old ++ sign_text sign display) }
+    ensures { Appends result text.old text.new (sign_text sign display) }
 {
     match (sign, display) {
         (CurrencySign::Standard, SignDisplay::Auto) => Ok(()),
@@ -580,7 +567,7 @@ fn push_named_system(text: &mut String, name: Name) -> Result<(), AllocError>
 }
 
 fn push_system(text: &mut String, system: Option<Name>) -> Result<(), AllocError>
-    ensures { OnOk result (string_bytes text.new ≡ string_bytes text.old ++ system_text system) }
+    ensures { Appends result text.old text.new (system_text system) }
 {
     let Some(name) = system else {
         return Ok(());
@@ -592,8 +579,8 @@ fn push_system(text: &mut String, system: Option<Name>) -> Result<(), AllocError
 }
 
 fn push_digits(text: &mut String, options: &NumberOptions) -> Result<(), AllocError>
-    ensures { OnOk result (string_bytes text.new ≡ string_bytes text.old
-        ++ digits_text options.now.notation options.now.style (option_map digits_value options.now.digits)) }
+    ensures { Appends result text.old text.new
+        (digits_text options.now.notation options.now.style (option_map digits_value options.now.digits)) }
 {
     let Some(digits) = options.digits else {
         return Ok(());
@@ -605,7 +592,7 @@ fn push_digits(text: &mut String, options: &NumberOptions) -> Result<(), AllocEr
 
 /// Appends the skeleton of options, with a space after it.
 pub(crate) fn push_skeleton(text: &mut String, options: &NumberOptions) -> Result<(), AllocError>
-    ensures { OnOk result (string_bytes text.new ≡ string_bytes text.old ++ options_text (options_value options.now)) }
+    ensures { Appends result text.old text.new (options_text (options_value options.now)) }
 {
     push_notation(text, options.notation)?;
     push_style(text, options.style, options.scale)?;
