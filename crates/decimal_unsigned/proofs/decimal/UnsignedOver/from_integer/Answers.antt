@@ -31,7 +31,8 @@ pub from_digits-requires : goal.from_digits-requires
 from_digits-requires g c = grind (arith, digits_are, digits_of-below, common_steps)
 
 pub returns-in_err-nonzero-clause-succeeds : goal.returns-in_err-nonzero-clause-succeeds
-returns-in_err-nonzero-clause-succeeds g c h = grind (arith, number_digits_of, whole_size, up_to_last, digits_are, common_steps)
+returns-in_err-nonzero-clause-succeeds g c h =
+    grind (arith, number_digits_of, whole_size, up_to_last, digits_are, common_steps)
 
 pub invariant_of-result : goal.invariant_of-result
 invariant_of-result g c =
@@ -41,4 +42,5 @@ invariant_of-result g c =
     (omega (arith, ints, clamps, ap length (digits_are g b), (up_to_last g b).few)))
 
 pub returns-clause-value : goal.returns-clause-value
-returns-clause-value g c = grind (arith, digits_are, number_digits_of, whole_value, up_to_last, ints, clamps, common_steps)
+returns-clause-value g c =
+    grind (arith, digits_are, number_digits_of, whole_value, up_to_last, ints, clamps, common_steps)

@@ -20,4 +20,5 @@ pub copy_text-requires-clause-zeros : goal.copy_text-requires-clause-zeros
 copy_text-requires-clause-zeros g c = zeros_first 64 c.min.result (omega (arith, c.min.ensures))
 
 pub loop-written-preserved : goal.loop-written-preserved
-loop-written-preserved g c = grind (arith, length-take, block_of, has_written_styled_of_eq, piece_taken, has_written_styled_append, common_steps)
+loop-written-preserved g c =
+    grind (arith, length-take, block_of, has_written_styled_of_eq, piece_taken, has_written_styled_append, common_steps)
