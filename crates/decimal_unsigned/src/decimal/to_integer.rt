@@ -50,7 +50,7 @@ fn leading_u64<D: DigitStore>(digits: &D, count: usize) -> u64
     number_of_bcd(front) * power_of_ten(count - 16) + rest
 }
 
-#[tactic(auto, using(crate::proofs::lemmas::from_bcd::WholeNumbers::to_u128), unfolding(decimal_digits::specs::Digits::number_at))]
+#[tactic(auto, using(crate::proofs::lemmas::from_bcd::WholeNumbers::to_u128))]
 fn leading_u128<D: DigitStore>(digits: &D, count: usize) -> u128
     requires { count ≤ 38 }
     ensures { result ≡ leading count (D.digits digits.now) }

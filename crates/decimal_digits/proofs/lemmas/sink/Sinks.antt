@@ -80,14 +80,3 @@ fresh_more has_failed count first now fresh h = grind (arith)
 pub fresh_some : {S : Type 0} (has_failed : S → Bool) (count : ℕ) (first now : S)
     → IsFresh has_failed count first now → 0 < count → has_failed first ≡ false
 fresh_some has_failed count first now fresh h = grind (arith)
-
--- a sink that had failed at first keeps its contents
-pub fresh_keeps : {S : Type 0} (has_failed : S → Bool) (contents : S → Option (List ℕ)) (count : ℕ) (first now new : S)
-    → IsFresh has_failed count first now → (has_failed now ≡ true → Keeps (contents now) (contents new))
-    → has_failed first ≡ true → Keeps (contents first) (contents new)
-fresh_keeps has_failed contents count first now new fresh stays h = grind (arith)
-
--- after at least one piece: a sink that had failed at first keeps its contents, vacuously
-pub fresh_ends : {S : Type 0} (has_failed : S → Bool) (contents : S → Option (List ℕ)) (count : ℕ) (first now : S)
-    → IsFresh has_failed count first now → 0 < count → has_failed first ≡ true → Keeps (contents first) (contents now)
-fresh_ends has_failed contents count first now fresh some h = grind (arith, fresh_some)

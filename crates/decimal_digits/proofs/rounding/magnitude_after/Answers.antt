@@ -1,5 +1,5 @@
 use Rattle.std.proofs.Common.{◌+◌, ◌*◌, ◌≤◌, length, ap, ◌∙◌, arith, rules, w16, negsuc, ◌≤ℤ◌}
-use Rattle.std.proofs.lemmas.{Int.{ints, to_z-of_z}, List.Elements.recursion_from_All}
+use Rattle.std.proofs.lemmas.{Grind.common_steps, Int.{ints, to_z-of_z}, List.Elements.recursion_from_All}
 use Rattle.std.specs.Int.RustNames.{FitsSigned}
 use Rattle.decimal_digits.proofs.lemmas.{ops.Offsets.offset_is, rounding.{NumberAt.number_at-none, SplitAtPosition.{represents, represents_none, number_up}}}
 use Rattle.decimal_digits.specs.Number.{offset, weight}
@@ -26,8 +26,4 @@ returns-else-len-eq0-clause-represents g c =
     c.requires.stripped (omega arith)))
 
 pub returns-else-len-eq0-clause-above : goal.returns-else-len-eq0-clause-above
-returns-else-len-eq0-clause-above g c some =
-    let fits = c.ranges.position in
-    let fits_m : FitsSigned w16 c.highest_of.result = search rules in
-    let at = simp to_z-of_z at c.highest_of.ensures in
-    simp to_z-of_z (omega (arith, ints, c.requires.fits, offset_is c.highest_of.result, offset_is c.args.position))
+returns-else-len-eq0-clause-above g c some = grind (arith, to_z-of_z, ints, offset_is, common_steps)

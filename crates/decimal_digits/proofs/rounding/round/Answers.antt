@@ -1,5 +1,5 @@
-use Rattle.std.proofs.Common.{◌≡◌, length, inl, inr, ap, ◌∙◌, arith, rules, w16}
-use Rattle.std.proofs.lemmas.{Bool.cases_lt, Int.{ints, to_z-of_z}}
+use Rattle.std.proofs.Common.{◌≡◌, length, ap, ◌∙◌, arith, rules, w16}
+use Rattle.std.proofs.lemmas.{Grind.common_steps, Bool.cases_lt, Int.{ints, to_z-of_z}}
 use Rattle.std.specs.Int.RustNames.{FitsSigned}
 use Rattle.decimal_digits.proofs.lemmas.{digits.DigitLists.ten_pos, ops.Offsets.offset_is, rounding.{NumberAt.number_of-none, Remainders.unit_pos, RoundingLaws.rounded_number-zero, SplitAtPosition.{rounded_split, represents_none, digit_rounding_fails}}}
 use Rattle.decimal_digits.specs.{Digits.number_of, Number.{offset, weight}, Remainders.leading, Rounding.{step_of, unit_at, rounded_number, DigitRoundingFails}}
@@ -15,14 +15,7 @@ returns-then-len-eq0-clause-ok g c =
     ∙ rounded_number-zero c.args.mode u (unit_pos c.args.increment c.args.position))
 
 pub round_leading-requires-clause-fits : goal.round_leading-requires-clause-fits
-round_leading-requires-clause-fits g c =
-    let p = c.ranges.position in
-    let within = simp to_z-of_z at c.split_at_position-keep.ensures.below_limit in
-    let max_places = simp to_z-of_z at c.max_places_above-max_places.ensures in
-    elim (cases_lt 0 c.split_at_position-keep.result.0) [
-      | inl some ↦ omega (arith, ints, within some, offset_is c.args.position)
-      | inr none ↦ omega arith
-    ]
+round_leading-requires-clause-fits g c = grind (arith, to_z-of_z, cases_lt, ints, offset_is, common_steps)
 
 pub returns-in_err-places-clause-fails_with : goal.returns-in_err-places-clause-fails_with
 returns-in_err-places-clause-fails_with g c =

@@ -1,5 +1,5 @@
 use Rattle.std.proofs.Common.{arith}
-use Rattle.std.proofs.lemmas.{Int.{ints, to_z-of_z}, List.Elements.recursion_from_All}
+use Rattle.std.proofs.lemmas.{Grind.common_steps, Int.{ints, to_z-of_z}, List.Elements.recursion_from_All}
 use Rattle.decimal_digits.proofs.lemmas.{ops.Offsets.offset_is, rounding.SplitAtPosition.{splits_above, splits_below}}
 use Rattle.decimal_digits.proofs.rounding.split_at_position.Goals as goal
 
@@ -12,10 +12,7 @@ returns-in-Some-clause-splits_as g c =
     c.remainder_after.ensures.remainder
 
 pub returns-in-Some-clause-below_limit : goal.returns-in-Some-clause-below_limit
-returns-in-Some-clause-below_limit g c some =
-    let m = c.ranges.magnitude in let p = c.ranges.position in
-    let places = simp to_z-of_z at c.in-Some.ensures.some in
-    omega (arith, ints, offset_is c.args.position)
+returns-in-Some-clause-below_limit g c some = grind (arith, to_z-of_z, ints, offset_is, common_steps)
 
 pub returns-in-None-clause-splits_as : goal.returns-in-None-clause-splits_as
 returns-in-None-clause-splits_as g c =

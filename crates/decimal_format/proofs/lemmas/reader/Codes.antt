@@ -1,26 +1,15 @@
 -- Codes of which none is a prefix of another one.
-use Rattle.std.proofs.Common.{◌≡◌, ◌≢◌, ℕ, ◌+◌, ◌<◌, ◌⊎◌, inl, inr, true, List, [], ◌∷◌, ◌++◌, length, get_or, take, nat_lt, refl, sym, ◌∙◌, ap, arith, rules, append_assoc, take-append-drop}
+use Rattle.std.proofs.Common.{◌≡◌, ◌≢◌, ℕ, ◌<◌, ◌⊎◌, inl, inr, true, List, [], ◌∷◌, ◌++◌, nat_lt, refl, sym, ◌∙◌, ap, arith, rules}
 use Rattle.std.specs.Prelude.{Option, MatchOption}
-use Rattle.std.proofs.lemmas.List.{append_cancel_left, take_more}
+use Rattle.std.proofs.lemmas.List.{append_cancel_left}
 use Rattle.decimal_format.specs.Symbols.{Symbols, digit_text}
 use Rattle.decimal_format.specs.Readable.{BeginsWith, code, IsReadable}
-use Rattle.decimal_format.proofs.lemmas.symbols.Rules.{steps}
 
 -- of two prefixes of one text, one is a prefix of the other
 pub meet : (a b r t : List ℕ) → a ++ r ≡ b ++ t → BeginsWith b a ⊎ BeginsWith a b
 meet [] b r t e = inl (b, refl)
 meet (x ∷ a) [] r t e = inr (x ∷ a, refl)
 meet (x ∷ a) (y ∷ b) r t e = grind (arith, meet a b r t)
-
--- a code that was cut up to one of its bytes
-module _ (text code rest : List ℕ) (i : ℕ) (inside : i < length code) (cut : text ≡ take i code ++ rest) where
-  -- its next byte follows
-  pub cut_more : (after : List ℕ) → rest ≡ get_or code i 0 ∷ after → text ≡ take (i + 1) code ++ after
-  cut_more after e = grind (steps, append_assoc, take_more)
-
-  -- another byte follows
-  pub cut_fails : ((after : List ℕ) → rest ≢ get_or code i 0 ∷ after) → (r : List ℕ) → text ≢ code ++ r
-  cut_fails other r e = grind (steps, append_assoc, take_more, take-append-drop, append_cancel_left)
 
 -- a fact for each case follows from another
 pub match_weaker : {A : Type 0} (o : Option A) (P Q : Type 0) (R S : A → Type 0) → (P → Q) → ((x : A) → R x → S x)

@@ -2,7 +2,7 @@
 use Rattle.std.proofs.Common.{◌≡◌, ◌≢◌, ℕ, ◌+◌, ◌-◌, ◌<◌, ◌≤◌, List, [], ◌∷◌, ◌++◌, length, get_or, take, drop, sym, ◌∙◌, ap, arith, append-nil, length-append, length-drop, drop-cons, take-append-drop}
 use Rattle.std.specs.List.{flat_map}
 use Rattle.std.specs.Str.{chars}
-use Rattle.std.proofs.Math.Seq.{drop-nil, drop-append-add, drop-append_seam}
+use Rattle.std.proofs.Math.Seq.{drop-append-add, drop-append_seam}
 use Rattle.std.proofs.Math.ListN.{get_or-append}
 use Rattle.std.proofs.lemmas.List.{drop-drop, nil_from_length}
 use Rattle.std.proofs.lemmas.List.Concat.{flat_map-cons}
@@ -14,12 +14,6 @@ use Rattle.decimal_format.proofs.lemmas.symbols.Rules.{steps}
 -- what follows one element more
 pub drop_next : (n : ℕ) (all : List ℕ) (x : ℕ) (after : List ℕ) → drop n all ≡ x ∷ after → drop (n + 1) all ≡ after
 drop_next n all x after e = sym (drop-drop 1 n all) ∙ ap (drop 1) e
-
--- nothing follows more elements
-pub drop_end : (n m : ℕ) (all : List ℕ) → drop n all ≡ [] → n ≤ m → drop m all ≡ []
-drop_end n m all e h =
-    let k : m ≡ n + (m - n) = omega (arith, h) in
-    ap (λ x. drop x all) k ∙ sym (drop-drop (m - n) n all) ∙ ap (drop (m - n)) e ∙ drop-nil (m - n)
 
 -- ---- The end.
 module _ (front : ℕ) (text code : List ℕ) (size : length text ≡ front + length code) where

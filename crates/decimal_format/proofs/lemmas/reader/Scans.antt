@@ -112,9 +112,6 @@ module _ (s : Symbols) (readable : IsReadable s) (rest : List ℕ) where
         → ReadsSpelled s most rest n k ds
     spelled_most most few ends = search (rules, arith)
 
-pub spelled_start : (s : Symbols) (bytes ds : List ℕ) → IsSpelled s bytes ds → ReadsSpelled s 0 bytes 0 0 ds
-spelled_start s bytes ds spelled = grind (arith, last_none)
-
 -- where no fewer digits were to be read, all were
 pub spelled_all : {s : Symbols} {most n k : ℕ} {rest ds : List ℕ} → ReadsSpelled s most rest n k ds → length ds ≤ most
     → HasBcd n k ds
@@ -165,11 +162,6 @@ run_push {s = s} {bytes = bytes} {rest = rest} {n = n} {k = k} after d below e r
       text = text_append s bytes read.digits rest (d ∷ []) after read.text (e ∙ sym one);
       ends = λ few. absurd (omega (arith, few));
     }
-
--- no more digits were to be read, or none follows
-pub run_most : {s : Symbols} {most : ℕ} {bytes rest : List ℕ} {n k : ℕ} → ReadsRun s k bytes rest n k → k ≤ most
-    → (k < most → (d : ℕ) (r : List ℕ) → d < 10 → rest ≢ digit_text s d ++ r) → ReadsRun s most bytes rest n k
-run_most read few ends = grind arith
 
 -- ---- Chosen magnitudes.
 -- the same choice, but for one magnitude

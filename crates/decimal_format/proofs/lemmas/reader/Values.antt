@@ -56,9 +56,6 @@ no_digits : (n : ℕ) → number_at (n + 32768) [] ≡ 0
 unfolding number_at
 no_digits n = omega arith
 
-pub zero_in_limits : (n : ℕ) → n ≤ 32768 → leaves_limits zero_value (pos (n - 1)) ≡ false
-zero_in_limits n few = grind (arith, ints, nat_tests)
-
 pub zero_moved : (n : ℕ) → multiplied zero_value (pos (n - 1)) ≡ value_of_first n []
 zero_moved n = grind (arith, ints, clamps, no_digits)
 
@@ -216,10 +213,6 @@ pub record IsAppended (s : Symbols) (whole written done : ℕ) (rest : List ℕ)
   pub holds : HoldsDigits whole (written + done) v (ds ++ first)
 
 module _ {s : Symbols} {whole written : ℕ} {ds es : List ℕ} where
-  pub appended_none : {rest : List ℕ} {v : Unsigned} → HoldsDigits whole written v ds → IsSpelled s rest es
-      → IsAppended s whole written 0 rest v ds es
-  appended_none {v = v} holds spelled = grind (arith, append-nil)
-
   module _ {done : ℕ} {rest : List ℕ} {v : Unsigned} (so_far : IsAppended s whole written done rest v ds es) where
     pub appended_all : length es ≤ done → v ≡ value_of_first whole (ds ++ es)
     appended_all h = grind (arith, nil_from_length, length-append, append-nil)

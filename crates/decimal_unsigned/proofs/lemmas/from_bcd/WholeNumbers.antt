@@ -3,7 +3,7 @@ use Rattle.std.proofs.Common.{w16, to_z, of_z, zero, suc, ◌≡◌, ℕ, ◌+�
 use Rattle.std.proofs.Math.Nat.{mul-mod_left, pow-le-pow_right, mul-div_cancel}
 use Rattle.std.proofs.lemmas.{Bool.Decides.nat_tests, Int.ints, Int.Digits.number_more as number_more_digits, List.{length-take-le, take_all, get_or-drop}, List.Elements.recursion_from_All, Nat.pow-add}
 use Rattle.std.specs.Int.Digits.{number_from_digits, AllBelowBase}
-use Rattle.decimal_digits.proofs.lemmas.{digits.{DigitLists.{ten_pos, below_take, number_back, number-div}, LeadingBytes.{below_sixteen, get_or-padded, hex_pow, sixteen, sixteen_are, sixteen_digits}, Rules.steps}, ops.Offsets.offset_is, rounding.{Ends.no_more_zeros, Leading.{leading_none, leading_more}, NumberAt.{number_at-more, number_at-lt, number_at-ge}}}
+use Rattle.decimal_digits.proofs.lemmas.{digits.{DigitLists.{ten_pos, below_take, number_back, number-div}, LeadingBytes.{below_sixteen, get_or-padded, hex_pow, sixteen, sixteen_are, sixteen_digits}, Rules.steps}, ops.Offsets.offset_is, rounding.{Ends.no_more_zeros, Leading.{leading_none, leading_more}, NumberAt.{number_at-none, number_at-more, number_at-lt, number_at-ge}}}
 use Rattle.decimal_digits.specs.{Digits.{number_of, number_at}, Nibbles.bcd_number, Number.{offset, weight}, Remainders.leading}
 use Rattle.decimal_unsigned.proofs.lemmas.decimal.Values.{told, magnitude_kept}
 use Rattle.decimal_unsigned.specs.{Stored.IsStored, ToInteger.{in_range, as_integer}, Unsigned.{Unsigned, IsValue}, declared.error.IntegerError.IntegerError, declared.error.IntegerError.TheVariants.{NotWhole, OutOfRange}}
@@ -170,4 +170,4 @@ module _ (ds : List ℕ) (h : All (λ d. d < 10) ds) where
       (same, rw same (few_digits count 19 ds h few))
 
 -- the lemmas for converting the leading digits to an integer
-pub ruleset to_u128 = (leading_next, leading_u128)
+pub ruleset to_u128 = (leading_next, leading_u128, number_at-none)

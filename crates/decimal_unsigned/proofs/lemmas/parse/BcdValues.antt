@@ -1,7 +1,7 @@
 -- Plain texts: their digits as a number in base 16, and the value of their parts.
-use Rattle.std.proofs.Common.{◌≡◌, ℕ, suc, ◌+◌, ◌-◌, ◌*◌, ◌/◌, ◌%◌, ◌^◌, ◌<◌, ◌≤◌, inl, inr, true, false, List, [], ◌∷◌, ◌++◌, length, get_or, take, drop, map, refl, sym, ◌∙◌, ap, subst, arith, Some, None, option_map, Result, Ok, pos, ◌-ℤ◌, append-nil, replicate, ℤ, rules, IsOkAnd}
+use Rattle.std.proofs.Common.{◌≡◌, ℕ, suc, ◌+◌, ◌-◌, ◌*◌, ◌/◌, ◌%◌, ◌^◌, ◌<◌, ◌≤◌, inl, inr, true, List, [], ◌∷◌, ◌++◌, length, get_or, take, drop, map, refl, sym, ◌∙◌, ap, subst, arith, Some, None, option_map, Result, Ok, pos, ◌-ℤ◌, append-nil, replicate, ℤ, rules, IsOkAnd}
 use Rattle.std.proofs.{Math.ListN.get_or-eq_default, Math.Nat.{mul-lt-mul_of_pos_right, pow-le-pow_right, pow-suc, mod-eq_of_lt, zero-div, one-le-pow, div-eq_of_lt-le, mod-add-mod}, Math.Seq.take-add}
-use Rattle.std.proofs.lemmas.{Bool.cases_lt, Bool.Decides.nat_tests, Int.ints, Int.Digits.{number_lt, digits_value_is, all_below_base_from_digits, number_more as number_more_digits}, List.{take_all, length-append, length-drop, length-take, length-take-le, length-map, drop-drop, drop_all, at_drop_more, take_more}, List.Sums.{prefix_len-le-length, prefix_len-drop_yes, prefix_len-drop_no, prefix_len-drop_all}, Nat.{pow-add, mod-mul-add, mul-mod_first, leading_top, leading_le}, Nat.Bits.{bit_at_above, bit_at-trailing_zeros}}
+use Rattle.std.proofs.lemmas.{Bool.cases_lt, Bool.Decides.nat_tests, Int.ints, Int.Digits.{number_lt, digits_value_is, all_below_base_from_digits, number_more as number_more_digits}, List.{take_all, length-append, length-drop, length-take, length-take-le, length-map, drop-drop, drop_all, at_drop_more, take_more}, List.Sums.{prefix_len-le-length, prefix_len-drop_yes}, Nat.{pow-add, mod-mul-add, mul-mod_first, leading_top, leading_le}, Nat.Bits.{bit_at_above, bit_at-trailing_zeros}}
 use Rattle.std.specs.{Char.{is_ascii_digit, digit_value}, Int.{int_min, Width, w64, bit_at, leading_zeros, trailing_zeros}, Int.Digits.{number_from_digits, AllBelowBase}, List.prefix_len, Str.Parse.{AllDigits, digits_value, digits_value_after}}
 use Rattle.decimal_digits.proofs.lemmas.{digits.{DigitLists.{number-div, below_at}, LeadingBytes.{below_sixteen, hex_pow, leading_bytes_encode}, Rules.steps, TrailingNibbles.{clear_nibble, some_nibble}, Words.zeros_of_digits}, ops.Offsets.offset_is}
 use Rattle.decimal_digits.specs.{Ascii.decimal_point, Digits.{number_of, number_at}, Nibbles.{digits_in, leading_bytes, word_nibbles}, Number.size, Packing.{Encodes, length-nibbles}}
@@ -40,15 +40,6 @@ module _ {p before : ℕ} {text : List ℕ} {i number : ℕ} (read : IsReadTo p 
         digits = count_group text i 8 (omega arith) (tests_digits.from bytes d) read.digits;
         value = continued (i + 8) (2 ^ 32) group bytes (take-add i 8 text) (ap (λ k. 16 ^ k) (sym eight)) e;
       }
-
-  -- a byte that is not a digit, and the end of the text
-  pub read_stop : i < length text → is_ascii_digit (get_or text i 0) ≡ false → i ≡ prefix_len is_ascii_digit text
-  read_stop h d = omega (arith, prefix_len-drop_no is_ascii_digit text i 0 h d, read.digits)
-
-  pub read_end : length text ≤ i → i ≤ length text
-      → (length text ≡ prefix_len is_ascii_digit text)
-      × (number ≡ digits_value_after 16 before (take (length text) text) % p)
-  read_end h l = grind (arith, prefix_len-drop_all)
 
 -- ---- The integer digits and the fraction digits.
 -- the number of the integer digits continued by the fraction digits is the number of both

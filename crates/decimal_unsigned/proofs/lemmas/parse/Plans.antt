@@ -79,12 +79,6 @@ pub digits_found : (text : List ℕ) (r : Option Parts) → views r ≡ option_m
 digits_found text None h = tt
 digits_found text (Some p) h = digits_some text (view p) h
 
--- if the code finds an exponent, it is saturated
-pub exponent_found : (text : List ℕ) (r : Option Parts) → views r ≡ option_map saturated_parts (parts_of text)
-    → IfSome r (λ p. IfSome p.exponent IsSaturated)
-exponent_found text None h = tt
-exponent_found text (Some p) h = grind (steps, saturated_some)
-
 -- ---- The value of the parts, by the digits that are kept.
 not_over : (a : ℤ) → a ≤ℤ pos 32767 → int_lt (pos 32767) a ≡ false
 not_over a h = grind (arith, ints, h)

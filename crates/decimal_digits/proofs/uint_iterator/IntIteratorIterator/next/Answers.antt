@@ -1,15 +1,10 @@
-use Rattle.std.proofs.Common.{length, sym, ◌∙◌, ap, rules}
+use Rattle.std.proofs.Common.{arith}
+use Rattle.std.proofs.lemmas.Grind.{common_steps}
 use Rattle.decimal_digits.proofs.lemmas.ops.Integers.{ascending_digits-step}
 use Rattle.decimal_digits.proofs.uint_iterator.IntIteratorIterator.next.Goals as goal
 
 pub returns-clause-steps : goal.returns-clause-steps
-returns-clause-steps g c =
-    let s = c.in_ok-digit.ensures.some in
-    sym c.self.view_is ∙ ascending_digits-step _ _ _ s.0 s.1 s.2
+returns-clause-steps g c = grind (arith, ascending_digits-step, common_steps)
 
 pub returns-clause-goes : goal.returns-clause-goes
-returns-clause-goes g c =
-    let s = c.in_ok-digit.ensures.some in
-    let e = sym c.self.view_is ∙ ascending_digits-step _ _ _ s.0 s.1 s.2 in
-    let l = ap length e in
-    search rules
+returns-clause-goes g c = grind (arith, ascending_digits-step, common_steps)

@@ -1,8 +1,7 @@
-use Rattle.std.proofs.Common.{sym, ◌∙◌, ap, subst}
-use Rattle.std.specs.Prelude.{IsFalse, Err}
-use Rattle.std.proofs.lemmas.Int.{to_z-of_z}
+use Rattle.std.proofs.Common.{arith, sym, ◌∙◌, ap}
+use Rattle.std.specs.Prelude.{Err}
+use Rattle.std.proofs.lemmas.{Grind.common_steps, Int.to_z-of_z}
 use Rattle.decimal_unsigned.specs.declared.error.ConcatenateError.TheVariants.{Overlap, Memory}
-use Rattle.decimal_unsigned.specs.Edits.{leaves_limits}
 use Rattle.fixed_decimal.proofs.Calling.{on_err}
 use Rattle.decimal_format.proofs.lemmas.reader.Values.{next_at, bcd_only, memory_for_integer, stays_in_limits, is_apart, joined_is, memory_for_sum}
 use Rattle.decimal_format.proofs.reader.value.append.Goals as goal
@@ -14,19 +13,10 @@ returns-in_err-next-clause-memory g c = on_err c.from_residual.result _ (λ ds e
     (λ few. let t = c.in_err-next.ensures.succeeds es (bcd_only bcd) few in let no : ⊥ = cc in no))
 
 pub returns-in-Err-clause-ok : goal.returns-in-Err-clause-ok
-returns-in-Err-clause-ok g c = λ ds es holds bcd.
-    let next = next_at c.requires c.last_magnitude-position.ensures c.last_magnitude-position.type_inv in
-    let fits = next.fits in
-    let f = simp to_z-of_z at c.in-Err.ensures.fits in
-    let t = f.1 (subst (λ v. IsFalse (leaves_limits v c.last_magnitude-position.result))
-    (sym (c.in_ok-next.ensures.value es (bcd_only bcd))) (stays_in_limits holds bcd next)) in
-    absurd (cc)
+returns-in-Err-clause-ok g c = grind (arith, next_at, to_z-of_z, bcd_only, stays_in_limits, common_steps)
 
 pub returns-in-Ok-clause-ok : goal.returns-in-Ok-clause-ok
-returns-in-Ok-clause-ok g c = λ ds es holds bcd.
-    let next = next_at c.requires c.last_magnitude-position.ensures c.last_magnitude-position.type_inv in
-    c.in-Ok.ensures.ok
-    ∙ joined_is holds bcd next _ _ (c.in_ok-next.ensures.value es (bcd_only bcd)) c.in_default.ensures.moved
+returns-in-Ok-clause-ok g c = grind (arith, next_at, joined_is, bcd_only, common_steps)
 
 pub returns-in-Err-Overlap-clause-ok : goal.returns-in-Err-Overlap-clause-ok
 returns-in-Err-Overlap-clause-ok g c = λ ds es holds bcd.

@@ -1,5 +1,5 @@
 use Rattle.std.proofs.Common.{◌≡◌, ◌+◌, ◌-◌, ◌<◌, w16, of_z, to_z, ℤ, ℕ, pos, ◌-ℤ◌, suc, ◌++◌, ◌∷◌, length, take, drop, refl, sym, ◌∙◌, ap, arith, append-nil}
-use Rattle.std.proofs.lemmas.List.{nil_from_length}
+use Rattle.std.proofs.lemmas.{Grind.common_steps, List.nil_from_length}
 use Rattle.decimal_unsigned.proofs.lemmas.{decimal.Values.narrow_kept, text.{Pieces.{zeros_front, zeros_after, zeros_rest, piece_above, piece_over, piece_below, fits_above, fits_after, fits_below}, Writing.bytes_are}}
 use Rattle.decimal_unsigned.specs.Text.{text}
 use lib.Signed.{mag}
@@ -34,9 +34,7 @@ returns-then-dot-from g c =
     c.if-dot-from.true c.requires.some c.requires.in_text)
 
 pub copy_digits-requires-2-clause-zeros : goal.copy_digits-requires-2-clause-zeros
-copy_digits-requires-2-clause-zeros g c =
-    rw c.split_at_mut-whole.ensures.front
-    (zeros_front c.args.buffer.now c.requires.zeros c.min-above.result (omega (arith, c.min-above.ensures)))
+copy_digits-requires-2-clause-zeros g c = grind (arith, zeros_front, common_steps)
 
 pub copy_digits-requires-2-clause-in_limits : goal.copy_digits-requires-2-clause-in_limits
 copy_digits-requires-2-clause-in_limits g c =
@@ -48,10 +46,7 @@ copy_digits-requires-2-clause-in_limits g c =
     (omega (arith, c.min-above.ensures)))
 
 pub copy_digits-requires-in-Some-clause-zeros : goal.copy_digits-requires-in-Some-clause-zeros
-copy_digits-requires-in-Some-clause-zeros g c =
-    let zeros = zeros_after c.args.buffer.now c.requires.zeros c.min-above.result in
-    let following = rw (← c.split_at_mut-whole.ensures.back) at zeros in
-    zeros_rest _ _ _ following c.in-Some.ensures.cases.0
+copy_digits-requires-in-Some-clause-zeros g c = grind (arith, zeros_after, zeros_rest, common_steps)
 
 pub copy_digits-requires-in-Some-clause-in_limits : goal.copy_digits-requires-in-Some-clause-in_limits
 copy_digits-requires-in-Some-clause-in_limits g c =

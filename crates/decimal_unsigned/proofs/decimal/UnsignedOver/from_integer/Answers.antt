@@ -1,5 +1,5 @@
-use Rattle.std.proofs.Common.{arith, refl, ap, w16, of_z, to_z, ◌≡◌, ◌-◌, ◌<◌, take, drop, length}
-use Rattle.std.proofs.lemmas.{Int.{ints, clamps}, Int.Digits.{length-digits_of-le, number_digits_of}, List.Elements.All-take}
+use Rattle.std.proofs.Common.{arith, ap, ◌≡◌, ◌-◌, take, drop, length}
+use Rattle.std.proofs.lemmas.{Grind.common_steps, Int.{ints, clamps}, Int.Digits.{length-digits_of-le, number_digits_of}}
 use Rattle.std.specs.Int.Digits.{digits_of}
 use Rattle.decimal_unsigned.proofs.{lemmas.from_bcd.Integers.{UpToLast, digits_at_end, digits_of-below, digits_of-front, whole_stored, whole_value, whole_size}, decimal.UnsignedOver.from_integer.Goals.After-trimmed_len}
 use Rattle.decimal_unsigned.proofs.decimal.UnsignedOver.from_integer.Goals as goal
@@ -28,17 +28,11 @@ up_to_last g c =
     }
 
 pub from_digits-requires : goal.from_digits-requires
-from_digits-requires g c =
-    let b = (goal.at.from_digits-requires g c).After-trimmed_len in
-    rw (digits_are g b) (All-take (λ d. d < 10) _ _ (digits_of-below (g.T.UnsignedInteger.number c.args.integer)))
+from_digits-requires g c = grind (arith, digits_are, digits_of-below, common_steps)
 
 pub returns-in_err-nonzero-clause-succeeds : goal.returns-in_err-nonzero-clause-succeeds
 returns-in_err-nonzero-clause-succeeds g c h =
-    let b = (goal.at.returns-in_err-nonzero-clause-succeeds g c).After-trimmed_len in
-    let size = rw (number_digits_of 10 (g.T.UnsignedInteger.number c.args.integer) (omega arith)) at
-    (whole_size (up_to_last g b) _ refl) in
-    let k = (rw (digits_are g b) at c.in_err-nonzero.ensures.succeeds) (rw size h) in
-    absurd (cc)
+    grind (arith, number_digits_of, whole_size, up_to_last, digits_are, common_steps)
 
 pub invariant_of-result : goal.invariant_of-result
 invariant_of-result g c =
@@ -49,8 +43,4 @@ invariant_of-result g c =
 
 pub returns-clause-value : goal.returns-clause-value
 returns-clause-value g c =
-    let b = (goal.at.returns-clause-value g c).After-trimmed_len in
-    rw (c.in_ok-nonzero.ensures.ok, digits_are g b)
-    (rw (number_digits_of 10 (g.T.UnsignedInteger.number c.args.integer) (omega arith)) at
-    (whole_value (up_to_last g b) (to_z w16 (of_z w16 c.at_least_zero-magnitude.result))
-    (omega (arith, ints, clamps, ap length (digits_are g b), (up_to_last g b).few))))
+    grind (arith, digits_are, number_digits_of, whole_value, up_to_last, ints, clamps, common_steps)

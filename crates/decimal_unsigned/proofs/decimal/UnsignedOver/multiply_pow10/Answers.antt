@@ -1,17 +1,11 @@
-use Rattle.std.proofs.Common.{◌≡◌, w16, to_z, of_z, refl, sym, ◌∙◌, ap, arith, inl, inr}
-use Rattle.std.proofs.lemmas.Int.{ints, clamps, to_z-of_z}
+use Rattle.std.proofs.Common.{◌≡◌, w16, to_z, of_z, refl, sym, ◌∙◌, ap, arith}
+use Rattle.std.proofs.lemmas.{Grind.common_steps, Int.{ints, clamps, to_z-of_z}}
 use Rattle.decimal_unsigned.proofs.{lemmas.{decimal.Values.{hi_kept, lo_kept, magnitude_kept, narrow_kept, wide_kept}, shift.Shifts.{Moves, moved, stays_in, multiplied_is, multiplied_pow10_is, multiplied_pow10_over}}, decimal.UnsignedOver.multiply_pow10.Goals.{then-len-eq0, else-len-eq0}}
-use Rattle.decimal_unsigned.specs.{Edits.{multiplied, leaves_limits, multiplied_pow10}, Unsigned.Unsigned}
+use Rattle.decimal_unsigned.specs.{Edits.{multiplied, multiplied_pow10}, Unsigned.Unsigned}
 use Rattle.decimal_unsigned.proofs.decimal.UnsignedOver.multiply_pow10.Goals as goal
 
 pub returns-in_default-clause-limit : goal.returns-in_default-clause-limit
-returns-in_default-clause-limit g c =
-    let t = c.self.invariant in
-    ap (λ (v : Unsigned). multiplied_pow10 v c.args.delta) (sym c.self.view_is)
-    ∙ multiplied_pow10_over _ c.args.delta t (elim c.in_default.ensures.none [
-      | inl h ↦ inl (omega (arith, ints, hi_kept t))
-      | inr h ↦ inr (omega (arith, ints, lo_kept t))
-    ])
+returns-in_default-clause-limit g c = grind (arith, multiplied_pow10_over, ints, hi_kept, lo_kept, common_steps)
 
 moves : (g : _) (c : goal.After-self-3-1 g)
     → Moves (g.D.DigitStore.digits c.self.inside.digits) c.self.inside.magnitude c.self.inside.hi c.self.inside.lo
@@ -47,14 +41,7 @@ returns-clause-ok g c =
     ∙ multiplied_pow10_is c.args.delta c.self.invariant (moves g c)
 
 pub returns-clause-fits : goal.returns-clause-fits
-returns-clause-fits g c =
-    let s = moves g c in
-    let range : Unsigned = record { number = 0; hi = c.self.inside.hi; lo = c.self.inside.lo } in (
-      λ ok.
-          ap (λ (v : Unsigned). leaves_limits v c.args.delta) (sym c.self.view_is)
-          ∙ stays_in range c.args.delta s.hi_fits s.lo_fits,
-      λ stays. refl,
-    )
+returns-clause-fits g c = grind (arith, moves, stays_in, common_steps)
 
 pub returns-clause-moved : goal.returns-clause-moved
 returns-clause-moved g c =

@@ -1,13 +1,11 @@
 use Rattle.std.proofs.Common.{sym, ◌∙◌, arith, rules}
-use Rattle.std.proofs.lemmas.Int.{ints}
+use Rattle.std.proofs.lemmas.{Grind.common_steps, Int.ints}
 use Rattle.decimal_digits.proofs.lemmas.ops.Offsets.{offset_is}
 use Rattle.decimal_unsigned.proofs.lemmas.decimal.Values.{last-number_of, last_of_none, magnitude_kept, narrow_kept, last_told}
 use Rattle.decimal_unsigned.proofs.decimal.UnsignedOver.nonzero_magnitude_end.Goals as goal
 
 pub magnitude_of-requires : goal.magnitude_of-requires
-magnitude_of-requires g c =
-    let t = c.self.invariant in
-    omega (arith, ints, c.len-len.ensures, t.hi_covers, t.lo_covers, t.fits, t.in_range, offset_is)
+magnitude_of-requires g c = grind (arith, ints, offset_is, common_steps)
 
 pub returns-then-len-eq0 : goal.returns-then-len-eq0
 returns-then-len-eq0 g c =

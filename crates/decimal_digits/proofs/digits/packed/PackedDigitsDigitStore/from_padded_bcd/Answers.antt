@@ -1,4 +1,5 @@
-use Rattle.std.proofs.Common.{◌∙◌}
+use Rattle.std.proofs.Common.{arith, ◌∙◌}
+use Rattle.std.proofs.lemmas.Grind.{common_steps}
 use Rattle.decimal_digits.proofs.lemmas.digits.Words.{leading_pads}
 use Rattle.decimal_digits.proofs.digits.packed.PackedDigitsDigitStore.from_padded_bcd.Goals as goal
 
@@ -8,6 +9,4 @@ invariant_of-result-clause-padded c =
     (leading_pads c.args.number c.args.len c.requires.packed c.requires.padded).padded
 
 pub returns-clause-ok : goal.returns-clause-ok
-returns-clause-ok c =
-    rw (c.from_buf-bytes.ensures.items ∙ c.to_be_bytes.ensures)
-    (leading_pads c.args.number c.args.len c.requires.packed c.requires.padded).digits
+returns-clause-ok c = grind (arith, leading_pads, common_steps)

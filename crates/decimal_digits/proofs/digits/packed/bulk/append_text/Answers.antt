@@ -1,11 +1,10 @@
 use Rattle.std.proofs.Common.{arith}
+use Rattle.std.proofs.lemmas.Grind.{common_steps}
 use Rattle.decimal_digits.proofs.lemmas.digits.Words.{join_text, zeros_after}
 use Rattle.decimal_digits.proofs.digits.packed.bulk.append_text.Goals as goal
 
 pub join_nibbles-word-requires-clause-zeros : goal.join_nibbles-word-requires-clause-zeros
-join_nibbles-word-requires-clause-zeros c =
-    zeros_after c.args.bytes.now.items c.args.len c.args.len c.front_word.result c.requires.padded (omega arith)
-    (omega arith) (rw c.as_slice.ensures at c.front_word.ensures)
+join_nibbles-word-requires-clause-zeros c = grind (arith, zeros_after, common_steps)
 
 pub returns-then-text-len-clause-encodes : goal.returns-then-text-len-clause-encodes
 returns-then-text-len-clause-encodes c =

@@ -1,14 +1,10 @@
 use Rattle.std.proofs.Common.{◌-◌, length, get_or, ap, arith}
-use Rattle.std.proofs.lemmas.Grind.{same_number_lists}
+use Rattle.std.proofs.lemmas.Grind.{common_steps, same_number_lists}
 use Rattle.decimal_digits.proofs.lemmas.digits.Nibbles.{nibble_rules}
 use Rattle.decimal_digits.proofs.digits.packed.bulk.write_text.Goals as goal
 
 pub returns-then-odd-eq0 : goal.returns-then-odd-eq0
-returns-then-odd-eq0 c =
-    let written = c.write_pairs.ensures in
-    let n = ap length written in
-    same_number_lists _ _ (grind (arith, nibble_rules))
-    (λ k h. grind (arith, nibble_rules, ap (λ l. get_or l k 0) written))
+returns-then-odd-eq0 c = grind (arith, same_number_lists, nibble_rules, common_steps)
 
 pub returns-then-not-is_empty : goal.returns-then-not-is_empty
 returns-then-not-is_empty c =

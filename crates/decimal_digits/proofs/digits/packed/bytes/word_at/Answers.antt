@@ -1,7 +1,7 @@
 use Rattle.std.proofs.Common.{◌≡◌, ◌+◌, ◌*◌, ◌/◌, drop, get_or, sym, ◌∙◌, ap, arith}
-use Rattle.std.proofs.lemmas.List.{drop_all, take_rest, get_or-drop, get_or-take}
+use Rattle.std.proofs.lemmas.{Grind.common_steps, List.{drop_all, take_rest, get_or-drop, get_or-take}}
 use Rattle.decimal_digits.proofs.lemmas.digits.{Nibbles.nibble_rules, Packing.digit_at, Words.{bcd_of_word, front_at, nibbles_drop}}
-use Rattle.decimal_digits.specs.{Nibbles.{digits_in, nibbles, bcd_number, padded}, Packing.{length_digits, padding}}
+use Rattle.decimal_digits.specs.{Nibbles.{digits_in, nibbles, bcd_number, padded}, Packing.{padding}}
 use Rattle.decimal_digits.proofs.digits.packed.bytes.word_at.Goals as goal
 
 pub returns-then-start-eq0 : goal.returns-then-start-eq0
@@ -12,9 +12,7 @@ returns-then-start-eq0 c =
 
 pub returns-then-len-start : goal.returns-then-len-start
 unfolding bcd_number padded
-returns-then-len-start c =
-    sym (ap bcd_number (drop_all c.args.start (digits_in c.args.bytes.now c.args.len)
-    (omega (arith, length_digits _ _ c.requires.padded))))
+returns-then-len-start c = grind (arith, drop_all, common_steps)
 
 pub returns-then-rest-lt8 : goal.returns-then-rest-lt8
 returns-then-rest-lt8 c =

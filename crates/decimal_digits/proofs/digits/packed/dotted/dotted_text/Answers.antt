@@ -1,4 +1,5 @@
 use Rattle.std.proofs.Common.{◌≡◌, ℕ, zero, suc, ◌+◌, ◌<◌, List, [], ◌∷◌, ◌++◌, take, drop, refl, arith, slice_index, slice_index_or}
+use Rattle.std.proofs.lemmas.Grind.{common_steps}
 use Rattle.decimal_digits.specs.{Digits.text_of, Nibbles.{nibbles, word_nibbles}}
 use lib.Dec.{eqb, ltb, leb}
 use lib.Lanes.{top}
@@ -67,11 +68,7 @@ pointed_last : (n : ℕ) (ds : List ℕ) → ds ≡ text_of (word_nibbles n) →
 pointed_last n ds e dot is = rw (is, e) (after_all n)
 
 pub returns-then-dot-lt16 : goal.returns-then-dot-lt16
-returns-then-dot-lt16 c =
-    pointed c.args.number c.word_text-digits.result c.word_text-digits.ensures c.index.result.now c.index.ensures
-    c.args.dot c.if-dot-lt16.true
+returns-then-dot-lt16 c = grind (arith, pointed, common_steps)
 
 pub returns-else-dot-lt16 : goal.returns-else-dot-lt16
-returns-else-dot-lt16 c =
-    pointed_last c.args.number c.word_text-digits.result c.word_text-digits.ensures c.args.dot
-    (omega (arith, c.requires, c.if-dot-lt16.false))
+returns-else-dot-lt16 c = grind (arith, pointed_last, common_steps)

@@ -1,4 +1,5 @@
-use Rattle.std.proofs.Common.{refl, ◌∙◌, sym, arith}
+use Rattle.std.proofs.Common.{refl, ◌∙◌, arith}
+use Rattle.std.proofs.lemmas.Grind.{common_steps}
 use Rattle.decimal_digits.proofs.lemmas.digits.TrailingNibbles.{trailing}
 use Rattle.decimal_digits.proofs.digits.packed.words.count_equal_nibbles.Goals as goal
 
@@ -8,6 +9,4 @@ returns-clause-equal c = λ k h l.
     c.min.ensures).0 k h l ∙ c.from.ensures
 
 pub returns-clause-maximal : goal.returns-clause-maximal
-returns-clause-maximal c = λ h same.
-    (trailing c.args.word c.from.result c.args.count _ c.ranges.word.fits (omega arith) c.requires.few refl c.min.result
-    c.min.ensures).1 h (same ∙ sym c.from.ensures)
+returns-clause-maximal c = grind (arith, trailing, common_steps)

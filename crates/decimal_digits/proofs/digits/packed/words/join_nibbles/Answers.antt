@@ -1,4 +1,5 @@
 use Rattle.std.proofs.Common.{arith}
+use Rattle.std.proofs.lemmas.Grind.{common_steps}
 use Rattle.decimal_digits.proofs.lemmas.digits.Words.{joined}
 use Rattle.decimal_digits.proofs.digits.packed.words.join_nibbles.Goals as goal
 
@@ -11,6 +12,4 @@ overflow_add-result c =
     )
 
 pub returns : goal.returns
-returns c =
-    (joined c.args.word c.args.other c.args.start c.ranges.word.fits c.ranges.other.fits c.requires.in_range
-    c.requires.zeros).1
+returns c = grind (arith, joined, common_steps)

@@ -1,12 +1,10 @@
-use Rattle.std.proofs.Common.{◌≡◌, take, refl, ◌∙◌, arith}
-use Rattle.std.proofs.lemmas.{Grind.same_number_lists, List.take_all}
+use Rattle.std.proofs.Common.{refl, arith}
+use Rattle.std.proofs.lemmas.{Grind.common_steps, Grind.same_number_lists, List.take_all}
 use Rattle.decimal_digits.proofs.lemmas.digits.{Nibbles.nibble_rules, Words.{pack_more, packed, zero_word}}
 use Rattle.decimal_digits.proofs.digits.packed.words.pack_word.Goals as goal
 
 pub returns-then-is_empty : goal.returns-then-is_empty
-returns-then-is_empty c =
-    zero_word 0 refl
-    ∙ same_number_lists _ _ (grind (arith, nibble_rules)) (λ k h. grind (arith, nibble_rules))
+returns-then-is_empty c = grind (arith, zero_word, same_number_lists, nibble_rules, common_steps)
 
 pub overflow_mul-number : goal.overflow_mul-number
 overflow_mul-number c =
@@ -26,12 +24,7 @@ overflow_add-number c =
     )
 
 pub loop-digit-preserved : goal.loop-digit-preserved
-loop-digit-preserved c =
-    (pack_more c.args.digits.now c.loop-digit.digit-index c.loop-digit.number c.from.result c.loop-digit-test.true
-    c.requires c.loop-digit.invariant c.from.ensures).1
+loop-digit-preserved c = grind (arith, pack_more, common_steps)
 
 pub returns : goal.returns
-returns c =
-    let ds = c.args.digits.now in
-    let all : take c.loop-digit.digit-index ds ≡ ds = take_all c.loop-digit.digit-index ds (omega arith) in
-    packed ds c.loop-digit.number _ _ c.requires (rw all at c.loop-digit.invariant) refl refl
+returns c = grind (arith, take_all, packed, common_steps)

@@ -1,25 +1,16 @@
-use Rattle.std.proofs.Common.{◌++◌, drop, length, sym, ◌∙◌, ap, arith, rules}
-use Rattle.decimal_digits.specs.Nibbles.{padded}
+use Rattle.std.proofs.Common.{length, sym, ◌∙◌, ap, arith, rules}
+use Rattle.std.proofs.lemmas.Grind.{common_steps}
 use Rattle.decimal_unsigned.proofs.lemmas.text.ShownDigits.{none_left, refilled, word_next}
 use Rattle.decimal_unsigned.proofs.decimal.digits.DigitsIterator.next.Goals as goal
 
 pub returns-then-self-gt0-clause-steps : goal.returns-then-self-gt0-clause-steps
-returns-then-self-gt0-clause-steps g c =
-    let s = c.self.inside in
-    sym c.self.view_is
-    ∙ ap (λ xs. xs ++ padded s.rest (drop s.index (g.D.DigitStore.digits s.store.now)))
-    (word_next s.word s.ready c.self.ranges.0.1 c.if-self-gt0.true)
+returns-then-self-gt0-clause-steps g c = grind (arith, word_next, common_steps)
 
 pub returns-then-self-gt0-clause-goes : goal.returns-then-self-gt0-clause-goes
 returns-then-self-gt0-clause-goes g c = let l = ap length (returns-then-self-gt0-clause-steps g c) in search rules
 
 pub returns-then-self-eq0-clause-steps : goal.returns-then-self-eq0-clause-steps
-returns-then-self-eq0-clause-steps g c =
-    let s = c.self.inside in
-    let none = sym c.self.view_is
-    ∙ none_left s.ready s.word s.index s.rest (g.D.DigitStore.digits s.store.now) (omega (arith, c.if-self-gt0.false))
-    c.if-self-eq0.true in
-    (none, none)
+returns-then-self-eq0-clause-steps g c = grind (arith, none_left, common_steps)
 
 pub returns-clause-steps : goal.returns-clause-steps
 returns-clause-steps g c =

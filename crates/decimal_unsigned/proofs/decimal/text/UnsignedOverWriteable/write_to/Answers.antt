@@ -1,5 +1,5 @@
-use Rattle.std.proofs.Common.{inr, arith}
-use Rattle.std.proofs.lemmas.List.{length-take}
+use Rattle.std.proofs.Common.{arith}
+use Rattle.std.proofs.lemmas.{Grind.common_steps, List.length-take}
 use Rattle.decimal_digits.proofs.lemmas.{rounding.Results.on_err, sink.Sinks.{fresh_more, fresh_some}}
 use Rattle.decimal_unsigned.proofs.lemmas.text.{Lengths.text_some, Pieces.{block_of, zeros_first}, Writing.{wrote_more, wrote_part}}
 use Rattle.decimal_unsigned.specs.Text.{text}
@@ -9,19 +9,7 @@ pub copy_text-requires-clause-zeros : goal.copy_text-requires-clause-zeros
 copy_text-requires-clause-zeros g c = zeros_first 64 c.min.result (omega (arith, c.min.ensures))
 
 pub loop-written-preserved : goal.loop-written-preserved
-loop-written-preserved g c =
-    let few = length-take c.min.result (block_of 64) in
-    let same = c.copy_text.auto.buffer in
-    record {
-      within = omega (arith, few, same, c.min.ensures);
-      appended =
-          wrote_more _ _ _ (text c.args.self.now) c.copy_text.new.buffer c.loop-written.written _
-          (omega (arith, few, c.min.ensures, c.writeable_length_hint-length.ensures.length)) c.copy_text.ensures
-          c.loop-written.invariant.appended c.in_ok-put_bytes.ensures.appends;
-      fresh =
-          inr (fresh_more g.W.Sink.has_failed _ _ _ c.loop-written.invariant.fresh
-          c.in_ok-put_bytes.ensures.had_not_failed);
-    }
+loop-written-preserved g c = grind (arith, length-take, block_of, wrote_more, fresh_more, common_steps)
 
 pub returns-in_err-put_bytes-clause-err : goal.returns-in_err-put_bytes-clause-err
 returns-in_err-put_bytes-clause-err g c =
@@ -32,10 +20,4 @@ returns-in_err-put_bytes-clause-err g c =
     c.loop-written.invariant.appended c.in_err-put_bytes.ensures.prefix)
 
 pub returns-clause-had_not_failed : goal.returns-clause-had_not_failed
-returns-clause-had_not_failed g c =
-    fresh_some g.W.Sink.has_failed _ _ _ c.loop-written.invariant.fresh
-    (omega (
-      arith,
-      text_some c.args.self.now c.writeable_length_hint-length.ensures.valid,
-      c.writeable_length_hint-length.ensures.length,
-    ))
+returns-clause-had_not_failed g c = grind (arith, fresh_some, text_some, common_steps)
