@@ -170,20 +170,20 @@ impl NumberFormatter {
         };
         let formats = formats_of(tag, system);
         let own = symbols.sizes();
-        let style = StyleParts::of(tag, system, own, &formats, options);
-        let sizes = style_sizes(&style.written.pattern, options.grouping, own);
-        let symbols = with_separators(symbols, &style.written).with_sizes(sizes);
+        let (written, currency) = style_of(tag, system, own, &formats, options);
+        let sizes = style_sizes(&written.pattern, options.grouping, own);
+        let symbols = with_separators(symbols, &written).with_sizes(sizes);
         let signs = formats.signs();
         let mut formatter = NumberFormatter {
             symbols,
             strategy: options.grouping,
-            pattern: style.written.pattern,
+            pattern: written.pattern,
             percent: TextPart::new(
                 PartKind::PercentSign,
                 percent_text(options.style, signs.percent),
             ),
             separator: TextPart::new(PartKind::ExponentSeparator, signs.exponent.text()),
-            currency: style.currency,
+            currency,
             formats,
             rules,
             unit: options.compact_unit(),
@@ -201,50 +201,38 @@ impl NumberFormatter {
     }
 }
 
-/// What a style has in a locale.
-#[derive(Clone, Copy)]
-struct StyleParts {
-    written: CurrencyPattern,
-    currency: ShownCurrency,
+fn without_currency(pattern: Pattern) -> (CurrencyPattern, ShownCurrency)
+    ensures { IsWithoutCurrency pattern result.0 result.1 }
+{
+    let written = CurrencyPattern {
+        pattern,
+        decimal: None,
+        grouping: None,
+    };
+    (written, ShownCurrency::none())
 }
 
-impl StyleParts {
-    fn without_currency(pattern: Pattern) -> Self
-        ensures { IsWithoutCurrency pattern result.written result.currency }
-    {
-        StyleParts {
-            written: CurrencyPattern {
-                pattern,
-                decimal: None,
-                grouping: None,
-            },
-            currency: ShownCurrency::none(),
+/// Returns how a style is written in a locale: its pattern and separators, and its currency.
+fn style_of(
+    tag: &str,
+    system: &str,
+    sizes: GroupingSizes,
+    formats: &NumberFormats,
+    options: &NumberOptions,
+) -> (CurrencyPattern, ShownCurrency)
+    requires { AreFormatsOf tag.now system.now formats.now }
+    ensures { IsStyle options.now.style options.now.notation tag.now system.now sizes formats.now
+        options.now.sign_display result.0 result.1 }
+{
+    match (options.style, options.notation) {
+        (NumberStyle::Currency(style), _) => {
+            let sign = currency_sign(options.sign_display, style.sign);
+            let written = currency_pattern(tag, system, style.code, sign);
+            (written, ShownCurrency::of(tag, &style).in_system(system))
         }
-    }
-
-    fn of(
-        tag: &str,
-        system: &str,
-        sizes: GroupingSizes,
-        formats: &NumberFormats,
-        options: &NumberOptions,
-    ) -> Self
-        requires { AreFormatsOf tag.now system.now formats.now }
-        ensures { IsStyle options.now.style options.now.notation tag.now system.now sizes formats.now
-            options.now.sign_display result.written result.currency }
-    {
-        match (options.style, options.notation) {
-            (NumberStyle::Currency(style), _) => {
-                let sign = currency_sign(options.sign_display, style.sign);
-                StyleParts {
-                    written: currency_pattern(tag, system, style.code, sign),
-                    currency: ShownCurrency::of(tag, &style).in_system(system),
-                }
-            }
-            (NumberStyle::Decimal, _) | (_, NumberNotation::Compact(_)) => {
-                Self::without_currency(plain_pattern(sizes))
-            }
-            _ => Self::without_currency(*formats.percent()),
+        (NumberStyle::Decimal, _) | (_, NumberNotation::Compact(_)) => {
+            without_currency(plain_pattern(sizes))
         }
+        _ => without_currency(*formats.percent()),
     }
 }

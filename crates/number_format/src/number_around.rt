@@ -3,7 +3,6 @@ ghost use Rattle.std.specs.Prelude.{◌≡◌, ◌≤◌, ◌&&◌, length, IfSo
 ghost use Rattle.std.specs.Option.{option_map};
 ghost use Rattle.decimal_format.specs.Symbols.{affixes};
 ghost use Rattle.locale_data.specs.Compact.{IsShortAffix};
-ghost use Rattle.number_format.specs.NumberStyles.{ends_with_currency, begins_with_currency};
 ghost use Rattle.number_format.specs.PatternTexts.{sign_kind, sign_pieces, pattern_kind, pattern_text, pattern_pieces, space_if};
 ghost use Rattle.number_format.specs.NumberText.{style_of, compact_words, currency_if, is_plain, is_empty, has_number, first_sign, last_sign, pattern_around, compact_around, around_by, AreParts};
 ghost use Rattle.number_format.specs.TextParts.{part_pieces};
@@ -104,24 +103,10 @@ impl NumberFormatter {
         ensures { part_pieces result ≡ currency_if self.now has_currency }
     {
         if has_currency {
-            self.currency.part()
+            TextPart::new(PartKind::Currency, self.currency.text())
         } else {
             TextPart::empty()
         }
-    }
-
-    #[inline]
-    pub(crate) fn has_space_after(&self, prefix: Affix) -> bool
-        ensures { result ≡ (ends_with_currency prefix && self.now.currency.space_after) }
-    {
-        ends_with_currency(prefix) && self.currency.space_after
-    }
-
-    #[inline]
-    pub(crate) fn has_space_before(&self, suffix: Affix) -> bool
-        ensures { result ≡ (begins_with_currency suffix && self.now.currency.space_before) }
-    {
-        begins_with_currency(suffix) && self.currency.space_before
     }
 
     /// Returns the parts of the pattern for a sign.
@@ -138,12 +123,12 @@ impl NumberFormatter {
                 self.pattern_part(prefix.second),
                 self.pattern_part(prefix.third),
                 self.pattern_part(prefix.fourth),
-                space_if(self.has_space_after(prefix)),
+                space_if(ends_with_currency(prefix) && self.currency.space_after),
                 TextPart::empty(),
             ],
             has_number: true,
             suffix: [
-                space_if(self.has_space_before(suffix)),
+                space_if(begins_with_currency(suffix) && self.currency.space_before),
                 self.pattern_part(suffix.first),
                 self.pattern_part(suffix.second),
                 self.pattern_part(suffix.third),

@@ -1,8 +1,7 @@
 //! What a style of numbers writes: its pattern, its percent sign, and its currency.
 ghost use Rattle.std.specs.Prelude.{◌≡◌, ◌≤◌, [], false, None, length, map, IsSomeAnd};
 ghost use Rattle.std.specs.Char.{to_ascii_uppercase};
-ghost use Rattle.number_format.specs.NumberStyles.{affix_of, before, plain_pattern, percent_text, text_or_nothing, currency_text, piece_or, ends_with_currency, begins_with_currency, in_system, IsShownBy, IsShownCode, IsShownSymbol, IsSymbolText, AreNamesOf, IsShownCurrency};
-ghost use Rattle.number_format.specs.TextParts.{part_pieces, pieces_of};
+ghost use Rattle.number_format.specs.NumberStyles.{before, plain_pattern, percent_text, text_or_nothing, currency_text, piece_or, ends_with_currency, begins_with_currency, in_system, IsShownBy, IsShownCode, IsShownSymbol, IsSymbolText, AreNamesOf, IsShownCurrency};
 
 use crate::number_options::{CurrencyDisplay, CurrencyStyle, NumberStyle};
 use crate::text_part::{PartKind, TextPart};
@@ -12,23 +11,22 @@ use locale_data::{
 };
 use std::str;
 
-fn affix_of(first: Piece) -> Affix
-    ensures { result ≡ affix_of first }
-{
-    Affix {
-        first,
-        second: Piece::Empty,
-        third: Piece::Empty,
-        fourth: Piece::Empty,
-    }
-}
+const NO_PIECES: Affix = Affix {
+    first: Piece::Empty,
+    second: Piece::Empty,
+    third: Piece::Empty,
+    fourth: Piece::Empty,
+};
 
 fn before(piece: Piece) -> AffixPair
     ensures { result ≡ before piece }
 {
     AffixPair {
-        prefix: affix_of(piece),
-        suffix: affix_of(Piece::Empty),
+        prefix: Affix {
+            first: piece,
+            ..NO_PIECES
+        },
+        suffix: NO_PIECES,
     }
 }
 
@@ -126,12 +124,6 @@ impl ShownCurrency {
         } else {
             self.symbol.text
         }
-    }
-
-    pub(crate) fn part(&self) -> TextPart<'_>
-        ensures { part_pieces result ≡ pieces_of PartKind.Currency (currency_text self.now) }
-    {
-        TextPart::new(PartKind::Currency, self.text())
     }
 
     pub(crate) fn none() -> Self

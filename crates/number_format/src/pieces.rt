@@ -127,21 +127,12 @@ impl<'f> Digits<'f> {
         put(sink, PartKind::Group, self.separator_after(magnitude))
     }
 
-    fn put_nth<P: PartSink>(&self, below: u32, sink: &mut P) -> Result<(), SinkFault>
-        requires { below < shown_count self.now.value.now }
-        ensures { OnOk result (Puts (P.pieces sink.old) (P.pieces sink.new)
-            (magnitude_pieces self.now.whole self.now.symbols.now self.now.strategy self.now.value.now
-            (self.now.value.now.hi -ℤ pos below))) }
-    {
-        self.put_magnitude(self.magnitude(below), sink)
-    }
-
     fn put_to<P: PartSink>(&self, sink: &mut P) -> Result<(), SinkFault>
         ensures { OnOk result (Puts (P.pieces sink.old) (P.pieces sink.new)
             (digit_pieces self.now.whole self.now.symbols.now self.now.strategy self.now.value.now)) }
     {
         for below in 0..self.shown_count() {
-            self.put_nth(below, sink)?;
+            self.put_magnitude(self.magnitude(below), sink)?;
         }
         Ok(())
     }

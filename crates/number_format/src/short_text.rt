@@ -52,28 +52,6 @@ impl NumberFormatter {
         put_part(self.currency_if(affix.has_currency), block)?;
         put_part(TextPart::new(PartKind::Compact, affix.after), block)
     }
-
-    #[inline]
-    fn put_prefix(&self, sign: Sign, block: &mut Block) -> Result<(), SinkFault>
-        ensures { OnOk result
-            (block.new.0 ≡ block.old.0 ++ pieces_text (pattern_around self.now sign).prefix) }
-    {
-        match &self.sign_texts {
-            Some(texts) => block.put_bytes(texts.of(sign).prefix.as_str().as_bytes()),
-            None => Err(SinkFault),
-        }
-    }
-
-    #[inline]
-    fn put_suffix(&self, sign: Sign, block: &mut Block) -> Result<(), SinkFault>
-        ensures { OnOk result
-            (block.new.0 ≡ block.old.0 ++ pieces_text (pattern_around self.now sign).suffix) }
-    {
-        match &self.sign_texts {
-            Some(texts) => block.put_bytes(texts.of(sign).suffix.as_str().as_bytes()),
-            None => Err(SinkFault),
-        }
-    }
 }
 
 impl<'f> FormattedNumber<'f> {
@@ -120,10 +98,13 @@ impl<'f> FormattedNumber<'f> {
         ensures { OnOk result (block.new.0 ≡ block.old.0 ++ around_text self.now
             (pattern_around self.now.formatter.now self.now.value.sign)) }
     {
-        let formatter = self.formatter;
-        formatter.put_prefix(self.value.sign, block)?;
+        let Some(texts) = &self.formatter.sign_texts else {
+            return Err(SinkFault);
+        };
+        let texts = texts.of(self.value.sign);
+        block.put_bytes(texts.prefix.as_str().as_bytes())?;
         self.put_digits(block)?;
-        formatter.put_suffix(self.value.sign, block)
+        block.put_bytes(texts.suffix.as_str().as_bytes())
     }
 
     fn put_around(&self, block: &mut Block) -> Result<(), SinkFault>

@@ -6,17 +6,18 @@ use Rattle.number_format.proofs.number_formatter.NumberFormatter.in_system.Goals
 pub returns-clause-ok : goal.returns-clause-ok
 returns-clause-ok c =
     let o = c.args.options.now in
-    let style = c.of-style.result in
-    let sizes = c.style_sizes-sizes.ensures ∙ ap (style_sizes style.written.pattern o.grouping) c.sizes-own.ensures in
+    let written = c.style_of.result.0 in
+    let currency = c.style_of.result.1 in
+    let sizes = c.style_sizes-sizes.ensures ∙ ap (style_sizes written.pattern o.grouping) c.sizes-own.ensures in
     record {
       signs = c.signs-signs.result;
-      written = style.written;
+      written = written;
       formats = c.formats_of-formats.ensures;
       signs_are = c.signs-signs.ensures;
       rules = c.in-Some.ensures.found;
       style_is =
           subst (λ z. IsStyle o.style o.notation c.args.tag.now c.args.system.now z c.formats_of-formats.result
-          o.sign_display style.written style.currency) c.sizes-own.ensures c.of-style.ensures;
+          o.sign_display written currency) c.sizes-own.ensures c.style_of.ensures;
       symbols =
           c.with_sizes-symbols.ensures
           ∙ (λ i. record (c.with_separators.ensures i) { sizes = sizes i });
