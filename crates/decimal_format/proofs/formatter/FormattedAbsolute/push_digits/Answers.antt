@@ -1,5 +1,4 @@
 use Rattle.std.proofs.Common.{sym, ap, arith, append_assoc, append-nil, length-append}
-use Rattle.std.proofs.lemmas.Grind.{common_steps}
 use Rattle.fixed_decimal.proofs.Calling.{narrow_kept}
 use Rattle.decimal_format.specs.Formatted.{formatted_down}
 use Rattle.decimal_format.proofs.lemmas.formatter.Magnitudes.{first_magnitudes, one_more}
@@ -12,4 +11,9 @@ loop-below-init g c =
     record { text = ap (λ l. (l, c.args.block.now.1)) (sym (append-nil c.args.block.now.0)); room = omega arith }
 
 pub loop-below-preserved : goal.loop-below-preserved
-loop-below-preserved g c = grind (arith, narrow_kept, separates_if, first_magnitudes, pushed, append_assoc, one_more, length-append, length-magnitude, common_steps)
+loop-below-preserved g c =
+    record {
+      text = grind (arith, narrow_kept, separates_if, first_magnitudes, pushed, append_assoc, one_more);
+      room =
+          grind (arith, narrow_kept, separates_if, first_magnitudes, length-append, length-magnitude, pushed, one_more);
+    }
