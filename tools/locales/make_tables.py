@@ -152,15 +152,16 @@ def plural_tables():
             names.setdefault(text, (tag if kind == "cardinal" else f"{tag}_ordinal").upper().replace("-", "_"))
     texts, rules, *parts = Texts(names), Lists(), Lists(), Lists(), Lists()
     sets = {text: rules.range([rule_text(it, *parts) for it in text.split("; ")]) for text in names}
-    constants = [f"{'pub ' * (text == 'other:')}const {name}: RuleSet = RuleSet {{ text: {texts.range(text)}, rules: {sets[text]} }};\n"
-                 for text, name in names.items()]
+    constants = [f"{'pub ' if name == 'OTHER' else ''}const {name}: RuleSet = RuleSet {{ text: {texts.range(text)}, "
+                 f"rules: {sets[text]} }};\n" for text, name in names.items()]
     items = [f'    LanguageRules {{ tag: *b"{tag:16}", cardinal: {names[kinds["cardinal"]]}, '
              f'ordinal: {names[kinds["ordinal"]]} }},\n' for tag, kinds in listed.items()]
     return "\n".join([PLURALS_HEAD, *(SKIP + it for it in constants),
                       array("The languages that have plural rules.", "PLURAL_RULES", "LanguageRules", items),
                       texts.array("The texts of plural rules.", "PLURAL_RULES_TEXTS"),
                       rules.array("The rules of the texts.", "PLURAL_RULE_ROWS", "RuleRow"),
-                      parts[0].array("The alternatives of rules, as parts of `PLURAL_RELATIONS`.", "PLURAL_ALTERNATIVES", "TableRange"),
+                      parts[0].array("The alternatives of rules, as parts of `PLURAL_RELATIONS`.", "PLURAL_ALTERNATIVES",
+                                     "TableRange"),
                       parts[1].array("The relations of alternatives.", "PLURAL_RELATIONS", "RelationRow"),
                       parts[2].array("The ranges of relations.", "PLURAL_RANGES", "Range")])
 

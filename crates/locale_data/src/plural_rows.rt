@@ -42,7 +42,7 @@ impl Row for LanguageRules {
 }
 
 impl LanguageRules {
-    pub fn set(&self, rule_type: PluralRuleType) -> RuleSet
+    pub(crate) fn set(&self, rule_type: PluralRuleType) -> RuleSet
         ensures { result ≡ set_of self.now rule_type }
     {
         match rule_type {
@@ -103,7 +103,7 @@ impl RuleRow {
 }
 
 /// Returns the category of a number by the rules in a range of `PLURAL_RULE_ROWS`.
-pub fn category_in<D: DigitStore>(
+pub(crate) fn category_in<D: DigitStore>(
     rules: TableRange,
     number: &PluralOperands<'_, D>,
 ) -> PluralCategory
