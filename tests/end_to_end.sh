@@ -53,6 +53,32 @@ help() {
   done
 }
 
+# little_memory REPORT LIMITS STATUS TEXT LINES PROGRAM WORD..: within limits of memory, in KiB, the system cannot start
+# the program; or it reports `memory` after a part of the text, or `line 2: memory` after its first line; or its result
+# is this. REPORT and the result occur.
+: > "$room/in"
+little_memory() {
+  local limit report part reported=0 printed=0
+  for limit in $2; do
+    name="$6 within $limit KiB"
+    prlimit --as=$((limit * 1024)) "$room/$6" "${@:7}" > "$room/out" 2> "$room/err" < "$room/in"
+    found=$?
+    report=$(cat "$room/err")
+    [ "$found $report" != "3 $1" ] || reported=$((reported + 1))
+    if [ "$found $report" = '3 line 2: memory' ]; then
+      compare 3 "${4%%$'\n'*}"$'\n' "$report"$'\n'
+    elif [ "$found" = 3 ]; then
+      part=$(wc -c < "$room/out")
+      compare 3 "${4:0:$((part < ${#4} ? part : 0))}" $'memory\n'
+    elif [ "$found" = "$3" ]; then
+      printed=$((printed + 1))
+      compare "$3" "$4" "$5"
+    fi
+  done 2> /dev/null
+  [ "$reported" != 0 ] && [ "$printed" != 0 ]
+  judge $? "$6 with little memory reported $1 $reported times, and ended as ever $printed times"
+}
+
 # ---- fixdec
 
 usage=$'usage: fixdec TEXT [CALL]..\n'
@@ -97,25 +123,10 @@ row fixdec 2 '' "$usage" 5 "${calls[@]}" x
 zeros=$(printf '%032768d' 0)
 row fixdec 0 "1${zeros:1}.$zeros"$'\n' '' 1e32767 pad-end:-32768
 
-# Little memory: the system cannot start the program, or it reports `memory`, or it prints. Each occurs.
+# Little memory for 50000 words.
 many=()
 for ((i = 0; i < 50000; i++)); do many+=(shift:0); done
-reported=0
-printed=0
-for ((limit = 4000; limit <= 64000; limit += 4000)); do
-  name="fixdec 5 and 50000 words within $limit KiB"
-  prlimit --as=$((limit * 1024)) "$room/fixdec" 5 "${many[@]}" > "$room/out" 2> "$room/err" < /dev/null
-  found=$?
-  if [ "$found" = 3 ]; then
-    reported=$((reported + 1))
-    compare 3 '' $'memory\n'
-  elif [ "$found" = 0 ]; then
-    printed=$((printed + 1))
-    compare 0 $'5\n' ''
-  fi
-done 2> /dev/null
-[ "$reported" != 0 ] && [ "$printed" != 0 ]
-judge $? "with little memory it reported memory $reported times and printed $printed times"
+little_memory memory "$(seq 4000 4000 64000)" 0 $'5\n' '' fixdec 5 "${many[@]}"
 
 help fixdec 'usage: fixdec TEXT [CALL]..'
 row fixdec 1 '' $'start: syntax\n' --help shift:1
@@ -223,29 +234,9 @@ for ((i = 0; i < 20000; i++)); do echo "$i.125"; done > "$room/many"
 [ $? = 0 ] && [ "$(wc -l < "$room/out")" = 20000 ] && [ "$(tail -n 1 "$room/out")" = 19999.12 ]
 judge $? 'many lines'
 
-# Little memory: the system cannot start the program; it reports `memory`, or `line 2: memory` with the line before; or
-# it prints. Some limits are of the last two kinds.
+# Little memory for a line of 30,000,000 bytes.
 { echo 7; head -c 30000000 /dev/zero | tr '\0' x; echo; } > "$room/in"
-early=0
-reported=0
-printed=0
-for ((limit = 2000; limit <= 130000; limit += 4000)); do
-  name="a line of 30,000,000 bytes within $limit KiB"
-  prlimit --as=$((limit * 1024)) "$room/fixdec_lines" > "$room/out" 2> "$room/err" < "$room/in"
-  found=$?
-  if [ "$found" = 3 ] && [ "$(cat "$room/err")" = memory ]; then
-    early=$((early + 1))
-    compare 3 '' $'memory\n'
-  elif [ "$found" = 3 ]; then
-    reported=$((reported + 1))
-    compare 3 $'7\n' $'line 2: memory\n'
-  elif [ "$found" = 1 ]; then
-    printed=$((printed + 1))
-    compare 1 $'7\n' $'line 2: start: syntax\n'
-  fi
-done 2> /dev/null
-[ "$reported" != 0 ] && [ "$printed" != 0 ]
-judge $? "with little memory it reported memory $early times, that of a line $reported times, and read it $printed times"
+little_memory 'line 2: memory' "$(seq 2000 4000 130000)" 1 $'7\n' $'line 2: start: syntax\n' fixdec_lines
 
 help fixdec_lines 'usage: fixdec_lines [OPTION].. [read:LOCALE] [CALL].. [format:LOCALE]'
 lines 0 '1\n' "fixdec_lines $version"$'\n' '' --version
@@ -275,24 +266,9 @@ shell 3 '' $'output\n' 'plural "$one" 1 > /dev/full'
 shell 3 '' $'output\n' 'plural "$one" 1 x > /dev/full'
 shell 1 $'one\n' '' 'plural "$one" 1 x 2> /dev/full'
 
-# Little memory: the system cannot start the program, or it reports `memory`, or it prints. Each occurs.
+# Little memory for texts of 20000 digits.
 digits=$(printf '%020000d' 7)
-reported=0
-printed=0
-for ((limit = 1000; limit <= 64000; limit += 250)); do
-  name="plural and texts of 20000 digits within $limit KiB"
-  prlimit --as=$((limit * 1024)) "$room/plural" "$one" "$digits" "$digits" > "$room/out" 2> "$room/err" < /dev/null
-  found=$?
-  if [ "$found" = 3 ]; then
-    reported=$((reported + 1))
-    compare 3 "$(cat "$room/out")" $'memory\n'
-  elif [ "$found" = 0 ]; then
-    printed=$((printed + 1))
-    compare 0 $'other\nother\n' ''
-  fi
-done 2> /dev/null
-[ "$reported" != 0 ] && [ "$printed" != 0 ]
-judge $? "with little memory it reported memory $reported times and printed $printed times"
+little_memory memory "$(seq 1000 250 64000)" 0 $'other\nother\n' '' plural "$one" "$digits" "$digits"
 
 help plural 'usage: plural RULES TEXT..'
 row plural 0 "plural $version"$'\n' '' --version

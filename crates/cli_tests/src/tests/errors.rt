@@ -24,14 +24,15 @@ fn overflow(field: FieldLabel) -> ProgramError {
     }
 }
 
+fn shown_word() -> ShownWord {
+    ShownWord::of("0123456789\u{1b}123456789\u{9b}123456789\n123456789+")
+}
+
 #[test]
 fn reports_a_line_in_one_write(rt: HostRuntime) {
-    let word = ShownWord::of("0123456789\u{1b}123456789\u{9b}123456789\n123456789+");
-    let number = usize::MAX;
-    let reason = Reason::Limit;
     let lines = [
         (
-            ProgramError::start(Program::FixdecLines, WordsError::Misplaced(word)),
+            ProgramError::start(Program::FixdecLines, WordsError::Misplaced(shown_word())),
             "fixdec_lines: 0123456789?123456789?123456789?123456789 is not in its place (--help lists all)\n",
         ),
         (
@@ -39,12 +40,15 @@ fn reports_a_line_in_one_write(rt: HostRuntime) {
             "line 18446744073709551615: field 18446744073709551615: call 18446744073709551615: overflow\n",
         ),
         (
-            overflow(FieldLabel::Name(word)),
+            overflow(FieldLabel::Name(shown_word())),
             "line 18446744073709551615: 0123456789?123456789?123456789?123456789: \
              call 18446744073709551615: overflow\n",
         ),
         (
-            ProgramError::Text { number, reason },
+            ProgramError::Text {
+                number: usize::MAX,
+                reason: Reason::Limit,
+            },
             "text 18446744073709551615: limit\n",
         ),
     ];
