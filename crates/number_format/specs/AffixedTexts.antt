@@ -92,29 +92,26 @@ abbrev pub shifted : ℤ → Result Decimal ParseError → Result Decimal ParseE
 shifted shift (Ok v) = ok_or (with_absolute v (multiplied_pow10 v.absolute shift)) Limit
 shifted shift (Err e) = Err e
 
--- the result of reading these numerals and decimals
-abbrev pub IsReadAs : ℕ → Reader → (Numeral → Type 0) → (Decimal → Type 0) → Result Decimal ParseError → Type 0
-IsReadAs inline r is_numeral is_written result =
-    (read : Result Decimal ParseError) × IsRead inline is_numeral is_written read × (result ≡ shifted r.shift read)
+-- the result of a reading, times 10 ^ shift
+abbrev pub IsShifted : ℤ → (Result Decimal ParseError → Type 0) → Result Decimal ParseError → Type 0
+IsShifted shift is_read result =
+    (read : Result Decimal ParseError) × is_read read × (result ≡ shifted shift read)
 
 -- the result of reading a text exactly: `Syntax` if it is that of no digits
 abbrev pub IsReadExactly : ℕ → Reader → List ℕ → Result Decimal ParseError → Type 0
-IsReadExactly inline r text = IsReadAs inline r (IsShownNumeral r text) (IsShown r text)
+IsReadExactly inline r text = IsShifted r.shift (IsRead inline (IsShownNumeral r text) (IsShown r text))
 
--- the text is that of the digits between the affixes; or it is that of none, and the first alternative with a numeral
--- has these digits
-abbrev pub IsTypedNumeralWith : Reader → List Alternative → List ℕ → Numeral → Type 0
-IsTypedNumeralWith r alternatives text w =
-    IsShownNumeral r text w ⊎ (((u : Numeral) → ¬ IsShownNumeral r text u)
-    × IsNumeralOfFirst r.symbols (normalized r.symbols text) alternatives w)
+-- the text is shown; or it is that of no digits, and is typed
+abbrev pub IsTyped : Reader → List ℕ → Type 0 → Type 0 → Type 0
+IsTyped r text shown typed = shown ⊎ (((u : Numeral) → ¬ IsShownNumeral r text u) × typed)
 
--- and the decimal
-abbrev pub IsTypedWith : Reader → List Alternative → List ℕ → Decimal → Type 0
-IsTypedWith r alternatives text v =
-    IsShown r text v ⊎ (((u : Numeral) → ¬ IsShownNumeral r text u)
-    × IsWrittenOfFirst r.symbols (normalized r.symbols text) alternatives v)
+-- what is read between the affixes, or else by the first alternative with a numeral
+abbrev pub IsReadWith : ℕ → Reader → List Alternative → List ℕ → Result Decimal ParseError → Type 0
+IsReadWith inline r all text =
+    IsRead inline (λ w. IsTyped r text (IsShownNumeral r text w)
+    (IsNumeralOfFirst r.symbols (normalized r.symbols text) all w))
+    (λ v. IsTyped r text (IsShown r text v) (IsWrittenOfFirst r.symbols (normalized r.symbols text) all v))
 
 -- the result of reading a text as people type it, with these alternatives
 abbrev pub IsReadTyped : ℕ → Reader → List Alternative → List ℕ → Result Decimal ParseError → Type 0
-IsReadTyped inline r alternatives text =
-    IsReadAs inline r (IsTypedNumeralWith r alternatives text) (IsTypedWith r alternatives text)
+IsReadTyped inline r all text = IsShifted r.shift (IsReadWith inline r all text)

@@ -2,7 +2,7 @@
 ghost use Rattle.std.specs.Prelude.{◌≡◌, ◌≢◌, ℕ, List, ◌++◌, pos, Err, IfOk, MatchOption};
 ghost use Rattle.decimal_format.specs.Readable.{IsReadable};
 ghost use Rattle.decimal_format.specs.Reading.{IsRead};
-ghost use Rattle.number_format.specs.AffixedTexts.{AreNamed, reader, shifted, IsShown, IsShownNumeral, IsTypedWith, IsTypedNumeralWith, IsBetween, IsReadExactly, IsReadTyped};
+ghost use Rattle.number_format.specs.AffixedTexts.{AreNamed, reader, shifted, IsShown, IsShownNumeral, IsBetween, IsReadExactly, IsReadWith, IsReadTyped};
 
 use crate::affixes::SignAffixes;
 use decimal_format::{Alternative, DecimalSymbols};
@@ -178,8 +178,7 @@ impl<'a> AffixReader<'a> {
         alternatives: &[Alternative<'_>],
         text: &str,
     ) -> Result<Signed<UnsignedOver<D>>, ParseError>
-        ensures { IsRead D.L (IsTypedNumeralWith self.now alternatives.now text.now)
-            (IsTypedWith self.now alternatives.now text.now) result }
+        ensures { IsReadWith D.L self.now alternatives.now text.now result }
     {
         match self.read_shown(alloc, text.as_bytes()) {
             Ok(value) => Ok(value),

@@ -1,4 +1,4 @@
-use Rattle.std.proofs.Common.{◌≡◌, ◌≢◌, [], refl, sym, ◌∙◌, subst, rules}
+use Rattle.std.proofs.Common.{◌≢◌, [], refl, sym, ◌∙◌, subst, rules}
 use Rattle.decimal_format.specs.Readable.{BeginsWithDigit}
 use Rattle.number_format.specs.AffixedTexts.{ArePrefixesApart}
 use Rattle.number_format.proofs.NamedAffixes.{DecidesPrefixes, prefixes_by_rest, none_is, unless}
@@ -22,7 +22,8 @@ returns-then-not-is_empty c =
     (prefixes_by_rest s p q c.strip_prefix.result c.strip_prefix-2.result (search rules) (search rules)) in
     let some : c.in-Some.rest.now ≢ [] = search rules in
     let digit = subst (BeginsWithDigit s) c.as_bytes.ensures.value in
-    unless c.begins_with_digit.result (BeginsWithDigit s c.as_bytes.result.now) (ArePrefixesApart s p q) c.begins_with_digit.ensures (
+    let test = c.begins_with_digit.ensures in
+    unless c.begins_with_digit.result (BeginsWithDigit s c.as_bytes.result.now) (ArePrefixesApart s p q) test (
       λ apart d. (e.1 apart).1 (digit d),
       λ none. e.0 (rw c.as_bytes.ensures.value at c.as_bytes.ensures.utf8)
           (some, λ d. none (subst (BeginsWithDigit s) (sym c.as_bytes.ensures.value) d)),

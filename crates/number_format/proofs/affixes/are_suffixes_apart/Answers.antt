@@ -1,4 +1,4 @@
-use Rattle.std.proofs.Common.{◌≡◌, ◌≢◌, [], refl, sym, ◌∙◌, subst, rules}
+use Rattle.std.proofs.Common.{◌≢◌, [], refl, sym, ◌∙◌, subst, rules}
 use Rattle.decimal_format.specs.Readable.{EndsWithDigit}
 use Rattle.number_format.specs.AffixedTexts.{AreSuffixesApart}
 use Rattle.number_format.proofs.NamedAffixes.{DecidesSuffixes, suffixes_by_rest, none_is, unless}
@@ -22,7 +22,8 @@ returns-then-not-is_empty c =
     (suffixes_by_rest s p q c.strip_suffix.result c.strip_suffix-2.result (search rules) (search rules)) in
     let some : c.in-Some.rest.now ≢ [] = search rules in
     let digit = subst (EndsWithDigit s) c.as_bytes.ensures.value in
-    unless c.ends_with_digit.result (EndsWithDigit s c.as_bytes.result.now) (AreSuffixesApart s p q) c.ends_with_digit.ensures (
+    let test = c.ends_with_digit.ensures in
+    unless c.ends_with_digit.result (EndsWithDigit s c.as_bytes.result.now) (AreSuffixesApart s p q) test (
       λ apart d. (e.1 apart).1 (digit d),
       λ none. e.0 (rw c.as_bytes.ensures.value at c.as_bytes.ensures.utf8)
           (some, λ d. none (subst (EndsWithDigit s) (sym c.as_bytes.ensures.value) d)),
