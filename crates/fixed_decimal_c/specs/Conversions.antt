@@ -1,5 +1,5 @@
 -- Conversions, whose text is written to the buffer of a caller.
-use Rattle.std.specs.Prelude.{◌≡◌, ℕ, ◌⊎◌, List, [], ◌++◌, length, Result, Ok, Err}
+use Rattle.std.specs.Prelude.{◌≡◌, ℕ, ◌⊎◌, List, [], ◌++◌, length, Option, Result, Ok, Err}
 use Rattle.decimal_unsigned.specs.declared.decimal.TheConstants.{INLINE_DIGITS}
 use Rattle.decimal_unsigned.specs.declared.error.ParseError.{ParseError}
 use Rattle.fixed_decimal.specs.Decimal.{Decimal}
@@ -9,6 +9,7 @@ use Rattle.fixed_decimal.specs.Outcome.{after_calls}
 use Rattle.fixed_decimal.specs.declared.runs.Call.{Call}
 use Rattle.fixed_decimal.specs.declared.runs.CallError.{CallError}
 use Rattle.cli.specs.Conversion.{IsReadBy, ReadingByFails}
+use Rattle.cli.specs.declared.reader.LocaleReader.{LocaleReader}
 use Rattle.fixed_decimal_c.specs.declared.calls.FdCall.{FdCall}
 use Rattle.fixed_decimal_c.specs.declared.convert.Forms.{Forms}
 use Rattle.fixed_decimal_c.specs.declared.error.FdError.{FdError}
@@ -26,9 +27,11 @@ pub record AreForms (forms : FdForms) (texts : List ℕ) (f : Forms) : Type 0 wh
   pub reader : IsReaderOf forms.read texts f.reader
   pub format : IsFormatOf forms.format texts f.format
 
--- there are no such forms
+-- there is no such reader, or one and no such format
 abbrev pub FormsFail : FdError → FdForms → List ℕ → Type 0
-FormsFail error forms texts = ReaderFails error forms.read texts ⊎ FormatFormFails error forms.format texts
+FormsFail error forms texts =
+    ReaderFails error forms.read texts
+    ⊎ (((r : Option LocaleReader) × IsReaderOf forms.read texts r) × FormatFormFails error forms.format texts)
 
 -- a text, read and changed by the calls, is written as this
 pub record IsConverted (f : Forms) (calls : List Call) (text written : List ℕ) : Type 0 where

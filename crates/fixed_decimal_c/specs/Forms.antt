@@ -89,12 +89,17 @@ IsSkeletonReader form texts r =
     ((f : NumberFormatter) × IsSkeletonFormatter form texts f × CanRead f × (r.reader ≡ number_reader_of f))
     × (form.option ≡ reading_code r.mode)
 
--- there is no such formatter, or it has no reader, or no mode has the code
+-- no mode has the code of a form, or one has and the formatter has no reader
+abbrev pub ModeOrReaderFails : FdError → FdForm → NumberFormatter → Type 0
+ModeOrReaderFails error form f =
+    ((error ≡ UnknownOption) × ((mode : ParseMode) → form.option ≡ reading_code mode → ⊥))
+    ⊎ (((mode : ParseMode) × (form.option ≡ reading_code mode)) × HasNoReader error f)
+
+-- there is no such formatter, or one without such a mode or reader
 abbrev pub SkeletonReaderFails : FdError → FdForm → List ℕ → Type 0
 SkeletonReaderFails error form texts =
     SkeletonFormFails error form texts
-    ⊎ ((f : NumberFormatter) × IsSkeletonFormatter form texts f × HasNoReader error f)
-    ⊎ ((error ≡ UnknownOption) × ((mode : ParseMode) → form.option ≡ reading_code mode → ⊥))
+    ⊎ ((f : NumberFormatter) × IsSkeletonFormatter form texts f × ModeOrReaderFails error form f)
 
 -- what a form reads by: with a skeleton by it, else by its symbols; without either a text is a decimal's own
 abbrev pub IsReaderOf : FdForm → List ℕ → Option LocaleReader → Type 0
