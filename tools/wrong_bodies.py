@@ -79,7 +79,7 @@ def functions_at(file, line):
     if file.startswith("proofs/"):
         return {file.split("/")[-2].lstrip("+")}
     lines = read(file).split("\n")
-    above, below = re.findall(r"\bfn (\w+)", "\n".join(lines[:line])), re.findall(r"\bfn (\w+)", "\n".join(lines[line:]))
+    above, below = (re.findall(r"\bfn (\w+)", "\n".join(part)) for part in (lines[:line], lines[line:]))
     return {*above[-1:], *below[:1]}
 
 
