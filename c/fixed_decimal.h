@@ -15,7 +15,7 @@
  * - The buffer overlaps no other argument, and no other thread reads or writes it during the call; nor writes the others.
  * - malloc, realloc and free are those of one allocator, and the call is not made in a signal handler, nor in the forked
  *   child of a process with threads. Values of up to 16 digits, in texts of less than 64 bytes and lists of up to eight
- *   calls, need no memory; fd_category and fd_category_of allocate for their rules.
+ *   calls, need no memory; fd_category allocates for its rules.
  *
  * Texts need not be UTF-8 and do not end in a zero byte: neither those that are passed nor those that are written.
  *
@@ -189,7 +189,7 @@ fd_result fd_convert(const uint8_t *text, size_t count, const fd_forms *forms, c
 /* Formats a decimal as Intl.NumberFormat does, in the locale of a tag, by a number skeleton of ICU: "currency/EUR .00",
  * "percent @@", "K". The empty skeleton is ICU's default: at most six fraction digits, half-even.
  *
- * The buffer is as after fd_run. Compact notation allocates for its plural rules.
+ * The buffer is as after fd_run.
  * Errors, the first that holds: FD_SKELETON_SYNTAX, FD_SKELETON_UNSUPPORTED; FD_UNKNOWN_LOCALE;
  * FD_UNKNOWN_NUMBERING_SYSTEM; FD_SYNTAX, FD_LIMIT, FD_MEMORY of the text; FD_OVERFLOW, FD_MEMORY of the format;
  * FD_BUFFER_TOO_SMALL. */

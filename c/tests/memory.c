@@ -63,7 +63,7 @@ static uint32_t category(void) {
     return fd_category(BYTES("one: i = 1 and v = 0 or n % 10 = 3..4,7; few: i = 2"), BYTES("1")).status;
 }
 static uint32_t category_by_number(void) {
-    return fd_category_of(fd_plural_rules(BYTES("ru"), FD_CARDINAL).value, BYTES("2")).status;
+    return fd_category_of(fd_plural_rules(BYTES("ru"), FD_CARDINAL).value, BYTES(digits)).status;
 }
 /* The lines before the one that is out of memory are whole; here the output is the input. */
 static uint32_t column(void) {
@@ -86,6 +86,12 @@ static uint32_t short_numbered(void) {
 static uint32_t short_format_number(void) {
     return fd_format_number(BYTES("-1234567.890123456"), BYTES("de"), BYTES("currency/EUR .00"), buffer, ROOM).status;
 }
+static uint32_t short_compact_number(void) {
+    return fd_format_number(BYTES("1234567.5"), BYTES("ar-EG"), BYTES("KK"), buffer, ROOM).status;
+}
+static uint32_t short_category(void) {
+    return fd_category_of(fd_plural_rules(BYTES("ru"), FD_CARDINAL).value, BYTES("2.50")).status;
+}
 static uint32_t short_column(void) {
     fd_column c = fd_lines(BYTES("1\n22.5\nx\n"), 1, &own_text, calls + 1, 8, BYTES("5"), buffer, ROOM);
     memset(buffer, 0xC3, c.written);
@@ -107,6 +113,7 @@ int main(void) {
                 {"fd_read_number", read_number, 1}, {"fd_convert, read", convert_read, 1},
                 {"fd_run, short", short_run, 0}, {"fd_convert, short", short_convert, 0},
                 {"fd_format_number, short", short_format_number, 0}, {"fd_convert, number", short_numbered, 0},
+                {"fd_format_number, words", short_compact_number, 0}, {"fd_category_of, short", short_category, 0},
                 {"fd_lines, short", short_column, 0}};
     int bad = 0;
     for (size_t j = 0; j < sizeof jobs / sizeof *jobs; j++) {

@@ -1,5 +1,5 @@
 -- Plural categories.
-use Rattle.std.specs.Prelude.{◌≡◌, ℕ, ℤ, pos, ◌⊎◌, List, Some, None, Result, Ok, Err, IsOkAnd}
+use Rattle.std.specs.Prelude.{◌≡◌, ℕ, ℤ, pos, ◌⊎◌, List, Some, None, Result, Ok, Err, IsOkAnd, IsSome}
 use Rattle.fixed_decimal.specs.DecimalText.{read_decimal}
 use Rattle.plural_rules.specs.declared.rules.PluralCategory.{PluralCategory}
 use Rattle.plural_rules.specs.declared.rules.PluralCategory.TheVariants as category
@@ -7,9 +7,11 @@ use Rattle.plural_rules.specs.Operands.{plain}
 use Rattle.plural_rules.specs.Rules.{RuleValue, category_of}
 use Rattle.plural_rules.specs.RulesGrammar.{Grammar}
 use Rattle.plural_rules.specs.RulesParseResult.{IsSyntaxErrorAt, IsLimitErrorAt}
+use Rattle.locale_data.specs.declared.plurals.RulesNumber.{RulesNumber}
+use Rattle.locale_data.specs.Plurals.{rules_text_at, IsCategoryAt}
 use Rattle.fixed_decimal_c.specs.declared.error.FdError.{FdError}
 use Rattle.fixed_decimal_c.specs.declared.error.FdError.TheVariants.{Memory, UnknownLocale, RulesSyntax, RulesLimit}
-use Rattle.fixed_decimal_c.specs.Locales.{rules_of_number}
+use Rattle.fixed_decimal_c.specs.Locales.{rules_of, rules_of_number}
 use Rattle.fixed_decimal_c.specs.Numbers.{ParsingFails}
 
 abbrev pub category_code : PluralCategory → ℤ
@@ -39,16 +41,16 @@ HasCategory answer rules text =
     ((list : List RuleValue) × Grammar rules list × HasCategoryIn answer list text)
     ⊎ ((error : FdError) × (answer ≡ Err error) × RulesFail error rules)
 
--- no rules have the number, or out of memory for them
-abbrev pub RulesNumberFails : FdError → ℕ → Type 0
-RulesNumberFails UnknownLocale number = rules_of_number number ≡ None
-RulesNumberFails Memory number =
-    (rules : List ℕ) × (list : List RuleValue) × (rules_of_number number ≡ Some rules) × Grammar rules list
-RulesNumberFails _ number = ⊥
+-- the category of a text by rules in a table
+abbrev pub HasCategoryAt : Result ℤ FdError → RulesNumber → List ℕ → Type 0
+HasCategoryAt (Ok n) rules text =
+    IsOkAnd (read_decimal text) (λ v. (category : PluralCategory) × IsCategoryAt rules (plain v.absolute) category
+    × (n ≡ category_code category))
+HasCategoryAt (Err error) rules text = ParsingFails error text 0
 
--- the category of a text by the rules with a number
+-- the category of a text by the rules with a number, if there are such rules
 abbrev pub HasCategoryOf : Result ℤ FdError → ℕ → List ℕ → Type 0
 HasCategoryOf answer number text =
-    ((rules : List ℕ) × (list : List RuleValue) × (rules_of_number number ≡ Some rules) × Grammar rules list
-    × HasCategoryIn answer list text)
-    ⊎ ((error : FdError) × (answer ≡ Err error) × RulesNumberFails error number)
+    ((rules : RulesNumber) × (rules_of number ≡ Some rules) × IsSome (rules_text_at rules)
+    × HasCategoryAt answer rules text)
+    ⊎ ((answer ≡ Err UnknownLocale) × (rules_of_number number ≡ None))

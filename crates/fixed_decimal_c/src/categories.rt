@@ -5,7 +5,7 @@ ghost use Rattle.fixed_decimal_c.specs.Categories.{category_code, HasCategoryIn,
 use crate::error::FdError;
 use crate::locales::rules_of_number;
 use crate::numbers::read;
-use locale_data::PluralRulesError;
+use locale_data::{plural_category_at, rules_text_at};
 use plural_rules::{PluralCategory, PluralOperands, PluralRules, RulesError};
 use std::alloc::Global;
 
@@ -51,9 +51,12 @@ pub(crate) fn category_by(alloc: Global, number: u64, text: &[u8]) -> Result<i64
     let Some(rules) = rules_of_number(number) else {
         return Err(FdError::UnknownLocale);
     };
-    match locale_data::plural_rules_at(alloc, rules) {
-        Ok(rules) => category_in(alloc, &rules, text),
-        Err(PluralRulesError::UnknownLocale) => Err(FdError::UnknownLocale),
-        Err(PluralRulesError::Memory) => Err(FdError::Memory),
+    if rules_text_at(rules).is_none() && text.is_empty() {
+        return Err(FdError::UnknownLocale);
+    }
+    let value = read(alloc, text, 0)?;
+    match plural_category_at(rules, &PluralOperands::of_decimal(&value)) {
+        Some(category) => Ok(category_number(category)),
+        None => Err(FdError::UnknownLocale),
     }
 }
