@@ -9,8 +9,9 @@ use test_support::is_outcome;
 const ZEROS: [u32; 5] = [0x30, 0x660, 0x6f0, 0x966, 0x9e6];
 
 /// What a negative number shows.
-const NEGATIVE: [char; 8] =
-    ['-', '(', '\u{2212}', '\u{2010}', '\u{2011}', '\u{2012}', '\u{fe63}', '\u{ff0d}'];
+const NEGATIVE: [char; 8] = [
+    '-', '(', '\u{2212}', '\u{2010}', '\u{2011}', '\u{2012}', '\u{fe63}', '\u{ff0d}',
+];
 
 /// Returns the digits of a text, without the separators.
 fn digits(alloc: Global, text: &str) -> Option<String> {
@@ -25,8 +26,7 @@ fn digits(alloc: Global, text: &str) -> Option<String> {
     Some(digits)
 }
 
-/// Whether a text is rejected as people type it, or read as a value of its digits, but for zeros at the ends, and of its
-/// sign.
+/// Whether lenient reading rejects a text, or returns a value of its digits, but for zeros at the ends, and its sign.
 fn is_own(alloc: Global, reader: &NumberReader, text: &[u8]) -> Option<bool> {
     let Ok(text) = str::from_utf8(text) else {
         return Some(true);
@@ -38,7 +38,8 @@ fn is_own(alloc: Global, reader: &NumberReader, text: &[u8]) -> Option<bool> {
     let mut shown = TextBuf::new(alloc);
     value.write_to(&mut shown).ok()?;
     let shown = digits(alloc, str::from_utf8(shown.as_bytes()).ok()?)?;
-    let is_same = shown.as_str().trim_matches('0') == digits(alloc, text)?.as_str().trim_matches('0');
+    let is_same = shown.as_str().trim_matches('0')
+        == digits(alloc, text)?.as_str().trim_matches('0');
     Some(is_same && (value.sign == Sign::Negative) == text.contains(NEGATIVE))
 }
 
@@ -47,7 +48,7 @@ fn is_other(alloc: Global, reader: &NumberReader, text: &[u8], value: &str) -> b
     !is_outcome::<Decimal>(reader.read(alloc, text), value)
 }
 
-/// Whether no other byte at an index of a text leaves its value, and none that is typed makes it another one's.
+/// Whether no other byte at an index of a text leaves its value, and lenient reading keeps its digits and its sign.
 fn each_change_is_other(
     alloc: Global,
     reader: &NumberReader,
@@ -89,12 +90,7 @@ fn each_cut_is_other(
 }
 
 /// Whether no cut of a text, no removal of a byte, and no change of one leaves its value.
-fn is_only_text(
-    alloc: Global,
-    reader: &NumberReader,
-    text: &[u8],
-    value: &str,
-) -> Option<bool> {
+fn is_only_text(alloc: Global, reader: &NumberReader, text: &[u8], value: &str) -> Option<bool> {
     let mut all = true;
     for index in 0..text.len() {
         all &= each_cut_is_other(alloc, reader, text, index, value)?
