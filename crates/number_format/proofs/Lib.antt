@@ -25,7 +25,7 @@ pub mod StandardNotation
 pub mod PartTexts
 pub mod PieceTexts
 pub mod PlainNumbers
-pub mod Choices
+pub mod CompactChoices
 pub mod DefaultsResolve
 pub mod ExponentDigits
 pub mod FormatterTexts

@@ -2,7 +2,7 @@ use Rattle.std.proofs.Common.{◌≡◌, ◌∙◌, sym, rules, w32, FitsSigned}
 use Rattle.std.proofs.lemmas.Int.{to_z-of_z}
 use Rattle.fixed_decimal.proofs.Calling.{narrow_kept}
 use Rattle.number_format.specs.NumberText.{words_by}
-use Rattle.number_format.proofs.Choices.{words_are}
+use Rattle.number_format.proofs.CompactChoices.{words_are}
 use Rattle.number_format.proofs.formatted_number.FormattedNumber.compact_affixes.Goals as goal
 
 pub returns-clause-value : goal.returns-clause-value

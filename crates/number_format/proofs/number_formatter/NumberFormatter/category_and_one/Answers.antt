@@ -5,7 +5,7 @@ use Rattle.plural_rules.specs.Operands as operands
 use Rattle.locale_data.specs.Compact.{NeedsCategory}
 use Rattle.locale_data.proofs.RulesTexts.{category_exists}
 use Rattle.number_format.specs.NumberText.{is_one}
-use Rattle.number_format.proofs.Choices.{same_words}
+use Rattle.number_format.proofs.CompactChoices.{same_words}
 use Rattle.number_format.proofs.number_formatter.NumberFormatter.category_and_one.Goals as goal
 
 -- each category chooses the words of the number's

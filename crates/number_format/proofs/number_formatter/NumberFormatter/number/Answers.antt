@@ -3,7 +3,7 @@ use Rattle.std.proofs.lemmas.Int.{to_z-of_z}
 use Rattle.number_format.specs.FormattedNumbers.{IsChoice}
 use Rattle.number_format.specs.NumberText.{exponent_of, pieces_around, around_by, words_by, compact_magnitude, shown_sign, unit_by}
 use Rattle.number_format.specs.Scaled.{scaled_value}
-use Rattle.number_format.proofs.Choices.{same_unit}
+use Rattle.number_format.proofs.CompactChoices.{same_unit}
 use Rattle.number_format.proofs.number_formatter.NumberFormatter.number.Goals as goal
 
 pub returns : goal.returns
@@ -25,7 +25,8 @@ returns c v is =
       of_whole = choice.unit.of_whole;
       value =
           (λ i. pieces_around f (shown i).absolute (exponent_of f e) (around_by f (shown i).sign
-          (words_by f.formats f.compact (compact_magnitude (shown i) e) t.category t.is_one)) (unit_by f f.compact t.whole))
+          (words_by f.formats f.compact (compact_magnitude (shown i) e) t.category t.is_one))
+          (unit_by f f.compact t.whole))
           ∙ (λ i. pieces_around f value.absolute (exponent_of f e) (around_by f (shown_sign f value)
           (choice.words.words i)) (unit i));
     })

@@ -2,7 +2,7 @@ use Rattle.std.specs.Prelude.{unsigned_abs}
 use Rattle.plural_rules.specs.Operands as operands
 use Rattle.locale_data.proofs.RulesTexts.{category_exists}
 use Rattle.number_format.specs.NumberText.{compact_power}
-use Rattle.number_format.proofs.Choices.{same_texts}
+use Rattle.number_format.proofs.CompactChoices.{same_texts}
 use Rattle.number_format.proofs.number_formatter.NumberFormatter.whole_category.Goals as goal
 
 pub returns-in_default : goal.returns-in_default
