@@ -114,12 +114,24 @@ module _ (notation : NumberNotation) (v : NumberStyle) (z : ℤ) (d : DigitsValu
       numbering_system = y;
     }
 
+    -- the rest of the text from a group on
+    abbrev system_rest : List ℕ
+    system_rest = system_text y ++ []
+
+    abbrev sign_rest : List ℕ
+    sign_rest = sign_text (style_sign v) shown ++ system_rest
+
     abbrev grouping_rest : List ℕ
-    grouping_rest =
-        grouping_text (is_compact notation) g ++ (sign_text (style_sign v) shown ++ (system_text y ++ []))
+    grouping_rest = grouping_text (is_compact notation) g ++ sign_rest
+
+    abbrev integer_rest : List ℕ
+    integer_rest = integer_text d.integer ++ grouping_rest
 
     abbrev mode_rest : List ℕ
-    mode_rest = mode_text d.mode ++ (integer_text d.integer ++ grouping_rest)
+    mode_rest = mode_text d.mode ++ integer_rest
+
+    abbrev precision_rest : List ℕ
+    precision_rest = shown_precision_text notation v d ++ mode_rest
 
     all_groups :
         (n : Of ChosenNotation) → notation_of n ≡ Ok notation → (negsuc 32767 ≤ℤ z) × (z ≤ℤ pos 32767)
@@ -130,40 +142,43 @@ module _ (notation : NumberNotation) (v : NumberStyle) (z : ℤ) (d : DigitsValu
         → currency_of u usage.Cash t ≡ Ok d.precision)
         → Reads whole (options_text whole)
     all_groups n is power good system sign integer digits cash =
-        let n_ = notation_step n notation is no_stems.stem 0 (style_text v z ++ (shown_precision_text notation v d
-        ++ mode_rest)) in
-        let v_ = style_step n_.x z power.0 power.1 v (ap (λ b. good_style b v) n_.holds.1 ∙ good) n_.stem n_.offset
-        (shown_precision_text notation v d ++ mode_rest) in
-        let c = first_groups n_.x v_.x.unit v_.x.width v_.x.scale in
-        let p_ = precision_step c (is_compact notation) v d.precision (strips d.trailing_zeros) refl refl v_.x.is_unit
-        digits (λ e. cash e v_.x.unit v_.x.is_unit) v_.stem v_.offset mode_rest in
-        let c_p : Choices = record c { precision = p_.x.0; strips_if_integer = p_.x.1 } in
-        let m_ = mode_step c_p refl p_.stem p_.offset (integer_text d.integer ++ grouping_rest) d.mode in
-        let c_m : Choices = record c_p { mode = m_.x } in
-        let i_ = integer_step c_m refl d.integer integer m_.stem m_.offset grouping_rest in
-        let c_i : Choices = record c_m { integer = i_.x } in
-        let g_ = grouping_step c_i refl i_.stem i_.offset (sign_text (style_sign v) shown ++ (system_text y ++ []))
-        (is_compact notation) g in
-        let c_g : Choices = record c_i { grouping = g_.x } in
-        let s_ = sign_step c_g refl g_.stem g_.offset (system_text y ++ []) (style_sign v) shown sign in
-        let c_s : Choices = record c_g { sign = s_.x } in
-        let y_ = system_step c_s refl y system s_.stem s_.offset [] in
-        let after : Choices = record c_s { system = y_.x } in
+        let noted = notation_step n notation is no_stems.stem 0 (style_text v z ++ precision_rest) in
+        let styled = style_step noted.x z power.0 power.1 v (ap (λ b. good_style b v) noted.holds.1 ∙ good) noted.stem
+        noted.offset precision_rest in
+        let c = first_groups noted.x styled.x.unit styled.x.width styled.x.scale in
+        let precise = precision_step c (is_compact notation) v d.precision (strips d.trailing_zeros) refl refl
+        styled.x.is_unit digits (λ e. cash e styled.x.unit styled.x.is_unit) styled.stem styled.offset mode_rest in
+        let with_precision : Choices = record c { precision = precise.x.0; strips_if_integer = precise.x.1 } in
+        let rounded = mode_step with_precision refl precise.stem precise.offset integer_rest d.mode in
+        let with_mode : Choices = record with_precision { mode = rounded.x } in
+        let wide = integer_step with_mode refl d.integer integer rounded.stem rounded.offset grouping_rest in
+        let with_integer : Choices = record with_mode { integer = wide.x } in
+        let grouped_by = grouping_step with_integer refl wide.stem wide.offset sign_rest (is_compact notation) g in
+        let with_grouping : Choices = record with_integer { grouping = grouped_by.x } in
+        let signed = sign_step with_grouping refl grouped_by.stem grouped_by.offset system_rest (style_sign v) shown
+        sign in
+        let with_sign : Choices = record with_grouping { sign = signed.x } in
+        let named = system_step with_sign refl y system signed.stem signed.offset [] in
+        let all : Choices = record with_sign { system = named.x } in
         let text = grouped (notation_text notation) (style_text v z) (shown_precision_text notation v d)
         (mode_text d.mode) (integer_text d.integer) (grouping_text (is_compact notation) g)
         (sign_text (style_sign v) shown) (system_text y) in
         record {
-          after = at after expected.Stem y_.stem;
-          reads = ap (λ t. read_pieces no_stems (pieces 0 [] t)) text ∙ n_.same ∙ v_.same ∙ p_.same ∙ m_.same ∙ i_.same
-              ∙ g_.same ∙ s_.same ∙ y_.same ∙ last_read after y_.stem y_.offset;
-          is = options_are after whole d refl refl refl
-              (v_.x.is_style after refl refl refl s_.holds.0 p_.holds.usual) v_.x.is_scale n_.holds.0 refl i_.holds
-              (precision_at after ∙ ap (λ k. precision_by p_.x.0 k v_.x.unit) n_.holds.1 ∙ p_.holds.value) m_.holds
-              (ap trailing_zeros_of p_.holds.strips_is ∙ zeros_back d.trailing_zeros)
-              (ap (λ k. grouping_of k g_.x) n_.holds.1 ∙ g_.holds) y_.holds s_.holds.1;
-          ends = subst Ends (sym text) (ends_append _ _ n_.ends (ends_append _ _ v_.ends (ends_append _ _ p_.ends
-              (ends_append _ _ m_.ends (ends_append _ _ i_.ends (ends_append _ _ g_.ends (ends_append _ _ s_.ends
-              (ends_append _ _ y_.ends (inl refl)))))))));
+          after = at all expected.Stem named.stem;
+          reads = ap (λ t. read_pieces no_stems (pieces 0 [] t)) text ∙ noted.same ∙ styled.same ∙ precise.same
+              ∙ rounded.same ∙ wide.same ∙ grouped_by.same ∙ signed.same ∙ named.same
+              ∙ last_read all named.stem named.offset;
+          is = options_are all whole d refl refl refl
+              (styled.x.is_style all refl refl refl signed.holds.0 precise.holds.usual) styled.x.is_scale noted.holds.0
+              refl wide.holds
+              (precision_at all ∙ ap (λ k. precision_by precise.x.0 k styled.x.unit) noted.holds.1
+              ∙ precise.holds.value) rounded.holds
+              (ap trailing_zeros_of precise.holds.strips_is ∙ zeros_back d.trailing_zeros)
+              (ap (λ k. grouping_of k grouped_by.x) noted.holds.1 ∙ grouped_by.holds) named.holds signed.holds.1;
+          ends = subst Ends (sym text) (ends_append _ _ noted.ends (ends_append _ _ styled.ends
+              (ends_append _ _ precise.ends (ends_append _ _ rounded.ends (ends_append _ _ wide.ends
+              (ends_append _ _ grouped_by.ends (ends_append _ _ signed.ends (ends_append _ _ named.ends
+              (inl refl)))))))));
         }
 
 -- the options of choices that a text makes
