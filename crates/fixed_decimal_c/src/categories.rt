@@ -51,7 +51,7 @@ pub(crate) fn category_by(alloc: Global, number: u64, text: &[u8]) -> Result<i64
     let Some(rules) = rules_of_number(number) else {
         return Err(FdError::UnknownLocale);
     };
-    if rules_text_at(rules).is_none() && text.is_empty() {
+    if rules_text_at(rules).is_none() {
         return Err(FdError::UnknownLocale);
     }
     let value = read(alloc, text, 0)?;
