@@ -268,7 +268,7 @@ shell 1 $'one\n' '' 'plural "$one" 1 x 2> /dev/full'
 
 # Little memory for texts of 20000 digits.
 digits=$(printf '%020000d' 7)
-little_memory memory "$(seq 1000 250 64000)" 0 $'other\nother\n' '' plural "$one" "$digits" "$digits"
+little_memory memory "$(seq 1000 20 6000)" 0 $'other\nother\n' '' plural "$one" "$digits" "$digits"
 
 help plural 'usage: plural RULES TEXT..'
 row plural 0 "plural $version"$'\n' '' --version
