@@ -11,9 +11,9 @@ cd "$(dirname "$0")/.." || exit 1
 scratch=$(mktemp -d) || exit 1
 trap 'rm -rf "$scratch"' EXIT
 git ls-files -z -- crates crates.txt HANDLES wrong_bodies | tar cf - --null -T - | tar xf - -C "$scratch"
-for kept in crates/*/out/{incremental,rlib}; do
+[ $# -gt 0 ] || set -- $(ls wrong_bodies)
+for kept in crates/*/out/rlib $(printf 'crates/%s/out/incremental ' "$@"); do
   [ ! -d "$kept" ] || { mkdir -p "$scratch/$(dirname "$kept")" && cp -r "$kept" "$scratch/$kept"; }
 done
-[ $# -gt 0 ] || set -- $(ls wrong_bodies)
 program=$PWD/tools/wrong_bodies.py
 cd "$scratch" && python3 "$program" "$@"
