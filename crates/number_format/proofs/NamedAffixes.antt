@@ -46,13 +46,23 @@ whole_char c (x ∷ before) (y ∷ r) utf8 some e =
 
 -- ---- Tests.
 
-pub unless : (b : Bool) (P Q : Type 0) → IsTrue b ↔ P → Q ↔ ¬ P → IsTrue (not b) ↔ Q
+unless : (b : Bool) (P Q : Type 0) → IsTrue b ↔ P → Q ↔ ¬ P → IsTrue (not b) ↔ Q
 unless true P Q h q = (λ t. absurd (cc), λ x. absurd (q.0 x (h.0 refl)))
 unless false P Q h q = (λ t. q.1 (λ p. let t = h.1 p in absurd (cc)), λ x. refl)
 
 pub none_is : (xs : List ℕ) → nat_eq (length xs) 0 ≡ true → xs ≡ []
 none_is [] e = refl
 none_is (x ∷ xs) e = absurd (grind (arith, nat_tests))
+
+-- what is left of the longer of two prefixes or suffixes decides whether they are apart
+abbrev pub Decides : Type 0 → (List ℕ → Type 0) → Option (Bor (List ℕ)) → Type 0
+Decides Apart Digit rest = MatchOption rest Apart
+    (λ r. (IsUtf8 r.now → (r.now ≢ []) × ¬ Digit r.now → Apart) × (Apart → (r.now ≢ []) × ¬ Digit r.now))
+
+pub apart_by_digit : (Apart : Type 0) (Digit : List ℕ → Type 0) (r : Bor (List ℕ)) (b : Bool)
+    → Decides Apart Digit (Some r) → IsUtf8 r.now → r.now ≢ [] → IsTrue b ↔ Digit r.now → IsTrue (not b) ↔ Apart
+apart_by_digit Apart Digit r b e utf8 some test =
+    unless b (Digit r.now) Apart test (λ apart. (e.1 apart).1, λ none. e.0 utf8 (some, none))
 
 -- ---- Digits.
 
@@ -121,16 +131,10 @@ module _ (s : Symbols) where
       → ArePrefixesApart s p q
   neither_prefix p q f g a b x y e = elim (meet p q a b e) [ inl l ↦ g l.0 l.1 | inr r ↦ f r.0 r.1 ]
 
-  -- what is left of the longer prefix decides
-  abbrev pub DecidesPrefixes : List ℕ → List ℕ → Option (Bor (List ℕ)) → Type 0
-  DecidesPrefixes p q rest = MatchOption rest (ArePrefixesApart s p q)
-      (λ r. (IsUtf8 r.now → (r.now ≢ []) × ¬ BeginsWithDigit s r.now → ArePrefixesApart s p q)
-      × (ArePrefixesApart s p q → (r.now ≢ []) × ¬ BeginsWithDigit s r.now))
-
   pub prefixes_by_rest : (p q : List ℕ) (a b : Option (Bor (List ℕ)))
       → MatchOption a ((r : List ℕ) → p ≢ q ++ r) (λ r. p ≡ q ++ r.now)
       → MatchOption b ((r : List ℕ) → q ≢ p ++ r) (λ r. q ≡ p ++ r.now)
-      → DecidesPrefixes p q (option_or a b)
+      → Decides (ArePrefixesApart s p q) (BeginsWithDigit s) (option_or a b)
   prefixes_by_rest p q None None f g = neither_prefix p q f g
   prefixes_by_rest p q None (Some r) f g = (
     λ utf8 apart. prefixes_swapped q p (prefix_after q p r.now g utf8 apart),
@@ -173,16 +177,10 @@ module _ (s : Symbols) where
     | inr r ↦ g r.0 (append_cancel_left b _ _ (sym e ∙ ap (λ t. t ++ p) r.1 ∙ append_assoc b r.0 p))
   ]
 
-  -- what is left of the longer suffix decides
-  abbrev pub DecidesSuffixes : List ℕ → List ℕ → Option (Bor (List ℕ)) → Type 0
-  DecidesSuffixes p q rest = MatchOption rest (AreSuffixesApart s p q)
-      (λ r. (IsUtf8 r.now → (r.now ≢ []) × ¬ EndsWithDigit s r.now → AreSuffixesApart s p q)
-      × (AreSuffixesApart s p q → (r.now ≢ []) × ¬ EndsWithDigit s r.now))
-
   pub suffixes_by_rest : (p q : List ℕ) (a b : Option (Bor (List ℕ)))
       → MatchOption a ((r : List ℕ) → p ≢ r ++ q) (λ r. p ≡ r.now ++ q)
       → MatchOption b ((r : List ℕ) → q ≢ r ++ p) (λ r. q ≡ r.now ++ p)
-      → DecidesSuffixes p q (option_or a b)
+      → Decides (AreSuffixesApart s p q) (EndsWithDigit s) (option_or a b)
   suffixes_by_rest p q None None f g = neither_suffix p q f g
   suffixes_by_rest p q None (Some r) f g = (
     λ utf8 apart. suffixes_swapped q p (suffix_before q p r.now g utf8 apart),

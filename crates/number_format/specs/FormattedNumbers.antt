@@ -29,10 +29,15 @@ around_of n = around_by n.formatter.now n.value.sign (words_of n)
 abbrev pub unit_of : FormattedNumber → Affixes
 unit_of n = unit_by n.formatter.now n.formatter.now.compact n.choice.whole
 
--- the pieces of the text, with their kinds
+-- the pieces of a text, with their kinds
+abbrev pub shown_pieces : NumberFormatter → Decimal → ℤ → CompactChoice → List Piece
+shown_pieces f value e choice =
+    let words = words_by f.formats f.compact (compact_magnitude value e) choice.category choice.is_one in
+    pieces_around f value.absolute (exponent_of f e) (around_by f value.sign words)
+    (unit_by f f.compact choice.whole)
+
 abbrev pub formatted_number_pieces : FormattedNumber → List Piece
-formatted_number_pieces n =
-    pieces_around n.formatter.now n.value.absolute (exponent_of n.formatter.now n.exponent) (around_of n) (unit_of n)
+formatted_number_pieces n = shown_pieces n.formatter.now n.value n.exponent n.choice
 
 -- the text: that of the pieces
 abbrev pub formatted_number_text : FormattedNumber → List ℕ

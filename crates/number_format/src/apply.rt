@@ -63,6 +63,7 @@ impl DigitOptions {
         Ok(())
     }
 
+    #[inline(always)]
     pub(crate) fn round_at<D: DigitStore>(
         &self,
         value: &mut Signed<UnsignedOver<D>>,

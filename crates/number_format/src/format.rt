@@ -4,7 +4,7 @@ ghost use Rattle.decimal_unsigned.specs.Unsigned.{IsValue};
 ghost use Rattle.fixed_decimal.specs.Decimal.{Decimal};
 ghost use Rattle.decimal_digits.specs.declared.rounding.RoundingIncrement.TheVariants.{MultiplesOf25};
 ghost use Rattle.locale_data.specs.Plurals.{IsCategoryAt};
-ghost use Rattle.number_format.specs.FormattedNumbers.{formatted_number_pieces, formatted_number_text, ChoosesWords, ChoosesUnit, IsChoice};
+ghost use Rattle.number_format.specs.FormattedNumbers.{formatted_number_pieces, formatted_number_text, shown_pieces, ChoosesWords, ChoosesUnit, IsChoice};
 ghost use Rattle.number_format.specs.NumberText.{shown_number, is_one, compact_magnitude, compact_power, exponent_sign, shown_exponent, rounded_in, AreNumberPieces, IsNumberText, NeedsMemory};
 ghost use Rattle.number_format.specs.Scaled.{scaled_value};
 ghost use Rattle.number_format.specs.ShownDigits.{base_of};
@@ -26,6 +26,13 @@ pub struct FormatError {
     pub error: RoundError,
     /// The number.
     pub value: Decimal,
+}
+
+/// What is shown of a number besides the significand.
+#[derive(Clone, Copy)]
+struct Shown {
+    exponent: i32,
+    choice: CompactChoice,
 }
 
 fn is_one(significand: &Decimal) -> bool
@@ -122,12 +129,16 @@ impl NumberFormatter {
         ensures limit { IsErrOf result RoundError.Limit → shown_number self.now value.old ≡ None }
         ensures memory { IsErrOf result RoundError.Memory → NeedsMemory self.now value.old }
     {
-        let Ok(mut shown) = value.clone() else {
+        let Ok(kept) = value.clone() else {
             return Err(RoundError::Memory);
         };
-        let exponent = self.shown_number(&mut shown)?;
-        *value = shown;
-        Ok(exponent)
+        match self.shown_number(value) {
+            Ok(exponent) => Ok(exponent),
+            Err(error) => {
+                *value = kept;
+                Err(error)
+            }
+        }
     }
 
     /// Makes a number the significand that is written, and returns the exponent. On an error the number is unchanged.
@@ -196,20 +207,19 @@ impl NumberFormatter {
         }
     }
 
-    /// Returns the number whose significand and exponent are these.
-    fn number(&self, alloc: Global, mut value: Decimal, exponent: i32) -> FormattedNumber<'_>
-        ensures { (v : Decimal) → shown_number self.now v ≡ Some (scaled_value value exponent)
-            → AreNumberPieces self.now v (formatted_number_pieces result) }
+    /// Makes a number the significand that is written, with the sign that is shown. On an error it is unchanged.
+    #[inline(never)]
+    fn shown(&self, value: &mut Decimal) -> Result<Shown, RoundError>
+        ensures pieces { IfOk result
+            (λ s. AreNumberPieces self.now value.old (shown_pieces self.now value.new s.exponent s.choice)) }
+        ensures unchanged { OnErr result (value.new ≡ value.old) }
+        ensures limit { IsErrOf result RoundError.Limit → shown_number self.now value.old ≡ None }
+        ensures memory { IsErrOf result RoundError.Memory → NeedsMemory self.now value.old }
     {
-        let choice = self.choice(&value, exponent);
+        let exponent = self.show(value)?;
+        let choice = self.choice(value, exponent);
         value.apply_sign_display(self.sign_display);
-        FormattedNumber {
-            formatter: self,
-            alloc,
-            value,
-            exponent,
-            choice,
-        }
+        Ok(Shown { exponent, choice })
     }
 
     /// Formats a number: rounds it, and writes it as the formatter's options have it.
@@ -220,6 +230,8 @@ impl NumberFormatter {
     ///
     /// - `Limit`: a digit of the scaled or of the rounded number is above 10^32767 or below 10^-32768.
     /// - `Memory`: out of memory, only for a number of more than `INLINE_DIGITS` digits or by an increment of 25.
+    // Inlined, so that the number is not copied twice more.
+    #[inline(always)]
     pub fn format(
         &self,
         alloc: Global,
@@ -231,8 +243,14 @@ impl NumberFormatter {
         ensures limit { IfErr result (λ e. e.error ≡ RoundError.Limit → shown_number self.now value ≡ None) }
         ensures memory { IfErr result (λ e. e.error ≡ RoundError.Memory → NeedsMemory self.now value) }
     {
-        match self.show(&mut value) {
-            Ok(exponent) => Ok(self.number(alloc, value, exponent)),
+        match self.shown(&mut value) {
+            Ok(shown) => Ok(FormattedNumber {
+                formatter: self,
+                alloc,
+                value,
+                exponent: shown.exponent,
+                choice: shown.choice,
+            }),
             Err(error) => Err(FormatError { error, value }),
         }
     }

@@ -81,6 +81,7 @@ impl<'f> FormattedNumber<'f> {
     }
 
     /// Returns the exponent as it is shown, if the notation has one.
+    #[inline(never)]
     pub(crate) fn shown_exponent(&self) -> Option<Decimal>
         ensures { result ≡ exponent_of self.now.formatter.now self.now.exponent }
     {
@@ -132,20 +133,6 @@ impl<'f> FormattedNumber<'f> {
         self.exponent_digits(exponent).write_to(sink)
     }
 
-    fn write_number<W: Sink>(&self, sink: &mut W) -> Result<(), SinkFault>
-        ensures ok { OnOk result
-            (Appends (W.contents sink.old) (W.contents sink.new) (number_text self.now)) }
-        ensures err { OnErr result
-            (AppendsPrefix (W.contents sink.old) (W.contents sink.new) (number_text self.now)) }
-        ensures failed { OnErr result (W.has_failed sink.new ≡ true) }
-    {
-        self.digits().write_to(sink)?;
-        match &self.shown_exponent() {
-            Some(exponent) => self.write_exponent(exponent, sink),
-            None => Ok(()),
-        }
-    }
-
     fn write_number_if<W: Sink>(&self, has_number: bool, sink: &mut W) -> Result<(), SinkFault>
         ensures ok { OnOk result
             (Appends (W.contents sink.old) (W.contents sink.new) (number_text_if self.now has_number)) }
@@ -153,10 +140,14 @@ impl<'f> FormattedNumber<'f> {
             (AppendsPrefix (W.contents sink.old) (W.contents sink.new) (number_text_if self.now has_number)) }
         ensures failed { OnErr result (W.has_failed sink.new ≡ true) }
     {
-        if has_number {
-            return self.write_number(sink);
+        if !has_number {
+            return Ok(());
         }
-        Ok(())
+        self.digits().write_to(sink)?;
+        match &self.shown_exponent() {
+            Some(exponent) => self.write_exponent(exponent, sink),
+            None => Ok(()),
+        }
     }
 
     fn fmt_exponent<'g, W: fmt::Write>(
@@ -173,16 +164,6 @@ impl<'f> FormattedNumber<'f> {
         fmt::Display::fmt(&self.exponent_digits(exponent), f)
     }
 
-    fn fmt_number<W: fmt::Write>(&self, f: &mut fmt::Formatter<W>) -> fmt::Result
-        ensures { WritesStyledOnOk W.write_str_gives f.old result (number_text self.now) f.new }
-    {
-        fmt::Display::fmt(&self.digits(), f)?;
-        match &self.shown_exponent() {
-            Some(exponent) => self.fmt_exponent(exponent, f),
-            None => Ok(()),
-        }
-    }
-
     fn fmt_number_if<W: fmt::Write>(
         &self,
         has_number: bool,
@@ -190,12 +171,17 @@ impl<'f> FormattedNumber<'f> {
     ) -> fmt::Result
         ensures { WritesStyledOnOk W.write_str_gives f.old result (number_text_if self.now has_number) f.new }
     {
-        if has_number {
-            return self.fmt_number(f);
+        if !has_number {
+            return Ok(());
         }
-        Ok(())
+        fmt::Display::fmt(&self.digits(), f)?;
+        match &self.shown_exponent() {
+            Some(exponent) => self.fmt_exponent(exponent, f),
+            None => Ok(()),
+        }
     }
 
+    #[inline(never)]
     fn write_pieces<W: Sink>(&self, sink: &mut W) -> Result<(), SinkFault>
         ensures ok { OnOk result
             (Appends (W.contents sink.old) (W.contents sink.new) (formatted_number_text self.now)) }
@@ -235,6 +221,7 @@ impl<'f> Writeable for FormattedNumber<'f> {
     /// # Errors
     ///
     /// As [`Writeable::write_to`].
+    #[inline]
     fn write_to<W: Sink>(&self, sink: &mut W) -> Result<(), SinkFault> {
         if sink.failed() {
             return Err(SinkFault);

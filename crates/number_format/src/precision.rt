@@ -80,6 +80,7 @@ impl BothDigits {
 }
 
 impl Precision {
+    #[inline(always)]
     pub(crate) fn base(self) -> RoundingIncrement
         ensures { result ≡ base_of self }
     {
@@ -89,6 +90,7 @@ impl Precision {
         }
     }
 
+    #[inline(always)]
     fn position(self, exponent: u16, first: i16) -> i32
         ensures position { result ≡ position_of self (first -ℤ pos exponent) }
         ensures at_most { result ≤ℤ int_max (first -ℤ pos exponent) (pos 3) }
@@ -109,6 +111,7 @@ impl Precision {
         }
     }
 
+    #[inline(always)]
     pub(crate) fn position_at(self, exponent: u16, first: i16) -> Result<i16, RoundError>
         ensures position { MatchResult result
             (λ p. (p ≡ int_max (pos exponent +ℤ position_of self (first -ℤ pos exponent)) (negsuc 32767))
@@ -124,6 +127,7 @@ impl Precision {
         Ok(position.max(-32768) as i16)
     }
 
+    #[inline(always)]
     pub(crate) fn last_shown(self, exponent: u16, before: i16, after: i16) -> i32
         ensures { result ≡ last_shown_of self (before -ℤ pos exponent) (after -ℤ pos exponent) }
     {

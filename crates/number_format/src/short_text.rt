@@ -19,6 +19,10 @@ use locale_data::{CompactAffix, CompactAffixes};
 fn put_part(part: TextPart<'_>, block: &mut Block) -> Result<(), SinkFault>
     ensures { OnOk result (block.new.0 ≡ block.old.0 ++ pieces_text (part_pieces part.entry)) }
 {
+    // Most parts are empty: without this test a compact number takes a tenth longer.
+    if part.text.is_empty() {
+        return Ok(());
+    }
     block.put_bytes(part.text.as_bytes())
 }
 
@@ -65,7 +69,7 @@ impl<'f> FormattedNumber<'f> {
         self.exponent_digits(exponent).put_to_block(block)
     }
 
-    #[inline]
+    #[inline(always)]
     fn put_digits(&self, block: &mut Block) -> Result<(), SinkFault>
         ensures { OnOk result (block.new.0 ≡ block.old.0 ++ number_text self.now) }
     {
@@ -93,7 +97,7 @@ impl<'f> FormattedNumber<'f> {
         formatter.put_compact_suffix(compact.suffix, block)
     }
 
-    #[inline]
+    #[inline(always)]
     fn put_pattern(&self, block: &mut Block) -> Result<(), SinkFault>
         ensures { OnOk result (block.new.0 ≡ block.old.0 ++ around_text self.now
             (pattern_around self.now.formatter.now self.now.value.sign)) }
@@ -116,6 +120,7 @@ impl<'f> FormattedNumber<'f> {
         }
     }
 
+    #[inline(never)]
     fn put_with_unit(&self, block: &mut Block) -> Result<(), SinkFault>
         ensures { OnOk result (block.new.0 ≡ block.old.0 ++ formatted_number_text self.now) }
     {
@@ -126,7 +131,7 @@ impl<'f> FormattedNumber<'f> {
     }
 
     /// Appends the text, if it fits the block.
-    #[inline]
+    #[inline(always)]
     pub(crate) fn put_text(&self, block: &mut Block) -> Result<(), SinkFault>
         ensures { OnOk result (block.new.0 ≡ block.old.0 ++ formatted_number_text self.now) }
     {

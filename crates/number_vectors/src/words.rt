@@ -10,6 +10,7 @@ use number_format::{
     FractionMultiples, Increment, IntegerDigits, Minimum, Notation, NumberNotation, NumberOptions,
     NumberReaderError, NumberStyle, Precision, RoundingPriority, SignificantDigits, TrailingZeros,
 };
+use test_support::named;
 
 /// The styles by the names of ECMA-402.
 #[derive(Clone, Copy)]
@@ -297,16 +298,6 @@ const CHECKS: &[(&str, Check)] = &[
 ];
 
 const MINIMA: &[(&str, Minimum)] = &[("chosen", Minimum::Chosen), ("both", Minimum::Both)];
-
-/// Returns the value of a word in a table.
-fn named<T: Copy>(table: &[(&str, T)], word: &str) -> Option<T> {
-    for (name, value) in table {
-        if *name == word {
-            return Some(*value);
-        }
-    }
-    None
-}
 
 /// Parses a code of three letters.
 fn code(word: &str) -> Option<CurrencyCode> {

@@ -4,14 +4,14 @@ use Rattle.number_format.specs.FormattedNumbers.{IsChoice}
 use Rattle.number_format.specs.NumberText.{exponent_of, pieces_around, around_by, words_by, compact_magnitude, shown_sign, unit_by}
 use Rattle.number_format.specs.Scaled.{scaled_value}
 use Rattle.number_format.proofs.CompactChoices.{same_unit}
-use Rattle.number_format.proofs.number_formatter.NumberFormatter.number.Goals as goal
+use Rattle.number_format.proofs.number_formatter.NumberFormatter.shown.Goals as goal
 
-pub returns : goal.returns
-returns c v is =
-    let fits : FitsSigned w32 c.args.exponent = search rules in
+pub returns-clause-pieces : goal.returns-clause-pieces
+returns-clause-pieces c =
+    let e = c.in_ok-exponent.exponent in
+    let fits : FitsSigned w32 e = search rules in
     let f = c.args.self.now in
-    let value = c.args.value in
-    let e = c.args.exponent in
+    let value = c.show.new.value in
     let t = c.choice-choice.result in
     let choice : IsChoice f value e t = simp to_z-of_z at c.choice-choice.ensures in
     let shown = c.apply_sign_display.ensures.value in
@@ -20,7 +20,7 @@ returns c v is =
       number = scaled_value value e;
       category = choice.words.category;
       whole = choice.unit.category;
-      number_is = is;
+      number_is = c.in_ok-exponent.ensures.ok;
       of_significand = choice.words.of_significand;
       of_whole = choice.unit.of_whole;
       value =

@@ -1,7 +1,7 @@
 use Rattle.std.proofs.Common.{ap, arith}
 use Rattle.std.proofs.Output.{has_written_styled_append}
 use Rattle.number_format.specs.FormattedNumbers.{exponent_text_if}
-use Rattle.number_format.proofs.formatted_number.FormattedNumber.fmt_number.Goals as goal
+use Rattle.number_format.proofs.formatted_number.FormattedNumber.fmt_number_if.Goals as goal
 
 pub returns-in-Some : goal.returns-in-Some
 returns-in-Some g c =
