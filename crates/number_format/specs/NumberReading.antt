@@ -44,16 +44,15 @@ affixes_of_formatter f =
 abbrev pub reader_of : NumberFormatter → Reader
 reader_of f = reader f.symbols (affixes_of_formatter f) (pos 0 -ℤ f.scale)
 
--- the texts of the formatter are read: a text has at most one sign and one number
-pub record CanRead (f : NumberFormatter) : Type 0 where
-  pub standard : IsStandard f
-  pub scale : f.scale ≢ negsuc 32767
-  pub readable : IsReadable f.symbols
-  pub named : AreNamed f.symbols (affixes_of_formatter f)
-
 -- the notation and the scale can be undone
 abbrev pub CanUndo : NumberFormatter → Type 0
 CanUndo f = IsStandard f × (f.scale ≢ negsuc 32767)
+
+-- the texts of the formatter are read: a text has at most one sign and one number
+pub record CanRead (f : NumberFormatter) : Type 0 where
+  pub undo : CanUndo f
+  pub readable : IsReadable f.symbols
+  pub named : AreNamed f.symbols (affixes_of_formatter f)
 
 -- what an error says
 abbrev pub CannotRead : NumberReaderError → NumberFormatter → Type 0

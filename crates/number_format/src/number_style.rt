@@ -81,18 +81,6 @@ fn capitals(code: CurrencyCode) -> CurrencyCode
     capitals
 }
 
-impl CurrencyNames {
-    fn of(tag: &str, code: CurrencyCode) -> Self
-        ensures { AreNamesOf tag.now code result }
-    {
-        CurrencyNames {
-            symbol: symbol_text(tag, code, SymbolWidth::Wide),
-            narrow: symbol_text(tag, code, SymbolWidth::Narrow),
-            code: capitals(code),
-        }
-    }
-}
-
 /// A currency as it is shown.
 #[derive(Clone, Copy, Debug)]
 pub(crate) struct ShownCurrency {
@@ -140,34 +128,32 @@ impl ShownCurrency {
         }
     }
 
-    fn code(tag: &str, code: CurrencyCode) -> Self
+    fn with_code(self, code: CurrencyCode) -> Self
         ensures shown { IsShownCode code result }
-        ensures names { IsSomeAnd result.names (AreNamesOf tag.now code) }
+        ensures names { result.names ≡ self.names }
     {
         ShownCurrency {
-            symbol: TextPart::empty(),
             code: capitals(code),
             shows_code: true,
             space_before: true,
             space_after: true,
-            names: Some(CurrencyNames::of(tag, code)),
+            ..self
         }
     }
 
-    fn symbol(tag: &str, code: CurrencyCode, width: SymbolWidth) -> Self
+    fn with_symbol(self, tag: &str, code: CurrencyCode, width: SymbolWidth) -> Self
         ensures shown { IsShownSymbol tag.now code width result }
-        ensures names { IsSomeAnd result.names (AreNamesOf tag.now code) }
+        ensures names { result.names ≡ self.names }
     {
         let Some(symbol) = currency_symbol(tag, code, width) else {
-            return Self::code(tag, code);
+            return self.with_code(code);
         };
         ShownCurrency {
             symbol: TextPart::new(PartKind::Currency, symbol.text),
-            code,
             shows_code: false,
             space_before: symbol.space_before,
             space_after: symbol.space_after,
-            names: Some(CurrencyNames::of(tag, code)),
+            ..self
         }
     }
 
@@ -185,14 +171,20 @@ impl ShownCurrency {
     pub(crate) fn of(tag: &str, style: &CurrencyStyle) -> Self
         ensures { IsShownCurrency tag.now style.now result }
     {
+        let names = CurrencyNames {
+            symbol: symbol_text(tag, style.code, SymbolWidth::Wide),
+            narrow: symbol_text(tag, style.code, SymbolWidth::Narrow),
+            code: capitals(style.code),
+        };
+        let named = ShownCurrency {
+            names: Some(names),
+            ..Self::none()
+        };
         match style.display {
-            CurrencyDisplay::Symbol => Self::symbol(tag, style.code, SymbolWidth::Wide),
-            CurrencyDisplay::Narrow => Self::symbol(tag, style.code, SymbolWidth::Narrow),
-            CurrencyDisplay::Code => Self::code(tag, style.code),
-            CurrencyDisplay::Hidden => ShownCurrency {
-                names: Some(CurrencyNames::of(tag, style.code)),
-                ..Self::none()
-            },
+            CurrencyDisplay::Symbol => named.with_symbol(tag, style.code, SymbolWidth::Wide),
+            CurrencyDisplay::Narrow => named.with_symbol(tag, style.code, SymbolWidth::Narrow),
+            CurrencyDisplay::Code => named.with_code(style.code),
+            CurrencyDisplay::Hidden => named,
         }
     }
 }

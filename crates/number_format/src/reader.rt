@@ -131,10 +131,8 @@ impl<'a> AffixReader<'a> {
         if let Some(middle) = self.between(Sign::Negative, text) {
             return Some((Sign::Negative, middle));
         }
-        if let Some(middle) = self.between(Sign::Positive, text) {
-            return Some((Sign::Positive, middle));
-        }
-        None
+        let middle = self.between(Sign::Positive, text)?;
+        Some((Sign::Positive, middle))
     }
 
     fn read_shown<D: DigitStore>(

@@ -30,6 +30,6 @@ returns-clause-ok c =
       notation_is = c.notation.ensures;
       compact_is = c.compact_style.ensures;
       exponent = c.exponent_options.ensures;
-      digits = c.shown_digits.ensures;
+      digits = search rules;
       sign_display = refl;
     }
