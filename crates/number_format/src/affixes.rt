@@ -111,13 +111,10 @@ impl SignAffixes {
             (affixes negative.entry.prefix.now negative.entry.suffix.now)
             (affixes positive.entry.prefix.now positive.entry.suffix.now)) }
     {
-        let none = OwnedAffixes::joined(alloc, &[none.prefix], &[none.suffix])?;
-        let negative = OwnedAffixes::joined(alloc, &[negative.prefix], &[negative.suffix])?;
-        let positive = OwnedAffixes::joined(alloc, &[positive.prefix], &[positive.suffix])?;
         Ok(SignAffixes {
-            none,
-            negative,
-            positive,
+            none: OwnedAffixes::joined(alloc, &[none.prefix], &[none.suffix])?,
+            negative: OwnedAffixes::joined(alloc, &[negative.prefix], &[negative.suffix])?,
+            positive: OwnedAffixes::joined(alloc, &[positive.prefix], &[positive.suffix])?,
         })
     }
 

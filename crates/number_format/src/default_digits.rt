@@ -1,6 +1,6 @@
 //! The digits that ECMA-402 has for a style and a notation.
 ghost use Rattle.std.specs.Prelude.{◌≡◌};
-ghost use Rattle.number_format.specs.DefaultDigits.{shows_all_digits, is_compact, usage_digits, fraction_digits, increment, no_settings, IsDefault, AreDefaultDigits};
+ghost use Rattle.number_format.specs.DefaultDigits.{shows_all_digits, is_compact, usage_digits, fraction_digits, increment, IsDefault, AreDefaultDigits};
 
 use crate::digit_options::{DigitOptions, TrailingZeros};
 use crate::digit_ranges::{FractionDigits, Increment};
@@ -8,22 +8,6 @@ use crate::number_options::{CurrencyUsage, NumberNotation, NumberOptions, Number
 use crate::settings::{DigitDefaults, DigitSettings, RoundingPriority};
 use fixed_decimal::{SignedRoundingMode, UnsignedRoundingMode};
 use locale_data::{CurrencyDigits, currency_digits};
-
-fn no_settings(rounding_increment: u16) -> DigitSettings
-    ensures { result ≡ no_settings rounding_increment }
-{
-    DigitSettings {
-        minimum_integer_digits: None,
-        minimum_fraction_digits: None,
-        maximum_fraction_digits: None,
-        minimum_significant_digits: None,
-        maximum_significant_digits: None,
-        rounding_increment,
-        rounding_mode: SignedRoundingMode::Unsigned(UnsignedRoundingMode::HalfExpand),
-        rounding_priority: RoundingPriority::Auto,
-        trailing_zeros: TrailingZeros::Auto,
-    }
-}
 
 impl CurrencyUsage {
     pub(crate) fn digits(self, currency: CurrencyDigits) -> (u8, u8)
@@ -99,8 +83,19 @@ impl NumberOptions {
         if self.shows_all_digits() {
             return None;
         }
+        let settings = DigitSettings {
+            minimum_integer_digits: None,
+            minimum_fraction_digits: None,
+            maximum_fraction_digits: None,
+            minimum_significant_digits: None,
+            maximum_significant_digits: None,
+            rounding_increment: self.increment(),
+            rounding_mode: SignedRoundingMode::Unsigned(UnsignedRoundingMode::HalfExpand),
+            rounding_priority: RoundingPriority::Auto,
+            trailing_zeros: TrailingZeros::Auto,
+        };
         let defaults = self.defaults();
-        match no_settings(self.increment()).resolve(&defaults) {
+        match settings.resolve(&defaults) {
             Ok(digits) => Some(digits),
             Err(_) => None,
         }

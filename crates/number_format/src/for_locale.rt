@@ -162,14 +162,12 @@ impl NumberFormatter {
         let sizes = style_sizes(&written.pattern, options.grouping, own);
         let symbols = with_separators(symbols, &written).with_sizes(sizes);
         let signs = formats.signs();
+        let percent = percent_text(options.style, signs.percent);
         let mut formatter = NumberFormatter {
             symbols,
             strategy: options.grouping,
             pattern: written.pattern,
-            percent: TextPart::new(
-                PartKind::PercentSign,
-                percent_text(options.style, signs.percent),
-            ),
+            percent: TextPart::new(PartKind::PercentSign, percent),
             separator: TextPart::new(PartKind::ExponentSeparator, signs.exponent.text()),
             currency,
             formats,

@@ -139,13 +139,10 @@ impl NumberFormatter {
     fn sign_affixes(&self, alloc: Global) -> Result<SignAffixes, AllocError>
         ensures { IfOk result (λ t. t ≡ affixes_of_formatter self.now) }
     {
-        let none = self.affix_texts(alloc, Sign::None)?;
-        let negative = self.affix_texts(alloc, Sign::Negative)?;
-        let positive = self.affix_texts(alloc, Sign::Positive)?;
         Ok(SignAffixes {
-            none,
-            negative,
-            positive,
+            none: self.affix_texts(alloc, Sign::None)?,
+            negative: self.affix_texts(alloc, Sign::Negative)?,
+            positive: self.affix_texts(alloc, Sign::Positive)?,
         })
     }
 

@@ -97,27 +97,19 @@ impl<'f> FormattedNumber<'f> {
         )
     }
 
-    fn put_number<P: PartSink>(&self, sink: &mut P) -> Result<(), SinkFault>
-        ensures { OnOk result (Puts (P.pieces sink.old) (P.pieces sink.new)
-            (number_part self.now.formatter.now self.now.value.absolute
-            (exponent_of self.now.formatter.now self.now.exponent))) }
-    {
-        put_digits(&self.digits(), PartKind::Integer, sink)?;
-        match &self.shown_exponent() {
-            Some(exponent) => self.put_exponent(exponent, sink),
-            None => Ok(()),
-        }
-    }
-
     fn put_number_if<P: PartSink>(&self, has_number: bool, sink: &mut P) -> Result<(), SinkFault>
         ensures { OnOk result (Puts (P.pieces sink.old) (P.pieces sink.new) (if has_number
             then number_part self.now.formatter.now self.now.value.absolute
             (exponent_of self.now.formatter.now self.now.exponent) else [])) }
     {
-        if has_number {
-            return self.put_number(sink);
+        if !has_number {
+            return Ok(());
         }
-        Ok(())
+        put_digits(&self.digits(), PartKind::Integer, sink)?;
+        match &self.shown_exponent() {
+            Some(exponent) => self.put_exponent(exponent, sink),
+            None => Ok(()),
+        }
     }
 
     /// Puts the pieces of the text with their kinds: consecutive pieces of one kind are one part of `formatToParts` of
