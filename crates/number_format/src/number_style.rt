@@ -67,10 +67,7 @@ pub(crate) struct CurrencyNames {
 fn symbol_text(tag: &str, code: CurrencyCode, width: SymbolWidth) -> &'static str
     ensures { IsSymbolText tag.now code width result.now }
 {
-    match currency_symbol(tag, code, width) {
-        Some(symbol) => symbol.text,
-        None => "",
-    }
+    currency_symbol(tag, code, width).map_or("", |symbol| symbol.text)
 }
 
 fn capitals(code: CurrencyCode) -> CurrencyCode

@@ -2,7 +2,7 @@
 ghost use Rattle.std.specs.Prelude.{◌≡◌, [], ◌∷◌, if◌then◌else◌, List, Option, OnOk};
 ghost use Rattle.number_format.specs.TextParts.{Piece, Puts, pieces_of, parts_pieces, pieces_text, digit_kind, digit_pieces};
 ghost use Rattle.number_format.specs.FormattedNumbers.{formatted_number_pieces, formatted_number_text};
-ghost use Rattle.number_format.specs.NumberText.{exponent_kind, exponent_pieces, exponent_of, number_part};
+ghost use Rattle.number_format.specs.NumberText.{exponent_pieces, exponent_of, number_part};
 
 use crate::formatted_number::FormattedNumber;
 use crate::text_part::{PartKind, TextPart};
@@ -72,15 +72,6 @@ fn put_digits<P: PartSink>(
     Ok(())
 }
 
-fn exponent_kind(sign: Sign) -> PartKind
-    ensures { result ≡ exponent_kind sign }
-{
-    match sign {
-        Sign::Positive => PartKind::ExponentPlusSign,
-        _ => PartKind::ExponentMinusSign,
-    }
-}
-
 impl<'f> FormattedNumber<'f> {
     fn put_exponent<P: PartSink>(&self, exponent: &Decimal, sink: &mut P) -> Result<(), SinkFault>
         ensures { OnOk result (Puts (P.pieces sink.old) (P.pieces sink.new)
@@ -89,7 +80,11 @@ impl<'f> FormattedNumber<'f> {
         let formatter = self.formatter;
         put(sink, PartKind::ExponentSeparator, formatter.separator.text)?;
         let sign = formatter.symbols.affixes(exponent.sign).prefix;
-        put(sink, exponent_kind(exponent.sign), sign)?;
+        let kind = match exponent.sign {
+            Sign::Positive => PartKind::ExponentPlusSign,
+            _ => PartKind::ExponentMinusSign,
+        };
+        put(sink, kind, sign)?;
         put_digits(
             &self.exponent_digits(exponent),
             PartKind::ExponentInteger,
