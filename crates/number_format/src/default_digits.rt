@@ -36,19 +36,6 @@ impl NumberOptions {
         )
     }
 
-    fn fraction_digits(&self) -> (u8, u8)
-        ensures { result ≡ fraction_digits self.now.style }
-    {
-        match self.style {
-            NumberStyle::Decimal => (0, 3),
-            NumberStyle::Percent | NumberStyle::Permille => (0, 0),
-            NumberStyle::Currency(style) => {
-                let (count, _) = style.usage.digits(currency_digits(style.code));
-                (count, count)
-            }
-        }
-    }
-
     fn increment(&self) -> u16
         ensures { result ≡ increment self.now }
     {
@@ -67,7 +54,14 @@ impl NumberOptions {
     fn defaults(&self) -> DigitDefaults
         ensures { IsDefault self.now result }
     {
-        let (min, max) = self.fraction_digits();
+        let (min, max) = match self.style {
+            NumberStyle::Decimal => (0, 3),
+            NumberStyle::Percent | NumberStyle::Permille => (0, 0),
+            NumberStyle::Currency(style) => {
+                let (count, _) = style.usage.digits(currency_digits(style.code));
+                (count, count)
+            }
+        };
         DigitDefaults {
             fraction: FractionDigits {
                 min: min as u16,

@@ -1,7 +1,7 @@
 //! Readers of what formatters write.
 ghost use Rattle.std.specs.Prelude.{◌≡◌, ◌∷◌, [], ◌++◌, ◌-ℤ◌, pos, length, map, flat_map, IfOk, IfErr, OnOk};
 ghost use Rattle.number_format.specs.AffixedTexts.{IsReadExactly};
-ghost use Rattle.number_format.specs.NumberReading.{affixes_for, affixes_of_formatter, CanRead, CanUndo, CannotRead, is_percent, has_percent, percent_name, names_by, form, form_of, forms_of_name, number_reader_of, typed_forms, IsReadLeniently, IsReadInMode};
+ghost use Rattle.number_format.specs.NumberReading.{affixes_for, affixes_of_formatter, CanRead, CanUndo, CannotRead, is_percent, has_percent, names_by, form, form_of, forms_of_name, number_reader_of, typed_forms, IsReadLeniently, IsReadInMode};
 
 use crate::affixes::{OwnedAffixes, SignAffixes};
 use crate::compact_texts::NO_UNIT;
@@ -146,23 +146,16 @@ impl NumberFormatter {
         })
     }
 
-    fn percent_name(&self) -> &str
-        ensures { result.now ≡ percent_name self.now }
-    {
-        let affixes = self.pattern.positive;
-        if has_percent(affixes.prefix) || has_percent(affixes.suffix) {
-            self.percent.text
-        } else {
-            ""
-        }
-    }
-
     fn names(&self) -> (&str, &str, &str)
         ensures { result.0.now ∷ result.1.now ∷ result.2.now ∷ [] ≡ names_by self.now self.now.currency.names }
     {
+        let positive = self.pattern.positive;
         match &self.currency.names {
             Some(names) => (names.symbol, names.narrow, text_or_nothing(&names.code)),
-            None => (self.percent_name(), "", ""),
+            None if has_percent(positive.prefix) || has_percent(positive.suffix) => {
+                (self.percent.text, "", "")
+            }
+            None => ("", "", ""),
         }
     }
 

@@ -1,7 +1,7 @@
 //! What a style of numbers writes: its pattern, its percent sign, and its currency.
-ghost use Rattle.std.specs.Prelude.{◌≡◌, ◌≤◌, [], false, None, length, map, IsSomeAnd};
+ghost use Rattle.std.specs.Prelude.{◌≡◌, ◌≤◌, [], true, false, None, length, map};
 ghost use Rattle.std.specs.Char.{to_ascii_uppercase};
-ghost use Rattle.number_format.specs.NumberStyles.{before, plain_pattern, percent_text, text_or_nothing, currency_text, piece_or, ends_with_currency, begins_with_currency, in_system, IsShownBy, IsShownCode, IsShownSymbol, IsSymbolText, AreNamesOf, IsShownCurrency};
+ghost use Rattle.number_format.specs.NumberStyles.{before, plain_pattern, percent_text, text_or_nothing, currency_text, piece_or, ends_with_currency, begins_with_currency, in_system, IsShownBy, IsShownSymbol, IsSymbolText, IsShownCurrency};
 
 use crate::number_options::{CurrencyDisplay, CurrencyStyle, NumberStyle};
 use crate::text_part::{PartKind, TextPart};
@@ -70,14 +70,6 @@ fn symbol_text(tag: &str, code: CurrencyCode, width: SymbolWidth) -> &'static st
     currency_symbol(tag, code, width).map_or("", |symbol| symbol.text)
 }
 
-fn capitals(code: CurrencyCode) -> CurrencyCode
-    ensures { result ≡ map to_ascii_uppercase code }
-{
-    let mut capitals = code;
-    capitals.make_ascii_uppercase();
-    capitals
-}
-
 /// A currency as it is shown.
 #[derive(Clone, Copy, Debug)]
 pub(crate) struct ShownCurrency {
@@ -113,6 +105,7 @@ impl ShownCurrency {
 
     pub(crate) fn none() -> Self
         ensures shown { IsShownBy [] false false result }
+        ensures symbol { result.shows_code ≡ false }
         ensures names { result.names ≡ None }
     {
         ShownCurrency {
@@ -125,12 +118,11 @@ impl ShownCurrency {
         }
     }
 
-    fn with_code(self, code: CurrencyCode) -> Self
-        ensures shown { IsShownCode code result }
+    fn with_code(self) -> Self
+        ensures shown { IsShownBy (text_or_nothing self.code) true true result }
         ensures names { result.names ≡ self.names }
     {
         ShownCurrency {
-            code: capitals(code),
             shows_code: true,
             space_before: true,
             space_after: true,
@@ -139,11 +131,12 @@ impl ShownCurrency {
     }
 
     fn with_symbol(self, tag: &str, code: CurrencyCode, width: SymbolWidth) -> Self
+        requires { self.code ≡ map to_ascii_uppercase code }
         ensures shown { IsShownSymbol tag.now code width result }
         ensures names { result.names ≡ self.names }
     {
         let Some(symbol) = currency_symbol(tag, code, width) else {
-            return self.with_code(code);
+            return self.with_code();
         };
         ShownCurrency {
             symbol: TextPart::new(PartKind::Currency, symbol.text),
@@ -168,19 +161,22 @@ impl ShownCurrency {
     pub(crate) fn of(tag: &str, style: &CurrencyStyle) -> Self
         ensures { IsShownCurrency tag.now style.now result }
     {
+        let mut code = style.code;
+        code.make_ascii_uppercase();
         let names = CurrencyNames {
             symbol: symbol_text(tag, style.code, SymbolWidth::Wide),
             narrow: symbol_text(tag, style.code, SymbolWidth::Narrow),
-            code: capitals(style.code),
+            code,
         };
         let named = ShownCurrency {
+            code,
             names: Some(names),
             ..Self::none()
         };
         match style.display {
             CurrencyDisplay::Symbol => named.with_symbol(tag, style.code, SymbolWidth::Wide),
             CurrencyDisplay::Narrow => named.with_symbol(tag, style.code, SymbolWidth::Narrow),
-            CurrencyDisplay::Code => named.with_code(style.code),
+            CurrencyDisplay::Code => named.with_code(),
             CurrencyDisplay::Hidden => named,
         }
     }
