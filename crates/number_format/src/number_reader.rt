@@ -197,12 +197,8 @@ impl NumberFormatter {
         ensures err { IfErr result (λ e. CannotRead e self) }
     {
         let shift = self.shift()?;
-        let Ok(forms) = self.forms(alloc) else {
-            return Err(NumberReaderError::Memory);
-        };
-        let Ok(affixes) = self.sign_affixes(alloc) else {
-            return Err(NumberReaderError::Memory);
-        };
+        let forms = self.forms(alloc).map_err(|_| NumberReaderError::Memory)?;
+        let affixes = self.sign_affixes(alloc).map_err(|_| NumberReaderError::Memory)?;
         match AffixReader::new(self.symbols, affixes) {
             Ok(reader) => Ok(NumberReader {
                 reader: reader.with_shift(shift),

@@ -189,9 +189,7 @@ impl<'a> AffixReader<'a> {
     /// Reads a number as people type it: between the affixes of its sign, or by the first alternative that
     /// [reads](DecimalSymbols::read_alternatives) the text.
     ///
-    /// A text that [`read`](Self::read) accepts has the same value. The alternatives of an amount of money are the
-    /// symbol, the narrow symbol, the code of its currency, or nothing, before the number and after it, with a space
-    /// and without: another currency, two symbols and two signs are `Syntax`.
+    /// A text that [`read`](Self::read) accepts has the same value.
     ///
     /// # Errors
     ///
