@@ -111,13 +111,10 @@ impl<'a> AffixReader<'a> {
     {
         let affixes = self.affixes.of_sign(sign);
         let middle = cut_affixes(text, affixes.prefix.as_bytes(), affixes.suffix.as_bytes())?;
-        if !self.symbols.begins_with_digit(middle) {
-            return None;
+        if self.symbols.begins_with_digit(middle) && self.symbols.ends_with_digit(middle) {
+            return Some(middle);
         }
-        if !self.symbols.ends_with_digit(middle) {
-            return None;
-        }
-        Some(middle)
+        None
     }
 
     fn split<'t>(&self, text: &'t [u8]) -> Option<(Sign, &'t [u8])>
