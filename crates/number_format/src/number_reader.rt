@@ -198,7 +198,9 @@ impl NumberFormatter {
     {
         let shift = self.shift()?;
         let forms = self.forms(alloc).map_err(|_| NumberReaderError::Memory)?;
-        let affixes = self.sign_affixes(alloc).map_err(|_| NumberReaderError::Memory)?;
+        let affixes = self
+            .sign_affixes(alloc)
+            .map_err(|_| NumberReaderError::Memory)?;
         match AffixReader::new(self.symbols, affixes) {
             Ok(reader) => Ok(NumberReader {
                 reader: reader.with_shift(shift),
