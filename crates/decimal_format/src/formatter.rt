@@ -128,16 +128,18 @@ impl<'f, D: DigitStore> FormattedAbsolute<'f, D> {
         }
     }
 
+    /// Returns the number of magnitudes that are shown.
     #[inline]
-    fn shown_count(&self) -> u32
+    pub fn shown_count(&self) -> u32
         ensures value { result ≡ shown_count self.now.value }
         ensures at_most { result ≤ 65536 }
     {
         count_between(self.value.lowest(), self.value.highest())
     }
 
+    /// Returns the magnitude that is the given number below the highest.
     #[inline]
-    fn magnitude(&self, below: u32) -> i16
+    pub fn magnitude(&self, below: u32) -> i16
         requires { below < shown_count self.now.value }
         ensures value { result ≡ self.now.value.hi -ℤ pos below }
         ensures valid { IsValue self.now.value }
@@ -155,8 +157,9 @@ impl<'f, D: DigitStore> FormattedAbsolute<'f, D> {
         self.magnitude(below) == -1
     }
 
+    /// Returns the decimal separator if it is before the digit, else nothing.
     #[inline]
-    fn separator_before(&self, below: u32) -> &str
+    pub fn separator_before(&self, below: u32) -> &str
         requires { below < shown_count self.now.value }
         ensures value { result.now ≡ separator_before self.now.symbols (self.now.value.hi -ℤ pos below) }
         ensures at_most { length result.now ≤ 255 }
@@ -168,8 +171,9 @@ impl<'f, D: DigitStore> FormattedAbsolute<'f, D> {
         }
     }
 
+    /// Returns the digit of a magnitude.
     #[inline]
-    fn digit(&self, below: u32) -> char
+    pub fn digit(&self, below: u32) -> char
         requires { below < shown_count self.now.value }
         ensures { encode_utf8 result ≡ digit_text self.now.symbols
             (digit self.now.value.number (self.now.value.hi -ℤ pos below)) }
@@ -178,8 +182,9 @@ impl<'f, D: DigitStore> FormattedAbsolute<'f, D> {
         self.symbols.digit(digit)
     }
 
+    /// Returns the grouping separator if it is after the digit, else nothing.
     #[inline]
-    fn separator_after(&self, below: u32) -> &str
+    pub fn separator_after(&self, below: u32) -> &str
         requires { below < shown_count self.now.value }
         ensures value { result.now ≡ separator_after self.now.symbols self.now.strategy self.now.value.hi
             (self.now.value.hi -ℤ pos below) }

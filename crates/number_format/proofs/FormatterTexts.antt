@@ -1,5 +1,5 @@
 -- The texts of a formatter are texts between affixes.
-use Rattle.std.proofs.Common.{◌≡◌, ℕ, List, [], ◌++◌, refl, sym, ◌∙◌, ap, subst, append-nil}
+use Rattle.std.proofs.Common.{◌≡◌, ℕ, List, [], ◌++◌, refl, sym, ◌∙◌, ap, append-nil}
 use Rattle.std.specs.Prelude.{Some, None}
 use Rattle.std.specs.Option.{option_map}
 use Rattle.decimal_unsigned.specs.Unsigned.{IsValue}
@@ -67,7 +67,7 @@ pub are_unique : (f : NumberFormatter) (v w x y : Decimal) (text : List ℕ) →
     → IsNumberText f w text → IsShownAs f v x → IsShownAs f w y → IsValue x.absolute → IsValue y.absolute → x ≡ y
 are_unique f v w x y text can a b p q valid valid' =
     named_texts_are_unique (reader_of f) can.named can.readable f.strategy f.strategy x y valid valid'
-    (sym (formatter_text f v x text can.standard a p) ∙ formatter_text f w y text can.standard b q)
+    (sym (formatter_text f v x text can.undo.0 a p) ∙ formatter_text f w y text can.undo.0 b q)
 
 -- ---- Standard notation.
 

@@ -44,16 +44,15 @@ affixes_of_formatter f =
 abbrev pub reader_of : NumberFormatter → Reader
 reader_of f = reader f.symbols (affixes_of_formatter f) (pos 0 -ℤ f.scale)
 
--- the texts of the formatter are read: a text has at most one sign and one number
-pub record CanRead (f : NumberFormatter) : Type 0 where
-  pub standard : IsStandard f
-  pub scale : f.scale ≢ negsuc 32767
-  pub readable : IsReadable f.symbols
-  pub named : AreNamed f.symbols (affixes_of_formatter f)
-
 -- the notation and the scale can be undone
 abbrev pub CanUndo : NumberFormatter → Type 0
 CanUndo f = IsStandard f × (f.scale ≢ negsuc 32767)
+
+-- the texts of the formatter are read: a text has at most one sign and one number
+pub record CanRead (f : NumberFormatter) : Type 0 where
+  pub undo : CanUndo f
+  pub readable : IsReadable f.symbols
+  pub named : AreNamed f.symbols (affixes_of_formatter f)
 
 -- what an error says
 abbrev pub CannotRead : NumberReaderError → NumberFormatter → Type 0
@@ -79,15 +78,12 @@ is_percent other = false
 abbrev pub has_percent : Affix → Bool
 has_percent a = is_percent a.first || (is_percent a.second || (is_percent a.third || is_percent a.fourth))
 
--- the percent sign, if the pattern has one
-abbrev pub percent_name : NumberFormatter → List ℕ
-percent_name f =
-    if has_percent f.pattern.positive.prefix || has_percent f.pattern.positive.suffix then f.percent.text.now else []
-
--- the names of a number: the symbol, the narrow symbol and the code of the currency, or the percent sign
+-- the names of a number: the symbol, the narrow symbol and the code of the currency, or the percent sign of the pattern
 abbrev pub names_by : NumberFormatter → Option CurrencyNames → List (List ℕ)
 names_by f (Some n) = n.symbol.now ∷ n.narrow.now ∷ text_or_nothing n.code ∷ []
-names_by f None = percent_name f ∷ [] ∷ [] ∷ []
+names_by f None =
+    (if has_percent f.pattern.positive.prefix || has_percent f.pattern.positive.suffix then f.percent.text.now else [])
+    ∷ [] ∷ [] ∷ []
 
 -- what is around a number, and the sign that it shows
 abbrev pub form : List ℕ → List ℕ → Sign → Affixes × Sign

@@ -12,21 +12,13 @@ use std::convert::AsStr;
 use std::marker::Model;
 
 /// The text before a number and the text after it.
-pub(crate) struct AffixTexts {
+#[derive(Drop)]
+pub(crate) struct OwnedAffixes {
     prefix: String,
     suffix: String,
 }
 
-// Not derived: a derived drop is proved again wherever a value is dropped.
-impl Drop for AffixTexts {
-    fn drop(self) {
-        let AffixTexts { prefix, suffix } = self;
-        drop(prefix);
-        drop(suffix);
-    }
-}
-
-impl Model for AffixTexts {
+impl Model for OwnedAffixes {
     ghost use Rattle.std.specs.String.{string_bytes};
     ghost use Rattle.decimal_format.specs.Symbols.{Affixes, affixes};
 
@@ -43,7 +35,7 @@ impl<'f> AsStr for TextPart<'f> {
     }
 }
 
-impl AffixTexts {
+impl OwnedAffixes {
     pub(crate) fn joined<S: AsStr>(
         alloc: Global,
         prefix: &[S],
@@ -53,7 +45,7 @@ impl AffixTexts {
     {
         let prefix = prefix.join(alloc, "")?;
         let suffix = suffix.join(alloc, "")?;
-        Ok(AffixTexts { prefix, suffix })
+        Ok(OwnedAffixes { prefix, suffix })
     }
 
     pub(crate) fn texts(&self) -> Affixes<'_>
@@ -68,24 +60,11 @@ impl AffixTexts {
 }
 
 /// The texts before and after a number, by its sign.
+#[derive(Drop)]
 pub struct SignAffixes {
-    pub(crate) none: AffixTexts,
-    pub(crate) negative: AffixTexts,
-    pub(crate) positive: AffixTexts,
-}
-
-// Not derived: a derived drop is proved again wherever a value is dropped.
-impl Drop for SignAffixes {
-    fn drop(self) {
-        let SignAffixes {
-            none,
-            negative,
-            positive,
-        } = self;
-        drop(none);
-        drop(negative);
-        drop(positive);
-    }
+    pub(crate) none: OwnedAffixes,
+    pub(crate) negative: OwnedAffixes,
+    pub(crate) positive: OwnedAffixes,
 }
 
 impl Model for SignAffixes {
@@ -132,13 +111,10 @@ impl SignAffixes {
             (affixes negative.entry.prefix.now negative.entry.suffix.now)
             (affixes positive.entry.prefix.now positive.entry.suffix.now)) }
     {
-        let none = AffixTexts::joined(alloc, &[none.prefix], &[none.suffix])?;
-        let negative = AffixTexts::joined(alloc, &[negative.prefix], &[negative.suffix])?;
-        let positive = AffixTexts::joined(alloc, &[positive.prefix], &[positive.suffix])?;
         Ok(SignAffixes {
-            none,
-            negative,
-            positive,
+            none: OwnedAffixes::joined(alloc, &[none.prefix], &[none.suffix])?,
+            negative: OwnedAffixes::joined(alloc, &[negative.prefix], &[negative.suffix])?,
+            positive: OwnedAffixes::joined(alloc, &[positive.prefix], &[positive.suffix])?,
         })
     }
 

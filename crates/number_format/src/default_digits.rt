@@ -1,6 +1,6 @@
 //! The digits that ECMA-402 has for a style and a notation.
 ghost use Rattle.std.specs.Prelude.{◌≡◌};
-ghost use Rattle.number_format.specs.DefaultDigits.{shows_all_digits, is_compact, usage_digits, fraction_digits, increment_or_1, increment, no_settings, IsDefault, AreDefaultDigits};
+ghost use Rattle.number_format.specs.DefaultDigits.{shows_all_digits, is_compact, usage_digits, fraction_digits, increment, IsDefault, AreDefaultDigits};
 
 use crate::digit_options::{DigitOptions, TrailingZeros};
 use crate::digit_ranges::{FractionDigits, Increment};
@@ -9,33 +9,7 @@ use crate::settings::{DigitDefaults, DigitSettings, RoundingPriority};
 use fixed_decimal::{SignedRoundingMode, UnsignedRoundingMode};
 use locale_data::{CurrencyDigits, currency_digits};
 
-fn no_settings(rounding_increment: u16) -> DigitSettings
-    ensures { result ≡ no_settings rounding_increment }
-{
-    DigitSettings {
-        minimum_integer_digits: None,
-        minimum_fraction_digits: None,
-        maximum_fraction_digits: None,
-        minimum_significant_digits: None,
-        maximum_significant_digits: None,
-        rounding_increment,
-        rounding_mode: SignedRoundingMode::Unsigned(UnsignedRoundingMode::HalfExpand),
-        rounding_priority: RoundingPriority::Auto,
-        trailing_zeros: TrailingZeros::Auto,
-    }
-}
-
-fn increment_or_1(increment: u16) -> u16
-    ensures { result ≡ increment_or_1 increment }
-{
-    match Increment::new(increment) {
-        Ok(_) => increment,
-        Err(_) => 1,
-    }
-}
-
 impl CurrencyUsage {
-    /// Returns the number of fraction digits of a currency, and its increment, 0 if it has none.
     pub(crate) fn digits(self, currency: CurrencyDigits) -> (u8, u8)
         ensures { result ≡ usage_digits self currency }
     {
@@ -56,34 +30,22 @@ impl NumberOptions {
     fn shows_all_digits(&self) -> bool
         ensures { result ≡ shows_all_digits self.now }
     {
-        match (self.style, self.notation) {
-            (NumberStyle::Decimal, NumberNotation::Standard) => true,
-            _ => false,
-        }
+        matches!(
+            (self.style, self.notation),
+            (NumberStyle::Decimal, NumberNotation::Standard)
+        )
     }
 
-    /// Returns the least and the greatest number of fraction digits.
-    fn fraction_digits(&self) -> (u8, u8)
-        ensures { result ≡ fraction_digits self.now.style }
-    {
-        match self.style {
-            NumberStyle::Decimal => (0, 3),
-            NumberStyle::Percent | NumberStyle::Permille => (0, 0),
-            NumberStyle::Currency(style) => {
-                let (count, _) = style.usage.digits(currency_digits(style.code));
-                (count, count)
-            }
-        }
-    }
-
-    /// Returns the increment of cash.
     fn increment(&self) -> u16
         ensures { result ≡ increment self.now }
     {
         match self.style {
             NumberStyle::Currency(style) if !self.is_compact() => {
                 let (_, increment) = style.usage.digits(currency_digits(style.code));
-                increment_or_1(increment as u16)
+                match Increment::new(increment as u16) {
+                    Ok(_) => increment as u16,
+                    Err(_) => 1,
+                }
             }
             _ => 1,
         }
@@ -92,7 +54,14 @@ impl NumberOptions {
     fn defaults(&self) -> DigitDefaults
         ensures { IsDefault self.now result }
     {
-        let (min, max) = self.fraction_digits();
+        let (min, max) = match self.style {
+            NumberStyle::Decimal => (0, 3),
+            NumberStyle::Percent | NumberStyle::Permille => (0, 0),
+            NumberStyle::Currency(style) => {
+                let (count, _) = style.usage.digits(currency_digits(style.code));
+                (count, count)
+            }
+        };
         DigitDefaults {
             fraction: FractionDigits {
                 min: min as u16,
@@ -102,15 +71,25 @@ impl NumberOptions {
         }
     }
 
-    /// Returns the digits that ECMA-402 has for the style and the notation, and `None` if all digits are shown.
     pub(crate) fn default_digits(&self) -> Option<DigitOptions>
         ensures { AreDefaultDigits self.now result }
     {
         if self.shows_all_digits() {
             return None;
         }
+        let settings = DigitSettings {
+            minimum_integer_digits: None,
+            minimum_fraction_digits: None,
+            maximum_fraction_digits: None,
+            minimum_significant_digits: None,
+            maximum_significant_digits: None,
+            rounding_increment: self.increment(),
+            rounding_mode: SignedRoundingMode::Unsigned(UnsignedRoundingMode::HalfExpand),
+            rounding_priority: RoundingPriority::Auto,
+            trailing_zeros: TrailingZeros::Auto,
+        };
         let defaults = self.defaults();
-        match no_settings(self.increment()).resolve(&defaults) {
+        match settings.resolve(&defaults) {
             Ok(digits) => Some(digits),
             Err(_) => None,
         }

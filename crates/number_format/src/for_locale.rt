@@ -1,11 +1,9 @@
 //! Formatters by locale and options.
-ghost use Rattle.std.specs.Prelude.{◌≡◌, Some, IfOk, IfErr, MatchOption};
+ghost use Rattle.std.specs.Prelude.{◌≡◌, IfOk, IfErr};
 ghost use Rattle.locale_data.specs.Formats.{AreFormatsOf};
 ghost use Rattle.locale_data.specs.Plurals.{HasNoRules};
-ghost use Rattle.number_format.specs.DefaultDigits.{AreDefaultDigits};
 ghost use Rattle.number_format.specs.Formatters.{style_sizes, compact_style, compact_unit, exponent_options, currency_sign, with_separators, IsWithoutCurrency, IsStyle, IsNotationBy, AreExponents, IsFormatterIn, IsFormatter, IsFormatterError};
 
-use crate::digit_options::DigitOptions;
 use crate::notation::{CompactExponents, Notation};
 use crate::number_formatter::{CompactUnit, NumberFormatError, NumberFormatter};
 use crate::number_options::{
@@ -23,15 +21,14 @@ use locale_data::{
 fn style_sizes(pattern: &Pattern, strategy: GroupingStrategy, own: GroupingSizes) -> GroupingSizes
     ensures { result ≡ style_sizes pattern.now strategy own }
 {
-    let is_always = matches!(strategy, GroupingStrategy::Always);
+    let primary = match strategy {
+        GroupingStrategy::Always if pattern.primary == 0 => 3,
+        _ => pattern.primary,
+    };
     GroupingSizes {
-        primary: if is_always && pattern.primary == 0 {
-            3
-        } else {
-            pattern.primary
-        },
+        primary,
         secondary: pattern.secondary,
-        min_grouping: own.min_grouping,
+        ..own
     }
 }
 
@@ -76,15 +73,6 @@ impl NumberOptions {
             (NumberNotation::Scientific(_), None) => Notation::Scientific,
             (NumberNotation::Engineering(_), None) => Notation::Engineering,
             _ => Notation::Standard,
-        }
-    }
-
-    fn shown_digits(&self) -> Option<DigitOptions>
-        ensures { MatchOption self.now.digits (AreDefaultDigits self.now result) (λ given. result ≡ Some given) }
-    {
-        match self.digits {
-            Some(digits) => Some(digits),
-            None => self.default_digits(),
         }
     }
 }
@@ -174,14 +162,12 @@ impl NumberFormatter {
         let sizes = style_sizes(&written.pattern, options.grouping, own);
         let symbols = with_separators(symbols, &written).with_sizes(sizes);
         let signs = formats.signs();
+        let percent = percent_text(options.style, signs.percent);
         let mut formatter = NumberFormatter {
             symbols,
             strategy: options.grouping,
             pattern: written.pattern,
-            percent: TextPart::new(
-                PartKind::PercentSign,
-                percent_text(options.style, signs.percent),
-            ),
+            percent: TextPart::new(PartKind::PercentSign, percent),
             separator: TextPart::new(PartKind::ExponentSeparator, signs.exponent.text()),
             currency,
             formats,
@@ -191,7 +177,7 @@ impl NumberFormatter {
             notation: options.notation(&formats),
             compact: options.compact_style(),
             exponent: options.exponent_options(),
-            digits: options.shown_digits(),
+            digits: options.digits.or_else(|| options.default_digits()),
             sign_display: options.sign_display,
             sign_texts: None,
         };
@@ -212,7 +198,6 @@ fn without_currency(pattern: Pattern) -> (CurrencyPattern, ShownCurrency)
     (written, ShownCurrency::none())
 }
 
-/// Returns how a style is written in a locale: its pattern and separators, and its currency.
 fn style_of(
     tag: &str,
     system: &str,

@@ -16,7 +16,6 @@
 //! ```
 #![tactic(auto)]
 
-pub mod affix_laws;
 mod affixes;
 mod apply;
 mod compact_texts;
@@ -27,7 +26,6 @@ mod error;
 mod for_locale;
 mod format;
 mod formatted_number;
-mod forms;
 pub mod laws;
 mod notation;
 mod number_around;
@@ -35,7 +33,6 @@ mod number_formatter;
 mod number_options;
 mod number_reader;
 mod number_style;
-mod part_sink;
 mod parts;
 mod pieces;
 mod precision;
@@ -62,7 +59,7 @@ pub use number_options::{
     NumberNotation, NumberOptions, NumberStyle,
 };
 pub use number_reader::{NumberReader, NumberReaderError, ParseMode};
-pub use part_sink::PartSink;
+pub use pieces::PartSink;
 pub use precision::{BothDigits, Minimum, Precision};
 pub use reader::{AffixError, AffixReader};
 pub use scale::Scaled;

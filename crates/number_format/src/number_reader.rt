@@ -1,15 +1,14 @@
 //! Readers of what formatters write.
-ghost use Rattle.std.specs.Prelude.{◌≡◌, ◌∷◌, [], ◌-ℤ◌, pos, length, map, IfOk, IfErr, OnOk};
+ghost use Rattle.std.specs.Prelude.{◌≡◌, ◌∷◌, [], ◌++◌, ◌-ℤ◌, pos, length, map, flat_map, IfOk, IfErr, OnOk};
 ghost use Rattle.number_format.specs.AffixedTexts.{IsReadExactly};
-ghost use Rattle.number_format.specs.NumberReading.{affixes_for, affixes_of_formatter, CanRead, CanUndo, CannotRead, is_percent, has_percent, percent_name, names_by, form_of, number_reader_of, typed_forms, IsReadLeniently, IsReadInMode};
+ghost use Rattle.number_format.specs.NumberReading.{affixes_for, affixes_of_formatter, CanRead, CanUndo, CannotRead, is_percent, has_percent, names_by, form, form_of, forms_of_name, number_reader_of, typed_forms, IsReadLeniently, IsReadInMode};
 
-use crate::affixes::{AffixTexts, SignAffixes};
+use crate::affixes::{OwnedAffixes, SignAffixes};
 use crate::compact_texts::NO_UNIT;
-use crate::forms::{Form, alternative, push_form, push_name};
 use crate::number_formatter::NumberFormatter;
 use crate::number_style::text_or_nothing;
 use crate::reader::{AffixError, AffixReader};
-use decimal_format::Alternative;
+use decimal_format::{Affixes, Alternative};
 use fixed_decimal::{DigitStore, ParseError, Sign, Signed, UnsignedOver};
 use locale_data::{Affix, Piece};
 use std::alloc::{AllocError, Global};
@@ -38,6 +37,48 @@ pub enum ParseMode {
     Strict,
     /// As people type numbers.
     Lenient,
+}
+
+/// Texts around a number, and the sign that they show.
+type Form = (OwnedAffixes, Sign);
+
+fn alternative(form: &Form) -> Alternative<'_>
+    ensures { form_of result ≡ form.now }
+{
+    let Affixes { prefix, suffix } = form.0.texts();
+    Alternative {
+        prefix,
+        suffix,
+        sign: form.1,
+    }
+}
+
+fn push_form(
+    forms: &mut Vec<Form>,
+    alloc: Global,
+    prefix: &[&str],
+    suffix: &[&str],
+    sign: Sign,
+) -> Result<(), AllocError>
+    ensures { OnOk result (forms.new.items ≡ forms.old.items
+        ++ form (flat_map (λ t. t.now) prefix.now) (flat_map (λ t. t.now) suffix.now) sign ∷ []) }
+{
+    let texts = OwnedAffixes::joined(alloc, prefix, suffix)?;
+    forms.push((texts, sign))?;
+    Ok(())
+}
+
+fn push_name(forms: &mut Vec<Form>, alloc: Global, name: &str) -> Result<(), AllocError>
+    ensures { OnOk result (forms.new.items ≡ forms.old.items ++ forms_of_name name.now) }
+{
+    push_form(forms, alloc, &[name], &[], Sign::None)?;
+    push_form(forms, alloc, &[name, " "], &[], Sign::None)?;
+    push_form(forms, alloc, &[], &[name], Sign::None)?;
+    push_form(forms, alloc, &[], &[" ", name], Sign::None)?;
+    push_form(forms, alloc, &["-", name], &[], Sign::Negative)?;
+    push_form(forms, alloc, &["-", name, " "], &[], Sign::Negative)?;
+    push_form(forms, alloc, &["+", name], &[], Sign::Positive)?;
+    push_form(forms, alloc, &["+", name, " "], &[], Sign::Positive)
 }
 
 /// Reads the numbers that a [`NumberFormatter`] writes. Making it allocates, reading a short text does not.
@@ -88,43 +129,33 @@ fn has_percent(affix: Affix) -> bool
 }
 
 impl NumberFormatter {
-    fn affix_texts(&self, alloc: Global, sign: Sign) -> Result<AffixTexts, AllocError>
+    fn affix_texts(&self, alloc: Global, sign: Sign) -> Result<OwnedAffixes, AllocError>
         ensures { IfOk result (λ t. t ≡ affixes_for self.now sign) }
     {
         let affixes = self.affixes(sign, None, NO_UNIT);
-        AffixTexts::joined(alloc, &affixes.prefix, &affixes.suffix)
+        OwnedAffixes::joined(alloc, &affixes.prefix, &affixes.suffix)
     }
 
     fn sign_affixes(&self, alloc: Global) -> Result<SignAffixes, AllocError>
         ensures { IfOk result (λ t. t ≡ affixes_of_formatter self.now) }
     {
-        let none = self.affix_texts(alloc, Sign::None)?;
-        let negative = self.affix_texts(alloc, Sign::Negative)?;
-        let positive = self.affix_texts(alloc, Sign::Positive)?;
         Ok(SignAffixes {
-            none,
-            negative,
-            positive,
+            none: self.affix_texts(alloc, Sign::None)?,
+            negative: self.affix_texts(alloc, Sign::Negative)?,
+            positive: self.affix_texts(alloc, Sign::Positive)?,
         })
-    }
-
-    fn percent_name(&self) -> &str
-        ensures { result.now ≡ percent_name self.now }
-    {
-        let affixes = self.pattern.positive;
-        if has_percent(affixes.prefix) || has_percent(affixes.suffix) {
-            self.percent.text
-        } else {
-            ""
-        }
     }
 
     fn names(&self) -> (&str, &str, &str)
         ensures { result.0.now ∷ result.1.now ∷ result.2.now ∷ [] ≡ names_by self.now self.now.currency.names }
     {
+        let positive = self.pattern.positive;
         match &self.currency.names {
             Some(names) => (names.symbol, names.narrow, text_or_nothing(&names.code)),
-            None => (self.percent_name(), "", ""),
+            None if has_percent(positive.prefix) || has_percent(positive.suffix) => {
+                (self.percent.text, "", "")
+            }
+            None => ("", "", ""),
         }
     }
 
@@ -166,12 +197,10 @@ impl NumberFormatter {
         ensures err { IfErr result (λ e. CannotRead e self) }
     {
         let shift = self.shift()?;
-        let Ok(forms) = self.forms(alloc) else {
-            return Err(NumberReaderError::Memory);
-        };
-        let Ok(affixes) = self.sign_affixes(alloc) else {
-            return Err(NumberReaderError::Memory);
-        };
+        let forms = self.forms(alloc).map_err(|_| NumberReaderError::Memory)?;
+        let affixes = self
+            .sign_affixes(alloc)
+            .map_err(|_| NumberReaderError::Memory)?;
         match AffixReader::new(self.symbols, affixes) {
             Ok(reader) => Ok(NumberReader {
                 reader: reader.with_shift(shift),

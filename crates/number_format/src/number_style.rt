@@ -1,7 +1,7 @@
 //! What a style of numbers writes: its pattern, its percent sign, and its currency.
-ghost use Rattle.std.specs.Prelude.{◌≡◌, ◌≤◌, [], false, None, length, map, IsSomeAnd};
+ghost use Rattle.std.specs.Prelude.{◌≡◌, ◌≤◌, [], true, false, None, length, map};
 ghost use Rattle.std.specs.Char.{to_ascii_uppercase};
-ghost use Rattle.number_format.specs.NumberStyles.{before, plain_pattern, percent_text, text_or_nothing, currency_text, piece_or, ends_with_currency, begins_with_currency, in_system, IsShownBy, IsShownCode, IsShownSymbol, IsSymbolText, AreNamesOf, IsShownCurrency};
+ghost use Rattle.number_format.specs.NumberStyles.{before, plain_pattern, percent_text, text_or_nothing, currency_text, piece_or, ends_with_currency, begins_with_currency, in_system, IsShownBy, IsShownSymbol, IsSymbolText, IsShownCurrency};
 
 use crate::number_options::{CurrencyDisplay, CurrencyStyle, NumberStyle};
 use crate::text_part::{PartKind, TextPart};
@@ -67,30 +67,7 @@ pub(crate) struct CurrencyNames {
 fn symbol_text(tag: &str, code: CurrencyCode, width: SymbolWidth) -> &'static str
     ensures { IsSymbolText tag.now code width result.now }
 {
-    match currency_symbol(tag, code, width) {
-        Some(symbol) => symbol.text,
-        None => "",
-    }
-}
-
-fn capitals(code: CurrencyCode) -> CurrencyCode
-    ensures { result ≡ map to_ascii_uppercase code }
-{
-    let mut capitals = code;
-    capitals.make_ascii_uppercase();
-    capitals
-}
-
-impl CurrencyNames {
-    fn of(tag: &str, code: CurrencyCode) -> Self
-        ensures { AreNamesOf tag.now code result }
-    {
-        CurrencyNames {
-            symbol: symbol_text(tag, code, SymbolWidth::Wide),
-            narrow: symbol_text(tag, code, SymbolWidth::Narrow),
-            code: capitals(code),
-        }
-    }
+    currency_symbol(tag, code, width).map_or("", |symbol| symbol.text)
 }
 
 /// A currency as it is shown.
@@ -128,6 +105,7 @@ impl ShownCurrency {
 
     pub(crate) fn none() -> Self
         ensures shown { IsShownBy [] false false result }
+        ensures symbol { result.shows_code ≡ false }
         ensures names { result.names ≡ None }
     {
         ShownCurrency {
@@ -140,34 +118,32 @@ impl ShownCurrency {
         }
     }
 
-    fn code(tag: &str, code: CurrencyCode) -> Self
-        ensures shown { IsShownCode code result }
-        ensures names { IsSomeAnd result.names (AreNamesOf tag.now code) }
+    fn with_code(self) -> Self
+        ensures shown { IsShownBy (text_or_nothing self.code) true true result }
+        ensures names { result.names ≡ self.names }
     {
         ShownCurrency {
-            symbol: TextPart::empty(),
-            code: capitals(code),
             shows_code: true,
             space_before: true,
             space_after: true,
-            names: Some(CurrencyNames::of(tag, code)),
+            ..self
         }
     }
 
-    fn symbol(tag: &str, code: CurrencyCode, width: SymbolWidth) -> Self
+    fn with_symbol(self, tag: &str, code: CurrencyCode, width: SymbolWidth) -> Self
+        requires { self.code ≡ map to_ascii_uppercase code }
         ensures shown { IsShownSymbol tag.now code width result }
-        ensures names { IsSomeAnd result.names (AreNamesOf tag.now code) }
+        ensures names { result.names ≡ self.names }
     {
         let Some(symbol) = currency_symbol(tag, code, width) else {
-            return Self::code(tag, code);
+            return self.with_code();
         };
         ShownCurrency {
             symbol: TextPart::new(PartKind::Currency, symbol.text),
-            code,
             shows_code: false,
             space_before: symbol.space_before,
             space_after: symbol.space_after,
-            names: Some(CurrencyNames::of(tag, code)),
+            ..self
         }
     }
 
@@ -185,14 +161,23 @@ impl ShownCurrency {
     pub(crate) fn of(tag: &str, style: &CurrencyStyle) -> Self
         ensures { IsShownCurrency tag.now style.now result }
     {
+        let mut code = style.code;
+        code.make_ascii_uppercase();
+        let names = CurrencyNames {
+            symbol: symbol_text(tag, style.code, SymbolWidth::Wide),
+            narrow: symbol_text(tag, style.code, SymbolWidth::Narrow),
+            code,
+        };
+        let named = ShownCurrency {
+            code,
+            names: Some(names),
+            ..Self::none()
+        };
         match style.display {
-            CurrencyDisplay::Symbol => Self::symbol(tag, style.code, SymbolWidth::Wide),
-            CurrencyDisplay::Narrow => Self::symbol(tag, style.code, SymbolWidth::Narrow),
-            CurrencyDisplay::Code => Self::code(tag, style.code),
-            CurrencyDisplay::Hidden => ShownCurrency {
-                names: Some(CurrencyNames::of(tag, style.code)),
-                ..Self::none()
-            },
+            CurrencyDisplay::Symbol => named.with_symbol(tag, style.code, SymbolWidth::Wide),
+            CurrencyDisplay::Narrow => named.with_symbol(tag, style.code, SymbolWidth::Narrow),
+            CurrencyDisplay::Code => named.with_code(),
+            CurrencyDisplay::Hidden => named,
         }
     }
 }

@@ -9,7 +9,6 @@ use crate::text_part::TextPart;
 use fixed_decimal::{Sink, SinkFault};
 use std::fmt;
 
-/// Appends the texts of parts.
 pub(crate) fn write_parts<W: Sink>(parts: &[TextPart<'_>], sink: &mut W) -> Result<(), SinkFault>
     ensures ok { OnOk result (Appends (W.contents sink.old) (W.contents sink.new) (parts_text parts.now)) }
     ensures err { OnErr result (AppendsPrefix (W.contents sink.old) (W.contents sink.new) (parts_text parts.now)) }
@@ -21,7 +20,6 @@ pub(crate) fn write_parts<W: Sink>(parts: &[TextPart<'_>], sink: &mut W) -> Resu
     Ok(())
 }
 
-/// Formats the texts of parts.
 pub(crate) fn fmt_parts<W: fmt::Write>(
     parts: &[TextPart<'_>],
     f: &mut fmt::Formatter<W>,
@@ -34,7 +32,6 @@ pub(crate) fn fmt_parts<W: fmt::Write>(
     Ok(())
 }
 
-/// Returns the number of bytes of the texts of up to 16 parts.
 pub(crate) fn parts_length(parts: &[TextPart<'_>]) -> usize
     requires { length parts.now ≤ 16 }
     ensures value { result ≡ length (parts_text parts.now) }

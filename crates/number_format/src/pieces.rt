@@ -1,21 +1,31 @@
 //! The pieces of the text of a number, with their kinds.
-ghost use Rattle.std.specs.Prelude.{◌≡◌, ◌<◌, ◌-ℤ◌, pos, [], if◌then◌else◌, encode_utf8, OnOk};
-ghost use Rattle.decimal_digits.specs.Number.{digit};
-ghost use Rattle.decimal_unsigned.specs.Unsigned.{IsValue};
-ghost use Rattle.decimal_format.specs.Formatted.{separator_before, separator_after, shown_count};
-ghost use Rattle.decimal_format.specs.Symbols.{digit_text};
-ghost use Rattle.number_format.specs.TextParts.{Puts, pieces_of, parts_pieces, pieces_text, digit_kind, magnitude_pieces, digit_pieces};
+ghost use Rattle.std.specs.Prelude.{◌≡◌, [], ◌∷◌, if◌then◌else◌, List, Option, OnOk};
+ghost use Rattle.number_format.specs.TextParts.{Piece, Puts, pieces_of, parts_pieces, pieces_text, digit_kind, digit_pieces};
 ghost use Rattle.number_format.specs.FormattedNumbers.{formatted_number_pieces, formatted_number_text};
-ghost use Rattle.number_format.specs.NumberText.{exponent_kind, exponent_pieces, exponent_of, number_part};
+ghost use Rattle.number_format.specs.NumberText.{exponent_pieces, exponent_of, number_part};
 
 use crate::formatted_number::FormattedNumber;
-use crate::part_sink::PartSink;
 use crate::text_part::{PartKind, TextPart};
-use decimal_digits::ops::{count_between, magnitude_below};
-use decimal_format::{DecimalSymbols, GroupingStrategy};
-use fixed_decimal::{Decimal, Sign, SinkFault, UnsignedDecimal};
+use decimal_format::FormattedAbsolute;
+use fixed_decimal::{Decimal, DecimalStore, Sign, SinkFault};
 
-/// Puts a text, if it is not empty.
+/// A destination of the pieces of the text of a number: consecutive pieces of one kind are one part.
+///
+/// Contracts see the pieces that were put, if they are observable.
+pub trait PartSink {
+    /// The pieces that were put, or None for a sink whose pieces are not observable.
+    ghost pieces: { Self → Option (List Piece) };
+
+    /// Puts a piece, which is not empty.
+    ///
+    /// # Errors
+    ///
+    /// The sink rejects the piece.
+    fn put(&mut self, kind: PartKind, text: &str) -> Result<(), SinkFault>
+        ensures { OnOk result
+            (Puts (pieces self.old) (pieces self.new) (record { kind = kind; text = text.now } ∷ [])) };
+}
+
 fn put<P: PartSink>(sink: &mut P, kind: PartKind, text: &str) -> Result<(), SinkFault>
     ensures { OnOk result (Puts (P.pieces sink.old) (P.pieces sink.new) (pieces_of kind text.now)) }
 {
@@ -44,107 +54,22 @@ fn digit_kind(whole: PartKind, magnitude: i16) -> PartKind
     }
 }
 
-fn separator_before<'s>(symbols: &'s DecimalSymbols<'_>, magnitude: i16) -> &'s str
-    ensures { result.now ≡ separator_before symbols.now magnitude }
-{
-    if magnitude == -1 {
-        symbols.decimal_separator()
-    } else {
-        ""
-    }
-}
-
-/// An absolute value that is written, and the kind of its integer digits.
-#[derive(Clone, Copy)]
-struct Digits<'f> {
+fn put_digits<P: PartSink>(
+    digits: &FormattedAbsolute<'_, DecimalStore>,
     whole: PartKind,
-    symbols: &'f DecimalSymbols<'f>,
-    strategy: GroupingStrategy,
-    value: &'f UnsignedDecimal,
-}
-
-impl<'f> Digits<'f> {
-    fn highest(&self) -> i16
-        ensures value { result ≡ self.now.value.now.hi }
-        ensures valid { IsValue self.now.value.now }
-    {
-        *self.value.magnitude_range().end()
-    }
-
-    fn shown_count(&self) -> u32
-        ensures { result ≡ shown_count self.now.value.now }
-    {
-        let range = self.value.magnitude_range();
-        count_between(*range.start(), *range.end())
-    }
-
-    /// Returns the magnitude that is the given number below the highest. Requires one that is shown.
-    fn magnitude(&self, below: u32) -> i16
-        requires { below < shown_count self.now.value.now }
-        ensures { result ≡ self.now.value.now.hi -ℤ pos below }
-    {
-        let range = self.value.magnitude_range();
-        prove!(*range.start() <= 0);
-        magnitude_below(*range.end(), below)
-    }
-
-    fn digit(&self, magnitude: i16) -> char
-        ensures { encode_utf8 result ≡ digit_text self.now.symbols.now (digit self.now.value.now.number magnitude) }
-    {
-        let digit = self.value.digit_at(magnitude);
-        self.symbols.digit(digit)
-    }
-
-    fn separator_after(&self, magnitude: i16) -> &str
-        ensures { result.now ≡ separator_after self.now.symbols.now self.now.strategy self.now.value.now.hi magnitude }
-    {
-        let sizes = self.symbols.sizes();
-        if sizes.separates(self.strategy, self.highest(), magnitude) {
-            self.symbols.grouping_separator()
-        } else {
-            ""
-        }
-    }
-
-    fn put_digit<P: PartSink>(&self, magnitude: i16, sink: &mut P) -> Result<(), SinkFault>
-        ensures { OnOk result (Puts (P.pieces sink.old) (P.pieces sink.new) (pieces_of
-            (digit_kind self.now.whole magnitude)
-            (digit_text self.now.symbols.now (digit self.now.value.now.number magnitude)))) }
-    {
-        let mut buffer = [0; 4];
-        let text = self.digit(magnitude).encode_utf8(&mut buffer);
-        put(sink, digit_kind(self.whole, magnitude), text)
-    }
-
-    /// Puts the digit of a magnitude and the separators beside it.
-    fn put_magnitude<P: PartSink>(&self, magnitude: i16, sink: &mut P) -> Result<(), SinkFault>
-        ensures { OnOk result (Puts (P.pieces sink.old) (P.pieces sink.new)
-            (magnitude_pieces self.now.whole self.now.symbols.now self.now.strategy self.now.value.now magnitude)) }
-    {
-        let before = separator_before(self.symbols, magnitude);
-        put(sink, PartKind::Decimal, before)?;
-        self.put_digit(magnitude, sink)?;
-        put(sink, PartKind::Group, self.separator_after(magnitude))
-    }
-
-    fn put_to<P: PartSink>(&self, sink: &mut P) -> Result<(), SinkFault>
-        ensures { OnOk result (Puts (P.pieces sink.old) (P.pieces sink.new)
-            (digit_pieces self.now.whole self.now.symbols.now self.now.strategy self.now.value.now)) }
-    {
-        for below in 0..self.shown_count() {
-            self.put_magnitude(self.magnitude(below), sink)?;
-        }
-        Ok(())
-    }
-}
-
-fn exponent_kind(sign: Sign) -> PartKind
-    ensures { result ≡ exponent_kind sign }
+    sink: &mut P,
+) -> Result<(), SinkFault>
+    ensures { OnOk result (Puts (P.pieces sink.old) (P.pieces sink.new)
+        (digit_pieces whole digits.now.symbols digits.now.strategy digits.now.value)) }
 {
-    match sign {
-        Sign::Positive => PartKind::ExponentPlusSign,
-        _ => PartKind::ExponentMinusSign,
+    for below in 0..digits.shown_count() {
+        put(sink, PartKind::Decimal, digits.separator_before(below))?;
+        let mut buffer = [0; 4];
+        let digit = digits.digit(below).encode_utf8(&mut buffer);
+        put(sink, digit_kind(whole, digits.magnitude(below)), digit)?;
+        put(sink, PartKind::Group, digits.separator_after(below))?;
     }
+    Ok(())
 }
 
 impl<'f> FormattedNumber<'f> {
@@ -155,33 +80,16 @@ impl<'f> FormattedNumber<'f> {
         let formatter = self.formatter;
         put(sink, PartKind::ExponentSeparator, formatter.separator.text)?;
         let sign = formatter.symbols.affixes(exponent.sign).prefix;
-        put(sink, exponent_kind(exponent.sign), sign)?;
-        let digits = Digits {
-            whole: PartKind::ExponentInteger,
-            symbols: &formatter.symbols,
-            strategy: GroupingStrategy::Never,
-            value: &exponent.absolute,
+        let kind = match exponent.sign {
+            Sign::Positive => PartKind::ExponentPlusSign,
+            _ => PartKind::ExponentMinusSign,
         };
-        digits.put_to(sink)
-    }
-
-    fn put_number<P: PartSink>(&self, sink: &mut P) -> Result<(), SinkFault>
-        ensures { OnOk result (Puts (P.pieces sink.old) (P.pieces sink.new)
-            (number_part self.now.formatter.now self.now.value.absolute
-            (exponent_of self.now.formatter.now self.now.exponent))) }
-    {
-        let formatter = self.formatter;
-        let digits = Digits {
-            whole: PartKind::Integer,
-            symbols: &formatter.symbols,
-            strategy: formatter.strategy,
-            value: &self.value.absolute,
-        };
-        digits.put_to(sink)?;
-        match &self.shown_exponent() {
-            Some(exponent) => self.put_exponent(exponent, sink),
-            None => Ok(()),
-        }
+        put(sink, kind, sign)?;
+        put_digits(
+            &self.exponent_digits(exponent),
+            PartKind::ExponentInteger,
+            sink,
+        )
     }
 
     fn put_number_if<P: PartSink>(&self, has_number: bool, sink: &mut P) -> Result<(), SinkFault>
@@ -189,10 +97,14 @@ impl<'f> FormattedNumber<'f> {
             then number_part self.now.formatter.now self.now.value.absolute
             (exponent_of self.now.formatter.now self.now.exponent) else [])) }
     {
-        if has_number {
-            return self.put_number(sink);
+        if !has_number {
+            return Ok(());
         }
-        Ok(())
+        put_digits(&self.digits(), PartKind::Integer, sink)?;
+        match &self.shown_exponent() {
+            Some(exponent) => self.put_exponent(exponent, sink),
+            None => Ok(()),
+        }
     }
 
     /// Puts the pieces of the text with their kinds: consecutive pieces of one kind are one part of `formatToParts` of

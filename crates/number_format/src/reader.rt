@@ -111,13 +111,10 @@ impl<'a> AffixReader<'a> {
     {
         let affixes = self.affixes.of_sign(sign);
         let middle = cut_affixes(text, affixes.prefix.as_bytes(), affixes.suffix.as_bytes())?;
-        if !self.symbols.begins_with_digit(middle) {
-            return None;
+        if self.symbols.begins_with_digit(middle) && self.symbols.ends_with_digit(middle) {
+            return Some(middle);
         }
-        if !self.symbols.ends_with_digit(middle) {
-            return None;
-        }
-        Some(middle)
+        None
     }
 
     fn split<'t>(&self, text: &'t [u8]) -> Option<(Sign, &'t [u8])>
@@ -131,10 +128,8 @@ impl<'a> AffixReader<'a> {
         if let Some(middle) = self.between(Sign::Negative, text) {
             return Some((Sign::Negative, middle));
         }
-        if let Some(middle) = self.between(Sign::Positive, text) {
-            return Some((Sign::Positive, middle));
-        }
-        None
+        let middle = self.between(Sign::Positive, text)?;
+        Some((Sign::Positive, middle))
     }
 
     fn read_shown<D: DigitStore>(
@@ -191,9 +186,7 @@ impl<'a> AffixReader<'a> {
     /// Reads a number as people type it: between the affixes of its sign, or by the first alternative that
     /// [reads](DecimalSymbols::read_alternatives) the text.
     ///
-    /// A text that [`read`](Self::read) accepts has the same value. The alternatives of an amount of money are the
-    /// symbol, the narrow symbol, the code of its currency, or nothing, before the number and after it, with a space
-    /// and without: another currency, two symbols and two signs are `Syntax`.
+    /// A text that [`read`](Self::read) accepts has the same value.
     ///
     /// # Errors
     ///

@@ -76,8 +76,6 @@ fn lower<D: DigitStore>(value: &mut UnsignedOver<D>, count: u16) -> Result<(), R
 }
 
 impl DigitOptions {
-    /// Makes a decimal the one that standard notation writes, and returns the exponent, 0. On an error the decimal is
-    /// unchanged.
     pub(crate) fn show_in_place<D: DigitStore>(
         &self,
         value: &mut Signed<UnsignedOver<D>>,
@@ -140,7 +138,6 @@ impl Notation {
         Ok((exponent, last))
     }
 
-    /// Makes a decimal its significand, as [`scale`](Self::scale) returns it, and returns the exponent.
     pub(crate) fn scale_in_place<D: DigitStore>(
         &self,
         options: &DigitOptions,

@@ -45,7 +45,6 @@ pub struct TextPart<'f> {
 }
 
 impl<'f> TextPart<'f> {
-    /// Makes a part of a text of at most 255 bytes.
     pub(crate) fn new(kind: PartKind, text: &'f str) -> Self
         requires { length text.now ≤ 255 }
         ensures kind { result.kind ≡ kind }
@@ -54,7 +53,6 @@ impl<'f> TextPart<'f> {
         TextPart { kind, text }
     }
 
-    /// Makes an empty part.
     pub(crate) fn empty() -> Self
         ensures { result.text.now ≡ [] }
     {

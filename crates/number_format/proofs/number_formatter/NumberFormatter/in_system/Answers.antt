@@ -23,13 +23,13 @@ returns-clause-ok c =
           ∙ (λ i. record (c.with_separators.ensures i) { sizes = sizes i });
       strategy = refl;
       pattern = refl;
-      percent = c.new.ensures.text ∙ c.percent_text.ensures.value;
+      percent = c.new.ensures.text ∙ c.percent_text-percent.ensures.value;
       separator = c.new-2.ensures.text ∙ c.text.ensures;
       unit_is = c.compact_unit.ensures;
       scale = let fits : FitsSigned w16 o.scale = search rules in simp to_z-of_z;
       notation_is = c.notation.ensures;
       compact_is = c.compact_style.ensures;
       exponent = c.exponent_options.ensures;
-      digits = c.shown_digits.ensures;
+      digits = search rules;
       sign_display = refl;
     }

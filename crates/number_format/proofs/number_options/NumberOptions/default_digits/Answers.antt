@@ -8,7 +8,7 @@ use Rattle.std.specs.Prelude.{◌≡◌, Some}
 pub returns-in-Ok : goal.returns-in-Ok
 returns-in-Ok c =
     let d = c.defaults-defaults.result in
-    let settings = c.no_settings.ensures ∙ ap no_settings c.increment.ensures in (
+    let settings = ap no_settings c.increment.ensures in (
       sym c.shows_all_digits.ensures ∙ c.if-shows_all_digits.false,
       (
         d,
@@ -20,7 +20,7 @@ returns-in-Ok c =
 pub returns-in-Err : goal.returns-in-Err
 returns-in-Err c =
     let d = c.defaults-defaults.result in
-    let settings = c.no_settings.ensures ∙ ap no_settings c.increment.ensures in
+    let settings = ap no_settings c.increment.ensures in
     let fails : resolve_error (no_settings (increment c.args.self.now)) d ≡ Some c.in-Err.field-0 =
     subst (λ s. resolve_error s d ≡ Some c.in-Err.field-0) settings c.in-Err.ensures.error in
     let none = defaults_resolve c.args.self.now d c.defaults-defaults.ensures in

@@ -4,6 +4,7 @@ use Rattle.std.proofs.lemmas.List.{append_cancel_left, append_cancel_right}
 use Rattle.fixed_decimal.specs.declared.variations.Sign.{Sign}
 use Rattle.decimal_format.specs.Readable.{BeginsWithDigit, EndsWithDigit}
 use Rattle.number_format.specs.AffixedTexts.{Reader, reader, by_sign, IsBetween}
+use Rattle.number_format.proofs.reader.AffixReader.between.Goals.{else-begins_with_digit-via-then-begins_with_digit+else-ends_with_digit, else-begins_with_digit-via-else-begins_with_digit}
 use Rattle.number_format.proofs.reader.AffixReader.between.Goals as goal
 
 -- only what was cut out can be between the affixes
@@ -20,28 +21,23 @@ module _ (r inside : Reader) (text : List ℕ) (sign : Sign) (p q m : List ℕ) 
       (append_cancel_left a.prefix (n ++ a.suffix) (m ++ a.suffix)
       (sym here.is ∙ cut ∙ (λ i. prefix i ++ (m ++ suffix i))))
 
-  begins : BeginsWithDigit inside.symbols m
-  begins = subst (BeginsWithDigit inside.symbols) same here.begins
+  digits : BeginsWithDigit inside.symbols m × EndsWithDigit inside.symbols m
+  digits = (
+    subst (BeginsWithDigit inside.symbols) same here.begins,
+    subst (EndsWithDigit inside.symbols) same here.ends,
+  )
 
-  ends : EndsWithDigit inside.symbols m
-  ends = subst (EndsWithDigit inside.symbols) same here.ends
-
-pub returns-then-not-begins_with_digit : goal.returns-then-not-begins_with_digit
-returns-then-not-begins_with_digit c = λ middle b.
+pub returns : goal.returns
+returns c = λ middle b.
     let inside = reader c.self.inside.symbols c.self.inside.affixes c.self.inside.shift in
-    let t : IsTrue c.begins_with_digit.result =
-    c.begins_with_digit.ensures.1
-    (begins c.args.self.now inside c.args.text.now c.args.sign _ _ c.in_ok-middle.middle.now (cc)
+    let both = digits c.args.self.now inside c.args.text.now c.args.sign _ _ c.in_ok-middle.middle.now (cc)
     (c.as_bytes.ensures.value ∙ c.of_sign-affixes.ensures.prefix)
-    (c.as_bytes-2.ensures.value ∙ c.of_sign-affixes.ensures.suffix) c.in_ok-middle.ensures middle b) in
-    absurd (cc (t, c.if-not-begins_with_digit.true))
-
-pub returns-then-not-ends_with_digit : goal.returns-then-not-ends_with_digit
-returns-then-not-ends_with_digit c = λ middle b.
-    let inside = reader c.self.inside.symbols c.self.inside.affixes c.self.inside.shift in
-    let t : IsTrue c.ends_with_digit.result =
-    c.ends_with_digit.ensures.1
-    (ends c.args.self.now inside c.args.text.now c.args.sign _ _ c.in_ok-middle.middle.now (cc)
-    (c.as_bytes.ensures.value ∙ c.of_sign-affixes.ensures.prefix)
-    (c.as_bytes-2.ensures.value ∙ c.of_sign-affixes.ensures.suffix) c.in_ok-middle.ensures middle b) in
-    absurd (cc (t, c.if-not-ends_with_digit.true))
+    (c.as_bytes-2.ensures.value ∙ c.of_sign-affixes.ensures.suffix) c.in_ok-middle.ensures middle b in
+    elim c.else-begins_with_digit.branch [
+      | else-begins_with_digit-via-then-begins_with_digit+else-ends_with_digit w ↦
+          let t : IsTrue w.ends_with_digit.result = w.ends_with_digit.ensures.1 both.1 in
+          absurd (cc (t, w.if-ends_with_digit.false))
+      | else-begins_with_digit-via-else-begins_with_digit w ↦
+          let t : IsTrue c.begins_with_digit.result = c.begins_with_digit.ensures.1 both.0 in
+          absurd (cc (t, w.if-begins_with_digit.false))
+    ]

@@ -1,5 +1,5 @@
 use Rattle.number_format.proofs.ReadBack as lemmas
-use Rattle.number_format.proofs.affix_laws.texts_read_back.Goals as goal
+use Rattle.number_format.proofs.laws.texts_read_back.Goals as goal
 
 pub returns : goal.returns
 returns c = lemmas.texts_read_back

@@ -2,9 +2,9 @@ use Rattle.number_format.specs.NumberReading.{reader_of}
 use Rattle.number_format.proofs.FormatterTexts.{formatter_text}
 use Rattle.number_format.proofs.ReadBack.{reads}
 use Rattle.number_format.proofs.ShownValues.{shown_value}
-use Rattle.number_format.proofs.affix_laws.formatted_texts_read_back.Goals as goal
+use Rattle.number_format.proofs.laws.formatted_texts_read_back.Goals as goal
 
 pub returns : goal.returns
 returns c = λ inline f v u text result can valid is shown.
     reads inline (reader_of f) text u result (shown_value f v u valid shown)
-    (f.strategy, formatter_text f v u text can.standard is shown)
+    (f.strategy, formatter_text f v u text can.undo.0 is shown)

@@ -1,6 +1,6 @@
 use Rattle.number_format.proofs.FormatterTexts.{are_unique}
 use Rattle.number_format.proofs.ShownValues.{shown_value}
-use Rattle.number_format.proofs.affix_laws.formatted_texts_are_unique.Goals as goal
+use Rattle.number_format.proofs.laws.formatted_texts_are_unique.Goals as goal
 
 pub returns : goal.returns
 returns c = λ f v w x y text can valid valid' a b p q.

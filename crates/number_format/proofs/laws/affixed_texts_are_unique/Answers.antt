@@ -1,5 +1,5 @@
 use Rattle.number_format.proofs.AffixedNumbers.{named_texts_are_unique}
-use Rattle.number_format.proofs.affix_laws.affixed_texts_are_unique.Goals as goal
+use Rattle.number_format.proofs.laws.affixed_texts_are_unique.Goals as goal
 
 pub returns : goal.returns
 returns c = λ r g h v w readable named. named_texts_are_unique r named readable g h v w
