@@ -58,6 +58,16 @@ fn read_text(text: String) -> u64 {
     read(text.as_bytes())
 }
 
+/// Adds up the digits, one by one.
+#[inline(never)]
+fn digit_sum(value: &UnsignedDecimal) -> u64 {
+    let mut sum: u64 = 0;
+    for magnitude in value.magnitude_range().rev() {
+        sum = sum.wrapping_add(u64::from(value.digit_at(magnitude)));
+    }
+    sum
+}
+
 impl Outcome {
     fn put_all(&mut self, values: &[UnsignedDecimal]) {
         for value in values {
@@ -189,8 +199,12 @@ pub fn time(case: &Case, outcome: &mut Outcome) -> u64 {
             let (all, twin) = (values(case, &case.text), number(&case.text));
             look(outcome, all.iter(), |value| u64::from(*value == twin))
         }
-        // The original has no iterator over the digits.
-        Operation::DigitAt | Operation::Digits => {
+        Operation::DigitAt => {
+            let all = values(case, &case.text);
+            look(outcome, all.iter(), digit_sum)
+        }
+        // The original has no iterator over the digits: its fastest loop over them.
+        Operation::Digits => {
             let all = values(case, &case.text);
             look(outcome, all.iter(), |value| {
                 let digits = value.magnitude_range().rev().map(|magnitude| value.digit_at(magnitude));

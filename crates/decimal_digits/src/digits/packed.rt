@@ -122,14 +122,10 @@ impl DigitStore for PackedDigits {
     }
 
     #[inline]
+    #[tactic(auto, using(crate::proofs::lemmas::digits::Packing::digit_rules))]
     fn digit_or_zero(&self, index: usize) -> u8 {
-        // Before the comparison, so that a loop over indices finds the bytes once.
-        let bytes = self.bytes.as_slice();
-        if index < self.len {
-            nibble_at(bytes, index)
-        } else {
-            0
-        }
+        // No comparison with the length, since the nibbles after the digits are 0.
+        nibble_at(self.bytes.as_slice(), index)
     }
 
     #[inline]

@@ -55,6 +55,9 @@ digit_lt bytes len p k = elim (cases_lt k len) [
   | inr l ↦ omega (arith, p.zeros k l)
 ]
 
+-- for `grind`: the digit at any index
+pub ruleset digit_rules = (digit_at, digit_lt)
+
 -- the bytes of the digits are packed
 pub front_packed : (bs : List ℕ) (len : ℕ) → IsPadded bs len → IsPacked (take ((len + 1) / 2) bs) len
 front_packed bs len p = (encodes _ (digits_in bs len) len (grind (arith, nibble_rules, padding))).packed

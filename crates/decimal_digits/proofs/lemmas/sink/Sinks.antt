@@ -1,5 +1,5 @@
 -- The prefix of a text that a sink has accepted, piece by piece.
-use Rattle.std.proofs.Common.{◌≡◌, ℕ, ◌+◌, ◌-◌, ◌<◌, ◌⊎◌, true, false, List, [], ◌++◌, length, take, drop, refl, sym, subst, ◌∙◌, ap, arith, Bool, Option, None, Some, append_assoc, take-append-drop}
+use Rattle.std.proofs.Common.{◌≡◌, ℕ, ◌+◌, ◌-◌, ◌<◌, ◌⊎◌, false, List, [], ◌++◌, length, take, drop, refl, sym, subst, ◌∙◌, ap, arith, Bool, Option, None, Some, append_assoc, take-append-drop}
 use Rattle.std.proofs.{KnownBytes.{Appends-kept, Appends-trans, append_known-moved, append_known-passed}, Math.Seq.{take-add, take-length}}
 use Rattle.std.proofs.lemmas.List.{append-nil, length-drop}
 use Rattle.std.specs.Io.KnownBytes.{Keeps, Appends, append_known}

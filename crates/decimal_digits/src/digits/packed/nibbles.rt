@@ -18,11 +18,11 @@ pub(super) fn byte_count(digits: usize) -> usize
 
 #[inline]
 pub(super) fn nibble_at(bytes: &[u8], index: usize) -> u8
-    requires { index < length (nibbles bytes.now) }
     ensures { result ≡ slice_index (nibbles bytes.now) index }
 {
-    let byte = bytes[index / 2];
-    if index % 2 == 0 { byte / 16 } else { byte % 16 }
+    let byte = bytes.get(index / 2).copied().unwrap_or(0);
+    // A shift, since a choice by the parity of the index takes longer.
+    (byte << (index % 2 * 4)) / 16
 }
 
 pub(crate) fn unpack(bytes: &[u8], len: usize) -> [u8; 32]
