@@ -123,24 +123,6 @@ impl NumberFormatter {
         }
     }
 
-    fn show_copy(&self, value: &mut Decimal) -> Result<i32, RoundError>
-        ensures ok { IfOk result (λ e. shown_number self.now value.old ≡ Some (scaled_value value.new e)) }
-        ensures unchanged { OnErr result (value.new ≡ value.old) }
-        ensures limit { IsErrOf result RoundError.Limit → shown_number self.now value.old ≡ None }
-        ensures memory { IsErrOf result RoundError.Memory → NeedsMemory self.now value.old }
-    {
-        let Ok(kept) = value.clone() else {
-            return Err(RoundError::Memory);
-        };
-        match self.shown_number(value) {
-            Ok(exponent) => Ok(exponent),
-            Err(error) => {
-                *value = kept;
-                Err(error)
-            }
-        }
-    }
-
     /// Makes a number the significand that is written, and returns the exponent. On an error the number is unchanged.
     fn show(&self, value: &mut Decimal) -> Result<i32, RoundError>
         ensures ok { IfOk result (λ e. shown_number self.now value.old ≡ Some (scaled_value value.new e)) }
@@ -150,7 +132,18 @@ impl NumberFormatter {
     {
         match &self.notation {
             Notation::Standard if self.scale == 0 => self.round_in_place(value),
-            _ => self.show_copy(value),
+            _ => {
+                let Ok(kept) = value.clone() else {
+                    return Err(RoundError::Memory);
+                };
+                match self.shown_number(value) {
+                    Ok(exponent) => Ok(exponent),
+                    Err(error) => {
+                        *value = kept;
+                        Err(error)
+                    }
+                }
+            }
         }
     }
 
