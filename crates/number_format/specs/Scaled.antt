@@ -47,19 +47,15 @@ pub record Settled : Type 0 where
 abbrev pub settled_with : ℕ → Rounded → Settled
 settled_with exponent r = record { exponent = exponent; number = r.number; last_shown = r.last_shown }
 
--- a rounded number with its exponent; if the rounding carried it into a magnitude with a greater exponent, 1000K, the
--- same rounded with that exponent, 1M
-abbrev pub settled_after : Notation → DigitOptions → Sign → ℕ → Rounded → Option Settled
-settled_after notation o sign exponent r =
-    let next = whole_exponent notation r.number in
-    if nat_lt exponent next then option_map (settled_with next) (rounded_within o sign next r.number)
-    else Some (settled_with exponent r)
-
--- a number whose exponent is 0 or more, rounded with the exponent of its magnitude
+-- a number whose exponent is 0 or more, rounded with the exponent of its magnitude; if the rounding carried it into a
+-- magnitude with a greater exponent, 1000K, the same rounded with that exponent, 1M
 abbrev pub settled : Notation → DigitOptions → Sign → ℕ → Option Settled
 settled notation o sign n =
     let exponent = whole_exponent notation n in
-    option_and_then (settled_after notation o sign exponent) (rounded_within o sign exponent n)
+    option_and_then (λ r.
+    let next = whole_exponent notation r.number in
+    if nat_lt exponent next then option_map (settled_with next) (rounded_within o sign next r.number)
+    else Some (settled_with exponent r)) (rounded_within o sign exponent n)
 
 -- out of memory in the rounding, or in the second one after a carry
 abbrev pub ScalingNeedsMemory : ℕ → Notation → DigitOptions → Sign → ℕ → Type 0
