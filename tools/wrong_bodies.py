@@ -65,8 +65,10 @@ class WrongBody:
                 return False
         return True
 
-    def fault(self, errors):
-        """What is wrong with how it is rejected, or None."""
+    def fault(self, errors, is_read):
+        """What is wrong with how it is rejected, or None. Only for its type may the prover not be reached."""
+        if not is_read and not self.clause.startswith("its type"):
+            return f"is not read: {errors[:1]}"
         here = [told for file, line, told in errors if "/" in self.place or self.function in functions_at(file, line)]
         goals = [re.search(r"-clause-(\w+)(`?)", told) for told in here]
         if any(not goal or self.clause == goal[1] or not goal[2] and self.clause.startswith(goal[1]) for goal in goals):
@@ -110,7 +112,7 @@ def faults_of(bodies):
         unread = [body for body in tried if any(new and new in line for _, _, new in body.changes for line in lines)]
         faults.update({body.name: "is not read" for body in unread or tried})
         return faults | faults_of([body for body in tried if unread and body not in unread])
-    return faults | {body.name: fault for body in tried if (fault := body.fault(errors))}
+    return faults | {body.name: fault for body in tried if (fault := body.fault(errors, is_read))}
 
 
 def batches_of(bodies):
