@@ -137,7 +137,7 @@ impl<'f, D: DigitStore> FormattedAbsolute<'f, D> {
         count_between(self.value.lowest(), self.value.highest())
     }
 
-    /// Returns the magnitude that is the given number below the highest.
+    /// Returns the magnitude that is the given number below the highest. Requires one that is shown.
     #[inline]
     pub fn magnitude(&self, below: u32) -> i16
         requires { below < shown_count self.now.value }
@@ -157,7 +157,9 @@ impl<'f, D: DigitStore> FormattedAbsolute<'f, D> {
         self.magnitude(below) == -1
     }
 
-    /// Returns the decimal separator if it is before the digit, else nothing.
+    /// Returns the decimal separator if it is before the digit at [`magnitude`](Self::magnitude), else nothing.
+    ///
+    /// Requires one that is shown.
     #[inline]
     pub fn separator_before(&self, below: u32) -> &str
         requires { below < shown_count self.now.value }
@@ -171,7 +173,7 @@ impl<'f, D: DigitStore> FormattedAbsolute<'f, D> {
         }
     }
 
-    /// Returns the digit of a magnitude.
+    /// Returns the digit at [`magnitude`](Self::magnitude), as the locale writes it. Requires one that is shown.
     #[inline]
     pub fn digit(&self, below: u32) -> char
         requires { below < shown_count self.now.value }
@@ -182,7 +184,9 @@ impl<'f, D: DigitStore> FormattedAbsolute<'f, D> {
         self.symbols.digit(digit)
     }
 
-    /// Returns the grouping separator if it is after the digit, else nothing.
+    /// Returns the grouping separator if it is after the digit at [`magnitude`](Self::magnitude), else nothing.
+    ///
+    /// Requires one that is shown.
     #[inline]
     pub fn separator_after(&self, below: u32) -> &str
         requires { below < shown_count self.now.value }

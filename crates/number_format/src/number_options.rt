@@ -33,9 +33,11 @@ pub enum CurrencyUsage {
 pub struct CurrencyStyle {
     /// The code of the currency, three letters; of one that is not listed two digits and the code are shown.
     pub code: CurrencyCode,
+    /// Which symbol is written.
     pub display: CurrencyDisplay,
     /// The usual pattern or that of accounts.
     pub sign: CurrencySign,
+    /// For which use its digits are chosen.
     pub usage: CurrencyUsage,
 }
 
@@ -69,6 +71,7 @@ pub enum ExponentSign {
 pub struct ExponentOptions {
     /// The least number of digits, from 1.
     pub digits: u16,
+    /// Its sign.
     pub sign: ExponentSign,
 }
 
@@ -98,9 +101,11 @@ pub enum NumberNotation {
 /// How a number is written. Every value is valid.
 #[derive(Clone, Copy, Debug)]
 pub struct NumberOptions {
+    /// What the number counts.
     pub style: NumberStyle,
     /// The power of ten by which the number is multiplied first.
     pub scale: i16,
+    /// Its notation.
     pub notation: NumberNotation,
     /// Which digits are shown. `None`: with style `Decimal` in notation `Standard` all digits as they stand, else those
     /// that ECMA-402 has for the style and the notation.
