@@ -2,7 +2,7 @@
 use Rattle.std.proofs.Common.{◌≡◌, ℕ, ℤ, ◌==◌, ◌&&◌, Bool, true, false, cond, List, [], ◌∷◌, Option, Some, None, refl, subst, sym, ap, ◌∙◌, ◌⊎◌, inl, inr}
 use Rattle.std.proofs.lemmas.Bool.{and_parts}
 use Rattle.std.proofs.lemmas.Option.{same_Some}
-use Rattle.std.specs.Prelude.{slice_get, not}
+use Rattle.std.specs.Prelude.{slice_get, option_and_then, not}
 use Rattle.std.specs.List.{list_all, Contains}
 use Rattle.std.specs.Option.{option_or, option_map_or}
 use Rattle.std.specs.Str.{is_utf8, chars}
@@ -17,7 +17,7 @@ use Rattle.locale_data.specs.declared.compact.CompactStyle.{CompactStyle}
 use Rattle.locale_data.specs.declared.compact.PercentUnit.{PercentUnit}
 use Rattle.locale_data.specs.declared.compact_table.TheConstants.{COMPACT_SETS, COMPACT_RUNS, COMPACT_PATTERNS, PERCENT_UNITS}
 use Rattle.locale_data.specs.declared.number_formats.NumberFormats.{NumberFormats}
-use Rattle.locale_data.specs.Compact.{count_of, count_code, range_of, run_at, pattern_with, pattern_for, pattern_in, needs_category, unit_for, has_texts, has_unit_texts, NeedsCategory}
+use Rattle.locale_data.specs.Compact.{count_of, count_code, range_of, run_at, pattern_with, pattern_for, needs_category, compact_patterns, unit_for, has_texts, has_unit_texts, AreTexts, IsRun}
 use Rattle.locale_data.specs.declared.rows.TableRange.{TableRange}
 use Rattle.locale_data.specs.Rows.{part}
 use Rattle.locale_data.proofs.EachRow.{passes}
@@ -31,11 +31,11 @@ patterns_have_affixes : list_all has_affixes COMPACT_PATTERNS ≡ true
 unfolding is_utf8 chars lib.Utf8.encode
 patterns_have_affixes = refl
 
-pub has_affixes_if_listed : (p : CompactPattern) → Contains COMPACT_PATTERNS p
-    → (has_texts p.prefix ≡ true) × (has_texts p.suffix ≡ true)
+has_affixes_if_listed : (p : CompactPattern) → Contains COMPACT_PATTERNS p → AreTexts p
 has_affixes_if_listed p listed =
-    and_parts (has_texts p.prefix) (has_texts p.suffix)
-    (passes has_affixes COMPACT_PATTERNS p patterns_have_affixes listed)
+    let parts = and_parts (has_texts p.prefix) (has_texts p.suffix)
+    (passes has_affixes COMPACT_PATTERNS p patterns_have_affixes listed) in
+    record { prefix = parts.0; suffix = parts.1 }
 
 abbrev has_units : PercentUnit → Bool
 has_units unit = has_unit_texts unit.one && has_unit_texts unit.other
@@ -88,10 +88,11 @@ for-contains category is_one patterns p e =
     exactly true e = with-contains ExactlyOne patterns p e
     exactly false e = cc
 
-pub listed_pattern : (range : TableRange) (category : PluralCategory) (is_one : Bool) (p : CompactPattern)
-    → pattern_for category is_one (part COMPACT_PATTERNS range) ≡ Some p → Contains COMPACT_PATTERNS p
-listed_pattern range category is_one p e =
-    contains-part COMPACT_PATTERNS range p (for-contains category is_one (part COMPACT_PATTERNS range) p e)
+pub pattern_has_texts : (range : TableRange) (category : PluralCategory) (is_one : Bool) (p : CompactPattern)
+    → pattern_for category is_one (part COMPACT_PATTERNS range) ≡ Some p → AreTexts p
+pattern_has_texts range category is_one p e =
+    has_affixes_if_listed p
+    (contains-part COMPACT_PATTERNS range p (for-contains category is_one (part COMPACT_PATTERNS range) p e))
 
 -- ---- A pattern of `Other` alone is for each number.
 
@@ -123,7 +124,8 @@ none_of : (category : PluralCategory) (is_one : Bool) → pattern_for category i
 none_of category true = refl
 none_of category false = refl
 
-same_pattern : (patterns : List CompactPattern) (a b : PluralCategory) (x y : Bool) → needs_category patterns ≡ false
+-- patterns that need no category have the same pattern for each number
+pub same_pattern : (patterns : List CompactPattern) (a b : PluralCategory) (x y : Bool) → needs_category patterns ≡ false
     → pattern_for a x patterns ≡ pattern_for b y patterns
 same_pattern [] a b x y e = none_of a x ∙ sym (none_of b y)
 same_pattern (p ∷ []) a b x y e = for_each a x ∙ sym (for_each b y)
@@ -134,28 +136,10 @@ same_pattern (p ∷ []) a b x y e = for_each a x ∙ sym (for_each b y)
         (sym (is_other p.count e)) (only_other p category is_one)
 same_pattern (p ∷ (q ∷ patterns)) a b x y e = absurd (cc)
 
--- the pattern of a magnitude that needs no category is the same for each number
-pub same_patterns : (f : NumberFormats) (style : CompactStyle) (magnitude : ℤ) (a b : PluralCategory) (x y : Bool)
-    (set : CompactSet) → slice_get COMPACT_SETS f.compact ≡ Some set → NeedsCategory f style magnitude false
-    → pattern_in (run_at (part COMPACT_RUNS (range_of set style)) magnitude) a x
-    ≡ pattern_in (run_at (part COMPACT_RUNS (range_of set style)) magnitude) b y
-same_patterns f style magnitude a b x y set listed needs =
-    by (run_at (part COMPACT_RUNS (range_of set style)) magnitude) none_needed
-  where
-    run_is : run_at (part COMPACT_RUNS (range_of set style)) magnitude ≡ needs.run
-    run_is =
-        ap (λ set. run_at (part COMPACT_RUNS (range_of set style)) magnitude)
-        (same_Some _ _ (sym listed ∙ needs.of_magnitude.listed))
-        ∙ sym needs.of_magnitude.value
-
-    none_needed : option_map_or (λ r. needs_category (part COMPACT_PATTERNS r.patterns))
-        (run_at (part COMPACT_RUNS (range_of set style)) magnitude) false ≡ false
-    none_needed =
-        ap (λ r. option_map_or (λ r. needs_category (part COMPACT_PATTERNS r.patterns)) r false) run_is
-        ∙ sym needs.value
-
-    by : (run : Option CompactRun)
-        → option_map_or (λ r. needs_category (part COMPACT_PATTERNS r.patterns)) run false ≡ false
-        → pattern_in run a x ≡ pattern_in run b y
-    by None e = refl
-    by (Some run) e = same_pattern (part COMPACT_PATTERNS run.patterns) a b x y e
+pub patterns_of_run : (f : NumberFormats) (style : CompactStyle) (magnitude : ℤ) (run : Option CompactRun)
+    → IsRun f style magnitude run
+    → compact_patterns f style magnitude ≡ option_map_or (λ run. part COMPACT_PATTERNS run.patterns) run []
+patterns_of_run f style magnitude run is =
+    ap (λ set. option_map_or (λ run. part COMPACT_PATTERNS run.patterns) (option_and_then
+    (λ set. run_at (part COMPACT_RUNS (range_of set style)) magnitude) set) []) is.listed
+    ∙ ap (λ run. option_map_or (λ run. part COMPACT_PATTERNS run.patterns) run []) (sym is.value)

@@ -1,14 +1,13 @@
 -- The compact patterns of locales.
-use Rattle.std.specs.Prelude.{◌≡◌, ◌≤◌, ◌==◌, ◌&&◌, ℕ, ℤ, pos, int_le, Bool, true, false, not, if◌then◌else◌, List, [], ◌∷◌, length, find, Option, None, Some, slice_get}
+use Rattle.std.specs.Prelude.{◌≡◌, ◌≤◌, ◌==◌, ◌&&◌, ℕ, ℤ, pos, int_le, Bool, true, false, not, if◌then◌else◌, List, [], ◌∷◌, length, find, Option, None, Some, option_and_then, slice_get}
 use Rattle.std.specs.Option.{option_or, option_map_or}
 use Rattle.plural_rules.specs.declared.rules.PluralCategory.{PluralCategory}
 use Rattle.plural_rules.specs.declared.rules.PluralCategory.TheVariants as category
 use Rattle.locale_data.specs.declared.compact.AffixText.{AffixText}
-use Rattle.locale_data.specs.declared.compact.CompactAffix.{CompactAffix}
-use Rattle.locale_data.specs.declared.compact.CompactAffixes.{CompactAffixes}
 use Rattle.locale_data.specs.declared.compact.CompactCount.{CompactCount}
 use Rattle.locale_data.specs.declared.compact.CompactCount.TheVariants.{ExactlyOne, Zero, One, Two, Few, Many, Other}
 use Rattle.locale_data.specs.declared.compact.CompactPattern.{CompactPattern}
+use Rattle.locale_data.specs.declared.compact.CompactPatterns.{CompactPatterns}
 use Rattle.locale_data.specs.declared.compact.CompactRun.{CompactRun}
 use Rattle.locale_data.specs.declared.compact.CompactSet.{CompactSet}
 use Rattle.locale_data.specs.declared.compact.CompactStyle.{CompactStyle}
@@ -67,24 +66,17 @@ needs_category [] = false
 needs_category (p ∷ []) = not (count_code p.count == count_code Other)
 needs_category (p ∷ (q ∷ patterns)) = true
 
+-- the text in a range
+abbrev pub text_of : TableRange → List ℕ
+text_of range = part COMPACT_BYTES range
+
 -- the ranges of an affix are texts
 abbrev pub has_texts : AffixText → Bool
 has_texts affix = is_text COMPACT_BYTES affix.before && is_text COMPACT_BYTES affix.after
 
--- the texts of an affix
-pub record IsAffix (affix : AffixText) (shown : CompactAffix) : Type 0 where
-  pub before : shown.before.now ≡ part COMPACT_BYTES affix.before
-  pub has_currency : shown.has_currency ≡ affix.has_currency
-  pub after : shown.after.now ≡ part COMPACT_BYTES affix.after
-
--- the texts have at most 255 bytes
-abbrev pub IsShortAffix : CompactAffix → Type 0
-IsShortAffix shown = (length shown.before.now ≤ 255) × (length shown.after.now ≤ 255)
-
-pub record AreAffixes (pattern : CompactPattern) (shown : CompactAffixes) : Type 0 where
-  pub form : shown.form ≡ pattern.form
-  pub prefix : IsAffix pattern.prefix shown.prefix
-  pub suffix : IsAffix pattern.suffix shown.suffix
+pub record AreTexts (pattern : CompactPattern) : Type 0 where
+  pub prefix : has_texts pattern.prefix ≡ true
+  pub suffix : has_texts pattern.suffix ≡ true
 
 -- the run of a magnitude among the compact patterns of a style
 pub record IsRun (f : NumberFormats) (style : CompactStyle) (magnitude : ℤ) (run : Option CompactRun) : Type 0 where
@@ -98,28 +90,16 @@ pub record IsExponent (f : NumberFormats) (style : CompactStyle) (magnitude : �
   pub of_magnitude : IsRun f style magnitude run
   pub value : exponent ≡ option_map_or (λ r. r.exponent) run 0
 
--- the pattern of a run for a number
-abbrev pub pattern_in : Option CompactRun → PluralCategory → Bool → Option CompactPattern
-pattern_in None category is_one = None
-pattern_in (Some run) category is_one = pattern_for category is_one (part COMPACT_PATTERNS run.patterns)
+-- the patterns of a part of the table
+abbrev pub patterns_in : CompactPatterns → List CompactPattern
+patterns_in patterns = part COMPACT_PATTERNS patterns.0
 
-abbrev pub AreAffixesOf : Option CompactPattern → Option CompactAffixes → Type 0
-AreAffixesOf None shown = shown ≡ None
-AreAffixesOf (Some pattern) None = ⊥
-AreAffixesOf (Some pattern) (Some shown) = AreAffixes pattern shown
-
--- the affixes of the pattern for a number in the run of its magnitude, or None if there is none
-pub record HasAffixes (f : NumberFormats) (style : CompactStyle) (magnitude : ℤ) (category : PluralCategory)
-    (is_one : Bool) (shown : Option CompactAffixes) : Type 0 where
-  pub run : Option CompactRun
-  pub of_magnitude : IsRun f style magnitude run
-  pub value : AreAffixesOf (pattern_in run category is_one) shown
-
--- whether the pattern for a number in the run of a magnitude depends on the number; not if there is no run
-pub record NeedsCategory (f : NumberFormats) (style : CompactStyle) (magnitude : ℤ) (needs : Bool) : Type 0 where
-  pub run : Option CompactRun
-  pub of_magnitude : IsRun f style magnitude run
-  pub value : needs ≡ option_map_or (λ r. needs_category (part COMPACT_PATTERNS r.patterns)) run false
+-- the patterns of that run; none if the magnitude has none
+abbrev pub compact_patterns : NumberFormats → CompactStyle → ℤ → List CompactPattern
+compact_patterns f style magnitude =
+    option_map_or (λ run. part COMPACT_PATTERNS run.patterns)
+    (option_and_then (λ set. run_at (part COMPACT_RUNS (range_of set style)) magnitude)
+    (slice_get COMPACT_SETS f.compact)) []
 
 -- ---- Percent.
 

@@ -1,9 +1,9 @@
 //! The compact patterns of locales.
-ghost use Rattle.std.specs.Prelude.{◌≡◌, ◌≤◌, length, Contains, IfSome, true};
+ghost use Rattle.std.specs.Prelude.{◌≡◌, ◌≤◌, length, IfSome, true};
 ghost use Rattle.std.specs.Option.{option_copied};
-ghost use Rattle.locale_data.specs.declared.compact_table.TheConstants.{COMPACT_RUNS, COMPACT_PATTERNS};
+ghost use Rattle.locale_data.specs.declared.compact_table.TheConstants.{COMPACT_RUNS};
 ghost use Rattle.locale_data.specs.Rows.{part};
-ghost use Rattle.locale_data.specs.Compact.{count_of, count_code, range_of, run_at, pattern_with, pattern_for, needs_category, has_texts, has_unit_texts, IsAffix, IsShortAffix, AreAffixes, IsRun, IsExponent, HasAffixes, NeedsCategory, unit_for, IsUnitText, IsUnit};
+ghost use Rattle.locale_data.specs.Compact.{count_of, count_code, range_of, run_at, pattern_with, pattern_for, patterns_in, compact_patterns, needs_category, text_of, has_texts, has_unit_texts, AreTexts, IsRun, IsExponent, unit_for, IsUnitText, IsUnit};
 
 use crate::compact_table::{
     COMPACT_BYTES, COMPACT_PATTERNS, COMPACT_RUNS, COMPACT_SETS, PERCENT_UNITS,
@@ -144,27 +144,9 @@ pub enum CompactStyle {
     Currency,
 }
 
-/// A prefix or a suffix of a number in compact notation.
+/// The compact patterns of a magnitude, as a part of the table of patterns.
 #[derive(Clone, Copy, Debug)]
-pub struct CompactAffix {
-    /// The text before the currency, or all of it; at most 255 bytes.
-    pub before: &'static str,
-    /// Whether it has the currency.
-    pub has_currency: bool,
-    /// The text after the currency; at most 255 bytes.
-    pub after: &'static str,
-}
-
-/// What is written around a number in compact notation.
-#[derive(Clone, Copy, Debug)]
-pub struct CompactAffixes {
-    /// How they are written.
-    pub form: CompactForm,
-    /// The text before the number.
-    pub prefix: CompactAffix,
-    /// The text after the number.
-    pub suffix: CompactAffix,
-}
+pub struct CompactPatterns(pub TableRange);
 
 /// What is written around a number in compact notation with its percent sign.
 #[derive(Clone, Copy, Debug)]
@@ -240,27 +222,57 @@ fn needs_category(patterns: &[CompactPattern]) -> bool
     }
 }
 
-fn affix_of(affix: &AffixText) -> CompactAffix
-    requires { has_texts affix.now ≡ true }
-    ensures value { IsAffix affix.now result }
-    ensures short { IsShortAffix result }
-{
-    CompactAffix {
-        before: text_in(&COMPACT_BYTES, affix.before),
-        has_currency: affix.has_currency,
-        after: text_in(&COMPACT_BYTES, affix.after),
+impl AffixText {
+    /// Returns the text before the currency, or all of it.
+    pub fn before_text(&self) -> &'static str
+        requires { has_texts self.now ≡ true }
+        ensures value { result.now ≡ text_of self.now.before }
+        ensures short { length result.now ≤ 255 }
+    {
+        text_in(&COMPACT_BYTES, self.before)
+    }
+
+    /// Returns the text after the currency.
+    pub fn after_text(&self) -> &'static str
+        requires { has_texts self.now ≡ true }
+        ensures value { result.now ≡ text_of self.now.after }
+        ensures short { length result.now ≤ 255 }
+    {
+        text_in(&COMPACT_BYTES, self.after)
     }
 }
 
-fn affixes_of(pattern: &CompactPattern) -> CompactAffixes
-    requires { Contains COMPACT_PATTERNS pattern.now }
-    ensures value { AreAffixes pattern.now result }
-    ensures short { IsShortAffix result.prefix × IsShortAffix result.suffix }
-{
-    CompactAffixes {
-        form: pattern.form,
-        prefix: affix_of(&pattern.prefix),
-        suffix: affix_of(&pattern.suffix),
+impl CompactPatterns {
+    fn patterns(self) -> &'static [CompactPattern]
+        ensures { result.now ≡ patterns_in self }
+    {
+        part(&COMPACT_PATTERNS, self.0)
+    }
+
+    /// Returns whether [`pattern`](Self::pattern) depends on `category` or `is_one`.
+    ///
+    /// ```
+    /// formats_of("en", "latn").compact_patterns(CompactStyle::Short, 4).needs_category() // false: 12K
+    /// ```
+    pub fn needs_category(self) -> bool
+        ensures { result ≡ needs_category (patterns_in self) }
+    {
+        needs_category(self.patterns())
+    }
+
+    /// Returns the pattern for a number, if there is one.
+    ///
+    /// `category` is the plural category of the divided number, and `is_one` whether it is 1 without a sign.
+    ///
+    /// ```
+    /// let patterns = formats_of("de", "latn").compact_patterns(CompactStyle::Long, 6);
+    /// patterns.pattern(PluralCategory::One, true) // 1 Million
+    /// ```
+    pub fn pattern(self, category: PluralCategory, is_one: bool) -> Option<&'static CompactPattern>
+        ensures value { option_copied result ≡ pattern_for category is_one (patterns_in self) }
+        ensures texts { IfSome result (λ pattern. AreTexts pattern.now) }
+    {
+        pattern_for(self.patterns(), category, is_one)
     }
 }
 
@@ -282,12 +294,6 @@ fn unit_for(unit: &PercentUnit, category: PluralCategory) -> &UnitPattern
         PluralCategory::One => &unit.one,
         _ => &unit.other,
     }
-}
-
-fn patterns_of(run: &CompactRun) -> &'static [CompactPattern]
-    ensures { result.now ≡ part COMPACT_PATTERNS run.now.patterns }
-{
-    part(&COMPACT_PATTERNS, run.patterns)
 }
 
 impl NumberFormats {
@@ -314,43 +320,16 @@ impl NumberFormats {
         }
     }
 
-    /// Returns whether [`compact_affixes`](Self::compact_affixes) depends on `category` or `is_one` for a magnitude.
+    /// Returns the compact patterns of a number whose first digit is at a magnitude before it is divided.
     ///
-    /// ```
-    /// formats_of("en", "latn").needs_category(CompactStyle::Short, 4) // false: 12K
-    /// ```
-    pub fn needs_category(&self, style: CompactStyle, magnitude: i16) -> bool
-        ensures { NeedsCategory self.now style magnitude result }
+    /// Some magnitudes have none, as those below 3.
+    pub fn compact_patterns(&self, style: CompactStyle, magnitude: i16) -> CompactPatterns
+        ensures { patterns_in result ≡ compact_patterns self.now style magnitude }
     {
         match self.run(style, magnitude) {
-            Some(run) => needs_category(patterns_of(run)),
-            None => false,
+            Some(run) => CompactPatterns(run.patterns),
+            None => CompactPatterns(TableRange(0, 0)),
         }
-    }
-
-    /// Returns what is written around a number in compact notation, whose first digit is at a magnitude before it is
-    /// divided.
-    ///
-    /// `category` is the plural category of the divided number, and `is_one` whether it is 1 without a sign. Returns
-    /// `None` if no pattern is for the magnitude, as for those below 3.
-    ///
-    /// ```
-    /// let formats = formats_of("de", "latn");
-    /// formats.compact_affixes(CompactStyle::Long, 6, PluralCategory::One, true) // 1 Million
-    /// ```
-    pub fn compact_affixes(
-        &self,
-        style: CompactStyle,
-        magnitude: i16,
-        category: PluralCategory,
-        is_one: bool,
-    ) -> Option<CompactAffixes>
-        ensures value { HasAffixes self.now style magnitude category is_one result }
-        ensures short { IfSome result (λ shown. IsShortAffix shown.prefix × IsShortAffix shown.suffix) }
-    {
-        let run = self.run(style, magnitude)?;
-        let pattern = pattern_for(patterns_of(run), category, is_one)?;
-        Some(affixes_of(pattern))
     }
 
     /// Returns what is written around a number in compact notation with its percent sign.

@@ -28,8 +28,8 @@ mod tag;
 mod texts;
 
 pub use compact::{
-    AffixText, CompactAffix, CompactAffixes, CompactCount, CompactForm, CompactPattern, CompactRun,
-    CompactSet, CompactStyle, PercentUnit, UnitAffixes, UnitPattern,
+    AffixText, CompactCount, CompactForm, CompactPattern, CompactPatterns, CompactRun, CompactSet,
+    CompactStyle, PercentUnit, UnitAffixes, UnitPattern,
 };
 pub use currency::{
     Currency, CurrencyCode, CurrencyDigits, CurrencyPattern, CurrencySign, CurrencySymbol,

@@ -15,7 +15,7 @@ use Rattle.number_format.specs.declared.number_options.NumberStyle.TheVariants a
 use Rattle.number_format.specs.Formatters.{compact_style, exponent_options, IsFormatter}
 use Rattle.number_format.specs.AffixedTexts.{by_sign, text_with}
 use Rattle.number_format.specs.NumberReading.{IsStandard, affixes_for, affixes_of_formatter, reader_of, CanRead, IsShownAs}
-use Rattle.number_format.specs.NumberText.{IsNumberText, shown_sign, compact_magnitude, is_one, words_by, unit_by, pattern_around, around_by, pieces_around, shown_exponent}
+use Rattle.number_format.specs.NumberText.{IsNumberText, shown_sign, compact_magnitude, is_one, compact_pattern, unit_by, pattern_around, around_by, pieces_around, shown_exponent}
 use Rattle.number_format.specs.Scaled.{ScaledValue}
 use Rattle.number_format.specs.TextParts.{digit_pieces, pieces_text}
 use Rattle.number_format.specs.declared.text_part.PartKind.TheVariants as kind
@@ -55,7 +55,7 @@ formatter_text f v u text standard (pieces, is, of_pieces) shown =
     ∙ ap pieces_text is.value
     ∙ (λ i. pieces_text (pieces_around f (number i).significand.absolute
     (option_map (λ o. shown_exponent o (number i).exponent) (standard.exponent i))
-    (around_by f (shown_sign f (number i).significand) (words_by f.formats (standard.compact i)
+    (around_by f (shown_sign f (number i).significand) (compact_pattern f.formats (standard.compact i)
     (compact_magnitude (number i).significand (number i).exponent) is.category (is_one (number i).significand)))
     (unit_by f (standard.compact i) is.whole)))
     ∙ text_around f s shown.number

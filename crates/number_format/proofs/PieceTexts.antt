@@ -19,8 +19,8 @@ use Rattle.number_format.specs.declared.text_part.PartKind.{PartKind}
 use Rattle.number_format.specs.declared.text_part.PartKind.TheVariants as kind
 use Rattle.number_format.specs.declared.text_part.TextPart.{TextPart}
 use Rattle.number_format.specs.TextParts.{Piece, Puts, part_pieces, parts_text, pieces_text, pieces_of, parts_pieces, digit_kind, magnitude_pieces, first_pieces, digit_pieces}
-use Rattle.number_format.specs.FormattedNumbers.{around_of, unit_of, exponent_text_if, number_text, number_text_if, around_text, formatted_number_text}
-use Rattle.number_format.specs.NumberText.{pattern_around, compact_magnitude, words_by, unit_by, around_by, exponent_kind, exponent_part, exponent_of, number_part, AreParts}
+use Rattle.number_format.specs.FormattedNumbers.{chosen_pattern, around_of, unit_of, exponent_text_if, number_text, number_text_if, around_text, formatted_number_text}
+use Rattle.number_format.specs.NumberText.{pattern_around, unit_by, around_by, exponent_kind, exponent_part, exponent_of, number_part, AreParts}
 use Rattle.number_format.specs.PatternTexts.{Around, literal, sign_text}
 
 pub puts_nil : (a : Option (List Piece)) → Puts a a []
@@ -163,9 +163,8 @@ pub text-of_pattern : (n : FormattedNumber) → n.formatter.now.compact ≡ None
     → around_text n (pattern_around n.formatter.now n.value.sign) ≡ formatted_number_text n
 text-of_pattern n none =
     let f = n.formatter.now in
-    let magnitude = compact_magnitude n.value n.exponent in
     sym (append-nil (around_text n (pattern_around f n.value.sign)))
-    ∙ ap (λ style. pieces_text (literal (unit_by f style n.choice.whole).prefix) ++ (around_text n
-    (around_by f n.value.sign (words_by f.formats style magnitude n.choice.category n.choice.is_one))
-    ++ pieces_text (literal (unit_by f style n.choice.whole).suffix))) (sym none)
+    ∙ ap (λ style. pieces_text (literal (unit_by f style n.whole).prefix) ++ (around_text n
+    (around_by f n.value.sign (chosen_pattern style n.choice))
+    ++ pieces_text (literal (unit_by f style n.whole).suffix))) (sym none)
     ∙ text-of_around n

@@ -19,7 +19,7 @@ use Rattle.number_format.specs.declared.text_part.PartKind.TheVariants as kind
 use Rattle.number_format.specs.DefaultDigits.{AreDefaultDigits}
 use Rattle.number_format.specs.Formatters.{IsFormatterIn, plain_options, style_sizes, with_separators}
 use Rattle.number_format.specs.NumberStyles.{plain_pattern}
-use Rattle.number_format.specs.NumberText.{IsNumberText, rounded_in, shown_number, shown_exponent, compact_magnitude, is_one, words_by, unit_by, around_by, pieces_around}
+use Rattle.number_format.specs.NumberText.{IsNumberText, rounded_in, shown_number, shown_exponent, compact_magnitude, is_one, compact_pattern, unit_by, around_by, pieces_around}
 use Rattle.number_format.specs.PatternTexts.{Style, literal, style_around}
 use Rattle.number_format.specs.Scaled.{ScaledValue, scaled_value}
 use Rattle.number_format.specs.TextParts.{Piece, pieces_text, pieces_of, digit_pieces}
@@ -121,7 +121,7 @@ of_plain f own g v text plain valid no_suffix (pieces, is, of_pieces) =
     ∙ (λ i. pieces_around f (number i).significand.absolute
     (option_map (λ o. shown_exponent o (number i).exponent) (plain.exponent i))
     (around_by f (displayed_sign (plain.sign_display i) (number i).significand.absolute.number
-    (number i).significand.sign) (words_by f.formats (plain.compact i)
+    (number i).significand.sign) (compact_pattern f.formats (plain.compact i)
     (compact_magnitude (number i).significand (number i).exponent) is.category (is_one (number i).significand)))
     (unit_by f (plain.compact i) is.whole))
     ∙ (λ i. pieces_for (record {

@@ -4,40 +4,43 @@ use Rattle.fixed_decimal.specs.Decimal.{Decimal}
 use Rattle.decimal_format.specs.declared.grouping.GroupingStrategy.TheVariants.{Never}
 use Rattle.decimal_format.specs.Formatted.{absolute_text}
 use Rattle.decimal_format.specs.Symbols.{Affixes}
+use Rattle.locale_data.specs.declared.compact.CompactPattern.{CompactPattern}
 use Rattle.locale_data.specs.declared.compact.CompactStyle.{CompactStyle}
+use Rattle.locale_data.specs.Compact.{pattern_for, patterns_in}
 use Rattle.locale_data.specs.Plurals.{IsCategoryAt}
 use Rattle.plural_rules.specs.Operands as operands
 use Rattle.plural_rules.specs.declared.rules.PluralCategory.{PluralCategory}
 use Rattle.number_format.specs.declared.compact_texts.CompactChoice.{CompactChoice}
 use Rattle.number_format.specs.declared.formatted_number.FormattedNumber.{FormattedNumber}
 use Rattle.number_format.specs.declared.number_formatter.NumberFormatter.{NumberFormatter}
-use Rattle.number_format.specs.NumberText.{CompactWords, around_by, words_by, compact_magnitude, compact_power, is_one, unit_texts, unit_by, exponent_of, pieces_around}
+use Rattle.number_format.specs.NumberText.{around_by, compact_pattern, compact_magnitude, compact_power, is_one, unit_texts, unit_by, exponent_of, pieces_around}
 use Rattle.number_format.specs.PatternTexts.{Around, sign_text}
 use Rattle.number_format.specs.TextParts.{Piece, pieces_text}
 
--- the texts of the compact pattern
-abbrev pub words_of : FormattedNumber → Option CompactWords
-words_of n =
-    let f = n.formatter.now in
-    words_by f.formats f.compact (compact_magnitude n.value n.exponent) n.choice.category n.choice.is_one
+-- the compact pattern that is chosen, in compact notation
+abbrev pub chosen_pattern : Option CompactStyle → CompactChoice → Option CompactPattern
+chosen_pattern None choice = None
+chosen_pattern (Some style) choice = pattern_for choice.category choice.is_one (patterns_in choice.patterns)
+
+abbrev pub pattern_of : FormattedNumber → Option CompactPattern
+pattern_of n = chosen_pattern n.formatter.now.compact n.choice
 
 -- what is around the number
 abbrev pub around_of : FormattedNumber → Around
-around_of n = around_by n.formatter.now n.value.sign (words_of n)
+around_of n = around_by n.formatter.now n.value.sign (pattern_of n)
 
 -- and around the whole text
 abbrev pub unit_of : FormattedNumber → Affixes
-unit_of n = unit_by n.formatter.now n.formatter.now.compact n.choice.whole
+unit_of n = unit_by n.formatter.now n.formatter.now.compact n.whole
 
 -- the pieces of a text, with their kinds
-abbrev pub shown_pieces : NumberFormatter → Decimal → ℤ → CompactChoice → List Piece
-shown_pieces f value e choice =
-    let words = words_by f.formats f.compact (compact_magnitude value e) choice.category choice.is_one in
-    pieces_around f value.absolute (exponent_of f e) (around_by f value.sign words)
-    (unit_by f f.compact choice.whole)
+abbrev pub shown_pieces : NumberFormatter → Decimal → ℤ → CompactChoice → PluralCategory → List Piece
+shown_pieces f value e choice whole =
+    pieces_around f value.absolute (exponent_of f e) (around_by f value.sign (chosen_pattern f.compact choice))
+    (unit_by f f.compact whole)
 
 abbrev pub formatted_number_pieces : FormattedNumber → List Piece
-formatted_number_pieces n = shown_pieces n.formatter.now n.value n.exponent n.choice
+formatted_number_pieces n = shown_pieces n.formatter.now n.value n.exponent n.choice n.whole
 
 -- the text: that of the pieces
 abbrev pub formatted_number_text : FormattedNumber → List ℕ
@@ -68,19 +71,15 @@ abbrev pub around_text : FormattedNumber → Around → List ℕ
 around_text n a = pieces_text a.prefix ++ (number_text_if n a.has_number ++ pieces_text a.suffix)
 
 -- what chooses the same compact pattern as a significand does
-pub record ChoosesWords (f : NumberFormatter) (style : Option CompactStyle) (significand : Decimal) (e : ℤ)
-    (chosen : PluralCategory) (one : Bool) : Type 0 where
+pub record ChoosesPattern (f : NumberFormatter) (style : Option CompactStyle) (significand : Decimal) (e : ℤ)
+    (choice : CompactChoice) : Type 0 where
   pub category : PluralCategory
   pub of_significand : IsCategoryAt f.rules (operands.plain significand.absolute) category
-  pub words : words_by f.formats style (compact_magnitude significand e) chosen one
-      ≡ words_by f.formats style (compact_magnitude significand e) category (is_one significand)
+  pub pattern : chosen_pattern style choice
+      ≡ compact_pattern f.formats style (compact_magnitude significand e) category (is_one significand)
 
 -- and the same texts around the whole text
 pub record ChoosesUnit (f : NumberFormatter) (significand : Decimal) (e : ℤ) (chosen : PluralCategory) : Type 0 where
   pub category : PluralCategory
   pub of_whole : IsCategoryAt f.rules (operands.compact significand.absolute (unsigned_abs (compact_power e))) category
   pub texts : unit_texts f.formats f.unit chosen ≡ unit_texts f.formats f.unit category
-
-pub record IsChoice (f : NumberFormatter) (significand : Decimal) (e : ℤ) (choice : CompactChoice) : Type 0 where
-  pub words : ChoosesWords f f.compact significand e choice.category choice.is_one
-  pub unit : ChoosesUnit f significand e choice.whole

@@ -16,18 +16,16 @@ use Rattle.decimal_format.specs.Symbols.{Affixes, affixes}
 use Rattle.plural_rules.specs.Operands as operands
 use Rattle.plural_rules.specs.declared.rules.PluralCategory.{PluralCategory}
 use Rattle.locale_data.specs.declared.compact.AffixText.{AffixText}
-use Rattle.locale_data.specs.declared.compact.CompactAffix.{CompactAffix}
-use Rattle.locale_data.specs.declared.compact.CompactAffixes.{CompactAffixes}
 use Rattle.locale_data.specs.declared.compact.CompactForm.{CompactForm}
 use Rattle.locale_data.specs.declared.compact.CompactForm.TheVariants as form
 use Rattle.locale_data.specs.declared.compact.CompactPattern.{CompactPattern}
 use Rattle.locale_data.specs.declared.compact.CompactStyle.{CompactStyle}
 use Rattle.locale_data.specs.declared.compact.PercentUnit.{PercentUnit}
-use Rattle.locale_data.specs.declared.compact_table.TheConstants.{COMPACT_SETS, COMPACT_RUNS, COMPACT_BYTES, PERCENT_UNITS}
+use Rattle.locale_data.specs.declared.compact_table.TheConstants.{PERCENT_UNITS}
 use Rattle.locale_data.specs.declared.number_formats.NumberFormats.{NumberFormats}
-use Rattle.locale_data.specs.Compact.{range_of, run_at, pattern_in, unit_for}
+use Rattle.locale_data.specs.Compact.{text_of, pattern_for, compact_patterns, unit_for}
 use Rattle.locale_data.specs.Plurals.{IsCategoryAt}
-use Rattle.locale_data.specs.Rows.{part}
+use Rattle.locale_data.specs.declared.rows.TableRange.{TableRange}
 use Rattle.number_format.specs.declared.digit_options.DigitOptions.{DigitOptions}
 use Rattle.number_format.specs.declared.notation.Notation.{Notation}
 use Rattle.number_format.specs.declared.number_around.NumberAffixes.{NumberAffixes}
@@ -72,23 +70,6 @@ style_of f =
 abbrev pub pattern_around : NumberFormatter → Sign → Around
 pattern_around f s = style_around (style_of f) s
 
--- the texts of a prefix or a suffix of a compact pattern
-pub record AffixWords : Type 0 where
-  pub before : List ℕ
-  pub has_currency : Bool
-  pub after : List ℕ
-
-pub record CompactWords : Type 0 where
-  pub form : CompactForm
-  pub prefix : AffixWords
-  pub suffix : AffixWords
-
-abbrev pub affix_words : CompactAffix → AffixWords
-affix_words a = record { before = a.before.now; has_currency = a.has_currency; after = a.after.now }
-
-abbrev pub compact_words : CompactAffixes → CompactWords
-compact_words c = record { form = c.form; prefix = affix_words c.prefix; suffix = affix_words c.suffix }
-
 abbrev pub is_empty : List ℕ → Bool
 is_empty [] = true
 is_empty (b ∷ bytes) = false
@@ -96,19 +77,19 @@ is_empty (b ∷ bytes) = false
 abbrev pub currency_if : NumberFormatter → Bool → List parts.Piece
 currency_if f has_currency = if has_currency then pieces_of kind.Currency (currency_text f.currency) else []
 
-abbrev pub compact_word : List ℕ → List parts.Piece
-compact_word text = pieces_of kind.Compact text
+abbrev pub compact_pieces : TableRange → List parts.Piece
+compact_pieces range = pieces_of kind.Compact (text_of range)
 
 -- a prefix or a suffix of a compact pattern, with the space of a currency beside a digit
-abbrev pub compact_prefix : NumberFormatter → AffixWords → List parts.Piece
+abbrev pub compact_prefix : NumberFormatter → AffixText → List parts.Piece
 compact_prefix f a =
-    compact_word a.before ++ (currency_if f a.has_currency
-    ++ (compact_word a.after ++ space_if (a.has_currency && (is_empty a.after && f.currency.space_after))))
+    compact_pieces a.before ++ (currency_if f a.has_currency
+    ++ (compact_pieces a.after ++ space_if (a.has_currency && (is_empty (text_of a.after) && f.currency.space_after))))
 
-abbrev pub compact_suffix : NumberFormatter → AffixWords → List parts.Piece
+abbrev pub compact_suffix : NumberFormatter → AffixText → List parts.Piece
 compact_suffix f a =
-    space_if (a.has_currency && (is_empty a.before && f.currency.space_before))
-    ++ (compact_word a.before ++ (currency_if f a.has_currency ++ compact_word a.after))
+    space_if (a.has_currency && (is_empty (text_of a.before) && f.currency.space_before))
+    ++ (compact_pieces a.before ++ (currency_if f a.has_currency ++ compact_pieces a.after))
 
 -- the sign before the prefix, or after it
 abbrev pub first_sign : NumberFormatter → Sign → CompactForm → List parts.Piece
@@ -124,19 +105,19 @@ has_number form.Literal = false
 has_number other = true
 
 -- a compact pattern, for a sign
-abbrev pub compact_around : NumberFormatter → Sign → CompactWords → Around
-compact_around f s c =
-    around (first_sign f s c.form ++ (compact_prefix f c.prefix ++ last_sign f s c.form)) (has_number c.form)
-    (compact_suffix f c.suffix)
+abbrev pub compact_around : NumberFormatter → Sign → CompactPattern → Around
+compact_around f s p =
+    around (first_sign f s p.form ++ (compact_prefix f p.prefix ++ last_sign f s p.form)) (has_number p.form)
+    (compact_suffix f p.suffix)
 
 abbrev pub is_plain : CompactForm → Bool
 is_plain form.Plain = true
 is_plain other = false
 
 -- the pattern of the style, or a compact pattern that is no plain one
-abbrev pub around_by : NumberFormatter → Sign → Option CompactWords → Around
+abbrev pub around_by : NumberFormatter → Sign → Option CompactPattern → Around
 around_by f s None = pattern_around f s
-around_by f s (Some c) = if is_plain c.form then pattern_around f s else compact_around f s c
+around_by f s (Some p) = if is_plain p.form then pattern_around f s else compact_around f s p
 
 -- the parts are these pieces, with what is written around the whole text
 pub record AreParts (a : Around) (u : Affixes) (shown : NumberAffixes) : Type 0 where
@@ -196,32 +177,16 @@ compact_power e = int_max (pos 0) (int_min e (pos 255))
 abbrev pub compact_magnitude : Decimal → ℤ → ℤ
 compact_magnitude significand e = int_min (first significand.absolute.number +ℤ compact_power e) (pos 32767)
 
--- the pattern of a magnitude and a plural category
-abbrev pub compact_pattern : NumberFormats → CompactStyle → ℤ → PluralCategory → Bool → Option CompactPattern
-compact_pattern formats style magnitude category one =
-    option_and_then (λ set. pattern_in (run_at (part COMPACT_RUNS (range_of set style)) magnitude) category one)
-    (slice_get COMPACT_SETS formats.compact)
-
-abbrev pub affix_in : AffixText → AffixWords
-affix_in a = record {
-  before = part COMPACT_BYTES a.before;
-  has_currency = a.has_currency;
-  after = part COMPACT_BYTES a.after;
-}
-
-abbrev pub words_in : CompactPattern → CompactWords
-words_in p = record { form = p.form; prefix = affix_in p.prefix; suffix = affix_in p.suffix }
-
--- its texts, in compact notation
-abbrev pub words_by : NumberFormats → Option CompactStyle → ℤ → PluralCategory → Bool → Option CompactWords
-words_by formats None magnitude category one = None
-words_by formats (Some style) magnitude category one =
-    option_map words_in (compact_pattern formats style magnitude category one)
+-- the pattern of a magnitude and a plural category, in compact notation
+abbrev pub compact_pattern : NumberFormats → Option CompactStyle → ℤ → PluralCategory → Bool → Option CompactPattern
+compact_pattern formats None magnitude category one = None
+compact_pattern formats (Some style) magnitude category one =
+    pattern_for category one (compact_patterns formats style magnitude)
 
 abbrev pub percent_texts : Option PercentUnit → PluralCategory → Affixes
 percent_texts None category = affixes [] []
 percent_texts (Some unit) category =
-    affixes (part COMPACT_BYTES (unit_for unit category).prefix) (part COMPACT_BYTES (unit_for unit category).suffix)
+    affixes (text_of (unit_for unit category).prefix) (text_of (unit_for unit category).suffix)
 
 -- what is written around the whole text: percent has a pattern of its own
 abbrev pub unit_texts : NumberFormats → CompactUnit → PluralCategory → Affixes
@@ -255,7 +220,7 @@ pub record AreNumberPieces (f : NumberFormatter) (v : Decimal) (pieces : List pa
   pub of_whole : IsCategoryAt f.rules
       (operands.compact number.significand.absolute (unsigned_abs (compact_power number.exponent))) whole
   pub value : pieces ≡ pieces_around f number.significand.absolute (exponent_of f number.exponent)
-      (around_by f (shown_sign f number.significand) (words_by f.formats f.compact
+      (around_by f (shown_sign f number.significand) (compact_pattern f.formats f.compact
       (compact_magnitude number.significand number.exponent) category (is_one number.significand)))
       (unit_by f f.compact whole)
 

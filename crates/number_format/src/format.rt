@@ -4,12 +4,12 @@ ghost use Rattle.decimal_unsigned.specs.Unsigned.{IsValue};
 ghost use Rattle.fixed_decimal.specs.Decimal.{Decimal};
 ghost use Rattle.decimal_digits.specs.declared.rounding.RoundingIncrement.TheVariants.{MultiplesOf25};
 ghost use Rattle.locale_data.specs.Plurals.{IsCategoryAt};
-ghost use Rattle.number_format.specs.FormattedNumbers.{formatted_number_pieces, formatted_number_text, shown_pieces, ChoosesWords, ChoosesUnit, IsChoice};
+ghost use Rattle.number_format.specs.FormattedNumbers.{formatted_number_pieces, formatted_number_text, shown_pieces, ChoosesPattern, ChoosesUnit};
 ghost use Rattle.number_format.specs.NumberText.{shown_number, is_one, compact_magnitude, compact_power, exponent_sign, shown_exponent, rounded_in, AreNumberPieces, IsNumberText, NeedsMemory};
 ghost use Rattle.number_format.specs.Scaled.{scaled_value};
 ghost use Rattle.number_format.specs.ShownDigits.{base_of};
 
-use crate::compact_texts::CompactChoice;
+use crate::compact_texts::{CompactChoice, NO_CHOICE};
 use crate::formatted_number::FormattedNumber;
 use crate::notation::Notation;
 use crate::number_formatter::{CompactUnit, NumberFormatter};
@@ -33,6 +33,7 @@ pub struct FormatError {
 struct Shown {
     exponent: i32,
     choice: CompactChoice,
+    whole: PluralCategory,
 }
 
 fn is_one(significand: &Decimal) -> bool
@@ -157,21 +158,29 @@ impl NumberFormatter {
         }
     }
 
-    /// Returns what chooses a compact pattern: the category of the significand, and whether it is 1.
-    fn category_and_one(
+    /// Returns what chooses a compact pattern. If all numbers have one pattern, the significand is not read.
+    fn compact_choice(
         &self,
         style: CompactStyle,
         significand: &Decimal,
         exponent: i32,
-    ) -> (PluralCategory, bool)
-        ensures { ChoosesWords self.now (Some style) significand.now exponent result.0 result.1 }
+    ) -> CompactChoice
+        ensures { ChoosesPattern self.now (Some style) significand.now exponent result }
     {
         let magnitude = compact_magnitude(significand, exponent);
-        if !self.formats.needs_category(style, magnitude) {
-            return (PluralCategory::Other, false);
+        let patterns = self.formats.compact_patterns(style, magnitude);
+        if !patterns.needs_category() {
+            return CompactChoice {
+                patterns,
+                ..NO_CHOICE
+            };
         }
         let category = self.category(&PluralOperands::of_decimal(significand));
-        (category, is_one(significand))
+        CompactChoice {
+            patterns,
+            category,
+            is_one: is_one(significand),
+        }
     }
 
     fn whole_category(&self, significand: &Decimal, exponent: i32) -> PluralCategory
@@ -187,16 +196,11 @@ impl NumberFormatter {
     }
 
     fn choice(&self, significand: &Decimal, exponent: i32) -> CompactChoice
-        ensures { IsChoice self.now significand.now exponent result }
+        ensures { ChoosesPattern self.now self.now.compact significand.now exponent result }
     {
-        let (category, is_one) = match self.compact {
-            Some(style) => self.category_and_one(style, significand, exponent),
-            None => (PluralCategory::Other, false),
-        };
-        CompactChoice {
-            category,
-            is_one,
-            whole: self.whole_category(significand, exponent),
+        match self.compact {
+            Some(style) => self.compact_choice(style, significand, exponent),
+            None => NO_CHOICE,
         }
     }
 
@@ -204,15 +208,20 @@ impl NumberFormatter {
     #[inline(never)]
     fn shown(&self, value: &mut Decimal) -> Result<Shown, RoundError>
         ensures pieces { IfOk result
-            (λ s. AreNumberPieces self.now value.old (shown_pieces self.now value.new s.exponent s.choice)) }
+            (λ s. AreNumberPieces self.now value.old (shown_pieces self.now value.new s.exponent s.choice s.whole)) }
         ensures unchanged { OnErr result (value.new ≡ value.old) }
         ensures limit { IsErrOf result RoundError.Limit → shown_number self.now value.old ≡ None }
         ensures memory { IsErrOf result RoundError.Memory → NeedsMemory self.now value.old }
     {
         let exponent = self.show(value)?;
         let choice = self.choice(value, exponent);
+        let whole = self.whole_category(value, exponent);
         value.apply_sign_display(self.sign_display);
-        Ok(Shown { exponent, choice })
+        Ok(Shown {
+            exponent,
+            choice,
+            whole,
+        })
     }
 
     /// Formats a number: rounds it, and writes it as the formatter's options have it.
@@ -243,6 +252,7 @@ impl NumberFormatter {
                 value,
                 exponent: shown.exponent,
                 choice: shown.choice,
+                whole: shown.whole,
             }),
             Err(error) => Err(FormatError { error, value }),
         }

@@ -1,25 +1,26 @@
 //! A number as a locale writes it.
 ghost use Rattle.std.specs.Prelude.{◌≡◌, ◌≤◌, ◌++◌, length, Some, IfSome, OnOk, OnErr, true};
-ghost use Rattle.std.specs.Option.{option_map};
+ghost use Rattle.std.specs.Option.{option_copied};
 ghost use Rattle.std.specs.Fmt.{WritesStyledOnOk};
 ghost use Rattle.std.specs.Io.KnownBytes.{Keeps, Appends};
 ghost use Rattle.decimal_digits.specs.AppendsPrefix.{AppendsPrefix};
 ghost use Rattle.decimal_format.specs.Formatted.{formatted_absolute};
 ghost use Rattle.decimal_format.specs.Symbols.{affixes};
 ghost use Rattle.decimal_format.specs.declared.grouping.GroupingStrategy.TheVariants.{Never};
-ghost use Rattle.number_format.specs.FormattedNumbers.{words_of, around_of, unit_of, exponent_text, number_text, number_text_if, formatted_number_text};
-ghost use Rattle.locale_data.specs.Compact.{IsShortAffix};
-ghost use Rattle.number_format.specs.NumberText.{compact_words, exponent_of, AreParts};
+ghost use Rattle.number_format.specs.FormattedNumbers.{pattern_of, around_of, unit_of, exponent_text, number_text, number_text_if, formatted_number_text};
+ghost use Rattle.locale_data.specs.Compact.{AreTexts};
+ghost use Rattle.number_format.specs.NumberText.{exponent_of, AreParts};
 ghost use Rattle.number_format.specs.TextParts.{parts_text};
 
 use crate::compact_texts::{CompactChoice, NO_UNIT};
-use crate::format::{compact_magnitude, shown_exponent};
+use crate::format::shown_exponent;
 use crate::number_around::NumberAffixes;
 use crate::number_formatter::{CompactUnit, NumberFormatter};
 use crate::parts::{fmt_parts, parts_length, write_parts};
 use decimal_format::{Block, FormattedAbsolute, GroupingStrategy};
 use fixed_decimal::{Decimal, DecimalStore, Sink, SinkFault, Writeable};
-use locale_data::{CompactAffixes, UnitAffixes};
+use locale_data::{CompactPattern, UnitAffixes};
+use plural_rules::PluralCategory;
 use std::alloc::Global;
 use std::fmt;
 
@@ -31,6 +32,8 @@ pub struct FormattedNumber<'f> {
     pub(crate) value: Decimal,
     pub(crate) exponent: i32,
     pub(crate) choice: CompactChoice,
+    /// The plural category of the whole number.
+    pub(crate) whole: PluralCategory,
 }
 
 impl<'f> Drop for FormattedNumber<'f> {
@@ -41,27 +44,23 @@ impl<'f> Drop for FormattedNumber<'f> {
             value,
             exponent: _,
             choice: _,
+            whole: _,
         } = self;
         drop(value);
     }
 }
 
 impl<'f> FormattedNumber<'f> {
-    /// Returns what a compact pattern writes around the number, if there is one.
-    pub(crate) fn compact_affixes(&self) -> Option<CompactAffixes>
-        ensures value { option_map compact_words result ≡ words_of self.now }
-        ensures short { IfSome result (λ c. IsShortAffix c.prefix × IsShortAffix c.suffix) }
+    /// Returns the compact pattern of the number, if it has one.
+    pub(crate) fn compact_pattern(&self) -> Option<&'static CompactPattern>
+        ensures value { option_copied result ≡ pattern_of self.now }
+        ensures texts { IfSome result (λ pattern. AreTexts pattern.now) }
     {
-        let style = self.formatter.compact?;
-        let magnitude = compact_magnitude(&self.value, self.exponent);
-        let CompactChoice {
-            category,
-            is_one,
-            whole: _,
-        } = self.choice;
-        self.formatter
-            .formats
-            .compact_affixes(style, magnitude, category, is_one)
+        let choice = self.choice;
+        match self.formatter.compact {
+            Some(_) => choice.patterns.pattern(choice.category, choice.is_one),
+            None => None,
+        }
     }
 
     /// Returns what is written around the whole text.
@@ -72,7 +71,7 @@ impl<'f> FormattedNumber<'f> {
         let formatter = self.formatter;
         match (formatter.compact, formatter.unit) {
             (None, _) | (_, CompactUnit::Nothing) => NO_UNIT,
-            (_, CompactUnit::Percent) => formatter.formats.percent_unit(self.choice.whole),
+            (_, CompactUnit::Percent) => formatter.formats.percent_unit(self.whole),
             (_, CompactUnit::Permille) => UnitAffixes {
                 prefix: "",
                 suffix: "\u{2030}",
@@ -98,7 +97,7 @@ impl<'f> FormattedNumber<'f> {
             ++ parts_text result.suffix) ≡ formatted_number_text self.now }
     {
         self.formatter
-            .affixes(self.value.sign, self.compact_affixes(), self.unit())
+            .affixes(self.value.sign, self.compact_pattern(), self.unit())
     }
 
     #[inline]

@@ -1,19 +1,17 @@
 //! What is written before and after the digits of a number.
-ghost use Rattle.std.specs.Prelude.{◌≡◌, ◌≤◌, ◌&&◌, length, IfSome};
-ghost use Rattle.std.specs.Option.{option_map};
+ghost use Rattle.std.specs.Prelude.{◌≡◌, ◌≤◌, ◌&&◌, length, IfSome, true};
+ghost use Rattle.std.specs.Option.{option_copied};
 ghost use Rattle.decimal_format.specs.Symbols.{affixes};
-ghost use Rattle.locale_data.specs.Compact.{IsShortAffix};
+ghost use Rattle.locale_data.specs.Compact.{has_texts, text_of, AreTexts};
 ghost use Rattle.number_format.specs.PatternTexts.{sign_kind, sign_pieces, pattern_kind, pattern_text, pattern_pieces, space_if};
-ghost use Rattle.number_format.specs.NumberText.{style_of, compact_words, currency_if, is_plain, is_empty, has_number, first_sign, last_sign, pattern_around, compact_around, around_by, AreParts};
+ghost use Rattle.number_format.specs.NumberText.{style_of, currency_if, is_plain, is_empty, has_number, first_sign, last_sign, pattern_around, compact_around, around_by, AreParts};
 ghost use Rattle.number_format.specs.TextParts.{part_pieces};
 
 use crate::number_formatter::NumberFormatter;
 use crate::number_style::{begins_with_currency, ends_with_currency};
 use crate::text_part::{PartKind, TextPart};
 use fixed_decimal::Sign;
-use locale_data::{
-    Affix, AffixPair, CompactAffix, CompactAffixes, CompactForm, Piece, UnitAffixes,
-};
+use locale_data::{AffixPair, AffixText, CompactForm, CompactPattern, Piece, UnitAffixes};
 
 /// The parts before and after a number.
 #[derive(Clone, Copy)]
@@ -156,53 +154,55 @@ impl NumberFormatter {
         }
     }
 
-    pub(crate) fn space_after(&self, affix: CompactAffix) -> bool
-        ensures { result ≡ (affix.has_currency && (is_empty affix.after.now && self.now.currency.space_after)) }
+    pub(crate) fn space_after(&self, affix: &AffixText) -> bool
+        requires { has_texts affix.now ≡ true }
+        ensures { result ≡ (affix.now.has_currency && (is_empty (text_of affix.now.after) && self.now.currency.space_after)) }
     {
-        affix.has_currency && is_empty(affix.after) && self.currency.space_after
+        affix.has_currency && is_empty(affix.after_text()) && self.currency.space_after
     }
 
-    pub(crate) fn space_before(&self, affix: CompactAffix) -> bool
-        ensures { result ≡ (affix.has_currency && (is_empty affix.before.now && self.now.currency.space_before)) }
+    pub(crate) fn space_before(&self, affix: &AffixText) -> bool
+        requires { has_texts affix.now ≡ true }
+        ensures { result ≡ (affix.now.has_currency && (is_empty (text_of affix.now.before) && self.now.currency.space_before)) }
     {
-        affix.has_currency && is_empty(affix.before) && self.currency.space_before
+        affix.has_currency && is_empty(affix.before_text()) && self.currency.space_before
     }
 
     /// Returns the parts of a compact pattern for a sign.
     fn compact_affixes(
         &self,
         sign: Sign,
-        compact: CompactAffixes,
+        pattern: &CompactPattern,
         unit: UnitAffixes,
     ) -> NumberAffixes<'_>
         requires prefix { length unit.prefix.now ≤ 255 }
         requires suffix { length unit.suffix.now ≤ 255 }
-        requires compact_prefix { IsShortAffix compact.prefix }
-        requires compact_suffix { IsShortAffix compact.suffix }
-        ensures { AreParts (compact_around self.now sign (compact_words compact))
+        requires texts { AreTexts pattern.now }
+        ensures { AreParts (compact_around self.now sign pattern.now)
             (affixes unit.prefix.now unit.suffix.now) result }
     {
-        let CompactAffixes {
+        let CompactPattern {
             form,
             prefix,
             suffix,
-        } = compact;
+            ..
+        } = *pattern;
         NumberAffixes {
             prefix: [
                 TextPart::new(PartKind::Literal, unit.prefix),
                 self.first_sign(sign, form),
-                TextPart::new(PartKind::Compact, prefix.before),
+                TextPart::new(PartKind::Compact, prefix.before_text()),
                 self.currency_if(prefix.has_currency),
-                TextPart::new(PartKind::Compact, prefix.after),
-                space_if(self.space_after(prefix)),
+                TextPart::new(PartKind::Compact, prefix.after_text()),
+                space_if(self.space_after(&prefix)),
                 self.last_sign(sign, form),
             ],
             has_number: has_number(form),
             suffix: [
-                space_if(self.space_before(suffix)),
-                TextPart::new(PartKind::Compact, suffix.before),
+                space_if(self.space_before(&suffix)),
+                TextPart::new(PartKind::Compact, suffix.before_text()),
                 self.currency_if(suffix.has_currency),
-                TextPart::new(PartKind::Compact, suffix.after),
+                TextPart::new(PartKind::Compact, suffix.after_text()),
                 TextPart::empty(),
                 TextPart::new(PartKind::Literal, unit.suffix),
             ],
@@ -213,21 +213,18 @@ impl NumberFormatter {
     pub(crate) fn affixes(
         &self,
         sign: Sign,
-        compact: Option<CompactAffixes>,
+        compact: Option<&CompactPattern>,
         unit: UnitAffixes,
     ) -> NumberAffixes<'_>
         requires prefix { length unit.prefix.now ≤ 255 }
         requires suffix { length unit.suffix.now ≤ 255 }
-        requires short { IfSome compact (λ shown. IsShortAffix shown.prefix × IsShortAffix shown.suffix) }
-        ensures { AreParts (around_by self.now sign (option_map compact_words compact))
+        requires texts { IfSome compact (λ pattern. AreTexts pattern.now) }
+        ensures { AreParts (around_by self.now sign (option_copied compact.entry))
             (affixes unit.prefix.now unit.suffix.now) result }
     {
-        let Some(shown) = compact else {
-            return self.pattern_affixes(sign, unit);
-        };
-        if is_plain(shown.form) {
-            return self.pattern_affixes(sign, unit);
+        match compact {
+            Some(pattern) if !is_plain(pattern.form) => self.compact_affixes(sign, pattern, unit),
+            _ => self.pattern_affixes(sign, unit),
         }
-        self.compact_affixes(sign, shown, unit)
     }
 }

@@ -1,8 +1,8 @@
 //! The text of a number in a block.
-ghost use Rattle.std.specs.Prelude.{◌≡◌, ◌++◌, ◌≤◌, length, OnOk};
-ghost use Rattle.locale_data.specs.Compact.{IsShortAffix};
+ghost use Rattle.std.specs.Prelude.{◌≡◌, ◌++◌, true, OnOk};
+ghost use Rattle.locale_data.specs.Compact.{has_texts, AreTexts};
 ghost use Rattle.number_format.specs.FormattedNumbers.{around_of, exponent_text, number_text, around_text, formatted_number_text};
-ghost use Rattle.number_format.specs.NumberText.{affix_words, compact_words, compact_around, compact_suffix, pattern_around};
+ghost use Rattle.number_format.specs.NumberText.{compact_around, compact_suffix, pattern_around};
 ghost use Rattle.number_format.specs.TextParts.{part_pieces, pieces_text};
 
 use crate::format::shown_exponent;
@@ -12,7 +12,7 @@ use crate::number_formatter::NumberFormatter;
 use crate::text_part::{PartKind, TextPart};
 use decimal_format::Block;
 use fixed_decimal::{Decimal, Sign, Sink, SinkFault};
-use locale_data::{CompactAffix, CompactAffixes};
+use locale_data::{AffixText, CompactPattern};
 
 #[inline(always)]
 #[tactic(auto, using(crate::proofs::PieceTexts::text_of))]
@@ -30,31 +30,30 @@ impl NumberFormatter {
     fn put_compact_prefix(
         &self,
         sign: Sign,
-        compact: &CompactAffixes,
+        pattern: &CompactPattern,
         block: &mut Block,
     ) -> Result<(), SinkFault>
-        requires { IsShortAffix compact.now.prefix }
+        requires { AreTexts pattern.now }
         ensures { OnOk result (block.new.0
-            ≡ block.old.0 ++ pieces_text (compact_around self.now sign (compact_words compact.now)).prefix) }
+            ≡ block.old.0 ++ pieces_text (compact_around self.now sign pattern.now).prefix) }
     {
-        let affix = compact.prefix;
-        put_part(self.first_sign(sign, compact.form), block)?;
-        put_part(TextPart::new(PartKind::Compact, affix.before), block)?;
+        let affix = &pattern.prefix;
+        put_part(self.first_sign(sign, pattern.form), block)?;
+        put_part(TextPart::new(PartKind::Compact, affix.before_text()), block)?;
         put_part(self.currency_if(affix.has_currency), block)?;
-        put_part(TextPart::new(PartKind::Compact, affix.after), block)?;
+        put_part(TextPart::new(PartKind::Compact, affix.after_text()), block)?;
         put_part(space_if(self.space_after(affix)), block)?;
-        put_part(self.last_sign(sign, compact.form), block)
+        put_part(self.last_sign(sign, pattern.form), block)
     }
 
-    fn put_compact_suffix(&self, affix: CompactAffix, block: &mut Block) -> Result<(), SinkFault>
-        requires { IsShortAffix affix }
-        ensures { OnOk result
-            (block.new.0 ≡ block.old.0 ++ pieces_text (compact_suffix self.now (affix_words affix))) }
+    fn put_compact_suffix(&self, affix: &AffixText, block: &mut Block) -> Result<(), SinkFault>
+        requires { has_texts affix.now ≡ true }
+        ensures { OnOk result (block.new.0 ≡ block.old.0 ++ pieces_text (compact_suffix self.now affix.now)) }
     {
         put_part(space_if(self.space_before(affix)), block)?;
-        put_part(TextPart::new(PartKind::Compact, affix.before), block)?;
+        put_part(TextPart::new(PartKind::Compact, affix.before_text()), block)?;
         put_part(self.currency_if(affix.has_currency), block)?;
-        put_part(TextPart::new(PartKind::Compact, affix.after), block)
+        put_part(TextPart::new(PartKind::Compact, affix.after_text()), block)
     }
 }
 
@@ -83,18 +82,17 @@ impl<'f> FormattedNumber<'f> {
         }
     }
 
-    fn put_compact(&self, compact: &CompactAffixes, block: &mut Block) -> Result<(), SinkFault>
-        requires prefix { IsShortAffix compact.now.prefix }
-        requires suffix { IsShortAffix compact.now.suffix }
+    fn put_compact(&self, pattern: &CompactPattern, block: &mut Block) -> Result<(), SinkFault>
+        requires { AreTexts pattern.now }
         ensures { OnOk result (block.new.0 ≡ block.old.0 ++ around_text self.now
-            (compact_around self.now.formatter.now self.now.value.sign (compact_words compact.now))) }
+            (compact_around self.now.formatter.now self.now.value.sign pattern.now)) }
     {
         let formatter = self.formatter;
-        formatter.put_compact_prefix(self.value.sign, compact, block)?;
-        if has_number(compact.form) {
+        formatter.put_compact_prefix(self.value.sign, pattern, block)?;
+        if has_number(pattern.form) {
             self.put_digits(block)?;
         }
-        formatter.put_compact_suffix(compact.suffix, block)
+        formatter.put_compact_suffix(&pattern.suffix, block)
     }
 
     #[inline(always)]
@@ -114,8 +112,8 @@ impl<'f> FormattedNumber<'f> {
     fn put_around(&self, block: &mut Block) -> Result<(), SinkFault>
         ensures { OnOk result (block.new.0 ≡ block.old.0 ++ around_text self.now (around_of self.now)) }
     {
-        match &self.compact_affixes() {
-            Some(compact) if !is_plain(compact.form) => self.put_compact(compact, block),
+        match self.compact_pattern() {
+            Some(pattern) if !is_plain(pattern.form) => self.put_compact(pattern, block),
             _ => self.put_pattern(block),
         }
     }

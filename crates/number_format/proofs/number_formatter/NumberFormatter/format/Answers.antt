@@ -7,5 +7,5 @@ pub returns-in-Ok-clause-text : goal.returns-in-Ok-clause-text
 returns-in-Ok-clause-text c =
     let shown = c.in-Ok.shown in
     let fits : FitsSigned w32 shown.exponent = search rules in
-    let pieces = shown_pieces c.args.self.now c.shown.new.value shown.exponent shown.choice in
+    let pieces = shown_pieces c.args.self.now c.shown.new.value shown.exponent shown.choice shown.whole in
     simp to_z-of_z (pieces, c.in-Ok.ensures.pieces, refl)
