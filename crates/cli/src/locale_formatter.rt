@@ -8,7 +8,7 @@ ghost use Rattle.cli.specs.declared.locale_formatter.LocaleFormatter.TheVariants
 use crate::error::OperationError;
 use decimal_format::DecimalFormatter;
 use fixed_decimal::{Decimal, RoundError, Sink, Writeable};
-use number_format::NumberFormatter;
+use number_format::{NumberFormatter, NumberWriteError};
 use std::alloc::Global;
 
 /// Writes decimals in the form of a locale.
@@ -41,16 +41,12 @@ pub fn write_number<W: Sink>(
     ensures prefix { IfErr result (λ error. error ≡ OperationError.Output
         → HasTextBy (Some (Skeleton formatter.now)) value (AppendsPrefix (W.contents sink.old) (W.contents sink.new))) }
 {
-    let number = match formatter.format(alloc, value) {
-        Ok(number) => number,
-        Err(failed) => {
-            return match failed.error {
-                RoundError::Limit => Err(OperationError::FormatOverflow),
-                RoundError::Memory => Err(OperationError::Memory),
-            };
-        }
-    };
-    write_text(&number, sink)
+    match formatter.write(alloc, value, sink) {
+        Ok(()) => Ok(()),
+        Err(NumberWriteError::Format(RoundError::Limit)) => Err(OperationError::FormatOverflow),
+        Err(NumberWriteError::Format(RoundError::Memory)) => Err(OperationError::Memory),
+        Err(NumberWriteError::Sink) => Err(OperationError::Output),
+    }
 }
 
 /// Appends the text of a value to a sink.

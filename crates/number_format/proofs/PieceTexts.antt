@@ -21,7 +21,7 @@ use Rattle.number_format.specs.declared.text_part.TextPart.{TextPart}
 use Rattle.number_format.specs.TextParts.{Piece, Puts, part_pieces, parts_text, pieces_text, pieces_of, parts_pieces, digit_kind, magnitude_pieces, first_pieces, digit_pieces}
 use Rattle.number_format.specs.FormattedNumbers.{chosen_pattern, around_of, unit_of, exponent_text_if, number_text, number_text_if, around_text, formatted_number_text}
 use Rattle.number_format.specs.NumberText.{pattern_around, unit_by, around_by, exponent_kind, exponent_part, exponent_of, number_part, AreParts}
-use Rattle.number_format.specs.PatternTexts.{Around, literal, sign_text}
+use Rattle.number_format.specs.PatternTexts.{literal, sign_text}
 
 pub puts_nil : (a : Option (List Piece)) → Puts a a []
 puts_nil None = tt

@@ -1,5 +1,5 @@
 -- Standard notation: one rounding, and the exponent 0.
-use Rattle.std.proofs.Common.{◌≡◌, ℕ, zero, suc, ◌*◌, ◌/◌, refl, ◌∙◌, ap, arith, sym}
+use Rattle.std.proofs.Common.{◌≡◌, ℕ, zero, suc, ◌*◌, ◌/◌, refl, ◌∙◌, ap, arith}
 use Rattle.std.specs.Prelude.{Some, None, option_and_then, ℤ, pos, negsuc, ◌-ℤ◌, ◌≤ℤ◌}
 use Rattle.std.proofs.lemmas.Int.{ints}
 use Rattle.decimal_digits.specs.Number.{last}
@@ -11,7 +11,7 @@ use Rattle.number_format.specs.declared.notation.Notation.TheVariants.{Standard}
 use Rattle.number_format.specs.declared.number_formatter.NumberFormatter.{NumberFormatter}
 use Rattle.number_format.specs.NumberText.{rounded_in, shown_number}
 use Rattle.number_format.specs.ShownDigits.{rounded_with, rounded_within, shown, IsRoundedAt}
-use Rattle.number_format.specs.Scaled.{Settled, settled_with, settled, scaled_value, written, scaled}
+use Rattle.number_format.specs.Scaled.{settled_with, settled, scaled_value, written, scaled}
 use Rattle.number_format.proofs.ReadBack.{unshifted}
 use Rattle.number_format.proofs.Scales.{scaled-some}
 

@@ -228,6 +228,10 @@ pub record AreNumberPieces (f : NumberFormatter) (v : Decimal) (pieces : List pa
 abbrev pub IsNumberText : NumberFormatter → Decimal → List ℕ → Type 0
 IsNumberText f v text = (pieces : List parts.Piece) × AreNumberPieces f v pieces × (text ≡ pieces_text pieces)
 
+-- P holds of the text of a number
+abbrev pub HasNumberText : NumberFormatter → Decimal → (List ℕ → Type 0) → Type 0
+HasNumberText f v P = (text : List ℕ) × IsNumberText f v text × P text
+
 -- ---- Out of memory.
 
 -- the number has more digits than are kept without an allocation, or is rounded by an increment of 25

@@ -1,11 +1,13 @@
 //! Formatting of a number.
-ghost use Rattle.std.specs.Prelude.{◌≡◌, Some, None, pos, IfOk, IfErr, IsErrOf, IsSomeAnd, OnErr};
+ghost use Rattle.std.specs.Prelude.{◌≡◌, ◌≢◌, Some, None, pos, true, IfOk, IfErr, IsErrOf, IsSomeAnd, OnOk, OnErr};
+ghost use Rattle.std.specs.Io.KnownBytes.{Appends};
+ghost use Rattle.decimal_digits.specs.AppendsPrefix.{AppendsPrefix};
 ghost use Rattle.decimal_unsigned.specs.Unsigned.{IsValue};
 ghost use Rattle.fixed_decimal.specs.Decimal.{Decimal};
 ghost use Rattle.decimal_digits.specs.declared.rounding.RoundingIncrement.TheVariants.{MultiplesOf25};
 ghost use Rattle.locale_data.specs.Plurals.{IsCategoryAt};
-ghost use Rattle.number_format.specs.FormattedNumbers.{formatted_number_pieces, formatted_number_text, shown_pieces, ChoosesPattern, ChoosesUnit};
-ghost use Rattle.number_format.specs.NumberText.{shown_number, is_one, compact_magnitude, compact_power, exponent_sign, shown_exponent, rounded_in, AreNumberPieces, IsNumberText, NeedsMemory};
+ghost use Rattle.number_format.specs.FormattedNumbers.{formatted_number_pieces, formatted_number_text, ChoosesPattern, ChoosesUnit};
+ghost use Rattle.number_format.specs.NumberText.{shown_number, is_one, compact_magnitude, compact_power, exponent_sign, shown_exponent, rounded_in, AreNumberPieces, IsNumberText, HasNumberText, NeedsMemory};
 ghost use Rattle.number_format.specs.Scaled.{scaled_value};
 ghost use Rattle.number_format.specs.ShownDigits.{base_of};
 
@@ -14,7 +16,9 @@ use crate::formatted_number::FormattedNumber;
 use crate::notation::Notation;
 use crate::number_formatter::{CompactUnit, NumberFormatter};
 use crate::number_options::{ExponentOptions, ExponentSign};
-use fixed_decimal::{Decimal, DecimalStore, RoundError, Sign, UnsignedDecimal};
+use fixed_decimal::{
+    Decimal, DecimalStore, RoundError, Sign, Sink, SinkFault, UnsignedDecimal, Writeable,
+};
 use locale_data::{CompactStyle, plural_category_at};
 use plural_rules::{PluralCategory, PluralOperands};
 use std::alloc::Global;
@@ -28,12 +32,13 @@ pub struct FormatError {
     pub value: Decimal,
 }
 
-/// What is shown of a number besides the significand.
-#[derive(Clone, Copy)]
-struct Shown {
-    exponent: i32,
-    choice: CompactChoice,
-    whole: PluralCategory,
+/// Why a number is not written.
+#[derive(Clone, Copy, Debug, PartialEq)]
+pub enum NumberWriteError {
+    /// It is not formatted, as in [`NumberFormatter::format`]. The sink is unchanged.
+    Format(RoundError),
+    /// The sink has failed, and has taken a prefix of the text.
+    Sink,
 }
 
 fn is_one(significand: &Decimal) -> bool
@@ -93,28 +98,15 @@ impl NumberFormatter {
         }
     }
 
-    fn shown_number(&self, value: &mut Decimal) -> Result<i32, RoundError>
+    /// Rounds in standard notation without a scale, by one step.
+    fn round_in_place(&self, value: &mut Decimal) -> Result<i32, RoundError>
+        requires standard { self.now.notation ≡ Notation.Standard }
+        requires unscaled { self.now.scale ≡ pos 0 }
         ensures ok { IfOk result (λ e. shown_number self.now value.old ≡ Some (scaled_value value.new e)) }
+        ensures unchanged { OnErr result (value.new ≡ value.old) }
         ensures limit { IsErrOf result RoundError.Limit → shown_number self.now value.old ≡ None }
         ensures memory { IsErrOf result RoundError.Memory
             → IsSomeAnd self.now.digits (λ o. base_of o.precision ≡ MultiplesOf25) }
-    {
-        if let Err(_) = value.absolute.multiply_pow10(self.scale) {
-            return Err(RoundError::Limit);
-        }
-        self.rounded(value)
-    }
-
-    /// Rounds in standard notation, by one step.
-    fn round_in_place(&self, value: &mut Decimal) -> Result<i32, RoundError>
-        ensures ok { IfOk result
-            (λ e. rounded_in Notation.Standard self.now.digits value.old ≡ Some (scaled_value value.new e)) }
-        ensures unchanged { OnErr result (value.new ≡ value.old) }
-        ensures limit { IsErrOf result RoundError.Limit
-            → rounded_in Notation.Standard self.now.digits value.old ≡ None }
-        ensures memory { IsErrOf result RoundError.Memory
-            → IsSomeAnd self.now.digits (λ o. base_of o.precision ≡ MultiplesOf25) }
-        ensures valid { IsValue value.old.absolute }
     {
         // Proof hint: the value satisfies its invariant.
         let _range = value.absolute.magnitude_range();
@@ -124,26 +116,40 @@ impl NumberFormatter {
         }
     }
 
-    /// Makes a number the significand that is written, and returns the exponent. On an error the number is unchanged.
+    /// Makes a number the significand that is written, and returns the exponent.
+    fn shown_number(&self, value: &mut Decimal) -> Result<i32, RoundError>
+        ensures ok { IfOk result (λ e. shown_number self.now value.old ≡ Some (scaled_value value.new e)) }
+        ensures limit { IsErrOf result RoundError.Limit → shown_number self.now value.old ≡ None }
+        ensures memory { IsErrOf result RoundError.Memory
+            → IsSomeAnd self.now.digits (λ o. base_of o.precision ≡ MultiplesOf25) }
+    {
+        if matches!(self.notation, Notation::Standard) && self.scale == 0 {
+            return self.round_in_place(value);
+        }
+        if let Err(_) = value.absolute.multiply_pow10(self.scale) {
+            return Err(RoundError::Limit);
+        }
+        self.rounded(value)
+    }
+
+    /// The same, but on an error the number is unchanged.
     fn show(&self, value: &mut Decimal) -> Result<i32, RoundError>
         ensures ok { IfOk result (λ e. shown_number self.now value.old ≡ Some (scaled_value value.new e)) }
         ensures unchanged { OnErr result (value.new ≡ value.old) }
         ensures limit { IsErrOf result RoundError.Limit → shown_number self.now value.old ≡ None }
         ensures memory { IsErrOf result RoundError.Memory → NeedsMemory self.now value.old }
     {
-        match &self.notation {
-            Notation::Standard if self.scale == 0 => self.round_in_place(value),
-            _ => {
-                let Ok(kept) = value.clone() else {
-                    return Err(RoundError::Memory);
-                };
-                match self.shown_number(value) {
-                    Ok(exponent) => Ok(exponent),
-                    Err(error) => {
-                        *value = kept;
-                        Err(error)
-                    }
-                }
+        if matches!(self.notation, Notation::Standard) && self.scale == 0 {
+            return self.round_in_place(value);
+        }
+        let Ok(kept) = value.clone() else {
+            return Err(RoundError::Memory);
+        };
+        match self.shown_number(value) {
+            Ok(exponent) => Ok(exponent),
+            Err(error) => {
+                *value = kept;
+                Err(error)
             }
         }
     }
@@ -204,24 +210,20 @@ impl NumberFormatter {
         }
     }
 
-    /// Makes a number the significand that is written, with the sign that is shown. On an error it is unchanged.
-    #[inline(never)]
-    fn shown(&self, value: &mut Decimal) -> Result<Shown, RoundError>
-        ensures pieces { IfOk result
-            (λ s. AreNumberPieces self.now value.old (shown_pieces self.now value.new s.exponent s.choice s.whole)) }
-        ensures unchanged { OnErr result (value.new ≡ value.old) }
-        ensures limit { IsErrOf result RoundError.Limit → shown_number self.now value.old ≡ None }
-        ensures memory { IsErrOf result RoundError.Memory → NeedsMemory self.now value.old }
+    /// Returns a number whose value is not yet the significand.
+    #[inline(always)]
+    fn number(&self, alloc: Global, value: Decimal) -> FormattedNumber<'_>
+        ensures formatter { result.formatter.now ≡ self.now }
+        ensures value { result.value ≡ value }
     {
-        let exponent = self.show(value)?;
-        let choice = self.choice(value, exponent);
-        let whole = self.whole_category(value, exponent);
-        value.apply_sign_display(self.sign_display);
-        Ok(Shown {
-            exponent,
-            choice,
-            whole,
-        })
+        FormattedNumber {
+            formatter: self,
+            alloc,
+            value,
+            exponent: 0,
+            choice: NO_CHOICE,
+            whole: PluralCategory::Other,
+        }
     }
 
     /// Formats a number: rounds it, and writes it as the formatter's options have it.
@@ -245,16 +247,75 @@ impl NumberFormatter {
         ensures limit { IfErr result (λ e. e.error ≡ RoundError.Limit → shown_number self.now value ≡ None) }
         ensures memory { IfErr result (λ e. e.error ≡ RoundError.Memory → NeedsMemory self.now value) }
     {
-        match self.shown(&mut value) {
-            Ok(shown) => Ok(FormattedNumber {
-                formatter: self,
-                alloc,
-                value,
-                exponent: shown.exponent,
-                choice: shown.choice,
-                whole: shown.whole,
-            }),
+        match self.show(&mut value) {
+            Ok(exponent) => {
+                let mut number = self.number(alloc, value);
+                number.choose(exponent);
+                Ok(number)
+            }
             Err(error) => Err(FormatError { error, value }),
         }
+    }
+
+    /// Formats a number, and appends the text to a sink: in less time than [`format`](Self::format) and
+    /// [`Writeable::write_to`], since the number is not kept.
+    ///
+    /// # Errors
+    ///
+    /// As [`NumberWriteError`] describes.
+    #[inline(always)]
+    pub fn write<W: Sink>(
+        &self,
+        alloc: Global,
+        value: Decimal,
+        sink: &mut W,
+    ) -> Result<(), NumberWriteError>
+        ensures written { OnOk result
+            (HasNumberText self.now value (Appends (W.contents sink.old) (W.contents sink.new))) }
+        ensures unchanged { IfErr result (λ e. e ≢ NumberWriteError.Sink → sink.new ≡ sink.old) }
+        ensures limit { IsErrOf result (NumberWriteError.Format RoundError.Limit) → shown_number self.now value ≡ None }
+        ensures memory { IsErrOf result (NumberWriteError.Format RoundError.Memory) → NeedsMemory self.now value }
+        ensures failed { IsErrOf result NumberWriteError.Sink → W.has_failed sink.new ≡ true }
+        ensures prefix { IsErrOf result NumberWriteError.Sink
+            → HasNumberText self.now value (AppendsPrefix (W.contents sink.old) (W.contents sink.new)) }
+    {
+        let mut number = self.number(alloc, value);
+        if let Err(error) = number.show() {
+            return Err(NumberWriteError::Format(error));
+        }
+        match number.write_to(sink) {
+            Ok(()) => Ok(()),
+            Err(SinkFault) => Err(NumberWriteError::Sink),
+        }
+    }
+}
+
+impl<'f> FormattedNumber<'f> {
+    /// Chooses what is written around a significand and an exponent, and sets the sign that is shown.
+    fn choose(&mut self, exponent: i32)
+        ensures { (v : Decimal) → shown_number self.old.formatter.now v ≡ Some (scaled_value self.old.value exponent)
+            → AreNumberPieces self.old.formatter.now v (formatted_number_pieces self.new) }
+    {
+        let formatter = self.formatter;
+        self.choice = formatter.choice(&self.value, exponent);
+        self.whole = formatter.whole_category(&self.value, exponent);
+        self.exponent = exponent;
+        self.value.apply_sign_display(formatter.sign_display);
+    }
+
+    // The value becomes the significand in place: a copy has to wait until its digits are stored.
+    #[inline(never)]
+    fn show(&mut self) -> Result<(), RoundError>
+        ensures pieces { OnOk result
+            (AreNumberPieces self.old.formatter.now self.old.value (formatted_number_pieces self.new)) }
+        ensures limit { IsErrOf result RoundError.Limit
+            → shown_number self.old.formatter.now self.old.value ≡ None }
+        ensures memory { IsErrOf result RoundError.Memory
+            → NeedsMemory self.old.formatter.now self.old.value }
+    {
+        let formatter = self.formatter;
+        let exponent = formatter.shown_number(&mut self.value)?;
+        self.choose(exponent);
+        Ok(())
     }
 }

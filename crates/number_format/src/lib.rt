@@ -50,7 +50,7 @@ pub use digit_ranges::{
     FractionDigits, FractionMultiples, Increment, IntegerDigits, SignificantDigits,
 };
 pub use error::DigitOptionsError;
-pub use format::FormatError;
+pub use format::{FormatError, NumberWriteError};
 pub use formatted_number::FormattedNumber;
 pub use notation::{CompactExponents, Notation};
 pub use number_formatter::{NumberFormatError, NumberFormatter};

@@ -1,6 +1,6 @@
 use Rattle.std.proofs.Common.{refl, rules, w32, FitsSigned}
 use Rattle.std.proofs.lemmas.Int.{to_z-of_z}
-use Rattle.number_format.proofs.StandardNotation.{standard-some, standard-none}
+use Rattle.number_format.proofs.StandardNotation.{standard-some}
 use Rattle.number_format.proofs.digit_options.DigitOptions.show_in_place.Goals as goal
 
 pub returns-clause-ok : goal.returns-clause-ok
