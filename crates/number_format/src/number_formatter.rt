@@ -1,6 +1,5 @@
 //! The formatter of numbers.
-ghost use Rattle.std.specs.Prelude.{IsSome};
-ghost use Rattle.std.specs.Option.{ForSome};
+ghost use Rattle.std.specs.{Prelude.IsSome, Option.ForSome};
 ghost use Rattle.locale_data.specs.Plurals.{rules_text_at};
 ghost use Rattle.number_format.specs.PatternTexts.{AreSignTexts};
 
