@@ -1,14 +1,7 @@
 -- The digits that ECMA-402 has for a style and a notation are no error.
-use Rattle.std.proofs.Common.{◌≡◌, ℕ, Bool, true, false, refl, ◌∙◌, ap, arith}
+use Rattle.std.proofs.{Common.{◌≡◌, ℕ, Bool, true, false, refl, ◌∙◌, ap, arith}, lemmas.Bool.Decides.nat_tests}
 use Rattle.std.specs.Prelude.{None, if◌then◌else◌}
-use Rattle.std.proofs.lemmas.Bool.Decides.{nat_tests}
-use Rattle.number_format.specs.declared.number_options.NumberOptions.{NumberOptions}
-use Rattle.number_format.specs.declared.number_options.NumberStyle.{NumberStyle}
-use Rattle.number_format.specs.declared.number_options.NumberStyle.TheVariants as style
-use Rattle.number_format.specs.declared.settings.DigitDefaults.{DigitDefaults}
-use Rattle.number_format.specs.Increments.{is_increment}
-use Rattle.number_format.specs.DefaultDigits.{is_compact, increment_or_1, currency_digits, increment, no_settings, IsDefault}
-use Rattle.number_format.specs.Resolved.{resolve_error}
+use Rattle.number_format.specs.{Increments.is_increment, DefaultDigits.{is_compact, increment_or_1, currency_digits, increment, no_settings, IsDefault}, Resolved.resolve_error, declared.{number_options.{NumberOptions.NumberOptions, NumberStyle.NumberStyle}, settings.DigitDefaults.DigitDefaults}}
 
 or_1 : (n : ℕ) → is_increment (increment_or_1 n) ≡ true
 or_1 n = by (is_increment n) refl
@@ -18,17 +11,17 @@ or_1 n = by (is_increment n) refl
     by false is = refl
 
 is_one_of : (s : NumberStyle) (compact : Bool) → is_increment (increment s compact) ≡ true
-is_one_of (style.Currency c) false = or_1 (currency_digits c.usage c.code).1
-is_one_of (style.Currency c) true = refl
-is_one_of style.Decimal compact = refl
-is_one_of style.Percent compact = refl
-is_one_of style.Permille compact = refl
+is_one_of (NumberStyle.Currency c) false = or_1 (currency_digits c.usage c.code).1
+is_one_of (NumberStyle.Currency c) true = refl
+is_one_of NumberStyle.Decimal compact = refl
+is_one_of NumberStyle.Percent compact = refl
+is_one_of NumberStyle.Permille compact = refl
 
 no_increment : (s : NumberStyle) → increment s true ≡ 1
-no_increment (style.Currency c) = refl
-no_increment style.Decimal = refl
-no_increment style.Percent = refl
-no_increment style.Permille = refl
+no_increment (NumberStyle.Currency c) = refl
+no_increment NumberStyle.Decimal = refl
+no_increment NumberStyle.Percent = refl
+no_increment NumberStyle.Permille = refl
 
 -- an increment, which is 1 in compact notation
 no_error : (n : ℕ) (compact : Bool) (d : DigitDefaults) → d.is_compact ≡ compact → is_increment n ≡ true

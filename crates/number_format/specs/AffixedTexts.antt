@@ -1,9 +1,7 @@
 -- Decimals between affixes: their texts, and what a reader of these returns.
 use Rattle.std.specs.Prelude.{◌≡◌, ◌≢◌, ℕ, ◌⊎◌, List, ◌++◌, length, ℤ, Result, Ok, Err, ok_or}
-use Rattle.decimal_unsigned.specs.Edits.{multiplied_pow10}
-use Rattle.decimal_unsigned.specs.declared.error.ParseError.{ParseError, TheVariants.Limit}
-use Rattle.fixed_decimal.specs.Decimal.{Decimal, with_absolute}
-use Rattle.fixed_decimal.specs.declared.variations.Sign.{Sign}
+use Rattle.decimal_unsigned.specs.{Edits.multiplied_pow10, declared.error.ParseError.{ParseError, TheVariants.Limit}}
+use Rattle.fixed_decimal.specs.{Decimal.{Decimal, with_absolute}, declared.variations.Sign.Sign}
 use Rattle.decimal_format.specs.{Alternatives.{IsNumeralOfFirst, IsWrittenOfFirst}, Formatted.absolute_text, Lenient.normalized, Readable.{BeginsWithDigit, EndsWithDigit}, Reading.{Numeral, AreDigits, IsRead, absolute_numeral_text, separated_by}, Symbols.{Symbols, Affixes}}
 use Rattle.decimal_format.specs.declared.{grouping.GroupingStrategy.GroupingStrategy, reader.alternatives.Alternative.Alternative}
 

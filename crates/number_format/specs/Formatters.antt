@@ -1,13 +1,11 @@
 -- The formatter that a tag and options name.
-use Rattle.std.specs.{Prelude.{◌≡◌, ℕ, ◌+◌, ◌<◌, ◌==◌, Bool, true, false, ◌⊎◌, ◌&&◌, if◌then◌else◌, List, [], slice_get, slice_index, Option, Some, None, unwrap_or, IsSomeAnd, MatchOption, pos, ⊤}, Option.option_map}
+use Rattle.std.specs.{Prelude.{◌≡◌, ℕ, ◌+◌, ◌<◌, ◌==◌, false, ◌⊎◌, if◌then◌else◌, List, [], slice_get, slice_index, Option, Some, None, unwrap_or, IsSomeAnd, MatchOption, pos, ⊤}, Option.option_map}
 use Rattle.fixed_decimal.specs.declared.variations.SignDisplay.{SignDisplay}
-use Rattle.decimal_format.specs.declared.grouping.{GroupingSizes.GroupingSizes, GroupingStrategy.GroupingStrategy}
-use Rattle.decimal_format.specs.Symbols.{Symbols}
+use Rattle.decimal_format.specs.{Symbols.Symbols, declared.grouping.{GroupingSizes.GroupingSizes, GroupingStrategy.GroupingStrategy}}
 use Rattle.locale_data.specs.declared.{compact.CompactStyle.CompactStyle, currency.{CurrencyPattern.CurrencyPattern, CurrencySign.CurrencySign}, formats_table.TheConstants.{PATTERNS, NUMBER_SIGNS}, number_formats.NumberFormats.NumberFormats, patterns.{NumberSigns.NumberSigns, Pattern.Pattern}, symbols_table.TheConstants.LOCALES, plurals.PluralRuleType.TheVariants.Cardinal}
 use Rattle.locale_data.specs.{Compact.IsExponent, Currencies.IsCurrencyPattern, Formats.AreFormatsOf, Locales.{IsListed, IsLocale, IsLocaleIn, IsSystemName, IsUnknown, system_named}, Patterns.{separator_text, exponent_text}, Plurals.{rules_text_at, IsRulesText, HasNoRules}, Rows.unpadded}
-use Rattle.number_format.specs.declared.{notation.Notation.Notation, number_formatter.{CompactUnit.CompactUnit, NumberFormatError.NumberFormatError, NumberFormatter.NumberFormatter}, number_options.{ExponentOptions.ExponentOptions, NumberNotation.NumberNotation, NumberOptions.NumberOptions, NumberStyle.NumberStyle}, number_style.ShownCurrency.ShownCurrency}
+use Rattle.number_format.specs.declared.{notation.Notation.Notation, number_formatter.{CompactUnit.CompactUnit, NumberFormatError.NumberFormatError, NumberFormatter.NumberFormatter}, number_options.{ExponentOptions.ExponentOptions, NumberNotation.NumberNotation, NumberOptions.NumberOptions, NumberStyle.NumberStyle, CompactLength.CompactLength}, number_style.ShownCurrency.ShownCurrency}
 use Rattle.number_format.specs.{DefaultDigits.AreDefaultDigits, NumberStyles.{plain_pattern, percent_text, text_or_nothing, in_system, IsShownBy, IsShownCurrency}}
-use Rattle.number_format.specs.declared.number_options.CompactLength.{CompactLength}
 
 -- ---- What options say by themselves.
 

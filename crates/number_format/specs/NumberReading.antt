@@ -1,11 +1,9 @@
 -- What a formatter writes, read exactly and as people type it.
 use Rattle.std.specs.{Prelude.{◌≡◌, ◌≢◌, ℕ, ◌⊎◌, Bool, true, false, ◌||◌, if◌then◌else◌, List, [], ◌∷◌, ◌++◌, map, flat_map, codes, Option, Some, None, Result, Err, ◌-ℤ◌, pos, negsuc}, Str.IsUtf8}
 use Rattle.decimal_unsigned.specs.declared.error.ParseError.{ParseError, TheVariants.Syntax}
-use Rattle.fixed_decimal.specs.Decimal.{Decimal}
-use Rattle.fixed_decimal.specs.declared.variations.Sign.{Sign}
-use Rattle.decimal_format.specs.{Readable.IsReadable, Symbols.{Affixes, affixes}}
-use Rattle.decimal_format.specs.declared.reader.alternatives.Alternative.{Alternative}
-use Rattle.locale_data.specs.declared.{patterns.{Affix.Affix, Piece.{Piece, TheVariants.Percent}}}
+use Rattle.fixed_decimal.specs.{Decimal.Decimal, declared.variations.Sign.Sign}
+use Rattle.decimal_format.specs.{Readable.IsReadable, Symbols.{Affixes, affixes}, declared.reader.alternatives.Alternative.Alternative}
+use Rattle.locale_data.specs.declared.patterns.{Affix.Affix, Piece.{Piece, TheVariants.Percent}}
 use Rattle.number_format.specs.declared.{number_formatter.NumberFormatter.NumberFormatter, number_reader.{NumberReaderError.NumberReaderError, ParseMode.{ParseMode, TheVariants.{Strict, Lenient}}}, number_style.CurrencyNames.CurrencyNames}
 use Rattle.number_format.specs.{AffixedTexts.{AffixTable, AreNamed, Reader, IsReadExactly, IsReadTyped}, NumberStyles.text_or_nothing, NumberText.{pattern_around, shown_number, shown_sign}, Scaled.ScaledValue, TextParts.pieces_text}
 

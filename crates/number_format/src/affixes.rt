@@ -106,11 +106,9 @@ impl SignAffixes {
         negative: Affixes<'_>,
         positive: Affixes<'_>,
     ) -> Result<Self, AllocError>
-        ensures { IfOk result (λ t. t ≡ record {
-          none = affixes none.entry.prefix.now none.entry.suffix.now;
-          negative = affixes negative.entry.prefix.now negative.entry.suffix.now;
-          positive = affixes positive.entry.prefix.now positive.entry.suffix.now;
-        }) }
+        ensures none { IfOk result (λ t. t.none ≡ affixes none.entry.prefix.now none.entry.suffix.now) }
+        ensures negative { IfOk result (λ t. t.negative ≡ affixes negative.entry.prefix.now negative.entry.suffix.now) }
+        ensures positive { IfOk result (λ t. t.positive ≡ affixes positive.entry.prefix.now positive.entry.suffix.now) }
     {
         Ok(SignAffixes {
             none: OwnedAffixes::joined(alloc, &[none.prefix], &[none.suffix])?,

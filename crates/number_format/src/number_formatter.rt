@@ -25,11 +25,9 @@ pub enum NumberFormatError {
 /// What is written around a number in compact notation.
 #[derive(Clone, Copy, Debug)]
 pub(crate) enum CompactUnit {
-    /// Nothing.
     Nothing,
     /// The percent sign, as the locale has it for the number.
     Percent,
-    /// The per mille sign.
     Permille,
 }
 

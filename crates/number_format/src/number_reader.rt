@@ -148,12 +148,9 @@ impl NumberFormatter {
         ensures { result.0.now ∷ result.1.now ∷ result.2.now ∷ [] ≡ names_by self.now self.now.currency.names }
     {
         let positive = self.pattern.positive;
-        match &self.currency.names {
-            Some(names) => (
-                names.symbol,
-                names.narrow,
-                text_or_nothing(&self.currency.code),
-            ),
+        let currency = &self.currency;
+        match &currency.names {
+            Some(names) => (names.symbol, names.narrow, text_or_nothing(&currency.code)),
             None if has_percent(positive.prefix) || has_percent(positive.suffix) => {
                 (self.percent.text, "", "")
             }
