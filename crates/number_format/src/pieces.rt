@@ -83,11 +83,8 @@ impl<'f> FormattedNumber<'f> {
             _ => PartKind::ExponentMinusSign,
         };
         put(sink, kind, sign)?;
-        put_digits(
-            &self.exponent_digits(exponent),
-            PartKind::ExponentInteger,
-            sink,
-        )
+        let digits = self.exponent_digits(exponent);
+        put_digits(&digits, PartKind::ExponentInteger, sink)
     }
 
     fn put_number_if<P: PartSink>(&self, has_number: bool, sink: &mut P) -> Result<(), SinkFault>
