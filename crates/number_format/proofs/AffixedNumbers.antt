@@ -1,24 +1,11 @@
 -- From the text between the affixes to the whole text.
-use Rattle.std.proofs.Common.{◌≡◌, ◌≢◌, ℕ, ◌<◌, Bool, false, ◌&&◌, List, [], ◌∷◌, ◌++◌, length, refl, sym, ◌∙◌, ap, subst, arith, append_assoc, append-nil, inl, inr}
-use Rattle.std.specs.Prelude.{Result, Err, if◌then◌else◌, pos, ◌-◌}
-use Rattle.std.specs.Int.Digits.{AllBelowBase}
-use Rattle.std.proofs.lemmas.List.{append_cancel_left, append_cancel_right}
-use Rattle.decimal_unsigned.specs.Unsigned.{IsValue}
-use Rattle.decimal_unsigned.specs.declared.error.ParseError.{ParseError}
-use Rattle.decimal_unsigned.specs.declared.error.ParseError.TheVariants.{Syntax}
-use Rattle.fixed_decimal.specs.Decimal.{Decimal}
-use Rattle.fixed_decimal.specs.declared.variations.Sign.{Sign}
-use Rattle.fixed_decimal.specs.declared.variations.Sign.TheVariants.{None, Negative, Positive}
+use Rattle.std.proofs.{Common.{◌≡◌, ◌≢◌, ℕ, ◌<◌, Bool, false, ◌&&◌, List, [], ◌∷◌, ◌++◌, length, refl, sym, ◌∙◌, ap, subst, arith, append_assoc, append-nil, inl, inr}, lemmas.List.{append_cancel_left, append_cancel_right}}
+use Rattle.std.specs.{Prelude.{Result, Err, if◌then◌else◌, pos, ◌-◌}, Int.Digits.AllBelowBase}
+use Rattle.decimal_unsigned.specs.{Unsigned.IsValue, declared.error.ParseError.{ParseError, TheVariants.Syntax}}
+use Rattle.fixed_decimal.specs.{Decimal.Decimal, declared.variations.Sign.{Sign, TheVariants.{None, Negative, Positive}}}
 use Rattle.decimal_format.specs.declared.grouping.GroupingStrategy.{GroupingStrategy}
-use Rattle.decimal_format.specs.Formatted.{absolute_text}
-use Rattle.decimal_format.specs.Grouping.{is_grouped}
-use Rattle.decimal_format.specs.Readable.{IsReadable, BeginsWithDigit, EndsWithDigit}
-use Rattle.decimal_format.specs.Reading.{Numeral, AreDigits, IsNumeral, IsWritten, IsRead, digits_text, fraction_text, absolute_numeral_text, separated_by}
-use Rattle.decimal_format.specs.Symbols.{Symbols, Affixes, digit_text, sign_affixes}
-use Rattle.decimal_format.proofs.lemmas.reader.NumeralLaws.{texts_are_unique, none_read, with_sign, read_inside}
-use Rattle.decimal_format.proofs.lemmas.reader.Around.{no_sign}
-use Rattle.decimal_format.proofs.lemmas.reader.NumeralTexts.{digits_of_value, absolute_is}
-use Rattle.decimal_format.proofs.lemmas.reader.Scans.{begins-append, number_begins, none_after_last, strategy_is}
+use Rattle.decimal_format.specs.{Formatted.absolute_text, Grouping.is_grouped, Readable.{IsReadable, BeginsWithDigit, EndsWithDigit}, Reading.{Numeral, AreDigits, IsNumeral, IsWritten, IsRead, digits_text, fraction_text, absolute_numeral_text, separated_by}, Symbols.{Symbols, Affixes, digit_text, sign_affixes}}
+use Rattle.decimal_format.proofs.lemmas.reader.{NumeralLaws.{texts_are_unique, none_read, with_sign, read_inside}, Around.no_sign, NumeralTexts.{digits_of_value, absolute_is}, Scans.{begins-append, number_begins, none_after_last, strategy_is}}
 use Rattle.number_format.specs.AffixedTexts.{Reader, AreNamed, ArePairApart, by_sign, between, text_with, IsShown, IsShownNumeral, IsBetween}
 use Rattle.number_format.proofs.NamedAffixes.{ends-append}
 

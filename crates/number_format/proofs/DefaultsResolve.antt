@@ -1,14 +1,7 @@
 -- The digits that ECMA-402 has for a style and a notation are no error.
-use Rattle.std.proofs.Common.{◌≡◌, ℕ, Bool, true, false, refl, ◌∙◌, ap, arith}
+use Rattle.std.proofs.{Common.{◌≡◌, ℕ, Bool, true, false, refl, ◌∙◌, ap, arith}, lemmas.Bool.Decides.nat_tests}
 use Rattle.std.specs.Prelude.{None, if◌then◌else◌}
-use Rattle.std.proofs.lemmas.Bool.Decides.{nat_tests}
-use Rattle.number_format.specs.declared.number_options.NumberOptions.{NumberOptions}
-use Rattle.number_format.specs.declared.number_options.NumberStyle.{NumberStyle}
-use Rattle.number_format.specs.declared.number_options.NumberStyle.TheVariants as style
-use Rattle.number_format.specs.declared.settings.DigitDefaults.{DigitDefaults}
-use Rattle.number_format.specs.Increments.{is_increment}
-use Rattle.number_format.specs.DefaultDigits.{is_compact, increment_or_1, currency_digits, style_increment, increment, no_settings, IsDefault}
-use Rattle.number_format.specs.Resolved.{resolve_error}
+use Rattle.number_format.specs.{Increments.is_increment, DefaultDigits.{is_compact, increment_or_1, currency_digits, increment, no_settings, IsDefault}, Resolved.resolve_error, declared.{number_options.{NumberOptions.NumberOptions, NumberStyle.NumberStyle}, settings.DigitDefaults.DigitDefaults}}
 
 or_1 : (n : ℕ) → is_increment (increment_or_1 n) ≡ true
 or_1 n = by (is_increment n) refl
@@ -17,26 +10,27 @@ or_1 n = by (is_increment n) refl
     by true is = is
     by false is = refl
 
-is_one_of : (s : NumberStyle) (compact : Bool) → is_increment (style_increment s compact) ≡ true
-is_one_of (style.Currency c) false = or_1 (currency_digits c.usage c.code).1
-is_one_of (style.Currency c) true = refl
-is_one_of style.Decimal compact = refl
-is_one_of style.Percent compact = refl
-is_one_of style.Permille compact = refl
+is_one_of : (s : NumberStyle) (compact : Bool) → is_increment (increment s compact) ≡ true
+is_one_of (NumberStyle.Currency c) false = or_1 (currency_digits c.usage c.code).1
+is_one_of (NumberStyle.Currency c) true = refl
+is_one_of NumberStyle.Decimal compact = refl
+is_one_of NumberStyle.Percent compact = refl
+is_one_of NumberStyle.Permille compact = refl
 
-no_increment : (s : NumberStyle) → style_increment s true ≡ 1
-no_increment (style.Currency c) = refl
-no_increment style.Decimal = refl
-no_increment style.Percent = refl
-no_increment style.Permille = refl
+no_increment : (s : NumberStyle) → increment s true ≡ 1
+no_increment (NumberStyle.Currency c) = refl
+no_increment NumberStyle.Decimal = refl
+no_increment NumberStyle.Percent = refl
+no_increment NumberStyle.Permille = refl
 
 -- an increment, which is 1 in compact notation
 no_error : (n : ℕ) (compact : Bool) (d : DigitDefaults) → d.is_compact ≡ compact → is_increment n ≡ true
     → (compact ≡ true → n ≡ 1) → resolve_error (no_settings n) d ≡ None
-no_error n compact d is increment one = grind (arith, nat_tests)
+no_error n compact d is valid one = grind (arith, nat_tests)
 
 pub defaults_resolve : (o : NumberOptions) (d : DigitDefaults) → IsDefault o d
-    → resolve_error (no_settings (increment o)) d ≡ None
+    → resolve_error (no_settings (increment o.style (is_compact o.notation))) d ≡ None
 defaults_resolve o d is =
-    no_error (increment o) (is_compact o.notation) d is.compact (is_one_of o.style (is_compact o.notation))
-    (λ compact. ap (style_increment o.style) compact ∙ no_increment o.style)
+    let compact = is_compact o.notation in
+    no_error (increment o.style compact) compact d is.compact (is_one_of o.style compact)
+    (λ e. ap (increment o.style) e ∙ no_increment o.style)

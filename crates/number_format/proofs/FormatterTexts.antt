@@ -1,47 +1,33 @@
 -- The texts of a formatter are texts between affixes.
 use Rattle.std.proofs.Common.{◌≡◌, ℕ, List, [], ◌++◌, refl, sym, ◌∙◌, ap, append-nil}
-use Rattle.std.specs.Prelude.{Some, None}
-use Rattle.std.specs.Option.{option_map}
+use Rattle.std.specs.{Prelude.{Some, None}, Option.option_map}
 use Rattle.decimal_unsigned.specs.Unsigned.{IsValue}
-use Rattle.fixed_decimal.specs.Decimal.{Decimal}
-use Rattle.fixed_decimal.specs.declared.variations.Sign.{Sign}
-use Rattle.fixed_decimal.specs.declared.variations.Sign.TheVariants as sign
+use Rattle.fixed_decimal.specs.{Decimal.Decimal, declared.variations.Sign.Sign}
 use Rattle.decimal_format.specs.Formatted.{absolute_text}
-use Rattle.number_format.specs.declared.number_formatter.NumberFormatter.{NumberFormatter}
-use Rattle.number_format.specs.declared.number_options.NumberNotation.TheVariants as notation
-use Rattle.number_format.specs.declared.number_options.NumberOptions.{NumberOptions}
-use Rattle.number_format.specs.declared.number_options.NumberStyle.{NumberStyle}
-use Rattle.number_format.specs.declared.number_options.NumberStyle.TheVariants as style
-use Rattle.number_format.specs.Formatters.{compact_style, exponent_options, IsFormatter}
-use Rattle.number_format.specs.AffixedTexts.{by_sign, text_with}
-use Rattle.number_format.specs.NumberReading.{IsStandard, affixes_for, affixes_of_formatter, reader_of, CanRead, IsShownAs}
-use Rattle.number_format.specs.NumberText.{IsNumberText, shown_sign, compact_magnitude, is_one, compact_pattern, unit_by, pattern_around, around_by, pieces_around, shown_exponent}
-use Rattle.number_format.specs.Scaled.{ScaledValue}
-use Rattle.number_format.specs.TextParts.{digit_pieces, pieces_text}
-use Rattle.number_format.specs.declared.text_part.PartKind.TheVariants as kind
-use Rattle.number_format.proofs.AffixedNumbers.{named_texts_are_unique}
-use Rattle.number_format.proofs.PieceTexts.{text-of_digits, text-three}
+use Rattle.number_format.specs.declared.{number_formatter.NumberFormatter.NumberFormatter, number_options.{NumberOptions.NumberOptions, NumberStyle.NumberStyle, NumberNotation.NumberNotation}, text_part.PartKind.PartKind}
+use Rattle.number_format.specs.{Formatters.{compact_style, exponent_options, IsFormatter}, AffixedTexts.{by_sign, text_with}, NumberReading.{IsStandard, affixes_for, affixes_of_formatter, reader_of, CanRead, IsShownAs}, NumberText.{IsNumberText, shown_sign, compact_magnitude, is_one, compact_pattern, unit_by, pattern_around, around_by, pieces_around, shown_exponent}, Scaled.ScaledValue, TextParts.{digit_pieces, pieces_text}}
+use Rattle.number_format.proofs.{AffixedNumbers.named_texts_are_unique, PieceTexts.{text-of_digits, text-three}}
 
 some_same : (x y : ScaledValue) → Some x ≡ Some y → x ≡ y
 some_same x y e = cc
 
 by_is : (f : NumberFormatter) (s : Sign) → affixes_for f s ≡ by_sign (affixes_of_formatter f) s
-by_is f sign.None = refl
-by_is f sign.Negative = refl
-by_is f sign.Positive = refl
+by_is f Sign.None = refl
+by_is f Sign.Negative = refl
+by_is f Sign.Positive = refl
 
 -- the text of the pieces of a number between what a sign writes around it
 text_around : (f : NumberFormatter) (s : Sign) (x : ScaledValue)
     → pieces_text ((pattern_around f s).prefix
-    ++ ((digit_pieces kind.Integer f.symbols f.strategy x.significand.absolute ++ [])
+    ++ ((digit_pieces PartKind.Integer f.symbols f.strategy x.significand.absolute ++ [])
     ++ ((pattern_around f s).suffix ++ [])))
     ≡ (affixes_for f s).prefix
     ++ (absolute_text f.symbols f.strategy x.significand.absolute ++ (affixes_for f s).suffix)
 text_around f s x =
-    let digits = digit_pieces kind.Integer f.symbols f.strategy x.significand.absolute in
+    let digits = digit_pieces PartKind.Integer f.symbols f.strategy x.significand.absolute in
     text-three (pattern_around f s).prefix (digits ++ []) ((pattern_around f s).suffix ++ [])
     (affixes_for f s).prefix (absolute_text f.symbols f.strategy x.significand.absolute) (affixes_for f s).suffix refl
-    (ap pieces_text (append-nil digits) ∙ text-of_digits kind.Integer f.symbols f.strategy x.significand.absolute)
+    (ap pieces_text (append-nil digits) ∙ text-of_digits PartKind.Integer f.symbols f.strategy x.significand.absolute)
     (ap pieces_text (append-nil (pattern_around f s).suffix))
 
 -- the text of a number is that of the number that is shown
@@ -71,15 +57,15 @@ are_unique f v w x y text can a b p q valid valid' =
 
 -- ---- Standard notation.
 
-no_words : (s : NumberStyle) → compact_style s notation.Standard ≡ None
-no_words style.Decimal = refl
-no_words style.Percent = refl
-no_words style.Permille = refl
-no_words (style.Currency c) = refl
+no_words : (s : NumberStyle) → compact_style s NumberNotation.Standard ≡ None
+no_words NumberStyle.Decimal = refl
+no_words NumberStyle.Percent = refl
+no_words NumberStyle.Permille = refl
+no_words (NumberStyle.Currency c) = refl
 
 -- the notation of the options is that of the formatter
 pub standard : (tag : List ℕ) (o : NumberOptions) (f : NumberFormatter) → IsFormatter tag o f
-    → o.notation ≡ notation.Standard → IsStandard f
+    → o.notation ≡ NumberNotation.Standard → IsStandard f
 standard tag o f is e = record {
   compact = is.made.compact_is ∙ ap (compact_style o.style) e ∙ no_words o.style;
   exponent = is.made.exponent ∙ ap exponent_options e;

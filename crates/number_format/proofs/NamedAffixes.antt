@@ -1,18 +1,9 @@
 -- Affixes that name the sign of a number.
-use Rattle.std.proofs.Common.{◌≡◌, ◌≢◌, ℕ, Bool, true, false, ◌%◌, suc, ◌+◌, ◌<◌, ◌≤◌, inl, inr, List, [], ◌∷◌, ◌++◌, length, get_or, refl, sym, ◌∙◌, ap, subst, arith, append_assoc, append-nil, length-append, Bor}
-use Rattle.std.specs.Prelude.{◌↔◌, not, nat_eq, IsTrue, Option, Some, None, MatchOption, encode_utf8, slice_index}
-use Rattle.std.specs.Option.{option_or}
-use Rattle.std.specs.Str.{IsUtf8}
-use Rattle.std.proofs.Math.Utf8.{encode}
-use Rattle.std.proofs.lemmas.Str.{encode_same, IsCharBoundary-at_seam}
-use Rattle.std.proofs.lemmas.Bool.Decides.{nat_tests}
-use Rattle.std.proofs.lemmas.List.{append_cancel_left, append_cancel_right}
+use Rattle.std.proofs.{Common.{◌≡◌, ◌≢◌, ℕ, Bool, true, false, ◌%◌, suc, ◌+◌, ◌<◌, ◌≤◌, inl, inr, List, [], ◌∷◌, ◌++◌, length, get_or, refl, sym, ◌∙◌, ap, subst, arith, append_assoc, append-nil, length-append, Bor}, Math.Utf8.encode, lemmas.{Str.{encode_same, IsCharBoundary-at_seam}, Bool.Decides.nat_tests, List.{append_cancel_left, append_cancel_right}}}
+use Rattle.std.specs.{Prelude.{◌↔◌, not, nat_eq, IsTrue, Option, Some, None, MatchOption, encode_utf8, slice_index}, Option.option_or, Str.IsUtf8}
 use Rattle.fixed_decimal.specs.declared.variations.Sign.{Sign}
-use Rattle.fixed_decimal.specs.declared.variations.Sign.TheVariants as sign
-use Rattle.decimal_format.specs.Readable.{BeginsWithDigit, EndsWithDigit}
-use Rattle.decimal_format.specs.Symbols.{Symbols, Affixes, digit_text}
-use Rattle.decimal_format.proofs.lemmas.reader.Codes.{meet}
-use Rattle.decimal_format.proofs.lemmas.reader.Scans.{begins-append}
+use Rattle.decimal_format.specs.{Readable.{BeginsWithDigit, EndsWithDigit}, Symbols.{Symbols, Affixes, digit_text}}
+use Rattle.decimal_format.proofs.lemmas.reader.{Codes.meet, Scans.begins-append}
 use Rattle.number_format.specs.AffixedTexts.{AffixTable, by_sign, ArePrefixesApart, AreSuffixesApart, ArePairApart, AreNamed}
 
 -- ---- Characters.
@@ -199,12 +190,12 @@ module _ (s : Symbols) where
   named_if t a b c = record { pair = go }
     where
       go : (x y : Sign) → x ≢ y → ArePairApart s (by_sign t x) (by_sign t y)
-      go sign.None sign.None other = absurd (other refl)
-      go sign.None sign.Negative other = a
-      go sign.None sign.Positive other = b
-      go sign.Negative sign.None other = pair_swapped _ _ a
-      go sign.Negative sign.Negative other = absurd (other refl)
-      go sign.Negative sign.Positive other = c
-      go sign.Positive sign.None other = pair_swapped _ _ b
-      go sign.Positive sign.Negative other = pair_swapped _ _ c
-      go sign.Positive sign.Positive other = absurd (other refl)
+      go Sign.None Sign.None other = absurd (other refl)
+      go Sign.None Sign.Negative other = a
+      go Sign.None Sign.Positive other = b
+      go Sign.Negative Sign.None other = pair_swapped _ _ a
+      go Sign.Negative Sign.Negative other = absurd (other refl)
+      go Sign.Negative Sign.Positive other = c
+      go Sign.Positive Sign.None other = pair_swapped _ _ b
+      go Sign.Positive Sign.Negative other = pair_swapped _ _ c
+      go Sign.Positive Sign.Positive other = absurd (other refl)

@@ -1,10 +1,6 @@
 -- The texts of parts, one by one.
-use Rattle.std.proofs.Common.{◌≡◌, ℕ, ◌+◌, ◌<◌, List, [], ◌∷◌, ◌++◌, length, get_or, take, drop, sym, ◌∙◌, ap, append_assoc, append-nil, take-append-drop}
-use Rattle.std.proofs.lemmas.List.{take_more}
-use Rattle.std.proofs.lemmas.List.Concat.{flat_map-cons}
-use Rattle.std.proofs.lemmas.Grind.{flat_map-append}
-use Rattle.number_format.specs.declared.text_part.TextPart.{TextPart}
-use Rattle.number_format.specs.TextParts.{parts_text}
+use Rattle.std.proofs.{Common.{◌≡◌, ℕ, ◌+◌, ◌<◌, List, [], ◌∷◌, ◌++◌, length, get_or, take, drop, sym, ◌∙◌, ap, append_assoc, append-nil, take-append-drop}, lemmas.{List.{take_more, Concat.flat_map-cons}, Grind.flat_map-append}}
+use Rattle.number_format.specs.{TextParts.parts_text, declared.text_part.TextPart.TextPart}
 
 abbrev text : TextPart → List ℕ
 text part = part.text.now

@@ -1,13 +1,7 @@
 -- Texts between affixes read back.
-use Rattle.std.proofs.Common.{◌≡◌, ℕ, suc, ◌*◌, ◌/◌, ◌^◌, Bool, true, false, ◌||◌, List, refl, sym, ◌∙◌, ap, subst, arith, inl, inr}
-use Rattle.std.specs.Prelude.{Some, None, Result, Ok, Err, MatchResult, ok_or, ◌⊎◌, if◌then◌else◌, pos, negsuc, ◌+ℤ◌, int_lt}
-use Rattle.std.specs.Int.{int_max, int_min}
-use Rattle.std.proofs.lemmas.Int.{ints, clamps}
-use Rattle.std.proofs.Math.Nat.{mul-div_cancel}
-use Rattle.decimal_unsigned.specs.Edits.{leaves_limits, multiplied, multiplied_pow10}
-use Rattle.decimal_unsigned.specs.Unsigned.{Unsigned, IsValue}
-use Rattle.decimal_unsigned.specs.declared.error.ParseError.{ParseError}
-use Rattle.decimal_unsigned.specs.declared.error.ParseError.TheVariants.{Limit, Memory}
+use Rattle.std.proofs.{Common.{◌≡◌, ℕ, suc, ◌*◌, ◌/◌, ◌^◌, Bool, true, false, ◌||◌, List, refl, sym, ◌∙◌, ap, subst, arith, inl, inr}, lemmas.Int.{ints, clamps}, Math.Nat.mul-div_cancel}
+use Rattle.std.specs.{Prelude.{Some, None, Result, Ok, Err, MatchResult, ok_or, ◌⊎◌, if◌then◌else◌, pos, negsuc, ◌+ℤ◌, int_lt}, Int.{int_max, int_min}}
+use Rattle.decimal_unsigned.specs.{Edits.{leaves_limits, multiplied, multiplied_pow10}, Unsigned.{Unsigned, IsValue}, declared.error.ParseError.{ParseError, TheVariants.{Limit, Memory}}}
 use Rattle.fixed_decimal.specs.Decimal.{Decimal, with_absolute}
 use Rattle.fixed_decimal.proofs.Calling.{ten_pos}
 use Rattle.decimal_format.specs.declared.grouping.GroupingStrategy.{GroupingStrategy}

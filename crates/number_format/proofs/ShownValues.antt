@@ -1,24 +1,12 @@
 -- What a formatter shows of a value is a value.
-use Rattle.std.proofs.Common.{◌≡◌, ℕ, suc, ◌+◌, ◌-◌, ◌*◌, ◌/◌, ◌%◌, ◌^◌, ◌<◌, ◌≤◌, Bool, true, false, inl, inr, refl, sym, ◌∙◌, ap, subst, arith, mod-lt, mod-eq_of_lt, mul_assoc, mul-div_cancel, mul-lt-mul_of_pos_right, div-lt_iff_lt-mul, div-add-mod'}
-use Rattle.std.specs.Prelude.{Option, Some, None, option_and_then, if◌then◌else◌, ℤ, pos, negsuc, ◌+ℤ◌, ◌-ℤ◌, ◌≤ℤ◌, int_lt}
-use Rattle.std.specs.Int.{int_max, int_min}
-use Rattle.std.proofs.Math.Nat.{mul-mod_left, pow-le-pow_right}
-use Rattle.std.proofs.lemmas.Bool.{cases_lt}
-use Rattle.std.proofs.lemmas.Int.{ints, clamps}
+use Rattle.std.proofs.{Common.{◌≡◌, ℕ, suc, ◌+◌, ◌-◌, ◌*◌, ◌/◌, ◌%◌, ◌^◌, ◌<◌, ◌≤◌, Bool, true, false, inl, inr, refl, sym, ◌∙◌, ap, subst, arith, mod-lt, mod-eq_of_lt, mul_assoc, mul-div_cancel, mul-lt-mul_of_pos_right, div-lt_iff_lt-mul, div-add-mod'}, Math.Nat.{mul-mod_left, pow-le-pow_right}, lemmas.{Bool.cases_lt, Int.{ints, clamps}}}
+use Rattle.std.specs.{Prelude.{Option, Some, None, option_and_then, if◌then◌else◌, ℤ, pos, negsuc, ◌+ℤ◌, ◌-ℤ◌, ◌≤ℤ◌, int_lt}, Int.{int_max, int_min}}
 use Rattle.decimal_digits.specs.Number.{offset, weight, first, last, number_limit, lowest_magnitude}
-use Rattle.decimal_unsigned.specs.Edits.{leaves_limits, multiplied, multiplied_pow10}
-use Rattle.decimal_unsigned.specs.Unsigned.{Unsigned, IsValue}
+use Rattle.decimal_unsigned.specs.{Edits.{leaves_limits, multiplied, multiplied_pow10}, Unsigned.{Unsigned, IsValue}}
 use Rattle.fixed_decimal.specs.Decimal.{Decimal, with_absolute}
 use Rattle.fixed_decimal.proofs.Calling.{powers, offset_is, ten_pos, extent, first_of, last_of, first_le, last_zero}
-use Rattle.number_format.specs.declared.digit_options.DigitOptions.{DigitOptions}
-use Rattle.number_format.specs.declared.digit_options.TrailingZeros.{TrailingZeros}
-use Rattle.number_format.specs.declared.digit_options.TrailingZeros.TheVariants.{Auto, StripIfInteger}
-use Rattle.number_format.specs.declared.number_formatter.NumberFormatter.{NumberFormatter}
-use Rattle.number_format.specs.NumberReading.{IsShownAs}
-use Rattle.number_format.specs.NumberText.{rounded_in}
-use Rattle.number_format.specs.Scaled.{ScaledValue, scaled_value, Settled, base_exponent, raised as raised_to, written, settled, scaled}
-use Rattle.number_format.specs.declared.notation.Notation.{Notation}
-use Rattle.number_format.specs.ShownDigits.{padded, stripped, shown}
+use Rattle.number_format.specs.declared.{digit_options.{DigitOptions.DigitOptions, TrailingZeros.{TrailingZeros, TheVariants.{Auto, StripIfInteger}}}, number_formatter.NumberFormatter.NumberFormatter, notation.Notation.Notation}
+use Rattle.number_format.specs.{NumberReading.IsShownAs, NumberText.rounded_in, Scaled.{ScaledValue, scaled_value, Settled, base_exponent, raised as raised_to, written, settled, scaled}, ShownDigits.{padded, stripped, shown}}
 
 -- a power of ten divides a number that ends with no fewer zeros
 ends_low : (n factor bottom low : ℕ) → low ≤ bottom → n ≡ factor * 10 ^ bottom → n % 10 ^ low ≡ 0

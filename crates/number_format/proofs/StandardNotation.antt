@@ -1,19 +1,12 @@
 -- Standard notation: one rounding, and the exponent 0.
-use Rattle.std.proofs.Common.{◌≡◌, ℕ, zero, suc, ◌*◌, ◌/◌, refl, ◌∙◌, ap, arith}
+use Rattle.std.proofs.{Common.{◌≡◌, ℕ, zero, suc, ◌*◌, ◌/◌, refl, ◌∙◌, ap, arith}, lemmas.Int.ints}
 use Rattle.std.specs.Prelude.{Some, None, option_and_then, ℤ, pos, negsuc, ◌-ℤ◌, ◌≤ℤ◌}
-use Rattle.std.proofs.lemmas.Int.{ints}
 use Rattle.decimal_digits.specs.Number.{last}
-use Rattle.decimal_unsigned.specs.Edits.{multiplied_pow10}
-use Rattle.decimal_unsigned.specs.Unsigned.{IsValue}
+use Rattle.decimal_unsigned.specs.{Edits.multiplied_pow10, Unsigned.IsValue}
 use Rattle.fixed_decimal.specs.Decimal.{Decimal, with_absolute}
-use Rattle.number_format.specs.declared.digit_options.DigitOptions.{DigitOptions}
-use Rattle.number_format.specs.declared.notation.Notation.TheVariants.{Standard}
-use Rattle.number_format.specs.declared.number_formatter.NumberFormatter.{NumberFormatter}
-use Rattle.number_format.specs.NumberText.{rounded_in, shown_number}
-use Rattle.number_format.specs.ShownDigits.{rounded_with, rounded_within, shown, IsRoundedAt}
-use Rattle.number_format.specs.Scaled.{settled_with, settled, scaled_value, written, scaled}
-use Rattle.number_format.proofs.ReadBack.{unshifted}
-use Rattle.number_format.proofs.Scales.{scaled-some}
+use Rattle.number_format.specs.declared.{digit_options.DigitOptions.DigitOptions, notation.Notation.TheVariants.Standard, number_formatter.NumberFormatter.NumberFormatter}
+use Rattle.number_format.specs.{NumberText.{rounded_in, shown_number}, ShownDigits.{rounded_with, rounded_within, shown, IsRoundedAt}, Scaled.{settled_with, settled, scaled_value, written, scaled}}
+use Rattle.number_format.proofs.{ReadBack.unshifted, Scales.scaled-some}
 
 last_least : (n : ℕ) → negsuc 32767 ≤ℤ last n
 unfolding last

@@ -1,19 +1,9 @@
 -- Decimals between affixes: their texts, and what a reader of these returns.
 use Rattle.std.specs.Prelude.{◌≡◌, ◌≢◌, ℕ, ◌⊎◌, List, ◌++◌, length, ℤ, Result, Ok, Err, ok_or}
-use Rattle.decimal_unsigned.specs.Edits.{multiplied_pow10}
-use Rattle.decimal_unsigned.specs.declared.error.ParseError.{ParseError}
-use Rattle.decimal_unsigned.specs.declared.error.ParseError.TheVariants.{Limit}
-use Rattle.fixed_decimal.specs.Decimal.{Decimal, with_absolute}
-use Rattle.fixed_decimal.specs.declared.variations.Sign.{Sign}
-use Rattle.fixed_decimal.specs.declared.variations.Sign.TheVariants as sign
-use Rattle.decimal_format.specs.Alternatives.{IsNumeralOfFirst, IsWrittenOfFirst}
-use Rattle.decimal_format.specs.Formatted.{absolute_text}
-use Rattle.decimal_format.specs.Lenient.{normalized}
-use Rattle.decimal_format.specs.Readable.{BeginsWithDigit, EndsWithDigit}
-use Rattle.decimal_format.specs.Reading.{Numeral, AreDigits, IsRead, absolute_numeral_text, separated_by}
-use Rattle.decimal_format.specs.Symbols.{Symbols, Affixes}
-use Rattle.decimal_format.specs.declared.grouping.GroupingStrategy.{GroupingStrategy}
-use Rattle.decimal_format.specs.declared.reader.alternatives.Alternative.{Alternative}
+use Rattle.decimal_unsigned.specs.{Edits.multiplied_pow10, declared.error.ParseError.{ParseError, TheVariants.Limit}}
+use Rattle.fixed_decimal.specs.{Decimal.{Decimal, with_absolute}, declared.variations.Sign.Sign}
+use Rattle.decimal_format.specs.{Alternatives.{IsNumeralOfFirst, IsWrittenOfFirst}, Formatted.absolute_text, Lenient.normalized, Readable.{BeginsWithDigit, EndsWithDigit}, Reading.{Numeral, AreDigits, IsRead, absolute_numeral_text, separated_by}, Symbols.{Symbols, Affixes}}
+use Rattle.decimal_format.specs.declared.{grouping.GroupingStrategy.GroupingStrategy, reader.alternatives.Alternative.Alternative}
 
 -- ---- Affixes.
 
@@ -23,13 +13,10 @@ pub record AffixTable : Type 0 where
   pub negative : Affixes
   pub positive : Affixes
 
-abbrev pub affix_table : Affixes → Affixes → Affixes → AffixTable
-affix_table none negative positive = record { none = none; negative = negative; positive = positive }
-
 abbrev pub by_sign : AffixTable → Sign → Affixes
-by_sign t sign.None = t.none
-by_sign t sign.Negative = t.negative
-by_sign t sign.Positive = t.positive
+by_sign t Sign.None = t.none
+by_sign t Sign.Negative = t.negative
+by_sign t Sign.Positive = t.positive
 
 -- no text is both prefixes, each before a text that begins with a digit
 abbrev pub ArePrefixesApart : Symbols → List ℕ → List ℕ → Type 0
@@ -56,9 +43,6 @@ pub record Reader : Type 0 where
   pub symbols : Symbols
   pub affixes : AffixTable
   pub shift : ℤ
-
-abbrev pub reader : Symbols → AffixTable → ℤ → Reader
-reader symbols affixes shift = record { symbols = symbols; affixes = affixes; shift = shift }
 
 -- a text between the affixes of a sign
 abbrev pub between : Reader → Sign → List ℕ → List ℕ

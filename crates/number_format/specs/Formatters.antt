@@ -1,80 +1,41 @@
 -- The formatter that a tag and options name.
-use Rattle.std.specs.Prelude.{◌≡◌, ℕ, ◌+◌, ◌<◌, ◌==◌, Bool, true, false, ◌⊎◌, ◌&&◌, if◌then◌else◌, List, [], slice_get, slice_index, Option, Some, None, unwrap_or, IsSomeAnd, MatchOption, pos, ⊤}
-use Rattle.std.specs.Option.{option_map}
+use Rattle.std.specs.{Prelude.{◌≡◌, ℕ, ◌+◌, ◌<◌, ◌==◌, false, ◌⊎◌, if◌then◌else◌, List, [], slice_get, slice_index, Option, Some, None, unwrap_or, IsSomeAnd, MatchOption, pos, ⊤}, Option.option_map}
 use Rattle.fixed_decimal.specs.declared.variations.SignDisplay.{SignDisplay}
-use Rattle.fixed_decimal.specs.declared.variations.SignDisplay.TheVariants as display
-use Rattle.decimal_format.specs.declared.grouping.GroupingSizes.{GroupingSizes}
-use Rattle.decimal_format.specs.declared.grouping.GroupingStrategy.{GroupingStrategy}
-use Rattle.decimal_format.specs.declared.grouping.GroupingStrategy.TheVariants as grouping
-use Rattle.decimal_format.specs.Symbols.{Symbols}
-use Rattle.locale_data.specs.declared.compact.CompactStyle.{CompactStyle}
-use Rattle.locale_data.specs.declared.compact.CompactStyle.TheVariants as compact
-use Rattle.locale_data.specs.declared.currency.CurrencyPattern.{CurrencyPattern}
-use Rattle.locale_data.specs.declared.currency.CurrencySign.{CurrencySign}
-use Rattle.locale_data.specs.declared.currency.CurrencySign.TheVariants as sign
-use Rattle.locale_data.specs.declared.formats_table.TheConstants.{PATTERNS, NUMBER_SIGNS}
-use Rattle.locale_data.specs.declared.number_formats.NumberFormats.{NumberFormats}
-use Rattle.locale_data.specs.declared.patterns.NumberSigns.{NumberSigns}
-use Rattle.locale_data.specs.declared.patterns.Pattern.{Pattern}
-use Rattle.locale_data.specs.declared.symbols_table.TheConstants.{LOCALES}
-use Rattle.locale_data.specs.declared.plurals.PluralRuleType.TheVariants.{Cardinal}
-use Rattle.locale_data.specs.Compact.{IsExponent}
-use Rattle.locale_data.specs.Currencies.{IsCurrencyPattern}
-use Rattle.locale_data.specs.Formats.{AreFormatsOf}
-use Rattle.locale_data.specs.Locales.{IsListed, IsLocale, IsLocaleIn, IsSystemName, IsUnknown, system_named}
-use Rattle.locale_data.specs.Patterns.{separator_text, exponent_text}
-use Rattle.locale_data.specs.Plurals.{rules_text_at, IsRulesText, HasNoRules}
-use Rattle.locale_data.specs.Rows.{unpadded}
-use Rattle.number_format.specs.declared.notation.Notation.{Notation}
-use Rattle.number_format.specs.declared.notation.Notation.TheVariants as shown
-use Rattle.number_format.specs.declared.number_formatter.CompactUnit.{CompactUnit}
-use Rattle.number_format.specs.declared.number_formatter.CompactUnit.TheVariants as unit
-use Rattle.number_format.specs.declared.number_formatter.NumberFormatError.{NumberFormatError}
-use Rattle.number_format.specs.declared.number_formatter.NumberFormatError.TheVariants as error
-use Rattle.number_format.specs.declared.number_formatter.NumberFormatter.{NumberFormatter}
-use Rattle.number_format.specs.declared.number_options.CompactLength.TheVariants as compact_length
-use Rattle.number_format.specs.declared.number_options.ExponentOptions.{ExponentOptions}
-use Rattle.number_format.specs.declared.number_options.NumberNotation.{NumberNotation}
-use Rattle.number_format.specs.declared.number_options.NumberNotation.TheVariants as notation
-use Rattle.number_format.specs.declared.number_options.NumberOptions.{NumberOptions}
-use Rattle.number_format.specs.declared.number_options.NumberStyle.{NumberStyle}
-use Rattle.number_format.specs.declared.number_options.NumberStyle.TheVariants as style
-use Rattle.number_format.specs.declared.number_style.ShownCurrency.{ShownCurrency}
-use Rattle.number_format.specs.DefaultDigits.{AreDefaultDigits}
-use Rattle.number_format.specs.NumberStyles.{plain_pattern, percent_text, text_or_nothing, in_system, IsShownBy, IsShownCurrency}
+use Rattle.decimal_format.specs.{Symbols.Symbols, declared.grouping.{GroupingSizes.GroupingSizes, GroupingStrategy.GroupingStrategy}}
+use Rattle.locale_data.specs.declared.{compact.CompactStyle.CompactStyle, currency.{CurrencyPattern.CurrencyPattern, CurrencySign.CurrencySign}, formats_table.TheConstants.{PATTERNS, NUMBER_SIGNS}, number_formats.NumberFormats.NumberFormats, patterns.{NumberSigns.NumberSigns, Pattern.Pattern}, symbols_table.TheConstants.LOCALES, plurals.PluralRuleType.TheVariants.Cardinal}
+use Rattle.locale_data.specs.{Compact.IsExponent, Currencies.IsCurrencyPattern, Formats.AreFormatsOf, Locales.{IsListed, IsLocale, IsLocaleIn, IsSystemName, IsUnknown, system_named}, Patterns.{separator_text, exponent_text}, Plurals.{rules_text_at, IsRulesText, HasNoRules}, Rows.unpadded}
+use Rattle.number_format.specs.declared.{notation.Notation.Notation, number_formatter.{CompactUnit.CompactUnit, NumberFormatError.NumberFormatError, NumberFormatter.NumberFormatter}, number_options.{ExponentOptions.ExponentOptions, NumberNotation.NumberNotation, NumberOptions.NumberOptions, NumberStyle.NumberStyle, CompactLength.CompactLength}, number_style.ShownCurrency.ShownCurrency}
+use Rattle.number_format.specs.{DefaultDigits.AreDefaultDigits, NumberStyles.{plain_pattern, percent_text, text_or_nothing, in_system, IsShownBy, IsShownCurrency}}
 
 -- ---- What options say by themselves.
 
 -- the compact patterns: those of currencies are short
 abbrev pub compact_style : NumberStyle → NumberNotation → Option CompactStyle
-compact_style (style.Currency c) (notation.Compact words) = Some compact.Currency
-compact_style other (notation.Compact compact_length.Short) = Some compact.Short
-compact_style other (notation.Compact compact_length.Long) = Some compact.Long
+compact_style (NumberStyle.Currency c) (NumberNotation.Compact words) = Some CompactStyle.Currency
+compact_style other (NumberNotation.Compact CompactLength.Short) = Some CompactStyle.Short
+compact_style other (NumberNotation.Compact CompactLength.Long) = Some CompactStyle.Long
 compact_style other rest = None
 
 abbrev pub compact_unit : NumberStyle → NumberNotation → CompactUnit
-compact_unit style.Percent (notation.Compact words) = unit.Percent
-compact_unit style.Permille (notation.Compact words) = unit.Permille
-compact_unit other rest = unit.Nothing
+compact_unit NumberStyle.Percent (NumberNotation.Compact words) = CompactUnit.Percent
+compact_unit NumberStyle.Permille (NumberNotation.Compact words) = CompactUnit.Permille
+compact_unit other rest = CompactUnit.Nothing
 
 abbrev pub exponent_options : NumberNotation → Option ExponentOptions
-exponent_options (notation.Scientific o) = Some o
-exponent_options (notation.Engineering o) = Some o
+exponent_options (NumberNotation.Scientific o) = Some o
+exponent_options (NumberNotation.Engineering o) = Some o
 exponent_options other = None
 
 -- without a sign the pattern of accounts is not used
 abbrev pub currency_sign : SignDisplay → CurrencySign → CurrencySign
-currency_sign display.Never s = sign.Standard
+currency_sign SignDisplay.Never s = CurrencySign.Standard
 currency_sign other s = s
-
-abbrev pub is_always : GroupingStrategy → Bool
-is_always grouping.Always = true
-is_always other = false
 
 -- the sizes of a pattern, by `Always` 3 if it has none; the least number of digits is that of the locale
 abbrev pub style_sizes : Pattern → GroupingStrategy → GroupingSizes → GroupingSizes
-style_sizes p strategy own =
-    record own { primary = if is_always strategy && p.primary == 0 then 3 else p.primary; secondary = p.secondary }
+style_sizes p GroupingStrategy.Always own =
+    record own { primary = if p.primary == 0 then 3 else p.primary; secondary = p.secondary }
+style_sizes p other own = record own { primary = p.primary; secondary = p.secondary }
 
 -- the separators of money, or else those of other numbers
 abbrev pub with_separators : Symbols → CurrencyPattern → Symbols
@@ -92,11 +53,11 @@ pub record IsWithoutCurrency (pattern : Pattern) (p : CurrencyPattern) (shown : 
 -- the pattern, the separators and the currency of a style; percent in compact notation has the pattern of plain numbers
 abbrev pub IsStyle : NumberStyle → NumberNotation → List ℕ → List ℕ → GroupingSizes → NumberFormats → SignDisplay
     → CurrencyPattern → ShownCurrency → Type 0
-IsStyle style.Decimal n tag system sizes formats display p shown = IsWithoutCurrency (plain_pattern sizes) p shown
-IsStyle (style.Currency c) n tag system sizes formats display p shown =
+IsStyle NumberStyle.Decimal n tag system sizes formats display p shown = IsWithoutCurrency (plain_pattern sizes) p shown
+IsStyle (NumberStyle.Currency c) n tag system sizes formats display p shown =
     IsCurrencyPattern tag system c.code (currency_sign display c.sign) p
     × (own : ShownCurrency) × IsShownCurrency tag c own × (shown ≡ in_system system own)
-IsStyle other (notation.Compact words) tag system sizes formats display p shown =
+IsStyle other (NumberNotation.Compact words) tag system sizes formats display p shown =
     IsWithoutCurrency (plain_pattern sizes) p shown
 IsStyle other n tag system sizes formats display p shown =
     (slice_get PATTERNS formats.percent ≡ Some p.pattern) × IsWithoutCurrency p.pattern p shown
@@ -108,10 +69,10 @@ abbrev pub AreExponents : NumberFormats → CompactStyle → List ℕ → Type 0
 AreExponents formats words rows = (k : ℕ) → k < 17 → IsExponent formats words (pos (k + 3)) (slice_index rows k)
 
 abbrev pub IsNotationBy : NumberFormats → NumberNotation → Option CompactStyle → Notation → Type 0
-IsNotationBy formats other (Some words) (shown.Compact table) = AreExponents formats words table.rows
-IsNotationBy formats (notation.Scientific o) None shown.Scientific = ⊤
-IsNotationBy formats (notation.Engineering o) None shown.Engineering = ⊤
-IsNotationBy formats notation.Standard None shown.Standard = ⊤
+IsNotationBy formats other (Some words) (Notation.Compact table) = AreExponents formats words table.rows
+IsNotationBy formats (NumberNotation.Scientific o) None Notation.Scientific = ⊤
+IsNotationBy formats (NumberNotation.Engineering o) None Notation.Engineering = ⊤
+IsNotationBy formats NumberNotation.Standard None Notation.Standard = ⊤
 IsNotationBy formats other words n = ⊥
 
 pub record IsFormatterIn (tag system : List ℕ) (own : Symbols) (o : NumberOptions) (f : NumberFormatter) : Type 0 where
@@ -143,24 +104,22 @@ pub record IsFormatter (tag : List ℕ) (o : NumberOptions) (f : NumberFormatter
       (λ name. IsLocaleIn tag system own × (system ≡ text_or_nothing (unpadded name)))
   pub made : IsFormatterIn tag system own o f
 
--- ---- The errors.
-
 -- the tag is unknown, or has no plural rules, which each listed locale has; or the numbering system of the options is
 -- not listed
 abbrev pub IsFormatterError : List ℕ → Option (List ℕ) → NumberFormatError → Type 0
-IsFormatterError tag name error.UnknownLocale = IsUnknown tag ⊎ HasNoRules tag
-IsFormatterError tag None error.UnknownNumberingSystem = ⊥
-IsFormatterError tag (Some name) error.UnknownNumberingSystem =
+IsFormatterError tag name NumberFormatError.UnknownLocale = IsUnknown tag ⊎ HasNoRules tag
+IsFormatterError tag None NumberFormatError.UnknownNumberingSystem = ⊥
+IsFormatterError tag (Some name) NumberFormatError.UnknownNumberingSystem =
     IsListed LOCALES tag None ⊎ (system_named (text_or_nothing (unpadded name)) ≡ None)
 
 -- a decimal in standard notation, without digits, a scale or a sign of their own
 abbrev pub plain_options : GroupingStrategy → Option (List ℕ) → NumberOptions
 plain_options grouping system = record {
-  style = style.Decimal;
+  style = NumberStyle.Decimal;
   scale = pos 0;
-  notation = notation.Standard;
+  notation = NumberNotation.Standard;
   digits = None;
-  sign_display = display.Auto;
+  sign_display = SignDisplay.Auto;
   grouping = grouping;
   numbering_system = system;
 }

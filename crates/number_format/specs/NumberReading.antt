@@ -1,28 +1,11 @@
 -- What a formatter writes, read exactly and as people type it.
-use Rattle.std.specs.Prelude.{◌≡◌, ◌≢◌, ℕ, ◌⊎◌, Bool, true, false, ◌||◌, if◌then◌else◌, List, [], ◌∷◌, ◌++◌, map, flat_map, codes, Option, Some, None, Result, Err, ◌-ℤ◌, pos, negsuc}
-use Rattle.std.specs.Str.{IsUtf8}
-use Rattle.decimal_unsigned.specs.declared.error.ParseError.{ParseError}
-use Rattle.decimal_unsigned.specs.declared.error.ParseError.TheVariants.{Syntax}
-use Rattle.fixed_decimal.specs.Decimal.{Decimal}
-use Rattle.fixed_decimal.specs.declared.variations.Sign.{Sign}
-use Rattle.fixed_decimal.specs.declared.variations.Sign.TheVariants as sign
-use Rattle.decimal_format.specs.Readable.{IsReadable}
-use Rattle.decimal_format.specs.Symbols.{Affixes, affixes}
-use Rattle.decimal_format.specs.declared.reader.alternatives.Alternative.{Alternative}
-use Rattle.locale_data.specs.declared.patterns.Affix.{Affix}
-use Rattle.locale_data.specs.declared.patterns.Piece.{Piece}
-use Rattle.locale_data.specs.declared.patterns.Piece.TheVariants.{Percent}
-use Rattle.number_format.specs.declared.number_formatter.NumberFormatter.{NumberFormatter}
-use Rattle.number_format.specs.declared.number_reader.NumberReaderError.{NumberReaderError}
-use Rattle.number_format.specs.declared.number_reader.NumberReaderError.TheVariants as error
-use Rattle.number_format.specs.declared.number_reader.ParseMode.{ParseMode}
-use Rattle.number_format.specs.declared.number_reader.ParseMode.TheVariants.{Strict, Lenient}
-use Rattle.number_format.specs.declared.number_style.CurrencyNames.{CurrencyNames}
-use Rattle.number_format.specs.AffixedTexts.{AffixTable, affix_table, AreNamed, Reader, reader, IsReadExactly, IsReadTyped}
-use Rattle.number_format.specs.NumberStyles.{text_or_nothing}
-use Rattle.number_format.specs.NumberText.{pattern_around, shown_number, shown_sign}
-use Rattle.number_format.specs.Scaled.{ScaledValue}
-use Rattle.number_format.specs.TextParts.{pieces_text}
+use Rattle.std.specs.{Prelude.{◌≡◌, ◌≢◌, ℕ, ◌⊎◌, Bool, true, false, ◌||◌, if◌then◌else◌, List, [], ◌∷◌, ◌++◌, map, flat_map, codes, Option, Some, None, Result, Err, ◌-ℤ◌, pos, negsuc}, Str.IsUtf8}
+use Rattle.decimal_unsigned.specs.declared.error.ParseError.{ParseError, TheVariants.Syntax}
+use Rattle.fixed_decimal.specs.{Decimal.Decimal, declared.variations.Sign.Sign}
+use Rattle.decimal_format.specs.{Readable.IsReadable, Symbols.{Affixes, affixes}, declared.reader.alternatives.Alternative.Alternative}
+use Rattle.locale_data.specs.declared.patterns.{Affix.Affix, Piece.{Piece, TheVariants.Percent}}
+use Rattle.number_format.specs.declared.{number_formatter.NumberFormatter.NumberFormatter, number_reader.{NumberReaderError.NumberReaderError, ParseMode.{ParseMode, TheVariants.{Strict, Lenient}}}, number_style.CurrencyNames.CurrencyNames}
+use Rattle.number_format.specs.{AffixedTexts.{AffixTable, AreNamed, Reader, IsReadExactly, IsReadTyped}, NumberStyles.text_or_nothing, NumberText.{pattern_around, shown_number, shown_sign}, Scaled.ScaledValue, TextParts.pieces_text}
 
 -- ---- Exactly.
 
@@ -38,11 +21,12 @@ affixes_for f s =
 
 abbrev pub affixes_of_formatter : NumberFormatter → AffixTable
 affixes_of_formatter f =
-    affix_table (affixes_for f sign.None) (affixes_for f sign.Negative) (affixes_for f sign.Positive)
+    let by = affixes_for f in
+    record { none = by Sign.None; negative = by Sign.Negative; positive = by Sign.Positive }
 
 -- the reader of its texts, which undoes its scale
 abbrev pub reader_of : NumberFormatter → Reader
-reader_of f = reader f.symbols (affixes_of_formatter f) (pos 0 -ℤ f.scale)
+reader_of f = record { symbols = f.symbols; affixes = affixes_of_formatter f; shift = pos 0 -ℤ f.scale }
 
 -- the notation and the scale can be undone
 abbrev pub CanUndo : NumberFormatter → Type 0
@@ -56,11 +40,12 @@ pub record CanRead (f : NumberFormatter) : Type 0 where
 
 -- what an error says
 abbrev pub CannotRead : NumberReaderError → NumberFormatter → Type 0
-CannotRead error.Notation f = ¬ IsStandard f
-CannotRead error.Scale f = IsStandard f × (f.scale ≡ negsuc 32767)
-CannotRead error.Memory f = CanUndo f
-CannotRead error.Symbols f = CanUndo f × ¬ IsReadable f.symbols
-CannotRead error.Affixes f = CanUndo f × (IsReadable f.symbols × ¬ AreNamed f.symbols (affixes_of_formatter f))
+CannotRead NumberReaderError.Notation f = ¬ IsStandard f
+CannotRead NumberReaderError.Scale f = IsStandard f × (f.scale ≡ negsuc 32767)
+CannotRead NumberReaderError.Memory f = CanUndo f
+CannotRead NumberReaderError.Symbols f = CanUndo f × ¬ IsReadable f.symbols
+CannotRead NumberReaderError.Affixes f =
+    CanUndo f × (IsReadable f.symbols × ¬ AreNamed f.symbols (affixes_of_formatter f))
 
 -- u is the number that the formatter shows of v: scaled, rounded, and with the sign that is written
 pub record IsShownAs (f : NumberFormatter) (v u : Decimal) : Type 0 where
@@ -80,7 +65,7 @@ has_percent a = is_percent a.first || (is_percent a.second || (is_percent a.thir
 
 -- the names of a number: the symbol, the narrow symbol and the code of the currency, or the percent sign of the pattern
 abbrev pub names_by : NumberFormatter → Option CurrencyNames → List (List ℕ)
-names_by f (Some n) = n.symbol.now ∷ n.narrow.now ∷ text_or_nothing n.code ∷ []
+names_by f (Some n) = n.symbol.now ∷ n.narrow.now ∷ text_or_nothing f.currency.code ∷ []
 names_by f None =
     (if has_percent f.pattern.positive.prefix || has_percent f.pattern.positive.suffix then f.percent.text.now else [])
     ∷ [] ∷ [] ∷ []
@@ -95,17 +80,17 @@ form_of a = form a.prefix.now a.suffix.now a.sign
 -- a name before the number or after it, with a space or without, or a sign and a name
 abbrev pub forms_of_name : List ℕ → List (Affixes × Sign)
 forms_of_name name =
-    form name [] sign.None ∷ form (name ++ codes " ") [] sign.None ∷ form [] name sign.None
-    ∷ form [] (codes " " ++ name) sign.None ∷ form (codes "-" ++ name) [] sign.Negative
-    ∷ form (codes "-" ++ (name ++ codes " ")) [] sign.Negative ∷ form (codes "+" ++ name) [] sign.Positive
-    ∷ form (codes "+" ++ (name ++ codes " ")) [] sign.Positive ∷ []
+    form name [] Sign.None ∷ form (name ++ codes " ") [] Sign.None ∷ form [] name Sign.None
+    ∷ form [] (codes " " ++ name) Sign.None ∷ form (codes "-" ++ name) [] Sign.Negative
+    ∷ form (codes "-" ++ (name ++ codes " ")) [] Sign.Negative ∷ form (codes "+" ++ name) [] Sign.Positive
+    ∷ form (codes "+" ++ (name ++ codes " ")) [] Sign.Positive ∷ []
 
 -- what may be around a number: what the formatter writes, nothing, parentheses for a minus sign, and the names
 abbrev pub typed_forms : NumberFormatter → List (Affixes × Sign)
 typed_forms f =
-    (affixes_for f sign.None, sign.None) ∷ (affixes_for f sign.Negative, sign.Negative)
-    ∷ (affixes_for f sign.Positive, sign.Positive) ∷ form [] [] sign.None
-    ∷ form (codes "(") (codes ")") sign.Negative ∷ flat_map forms_of_name (names_by f f.currency.names)
+    (affixes_for f Sign.None, Sign.None) ∷ (affixes_for f Sign.Negative, Sign.Negative)
+    ∷ (affixes_for f Sign.Positive, Sign.Positive) ∷ form [] [] Sign.None
+    ∷ form (codes "(") (codes ")") Sign.Negative ∷ flat_map forms_of_name (names_by f f.currency.names)
 
 pub record NumberReader : Type 0 where
   pub texts : Reader

@@ -1,27 +1,9 @@
 -- What a style of numbers writes: its pattern, its percent sign, and its currency.
-use Rattle.std.specs.Prelude.{◌≡◌, ℕ, Bool, true, false, not, codes, ◌&&◌, if◌then◌else◌, List, [], ◌∷◌, map, None, IsSomeAnd, ◌⊎◌}
-use Rattle.std.specs.Char.{to_ascii_uppercase}
-use Rattle.std.specs.Str.{is_utf8, bytes_eq}
+use Rattle.std.specs.{Prelude.{◌≡◌, ℕ, Bool, true, false, not, codes, ◌&&◌, if◌then◌else◌, List, [], ◌∷◌, map, Option, Some, None, IsSomeAnd, MatchOption}, Char.to_ascii_uppercase, Option.option_map_or, Str.{is_utf8, bytes_eq}}
 use Rattle.decimal_format.specs.declared.grouping.GroupingSizes.{GroupingSizes}
-use Rattle.locale_data.specs.declared.currency.CurrencySymbol.{CurrencySymbol}
-use Rattle.locale_data.specs.declared.currency.SymbolWidth.{SymbolWidth}
-use Rattle.locale_data.specs.declared.currency.SymbolWidth.TheVariants as width
-use Rattle.locale_data.specs.declared.patterns.Affix.{Affix}
-use Rattle.locale_data.specs.declared.patterns.AffixPair.{AffixPair}
-use Rattle.locale_data.specs.declared.patterns.Pattern.{Pattern}
-use Rattle.locale_data.specs.declared.patterns.PercentSign.{PercentSign}
-use Rattle.locale_data.specs.declared.patterns.PercentSign.TheVariants as sign
-use Rattle.locale_data.specs.declared.patterns.Piece.{Piece}
-use Rattle.locale_data.specs.declared.patterns.Piece.TheVariants.{Empty, Minus, Plus, Currency}
-use Rattle.locale_data.specs.Currencies.{currency_with, IsSymbolOf}
+use Rattle.locale_data.specs.{Currencies.{currency_with, IsSymbolOf}, declared.{currency.{CurrencySymbol.CurrencySymbol, SymbolWidth.SymbolWidth}, patterns.{Affix.Affix, AffixPair.AffixPair, Pattern.Pattern, PercentSign.PercentSign, Piece.{Piece, TheVariants.{Empty, Minus, Plus, Currency}}}}}
 use Rattle.locale_data.specs.Patterns as pattern
-use Rattle.number_format.specs.declared.number_options.CurrencyDisplay.{CurrencyDisplay}
-use Rattle.number_format.specs.declared.number_options.CurrencyDisplay.TheVariants as display
-use Rattle.number_format.specs.declared.number_options.CurrencyStyle.{CurrencyStyle}
-use Rattle.number_format.specs.declared.number_options.NumberStyle.{NumberStyle}
-use Rattle.number_format.specs.declared.number_options.NumberStyle.TheVariants as style
-use Rattle.number_format.specs.declared.number_style.CurrencyNames.{CurrencyNames}
-use Rattle.number_format.specs.declared.number_style.ShownCurrency.{ShownCurrency}
+use Rattle.number_format.specs.declared.{number_options.{CurrencyDisplay.CurrencyDisplay, CurrencyStyle.CurrencyStyle, NumberStyle.NumberStyle}, number_style.ShownCurrency.ShownCurrency}
 
 -- ---- Patterns.
 
@@ -61,10 +43,10 @@ begins_with_currency a = is_currency (piece_or a.first (piece_or a.second (piece
 
 -- the percent sign, or the per mille sign that belongs to it: U+2030, or in Arabic U+0609
 abbrev pub percent_text : NumberStyle → PercentSign → List ℕ
-percent_text style.Permille sign.Percent = 226 ∷ 128 ∷ 176 ∷ []
-percent_text style.Permille sign.Enclosed = 226 ∷ 128 ∷ 176 ∷ []
-percent_text style.Permille sign.Tilde = 226 ∷ 128 ∷ 176 ∷ []
-percent_text style.Permille other = 216 ∷ 137 ∷ []
+percent_text NumberStyle.Permille PercentSign.Percent = 226 ∷ 128 ∷ 176 ∷ []
+percent_text NumberStyle.Permille PercentSign.Enclosed = 226 ∷ 128 ∷ 176 ∷ []
+percent_text NumberStyle.Permille PercentSign.Tilde = 226 ∷ 128 ∷ 176 ∷ []
+percent_text NumberStyle.Permille other = 216 ∷ 137 ∷ []
 percent_text other s = pattern.percent_text s
 
 -- ---- Currencies.
@@ -82,39 +64,35 @@ abbrev pub IsShownBy : List ℕ → Bool → Bool → ShownCurrency → Type 0
 IsShownBy text before after shown =
     (currency_text shown ≡ text) × (shown.space_before ≡ before) × (shown.space_after ≡ after)
 
--- its code in capitals, between spaces
-abbrev pub IsShownCode : List ℕ → ShownCurrency → Type 0
-IsShownCode code = IsShownBy (text_or_nothing (map to_ascii_uppercase code)) true true
+-- its symbol, or else its code between spaces
+abbrev pub IsShownWith : Option CurrencySymbol → ShownCurrency → Type 0
+IsShownWith (Some symbol) shown = IsShownBy symbol.text.now symbol.space_before symbol.space_after shown
+IsShownWith None shown = IsShownBy (text_or_nothing shown.code) true true shown
 
--- the symbol that a tag has for it, or the code if it is not listed
-abbrev pub IsShownSymbol : List ℕ → List ℕ → SymbolWidth → ShownCurrency → Type 0
-IsShownSymbol tag code width shown =
-    ((symbol : CurrencySymbol) × IsSymbolOf tag code width symbol
-    × IsShownBy symbol.text.now symbol.space_before symbol.space_after shown)
-    ⊎ ((currency_with code ≡ None) × IsShownCode code shown)
+-- by its symbol or its narrow symbol
+abbrev pub IsDisplayed : CurrencyDisplay → Option CurrencySymbol → Option CurrencySymbol → ShownCurrency → Type 0
+IsDisplayed CurrencyDisplay.Symbol wide narrow = IsShownWith wide
+IsDisplayed CurrencyDisplay.Narrow wide narrow = IsShownWith narrow
+IsDisplayed CurrencyDisplay.Code wide narrow = IsShownWith None
+IsDisplayed CurrencyDisplay.Hidden wide narrow = IsShownBy [] false false
 
-abbrev pub IsDisplayed : CurrencyDisplay → List ℕ → List ℕ → ShownCurrency → Type 0
-IsDisplayed display.Symbol tag code = IsShownSymbol tag code width.Wide
-IsDisplayed display.Narrow tag code = IsShownSymbol tag code width.Narrow
-IsDisplayed display.Code tag code = IsShownCode code
-IsDisplayed display.Hidden tag code = IsShownBy [] false false
+-- the symbol that a tag has for a currency, or None if the currency is not listed
+abbrev pub IsSymbolIn : List ℕ → List ℕ → SymbolWidth → Option CurrencySymbol → Type 0
+IsSymbolIn tag code width symbol = MatchOption symbol (currency_with code ≡ None) (IsSymbolOf tag code width)
 
--- the text of a symbol, or nothing if the currency is not listed
-abbrev pub IsSymbolText : List ℕ → List ℕ → SymbolWidth → List ℕ → Type 0
-IsSymbolText tag code width text =
-    ((symbol : CurrencySymbol) × IsSymbolOf tag code width symbol × (text ≡ symbol.text.now))
-    ⊎ ((currency_with code ≡ None) × (text ≡ []))
+abbrev pub symbol_text : Option CurrencySymbol → List ℕ
+symbol_text symbol = option_map_or (λ s. s.text.now) symbol []
 
--- the texts that name a currency for a tag
-pub record AreNamesOf (tag code : List ℕ) (names : CurrencyNames) : Type 0 where
-  pub symbol : IsSymbolText tag code width.Wide names.symbol.now
-  pub narrow : IsSymbolText tag code width.Narrow names.narrow.now
-  pub code_is : names.code ≡ map to_ascii_uppercase code
-
--- a currency as a style shows it for a tag
-abbrev pub IsShownCurrency : List ℕ → CurrencyStyle → ShownCurrency → Type 0
-IsShownCurrency tag style shown =
-    IsDisplayed style.display tag style.code shown × IsSomeAnd shown.names (AreNamesOf tag style.code)
+-- a currency as a style shows it for a tag, with the texts that name it; its code is in capitals
+pub record IsShownCurrency (tag : List ℕ) (style : CurrencyStyle) (shown : ShownCurrency) : Type 0 where
+  pub wide : Option CurrencySymbol
+  pub narrow : Option CurrencySymbol
+  pub wide_is : IsSymbolIn tag style.code SymbolWidth.Wide wide
+  pub narrow_is : IsSymbolIn tag style.code SymbolWidth.Narrow narrow
+  pub code_is : shown.code ≡ map to_ascii_uppercase style.code
+  pub displayed : IsDisplayed style.display wide narrow shown
+  pub named : IsSomeAnd shown.names
+      (λ names. (names.symbol.now ≡ symbol_text wide) × (names.narrow.now ≡ symbol_text narrow))
 
 -- a digit of `hanidec` is a letter, which no space separates from a currency
 abbrev pub in_system : List ℕ → ShownCurrency → ShownCurrency

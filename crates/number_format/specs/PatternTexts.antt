@@ -1,21 +1,10 @@
 -- What a pattern writes before and after a number.
 use Rattle.std.specs.Prelude.{◌≡◌, ℕ, Bool, true, ◌&&◌, if◌then◌else◌, List, [], ◌∷◌, ◌++◌}
 use Rattle.fixed_decimal.specs.declared.variations.Sign.{Sign}
-use Rattle.fixed_decimal.specs.declared.variations.Sign.TheVariants as sign
 use Rattle.decimal_format.specs.Symbols.{Symbols, sign_affixes}
-use Rattle.locale_data.specs.declared.patterns.Affix.{Affix}
-use Rattle.locale_data.specs.declared.patterns.Pattern.{Pattern}
-use Rattle.locale_data.specs.declared.patterns.Piece.{Piece}
-use Rattle.locale_data.specs.declared.patterns.Piece.TheVariants as piece
-use Rattle.locale_data.specs.Patterns.{literal_text, affixes_of}
-use Rattle.number_format.specs.declared.number_style.ShownCurrency.{ShownCurrency}
-use Rattle.number_format.specs.declared.sign_texts.AffixTexts.{AffixTexts}
-use Rattle.number_format.specs.declared.sign_texts.SignTexts.{SignTexts}
-use Rattle.number_format.specs.declared.text_part.PartKind.{PartKind}
-use Rattle.number_format.specs.declared.text_part.PartKind.TheVariants as kind
-use Rattle.number_format.specs.NumberStyles.{currency_text, ends_with_currency, begins_with_currency}
+use Rattle.locale_data.specs.{Patterns.{literal_text, affixes_of}, declared.patterns.{Affix.Affix, Pattern.Pattern, Piece.Piece}}
+use Rattle.number_format.specs.{NumberStyles.{currency_text, ends_with_currency, begins_with_currency}, TextParts.{pieces_text, pieces_of}, declared.{number_style.ShownCurrency.ShownCurrency, sign_texts.{AffixTexts.AffixTexts, SignTexts.SignTexts}, text_part.PartKind.PartKind}}
 use Rattle.number_format.specs.TextParts as parts
-use Rattle.number_format.specs.TextParts.{pieces_text, pieces_of}
 
 -- a pattern, and the texts of its pieces
 pub record Style : Type 0 where
@@ -33,32 +22,32 @@ abbrev pub around : List parts.Piece → Bool → List parts.Piece → Around
 around prefix has_number suffix = record { prefix = prefix; has_number = has_number; suffix = suffix }
 
 abbrev pub literal : List ℕ → List parts.Piece
-literal text = pieces_of kind.Literal text
+literal text = pieces_of PartKind.Literal text
 
 -- a sign
 abbrev pub sign_text : Symbols → Sign → List ℕ
 sign_text symbols s = (sign_affixes symbols s).prefix
 
 abbrev pub sign_kind : Sign → PartKind
-sign_kind sign.Positive = kind.PlusSign
-sign_kind other = kind.MinusSign
+sign_kind Sign.Positive = PartKind.PlusSign
+sign_kind other = PartKind.MinusSign
 
 abbrev pub sign_pieces : Symbols → Sign → List parts.Piece
 sign_pieces symbols s = pieces_of (sign_kind s) (sign_text symbols s)
 
 -- a piece of a pattern
 abbrev pub pattern_kind : Piece → PartKind
-pattern_kind piece.Minus = kind.MinusSign
-pattern_kind piece.Plus = kind.PlusSign
-pattern_kind piece.Percent = kind.PercentSign
-pattern_kind piece.Currency = kind.Currency
-pattern_kind other = kind.Literal
+pattern_kind Piece.Minus = PartKind.MinusSign
+pattern_kind Piece.Plus = PartKind.PlusSign
+pattern_kind Piece.Percent = PartKind.PercentSign
+pattern_kind Piece.Currency = PartKind.Currency
+pattern_kind other = PartKind.Literal
 
 abbrev pub pattern_text : Style → Piece → List ℕ
-pattern_text f piece.Minus = sign_text f.symbols sign.Negative
-pattern_text f piece.Plus = sign_text f.symbols sign.Positive
-pattern_text f piece.Percent = f.percent
-pattern_text f piece.Currency = currency_text f.currency
+pattern_text f Piece.Minus = sign_text f.symbols Sign.Negative
+pattern_text f Piece.Plus = sign_text f.symbols Sign.Positive
+pattern_text f Piece.Percent = f.percent
+pattern_text f Piece.Currency = currency_text f.currency
 pattern_text f other = literal_text other
 
 abbrev pub pattern_pieces : Style → Piece → List parts.Piece
@@ -87,9 +76,9 @@ pub record AreAffixTexts (a : Around) (t : AffixTexts) : Type 0 where
   pub suffix : t.suffix.bytes ≡ pieces_text a.suffix
 
 abbrev pub texts_for : SignTexts → Sign → AffixTexts
-texts_for t sign.None = t.none
-texts_for t sign.Negative = t.negative
-texts_for t sign.Positive = t.positive
+texts_for t Sign.None = t.none
+texts_for t Sign.Negative = t.negative
+texts_for t Sign.Positive = t.positive
 
 -- those of each sign
 abbrev pub AreSignTexts : Style → SignTexts → Type 0

@@ -2,12 +2,8 @@
 use Rattle.std.specs.Prelude.{ℕ, zero, suc, ◌≡◌, List, [], ◌∷◌, ◌++◌, flat_map, Option, Some, None, ⊤, ℤ, pos, negsuc, ◌-ℤ◌}
 use Rattle.decimal_digits.specs.Number.{digit}
 use Rattle.decimal_unsigned.specs.Unsigned.{Unsigned}
-use Rattle.decimal_format.specs.declared.grouping.GroupingStrategy.{GroupingStrategy}
-use Rattle.decimal_format.specs.Formatted.{separator_before, separator_after, shown_count}
-use Rattle.decimal_format.specs.Symbols.{Symbols, digit_text}
-use Rattle.number_format.specs.declared.text_part.PartKind.{PartKind}
-use Rattle.number_format.specs.declared.text_part.PartKind.TheVariants as kind
-use Rattle.number_format.specs.declared.text_part.TextPart.{TextPart}
+use Rattle.decimal_format.specs.{Formatted.{separator_before, separator_after, shown_count}, Symbols.{Symbols, digit_text}, declared.grouping.GroupingStrategy.GroupingStrategy}
+use Rattle.number_format.specs.declared.text_part.{PartKind.PartKind, TextPart.TextPart}
 
 -- the texts of parts, one after another
 abbrev pub parts_text : List TextPart → List ℕ
@@ -42,14 +38,14 @@ parts_pieces = flat_map part_pieces
 -- the kind of the digit of a magnitude
 abbrev pub digit_kind : PartKind → ℤ → PartKind
 digit_kind whole (pos k) = whole
-digit_kind whole (negsuc k) = kind.Fraction
+digit_kind whole (negsuc k) = PartKind.Fraction
 
 -- the digit of a magnitude, between the separators beside it
 abbrev pub magnitude_pieces : PartKind → Symbols → GroupingStrategy → Unsigned → ℤ → List Piece
 magnitude_pieces whole s strategy v m =
-    pieces_of kind.Decimal (separator_before s m)
+    pieces_of PartKind.Decimal (separator_before s m)
     ++ (pieces_of (digit_kind whole m) (digit_text s (digit v.number m))
-    ++ pieces_of kind.Group (separator_after s strategy v.hi m))
+    ++ pieces_of PartKind.Group (separator_after s strategy v.hi m))
 
 -- the given number of magnitudes from the highest
 unfoldable pub first_pieces : PartKind → Symbols → GroupingStrategy → Unsigned → ℕ → List Piece

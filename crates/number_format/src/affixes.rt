@@ -1,8 +1,7 @@
 //! The texts around numbers, by sign.
 ghost use Rattle.std.specs.Prelude.{◌≡◌, ◌↔◌, flat_map, IsTrue, IfOk};
-ghost use Rattle.decimal_format.specs.Readable.{IsReadable};
-ghost use Rattle.decimal_format.specs.Symbols.{affixes};
-ghost use Rattle.number_format.specs.AffixedTexts.{affix_table, by_sign, ArePrefixesApart, AreSuffixesApart, ArePairApart, AreNamed};
+ghost use Rattle.decimal_format.specs.{Readable.IsReadable, Symbols.affixes};
+ghost use Rattle.number_format.specs.AffixedTexts.{by_sign, ArePrefixesApart, AreSuffixesApart, ArePairApart, AreNamed};
 
 use crate::text_part::TextPart;
 use decimal_format::{Affixes, DecimalSymbols};
@@ -68,11 +67,11 @@ pub struct SignAffixes {
 }
 
 impl Model for SignAffixes {
-    ghost use Rattle.number_format.specs.AffixedTexts.{AffixTable, affix_table};
+    ghost use Rattle.number_format.specs.AffixedTexts.{AffixTable};
 
     ghost Value = { AffixTable };
 
-    ghost view = { λ s. affix_table s.none s.negative s.positive };
+    ghost view = { λ s. record { none = s.none; negative = s.negative; positive = s.positive } };
 }
 
 fn are_prefixes_apart(symbols: &DecimalSymbols<'_>, first: &str, second: &str) -> bool
@@ -107,9 +106,9 @@ impl SignAffixes {
         negative: Affixes<'_>,
         positive: Affixes<'_>,
     ) -> Result<Self, AllocError>
-        ensures { IfOk result (λ t. t ≡ affix_table (affixes none.entry.prefix.now none.entry.suffix.now)
-            (affixes negative.entry.prefix.now negative.entry.suffix.now)
-            (affixes positive.entry.prefix.now positive.entry.suffix.now)) }
+        ensures none { IfOk result (λ t. t.none ≡ affixes none.entry.prefix.now none.entry.suffix.now) }
+        ensures negative { IfOk result (λ t. t.negative ≡ affixes negative.entry.prefix.now negative.entry.suffix.now) }
+        ensures positive { IfOk result (λ t. t.positive ≡ affixes positive.entry.prefix.now positive.entry.suffix.now) }
     {
         Ok(SignAffixes {
             none: OwnedAffixes::joined(alloc, &[none.prefix], &[none.suffix])?,

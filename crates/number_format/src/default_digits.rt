@@ -28,16 +28,14 @@ impl NumberOptions {
     }
 
     fn shows_all_digits(&self) -> bool
-        ensures { result ≡ shows_all_digits self.now }
+        ensures { result ≡ shows_all_digits self.now.style self.now.notation }
     {
-        matches!(
-            (self.style, self.notation),
-            (NumberStyle::Decimal, NumberNotation::Standard)
-        )
+        let kind = (self.style, self.notation);
+        matches!(kind, (NumberStyle::Decimal, NumberNotation::Standard))
     }
 
     fn increment(&self) -> u16
-        ensures { result ≡ increment self.now }
+        ensures { result ≡ increment self.now.style (is_compact self.now.notation) }
     {
         match self.style {
             NumberStyle::Currency(style) if !self.is_compact() => {

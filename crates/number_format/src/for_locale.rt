@@ -1,7 +1,6 @@
 //! Formatters by locale and options.
 ghost use Rattle.std.specs.Prelude.{◌≡◌, IfOk, IfErr};
-ghost use Rattle.locale_data.specs.Formats.{AreFormatsOf};
-ghost use Rattle.locale_data.specs.Plurals.{HasNoRules};
+ghost use Rattle.locale_data.specs.{Formats.AreFormatsOf, Plurals.HasNoRules};
 ghost use Rattle.number_format.specs.Formatters.{style_sizes, compact_style, compact_unit, exponent_options, currency_sign, with_separators, IsWithoutCurrency, IsStyle, IsNotationBy, AreExponents, IsFormatterIn, IsFormatter, IsFormatterError};
 
 use crate::notation::{CompactExponents, Notation};
@@ -181,8 +180,7 @@ impl NumberFormatter {
             sign_display: options.sign_display,
             sign_texts: None,
         };
-        let texts = formatter.sign_texts();
-        formatter.sign_texts = texts;
+        formatter.sign_texts = formatter.sign_texts();
         Ok(formatter)
     }
 }

@@ -2,15 +2,8 @@
 ghost use Rattle.std.specs.Prelude.{◌≡◌, ◌≢◌, ◌*◌, ◌^◌, ◌≤◌, ◌⊎◌, ℕ, List, [], Option, Some, suc, pos, negsuc, Result, Ok, Err, MatchResult};
 ghost use Rattle.decimal_unsigned.specs.Unsigned.{IsValue};
 ghost use Rattle.fixed_decimal.specs.Decimal.{Decimal, with_sign_display};
-ghost use Rattle.decimal_format.specs.Formatted.{formatted};
-ghost use Rattle.decimal_format.specs.Readable.{IsReadable};
-ghost use Rattle.decimal_format.specs.Symbols.{Symbols, sign_affixes};
-ghost use Rattle.number_format.specs.AffixedTexts.{Reader, AreNamed, text_with, shifted, IsReadExactly};
-ghost use Rattle.number_format.specs.Formatters.{plain_options, IsFormatterIn, IsFormatter};
-ghost use Rattle.number_format.specs.NumberReading.{IsStandard, reader_of, CanRead, IsShownAs};
-ghost use Rattle.number_format.specs.NumberText.{IsNumberText};
-ghost use Rattle.number_format.specs.ShownDigits.{rounded_with, applied, IsFractional, KeepsDigits};
-ghost use Rattle.number_format.specs.Scaled.{KeepsExponent, KeepsValueOf};
+ghost use Rattle.decimal_format.specs.{Formatted.formatted, Readable.IsReadable, Symbols.{Symbols, sign_affixes}};
+ghost use Rattle.number_format.specs.{AffixedTexts.{Reader, AreNamed, text_with, shifted, IsReadExactly}, Formatters.{plain_options, IsFormatterIn, IsFormatter}, NumberReading.{IsStandard, reader_of, CanRead, IsShownAs}, NumberText.IsNumberText, ShownDigits.{rounded_with, applied, IsFractional, KeepsDigits}, Scaled.{KeepsExponent, KeepsValueOf}};
 
 use crate::digit_options::DigitOptions;
 use crate::digit_ranges::FractionDigits;

@@ -1,6 +1,5 @@
 //! The formatter of numbers.
-ghost use Rattle.std.specs.Prelude.{IsSome};
-ghost use Rattle.std.specs.Option.{ForSome};
+ghost use Rattle.std.specs.{Prelude.IsSome, Option.ForSome};
 ghost use Rattle.locale_data.specs.Plurals.{rules_text_at};
 ghost use Rattle.number_format.specs.PatternTexts.{AreSignTexts};
 
@@ -26,11 +25,9 @@ pub enum NumberFormatError {
 /// What is written around a number in compact notation.
 #[derive(Clone, Copy, Debug)]
 pub(crate) enum CompactUnit {
-    /// Nothing.
     Nothing,
     /// The percent sign, as the locale has it for the number.
     Percent,
-    /// The per mille sign.
     Permille,
 }
 

@@ -1,7 +1,6 @@
 //! Readers of what formatters write.
 ghost use Rattle.std.specs.Prelude.{◌≡◌, ◌∷◌, [], ◌++◌, ◌-ℤ◌, pos, length, map, flat_map, IfOk, IfErr, OnOk};
-ghost use Rattle.number_format.specs.AffixedTexts.{IsReadExactly};
-ghost use Rattle.number_format.specs.NumberReading.{affixes_for, affixes_of_formatter, CanRead, CanUndo, CannotRead, is_percent, has_percent, names_by, form, form_of, forms_of_name, number_reader_of, typed_forms, IsReadLeniently, IsReadInMode};
+ghost use Rattle.number_format.specs.{AffixedTexts.IsReadExactly, NumberReading.{affixes_for, affixes_of_formatter, CanRead, CanUndo, CannotRead, is_percent, has_percent, names_by, form, form_of, forms_of_name, number_reader_of, typed_forms, IsReadLeniently, IsReadInMode}};
 
 use crate::affixes::{OwnedAffixes, SignAffixes};
 use crate::compact_texts::NO_UNIT;
@@ -63,8 +62,7 @@ fn push_form(
     ensures { OnOk result (forms.new.items ≡ forms.old.items
         ++ form (flat_map (λ t. t.now) prefix.now) (flat_map (λ t. t.now) suffix.now) sign ∷ []) }
 {
-    let texts = OwnedAffixes::joined(alloc, prefix, suffix)?;
-    forms.push((texts, sign))?;
+    forms.push((OwnedAffixes::joined(alloc, prefix, suffix)?, sign))?;
     Ok(())
 }
 
@@ -150,8 +148,9 @@ impl NumberFormatter {
         ensures { result.0.now ∷ result.1.now ∷ result.2.now ∷ [] ≡ names_by self.now self.now.currency.names }
     {
         let positive = self.pattern.positive;
-        match &self.currency.names {
-            Some(names) => (names.symbol, names.narrow, text_or_nothing(&names.code)),
+        let currency = &self.currency;
+        match &currency.names {
+            Some(names) => (names.symbol, names.narrow, text_or_nothing(&currency.code)),
             None if has_percent(positive.prefix) || has_percent(positive.suffix) => {
                 (self.percent.text, "", "")
             }

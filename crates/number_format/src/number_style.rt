@@ -1,13 +1,13 @@
 //! What a style of numbers writes: its pattern, its percent sign, and its currency.
-ghost use Rattle.std.specs.Prelude.{◌≡◌, ◌≤◌, [], true, false, None, length, map};
-ghost use Rattle.std.specs.Char.{to_ascii_uppercase};
-ghost use Rattle.number_format.specs.NumberStyles.{before, plain_pattern, percent_text, text_or_nothing, currency_text, piece_or, ends_with_currency, begins_with_currency, in_system, IsShownBy, IsShownSymbol, IsSymbolText, IsShownCurrency};
+ghost use Rattle.std.specs.Prelude.{◌≡◌, ◌≤◌, [], false, None, IfSome, length};
+ghost use Rattle.number_format.specs.NumberStyles.{before, plain_pattern, percent_text, text_or_nothing, currency_text, piece_or, ends_with_currency, begins_with_currency, in_system, IsShownBy, IsShownWith, symbol_text, IsShownCurrency};
 
 use crate::number_options::{CurrencyDisplay, CurrencyStyle, NumberStyle};
 use crate::text_part::{PartKind, TextPart};
 use decimal_format::GroupingSizes;
 use locale_data::{
-    Affix, AffixPair, CurrencyCode, Pattern, PercentSign, Piece, SymbolWidth, currency_symbol,
+    Affix, AffixPair, CurrencyCode, CurrencySymbol, Pattern, PercentSign, Piece, SymbolWidth,
+    currency_symbol,
 };
 use std::str;
 
@@ -46,12 +46,11 @@ pub(crate) fn percent_text(style: NumberStyle, sign: PercentSign) -> &'static st
     ensures value { result.now ≡ percent_text style sign }
     ensures short { length result.now ≤ 255 }
 {
-    match (style, sign) {
-        (
-            NumberStyle::Permille,
-            PercentSign::Percent | PercentSign::Enclosed | PercentSign::Tilde,
-        ) => "\u{2030}",
-        (NumberStyle::Permille, _) => "\u{609}",
+    match style {
+        NumberStyle::Permille => match sign {
+            PercentSign::Percent | PercentSign::Enclosed | PercentSign::Tilde => "\u{2030}",
+            _ => "\u{609}",
+        },
         _ => sign.text(),
     }
 }
@@ -61,20 +60,19 @@ pub(crate) fn percent_text(style: NumberStyle, sign: PercentSign) -> &'static st
 pub(crate) struct CurrencyNames {
     pub(crate) symbol: &'static str,
     pub(crate) narrow: &'static str,
-    pub(crate) code: CurrencyCode,
 }
 
-fn symbol_text(tag: &str, code: CurrencyCode, width: SymbolWidth) -> &'static str
-    ensures { IsSymbolText tag.now code width result.now }
+fn symbol_text(symbol: Option<CurrencySymbol>) -> &'static str
+    ensures { result.now ≡ symbol_text symbol }
 {
-    currency_symbol(tag, code, width).map_or("", |symbol| symbol.text)
+    symbol.map_or("", |symbol| symbol.text)
 }
 
 /// A currency as it is shown.
 #[derive(Clone, Copy, Debug)]
 pub(crate) struct ShownCurrency {
     pub(crate) symbol: TextPart<'static>,
-    pub(crate) code: [u8; 3],
+    pub(crate) code: CurrencyCode,
     pub(crate) shows_code: bool,
     pub(crate) space_before: bool,
     pub(crate) space_after: bool,
@@ -118,32 +116,26 @@ impl ShownCurrency {
         }
     }
 
-    fn with_code(self) -> Self
-        ensures shown { IsShownBy (text_or_nothing self.code) true true result }
+    fn with_symbol(self, symbol: Option<CurrencySymbol>) -> Self
+        requires { IfSome symbol (λ s. length s.text.now ≤ 255) }
+        ensures shown { IsShownWith symbol result }
+        ensures code { result.code ≡ self.code }
         ensures names { result.names ≡ self.names }
     {
-        ShownCurrency {
-            shows_code: true,
-            space_before: true,
-            space_after: true,
-            ..self
-        }
-    }
-
-    fn with_symbol(self, tag: &str, code: CurrencyCode, width: SymbolWidth) -> Self
-        requires { self.code ≡ map to_ascii_uppercase code }
-        ensures shown { IsShownSymbol tag.now code width result }
-        ensures names { result.names ≡ self.names }
-    {
-        let Some(symbol) = currency_symbol(tag, code, width) else {
-            return self.with_code();
-        };
-        ShownCurrency {
-            symbol: TextPart::new(PartKind::Currency, symbol.text),
-            shows_code: false,
-            space_before: symbol.space_before,
-            space_after: symbol.space_after,
-            ..self
+        match symbol {
+            Some(symbol) => ShownCurrency {
+                symbol: TextPart::new(PartKind::Currency, symbol.text),
+                shows_code: false,
+                space_before: symbol.space_before,
+                space_after: symbol.space_after,
+                ..self
+            },
+            None => ShownCurrency {
+                shows_code: true,
+                space_before: true,
+                space_after: true,
+                ..self
+            },
         }
     }
 
@@ -161,12 +153,13 @@ impl ShownCurrency {
     pub(crate) fn of(tag: &str, style: &CurrencyStyle) -> Self
         ensures { IsShownCurrency tag.now style.now result }
     {
+        let wide = currency_symbol(tag, style.code, SymbolWidth::Wide);
+        let narrow = currency_symbol(tag, style.code, SymbolWidth::Narrow);
         let mut code = style.code;
         code.make_ascii_uppercase();
         let names = CurrencyNames {
-            symbol: symbol_text(tag, style.code, SymbolWidth::Wide),
-            narrow: symbol_text(tag, style.code, SymbolWidth::Narrow),
-            code,
+            symbol: symbol_text(wide),
+            narrow: symbol_text(narrow),
         };
         let named = ShownCurrency {
             code,
@@ -174,9 +167,9 @@ impl ShownCurrency {
             ..Self::none()
         };
         match style.display {
-            CurrencyDisplay::Symbol => named.with_symbol(tag, style.code, SymbolWidth::Wide),
-            CurrencyDisplay::Narrow => named.with_symbol(tag, style.code, SymbolWidth::Narrow),
-            CurrencyDisplay::Code => named.with_code(),
+            CurrencyDisplay::Symbol => named.with_symbol(wide),
+            CurrencyDisplay::Narrow => named.with_symbol(narrow),
+            CurrencyDisplay::Code => named.with_symbol(None),
             CurrencyDisplay::Hidden => named,
         }
     }
@@ -194,19 +187,13 @@ fn piece_or(piece: Piece, other: Piece) -> Piece
 pub(crate) fn ends_with_currency(affix: Affix) -> bool
     ensures { result ≡ ends_with_currency affix }
 {
-    let last = piece_or(
-        affix.fourth,
-        piece_or(affix.third, piece_or(affix.second, affix.first)),
-    );
-    matches!(last, Piece::Currency)
+    let third = piece_or(affix.third, piece_or(affix.second, affix.first));
+    matches!(piece_or(affix.fourth, third), Piece::Currency)
 }
 
 pub(crate) fn begins_with_currency(affix: Affix) -> bool
     ensures { result ≡ begins_with_currency affix }
 {
-    let first = piece_or(
-        affix.first,
-        piece_or(affix.second, piece_or(affix.third, affix.fourth)),
-    );
-    matches!(first, Piece::Currency)
+    let second = piece_or(affix.second, piece_or(affix.third, affix.fourth));
+    matches!(piece_or(affix.first, second), Piece::Currency)
 }

@@ -1,8 +1,6 @@
 //! The pieces of the text of a number, with their kinds.
 ghost use Rattle.std.specs.Prelude.{◌≡◌, [], ◌∷◌, if◌then◌else◌, List, Option, OnOk};
-ghost use Rattle.number_format.specs.TextParts.{Piece, Puts, pieces_of, parts_pieces, pieces_text, digit_kind, digit_pieces};
-ghost use Rattle.number_format.specs.FormattedNumbers.{formatted_number_pieces, formatted_number_text};
-ghost use Rattle.number_format.specs.NumberText.{exponent_pieces, exponent_of, number_part};
+ghost use Rattle.number_format.specs.{TextParts.{Piece, Puts, pieces_of, parts_pieces, pieces_text, digit_kind, digit_pieces}, FormattedNumbers.{formatted_number_pieces, formatted_number_text}, NumberText.{exponent_pieces, exponent_of, number_part}};
 
 use crate::formatted_number::FormattedNumber;
 use crate::text_part::{PartKind, TextPart};
@@ -85,11 +83,8 @@ impl<'f> FormattedNumber<'f> {
             _ => PartKind::ExponentMinusSign,
         };
         put(sink, kind, sign)?;
-        put_digits(
-            &self.exponent_digits(exponent),
-            PartKind::ExponentInteger,
-            sink,
-        )
+        let digits = self.exponent_digits(exponent);
+        put_digits(&digits, PartKind::ExponentInteger, sink)
     }
 
     fn put_number_if<P: PartSink>(&self, has_number: bool, sink: &mut P) -> Result<(), SinkFault>

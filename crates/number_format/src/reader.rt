@@ -1,8 +1,7 @@
 //! Reading of numbers between affixes.
 ghost use Rattle.std.specs.Prelude.{◌≡◌, ◌≢◌, ℕ, List, ◌++◌, pos, Err, IfOk, MatchOption};
-ghost use Rattle.decimal_format.specs.Readable.{IsReadable};
-ghost use Rattle.decimal_format.specs.Reading.{IsRead};
-ghost use Rattle.number_format.specs.AffixedTexts.{AreNamed, reader, shifted, IsShown, IsShownNumeral, IsBetween, IsReadExactly, IsReadWith, IsReadTyped};
+ghost use Rattle.decimal_format.specs.{Readable.IsReadable, Reading.IsRead};
+ghost use Rattle.number_format.specs.AffixedTexts.{AreNamed, shifted, IsShown, IsShownNumeral, IsBetween, IsReadExactly, IsReadWith, IsReadTyped};
 
 use crate::affixes::SignAffixes;
 use decimal_format::{Alternative, DecimalSymbols};
@@ -40,11 +39,11 @@ pub struct AffixReader<'a> {
 
 impl<'a> Model for AffixReader<'a> {
     ghost use Rattle.decimal_format.specs.Readable.{IsReadable};
-    ghost use Rattle.number_format.specs.AffixedTexts.{Reader, reader, AreNamed};
+    ghost use Rattle.number_format.specs.AffixedTexts.{Reader, AreNamed};
 
     ghost Value = { Reader };
 
-    ghost view = { λ s. reader s.symbols s.affixes s.shift };
+    ghost view = { λ s. record { symbols = s.symbols; affixes = s.affixes; shift = s.shift } };
 
     ghost invariant = { λ s. IsReadable s.symbols × AreNamed s.symbols s.affixes };
 }
@@ -77,7 +76,7 @@ impl<'a> AffixReader<'a> {
     /// - `Symbols`: the symbols are not [readable](DecimalSymbols::is_readable).
     /// - `Affixes`: they are, and the affixes do not [name the sign](SignAffixes::are_apart).
     pub fn new(symbols: DecimalSymbols<'a>, affixes: SignAffixes) -> Result<Self, AffixError>
-        ensures ok { IfOk result (λ r. r ≡ reader symbols.entry affixes (pos 0)) }
+        ensures ok { IfOk result (λ r. r ≡ record { symbols = symbols.entry; affixes = affixes; shift = pos 0 }) }
         ensures readable { IfOk result (λ r. IsReadable symbols.entry × AreNamed symbols.entry affixes) }
         ensures symbols { result ≡ Err AffixError.Symbols → ¬ IsReadable symbols.entry }
         ensures affixes { result ≡ Err AffixError.Affixes

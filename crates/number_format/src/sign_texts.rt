@@ -49,8 +49,7 @@ impl SignTexts {
 }
 
 impl NumberFormatter {
-    ghost use Rattle.number_format.specs.PatternTexts.{AreAffixTexts, AreSignTexts};
-    ghost use Rattle.number_format.specs.NumberText.{style_of, pattern_around};
+    ghost use Rattle.number_format.specs.{PatternTexts.{AreAffixTexts, AreSignTexts}, NumberText.{style_of, pattern_around}};
 
     fn texts_around(&self, sign: Sign) -> Option<AffixTexts>
         ensures { IfSome result (AreAffixTexts (pattern_around self.now sign)) }

@@ -1,5 +1,5 @@
 use Rattle.std.proofs.Common.{subst, sym, ◌∙◌, ap}
-use Rattle.number_format.specs.DefaultDigits.{increment, no_settings}
+use Rattle.number_format.specs.DefaultDigits.{is_compact, increment, no_settings}
 use Rattle.number_format.proofs.DefaultsResolve.{defaults_resolve}
 use Rattle.number_format.specs.Resolved.{IsResolved, resolve_error}
 use Rattle.number_format.proofs.number_options.NumberOptions.default_digits.Goals as goal
@@ -21,7 +21,8 @@ pub returns-in-Err : goal.returns-in-Err
 returns-in-Err c =
     let d = c.defaults-defaults.result in
     let settings = ap no_settings c.increment.ensures in
-    let fails : resolve_error (no_settings (increment c.args.self.now)) d ≡ Some c.in-Err.field-0 =
+    let o = c.args.self.now in
+    let fails : resolve_error (no_settings (increment o.style (is_compact o.notation))) d ≡ Some c.in-Err.field-0 =
     subst (λ s. resolve_error s d ≡ Some c.in-Err.field-0) settings c.in-Err.ensures.error in
-    let none = defaults_resolve c.args.self.now d c.defaults-defaults.ensures in
+    let none = defaults_resolve o d c.defaults-defaults.ensures in
     absurd (cc)

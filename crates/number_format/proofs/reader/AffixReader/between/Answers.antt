@@ -3,7 +3,7 @@ use Rattle.std.specs.Prelude.{IsTrue}
 use Rattle.std.proofs.lemmas.List.{append_cancel_left, append_cancel_right}
 use Rattle.fixed_decimal.specs.declared.variations.Sign.{Sign}
 use Rattle.decimal_format.specs.Readable.{BeginsWithDigit, EndsWithDigit}
-use Rattle.number_format.specs.AffixedTexts.{Reader, reader, by_sign, IsBetween}
+use Rattle.number_format.specs.AffixedTexts.{Reader, by_sign, IsBetween}
 use Rattle.number_format.proofs.reader.AffixReader.between.Goals.{else-begins_with_digit-via-then-begins_with_digit+else-ends_with_digit, else-begins_with_digit-via-else-begins_with_digit}
 use Rattle.number_format.proofs.reader.AffixReader.between.Goals as goal
 
@@ -29,7 +29,8 @@ module _ (r inside : Reader) (text : List ℕ) (sign : Sign) (p q m : List ℕ) 
 
 pub returns : goal.returns
 returns c = λ middle b.
-    let inside = reader c.self.inside.symbols c.self.inside.affixes c.self.inside.shift in
+    let self = c.self.inside in
+    let inside : Reader = record { symbols = self.symbols; affixes = self.affixes; shift = self.shift } in
     let both = digits c.args.self.now inside c.args.text.now c.args.sign _ _ c.in_ok-middle.middle.now (cc)
     (c.as_bytes.ensures.value ∙ c.of_sign-affixes.ensures.prefix)
     (c.as_bytes-2.ensures.value ∙ c.of_sign-affixes.ensures.suffix) c.in_ok-middle.ensures middle b in

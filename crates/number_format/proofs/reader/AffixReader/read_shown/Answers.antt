@@ -1,7 +1,7 @@
 use Rattle.std.proofs.Common.{◌≡◌, Ok, Err, subst}
 use Rattle.decimal_format.specs.Readable.{IsReadable}
 use Rattle.decimal_format.specs.Reading.{IsNumeral, IsWritten, IsRead}
-use Rattle.number_format.specs.AffixedTexts.{Reader, reader, AreNamed}
+use Rattle.number_format.specs.AffixedTexts.{Reader, AreNamed}
 use Rattle.number_format.proofs.AffixedNumbers.{none_between, read_between}
 use Rattle.number_format.proofs.reader.AffixReader.read_shown.Goals as goal
 
@@ -13,7 +13,8 @@ CanRead r = IsReadable r.symbols × AreNamed r.symbols r.affixes
 
 pub returns-in-Ok : goal.returns-in-Ok
 returns-in-Ok g c =
-    let inside = reader c.self.inside.symbols c.self.inside.affixes c.self.inside.shift in
+    let self = c.self.inside in
+    let inside : Reader = record { symbols = self.symbols; affixes = self.affixes; shift = self.shift } in
     let view : inside ≡ c.args.self.now = cc in
     let can : CanRead c.args.self.now = subst CanRead view c.self.invariant in
     let middle = c.in-Some.middle.now in
@@ -25,7 +26,8 @@ returns-in-Ok g c =
 
 pub returns-in-Err : goal.returns-in-Err
 returns-in-Err g c =
-    let inside = reader c.self.inside.symbols c.self.inside.affixes c.self.inside.shift in
+    let self = c.self.inside in
+    let inside : Reader = record { symbols = self.symbols; affixes = self.affixes; shift = self.shift } in
     let view : inside ≡ c.args.self.now = cc in
     let can : CanRead c.args.self.now = subst CanRead view c.self.invariant in
     let middle = c.in-Some.middle.now in
