@@ -1,7 +1,9 @@
 //! Concatenations to more digits than are stored in place.
 use crate::outcome::Outcome;
 use crate::values::read;
-use fixed_decimal::{ByteDecimal, ConcatenateError, ParseError, UnsignedDecimal};
+use fixed_decimal::{
+    ConcatenateError, DigitList, DigitStore, PackedDigits, ParseError, UnsignedOver,
+};
 use std::alloc::Global;
 use test_support::{Join, Joins, Value, shows};
 
@@ -48,7 +50,12 @@ fn joins<T: Value + Joins>(alloc: Global) -> Outcome {
     outcome
 }
 
+/// The outcome of all concatenations over a store.
+fn joins_over<D: DigitStore>(alloc: Global) -> Outcome {
+    joins::<UnsignedOver<D>>(alloc)
+}
+
 /// The outcome of all concatenations.
 pub fn outcome(alloc: Global) -> Outcome {
-    joins::<UnsignedDecimal>(alloc).and(joins::<ByteDecimal>(alloc))
+    joins_over::<PackedDigits>(alloc).and(joins_over::<DigitList>(alloc))
 }

@@ -17,9 +17,9 @@ const TYPED: &str =
 const PLAIN: &str = "-1234567890123456789012345678901234567890123456789012345678901234567890.50";
 
 /// Whether the number was read.
-fn is_read(answer: Result<Decimal, ParseError>) -> bool {
+fn is_read(answer: &Result<Decimal, ParseError>) -> bool {
     match answer {
-        Ok(value) => shows(&value, PLAIN.as_bytes()),
+        Ok(value) => shows(value, PLAIN.as_bytes()),
         Err(_) => false,
     }
 }
@@ -28,10 +28,11 @@ fn is_read(answer: Result<Decimal, ParseError>) -> bool {
 fn reading<F: Fn() -> Result<Decimal, ParseError>>(read: F) -> Outcome
     requires { F.IsAlwaysCallable read }
 {
-    match read() {
-        Err(ParseError::Memory) => Outcome::second(is_read(read())),
-        answer => Outcome::first(is_read(answer)),
+    let answer = read();
+    if let Err(ParseError::Memory) = &answer {
+        return Outcome::second(is_read(&read()));
     }
+    Outcome::first(is_read(&answer))
 }
 
 /// The outcome of both readers.

@@ -43,9 +43,9 @@ const ROWS: &[Row] = &[
 ];
 
 /// Whether a result is a formatted number with this text.
-fn is_formatted(answer: Result<FormattedNumber<'_>, FormatError>, text: &str) -> bool {
+fn is_formatted(answer: &Result<FormattedNumber<'_>, FormatError>, text: &str) -> bool {
     match answer {
-        Ok(formatted) => shows(&formatted, text.as_bytes()),
+        Ok(formatted) => shows(formatted, text.as_bytes()),
         Err(_) => false,
     }
 }
@@ -60,16 +60,17 @@ fn formatting(
     match formatter.format(alloc, value) {
         Err(FormatError { error, value }) => {
             let is_unchanged = error == RoundError::Memory && shows(&value, number.as_bytes());
-            Outcome::second(is_unchanged && is_formatted(formatter.format(alloc, value), text))
+            let again = formatter.format(alloc, value);
+            Outcome::second(is_unchanged && is_formatted(&again, text))
         }
-        formatted => Outcome::first(is_formatted(formatted, text)),
+        formatted => Outcome::first(is_formatted(&formatted, text)),
     }
 }
 
 /// Whether a result is a number with this text.
-fn is_read(answer: Result<Decimal, ParseError>, plain: &str) -> bool {
+fn is_read(answer: &Result<Decimal, ParseError>, plain: &str) -> bool {
     match answer {
-        Ok(value) => shows(&value, plain.as_bytes()),
+        Ok(value) => shows(value, plain.as_bytes()),
         Err(_) => false,
     }
 }
@@ -78,10 +79,11 @@ fn is_read(answer: Result<Decimal, ParseError>, plain: &str) -> bool {
 fn reading<F: Fn() -> Result<Decimal, ParseError>>(read: F, plain: &str) -> Outcome
     requires { F.IsAlwaysCallable read }
 {
-    match read() {
-        Err(ParseError::Memory) => Outcome::second(is_read(read(), plain)),
-        result => Outcome::first(is_read(result, plain)),
+    let answer = read();
+    if let Err(ParseError::Memory) = &answer {
+        return Outcome::second(is_read(&read(), plain));
     }
+    Outcome::first(is_read(&answer, plain))
 }
 
 /// The outcome of both readings of a text.

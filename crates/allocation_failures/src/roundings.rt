@@ -4,7 +4,9 @@ use crate::values::read;
 use fixed_decimal::RoundingIncrement::MultiplesOf25;
 use fixed_decimal::SignedRoundingMode::{self, Unsigned};
 use fixed_decimal::UnsignedRoundingMode::{self, Trunc};
-use fixed_decimal::{ByteDecimal, Decimal, ParseError, RoundError, Signed, UnsignedDecimal};
+use fixed_decimal::{
+    DigitList, DigitStore, PackedDigits, ParseError, RoundError, Signed, UnsignedOver,
+};
 use std::alloc::Global;
 use test_support::{RoundingMethod, Rounds, Value, rounded, rounding_methods, shows};
 
@@ -17,14 +19,21 @@ const ABSOLUTE: &[Row] = &[
     ("1111111111111111111118", "1111111111111111111117.5"),
 ];
 
-const NEGATIVE: &[Row] = &[("-1234567812345678", "-1234567812345677.5")];
+const SIGNED: &[Row] = &[
+    ("-1234567812345678", "-1234567812345677.5"),
+    ("12345678123456789013", "12345678123456789012.5"),
+    ("-1111111111111111111118", "-1111111111111111111117.5"),
+];
 
 /// The outcome of a rounding that failed: the value has to be unchanged, and it is rounded again.
-fn round_again<M: Copy, T: Value + Rounds<M>>(value: T, (text, wanted): Row, mode: M) -> Outcome {
-    let mut value = value;
-    let is_unchanged = shows(&value, text.as_bytes());
+fn round_again<M: Copy, T: Value + Rounds<M>>(
+    value: &mut T,
+    (text, wanted): Row,
+    mode: M,
+) -> Outcome {
+    let is_unchanged = shows(value, text.as_bytes());
     let result = value.round_by(RoundingMethod::ByIncrement, (-1, mode, MultiplesOf25));
-    Outcome::second(is_unchanged && result.is_ok() && shows(&value, wanted.as_bytes()))
+    Outcome::second(is_unchanged && result.is_ok() && shows(value, wanted.as_bytes()))
 }
 
 /// The outcome of a rounding by a call, with that of reading the number.
@@ -37,7 +46,7 @@ fn round<M: Copy, T: Value + Rounds<M>>(
     let of_rounding = match rounded(value, call, (-1, mode, MultiplesOf25)) {
         Ok(value) => Outcome::first(shows(&value, row.1.as_bytes())),
         Err((_, RoundError::Limit)) => Outcome::Wrong,
-        Err((value, RoundError::Memory)) => round_again(value, row, mode),
+        Err((mut value, RoundError::Memory)) => round_again(&mut value, row, mode),
     };
     Ok(of_read.and(of_rounding))
 }
@@ -54,12 +63,20 @@ fn roundings<M: Copy, T: Value + Rounds<M>>(alloc: Global, rows: &[Row], mode: M
     outcome
 }
 
+/// The outcome of the roundings of unsigned values over a store.
+fn of_unsigned<D: DigitStore>(alloc: Global) -> Outcome {
+    roundings::<UnsignedRoundingMode, UnsignedOver<D>>(alloc, ABSOLUTE, Trunc)
+}
+
+/// The outcome of the roundings of values with a sign over a store.
+fn of_signed<D: DigitStore>(alloc: Global) -> Outcome {
+    roundings::<SignedRoundingMode, Signed<UnsignedOver<D>>>(alloc, SIGNED, Unsigned(Trunc))
+}
+
 /// The outcome of all roundings.
 pub fn outcome(alloc: Global) -> Outcome {
-    let mode = Unsigned(Trunc);
-    roundings::<UnsignedRoundingMode, UnsignedDecimal>(alloc, ABSOLUTE, Trunc)
-        .and(roundings::<UnsignedRoundingMode, ByteDecimal>(alloc, ABSOLUTE, Trunc))
-        .and(roundings::<SignedRoundingMode, Decimal>(alloc, ABSOLUTE, mode))
-        .and(roundings::<SignedRoundingMode, Decimal>(alloc, NEGATIVE, mode))
-        .and(roundings::<SignedRoundingMode, Signed<ByteDecimal>>(alloc, ABSOLUTE, mode))
+    of_unsigned::<PackedDigits>(alloc)
+        .and(of_unsigned::<DigitList>(alloc))
+        .and(of_signed::<PackedDigits>(alloc))
+        .and(of_signed::<DigitList>(alloc))
 }

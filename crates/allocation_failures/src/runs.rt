@@ -32,15 +32,11 @@ const RUNS: &[Run] = &[
 
 /// Whether a run was out of memory.
 fn is_out_of_memory(error: &RunError) -> bool {
-    matches!(
-        error,
-        RunError::Start(ParseError::Memory)
-            | RunError::Operand {
-                at: _,
-                fault: ParseError::Memory
-            }
-            | RunError::Memory { at: _ }
-    )
+    match error {
+        RunError::Start(fault) | RunError::Operand { at: _, fault } => *fault == ParseError::Memory,
+        RunError::Memory { at: _ } => true,
+        _ => false,
+    }
 }
 
 /// Whether a run writes its text.

@@ -8,10 +8,10 @@ use std::alloc::{AllocError, Global};
 use test_support::{Value, shows};
 
 /// Whether a value was made and has a text.
-fn is_made<T: Value>(made: Result<T, AllocError>, text: &str) -> bool {
+fn is_made<T: Value>(made: &Result<T, AllocError>, text: &str) -> bool {
     match made {
-        Ok(value) => shows(&value, text.as_bytes()),
-        Err(AllocError) => false,
+        Ok(value) => shows(value, text.as_bytes()),
+        Err(_) => false,
     }
 }
 
@@ -19,10 +19,11 @@ fn is_made<T: Value>(made: Result<T, AllocError>, text: &str) -> bool {
 fn making<T: Value, F: Fn() -> Result<T, AllocError>>(make: F, text: &str) -> Outcome
     requires { F.IsAlwaysCallable make }
 {
-    match make() {
-        Err(AllocError) => Outcome::second(is_made(make(), text)),
-        made => Outcome::first(is_made(made, text)),
+    let made = make();
+    if made.is_err() {
+        return Outcome::second(is_made(&make(), text));
     }
+    Outcome::first(is_made(&made, text))
 }
 
 /// Parses a text, again if an allocation failed, and returns the value and the outcome.
@@ -43,45 +44,91 @@ fn reading<T: Value>(alloc: Global, text: &str) -> Outcome {
     }
 }
 
+/// An integer, by its type.
+#[derive(Clone, Copy)]
+enum Integer {
+    U32(u32),
+    U64(u64),
+    Usize(usize),
+    U128(u128),
+}
+
+/// The widest integers, and the texts of their values.
+const INTEGERS: &[(Integer, &str)] = &[
+    (Integer::U32(u32::MAX), "4294967295"),
+    (Integer::U64(u64::MAX), "18446744073709551615"),
+    (Integer::Usize(usize::MAX), "18446744073709551615"),
+    (
+        Integer::U128(u128::MAX),
+        "340282366920938463463374607431768211455",
+    ),
+];
+
+/// Makes the value of an integer.
+fn value_of<D: DigitStore>(alloc: Global, integer: Integer) -> Result<UnsignedOver<D>, AllocError> {
+    match integer {
+        Integer::U32(integer) => UnsignedOver::<D>::try_from_u32(alloc, integer),
+        Integer::U64(integer) => UnsignedOver::<D>::try_from_u64(alloc, integer),
+        Integer::Usize(integer) => UnsignedOver::<D>::try_from_usize(alloc, integer),
+        Integer::U128(integer) => UnsignedOver::<D>::try_from_u128(alloc, integer),
+    }
+}
+
 /// The outcome of the widest integers over a store.
 fn integers<D: DigitStore>(alloc: Global) -> Outcome {
-    making(
-        || UnsignedOver::<D>::try_from_u32(alloc, u32::MAX),
-        "4294967295",
-    )
-    .and(making(
-        || UnsignedOver::<D>::try_from_u64(alloc, u64::MAX),
-        "18446744073709551615",
-    ))
-    .and(making(
-        || UnsignedOver::<D>::try_from_usize(alloc, usize::MAX),
-        "18446744073709551615",
-    ))
-    .and(making(
-        || UnsignedOver::<D>::try_from_u128(alloc, u128::MAX),
+    let mut outcome = Outcome::Done;
+    for (integer, text) in INTEGERS {
+        outcome = outcome.and(making(|| value_of::<D>(alloc, *integer), text));
+    }
+    outcome
+}
+
+/// The outcome of the widest integers with a sign, and of fixed integers.
+fn signed_integers(alloc: Global) -> Outcome {
+    let decimal = making(
+        || Decimal::try_from_i128(alloc, i128::MIN),
+        "-170141183460469231731687303715884105728",
+    );
+    let integer = making(
+        || FixedInteger::try_from_u128(alloc, u128::MAX),
         "340282366920938463463374607431768211455",
-    ))
+    );
+    decimal.and(integer)
+}
+
+/// The outcome of some texts of a type.
+fn readings<T: Value>(alloc: Global, texts: &[&str]) -> Outcome {
+    let mut outcome = Outcome::Done;
+    for text in texts {
+        outcome = outcome.and(reading::<T>(alloc, text));
+    }
+    outcome
+}
+
+/// Texts of unsigned values.
+const UNSIGNED: &[&str] = &["00123456789012345678.90", "1111111111111111111118"];
+
+/// Texts of scientific decimals: either part, or both, have more digits than are stored in place.
+const SCIENTIFIC: &[&str] = &[
+    "12345678901234567890e-12345678901234567891",
+    "1e12345678901234567890",
+    "12345678901234567890e1",
+];
+
+/// The outcome of texts of each type.
+fn texts(alloc: Global) -> Outcome {
+    readings::<UnsignedDecimal>(alloc, UNSIGNED)
+        .and(readings::<ByteDecimal>(alloc, UNSIGNED))
+        .and(readings::<Decimal>(alloc, &["-123456789012345678.90"]))
+        .and(readings::<FixedInteger>(alloc, &["-0012345678901234567890"]))
+        .and(readings::<CompactDecimal>(alloc, &["+12345678901234567890.5c12"]))
+        .and(readings::<ScientificDecimal>(alloc, SCIENTIFIC))
 }
 
 /// The outcome of all values.
 pub fn outcome(alloc: Global) -> Outcome {
-    reading::<UnsignedDecimal>(alloc, "00123456789012345678.90")
-        .and(reading::<UnsignedDecimal>(alloc, "1111111111111111111118"))
-        .and(reading::<ByteDecimal>(alloc, "1111111111111111111118"))
-        .and(reading::<Decimal>(alloc, "-123456789012345678.90"))
-        .and(reading::<FixedInteger>(alloc, "-0012345678901234567890"))
-        .and(reading::<CompactDecimal>(alloc, "+12345678901234567890.5c12"))
-        .and(reading::<ScientificDecimal>(alloc, "12345678901234567890e-12345678901234567891"))
-        .and(reading::<ScientificDecimal>(alloc, "1e12345678901234567890"))
-        .and(reading::<ScientificDecimal>(alloc, "12345678901234567890e1"))
+    texts(alloc)
         .and(integers::<PackedDigits>(alloc))
         .and(integers::<DigitList>(alloc))
-        .and(making(
-            || Decimal::try_from_i128(alloc, i128::MIN),
-            "-170141183460469231731687303715884105728",
-        ))
-        .and(making(
-            || FixedInteger::try_from_u128(alloc, u128::MAX),
-            "340282366920938463463374607431768211455",
-        ))
+        .and(signed_integers(alloc))
 }

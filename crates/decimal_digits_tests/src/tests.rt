@@ -31,14 +31,18 @@ fn append_text<D: DigitStore>(
     zeros: usize,
     text: &[u8],
 ) -> Result<(), AllocError> {
-    let other = list_of::<D>(alloc, text)?;
-    list.append(zeros, &other)
+    match &list_of::<D>(alloc, text) {
+        Ok(other) => list.append(zeros, other),
+        Err(_) => Err(AllocError),
+    }
 }
 
 /// Whether a list equals the list of a text's digits, which was never changed.
-fn equals_text<D: DigitStore>(list: &D, alloc: Global, text: &[u8]) -> Result<bool, AllocError> {
-    let other = list_of::<D>(alloc, text)?;
-    Ok(list.eq(&other))
+fn equals_text<D: DigitStore>(list: &D, alloc: Global, text: &[u8]) -> bool {
+    match &list_of::<D>(alloc, text) {
+        Ok(other) => list.eq(other),
+        Err(_) => false,
+    }
 }
 
 /// Whether a list has the digits of a text, index by index.

@@ -1,4 +1,4 @@
-//! Reading of texts that no row of `format_vectors` has.
+//! Reading of texts that no row of `number_vectors` has.
 use decimal_format::{DecimalFormatter, DecimalSymbols, GroupingStrategy};
 use fixed_decimal::{PackedDigits, ParseError, TextBuf, Writeable};
 use locale_data::locale;

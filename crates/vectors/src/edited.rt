@@ -3,7 +3,7 @@ use crate::calls::step;
 use crate::runs;
 use decimal_digits::digits::{DigitList, DigitStore, PackedDigits};
 use decimal_digits::rounding::RoundError;
-use decimal_digits::rounding::RoundingIncrement::{MultiplesOf1, MultiplesOf25};
+use decimal_digits::rounding::RoundingIncrement::{self, MultiplesOf1, MultiplesOf25};
 use decimal_unsigned::ConcatenateError;
 use decimal_unsigned::decimal::UnsignedOver;
 use fixed_decimal::{Call, Signed, SignedRoundingMode};
@@ -222,40 +222,109 @@ fn leaves<T: Value + Edited>(alloc: Global, start: &str, words: &str, wanted: &s
     true
 }
 
-/// Whether a call on a list of `length` digits stays within its bounds: an edit accesses no digit and does not
-/// allocate; a rounding accesses at most `length` + 7 digits, those counted that it leaves, and allocates by 25 only.
-fn is_within<S: CountingStore>(store: &S, call: Call<'_>, length: usize, is_made: bool) -> bool {
-    match call {
-        Call::Round(_, _, increment) => {
-            let left = if is_made { store.len() } else { 0 };
-            let requests = if increment == MultiplesOf25 { 1 } else { 0 };
-            match store.accessed() {
-                Some(accessed) => {
-                    accessed.saturating_add(left) <= length.saturating_add(7)
-                        && store.allocations() <= requests
-                }
-                None => false,
-            }
+/// Whether a rounding of a list of `length` digits stays within its bounds: it accesses at most `length` + 7 digits,
+/// those counted that it leaves, or exactly as many as the row says, and allocates by 25 only.
+fn rounds_within<S: CountingStore>(
+    store: &S,
+    increment: RoundingIncrement,
+    (length, exact): (usize, Option<usize>),
+    is_made: bool,
+) -> bool {
+    let left = if is_made { store.len() } else { 0 };
+    let requests = if increment == MultiplesOf25 { 1 } else { 0 };
+    match store.accessed() {
+        Some(accessed) => {
+            accessed == exact.unwrap_or(accessed)
+                && accessed.saturating_add(left) <= length.saturating_add(7)
+                && store.allocations() <= requests
         }
-        Call::Concatenate(_) => true,
+        None => false,
+    }
+}
+
+/// Whether a concatenation to a list of `length` digits stays within its bounds: to 0 it moves the other list, which
+/// was made by one call that may allocate; where it adds no digit, or is rejected, it does not allocate.
+fn joins_within<S: CountingStore>(store: &S, length: usize, is_made: bool) -> bool {
+    if is_made && length == 0 {
+        return store.accessed().is_none() && store.allocations() <= 1;
+    }
+    (is_made && store.len() > length) || store.has_not_allocated()
+}
+
+/// Whether a call on a list of a number of digits stays within its bounds: an edit does not allocate.
+fn is_within<S: CountingStore>(
+    store: &S,
+    call: Call<'_>,
+    counts: (usize, Option<usize>),
+    is_made: bool,
+) -> bool {
+    match call {
+        Call::Round(_, _, increment) => rounds_within(store, increment, counts, is_made),
+        Call::Concatenate(_) => joins_within(store, counts.0, is_made),
         _ => store.has_not_allocated(),
     }
 }
 
+/// Whether two values are equal, unless the comparison makes a call that may allocate.
+fn equals_in_place<T: Value + Counts>(left: &T, right: &T) -> Option<bool> {
+    left.counted().restart();
+    right.counted().restart();
+    let is_equal = left.equals(right);
+    if left.counted().has_not_allocated() && right.counted().has_not_allocated() {
+        Some(is_equal)
+    } else {
+        None
+    }
+}
+
+/// The number of digits for which a call gets memory: none, if it is rejected or must not allocate.
+fn memory_of(call: Call<'_>, is_rejected: bool, count: &str) -> usize {
+    match call {
+        Call::Round(_, _, MultiplesOf25) | Call::Concatenate(_)
+            if !is_rejected && count != "in place" => usize::MAX,
+        _ => 0,
+    }
+}
+
+/// Whether a call on a value stays within its bounds in a way, and comparisons with its copies do not allocate.
+fn call_stays_within<T: Value + Edited + Counts>(
+    alloc: Global,
+    value: &T,
+    method: RoundingMethod,
+    (call, memory, exact): (Call<'_>, usize, Option<usize>),
+) -> bool {
+    let Ok(copy) = value.copy() else {
+        return false;
+    };
+    if equals_in_place(&copy, value) != Some(true) {
+        return false;
+    }
+    let length = copy.counted().len();
+    copy.counted().bound(memory);
+    copy.counted().restart();
+    match copy.called(alloc, method, call) {
+        Some((left, is_made)) => {
+            is_within(left.counted(), call, (length, exact), is_made)
+                && equals_in_place(&left, value).is_some()
+        }
+        None => false,
+    }
+}
+
 /// Whether a call that is the only one of a row stays within its bounds in each way.
-fn stays_within<T: Value + Edited + Counts>(alloc: Global, start: &str, words: &str) -> bool {
-    let (Some((call, _)), Ok(value)) = (step(words), T::read(alloc, start)) else {
+fn stays_within<T: Value + Edited + Counts>(
+    alloc: Global,
+    start: &str,
+    words: &str,
+    (wanted, count): (&str, &str),
+) -> bool {
+    let (Some((call, is_rejected)), Ok(value)) = (step(words), T::read(alloc, start)) else {
         return words.contains(',');
     };
+    let memory = memory_of(call, is_rejected || wanted == "!", count);
     for method in methods_of(words) {
-        let Ok(copy) = value.copy() else {
+        if !call_stays_within(alloc, &value, *method, (call, memory, count.parse().ok())) {
             return false;
-        };
-        let length = copy.counted().len();
-        copy.counted().restart();
-        match copy.called(alloc, *method, call) {
-            Some((left, is_made)) if is_within(left.counted(), call, length, is_made) => {}
-            _ => return false,
         }
     }
     true
@@ -272,13 +341,23 @@ fn signed_leaves<D: DigitStore>(alloc: Global, start: &str, words: &str, wanted:
 }
 
 /// Whether a call that is the only one of a row stays within its bounds on an unsigned value.
-fn unsigned_stays<S: CountingStore>(alloc: Global, start: &str, words: &str) -> bool {
-    stays_within::<UnsignedOver<S>>(alloc, start, words)
+fn unsigned_stays<S: CountingStore>(
+    alloc: Global,
+    start: &str,
+    words: &str,
+    expected: (&str, &str),
+) -> bool {
+    stays_within::<UnsignedOver<S>>(alloc, start, words, expected)
 }
 
 /// Whether a call that is the only one of a row stays within its bounds on a value with a sign.
-fn signed_stays<S: CountingStore>(alloc: Global, start: &str, words: &str) -> bool {
-    stays_within::<Signed<UnsignedOver<S>>>(alloc, start, words)
+fn signed_stays<S: CountingStore>(
+    alloc: Global,
+    start: &str,
+    words: &str,
+    expected: (&str, &str),
+) -> bool {
+    stays_within::<Signed<UnsignedOver<S>>>(alloc, start, words, expected)
 }
 
 /// Whether a text has a sign.
@@ -304,25 +383,25 @@ fn needs_sign(start: &str, words: &str) -> bool {
 pub type Counting<D> = LimitedStore<D, MaxDigits>;
 
 /// Whether an unsigned value has a text after calls, over each store.
-fn holds_unsigned(alloc: Global, start: &str, words: &str, wanted: &str) -> bool {
-    unsigned_leaves::<DigitList>(alloc, start, words, wanted)
-        && unsigned_leaves::<PackedDigits>(alloc, start, words, wanted)
-        && unsigned_stays::<Counting<DigitList>>(alloc, start, words)
-        && unsigned_stays::<Counting<PackedDigits>>(alloc, start, words)
+fn holds_unsigned(alloc: Global, start: &str, words: &str, expected: (&str, &str)) -> bool {
+    unsigned_leaves::<DigitList>(alloc, start, words, expected.0)
+        && unsigned_leaves::<PackedDigits>(alloc, start, words, expected.0)
+        && unsigned_stays::<Counting<DigitList>>(alloc, start, words, expected)
+        && unsigned_stays::<Counting<PackedDigits>>(alloc, start, words, expected)
 }
 
 /// Whether a value with a sign has a text after calls, over each store.
-fn holds_signed(alloc: Global, start: &str, words: &str, wanted: &str) -> bool {
-    signed_leaves::<DigitList>(alloc, start, words, wanted)
-        && signed_leaves::<PackedDigits>(alloc, start, words, wanted)
-        && signed_stays::<Counting<DigitList>>(alloc, start, words)
-        && signed_stays::<Counting<PackedDigits>>(alloc, start, words)
+fn holds_signed(alloc: Global, start: &str, words: &str, expected: (&str, &str)) -> bool {
+    signed_leaves::<DigitList>(alloc, start, words, expected.0)
+        && signed_leaves::<PackedDigits>(alloc, start, words, expected.0)
+        && signed_stays::<Counting<DigitList>>(alloc, start, words, expected)
+        && signed_stays::<Counting<PackedDigits>>(alloc, start, words, expected)
 }
 
 /// Whether a value has a text after calls over each store, in each way and in a run; `!` if each of them is rejected.
-pub fn holds(alloc: Global, start: &str, words: &str, wanted: &str) -> bool {
+pub fn holds(alloc: Global, start: &str, words: &str, (wanted, count): (&str, &str)) -> bool {
     let is_rejected = words.contains('!') || wanted == "!";
-    holds_signed(alloc, start, words, wanted)
-        && (needs_sign(start, words) || holds_unsigned(alloc, start, words, wanted))
+    holds_signed(alloc, start, words, (wanted, count))
+        && (needs_sign(start, words) || holds_unsigned(alloc, start, words, (wanted, count)))
         && (is_rejected || runs::has_outcome(alloc, start, words, wanted))
 }

@@ -12,9 +12,11 @@
 //! integer | TEXT | RESULT
 //! compact | TEXT | RESULT [| PARTS]         PARTS: the significand and the exponent.
 //! scientific | TEXT | RESULT [| PARTS]
-//! decimal | TEXT | CALLS | RESULT           The calls, in place and by value. `!` after a call: it is rejected
-//!                                           and changes nothing. RESULT `!`: so is each of them.
+//! decimal | TEXT | CALLS | RESULT [| COUNT] The calls, in place and by value. `!` after a call: it is rejected
+//!                                           and changes nothing. RESULT `!`: so is each of them. COUNT: the
+//!                                           number of digits accessed, or `in place` if it allocates nothing.
 //! run | TEXT | CALLS | RESULT               RESULT: a text, or an error, as `start: syntax`, `call 0: overlap`.
+//! run 16 | TEXT | CALLS | RESULT            With memory for 16 digits: 8, 16, 17, 18, 19 or 21.
 //! order | TEXT | TEXT | ORDER               ORDER: `<`, `=` or `>`.
 //! pair KIND | TEXT | TEXT | EQUALITY        EQUALITY: `equal`, `trimmed` (after both trims) or `different`.
 //! integers | TEXT | U64 I64 U128 I128       Each an integer, `range` or `whole`, by the error.
@@ -24,10 +26,11 @@
 //!
 //! Rows of `decimal`, `order`, `pair decimal` and `integers` are checked on values with a sign, and where their texts
 //! have none on values without one too. Roundings are made by each call that makes them, and the digits that a single
-//! call accesses are counted. The calls are those of `fixdec`, separated by commas. A field with a `*` is written in
-//! parts, separated by spaces: `9*3 .5` is `999.5`. A line with `*n` is a row for each length up to 200, and for each
-//! hundredth up to 5,000; one with the mode `each` is a row for each mode, with a result for each. A row whose kind
-//! begins with `not`, as `not run`, has a wrong result, and holds where the check rejects it.
+//! call accesses are counted; one that is rejected or does not allocate gets no memory. The calls are those of
+//! `fixdec`, separated by commas. A field with a `*` is written in parts, separated by spaces: `9*3 .5` is `999.5`. A
+//! line with `*n` is a row for each length up to 200, and for each hundredth up to 5,000; one with the mode `each` is a
+//! row for each mode, with a result for each. A row whose kind begins with `not`, as `not run`, has a wrong result, and
+//! holds where the check rejects it.
 #![tactic(auto)]
 
 mod calls;

@@ -9,7 +9,7 @@ use fixed_decimal::{
 use std::alloc::Global;
 use std::convert::TryFrom;
 use std::fmt::Display;
-use test_support::{Value, displays, has_text, named, parse_outcome};
+use test_support::{EightDigits, LimitedStore, Value, displays, has_text, named, parse_outcome};
 
 /// Whether a value has a text, also for `{}`.
 fn is_shown<T: Value + Display>(value: &T, text: &str) -> bool {
@@ -49,14 +49,31 @@ fn magnitudes<D: DigitStore>(alloc: Global, value: &UnsignedOver<D>) -> Option<S
     format!(in alloc; "{high} {first} {last} {low}{zero}").ok()
 }
 
+/// Whether the iterator over the shown digits returns those of a text, which it counts.
+fn shows_digits<D: DigitStore>(value: &UnsignedOver<D>, text: &str) -> bool {
+    let mut shown = value.digits();
+    let count = text.len().saturating_sub(usize::from(text.contains('.')));
+    if shown.size_hint() != (count, Some(count)) {
+        return false;
+    }
+    for ascii in text.as_bytes() {
+        if *ascii != b'.' && shown.next() != ascii.checked_sub(b'0') {
+            return false;
+        }
+    }
+    shown.next().is_none()
+}
+
 /// Whether the value of a text has magnitudes, and the lowest is also that of the text.
-fn has_magnitudes<D: DigitStore>(alloc: Global, text: &str, wanted: &str) -> bool {
+fn has_magnitudes<D: DigitStore>(alloc: Global, text: &str, (shown, wanted): (&str, &str)) -> bool {
     let Ok(value) = UnsignedOver::<D>::try_from_str(alloc, text) else {
         return false;
     };
     match magnitudes(alloc, &value) {
         Some(found) => {
-            found.as_str() == wanted && lowest_of(text.as_bytes()) == Ok(value.lowest())
+            found.as_str() == wanted
+                && lowest_of(text.as_bytes()) == Ok(value.lowest())
+                && shows_digits(&value, shown)
         }
         None => false,
     }
@@ -65,7 +82,15 @@ fn has_magnitudes<D: DigitStore>(alloc: Global, text: &str, wanted: &str) -> boo
 /// Whether an unsigned value is parsed over a store, as a row says.
 fn reads_unsigned<D: DigitStore>(alloc: Global, text: &str, (wanted, facts): (&str, &str)) -> bool {
     reads_as::<UnsignedOver<D>>(alloc, text, wanted)
-        && (facts.is_empty() || has_magnitudes::<D>(alloc, text, facts))
+        && (facts.is_empty() || has_magnitudes::<D>(alloc, text, (wanted, facts)))
+}
+
+/// Whether a store that is out of memory for more than eight digits rejects a text with the same error.
+fn rejects_without_memory<D: DigitStore>(alloc: Global, text: &str, wanted: &str) -> bool {
+    let outcome = parse_outcome(UnsignedOver::<LimitedStore<D, EightDigits>>::try_from_str(
+        alloc, text,
+    ));
+    outcome == wanted || wanted != "syntax" && wanted != "limit"
 }
 
 /// Whether the lowest magnitude of a text is found, or fails with the word for the text.
@@ -157,6 +182,8 @@ pub fn reads(alloc: Global, kind: Kind, text: &str, (wanted, facts): (&str, &str
         Kind::Unsigned => {
             reads_unsigned::<DigitList>(alloc, text, row)
                 && reads_unsigned::<PackedDigits>(alloc, text, row)
+                && rejects_without_memory::<DigitList>(alloc, text, wanted)
+                && rejects_without_memory::<PackedDigits>(alloc, text, wanted)
                 && finds_lowest(text, wanted)
         }
         Kind::Signed => {

@@ -13,6 +13,7 @@ pub enum Kind {
     Compact,
     Decimal,
     Run,
+    LimitedRun(usize),
     Order,
     DecimalPair,
     IntegerPair,
@@ -31,6 +32,12 @@ const KINDS: &[(&str, Kind)] = &[
     ("compact", Kind::Compact),
     ("decimal", Kind::Decimal),
     ("run", Kind::Run),
+    ("run 8", Kind::LimitedRun(8)),
+    ("run 16", Kind::LimitedRun(16)),
+    ("run 17", Kind::LimitedRun(17)),
+    ("run 18", Kind::LimitedRun(18)),
+    ("run 19", Kind::LimitedRun(19)),
+    ("run 21", Kind::LimitedRun(21)),
     ("order", Kind::Order),
     ("pair decimal", Kind::DecimalPair),
     ("pair integer", Kind::IntegerPair),
@@ -62,10 +69,16 @@ fn split(row: &str) -> Option<Row<'_>> {
 }
 
 /// Whether the fields of a row of a kind are as they have to be.
-fn holds_by_kind(alloc: Global, kind: Kind, (first, second, third): (&str, &str, &str)) -> bool {
+fn holds_by_kind(
+    alloc: Global,
+    kind: Kind,
+    (first, second, third): (&str, &str, &str),
+    count: &str,
+) -> bool {
     match kind {
-        Kind::Decimal => edited::holds(alloc, first, second, third),
+        Kind::Decimal => edited::holds(alloc, first, second, (third, count)),
         Kind::Run => runs::has_outcome(alloc, first, second, third),
+        Kind::LimitedRun(most) => runs::has_limited_outcome(alloc, most, (first, second), third),
         Kind::Order => comparing::are_ordered(alloc, (first, second), third),
         Kind::DecimalPair | Kind::IntegerPair | Kind::ScientificPair | Kind::CompactPair => {
             comparing::is_pair(alloc, kind, (first, second), third)
@@ -79,6 +92,10 @@ fn holds_by_kind(alloc: Global, kind: Kind, (first, second, third): (&str, &str,
 
 /// Whether a row of a kind holds. It does not if out of memory.
 fn holds_as(alloc: Global, kind: Kind, (first, second, third): (&str, &str, &str)) -> bool {
+    let (third, count) = match kind {
+        Kind::Decimal => third.split_once(" | ").unwrap_or((third, "")),
+        _ => (third, ""),
+    };
     match (
         text_of(alloc, first),
         text_of(alloc, second),
@@ -86,7 +103,7 @@ fn holds_as(alloc: Global, kind: Kind, (first, second, third): (&str, &str, &str
     ) {
         (Ok(first), Ok(second), Ok(third)) => {
             let fields = (first.as_str(), second.as_str(), third.as_str());
-            holds_by_kind(alloc, kind, fields)
+            holds_by_kind(alloc, kind, fields, count)
         }
         _ => false,
     }

@@ -5,7 +5,10 @@ use fixed_decimal::{
     Call, DigitList, DigitStore, PackedDigits, ParseError, RunError, Sink, TextBuf, run, run_over,
 };
 use std::alloc::{AllocError, Global};
-use test_support::LimitedSink;
+use test_support::{
+    EightDigits, EighteenDigits, LimitedSink, LimitedStore, NineteenDigits, SeventeenDigits,
+    SixteenDigits, TwentyOneDigits,
+};
 
 /// Returns the word of an error of a text.
 fn parse_word(error: &ParseError) -> &'static str {
@@ -51,6 +54,41 @@ fn has_outcome_over<D: DigitStore>(
     match run_over::<D, LimitedSink<'_>>(alloc, start.as_bytes(), calls, &mut sink) {
         Ok(()) => sink.has_all(),
         Err(error) => sink.has_taken(0) && !sink.failed() && is_error(alloc, &error, wanted),
+    }
+}
+
+/// The same over a store that is out of memory for more than `most` digits.
+fn has_outcome_within<D: DigitStore>(
+    alloc: Global,
+    most: usize,
+    (start, calls): (&str, &[Call<'_>]),
+    wanted: &str,
+) -> bool {
+    match most {
+        8 => has_outcome_over::<LimitedStore<D, EightDigits>>(alloc, start, calls, wanted),
+        16 => has_outcome_over::<LimitedStore<D, SixteenDigits>>(alloc, start, calls, wanted),
+        17 => has_outcome_over::<LimitedStore<D, SeventeenDigits>>(alloc, start, calls, wanted),
+        18 => has_outcome_over::<LimitedStore<D, EighteenDigits>>(alloc, start, calls, wanted),
+        19 => has_outcome_over::<LimitedStore<D, NineteenDigits>>(alloc, start, calls, wanted),
+        21 => has_outcome_over::<LimitedStore<D, TwentyOneDigits>>(alloc, start, calls, wanted),
+        _ => false,
+    }
+}
+
+/// The same over each store; with eight digits over that which has no more in place.
+pub fn has_limited_outcome(
+    alloc: Global,
+    most: usize,
+    (start, words): (&str, &str),
+    wanted: &str,
+) -> bool {
+    match calls(alloc, words) {
+        Some(calls) => {
+            let run = (start, calls.as_slice());
+            has_outcome_within::<DigitList>(alloc, most, run, wanted)
+                && (most == 8 || has_outcome_within::<PackedDigits>(alloc, most, run, wanted))
+        }
+        None => false,
     }
 }
 

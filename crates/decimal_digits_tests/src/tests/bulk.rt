@@ -25,69 +25,78 @@ fn is_number(text: &[u8]) -> bool
     true
 }
 
-/// Whether pushing the rest of a text onto the list of its first digits makes the list of all of them.
-fn pushes<D: DigitStore>(alloc: Global, all: &[u8], held: usize) -> Result<bool, AllocError> {
-    let (front, rest) = all.split_at(held.min(all.len()));
-    let mut list: D = list_of(alloc, front)?;
-    list.reserve(rest.len())?;
-    if is_number(rest) {
-        list.push_text(rest);
+/// Whether the digits of a text were pushed onto a list.
+fn push<D: DigitStore>(list: &mut D, text: &[u8]) -> bool {
+    if list.reserve(text.len()).is_err() || !is_number(text) {
+        return false;
     }
-    Ok(has_digits(&list, all))
+    list.push_text(text);
+    true
+}
+
+/// Whether pushing the rest of a text onto the list of its first digits makes the list of all of them.
+fn pushes<D: DigitStore>(alloc: Global, all: &[u8], held: usize) -> bool {
+    let (front, rest) = all.split_at(held.min(all.len()));
+    match list_of::<D>(alloc, front) {
+        Ok(mut list) => push(&mut list, rest) && has_digits(&list, all),
+        Err(_) => false,
+    }
 }
 
 /// The same over each store.
-fn pushes_over_each(alloc: Global, all: &[u8], held: usize) -> Result<bool, AllocError> {
-    Ok(pushes::<PackedDigits>(alloc, all, held)? && pushes::<DigitList>(alloc, all, held)?)
+fn pushes_over_each(alloc: Global, all: &[u8], held: usize) -> bool {
+    pushes::<PackedDigits>(alloc, all, held) && pushes::<DigitList>(alloc, all, held)
 }
 
 /// Whether a list copies these digits, starting at an index.
-fn copies<D: DigitStore>(
-    alloc: Global,
-    text: &[u8],
-    from: usize,
-    digits: &[u8],
-) -> Result<bool, AllocError> {
-    let list: D = list_of(alloc, text)?;
-    let mut buffer = vec![in alloc; b'-'; digits.len()]?;
-    if from <= list.len() && digits.len() <= list.len() - from {
-        list.copy_text(from, buffer.as_mut_slice());
+fn copies_from<D: DigitStore>(list: &D, from: usize, digits: &[u8], buffer: &mut [u8]) -> bool {
+    if from <= list.len() && buffer.len() <= list.len() - from {
+        list.copy_text(from, buffer);
     }
-    Ok(buffer.as_slice() == digits)
+    *buffer == *digits
+}
+
+/// The same of the list of a text.
+fn copies<D: DigitStore>(alloc: Global, text: &[u8], from: usize, digits: &[u8]) -> bool {
+    let mut buffer = [b'-'; 50];
+    let count = digits.len().min(buffer.len());
+    match &list_of::<D>(alloc, text) {
+        Ok(list) => copies_from(list, from, digits, &mut buffer[..count]),
+        Err(_) => false,
+    }
 }
 
 /// The same over each store.
-fn copies_over_each(
-    alloc: Global,
-    text: &[u8],
-    from: usize,
-    digits: &[u8],
-) -> Result<bool, AllocError> {
-    Ok(
-        copies::<PackedDigits>(alloc, text, from, digits)?
-            && copies::<DigitList>(alloc, text, from, digits)?,
-    )
+fn copies_over_each(alloc: Global, (text, from, digits): (&[u8], usize, &[u8])) -> bool {
+    copies::<PackedDigits>(alloc, text, from, digits)
+        && copies::<DigitList>(alloc, text, from, digits)
 }
 
 /// Whether `equal` digits at the end of the first `count` of a list equal a digit, with and without counted accesses.
+fn counts_trailing_of<D: DigitStore>(
+    list: &mut D,
+    (count, digit, equal): (usize, u8, usize),
+) -> bool {
+    if count > list.len() || list.count_trailing(count, digit) != equal {
+        return false;
+    }
+    Counted::new(list, &mut Steps::new()).count_trailing(count, digit) == equal
+}
+
+/// The same of the list of a text.
 fn counts_trailing<D: DigitStore>(
     alloc: Global,
     (text, count, digit, equal): (&[u8], usize, u8, usize),
-) -> Result<bool, AllocError> {
-    let mut list: D = list_of(alloc, text)?;
-    if count > list.len() || list.count_trailing(count, digit) != equal {
-        return Ok(false);
+) -> bool {
+    match list_of::<D>(alloc, text) {
+        Ok(mut list) => counts_trailing_of(&mut list, (count, digit, equal)),
+        Err(_) => false,
     }
-    let mut steps = Steps::new();
-    Ok(Counted::new(&mut list, &mut steps).count_trailing(count, digit) == equal)
 }
 
 /// The same over each store.
-fn counts_trailing_over_each(
-    alloc: Global,
-    row: (&[u8], usize, u8, usize),
-) -> Result<bool, AllocError> {
-    Ok(counts_trailing::<PackedDigits>(alloc, row)? && counts_trailing::<DigitList>(alloc, row)?)
+fn counts_trailing_over_each(alloc: Global, row: (&[u8], usize, u8, usize)) -> bool {
+    counts_trailing::<PackedDigits>(alloc, row) && counts_trailing::<DigitList>(alloc, row)
 }
 
 /// The lengths of lists.
@@ -97,17 +106,16 @@ const HELD: &[usize] = &[0, 1, 7, 8, 15, 16, 17];
 const PUSHED: &[usize] = &[0, 1, 2, 9, 33];
 
 #[test]
-fn pushes_text(rt: HostRuntime) -> Result<(), Fail> {
+fn pushes_text(rt: HostRuntime) {
     for held in HELD {
         for count in PUSHED {
             let all = first(held.saturating_add(*count));
             assert!(rt;
-                pushes_over_each(rt.alloc(), all, *held)?,
+                pushes_over_each(rt.alloc(), all, *held),
                 "{held} and {count}"
             );
         }
     }
-    Ok(())
 }
 
 /// A text, an index, and the digits to copy, starting there.
@@ -142,14 +150,10 @@ const COPIES: &[(&[u8], usize, &[u8])] = &[
 ];
 
 #[test]
-fn copies_text(rt: HostRuntime) -> Result<(), Fail> {
-    for (text, from, digits) in COPIES {
-        assert!(rt;
-            copies_over_each(rt.alloc(), text, *from, digits)?,
-            "from {from}"
-        );
+fn copies_text(rt: HostRuntime) {
+    for row in COPIES {
+        assert!(rt; copies_over_each(rt.alloc(), *row), "from {}", row.1);
     }
-    Ok(())
 }
 
 /// A text, the number of its first digits, a digit, and how many at the end of these equal it.
@@ -180,13 +184,13 @@ const TRAILING: &[(&[u8], usize, u8, usize)] = &[
 ];
 
 #[test]
-fn counts_trailing_digits(rt: HostRuntime) -> Result<(), Fail> {
+fn counts_trailing_digits(rt: HostRuntime) {
     for row in TRAILING {
-        let (_, count, digit, _) = *row;
         assert!(rt;
-            counts_trailing_over_each(rt.alloc(), *row)?,
-            "{digit} in {count} digits"
+            counts_trailing_over_each(rt.alloc(), *row),
+            "{} in {} digits",
+            row.2,
+            row.1
         );
     }
-    Ok(())
 }

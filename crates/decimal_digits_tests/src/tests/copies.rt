@@ -2,105 +2,103 @@
 use super::*;
 
 /// Whether a copy of a list has `count` digits, and equals it.
-fn is_copied<D: DigitStore>(list: D, count: usize) -> Result<bool, AllocError> {
-    let copy = list.clone()?;
-    Ok(copy.len() == count && copy.eq(&list))
+fn is_copied<D: DigitStore>(list: &D, count: usize) -> bool {
+    match &list.clone() {
+        Ok(copy) => copy.len() == count && copy.eq(list),
+        Err(_) => false,
+    }
 }
 
 /// Whether a list of `count` sevens, made by one call, is copied.
 fn copies<D: DigitStore>(alloc: Global, count: usize) -> Result<bool, AllocError> {
-    is_copied(D::from_digits(alloc, &vec![in alloc; 7; count]?)?, count)
+    let list = D::from_digits(alloc, &vec![in alloc; 7; count]?)?;
+    Ok(is_copied(&list, count))
 }
 
 /// The same over each store.
-fn copies_over_each(alloc: Global, count: usize) -> Result<bool, AllocError> {
-    Ok(copies::<PackedDigits>(alloc, count)? && copies::<DigitList>(alloc, count)?)
+fn copies_over_each(alloc: Global, count: usize) -> bool {
+    copies::<PackedDigits>(alloc, count) == Ok(true)
+        && copies::<DigitList>(alloc, count) == Ok(true)
 }
 
 #[test]
-fn copies_any_length(rt: HostRuntime) -> Result<(), Fail> {
+fn copies_any_length(rt: HostRuntime) {
     for count in [0, 9, 16, 17, 18, 64, 65_536] {
-        assert!(rt; copies_over_each(rt.alloc(), count)?, "{count} digits");
+        assert!(rt; copies_over_each(rt.alloc(), count), "{count} digits");
     }
-    Ok(())
 }
 
 /// Whether a list of 1, zeros and 7 is copied.
-fn copies_zeros<D: DigitStore>(alloc: Global, zeros: usize) -> Result<bool, AllocError> {
-    let mut list: D = list_of(alloc, b"1")?;
-    append_text(&mut list, alloc, zeros, b"7")?;
-    is_copied(list, zeros.saturating_add(2))
-}
-
-#[test]
-fn copies_what_was_joined(rt: HostRuntime) -> Result<(), Fail> {
-    for zeros in [7, 14, 15, 62, 65_534] {
-        assert!(rt;
-            copies_zeros::<PackedDigits>(rt.alloc(), zeros)?,
-            "{zeros} zeros"
-        );
-        assert!(rt;
-            copies_zeros::<DigitList>(rt.alloc(), zeros)?,
-            "{zeros} zeros"
-        );
+fn copies_zeros<D: DigitStore>(alloc: Global, zeros: usize) -> bool {
+    match list_of::<D>(alloc, b"1") {
+        Ok(mut list) => {
+            append_text(&mut list, alloc, zeros, b"7").is_ok()
+                && is_copied(&list, zeros.saturating_add(2))
+        }
+        Err(_) => false,
     }
-    Ok(())
-}
-
-/// Copies a list and then changes its first digit. `None` if the copy equals the changed list.
-fn copy_before_change<D: DigitStore>(list: D) -> Result<Option<D>, AllocError> {
-    let mut list = list;
-    let copy = list.clone()?;
-    if list.len() > 0 {
-        list.set(0, 9);
-    }
-    if copy.eq(&list) {
-        return Ok(None);
-    }
-    Ok(Some(copy))
-}
-
-/// Whether a copy is unchanged after the first digit of its list changes.
-fn keeps_its_digits<D: DigitStore>(alloc: Global, text: &[u8]) -> Result<bool, AllocError> {
-    match copy_before_change::<D>(list_of(alloc, text)?)? {
-        Some(copy) => equals_text(&copy, alloc, text),
-        None => Ok(false),
-    }
-}
-
-#[test]
-fn keeps_copies(rt: HostRuntime) -> Result<(), Fail> {
-    assert!(rt; keeps_its_digits::<PackedDigits>(rt.alloc(), b"12345007896")?);
-    assert!(rt; keeps_its_digits::<DigitList>(rt.alloc(), b"12345007896")?);
-    Ok(())
-}
-
-/// Whether a list without its first digits equals the list of the other digits.
-fn equals_rest<D: DigitStore>(
-    alloc: Global,
-    text: &[u8],
-    cut: usize,
-    rest: &[u8],
-) -> Result<bool, AllocError> {
-    let mut list: D = list_of(alloc, text)?;
-    if cut <= list.len() {
-        list.cut_front(cut);
-    }
-    equals_text(&list, alloc, rest)
 }
 
 /// The same over each store.
-fn rests_are_equal(
+fn copies_zeros_over_each(alloc: Global, zeros: usize) -> bool {
+    copies_zeros::<PackedDigits>(alloc, zeros) && copies_zeros::<DigitList>(alloc, zeros)
+}
+
+#[test]
+fn copies_what_was_joined(rt: HostRuntime) {
+    for zeros in [7, 14, 15, 62, 65_534] {
+        assert!(rt; copies_zeros_over_each(rt.alloc(), zeros), "{zeros} zeros");
+    }
+}
+
+/// Whether a copy is another list than its own after the first digit of this changes, and keeps the digits of a text.
+fn is_kept<D: DigitStore>(list: &mut D, copy: &D, alloc: Global, text: &[u8]) -> bool {
+    if list.len() > 0 {
+        list.set(0, 9);
+    }
+    !copy.eq(list) && equals_text(copy, alloc, text)
+}
+
+/// The same of a copy of the list of a text.
+fn keeps_its_digits<D: DigitStore>(alloc: Global, text: &[u8]) -> bool {
+    let Ok(mut list) = list_of::<D>(alloc, text) else {
+        return false;
+    };
+    match &list.clone() {
+        Ok(copy) => is_kept(&mut list, copy, alloc, text),
+        Err(_) => false,
+    }
+}
+
+#[test]
+fn keeps_copies(rt: HostRuntime) {
+    assert!(rt; keeps_its_digits::<PackedDigits>(rt.alloc(), b"12345007896"));
+    assert!(rt; keeps_its_digits::<DigitList>(rt.alloc(), b"12345007896"));
+}
+
+/// Whether a list without its first digits equals the list of the other digits.
+fn rest_equals<D: DigitStore>(list: &mut D, alloc: Global, cut: usize, rest: &[u8]) -> bool {
+    if cut <= list.len() {
+        list.cut_front(cut);
+    }
+    equals_text(list, alloc, rest)
+}
+
+/// The same of the list of a text; `None` if out of memory.
+fn equals_rest<D: DigitStore>(
     alloc: Global,
-    text: &str,
-    cut: usize,
-    rest: &str,
-) -> Result<(bool, bool), AllocError> {
-    let (text, rest) = (text.as_bytes(), rest.as_bytes());
-    Ok((
-        equals_rest::<PackedDigits>(alloc, text, cut, rest)?,
-        equals_rest::<DigitList>(alloc, text, cut, rest)?,
-    ))
+    (text, cut, rest): (&str, usize, &str),
+) -> Option<bool> {
+    match list_of::<D>(alloc, text.as_bytes()) {
+        Ok(mut list) => Some(rest_equals(&mut list, alloc, cut, rest.as_bytes())),
+        Err(_) => None,
+    }
+}
+
+/// Whether the two lists of a row are equal over each store, or are not.
+fn are_as_equal(alloc: Global, (text, cut, rest, is_equal): (&str, usize, &str, bool)) -> bool {
+    equals_rest::<PackedDigits>(alloc, (text, cut, rest)) == Some(is_equal)
+        && equals_rest::<DigitList>(alloc, (text, cut, rest)) == Some(is_equal)
 }
 
 /// A text, the number of its first digits that are cut, a text, and whether the two lists are equal.
@@ -115,10 +113,8 @@ const CUTS: &[(&str, usize, &str, bool)] = &[
 ];
 
 #[test]
-fn equals_after_a_cut(rt: HostRuntime) -> Result<(), Fail> {
-    for (text, cut, rest, is_equal) in CUTS {
-        let results = rests_are_equal(rt.alloc(), text, *cut, rest)?;
-        assert!(rt; results == (*is_equal, *is_equal), "{text} and {rest}");
+fn equals_after_a_cut(rt: HostRuntime) {
+    for row in CUTS {
+        assert!(rt; are_as_equal(rt.alloc(), *row), "{} and {}", row.0, row.2);
     }
-    Ok(())
 }

@@ -1,8 +1,7 @@
 //! The output and the errors of the callers.
-use fixed_decimal::{Call, Decimal, Sink, TextBuf, UnsignedDecimal, Writeable};
+use fixed_decimal::{Call, Decimal, Sink, SinkFault, UnsignedDecimal, Writeable};
 use std::alloc::Global;
-use std::process::Abort;
-use std::test::Fail;
+use test_support::{LimitedSink, shows};
 use uses::bill::{BillError, split_bill};
 use uses::cash::cash_amount;
 use uses::column::{write_column, write_normal_form};
@@ -32,20 +31,16 @@ const CASH: &[(u64, u32, &[u8])] = &[
     (0, 19, b"0.00"),
 ];
 
-/// An amount, the number of parts, and the parts, each followed by a space.
-const BILLS: &[(&str, u32, &[u8])] = &[
-    ("100.00", 3, b"33.34 33.33 33.33 "),
-    ("0.05", 2, b"0.03 0.02 "),
-    ("007", 1, b"7.00 "),
-    ("0", 2, b"0.00 0.00 "),
-];
-
-/// An amount, the number of parts, and the error.
-const REFUSED_BILLS: &[(&str, u32, BillError)] = &[
-    ("1", 0, BillError::NoPart),
-    ("1.005", 2, BillError::PartOfACent),
-    ("184467440737095516.16", 2, BillError::TooGreat),
-    ("1e32766", 2, BillError::TooGreat),
+/// An amount, the number of parts, and the parts, each followed by a space, or the error.
+const BILLS: &[(&str, u32, Result<&[u8], BillError>)] = &[
+    ("100.00", 3, Ok(b"33.34 33.33 33.33 ")),
+    ("0.05", 2, Ok(b"0.03 0.02 ")),
+    ("007", 1, Ok(b"7.00 ")),
+    ("0", 2, Ok(b"0.00 0.00 ")),
+    ("1", 0, Err(BillError::NoPart)),
+    ("1.005", 2, Err(BillError::PartOfACent)),
+    ("184467440737095516.16", 2, Err(BillError::TooGreat)),
+    ("1e32766", 2, Err(BillError::TooGreat)),
 ];
 
 /// A measured value, the number of fraction digits, and the result.
@@ -89,122 +84,112 @@ const RUNS: &[(&[u8], &[Call<'static>], &[u8])] = &[
     ),
 ];
 
-/// Returns the price that is printed.
-fn price(alloc: Global, cents: u64, percent: u32) -> Result<TextBuf, Fail> {
-    let mut sink = TextBuf::new(alloc);
-    write_price(alloc, cents, percent, &mut sink)?;
-    Ok(sink)
+/// Whether a price is printed.
+fn prints_price(alloc: Global, (cents, percent, text): (u64, u32, &[u8])) -> bool {
+    let mut sink = LimitedSink::new(text, usize::MAX);
+    write_price(alloc, cents, percent, &mut sink).is_ok() && sink.has_all()
 }
 
-/// Returns the text of a multiple of five cents.
-fn cash(alloc: Global, cents: u64, percent: u32) -> Result<TextBuf, Fail> {
-    let mut sink = TextBuf::new(alloc);
-    cash_amount(alloc, cents, percent)?.write_to(&mut sink)?;
-    Ok(sink)
+/// Whether a multiple of five cents has this text.
+fn is_cash(alloc: Global, (cents, percent, text): (u64, u32, &[u8])) -> bool {
+    match &cash_amount(alloc, cents, percent) {
+        Ok(amount) => shows(amount, text),
+        Err(_) => false,
+    }
 }
 
-/// Returns the texts of the parts, each followed by a space.
-fn parts(alloc: Global, amount: &str, count: u32) -> Result<TextBuf, Fail> {
-    let mut sink = TextBuf::new(alloc);
-    let amount = UnsignedDecimal::try_from_str(alloc, amount)?;
-    for part in split_bill(alloc, &amount, count)?.iter() {
-        part.write_to(&mut sink)?;
+/// Writes parts, each followed by a space.
+fn write_parts<W: Sink>(parts: &[UnsignedDecimal], sink: &mut W) -> Result<(), SinkFault> {
+    for part in parts {
+        part.write_to(sink)?;
         sink.put_byte(b' ')?;
     }
-    Ok(sink)
-}
-
-/// Whether splitting an amount fails with this error.
-fn fails_with(alloc: Global, amount: &str, count: u32, error: BillError) -> Result<bool, Fail> {
-    let amount = UnsignedDecimal::try_from_str(alloc, amount)?;
-    match split_bill(alloc, &amount, count) {
-        Ok(_) => Ok(false),
-        Err(found) => Ok(found == error),
-    }
-}
-
-/// Returns the text of a measured value.
-fn measurement(alloc: Global, measured: &str, decimals: u8) -> Result<TextBuf, Fail> {
-    let mut sink = TextBuf::new(alloc);
-    let mut value = Decimal::try_from_str(alloc, measured)?;
-    limit_decimals(&mut value, decimals)?;
-    value.write_to(&mut sink)?;
-    Ok(sink)
-}
-
-/// Returns the normal form of an amount.
-fn normal_form(alloc: Global, amount: &str) -> Result<TextBuf, Fail> {
-    let mut sink = TextBuf::new(alloc);
-    write_normal_form(alloc, amount, &mut sink)?;
-    Ok(sink)
-}
-
-/// Returns the text or the sentence of the error.
-fn text_or_report(alloc: Global, start: &[u8], calls: &[Call<'_>]) -> Result<TextBuf, Fail> {
-    let mut sink = TextBuf::new(alloc);
-    write_or_report(alloc, start, calls, &mut sink)?;
-    Ok(sink)
-}
-
-/// Asserts what was printed.
-fn assert_shows(rt: &impl Abort, found: TextBuf, text: &[u8]) {
-    assert_eq!(rt; found.as_bytes(), text);
-}
-
-#[test]
-fn prints_prices(rt: HostRuntime) -> Result<(), Fail> {
-    let alloc = rt.alloc();
-    for (cents, percent, text) in PRICES {
-        assert_shows(&rt, price(alloc, *cents, *percent)?, text);
-    }
-    for (cents, percent, text) in CASH {
-        assert_shows(&rt, cash(alloc, *cents, *percent)?, text);
-    }
     Ok(())
 }
 
-#[test]
-fn splits_bills(rt: HostRuntime) -> Result<(), Fail> {
-    let alloc = rt.alloc();
-    for (amount, count, text) in BILLS {
-        assert_shows(&rt, parts(alloc, amount, *count)?, text);
+/// Whether parts have these texts, or the error is this one.
+fn are_parts(
+    split: &Result<Vec<UnsignedDecimal>, BillError>,
+    wanted: Result<&[u8], BillError>,
+) -> bool {
+    match (split, wanted) {
+        (Ok(parts), Ok(text)) => {
+            let mut sink = LimitedSink::new(text, usize::MAX);
+            write_parts(parts.as_slice(), &mut sink).is_ok() && sink.has_all()
+        }
+        (Err(error), Err(wanted)) => *error == wanted,
+        _ => false,
     }
-    for (amount, count, error) in REFUSED_BILLS {
-        assert!(rt;
-            fails_with(alloc, amount, *count, *error)?,
-            "{amount} in {count}"
-        );
+}
+
+/// Whether splitting an amount gives these parts, or this error.
+fn splits(alloc: Global, (amount, count, wanted): (&str, u32, Result<&[u8], BillError>)) -> bool {
+    match &UnsignedDecimal::try_from_str(alloc, amount) {
+        Ok(amount) => are_parts(&split_bill(alloc, amount, count), wanted),
+        Err(_) => false,
     }
-    Ok(())
+}
+
+/// Whether a measured value is limited to this text.
+fn is_limited(value: &mut Decimal, decimals: u8, text: &[u8]) -> bool {
+    limit_decimals(value, decimals).is_ok() && shows(value, text)
+}
+
+/// The same of the value of a text.
+fn limits(alloc: Global, (measured, decimals, text): (&str, u8, &[u8])) -> bool {
+    match Decimal::try_from_str(alloc, measured) {
+        Ok(mut value) => is_limited(&mut value, decimals, text),
+        Err(_) => false,
+    }
+}
+
+/// Whether an amount has this normal form.
+fn has_normal_form(alloc: Global, (amount, text): (&str, &[u8])) -> bool {
+    let mut sink = LimitedSink::new(text, usize::MAX);
+    write_normal_form(alloc, amount, &mut sink).is_ok() && sink.has_all()
+}
+
+/// Whether a run writes this text, or the sentence of its error.
+fn writes_or_reports(alloc: Global, (start, calls, text): (&[u8], &[Call<'_>], &[u8])) -> bool {
+    let mut sink = LimitedSink::new(text, usize::MAX);
+    write_or_report(alloc, start, calls, &mut sink).is_ok() && sink.has_all()
+}
+
+/// Whether a column and a fee are written one after the other.
+fn writes_column(alloc: Global) -> bool {
+    let mut sink = LimitedSink::new(b"7.5\n100\n4.90", usize::MAX);
+    write_column(alloc, &["007.50", "1e2"], &mut sink).is_ok()
+        && write_shipping_fee(alloc, &mut sink).is_ok()
+        && sink.has_all()
 }
 
 #[test]
-fn shows_texts(rt: HostRuntime) -> Result<(), Fail> {
-    let alloc = rt.alloc();
-    for (measured, decimals, text) in MEASUREMENTS {
-        assert_shows(&rt, measurement(alloc, measured, *decimals)?, text);
+fn prints_prices(rt: HostRuntime) {
+    for row in PRICES {
+        assert!(rt; prints_price(rt.alloc(), *row), "{} at {}", row.0, row.1);
     }
-    for (amount, text) in COLUMN {
-        assert_shows(&rt, normal_form(alloc, amount)?, text);
+    for row in CASH {
+        assert!(rt; is_cash(rt.alloc(), *row), "{} at {}", row.0, row.1);
     }
-    Ok(())
 }
 
 #[test]
-fn writes_a_column(rt: HostRuntime) -> Result<(), Fail> {
-    let alloc = rt.alloc();
-    let mut sink = TextBuf::new(alloc);
-    write_column(alloc, &["007.50", "1e2"], &mut sink)?;
-    write_shipping_fee(alloc, &mut sink)?;
-    assert_shows(&rt, sink, b"7.5\n100\n4.90");
-    Ok(())
+fn splits_bills(rt: HostRuntime) {
+    for row in BILLS {
+        assert!(rt; splits(rt.alloc(), *row), "{} in {}", row.0, row.1);
+    }
 }
 
 #[test]
-fn reports_errors(rt: HostRuntime) -> Result<(), Fail> {
-    let alloc = rt.alloc();
-    for (start, calls, text) in RUNS {
-        assert_shows(&rt, text_or_report(alloc, start, calls)?, text);
+fn shows_texts(rt: HostRuntime) {
+    for row in MEASUREMENTS {
+        assert!(rt; limits(rt.alloc(), *row), "{}", row.0);
     }
-    Ok(())
+    for row in COLUMN {
+        assert!(rt; has_normal_form(rt.alloc(), *row), "{}", row.0);
+    }
+    for row in RUNS {
+        assert!(rt; writes_or_reports(rt.alloc(), *row));
+    }
+    assert!(rt; writes_column(rt.alloc()));
 }

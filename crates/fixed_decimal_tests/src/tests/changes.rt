@@ -5,8 +5,6 @@ ghost use Rattle.decimal_unsigned.specs.Concatenation.{concatenated_end};
 ghost use Rattle.fixed_decimal.specs.Decimal.{with_absolute};
 
 use super::*;
-use decimal_digits::digits::DigitStore;
-use decimal_unsigned::decimal::UnsignedOver;
 use fixed_decimal::{ConcatenateError, LimitError, Sign, Signed, UnsignedDecimal};
 
 /// Two calls in sequence, the first of which may fail, over any store.
@@ -57,16 +55,6 @@ fn negated_cents(mut value: Decimal) -> Result<Decimal, LimitError>
     Ok(value)
 }
 
-/// Returns the least `i16` shifted by -2, and then cut at each of these positions.
-fn cut_cents(alloc: Global, positions: &[i16]) -> Result<Decimal, LimitError> {
-    let mut value = Decimal::from_i16(alloc, i16::MIN);
-    value.multiply_pow10(-2)?;
-    for position in positions {
-        value.set_max_position(*position);
-    }
-    Ok(value)
-}
-
 /// Returns `-250` with the absolute value replaced by 300, and shifted by two magnitudes.
 fn replaced(alloc: Global) -> Result<Decimal, LimitError> {
     let mut value = Decimal::from_i16(alloc, -250);
@@ -90,11 +78,6 @@ fn leaves(answer: Result<Decimal, LimitError>, text: &str) -> bool {
     }
 }
 
-/// Whether cuts at these positions return this text.
-fn cuts_to(alloc: Global, positions: &[i16], text: &str) -> bool {
-    leaves(cut_cents(alloc, positions), text)
-}
-
 /// Whether an integer shifted by two magnitudes has this text.
 fn moves_to(alloc: Global, integer: i16, text: &str) -> bool {
     leaves(owned_to_cents(Decimal::from_i16(alloc, integer)), text)
@@ -105,22 +88,17 @@ fn negates_to(alloc: Global, integer: u8, text: &str) -> bool {
     leaves(negated_cents(Decimal::from_u8(alloc, integer)), text)
 }
 
-/// Positions of cuts, and the text of `-327.68` after them.
-const CUTS: &[(&[i16], &str)] = &[(&[], "-327.68"), (&[0], "-0.68"), (&[0, -2], "-0.00")];
-
 /// Numbers that are concatenated to `-120`, and the text after that.
 const APPENDED: &[(u8, &str)] = &[(25, "-120"), (5, "-125")];
 
 #[test]
 fn changes(rt: HostRuntime) {
     let alloc = rt.alloc();
-    for (positions, text) in CUTS {
-        assert!(rt; cuts_to(alloc, positions, text), "{text}");
-    }
     for (other, text) in APPENDED {
         assert!(rt; prints(appended(alloc, *other), text), "{text}");
     }
     assert!(rt; moves_to(alloc, -250, "-2.50"));
+    assert!(rt; moves_to(alloc, i16::MIN, "-327.68"));
     assert!(rt; leaves(replaced(alloc), "-3"));
     assert!(rt; negates_to(alloc, 7, "-0.07"));
 }

@@ -1,6 +1,6 @@
-//! Decimals and fixed integers from integers, at both ends of their types, and decimals from parts.
+//! Values from integers, at both ends of their types, and decimals from parts.
 use super::*;
-use fixed_decimal::{DigitStore, FixedInteger, PackedDigits, Sign, Signed, UnsignedOver};
+use fixed_decimal::{FixedInteger, Sign, Signed};
 use std::alloc::AllocError;
 
 /// An integer, by its type.
@@ -23,6 +23,7 @@ enum Integer {
 /// Integers and their texts.
 const INTEGERS: &[(Integer, &str)] = &[
     (Integer::U8(0), "0"),
+    (Integer::U8(200), "200"),
     (Integer::U8(u8::MAX), "255"),
     (Integer::I8(i8::MIN), "-128"),
     (Integer::I8(i8::MAX), "127"),
@@ -35,6 +36,7 @@ const INTEGERS: &[(Integer, &str)] = &[
     (Integer::I32(i32::MIN), "-2147483648"),
     (Integer::I32(i32::MAX), "2147483647"),
     (Integer::U64(0), "0"),
+    (Integer::U64(10000000000000000000), "10000000000000000000"),
     (Integer::U64(u64::MAX), "18446744073709551615"),
     (Integer::I64(i64::MIN), "-9223372036854775808"),
     (Integer::I64(i64::MAX), "9223372036854775807"),
@@ -56,6 +58,22 @@ const INTEGERS: &[(Integer, &str)] = &[
     (Integer::Isize(isize::MIN), "-9223372036854775808"),
     (Integer::Isize(isize::MAX), "9223372036854775807"),
 ];
+
+/// The unsigned value of an unsigned integer.
+fn unsigned<D: DigitStore>(
+    alloc: Global,
+    integer: Integer,
+) -> Option<Result<UnsignedOver<D>, AllocError>> {
+    match integer {
+        Integer::U8(integer) => Some(Ok(UnsignedOver::<D>::from_u8(alloc, integer))),
+        Integer::U16(integer) => Some(Ok(UnsignedOver::<D>::from_u16(alloc, integer))),
+        Integer::U32(integer) => Some(UnsignedOver::<D>::try_from_u32(alloc, integer)),
+        Integer::U64(integer) => Some(UnsignedOver::<D>::try_from_u64(alloc, integer)),
+        Integer::Usize(integer) => Some(UnsignedOver::<D>::try_from_usize(alloc, integer)),
+        Integer::U128(integer) => Some(UnsignedOver::<D>::try_from_u128(alloc, integer)),
+        _ => None,
+    }
+}
 
 /// The decimal of an integer.
 fn decimal<D: DigitStore>(
@@ -96,26 +114,35 @@ fn fixed(alloc: Global, integer: Integer) -> Result<FixedInteger, AllocError> {
     }
 }
 
-/// Whether the decimal of an integer has its text. Tries once more if out of memory.
-fn makes_decimal<D: DigitStore>(
-    alloc: Global,
-    integer: Integer,
-    text: &str,
-) -> Result<bool, AllocError> {
-    let answer = match decimal::<D>(alloc, integer) {
-        Err(AllocError) => decimal::<D>(alloc, integer),
-        made => made,
-    };
-    Ok(shows(&answer?, text.as_bytes()))
+/// Whether a value was made that has a text, and equals the value that the text writes.
+fn is_made<T: Value>(alloc: Global, made: &Result<T, AllocError>, text: &str) -> bool {
+    match (made, &T::read(alloc, text)) {
+        (Ok(value), Ok(parsed)) => has_text(value, text) && value.equals(parsed),
+        _ => false,
+    }
 }
 
-/// Whether the fixed integer of an integer has its text. Tries once more if out of memory.
-fn makes_fixed(alloc: Global, integer: Integer, text: &str) -> Result<bool, AllocError> {
-    let answer = match fixed(alloc, integer) {
-        Err(AllocError) => fixed(alloc, integer),
-        made => made,
+/// Whether the values of an integer over a store have its text.
+fn makes<D: DigitStore>(alloc: Global, integer: Integer, text: &str) -> bool {
+    let is_unsigned = match unsigned::<D>(alloc, integer) {
+        Some(made) => is_made(alloc, &made, text),
+        None => true,
     };
-    Ok(shows(&answer?, text.as_bytes()))
+    is_unsigned && is_made(alloc, &decimal::<D>(alloc, integer), text)
+}
+
+/// Whether each value of an integer has its text.
+fn makes_each(alloc: Global, integer: Integer, text: &str) -> bool {
+    makes::<PackedDigits>(alloc, integer, text)
+        && makes::<DigitList>(alloc, integer, text)
+        && is_made(alloc, &fixed(alloc, integer), text)
+}
+
+#[test]
+fn of_integers(rt: HostRuntime) {
+    for (integer, text) in INTEGERS {
+        assert!(rt; makes_each(rt.alloc(), *integer, text), "{text}");
+    }
 }
 
 /// Whether the decimal of a sign and an absolute value has this text.
@@ -124,31 +151,23 @@ fn makes_parts<D: DigitStore>(alloc: Global, (sign, absolute): (Sign, u8), text:
     prints(Signed::<UnsignedOver<D>>::new(sign, absolute), text)
 }
 
-/// Whether the decimal 0 has its text.
-fn makes_zero<D: DigitStore>(alloc: Global) -> bool {
-    prints(Signed::<UnsignedOver<D>>::zero(alloc), "0")
+/// Whether 0 and 1 have their texts.
+fn makes_zero_and_one<D: DigitStore>(alloc: Global) -> bool {
+    prints(UnsignedOver::<D>::zero(alloc), "0")
+        && prints(UnsignedOver::<D>::one(alloc), "1")
+        && prints(Signed::<UnsignedOver<D>>::zero(alloc), "0")
+        && prints(FixedInteger::zero(alloc), "0")
 }
 
-/// Signs and absolute values, and the texts of their decimals.
-const PARTS: &[((Sign, u8), &str)] = &[((Sign::Negative, 250), "-250"), ((Sign::None, 0), "0")];
-
-#[test]
-fn of_integers(rt: HostRuntime) -> Result<(), Fail> {
-    let alloc = rt.alloc();
-    for (integer, text) in INTEGERS {
-        let holds = makes_decimal::<PackedDigits>(alloc, *integer, text)?
-            && makes_fixed(alloc, *integer, text)?;
-        assert!(rt; holds, "{text}");
-    }
-    Ok(())
+/// Whether decimals are made of parts over a store.
+fn makes_constants<D: DigitStore>(alloc: Global) -> bool {
+    makes_parts::<D>(alloc, (Sign::Negative, 250), "-250")
+        && makes_parts::<D>(alloc, (Sign::None, 0), "0")
+        && makes_zero_and_one::<D>(alloc)
 }
 
 #[test]
 fn of_parts(rt: HostRuntime) {
-    let alloc = rt.alloc();
-    for (parts, text) in PARTS {
-        assert!(rt; makes_parts::<PackedDigits>(alloc, *parts, text), "{text}");
-    }
-    assert!(rt; makes_zero::<PackedDigits>(alloc));
-    assert!(rt; prints(FixedInteger::zero(alloc), "0"));
+    assert!(rt; makes_constants::<PackedDigits>(rt.alloc()));
+    assert!(rt; makes_constants::<DigitList>(rt.alloc()));
 }

@@ -30,22 +30,27 @@ fn displays_as<E: Error>(error: &E, text: &str) -> bool {
     displays(error, text.as_bytes())
 }
 
-#[test]
-fn displays_errors(rt: HostRuntime) {
-    assert!(rt; displays_as(&ConcatenateError::Overlap(5), "The numbers overlap"));
-    assert!(rt; displays_as(&ConcatenateError::Memory(5), "Out of memory"));
-    assert!(rt; displays_as(&LimitError, "Magnitude or number of digits exceeded"));
-    assert!(rt; displays_as(&ParseError::Limit, "Magnitude or number of digits exceeded"));
-    assert!(rt; displays_as(&ParseError::Syntax, "Failed to parse the input string"));
-    assert!(rt; displays_as(&ParseError::Memory, "Out of memory"));
-    assert!(rt; displays_as(&IntegerError::NotWhole, "Not a whole number"));
-    assert!(rt; displays_as(&IntegerError::OutOfRange, "Integer out of range"));
-    assert!(rt; displays_as(&RoundError::Memory, "Out of memory"));
-    assert!(rt; displays_as(&SinkFault, "The sink refused a byte"));
+/// Whether errors of a number, of two numbers and of a sink have their texts.
+fn have_texts() -> bool {
+    displays_as(&ConcatenateError::Overlap(5), "The numbers overlap")
+        && displays_as(&ConcatenateError::Memory(5), "Out of memory")
+        && displays_as(&LimitError, "Magnitude or number of digits exceeded")
+        && displays_as(&RoundError::Memory, "Out of memory")
+        && displays_as(&SinkFault, "The sink refused a byte")
+}
+
+/// Whether errors of texts and of integers have their texts.
+fn have_texts_of_reading() -> bool {
+    displays_as(&ParseError::Limit, "Magnitude or number of digits exceeded")
+        && displays_as(&ParseError::Syntax, "Failed to parse the input string")
+        && displays_as(&ParseError::Memory, "Out of memory")
+        && displays_as(&IntegerError::NotWhole, "Not a whole number")
+        && displays_as(&IntegerError::OutOfRange, "Integer out of range")
 }
 
 #[test]
-fn reports_the_error_of_a_run(rt: HostRuntime) {
+fn displays_errors(rt: HostRuntime) {
+    assert!(rt; have_texts() && have_texts_of_reading());
     for (error, text) in RUN_ERRORS {
         assert!(rt; displays_as(error, text), "{text}");
     }

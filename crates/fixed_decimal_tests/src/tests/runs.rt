@@ -1,6 +1,6 @@
 //! Whole runs into sinks that fail, over each store.
 use super::*;
-use fixed_decimal::{Call, CallError, Out, RunError, Signed, apply_calls, run_over};
+use fixed_decimal::{Call, CallError, Out, RunError, Signed, Sink, apply_calls, run_over};
 use test_support::{FailingWriter, LimitedSink, WriteFailure};
 
 /// A start, calls, and the text of the run.
@@ -60,12 +60,12 @@ fn fails_with_the_sink(rt: HostRuntime) {
     }
 }
 
-/// A start, calls, the text of the value that they leave, and the number of the call that fails.
+/// A start, calls, the text of the value that they leave, and their result.
 type Applied = (
     &'static str,
     &'static [Call<'static>],
     &'static str,
-    Option<usize>,
+    Result<(), CallError>,
 );
 
 /// Calls on a value, some of which fail.
@@ -74,7 +74,7 @@ const APPLIED: &[Applied] = &[
         "250",
         &[Call::MultiplyPow10(-2), Call::TrimEnd],
         "2.5",
-        None,
+        Ok(()),
     ),
     (
         "-5",
@@ -84,9 +84,17 @@ const APPLIED: &[Applied] = &[
             Call::TrimEnd,
         ],
         "-0.5",
-        Some(1),
+        Err(CallError::Operand {
+            at: 1,
+            fault: ParseError::Syntax,
+        }),
     ),
-    ("7", &[Call::Concatenate(b"2")], "7", Some(0)),
+    (
+        "7",
+        &[Call::Concatenate(b"2")],
+        "7",
+        Err(CallError::Overlap { at: 0 }),
+    ),
     (
         "10",
         &[
@@ -95,37 +103,25 @@ const APPLIED: &[Applied] = &[
             Call::MultiplyPow10(32767),
         ],
         "10.0",
-        Some(2),
+        Err(CallError::Limit { at: 2 }),
     ),
 ];
 
-/// Returns the number of the call that failed.
-fn failed_call(error: &CallError) -> usize {
-    match error {
-        CallError::Operand { at, .. }
-        | CallError::Overlap { at }
-        | CallError::Limit { at }
-        | CallError::Memory { at } => *at,
+/// Whether calls on a value have a result, and leave a value with this text.
+fn leaves<D: DigitStore>(alloc: Global, (start, calls, text, wanted): &Applied) -> bool {
+    match Signed::<UnsignedOver<D>>::try_from_str(alloc, start) {
+        Ok(mut value) => {
+            apply_calls(alloc, &mut value, calls) == *wanted && shows(&value, text.as_bytes())
+        }
+        Err(_) => false,
     }
-}
-
-/// Whether calls on a value fail at this call, and leave a value with this text.
-fn leaves<D: DigitStore>(alloc: Global, (start, calls, text, failed): Applied) -> bool {
-    let Ok(mut value) = Signed::<UnsignedOver<D>>::try_from_str(alloc, start) else {
-        return false;
-    };
-    let at = match apply_calls(alloc, &mut value, calls) {
-        Ok(()) => None,
-        Err(error) => Some(failed_call(&error)),
-    };
-    at == failed && prints(value, text)
 }
 
 #[test]
 fn calls_stop_at_an_error(rt: HostRuntime) {
     for row in APPLIED {
-        let leaves = leaves::<DigitList>(rt.alloc(), *row)
-            && leaves::<PackedDigits>(rt.alloc(), *row);
+        let leaves = leaves::<DigitList>(rt.alloc(), row)
+            && leaves::<PackedDigits>(rt.alloc(), row);
         assert!(rt; leaves, "{}", row.0);
     }
 }

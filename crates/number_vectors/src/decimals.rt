@@ -1,12 +1,4 @@
-//! Checks the texts of numbers in locales: how they are written, and that they are read back; and plural categories.
-//!
-//! Each line of standard input is a row of four fields with tabs between them: a locale, a grouping strategy, a number,
-//! and its text, or `unknown` if the locale is not listed; or a locale, `read` or `lenient`, a text that is read, and
-//! its value or error; or a language, `cardinal` or `ordinal`, a number, and its plural category. Blank lines and lines
-//! that start with `#` are not rows. Each row that fails is printed with its line number; the last line counts the
-//! rows.
-#![tactic(auto)]
-
+//! Decimals by the symbols of a locale: how they are written, and that they are read back; and plural categories.
 ghost use Rattle.decimal_format.specs.Readable.{IsReadable};
 
 use decimal_format::{DecimalFormatter, DecimalSymbols, GroupingStrategy};
@@ -14,8 +6,7 @@ use fixed_decimal::{Decimal, ParseError};
 use locale_data::{PluralRuleType, PluralRulesError, locale, plural_rules_of};
 use plural_rules::PluralOperands;
 use std::alloc::Global;
-use std::process::ExitCode;
-use test_support::{check_rows, fails_without_room, has_text, is_outcome, named};
+use test_support::{fails_without_room, has_text, is_outcome, named};
 
 const STRATEGIES: &[(&str, GroupingStrategy)] = &[
     ("auto", GroupingStrategy::Auto),
@@ -98,10 +89,7 @@ fn holds_in(
 }
 
 /// Whether a row holds.
-fn holds(alloc: Global, row: &str) -> Option<bool> {
-    let (tag, row) = row.split_once('\t')?;
-    let (word, row) = row.split_once('\t')?;
-    let (number, text) = row.split_once('\t')?;
+pub fn holds(alloc: Global, tag: &str, word: &str, (number, text): (&str, &str)) -> Option<bool> {
     match word {
         "cardinal" => Some(has_category(alloc, tag, PluralRuleType::Cardinal, number, text)),
         "ordinal" => Some(has_category(alloc, tag, PluralRuleType::Ordinal, number, text)),
@@ -110,8 +98,4 @@ fn holds(alloc: Global, row: &str) -> Option<bool> {
             None => Some(text == "unknown"),
         },
     }
-}
-
-fn main(rt: HostRuntime) -> ExitCode {
-    check_rows(&rt, |alloc, row| holds(alloc, row))
 }

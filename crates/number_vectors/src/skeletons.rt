@@ -1,19 +1,7 @@
-//! Checks the options that number skeletons name, and their errors, against ICU.
-//!
-//! Each line of standard input is a row of two fields with a tab between them: a skeleton, and `syntax K` with the
-//! offset of the error, `unsupported STEM`, the words of its options, or `=` and another skeleton that has the same
-//! options. `«@*3»` is `@@@`, and in a skeleton `␉`, `␊` and `␍` are a tab, a line feed and a carriage return. Blank
-//! lines, and lines that start with `#` and have no tab, are not rows. Each row that fails is printed with its line
-//! number; the last line counts the rows.
-#![tactic(auto)]
-
-mod words;
-
+//! The options that number skeletons name, and their errors.
+use crate::skeleton_words::OptionsText;
 use number_format::{NumberOptions, SkeletonError};
 use std::alloc::{AllocError, Global};
-use std::process::ExitCode;
-use test_support::check_rows;
-use words::options_words;
 
 /// Returns the text of a skeleton without escapes and repetitions.
 fn expanded(alloc: Global, escaped: &str) -> Result<String, AllocError> {
@@ -37,7 +25,7 @@ fn expanded(alloc: Global, escaped: &str) -> Result<String, AllocError> {
 /// Returns the words of a skeleton: those of its options, or of its error.
 fn skeleton_words(alloc: Global, text: &str) -> Result<String, AllocError> {
     match NumberOptions::try_from_skeleton(text) {
-        Ok(options) => options_words(alloc, &options),
+        Ok(options) => format!(in alloc; "{}", OptionsText(&options)),
         Err(SkeletonError::Syntax { at }) => format!(in alloc; "syntax {at}"),
         Err(SkeletonError::Unsupported { start, end }) => {
             format!(in alloc; "unsupported {}", text.get(start..end).unwrap_or("?"))
@@ -57,8 +45,7 @@ fn prints_shorter(alloc: Global, text: &str) -> Option<bool> {
 }
 
 /// Whether a row holds.
-fn holds(alloc: Global, row: &str) -> Option<bool> {
-    let (skeleton, expected) = row.split_once('\t')?;
+pub fn holds(alloc: Global, skeleton: &str, expected: &str) -> Option<bool> {
     let skeleton = expanded(alloc, skeleton).ok()?;
     if prints_shorter(alloc, skeleton.as_str()) != Some(true) {
         return Some(false);
@@ -71,8 +58,4 @@ fn holds(alloc: Global, row: &str) -> Option<bool> {
         }
         None => Some(words.as_str() == expanded(alloc, expected).ok()?.as_str()),
     }
-}
-
-fn main(rt: HostRuntime) -> ExitCode {
-    check_rows(&rt, |alloc, row| holds(alloc, row))
 }

@@ -7,9 +7,9 @@ use number_format::{
     ExponentOptions, ExponentSign, FractionMultiples, Minimum, NumberNotation, NumberOptions,
     NumberStyle, Precision, TrailingZeros,
 };
-use std::alloc::{AllocError, Global};
+use std::fmt;
 
-fn currency_words(alloc: Global, currency: &CurrencyStyle) -> Result<String, AllocError> {
+fn write_currency<W: fmt::Write>(out: &mut W, currency: &CurrencyStyle) -> fmt::Result {
     let display = match currency.display {
         CurrencyDisplay::Symbol => "symbol",
         CurrencyDisplay::Narrow => "narrow",
@@ -25,46 +25,42 @@ fn currency_words(alloc: Global, currency: &CurrencyStyle) -> Result<String, All
         CurrencyUsage::Cash => "cash",
     };
     let code = str::from_utf8(&currency.code).unwrap_or("?");
-    format!(in alloc; "currency:{code}:{display}:{sign}:{usage}")
+    write!(out, "currency:{code}:{display}:{sign}:{usage}")
 }
 
-fn style_words(alloc: Global, style: &NumberStyle) -> Result<String, AllocError> {
+fn write_style<W: fmt::Write>(out: &mut W, style: &NumberStyle) -> fmt::Result {
     match style {
-        NumberStyle::Decimal => format!(in alloc; "decimal"),
-        NumberStyle::Percent => format!(in alloc; "percent"),
-        NumberStyle::Permille => format!(in alloc; "permille"),
-        NumberStyle::Currency(currency) => currency_words(alloc, currency),
+        NumberStyle::Decimal => out.write_str("decimal"),
+        NumberStyle::Percent => out.write_str("percent"),
+        NumberStyle::Permille => out.write_str("permille"),
+        NumberStyle::Currency(currency) => write_currency(out, currency),
     }
 }
 
-fn exponent_sign(sign: ExponentSign) -> &'static str {
-    match sign {
+fn write_exponent<W: fmt::Write>(
+    out: &mut W,
+    name: &str,
+    exponent: &ExponentOptions,
+) -> fmt::Result {
+    let sign = match exponent.sign {
         ExponentSign::Auto => "auto",
         ExponentSign::Always => "always",
         ExponentSign::Never => "never",
-    }
+    };
+    write!(out, "{name}:{}:{sign}", exponent.digits)
 }
 
-fn exponent_words(
-    alloc: Global,
-    name: &str,
-    exponent: &ExponentOptions,
-) -> Result<String, AllocError> {
-    let sign = exponent_sign(exponent.sign);
-    format!(in alloc; "{name}:{}:{sign}", exponent.digits)
-}
-
-fn notation_words(alloc: Global, notation: &NumberNotation) -> Result<String, AllocError> {
+fn write_notation<W: fmt::Write>(out: &mut W, notation: &NumberNotation) -> fmt::Result {
     match notation {
-        NumberNotation::Standard => format!(in alloc; "standard"),
-        NumberNotation::Scientific(exponent) => exponent_words(alloc, "scientific", exponent),
-        NumberNotation::Engineering(exponent) => exponent_words(alloc, "engineering", exponent),
-        NumberNotation::Compact(CompactLength::Short) => format!(in alloc; "compact:short"),
-        NumberNotation::Compact(CompactLength::Long) => format!(in alloc; "compact:long"),
+        NumberNotation::Standard => out.write_str("standard"),
+        NumberNotation::Scientific(exponent) => write_exponent(out, "scientific", exponent),
+        NumberNotation::Engineering(exponent) => write_exponent(out, "engineering", exponent),
+        NumberNotation::Compact(CompactLength::Short) => out.write_str("compact:short"),
+        NumberNotation::Compact(CompactLength::Long) => out.write_str("compact:long"),
     }
 }
 
-fn multiples_words(alloc: Global, multiples: &FractionMultiples) -> Result<String, AllocError> {
+fn write_multiples<W: fmt::Write>(out: &mut W, multiples: &FractionMultiples) -> fmt::Result {
     let base = match multiples.increment.base {
         RoundingIncrement::MultiplesOf1 => "1",
         RoundingIncrement::MultiplesOf2 => "2",
@@ -73,38 +69,36 @@ fn multiples_words(alloc: Global, multiples: &FractionMultiples) -> Result<Strin
     };
     let digits = multiples.digits;
     let zeros = match multiples.increment.zeros {
-        0 if base == "1" => return format!(in alloc; "fraction:{digits}:{digits}"),
+        0 if base == "1" => return write!(out, "fraction:{digits}:{digits}"),
         0 => "",
         1 => "0",
         2 => "00",
         _ => "000",
     };
-    format!(in alloc; "multiples:{digits}:{base}{zeros}")
+    write!(out, "multiples:{digits}:{base}{zeros}")
 }
 
-fn both_words(alloc: Global, name: &str, both: &BothDigits) -> Result<String, AllocError> {
+fn write_both<W: fmt::Write>(out: &mut W, name: &str, both: &BothDigits) -> fmt::Result {
     let minimum = match both.minimum {
         Minimum::Chosen => "chosen",
         Minimum::Both => "both",
     };
     let (fraction, significant) = (both.fraction, both.significant);
-    format!(in alloc;
-        "{name}:{}:{}:{}:{}:{minimum}",
-        fraction.min, fraction.max, significant.min, significant.max
-    )
+    write!(out, "{name}:{}:{}:", fraction.min, fraction.max)?;
+    write!(out, "{}:{}:{minimum}", significant.min, significant.max)
 }
 
-fn precision_words(alloc: Global, precision: &Precision) -> Result<String, AllocError> {
+fn write_precision<W: fmt::Write>(out: &mut W, precision: &Precision) -> fmt::Result {
     match precision {
         Precision::Fraction(fraction) => {
-            format!(in alloc; "fraction:{}:{}", fraction.min, fraction.max)
+            write!(out, "fraction:{}:{}", fraction.min, fraction.max)
         }
-        Precision::Multiples(multiples) => multiples_words(alloc, multiples),
+        Precision::Multiples(multiples) => write_multiples(out, multiples),
         Precision::Significant(significant) => {
-            format!(in alloc; "significant:{}:{}", significant.min, significant.max)
+            write!(out, "significant:{}:{}", significant.min, significant.max)
         }
-        Precision::MorePrecision(both) => both_words(alloc, "more", both),
-        Precision::LessPrecision(both) => both_words(alloc, "less", both),
+        Precision::MorePrecision(both) => write_both(out, "more", both),
+        Precision::LessPrecision(both) => write_both(out, "less", both),
     }
 }
 
@@ -122,15 +116,15 @@ fn mode_word(mode: SignedRoundingMode) -> &'static str {
     }
 }
 
-fn digits_words(alloc: Global, digits: &DigitOptions) -> Result<String, AllocError> {
-    let precision = precision_words(alloc, &digits.precision)?;
+fn write_digits<W: fmt::Write>(out: &mut W, digits: &DigitOptions) -> fmt::Result {
     let mode = mode_word(digits.mode);
     let strip = match digits.trailing_zeros {
         TrailingZeros::Auto => "",
         TrailingZeros::StripIfInteger => " strip",
     };
     let (min, max) = (digits.integer.min, digits.integer.max);
-    format!(in alloc; "{precision} {mode} integer:{min}:{max}{strip}")
+    write_precision(out, &digits.precision)?;
+    write!(out, " {mode} integer:{min}:{max}{strip}")
 }
 
 fn sign_word(sign: SignDisplay) -> &'static str {
@@ -152,22 +146,24 @@ fn grouping_word(grouping: GroupingStrategy) -> &'static str {
     }
 }
 
-/// Returns the words of options.
-pub fn options_words(alloc: Global, options: &NumberOptions) -> Result<String, AllocError> {
-    let style = style_words(alloc, &options.style)?;
-    let notation = notation_words(alloc, &options.notation)?;
-    let digits = match &options.digits {
-        Some(digits) => digits_words(alloc, digits)?,
-        None => String::new(alloc),
-    };
-    let (sign, grouping) = (
-        sign_word(options.sign_display),
-        grouping_word(options.grouping),
-    );
-    let name = options.numbering_system.unwrap_or(*b"none            ");
-    let system = str::from_utf8(&name).unwrap_or("?").trim_end();
-    format!(in alloc;
-        "{style} {} {notation} {digits} sign:{sign} grouping:{grouping} {system}",
-        options.scale
-    )
+/// Options, which `{}` writes as words.
+#[derive(Clone, Copy)]
+pub struct OptionsText<'a>(pub &'a NumberOptions);
+
+impl fmt::Display for OptionsText<'_> {
+    fn fmt<W: fmt::Write>(&self, f: &mut fmt::Formatter<W>) -> fmt::Result {
+        let options = self.0;
+        let sign = sign_word(options.sign_display);
+        let grouping = grouping_word(options.grouping);
+        let name = options.numbering_system.unwrap_or(*b"none            ");
+        let system = str::from_utf8(&name).unwrap_or("?").trim_end();
+        write_style(f, &options.style)?;
+        write!(f, " {} ", options.scale)?;
+        write_notation(f, &options.notation)?;
+        f.write_str(" ")?;
+        if let Some(digits) = &options.digits {
+            write_digits(f, digits)?;
+        }
+        write!(f, " sign:{sign} grouping:{grouping} {system}")
+    }
 }

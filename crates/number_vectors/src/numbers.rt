@@ -1,0 +1,225 @@
+//! Numbers by options.
+use crate::number_words::{Check, Options, parse_options};
+use crate::parts::has_parts;
+use crate::reading::{reads, reads_leniently};
+use decimal_format::DecimalFormatter;
+use fixed_decimal::{
+    Decimal, DigitList, DigitStore, FixedInteger, PackedDigits, RoundError, Signed, Sink,
+    UnsignedOver, Writeable,
+};
+use locale_data::locale;
+use number_format::{
+    DigitOptions, DigitOptionsError, FormatError, FormattedNumber, Notation, NumberFormatter,
+    NumberReader, NumberReaderError,
+};
+use std::alloc::Global;
+use test_support::{
+    LimitedSink, LimitedStore, SixteenDigits, displays, expand_runs, fails_without_room, has_text,
+    shows,
+};
+
+/// Returns the name of an error, and the class of ECMA-402's error.
+fn error_names(error: DigitOptionsError) -> (&'static str, &'static str) {
+    match error {
+        DigitOptionsError::IntegerDigits => ("IntegerDigits", "RangeError"),
+        DigitOptionsError::Increment => ("Increment", "RangeError"),
+        DigitOptionsError::SignificantDigits => ("SignificantDigits", "RangeError"),
+        DigitOptionsError::FractionDigits => ("FractionDigits", "RangeError"),
+        DigitOptionsError::IncrementPrecision => ("IncrementPrecision", "TypeError"),
+        DigitOptionsError::IncrementDigits => ("IncrementDigits", "RangeError"),
+    }
+}
+
+fn is_named(error: RoundError, text: &str) -> bool {
+    match error {
+        RoundError::Limit => text == "Limit",
+        RoundError::Memory => text == "Memory",
+    }
+}
+
+/// Whether a significand and an exponent have this text.
+fn writes<D: DigitStore>(
+    alloc: Global,
+    formatter: &DecimalFormatter<'_>,
+    significand: &Signed<UnsignedOver<D>>,
+    exponent: Option<i32>,
+    text: &str,
+) -> bool {
+    let mut sink = LimitedSink::new(text.as_bytes(), usize::MAX);
+    let written = formatter.format(significand).write_to(&mut sink).is_ok();
+    let Some(exponent) = exponent else {
+        return written && sink.has_all();
+    };
+    match FixedInteger::try_from_i32(alloc, exponent) {
+        Ok(exponent) => {
+            written
+                && sink.put_byte(b'E').is_ok()
+                && exponent.write_to(&mut sink).is_ok()
+                && sink.has_all()
+        }
+        Err(_) => false,
+    }
+}
+
+/// Whether a value has this text by digit options, without an exponent; on an error it has its own text.
+fn applies<D: DigitStore>(
+    alloc: Global,
+    formatter: &DecimalFormatter<'_>,
+    options: &Options,
+    digits: &DigitOptions,
+    mut value: Signed<UnsignedOver<D>>,
+    (number, text): (&str, &str),
+) -> bool {
+    match digits.apply(&mut value) {
+        Ok(()) => {
+            value.apply_sign_display(options.display);
+            writes(alloc, formatter, &value, None, text)
+        }
+        Err(error) => is_named(error, text) && shows(&value, number.as_bytes()),
+    }
+}
+
+/// Whether a value has this text by a notation and digit options.
+fn scales<D: DigitStore>(
+    alloc: Global,
+    formatter: &DecimalFormatter<'_>,
+    options: &Options,
+    digits: &DigitOptions,
+    value: Signed<UnsignedOver<D>>,
+    text: &str,
+) -> bool {
+    match options.notation().scale(digits, value) {
+        Ok(scaled) => {
+            let exponent = match options.notation() {
+                Notation::Standard => None,
+                _ => Some(scaled.exponent()),
+            };
+            let significand = scaled.into_significand().with_sign_display(options.display);
+            writes(alloc, formatter, &significand, exponent, text)
+        }
+        Err(error) => is_named(error, text),
+    }
+}
+
+/// Whether a number has this text over a store.
+fn has_text_over<D: DigitStore>(
+    alloc: Global,
+    tag: &str,
+    options: &Options,
+    digits: &DigitOptions,
+    (number, text): (&str, &str),
+) -> Option<bool> {
+    let formatter = DecimalFormatter::new(locale(tag)?, options.grouping);
+    if let Notation::Standard = options.notation() {
+        let value: Signed<UnsignedOver<D>> = Signed::try_from_str(alloc, number).ok()?;
+        if !applies(alloc, &formatter, options, digits, value, (number, text)) {
+            return Some(false);
+        }
+    }
+    let value: Signed<UnsignedOver<D>> = Signed::try_from_str(alloc, number).ok()?;
+    Some(scales(alloc, &formatter, options, digits, value, text))
+}
+
+/// Whether a formatted number has this text, also by Display, and fails with each sink without room.
+fn is_text(formatted: &FormattedNumber<'_>, text: &str) -> bool {
+    has_text(formatted, text)
+        && displays(formatted, text.as_bytes())
+        && fails_without_room(formatted, text.as_bytes())
+}
+
+/// Whether the reader of a formatter reads a text of standard notation back, exactly and leniently, as a number with
+/// this text, or as zero, which may show fewer zeros when it is rounded once more.
+fn reads_back(
+    alloc: Global,
+    formatter: &NumberFormatter,
+    reader: Result<NumberReader, NumberReaderError>,
+    options: &Options,
+    text: &str,
+) -> Option<bool> {
+    let reader = match reader {
+        Ok(reader) => reader,
+        Err(error) => return Some(error == options.reader_error()),
+    };
+    let value: Decimal = reader.read(alloc, text.as_bytes()).ok()?;
+    let typed: Decimal = reader.read_lenient(alloc, text).ok()?;
+    if typed != value {
+        return Some(false);
+    }
+    let is_zero = value.absolute.is_zero();
+    Some(is_zero || is_text(&formatter.format(alloc, value).ok()?, text))
+}
+
+/// Whether a formatter writes a number as this text, and reads it back; or has this error, and leaves the number.
+fn formats(
+    alloc: Global,
+    formatter: &NumberFormatter,
+    reader: Result<NumberReader, NumberReaderError>,
+    options: &Options,
+    (number, text): (&str, &str),
+) -> Option<bool> {
+    match formatter.format(alloc, Decimal::try_from_str(alloc, number).ok()?) {
+        Ok(formatted) => {
+            Some(is_text(&formatted, text) && reads_back(alloc, formatter, reader, options, text)?)
+        }
+        Err(FormatError { error, value }) => {
+            Some(is_named(error, text) && shows(&value, number.as_bytes()))
+        }
+    }
+}
+
+/// Whether the formatter of these options does what a row says.
+fn checks(
+    alloc: Global,
+    tag: &str,
+    options: &Options,
+    digits: DigitOptions,
+    (text, expected): (&str, &str),
+) -> Option<bool> {
+    let formatter = NumberFormatter::try_new(tag, options.number(digits)).ok()?;
+    let reader = NumberFormatter::try_new(tag, options.number(digits))
+        .ok()?
+        .into_reader(alloc);
+    match options.check {
+        Check::Text => formats(alloc, &formatter, reader, options, (text, expected)),
+        Check::Parts => {
+            let value = Decimal::try_from_str(alloc, text).ok()?;
+            Some(has_parts(&formatter.format(alloc, value).ok()?, expected))
+        }
+        Check::Read => reads(alloc, &reader.ok()?, text, expected),
+        Check::Lenient => Some(reads_leniently(alloc, &reader.ok()?, text, expected)),
+    }
+}
+
+/// Returns the text of a field. Texts of node have blanks, and no stars.
+fn expanded(alloc: Global, field: &str) -> Option<String> {
+    if field.contains('*') {
+        return expand_runs(alloc, field).ok();
+    }
+    field.repeat(alloc, 1).ok()
+}
+
+/// Whether a row holds.
+pub fn holds(alloc: Global, tag: &str, words: &str, (number, text): (&str, &str)) -> Option<bool> {
+    let options = parse_options(words)?;
+    let digits = match options.digits() {
+        Ok(digits) => digits,
+        Err(error) => {
+            let (name, class) = error_names(error);
+            return Some(number.is_empty() && (text == name || text == class));
+        }
+    };
+    let number = expanded(alloc, number)?;
+    let text = expanded(alloc, text)?;
+    let row = (number.as_str(), text.as_str());
+    if options.is_limited {
+        return has_text_over::<LimitedStore<PackedDigits, SixteenDigits>>(
+            alloc, tag, &options, &digits, row,
+        );
+    }
+    let is_checked = checks(alloc, tag, &options, digits, row)?;
+    if !is_checked || !options.is_plain(tag) {
+        return Some(is_checked);
+    }
+    let packed = has_text_over::<PackedDigits>(alloc, tag, &options, &digits, row)?;
+    Some(packed && has_text_over::<DigitList>(alloc, tag, &options, &digits, row)?)
+}
