@@ -1,21 +1,12 @@
 -- The text of a formatted number.
 use Rattle.std.specs.Prelude.{◌≡◌, ℕ, Bool, if◌then◌else◌, List, [], ◌++◌, Option, Some, None, unsigned_abs, ℤ}
 use Rattle.fixed_decimal.specs.Decimal.{Decimal}
-use Rattle.decimal_format.specs.declared.grouping.GroupingStrategy.TheVariants.{Never}
-use Rattle.decimal_format.specs.Formatted.{absolute_text}
-use Rattle.decimal_format.specs.Symbols.{Affixes}
-use Rattle.locale_data.specs.declared.compact.CompactPattern.{CompactPattern}
-use Rattle.locale_data.specs.declared.compact.CompactStyle.{CompactStyle}
-use Rattle.locale_data.specs.Compact.{pattern_for, patterns_in}
-use Rattle.locale_data.specs.Plurals.{IsCategoryAt}
+use Rattle.decimal_format.specs.{Formatted.absolute_text, Symbols.Affixes, declared.grouping.GroupingStrategy.TheVariants.Never}
+use Rattle.locale_data.specs.{Compact.{pattern_for, patterns_in}, Plurals.IsCategoryAt, declared.compact.{CompactPattern.CompactPattern, CompactStyle.CompactStyle}}
 use Rattle.plural_rules.specs.Operands as operands
 use Rattle.plural_rules.specs.declared.rules.PluralCategory.{PluralCategory}
-use Rattle.number_format.specs.declared.compact_texts.CompactChoice.{CompactChoice}
-use Rattle.number_format.specs.declared.formatted_number.FormattedNumber.{FormattedNumber}
-use Rattle.number_format.specs.declared.number_formatter.NumberFormatter.{NumberFormatter}
-use Rattle.number_format.specs.NumberText.{around_by, compact_pattern, compact_magnitude, compact_power, is_one, unit_texts, unit_by, exponent_of, pieces_around}
-use Rattle.number_format.specs.PatternTexts.{Around, sign_text}
-use Rattle.number_format.specs.TextParts.{Piece, pieces_text}
+use Rattle.number_format.specs.declared.{compact_texts.CompactChoice.CompactChoice, formatted_number.FormattedNumber.FormattedNumber, number_formatter.NumberFormatter.NumberFormatter}
+use Rattle.number_format.specs.{NumberText.{around_by, compact_pattern, compact_magnitude, compact_power, is_one, unit_texts, unit_by, exponent_of, pieces_around}, PatternTexts.{Around, sign_text}, TextParts.{Piece, pieces_text}}
 
 -- the compact pattern that is chosen, in compact notation
 abbrev pub chosen_pattern : Option CompactStyle → CompactChoice → Option CompactPattern

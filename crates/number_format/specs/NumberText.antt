@@ -1,48 +1,16 @@
 -- The text of a number: what a formatter writes.
-use Rattle.std.specs.Prelude.{◌≡◌, ℕ, ◌==◌, min, Bool, true, false, not, ◌&&◌, if◌then◌else◌, ◌⊎◌, IsSomeAnd, List, [], ◌∷◌, ◌++◌, Option, Some, None, option_and_then, slice_get, unsigned_abs, ℤ, pos, ◌+ℤ◌, int_lt}
-use Rattle.std.specs.Int.{int_max, int_min}
-use Rattle.std.specs.Option.{option_map}
-use Rattle.decimal_digits.specs.Number.{first}
-use Rattle.decimal_digits.specs.declared.rounding.RoundingIncrement.TheVariants.{MultiplesOf25}
-use Rattle.decimal_unsigned.specs.Unsigned.{Unsigned, integer_value}
-use Rattle.decimal_unsigned.specs.declared.decimal.TheConstants.{INLINE_DIGITS}
-use Rattle.decimal_unsigned.specs.Edits.{multiplied_pow10, padded_start}
-use Rattle.fixed_decimal.specs.Decimal.{Decimal, with_absolute, displayed_sign}
-use Rattle.fixed_decimal.specs.DecimalText.{IsLong}
-use Rattle.fixed_decimal.specs.declared.variations.Sign.{Sign}
-use Rattle.fixed_decimal.specs.declared.variations.Sign.TheVariants as sign
-use Rattle.decimal_format.specs.declared.grouping.GroupingStrategy.TheVariants.{Never}
-use Rattle.decimal_format.specs.Symbols.{Affixes, affixes}
+use Rattle.std.specs.{Prelude.{◌≡◌, ℕ, ◌==◌, min, Bool, true, false, not, ◌&&◌, if◌then◌else◌, ◌⊎◌, IsSomeAnd, List, [], ◌∷◌, ◌++◌, Option, Some, None, option_and_then, slice_get, unsigned_abs, ℤ, pos, ◌+ℤ◌, int_lt}, Int.{int_max, int_min}, Option.option_map}
+use Rattle.decimal_digits.specs.{Number.first, declared.rounding.RoundingIncrement.TheVariants.MultiplesOf25}
+use Rattle.decimal_unsigned.specs.{Unsigned.{Unsigned, integer_value}, Edits.{multiplied_pow10, padded_start}, declared.decimal.TheConstants.INLINE_DIGITS}
+use Rattle.fixed_decimal.specs.{Decimal.{Decimal, with_absolute, displayed_sign}, DecimalText.IsLong, declared.variations.Sign.Sign}
+use Rattle.decimal_format.specs.{Symbols.{Affixes, affixes}, declared.grouping.GroupingStrategy.TheVariants.Never}
 use Rattle.plural_rules.specs.Operands as operands
 use Rattle.plural_rules.specs.declared.rules.PluralCategory.{PluralCategory}
-use Rattle.locale_data.specs.declared.compact.AffixText.{AffixText}
-use Rattle.locale_data.specs.declared.compact.CompactForm.{CompactForm}
-use Rattle.locale_data.specs.declared.compact.CompactForm.TheVariants as form
-use Rattle.locale_data.specs.declared.compact.CompactPattern.{CompactPattern}
-use Rattle.locale_data.specs.declared.compact.CompactStyle.{CompactStyle}
-use Rattle.locale_data.specs.declared.compact.PercentUnit.{PercentUnit}
-use Rattle.locale_data.specs.declared.compact_table.TheConstants.{PERCENT_UNITS}
-use Rattle.locale_data.specs.declared.number_formats.NumberFormats.{NumberFormats}
-use Rattle.locale_data.specs.Compact.{text_of, pattern_for, compact_patterns, unit_for}
-use Rattle.locale_data.specs.Plurals.{IsCategoryAt}
-use Rattle.locale_data.specs.declared.rows.TableRange.{TableRange}
-use Rattle.number_format.specs.declared.digit_options.DigitOptions.{DigitOptions}
-use Rattle.number_format.specs.declared.notation.Notation.{Notation}
-use Rattle.number_format.specs.declared.number_around.NumberAffixes.{NumberAffixes}
-use Rattle.number_format.specs.declared.number_formatter.CompactUnit.{CompactUnit}
-use Rattle.number_format.specs.declared.number_formatter.CompactUnit.TheVariants as unit
-use Rattle.number_format.specs.declared.number_formatter.NumberFormatter.{NumberFormatter}
-use Rattle.number_format.specs.declared.number_options.ExponentOptions.{ExponentOptions}
-use Rattle.number_format.specs.declared.number_options.ExponentSign.{ExponentSign}
-use Rattle.number_format.specs.declared.number_options.ExponentSign.TheVariants as exponent
-use Rattle.number_format.specs.NumberStyles.{currency_text}
-use Rattle.number_format.specs.PatternTexts.{Style, Around, around, literal, sign_text, sign_pieces, space_if, style_around}
-use Rattle.number_format.specs.declared.text_part.PartKind.{PartKind}
-use Rattle.number_format.specs.declared.text_part.PartKind.TheVariants as kind
-use Rattle.number_format.specs.ShownDigits.{base_of}
+use Rattle.locale_data.specs.declared.{compact.{AffixText.AffixText, CompactForm.CompactForm, CompactPattern.CompactPattern, CompactStyle.CompactStyle, PercentUnit.PercentUnit}, compact_table.TheConstants.PERCENT_UNITS, number_formats.NumberFormats.NumberFormats, rows.TableRange.TableRange}
+use Rattle.locale_data.specs.{Compact.{text_of, pattern_for, compact_patterns, unit_for}, Plurals.IsCategoryAt}
+use Rattle.number_format.specs.declared.{digit_options.DigitOptions.DigitOptions, notation.Notation.Notation, number_around.NumberAffixes.NumberAffixes, number_formatter.{CompactUnit.CompactUnit, NumberFormatter.NumberFormatter}, number_options.{ExponentOptions.ExponentOptions, ExponentSign.ExponentSign}, text_part.PartKind.PartKind}
+use Rattle.number_format.specs.{NumberStyles.currency_text, PatternTexts.{Style, Around, around, literal, sign_text, sign_pieces, space_if, style_around}, ShownDigits.base_of, TextParts.{pieces_text, pieces_of, parts_pieces, digit_pieces}, Scaled.{ScaledValue, scaled_value, scaled}}
 use Rattle.number_format.specs.TextParts as parts
-use Rattle.number_format.specs.TextParts.{pieces_text, pieces_of, parts_pieces, digit_pieces}
-use Rattle.number_format.specs.Scaled.{ScaledValue, scaled_value, scaled}
 
 -- ---- The number: scaled, rounded, and split into a significand and an exponent.
 
@@ -75,10 +43,10 @@ is_empty [] = true
 is_empty (b ∷ bytes) = false
 
 abbrev pub currency_if : NumberFormatter → Bool → List parts.Piece
-currency_if f has_currency = if has_currency then pieces_of kind.Currency (currency_text f.currency) else []
+currency_if f has_currency = if has_currency then pieces_of PartKind.Currency (currency_text f.currency) else []
 
 abbrev pub compact_pieces : TableRange → List parts.Piece
-compact_pieces range = pieces_of kind.Compact (text_of range)
+compact_pieces range = pieces_of PartKind.Compact (text_of range)
 
 -- a prefix or a suffix of a compact pattern, with the space of a currency beside a digit
 abbrev pub compact_prefix : NumberFormatter → AffixText → List parts.Piece
@@ -93,15 +61,15 @@ compact_suffix f a =
 
 -- the sign before the prefix, or after it
 abbrev pub first_sign : NumberFormatter → Sign → CompactForm → List parts.Piece
-first_sign f s form.SignLast = []
+first_sign f s CompactForm.SignLast = []
 first_sign f s other = sign_pieces f.symbols s
 
 abbrev pub last_sign : NumberFormatter → Sign → CompactForm → List parts.Piece
-last_sign f s form.SignLast = sign_pieces f.symbols s
+last_sign f s CompactForm.SignLast = sign_pieces f.symbols s
 last_sign f s other = []
 
 abbrev pub has_number : CompactForm → Bool
-has_number form.Literal = false
+has_number CompactForm.Literal = false
 has_number other = true
 
 -- a compact pattern, for a sign
@@ -111,7 +79,7 @@ compact_around f s p =
     (compact_suffix f p.suffix)
 
 abbrev pub is_plain : CompactForm → Bool
-is_plain form.Plain = true
+is_plain CompactForm.Plain = true
 is_plain other = false
 
 -- the pattern of the style, or a compact pattern that is no plain one
@@ -129,9 +97,9 @@ pub record AreParts (a : Around) (u : Affixes) (shown : NumberAffixes) : Type 0 
 
 -- the sign that an exponent is shown with
 abbrev pub exponent_sign : ExponentSign → ℤ → Sign
-exponent_sign exponent.Auto e = if int_lt e (pos 0) then sign.Negative else sign.None
-exponent_sign exponent.Always e = if int_lt e (pos 0) then sign.Negative else sign.Positive
-exponent_sign exponent.Never e = sign.None
+exponent_sign ExponentSign.Auto e = if int_lt e (pos 0) then Sign.Negative else Sign.None
+exponent_sign ExponentSign.Always e = if int_lt e (pos 0) then Sign.Negative else Sign.Positive
+exponent_sign ExponentSign.Never e = Sign.None
 
 -- an exponent as it is shown: with at least the number of digits that the options have
 abbrev pub shown_exponent : ExponentOptions → ℤ → Decimal
@@ -141,14 +109,14 @@ shown_exponent o e = record {
 }
 
 abbrev pub exponent_kind : Sign → PartKind
-exponent_kind sign.Positive = kind.ExponentPlusSign
-exponent_kind other = kind.ExponentMinusSign
+exponent_kind Sign.Positive = PartKind.ExponentPlusSign
+exponent_kind other = PartKind.ExponentMinusSign
 
 abbrev pub exponent_pieces : NumberFormatter → Decimal → List parts.Piece
 exponent_pieces f e =
-    pieces_of kind.ExponentSeparator f.separator.text.now
+    pieces_of PartKind.ExponentSeparator f.separator.text.now
     ++ (pieces_of (exponent_kind e.sign) (sign_text f.symbols e.sign)
-    ++ digit_pieces kind.ExponentInteger f.symbols Never e.absolute)
+    ++ digit_pieces PartKind.ExponentInteger f.symbols Never e.absolute)
 
 abbrev pub exponent_part : NumberFormatter → Option Decimal → List parts.Piece
 exponent_part f None = []
@@ -156,13 +124,13 @@ exponent_part f (Some e) = exponent_pieces f e
 
 -- the digits of a significand and of an exponent, if there is one
 abbrev pub number_part : NumberFormatter → Unsigned → Option Decimal → List parts.Piece
-number_part f v e = digit_pieces kind.Integer f.symbols f.strategy v ++ exponent_part f e
+number_part f v e = digit_pieces PartKind.Integer f.symbols f.strategy v ++ exponent_part f e
 
 -- ---- Compact notation.
 
 -- the number is the integer 1, without a minus sign
 abbrev pub is_negative : Sign → Bool
-is_negative sign.Negative = true
+is_negative Sign.Negative = true
 is_negative other = false
 
 abbrev pub is_one : Decimal → Bool
@@ -190,9 +158,9 @@ percent_texts (Some unit) category =
 
 -- what is written around the whole text: percent has a pattern of its own
 abbrev pub unit_texts : NumberFormats → CompactUnit → PluralCategory → Affixes
-unit_texts formats unit.Nothing category = affixes [] []
-unit_texts formats unit.Percent category = percent_texts (slice_get PERCENT_UNITS formats.unit) category
-unit_texts formats unit.Permille category = affixes [] (226 ∷ 128 ∷ 176 ∷ [])
+unit_texts formats CompactUnit.Nothing category = affixes [] []
+unit_texts formats CompactUnit.Percent category = percent_texts (slice_get PERCENT_UNITS formats.unit) category
+unit_texts formats CompactUnit.Permille category = affixes [] (226 ∷ 128 ∷ 176 ∷ [])
 
 abbrev pub unit_by : NumberFormatter → Option CompactStyle → PluralCategory → Affixes
 unit_by f None category = affixes [] []
