@@ -125,8 +125,8 @@ none_of category true = refl
 none_of category false = refl
 
 -- patterns that need no category have the same pattern for each number
-pub same_pattern : (patterns : List CompactPattern) (a b : PluralCategory) (x y : Bool) → needs_category patterns ≡ false
-    → pattern_for a x patterns ≡ pattern_for b y patterns
+pub same_pattern : (patterns : List CompactPattern) (a b : PluralCategory) (x y : Bool)
+    → needs_category patterns ≡ false → pattern_for a x patterns ≡ pattern_for b y patterns
 same_pattern [] a b x y e = none_of a x ∙ sym (none_of b y)
 same_pattern (p ∷ []) a b x y e = for_each a x ∙ sym (for_each b y)
   where

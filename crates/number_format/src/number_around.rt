@@ -156,14 +156,16 @@ impl NumberFormatter {
 
     pub(crate) fn space_after(&self, affix: &AffixText) -> bool
         requires { has_texts affix.now ≡ true }
-        ensures { result ≡ (affix.now.has_currency && (is_empty (text_of affix.now.after) && self.now.currency.space_after)) }
+        ensures { result ≡ (affix.now.has_currency
+            && (is_empty (text_of affix.now.after) && self.now.currency.space_after)) }
     {
         affix.has_currency && is_empty(affix.after_text()) && self.currency.space_after
     }
 
     pub(crate) fn space_before(&self, affix: &AffixText) -> bool
         requires { has_texts affix.now ≡ true }
-        ensures { result ≡ (affix.now.has_currency && (is_empty (text_of affix.now.before) && self.now.currency.space_before)) }
+        ensures { result ≡ (affix.now.has_currency
+            && (is_empty (text_of affix.now.before) && self.now.currency.space_before)) }
     {
         affix.has_currency && is_empty(affix.before_text()) && self.currency.space_before
     }
