@@ -1,11 +1,11 @@
 -- The texts of a formatter are texts between affixes.
 use Rattle.std.proofs.Common.{◌≡◌, ℕ, List, [], ◌++◌, refl, sym, ◌∙◌, ap, append-nil}
-use Rattle.std.specs.{Prelude.{Some, None}, Option.option_map}
+use Rattle.std.specs.Prelude.{Some}
 use Rattle.decimal_unsigned.specs.Unsigned.{IsValue}
 use Rattle.fixed_decimal.specs.{Decimal.Decimal, declared.variations.Sign.Sign}
 use Rattle.decimal_format.specs.Formatted.{absolute_text}
-use Rattle.number_format.specs.declared.{number_formatter.NumberFormatter.NumberFormatter, number_options.{NumberOptions.NumberOptions, NumberStyle.NumberStyle, NumberNotation.NumberNotation}, text_part.PartKind.PartKind}
-use Rattle.number_format.specs.{Formatters.{compact_style, exponent_options, IsFormatter}, AffixedTexts.{by_sign, text_with}, NumberReading.{IsStandard, affixes_for, affixes_of_formatter, reader_of, CanRead, IsShownAs}, NumberText.{IsNumberText, shown_sign, compact_magnitude, is_one, compact_pattern, unit_by, pattern_around, around_by, pieces_around, shown_exponent}, Scaled.ScaledValue, TextParts.{digit_pieces, pieces_text}}
+use Rattle.number_format.specs.declared.{number_formatter.NumberFormatter.NumberFormatter, number_options.{NumberOptions.NumberOptions, NumberNotation.NumberNotation}, text_part.PartKind.PartKind}
+use Rattle.number_format.specs.{Formatters.{IsFormatter}, AffixedTexts.{by_sign, text_with}, NumberReading.{IsStandard, affixes_for, affixes_of_formatter, reader_of, CanRead, IsShownAs}, NumberText.{IsNumberText, shown_sign, compact_magnitude, is_one, compact_pattern, compact_style, unit_texts, pattern_around, around_by, pieces_around, exponent_of}, Scaled.ScaledValue, TextParts.{digit_pieces, pieces_text}}
 use Rattle.number_format.proofs.{AffixedNumbers.named_texts_are_unique, PieceTexts.{text-of_digits, text-three}}
 
 some_same : (x y : ScaledValue) → Some x ≡ Some y → x ≡ y
@@ -19,20 +19,20 @@ by_is f Sign.Positive = refl
 -- the text of the pieces of a number between what a sign writes around it
 text_around : (f : NumberFormatter) (s : Sign) (x : ScaledValue)
     → pieces_text ((pattern_around f s).prefix
-    ++ ((digit_pieces PartKind.Integer f.symbols f.strategy x.significand.absolute ++ [])
+    ++ ((digit_pieces PartKind.Integer f.symbols f.options.grouping x.significand.absolute ++ [])
     ++ ((pattern_around f s).suffix ++ [])))
     ≡ (affixes_for f s).prefix
-    ++ (absolute_text f.symbols f.strategy x.significand.absolute ++ (affixes_for f s).suffix)
+    ++ (absolute_text f.symbols f.options.grouping x.significand.absolute ++ (affixes_for f s).suffix)
 text_around f s x =
-    let digits = digit_pieces PartKind.Integer f.symbols f.strategy x.significand.absolute in
+    let digits = digit_pieces PartKind.Integer f.symbols f.options.grouping x.significand.absolute in
     text-three (pattern_around f s).prefix (digits ++ []) ((pattern_around f s).suffix ++ [])
-    (affixes_for f s).prefix (absolute_text f.symbols f.strategy x.significand.absolute) (affixes_for f s).suffix refl
-    (ap pieces_text (append-nil digits) ∙ text-of_digits PartKind.Integer f.symbols f.strategy x.significand.absolute)
+    (affixes_for f s).prefix (absolute_text f.symbols f.options.grouping x.significand.absolute) (affixes_for f s).suffix refl
+    (ap pieces_text (append-nil digits) ∙ text-of_digits PartKind.Integer f.symbols f.options.grouping x.significand.absolute)
     (ap pieces_text (append-nil (pattern_around f s).suffix))
 
 -- the text of a number is that of the number that is shown
 pub formatter_text : (f : NumberFormatter) (v u : Decimal) (text : List ℕ) → IsStandard f → IsNumberText f v text
-    → IsShownAs f v u → text ≡ text_with (reader_of f) f.strategy u
+    → IsShownAs f v u → text ≡ text_with (reader_of f) f.options.grouping u
 formatter_text f v u text standard (pieces, is, of_pieces) shown =
     let number : is.number ≡ shown.number = some_same _ _ (sym is.number_is ∙ shown.number_is) in
     let s = shown_sign f shown.number.significand in
@@ -40,33 +40,25 @@ formatter_text f v u text standard (pieces, is, of_pieces) shown =
     of_pieces
     ∙ ap pieces_text is.value
     ∙ (λ i. pieces_text (pieces_around f (number i).significand.absolute
-    (option_map (λ o. shown_exponent o (number i).exponent) (standard.exponent i))
-    (around_by f (shown_sign f (number i).significand) (compact_pattern f.formats (standard.compact i)
+    (exponent_of (standard i) (number i).exponent)
+    (around_by f (shown_sign f (number i).significand)
+    (compact_pattern f.formats (compact_style (standard i) f.options.style)
     (compact_magnitude (number i).significand (number i).exponent) is.category (is_one (number i).significand)))
-    (unit_by f (standard.compact i) is.whole)))
+    (unit_texts f.formats (compact_style (standard i) f.options.style) f.options.style is.whole)))
     ∙ text_around f s shown.number
     ∙ (λ i. (affixes i).prefix
-    ++ (absolute_text f.symbols f.strategy (sym shown.absolute i) ++ (affixes i).suffix))
+    ++ (absolute_text f.symbols f.options.grouping (sym shown.absolute i) ++ (affixes i).suffix))
 
 -- one text is shown of one number
 pub are_unique : (f : NumberFormatter) (v w x y : Decimal) (text : List ℕ) → CanRead f → IsNumberText f v text
     → IsNumberText f w text → IsShownAs f v x → IsShownAs f w y → IsValue x.absolute → IsValue y.absolute → x ≡ y
 are_unique f v w x y text can a b p q valid valid' =
-    named_texts_are_unique (reader_of f) can.named can.readable f.strategy f.strategy x y valid valid'
+    named_texts_are_unique (reader_of f) can.named can.readable f.options.grouping f.options.grouping x y valid valid'
     (sym (formatter_text f v x text can.undo.0 a p) ∙ formatter_text f w y text can.undo.0 b q)
 
 -- ---- Standard notation.
 
-no_words : (s : NumberStyle) → compact_style s NumberNotation.Standard ≡ None
-no_words NumberStyle.Decimal = refl
-no_words NumberStyle.Percent = refl
-no_words NumberStyle.Permille = refl
-no_words (NumberStyle.Currency c) = refl
-
 -- the notation of the options is that of the formatter
 pub standard : (tag : List ℕ) (o : NumberOptions) (f : NumberFormatter) → IsFormatter tag o f
     → o.notation ≡ NumberNotation.Standard → IsStandard f
-standard tag o f is e = record {
-  compact = is.made.compact_is ∙ ap (compact_style o.style) e ∙ no_words o.style;
-  exponent = is.made.exponent ∙ ap exponent_options e;
-}
+standard tag o f is e = ap (λ (x : NumberOptions). x.notation) is.made.options ∙ e

@@ -4,7 +4,8 @@ use Rattle.std.specs.{Prelude.{◌↔◌, not, nat_eq, IsTrue, Option, Some, Non
 use Rattle.fixed_decimal.specs.declared.variations.Sign.{Sign}
 use Rattle.decimal_format.specs.{Readable.{BeginsWithDigit, EndsWithDigit}, Symbols.{Symbols, Affixes, digit_text}}
 use Rattle.decimal_format.proofs.lemmas.reader.{Codes.meet, Scans.begins-append}
-use Rattle.number_format.specs.AffixedTexts.{AffixTable, by_sign, ArePrefixesApart, AreSuffixesApart, ArePairApart, AreNamed}
+use Rattle.number_format.specs.declared.affixes.SignAffixes.{SignAffixes}
+use Rattle.number_format.specs.AffixedTexts.{by_sign, ArePrefixesApart, AreSuffixesApart, ArePairApart, AreNamed}
 
 -- ---- Characters.
 
@@ -185,7 +186,7 @@ module _ (s : Symbols) where
   pair_swapped a b (inl h) = inl (prefixes_swapped a.prefix b.prefix h)
   pair_swapped a b (inr h) = inr (suffixes_swapped a.suffix b.suffix h)
 
-  pub named_if : (t : AffixTable) → ArePairApart s t.none t.negative → ArePairApart s t.none t.positive
+  pub named_if : (t : SignAffixes) → ArePairApart s t.none t.negative → ArePairApart s t.none t.positive
       → ArePairApart s t.negative t.positive → AreNamed s t
   named_if t a b c = record { pair = go }
     where

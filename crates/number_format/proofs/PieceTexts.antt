@@ -19,8 +19,8 @@ use Rattle.number_format.specs.declared.text_part.PartKind.{PartKind}
 use Rattle.number_format.specs.declared.text_part.PartKind.TheVariants as kind
 use Rattle.number_format.specs.declared.text_part.TextPart.{TextPart}
 use Rattle.number_format.specs.TextParts.{Piece, Puts, part_pieces, parts_text, pieces_text, pieces_of, parts_pieces, digit_kind, magnitude_pieces, first_pieces, digit_pieces}
-use Rattle.number_format.specs.FormattedNumbers.{chosen_pattern, around_of, unit_of, exponent_text_if, number_text, number_text_if, around_text, formatted_number_text}
-use Rattle.number_format.specs.NumberText.{pattern_around, unit_by, around_by, exponent_kind, exponent_part, exponent_of, number_part, AreParts}
+use Rattle.number_format.specs.FormattedNumbers.{chosen_pattern, around_of, unit_of, exponent_text, number_text, number_text_if, around_text, formatted_number_text}
+use Rattle.number_format.specs.NumberText.{pattern_around, compact_style, unit_texts, around_by, exponent_kind, exponent_pieces, exponent_of, number_part, AreParts}
 use Rattle.number_format.specs.PatternTexts.{literal, sign_text}
 
 pub puts_nil : (a : Option (List Piece)) → Puts a a []
@@ -104,7 +104,7 @@ pub text-of_digits : (k : PartKind) (s : Symbols) (strategy : GroupingStrategy) 
     → pieces_text (digit_pieces k s strategy v) ≡ absolute_text s strategy v
 text-of_digits k s strategy v = text-of_first k s strategy v (shown_count v)
 
-text-of_exponent : (f : NumberFormatter) (e : Option Decimal) → pieces_text (exponent_part f e) ≡ exponent_text_if f e
+text-of_exponent : (f : NumberFormatter) (e : Option Decimal) → pieces_text (exponent_pieces f e) ≡ exponent_text f e
 text-of_exponent f None = refl
 text-of_exponent f (Some e) =
     let sign = sign_text f.symbols e.sign in
@@ -114,13 +114,13 @@ text-of_exponent f (Some e) =
     (text-of (exponent_kind e.sign) sign) (text-of_digits kind.ExponentInteger f.symbols Never e.absolute)
 
 text-of_number : (n : FormattedNumber)
-    → pieces_text (number_part n.formatter.now n.value.absolute (exponent_of n.formatter.now n.exponent))
+    → pieces_text (number_part n.formatter.now n.value.absolute (exponent_of n.formatter.now.options.notation n.exponent))
     ≡ number_text n
 text-of_number n =
     let f = n.formatter.now in
-    let e = exponent_of f n.exponent in
-    text-append (digit_pieces kind.Integer f.symbols f.strategy n.value.absolute) (exponent_part f e)
-    ∙ (λ i. text-of_digits kind.Integer f.symbols f.strategy n.value.absolute i ++ text-of_exponent f e i)
+    let e = exponent_of f.options.notation n.exponent in
+    text-append (digit_pieces kind.Integer f.symbols f.options.grouping n.value.absolute) (exponent_pieces f e)
+    ∙ (λ i. text-of_digits kind.Integer f.symbols f.options.grouping n.value.absolute i ++ text-of_exponent f e i)
 
 text-if : (b : Bool) (ps : List Piece) (text : List ℕ) → pieces_text ps ≡ text
     → pieces_text (if b then ps else []) ≡ (if b then text else [])
@@ -133,7 +133,7 @@ pub text-of_affixes : (n : FormattedNumber) (shown : NumberAffixes) → AreParts
     ≡ formatted_number_text n
 text-of_affixes n shown is =
     let a = around_of n in
-    let number = number_part n.formatter.now n.value.absolute (exponent_of n.formatter.now n.exponent) in
+    let number = number_part n.formatter.now n.value.absolute (exponent_of n.formatter.now.options.notation n.exponent) in
     sym (text-three (literal (unit_of n).prefix ++ a.prefix) (if a.has_number then number else [])
     (a.suffix ++ literal (unit_of n).suffix) (parts_text shown.prefix) (number_text_if n shown.has_number)
     (parts_text shown.suffix) (ap pieces_text (sym is.prefix) ∙ text-of_parts shown.prefix)
@@ -148,7 +148,7 @@ text-of_around n =
     let a = around_of n in
     let p = literal (unit_of n).prefix in
     let q = literal (unit_of n).suffix in
-    let number = number_part n.formatter.now n.value.absolute (exponent_of n.formatter.now n.exponent) in
+    let number = number_part n.formatter.now n.value.absolute (exponent_of n.formatter.now.options.notation n.exponent) in
     regroup (pieces_text p) (pieces_text a.prefix) (number_text_if n a.has_number) (pieces_text a.suffix)
     (pieces_text q)
     ∙ sym (text-three (p ++ a.prefix) (if a.has_number then number else []) (a.suffix ++ q)
@@ -159,12 +159,12 @@ text-of_around n =
     regroup p q m r s = simp append_assoc
 
 -- in another notation than compact that is the pattern alone
-pub text-of_pattern : (n : FormattedNumber) → n.formatter.now.compact ≡ None
+pub text-of_pattern : (n : FormattedNumber) → compact_style n.formatter.now.options.notation n.formatter.now.options.style ≡ None
     → around_text n (pattern_around n.formatter.now n.value.sign) ≡ formatted_number_text n
 text-of_pattern n none =
     let f = n.formatter.now in
     sym (append-nil (around_text n (pattern_around f n.value.sign)))
-    ∙ ap (λ style. pieces_text (literal (unit_by f style n.whole).prefix) ++ (around_text n
-    (around_by f n.value.sign (chosen_pattern style n.choice))
-    ++ pieces_text (literal (unit_by f style n.whole).suffix))) (sym none)
+    ∙ ap (λ words. pieces_text (literal (unit_texts f.formats words f.options.style n.whole).prefix) ++ (around_text n
+    (around_by f n.value.sign (chosen_pattern words n.choice))
+    ++ pieces_text (literal (unit_texts f.formats words f.options.style n.whole).suffix))) (sym none)
     ∙ text-of_around n

@@ -185,12 +185,12 @@ rounded_value notation (Some o) v x valid e = scaled_value_is notation o v x e
 
 pub shown_value : (f : NumberFormatter) (v u : Decimal) → IsValue v.absolute → IsShownAs f v u → IsValue u.absolute
 shown_value f v u valid shown =
-    subst IsValue (sym shown.absolute) (go (multiplied_pow10 v.absolute f.scale) refl shown.number_is)
+    subst IsValue (sym shown.absolute) (go (multiplied_pow10 v.absolute f.options.scale) refl shown.number_is)
   where
-    go : (x : Option Unsigned) → multiplied_pow10 v.absolute f.scale ≡ x
+    go : (x : Option Unsigned) → multiplied_pow10 v.absolute f.options.scale ≡ x
         → option_and_then (rounded_in f.notation f.digits) (with_absolute v x) ≡ Some shown.number
         → IsValue shown.number.significand.absolute
     go None e h = absurd (cc)
     go (Some a) e h =
         rounded_value f.notation f.digits (record v { absolute = a }) shown.number
-        (multiplied_value v.absolute valid a f.scale e) h
+        (multiplied_value v.absolute valid a f.options.scale e) h

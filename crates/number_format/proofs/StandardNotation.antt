@@ -35,7 +35,7 @@ standard-none o v none =
     ap (λ m. option_and_then (written o v.sign (pos 0)) (settled Standard o v.sign m)) same ∙ rw none refl
 
 -- a number that is not scaled is the rounded one
-pub unscaled : (f : NumberFormatter) (v : Decimal) → IsValue v.absolute → f.scale ≡ pos 0
+pub unscaled : (f : NumberFormatter) (v : Decimal) → IsValue v.absolute → f.options.scale ≡ pos 0
     → shown_number f v ≡ rounded_in f.notation f.digits v
 unscaled f v valid none =
     (λ i. option_and_then (rounded_in f.notation f.digits) (with_absolute v (multiplied_pow10 v.absolute (none i))))

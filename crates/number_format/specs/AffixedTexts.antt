@@ -4,16 +4,11 @@ use Rattle.decimal_unsigned.specs.{Edits.multiplied_pow10, declared.error.ParseE
 use Rattle.fixed_decimal.specs.{Decimal.{Decimal, with_absolute}, declared.variations.Sign.Sign}
 use Rattle.decimal_format.specs.{Alternatives.{IsNumeralOfFirst, IsWrittenOfFirst}, Formatted.absolute_text, Lenient.normalized, Readable.{BeginsWithDigit, EndsWithDigit}, Reading.{Numeral, AreDigits, IsRead, absolute_numeral_text, separated_by}, Symbols.{Symbols, Affixes}}
 use Rattle.decimal_format.specs.declared.{grouping.GroupingStrategy.GroupingStrategy, reader.alternatives.Alternative.Alternative}
+use Rattle.number_format.specs.declared.affixes.SignAffixes.{SignAffixes}
 
 -- ---- Affixes.
 
--- the affixes of the three signs
-pub record AffixTable : Type 0 where
-  pub none : Affixes
-  pub negative : Affixes
-  pub positive : Affixes
-
-abbrev pub by_sign : AffixTable → Sign → Affixes
+abbrev pub by_sign : SignAffixes → Sign → Affixes
 by_sign t Sign.None = t.none
 by_sign t Sign.Negative = t.negative
 by_sign t Sign.Positive = t.positive
@@ -33,7 +28,7 @@ abbrev pub ArePairApart : Symbols → Affixes → Affixes → Type 0
 ArePairApart s a b = ArePrefixesApart s a.prefix b.prefix ⊎ AreSuffixesApart s a.suffix b.suffix
 
 -- the affixes around a number name its sign: those of each two signs are apart
-pub record AreNamed (s : Symbols) (t : AffixTable) : Type 0 where
+pub record AreNamed (s : Symbols) (t : SignAffixes) : Type 0 where
   pub pair : (x y : Sign) → x ≢ y → ArePairApart s (by_sign t x) (by_sign t y)
 
 -- ---- Texts.
@@ -41,7 +36,7 @@ pub record AreNamed (s : Symbols) (t : AffixTable) : Type 0 where
 -- what texts are read with: symbols, affixes, and the power of ten by which the number shown is multiplied
 pub record Reader : Type 0 where
   pub symbols : Symbols
-  pub affixes : AffixTable
+  pub affixes : SignAffixes
   pub shift : ℤ
 
 -- a text between the affixes of a sign

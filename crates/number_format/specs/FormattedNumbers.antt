@@ -5,8 +5,8 @@ use Rattle.decimal_format.specs.{Formatted.absolute_text, Symbols.Affixes, decla
 use Rattle.locale_data.specs.{Compact.{pattern_for, patterns_in}, Plurals.IsCategoryAt, declared.compact.{CompactPattern.CompactPattern, CompactStyle.CompactStyle}}
 use Rattle.plural_rules.specs.Operands as operands
 use Rattle.plural_rules.specs.declared.rules.PluralCategory.{PluralCategory}
-use Rattle.number_format.specs.declared.{compact_texts.CompactChoice.CompactChoice, formatted_number.FormattedNumber.FormattedNumber, number_formatter.NumberFormatter.NumberFormatter}
-use Rattle.number_format.specs.{NumberText.{around_by, compact_pattern, compact_magnitude, compact_power, is_one, unit_texts, unit_by, exponent_of, pieces_around}, PatternTexts.{Around, sign_text}, TextParts.{Piece, pieces_text}}
+use Rattle.number_format.specs.declared.{formatted_number.{CompactChoice.CompactChoice, FormattedNumber.FormattedNumber}, number_formatter.NumberFormatter.NumberFormatter}
+use Rattle.number_format.specs.{NumberText.{around_by, compact_style, compact_pattern, compact_magnitude, compact_power, is_one, unit_by, exponent_of, pieces_around}, PatternTexts.{Around, sign_text}, TextParts.{Piece, pieces_text}}
 
 -- the compact pattern that is chosen, in compact notation
 abbrev pub chosen_pattern : Option CompactStyle → CompactChoice → Option CompactPattern
@@ -14,7 +14,8 @@ chosen_pattern None choice = None
 chosen_pattern (Some style) choice = pattern_for choice.category choice.is_one (patterns_in choice.patterns)
 
 abbrev pub pattern_of : FormattedNumber → Option CompactPattern
-pattern_of n = chosen_pattern n.formatter.now.compact n.choice
+pattern_of n =
+    chosen_pattern (compact_style n.formatter.now.options.notation n.formatter.now.options.style) n.choice
 
 -- what is around the number
 abbrev pub around_of : FormattedNumber → Around
@@ -22,16 +23,13 @@ around_of n = around_by n.formatter.now n.value.sign (pattern_of n)
 
 -- and around the whole text
 abbrev pub unit_of : FormattedNumber → Affixes
-unit_of n = unit_by n.formatter.now n.formatter.now.compact n.whole
+unit_of n = unit_by n.formatter.now n.whole
 
 -- the pieces of a text, with their kinds
-abbrev pub shown_pieces : NumberFormatter → Decimal → ℤ → CompactChoice → PluralCategory → List Piece
-shown_pieces f value e choice whole =
-    pieces_around f value.absolute (exponent_of f e) (around_by f value.sign (chosen_pattern f.compact choice))
-    (unit_by f f.compact whole)
-
 abbrev pub formatted_number_pieces : FormattedNumber → List Piece
-formatted_number_pieces n = shown_pieces n.formatter.now n.value n.exponent n.choice n.whole
+formatted_number_pieces n =
+    pieces_around n.formatter.now n.value.absolute (exponent_of n.formatter.now.options.notation n.exponent)
+    (around_of n) (unit_of n)
 
 -- the text: that of the pieces
 abbrev pub formatted_number_text : FormattedNumber → List ℕ
@@ -40,18 +38,16 @@ formatted_number_text n = pieces_text (formatted_number_pieces n)
 -- ---- Private: used only in the contracts of private functions.
 
 -- an exponent: its separator, its sign and its digits, which are not grouped
-abbrev pub exponent_text : NumberFormatter → Decimal → List ℕ
-exponent_text f e = f.separator.text.now ++ (sign_text f.symbols e.sign ++ absolute_text f.symbols Never e.absolute)
-
-abbrev pub exponent_text_if : NumberFormatter → Option Decimal → List ℕ
-exponent_text_if f None = []
-exponent_text_if f (Some e) = exponent_text f e
+abbrev pub exponent_text : NumberFormatter → Option Decimal → List ℕ
+exponent_text f None = []
+exponent_text f (Some e) =
+    f.separator.text.now ++ (sign_text f.symbols e.sign ++ absolute_text f.symbols Never e.absolute)
 
 -- the digits of the significand, and the exponent
 abbrev pub number_text : FormattedNumber → List ℕ
 number_text n =
-    absolute_text n.formatter.now.symbols n.formatter.now.strategy n.value.absolute
-    ++ exponent_text_if n.formatter.now (exponent_of n.formatter.now n.exponent)
+    absolute_text n.formatter.now.symbols n.formatter.now.options.grouping n.value.absolute
+    ++ exponent_text n.formatter.now (exponent_of n.formatter.now.options.notation n.exponent)
 
 -- the same, if the text has a number
 abbrev pub number_text_if : FormattedNumber → Bool → List ℕ
@@ -62,15 +58,17 @@ abbrev pub around_text : FormattedNumber → Around → List ℕ
 around_text n a = pieces_text a.prefix ++ (number_text_if n a.has_number ++ pieces_text a.suffix)
 
 -- what chooses the same compact pattern as a significand does
-pub record ChoosesPattern (f : NumberFormatter) (style : Option CompactStyle) (significand : Decimal) (e : ℤ)
-    (choice : CompactChoice) : Type 0 where
+pub record ChoosesPattern (f : NumberFormatter) (significand : Decimal) (e : ℤ) (choice : CompactChoice)
+    : Type 0 where
   pub category : PluralCategory
   pub of_significand : IsCategoryAt f.rules (operands.plain significand.absolute) category
-  pub pattern : chosen_pattern style choice
+  pub pattern :
+      let style = compact_style f.options.notation f.options.style in
+      chosen_pattern style choice
       ≡ compact_pattern f.formats style (compact_magnitude significand e) category (is_one significand)
 
 -- and the same texts around the whole text
 pub record ChoosesUnit (f : NumberFormatter) (significand : Decimal) (e : ℤ) (chosen : PluralCategory) : Type 0 where
   pub category : PluralCategory
   pub of_whole : IsCategoryAt f.rules (operands.compact significand.absolute (unsigned_abs (compact_power e))) category
-  pub texts : unit_texts f.formats f.unit chosen ≡ unit_texts f.formats f.unit category
+  pub texts : unit_by f chosen ≡ unit_by f category

@@ -4,27 +4,10 @@ use Rattle.fixed_decimal.specs.declared.variations.SignDisplay.{SignDisplay}
 use Rattle.decimal_format.specs.{Symbols.Symbols, declared.grouping.{GroupingSizes.GroupingSizes, GroupingStrategy.GroupingStrategy}}
 use Rattle.locale_data.specs.declared.{compact.CompactStyle.CompactStyle, currency.{CurrencyPattern.CurrencyPattern, CurrencySign.CurrencySign}, formats_table.TheConstants.{PATTERNS, NUMBER_SIGNS}, number_formats.NumberFormats.NumberFormats, patterns.{NumberSigns.NumberSigns, Pattern.Pattern}, symbols_table.TheConstants.LOCALES, plurals.PluralRuleType.TheVariants.Cardinal}
 use Rattle.locale_data.specs.{Compact.IsExponent, Currencies.IsCurrencyPattern, Formats.AreFormatsOf, Locales.{IsListed, IsLocale, IsLocaleIn, IsSystemName, IsUnknown, system_named}, Patterns.{separator_text, exponent_text}, Plurals.{rules_text_at, IsRulesText, HasNoRules}, Rows.unpadded}
-use Rattle.number_format.specs.declared.{notation.Notation.Notation, number_formatter.{CompactUnit.CompactUnit, NumberFormatError.NumberFormatError, NumberFormatter.NumberFormatter}, number_options.{ExponentOptions.ExponentOptions, NumberNotation.NumberNotation, NumberOptions.NumberOptions, NumberStyle.NumberStyle, CompactLength.CompactLength}, number_style.ShownCurrency.ShownCurrency}
-use Rattle.number_format.specs.{DefaultDigits.AreDefaultDigits, NumberStyles.{plain_pattern, percent_text, text_or_nothing, in_system, IsShownBy, IsShownCurrency}}
+use Rattle.number_format.specs.declared.{notation.Notation.Notation, number_formatter.{NumberFormatError.NumberFormatError, NumberFormatter.NumberFormatter}, number_options.{NumberNotation.NumberNotation, NumberOptions.NumberOptions, NumberStyle.NumberStyle}, number_style.ShownCurrency.ShownCurrency}
+use Rattle.number_format.specs.{DefaultDigits.AreDefaultDigits, NumberStyles.{plain_pattern, percent_text, text_or_nothing, in_system, IsShownBy, IsShownCurrency}, NumberText.compact_style}
 
 -- ---- What options say by themselves.
-
--- the compact patterns: those of currencies are short
-abbrev pub compact_style : NumberStyle → NumberNotation → Option CompactStyle
-compact_style (NumberStyle.Currency c) (NumberNotation.Compact words) = Some CompactStyle.Currency
-compact_style other (NumberNotation.Compact CompactLength.Short) = Some CompactStyle.Short
-compact_style other (NumberNotation.Compact CompactLength.Long) = Some CompactStyle.Long
-compact_style other rest = None
-
-abbrev pub compact_unit : NumberStyle → NumberNotation → CompactUnit
-compact_unit NumberStyle.Percent (NumberNotation.Compact words) = CompactUnit.Percent
-compact_unit NumberStyle.Permille (NumberNotation.Compact words) = CompactUnit.Permille
-compact_unit other rest = CompactUnit.Nothing
-
-abbrev pub exponent_options : NumberNotation → Option ExponentOptions
-exponent_options (NumberNotation.Scientific o) = Some o
-exponent_options (NumberNotation.Engineering o) = Some o
-exponent_options other = None
 
 -- without a sign the pattern of accounts is not used
 abbrev pub currency_sign : SignDisplay → CurrencySign → CurrencySign
@@ -48,7 +31,6 @@ with_separators s p = record s {
 pub record IsWithoutCurrency (pattern : Pattern) (p : CurrencyPattern) (shown : ShownCurrency) : Type 0 where
   pub written : p ≡ record { pattern = pattern; decimal = None; grouping = None }
   pub hidden : IsShownBy [] false false shown
-  pub unnamed : shown.names ≡ None
 
 -- the pattern, the separators and the currency of a style; percent in compact notation has the pattern of plain numbers
 abbrev pub IsStyle : NumberStyle → NumberNotation → List ℕ → List ℕ → GroupingSizes → NumberFormats → SignDisplay
@@ -84,17 +66,12 @@ pub record IsFormatterIn (tag system : List ℕ) (own : Symbols) (o : NumberOpti
   pub style_is : IsStyle o.style o.notation tag system own.sizes f.formats o.sign_display written f.currency
   pub symbols : f.symbols
       ≡ record (with_separators own written) { sizes = style_sizes written.pattern o.grouping own.sizes }
-  pub strategy : f.strategy ≡ o.grouping
   pub pattern : f.pattern ≡ written.pattern
   pub percent : f.percent.text.now ≡ percent_text o.style signs.percent
   pub separator : f.separator.text.now ≡ exponent_text signs.exponent
-  pub unit_is : f.unit ≡ compact_unit o.style o.notation
-  pub scale : f.scale ≡ o.scale
-  pub notation_is : IsNotationBy f.formats o.notation (compact_style o.style o.notation) f.notation
-  pub compact_is : f.compact ≡ compact_style o.style o.notation
-  pub exponent : f.exponent ≡ exponent_options o.notation
+  pub options : f.options ≡ o
+  pub notation_is : IsNotationBy f.formats o.notation (compact_style o.notation o.style) f.notation
   pub digits : MatchOption o.digits (AreDefaultDigits o f.digits) (λ given. f.digits ≡ Some given)
-  pub sign_display : f.sign_display ≡ o.sign_display
 
 -- the formatter of a tag and options, in the numbering system of the options, or else that of the tag
 pub record IsFormatter (tag : List ℕ) (o : NumberOptions) (f : NumberFormatter) : Type 0 where

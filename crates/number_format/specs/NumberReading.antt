@@ -1,36 +1,34 @@
 -- What a formatter writes, read exactly and as people type it.
-use Rattle.std.specs.{Prelude.{◌≡◌, ◌≢◌, ℕ, ◌⊎◌, Bool, true, false, ◌||◌, if◌then◌else◌, List, [], ◌∷◌, ◌++◌, map, flat_map, codes, Option, Some, None, Result, Err, ◌-ℤ◌, pos, negsuc}, Str.IsUtf8}
+use Rattle.std.specs.{Prelude.{◌≡◌, ◌≢◌, ℕ, ◌⊎◌, List, [], ◌∷◌, ◌++◌, map, flat_map, codes, Some, Result, Err, ◌-ℤ◌, pos, negsuc}, Str.IsUtf8}
 use Rattle.decimal_unsigned.specs.declared.error.ParseError.{ParseError, TheVariants.Syntax}
 use Rattle.fixed_decimal.specs.{Decimal.Decimal, declared.variations.Sign.Sign}
 use Rattle.decimal_format.specs.{Readable.IsReadable, Symbols.{Affixes, affixes}, declared.reader.alternatives.Alternative.Alternative}
-use Rattle.locale_data.specs.declared.patterns.{Affix.Affix, Piece.{Piece, TheVariants.Percent}}
-use Rattle.number_format.specs.declared.{number_formatter.NumberFormatter.NumberFormatter, number_reader.{NumberReaderError.NumberReaderError, ParseMode.{ParseMode, TheVariants.{Strict, Lenient}}}, number_style.CurrencyNames.CurrencyNames}
-use Rattle.number_format.specs.{AffixedTexts.{AffixTable, AreNamed, Reader, IsReadExactly, IsReadTyped}, NumberStyles.text_or_nothing, NumberText.{pattern_around, shown_number, shown_sign}, Scaled.ScaledValue, TextParts.pieces_text}
+use Rattle.number_format.specs.declared.{affixes.SignAffixes.SignAffixes, number_formatter.NumberFormatter.NumberFormatter, number_options.{NumberNotation.NumberNotation, NumberStyle.NumberStyle}, number_reader.{NumberReaderError.NumberReaderError, ParseMode.{ParseMode, TheVariants.{Strict, Lenient}}}}
+use Rattle.number_format.specs.{AffixedTexts.{AreNamed, Reader, IsReadExactly, IsReadTyped}, NumberStyles.text_or_nothing, NumberText.{pattern_around, shown_number, shown_sign}, Scaled.ScaledValue, TextParts.pieces_text}
 
 -- ---- Exactly.
 
 -- the notation is `Standard`: no words and no exponent
-pub record IsStandard (f : NumberFormatter) : Type 0 where
-  pub compact : f.compact ≡ None
-  pub exponent : f.exponent ≡ None
+abbrev pub IsStandard : NumberFormatter → Type 0
+IsStandard f = f.options.notation ≡ NumberNotation.Standard
 
 -- what the formatter writes around a number that is shown with a sign
 abbrev pub affixes_for : NumberFormatter → Sign → Affixes
 affixes_for f s =
     affixes (pieces_text (pattern_around f s).prefix) (pieces_text (pattern_around f s).suffix)
 
-abbrev pub affixes_of_formatter : NumberFormatter → AffixTable
+abbrev pub affixes_of_formatter : NumberFormatter → SignAffixes
 affixes_of_formatter f =
     let by = affixes_for f in
     record { none = by Sign.None; negative = by Sign.Negative; positive = by Sign.Positive }
 
 -- the reader of its texts, which undoes its scale
 abbrev pub reader_of : NumberFormatter → Reader
-reader_of f = record { symbols = f.symbols; affixes = affixes_of_formatter f; shift = pos 0 -ℤ f.scale }
+reader_of f = record { symbols = f.symbols; affixes = affixes_of_formatter f; shift = pos 0 -ℤ f.options.scale }
 
 -- the notation and the scale can be undone
 abbrev pub CanUndo : NumberFormatter → Type 0
-CanUndo f = IsStandard f × (f.scale ≢ negsuc 32767)
+CanUndo f = IsStandard f × (f.options.scale ≢ negsuc 32767)
 
 -- the texts of the formatter are read: a text has at most one sign and one number
 pub record CanRead (f : NumberFormatter) : Type 0 where
@@ -41,7 +39,7 @@ pub record CanRead (f : NumberFormatter) : Type 0 where
 -- what an error says
 abbrev pub CannotRead : NumberReaderError → NumberFormatter → Type 0
 CannotRead NumberReaderError.Notation f = ¬ IsStandard f
-CannotRead NumberReaderError.Scale f = IsStandard f × (f.scale ≡ negsuc 32767)
+CannotRead NumberReaderError.Scale f = IsStandard f × (f.options.scale ≡ negsuc 32767)
 CannotRead NumberReaderError.Memory f = CanUndo f
 CannotRead NumberReaderError.Symbols f = CanUndo f × ¬ IsReadable f.symbols
 CannotRead NumberReaderError.Affixes f =
@@ -56,19 +54,12 @@ pub record IsShownAs (f : NumberFormatter) (v u : Decimal) : Type 0 where
 
 -- ---- As people type it.
 
-abbrev pub is_percent : Piece → Bool
-is_percent Percent = true
-is_percent other = false
-
-abbrev pub has_percent : Affix → Bool
-has_percent a = is_percent a.first || (is_percent a.second || (is_percent a.third || is_percent a.fourth))
-
--- the names of a number: the symbol, the narrow symbol and the code of the currency, or the percent sign of the pattern
-abbrev pub names_by : NumberFormatter → Option CurrencyNames → List (List ℕ)
-names_by f (Some n) = n.symbol.now ∷ n.narrow.now ∷ text_or_nothing f.currency.code ∷ []
-names_by f None =
-    (if has_percent f.pattern.positive.prefix || has_percent f.pattern.positive.suffix then f.percent.text.now else [])
-    ∷ [] ∷ [] ∷ []
+-- the names of a number: the symbol, the narrow symbol and the code of the currency, or the percent sign
+abbrev pub names_by : NumberFormatter → NumberStyle → List (List ℕ)
+names_by f (NumberStyle.Currency c) =
+    f.currency.wide.now ∷ f.currency.narrow.now ∷ text_or_nothing f.currency.code ∷ []
+names_by f NumberStyle.Decimal = [] ∷ [] ∷ [] ∷ []
+names_by f other = f.percent.text.now ∷ [] ∷ [] ∷ []
 
 -- what is around a number, and the sign that it shows
 abbrev pub form : List ℕ → List ℕ → Sign → Affixes × Sign
@@ -90,7 +81,7 @@ abbrev pub typed_forms : NumberFormatter → List (Affixes × Sign)
 typed_forms f =
     (affixes_for f Sign.None, Sign.None) ∷ (affixes_for f Sign.Negative, Sign.Negative)
     ∷ (affixes_for f Sign.Positive, Sign.Positive) ∷ form [] [] Sign.None
-    ∷ form (codes "(") (codes ")") Sign.Negative ∷ flat_map forms_of_name (names_by f f.currency.names)
+    ∷ form (codes "(") (codes ")") Sign.Negative ∷ flat_map forms_of_name (names_by f f.options.style)
 
 pub record NumberReader : Type 0 where
   pub texts : Reader

@@ -1,5 +1,5 @@
 -- What a style of numbers writes: its pattern, its percent sign, and its currency.
-use Rattle.std.specs.{Prelude.{◌≡◌, ℕ, Bool, true, false, not, codes, ◌&&◌, if◌then◌else◌, List, [], ◌∷◌, map, Option, Some, None, IsSomeAnd, MatchOption}, Char.to_ascii_uppercase, Option.option_map_or, Str.{is_utf8, bytes_eq}}
+use Rattle.std.specs.{Prelude.{◌≡◌, ℕ, Bool, true, false, not, codes, ◌&&◌, if◌then◌else◌, List, [], ◌∷◌, map, Option, Some, None, MatchOption}, Char.to_ascii_uppercase, Option.option_map_or, Str.{is_utf8, bytes_eq}}
 use Rattle.decimal_format.specs.declared.grouping.GroupingSizes.{GroupingSizes}
 use Rattle.locale_data.specs.{Currencies.{currency_with, IsSymbolOf}, declared.{currency.{CurrencySymbol.CurrencySymbol, SymbolWidth.SymbolWidth}, patterns.{Affix.Affix, AffixPair.AffixPair, Pattern.Pattern, PercentSign.PercentSign, Piece.{Piece, TheVariants.{Empty, Minus, Plus, Currency}}}}}
 use Rattle.locale_data.specs.Patterns as pattern
@@ -91,8 +91,7 @@ pub record IsShownCurrency (tag : List ℕ) (style : CurrencyStyle) (shown : Sho
   pub narrow_is : IsSymbolIn tag style.code SymbolWidth.Narrow narrow
   pub code_is : shown.code ≡ map to_ascii_uppercase style.code
   pub displayed : IsDisplayed style.display wide narrow shown
-  pub named : IsSomeAnd shown.names
-      (λ names. (names.symbol.now ≡ symbol_text wide) × (names.narrow.now ≡ symbol_text narrow))
+  pub named : (shown.wide.now ≡ symbol_text wide) × (shown.narrow.now ≡ symbol_text narrow)
 
 -- a digit of `hanidec` is a letter, which no space separates from a currency
 abbrev pub in_system : List ℕ → ShownCurrency → ShownCurrency

@@ -1,5 +1,5 @@
 -- The text of a number: what a formatter writes.
-use Rattle.std.specs.{Prelude.{◌≡◌, ℕ, ◌==◌, min, Bool, true, false, not, ◌&&◌, if◌then◌else◌, ◌⊎◌, IsSomeAnd, List, [], ◌∷◌, ◌++◌, Option, Some, None, option_and_then, slice_get, unsigned_abs, ℤ, pos, ◌+ℤ◌, int_lt}, Int.{int_max, int_min}, Option.option_map}
+use Rattle.std.specs.{Prelude.{◌≡◌, ℕ, ◌==◌, min, Bool, true, false, not, ◌&&◌, if◌then◌else◌, ◌⊎◌, IsSomeAnd, List, [], ◌∷◌, ◌++◌, Option, Some, None, option_and_then, slice_get, unsigned_abs, ℤ, pos, ◌+ℤ◌, int_lt}, Int.{int_max, int_min}}
 use Rattle.decimal_digits.specs.{Number.first, declared.rounding.RoundingIncrement.TheVariants.MultiplesOf25}
 use Rattle.decimal_unsigned.specs.{Unsigned.{Unsigned, integer_value}, Edits.{multiplied_pow10, padded_start}, declared.decimal.TheConstants.INLINE_DIGITS}
 use Rattle.fixed_decimal.specs.{Decimal.{Decimal, with_absolute, displayed_sign}, DecimalText.IsLong, declared.variations.Sign.Sign}
@@ -8,8 +8,8 @@ use Rattle.plural_rules.specs.Operands as operands
 use Rattle.plural_rules.specs.declared.rules.PluralCategory.{PluralCategory}
 use Rattle.locale_data.specs.declared.{compact.{AffixText.AffixText, CompactForm.CompactForm, CompactPattern.CompactPattern, CompactStyle.CompactStyle, PercentUnit.PercentUnit}, compact_table.TheConstants.PERCENT_UNITS, number_formats.NumberFormats.NumberFormats, rows.TableRange.TableRange}
 use Rattle.locale_data.specs.{Compact.{text_of, pattern_for, compact_patterns, unit_for}, Plurals.IsCategoryAt}
-use Rattle.number_format.specs.declared.{digit_options.DigitOptions.DigitOptions, notation.Notation.Notation, number_around.NumberAffixes.NumberAffixes, number_formatter.{CompactUnit.CompactUnit, NumberFormatter.NumberFormatter}, number_options.{ExponentOptions.ExponentOptions, ExponentSign.ExponentSign}, text_part.PartKind.PartKind}
-use Rattle.number_format.specs.{NumberStyles.currency_text, PatternTexts.{Style, Around, around, literal, sign_text, sign_pieces, space_if, style_around}, ShownDigits.base_of, TextParts.{pieces_text, pieces_of, parts_pieces, digit_pieces}, Scaled.{ScaledValue, scaled_value, scaled}}
+use Rattle.number_format.specs.declared.{digit_options.DigitOptions.DigitOptions, notation.Notation.Notation, number_around.NumberAffixes.NumberAffixes, number_formatter.NumberFormatter.NumberFormatter, number_options.{CompactLength.CompactLength, ExponentOptions.ExponentOptions, ExponentSign.ExponentSign, NumberNotation.NumberNotation, NumberStyle.NumberStyle}, text_part.PartKind.PartKind}
+use Rattle.number_format.specs.{NumberStyles.currency_text, PatternTexts.{Around, around, literal, sign_text, sign_pieces, space_if, style_around}, ShownDigits.base_of, TextParts.{pieces_text, pieces_of, parts_pieces, digit_pieces}, Scaled.{ScaledValue, scaled_value, scaled}}
 use Rattle.number_format.specs.TextParts as parts
 
 -- ---- The number: scaled, rounded, and split into a significand and an exponent.
@@ -22,21 +22,17 @@ rounded_in notation (Some digits) v = scaled notation digits v
 -- none if a limit is passed
 abbrev pub shown_number : NumberFormatter → Decimal → Option ScaledValue
 shown_number f v =
-    option_and_then (rounded_in f.notation f.digits) (with_absolute v (multiplied_pow10 v.absolute f.scale))
+    option_and_then (rounded_in f.notation f.digits) (with_absolute v (multiplied_pow10 v.absolute f.options.scale))
 
 -- the sign that is shown, of the rounded number
 abbrev pub shown_sign : NumberFormatter → Decimal → Sign
-shown_sign f v = displayed_sign f.sign_display v.absolute.number v.sign
+shown_sign f v = displayed_sign f.options.sign_display v.absolute.number v.sign
 
 -- ---- Before and after the number.
 
-abbrev pub style_of : NumberFormatter → Style
-style_of f =
-    record { symbols = f.symbols; percent = f.percent.text.now; currency = f.currency; pattern = f.pattern }
-
 -- the pattern of the formatter, for a sign
 abbrev pub pattern_around : NumberFormatter → Sign → Around
-pattern_around f s = style_around (style_of f) s
+pattern_around f s = style_around f.symbols f.percent.text.now f.currency f.pattern s
 
 abbrev pub is_empty : List ℕ → Bool
 is_empty [] = true
@@ -112,21 +108,25 @@ abbrev pub exponent_kind : Sign → PartKind
 exponent_kind Sign.Positive = PartKind.ExponentPlusSign
 exponent_kind other = PartKind.ExponentMinusSign
 
-abbrev pub exponent_pieces : NumberFormatter → Decimal → List parts.Piece
-exponent_pieces f e =
+abbrev pub exponent_pieces : NumberFormatter → Option Decimal → List parts.Piece
+exponent_pieces f None = []
+exponent_pieces f (Some e) =
     pieces_of PartKind.ExponentSeparator f.separator.text.now
     ++ (pieces_of (exponent_kind e.sign) (sign_text f.symbols e.sign)
     ++ digit_pieces PartKind.ExponentInteger f.symbols Never e.absolute)
 
-abbrev pub exponent_part : NumberFormatter → Option Decimal → List parts.Piece
-exponent_part f None = []
-exponent_part f (Some e) = exponent_pieces f e
-
 -- the digits of a significand and of an exponent, if there is one
 abbrev pub number_part : NumberFormatter → Unsigned → Option Decimal → List parts.Piece
-number_part f v e = digit_pieces PartKind.Integer f.symbols f.strategy v ++ exponent_part f e
+number_part f v e = digit_pieces PartKind.Integer f.symbols f.options.grouping v ++ exponent_pieces f e
 
 -- ---- Compact notation.
+
+-- the compact patterns: those of currencies are short
+abbrev pub compact_style : NumberNotation → NumberStyle → Option CompactStyle
+compact_style (NumberNotation.Compact words) (NumberStyle.Currency c) = Some CompactStyle.Currency
+compact_style (NumberNotation.Compact CompactLength.Short) other = Some CompactStyle.Short
+compact_style (NumberNotation.Compact CompactLength.Long) other = Some CompactStyle.Long
+compact_style rest other = None
 
 -- the number is the integer 1, without a minus sign
 abbrev pub is_negative : Sign → Bool
@@ -156,15 +156,15 @@ percent_texts None category = affixes [] []
 percent_texts (Some unit) category =
     affixes (text_of (unit_for unit category).prefix) (text_of (unit_for unit category).suffix)
 
--- what is written around the whole text: percent has a pattern of its own
-abbrev pub unit_texts : NumberFormats → CompactUnit → PluralCategory → Affixes
-unit_texts formats CompactUnit.Nothing category = affixes [] []
-unit_texts formats CompactUnit.Percent category = percent_texts (slice_get PERCENT_UNITS formats.unit) category
-unit_texts formats CompactUnit.Permille category = affixes [] (226 ∷ 128 ∷ 176 ∷ [])
+-- what is written around the whole text in compact notation: percent has a pattern of its own
+abbrev pub unit_texts : NumberFormats → Option CompactStyle → NumberStyle → PluralCategory → Affixes
+unit_texts formats (Some words) NumberStyle.Percent category =
+    percent_texts (slice_get PERCENT_UNITS formats.unit) category
+unit_texts formats (Some words) NumberStyle.Permille category = affixes [] (226 ∷ 128 ∷ 176 ∷ [])
+unit_texts formats words style category = affixes [] []
 
-abbrev pub unit_by : NumberFormatter → Option CompactStyle → PluralCategory → Affixes
-unit_by f None category = affixes [] []
-unit_by f (Some style) category = unit_texts f.formats f.unit category
+abbrev pub unit_by : NumberFormatter → PluralCategory → Affixes
+unit_by f = unit_texts f.formats (compact_style f.options.notation f.options.style) f.options.style
 
 -- ---- The text.
 
@@ -174,8 +174,10 @@ pieces_around f v e a u =
     ++ ((if a.has_number then number_part f v e else []) ++ (a.suffix ++ literal u.suffix))
 
 -- the exponent as it is shown, if the notation has one
-abbrev pub exponent_of : NumberFormatter → ℤ → Option Decimal
-exponent_of f e = option_map (λ o. shown_exponent o e) f.exponent
+abbrev pub exponent_of : NumberNotation → ℤ → Option Decimal
+exponent_of (NumberNotation.Scientific o) e = Some (shown_exponent o e)
+exponent_of (NumberNotation.Engineering o) e = Some (shown_exponent o e)
+exponent_of other e = None
 
 -- the pieces of a number, with their kinds; compact patterns are by the plural category of the significand as it is
 -- shown, and those around the whole text by that of the whole number
@@ -187,10 +189,10 @@ pub record AreNumberPieces (f : NumberFormatter) (v : Decimal) (pieces : List pa
   pub of_significand : IsCategoryAt f.rules (operands.plain number.significand.absolute) category
   pub of_whole : IsCategoryAt f.rules
       (operands.compact number.significand.absolute (unsigned_abs (compact_power number.exponent))) whole
-  pub value : pieces ≡ pieces_around f number.significand.absolute (exponent_of f number.exponent)
-      (around_by f (shown_sign f number.significand) (compact_pattern f.formats f.compact
-      (compact_magnitude number.significand number.exponent) category (is_one number.significand)))
-      (unit_by f f.compact whole)
+  pub value : pieces ≡ pieces_around f number.significand.absolute (exponent_of f.options.notation number.exponent)
+      (around_by f (shown_sign f number.significand)
+      (compact_pattern f.formats (compact_style f.options.notation f.options.style)
+      (compact_magnitude number.significand number.exponent) category (is_one number.significand))) (unit_by f whole)
 
 -- the text of a number: that of its pieces
 abbrev pub IsNumberText : NumberFormatter → Decimal → List ℕ → Type 0

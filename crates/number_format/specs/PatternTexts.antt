@@ -6,13 +6,6 @@ use Rattle.locale_data.specs.{Patterns.{literal_text, affixes_of}, declared.patt
 use Rattle.number_format.specs.{NumberStyles.{currency_text, ends_with_currency, begins_with_currency}, TextParts.{pieces_text, pieces_of}, declared.{number_style.ShownCurrency.ShownCurrency, sign_texts.{AffixTexts.AffixTexts, SignTexts.SignTexts}, text_part.PartKind.PartKind}}
 use Rattle.number_format.specs.TextParts as parts
 
--- a pattern, and the texts of its pieces
-pub record Style : Type 0 where
-  pub symbols : Symbols
-  pub percent : List ℕ
-  pub currency : ShownCurrency
-  pub pattern : Pattern
-
 pub record Around : Type 0 where
   pub prefix : List parts.Piece
   pub has_number : Bool
@@ -43,32 +36,32 @@ pattern_kind Piece.Percent = PartKind.PercentSign
 pattern_kind Piece.Currency = PartKind.Currency
 pattern_kind other = PartKind.Literal
 
-abbrev pub pattern_text : Style → Piece → List ℕ
-pattern_text f Piece.Minus = sign_text f.symbols Sign.Negative
-pattern_text f Piece.Plus = sign_text f.symbols Sign.Positive
-pattern_text f Piece.Percent = f.percent
-pattern_text f Piece.Currency = currency_text f.currency
-pattern_text f other = literal_text other
+abbrev pub pattern_text : Symbols → List ℕ → ShownCurrency → Piece → List ℕ
+pattern_text symbols percent currency Piece.Minus = sign_text symbols Sign.Negative
+pattern_text symbols percent currency Piece.Plus = sign_text symbols Sign.Positive
+pattern_text symbols percent currency Piece.Percent = percent
+pattern_text symbols percent currency Piece.Currency = currency_text currency
+pattern_text symbols percent currency other = literal_text other
 
-abbrev pub pattern_pieces : Style → Piece → List parts.Piece
-pattern_pieces f p = pieces_of (pattern_kind p) (pattern_text f p)
+abbrev pub pattern_pieces : Symbols → List ℕ → ShownCurrency → Piece → List parts.Piece
+pattern_pieces symbols percent currency p = pieces_of (pattern_kind p) (pattern_text symbols percent currency p)
 
-abbrev pub affix_pieces : Style → Affix → List parts.Piece
-affix_pieces f a =
-    pattern_pieces f a.first
-    ++ (pattern_pieces f a.second ++ (pattern_pieces f a.third ++ pattern_pieces f a.fourth))
+-- an affix, by the pieces of its pieces
+abbrev pub affix_pieces : (Piece → List parts.Piece) → Affix → List parts.Piece
+affix_pieces of a = of a.first ++ (of a.second ++ (of a.third ++ of a.fourth))
 
 -- a space, U+00A0, if a currency needs one beside a digit
 abbrev pub space_if : Bool → List parts.Piece
 space_if needed = if needed then literal (194 ∷ 160 ∷ []) else []
 
 -- a pattern, for a sign
-abbrev pub style_around : Style → Sign → Around
-style_around f s =
-    let prefix = (affixes_of f.pattern s).prefix in
-    let suffix = (affixes_of f.pattern s).suffix in
-    around (affix_pieces f prefix ++ space_if (ends_with_currency prefix && f.currency.space_after)) true
-    (space_if (begins_with_currency suffix && f.currency.space_before) ++ affix_pieces f suffix)
+abbrev pub style_around : Symbols → List ℕ → ShownCurrency → Pattern → Sign → Around
+style_around symbols percent currency pattern s =
+    let pieces = pattern_pieces symbols percent currency in
+    let prefix = (affixes_of pattern s).prefix in
+    let suffix = (affixes_of pattern s).suffix in
+    around (affix_pieces pieces prefix ++ space_if (ends_with_currency prefix && currency.space_after)) true
+    (space_if (begins_with_currency suffix && currency.space_before) ++ affix_pieces pieces suffix)
 
 -- the texts of the pieces around a number
 pub record AreAffixTexts (a : Around) (t : AffixTexts) : Type 0 where
@@ -81,5 +74,6 @@ texts_for t Sign.Negative = t.negative
 texts_for t Sign.Positive = t.positive
 
 -- those of each sign
-abbrev pub AreSignTexts : Style → SignTexts → Type 0
-AreSignTexts style t = (s : Sign) → AreAffixTexts (style_around style s) (texts_for t s)
+abbrev pub AreSignTexts : Symbols → List ℕ → ShownCurrency → Pattern → SignTexts → Type 0
+AreSignTexts symbols percent currency pattern t =
+    (s : Sign) → AreAffixTexts (style_around symbols percent currency pattern s) (texts_for t s)

@@ -66,14 +66,6 @@ pub struct SignAffixes {
     pub(crate) positive: OwnedAffixes,
 }
 
-impl Model for SignAffixes {
-    ghost use Rattle.number_format.specs.AffixedTexts.{AffixTable};
-
-    ghost Value = { AffixTable };
-
-    ghost view = { λ s. record { none = s.none; negative = s.negative; positive = s.positive } };
-}
-
 fn are_prefixes_apart(symbols: &DecimalSymbols<'_>, first: &str, second: &str) -> bool
     requires { IsReadable symbols.now }
     ensures { IsTrue result ↔ ArePrefixesApart symbols.now first.now second.now }

@@ -1,13 +1,11 @@
 //! Formatters by locale and options.
 ghost use Rattle.std.specs.Prelude.{◌≡◌, IfOk, IfErr};
 ghost use Rattle.locale_data.specs.{Formats.AreFormatsOf, Plurals.HasNoRules};
-ghost use Rattle.number_format.specs.Formatters.{style_sizes, compact_style, compact_unit, exponent_options, currency_sign, with_separators, IsWithoutCurrency, IsStyle, IsNotationBy, AreExponents, IsFormatterIn, IsFormatter, IsFormatterError};
+ghost use Rattle.number_format.specs.{Formatters.{style_sizes, currency_sign, with_separators, IsWithoutCurrency, IsStyle, IsNotationBy, AreExponents, IsFormatterIn, IsFormatter, IsFormatterError}, NumberText.compact_style};
 
 use crate::notation::{CompactExponents, Notation};
-use crate::number_formatter::{CompactUnit, NumberFormatError, NumberFormatter};
-use crate::number_options::{
-    CompactLength, ExponentOptions, NumberNotation, NumberOptions, NumberStyle,
-};
+use crate::number_formatter::{NumberFormatError, NumberFormatter};
+use crate::number_options::{CompactLength, NumberNotation, NumberOptions, NumberStyle};
 use crate::number_style::{ShownCurrency, percent_text, plain_pattern, text_or_nothing};
 use crate::text_part::{PartKind, TextPart};
 use decimal_format::{DecimalSymbols, GroupingSizes, GroupingStrategy};
@@ -32,40 +30,20 @@ fn style_sizes(pattern: &Pattern, strategy: GroupingStrategy, own: GroupingSizes
 }
 
 impl NumberOptions {
-    fn compact_style(&self) -> Option<CompactStyle>
-        ensures { result ≡ compact_style self.now.style self.now.notation }
+    #[inline(always)]
+    pub(crate) fn compact_style(&self) -> Option<CompactStyle>
+        ensures { result ≡ compact_style self.now.notation self.now.style }
     {
-        match (self.style, self.notation) {
-            (NumberStyle::Currency(_), NumberNotation::Compact(_)) => Some(CompactStyle::Currency),
-            (_, NumberNotation::Compact(CompactLength::Short)) => Some(CompactStyle::Short),
-            (_, NumberNotation::Compact(CompactLength::Long)) => Some(CompactStyle::Long),
-            _ => None,
-        }
-    }
-
-    fn compact_unit(&self) -> CompactUnit
-        ensures { result ≡ compact_unit self.now.style self.now.notation }
-    {
-        match (self.style, self.notation) {
-            (NumberStyle::Percent, NumberNotation::Compact(_)) => CompactUnit::Percent,
-            (NumberStyle::Permille, NumberNotation::Compact(_)) => CompactUnit::Permille,
-            _ => CompactUnit::Nothing,
-        }
-    }
-
-    fn exponent_options(&self) -> Option<ExponentOptions>
-        ensures { result ≡ exponent_options self.now.notation }
-    {
-        match self.notation {
-            NumberNotation::Scientific(options) | NumberNotation::Engineering(options) => {
-                Some(options)
-            }
+        match (self.notation, self.style) {
+            (NumberNotation::Compact(_), NumberStyle::Currency(_)) => Some(CompactStyle::Currency),
+            (NumberNotation::Compact(CompactLength::Short), _) => Some(CompactStyle::Short),
+            (NumberNotation::Compact(CompactLength::Long), _) => Some(CompactStyle::Long),
             _ => None,
         }
     }
 
     fn notation(&self, formats: &NumberFormats) -> Notation
-        ensures { IsNotationBy formats.now self.now.notation (compact_style self.now.style self.now.notation) result }
+        ensures { IsNotationBy formats.now self.now.notation (compact_style self.now.notation self.now.style) result }
     {
         match (self.notation, self.compact_style()) {
             (_, Some(style)) => Notation::Compact(compact_exponents(formats, style)),
@@ -164,20 +142,15 @@ impl NumberFormatter {
         let percent = percent_text(options.style, signs.percent);
         let mut formatter = NumberFormatter {
             symbols,
-            strategy: options.grouping,
             pattern: written.pattern,
             percent: TextPart::new(PartKind::PercentSign, percent),
             separator: TextPart::new(PartKind::ExponentSeparator, signs.exponent.text()),
             currency,
             formats,
             rules,
-            unit: options.compact_unit(),
-            scale: options.scale,
+            options: *options,
             notation: options.notation(&formats),
-            compact: options.compact_style(),
-            exponent: options.exponent_options(),
             digits: options.digits.or_else(|| options.default_digits()),
-            sign_display: options.sign_display,
             sign_texts: None,
         };
         formatter.sign_texts = formatter.sign_texts();

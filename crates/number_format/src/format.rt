@@ -1,25 +1,18 @@
 //! Formatting of a number.
-ghost use Rattle.std.specs.Prelude.{◌≡◌, ◌≢◌, Some, None, pos, true, IfOk, IfErr, IsErrOf, IsSomeAnd, OnOk, OnErr};
-ghost use Rattle.std.specs.Io.KnownBytes.{Appends};
-ghost use Rattle.decimal_digits.specs.AppendsPrefix.{AppendsPrefix};
-ghost use Rattle.decimal_unsigned.specs.Unsigned.{IsValue};
+ghost use Rattle.std.specs.{Prelude.{◌≡◌, ◌≢◌, Some, None, pos, true, IfOk, IfErr, IsErrOf, IsSomeAnd, OnOk, OnErr}, Io.KnownBytes.Appends};
+ghost use Rattle.decimal_digits.specs.{AppendsPrefix.AppendsPrefix, declared.rounding.RoundingIncrement.TheVariants.MultiplesOf25};
 ghost use Rattle.fixed_decimal.specs.Decimal.{Decimal};
-ghost use Rattle.decimal_digits.specs.declared.rounding.RoundingIncrement.TheVariants.{MultiplesOf25};
 ghost use Rattle.locale_data.specs.Plurals.{IsCategoryAt};
-ghost use Rattle.number_format.specs.FormattedNumbers.{formatted_number_pieces, formatted_number_text, ChoosesPattern, ChoosesUnit};
-ghost use Rattle.number_format.specs.NumberText.{shown_number, is_one, compact_magnitude, compact_power, exponent_sign, shown_exponent, rounded_in, AreNumberPieces, IsNumberText, HasNumberText, NeedsMemory};
-ghost use Rattle.number_format.specs.Scaled.{scaled_value};
-ghost use Rattle.number_format.specs.ShownDigits.{base_of};
+ghost use Rattle.number_format.specs.{FormattedNumbers.{formatted_number_pieces, formatted_number_text, ChoosesPattern, ChoosesUnit}, NumberText.{shown_number, is_one, compact_magnitude, compact_power, exponent_sign, shown_exponent, rounded_in, AreNumberPieces, IsNumberText, HasNumberText, NeedsMemory}, Scaled.scaled_value, ShownDigits.base_of};
 
-use crate::compact_texts::{CompactChoice, NO_CHOICE};
-use crate::formatted_number::FormattedNumber;
+use crate::formatted_number::{CompactChoice, FormattedNumber, NO_CHOICE};
 use crate::notation::Notation;
-use crate::number_formatter::{CompactUnit, NumberFormatter};
-use crate::number_options::{ExponentOptions, ExponentSign};
+use crate::number_formatter::NumberFormatter;
+use crate::number_options::{ExponentOptions, ExponentSign, NumberStyle};
 use fixed_decimal::{
     Decimal, DecimalStore, RoundError, Sign, Sink, SinkFault, UnsignedDecimal, Writeable,
 };
-use locale_data::{CompactStyle, plural_category_at};
+use locale_data::plural_category_at;
 use plural_rules::{PluralCategory, PluralOperands};
 use std::alloc::Global;
 
@@ -84,6 +77,7 @@ pub(crate) fn shown_exponent(alloc: Global, options: ExponentOptions, exponent: 
 }
 
 impl NumberFormatter {
+    #[inline(always)]
     fn rounded(&self, value: &mut Decimal) -> Result<i32, RoundError>
         ensures ok { IfOk result
             (λ e. rounded_in self.now.notation self.now.digits value.old ≡ Some (scaled_value value.new e)) }
@@ -91,28 +85,14 @@ impl NumberFormatter {
             → rounded_in self.now.notation self.now.digits value.old ≡ None }
         ensures memory { IsErrOf result RoundError.Memory
             → IsSomeAnd self.now.digits (λ o. base_of o.precision ≡ MultiplesOf25) }
+        ensures unchanged { self.now.notation ≡ Notation.Standard → OnErr result (value.new ≡ value.old) }
     {
-        match &self.digits {
-            Some(digits) => self.notation.scale_in_place(digits, value),
-            None => Ok(0),
-        }
-    }
-
-    /// Rounds in standard notation without a scale, by one step.
-    fn round_in_place(&self, value: &mut Decimal) -> Result<i32, RoundError>
-        requires standard { self.now.notation ≡ Notation.Standard }
-        requires unscaled { self.now.scale ≡ pos 0 }
-        ensures ok { IfOk result (λ e. shown_number self.now value.old ≡ Some (scaled_value value.new e)) }
-        ensures unchanged { OnErr result (value.new ≡ value.old) }
-        ensures limit { IsErrOf result RoundError.Limit → shown_number self.now value.old ≡ None }
-        ensures memory { IsErrOf result RoundError.Memory
-            → IsSomeAnd self.now.digits (λ o. base_of o.precision ≡ MultiplesOf25) }
-    {
-        // Proof hint: the value satisfies its invariant.
-        let _range = value.absolute.magnitude_range();
-        match &self.digits {
-            Some(digits) => digits.show_in_place(value),
-            None => Ok(0),
+        let Some(digits) = &self.digits else {
+            return Ok(0);
+        };
+        match &self.notation {
+            Notation::Standard => digits.show_in_place(value),
+            notation => notation.scale_in_place(digits, value),
         }
     }
 
@@ -122,11 +102,15 @@ impl NumberFormatter {
         ensures limit { IsErrOf result RoundError.Limit → shown_number self.now value.old ≡ None }
         ensures memory { IsErrOf result RoundError.Memory
             → IsSomeAnd self.now.digits (λ o. base_of o.precision ≡ MultiplesOf25) }
+        ensures unchanged { self.now.notation ≡ Notation.Standard → self.now.options.scale ≡ pos 0
+            → OnErr result (value.new ≡ value.old) }
     {
-        if matches!(self.notation, Notation::Standard) && self.scale == 0 {
-            return self.round_in_place(value);
+        if self.options.scale == 0 {
+            // Proof hint: the value satisfies its invariant.
+            let _range = value.absolute.magnitude_range();
+            return self.rounded(value);
         }
-        if let Err(_) = value.absolute.multiply_pow10(self.scale) {
+        if let Err(_) = value.absolute.multiply_pow10(self.options.scale) {
             return Err(RoundError::Limit);
         }
         self.rounded(value)
@@ -139,8 +123,8 @@ impl NumberFormatter {
         ensures limit { IsErrOf result RoundError.Limit → shown_number self.now value.old ≡ None }
         ensures memory { IsErrOf result RoundError.Memory → NeedsMemory self.now value.old }
     {
-        if matches!(self.notation, Notation::Standard) && self.scale == 0 {
-            return self.round_in_place(value);
+        if matches!(self.notation, Notation::Standard) && self.options.scale == 0 {
+            return self.shown_number(value);
         }
         let Ok(kept) = value.clone() else {
             return Err(RoundError::Memory);
@@ -165,14 +149,12 @@ impl NumberFormatter {
     }
 
     /// Returns what chooses a compact pattern. If all numbers have one pattern, the significand is not read.
-    fn compact_choice(
-        &self,
-        style: CompactStyle,
-        significand: &Decimal,
-        exponent: i32,
-    ) -> CompactChoice
-        ensures { ChoosesPattern self.now (Some style) significand.now exponent result }
+    fn choice(&self, significand: &Decimal, exponent: i32) -> CompactChoice
+        ensures { ChoosesPattern self.now significand.now exponent result }
     {
+        let Some(style) = self.options.compact_style() else {
+            return NO_CHOICE;
+        };
         let magnitude = compact_magnitude(significand, exponent);
         let patterns = self.formats.compact_patterns(style, magnitude);
         if !patterns.needs_category() {
@@ -192,21 +174,12 @@ impl NumberFormatter {
     fn whole_category(&self, significand: &Decimal, exponent: i32) -> PluralCategory
         ensures { ChoosesUnit self.now significand.now exponent result }
     {
-        match self.unit {
-            CompactUnit::Percent => {
+        match (self.options.compact_style(), self.options.style) {
+            (Some(_), NumberStyle::Percent) => {
                 let power = compact_power(exponent);
                 self.category(&PluralOperands::of_scaled(&significand.absolute, power))
             }
             _ => PluralCategory::Other,
-        }
-    }
-
-    fn choice(&self, significand: &Decimal, exponent: i32) -> CompactChoice
-        ensures { ChoosesPattern self.now self.now.compact significand.now exponent result }
-    {
-        match self.compact {
-            Some(style) => self.compact_choice(style, significand, exponent),
-            None => NO_CHOICE,
         }
     }
 
@@ -300,7 +273,8 @@ impl<'f> FormattedNumber<'f> {
         self.choice = formatter.choice(&self.value, exponent);
         self.whole = formatter.whole_category(&self.value, exponent);
         self.exponent = exponent;
-        self.value.apply_sign_display(formatter.sign_display);
+        self.value
+            .apply_sign_display(formatter.options.sign_display);
     }
 
     // The value becomes the significand in place: a copy has to wait until its digits are stored.

@@ -1,28 +1,39 @@
 //! A number as a locale writes it.
-ghost use Rattle.std.specs.Prelude.{◌≡◌, ◌≤◌, ◌++◌, length, Some, IfSome, OnOk, OnErr, true};
-ghost use Rattle.std.specs.Option.{option_copied};
-ghost use Rattle.std.specs.Fmt.{WritesStyledOnOk};
-ghost use Rattle.std.specs.Io.KnownBytes.{Keeps, Appends};
+ghost use Rattle.std.specs.{Prelude.{◌≡◌, ◌≤◌, ◌++◌, length, Some, IfSome, OnOk, OnErr, true}, Option.option_copied, Fmt.WritesStyledOnOk, Io.KnownBytes.{Keeps, Appends}};
 ghost use Rattle.decimal_digits.specs.AppendsPrefix.{AppendsPrefix};
-ghost use Rattle.decimal_format.specs.Formatted.{formatted_absolute};
-ghost use Rattle.decimal_format.specs.Symbols.{affixes};
-ghost use Rattle.decimal_format.specs.declared.grouping.GroupingStrategy.TheVariants.{Never};
-ghost use Rattle.number_format.specs.FormattedNumbers.{pattern_of, around_of, unit_of, exponent_text, number_text, number_text_if, formatted_number_text};
+ghost use Rattle.decimal_format.specs.{Formatted.formatted_absolute, Symbols.affixes, declared.grouping.GroupingStrategy.TheVariants.Never};
 ghost use Rattle.locale_data.specs.Compact.{AreTexts};
-ghost use Rattle.number_format.specs.NumberText.{exponent_of, AreParts};
-ghost use Rattle.number_format.specs.TextParts.{parts_text};
+ghost use Rattle.number_format.specs.{FormattedNumbers.{pattern_of, around_of, unit_of, exponent_text, number_text, number_text_if, formatted_number_text}, NumberText.{exponent_of, AreParts}, TextParts.parts_text};
 
-use crate::compact_texts::{CompactChoice, NO_UNIT};
 use crate::format::shown_exponent;
-use crate::number_around::NumberAffixes;
-use crate::number_formatter::{CompactUnit, NumberFormatter};
+use crate::number_around::{NO_UNIT, NumberAffixes};
+use crate::number_formatter::NumberFormatter;
+use crate::number_options::{NumberNotation, NumberStyle};
 use crate::parts::{fmt_parts, parts_length, write_parts};
 use decimal_format::{Block, FormattedAbsolute, GroupingStrategy};
 use fixed_decimal::{Decimal, DecimalStore, Sink, SinkFault, Writeable};
-use locale_data::{CompactPattern, UnitAffixes};
+use locale_data::{CompactPattern, CompactPatterns, TableRange, UnitAffixes};
 use plural_rules::PluralCategory;
 use std::alloc::Global;
 use std::fmt;
+
+/// By what the compact patterns of a number are chosen.
+#[derive(Clone, Copy)]
+pub(crate) struct CompactChoice {
+    /// The patterns of the magnitude.
+    pub(crate) patterns: CompactPatterns,
+    /// The plural category of the significand.
+    pub(crate) category: PluralCategory,
+    /// Whether the significand is 1, without a minus sign.
+    pub(crate) is_one: bool,
+}
+
+/// The choice of a number without a compact pattern.
+pub(crate) const NO_CHOICE: CompactChoice = CompactChoice {
+    patterns: CompactPatterns(TableRange(0, 0)),
+    category: PluralCategory::Other,
+    is_one: false,
+};
 
 /// A number as a locale writes it. It borrows the formatter.
 pub struct FormattedNumber<'f> {
@@ -57,7 +68,7 @@ impl<'f> FormattedNumber<'f> {
         ensures texts { IfSome result (λ pattern. AreTexts pattern.now) }
     {
         let choice = self.choice;
-        match self.formatter.compact {
+        match self.formatter.options.compact_style() {
             Some(_) => choice.patterns.pattern(choice.category, choice.is_one),
             None => None,
         }
@@ -69,24 +80,26 @@ impl<'f> FormattedNumber<'f> {
         ensures short { (length result.prefix.now ≤ 255) × (length result.suffix.now ≤ 255) }
     {
         let formatter = self.formatter;
-        match (formatter.compact, formatter.unit) {
-            (None, _) | (_, CompactUnit::Nothing) => NO_UNIT,
-            (_, CompactUnit::Percent) => formatter.formats.percent_unit(self.whole),
-            (_, CompactUnit::Permille) => UnitAffixes {
+        match (formatter.options.compact_style(), formatter.options.style) {
+            (Some(_), NumberStyle::Percent) => formatter.formats.percent_unit(self.whole),
+            (Some(_), NumberStyle::Permille) => UnitAffixes {
                 prefix: "",
                 suffix: "\u{2030}",
             },
+            _ => NO_UNIT,
         }
     }
 
     /// Returns the exponent as it is shown, if the notation has one.
     #[inline(never)]
     pub(crate) fn shown_exponent(&self) -> Option<Decimal>
-        ensures { result ≡ exponent_of self.now.formatter.now self.now.exponent }
+        ensures { result ≡ exponent_of self.now.formatter.now.options.notation self.now.exponent }
     {
-        match self.formatter.exponent {
-            Some(options) => Some(shown_exponent(self.alloc, options, self.exponent)),
-            None => None,
+        match self.formatter.options.notation {
+            NumberNotation::Scientific(options) | NumberNotation::Engineering(options) => {
+                Some(shown_exponent(self.alloc, options, self.exponent))
+            }
+            _ => None,
         }
     }
 
@@ -102,11 +115,12 @@ impl<'f> FormattedNumber<'f> {
 
     #[inline]
     pub(crate) fn digits(&self) -> FormattedAbsolute<'_, DecimalStore>
-        ensures { result ≡ formatted_absolute self.now.formatter.now.symbols self.now.formatter.now.strategy
-            self.now.value.absolute }
+        ensures { result ≡ formatted_absolute self.now.formatter.now.symbols
+            self.now.formatter.now.options.grouping self.now.value.absolute }
     {
         let formatter = self.formatter;
-        FormattedAbsolute::new(&formatter.symbols, formatter.strategy, &self.value.absolute)
+        let grouping = formatter.options.grouping;
+        FormattedAbsolute::new(&formatter.symbols, grouping, &self.value.absolute)
     }
 
     pub(crate) fn exponent_digits<'g>(
@@ -121,9 +135,9 @@ impl<'f> FormattedNumber<'f> {
 
     fn write_exponent<W: Sink>(&self, exponent: &Decimal, sink: &mut W) -> Result<(), SinkFault>
         ensures ok { OnOk result (Appends (W.contents sink.old) (W.contents sink.new)
-            (exponent_text self.now.formatter.now exponent.now)) }
+            (exponent_text self.now.formatter.now (Some exponent.now))) }
         ensures err { OnErr result (AppendsPrefix (W.contents sink.old) (W.contents sink.new)
-            (exponent_text self.now.formatter.now exponent.now)) }
+            (exponent_text self.now.formatter.now (Some exponent.now))) }
         ensures failed { OnErr result (W.has_failed sink.new ≡ true) }
     {
         let formatter = self.formatter;
@@ -149,20 +163,6 @@ impl<'f> FormattedNumber<'f> {
         }
     }
 
-    fn fmt_exponent<'g, W: fmt::Write>(
-        &'g self,
-        exponent: &'g Decimal,
-        f: &mut fmt::Formatter<W>,
-    ) -> fmt::Result
-        ensures { WritesStyledOnOk W.write_str_gives f.old result
-            (exponent_text self.now.formatter.now exponent.now) f.new }
-    {
-        let formatter = self.formatter;
-        f.write_str(formatter.separator.text)?;
-        f.write_str(formatter.symbols.affixes(exponent.sign).prefix)?;
-        fmt::Display::fmt(&self.exponent_digits(exponent), f)
-    }
-
     fn fmt_number_if<W: fmt::Write>(
         &self,
         has_number: bool,
@@ -173,9 +173,14 @@ impl<'f> FormattedNumber<'f> {
         if !has_number {
             return Ok(());
         }
+        let formatter = self.formatter;
         fmt::Display::fmt(&self.digits(), f)?;
         match &self.shown_exponent() {
-            Some(exponent) => self.fmt_exponent(exponent, f),
+            Some(exponent) => {
+                f.write_str(formatter.separator.text)?;
+                f.write_str(formatter.symbols.affixes(exponent.sign).prefix)?;
+                fmt::Display::fmt(&self.exponent_digits(exponent), f)
+            }
             None => Ok(()),
         }
     }

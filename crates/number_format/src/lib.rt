@@ -18,7 +18,6 @@
 
 mod affixes;
 mod apply;
-mod compact_texts;
 mod default_digits;
 mod digit_options;
 mod digit_ranges;

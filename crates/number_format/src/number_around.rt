@@ -1,11 +1,8 @@
 //! What is written before and after the digits of a number.
-ghost use Rattle.std.specs.Prelude.{◌≡◌, ◌≤◌, ◌&&◌, length, IfSome, true};
-ghost use Rattle.std.specs.Option.{option_copied};
+ghost use Rattle.std.specs.{Prelude.{◌≡◌, ◌≤◌, ◌&&◌, length, IfSome, true}, Option.option_copied};
 ghost use Rattle.decimal_format.specs.Symbols.{affixes};
 ghost use Rattle.locale_data.specs.Compact.{has_texts, text_of, AreTexts};
-ghost use Rattle.number_format.specs.PatternTexts.{sign_kind, sign_pieces, pattern_kind, pattern_text, pattern_pieces, space_if};
-ghost use Rattle.number_format.specs.NumberText.{style_of, currency_if, is_plain, is_empty, has_number, first_sign, last_sign, pattern_around, compact_around, around_by, AreParts};
-ghost use Rattle.number_format.specs.TextParts.{part_pieces};
+ghost use Rattle.number_format.specs.{PatternTexts.{sign_kind, sign_pieces, pattern_kind, pattern_text, pattern_pieces, space_if}, NumberText.{currency_if, is_empty, first_sign, last_sign, pattern_around, compact_around, around_by, AreParts}, TextParts.part_pieces};
 
 use crate::number_formatter::NumberFormatter;
 use crate::number_style::{begins_with_currency, ends_with_currency};
@@ -13,33 +10,18 @@ use crate::text_part::{PartKind, TextPart};
 use fixed_decimal::Sign;
 use locale_data::{AffixPair, AffixText, CompactForm, CompactPattern, Piece, UnitAffixes};
 
+/// No texts around the whole text.
+pub(crate) const NO_UNIT: UnitAffixes = UnitAffixes {
+    prefix: "",
+    suffix: "",
+};
+
 /// The parts before and after a number.
 #[derive(Clone, Copy)]
 pub(crate) struct NumberAffixes<'f> {
     pub(crate) prefix: [TextPart<'f>; 7],
     pub(crate) has_number: bool,
     pub(crate) suffix: [TextPart<'f>; 6],
-}
-
-pub(crate) fn is_plain(form: CompactForm) -> bool
-    ensures { result ≡ is_plain form }
-{
-    matches!(form, CompactForm::Plain)
-}
-
-pub(crate) fn has_number(form: CompactForm) -> bool
-    ensures { result ≡ has_number form }
-{
-    match form {
-        CompactForm::Literal => false,
-        _ => true,
-    }
-}
-
-fn is_empty(text: &str) -> bool
-    ensures { result ≡ is_empty text.now }
-{
-    text.len() == 0
 }
 
 pub(crate) fn space_if(condition: bool) -> TextPart<'static>
@@ -79,7 +61,7 @@ impl NumberFormatter {
 
     #[inline]
     pub(crate) fn pattern_text(&self, piece: Piece) -> &str
-        ensures value { result.now ≡ pattern_text (style_of self.now) piece }
+        ensures value { result.now ≡ pattern_text self.now.symbols self.now.percent.text.now self.now.currency piece }
         ensures short { length result.now ≤ 255 }
     {
         match piece {
@@ -92,7 +74,8 @@ impl NumberFormatter {
     }
 
     fn pattern_part(&self, piece: Piece) -> TextPart<'_>
-        ensures { part_pieces result ≡ pattern_pieces (style_of self.now) piece }
+        ensures { part_pieces result
+            ≡ pattern_pieces self.now.symbols self.now.percent.text.now self.now.currency piece }
     {
         TextPart::new(pattern_kind(piece), self.pattern_text(piece))
     }
@@ -159,7 +142,7 @@ impl NumberFormatter {
         ensures { result ≡ (affix.now.has_currency
             && (is_empty (text_of affix.now.after) && self.now.currency.space_after)) }
     {
-        affix.has_currency && is_empty(affix.after_text()) && self.currency.space_after
+        affix.has_currency && affix.after_text().is_empty() && self.currency.space_after
     }
 
     pub(crate) fn space_before(&self, affix: &AffixText) -> bool
@@ -167,7 +150,7 @@ impl NumberFormatter {
         ensures { result ≡ (affix.now.has_currency
             && (is_empty (text_of affix.now.before) && self.now.currency.space_before)) }
     {
-        affix.has_currency && is_empty(affix.before_text()) && self.currency.space_before
+        affix.has_currency && affix.before_text().is_empty() && self.currency.space_before
     }
 
     /// Returns the parts of a compact pattern for a sign.
@@ -199,7 +182,7 @@ impl NumberFormatter {
                 space_if(self.space_after(&prefix)),
                 self.last_sign(sign, form),
             ],
-            has_number: has_number(form),
+            has_number: !matches!(form, CompactForm::Literal),
             suffix: [
                 space_if(self.space_before(&suffix)),
                 TextPart::new(PartKind::Compact, suffix.before_text()),
@@ -225,7 +208,9 @@ impl NumberFormatter {
             (affixes unit.prefix.now unit.suffix.now) result }
     {
         match compact {
-            Some(pattern) if !is_plain(pattern.form) => self.compact_affixes(sign, pattern, unit),
+            Some(pattern) if !matches!(pattern.form, CompactForm::Plain) => {
+                self.compact_affixes(sign, pattern, unit)
+            }
             _ => self.pattern_affixes(sign, unit),
         }
     }

@@ -5,13 +5,12 @@ ghost use Rattle.number_format.specs.PatternTexts.{AreSignTexts};
 
 use crate::digit_options::DigitOptions;
 use crate::notation::Notation;
-use crate::number_options::ExponentOptions;
+use crate::number_options::NumberOptions;
 use crate::number_style::ShownCurrency;
 use crate::sign_texts::SignTexts;
 use crate::text_part::TextPart;
-use decimal_format::{DecimalSymbols, GroupingStrategy};
-use fixed_decimal::SignDisplay;
-use locale_data::{CompactStyle, NumberFormats, Pattern, RulesNumber};
+use decimal_format::DecimalSymbols;
+use locale_data::{NumberFormats, Pattern, RulesNumber};
 
 /// Why there is no formatter.
 #[derive(Clone, Copy, Debug, PartialEq)]
@@ -22,36 +21,21 @@ pub enum NumberFormatError {
     UnknownNumberingSystem,
 }
 
-/// What is written around a number in compact notation.
-#[derive(Clone, Copy, Debug)]
-pub(crate) enum CompactUnit {
-    Nothing,
-    /// The percent sign, as the locale has it for the number.
-    Percent,
-    Permille,
-}
-
 /// Formats numbers as `Intl.NumberFormat` of ECMA-402 does, with the data of CLDR 48, on decimals of any length.
 #[derive(Drop)]
 pub struct NumberFormatter {
     pub(crate) symbols: DecimalSymbols<'static>,
-    pub(crate) strategy: GroupingStrategy,
     pub(crate) pattern: Pattern,
     pub(crate) percent: TextPart<'static>,
     pub(crate) separator: TextPart<'static>,
     pub(crate) currency: ShownCurrency,
     pub(crate) formats: NumberFormats,
     pub(crate) rules: RulesNumber,
-    pub(crate) unit: CompactUnit,
-    pub(crate) scale: i16,
+    pub(crate) options: NumberOptions,
     pub(crate) notation: Notation,
-    pub(crate) compact: Option<CompactStyle>,
-    pub(crate) exponent: Option<ExponentOptions>,
     pub(crate) digits: Option<DigitOptions>,
-    pub(crate) sign_display: SignDisplay,
     /// What is written around a number of standard notation, if it is short.
     pub(crate) sign_texts: Option<SignTexts>,
     pub ghost rules_listed: { IsSome (rules_text_at rules) },
-    pub ghost sign_texts_are: { ForSome sign_texts (AreSignTexts
-        (record { symbols = symbols; percent = percent.text.now; currency = currency; pattern = pattern })) },
+    pub ghost sign_texts_are: { ForSome sign_texts (AreSignTexts symbols percent.text.now currency pattern) },
 }

@@ -1,15 +1,15 @@
 //! Readers of what formatters write.
 ghost use Rattle.std.specs.Prelude.{◌≡◌, ◌∷◌, [], ◌++◌, ◌-ℤ◌, pos, length, map, flat_map, IfOk, IfErr, OnOk};
-ghost use Rattle.number_format.specs.{AffixedTexts.IsReadExactly, NumberReading.{affixes_for, affixes_of_formatter, CanRead, CanUndo, CannotRead, is_percent, has_percent, names_by, form, form_of, forms_of_name, number_reader_of, typed_forms, IsReadLeniently, IsReadInMode}};
+ghost use Rattle.number_format.specs.{AffixedTexts.IsReadExactly, NumberReading.{affixes_for, affixes_of_formatter, CanRead, CanUndo, CannotRead, names_by, form, form_of, forms_of_name, number_reader_of, typed_forms, IsReadLeniently, IsReadInMode}};
 
 use crate::affixes::{OwnedAffixes, SignAffixes};
-use crate::compact_texts::NO_UNIT;
+use crate::number_around::NO_UNIT;
 use crate::number_formatter::NumberFormatter;
+use crate::number_options::{NumberNotation, NumberStyle};
 use crate::number_style::text_or_nothing;
 use crate::reader::{AffixError, AffixReader};
 use decimal_format::{Affixes, Alternative};
 use fixed_decimal::{DigitStore, ParseError, Sign, Signed, UnsignedOver};
-use locale_data::{Affix, Piece};
 use std::alloc::{AllocError, Global};
 use std::marker::Model;
 use std::str;
@@ -111,21 +111,6 @@ impl Model for NumberReader {
     ghost invariant = { λ s. length s.forms.items ≡ 29 };
 }
 
-fn is_percent(piece: Piece) -> bool
-    ensures { result ≡ is_percent piece }
-{
-    matches!(piece, Piece::Percent)
-}
-
-fn has_percent(affix: Affix) -> bool
-    ensures { result ≡ has_percent affix }
-{
-    is_percent(affix.first)
-        || is_percent(affix.second)
-        || is_percent(affix.third)
-        || is_percent(affix.fourth)
-}
-
 impl NumberFormatter {
     fn affix_texts(&self, alloc: Global, sign: Sign) -> Result<OwnedAffixes, AllocError>
         ensures { IfOk result (λ t. t ≡ affixes_for self.now sign) }
@@ -145,16 +130,19 @@ impl NumberFormatter {
     }
 
     fn names(&self) -> (&str, &str, &str)
-        ensures { result.0.now ∷ result.1.now ∷ result.2.now ∷ [] ≡ names_by self.now self.now.currency.names }
+        ensures { result.0.now ∷ result.1.now ∷ result.2.now ∷ [] ≡ names_by self.now self.now.options.style }
     {
-        let positive = self.pattern.positive;
         let currency = &self.currency;
-        match &currency.names {
-            Some(names) => (names.symbol, names.narrow, text_or_nothing(&currency.code)),
-            None if has_percent(positive.prefix) || has_percent(positive.suffix) => {
-                (self.percent.text, "", "")
+        match self.options.style {
+            NumberStyle::Decimal => ("", "", ""),
+            NumberStyle::Percent | NumberStyle::Permille => (self.percent.text, "", ""),
+            NumberStyle::Currency(_) => {
+                (
+                    currency.wide,
+                    currency.narrow,
+                    text_or_nothing(&currency.code),
+                )
             }
-            None => ("", "", ""),
         }
     }
 
@@ -176,14 +164,17 @@ impl NumberFormatter {
     }
 
     fn shift(&self) -> Result<i16, NumberReaderError>
-        ensures value { IfOk result (λ shift. shift ≡ pos 0 -ℤ self.now.scale) }
+        ensures value { IfOk result (λ shift. shift ≡ pos 0 -ℤ self.now.options.scale) }
         ensures ok { OnOk result (CanUndo self.now) }
         ensures err { IfErr result (λ e. CannotRead e self.now) }
     {
-        if self.compact.is_some() || self.exponent.is_some() {
+        if !matches!(self.options.notation, NumberNotation::Standard) {
             return Err(NumberReaderError::Notation);
         }
-        self.scale.checked_neg().ok_or(NumberReaderError::Scale)
+        self.options
+            .scale
+            .checked_neg()
+            .ok_or(NumberReaderError::Scale)
     }
 
     /// Makes the reader of what this formatter writes.

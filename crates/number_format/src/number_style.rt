@@ -1,6 +1,6 @@
 //! What a style of numbers writes: its pattern, its percent sign, and its currency.
 ghost use Rattle.std.specs.Prelude.{◌≡◌, ◌≤◌, [], false, None, IfSome, length};
-ghost use Rattle.number_format.specs.NumberStyles.{before, plain_pattern, percent_text, text_or_nothing, currency_text, piece_or, ends_with_currency, begins_with_currency, in_system, IsShownBy, IsShownWith, symbol_text, IsShownCurrency};
+ghost use Rattle.number_format.specs.NumberStyles.{before, plain_pattern, percent_text, text_or_nothing, currency_text, piece_or, ends_with_currency, begins_with_currency, in_system, IsShownBy, IsShownWith, IsShownCurrency};
 
 use crate::number_options::{CurrencyDisplay, CurrencyStyle, NumberStyle};
 use crate::text_part::{PartKind, TextPart};
@@ -55,19 +55,6 @@ pub(crate) fn percent_text(style: NumberStyle, sign: PercentSign) -> &'static st
     }
 }
 
-/// The texts that name a currency.
-#[derive(Clone, Copy, Debug)]
-pub(crate) struct CurrencyNames {
-    pub(crate) symbol: &'static str,
-    pub(crate) narrow: &'static str,
-}
-
-fn symbol_text(symbol: Option<CurrencySymbol>) -> &'static str
-    ensures { result.now ≡ symbol_text symbol }
-{
-    symbol.map_or("", |symbol| symbol.text)
-}
-
 /// A currency as it is shown.
 #[derive(Clone, Copy, Debug)]
 pub(crate) struct ShownCurrency {
@@ -76,7 +63,8 @@ pub(crate) struct ShownCurrency {
     pub(crate) shows_code: bool,
     pub(crate) space_before: bool,
     pub(crate) space_after: bool,
-    pub(crate) names: Option<CurrencyNames>,
+    pub(crate) wide: &'static str,
+    pub(crate) narrow: &'static str,
 }
 
 pub(crate) fn text_or_nothing(bytes: &[u8]) -> &str
@@ -104,7 +92,6 @@ impl ShownCurrency {
     pub(crate) fn none() -> Self
         ensures shown { IsShownBy [] false false result }
         ensures symbol { result.shows_code ≡ false }
-        ensures names { result.names ≡ None }
     {
         ShownCurrency {
             symbol: TextPart::empty(),
@@ -112,7 +99,8 @@ impl ShownCurrency {
             shows_code: false,
             space_before: false,
             space_after: false,
-            names: None,
+            wide: "",
+            narrow: "",
         }
     }
 
@@ -120,7 +108,7 @@ impl ShownCurrency {
         requires { IfSome symbol (λ s. length s.text.now ≤ 255) }
         ensures shown { IsShownWith symbol result }
         ensures code { result.code ≡ self.code }
-        ensures names { result.names ≡ self.names }
+        ensures names { (result.wide ≡ self.wide) × (result.narrow ≡ self.narrow) }
     {
         match symbol {
             Some(symbol) => ShownCurrency {
@@ -157,13 +145,10 @@ impl ShownCurrency {
         let narrow = currency_symbol(tag, style.code, SymbolWidth::Narrow);
         let mut code = style.code;
         code.make_ascii_uppercase();
-        let names = CurrencyNames {
-            symbol: symbol_text(wide),
-            narrow: symbol_text(narrow),
-        };
         let named = ShownCurrency {
             code,
-            names: Some(names),
+            wide: wide.map_or("", |symbol| symbol.text),
+            narrow: narrow.map_or("", |symbol| symbol.text),
             ..Self::none()
         };
         match style.display {

@@ -1,11 +1,11 @@
 //! The pieces of the text of a number, with their kinds.
 ghost use Rattle.std.specs.Prelude.{◌≡◌, [], ◌∷◌, if◌then◌else◌, List, Option, OnOk};
-ghost use Rattle.number_format.specs.{TextParts.{Piece, Puts, pieces_of, parts_pieces, pieces_text, digit_kind, digit_pieces}, FormattedNumbers.{formatted_number_pieces, formatted_number_text}, NumberText.{exponent_pieces, exponent_of, number_part}};
+ghost use Rattle.number_format.specs.{TextParts.{Piece, Puts, pieces_of, parts_pieces, pieces_text, digit_kind, digit_pieces}, FormattedNumbers.{formatted_number_pieces, formatted_number_text}, NumberText.{exponent_of, number_part}};
 
 use crate::formatted_number::FormattedNumber;
 use crate::text_part::{PartKind, TextPart};
 use decimal_format::FormattedAbsolute;
-use fixed_decimal::{Decimal, DecimalStore, Sign, SinkFault};
+use fixed_decimal::{DecimalStore, Sign, SinkFault};
 
 /// A destination of the pieces of the text of a number: consecutive pieces of one kind are one part.
 ///
@@ -71,33 +71,28 @@ fn put_digits<P: PartSink>(
 }
 
 impl<'f> FormattedNumber<'f> {
-    fn put_exponent<P: PartSink>(&self, exponent: &Decimal, sink: &mut P) -> Result<(), SinkFault>
-        ensures { OnOk result (Puts (P.pieces sink.old) (P.pieces sink.new)
-            (exponent_pieces self.now.formatter.now exponent.now)) }
-    {
-        let formatter = self.formatter;
-        put(sink, PartKind::ExponentSeparator, formatter.separator.text)?;
-        let sign = formatter.symbols.affixes(exponent.sign).prefix;
-        let kind = match exponent.sign {
-            Sign::Positive => PartKind::ExponentPlusSign,
-            _ => PartKind::ExponentMinusSign,
-        };
-        put(sink, kind, sign)?;
-        let digits = self.exponent_digits(exponent);
-        put_digits(&digits, PartKind::ExponentInteger, sink)
-    }
-
     fn put_number_if<P: PartSink>(&self, has_number: bool, sink: &mut P) -> Result<(), SinkFault>
         ensures { OnOk result (Puts (P.pieces sink.old) (P.pieces sink.new) (if has_number
             then number_part self.now.formatter.now self.now.value.absolute
-            (exponent_of self.now.formatter.now self.now.exponent) else [])) }
+            (exponent_of self.now.formatter.now.options.notation self.now.exponent) else [])) }
     {
         if !has_number {
             return Ok(());
         }
+        let formatter = self.formatter;
         put_digits(&self.digits(), PartKind::Integer, sink)?;
         match &self.shown_exponent() {
-            Some(exponent) => self.put_exponent(exponent, sink),
+            Some(exponent) => {
+                put(sink, PartKind::ExponentSeparator, formatter.separator.text)?;
+                let sign = formatter.symbols.affixes(exponent.sign).prefix;
+                let kind = match exponent.sign {
+                    Sign::Positive => PartKind::ExponentPlusSign,
+                    _ => PartKind::ExponentMinusSign,
+                };
+                put(sink, kind, sign)?;
+                let digits = self.exponent_digits(exponent);
+                put_digits(&digits, PartKind::ExponentInteger, sink)
+            }
             None => Ok(()),
         }
     }

@@ -63,7 +63,7 @@ fn raise<D: DigitStore>(value: &mut UnsignedOver<D>, count: u16)
     value.multiply_pow10(count as i16).unwrap();
 }
 
-fn lower<D: DigitStore>(value: &mut UnsignedOver<D>, count: u16) -> Result<(), RoundError>
+fn shift_down<D: DigitStore>(value: &mut UnsignedOver<D>, count: u16) -> Result<(), RoundError>
     requires { count ≤ 32767 }
     ensures ok { OnOk result (value.new.number ≡ value.old.number / 10 ^ count) }
     ensures fits { OnOk result (negsuc 32767 ≤ℤ (last value.old.number -ℤ pos count)) }
@@ -75,7 +75,22 @@ fn lower<D: DigitStore>(value: &mut UnsignedOver<D>, count: u16) -> Result<(), R
         .map_err(|_| RoundError::Limit)
 }
 
+fn lower<D: DigitStore>(value: &mut UnsignedOver<D>, count: u16) -> Result<(), RoundError>
+    requires { count ≤ 32767 }
+    ensures ok { OnOk result (value.new.number ≡ value.old.number / 10 ^ count) }
+    ensures fits { OnOk result (negsuc 32767 ≤ℤ (last value.old.number -ℤ pos count)) }
+    ensures err { IfErr result (λ e. (e ≡ RoundError.Limit) × ((last value.old.number -ℤ pos count) <ℤ negsuc 32767)) }
+{
+    if count == 0 {
+        // Proof hint: the last digit is within the limits.
+        let _last = value.nonzero_magnitude_end();
+        return Ok(());
+    }
+    shift_down(value, count)
+}
+
 impl DigitOptions {
+    #[inline(always)]
     pub(crate) fn show_in_place<D: DigitStore>(
         &self,
         value: &mut Signed<UnsignedOver<D>>,
@@ -114,6 +129,7 @@ impl Notation {
         self.exponent_at(value.nonzero_magnitude_start()).max(0) as u16
     }
 
+    #[inline(always)]
     fn settle<D: DigitStore>(
         &self,
         options: &DigitOptions,
@@ -138,6 +154,7 @@ impl Notation {
         Ok((exponent, last))
     }
 
+    #[inline(always)]
     pub(crate) fn scale_in_place<D: DigitStore>(
         &self,
         options: &DigitOptions,

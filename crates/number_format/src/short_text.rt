@@ -1,18 +1,17 @@
 //! The text of a number in a block.
-ghost use Rattle.std.specs.Prelude.{◌≡◌, ◌++◌, true, OnOk};
+ghost use Rattle.std.specs.Prelude.{◌≡◌, ◌++◌, true, OnOk, Some};
 ghost use Rattle.locale_data.specs.Compact.{has_texts, AreTexts};
-ghost use Rattle.number_format.specs.FormattedNumbers.{around_of, exponent_text, number_text, around_text, formatted_number_text};
-ghost use Rattle.number_format.specs.NumberText.{compact_around, compact_suffix, pattern_around};
-ghost use Rattle.number_format.specs.TextParts.{part_pieces, pieces_text};
+ghost use Rattle.number_format.specs.{FormattedNumbers.{around_of, exponent_text, number_text, around_text, formatted_number_text}, NumberText.{compact_around, compact_suffix, pattern_around}, TextParts.{part_pieces, pieces_text}};
 
 use crate::format::shown_exponent;
 use crate::formatted_number::FormattedNumber;
-use crate::number_around::{has_number, is_plain, space_if};
+use crate::number_around::space_if;
 use crate::number_formatter::NumberFormatter;
+use crate::number_options::NumberNotation;
 use crate::text_part::{PartKind, TextPart};
 use decimal_format::Block;
 use fixed_decimal::{Decimal, Sign, Sink, SinkFault};
-use locale_data::{AffixText, CompactPattern};
+use locale_data::{AffixText, CompactForm, CompactPattern};
 
 #[inline(always)]
 #[tactic(auto, using(crate::proofs::PieceTexts::text_of))]
@@ -60,7 +59,7 @@ impl NumberFormatter {
 impl<'f> FormattedNumber<'f> {
     fn push_exponent(&self, exponent: &Decimal, block: &mut Block) -> Result<(), SinkFault>
         ensures { OnOk result
-            (block.new.0 ≡ block.old.0 ++ exponent_text self.now.formatter.now exponent.now) }
+            (block.new.0 ≡ block.old.0 ++ exponent_text self.now.formatter.now (Some exponent.now)) }
     {
         let formatter = self.formatter;
         block.put_bytes(formatter.separator.text.as_bytes())?;
@@ -73,12 +72,12 @@ impl<'f> FormattedNumber<'f> {
         ensures { OnOk result (block.new.0 ≡ block.old.0 ++ number_text self.now) }
     {
         self.digits().put_to_block(block)?;
-        match self.formatter.exponent {
-            None => Ok(()),
-            Some(options) => {
+        match self.formatter.options.notation {
+            NumberNotation::Scientific(options) | NumberNotation::Engineering(options) => {
                 let exponent = shown_exponent(self.alloc, options, self.exponent);
                 self.push_exponent(&exponent, block)
             }
+            _ => Ok(()),
         }
     }
 
@@ -89,7 +88,7 @@ impl<'f> FormattedNumber<'f> {
     {
         let formatter = self.formatter;
         formatter.put_compact_prefix(self.value.sign, pattern, block)?;
-        if has_number(pattern.form) {
+        if !matches!(pattern.form, CompactForm::Literal) {
             self.put_digits(block)?;
         }
         formatter.put_compact_suffix(&pattern.suffix, block)
@@ -113,7 +112,9 @@ impl<'f> FormattedNumber<'f> {
         ensures { OnOk result (block.new.0 ≡ block.old.0 ++ around_text self.now (around_of self.now)) }
     {
         match self.compact_pattern() {
-            Some(pattern) if !is_plain(pattern.form) => self.put_compact(pattern, block),
+            Some(pattern) if !matches!(pattern.form, CompactForm::Plain) => {
+                self.put_compact(pattern, block)
+            }
             _ => self.put_pattern(block),
         }
     }
@@ -133,7 +134,7 @@ impl<'f> FormattedNumber<'f> {
     pub(crate) fn put_text(&self, block: &mut Block) -> Result<(), SinkFault>
         ensures { OnOk result (block.new.0 ≡ block.old.0 ++ formatted_number_text self.now) }
     {
-        match self.formatter.compact {
+        match self.formatter.options.compact_style() {
             None => self.put_pattern(block),
             Some(_) => self.put_with_unit(block),
         }

@@ -2,7 +2,7 @@
 ghost use Rattle.std.specs.Prelude.{◌≡◌, IfSome};
 ghost use Rattle.number_format.specs.TextParts.{parts_text};
 
-use crate::compact_texts::NO_UNIT;
+use crate::number_around::NO_UNIT;
 use crate::number_formatter::NumberFormatter;
 use crate::text_part::TextPart;
 use arrayvec::ArrayString;
@@ -49,7 +49,7 @@ impl SignTexts {
 }
 
 impl NumberFormatter {
-    ghost use Rattle.number_format.specs.{PatternTexts.{AreAffixTexts, AreSignTexts}, NumberText.{style_of, pattern_around}};
+    ghost use Rattle.number_format.specs.{PatternTexts.{AreAffixTexts, AreSignTexts}, NumberText.pattern_around};
 
     fn texts_around(&self, sign: Sign) -> Option<AffixTexts>
         ensures { IfSome result (AreAffixTexts (pattern_around self.now sign)) }
@@ -63,7 +63,8 @@ impl NumberFormatter {
 
     /// Returns the texts around a number for each sign, if each has at most 23 bytes.
     pub(crate) fn sign_texts(&self) -> Option<SignTexts>
-        ensures { IfSome result (AreSignTexts (style_of self.now)) }
+        ensures { IfSome result (AreSignTexts self.now.symbols self.now.percent.text.now
+            self.now.currency self.now.pattern) }
     {
         Some(SignTexts {
             none: self.texts_around(Sign::None)?,

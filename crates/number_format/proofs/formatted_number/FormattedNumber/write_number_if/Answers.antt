@@ -1,10 +1,10 @@
 use Rattle.std.proofs.Common.{ap, subst, sym, true, ◌≡◌, ◌++◌, ◌∙◌, arith, rules}
 use Rattle.std.proofs.lemmas.Result.{on_err_weaker}
-use Rattle.std.specs.Prelude.{OnErr}
+use Rattle.std.specs.Prelude.{OnErr, Some}
 use Rattle.decimal_digits.specs.AppendsPrefix.{AppendsPrefix}
 use Rattle.decimal_format.specs.Formatted.{absolute_text}
 use Rattle.fixed_decimal.proofs.Calling.{on_err, prefix_more, then_prefix}
-use Rattle.number_format.specs.FormattedNumbers.{exponent_text, exponent_text_if, number_text_if}
+use Rattle.number_format.specs.FormattedNumbers.{exponent_text, number_text_if}
 use Rattle.number_format.proofs.formatted_number.FormattedNumber.write_number_if.Goals as goal
 
 pub returns-in_err-write_to-clause-err : goal.returns-in_err-write_to-clause-err
@@ -19,9 +19,9 @@ pub returns-in-Some-clause-err : goal.returns-in-Some-clause-err
 returns-in-Some-clause-err g c =
     let n = c.args.self.now in
     let f = n.formatter.now in
-    let digits = absolute_text f.symbols f.strategy n.value.absolute in
-    let exponent = exponent_text f c.in-Some.exponent in
-    let e = ap (exponent_text_if f) (sym c.shown_exponent.ensures ∙ c.in-Some.is) in
+    let digits = absolute_text f.symbols f.options.grouping n.value.absolute in
+    let exponent = exponent_text f (Some c.in-Some.exponent) in
+    let e = ap (exponent_text f) (sym c.shown_exponent.ensures ∙ c.in-Some.is) in
     let has : c.args.has_number ≡ true = search rules in
     let start = g.W.Sink.contents c.args.sink.now in
     let end = g.W.Sink.contents c.write_exponent.new.sink in

@@ -1,5 +1,4 @@
-use Rattle.std.proofs.Common.{refl, ◌∙◌, ap, subst, rules, w16, FitsSigned}
-use Rattle.std.proofs.lemmas.Int.{to_z-of_z}
+use Rattle.std.proofs.Common.{refl, ◌∙◌, ap, subst, rules}
 use Rattle.number_format.specs.Formatters.{style_sizes, IsStyle}
 use Rattle.number_format.proofs.number_formatter.NumberFormatter.in_system.Goals as goal
 
@@ -21,15 +20,10 @@ returns-clause-ok c =
       symbols =
           c.with_sizes-symbols.ensures
           ∙ (λ i. record (c.with_separators.ensures i) { sizes = sizes i });
-      strategy = refl;
       pattern = refl;
       percent = c.new.ensures.text ∙ c.percent_text-percent.ensures.value;
       separator = c.new-2.ensures.text ∙ c.text.ensures;
-      unit_is = c.compact_unit.ensures;
-      scale = let fits : FitsSigned w16 o.scale = search rules in simp to_z-of_z;
+      options = refl;
       notation_is = c.notation.ensures;
-      compact_is = c.compact_style.ensures;
-      exponent = c.exponent_options.ensures;
       digits = search rules;
-      sign_display = refl;
     }

@@ -13,5 +13,18 @@ returns-in_default c =
     record {
       category = own.0;
       of_whole = own.1;
-      texts = same_texts f.formats f.unit _ own.0 c.in_default.not-Percent;
+      texts = same_texts f.formats _ f.options.style _ own.0 (λ w h. c.in_default.not-Percent-1);
+    }
+
+pub returns-in_default-2 : goal.returns-in_default-2
+returns-in_default-2 c =
+    let f = c.args.self.now in
+    let whole = operands.compact c.args.significand.now.absolute (unsigned_abs (compact_power c.args.exponent)) in
+    let own = category_exists f.rules whole f.rules_listed in
+    record {
+      category = own.0;
+      of_whole = own.1;
+      texts =
+          same_texts f.formats _ f.options.style _ own.0
+          (λ w h p. cc (h, c.compact_style.ensures, c.in_default.is-0));
     }

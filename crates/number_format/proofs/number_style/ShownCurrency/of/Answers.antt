@@ -52,3 +52,17 @@ returns-in-Code c =
       displayed = search rules;
       named = search rules;
     }
+
+pub returns-in-Hidden : goal.returns-in-Hidden
+returns-in-Hidden c =
+    let wide = c.currency_symbol-wide in
+    let narrow = c.currency_symbol-narrow in
+    record {
+      wide = wide.result;
+      narrow = narrow.result;
+      wide_is = symbol_in _ _ _ wide.result wide.ensures.found wide.ensures.unlisted.0;
+      narrow_is = symbol_in _ _ _ narrow.result narrow.ensures.found narrow.ensures.unlisted.0;
+      code_is = search rules;
+      displayed = search rules;
+      named = search rules;
+    }
