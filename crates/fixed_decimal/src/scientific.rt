@@ -31,7 +31,12 @@ pub struct ScientificDecimal {
 // Not derived: a derived drop is proved again in each crate that depends on this one.
 impl Drop for ScientificDecimal {
     fn drop(self) {
-        drop(self.into_parts());
+        let ScientificDecimal {
+            significand,
+            exponent,
+        } = self;
+        drop(significand);
+        drop(exponent);
     }
 }
 
