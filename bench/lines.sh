@@ -34,12 +34,15 @@ cat > "$room/lines.py" <<'PYTHON'
 import random, sys
 random.seed(7)
 room = sys.argv[2]
-plain, fields, grouped = (open(f"{room}/{name}", "w") for name in ("plain", "fields", "grouped"))
+names = ("plain", "fields", "grouped", "amounts")
+plain, fields, grouped, amounts = (open(f"{room}/{name}", "w") for name in names)
 for line in range(int(sys.argv[1])):
     n = random.randrange(1000000, 10000000)
     plain.write("%d.%03d\n" % (n // 1000, n % 1000))
     fields.write("name%d,city,%d.%03d,tail\n" % (line % 10, n // 1000, n % 1000))
     grouped.write("%d,%03d.%03d\n" % (n // 1000000, n // 1000 % 1000, n % 1000))
+    if line < 1000000:
+        amounts.write("%d.%02d\n" % (n // 1000, n // 10 % 100))
 PYTHON
 cat > "$room/field.py" <<'PYTHON'
 import csv, sys
@@ -143,14 +146,18 @@ for ((pass = 0; pass < passes; pass++)); do
 done
 table 'without a locale' 'read:en format:en-IN'
 
-head -n 1000000 "$room/plain" > "$room/amounts"
+head -n 1000000 "$room/plain" > "$room/rounded"
+money='format:en:currency/EUR .00'
 for ((pass = 0; pass < passes; pass++)); do
-  timed amounts 'amounts of money' "$room/fixdec_lines" 'format:en:currency/EUR .00'
+  timed amounts 'amounts of money' "$room/fixdec_lines" "$money"
   timed amounts 'numbers of a locale' "$room/fixdec_lines" format:en
   timed amounts 'numfmt --to=si' numfmt --to=si
   timed amounts 'Babel, amounts of money' /usr/bin/python3 "$room/money.py"
+  timed rounded 'rounded amounts of money' "$room/fixdec_lines" "$money"
+  timed rounded 'numbers of three decimals' "$room/fixdec_lines" format:en
 done
 table 'amounts of money' 'numbers of a locale' 'numfmt --to=si' 'Babel, amounts of money'
+table 'rounded amounts of money' 'numbers of three decimals'
 
 some=$((lines < 100000 ? lines : 100000))
 # instructions INPUT PROGRAM [WORD]..: those of a line, on average over some, without those of a run on no line.
@@ -171,6 +178,8 @@ echo "| fixdec_lines with no call | $(instructions plain "$room/fixdec_lines") |
 echo "| fixdec_lines of a field | $(instructions fields "$room/fixdec_lines" delimiter:, field:3 $round) |"
 echo "| fixdec_lines of CSV | $(instructions fields "$room/fixdec_lines" csv field:3 $round) |"
 echo "| read:en format:en-IN | $(instructions grouped "$room/fixdec_lines" read:en $round format:en-IN) |"
-echo "| format:en:currency/EUR .00 | $(instructions plain "$room/fixdec_lines" 'format:en:currency/EUR .00') |"
+echo "| format:en | $(instructions amounts "$room/fixdec_lines" format:en) |"
+echo "| $money | $(instructions amounts "$room/fixdec_lines" "$money") |"
+echo "| $money, rounded | $(instructions plain "$room/fixdec_lines" "$money") |"
 echo "| strtod | $(instructions plain "$room/strtod") |"
 echo "| a copy of each line | $(instructions plain "$room/copy") |"
