@@ -29,7 +29,8 @@ same_texts f (Some w) (NumberStyle.Currency c) a b h = refl
 same_texts f (Some w) NumberStyle.Percent a b h = absurd (h w refl refl)
 
 -- the pattern of a style that is that of the formatter's options
-pub chooses : (f : NumberFormatter) (significand : Decimal) (e : ℤ) (choice : CompactChoice) (style : Option CompactStyle)
+pub chooses : (f : NumberFormatter) (significand : Decimal) (e : ℤ) (choice : CompactChoice)
+    (style : Option CompactStyle)
     → compact_style f.options.notation f.options.style ≡ style → (category : PluralCategory)
     → IsCategoryAt f.rules (operands.plain significand.absolute) category
     → chosen_pattern style choice

@@ -26,8 +26,10 @@ text_around : (f : NumberFormatter) (s : Sign) (x : ScaledValue)
 text_around f s x =
     let digits = digit_pieces PartKind.Integer f.symbols f.options.grouping x.significand.absolute in
     text-three (pattern_around f s).prefix (digits ++ []) ((pattern_around f s).suffix ++ [])
-    (affixes_for f s).prefix (absolute_text f.symbols f.options.grouping x.significand.absolute) (affixes_for f s).suffix refl
-    (ap pieces_text (append-nil digits) ∙ text-of_digits PartKind.Integer f.symbols f.options.grouping x.significand.absolute)
+    (affixes_for f s).prefix (absolute_text f.symbols f.options.grouping x.significand.absolute)
+    (affixes_for f s).suffix refl
+    (ap pieces_text (append-nil digits)
+    ∙ text-of_digits PartKind.Integer f.symbols f.options.grouping x.significand.absolute)
     (ap pieces_text (append-nil (pattern_around f s).suffix))
 
 -- the text of a number is that of the number that is shown

@@ -114,7 +114,8 @@ text-of_exponent f (Some e) =
     (text-of (exponent_kind e.sign) sign) (text-of_digits kind.ExponentInteger f.symbols Never e.absolute)
 
 text-of_number : (n : FormattedNumber)
-    → pieces_text (number_part n.formatter.now n.value.absolute (exponent_of n.formatter.now.options.notation n.exponent))
+    → pieces_text (number_part n.formatter.now n.value.absolute
+    (exponent_of n.formatter.now.options.notation n.exponent))
     ≡ number_text n
 text-of_number n =
     let f = n.formatter.now in
@@ -133,7 +134,8 @@ pub text-of_affixes : (n : FormattedNumber) (shown : NumberAffixes) → AreParts
     ≡ formatted_number_text n
 text-of_affixes n shown is =
     let a = around_of n in
-    let number = number_part n.formatter.now n.value.absolute (exponent_of n.formatter.now.options.notation n.exponent) in
+    let number =
+        number_part n.formatter.now n.value.absolute (exponent_of n.formatter.now.options.notation n.exponent) in
     sym (text-three (literal (unit_of n).prefix ++ a.prefix) (if a.has_number then number else [])
     (a.suffix ++ literal (unit_of n).suffix) (parts_text shown.prefix) (number_text_if n shown.has_number)
     (parts_text shown.suffix) (ap pieces_text (sym is.prefix) ∙ text-of_parts shown.prefix)
@@ -148,7 +150,8 @@ text-of_around n =
     let a = around_of n in
     let p = literal (unit_of n).prefix in
     let q = literal (unit_of n).suffix in
-    let number = number_part n.formatter.now n.value.absolute (exponent_of n.formatter.now.options.notation n.exponent) in
+    let number =
+        number_part n.formatter.now n.value.absolute (exponent_of n.formatter.now.options.notation n.exponent) in
     regroup (pieces_text p) (pieces_text a.prefix) (number_text_if n a.has_number) (pieces_text a.suffix)
     (pieces_text q)
     ∙ sym (text-three (p ++ a.prefix) (if a.has_number then number else []) (a.suffix ++ q)
@@ -159,7 +162,8 @@ text-of_around n =
     regroup p q m r s = simp append_assoc
 
 -- in another notation than compact that is the pattern alone
-pub text-of_pattern : (n : FormattedNumber) → compact_style n.formatter.now.options.notation n.formatter.now.options.style ≡ None
+pub text-of_pattern : (n : FormattedNumber)
+    → compact_style n.formatter.now.options.notation n.formatter.now.options.style ≡ None
     → around_text n (pattern_around n.formatter.now n.value.sign) ≡ formatted_number_text n
 text-of_pattern n none =
     let f = n.formatter.now in

@@ -78,7 +78,8 @@ around_is f own g v Sign.Negative e =
     ∙ ap (λ l. minus ++ (digits ++ l)) (sym e)
 
 of_plain : (f : NumberFormatter) (own : Symbols) (g : GroupingStrategy) (name : Option (List ℕ)) (v : Decimal)
-    (text : List ℕ) → IsPlain f own g name → IsValue v.absolute → (sign_affixes own (with_sign_display v SignDisplay.Auto).sign).suffix ≡ []
+    (text : List ℕ) → IsPlain f own g name → IsValue v.absolute
+    → (sign_affixes own (with_sign_display v SignDisplay.Auto).sign).suffix ≡ []
     → IsNumberText f v text → text ≡ formatted own g (with_sign_display v SignDisplay.Auto)
 of_plain f own g name v text plain valid no_suffix (pieces, is, of_pieces) =
     let shown : shown_number f v ≡ Some (scaled_value v (pos 0)) =

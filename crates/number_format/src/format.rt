@@ -96,7 +96,6 @@ impl NumberFormatter {
         }
     }
 
-    /// Makes a number the significand that is written, and returns the exponent.
     fn shown_number(&self, value: &mut Decimal) -> Result<i32, RoundError>
         ensures ok { IfOk result (λ e. shown_number self.now value.old ≡ Some (scaled_value value.new e)) }
         ensures limit { IsErrOf result RoundError.Limit → shown_number self.now value.old ≡ None }
@@ -116,7 +115,6 @@ impl NumberFormatter {
         self.rounded(value)
     }
 
-    /// The same, but on an error the number is unchanged.
     fn show(&self, value: &mut Decimal) -> Result<i32, RoundError>
         ensures ok { IfOk result (λ e. shown_number self.now value.old ≡ Some (scaled_value value.new e)) }
         ensures unchanged { OnErr result (value.new ≡ value.old) }

@@ -62,7 +62,6 @@ impl<'f> Drop for FormattedNumber<'f> {
 }
 
 impl<'f> FormattedNumber<'f> {
-    /// Returns the compact pattern of the number, if it has one.
     pub(crate) fn compact_pattern(&self) -> Option<&'static CompactPattern>
         ensures value { option_copied result ≡ pattern_of self.now }
         ensures texts { IfSome result (λ pattern. AreTexts pattern.now) }
@@ -74,7 +73,6 @@ impl<'f> FormattedNumber<'f> {
         }
     }
 
-    /// Returns what is written around the whole text.
     pub(crate) fn unit(&self) -> UnitAffixes
         ensures value { affixes result.prefix.now result.suffix.now ≡ unit_of self.now }
         ensures short { (length result.prefix.now ≤ 255) × (length result.suffix.now ≤ 255) }
@@ -90,7 +88,6 @@ impl<'f> FormattedNumber<'f> {
         }
     }
 
-    /// Returns the exponent as it is shown, if the notation has one.
     #[inline(never)]
     pub(crate) fn shown_exponent(&self) -> Option<Decimal>
         ensures { result ≡ exponent_of self.now.formatter.now.options.notation self.now.exponent }
@@ -103,7 +100,6 @@ impl<'f> FormattedNumber<'f> {
         }
     }
 
-    /// Returns the parts before and after the number.
     pub(crate) fn affixes(&self) -> NumberAffixes<'_>
         ensures parts { AreParts (around_of self.now) (unit_of self.now) result }
         ensures text { parts_text result.prefix ++ (number_text_if self.now result.has_number

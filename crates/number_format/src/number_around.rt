@@ -90,7 +90,6 @@ impl NumberFormatter {
         }
     }
 
-    /// Returns the parts of the pattern for a sign.
     fn pattern_affixes(&self, sign: Sign, unit: UnitAffixes) -> NumberAffixes<'_>
         requires prefix { length unit.prefix.now ≤ 255 }
         requires suffix { length unit.suffix.now ≤ 255 }
@@ -153,7 +152,6 @@ impl NumberFormatter {
         affix.has_currency && affix.before_text().is_empty() && self.currency.space_before
     }
 
-    /// Returns the parts of a compact pattern for a sign.
     fn compact_affixes(
         &self,
         sign: Sign,

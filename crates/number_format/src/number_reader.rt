@@ -133,16 +133,11 @@ impl NumberFormatter {
         ensures { result.0.now ∷ result.1.now ∷ result.2.now ∷ [] ≡ names_by self.now self.now.options.style }
     {
         let currency = &self.currency;
+        let code = text_or_nothing(&currency.code);
         match self.options.style {
             NumberStyle::Decimal => ("", "", ""),
             NumberStyle::Percent | NumberStyle::Permille => (self.percent.text, "", ""),
-            NumberStyle::Currency(_) => {
-                (
-                    currency.wide,
-                    currency.narrow,
-                    text_or_nothing(&currency.code),
-                )
-            }
+            NumberStyle::Currency(_) => (currency.wide, currency.narrow, code),
         }
     }
 
@@ -171,10 +166,8 @@ impl NumberFormatter {
         if !matches!(self.options.notation, NumberNotation::Standard) {
             return Err(NumberReaderError::Notation);
         }
-        self.options
-            .scale
-            .checked_neg()
-            .ok_or(NumberReaderError::Scale)
+        let scale = self.options.scale;
+        scale.checked_neg().ok_or(NumberReaderError::Scale)
     }
 
     /// Makes the reader of what this formatter writes.

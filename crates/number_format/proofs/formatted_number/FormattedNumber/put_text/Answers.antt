@@ -6,4 +6,6 @@ use Rattle.number_format.proofs.formatted_number.FormattedNumber.put_text.Goals 
 pub returns-in-None : goal.returns-in-None
 returns-in-None c =
     on_ok_weaker c.put_pattern.result
-    (λ h. h ∙ ap (λ l. c.args.block.now.0 ++ l) (text-of_pattern c.args.self.now (sym c.compact_style.ensures ∙ c.in-None.is))) c.put_pattern.ensures
+    (λ h. h ∙ ap (λ l. c.args.block.now.0 ++ l)
+    (text-of_pattern c.args.self.now (sym c.compact_style.ensures ∙ c.in-None.is)))
+    c.put_pattern.ensures
