@@ -360,7 +360,7 @@ fn leave<D: DigitStore>(
         && (is_signed || leaves::<UnsignedOver<D>>(alloc, start, words, wanted))
 }
 
-/// Whether a call that is the only one of a row stays within its bounds, with a sign, and without one if none is needed.
+/// Whether the only call of a row stays within its bounds, with a sign, and without one if none is needed.
 fn stay<S: CountingStore>(
     alloc: Global,
     (start, words): (&str, &str),
