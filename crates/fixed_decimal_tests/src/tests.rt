@@ -9,6 +9,7 @@ use test_support::{Value, displays, has_text, shows};
 mod callers;
 mod changes;
 mod constructors;
+mod digits;
 mod errors;
 mod modes;
 mod operands;

@@ -2,8 +2,8 @@
 use crate::edited::{Edited, has_sign};
 use crate::rows::Kind;
 use fixed_decimal::{
-    Call, CompactDecimal, Decimal, DigitList, DigitStore, FixedInteger, PackedDigits,
-    ScientificDecimal, Signed, UnsignedOver,
+    Call, CompactDecimal, Decimal, DigitList, DigitStore, FixedInteger, ScientificDecimal, Signed,
+    UnsignedOver,
 };
 use std::alloc::Global;
 use std::cmp::Ordering;
@@ -52,13 +52,12 @@ const ORDERS: &[(&str, Ordering)] = &[
     (">", Ordering::Greater),
 ];
 
-/// Whether the values of two texts have an order over each pair of stores.
-pub fn are_ordered(alloc: Global, texts: (&str, &str), word: &str) -> bool {
+/// Whether the values of two texts have an order, both over a store, and one over it and the other over a list.
+pub fn are_ordered<D: DigitStore>(alloc: Global, texts: (&str, &str), word: &str) -> bool {
     match named(ORDERS, word) {
         Some(order) => {
-            have_order::<DigitList, DigitList>(alloc, texts, order)
-                && have_order::<DigitList, PackedDigits>(alloc, texts, order)
-                && have_order::<PackedDigits, PackedDigits>(alloc, texts, order)
+            have_order::<D, D>(alloc, texts, order)
+                && have_order::<D, DigitList>(alloc, texts, order)
         }
         None => false,
     }
@@ -101,26 +100,6 @@ fn are_equal_trimmed<T: Value + Edited>(
     }
 }
 
-/// The same of the values without a sign over a store, where the texts have none.
-fn are_equal_unsigned<D: DigitStore>(
-    alloc: Global,
-    texts: (&str, &str),
-    equality: (bool, bool),
-) -> bool {
-    has_sign(texts.0)
-        || has_sign(texts.1)
-        || are_equal_trimmed::<UnsignedOver<D>>(alloc, texts, equality)
-}
-
-/// The same of the values with a sign.
-fn are_equal_signed<D: DigitStore>(
-    alloc: Global,
-    texts: (&str, &str),
-    equality: (bool, bool),
-) -> bool {
-    are_equal_trimmed::<Signed<UnsignedOver<D>>>(alloc, texts, equality)
-}
-
 /// Whether two texts write decimals with the same text or not.
 fn have_same_text(alloc: Global, (left, right): (&str, &str), is_same: bool) -> bool {
     match (
@@ -132,19 +111,22 @@ fn have_same_text(alloc: Global, (left, right): (&str, &str), is_same: bool) -> 
     }
 }
 
-/// Whether the decimals of two texts are equal or not, now and after both trims, with a sign and without one.
-fn are_equal_decimals(alloc: Global, texts: (&str, &str), equality: (bool, bool)) -> bool {
-    are_equal_unsigned::<DigitList>(alloc, texts, equality)
-        && are_equal_unsigned::<PackedDigits>(alloc, texts, equality)
-        && are_equal_signed::<DigitList>(alloc, texts, equality)
-        && are_equal_signed::<PackedDigits>(alloc, texts, equality)
-        && have_same_text(alloc, texts, equality.0)
+/// Whether the decimals of two texts over a store are as equal as a word says, now and after both trims, with a sign
+/// and, where the texts have none, without one.
+pub fn are_decimals<D: DigitStore>(alloc: Global, texts: (&str, &str), word: &str) -> bool {
+    let Some(equality) = named(EQUALITIES, word) else {
+        return false;
+    };
+    have_same_text(alloc, texts, equality.0)
+        && are_equal_trimmed::<Signed<UnsignedOver<D>>>(alloc, texts, equality)
+        && (has_sign(texts.0)
+            || has_sign(texts.1)
+            || are_equal_trimmed::<UnsignedOver<D>>(alloc, texts, equality))
 }
 
 /// Whether the values of a kind of two texts are as equal as a word says.
 pub fn is_pair(alloc: Global, kind: Kind, texts: (&str, &str), word: &str) -> bool {
     match (kind, named(EQUALITIES, word)) {
-        (Kind::DecimalPair, Some(equality)) => are_equal_decimals(alloc, texts, equality),
         (Kind::IntegerPair, Some((same, _))) => are_equal::<FixedInteger>(alloc, texts, same),
         (Kind::ScientificPair, Some((same, _))) => {
             are_equal::<ScientificDecimal>(alloc, texts, same)

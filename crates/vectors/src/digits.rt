@@ -1,6 +1,6 @@
 //! The digits of values, and their conversion to integers.
 use crate::edited::has_sign;
-use fixed_decimal::{DigitList, DigitStore, IntegerError, PackedDigits, Signed, UnsignedOver};
+use fixed_decimal::{DigitStore, IntegerError, Signed, UnsignedOver};
 use std::alloc::Global;
 use std::str::FromStr;
 
@@ -16,30 +16,22 @@ fn has_each<D: DigitStore>(value: &UnsignedOver<D>, highest: i16, digits: &str) 
     true
 }
 
-/// Whether a number has these digits, downward from a magnitude, one by one and written by one call.
-fn has_digits_over<D: DigitStore>(alloc: Global, text: &str, highest: i16, digits: &str) -> bool {
+/// Whether the number of a text has these digits, downward from a magnitude, one by one and written by one call.
+pub fn has_digits<D: DigitStore>(alloc: Global, text: &str, magnitude: &str, digits: &str) -> bool {
+    let (Ok(highest), Ok(value)) = (
+        magnitude.parse::<i16>(),
+        UnsignedOver::<D>::try_from_str(alloc, text),
+    ) else {
+        return false;
+    };
     if digits.len() > (i32::from(highest) + 32769) as usize {
         return false;
     }
-    let Ok(value) = UnsignedOver::<D>::try_from_str(alloc, text) else {
-        return false;
-    };
     let Ok(mut places) = vec![in alloc; b'x'; digits.len()] else {
         return false;
     };
     value.write_digits(highest, places.as_mut_slice());
     places.as_slice() == digits.as_bytes() && has_each(&value, highest, digits)
-}
-
-/// The same over each store.
-pub fn has_digits(alloc: Global, text: &str, magnitude: &str, digits: &str) -> bool {
-    match magnitude.parse() {
-        Ok(highest) => {
-            has_digits_over::<DigitList>(alloc, text, highest, digits)
-                && has_digits_over::<PackedDigits>(alloc, text, highest, digits)
-        }
-        Err(_) => false,
-    }
 }
 
 /// Whether an integer or an error is the one that a word names.
@@ -89,15 +81,10 @@ fn split(words: &str) -> Option<Words<'_>> {
     Some(((first, second), (third, fourth)))
 }
 
-/// Whether the number of a text converts to the integers of words, over each store.
-pub fn has_integers(alloc: Global, text: &str, words: &str) -> bool {
+/// Whether the number of a text converts to the integers of words.
+pub fn has_integers<D: DigitStore>(alloc: Global, text: &str, words: &str) -> bool {
     match split(words) {
-        Some(words) => {
-            has_unsigned::<DigitList>(alloc, text, words)
-                && has_unsigned::<PackedDigits>(alloc, text, words)
-                && has_signed::<DigitList>(alloc, text, words)
-                && has_signed::<PackedDigits>(alloc, text, words)
-        }
+        Some(words) => has_unsigned::<D>(alloc, text, words) && has_signed::<D>(alloc, text, words),
         None => false,
     }
 }

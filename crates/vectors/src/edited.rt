@@ -1,7 +1,7 @@
 //! Calls on values with a sign and without, in place and by value, and the digits that they access.
 use crate::calls::step;
 use crate::runs;
-use decimal_digits::digits::{DigitList, DigitStore, PackedDigits};
+use decimal_digits::digits::DigitStore;
 use decimal_digits::rounding::RoundError;
 use decimal_digits::rounding::RoundingIncrement::{self, MultiplesOf1, MultiplesOf25};
 use decimal_unsigned::ConcatenateError;
@@ -330,36 +330,6 @@ fn stays_within<T: Value + Edited + Counts>(
     true
 }
 
-/// Whether an unsigned value has a text after calls, over a store.
-fn unsigned_leaves<D: DigitStore>(alloc: Global, start: &str, words: &str, wanted: &str) -> bool {
-    leaves::<UnsignedOver<D>>(alloc, start, words, wanted)
-}
-
-/// Whether a value with a sign has a text after calls, over a store.
-fn signed_leaves<D: DigitStore>(alloc: Global, start: &str, words: &str, wanted: &str) -> bool {
-    leaves::<Signed<UnsignedOver<D>>>(alloc, start, words, wanted)
-}
-
-/// Whether a call that is the only one of a row stays within its bounds on an unsigned value.
-fn unsigned_stays<S: CountingStore>(
-    alloc: Global,
-    start: &str,
-    words: &str,
-    expected: (&str, &str),
-) -> bool {
-    stays_within::<UnsignedOver<S>>(alloc, start, words, expected)
-}
-
-/// Whether a call that is the only one of a row stays within its bounds on a value with a sign.
-fn signed_stays<S: CountingStore>(
-    alloc: Global,
-    start: &str,
-    words: &str,
-    expected: (&str, &str),
-) -> bool {
-    stays_within::<Signed<UnsignedOver<S>>>(alloc, start, words, expected)
-}
-
 /// Whether a text has a sign.
 pub fn has_sign(text: &str) -> bool {
     text.starts_with(['-', '+'])
@@ -379,29 +349,41 @@ fn needs_sign(start: &str, words: &str) -> bool {
     has_sign(start)
 }
 
+/// Whether a value over a store has a text after calls, with a sign, and without one if none is needed.
+fn leave<D: DigitStore>(
+    alloc: Global,
+    (start, words): (&str, &str),
+    wanted: &str,
+    is_signed: bool,
+) -> bool {
+    leaves::<Signed<UnsignedOver<D>>>(alloc, start, words, wanted)
+        && (is_signed || leaves::<UnsignedOver<D>>(alloc, start, words, wanted))
+}
+
+/// Whether the only call of a row stays within its bounds, with a sign, and without one if none is needed.
+fn stay<S: CountingStore>(
+    alloc: Global,
+    (start, words): (&str, &str),
+    expected: (&str, &str),
+    is_signed: bool,
+) -> bool {
+    stays_within::<Signed<UnsignedOver<S>>>(alloc, start, words, expected)
+        && (is_signed || stays_within::<UnsignedOver<S>>(alloc, start, words, expected))
+}
+
 /// A store that counts, with memory for every number.
 pub type Counting<D> = LimitedStore<D, MaxDigits>;
 
-/// Whether an unsigned value has a text after calls, over each store.
-fn holds_unsigned(alloc: Global, start: &str, words: &str, expected: (&str, &str)) -> bool {
-    unsigned_leaves::<DigitList>(alloc, start, words, expected.0)
-        && unsigned_leaves::<PackedDigits>(alloc, start, words, expected.0)
-        && unsigned_stays::<Counting<DigitList>>(alloc, start, words, expected)
-        && unsigned_stays::<Counting<PackedDigits>>(alloc, start, words, expected)
-}
-
-/// Whether a value with a sign has a text after calls, over each store.
-fn holds_signed(alloc: Global, start: &str, words: &str, expected: (&str, &str)) -> bool {
-    signed_leaves::<DigitList>(alloc, start, words, expected.0)
-        && signed_leaves::<PackedDigits>(alloc, start, words, expected.0)
-        && signed_stays::<Counting<DigitList>>(alloc, start, words, expected)
-        && signed_stays::<Counting<PackedDigits>>(alloc, start, words, expected)
-}
-
-/// Whether a value has a text after calls over each store, in each way and in a run; `!` if each of them is rejected.
-pub fn holds(alloc: Global, start: &str, words: &str, (wanted, count): (&str, &str)) -> bool {
+/// Whether a value over a store has a text after calls, in each way and in a run; `!` if each of them is rejected.
+pub fn holds<D: DigitStore>(
+    alloc: Global,
+    row: (&str, &str),
+    (wanted, count): (&str, &str),
+) -> bool {
+    let (start, words) = row;
+    let is_signed = needs_sign(start, words);
     let is_rejected = words.contains('!') || wanted == "!";
-    holds_signed(alloc, start, words, (wanted, count))
-        && (needs_sign(start, words) || holds_unsigned(alloc, start, words, (wanted, count)))
-        && (is_rejected || runs::has_outcome(alloc, start, words, wanted))
+    leave::<D>(alloc, row, wanted, is_signed)
+        && stay::<Counting<D>>(alloc, row, (wanted, count), is_signed)
+        && (is_rejected || runs::has_outcome::<D>(alloc, start, words, wanted))
 }

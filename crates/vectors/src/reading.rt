@@ -3,8 +3,8 @@ use crate::calls::SIGNS;
 use crate::rows::Kind;
 use decimal_unsigned::decimal::lowest_of;
 use fixed_decimal::{
-    CompactDecimal, Decimal, DigitList, DigitStore, FixedInteger, LimitError, PackedDigits,
-    ScientificDecimal, Signed, UnsignedOver,
+    CompactDecimal, Decimal, DigitStore, FixedInteger, LimitError, ScientificDecimal, Signed,
+    UnsignedOver,
 };
 use std::alloc::Global;
 use std::convert::TryFrom;
@@ -79,12 +79,6 @@ fn has_magnitudes<D: DigitStore>(alloc: Global, text: &str, (shown, wanted): (&s
     }
 }
 
-/// Whether an unsigned value is parsed over a store, as a row says.
-fn reads_unsigned<D: DigitStore>(alloc: Global, text: &str, (wanted, facts): (&str, &str)) -> bool {
-    reads_as::<UnsignedOver<D>>(alloc, text, wanted)
-        && (facts.is_empty() || has_magnitudes::<D>(alloc, text, (wanted, facts)))
-}
-
 /// Whether a store that is out of memory for more than eight digits rejects a text with the same error.
 fn rejects_without_memory<D: DigitStore>(alloc: Global, text: &str, wanted: &str) -> bool {
     let outcome = parse_outcome(UnsignedOver::<LimitedStore<D, EightDigits>>::try_from_str(
@@ -101,8 +95,24 @@ fn finds_lowest(text: &str, wanted: &str) -> bool {
     }
 }
 
+/// Whether an unsigned value is parsed over a store, as a row says.
+pub fn reads_unsigned<D: DigitStore>(
+    alloc: Global,
+    text: &str,
+    (wanted, facts): (&str, &str),
+) -> bool {
+    reads_as::<UnsignedOver<D>>(alloc, text, wanted)
+        && (facts.is_empty() || has_magnitudes::<D>(alloc, text, (wanted, facts)))
+        && rejects_without_memory::<D>(alloc, text, wanted)
+        && finds_lowest(text, wanted)
+}
+
 /// Whether a decimal is parsed over a store, and has a sign.
-fn reads_signed<D: DigitStore>(alloc: Global, text: &str, (wanted, facts): (&str, &str)) -> bool {
+pub fn reads_signed<D: DigitStore>(
+    alloc: Global,
+    text: &str,
+    (wanted, facts): (&str, &str),
+) -> bool {
     let has_sign = match Signed::<UnsignedOver<D>>::try_from_str(alloc, text) {
         Ok(value) => facts.is_empty() || Some(value.sign()) == named(SIGNS, facts),
         Err(_) => facts.is_empty(),
@@ -177,19 +187,7 @@ fn has_scientific_words(alloc: Global, text: &str, parts: &str) -> bool {
 
 /// Whether a text is parsed as a value of a kind that prints a text, or fails with a word, and has parts.
 pub fn reads(alloc: Global, kind: Kind, text: &str, (wanted, facts): (&str, &str)) -> bool {
-    let row = (wanted, facts);
     match kind {
-        Kind::Unsigned => {
-            reads_unsigned::<DigitList>(alloc, text, row)
-                && reads_unsigned::<PackedDigits>(alloc, text, row)
-                && rejects_without_memory::<DigitList>(alloc, text, wanted)
-                && rejects_without_memory::<PackedDigits>(alloc, text, wanted)
-                && finds_lowest(text, wanted)
-        }
-        Kind::Signed => {
-            reads_signed::<DigitList>(alloc, text, row)
-                && reads_signed::<PackedDigits>(alloc, text, row)
-        }
         Kind::Integer => {
             reads_as::<FixedInteger>(alloc, text, wanted) && becomes_integer(alloc, text, wanted)
         }

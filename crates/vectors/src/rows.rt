@@ -1,5 +1,6 @@
 //! Rows by their kinds.
 use crate::{comparing, digits, edited, plural, reading, runs};
+use fixed_decimal::{DigitList, DigitStore, PackedDigits};
 use std::alloc::{AllocError, Global};
 use test_support::{expand_runs, named};
 
@@ -68,25 +69,44 @@ fn split(row: &str) -> Option<Row<'_>> {
     Some((kind, first, second, third))
 }
 
-/// Whether the fields of a row of a kind are as they have to be.
-fn holds_by_kind(
+/// Whether the fields of a row of a kind hold over a store.
+fn holds_over<D: DigitStore>(
     alloc: Global,
     kind: Kind,
     (first, second, third): (&str, &str, &str),
     count: &str,
 ) -> bool {
     match kind {
-        Kind::Decimal => edited::holds(alloc, first, second, (third, count)),
-        Kind::Run => runs::has_outcome(alloc, first, second, third),
-        Kind::LimitedRun(most) => runs::has_limited_outcome(alloc, most, (first, second), third),
-        Kind::Order => comparing::are_ordered(alloc, (first, second), third),
-        Kind::DecimalPair | Kind::IntegerPair | Kind::ScientificPair | Kind::CompactPair => {
+        Kind::Unsigned => reading::reads_unsigned::<D>(alloc, first, (second, third)),
+        Kind::Signed => reading::reads_signed::<D>(alloc, first, (second, third)),
+        Kind::Decimal => edited::holds::<D>(alloc, (first, second), (third, count)),
+        Kind::Run => runs::has_outcome::<D>(alloc, first, second, third),
+        Kind::LimitedRun(most) => {
+            runs::has_limited_outcome::<D>(alloc, most, (first, second), third)
+        }
+        Kind::Order => comparing::are_ordered::<D>(alloc, (first, second), third),
+        Kind::DecimalPair => comparing::are_decimals::<D>(alloc, (first, second), third),
+        Kind::Integers => digits::has_integers::<D>(alloc, first, second),
+        Kind::Digits => digits::has_digits::<D>(alloc, first, second, third),
+        _ => false,
+    }
+}
+
+/// Whether the fields of a row of a kind hold, over each store where the kind has one.
+fn holds_by_kind(alloc: Global, kind: Kind, row: (&str, &str, &str), count: &str) -> bool {
+    let (first, second, third) = row;
+    match kind {
+        Kind::Integer | Kind::Scientific | Kind::Compact => {
+            reading::reads(alloc, kind, first, (second, third))
+        }
+        Kind::IntegerPair | Kind::ScientificPair | Kind::CompactPair => {
             comparing::is_pair(alloc, kind, (first, second), third)
         }
-        Kind::Integers => digits::has_integers(alloc, first, second),
-        Kind::Digits => digits::has_digits(alloc, first, second, third),
         Kind::Plural => plural::take(alloc, first, second, third),
-        _ => reading::reads(alloc, kind, first, (second, third)),
+        _ => {
+            holds_over::<DigitList>(alloc, kind, row, count)
+                && holds_over::<PackedDigits>(alloc, kind, row, count)
+        }
     }
 }
 

@@ -1,13 +1,11 @@
 //! Whole runs.
 use crate::calls::calls;
 use crate::edited::Counting;
-use fixed_decimal::{
-    Call, DigitList, DigitStore, PackedDigits, ParseError, RunError, Sink, TextBuf, run, run_over,
-};
+use fixed_decimal::{Call, DigitStore, ParseError, RunError, Sink, TextBuf, run, run_over};
 use std::alloc::{AllocError, Global};
 use test_support::{
-    EightDigits, EighteenDigits, LimitedSink, LimitedStore, NineteenDigits, SeventeenDigits,
-    SixteenDigits, TwentyOneDigits,
+    DigitLimit, EightDigits, EighteenDigits, LimitedSink, LimitedStore, NineteenDigits,
+    SeventeenDigits, SixteenDigits, TwentyOneDigits,
 };
 
 /// Returns the word of an error of a text.
@@ -57,38 +55,35 @@ fn has_outcome_over<D: DigitStore>(
     }
 }
 
-/// The same over a store that is out of memory for more than `most` digits.
-fn has_outcome_within<D: DigitStore>(
+/// The same over a store that is out of memory for more than `M` digits.
+fn has_outcome_within<D: DigitStore, M: DigitLimit>(
     alloc: Global,
-    most: usize,
     (start, calls): (&str, &[Call<'_>]),
     wanted: &str,
 ) -> bool {
-    match most {
-        8 => has_outcome_over::<LimitedStore<D, EightDigits>>(alloc, start, calls, wanted),
-        16 => has_outcome_over::<LimitedStore<D, SixteenDigits>>(alloc, start, calls, wanted),
-        17 => has_outcome_over::<LimitedStore<D, SeventeenDigits>>(alloc, start, calls, wanted),
-        18 => has_outcome_over::<LimitedStore<D, EighteenDigits>>(alloc, start, calls, wanted),
-        19 => has_outcome_over::<LimitedStore<D, NineteenDigits>>(alloc, start, calls, wanted),
-        21 => has_outcome_over::<LimitedStore<D, TwentyOneDigits>>(alloc, start, calls, wanted),
-        _ => false,
-    }
+    has_outcome_over::<LimitedStore<D, M>>(alloc, start, calls, wanted)
 }
 
-/// The same over each store; with eight digits over that which has no more in place.
-pub fn has_limited_outcome(
+/// The same over a store that is out of memory for more than `most` digits, if it has not as many in place.
+pub fn has_limited_outcome<D: DigitStore>(
     alloc: Global,
     most: usize,
     (start, words): (&str, &str),
     wanted: &str,
 ) -> bool {
-    match calls(alloc, words) {
-        Some(calls) => {
-            let run = (start, calls.as_slice());
-            has_outcome_within::<DigitList>(alloc, most, run, wanted)
-                && (most == 8 || has_outcome_within::<PackedDigits>(alloc, most, run, wanted))
-        }
-        None => false,
+    let Some(calls) = calls(alloc, words) else {
+        return false;
+    };
+    let run = (start, calls.as_slice());
+    match most {
+        _ if most < D::L => true,
+        8 => has_outcome_within::<D, EightDigits>(alloc, run, wanted),
+        16 => has_outcome_within::<D, SixteenDigits>(alloc, run, wanted),
+        17 => has_outcome_within::<D, SeventeenDigits>(alloc, run, wanted),
+        18 => has_outcome_within::<D, EighteenDigits>(alloc, run, wanted),
+        19 => has_outcome_within::<D, NineteenDigits>(alloc, run, wanted),
+        21 => has_outcome_within::<D, TwentyOneDigits>(alloc, run, wanted),
+        _ => false,
     }
 }
 
@@ -103,15 +98,14 @@ fn has_outcome_in_memory(alloc: Global, start: &str, calls: &[Call<'_>], wanted:
     }
 }
 
-/// The same into a sink in memory, and over each store.
-pub fn has_outcome(alloc: Global, start: &str, words: &str, wanted: &str) -> bool {
+/// The same into a sink in memory, over a store, and over one that counts.
+pub fn has_outcome<D: DigitStore>(alloc: Global, start: &str, words: &str, wanted: &str) -> bool {
     match calls(alloc, words) {
         Some(calls) => {
             let calls = calls.as_slice();
             has_outcome_in_memory(alloc, start, calls, wanted)
-                && has_outcome_over::<DigitList>(alloc, start, calls, wanted)
-                && has_outcome_over::<PackedDigits>(alloc, start, calls, wanted)
-                && has_outcome_over::<Counting<DigitList>>(alloc, start, calls, wanted)
+                && has_outcome_over::<D>(alloc, start, calls, wanted)
+                && has_outcome_over::<Counting<D>>(alloc, start, calls, wanted)
         }
         None => false,
     }

@@ -35,6 +35,7 @@ fn have_texts() -> bool {
     displays_as(&ConcatenateError::Overlap(5), "The numbers overlap")
         && displays_as(&ConcatenateError::Memory(5), "Out of memory")
         && displays_as(&LimitError, "Magnitude or number of digits exceeded")
+        && displays_as(&RoundError::Limit, "Magnitude or number of digits exceeded")
         && displays_as(&RoundError::Memory, "Out of memory")
         && displays_as(&SinkFault, "The sink refused a byte")
 }

@@ -1,7 +1,7 @@
 use Rattle.std.proofs.Common.{◌≤◌, get_or, arith}
 use Rattle.std.proofs.lemmas.Str.{digit_value_digit}
 use Rattle.std.proofs.lemmas.Int.Digits.{digits_more}
-use Rattle.decimal_digits_tests.proofs.tests.bulk.is_number.Goals as goal
+use Rattle.fixed_decimal_tests.proofs.tests.digits.bulk.is_number.Goals as goal
 
 pub loop-ascii-preserved : goal.loop-ascii-preserved
 loop-ascii-preserved c =

@@ -1,6 +1,6 @@
 //! A sink over a block before a writer.
 use super::*;
-use crate::tests::sinks::rejects_all;
+use crate::tests::digits::sinks::rejects_all;
 use decimal_digits::sink::{BufferedOut, Sink};
 use std::io::ErrorKind;
 use test_support::{FailingWriter, WriteFailure};

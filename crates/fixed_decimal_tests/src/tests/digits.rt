@@ -1,5 +1,5 @@
-//! Each public call once, what no clause says, and sinks that fail. A helper holds one list, or two for a call on two,
-//! and returns whether its row holds.
+//! Lists of digits: each public call once, what no clause says, and sinks that fail. A helper holds one list, or two
+//! for a call on two, and returns whether its row holds.
 use decimal_digits::digits::{DigitList, DigitStore, PackedDigits};
 use std::alloc::{AllocError, Global};
 use std::test::Fail;
@@ -10,8 +10,6 @@ mod bulk;
 mod changes;
 mod copies;
 mod counted;
-mod errors;
-mod modes;
 mod sinks;
 
 /// Makes the list of a text's digits, one at a time.
