@@ -135,7 +135,7 @@ pub text-of_affixes : (n : FormattedNumber) (shown : NumberAffixes) → AreParts
 text-of_affixes n shown is =
     let a = around_of n in
     let number =
-        number_part n.formatter.now n.value.absolute (exponent_of n.formatter.now.options.notation n.exponent) in
+    number_part n.formatter.now n.value.absolute (exponent_of n.formatter.now.options.notation n.exponent) in
     sym (text-three (literal (unit_of n).prefix ++ a.prefix) (if a.has_number then number else [])
     (a.suffix ++ literal (unit_of n).suffix) (parts_text shown.prefix) (number_text_if n shown.has_number)
     (parts_text shown.suffix) (ap pieces_text (sym is.prefix) ∙ text-of_parts shown.prefix)
@@ -151,7 +151,7 @@ text-of_around n =
     let p = literal (unit_of n).prefix in
     let q = literal (unit_of n).suffix in
     let number =
-        number_part n.formatter.now n.value.absolute (exponent_of n.formatter.now.options.notation n.exponent) in
+    number_part n.formatter.now n.value.absolute (exponent_of n.formatter.now.options.notation n.exponent) in
     regroup (pieces_text p) (pieces_text a.prefix) (number_text_if n a.has_number) (pieces_text a.suffix)
     (pieces_text q)
     ∙ sym (text-three (p ++ a.prefix) (if a.has_number then number else []) (a.suffix ++ q)

@@ -109,6 +109,17 @@ impl NumberFormatter {
             let _range = value.absolute.magnitude_range();
             return self.rounded(value);
         }
+        self.scaled(value)
+    }
+
+    // Not inlined: most numbers are not scaled.
+    #[inline(never)]
+    fn scaled(&self, value: &mut Decimal) -> Result<i32, RoundError>
+        ensures ok { IfOk result (λ e. shown_number self.now value.old ≡ Some (scaled_value value.new e)) }
+        ensures limit { IsErrOf result RoundError.Limit → shown_number self.now value.old ≡ None }
+        ensures memory { IsErrOf result RoundError.Memory
+            → IsSomeAnd self.now.digits (λ o. base_of o.precision ≡ MultiplesOf25) }
+    {
         if let Err(_) = value.absolute.multiply_pow10(self.options.scale) {
             return Err(RoundError::Limit);
         }
@@ -146,7 +157,6 @@ impl NumberFormatter {
         }
     }
 
-    /// Returns what chooses a compact pattern. If all numbers have one pattern, the significand is not read.
     fn choice(&self, significand: &Decimal, exponent: i32) -> CompactChoice
         ensures { ChoosesPattern self.now significand.now exponent result }
     {
@@ -181,7 +191,6 @@ impl NumberFormatter {
         }
     }
 
-    /// Returns a number whose value is not yet the significand.
     #[inline(always)]
     fn number(&self, alloc: Global, value: Decimal) -> FormattedNumber<'_>
         ensures formatter { result.formatter.now ≡ self.now }

@@ -192,7 +192,6 @@ impl NumberFormatter {
         }
     }
 
-    /// Returns the parts for a sign, by a compact pattern or else by that of the style.
     pub(crate) fn affixes(
         &self,
         sign: Sign,
