@@ -100,6 +100,7 @@ impl DigitOptions {
         value.set_max_position(self.integer.max as i16);
     }
 
+    #[inline(always)]
     pub(crate) fn show<D: DigitStore>(&self, value: &mut UnsignedOver<D>, last: i32)
         ensures value { value.new ≡ shown self.now value.old.number last }
         ensures size { size value.new.number ≤ size value.old.number }

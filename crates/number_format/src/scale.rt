@@ -109,6 +109,7 @@ impl DigitOptions {
 }
 
 impl Notation {
+    #[inline(always)]
     fn raise<D: DigitStore>(&self, value: &mut UnsignedOver<D>) -> i32
         ensures exponent { result ≡ base_exponent self.now value.old.number }
         ensures number { value.new.number ≡ value.old.number * 10 ^ unsigned_abs result }

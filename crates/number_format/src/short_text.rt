@@ -108,6 +108,7 @@ impl<'f> FormattedNumber<'f> {
         block.put_bytes(texts.suffix.as_str().as_bytes())
     }
 
+    #[inline(always)]
     fn put_around(&self, block: &mut Block) -> Result<(), SinkFault>
         ensures { OnOk result (block.new.0 ≡ block.old.0 ++ around_text self.now (around_of self.now)) }
     {
@@ -119,7 +120,7 @@ impl<'f> FormattedNumber<'f> {
         }
     }
 
-    #[inline(never)]
+    #[inline(always)]
     fn put_with_unit(&self, block: &mut Block) -> Result<(), SinkFault>
         ensures { OnOk result (block.new.0 ≡ block.old.0 ++ formatted_number_text self.now) }
     {
@@ -129,7 +130,6 @@ impl<'f> FormattedNumber<'f> {
         put_part(TextPart::new(PartKind::Literal, unit.suffix), block)
     }
 
-    /// Appends the text, if it fits the block.
     #[inline(always)]
     pub(crate) fn put_text(&self, block: &mut Block) -> Result<(), SinkFault>
         ensures { OnOk result (block.new.0 ≡ block.old.0 ++ formatted_number_text self.now) }
