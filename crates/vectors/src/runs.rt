@@ -64,7 +64,7 @@ fn has_outcome_within<D: DigitStore, M: DigitLimit>(
     has_outcome_over::<LimitedStore<D, M>>(alloc, start, calls, wanted)
 }
 
-/// The same over a store that is out of memory for more than `most` digits, if it has not as many in place.
+/// The same over a store that is out of memory for more than `most` digits, if it keeps fewer in place.
 pub fn has_limited_outcome<D: DigitStore>(
     alloc: Global,
     most: usize,
