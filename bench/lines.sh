@@ -34,15 +34,14 @@ cat > "$room/lines.py" <<'PYTHON'
 import random, sys
 random.seed(7)
 room = sys.argv[2]
-names = ("plain", "fields", "grouped", "amounts")
-plain, fields, grouped, amounts = (open(f"{room}/{name}", "w") for name in names)
+names = ("plain", "fields", "grouped", "cents")
+plain, fields, grouped, cents = (open(f"{room}/{name}", "w") for name in names)
 for line in range(int(sys.argv[1])):
     n = random.randrange(1000000, 10000000)
     plain.write("%d.%03d\n" % (n // 1000, n % 1000))
     fields.write("name%d,city,%d.%03d,tail\n" % (line % 10, n // 1000, n % 1000))
     grouped.write("%d,%03d.%03d\n" % (n // 1000000, n // 1000 % 1000, n % 1000))
-    if line < 1000000:
-        amounts.write("%d.%02d\n" % (n // 1000, n // 10 % 100))
+    cents.write("%d.%02d\n" % (n // 1000, n // 10 % 100))
 PYTHON
 cat > "$room/field.py" <<'PYTHON'
 import csv, sys
@@ -146,6 +145,7 @@ for ((pass = 0; pass < passes; pass++)); do
 done
 table 'without a locale' 'read:en format:en-IN'
 
+head -n 1000000 "$room/cents" > "$room/amounts"
 head -n 1000000 "$room/plain" > "$room/rounded"
 money='format:en:currency/EUR .00'
 for ((pass = 0; pass < passes; pass++)); do

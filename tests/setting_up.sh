@@ -17,11 +17,11 @@ judge $? "$command: it writes '${found:-}', $(tail -n 1 "$room/err")"
 
 bash tools/install.sh "$room/prefix" > "$room/log" 2>&1 && [ "$("$room/prefix/bin/fixdec" 250 shift:-2)" = 2.50 ]
 judge $? "tools/install.sh: $(tail -n 1 "$room/log")"
-sed -n '/^## Programs/,/^## Library/p' README.md | awk '/^```$/ { shown = !shown; next } shown' > "$room/session"
-sed -n 's/^\$ //p' "$room/session" > "$room/commands"
+sed -n '/^## Programs/,/^## Library/p' README.md | awk '/^```$/ { shown = !shown; next } shown' > "$room/transcript"
+sed -n 's/^\$ //p' "$room/transcript" > "$room/commands"
 mkdir "$room/table" &&
   (cd "$room/table" && PATH=$room/prefix/bin:$PATH bash -e ../commands) > "$room/out" 2>&1 &&
-  cmp -s "$room/out" <(grep -v '^\$ ' "$room/session")
+  cmp -s "$room/out" <(grep -v '^\$ ' "$room/transcript")
 judge $? "README's commands by the installed programs: $(tail -n 1 "$room/out")"
 bash tools/release.sh "$room" > "$room/log" 2>&1 && tar -C "$room" -xzf "$room"/fixed_decimal-*.tar.gz &&
   (cd "$room"/fixed_decimal-*/ && sha256sum --check --quiet SHA256SUMS && bin/plural 'one: n = 1' 1) > "$room/out" 2>&1 &&
