@@ -1,8 +1,9 @@
 #!/usr/bin/env bash
 # Makes each allocation of two built programs fail in turn, by a debugger that stops where the allocator is called:
 #
-# - `allocation_failures` makes each kind of call that allocates. It has to print `right when asked again`: the call
-#   reported that it is out of memory, changed nothing, and succeeded when it was made again.
+# - `vectors` and `number_vectors` check rows of `tests/allocations`, which make each kind of call that allocates. They
+#   have to print that all rows hold: a call reports that it is out of memory, changes nothing, and succeeds when it is
+#   made again. Where the input itself is not read they print nothing, and end with status 1.
 # - `fixdec_lines` has to end with status 3, and `memory` with nothing written, or `line N: memory` with the lines
 #   before, or as ever where it asked again, for less; and it allocates no more for a thousand lines of at most 16
 #   digits than for one, also by number skeletons.
@@ -19,7 +20,8 @@ if ! command -v gdb > /dev/null; then
   exit 1
 fi
 . tests/programs.sh
-copy_programs allocation_failures fixdec_lines
+copy_programs vectors number_vectors fixdec_lines
+cp tests/allocations/*.txt "$room"
 cd "$room" || exit 1
 
 # fail_at INPUT AT PROGRAM WORD..: runs a program with the allocation of this number failing. Leaves what it wrote in
@@ -34,7 +36,7 @@ export -f fail_at
 
 # fail_each INPUT PROGRAM WORD..: counts the allocations of a program into $all, and makes each of them fail.
 fail_each() {
-  rm -f ./*.end
+  rm -f ./*.end ./*.out
   fail_at "$1" 0 "${@:2}"
   read -r all _ < 0.end
   words="$*"
@@ -43,10 +45,23 @@ fail_each() {
   seq 1 "${all:-0}" | xargs -P "$(nproc)" -I{} bash -c "fail_at ${1@Q} {} ${*:2}"
 }
 
-fail_each /dev/null allocation_failures
-for ((at = 1; at <= ${all:-0}; at++)); do
-  [ "$(cat "$at.out")" = 'right when asked again' ]
-  judge $? "allocation $at of $all: $(cat "$at.out")"
+for program in vectors number_vectors; do
+  # A comment of the same length: the allocations of the input alone.
+  (printf '#' && tr '\n\t' '  ' < $program.txt) > comment
+  fail_at comment 0 $program
+  read -r own _ < 0.end
+  fail_each $program.txt $program
+  grep -qx '[0-9]* rows hold, 0 fail' 0.out
+  judge $? "$program: $(cat 0.out)"
+  for ((at = 1; at <= ${all:-0}; at++)); do
+    read -r count status < "$at.end"
+    if [ "$status" = 1 ] && [ "$at" -le "$own" ]; then
+      [ ! -s "$at.out" ]
+    else
+      [ "$count" -gt "$all" ] && cmp -s "$at.out" 0.out
+    fi
+    judge $? "$words, allocation $at of $all: status $status, $(head -c 300 "$at.out")"
+  done
 done
 
 # no_more LINE TEXT WORD..: a thousand lines are converted to this text, with no allocation more than for one.

@@ -4,7 +4,7 @@ use fixed_decimal::{
     Decimal, DigitList, DigitStore, PackedDigits, ParseError, UnsignedOver, Writeable,
 };
 use std::alloc::Global;
-use test_support::{Value, displays, has_text, shows};
+use test_support::{displays, shows};
 
 mod callers;
 mod changes;

@@ -2,7 +2,7 @@
 ghost use Rattle.decimal_format.specs.Readable.{IsReadable};
 
 use decimal_format::{DecimalFormatter, DecimalSymbols, GroupingStrategy};
-use fixed_decimal::{Decimal, ParseError};
+use fixed_decimal::Decimal;
 use locale_data::{PluralRuleType, PluralRulesError, locale, plural_rules_of};
 use plural_rules::PluralOperands;
 use std::alloc::Global;
@@ -22,15 +22,17 @@ fn writes(formatter: &DecimalFormatter<'_>, value: &Decimal, text: &str) -> bool
 }
 
 /// Whether both readers read a text as this value.
-fn reads_back(alloc: Global, symbols: &DecimalSymbols<'_>, value: &Decimal, text: &str) -> bool
+fn reads_back(
+    alloc: Global,
+    symbols: &DecimalSymbols<'_>,
+    value: &Decimal,
+    text: &str,
+) -> Option<bool>
     requires { IsReadable symbols.now }
 {
-    let strict: Result<Decimal, ParseError> = symbols.read(alloc, text.as_bytes());
-    let lenient: Result<Decimal, ParseError> = symbols.read_lenient(alloc, text);
-    match (strict, lenient) {
-        (Ok(strict), Ok(lenient)) => strict == *value && lenient == *value,
-        _ => false,
-    }
+    let strict: Decimal = symbols.read(alloc, text.as_bytes()).ok()?;
+    let lenient: Decimal = symbols.read_lenient(alloc, text).ok()?;
+    Some(strict == *value && lenient == *value)
 }
 
 /// Whether a number has this text by the symbols of a locale, and the text is read back.
@@ -40,16 +42,13 @@ fn formats(
     strategy: GroupingStrategy,
     number: &str,
     text: &str,
-) -> bool
+) -> Option<bool>
     requires { IsReadable symbols }
 {
     let formatter = DecimalFormatter::new(symbols, strategy);
-    match Decimal::try_from_str(alloc, number) {
-        Ok(value) => {
-            writes(&formatter, &value, text) && reads_back(alloc, formatter.symbols(), &value, text)
-        }
-        Err(_) => false,
-    }
+    let value = Decimal::try_from_str(alloc, number).ok()?;
+    let is_written = writes(&formatter, &value, text);
+    Some(is_written && reads_back(alloc, formatter.symbols(), &value, text)?)
 }
 
 /// Whether a number has this category by the plural rules of a language.
@@ -59,16 +58,13 @@ fn has_category(
     rule_type: PluralRuleType,
     number: &str,
     category: &str,
-) -> bool {
+) -> Option<bool> {
     let rules = match plural_rules_of(alloc, tag, rule_type) {
-        Ok(rules) => rules,
-        Err(PluralRulesError::UnknownLocale) => return category == "unknown",
-        Err(PluralRulesError::Memory) => return false,
+        Err(PluralRulesError::UnknownLocale) => return Some(category == "unknown"),
+        rules => rules.ok()?,
     };
-    match Decimal::try_from_str(alloc, number) {
-        Ok(value) => rules.category(&PluralOperands::of_decimal(&value)).name() == category,
-        Err(_) => false,
-    }
+    let value = Decimal::try_from_str(alloc, number).ok()?;
+    Some(rules.category(&PluralOperands::of_decimal(&value)).name() == category)
 }
 
 /// Whether a row of a locale holds.
@@ -82,17 +78,17 @@ fn holds_in(
     requires { IsReadable symbols }
 {
     match word {
-        "read" => Some(is_outcome::<Decimal>(symbols.read(alloc, number.as_bytes()), text)),
-        "lenient" => Some(is_outcome::<Decimal>(symbols.read_lenient(alloc, number), text)),
-        _ => Some(formats(alloc, symbols, named(STRATEGIES, word)?, number, text)),
+        "read" => is_outcome::<Decimal>(symbols.read(alloc, number.as_bytes()), text),
+        "lenient" => is_outcome::<Decimal>(symbols.read_lenient(alloc, number), text),
+        _ => formats(alloc, symbols, named(STRATEGIES, word)?, number, text),
     }
 }
 
 /// Whether a row holds.
 pub fn holds(alloc: Global, tag: &str, word: &str, (number, text): (&str, &str)) -> Option<bool> {
     match word {
-        "cardinal" => Some(has_category(alloc, tag, PluralRuleType::Cardinal, number, text)),
-        "ordinal" => Some(has_category(alloc, tag, PluralRuleType::Ordinal, number, text)),
+        "cardinal" => has_category(alloc, tag, PluralRuleType::Cardinal, number, text),
+        "ordinal" => has_category(alloc, tag, PluralRuleType::Ordinal, number, text),
         _ => match locale(tag) {
             Some(symbols) => holds_in(alloc, symbols, word, number, text),
             None => Some(text == "unknown"),

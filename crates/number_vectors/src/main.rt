@@ -60,5 +60,5 @@ fn holds(alloc: Global, row: &str) -> Option<bool> {
 }
 
 fn main(rt: HostRuntime) -> ExitCode {
-    check_rows(&rt, |alloc, row| holds(alloc, row))
+    check_rows(&rt, &[], |alloc, row, _| holds(alloc, row))
 }

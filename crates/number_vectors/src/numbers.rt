@@ -30,10 +30,12 @@ fn error_names(error: DigitOptionsError) -> (&'static str, &'static str) {
     }
 }
 
-fn is_named(error: RoundError, text: &str) -> bool {
+/// Whether an error has this name; `None` if it is out of memory and has not.
+fn is_named(error: RoundError, text: &str) -> Option<bool> {
     match error {
-        RoundError::Limit => text == "Limit",
-        RoundError::Memory => text == "Memory",
+        RoundError::Limit => Some(text == "Limit"),
+        RoundError::Memory if text == "Memory" => Some(true),
+        RoundError::Memory => None,
     }
 }
 
@@ -44,24 +46,18 @@ fn writes<D: DigitStore>(
     significand: &Signed<UnsignedOver<D>>,
     exponent: Option<i32>,
     text: &str,
-) -> bool {
+) -> Option<bool> {
     let mut sink = LimitedSink::new(text.as_bytes(), usize::MAX);
-    let written = formatter.format(significand).write_to(&mut sink).is_ok();
-    let Some(exponent) = exponent else {
-        return written && sink.has_all();
-    };
-    match FixedInteger::try_from_i32(alloc, exponent) {
-        Ok(exponent) => {
-            written
-                && sink.put_byte(b'E').is_ok()
-                && exponent.write_to(&mut sink).is_ok()
-                && sink.has_all()
-        }
-        Err(_) => false,
+    let mut written = formatter.format(significand).write_to(&mut sink).is_ok();
+    if let Some(exponent) = exponent {
+        let exponent = FixedInteger::try_from_i32(alloc, exponent).ok()?;
+        written &= sink.put_byte(b'E').is_ok() && exponent.write_to(&mut sink).is_ok();
     }
+    Some(written && sink.has_all())
 }
 
-/// Whether a value has this text by digit options, without an exponent; on an error it has its own text.
+/// Whether a value has this text by digit options, without an exponent; on an error it has its own text. If out of memory
+/// they are applied again to what is left.
 fn applies<D: DigitStore>(
     alloc: Global,
     formatter: &DecimalFormatter<'_>,
@@ -69,13 +65,17 @@ fn applies<D: DigitStore>(
     digits: &DigitOptions,
     mut value: Signed<UnsignedOver<D>>,
     (number, text): (&str, &str),
-) -> bool {
-    match digits.apply(&mut value) {
+) -> Option<bool> {
+    let applied = match digits.apply(&mut value) {
+        Err(RoundError::Memory) => digits.apply(&mut value),
+        applied => applied,
+    };
+    match applied {
         Ok(()) => {
             value.apply_sign_display(options.display);
             writes(alloc, formatter, &value, None, text)
         }
-        Err(error) => is_named(error, text) && shows(&value, number.as_bytes()),
+        Err(error) => Some(is_named(error, text)? && shows(&value, number.as_bytes())),
     }
 }
 
@@ -87,7 +87,7 @@ fn scales<D: DigitStore>(
     digits: &DigitOptions,
     value: Signed<UnsignedOver<D>>,
     text: &str,
-) -> bool {
+) -> Option<bool> {
     match options.notation().scale(digits, value) {
         Ok(scaled) => {
             let exponent = match options.notation() {
@@ -112,12 +112,12 @@ fn has_text_over<D: DigitStore>(
     let formatter = DecimalFormatter::new(locale(tag)?, options.grouping);
     if let Notation::Standard = options.notation() {
         let value: Signed<UnsignedOver<D>> = Signed::try_from_str(alloc, number).ok()?;
-        if !applies(alloc, &formatter, options, digits, value, (number, text)) {
+        if !applies(alloc, &formatter, options, digits, value, (number, text))? {
             return Some(false);
         }
     }
     let value: Signed<UnsignedOver<D>> = Signed::try_from_str(alloc, number).ok()?;
-    Some(scales(alloc, &formatter, options, digits, value, text))
+    scales(alloc, &formatter, options, digits, value, text)
 }
 
 /// Whether a formatted number has this text, also by Display, and fails with each sink without room.
@@ -138,6 +138,7 @@ fn reads_back(
 ) -> Option<bool> {
     let reader = match reader {
         Ok(reader) => reader,
+        Err(NumberReaderError::Memory) => return None,
         Err(error) => return Some(error == options.reader_error()),
     };
     let value: Decimal = reader.read(alloc, text.as_bytes()).ok()?;
@@ -149,7 +150,8 @@ fn reads_back(
     Some(is_zero || is_text(&formatter.format(alloc, value).ok()?, text))
 }
 
-/// Whether a formatter writes a number as this text, and reads it back; or has this error, and leaves the number.
+/// Whether a formatter writes a number as this text, and reads it back; or has this error, and leaves the number. If out of
+/// memory it formats again what is left.
 fn formats(
     alloc: Global,
     formatter: &NumberFormatter,
@@ -157,12 +159,22 @@ fn formats(
     options: &Options,
     (number, text): (&str, &str),
 ) -> Option<bool> {
-    match formatter.format(alloc, Decimal::try_from_str(alloc, number).ok()?) {
+    let value = Decimal::try_from_str(alloc, number).ok()?;
+    let formatted = match formatter.format(alloc, value) {
+        Err(
+            FormatError {
+                error: RoundError::Memory,
+                value,
+            },
+        ) => formatter.format(alloc, value),
+        formatted => formatted,
+    };
+    match formatted {
         Ok(formatted) => {
             Some(is_text(&formatted, text) && reads_back(alloc, formatter, reader, options, text)?)
         }
         Err(FormatError { error, value }) => {
-            Some(is_named(error, text) && shows(&value, number.as_bytes()))
+            Some(is_named(error, text)? && shows(&value, number.as_bytes()))
         }
     }
 }
@@ -186,7 +198,7 @@ fn checks(
             Some(has_parts(&formatter.format(alloc, value).ok()?, expected))
         }
         Check::Read => reads(alloc, &reader.ok()?, text, expected),
-        Check::Lenient => Some(reads_leniently(alloc, &reader.ok()?, text, expected)),
+        Check::Lenient => reads_leniently(alloc, &reader.ok()?, text, expected),
     }
 }
 

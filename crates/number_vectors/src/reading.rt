@@ -32,8 +32,9 @@ fn is_own(alloc: Global, reader: &NumberReader, text: &[u8]) -> Option<bool> {
         return Some(true);
     };
     let typed: Result<Decimal, ParseError> = reader.read_lenient(alloc, text);
-    let Ok(value) = typed else {
-        return Some(true);
+    let value = match typed {
+        Err(ParseError::Syntax | ParseError::Limit) => return Some(true),
+        value => value.ok()?,
     };
     let mut shown = TextBuf::new(alloc);
     value.write_to(&mut shown).ok()?;
@@ -44,8 +45,8 @@ fn is_own(alloc: Global, reader: &NumberReader, text: &[u8]) -> Option<bool> {
 }
 
 /// Whether a text is rejected, or read as another value.
-fn is_other(alloc: Global, reader: &NumberReader, text: &[u8], value: &str) -> bool {
-    !is_outcome::<Decimal>(reader.read(alloc, text), value)
+fn is_other(alloc: Global, reader: &NumberReader, text: &[u8], value: &str) -> Option<bool> {
+    Some(!is_outcome::<Decimal>(reader.read(alloc, text), value)?)
 }
 
 /// Whether no other byte at an index of a text leaves its value, and lenient reading keeps its digits and its sign.
@@ -64,7 +65,7 @@ fn each_change_is_other(
         }
         let is_changed = text.get(index).copied() != Some(byte);
         let is_typed = b"019.,-()% a".contains(&byte);
-        all &= (!is_changed || is_other(alloc, reader, changed.as_slice(), value))
+        all &= (!is_changed || is_other(alloc, reader, changed.as_slice(), value)?)
             && (!is_typed || is_own(alloc, reader, changed.as_slice())?);
     }
     Some(all)
@@ -83,9 +84,9 @@ fn each_cut_is_other(
     shorter
         .extend_from_slice(rest.split_first().map_or(rest, |(_, after)| after))
         .ok()?;
-    let are_other = is_other(alloc, reader, front, value)
-        && (index == 0 || is_other(alloc, reader, rest, value))
-        && is_other(alloc, reader, shorter.as_slice(), value);
+    let are_other = is_other(alloc, reader, front, value)?
+        && (index == 0 || is_other(alloc, reader, rest, value)?)
+        && is_other(alloc, reader, shorter.as_slice(), value)?;
     Some(are_other && is_own(alloc, reader, rest)? && is_own(alloc, reader, shorter.as_slice())?)
 }
 
@@ -101,15 +102,20 @@ fn is_only_text(alloc: Global, reader: &NumberReader, text: &[u8], value: &str) 
 
 /// Whether a text is rejected, or has this value, also when it is read leniently, and no text with a change has it.
 pub fn reads(alloc: Global, reader: &NumberReader, text: &str, expected: &str) -> Option<bool> {
-    let is_read = is_outcome::<Decimal>(reader.read(alloc, text.as_bytes()), expected);
+    let is_read = is_outcome::<Decimal>(reader.read(alloc, text.as_bytes()), expected)?;
     if !is_read || expected == "syntax" || expected == "limit" || text.len() > 100 {
         return Some(is_read);
     }
     let is_only = is_only_text(alloc, reader, text.as_bytes(), expected)?;
-    Some(is_only && reads_leniently(alloc, reader, text, expected))
+    Some(is_only && reads_leniently(alloc, reader, text, expected)?)
 }
 
 /// Whether a text has this value or error when it is read leniently.
-pub fn reads_leniently(alloc: Global, reader: &NumberReader, text: &str, expected: &str) -> bool {
+pub fn reads_leniently(
+    alloc: Global,
+    reader: &NumberReader,
+    text: &str,
+    expected: &str,
+) -> Option<bool> {
     is_outcome::<Decimal>(reader.read_lenient(alloc, text), expected)
 }

@@ -47,7 +47,7 @@ fn prints_shorter(alloc: Global, text: &str) -> Option<bool> {
 /// Whether a row holds.
 pub fn holds(alloc: Global, skeleton: &str, expected: &str) -> Option<bool> {
     let skeleton = expanded(alloc, skeleton).ok()?;
-    if prints_shorter(alloc, skeleton.as_str()) != Some(true) {
+    if !prints_shorter(alloc, skeleton.as_str())? {
         return Some(false);
     }
     let words = skeleton_words(alloc, skeleton.as_str()).ok()?;

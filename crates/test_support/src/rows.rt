@@ -18,10 +18,21 @@ fn is_row(line: &str) -> bool {
     !line.is_empty() && (!line.starts_with('#') || line.contains('\t'))
 }
 
+/// Returns the number of rows of a line: that of the first text of a table that it contains, or 1.
+fn rows_of(line: &str, repeated: &[(&str, u32)]) -> u32 {
+    for (text, count) in repeated {
+        if line.contains(*text) {
+            return *count;
+        }
+    }
+    1
+}
+
 /// Prints the rows of a text that fail, with their line numbers, and in a last line the numbers of rows.
-fn check_lines<R: AllocGlobal + Print, F: Fn(Global, &str) -> Option<bool>>(
+fn check_lines<R: AllocGlobal + Print, F: Fn(Global, &str, u32) -> Option<bool>>(
     rt: &R,
     text: &str,
+    repeated: &[(&str, u32)],
     holds: F,
 ) -> ExitCode
     requires { F.IsAlwaysCallable holds }
@@ -31,11 +42,16 @@ fn check_lines<R: AllocGlobal + Print, F: Fn(Global, &str) -> Option<bool>>(
         if !is_row(line) {
             continue;
         }
-        if holds(rt.alloc(), line) == Some(true) {
-            hold = hold.saturating_add(1);
-        } else {
-            fail = fail.saturating_add(1);
-            let _ = println!(rt; "line {}: {line}", index.saturating_add(1));
+        for row in 0..rows_of(line, repeated) {
+            let first = holds(rt.alloc(), line, row);
+            if first == Some(true)
+                || first.is_none() && holds(rt.alloc(), line, row) == Some(true)
+            {
+                hold = hold.saturating_add(1);
+            } else {
+                fail = fail.saturating_add(1);
+                let _ = println!(rt; "line {}, row {row}: {line}", index.saturating_add(1));
+            }
         }
     }
     if println!(rt; "{hold} rows hold, {fail} fail").is_ok() && fail == 0 {
@@ -45,15 +61,20 @@ fn check_lines<R: AllocGlobal + Print, F: Fn(Global, &str) -> Option<bool>>(
     }
 }
 
-/// Checks each row of standard input. A row fails unless this returns `Some(true)` for it.
-pub fn check_rows<R: AllocGlobal + Print + Input, F: Fn(Global, &str) -> Option<bool>>(
+/// Checks the rows of each line of standard input: by the table `repeated` lines with a text are a number of rows, and
+/// the others one.
+///
+/// `holds` returns for a line and a 0-based index whether the row holds, and `None` if a call failed that should not have,
+/// as where it is out of memory: such a row is checked once more, and then fails unless it holds.
+pub fn check_rows<R: AllocGlobal + Print + Input, F: Fn(Global, &str, u32) -> Option<bool>>(
     rt: &R,
+    repeated: &[(&str, u32)],
     holds: F,
 ) -> ExitCode
     requires { F.IsAlwaysCallable holds }
 {
     match io::read_to_string(rt.alloc(), rt.reader()) {
-        Ok(text) => check_lines(rt, text.as_str(), holds),
+        Ok(text) => check_lines(rt, text.as_str(), repeated, holds),
         Err(_) => ExitCode::FAILURE,
     }
 }

@@ -24,21 +24,24 @@ pub trait Value: Writeable + Drop {
     fn equals(&self, other: &Self) -> bool;
 }
 
-/// Returns the name of the result of parsing a text: `read`, or that of the error.
-pub fn parse_outcome<T: Drop>(answer: Result<T, ParseError>) -> &'static str {
+/// Returns the name of the result of parsing a text: `read`, or that of the error; `None` if out of memory.
+pub fn parse_outcome<T: Drop>(answer: Result<T, ParseError>) -> Option<&'static str> {
     match answer {
-        Ok(_) => "read",
-        Err(ParseError::Limit) => "limit",
-        Err(ParseError::Syntax) => "syntax",
-        Err(ParseError::Memory) => "memory",
+        Ok(_) => Some("read"),
+        Err(ParseError::Limit) => Some("limit"),
+        Err(ParseError::Syntax) => Some("syntax"),
+        Err(ParseError::Memory) => None,
     }
 }
 
-/// Whether the result of parsing a text is a value with this text, or the error with this name.
-pub fn is_outcome<T: Writeable + Drop>(answer: Result<T, ParseError>, expected: &str) -> bool {
+/// Whether the result of parsing a text is a value with this text, or the error with this name; `None` if out of memory.
+pub fn is_outcome<T: Writeable + Drop>(
+    answer: Result<T, ParseError>,
+    expected: &str,
+) -> Option<bool> {
     match answer {
-        Ok(value) => shows(&value, expected.as_bytes()),
-        error => parse_outcome(error) == expected,
+        Ok(value) => Some(shows(&value, expected.as_bytes())),
+        error => Some(parse_outcome(error)? == expected),
     }
 }
 

@@ -36,14 +36,14 @@ fn have_order<D: DigitStore, E: DigitStore>(
     alloc: Global,
     (left, right): (&str, &str),
     order: Ordering,
-) -> bool {
-    let is_signed = signed_order::<D, E>(alloc, left, right) == Some(order)
-        && signed_order::<E, D>(alloc, right, left) == Some(order.reverse());
+) -> Option<bool> {
+    let is_signed = signed_order::<D, E>(alloc, left, right)? == order
+        && signed_order::<E, D>(alloc, right, left)? == order.reverse();
     let is_unsigned = has_sign(left)
         || has_sign(right)
-        || (unsigned_order::<D, E>(alloc, left, right) == Some(order)
-            && unsigned_order::<E, D>(alloc, right, left) == Some(order.reverse()));
-    is_signed && is_unsigned
+        || (unsigned_order::<D, E>(alloc, left, right)? == order
+            && unsigned_order::<E, D>(alloc, right, left)? == order.reverse());
+    Some(is_signed && is_unsigned)
 }
 
 const ORDERS: &[(&str, Ordering)] = &[
@@ -53,14 +53,12 @@ const ORDERS: &[(&str, Ordering)] = &[
 ];
 
 /// Whether the values of two texts have an order, both over a store, and one over it and the other over a list.
-pub fn are_ordered<D: DigitStore>(alloc: Global, texts: (&str, &str), word: &str) -> bool {
-    match named(ORDERS, word) {
-        Some(order) => {
-            have_order::<D, D>(alloc, texts, order)
-                && have_order::<D, DigitList>(alloc, texts, order)
-        }
-        None => false,
-    }
+pub fn are_ordered<D: DigitStore>(alloc: Global, texts: (&str, &str), word: &str) -> Option<bool> {
+    let order = named(ORDERS, word)?;
+    Some(
+        have_order::<D, D>(alloc, texts, order)?
+            && have_order::<D, DigitList>(alloc, texts, order)?,
+    )
 }
 
 /// Words, and whether two values are equal, and are so after both trims.
@@ -71,11 +69,9 @@ const EQUALITIES: &[(&str, (bool, bool))] = &[
 ];
 
 /// Whether the values of two texts are equal or not.
-fn are_equal<T: Value>(alloc: Global, (left, right): (&str, &str), is_equal: bool) -> bool {
-    match (T::read(alloc, left), T::read(alloc, right)) {
-        (Ok(left), Ok(right)) => left.equals(&right) == is_equal,
-        _ => false,
-    }
+fn are_equal<T: Value>(alloc: Global, (left, right): (&str, &str), is_equal: bool) -> Option<bool> {
+    let (left, right) = (T::read(alloc, left).ok()?, T::read(alloc, right).ok()?);
+    Some(left.equals(&right) == is_equal)
 }
 
 /// The value of a text after both trims.
@@ -91,47 +87,37 @@ fn are_equal_trimmed<T: Value + Edited>(
     alloc: Global,
     texts: (&str, &str),
     equality: (bool, bool),
-) -> bool {
-    match (trimmed::<T>(alloc, texts.0), trimmed::<T>(alloc, texts.1)) {
-        (Some(left), Some(right)) => {
-            left.equals(&right) == equality.1 && are_equal::<T>(alloc, texts, equality.0)
-        }
-        _ => false,
-    }
+) -> Option<bool> {
+    let (left, right) = (trimmed::<T>(alloc, texts.0)?, trimmed::<T>(alloc, texts.1)?);
+    Some(left.equals(&right) == equality.1 && are_equal::<T>(alloc, texts, equality.0)?)
 }
 
 /// Whether two texts write decimals with the same text or not.
-fn have_same_text(alloc: Global, (left, right): (&str, &str), is_same: bool) -> bool {
-    match (
-        Decimal::try_from_str(alloc, left),
-        Decimal::try_from_str(alloc, right),
-    ) {
-        (Ok(left), Ok(right)) => left.has_same_text(&right) == is_same,
-        _ => false,
-    }
+fn have_same_text(alloc: Global, (left, right): (&str, &str), is_same: bool) -> Option<bool> {
+    let left = Decimal::try_from_str(alloc, left).ok()?;
+    let right = Decimal::try_from_str(alloc, right).ok()?;
+    Some(left.has_same_text(&right) == is_same)
 }
 
 /// Whether the decimals of two texts over a store are as equal as a word says, now and after both trims, with a sign
 /// and, where the texts have none, without one.
-pub fn are_decimals<D: DigitStore>(alloc: Global, texts: (&str, &str), word: &str) -> bool {
-    let Some(equality) = named(EQUALITIES, word) else {
-        return false;
-    };
-    have_same_text(alloc, texts, equality.0)
-        && are_equal_trimmed::<Signed<UnsignedOver<D>>>(alloc, texts, equality)
-        && (has_sign(texts.0)
-            || has_sign(texts.1)
-            || are_equal_trimmed::<UnsignedOver<D>>(alloc, texts, equality))
+pub fn are_decimals<D: DigitStore>(alloc: Global, texts: (&str, &str), word: &str) -> Option<bool> {
+    let equality = named(EQUALITIES, word)?;
+    let have_sign = has_sign(texts.0) || has_sign(texts.1);
+    Some(
+        have_same_text(alloc, texts, equality.0)?
+            && are_equal_trimmed::<Signed<UnsignedOver<D>>>(alloc, texts, equality)?
+            && (have_sign || are_equal_trimmed::<UnsignedOver<D>>(alloc, texts, equality)?),
+    )
 }
 
 /// Whether the values of a kind of two texts are as equal as a word says.
-pub fn is_pair(alloc: Global, kind: Kind, texts: (&str, &str), word: &str) -> bool {
-    match (kind, named(EQUALITIES, word)) {
-        (Kind::IntegerPair, Some((same, _))) => are_equal::<FixedInteger>(alloc, texts, same),
-        (Kind::ScientificPair, Some((same, _))) => {
-            are_equal::<ScientificDecimal>(alloc, texts, same)
-        }
-        (Kind::CompactPair, Some((same, _))) => are_equal::<CompactDecimal>(alloc, texts, same),
-        _ => false,
+pub fn is_pair(alloc: Global, kind: Kind, texts: (&str, &str), word: &str) -> Option<bool> {
+    let (is_same, _) = named(EQUALITIES, word)?;
+    match kind {
+        Kind::IntegerPair => are_equal::<FixedInteger>(alloc, texts, is_same),
+        Kind::ScientificPair => are_equal::<ScientificDecimal>(alloc, texts, is_same),
+        Kind::CompactPair => are_equal::<CompactDecimal>(alloc, texts, is_same),
+        _ => None,
     }
 }

@@ -1,5 +1,6 @@
 //! The digits of values, and their conversion to integers.
 use crate::edited::has_sign;
+use crate::integers::are_made;
 use fixed_decimal::{DigitStore, IntegerError, Signed, UnsignedOver};
 use std::alloc::Global;
 use std::str::FromStr;
@@ -17,21 +18,22 @@ fn has_each<D: DigitStore>(value: &UnsignedOver<D>, highest: i16, digits: &str) 
 }
 
 /// Whether the number of a text has these digits, downward from a magnitude, one by one and written by one call.
-pub fn has_digits<D: DigitStore>(alloc: Global, text: &str, magnitude: &str, digits: &str) -> bool {
-    let (Ok(highest), Ok(value)) = (
-        magnitude.parse::<i16>(),
-        UnsignedOver::<D>::try_from_str(alloc, text),
-    ) else {
-        return false;
-    };
+pub fn has_digits<D: DigitStore>(
+    alloc: Global,
+    text: &str,
+    magnitude: &str,
+    digits: &str,
+) -> Option<bool> {
+    let highest = magnitude.parse::<i16>().ok()?;
+    let value = UnsignedOver::<D>::try_from_str(alloc, text).ok()?;
     if digits.len() > (i32::from(highest) + 32769) as usize {
-        return false;
+        return None;
     }
     let Ok(mut places) = vec![in alloc; b'x'; digits.len()] else {
-        return false;
+        return None;
     };
     value.write_digits(highest, places.as_mut_slice());
-    places.as_slice() == digits.as_bytes() && has_each(&value, highest, digits)
+    Some(places.as_slice() == digits.as_bytes() && has_each(&value, highest, digits))
 }
 
 /// Whether an integer or an error is the one that a word names.
@@ -51,26 +53,27 @@ where
 type Words<'a> = ((&'a str, &'a str), (&'a str, &'a str));
 
 /// Whether the number of a text converts to these unsigned integers.
-fn has_unsigned<D: DigitStore>(alloc: Global, text: &str, (narrow, wide): Words<'_>) -> bool {
-    match UnsignedOver::<D>::try_from_str(alloc, text) {
-        Ok(value) => {
-            is_named(value.try_to_u64(), narrow.0) && is_named(value.try_to_u128(), wide.0)
-        }
-        Err(_) => has_sign(text),
+fn has_unsigned<D: DigitStore>(
+    alloc: Global,
+    text: &str,
+    (narrow, wide): Words<'_>,
+) -> Option<bool> {
+    if has_sign(text) {
+        return Some(true);
     }
+    let value = UnsignedOver::<D>::try_from_str(alloc, text).ok()?;
+    Some(is_named(value.try_to_u64(), narrow.0) && is_named(value.try_to_u128(), wide.0))
 }
 
 /// Whether the decimal of a text converts to these integers.
-fn has_signed<D: DigitStore>(alloc: Global, text: &str, (narrow, wide): Words<'_>) -> bool {
-    match Signed::<UnsignedOver<D>>::try_from_str(alloc, text) {
-        Ok(value) => {
-            is_named(value.try_to_u64(), narrow.0)
-                && is_named(value.try_to_i64(), narrow.1)
-                && is_named(value.try_to_u128(), wide.0)
-                && is_named(value.try_to_i128(), wide.1)
-        }
-        Err(_) => false,
-    }
+fn has_signed<D: DigitStore>(alloc: Global, text: &str, (narrow, wide): Words<'_>) -> Option<bool> {
+    let value = Signed::<UnsignedOver<D>>::try_from_str(alloc, text).ok()?;
+    Some(
+        is_named(value.try_to_u64(), narrow.0)
+            && is_named(value.try_to_i64(), narrow.1)
+            && is_named(value.try_to_u128(), wide.0)
+            && is_named(value.try_to_i128(), wide.1),
+    )
 }
 
 /// Splits four words.
@@ -81,10 +84,14 @@ fn split(words: &str) -> Option<Words<'_>> {
     Some(((first, second), (third, fourth)))
 }
 
-/// Whether the number of a text converts to the integers of words.
-pub fn has_integers<D: DigitStore>(alloc: Global, text: &str, words: &str) -> bool {
-    match split(words) {
-        Some(words) => has_unsigned::<D>(alloc, text, words) && has_signed::<D>(alloc, text, words),
-        None => false,
-    }
+/// Whether the number of a text converts to the integers of words, of which the widest makes each value again.
+pub fn has_integers<D: DigitStore>(alloc: Global, text: &str, words: &str) -> Option<bool> {
+    let words = split(words)?;
+    let (unsigned, signed) = words.1;
+    let widest = if signed == "range" { unsigned } else { signed };
+    Some(
+        has_unsigned::<D>(alloc, text, words)?
+            && has_signed::<D>(alloc, text, words)?
+            && are_made::<D>(alloc, widest)?,
+    )
 }

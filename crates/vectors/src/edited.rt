@@ -7,15 +7,15 @@ use decimal_digits::rounding::RoundingIncrement::{self, MultiplesOf1, MultiplesO
 use decimal_unsigned::ConcatenateError;
 use decimal_unsigned::decimal::UnsignedOver;
 use fixed_decimal::{Call, Signed, SignedRoundingMode};
-use std::alloc::Global;
+use std::alloc::{AllocError, Global};
 use test_support::{
     CountingStore, Counts, Join, Joins, LimitedStore, MaxDigits, RoundedResult, RoundingMethod,
     Value, has_text, rounded, rounding_methods,
 };
 
-/// A value after a call, and whether the call succeeded or was rejected. `None`: out of memory, or there is no such
-/// call, or a rejected one changed something.
-type CallResult<T> = Option<(T, bool)>;
+/// A value after a call, and whether the call was made or rejected, or was out of memory. `None`: there is no such call,
+/// or its operand was not read.
+type CallResult<T> = Option<(T, Result<bool, AllocError>)>;
 
 /// A type of values on which calls are made.
 pub trait Edited: Drop {
@@ -37,9 +37,9 @@ fn is_in_place(method: RoundingMethod) -> bool {
 /// Returns the result of a rounding.
 fn of_rounding<T: Drop>(left: RoundedResult<T>) -> CallResult<T> {
     match left {
-        Ok(value) => Some((value, true)),
-        Err((value, RoundError::Limit)) => Some((value, false)),
-        Err((_, RoundError::Memory)) => None,
+        Ok(value) => Some((value, Ok(true))),
+        Err((value, RoundError::Limit)) => Some((value, Ok(false))),
+        Err((value, RoundError::Memory)) => Some((value, Err(AllocError))),
     }
 }
 
@@ -60,7 +60,7 @@ fn edited_in_place<D: DigitStore>(
         Call::SetMaxPosition(position) => value.set_max_position(position),
         _ => return None,
     }
-    Some((value, is_made))
+    Some((value, Ok(is_made)))
 }
 
 /// Makes an edit by value.
@@ -71,7 +71,7 @@ fn edited_by_value<D: DigitStore>(
     let value = match call {
         Call::MultiplyPow10(delta) => match value.multiplied_pow10(delta) {
             Ok(value) => value,
-            Err(value) => return Some((value, false)),
+            Err(value) => return Some((value, Ok(false))),
         },
         Call::TrimStart => value.trimmed_start(),
         Call::TrimEnd => value.trimmed_end(),
@@ -81,10 +81,10 @@ fn edited_by_value<D: DigitStore>(
         Call::SetMaxPosition(position) => value.with_max_position(position),
         _ => return None,
     };
-    Some((value, true))
+    Some((value, Ok(true)))
 }
 
-/// Concatenates the number of a text. If they overlap, the number that is returned still has the text.
+/// Concatenates the number of a text. A call that fails returns this number with its text, or counts as one that was made.
 fn joined<D: DigitStore>(
     alloc: Global,
     value: UnsignedOver<D>,
@@ -92,16 +92,15 @@ fn joined<D: DigitStore>(
     operand: &[u8],
 ) -> CallResult<UnsignedOver<D>> {
     let other = UnsignedOver::<D>::try_from_utf8(alloc, operand).ok()?;
-    match value.joined_by(other, join) {
-        Ok(value) => Some((value, true)),
-        Err(ConcatenateError::Overlap((value, other))) => {
-            if has_text(&other, str::from_utf8(operand).ok()?) {
-                Some((value, false))
-            } else {
-                None
-            }
-        }
-        Err(ConcatenateError::Memory(_)) => None,
+    let (value, other, is_made) = match value.joined_by(other, join) {
+        Ok(value) => return Some((value, Ok(true))),
+        Err(ConcatenateError::Overlap((value, other))) => (value, other, Ok(false)),
+        Err(ConcatenateError::Memory((value, other))) => (value, other, Err(AllocError)),
+    };
+    if has_text(&other, str::from_utf8(operand).ok()?) {
+        Some((value, is_made))
+    } else {
+        Some((value, Ok(true)))
     }
 }
 
@@ -132,7 +131,7 @@ fn set_sign<D: DigitStore>(
         Call::ApplySignDisplay(display) => value.apply_sign_display(display),
         _ => return None,
     }
-    Some((value, true))
+    Some((value, Ok(true)))
 }
 
 impl<D: DigitStore> Edited for Signed<UnsignedOver<D>> {
@@ -144,8 +143,8 @@ impl<D: DigitStore> Edited for Signed<UnsignedOver<D>> {
             Call::SetSign(_) | Call::ApplySignDisplay(_) if is_in_place(method) => {
                 set_sign(self, call)
             }
-            Call::SetSign(sign) => Some((self.with_sign(sign), true)),
-            Call::ApplySignDisplay(display) => Some((self.with_sign_display(display), true)),
+            Call::SetSign(sign) => Some((self.with_sign(sign), Ok(true))),
+            Call::ApplySignDisplay(display) => Some((self.with_sign_display(display), Ok(true))),
             _ => {
                 let Signed { sign, absolute } = self;
                 let (absolute, is_made) = absolute.called(alloc, method, call)?;
@@ -175,51 +174,44 @@ fn methods_of(words: &str) -> &'static [RoundingMethod] {
     found
 }
 
-/// Makes a call on a value; `None` if it does not succeed, or is not rejected, as it has to.
-fn stepped<T: Edited>(
-    alloc: Global,
-    value: T,
-    method: RoundingMethod,
-    (word, all_rejected): (&str, bool),
-) -> Option<T> {
-    let (call, is_rejected) = step(word)?;
-    match value.called(alloc, method, call) {
-        Some((next, is_made)) if is_made != (is_rejected || all_rejected) => Some(next),
-        _ => None,
-    }
-}
-
-/// Returns a value after calls; `None` if one of them does not succeed, or is not rejected, as it has to.
+/// Returns a value after calls, and whether each was made or rejected as it has to be. One that is out of memory is made
+/// again, on the value that it left.
 fn left<T: Edited>(
     alloc: Global,
     value: T,
     method: RoundingMethod,
     (words, all_rejected): (&str, bool),
-) -> Option<T> {
-    let mut value = value;
+) -> Option<(T, bool)> {
+    let (mut value, mut is_right) = (value, true);
     for word in words.split(',') {
-        value = stepped(alloc, value, method, (word, all_rejected))?;
+        let (call, is_rejected) = step(word)?;
+        let (next, is_made) = match value.called(alloc, method, call)? {
+            (value, Err(AllocError)) => value.called(alloc, method, call)?,
+            made => made,
+        };
+        is_right &= is_made.ok()? != (is_rejected || all_rejected);
+        value = next;
     }
-    Some(value)
+    Some((value, is_right))
 }
 
 /// Whether a value has a text after calls, in each way; `!` if each of them is rejected.
-fn leaves<T: Value + Edited>(alloc: Global, start: &str, words: &str, wanted: &str) -> bool {
-    let Ok(value) = T::read(alloc, start) else {
-        return false;
-    };
+fn leaves<T: Value + Edited>(
+    alloc: Global,
+    start: &str,
+    words: &str,
+    wanted: &str,
+) -> Option<bool> {
+    let value = T::read(alloc, start).ok()?;
     let all_rejected = wanted == "!";
     let wanted = if all_rejected { start } else { wanted };
+    let mut all = true;
     for method in methods_of(words) {
-        let Ok(copy) = value.copy() else {
-            return false;
-        };
-        match left(alloc, copy, *method, (words, all_rejected)) {
-            Some(left) if has_text(&left, wanted) => {}
-            _ => return false,
-        }
+        let copy = value.copy().ok()?;
+        let (left, is_right) = left(alloc, copy, *method, (words, all_rejected))?;
+        all &= is_right && has_text(&left, wanted);
     }
-    true
+    Some(all)
 }
 
 /// Whether a rounding of a list of `length` digits stays within its bounds: it accesses at most `length` + 7 digits,
@@ -292,23 +284,15 @@ fn call_stays_within<T: Value + Edited + Counts>(
     value: &T,
     method: RoundingMethod,
     (call, memory, exact): (Call<'_>, usize, Option<usize>),
-) -> bool {
-    let Ok(copy) = value.copy() else {
-        return false;
-    };
-    if equals_in_place(&copy, value) != Some(true) {
-        return false;
-    }
+) -> Option<bool> {
+    let copy = value.copy().ok()?;
+    let is_copy = equals_in_place(&copy, value)?;
     let length = copy.counted().len();
     copy.counted().bound(memory);
     copy.counted().restart();
-    match copy.called(alloc, method, call) {
-        Some((left, is_made)) => {
-            is_within(left.counted(), call, (length, exact), is_made)
-                && equals_in_place(&left, value).is_some()
-        }
-        None => false,
-    }
+    let (left, is_made) = copy.called(alloc, method, call)?;
+    let is_within = is_within(left.counted(), call, (length, exact), is_made.ok()?);
+    Some(is_copy && is_within && equals_in_place(&left, value).is_some())
 }
 
 /// Whether a call that is the only one of a row stays within its bounds in each way.
@@ -317,17 +301,18 @@ fn stays_within<T: Value + Edited + Counts>(
     start: &str,
     words: &str,
     (wanted, count): (&str, &str),
-) -> bool {
-    let (Some((call, is_rejected)), Ok(value)) = (step(words), T::read(alloc, start)) else {
-        return words.contains(',');
-    };
-    let memory = memory_of(call, is_rejected || wanted == "!", count);
-    for method in methods_of(words) {
-        if !call_stays_within(alloc, &value, *method, (call, memory, count.parse().ok())) {
-            return false;
-        }
+) -> Option<bool> {
+    if words.contains(',') {
+        return Some(true);
     }
-    true
+    let (call, is_rejected) = step(words)?;
+    let value = T::read(alloc, start).ok()?;
+    let memory = memory_of(call, is_rejected || wanted == "!", count);
+    let mut all = true;
+    for method in methods_of(words) {
+        all &= call_stays_within(alloc, &value, *method, (call, memory, count.parse().ok()))?;
+    }
+    Some(all)
 }
 
 /// Whether a text has a sign.
@@ -355,9 +340,11 @@ fn leave<D: DigitStore>(
     (start, words): (&str, &str),
     wanted: &str,
     is_signed: bool,
-) -> bool {
-    leaves::<Signed<UnsignedOver<D>>>(alloc, start, words, wanted)
-        && (is_signed || leaves::<UnsignedOver<D>>(alloc, start, words, wanted))
+) -> Option<bool> {
+    Some(
+        leaves::<Signed<UnsignedOver<D>>>(alloc, start, words, wanted)?
+            && (is_signed || leaves::<UnsignedOver<D>>(alloc, start, words, wanted)?),
+    )
 }
 
 /// Whether the only call of a row stays within its bounds, with a sign, and without one if none is needed.
@@ -366,9 +353,11 @@ fn stay<S: CountingStore>(
     (start, words): (&str, &str),
     expected: (&str, &str),
     is_signed: bool,
-) -> bool {
-    stays_within::<Signed<UnsignedOver<S>>>(alloc, start, words, expected)
-        && (is_signed || stays_within::<UnsignedOver<S>>(alloc, start, words, expected))
+) -> Option<bool> {
+    Some(
+        stays_within::<Signed<UnsignedOver<S>>>(alloc, start, words, expected)?
+            && (is_signed || stays_within::<UnsignedOver<S>>(alloc, start, words, expected)?),
+    )
 }
 
 /// A store that counts, with memory for every number.
@@ -379,11 +368,13 @@ pub fn holds<D: DigitStore>(
     alloc: Global,
     row: (&str, &str),
     (wanted, count): (&str, &str),
-) -> bool {
+) -> Option<bool> {
     let (start, words) = row;
     let is_signed = needs_sign(start, words);
     let is_rejected = words.contains('!') || wanted == "!";
-    leave::<D>(alloc, row, wanted, is_signed)
-        && stay::<Counting<D>>(alloc, row, (wanted, count), is_signed)
-        && (is_rejected || runs::has_outcome::<D>(alloc, start, words, wanted))
+    Some(
+        leave::<D>(alloc, row, wanted, is_signed)?
+            && stay::<Counting<D>>(alloc, row, (wanted, count), is_signed)?
+            && (is_rejected || runs::has_outcome::<D>(alloc, start, words, wanted)?),
+    )
 }

@@ -1,8 +1,7 @@
 //! Checks test vectors over every store of digits: texts, calls, and their expected results.
 //!
 //! Each line of standard input is a row of fields with ` | ` between them. Blank lines and lines that start with `#`
-//! are not rows. Each row that fails is printed with its line number and its actual result; the last line counts the
-//! rows.
+//! are not rows. Each row that fails is printed with its line number; the last line counts the rows.
 //!
 //! ```text
 //! unsigned | TEXT | RESULT                  TEXT is read as a value that prints RESULT, or fails with
@@ -19,7 +18,7 @@
 //! run 16 | TEXT | CALLS | RESULT            With memory for 16 digits: 8, 16, 17, 18, 19 or 21.
 //! order | TEXT | TEXT | ORDER               ORDER: `<`, `=` or `>`.
 //! pair KIND | TEXT | TEXT | EQUALITY        EQUALITY: `equal`, `trimmed` (after both trims) or `different`.
-//! integers | TEXT | U64 I64 U128 I128       Each an integer, `range` or `whole`, by the error.
+//! integers | TEXT | U64 I64 U128 I128       Each an integer, of which values are made, or the error: `range`, `whole`.
 //! digits | TEXT | MAGNITUDE | DIGITS        The digits from the magnitude down.
 //! plural | RULES | CATEGORY | SAMPLES       The plural category of each sample, as CLDR writes rules and samples.
 //! ```
@@ -37,114 +36,56 @@ mod calls;
 mod comparing;
 mod digits;
 mod edited;
+mod integers;
 mod plural;
 mod reading;
 mod rows;
 mod runs;
 
 use calls::MODES;
-use std::alloc::{AllocError, Global};
-use std::io;
+use std::alloc::Global;
 use std::process::ExitCode;
+use test_support::check_rows;
 
-/// The numbers of rows.
-#[derive(Clone, Copy)]
-struct Tally {
-    hold: u32,
-    fail: u32,
-}
-
-/// Checks a row, and prints it if it fails.
-fn check_row<R: AllocGlobal + Print>(rt: &R, number: usize, row: &str, tally: &mut Tally) {
-    if rows::holds(rt.alloc(), row) {
-        tally.hold = tally.hold.saturating_add(1);
-        return;
-    }
-    tally.fail = tally.fail.saturating_add(1);
-    let _ = match rows::actual_outcome(rt.alloc(), row) {
-        Some(found) => println!(rt; "line {number}: {row}: came to {found}"),
-        None => println!(rt; "line {number}: {row}"),
-    };
-}
-
-/// Checks a row made from a line.
-fn check_made<R: AllocGlobal + Print>(
-    rt: &R,
-    number: usize,
-    row: Result<String, AllocError>,
-    tally: &mut Tally,
-) {
-    match row {
-        Ok(row) => check_row(rt, number, row.as_str(), tally),
-        Err(AllocError) => tally.fail = tally.fail.saturating_add(1),
-    }
-}
+/// Lines that are a row for each mode, and for each length.
+const REPEATED: &[(&str, u32)] = &[(":each:", 9), ("*n", 248)];
 
 /// Returns the lengths for `*n`: each up to 200, and then each hundredth up to 5,000.
-fn length(number: u32) -> u32 {
-    if number <= 200 {
-        number
+fn length(index: u32) -> u32 {
+    if index < 200 {
+        index.saturating_add(1)
     } else {
-        number.saturating_sub(198).saturating_mul(100)
+        index.saturating_sub(197).saturating_mul(100)
     }
 }
 
 /// Returns the row of a line with a length.
-fn of_length(alloc: Global, line: &str, length: u32) -> Result<String, AllocError> {
-    line.replace(alloc, "*n", format!(in alloc; "*{length}")?.as_str())
+fn of_length(alloc: Global, line: &str, length: u32) -> Option<String> {
+    let length = format!(in alloc; "*{length}").ok()?;
+    line.replace(alloc, "*n", length.as_str()).ok()
 }
 
-/// Checks a row for each length.
-fn check_lengths<R: AllocGlobal + Print>(rt: &R, number: usize, line: &str, tally: &mut Tally) {
-    for index in 1..249 {
-        let row = of_length(rt.alloc(), line, length(index));
-        check_made(rt, number, row, tally);
-    }
+/// Returns the row of a mode, of the text before the mode, and the text after it.
+fn of_mode(alloc: Global, (front, back): (&str, &str), index: u32) -> Option<String> {
+    let (increment, results) = back.split_once(" | ")?;
+    let (mode, _) = MODES.get(index as usize)?;
+    let result = results.split(" | ").nth(index as usize)?;
+    format!(in alloc; "{front}:{mode}:{increment} | {result}").ok()
 }
 
-/// Checks a row for each mode: the text before the mode, and the text after it.
-fn check_modes<R: AllocGlobal + Print>(
-    rt: &R,
-    number: usize,
-    (front, back): (&str, &str),
-    tally: &mut Tally,
-) {
-    let (increment, results) = back.split_once(" | ").unwrap_or((back, ""));
-    for ((mode, _), result) in MODES.iter().zip(results.split(" | ")) {
-        let row = format!(in rt.alloc(); "{front}:{mode}:{increment} | {result}");
-        check_made(rt, number, row, tally);
-    }
-}
-
-/// Checks the rows of a line.
-fn check_line<R: AllocGlobal + Print>(rt: &R, number: usize, line: &str, tally: &mut Tally) {
-    if line.is_empty() || line.starts_with('#') {
-        return;
-    }
-    match line.split_once(":each:") {
-        Some(parts) => check_modes(rt, number, parts, tally),
-        None if line.contains("*n") => check_lengths(rt, number, line, tally),
-        None => check_row(rt, number, line, tally),
-    }
-}
-
-/// Checks the rows of a text, and prints their numbers.
-fn check_lines<R: AllocGlobal + Print>(rt: &R, text: &str) -> ExitCode {
-    let mut tally = Tally { hold: 0, fail: 0 };
-    for (index, line) in text.lines().enumerate() {
-        check_line(rt, index.saturating_add(1), line, &mut tally);
-    }
-    let Tally { hold, fail } = tally;
-    if println!(rt; "{hold} rows hold, {fail} fail").is_ok() && fail == 0 {
-        ExitCode::SUCCESS
-    } else {
-        ExitCode::FAILURE
-    }
+/// Whether a row of a line holds.
+fn holds(alloc: Global, line: &str, index: u32) -> Option<bool> {
+    let row = match line.split_once(":each:") {
+        Some(parts) => of_mode(alloc, parts, index)?,
+        None => of_length(alloc, line, length(index))?,
+    };
+    rows::holds(alloc, row.as_str())
 }
 
 fn main(rt: HostRuntime) -> ExitCode {
-    match io::read_to_string(rt.alloc(), rt.reader()) {
-        Ok(text) => check_lines(&rt, text.as_str()),
-        Err(_) => ExitCode::FAILURE,
-    }
+    check_rows(
+        &rt,
+        REPEATED,
+        |alloc, line, index| holds(alloc, line, index),
+    )
 }

@@ -16,24 +16,22 @@ fn is_shown<T: Value + Display>(value: &T, text: &str) -> bool {
     has_text(value, text) && displays(value, text.as_bytes())
 }
 
-/// Whether a second value was made, equals the first and has its text.
-fn is_again<T: Value + Display, E: Drop>(again: Result<T, E>, value: &T, text: &str) -> bool {
-    match again {
-        Ok(other) => other.equals(value) && is_shown(&other, text),
-        Err(_) => false,
-    }
+/// Whether a second value equals the first and has its text.
+fn is_again<T: Value + Display>(again: T, value: &T, text: &str) -> bool {
+    again.equals(value) && is_shown(&again, text)
 }
 
 /// Whether a text and its bytes are parsed as a value that prints a text and is copied, or fail with a word.
-fn reads_as<T: Value + Display>(alloc: Global, text: &str, wanted: &str) -> bool {
-    match T::read(alloc, text) {
-        Ok(value) => {
+fn reads_as<T: Value + Display>(alloc: Global, text: &str, wanted: &str) -> Option<bool> {
+    match (T::read(alloc, text), T::read_bytes(alloc, text)) {
+        (Ok(value), Ok(other)) => Some(
             is_shown(&value, wanted)
-                && is_again(value.copy(), &value, wanted)
-                && is_again(T::read_bytes(alloc, text), &value, wanted)
-        }
-        error => {
-            parse_outcome(error) == wanted && parse_outcome(T::read_bytes(alloc, text)) == wanted
+                && is_again(value.copy().ok()?, &value, wanted)
+                && is_again(other, &value, wanted),
+        ),
+        (value, other) => {
+            let outcomes = (parse_outcome(value)?, parse_outcome(other)?);
+            Some(outcomes == (wanted, wanted))
         }
     }
 }
@@ -65,34 +63,28 @@ fn shows_digits<D: DigitStore>(value: &UnsignedOver<D>, text: &str) -> bool {
 }
 
 /// Whether the value of a text has magnitudes, and the lowest is also that of the text.
-fn has_magnitudes<D: DigitStore>(alloc: Global, text: &str, (shown, wanted): (&str, &str)) -> bool {
-    let Ok(value) = UnsignedOver::<D>::try_from_str(alloc, text) else {
-        return false;
-    };
-    match magnitudes(alloc, &value) {
-        Some(found) => {
-            found.as_str() == wanted
-                && lowest_of(text.as_bytes()) == Ok(value.lowest())
-                && shows_digits(&value, shown)
-        }
-        None => false,
-    }
+fn has_magnitudes<D: DigitStore>(
+    alloc: Global,
+    text: &str,
+    (shown, wanted): (&str, &str),
+) -> Option<bool> {
+    let value = UnsignedOver::<D>::try_from_str(alloc, text).ok()?;
+    Some(
+        magnitudes(alloc, &value)?.as_str() == wanted
+            && lowest_of(text.as_bytes()) == Ok(value.lowest())
+            && shows_digits(&value, shown),
+    )
 }
 
-/// Whether a store that is out of memory for more than eight digits rejects a text with the same error.
-fn rejects_without_memory<D: DigitStore>(alloc: Global, text: &str, wanted: &str) -> bool {
-    let outcome = parse_outcome(UnsignedOver::<LimitedStore<D, EightDigits>>::try_from_str(
-        alloc, text,
-    ));
-    outcome == wanted || wanted != "syntax" && wanted != "limit"
-}
-
-/// Whether the lowest magnitude of a text is found, or fails with the word for the text.
-fn finds_lowest(text: &str, wanted: &str) -> bool {
-    match parse_outcome(lowest_of(text.as_bytes())) {
-        "read" => wanted != "syntax" && wanted != "limit",
-        word => word == wanted,
+/// Whether the lowest magnitude of a text is found; or if it has none, whether that and a store that is out of memory for
+/// more than eight digits fail with the word for the text.
+fn finds_lowest<D: DigitStore>(alloc: Global, text: &str, wanted: &str) -> Option<bool> {
+    let lowest = parse_outcome(lowest_of(text.as_bytes()))?;
+    if wanted != "syntax" && wanted != "limit" {
+        return Some(lowest == "read");
     }
+    let value = UnsignedOver::<LimitedStore<D, EightDigits>>::try_from_str(alloc, text);
+    Some(lowest == wanted && parse_outcome(value)? == wanted)
 }
 
 /// Whether an unsigned value is parsed over a store, as a row says.
@@ -100,11 +92,12 @@ pub fn reads_unsigned<D: DigitStore>(
     alloc: Global,
     text: &str,
     (wanted, facts): (&str, &str),
-) -> bool {
-    reads_as::<UnsignedOver<D>>(alloc, text, wanted)
-        && (facts.is_empty() || has_magnitudes::<D>(alloc, text, (wanted, facts)))
-        && rejects_without_memory::<D>(alloc, text, wanted)
-        && finds_lowest(text, wanted)
+) -> Option<bool> {
+    Some(
+        reads_as::<UnsignedOver<D>>(alloc, text, wanted)?
+            && (facts.is_empty() || has_magnitudes::<D>(alloc, text, (wanted, facts))?)
+            && finds_lowest::<D>(alloc, text, wanted)?,
+    )
 }
 
 /// Whether a decimal is parsed over a store, and has a sign.
@@ -112,93 +105,80 @@ pub fn reads_signed<D: DigitStore>(
     alloc: Global,
     text: &str,
     (wanted, facts): (&str, &str),
-) -> bool {
-    let has_sign = match Signed::<UnsignedOver<D>>::try_from_str(alloc, text) {
-        Ok(value) => facts.is_empty() || Some(value.sign()) == named(SIGNS, facts),
-        Err(_) => facts.is_empty(),
-    };
-    has_sign && reads_as::<Signed<UnsignedOver<D>>>(alloc, text, wanted)
+) -> Option<bool> {
+    if !facts.is_empty() {
+        let value = Signed::<UnsignedOver<D>>::try_from_str(alloc, text).ok()?;
+        if value.sign() != named(SIGNS, facts)? {
+            return Some(false);
+        }
+    }
+    reads_as::<Signed<UnsignedOver<D>>>(alloc, text, wanted)
 }
 
 /// Whether the decimal of a text becomes an integer that prints a text and becomes a decimal again, or fails with a
 /// word.
-fn becomes_integer(alloc: Global, text: &str, wanted: &str) -> bool {
+fn becomes_integer(alloc: Global, text: &str, wanted: &str) -> Option<bool> {
     let decimal = match Decimal::try_from_str(alloc, text) {
         Ok(decimal) => decimal,
-        error => return parse_outcome(error) == wanted,
+        error => return Some(parse_outcome(error)? == wanted),
     };
     match FixedInteger::try_from(decimal) {
-        Ok(integer) => has_text(&integer, wanted) && has_text(&Decimal::from(integer), wanted),
-        Err(LimitError) => wanted == "limit",
+        Ok(integer) => {
+            Some(has_text(&integer, wanted) && has_text(&Decimal::from(integer), wanted))
+        }
+        Err(LimitError) => Some(wanted == "limit"),
     }
 }
 
 /// Whether a compact value has the parts of its text, and is made of them.
-fn has_compact_parts(alloc: Global, text: &str, significand: &str, exponent: u8) -> bool {
-    let (Ok(value), Ok(decimal)) = (
-        CompactDecimal::try_from_str(alloc, text),
-        Decimal::try_from_str(alloc, significand),
-    ) else {
-        return false;
-    };
+fn has_compact_parts(alloc: Global, text: &str, parts: &str) -> Option<bool> {
+    let (significand, exponent) = parts.split_once(' ')?;
+    let exponent = exponent.parse().ok()?;
+    let value = CompactDecimal::try_from_str(alloc, text).ok()?;
+    let decimal = Decimal::try_from_str(alloc, significand).ok()?;
     let made = CompactDecimal::from_significand_and_exponent(decimal, exponent);
-    has_text(&made, text)
-        && value.exponent() == exponent
-        && has_text(value.significand(), significand)
-        && has_text(&value.into_significand(), significand)
+    Some(
+        has_text(&made, text)
+            && value.exponent() == exponent
+            && has_text(value.significand(), significand)
+            && has_text(&value.into_significand(), significand),
+    )
 }
 
 /// Whether a scientific value has the parts of its text, and is made of them.
-fn has_scientific_parts(alloc: Global, text: &str, significand: &str, exponent: &str) -> bool {
-    let (Ok(value), Ok(decimal), Ok(integer)) = (
-        ScientificDecimal::try_from_str(alloc, text),
-        Decimal::try_from_str(alloc, significand),
-        FixedInteger::try_from_str(alloc, exponent),
-    ) else {
-        return false;
-    };
+fn has_scientific_parts(alloc: Global, text: &str, parts: &str) -> Option<bool> {
+    let (significand, exponent) = parts.split_once(' ')?;
+    let value = ScientificDecimal::try_from_str(alloc, text).ok()?;
+    let decimal = Decimal::try_from_str(alloc, significand).ok()?;
+    let integer = FixedInteger::try_from_str(alloc, exponent).ok()?;
     let has_parts = has_text(value.significand(), significand)
         && has_text(value.exponent(), exponent);
     let (first, second) = value.into_parts();
-    has_parts
-        && has_text(&first, significand)
-        && has_text(&second, exponent)
-        && has_text(&ScientificDecimal::from(decimal, integer), text)
-}
-
-/// Whether a compact value has parts.
-fn has_compact_words(alloc: Global, text: &str, parts: &str) -> bool {
-    match parts.split_once(' ') {
-        Some((significand, exponent)) => match exponent.parse() {
-            Ok(exponent) => has_compact_parts(alloc, text, significand, exponent),
-            Err(_) => false,
-        },
-        None => parts.is_empty(),
-    }
-}
-
-/// Whether a scientific value has parts.
-fn has_scientific_words(alloc: Global, text: &str, parts: &str) -> bool {
-    match parts.split_once(' ') {
-        Some((significand, exponent)) => has_scientific_parts(alloc, text, significand, exponent),
-        None => parts.is_empty(),
-    }
+    Some(
+        has_parts
+            && has_text(&first, significand)
+            && has_text(&second, exponent)
+            && has_text(&ScientificDecimal::from(decimal, integer), text),
+    )
 }
 
 /// Whether a text is parsed as a value of a kind that prints a text, or fails with a word, and has parts.
-pub fn reads(alloc: Global, kind: Kind, text: &str, (wanted, facts): (&str, &str)) -> bool {
-    match kind {
+pub fn reads(alloc: Global, kind: Kind, text: &str, (wanted, parts): (&str, &str)) -> Option<bool> {
+    let is_read = match kind {
         Kind::Integer => {
-            reads_as::<FixedInteger>(alloc, text, wanted) && becomes_integer(alloc, text, wanted)
+            reads_as::<FixedInteger>(alloc, text, wanted)? && becomes_integer(alloc, text, wanted)?
         }
-        Kind::Scientific => {
-            reads_as::<ScientificDecimal>(alloc, text, wanted)
-                && has_scientific_words(alloc, wanted, facts)
+        Kind::Scientific => reads_as::<ScientificDecimal>(alloc, text, wanted)?,
+        Kind::Compact => reads_as::<CompactDecimal>(alloc, text, wanted)?,
+        _ => return None,
+    };
+    match kind {
+        Kind::Scientific if !parts.is_empty() => {
+            Some(is_read && has_scientific_parts(alloc, wanted, parts)?)
         }
-        Kind::Compact => {
-            reads_as::<CompactDecimal>(alloc, text, wanted)
-                && has_compact_words(alloc, wanted, facts)
+        Kind::Compact if !parts.is_empty() => {
+            Some(is_read && has_compact_parts(alloc, wanted, parts)?)
         }
-        _ => false,
+        _ => Some(is_read),
     }
 }

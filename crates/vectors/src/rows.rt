@@ -75,7 +75,7 @@ fn holds_over<D: DigitStore>(
     kind: Kind,
     (first, second, third): (&str, &str, &str),
     count: &str,
-) -> bool {
+) -> Option<bool> {
     match kind {
         Kind::Unsigned => reading::reads_unsigned::<D>(alloc, first, (second, third)),
         Kind::Signed => reading::reads_signed::<D>(alloc, first, (second, third)),
@@ -88,12 +88,12 @@ fn holds_over<D: DigitStore>(
         Kind::DecimalPair => comparing::are_decimals::<D>(alloc, (first, second), third),
         Kind::Integers => digits::has_integers::<D>(alloc, first, second),
         Kind::Digits => digits::has_digits::<D>(alloc, first, second, third),
-        _ => false,
+        _ => None,
     }
 }
 
 /// Whether the fields of a row of a kind hold, over each store where the kind has one.
-fn holds_by_kind(alloc: Global, kind: Kind, row: (&str, &str, &str), count: &str) -> bool {
+fn holds_by_kind(alloc: Global, kind: Kind, row: (&str, &str, &str), count: &str) -> Option<bool> {
     let (first, second, third) = row;
     match kind {
         Kind::Integer | Kind::Scientific | Kind::Compact => {
@@ -103,49 +103,34 @@ fn holds_by_kind(alloc: Global, kind: Kind, row: (&str, &str, &str), count: &str
             comparing::is_pair(alloc, kind, (first, second), third)
         }
         Kind::Plural => plural::take(alloc, first, second, third),
-        _ => {
-            holds_over::<DigitList>(alloc, kind, row, count)
-                && holds_over::<PackedDigits>(alloc, kind, row, count)
-        }
+        _ => Some(
+            holds_over::<DigitList>(alloc, kind, row, count)?
+                && holds_over::<PackedDigits>(alloc, kind, row, count)?,
+        ),
     }
 }
 
-/// Whether a row of a kind holds. It does not if out of memory.
-fn holds_as(alloc: Global, kind: Kind, (first, second, third): (&str, &str, &str)) -> bool {
+/// Whether a row of a kind holds.
+fn holds_as(alloc: Global, kind: Kind, (first, second, third): (&str, &str, &str)) -> Option<bool> {
     let (third, count) = match kind {
         Kind::Decimal => third.split_once(" | ").unwrap_or((third, "")),
         _ => (third, ""),
     };
-    match (
-        text_of(alloc, first),
-        text_of(alloc, second),
-        text_of(alloc, third),
-    ) {
-        (Ok(first), Ok(second), Ok(third)) => {
-            let fields = (first.as_str(), second.as_str(), third.as_str());
-            holds_by_kind(alloc, kind, fields, count)
-        }
-        _ => false,
-    }
+    let first = text_of(alloc, first).ok()?;
+    let second = text_of(alloc, second).ok()?;
+    let third = text_of(alloc, third).ok()?;
+    let fields = (first.as_str(), second.as_str(), third.as_str());
+    holds_by_kind(alloc, kind, fields, count)
 }
 
-/// Whether a row holds, or fails if its kind begins with `not`. A row of no kind does not hold.
-pub fn holds(alloc: Global, row: &str) -> bool {
-    let Some((word, first, second, third)) = split(row) else {
-        return false;
-    };
+/// Whether a row holds, or does not if its kind begins with `not`.
+pub fn holds(alloc: Global, row: &str) -> Option<bool> {
+    let (word, first, second, third) = split(row)?;
     let kind = word.strip_prefix("not ").unwrap_or(word);
-    match named(KINDS, kind) {
-        Some(found) => holds_as(alloc, found, (first, second, third)) == (kind.len() == word.len()),
-        None => false,
-    }
-}
-
-/// Returns the actual result of a row's run.
-pub fn actual_outcome(alloc: Global, row: &str) -> Option<String> {
-    let (_, first, second, _) = split(row)?;
-    match (text_of(alloc, first), text_of(alloc, second)) {
-        (Ok(start), Ok(calls)) => runs::outcome(alloc, start.as_str(), calls.as_str()).ok(),
-        _ => None,
+    let holds = holds_as(alloc, named(KINDS, kind)?, (first, second, third));
+    if kind.len() == word.len() {
+        holds
+    } else {
+        Some(holds != Some(true))
     }
 }

@@ -33,12 +33,14 @@ fn words_of(alloc: Global, error: &RunError) -> Result<String, AllocError> {
     format!(in alloc; "call {at}: {word}")
 }
 
-/// Whether an error has these words.
-fn is_error(alloc: Global, error: &RunError, wanted: &str) -> bool {
-    match words_of(alloc, error) {
-        Ok(words) => words.as_str() == wanted,
-        Err(_) => false,
+/// Whether an error has these words; `None` if it is one of memory that has others.
+fn is_error(alloc: Global, error: &RunError, wanted: &str) -> Option<bool> {
+    let words = words_of(alloc, error).ok()?;
+    let is_same = words.as_str() == wanted;
+    if !is_same && words.as_str().ends_with("memory") {
+        return None;
     }
+    Some(is_same)
 }
 
 /// Whether a run over a store writes a text, or writes nothing and fails with the error of the text.
@@ -47,11 +49,13 @@ fn has_outcome_over<D: DigitStore>(
     start: &str,
     calls: &[Call<'_>],
     wanted: &str,
-) -> bool {
+) -> Option<bool> {
     let mut sink = LimitedSink::new(wanted.as_bytes(), usize::MAX);
     match run_over::<D, LimitedSink<'_>>(alloc, start.as_bytes(), calls, &mut sink) {
-        Ok(()) => sink.has_all(),
-        Err(error) => sink.has_taken(0) && !sink.failed() && is_error(alloc, &error, wanted),
+        Ok(()) => Some(sink.has_all()),
+        Err(error) => {
+            Some(sink.has_taken(0) && !sink.failed() && is_error(alloc, &error, wanted)?)
+        }
     }
 }
 
@@ -60,7 +64,7 @@ fn has_outcome_within<D: DigitStore, M: DigitLimit>(
     alloc: Global,
     (start, calls): (&str, &[Call<'_>]),
     wanted: &str,
-) -> bool {
+) -> Option<bool> {
     has_outcome_over::<LimitedStore<D, M>>(alloc, start, calls, wanted)
 }
 
@@ -70,53 +74,59 @@ pub fn has_limited_outcome<D: DigitStore>(
     most: usize,
     (start, words): (&str, &str),
     wanted: &str,
-) -> bool {
-    let Some(calls) = calls(alloc, words) else {
-        return false;
-    };
+) -> Option<bool> {
+    let calls = calls(alloc, words)?;
     let run = (start, calls.as_slice());
     match most {
-        _ if most < D::L => true,
+        _ if most < D::L => Some(true),
         8 => has_outcome_within::<D, EightDigits>(alloc, run, wanted),
         16 => has_outcome_within::<D, SixteenDigits>(alloc, run, wanted),
         17 => has_outcome_within::<D, SeventeenDigits>(alloc, run, wanted),
         18 => has_outcome_within::<D, EighteenDigits>(alloc, run, wanted),
         19 => has_outcome_within::<D, NineteenDigits>(alloc, run, wanted),
         21 => has_outcome_within::<D, TwentyOneDigits>(alloc, run, wanted),
-        _ => false,
+        _ => None,
     }
 }
 
-/// The same into a sink in memory.
-fn has_outcome_in_memory(alloc: Global, start: &str, calls: &[Call<'_>], wanted: &str) -> bool {
+/// Whether a sink that cannot grow has failed: it keeps a prefix of a text, and takes nothing more.
+fn has_failed(sink: &mut TextBuf, text: &str) -> bool {
+    let length = sink.as_bytes().len();
+    let takes_nothing = sink.put_byte(b'x').is_err() && sink.put_bytes(b"").is_err();
+    let is_kept = sink.as_bytes().len() == length && text.as_bytes().starts_with(sink.as_bytes());
+    sink.failed() && takes_nothing && is_kept
+}
+
+/// The same into a sink in memory; `None` if the sink fails as it has to.
+fn has_outcome_in_memory(
+    alloc: Global,
+    start: &str,
+    calls: &[Call<'_>],
+    wanted: &str,
+) -> Option<bool> {
     let mut sink = TextBuf::new(alloc);
     match run(alloc, start.as_bytes(), calls, &mut sink) {
-        Ok(()) => sink.as_bytes() == wanted.as_bytes(),
+        Ok(()) => Some(!sink.failed() && sink.as_bytes() == wanted.as_bytes()),
+        Err(RunError::Sink) if has_failed(&mut sink, wanted) => None,
         Err(error) => {
-            sink.as_bytes().is_empty() && !sink.failed() && is_error(alloc, &error, wanted)
+            let is_unwritten = sink.as_bytes().is_empty() && !sink.failed();
+            Some(is_unwritten && is_error(alloc, &error, wanted)?)
         }
     }
 }
 
 /// The same into a sink in memory, over a store, and over one that counts.
-pub fn has_outcome<D: DigitStore>(alloc: Global, start: &str, words: &str, wanted: &str) -> bool {
-    match calls(alloc, words) {
-        Some(calls) => {
-            let calls = calls.as_slice();
-            has_outcome_in_memory(alloc, start, calls, wanted)
-                && has_outcome_over::<D>(alloc, start, calls, wanted)
-                && has_outcome_over::<Counting<D>>(alloc, start, calls, wanted)
-        }
-        None => false,
-    }
-}
-
-/// Returns the text that a run writes, or the words of its error.
-pub fn outcome(alloc: Global, start: &str, words: &str) -> Result<String, AllocError> {
-    let calls = calls(alloc, words).unwrap_or(Vec::new(alloc));
-    let mut sink = TextBuf::new(alloc);
-    match run(alloc, start.as_bytes(), calls.as_slice(), &mut sink) {
-        Ok(()) => String::from_str(alloc, str::from_utf8(sink.as_bytes()).unwrap_or("")),
-        Err(error) => words_of(alloc, &error),
-    }
+pub fn has_outcome<D: DigitStore>(
+    alloc: Global,
+    start: &str,
+    words: &str,
+    wanted: &str,
+) -> Option<bool> {
+    let calls = calls(alloc, words)?;
+    let calls = calls.as_slice();
+    Some(
+        has_outcome_in_memory(alloc, start, calls, wanted)?
+            && has_outcome_over::<D>(alloc, start, calls, wanted)?
+            && has_outcome_over::<Counting<D>>(alloc, start, calls, wanted)?,
+    )
 }
