@@ -6,7 +6,6 @@ use Rattle.std.proofs.lemmas.Result.{on_ok_weaker, on_err_weaker}
 use Rattle.std.specs.Io.KnownBytes.{Appends}
 use Rattle.decimal_digits.proofs.lemmas.{rounding.Results.on_err, sink.Sinks.{prefix_more, then_prefix}}
 use Rattle.decimal_digits.specs.AppendsPrefix.{AppendsPrefix}
-use Rattle.fixed_decimal.proofs.lemmas.signed_decimal.DecimalTexts.{read_decimal_text}
 
 -- the first part was not written whole
 pub first_fails : {A E : Type 0} (r : Result A E) (a b : Option (List ℕ)) (xs ys : List ℕ)
@@ -26,8 +25,5 @@ pub both_written : {A E : Type 0} (r : Result A E) (a b c : Option (List ℕ)) (
     → OnOk r (Appends a c (xs ++ ys))
 both_written r a b c xs ys p = on_ok_weaker r (Appends-trans a b c xs ys p)
 
--- the lemmas for writing a text of two parts
-pub ruleset writing = (first_fails, second_fails, read_decimal_text)
-
--- and for formatting one
+-- for formatting a text of two parts
 pub ruleset formatting = (has_written_styled_append)
