@@ -146,7 +146,6 @@ impl CompactDecimal {
     /// - `Syntax`: the text after that `c` is empty, begins with `0`, or is not all digits, as in `1c01` and `1c1c1`.
     /// - `Limit`: the exponent is above 255.
     /// - `Memory`: out of memory, only for more than `INLINE_DIGITS` digits of the significand.
-    #[tactic(auto, using(crate::proofs::lemmas::integer::CompactTexts::compact_reads))]
     pub fn try_from_str(alloc: Global, text: &str) -> Result<Self, ParseError>
         ensures parses { IsParseResult (HasLongSignificand INLINE_DIGITS) result (read_compact text.now) }
         // The result of reading, by the parts of the text.
@@ -176,7 +175,6 @@ impl Writeable for CompactDecimal {
     /// Appends the text of the significand and, if the exponent is not 0, `c` and its digits: `1.20c6`.
     ///
     /// The text parses to an equal value.
-    #[tactic(auto, using(crate::proofs::lemmas::integer::CompactTexts::writing))]
     fn write_to<W: Sink>(&self, sink: &mut W) -> Result<(), SinkFault>
         ensures ok { OnOk result (Appends (W.contents sink.old) (W.contents sink.new) (compact_text self.now)) }
         ensures err { OnErr result

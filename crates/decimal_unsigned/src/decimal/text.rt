@@ -127,7 +127,6 @@ impl<D: DigitStore> Writeable for UnsignedOver<D> {
     /// magnitude -1.
     ///
     /// Parsing the text gives this value again.
-    #[tactic(auto, using(crate::proofs::lemmas::text::ReadBack::read_text))]
     fn write_to<W: Sink>(&self, sink: &mut W) -> Result<(), SinkFault>
         ensures ok { OnOk result (Appends (W.contents sink.old) (W.contents sink.new) (text self.now)) }
         ensures err { OnErr result (AppendsPrefix (W.contents sink.old) (W.contents sink.new) (text self.now)) }

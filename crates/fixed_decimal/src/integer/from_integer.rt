@@ -15,7 +15,7 @@ impl FixedInteger {
     pub fn from_u8(alloc: Global, integer: u8) -> Self
         ensures { result ≡ integer_decimal (pos integer) }
     {
-        FixedInteger(Decimal::from_u8(alloc, integer))
+        Self::from_u16(alloc, integer.into())
     }
 
     /// Makes the integer of a `u16`, without a sign: 65535 prints `65535`.
@@ -29,7 +29,7 @@ impl FixedInteger {
     pub fn from_i8(alloc: Global, integer: i8) -> Self
         ensures { result ≡ integer_decimal integer }
     {
-        FixedInteger(Decimal::from_i8(alloc, integer))
+        Self::from_i16(alloc, integer.into())
     }
 
     /// Makes the integer of an `i16`, with a minus below 0: -32768 prints `-32768`.
@@ -48,7 +48,7 @@ impl FixedInteger {
         ensures value { IfOk result (λ v. v ≡ integer_decimal (pos integer)) }
         ensures succeeds { size (integer_decimal (pos integer)).absolute.number ≤ INLINE_DIGITS → IsOk result }
     {
-        Ok(FixedInteger(Decimal::try_from_u32(alloc, integer)?))
+        Self::try_from_u64(alloc, integer.into())
     }
 
     /// Makes the integer of a `u64`, without a sign: 250 prints `250`.
@@ -84,7 +84,7 @@ impl FixedInteger {
         ensures value { IfOk result (λ v. v ≡ integer_decimal (pos integer)) }
         ensures succeeds { size (integer_decimal (pos integer)).absolute.number ≤ INLINE_DIGITS → IsOk result }
     {
-        Ok(FixedInteger(Decimal::try_from_usize(alloc, integer)?))
+        Self::try_from_u64(alloc, integer as u64)
     }
 
     /// Makes the integer of an `i32`, with a minus below 0: -250 prints `-250`.
@@ -96,7 +96,7 @@ impl FixedInteger {
         ensures value { IfOk result (λ v. v ≡ integer_decimal integer) }
         ensures succeeds { size (integer_decimal integer).absolute.number ≤ INLINE_DIGITS → IsOk result }
     {
-        Ok(FixedInteger(Decimal::try_from_i32(alloc, integer)?))
+        Self::try_from_i64(alloc, integer.into())
     }
 
     /// Makes the integer of an `i64`, with a minus below 0: -250 prints `-250`.
@@ -132,6 +132,6 @@ impl FixedInteger {
         ensures value { IfOk result (λ v. v ≡ integer_decimal integer) }
         ensures succeeds { size (integer_decimal integer).absolute.number ≤ INLINE_DIGITS → IsOk result }
     {
-        Ok(FixedInteger(Decimal::try_from_isize(alloc, integer)?))
+        Self::try_from_i64(alloc, integer as i64)
     }
 }

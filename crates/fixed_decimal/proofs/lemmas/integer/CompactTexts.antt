@@ -5,7 +5,7 @@ use Rattle.std.proofs.lemmas.{Bool.Decides.nat_tests, Fmt.{IsAscii-decimal, deci
 use Rattle.std.specs.{Fmt.decimal, List.list_any, Str.IsUtf8, Str.Parse.{AllDigits, IsNumeral, digits_value}}
 use Rattle.decimal_unsigned.proofs.lemmas.parse.GrammarParts.{numeral-complete}
 use Rattle.decimal_unsigned.specs.Reading.{syntax, is_letter}
-use Rattle.fixed_decimal.proofs.lemmas.{integer.Splitting.{split_none, split_at}, signed_decimal.{DecimalBytes.{PassesNone, decimal_text-lacks, letter-none, c-none}, Writing.{first_fails, second_fails}}}
+use Rattle.fixed_decimal.proofs.lemmas.{integer.Splitting.{split_none, split_at}, signed_decimal.DecimalBytes.{PassesNone, decimal_text-lacks, letter-none, c-none}}
 use Rattle.fixed_decimal.specs.{Compact.{split_at_c, IsSplitAtC, ReadsCompact, Compact, exponent_text, compact_text, exponent_number_of, read_exponent, read_fields, read_compact, with_c}, DecimalText.{decimal_text, read_decimal, and_then}}
 
 below_64 : (n : ℕ) → n < 256 → n < 2 ^ 64
@@ -108,6 +108,3 @@ pub compact_reads_back : (v : Compact) → read_decimal (decimal_text v.signific
 compact_reads_back v h l =
     ap (λ r. and_then r read_fields) (split_between v l)
     ∙ (rw (h, (part_of v.exponent l).1.reads) refl)
-
--- the lemmas for writing a compact value
-pub ruleset writing = (first_fails, second_fails, compact_reads_back)

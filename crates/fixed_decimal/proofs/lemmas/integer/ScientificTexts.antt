@@ -2,7 +2,7 @@
 use Rattle.std.proofs.Common.{◌≡◌, ◌==◌, ℕ, false, List, [], ◌∷◌, refl, sym, ◌∙◌, ap, arith, pos, Option, Some, None, Ok, Err}
 use Rattle.std.specs.List.{list_any}
 use Rattle.decimal_unsigned.specs.{Reading.{syntax, is_letter}, Unsigned.IsValue}
-use Rattle.fixed_decimal.proofs.lemmas.{integer.{IntegerTexts.integer_reads_back, Splitting.{split_at, split_parts}}, signed_decimal.{DecimalBytes.{decimal_text-lacks, letter-none}, Writing.{first_fails, second_fails}}}
+use Rattle.fixed_decimal.proofs.lemmas.{integer.{IntegerTexts.integer_reads_back, Splitting.{split_at, split_parts}}, signed_decimal.DecimalBytes.{decimal_text-lacks, letter-none}}
 use Rattle.fixed_decimal.specs.{DecimalText.{decimal_text, read_decimal}, Scientific.{Scientific, scientific_text, plain_parts, split_at_e, read_scientific, IsSplitAtE, ReadsScientific}, Split.split_once}
 
 lacks_e : (text : List ℕ) → list_any is_letter text ≡ false → list_any (λ c. c == 101) text ≡ false
@@ -54,6 +54,3 @@ pub scientific_reads_back : (v : Scientific) → read_decimal (decimal_text v.si
     → v.exponent.absolute.lo ≡ pos 0
     → read_scientific (scientific_text v) ≡ Ok v
 scientific_reads_back v h k e = grind (arith, split_between, integer_reads_back)
-
--- the lemmas for writing a scientific value
-pub ruleset writing = (first_fails, second_fails, scientific_reads_back)

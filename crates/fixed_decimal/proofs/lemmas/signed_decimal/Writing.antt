@@ -1,11 +1,11 @@
 -- Writing a text of two parts to a sink.
-use Rattle.std.proofs.Common.{List, ℕ, ◌++◌, Result, Option, OnErr}
+use Rattle.std.proofs.Common.{List, ℕ, ◌++◌, Result, Option, OnOk, OnErr}
+use Rattle.std.proofs.KnownBytes.{Appends-trans}
 use Rattle.std.proofs.Output.{has_written_styled_append}
-use Rattle.std.proofs.lemmas.Result.{on_err_weaker}
+use Rattle.std.proofs.lemmas.Result.{on_ok_weaker, on_err_weaker}
 use Rattle.std.specs.Io.KnownBytes.{Appends}
 use Rattle.decimal_digits.proofs.lemmas.{rounding.Results.on_err, sink.Sinks.{prefix_more, then_prefix}}
 use Rattle.decimal_digits.specs.AppendsPrefix.{AppendsPrefix}
-use Rattle.fixed_decimal.proofs.lemmas.signed_decimal.DecimalTexts.{read_decimal_text}
 
 -- the first part was not written whole
 pub first_fails : {A E : Type 0} (r : Result A E) (a b : Option (List ℕ)) (xs ys : List ℕ)
@@ -19,8 +19,11 @@ pub second_fails : {A E : Type 0} (r : Result A E) (a b c : Option (List ℕ)) (
     → OnErr r (AppendsPrefix a c (xs ++ ys))
 second_fails r a b c xs ys p = on_err_weaker r (then_prefix a b c xs ys p)
 
--- the lemmas for writing a text of two parts
-pub ruleset writing = (first_fails, second_fails, read_decimal_text)
+-- both parts were written
+pub both_written : {A E : Type 0} (r : Result A E) (a b c : Option (List ℕ)) (xs ys : List ℕ) → Appends a b xs
+    → OnOk r (Appends b c ys)
+    → OnOk r (Appends a c (xs ++ ys))
+both_written r a b c xs ys p = on_ok_weaker r (Appends-trans a b c xs ys p)
 
--- and for formatting one
+-- for formatting a text of two parts
 pub ruleset formatting = (has_written_styled_append)

@@ -10,3 +10,9 @@ pub returns-clause-value : goal.returns-clause-value
 returns-clause-value g c =
     leading_put c.args.keep c.args.number _ _ (omega arith) (λ i h. grind (arith, nibble_rules))
     (grind (arith, nibble_rules)) (grind (arith, nibble_rules))
+
+pub returns-clause-stripped : goal.returns-clause-stripped
+returns-clause-stripped g c = grind (arith, nibble_rules)
+
+pub returns-then-number-eq0-clause-stripped : goal.returns-then-number-eq0-clause-stripped
+returns-then-number-eq0-clause-stripped g c = grind (arith, nibble_rules)

@@ -1,16 +1,30 @@
 use Rattle.std.proofs.Common.{arith}
-use Rattle.fixed_decimal.proofs.lemmas.{integer.CompactTexts.compact_reads_back, signed_decimal.Writing.second_fails}
+use Rattle.std.proofs.lemmas.Result.{IfOk-from_err, on_ok_weaker}
+use Rattle.decimal_digits.proofs.lemmas.rounding.Results.{on_err}
+use Rattle.fixed_decimal.proofs.lemmas.{integer.CompactTexts.compact_reads_back, signed_decimal.Writing.{first_fails, second_fails, both_written}}
 use Rattle.fixed_decimal.proofs.compact.CompactDecimalWriteable.write_to.Goals as goal
 
-pub returns-clause-err : goal.returns-clause-err
-returns-clause-err g c =
-    rw (← c.self.view_is, ← c.exponent_text-length.ensures.text)
-    (second_fails _ _ _ _ _ _ c.in_ok-write_to.ensures.ok c.put_bytes.ensures.prefix)
+pub returns-in_err-write_to : goal.returns-in_err-write_to
+returns-in_err-write_to g c =
+    let first = c.in_err-write_to.ensures in
+    rw (← c.self.view_is) (record {
+      ok = IfOk-from_err _ _ c.from_residual.ensures.0;
+      err = first_fails _ _ _ _ _ first.err;
+      had_not_failed = IfOk-from_err _ _ c.from_residual.ensures.0;
+      failed = on_err _ _ first.failed;
+      unchanged = first.unchanged;
+      reads_back = compact_reads_back _ first.reads_back (omega arith);
+    })
 
-pub returns-in_err-write_to-clause-reads_back : goal.returns-in_err-write_to-clause-reads_back
-returns-in_err-write_to-clause-reads_back g c =
-    rw (← c.self.view_is) (compact_reads_back _ c.in_err-write_to.ensures.reads_back (omega arith))
-
-pub returns-clause-reads_back : goal.returns-clause-reads_back
-returns-clause-reads_back g c =
-    rw (← c.self.view_is) (compact_reads_back _ c.in_ok-write_to.ensures.reads_back (omega arith))
+pub returns : goal.returns
+returns g c =
+    let first = c.in_ok-write_to.ensures in
+    let rest = c.put_bytes.ensures in
+    rw (← c.self.view_is, ← c.exponent_text-length.ensures.text) (record {
+      ok = both_written _ _ _ _ _ _ first.ok rest.appends;
+      err = second_fails _ _ _ _ _ _ first.ok rest.prefix;
+      had_not_failed = on_ok_weaker _ (λ _. first.had_not_failed) rest.had_not_failed;
+      failed = rest.failed;
+      unchanged = λ h. let n = first.had_not_failed in absurd (cc);
+      reads_back = rw c.exponent_text-length.ensures.text (compact_reads_back _ first.reads_back (omega arith));
+    })

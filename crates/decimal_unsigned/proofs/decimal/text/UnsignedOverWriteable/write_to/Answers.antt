@@ -1,7 +1,7 @@
 use Rattle.std.proofs.Common.{arith}
 use Rattle.std.proofs.lemmas.{Grind.common_steps, List.length-take}
 use Rattle.decimal_digits.proofs.lemmas.{rounding.Results.on_err, sink.Sinks.{fresh_more, fresh_some}}
-use Rattle.decimal_unsigned.proofs.lemmas.text.{Lengths.text_some, Pieces.{block_of, zeros_first}, Writing.{wrote_more, wrote_part}}
+use Rattle.decimal_unsigned.proofs.lemmas.text.{Lengths.text_some, ReadBack.read_text, Pieces.{block_of, zeros_first}, Writing.{wrote_more, wrote_part}}
 use Rattle.decimal_unsigned.specs.Text.{text}
 use Rattle.decimal_unsigned.proofs.decimal.text.UnsignedOverWriteable.write_to.Goals as goal
 
@@ -21,3 +21,15 @@ returns-in_err-put_bytes-clause-err g c =
 
 pub returns-clause-had_not_failed : goal.returns-clause-had_not_failed
 returns-clause-had_not_failed g c = grind (arith, fresh_some, text_some, common_steps)
+
+pub returns-clause-reads_back : goal.returns-clause-reads_back
+returns-clause-reads_back g c = read_text _ c.writeable_length_hint-length.ensures.valid
+
+pub returns-in_err-put_bytes-clause-reads_back : goal.returns-in_err-put_bytes-clause-reads_back
+returns-in_err-put_bytes-clause-reads_back g c = read_text _ c.writeable_length_hint-length.ensures.valid
+
+pub returns-then-is_short-clause-reads_back : goal.returns-then-is_short-clause-reads_back
+returns-then-is_short-clause-reads_back g c = read_text _ c.writeable_length_hint-length.ensures.valid
+
+pub returns-then-length-eq1-clause-reads_back : goal.returns-then-length-eq1-clause-reads_back
+returns-then-length-eq1-clause-reads_back g c = read_text _ c.writeable_length_hint-length.ensures.valid
