@@ -85,10 +85,13 @@ pointed_text digits increment =
     else if digits == 3 then pointed_by 1000 3 0 increment
     else pointed_by 10000 4 (digits - 4) increment
 
+abbrev pub has_thousands : ℕ → ℕ → Bool
+has_thousands digits increment = (increment % 1000 == 0) && (digits == 0 || (digits == 2 || digits == 3))
+
 -- an increment in units of the last of a number of fraction digits
 abbrev pub increment_text : ℕ → ℕ → List ℕ
 increment_text digits increment =
-    if (increment % 1000 == 0) && (digits == 0 || (digits == 2 || digits == 3)) then thousands_text digits increment
+    if has_thousands digits increment then thousands_text digits increment
     else if digits == 0 then decimal_text increment
     else if nat_lt 3 digits && not (increment % 10 == 0)
     then decimal_text increment ++ 101 ∷ 45 ∷ decimal_text digits

@@ -5,7 +5,7 @@ ghost use Rattle.number_format.specs.SkeletonCounts.{run};
 ghost use Rattle.number_format.specs.ShownDigits.{increment_of};
 ghost use Rattle.number_format.specs.SkeletonDigits.{precision_value, digits_value};
 ghost use Rattle.number_format.specs.SkeletonMeaning.{options_value};
-ghost use Rattle.number_format.specs.SkeletonTexts.{Appends, decimal_length, is_default, is_cash, strips, style_sign, last_digits, decimal_text, power_text, thousands_text, whole_text, pointed_by, pointed_text, increment_text, least_digits_text, exponent_text, notation_text, width_text, scale_text, ascii, style_text, fraction_text, beside_text, range_text, significant_text, precision_text, strips_text, shown_precision_text, mode_text, integer_text, grouping_text, sign_text, system_text, digits_text, options_text};
+ghost use Rattle.number_format.specs.SkeletonTexts.{Appends, decimal_length, is_default, is_cash, strips, style_sign, last_digits, decimal_text, power_text, thousands_text, whole_text, pointed_by, pointed_text, has_thousands, increment_text, least_digits_text, exponent_text, notation_text, width_text, scale_text, ascii, style_text, fraction_text, beside_text, range_text, significant_text, precision_text, strips_text, shown_precision_text, mode_text, integer_text, grouping_text, sign_text, system_text, digits_text, options_text};
 ghost use Rattle.number_format.specs.declared.precision.Precision.TheVariants.{MorePrecision, LessPrecision};
 
 use crate::digit_options::{DigitOptions, TrailingZeros};
@@ -185,17 +185,26 @@ fn push_scale(text: &mut String, scale: i16) -> Result<(), AllocError>
     text.push(' ')
 }
 
+fn push_scaled(text: &mut String, stem: &str, scale: i16) -> Result<(), AllocError>
+    ensures { Appends result text.old text.new (stem.now ++ scale_text scale) }
+{
+    text.push_str(stem)?;
+    push_scale(text, scale)
+}
+
 fn push_style(text: &mut String, style: NumberStyle, scale: i16) -> Result<(), AllocError>
     ensures { Appends result text.old text.new (style_text style scale) }
 {
     match style {
-        NumberStyle::Decimal => {}
-        NumberStyle::Percent if scale == 2 => return text.push_str("%x100 "),
-        NumberStyle::Percent => text.push_str("% ")?,
-        NumberStyle::Permille => text.push_str("permille ")?,
-        NumberStyle::Currency(currency) => push_currency(text, currency)?,
+        NumberStyle::Decimal => push_scale(text, scale),
+        NumberStyle::Percent if scale == 2 => text.push_str("%x100 "),
+        NumberStyle::Percent => push_scaled(text, "% ", scale),
+        NumberStyle::Permille => push_scaled(text, "permille ", scale),
+        NumberStyle::Currency(currency) => {
+            push_currency(text, currency)?;
+            push_scale(text, scale)
+        }
     }
-    push_scale(text, scale)
 }
 
 /// Appends `.00##` or `.00*`.
@@ -349,21 +358,35 @@ fn push_pointed(text: &mut String, digits: u16, increment: u16) -> Result<(), Al
     }
 }
 
+/// Returns whether an increment is shortest in thousands, with an exponent.
+fn has_thousands(digits: u16, increment: u16) -> bool
+    ensures { result ≡ has_thousands digits increment }
+{
+    increment % 1000 == 0 && (digits == 0 || digits == 2 || digits == 3)
+}
+
+/// Appends an increment with a negative exponent: `25e-4`.
+fn push_fractions(text: &mut String, digits: u16, increment: u16) -> Result<(), AllocError>
+    ensures { Appends result text.old text.new (decimal_text increment ++ 101 ∷ 45 ∷ decimal_text digits) }
+{
+    push_number(text, increment)?;
+    text.push_str("e-")?;
+    push_number(text, digits)
+}
+
 /// Appends an increment with a number of fraction digits.
 fn push_increment(text: &mut String, digits: u16, increment: u16) -> Result<(), AllocError>
     requires few { increment ≤ 5000 }
     ensures { Appends result text.old text.new (increment_text digits increment) }
 {
-    if increment % 1000 == 0 && (digits == 0 || digits == 2 || digits == 3) {
+    if has_thousands(digits, increment) {
         return push_thousands(text, digits, increment);
     }
     if digits == 0 {
         return push_number(text, increment);
     }
     if digits > 3 && increment % 10 != 0 {
-        push_number(text, increment)?;
-        text.push_str("e-")?;
-        return push_number(text, digits);
+        return push_fractions(text, digits, increment);
     }
     push_pointed(text, digits, increment)
 }
