@@ -1,12 +1,13 @@
 //! Decimals by the symbols of a locale: how they are written, and that they are read back; and plural categories.
 ghost use Rattle.decimal_format.specs.Readable.{IsReadable};
 
+use crate::numbers::expanded;
 use decimal_format::{DecimalFormatter, DecimalSymbols, GroupingStrategy};
-use fixed_decimal::Decimal;
+use fixed_decimal::{Decimal, DigitList, DigitStore, PackedDigits, Signed, UnsignedOver};
 use locale_data::{PluralRuleType, PluralRulesError, locale, plural_rules_of};
 use plural_rules::PluralOperands;
 use std::alloc::Global;
-use test_support::{fails_without_room, has_text, is_outcome, named};
+use test_support::{displays, fails_without_room, has_text, is_outcome, named};
 
 const STRATEGIES: &[(&str, GroupingStrategy)] = &[
     ("auto", GroupingStrategy::Auto),
@@ -15,40 +16,47 @@ const STRATEGIES: &[(&str, GroupingStrategy)] = &[
     ("min2", GroupingStrategy::Min2),
 ];
 
-/// Whether a formatter writes a number as this text, and fails with each sink without room.
-fn writes(formatter: &DecimalFormatter<'_>, value: &Decimal, text: &str) -> bool {
-    let formatted = formatter.format(value);
-    has_text(&formatted, text) && fails_without_room(&formatted, text.as_bytes())
-}
-
-/// Whether both readers read a text as this value.
-fn reads_back(
-    alloc: Global,
-    symbols: &DecimalSymbols<'_>,
-    value: &Decimal,
+/// Whether a formatter writes a number as this text, also by Display, and fails with each sink without room.
+fn writes<D: DigitStore>(
+    formatter: &DecimalFormatter<'_>,
+    value: &Signed<UnsignedOver<D>>,
     text: &str,
-) -> Option<bool>
-    requires { IsReadable symbols.now }
-{
-    let strict: Decimal = symbols.read(alloc, text.as_bytes()).ok()?;
-    let lenient: Decimal = symbols.read_lenient(alloc, text).ok()?;
-    Some(strict == *value && lenient == *value)
+) -> bool {
+    let formatted = formatter.format(value);
+    has_text(&formatted, text)
+        && displays(&formatted, text.as_bytes())
+        && fails_without_room(&formatted, text.as_bytes())
 }
 
-/// Whether a number has this text by the symbols of a locale, and the text is read back.
-fn formats(
+/// Whether a number over a store has this text, and both readers read the text back.
+fn formats<D: DigitStore>(
     alloc: Global,
-    symbols: DecimalSymbols<'_>,
-    strategy: GroupingStrategy,
+    formatter: &DecimalFormatter<'_>,
     number: &str,
     text: &str,
 ) -> Option<bool>
-    requires { IsReadable symbols }
+    requires { IsReadable formatter.now.symbols }
 {
-    let formatter = DecimalFormatter::new(symbols, strategy);
-    let value = Decimal::try_from_str(alloc, number).ok()?;
-    let is_written = writes(&formatter, &value, text);
-    Some(is_written && reads_back(alloc, formatter.symbols(), &value, text)?)
+    let symbols = formatter.symbols();
+    let value = Signed::<UnsignedOver<D>>::try_from_str(alloc, number).ok()?;
+    let strict = symbols.read::<D>(alloc, text.as_bytes()).ok()?;
+    let lenient = symbols.read_lenient::<D>(alloc, text).ok()?;
+    Some(writes(formatter, &value, text) && strict == value && lenient == value)
+}
+
+/// Whether a number has this text over each store.
+fn formats_over_each(
+    alloc: Global,
+    formatter: &DecimalFormatter<'_>,
+    number: &str,
+    text: &str,
+) -> Option<bool>
+    requires { IsReadable formatter.now.symbols }
+{
+    Some(
+        formats::<PackedDigits>(alloc, formatter, number, text)?
+            && formats::<DigitList>(alloc, formatter, number, text)?,
+    )
 }
 
 /// Whether a number has this category by the plural rules of a language.
@@ -77,10 +85,15 @@ fn holds_in(
 ) -> Option<bool>
     requires { IsReadable symbols }
 {
+    let (number, text) = (expanded(alloc, number)?, expanded(alloc, text)?);
+    let (number, text) = (number.as_str(), text.as_str());
     match word {
         "read" => is_outcome::<Decimal>(symbols.read(alloc, number.as_bytes()), text),
         "lenient" => is_outcome::<Decimal>(symbols.read_lenient(alloc, number), text),
-        _ => formats(alloc, symbols, named(STRATEGIES, word)?, number, text),
+        _ => {
+            let formatter = DecimalFormatter::new(symbols, named(STRATEGIES, word)?);
+            formats_over_each(alloc, &formatter, number, text)
+        }
     }
 }
 

@@ -17,7 +17,7 @@
 //! ```
 //!
 //! Of options that are rejected the number is empty, and the text may also be the class of ECMA-402's error. In numbers
-//! and texts by options `0*3` after a space is `000`; in skeletons `«@*3»` is `@@@`, and `␉`, `␊` and `␍` are a tab, a
+//! and texts `0*3` after a space is `000`; in skeletons `«@*3»` is `@@@`, and `␉`, `␊` and `␍` are a tab, a
 //! line feed and a carriage return. Blank lines, and lines that start with `#` and have no tab, are not rows. Each row
 //! that fails is printed with its line number; the last line counts the rows.
 #![tactic(auto)]

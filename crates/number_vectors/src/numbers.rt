@@ -203,7 +203,7 @@ fn checks(
 }
 
 /// Returns the text of a field. Texts of node have blanks, and no stars.
-fn expanded(alloc: Global, field: &str) -> Option<String> {
+pub fn expanded(alloc: Global, field: &str) -> Option<String> {
     if field.contains('*') {
         return expand_runs(alloc, field).ok();
     }

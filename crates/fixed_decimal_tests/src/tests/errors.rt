@@ -1,5 +1,6 @@
 //! What `{}` writes of each error.
 use super::*;
+use decimal_format::SymbolsError;
 use fixed_decimal::{ConcatenateError, IntegerError, LimitError, RoundError, RunError, SinkFault};
 use std::error::Error;
 
@@ -23,6 +24,35 @@ const RUN_ERRORS: &[(RunError, &str)] = &[
     ),
     (RunError::Memory { at: 12 }, "Call 12: Out of memory"),
     (RunError::Sink, "The sink refused a byte"),
+];
+
+/// Errors of symbols, and their texts.
+const SYMBOLS_ERRORS: &[(SymbolsError, &str)] = &[
+    (SymbolsError::DigitWidths, "The digits differ in length"),
+    (
+        SymbolsError::DecimalTooLong,
+        "The decimal separator has more than 255 bytes",
+    ),
+    (
+        SymbolsError::GroupingTooLong,
+        "The grouping separator has more than 255 bytes",
+    ),
+    (
+        SymbolsError::MinusPrefixTooLong,
+        "The prefix of the minus sign has more than 255 bytes",
+    ),
+    (
+        SymbolsError::MinusSuffixTooLong,
+        "The suffix of the minus sign has more than 255 bytes",
+    ),
+    (
+        SymbolsError::PlusPrefixTooLong,
+        "The prefix of the plus sign has more than 255 bytes",
+    ),
+    (
+        SymbolsError::PlusSuffixTooLong,
+        "The suffix of the plus sign has more than 255 bytes",
+    ),
 ];
 
 /// Whether `{}` writes this text of an error, with any options.
@@ -54,5 +84,8 @@ fn displays_errors(rt: HostRuntime) {
     assert!(rt; have_texts() && have_texts_of_reading());
     for (error, text) in RUN_ERRORS {
         assert!(rt; displays_as(error, text), "{text}");
+    }
+    for (error, text) in SYMBOLS_ERRORS {
+        assert!(rt; displays(error, text.as_bytes()), "{text}");
     }
 }
