@@ -27,16 +27,11 @@ impl From<CallError> for RunError {
 impl fmt::Display for CallError {
     /// Writes the text of the [`RunError`]: `Call 0: The numbers overlap`.
     fn fmt<W: fmt::Write>(&self, f: &mut fmt::Formatter<W>) -> fmt::Result {
-        let (CallError::Operand { at, .. }
-        | CallError::Overlap { at }
-        | CallError::Limit { at }
-        | CallError::Memory { at }) = self;
-        write!(f, "Call {at}: ")?;
         match self {
-            CallError::Operand { fault, .. } => fault.fmt(f),
-            CallError::Overlap { .. } => f.write_str("The numbers overlap"),
-            CallError::Limit { .. } => LimitError.fmt(f),
-            CallError::Memory { .. } => RoundError::Memory.fmt(f),
+            CallError::Operand { at, fault } => write!(f, "Call {at}: {fault}"),
+            CallError::Overlap { at } => write!(f, "Call {at}: The numbers overlap"),
+            CallError::Limit { at } => write!(f, "Call {at}: {}", LimitError),
+            CallError::Memory { at } => write!(f, "Call {at}: {}", RoundError::Memory),
         }
     }
 }

@@ -53,10 +53,10 @@ fn truncate_and_push<D: DigitStore>(
     if index < counted.len() {
         counted.truncate(index + 1);
         counted.set(index, digit);
-        return Ok(());
+    } else {
+        counted.reserve(1)?;
+        counted.push_in_room(digit);
     }
-    counted.reserve(1)?;
-    counted.push_in_room(digit);
     Ok(())
 }
 

@@ -41,13 +41,9 @@ fn keep_leading<D: DigitStore>(counted: &mut Counted<'_, D>, keep: usize, last: 
     ensures borrows { Continues counted.old counted.new }
 {
     counted.truncate(keep);
-    if keep == 0 {
-        return;
+    if keep > 0 && last == 0 {
+        strip_trailing_zeros(counted);
     }
-    if last > 0 {
-        return;
-    }
-    strip_trailing_zeros(counted);
 }
 
 fn round_by_one<D: DigitStore>(

@@ -46,9 +46,3 @@ returns-clause-ok g c =
     (number_of ds c.args.magnitude) (weight c.args.position) (leading c.split_at_position-keep.result.0 ds) _
     (ten_pos (offset c.args.position)) splits_as rounds in
     simp to_z-of_z (rw e represents)
-
-pub returns-in_err-places-clause-borrows : goal.returns-in_err-places-clause-borrows
-returns-in_err-places-clause-borrows g c = (cc, cc, omega arith)
-
-pub returns-clause-borrows : goal.returns-clause-borrows
-returns-clause-borrows g c = (cc, cc, omega arith)

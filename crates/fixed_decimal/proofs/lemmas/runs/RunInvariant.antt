@@ -1,9 +1,8 @@
 -- One call more.
-use Rattle.std.proofs.Common.{◌≡◌, ℕ, suc, ◌+◌, ◌<◌, List, [], ◌∷◌, ◌++◌, length, get_or, take, drop, refl, sym, ◌∙◌, ap, arith, Result, Ok, Err, IsOkAnd}
+use Rattle.std.proofs.Common.{◌≡◌, ℕ, suc, ◌+◌, ◌<◌, List, [], ◌∷◌, ◌++◌, length, get_or, take, drop, refl, sym, ◌∙◌, ap, arith, Result, Ok, Err}
 use Rattle.std.proofs.Math.Seq.{drop-cons}
 use Rattle.std.proofs.lemmas.{List.{take_more, length-take-le}, Option.slice_get-get_or}
-use Rattle.fixed_decimal.specs.{Calls.{CallsFail, CallFails, call_number}, Decimal.Decimal, DecimalText.{read_decimal, and_then, IsLong}, Errors.{IsReached, run_error, RunFails}, Outcome.{OutcomeError, step, after_calls}, declared.runs.Call.Call, declared.runs.CallError.CallError, declared.runs.CallError.TheVariants.{Operand, Overlap, Limit, Memory}, declared.runs.RunError.RunError, declared.runs.RunError.TheVariants.{Start, Sink}}
-use Rattle.decimal_unsigned.specs.{ParseResult.ParseFails, declared.error.ParseError.ParseError}
+use Rattle.fixed_decimal.specs.{Calls.{CallsFail, CallFails, call_number}, Decimal.Decimal, DecimalText.{read_decimal, and_then}, Errors.{IsReached, run_error, RunFails}, Outcome.{OutcomeError, step, after_calls}, declared.runs.Call.Call, declared.runs.CallError.CallError, declared.runs.CallError.TheVariants.{Operand, Overlap, Limit, Memory}}
 use Rattle.decimal_unsigned.specs.declared.error.ParseError.TheVariants as parse
 
 and_then-Ok : (r : Result Decimal OutcomeError) → and_then r (λ w. Ok w) ≡ r
@@ -75,15 +74,3 @@ module _ {first v : Decimal} {calls : List Call} {at : ℕ} (i : IsAt first call
 pub run_fails : (held : ℕ) (e : CallError) (bytes : List ℕ) (first : Decimal) (calls : List Call)
     → read_decimal bytes ≡ Ok first → CallsFail held e first calls → RunFails held (run_error e) bytes calls
 run_fails held e bytes first calls is r = grind arith
-
--- and none of them is an error of the sink
-pub never_sink : {A : Type 0} (r : Result A RunError) (e : CallError) → r ≡ Err (run_error e) → r ≡ Err Sink → ⊥
-never_sink r e is sink = grind arith
-
--- an error of the start is that of the run
-pub start_fails : (held : ℕ) (e : ParseError) (bytes : List ℕ) (calls : List Call)
-    → ParseFails (IsOkAnd (read_decimal bytes) (IsLong held)) e (read_decimal bytes)
-    → RunFails held (Start e) bytes calls
-start_fails held parse.Limit bytes calls r = rw r refl
-start_fails held parse.Syntax bytes calls r = rw r refl
-start_fails held parse.Memory bytes calls r = r

@@ -9,9 +9,3 @@ returns-clause-value g c =
     (λ i h. grind (arith, nibble_rules))
     (grind (arith, nibble_rules)) (λ i h l. nines.ensures.equal i (omega arith) l)
     (λ i h l. grind (arith, nibble_rules))
-
-pub returns-clause-borrows : goal.returns-clause-borrows
-returns-clause-borrows g c = (cc, cc, omega arith)
-
-pub returns-clause-stripped : goal.returns-clause-stripped
-returns-clause-stripped g c = grind (arith, nibble_rules)

@@ -37,12 +37,3 @@ returns-clause-value g c =
     one_by c.args.mode c.args.remainder _ _ _ _ true c.last_of-last.ensures.value c.if-not-rounds_up.ensures
     (leading_raised c.args.keep (c.args.keep - 1) _ _ (omega arith) (λ i h. grind (arith, nibble_rules))
     (grind (arith, nibble_rules)) (λ i h l. absurd (omega arith)) (λ i h l. absurd (omega arith)))
-
-pub returns-then-not-rounds_up-clause-borrows : goal.returns-then-not-rounds_up-clause-borrows
-returns-then-not-rounds_up-clause-borrows g c = (cc, cc, omega arith)
-
-pub returns-then-keep-eq0-clause-borrows : goal.returns-then-keep-eq0-clause-borrows
-returns-then-keep-eq0-clause-borrows g c = (cc, cc, omega arith)
-
-pub returns-then-last-eq9-clause-borrows : goal.returns-then-last-eq9-clause-borrows
-returns-then-last-eq9-clause-borrows g c = (cc, cc, omega arith)

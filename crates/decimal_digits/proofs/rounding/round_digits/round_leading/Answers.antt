@@ -94,24 +94,3 @@ pub returns-in-Ok-clause-value : goal.returns-in-Ok-clause-value
 returns-in-Ok-clause-value g c =
     c.round_last_two-rounded.ensures.rounds _ _ _ c.last_two_of-last_two.ensures.value
     (rw c.last_two_of-last_two.ensures.reads.0 at c.in-Ok.ensures.value)
-
-pub returns-then-ne-clause-borrows : goal.returns-then-ne-clause-borrows
-returns-then-ne-clause-borrows g c = (cc, cc, omega arith)
-
-pub returns-then-keep-le2-clause-borrows : goal.returns-then-keep-le2-clause-borrows
-returns-then-keep-le2-clause-borrows g c = (cc, cc, omega arith)
-
-pub returns-in_default-write_number-clause-borrows : goal.returns-in_default-write_number-clause-borrows
-returns-in_default-write_number-clause-borrows g c = (cc, cc, omega arith)
-
-pub returns-then-rounded-eq100-clause-borrows : goal.returns-then-rounded-eq100-clause-borrows
-returns-then-rounded-eq100-clause-borrows g c = (cc, cc, omega arith)
-
-pub returns-in_default-add_one-clause-borrows : goal.returns-in_default-add_one-clause-borrows
-returns-in_default-add_one-clause-borrows g c = (cc, cc, omega arith)
-
-pub returns-in-Ok-clause-borrows : goal.returns-in-Ok-clause-borrows
-returns-in-Ok-clause-borrows g c = (cc, cc, omega arith)
-
-pub returns-in-Err-clause-borrows : goal.returns-in-Err-clause-borrows
-returns-in-Err-clause-borrows g c = (cc, cc, omega arith)

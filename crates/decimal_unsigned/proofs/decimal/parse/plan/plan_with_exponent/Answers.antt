@@ -78,21 +78,3 @@ returns-clause-some c =
     (narrow_kept c.to_magnitude.type_inv ∙ c.to_magnitude.ensures)
     (narrow_kept c.highest_shown.type_inv ∙ c.highest_shown.ensures)
     (narrow_kept c.lowest_shown.type_inv ∙ c.lowest_shown.ensures)
-
-pub shift_magnitude-hi-requires-clause-exponent_in : goal.shift_magnitude-hi-requires-clause-exponent_in
-shift_magnitude-hi-requires-clause-exponent_in c = (omega (arith, ints), omega (arith, ints))
-
-pub shift_magnitude-lo-requires-clause-exponent_in : goal.shift_magnitude-lo-requires-clause-exponent_in
-shift_magnitude-lo-requires-clause-exponent_in c = (omega (arith, ints), omega (arith, ints))
-
-pub shift_magnitude-first-requires-clause-exponent_in : goal.shift_magnitude-first-requires-clause-exponent_in
-shift_magnitude-first-requires-clause-exponent_in c = (omega (arith, ints), omega (arith, ints))
-
-pub shift_magnitude-last-requires-clause-exponent_in : goal.shift_magnitude-last-requires-clause-exponent_in
-shift_magnitude-last-requires-clause-exponent_in c = (omega (arith, ints), omega (arith, ints))
-
-pub shift_magnitude-hi-requires-clause-magnitude_in : goal.shift_magnitude-hi-requires-clause-magnitude_in
-shift_magnitude-hi-requires-clause-magnitude_in c = (omega (arith, ints), omega (arith, ints))
-
-pub shift_magnitude-lo-requires-clause-magnitude_in : goal.shift_magnitude-lo-requires-clause-magnitude_in
-shift_magnitude-lo-requires-clause-magnitude_in c = (omega (arith, ints), omega (arith, ints))
