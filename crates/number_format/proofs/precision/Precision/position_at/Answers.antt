@@ -1,4 +1,4 @@
-use Rattle.std.proofs.Common.{arith, rules, w16, w32, FitsSigned}
+use Rattle.std.proofs.Common.{refl, arith, rules, w16, w32, FitsSigned}
 use Rattle.std.proofs.lemmas.Int.{ints, clamps, to_z-of_z}
 use Rattle.number_format.proofs.precision.Precision.position_at.Goals as goal
 
@@ -12,3 +12,20 @@ returns-clause-position c =
     let low = c.if-position-gt32767.false in
     let max = c.max.ensures.value in
     (omega (arith, ints, clamps), omega (arith, ints, clamps))
+
+pub returns-then-position-gt32767-clause-position : goal.returns-then-position-gt32767-clause-position
+returns-then-position-gt32767-clause-position c =
+    let first_fits : FitsSigned w16 c.args.first = search rules in
+    let position_fits : FitsSigned w32 c.position.result = search rules in
+    let is = simp to_z-of_z at c.position.ensures.position in
+    let most = simp to_z-of_z at c.position.ensures.at_most in
+    let high = c.if-position-gt32767.true in
+    (refl, omega (arith, ints, clamps))
+
+pub returns-then-position-gt32767-clause-within : goal.returns-then-position-gt32767-clause-within
+returns-then-position-gt32767-clause-within c = λ zero.
+    let first_fits : FitsSigned w16 c.args.first = search rules in
+    let position_fits : FitsSigned w32 c.position.result = search rules in
+    let most = simp to_z-of_z at c.position.ensures.at_most in
+    let high = c.if-position-gt32767.true in
+    absurd (omega (arith, ints, clamps))
