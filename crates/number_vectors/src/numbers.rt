@@ -56,8 +56,8 @@ fn writes<D: DigitStore>(
     Some(written && sink.has_all())
 }
 
-/// Whether a value has this text by digit options, without an exponent; on an error it has its own text. If out of memory
-/// they are applied again to what is left.
+/// Whether a value has this text by digit options, without an exponent; on an error it has its own text. If out of
+/// memory they are applied again to what is left.
 fn applies<D: DigitStore>(
     alloc: Global,
     formatter: &DecimalFormatter<'_>,
@@ -150,8 +150,8 @@ fn reads_back(
     Some(is_zero || is_text(&formatter.format(alloc, value).ok()?, text))
 }
 
-/// Whether a formatter writes a number as this text, and reads it back; or has this error, and leaves the number. If out of
-/// memory it formats again what is left.
+/// Whether a formatter writes a number as this text, and reads it back; or has this error, and leaves the number. If
+/// out of memory it formats again what is left.
 fn formats(
     alloc: Global,
     formatter: &NumberFormatter,

@@ -64,8 +64,8 @@ fn check_lines<R: AllocGlobal + Print, F: Fn(Global, &str, u32) -> Option<bool>>
 /// Checks the rows of each line of standard input: by the table `repeated` lines with a text are a number of rows, and
 /// the others one.
 ///
-/// `holds` returns for a line and a 0-based index whether the row holds, and `None` if a call failed that should not have,
-/// as where it is out of memory: such a row is checked once more, and then fails unless it holds.
+/// `holds` returns for a line and a 0-based index whether the row holds, and `None` if a call failed that should not
+/// have, as where it is out of memory: such a row is checked once more, and then fails unless it holds.
 pub fn check_rows<R: AllocGlobal + Print + Input, F: Fn(Global, &str, u32) -> Option<bool>>(
     rt: &R,
     repeated: &[(&str, u32)],

@@ -34,7 +34,8 @@ pub fn parse_outcome<T: Drop>(answer: Result<T, ParseError>) -> Option<&'static 
     }
 }
 
-/// Whether the result of parsing a text is a value with this text, or the error with this name; `None` if out of memory.
+/// Whether the result of parsing a text is a value with this text, or the error with this name; `None` if out of
+/// memory.
 pub fn is_outcome<T: Writeable + Drop>(
     answer: Result<T, ParseError>,
     expected: &str,

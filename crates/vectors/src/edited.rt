@@ -13,8 +13,8 @@ use test_support::{
     Value, has_text, rounded, rounding_methods,
 };
 
-/// A value after a call, and whether the call was made or rejected, or was out of memory. `None`: there is no such call,
-/// or its operand was not read.
+/// A value after a call, and whether the call was made or rejected, or was out of memory. `None`: there is no such
+/// call, or its operand was not read.
 type CallResult<T> = Option<(T, Result<bool, AllocError>)>;
 
 /// A type of values on which calls are made.
@@ -84,7 +84,8 @@ fn edited_by_value<D: DigitStore>(
     Some((value, Ok(true)))
 }
 
-/// Concatenates the number of a text. A call that fails returns this number with its text, or counts as one that was made.
+/// Concatenates the number of a text. A call that fails returns this number with its text, or counts as one that was
+/// made.
 fn joined<D: DigitStore>(
     alloc: Global,
     value: UnsignedOver<D>,
@@ -174,8 +175,8 @@ fn methods_of(words: &str) -> &'static [RoundingMethod] {
     found
 }
 
-/// Returns a value after calls, and whether each was made or rejected as it has to be. One that is out of memory is made
-/// again, on the value that it left.
+/// Returns a value after calls, and whether each was made or rejected as it has to be. One that is out of memory is
+/// made again, on the value that it left.
 fn left<T: Edited>(
     alloc: Global,
     value: T,

@@ -76,8 +76,8 @@ fn has_magnitudes<D: DigitStore>(
     )
 }
 
-/// Whether the lowest magnitude of a text is found; or if it has none, whether that and a store that is out of memory for
-/// more than eight digits fail with the word for the text.
+/// Whether the lowest magnitude of a text is found; or if it has none, whether that and a store that is out of memory
+/// for more than eight digits fail with the word for the text.
 fn finds_lowest<D: DigitStore>(alloc: Global, text: &str, wanted: &str) -> Option<bool> {
     let lowest = parse_outcome(lowest_of(text.as_bytes()))?;
     if wanted != "syntax" && wanted != "limit" {
