@@ -11,18 +11,10 @@ use std::convert::AsStr;
 use std::marker::Model;
 
 /// The text before a number and the text after it.
+#[derive(Drop)]
 pub(crate) struct OwnedAffixes {
     prefix: String,
     suffix: String,
-}
-
-// Drops are not derived: a derived drop is proved again wherever a value is dropped.
-impl Drop for OwnedAffixes {
-    fn drop(self) {
-        let OwnedAffixes { prefix, suffix } = self;
-        drop(prefix);
-        drop(suffix);
-    }
 }
 
 impl Model for OwnedAffixes {
@@ -67,23 +59,11 @@ impl OwnedAffixes {
 }
 
 /// The texts before and after a number, by its sign.
+#[derive(Drop)]
 pub struct SignAffixes {
     pub(crate) none: OwnedAffixes,
     pub(crate) negative: OwnedAffixes,
     pub(crate) positive: OwnedAffixes,
-}
-
-impl Drop for SignAffixes {
-    fn drop(self) {
-        let SignAffixes {
-            none,
-            negative,
-            positive,
-        } = self;
-        drop(none);
-        drop(negative);
-        drop(positive);
-    }
 }
 
 fn are_prefixes_apart(symbols: &DecimalSymbols<'_>, first: &str, second: &str) -> bool

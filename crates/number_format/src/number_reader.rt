@@ -1,5 +1,5 @@
 //! Readers of what formatters write.
-ghost use Rattle.std.specs.Prelude.{◌≡◌, ◌∷◌, [], ◌++◌, ◌-ℤ◌, pos, length, map, flat_map, codes, IfOk, IfErr, OnOk};
+ghost use Rattle.std.specs.Prelude.{◌≡◌, ◌∷◌, [], ◌++◌, ◌-ℤ◌, pos, length, map, flat_map, IfOk, IfErr, OnOk};
 ghost use Rattle.number_format.specs.{AffixedTexts.IsReadExactly, NumberReading.{affixes_for, affixes_of_formatter, CanRead, CanUndo, CannotRead, names_by, form, form_of, forms_of_name, number_reader_of, typed_forms, IsReadLeniently, IsReadInMode}};
 
 use crate::affixes::{OwnedAffixes, SignAffixes};
@@ -66,29 +66,17 @@ fn push_form(
     Ok(())
 }
 
-/// Pushes a sign and a name before the number, without a space and with one.
-fn push_before(
-    forms: &mut Vec<Form>,
-    alloc: Global,
-    mark: &str,
-    name: &str,
-    sign: Sign,
-) -> Result<(), AllocError>
-    ensures { OnOk result (forms.new.items ≡ forms.old.items
-        ++ form (mark.now ++ name.now) [] sign ∷ form (mark.now ++ (name.now ++ codes " ")) [] sign ∷ []) }
-{
-    push_form(forms, alloc, &[mark, name], &[], sign)?;
-    push_form(forms, alloc, &[mark, name, " "], &[], sign)
-}
-
 fn push_name(forms: &mut Vec<Form>, alloc: Global, name: &str) -> Result<(), AllocError>
     ensures { OnOk result (forms.new.items ≡ forms.old.items ++ forms_of_name name.now) }
 {
-    push_before(forms, alloc, "", name, Sign::None)?;
+    push_form(forms, alloc, &[name], &[], Sign::None)?;
+    push_form(forms, alloc, &[name, " "], &[], Sign::None)?;
     push_form(forms, alloc, &[], &[name], Sign::None)?;
     push_form(forms, alloc, &[], &[" ", name], Sign::None)?;
-    push_before(forms, alloc, "-", name, Sign::Negative)?;
-    push_before(forms, alloc, "+", name, Sign::Positive)
+    push_form(forms, alloc, &["-", name], &[], Sign::Negative)?;
+    push_form(forms, alloc, &["-", name, " "], &[], Sign::Negative)?;
+    push_form(forms, alloc, &["+", name], &[], Sign::Positive)?;
+    push_form(forms, alloc, &["+", name, " "], &[], Sign::Positive)
 }
 
 /// Reads the numbers that a [`NumberFormatter`] writes. Making it allocates, reading a short text does not.
@@ -141,18 +129,6 @@ impl NumberFormatter {
         })
     }
 
-    fn push_affixes(
-        &self,
-        forms: &mut Vec<Form>,
-        alloc: Global,
-        sign: Sign,
-    ) -> Result<(), AllocError>
-        ensures { OnOk result (forms.new.items ≡ forms.old.items ++ (affixes_for self.now sign, sign) ∷ []) }
-    {
-        forms.push((self.affix_texts(alloc, sign)?, sign))?;
-        Ok(())
-    }
-
     fn names(&self) -> (&str, &str, &str)
         ensures { result.0.now ∷ result.1.now ∷ result.2.now ∷ [] ≡ names_by self.now self.now.options.style }
     {
@@ -171,9 +147,9 @@ impl NumberFormatter {
     {
         let (symbol, narrow, code) = self.names();
         let mut forms = Vec::new(alloc);
-        self.push_affixes(&mut forms, alloc, Sign::None)?;
-        self.push_affixes(&mut forms, alloc, Sign::Negative)?;
-        self.push_affixes(&mut forms, alloc, Sign::Positive)?;
+        forms.push((self.affix_texts(alloc, Sign::None)?, Sign::None))?;
+        forms.push((self.affix_texts(alloc, Sign::Negative)?, Sign::Negative))?;
+        forms.push((self.affix_texts(alloc, Sign::Positive)?, Sign::Positive))?;
         push_form(&mut forms, alloc, &[], &[], Sign::None)?;
         push_form(&mut forms, alloc, &["("], &[")"], Sign::Negative)?;
         push_name(&mut forms, alloc, symbol)?;
