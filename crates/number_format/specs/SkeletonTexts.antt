@@ -85,6 +85,7 @@ pointed_text digits increment =
     else if digits == 3 then pointed_by 1000 3 0 increment
     else pointed_by 10000 4 (digits - 4) increment
 
+-- an increment is shortest in thousands, with an exponent
 abbrev pub has_thousands : ℕ → ℕ → Bool
 has_thousands digits increment = (increment % 1000 == 0) && (digits == 0 || (digits == 2 || digits == 3))
 
