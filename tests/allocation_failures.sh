@@ -1,5 +1,5 @@
 #!/usr/bin/env bash
-# Makes each allocation of two built programs fail in turn, by a debugger that stops where the allocator is called:
+# Makes each allocation of three built programs fail in turn, by a `malloc` that fails once:
 #
 # - `vectors` and `number_vectors` check rows of `tests/allocations`, which make each kind of call that allocates. They
 #   have to print that all rows hold: a call reports that it is out of memory, changes nothing, and succeeds when it is
@@ -8,29 +8,21 @@
 #   before, or as ever where it asked again, for less; and it allocates no more for a thousand lines of at most 16
 #   digits than for one, also by number skeletons.
 #
-# Needs bash and gdb, which it installs where it may. The last line is `N passed, M failed`; the status is 0 if M is 0.
+# Needs bash and gcc. The last line is `N passed, M failed`; the status is 0 if M is 0.
 set -u
 cd "$(dirname "$0")/.." || exit 1
-if ! command -v gdb > /dev/null; then
-  (apt-get update && apt-get install -y gdb) > /dev/null 2>&1
-fi
-if ! command -v gdb > /dev/null; then
-  echo "there is no gdb"
-  echo "0 passed, 1 failed"
-  exit 1
-fi
 . tests/programs.sh
 copy_programs vectors number_vectors fixdec_lines
 cp tests/allocations/*.txt "$room"
+gcc -shared -fPIC -O2 -Wall -Wextra -Werror tests/failing_malloc.c -o "$room/failing_malloc.so" -ldl
+judge $? 'the failing malloc'
 cd "$room" || exit 1
 
 # fail_at INPUT AT PROGRAM WORD..: runs a program with the allocation of this number failing. Leaves what it wrote in
 # AT.out and AT.err, and `ALLOCATIONS STATUS` in AT.end.
 fail_at() {
-  gdb -q -batch -ex 'set $n = 0' -ex "break rattle_alloc if ++\$n == $2" -ex "break rattle_realloc if ++\$n == $2" \
-    -ex "run ${*:4} < $1 > $2.out 2> $2.err" -ex 'return (void *) 0' -ex 'continue' \
-    -ex 'printf "\nallocations %d status %d\n", $n, $_exitcode' "./$3" 2>&1 < /dev/null \
-    | sed -n 's/^allocations \([0-9]*\) status \([0-9]*\)$/\1 \2/p' > "$2.end"
+  FAIL_AT=$2 LD_PRELOAD=./failing_malloc.so "./$3" "${@:4}" < "$1" > "$2.out" 2> "$2.err" 9> "$2.end"
+  echo $? >> "$2.end"
 }
 export -f fail_at
 
