@@ -1,5 +1,5 @@
-/* For tests/allocation_failures.sh, before a program by LD_PRELOAD: `malloc` and `realloc` return NULL in the call of the
- * number FAIL_AT, from 1, and none for 0. When the program ends the number of calls is written to the file 9. */
+/* For tests/allocation_failures.sh, before a program by LD_PRELOAD: `malloc` and `realloc` return NULL in the call of
+ * the number FAIL_AT, from 1, and in none for 0. When the program ends the number of calls is written to the file 9. */
 #define _GNU_SOURCE
 #include <dlfcn.h>
 #include <stdio.h>
