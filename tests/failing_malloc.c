@@ -6,12 +6,8 @@
 #include <stdlib.h>
 
 static unsigned long calls, fail_at;
-static void *(*allocate)(size_t);
-static void *(*reallocate)(void *, size_t);
 
 __attribute__((constructor)) static void start(void) {
-    allocate = (void *(*)(size_t))dlsym(RTLD_NEXT, "malloc");
-    reallocate = (void *(*)(void *, size_t))dlsym(RTLD_NEXT, "realloc");
     fail_at = strtoul(getenv("FAIL_AT"), NULL, 10);
     calls = 0;
 }
@@ -21,12 +17,14 @@ __attribute__((destructor)) static void end(void) {
 }
 
 void *malloc(size_t size) {
+    static void *(*allocate)(size_t);
     if (allocate == NULL)
         allocate = (void *(*)(size_t))dlsym(RTLD_NEXT, "malloc");
     return ++calls == fail_at ? NULL : allocate(size);
 }
 
 void *realloc(void *block, size_t size) {
+    static void *(*reallocate)(void *, size_t);
     if (reallocate == NULL)
         reallocate = (void *(*)(void *, size_t))dlsym(RTLD_NEXT, "realloc");
     return ++calls == fail_at ? NULL : reallocate(block, size);
