@@ -1,9 +1,9 @@
 #!/usr/bin/env bash
-# Makes c/out/libfixed_decimal.a, libfixed_decimal.so.3 and fixed_decimal.pc; `PREFIX=/usr/local bash c/build.sh install`
+# Makes c/out/libfixed_decimal.a, libfixed_decimal.so.4 and fixed_decimal.pc; `PREFIX=/usr/local bash c/build.sh install`
 # copies them and the header. Needs `rt` and gcc. With BUILT_BY_GATE set it takes the libraries that the gate has built.
 set -eu
 cd "$(dirname "$0")"
-here=$PWD crate=$PWD/../crates/fixed_decimal_ffi version=3
+here=$PWD crate=$PWD/../crates/fixed_decimal_ffi version=4
 kit=$(dirname "$(dirname "$(readlink -f "$(command -v rt)")")")
 archive=$crate/out/libfixed_decimal_ffi.a
 if [ -z "${BUILT_BY_GATE:-}" ]; then

@@ -12,9 +12,9 @@
  * What the caller upholds:
  * - Each pointer is not null and points to as many bytes (or calls) as the number after it says, also if that is 0
  *   (FD_NONE will do), and the number is below 2^63.
- * - The buffer overlaps no other argument, and no other thread reads or writes it during the call; nor writes the others.
- * - malloc, realloc and free are those of one allocator, and the call is not made in a signal handler, nor in the forked
- *   child of a process with threads. Values of up to 16 digits, in texts of less than 64 bytes and lists of up to eight
+ * - The buffer overlaps no other argument, and no other thread reads or writes it during the call; nor writes another.
+ * - malloc, realloc and free are those of one allocator, and the call is not made in a signal handler, nor in the
+ *   forked child of a process with threads. Values of up to 16 digits, in texts of less than 64 bytes and lists of up to eight
  *   calls, need no memory; fd_category allocates for its rules.
  *
  * Texts need not be UTF-8 and do not end in a zero byte: neither those that are passed nor those that are written.
@@ -35,7 +35,7 @@ extern "C" {
 #endif
 
 /* The version of this interface: it grows when a number, a struct or a meaning changes. */
-#define FD_VERSION 3
+#define FD_VERSION 4
 
 /* The version of the library, to be compared with FD_VERSION. */
 uint32_t fd_version(void);
@@ -49,21 +49,23 @@ typedef enum fd_status {
     FD_OPERAND_SYNTAX = 4,   /* the operand of call `at` is not in the grammar */
     FD_OPERAND_LIMIT = 5,    /* the operand of call `at` has too many digits */
     FD_OVERLAP = 6,          /* the numbers that call `at` concatenates overlap */
-    FD_OVERFLOW = 7,         /* the result of call `at`, a shift or a rounding, is beyond the limits; or after all calls,
-                                `at` is their number, the number that a skeleton shows */
+    FD_OVERFLOW = 7,         /* the result of call `at`, a shift or a rounding, is beyond the limits; or, after all
+                                calls, where `at` is their number, the number that is shown */
     FD_BUFFER_TOO_SMALL = 8, /* the text does not fit the rest of the buffer */
     FD_UNKNOWN_CALL = 9,     /* call `at` has an unknown kind, option or increment, or an operand outside the texts */
     FD_UNKNOWN_LOCALE = 10,  /* no locale of the tag is known, or its numbering system is not; or none has the number */
-    FD_UNKNOWN_OPTION = 11,  /* an unknown grouping, reading or type of rules; or a text is to be read by a skeleton */
+    FD_UNKNOWN_OPTION = 11,  /* an unknown grouping, reading, type of rules or option of a number */
     FD_NOT_WHOLE = 12,       /* a fraction digit is not 0 */
     FD_OUT_OF_RANGE = 13,    /* the integer type does not hold the number */
     FD_RULES_SYNTAX = 14,    /* the text cannot go on as rules at byte `at` */
     FD_RULES_LIMIT = 15,     /* the number at byte `at` of the rules is too great */
     FD_SKELETON_SYNTAX = 16, /* the text is no skeleton, or not UTF-8, from byte `at` on; or it is outside the texts */
     FD_SKELETON_UNSUPPORTED = 17,    /* the library has no such option as the stem at byte `at` of the skeleton */
-    FD_UNKNOWN_NUMBERING_SYSTEM = 18, /* no numbering system is known by the name that the skeleton has */
-    FD_UNREADABLE_FORMAT = 19 /* the numbers of the skeleton are not read: they have an exponent or words, or two have the
-                                 same text */
+    FD_UNKNOWN_NUMBERING_SYSTEM = 18, /* no numbering system is known by the name in the options */
+    FD_UNREADABLE_FORMAT = 19, /* the numbers of the options are not read: they have an exponent or words, or two have
+                                  the same text */
+    FD_DIGIT_OPTIONS = 20,     /* the numbers of digits are those of no format, by the fd_digit_reason at */
+    FD_NO_SKELETON = 21        /* no skeleton has these options */
 } fd_status;
 
 /* An answer that is a text: status is an fd_status. */
@@ -144,8 +146,9 @@ enum fd_grouping { FD_GROUP_AUTO = 0, FD_GROUP_NEVER = 1, FD_GROUP_ALWAYS = 2, F
 enum fd_reading { FD_STRICT = 0, FD_LENIENT = 1 };
 
 /* The form of a text: that of a locale, by its number or its tag; with neither, the text is a decimal's own. A tag is a
- * BCP 47 tag, or the name that a shell has (de_CH.UTF-8). With a skeleton the text is written as by fd_format_number,
- * with the option ignored, or read as by fd_read_number: the tag is needed, and the number is ignored. */
+ * BCP 47 tag, or the name that a shell has (de_CH.UTF-8). With a skeleton the text is written as by
+ * fd_format_by_skeleton, with the option ignored, or read as by fd_read_by_skeleton: the tag is needed, and the number
+ * is ignored. */
 typedef struct fd_form {
     uint64_t locale;       /* the number of the locale, from fd_locale; 0: the locale of the tag */
     size_t start;          /* where the tag begins in the texts; ignored with a number */
@@ -160,6 +163,64 @@ typedef struct fd_forms {
     fd_form read;
     fd_form format;
 } fd_forms;
+
+/* Words of the options of a number. */
+enum fd_style { FD_DECIMAL = 0, FD_PERCENT = 1, FD_PERMILLE = 2, FD_CURRENCY = 3 };
+enum fd_currency_display { FD_SYMBOL = 0, FD_NARROW_SYMBOL = 1, FD_CODE = 2, FD_HIDDEN = 3 };
+enum fd_currency_sign { FD_STANDARD_SIGN = 0, FD_ACCOUNTING = 1 };
+enum fd_currency_usage { FD_STANDARD_USAGE = 0, FD_CASH = 1 };
+enum fd_notation {
+    FD_STANDARD = 0,
+    FD_SCIENTIFIC = 1,    /* 1.2E3 */
+    FD_ENGINEERING = 2,   /* the same with an exponent that is a multiple of 3 */
+    FD_COMPACT_SHORT = 3, /* 1.2M */
+    FD_COMPACT_LONG = 4   /* 1.2 million */
+};
+enum fd_rounding_priority { FD_PRIORITY_AUTO = 0, FD_MORE_PRECISION = 1, FD_LESS_PRECISION = 2 };
+enum fd_trailing_zeros { FD_SHOW_ZEROS = 0, FD_STRIP_IF_INTEGER = 1 };
+
+/* No number of digits, and no increment: the default of Intl.NumberFormat applies. */
+#define FD_DEFAULT 65535
+
+/* The options of a number, as those of Intl.NumberFormat; begin with FD_NUMBER_OPTIONS, its defaults.
+ * Each is a word above, of an fd_display, an fd_grouping or an fd_mode, or what is said beside it. */
+typedef struct fd_number_options {
+    uint8_t style;
+    uint8_t currency[3]; /* FD_CURRENCY: its code, three letters; one that is unknown has two fraction digits */
+    uint8_t numbering_system[16]; /* its name padded with spaces, as "arab            "; zeros: that of the locale */
+    uint8_t currency_display;
+    uint8_t currency_sign;
+    uint8_t currency_usage; /* FD_CASH: the digits, and the increment that is not given, are those of cash */
+    uint8_t notation;
+    uint8_t sign_display; /* of the number as it is rounded */
+    uint8_t grouping;     /* in compact notation FD_GROUP_AUTO is FD_GROUP_MIN2 */
+    uint8_t rounding_mode;
+    uint8_t rounding_priority;
+    uint8_t trailing_zeros;
+    int16_t scale; /* times 10^scale, first: with FD_PERCENT Intl.NumberFormat has 2, so that 0.5 is 50% */
+    uint16_t minimum_integer_digits;     /* 1 to 21 */
+    uint16_t minimum_fraction_digits;    /* 0 to 100 */
+    uint16_t maximum_fraction_digits;    /* 0 to 100 */
+    uint16_t minimum_significant_digits; /* 1 to 21 */
+    uint16_t maximum_significant_digits; /* 1 to 21 */
+    uint16_t rounding_increment; /* 1, 2 or 5 with up to three zeros, 25 with up to two; by default 1, or that of cash */
+} fd_number_options;
+
+/* A plain number, with at most three fraction digits, half-expand. */
+#define FD_NUMBER_OPTIONS                                                                                            \
+    {FD_DECIMAL, {0, 0, 0}, {0, 0, 0, 0, 0, 0, 0, 0, 0, 0, 0, 0, 0, 0, 0, 0}, FD_SYMBOL, FD_STANDARD_SIGN,           \
+     FD_STANDARD_USAGE, FD_STANDARD, FD_AUTO, FD_GROUP_AUTO, FD_HALF_EXPAND, FD_PRIORITY_AUTO, FD_SHOW_ZEROS, 0,     \
+     FD_DEFAULT, FD_DEFAULT, FD_DEFAULT, FD_DEFAULT, FD_DEFAULT, FD_DEFAULT}
+
+/* Why numbers of digits are those of no format, the first that holds. */
+enum fd_digit_reason {
+    FD_INTEGER_DIGITS = 0,      /* not 1 to 21 integer digits */
+    FD_INCREMENT = 1,           /* no such increment */
+    FD_SIGNIFICANT_DIGITS = 2,  /* not 1 to 21 significant digits, or the least is above the greatest */
+    FD_FRACTION_DIGITS = 3,     /* more than 100 fraction digits, or the least is above the greatest */
+    FD_INCREMENT_PRECISION = 4, /* an increment with significant digits, a priority, or compact notation by default */
+    FD_INCREMENT_DIGITS = 5     /* an increment with two numbers of fraction digits */
+};
 
 /* Types of plural rules: for numbers of things (2 days), and for places in an order (2nd day). */
 enum fd_rule_type { FD_CARDINAL = 0, FD_ORDINAL = 1 };
@@ -186,27 +247,39 @@ fd_result fd_run(const uint8_t *start, size_t start_count, const fd_call *calls,
 fd_result fd_convert(const uint8_t *text, size_t count, const fd_forms *forms, const fd_call *calls, size_t call_count,
                      const uint8_t *texts, size_t texts_count, uint8_t *buffer, size_t capacity);
 
-/* Formats a decimal as Intl.NumberFormat does, in the locale of a tag, by a number skeleton of ICU: "currency/EUR .00",
- * "percent @@", "K". The empty skeleton is ICU's default: at most six fraction digits, half-even.
+/* Formats a decimal as Intl.NumberFormat does, in the locale of a tag and by its options.
  *
  * The buffer is as after fd_run.
- * Errors, the first that holds: FD_SKELETON_SYNTAX, FD_SKELETON_UNSUPPORTED; FD_UNKNOWN_LOCALE;
- * FD_UNKNOWN_NUMBERING_SYSTEM; FD_SYNTAX, FD_LIMIT, FD_MEMORY of the text; FD_OVERFLOW, FD_MEMORY of the format;
- * FD_BUFFER_TOO_SMALL. */
+ * Errors, the first that holds: FD_UNKNOWN_OPTION; FD_DIGIT_OPTIONS; FD_UNKNOWN_LOCALE; FD_UNKNOWN_NUMBERING_SYSTEM;
+ * FD_SYNTAX, FD_LIMIT, FD_MEMORY of the text; FD_OVERFLOW, FD_MEMORY of the format; FD_BUFFER_TOO_SMALL. */
 fd_result fd_format_number(const uint8_t *text, size_t count, const uint8_t *tag, size_t tag_count,
-                           const uint8_t *skeleton, size_t skeleton_count, uint8_t *buffer, size_t capacity);
+                           const fd_number_options *options, uint8_t *buffer, size_t capacity);
 
-/* Reads a number as fd_format_number writes it by this tag and this skeleton, and writes the own text of the value that
- * it shows, with the scale undone: -1234.50 of "-1.234,50 €" by "de" and "currency/EUR". It has all its grouping
+/* Reads a number as fd_format_number writes it by this tag and these options, and writes the own text of the value that
+ * it shows, with the scale undone: -1234.50 of "-1.234,50 €" by "de" and the currency EUR. It has all its grouping
  * separators, or none. If lenient is not 0, it may be as people type it: with other spaces and separators, and with
  * the symbol or the code of the currency, or the percent sign, on either side, or with nothing around it.
  *
  * The buffer is as after fd_run. It allocates.
- * Errors, the first that holds: of the skeleton and the tag as fd_format_number; FD_UNREADABLE_FORMAT; FD_SYNTAX,
+ * Errors, the first that holds: of the options and the tag as fd_format_number; FD_UNREADABLE_FORMAT; FD_SYNTAX,
  * FD_LIMIT, FD_MEMORY of the text; FD_BUFFER_TOO_SMALL. */
 fd_result fd_read_number(const uint8_t *text, size_t count, const uint8_t *tag, size_t tag_count,
-                         const uint8_t *skeleton, size_t skeleton_count, uint32_t lenient, uint8_t *buffer,
-                         size_t capacity);
+                         const fd_number_options *options, uint32_t lenient, uint8_t *buffer, size_t capacity);
+
+/* As fd_format_number, by a number skeleton of ICU: "currency/EUR .00", "percent @@", "K". The empty skeleton is ICU's
+ * default: at most six fraction digits, half-even.
+ * Errors: as there, but of the options FD_SKELETON_SYNTAX or FD_SKELETON_UNSUPPORTED. */
+fd_result fd_format_by_skeleton(const uint8_t *text, size_t count, const uint8_t *tag, size_t tag_count,
+                                const uint8_t *skeleton, size_t skeleton_count, uint8_t *buffer, size_t capacity);
+
+/* As fd_read_number, by a number skeleton of ICU. Errors: as there, of the skeleton as fd_format_by_skeleton. */
+fd_result fd_read_by_skeleton(const uint8_t *text, size_t count, const uint8_t *tag, size_t tag_count,
+                              const uint8_t *skeleton, size_t skeleton_count, uint32_t lenient, uint8_t *buffer,
+                              size_t capacity);
+
+/* Writes the shortest skeleton of these options, for an fd_form. It allocates; the buffer is as after fd_run.
+ * Errors, the first that holds: FD_UNKNOWN_OPTION; FD_DIGIT_OPTIONS; FD_MEMORY; FD_NO_SKELETON; FD_BUFFER_TOO_SMALL. */
+fd_result fd_skeleton(const fd_number_options *options, uint8_t *buffer, size_t capacity);
 
 /* Converts each line as fd_convert does, and writes the text of each with a line feed. A line is all bytes up to a line
  * feed; the bytes after the last line feed are a line if there are any.

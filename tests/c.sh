@@ -48,7 +48,7 @@ judge $? 'the example writes 1.234,56'
 nm -D --defined-only c/out/libfixed_decimal.so | awk '{ print $3 }' | grep -v '^fd_' > "$room/others"
 [ ! -s "$room/others" ]
 judge $? 'the shared library exports no other names'
-readelf -d c/out/libfixed_decimal.so | grep -q 'SONAME.*libfixed_decimal.so.3'
+readelf -d c/out/libfixed_decimal.so | grep -q 'SONAME.*libfixed_decimal.so.4'
 judge $? 'the shared library has a soname'
 
 # ---- Python

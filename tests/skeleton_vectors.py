@@ -12,7 +12,7 @@ class Result(ctypes.Structure):
 
 
 library = ctypes.CDLL("c/out/libfixed_decimal.so")
-library.fd_format_number.restype = Result
+library.fd_format_by_skeleton.restype = Result
 room = ctypes.create_string_buffer(1 << 20)
 ESCAPED = re.compile(r"\\(?:\{(.*?)\*(\d+)\}|u([0-9A-Fa-f]{4})|(.))", re.S)
 
@@ -30,7 +30,7 @@ def plain(text):
 def formatted(locale, skeleton, number):
     words = [it.encode() for it in (number, locale, skeleton)]
     given = [item for word in words for item in (word, ctypes.c_size_t(len(word)))]
-    return library.fd_format_number(*given, room, ctypes.c_size_t(len(room)))
+    return library.fd_format_by_skeleton(*given, room, ctypes.c_size_t(len(room)))
 
 
 def text_of(answer):

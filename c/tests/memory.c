@@ -1,4 +1,4 @@
-/* Makes each allocation fail in turn: the answer is then FD_MEMORY, what was not written is as it was, and nothing leaks.
+/* Makes each allocation fail in turn: the answer is then FD_MEMORY, what was not written is as it was, nothing leaks.
  * Short values and lists of up to eight calls allocate nothing.
  * Link with -Wl,--wrap=malloc,--wrap=realloc,--wrap=free. */
 #include "../fixed_decimal.h"
@@ -41,8 +41,26 @@ static uint32_t run(void) {
 static uint32_t convert(void) {
     return fd_convert(BYTES(digits), &german, calls, 1, BYTES("de"), buffer, ROOM).status;
 }
+/* Euros, of two digits, with more than eight digits of any kind. */
+static const fd_number_options euros = {
+    .style = FD_CURRENCY, .currency = "EUR", .rounding_mode = FD_HALF_EVEN, .minimum_integer_digits = 1,
+    .minimum_fraction_digits = 2, .maximum_fraction_digits = 2, .minimum_significant_digits = FD_DEFAULT,
+    .maximum_significant_digits = FD_DEFAULT, .rounding_increment = 25};
+
 static uint32_t format_number(void) {
-    return fd_format_number(BYTES(digits), BYTES("de"), BYTES("K precision-increment/25"), buffer, ROOM).status;
+    return fd_format_number(BYTES(digits), BYTES("de"), &euros, buffer, ROOM).status;
+}
+static uint32_t read_number(void) {
+    return fd_read_number(BYTES(digits), BYTES("de"), &euros, 1, buffer, ROOM).status;
+}
+static uint32_t skeleton(void) {
+    return fd_skeleton(&euros, buffer, ROOM).status;
+}
+static uint32_t short_format_number(void) {
+    return fd_format_number(BYTES("-1234567.75"), BYTES("de"), &euros, buffer, ROOM).status;
+}
+static uint32_t format_by_skeleton(void) {
+    return fd_format_by_skeleton(BYTES(digits), BYTES("de"), BYTES("K precision-increment/25"), buffer, ROOM).status;
 }
 static uint32_t convert_number(void) {
     static const fd_forms forms = {.format = {.count = 2, .skeleton_start = 2, .skeleton_count = 24}};
@@ -53,8 +71,8 @@ static uint32_t convert_read(void) {
     const fd_forms forms = {.read = amounts};
     return fd_convert(BYTES(digits), &forms, calls, 1, BYTES("decurrency/EUR"), buffer, ROOM).status;
 }
-static uint32_t read_number(void) {
-    return fd_read_number(BYTES(digits), BYTES("de"), BYTES("currency/EUR"), 1, buffer, ROOM).status;
+static uint32_t read_by_skeleton(void) {
+    return fd_read_by_skeleton(BYTES(digits), BYTES("de"), BYTES("currency/EUR"), 1, buffer, ROOM).status;
 }
 static uint32_t compare(void) {
     return fd_compare(BYTES(digits), (const uint8_t *)digits, 199).status;
@@ -83,11 +101,12 @@ static uint32_t short_numbered(void) {
     fd_forms numbered = {.format.locale = fd_locale(BYTES("hi-u-nu-deva")).value};
     return fd_convert(BYTES("1234.5"), &numbered, calls + 1, 8, BYTES(""), buffer, ROOM).status;
 }
-static uint32_t short_format_number(void) {
-    return fd_format_number(BYTES("-1234567.890123456"), BYTES("de"), BYTES("currency/EUR .00"), buffer, ROOM).status;
+static uint32_t short_format_by_skeleton(void) {
+    const char *skeleton = "currency/EUR .00";
+    return fd_format_by_skeleton(BYTES("-1234567.890123456"), BYTES("de"), BYTES(skeleton), buffer, ROOM).status;
 }
 static uint32_t short_compact_number(void) {
-    return fd_format_number(BYTES("1234567.5"), BYTES("ar-EG"), BYTES("KK"), buffer, ROOM).status;
+    return fd_format_by_skeleton(BYTES("1234567.5"), BYTES("ar-EG"), BYTES("KK"), buffer, ROOM).status;
 }
 static uint32_t short_category(void) {
     return fd_category_of(fd_plural_rules(BYTES("ru"), FD_CARDINAL).value, BYTES("2.50")).status;
@@ -109,11 +128,15 @@ int main(void) {
         int allocates;
     } jobs[] = {{"fd_run", run, 1}, {"fd_convert", convert, 1}, {"fd_compare", compare, 1},
                 {"fd_category", category, 1}, {"fd_category_of", category_by_number, 1}, {"fd_lines", column, 1},
-                {"fd_format_number", format_number, 1}, {"fd_convert, skeleton", convert_number, 1},
-                {"fd_read_number", read_number, 1}, {"fd_convert, read", convert_read, 1},
+                {"fd_format_by_skeleton", format_by_skeleton, 1}, {"fd_convert, skeleton", convert_number, 1},
+                {"fd_read_by_skeleton", read_by_skeleton, 1}, {"fd_convert, read", convert_read, 1},
+                {"fd_format_number", format_number, 1}, {"fd_read_number", read_number, 1},
+                {"fd_skeleton", skeleton, 1},
+                {"fd_format_number, short", short_format_number, 0},
                 {"fd_run, short", short_run, 0}, {"fd_convert, short", short_convert, 0},
-                {"fd_format_number, short", short_format_number, 0}, {"fd_convert, number", short_numbered, 0},
-                {"fd_format_number, words", short_compact_number, 0}, {"fd_category_of, short", short_category, 0},
+                {"fd_format_by_skeleton, short", short_format_by_skeleton, 0},
+                {"fd_convert, number", short_numbered, 0},
+                {"fd_format_by_skeleton, words", short_compact_number, 0}, {"fd_category_of, short", short_category, 0},
                 {"fd_lines, short", short_column, 0}};
     int bad = 0;
     for (size_t j = 0; j < sizeof jobs / sizeof *jobs; j++) {

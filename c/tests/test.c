@@ -310,8 +310,169 @@ static void test_numbers(void) {
     CHECK(fd_version() == FD_VERSION);
 }
 
-static fd_result format_number(const char *text, const char *tag, const char *skeleton, uint8_t *buffer, size_t room) {
-    return fd_format_number(BYTES(text), BYTES(tag), BYTES(skeleton), buffer, room);
+/* Options, with the defaults of Intl.NumberFormat for those that are not named. */
+#pragma GCC diagnostic ignored "-Woverride-init"
+#define OPTIONS(...)                                                                                         \
+    {.rounding_mode = FD_HALF_EXPAND, .minimum_integer_digits = FD_DEFAULT,                                   \
+     .minimum_fraction_digits = FD_DEFAULT, .maximum_fraction_digits = FD_DEFAULT,                            \
+     .minimum_significant_digits = FD_DEFAULT, .maximum_significant_digits = FD_DEFAULT,                      \
+     .rounding_increment = FD_DEFAULT, __VA_ARGS__}
+#define MONEY(code) .style = FD_CURRENCY, .currency = code
+#define FRACTION(least, most) .minimum_fraction_digits = least, .maximum_fraction_digits = most
+
+/* Texts of Intl.NumberFormat in node, and of cash by CLDR's digits, at each capacity. */
+static void test_format_number(void) {
+    static const struct {
+        const char *number, *tag;
+        fd_number_options options;
+        const char *text;
+    } rows[] = {
+        {"1234.5678", "en", FD_NUMBER_OPTIONS, "1,234.568"},
+        {"-1234.565", "de", OPTIONS(MONEY("EUR")), "-1.234,57\xc2\xa0" "€"},
+        {"0.125", "fr", OPTIONS(.style = FD_PERCENT, .scale = 2, FRACTION(FD_DEFAULT, 1)), "12,5\xe2\x80\xaf%"},
+        {"12", "en", OPTIONS(.style = FD_PERMILLE), "12‰"},
+        {"1234567", "es", OPTIONS(.notation = FD_COMPACT_LONG), "1,2\xc2\xa0millones"},
+        {"1234567890123456789", "en", OPTIONS(.notation = FD_COMPACT_SHORT), "1,234,568T"},
+        {"1234567890123456", "es", OPTIONS(.notation = FD_COMPACT_SHORT), "1235\xc2\xa0" "B"},
+        {"-1234.5", "en", OPTIONS(MONEY("usd"), .currency_sign = FD_ACCOUNTING), "($1,234.50)"},
+        {"1234.5", "ja", OPTIONS(MONEY("JPY"), .currency_display = FD_CODE), "JPY\xc2\xa0" "1,235"},
+        {"1234.5", "en-CA", OPTIONS(MONEY("USD"), .currency_display = FD_NARROW_SYMBOL), "$1,234.50"},
+        {"1234.5", "en", OPTIONS(MONEY("USD"), .currency_display = FD_HIDDEN), "1,234.50"},
+        {"1234.5", "en", OPTIONS(.numbering_system = "arab            "), "١٬٢٣٤٫٥"},
+        {"12.34", "en", OPTIONS(MONEY("CHF"), .currency_usage = FD_CASH), "CHF\xc2\xa0" "12.35"},
+        {"12.34", "en", OPTIONS(MONEY("CHF"), .currency_usage = FD_CASH, .rounding_increment = 1),
+         "CHF\xc2\xa0" "12.34"},
+        {"123456", "en", OPTIONS(.notation = FD_SCIENTIFIC), "1.235E5"},
+        {"123456", "en", OPTIONS(.notation = FD_ENGINEERING), "123.456E3"},
+        {"0", "ar-EG", OPTIONS(.sign_display = FD_ALWAYS), "\xd8\x9c+٠"},
+        {"-0.0001", "en", OPTIONS(.sign_display = FD_NEGATIVE), "0"},
+        {"12345.678", "hi", OPTIONS(.grouping = FD_GROUP_NEVER), "12345.678"},
+        {"1234.5", "pl", OPTIONS(.grouping = FD_GROUP_ALWAYS), "1\xc2\xa0" "234,5"},
+        {"1234.5", "en", OPTIONS(.grouping = FD_GROUP_MIN2), "1234.5"},
+        {"1234.5678", "en", OPTIONS(.maximum_significant_digits = 3), "1,230"},
+        {"1.5", "en", OPTIONS(.minimum_significant_digits = 4), "1.500"},
+        {"1234.5678", "en", OPTIONS(FRACTION(2, 2), .rounding_mode = FD_FLOOR), "1,234.56"},
+        {"1.23456", "en", OPTIONS(FRACTION(FD_DEFAULT, 2), .maximum_significant_digits = 2,
+                                  .rounding_priority = FD_MORE_PRECISION), "1.23"},
+        {"1.23456", "en", OPTIONS(FRACTION(FD_DEFAULT, 2), .maximum_significant_digits = 2,
+                                  .rounding_priority = FD_LESS_PRECISION), "1.2"},
+        {"5.00", "en", OPTIONS(FRACTION(2, FD_DEFAULT), .trailing_zeros = FD_STRIP_IF_INTEGER), "5"},
+        {"7", "en", OPTIONS(.minimum_integer_digits = 3), "007"},
+        {"1.27", "en", OPTIONS(FRACTION(2, 2), .rounding_increment = 5), "1.25"},
+        {"2.5", "en", OPTIONS(FRACTION(FD_DEFAULT, 0), .rounding_mode = FD_HALF_EVEN), "2"}};
+    for (size_t i = 0; i < sizeof rows / sizeof *rows; i++) {
+        size_t n = strlen(rows[i].text);
+        for (size_t room = 0; room < n + 9; room++) {
+            uint8_t *buffer = malloc(room ? room : 1);
+            memset(buffer, 0xA5, room ? room : 1);
+            fd_result r = fd_format_number(BYTES(rows[i].number), BYTES(rows[i].tag), &rows[i].options, buffer, room);
+            if (room < n) CHECK(r.status == FD_BUFFER_TOO_SMALL && r.count == n && all(buffer, room, 0xA5));
+            else CHECK(gives(r, buffer, rows[i].text) && all(buffer + n, room - n, 0xA5));
+            free(buffer);
+        }
+    }
+}
+
+/* The same texts are read, exactly and as people type them. */
+static void test_read_number(void) {
+    static const struct {
+        const char *text, *tag;
+        fd_number_options options;
+        uint32_t lenient, status;
+        const char *own;
+    } rows[] = {
+        {"-1.234,57\xc2\xa0" "€", "de", OPTIONS(MONEY("EUR")), 0, FD_OK, "-1234.57"},
+        {"12,5\xe2\x80\xaf%", "fr", OPTIONS(.style = FD_PERCENT, .scale = 2), 0, FD_OK, "0.125"},
+        {"EUR 1.234,5", "de", OPTIONS(MONEY("EUR")), 1, FD_OK, "1234.5"},
+        {"EUR 1.234,5", "de", OPTIONS(MONEY("EUR")), 0, FD_SYNTAX, ""},
+        {"1", "de", OPTIONS(.notation = FD_COMPACT_SHORT), 1, FD_UNREADABLE_FORMAT, ""},
+        {"1", "xx", OPTIONS(.notation = FD_COMPACT_SHORT), 0, FD_UNKNOWN_LOCALE, ""},
+        {"x", "xx", OPTIONS(.style = 4), 0, FD_UNKNOWN_OPTION, ""}};
+    for (size_t i = 0; i < sizeof rows / sizeof *rows; i++) {
+        for (size_t room = 0, n = strlen(rows[i].own); room < n + 9; room++) {
+            uint8_t buffer[40];
+            memset(buffer, 0xA5, sizeof buffer);
+            fd_result r = fd_read_number(BYTES(rows[i].text), BYTES(rows[i].tag), &rows[i].options, rows[i].lenient,
+                                         buffer, room);
+            if (rows[i].status != FD_OK) CHECK(r.status == rows[i].status && r.count == 0 && all(buffer, 40, 0xA5));
+            else if (room < n) CHECK(r.status == FD_BUFFER_TOO_SMALL && r.count == n && all(buffer, 40, 0xA5));
+            else CHECK(gives(r, buffer, rows[i].own) && all(buffer + n, 40 - n, 0xA5));
+        }
+    }
+}
+
+/* Words that no option has, and numbers of digits that Intl.NumberFormat refuses, before what else is wrong. */
+static void test_option_errors(void) {
+    static const struct {
+        fd_number_options options;
+        uint32_t status, at;
+    } rows[] = {
+        {OPTIONS(.style = 4), FD_UNKNOWN_OPTION, 0},
+        {OPTIONS(MONEY("E1R")), FD_UNKNOWN_OPTION, 0},
+        {OPTIONS(.style = FD_CURRENCY), FD_UNKNOWN_OPTION, 0},
+        {OPTIONS(MONEY("EUR"), .currency_display = 4), FD_UNKNOWN_OPTION, 0},
+        {OPTIONS(MONEY("EUR"), .currency_sign = 2), FD_UNKNOWN_OPTION, 0},
+        {OPTIONS(MONEY("EUR"), .currency_usage = 2), FD_UNKNOWN_OPTION, 0},
+        {OPTIONS(.notation = 5), FD_UNKNOWN_OPTION, 0},
+        {OPTIONS(.sign_display = 5), FD_UNKNOWN_OPTION, 0},
+        {OPTIONS(.grouping = 4), FD_UNKNOWN_OPTION, 0},
+        {OPTIONS(.rounding_mode = 9), FD_UNKNOWN_OPTION, 0},
+        {OPTIONS(.rounding_priority = 3), FD_UNKNOWN_OPTION, 0},
+        {OPTIONS(.trailing_zeros = 2), FD_UNKNOWN_OPTION, 0},
+        {OPTIONS(.minimum_integer_digits = 22, .rounding_increment = 3), FD_DIGIT_OPTIONS, FD_INTEGER_DIGITS},
+        {OPTIONS(.minimum_integer_digits = 0), FD_DIGIT_OPTIONS, FD_INTEGER_DIGITS},
+        {OPTIONS(.rounding_increment = 3), FD_DIGIT_OPTIONS, FD_INCREMENT},
+        {OPTIONS(.maximum_significant_digits = 22), FD_DIGIT_OPTIONS, FD_SIGNIFICANT_DIGITS},
+        {OPTIONS(FRACTION(FD_DEFAULT, 101)), FD_DIGIT_OPTIONS, FD_FRACTION_DIGITS},
+        {OPTIONS(FRACTION(3, 2)), FD_DIGIT_OPTIONS, FD_FRACTION_DIGITS},
+        {OPTIONS(.rounding_increment = 5, .maximum_significant_digits = 2), FD_DIGIT_OPTIONS, FD_INCREMENT_PRECISION},
+        {OPTIONS(.rounding_increment = 5, FRACTION(1, 2)), FD_DIGIT_OPTIONS, FD_INCREMENT_DIGITS}};
+    for (size_t i = 0; i < sizeof rows / sizeof *rows; i++) {
+        uint8_t buffer[32];
+        memset(buffer, 0x5A, sizeof buffer);
+        fd_result r = fd_format_number(B("x"), B("xx"), &rows[i].options, buffer, 32);
+        CHECK(r.status == rows[i].status && r.at == rows[i].at && r.count == 0 && all(buffer, 32, 0x5A));
+        r = fd_skeleton(&rows[i].options, buffer, 32);
+        CHECK(r.status == rows[i].status && r.at == rows[i].at && r.count == 0 && all(buffer, 32, 0x5A));
+    }
+    /* Of the options of a currency other styles have none. */
+    fd_number_options plain = OPTIONS(.currency_display = 9, .currency_sign = 9, .currency_usage = 9);
+    uint8_t buffer[8];
+    CHECK(gives(fd_format_number(B("5"), B("en"), &plain, buffer, 8), buffer, "5"));
+    CHECK(fd_format_number(B("x"), B("xx"), &plain, buffer, 8).status == FD_UNKNOWN_LOCALE);
+    CHECK(fd_format_number(B("x"), B("en"), &plain, buffer, 8).status == FD_SYNTAX);
+    memcpy(plain.numbering_system, "roman           ", 16);
+    CHECK(fd_format_number(B("x"), B("en"), &plain, buffer, 8).status == FD_UNKNOWN_NUMBERING_SYSTEM);
+    CHECK(fd_format_number(B("x"), B("xx"), &plain, buffer, 8).status == FD_UNKNOWN_LOCALE);
+    plain.numbering_system[0] = 0;
+    plain.scale = 1;
+    CHECK(fd_format_number(B("1e32767"), B("en"), &plain, buffer, 8).status == FD_OVERFLOW);
+}
+
+/* The skeleton of options writes what they write. */
+static void test_skeletons_of_options(void) {
+    static const struct {
+        fd_number_options options;
+        const char *skeleton;
+    } rows[] = {
+        {OPTIONS(MONEY("eur"), FRACTION(2, 2), .rounding_mode = FD_HALF_EVEN), "currency/EUR .00"},
+        {OPTIONS(.style = FD_PERCENT, .scale = 2, FRACTION(0, 0), .rounding_mode = FD_HALF_EVEN), "%x100 ."},
+        {OPTIONS(.notation = FD_COMPACT_SHORT, .rounding_mode = FD_HALF_EVEN), "K"}};
+    for (size_t i = 0; i < sizeof rows / sizeof *rows; i++) {
+        uint8_t buffer[64], first[64], second[64];
+        size_t n = fd_skeleton(&rows[i].options, buffer, 0).count;
+        CHECK(fd_skeleton(&rows[i].options, buffer, n - 1).status == FD_BUFFER_TOO_SMALL && n <= strlen(rows[i].skeleton));
+        CHECK(fd_skeleton(&rows[i].options, buffer, 64).count == n);
+        fd_result r = fd_format_number(B("-98765.4321"), B("de"), &rows[i].options, first, 64);
+        CHECK(fd_format_by_skeleton(B("-98765.4321"), B("de"), buffer, n, second, 64).count == r.count);
+        CHECK(r.status == FD_OK && memcmp(first, second, r.count) == 0);
+        CHECK(fd_format_by_skeleton(B("-98765.4321"), B("de"), BYTES(rows[i].skeleton), second, 64).count == r.count);
+        CHECK(memcmp(first, second, r.count) == 0);
+    }
+}
+
+static fd_result format_by_skeleton(const char *text, const char *tag, const char *skeleton, uint8_t *buffer, size_t room) {
+    return fd_format_by_skeleton(BYTES(text), BYTES(tag), BYTES(skeleton), buffer, room);
 }
 
 /* The same after calls on the text, by the form of a tag and a skeleton; white space alone is the empty skeleton. */
@@ -325,7 +486,7 @@ static fd_result convert_number(const char *text, const char *tag, const char *s
 }
 
 /* Texts of ICU, at each capacity. */
-static void test_format_number(void) {
+static void test_format_by_skeleton(void) {
     static const char *const rows[][4] = {
         /* number, tag, skeleton, text */
         {"1234567", "de", "currency/INR", "1.234.567,00\xc2\xa0" "₹"},
@@ -365,7 +526,7 @@ static void test_format_number(void) {
             memset(buffer, 0xA5, room ? room : 1);
             for (int by_form = 0; by_form < 2; by_form++) {
                 fd_result r = by_form ? convert_number(rows[i][0], rows[i][1], rows[i][2], FD_NONE(fd_call), 0, buffer, room)
-                                      : format_number(rows[i][0], rows[i][1], rows[i][2], buffer, room);
+                                      : format_by_skeleton(rows[i][0], rows[i][1], rows[i][2], buffer, room);
                 if (room < n) {
                     CHECK(r.status == FD_BUFFER_TOO_SMALL && r.count == n && r.at == 0 && all(buffer, room, 0xA5));
                 } else {
@@ -377,7 +538,7 @@ static void test_format_number(void) {
     }
 }
 
-static void test_format_number_errors(void) {
+static void test_skeleton_errors(void) {
     static const struct {
         const char *text, *tag, *skeleton;
         uint32_t status;
@@ -397,7 +558,7 @@ static void test_format_number_errors(void) {
     for (size_t i = 0; i < sizeof rows / sizeof *rows; i++) {
         uint8_t buffer[32];
         memset(buffer, 0x5A, sizeof buffer);
-        fd_result r = format_number(rows[i].text, rows[i].tag, rows[i].skeleton, buffer, 32);
+        fd_result r = format_by_skeleton(rows[i].text, rows[i].tag, rows[i].skeleton, buffer, 32);
         CHECK(r.status == rows[i].status && r.at == rows[i].at && r.count == 0 && all(buffer, 32, 0x5A));
         r = convert_number(rows[i].text, rows[i].tag, rows[i].skeleton, FD_NONE(fd_call), 0, buffer, 32);
         CHECK(r.status == rows[i].status && r.at == rows[i].at && r.count == 0 && all(buffer, 32, 0x5A));
@@ -405,7 +566,7 @@ static void test_format_number_errors(void) {
 }
 
 /* Texts of ICU are read, at each capacity; each error. */
-static void test_read_number(void) {
+static void test_read_by_skeleton(void) {
     static const struct {
         const char *text, *tag, *skeleton;
         uint32_t lenient, status;
@@ -432,8 +593,8 @@ static void test_read_number(void) {
         for (size_t room = 0, n = strlen(own); room < n + 9; room++) {
             uint8_t buffer[40];
             memset(buffer, 0xA5, sizeof buffer);
-            fd_result r = fd_read_number(BYTES(rows[i].text), BYTES(rows[i].tag), BYTES(rows[i].skeleton), rows[i].lenient,
-                                         buffer, room);
+            fd_result r = fd_read_by_skeleton(BYTES(rows[i].text), BYTES(rows[i].tag), BYTES(rows[i].skeleton),
+                                              rows[i].lenient, buffer, room);
             if (rows[i].status != FD_OK) CHECK(r.status == rows[i].status && r.count == 0 && all(buffer, 40, 0xA5));
             else if (room < n) CHECK(r.status == FD_BUFFER_TOO_SMALL && r.count == n && all(buffer, 40, 0xA5));
             else CHECK(gives(r, buffer, own) && all(buffer + n, 40 - n, 0xA5));
@@ -492,8 +653,12 @@ int main(void) {
     test_lines();
     test_numbers();
     test_format_number();
-    test_format_number_errors();
     test_read_number();
+    test_option_errors();
+    test_skeletons_of_options();
+    test_format_by_skeleton();
+    test_skeleton_errors();
+    test_read_by_skeleton();
     test_skeleton_forms();
     test_read_forms();
     printf("%d checks, %d failures\n", checks, failures);

@@ -91,8 +91,9 @@ static void convert(sqlite3_context *context, int count, sqlite3_value **values)
             return sqlite3_result_error(context, "no such call", -1);
     fd_result answer = {.count = sizeof buffer};
     do
-        answer = fixdec ? fd_convert(BYTES(values[0]), &j.forms, j.calls, j.count, j.texts, j.used, out, answer.count)
-                        : fd_format_number(BYTES(values[2]), BYTES(values[0]), BYTES(values[1]), out, answer.count);
+        answer = fixdec
+            ? fd_convert(BYTES(values[0]), &j.forms, j.calls, j.count, j.texts, j.used, out, answer.count)
+            : fd_format_by_skeleton(BYTES(values[2]), BYTES(values[0]), BYTES(values[1]), out, answer.count);
     while (answer.status == FD_BUFFER_TOO_SMALL && (out = sqlite3_malloc64(answer.count)));
     if (!out) return sqlite3_result_error_nomem(context);
     finish(context, answer.status, answer.at, j.count, (char *)out, (int)answer.count);

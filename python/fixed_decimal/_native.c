@@ -21,7 +21,8 @@ static PyObject *decimal_error;
 
 static const char *const reasons[] = {"", "syntax", "limit", "memory", "operand syntax", "operand limit", "overlap",
     "overflow", "", "unknown call", "unknown locale", "unknown option", "not whole", "out of range", "rules syntax",
-    "rules limit", "skeleton syntax", "skeleton unsupported", "unknown numbering system", "unreadable format"};
+    "rules limit", "skeleton syntax", "skeleton unsupported", "unknown numbering system", "unreadable format",
+    "digit options", "no skeleton"};
 static const char *const modes[] = {"ceil", "floor", "expand", "trunc", "half-ceil", "half-floor", "half-expand",
     "half-trunc", "half-even", NULL};
 static const char *const displays[] = {"auto", "never", "always", "except-zero", "negative", NULL};
@@ -257,18 +258,46 @@ static uint64_t locale_of(PyObject *tag) {
     return number;
 }
 
-/* What a text is formatted by: forms, or a tag and a skeleton. */
+/* How a number is written: a tag, and a skeleton or, without one, options. */
 typedef struct {
-    fd_forms forms;
-    const char *tag, *skeleton;
+    const uint8_t *tag, *skeleton;
     Py_ssize_t tag_count, skeleton_count;
+    fd_number_options options;
+} Style;
+
+/* Reads options from their bytes. 0 with an exception. */
+static int options_of(PyObject *value, fd_number_options *options) {
+    char *bytes;
+    Py_ssize_t count;
+    if (PyBytes_AsStringAndSize(value, &bytes, &count) < 0) return 0;
+    if (count != sizeof *options) return PyErr_SetString(PyExc_ValueError, "no options of a number"), 0;
+    memcpy(options, bytes, sizeof *options);
+    return 1;
+}
+
+/* Reads a style from a tag, and a skeleton or the bytes of options. 0 with an exception. */
+static int bind_style(PyObject *tag, PyObject *value, Style *style) {
+    style->tag = (const uint8_t *)PyUnicode_AsUTF8AndSize(tag, &style->tag_count);
+    style->skeleton = NULL;
+    if (!style->tag) return 0;
+    if (PyBytes_Check(value)) return options_of(value, &style->options);
+    style->skeleton = (const uint8_t *)PyUnicode_AsUTF8AndSize(value, &style->skeleton_count);
+    return style->skeleton != NULL;
+}
+
+/* What a text is formatted by: a style, or forms without one. */
+typedef struct {
+    const Style *style;
+    fd_forms forms;
 } Format;
 
 static fd_result format_into(const Decimal *self, const Format *format, uint8_t *buffer, size_t room) {
-    if (!format->skeleton)
-        return fd_convert(BYTES(self), &format->forms, FD_NONE(fd_call), 0, FD_NONE(uint8_t), 0, buffer, room);
-    return fd_format_number(BYTES(self), (const uint8_t *)format->tag, (size_t)format->tag_count,
-                            (const uint8_t *)format->skeleton, (size_t)format->skeleton_count, buffer, room);
+    const Style *style = format->style;
+    if (!style) return fd_convert(BYTES(self), &format->forms, FD_NONE(fd_call), 0, FD_NONE(uint8_t), 0, buffer, room);
+    return style->skeleton
+        ? fd_format_by_skeleton(BYTES(self), style->tag, (size_t)style->tag_count, style->skeleton,
+                                (size_t)style->skeleton_count, buffer, room)
+        : fd_format_number(BYTES(self), style->tag, (size_t)style->tag_count, &style->options, buffer, room);
 }
 
 /* A function of fixed_decimal._options: a new reference. */
@@ -280,7 +309,7 @@ static PyObject *option_function(const char *name) {
 }
 
 /* The arguments of format(): a locale, and a grouping, a skeleton, or options by their names in ECMA-402, of which
- * fixed_decimal._options makes the skeleton. 0 with an exception; the skeleton is a new reference or NULL. */
+ * fixed_decimal._options makes bytes. 0 with an exception; the last value is a new reference or NULL. */
 static int bind_format(PyObject *const *arguments, Py_ssize_t count, PyObject *keywords, PyObject **values) {
     static const char *const names[] = {"locale", "grouping", "skeleton", NULL};
     Py_ssize_t named = keywords ? PyTuple_GET_SIZE(keywords) : 0, own = 0;
@@ -294,7 +323,7 @@ static int bind_format(PyObject *const *arguments, Py_ssize_t count, PyObject *k
         return 1;
     }
     values[0] = arguments[0];
-    PyObject *function = option_function("number_skeleton");
+    PyObject *function = option_function("number_options");
     values[2] = function ? PyObject_Vectorcall(function, arguments + 1, 0, keywords) : NULL;
     Py_XDECREF(function);
     return values[2] != NULL;
@@ -324,10 +353,10 @@ static PyObject *decimal_format(Decimal *self, PyObject *const *arguments, Py_ss
     PyObject *values[3] = {NULL, NULL, NULL}, *made = NULL;
     if (!bind_format(arguments, count, keywords, values)) return NULL;
     Format format = {.forms.format.option = FD_GROUP_AUTO};
+    Style style;
     if (values[2]) {
-        format.skeleton = PyUnicode_AsUTF8AndSize(values[2], &format.skeleton_count);
-        format.tag = format.skeleton ? PyUnicode_AsUTF8AndSize(values[0], &format.tag_count) : NULL;
-        if (format.tag) made = formatted(self, &format);
+        format.style = &style;
+        if (bind_style(values[0], values[2], &style)) made = formatted(self, &format);
         Py_DECREF(values[2]);
         return made;
     }
@@ -341,17 +370,22 @@ static PyObject *decimal_format(Decimal *self, PyObject *const *arguments, Py_ss
     return format.forms.format.locale ? formatted(self, &format) : NULL;
 }
 
-/* A number, as the locale of a tag and a skeleton have it. */
+/* A text to be read. */
 typedef struct {
-    const char *text, *tag, *skeleton;
-    Py_ssize_t count, tag_count, skeleton_count;
+    const char *text;
+    Py_ssize_t count;
+    Style style;
     int lenient;
 } Number;
 
 static fd_result read_into(const Number *number, uint8_t *buffer, size_t room) {
-    return fd_read_number((const uint8_t *)number->text, (size_t)number->count, (const uint8_t *)number->tag,
-                          (size_t)number->tag_count, (const uint8_t *)number->skeleton, (size_t)number->skeleton_count,
-                          (uint32_t)number->lenient, buffer, room);
+    const Style *style = &number->style;
+    const uint8_t *text = (const uint8_t *)number->text;
+    return style->skeleton
+        ? fd_read_by_skeleton(text, (size_t)number->count, style->tag, (size_t)style->tag_count, style->skeleton,
+                              (size_t)style->skeleton_count, (uint32_t)number->lenient, buffer, room)
+        : fd_read_number(text, (size_t)number->count, style->tag, (size_t)style->tag_count, &style->options,
+                         (uint32_t)number->lenient, buffer, room);
 }
 
 static PyObject *read_number(const Number *number) {
@@ -370,11 +404,12 @@ static PyObject *read_number(const Number *number) {
 /* The arguments: a text, a locale, and by their names those of fixed_decimal._options.reading. */
 static PyObject *decimal_read(PyObject *ignored, PyObject *arguments, PyObject *keywords) {
     Number number;
+    PyObject *tag, *style;
     (void)ignored;
-    if (!PyArg_ParseTuple(arguments, "s#s#:read", &number.text, &number.count, &number.tag, &number.tag_count)) return NULL;
+    if (!PyArg_ParseTuple(arguments, "s#U:read", &number.text, &number.count, &tag)) return NULL;
     PyObject *function = option_function("reading"), *none = PyTuple_New(0), *made = NULL;
     PyObject *reading = function && none ? PyObject_Call(function, none, keywords) : NULL;
-    if (reading && PyArg_ParseTuple(reading, "s#p", &number.skeleton, &number.skeleton_count, &number.lenient))
+    if (reading && PyArg_ParseTuple(reading, "Op", &style, &number.lenient) && bind_style(tag, style, &number.style))
         made = read_number(&number);
     Py_XDECREF(reading);
     Py_XDECREF(none);
@@ -604,6 +639,17 @@ static PyObject *native_column(PyObject *module, PyObject *arguments) {
     return made;
 }
 
+/* The skeleton of the bytes of options, which has less than 512. */
+static PyObject *native_skeleton(PyObject *ignored, PyObject *value) {
+    fd_number_options options;
+    uint8_t buffer[512];
+    (void)ignored;
+    if (!options_of(value, &options)) return NULL;
+    fd_result answer = fd_skeleton(&options, buffer, sizeof buffer);
+    if (answer.status != FD_OK) return fail(answer.status, answer.at);
+    return PyUnicode_DecodeUTF8((char *)buffer, (Py_ssize_t)answer.count, NULL);
+}
+
 static PyMethodDef decimal_methods[] = {
     {"round", (PyCFunction)(void (*)(void))decimal_round, METH_FASTCALL | METH_KEYWORDS,
      "Rounds to a multiple of increment * 10^position."},
@@ -638,7 +684,8 @@ static PyTypeObject DecimalType = {
     .tp_methods = decimal_methods,
 };
 
-static PyMethodDef functions[] = {{"column", native_column, METH_VARARGS, NULL}, {NULL, NULL, 0, NULL}};
+static PyMethodDef functions[] = {{"column", native_column, METH_VARARGS, NULL},
+                                  {"skeleton", native_skeleton, METH_O, NULL}, {NULL, NULL, 0, NULL}};
 static PyModuleDef definition = {PyModuleDef_HEAD_INIT, "fixed_decimal._native", NULL, -1, functions,
                                  NULL, NULL, NULL, NULL};
 

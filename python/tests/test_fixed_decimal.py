@@ -171,6 +171,11 @@ def test_options():
     check(Decimal("1234.5").format("de", **money) == "1.234,50\xa0€", "an amount")
     check(column(["1234.5"], format="de", **money) == ["1.234,50\xa0€"], "a column of amounts")
     check(number_skeleton(rounding_mode="half-even") == number_skeleton(rounding_mode="halfEven"), "words with hyphens")
+    check(number_skeleton(rounding_mode="halfEven", **money) == "currency/EUR", "a skeleton")
+    check(Decimal.read("1.234,50\xa0€", "de", **money) == Decimal("1234.50"), "an amount is read")
+    check(Decimal.read("EUR 5", "de", lenient=True, **money) == Decimal("5"), "an amount is read leniently")
+    check(Decimal("1234.5").format("en", numbering_system="arab") == "١٬٢٣٤٫٥", "a numbering system")
+    raises(DecimalError, lambda: Decimal("1").format("en", numbering_system="roman"), "unknown numbering system")
     for error, wrong in ((ValueError, {"style": "unit"}), (ValueError, {"style": "currency"}), (TypeError, {"unit": "meter"}),
                          (ValueError, {"minimum_fraction_digits": 3, "maximum_fraction_digits": 2}),
                          (ValueError, {"maximum_significant_digits": 22}), (TypeError, {"style": "percent", "skeleton": "K"}),

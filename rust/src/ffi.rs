@@ -75,12 +75,12 @@ extern "C" {
         texts: *const u8, texts_count: usize, buffer: *mut u8, capacity: usize,
     ) -> FdResult;
     #[rustfmt::skip]
-    fn fd_format_number(
+    fn fd_format_by_skeleton(
         text: *const u8, count: usize, tag: *const u8, tag_count: usize,
         skeleton: *const u8, skeleton_count: usize, buffer: *mut u8, capacity: usize,
     ) -> FdResult;
     #[rustfmt::skip]
-    fn fd_read_number(
+    fn fd_read_by_skeleton(
         text: *const u8, count: usize, tag: *const u8, tag_count: usize,
         skeleton: *const u8, skeleton_count: usize, lenient: u32, buffer: *mut u8, capacity: usize,
     ) -> FdResult;
@@ -193,10 +193,9 @@ pub(crate) fn format_number(start: &str, locale: &str, skeleton: &str) -> Result
     text(4 * start.len() + ROOM, |buffer, capacity| {
         let (tag, tag_count) = (locale.as_ptr(), locale.len());
         let (skeleton, skeleton_count) = (skeleton.as_ptr(), skeleton.len());
+        let (start, count) = (start.as_ptr(), start.len());
         // SAFETY: as in `Text::set`.
-        unsafe {
-            fd_format_number(start.as_ptr(), start.len(), tag, tag_count, skeleton, skeleton_count, buffer, capacity)
-        }
+        unsafe { fd_format_by_skeleton(start, count, tag, tag_count, skeleton, skeleton_count, buffer, capacity) }
     })
 }
 
@@ -207,7 +206,9 @@ pub(crate) fn read_number(written: &str, locale: &str, skeleton: &str, lenient: 
         let (skeleton, skeleton_count) = (skeleton.as_ptr(), skeleton.len());
         let (start, count, lenient) = (written.as_ptr(), written.len(), u32::from(lenient));
         // SAFETY: as in `Text::set`.
-        unsafe { fd_read_number(start, count, tag, tag_count, skeleton, skeleton_count, lenient, buffer, capacity) }
+        unsafe {
+            fd_read_by_skeleton(start, count, tag, tag_count, skeleton, skeleton_count, lenient, buffer, capacity)
+        }
     })
 }
 
@@ -265,6 +266,6 @@ mod tests {
     #[test]
     fn structs_are_those_of_the_library() {
         // SAFETY: the function takes nothing.
-        assert_eq!(unsafe { super::fd_version() }, 3);
+        assert_eq!(unsafe { super::fd_version() }, 4);
     }
 }

@@ -5,7 +5,7 @@ use Rattle.decimal_unsigned.specs.declared.error.ParseError.TheVariants as parse
 use Rattle.fixed_decimal.specs.declared.runs.RunError.{RunError}
 use Rattle.fixed_decimal.specs.declared.runs.RunError.TheVariants as run
 use Rattle.fixed_decimal_c.specs.declared.error.FdError.{FdError}
-use Rattle.fixed_decimal_c.specs.declared.error.FdError.TheVariants.{Syntax, Limit, Memory, OperandSyntax, OperandLimit, Overlap, Overflow, BufferTooSmall, UnknownCall, UnknownLocale, UnknownOption, NotWhole, OutOfRange, RulesSyntax, RulesLimit, SkeletonSyntax, SkeletonUnsupported, UnknownNumberingSystem, UnreadableFormat}
+use Rattle.fixed_decimal_c.specs.declared.error.FdError.TheVariants.{Syntax, Limit, Memory, OperandSyntax, OperandLimit, Overlap, Overflow, BufferTooSmall, UnknownCall, UnknownLocale, UnknownOption, NotWhole, OutOfRange, RulesSyntax, RulesLimit, SkeletonSyntax, SkeletonUnsupported, UnknownNumberingSystem, UnreadableFormat, DigitOptions, NoSkeleton}
 
 -- the status of an error
 abbrev pub status_of : FdError → ℕ
@@ -28,8 +28,10 @@ status_of (SkeletonSyntax at) = 16
 status_of (SkeletonUnsupported at) = 17
 status_of UnknownNumberingSystem = 18
 status_of UnreadableFormat = 19
+status_of (DigitOptions at) = 20
+status_of NoSkeleton = 21
 
--- where an error is: the number of a text or a call, or a byte of rules or of a skeleton
+-- where an error is: the number of a text, a call or a reason, or a byte of rules or of a skeleton
 abbrev pub place_of : FdError → ℕ
 place_of (Syntax at) = at
 place_of (Limit at) = at
@@ -42,6 +44,7 @@ place_of (RulesSyntax at) = at
 place_of (RulesLimit at) = at
 place_of (SkeletonSyntax at) = at
 place_of (SkeletonUnsupported at) = at
+place_of (DigitOptions at) = at
 place_of _ = 0
 
 -- the number of bytes that the buffer needs

@@ -8,9 +8,10 @@ use Rattle.number_format.specs.NumberText.{shown_number, IsNumberText, NeedsMemo
 use Rattle.fixed_decimal_c.specs.declared.error.FdError.{FdError}
 use Rattle.fixed_decimal_c.specs.declared.error.FdError.TheVariants.{Memory, Overflow, BufferTooSmall}
 use Rattle.fixed_decimal_c.specs.declared.forms.Format.{Format}
+use Rattle.fixed_decimal_c.specs.declared.number_options.FdNumberOptions.{FdNumberOptions}
 use Rattle.fixed_decimal_c.specs.declared.forms.Format.TheVariants.{Own, Symbols, Skeleton}
 use Rattle.fixed_decimal_c.specs.Numbers.{ParsingFails}
-use Rattle.fixed_decimal_c.specs.NumberTexts.{IsFormatterFor, FormatterFails}
+use Rattle.fixed_decimal_c.specs.NumberTexts.{IsMade, IsMadeBySkeleton}
 use Rattle.fixed_decimal_c.specs.Texts.{IsWritten, IsTooLong, IsLongText}
 
 -- the text of a decimal by a formatter, or its own
@@ -45,8 +46,18 @@ FormatsText f answer text old new =
     ((v : Decimal) × (read_decimal text ≡ Ok v) × WritesBy (Skeleton f) v 0 [] answer old new)
     ⊎ ((error : FdError) × (answer ≡ Err error) × ParsingFails error text 0 × (new ≡ old))
 
--- the same by the locale and the skeleton; or there is no formatter, and the buffer is as it was
-abbrev pub FormatsNumber : Result ℕ FdError → List ℕ → List ℕ → List ℕ → List ℕ → List ℕ → Type 0
-FormatsNumber answer text tag skeleton old new =
-    ((f : NumberFormatter) × IsFormatterFor tag skeleton f × FormatsText f answer text old new)
-    ⊎ ((error : FdError) × (answer ≡ Err error) × FormatterFails error tag skeleton × (new ≡ old))
+-- the same, if there is a formatter; or its error is the answer, and the buffer is as it was
+abbrev pub FormatsIfMade : Result NumberFormatter FdError → Result ℕ FdError → List ℕ → List ℕ → List ℕ → Type 0
+FormatsIfMade (Ok f) answer text old new = FormatsText f answer text old new
+FormatsIfMade (Err error) answer text old new = (answer ≡ Err error) × (new ≡ old)
+
+-- the same by the locale and the options
+abbrev pub FormatsNumber : Result ℕ FdError → List ℕ → List ℕ → FdNumberOptions → List ℕ → List ℕ → Type 0
+FormatsNumber answer text tag options old new =
+    (made : Result NumberFormatter FdError) × IsMade made tag options × FormatsIfMade made answer text old new
+
+-- the same by the locale and the skeleton
+abbrev pub FormatsBySkeleton : Result ℕ FdError → List ℕ → List ℕ → List ℕ → List ℕ → List ℕ → Type 0
+FormatsBySkeleton answer text tag skeleton old new =
+    (made : Result NumberFormatter FdError) × IsMadeBySkeleton made tag skeleton
+    × FormatsIfMade made answer text old new

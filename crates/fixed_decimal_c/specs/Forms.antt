@@ -2,8 +2,6 @@
 use Rattle.std.specs.Prelude.{◌≡◌, ◌≢◌, ℕ, ◌⊎◌, List, Option, Some, None}
 use Rattle.std.specs.Str.{IsUtf8}
 use Rattle.decimal_format.specs.Symbols.{Symbols}
-use Rattle.decimal_format.specs.declared.grouping.GroupingStrategy.{GroupingStrategy}
-use Rattle.decimal_format.specs.declared.grouping.GroupingStrategy.TheVariants.{Auto, Never, Always, Min2}
 use Rattle.locale_data.specs.Locales.{IsLocale, IsUnknown}
 use Rattle.cli.specs.declared.reader.LocaleReader.{LocaleReader}
 use Rattle.cli.specs.declared.reader.LocaleReader.TheVariants.{Decimals, Numbers}
@@ -19,14 +17,9 @@ use Rattle.fixed_decimal_c.specs.declared.forms.Format.{Format}
 use Rattle.fixed_decimal_c.specs.declared.forms.Format.TheVariants as by
 use Rattle.fixed_decimal_c.specs.Calls.{IsPart}
 use Rattle.fixed_decimal_c.specs.Locales.{symbols_of_number}
+use Rattle.fixed_decimal_c.specs.NumberOptions.{grouping_code}
 use Rattle.fixed_decimal_c.specs.NumberReadings.{HasNoReader}
 use Rattle.fixed_decimal_c.specs.NumberTexts.{IsFormatterFor, FormatterFails}
-
-abbrev pub grouping_code : GroupingStrategy → ℕ
-grouping_code Auto = 0
-grouping_code Never = 1
-grouping_code Always = 2
-grouping_code Min2 = 3
 
 abbrev pub reading_code : ParseMode → ℕ
 reading_code Strict = 0

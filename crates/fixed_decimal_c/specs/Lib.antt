@@ -5,6 +5,7 @@ pub mod Calls
 pub mod Runs
 pub mod Locales
 pub mod Numbers
+pub mod NumberOptions
 pub mod NumberTexts
 pub mod Forms
 pub mod Formats

@@ -1,4 +1,4 @@
--- Numbers as a locale writes them by a number skeleton, read.
+-- Numbers as a locale writes them by options or a number skeleton, read.
 use Rattle.std.specs.Prelude.{◌≡◌, ℕ, ◌⊎◌, List, Bool, true, false, Result, Ok, Err}
 use Rattle.decimal_unsigned.specs.declared.decimal.TheConstants.{INLINE_DIGITS}
 use Rattle.decimal_unsigned.specs.declared.error.ParseError.{ParseError}
@@ -11,9 +11,10 @@ use Rattle.number_format.specs.declared.number_reader.NumberReaderError.TheVaria
 use Rattle.number_format.specs.declared.number_reader.ParseMode.{ParseMode}
 use Rattle.number_format.specs.declared.number_reader.ParseMode.TheVariants.{Strict, Lenient}
 use Rattle.fixed_decimal_c.specs.declared.error.FdError.{FdError}
+use Rattle.fixed_decimal_c.specs.declared.number_options.FdNumberOptions.{FdNumberOptions}
 use Rattle.fixed_decimal_c.specs.declared.error.FdError.TheVariants.{Memory, UnreadableFormat}
 use Rattle.fixed_decimal_c.specs.Errors.{error_of_parsing}
-use Rattle.fixed_decimal_c.specs.NumberTexts.{IsFormatterFor, FormatterFails}
+use Rattle.fixed_decimal_c.specs.NumberTexts.{IsMade, IsMadeBySkeleton}
 use Rattle.fixed_decimal_c.specs.Texts.{Writes}
 
 abbrev pub error_of_reader : NumberReaderError → FdError
@@ -41,8 +42,19 @@ ReadsText f lenient answer text old new =
     × IsReadInMode INLINE_DIGITS (parse_mode lenient) (number_reader_of f) text read × WritesRead read answer old new)
     ⊎ ((error : FdError) × (answer ≡ Err error) × HasNoReader error f × (new ≡ old))
 
--- the same by the locale and the skeleton; or there is no formatter, and the buffer is as it was
-abbrev pub ReadsNumber : Result ℕ FdError → List ℕ → List ℕ → List ℕ → Bool → List ℕ → List ℕ → Type 0
-ReadsNumber answer text tag skeleton lenient old new =
-    ((f : NumberFormatter) × IsFormatterFor tag skeleton f × ReadsText f lenient answer text old new)
-    ⊎ ((error : FdError) × (answer ≡ Err error) × FormatterFails error tag skeleton × (new ≡ old))
+-- the same, if there is a formatter; or its error is the answer, and the buffer is as it was
+abbrev pub ReadsIfMade :
+    Result NumberFormatter FdError → Bool → Result ℕ FdError → List ℕ → List ℕ → List ℕ → Type 0
+ReadsIfMade (Ok f) lenient answer text old new = ReadsText f lenient answer text old new
+ReadsIfMade (Err error) lenient answer text old new = (answer ≡ Err error) × (new ≡ old)
+
+-- the same by the locale and the options
+abbrev pub ReadsNumber : Result ℕ FdError → List ℕ → List ℕ → FdNumberOptions → Bool → List ℕ → List ℕ → Type 0
+ReadsNumber answer text tag options lenient old new =
+    (made : Result NumberFormatter FdError) × IsMade made tag options × ReadsIfMade made lenient answer text old new
+
+-- the same by the locale and the skeleton
+abbrev pub ReadsBySkeleton : Result ℕ FdError → List ℕ → List ℕ → List ℕ → Bool → List ℕ → List ℕ → Type 0
+ReadsBySkeleton answer text tag skeleton lenient old new =
+    (made : Result NumberFormatter FdError) × IsMadeBySkeleton made tag skeleton
+    × ReadsIfMade made lenient answer text old new

@@ -1,5 +1,5 @@
--- The formatter of a tag and a number skeleton.
-use Rattle.std.specs.Prelude.{◌≡◌, ℕ, ◌⊎◌, List, Ok, Err}
+-- The formatter of a tag and a number skeleton, or of options.
+use Rattle.std.specs.Prelude.{◌≡◌, ℕ, ◌⊎◌, List, Result, Ok, Err}
 use Rattle.std.specs.Str.{IsUtf8, IsValidUpTo}
 use Rattle.decimal_digits.specs.declared.rounding.RoundError.{RoundError}
 use Rattle.decimal_digits.specs.declared.rounding.RoundError.TheVariants as round
@@ -10,9 +10,13 @@ use Rattle.number_format.specs.declared.number_options.NumberOptions.{NumberOpti
 use Rattle.number_format.specs.declared.skeleton.SkeletonError.{SkeletonError}
 use Rattle.number_format.specs.declared.skeleton.SkeletonError.TheVariants as read
 use Rattle.number_format.specs.Formatters.{IsFormatter, IsFormatterError}
-use Rattle.number_format.specs.SkeletonMeaning.{skeleton_options, options_value}
+use Rattle.number_format.specs.SkeletonMeaning.{skeleton_options, options_value, in_capitals}
+use Rattle.number_format.specs.SkeletonTexts.{IsShortest, HasNoSkeleton}
 use Rattle.fixed_decimal_c.specs.declared.error.FdError.{FdError}
-use Rattle.fixed_decimal_c.specs.declared.error.FdError.TheVariants.{Memory, Overflow, UnknownLocale, SkeletonSyntax, SkeletonUnsupported, UnknownNumberingSystem}
+use Rattle.fixed_decimal_c.specs.declared.number_options.FdNumberOptions.{FdNumberOptions}
+use Rattle.fixed_decimal_c.specs.NumberOptions.{AreNumberOptions, NumberOptionsFail}
+use Rattle.fixed_decimal_c.specs.Texts.{Delivers}
+use Rattle.fixed_decimal_c.specs.declared.error.FdError.TheVariants.{Memory, Overflow, UnknownLocale, SkeletonSyntax, SkeletonUnsupported, UnknownNumberingSystem, NoSkeleton}
 
 abbrev pub error_of_skeleton : SkeletonError → FdError
 error_of_skeleton (read.Syntax at) = SkeletonSyntax at
@@ -37,10 +41,9 @@ SkeletonFails error text =
     ((at : ℕ) × (error ≡ SkeletonSyntax at) × ¬ IsUtf8 text × IsValidUpTo text at)
     ⊎ ((e : SkeletonError) × (error ≡ error_of_skeleton e) × IsUtf8 text × (skeleton_options text ≡ Err e))
 
--- the formatter of a tag and the options of a skeleton
-abbrev pub IsFormatterFor : List ℕ → List ℕ → NumberFormatter → Type 0
-IsFormatterFor tag skeleton f =
-    (o : NumberOptions) × AreOptionsOf skeleton o × IsUtf8 tag × IsFormatter tag o f
+-- the formatter of a tag and options
+abbrev pub HasFormatter : List ℕ → NumberOptions → NumberFormatter → Type 0
+HasFormatter tag o f = IsUtf8 tag × IsFormatter tag o f
 
 -- why options have no formatter; a tag that is not UTF-8 is unknown
 abbrev pub OptionsFail : FdError → List ℕ → NumberOptions → Type 0
@@ -49,8 +52,46 @@ OptionsFail error tag o =
     ⊎ ((e : NumberFormatError) × (error ≡ error_of_formatter e) × IsUtf8 tag
     × IsFormatterError tag o.numbering_system e)
 
+-- the formatter of a tag and the options of a skeleton
+abbrev pub IsFormatterFor : List ℕ → List ℕ → NumberFormatter → Type 0
+IsFormatterFor tag skeleton f = (o : NumberOptions) × AreOptionsOf skeleton o × HasFormatter tag o f
+
 -- there is no such skeleton, or else no such formatter
 abbrev pub FormatterFails : FdError → List ℕ → List ℕ → Type 0
 FormatterFails error tag skeleton =
     SkeletonFails error skeleton
     ⊎ ((o : NumberOptions) × AreOptionsOf skeleton o × OptionsFail error tag o)
+
+-- the formatter of a tag and the options that C passes
+abbrev pub IsFormatterBy : List ℕ → FdNumberOptions → NumberFormatter → Type 0
+IsFormatterBy tag c f = (o : NumberOptions) × AreNumberOptions c o × HasFormatter tag o f
+
+-- C passes no options, or else there is no such formatter
+abbrev pub FormatterByFails : FdError → List ℕ → FdNumberOptions → Type 0
+FormatterByFails error tag c =
+    NumberOptionsFail error c ⊎ ((o : NumberOptions) × AreNumberOptions c o × OptionsFail error tag o)
+
+-- the formatter by options, or why there is none
+abbrev pub IsMade : Result NumberFormatter FdError → List ℕ → FdNumberOptions → Type 0
+IsMade (Ok f) tag c = IsFormatterBy tag c f
+IsMade (Err error) tag c = FormatterByFails error tag c
+
+-- the same by a skeleton
+abbrev pub IsMadeBySkeleton : Result NumberFormatter FdError → List ℕ → List ℕ → Type 0
+IsMadeBySkeleton (Ok f) tag skeleton = IsFormatterFor tag skeleton f
+IsMadeBySkeleton (Err error) tag skeleton = FormatterFails error tag skeleton
+
+-- the options that C passes have no skeleton, or it is out of memory; or C passes none
+abbrev pub SkeletonTextFails : FdError → FdNumberOptions → Type 0
+SkeletonTextFails error c =
+    NumberOptionsFail error c
+    ⊎ ((o : NumberOptions) × AreNumberOptions c o
+    × ((error ≡ Memory) ⊎ ((error ≡ NoSkeleton) × HasNoSkeleton (options_value (in_capitals o)))))
+
+-- the shortest skeleton of the options that C passes is written if it fits; or there is none, and the buffer is as it
+-- was
+abbrev pub WritesSkeleton : Result ℕ FdError → FdNumberOptions → List ℕ → List ℕ → Type 0
+WritesSkeleton answer c old new =
+    ((o : NumberOptions) × AreNumberOptions c o × (text : List ℕ) × IsShortest text (options_value (in_capitals o))
+    × Delivers answer text old new)
+    ⊎ ((error : FdError) × (answer ≡ Err error) × SkeletonTextFails error c × (new ≡ old))

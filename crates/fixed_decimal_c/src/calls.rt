@@ -37,7 +37,7 @@ pub struct FdCall {
 }
 
 /// Returns the mode of a rounding with this number.
-fn mode(code: u8) -> Option<SignedRoundingMode>
+pub(crate) fn mode(code: u8) -> Option<SignedRoundingMode>
     ensures some { IfSome result (λ m. code ≡ mode_code m) }
     ensures none { IfNone result ((m : SignedRoundingMode) → code ≡ mode_code m → ⊥) }
 {
@@ -83,7 +83,7 @@ fn sign(code: u8) -> Option<Sign>
 }
 
 /// Returns the display of a sign with this number.
-fn display(code: u8) -> Option<SignDisplay>
+pub(crate) fn display(code: u8) -> Option<SignDisplay>
     ensures some { IfSome result (λ d. code ≡ display_code d) }
     ensures none { IfNone result ((d : SignDisplay) → code ≡ display_code d → ⊥) }
 {

@@ -43,8 +43,12 @@ pub enum FdError {
     SkeletonUnsupported { at: usize },
     /// The numbering system of the skeleton is unknown.
     UnknownNumberingSystem,
-    /// The numbers of the locale and the skeleton cannot be read.
+    /// The numbers of the locale and the options cannot be read.
     UnreadableFormat,
+    /// The numbers of digits in the options are none of ECMA-402's, by the reason with this number.
+    DigitOptions { at: usize },
+    /// No number skeleton has these options.
+    NoSkeleton,
 }
 
 impl FdError {
@@ -71,6 +75,8 @@ impl FdError {
             FdError::SkeletonUnsupported { .. } => 17,
             FdError::UnknownNumberingSystem => 18,
             FdError::UnreadableFormat => 19,
+            FdError::DigitOptions { .. } => 20,
+            FdError::NoSkeleton => 21,
         }
     }
 
@@ -88,7 +94,8 @@ impl FdError {
             | FdError::RulesSyntax { at }
             | FdError::RulesLimit { at }
             | FdError::SkeletonSyntax { at }
-            | FdError::SkeletonUnsupported { at } => at,
+            | FdError::SkeletonUnsupported { at }
+            | FdError::DigitOptions { at } => at,
             _ => 0,
         }
     }

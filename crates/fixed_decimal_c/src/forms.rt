@@ -1,17 +1,17 @@
 //! The forms in which a text is read and written: a locale's, or the decimal's own.
 ghost use Rattle.std.specs.Prelude.{◌≡◌, IfSome, IfNone, IfOk, IfErr};
-ghost use Rattle.decimal_format.specs.declared.grouping.GroupingStrategy.{GroupingStrategy};
 ghost use Rattle.decimal_format.specs.Readable.{IsReadable};
 ghost use Rattle.number_format.specs.declared.number_reader.ParseMode.{ParseMode};
-ghost use Rattle.fixed_decimal_c.specs.Forms.{grouping_code, reading_code, IsLocaleAt, HasNoLocale, AreSymbolsOf, HasNoSymbols, IsReaderOf, FormFails, IsSkeletonReader, SkeletonReaderFails, ReaderFails, IsSkeletonFormatter, SkeletonFormFails, IsFormatOf, FormatFormFails};
+ghost use Rattle.fixed_decimal_c.specs.Forms.{reading_code, IsLocaleAt, HasNoLocale, AreSymbolsOf, HasNoSymbols, IsReaderOf, FormFails, IsSkeletonReader, SkeletonReaderFails, ReaderFails, IsSkeletonFormatter, SkeletonFormFails, IsFormatOf, FormatFormFails};
 
 use crate::calls::part;
 use crate::error::FdError;
 use crate::locales::symbols_of_number;
+use crate::number_options::grouping;
 use crate::number_reading::number_reader;
-use crate::number_text::number_formatter;
+use crate::number_text::formatter_by_skeleton;
 use cli::{DecimalReader, LocaleReader, SkeletonReader};
-use decimal_format::{DecimalFormatter, DecimalSymbols, GroupingStrategy};
+use decimal_format::{DecimalFormatter, DecimalSymbols};
 use locale_data::locale;
 use number_format::{NumberFormatter, ParseMode};
 use std::alloc::Global;
@@ -63,19 +63,6 @@ impl Drop for Format {
         match self {
             Format::Own | Format::Symbols(_) | Format::Skeleton(_) => {}
         }
-    }
-}
-
-fn grouping(code: u8) -> Option<GroupingStrategy>
-    ensures some { IfSome result (λ g. code ≡ grouping_code g) }
-    ensures none { IfNone result ((g : GroupingStrategy) → code ≡ grouping_code g → ⊥) }
-{
-    match code {
-        0 => Some(GroupingStrategy::Auto),
-        1 => Some(GroupingStrategy::Never),
-        2 => Some(GroupingStrategy::Always),
-        3 => Some(GroupingStrategy::Min2),
-        _ => None,
     }
 }
 
@@ -174,7 +161,7 @@ fn skeleton_formatter(form: &FdForm, texts: &[u8]) -> Result<NumberFormatter, Fd
     let Some(tag) = part(texts, form.start, form.count) else {
         return Err(FdError::UnknownLocale);
     };
-    number_formatter(tag, skeleton)
+    formatter_by_skeleton(tag, skeleton)
 }
 
 /// Returns what a form formats by.

@@ -12,8 +12,9 @@ ghost use Rattle.fixed_decimal_c.specs.Lines.{ConvertsColumn};
 ghost use Rattle.fixed_decimal_c.specs.Numbers.{Compares, Equates, HasSign, HasI64, HasU64};
 ghost use Rattle.fixed_decimal_c.specs.Locales.{IsLocaleNumber, IsRulesNumber, IsNamedRulesNumber};
 ghost use Rattle.fixed_decimal_c.specs.Categories.{HasCategory, HasCategoryOf};
-ghost use Rattle.fixed_decimal_c.specs.Formats.{FormatsNumber};
-ghost use Rattle.fixed_decimal_c.specs.NumberReadings.{ReadsNumber};
+ghost use Rattle.fixed_decimal_c.specs.Formats.{FormatsNumber, FormatsBySkeleton};
+ghost use Rattle.fixed_decimal_c.specs.NumberReadings.{ReadsNumber, ReadsBySkeleton};
+ghost use Rattle.fixed_decimal_c.specs.NumberTexts.{WritesSkeleton};
 
 mod answer;
 mod block;
@@ -24,6 +25,7 @@ mod error;
 mod forms;
 mod lines;
 mod locales;
+mod number_options;
 mod number_reading;
 mod number_text;
 mod numbers;
@@ -40,16 +42,17 @@ pub use forms::{FdForm, FdForms};
 pub use lines::Progress;
 use lines::convert_column;
 use locales::{number_of_locale, number_of_named_rules, number_of_plural_rules};
+pub use number_options::FdNumberOptions;
 use number_reading::read_number;
-use number_text::format_number;
+use number_text::{format_number, formatter_by_options, formatter_by_skeleton, write_skeleton};
 use numbers::{compare_texts, equal_texts, sign_of, to_i64, to_u64};
 use std::alloc::Global;
 
 /// Returns the version of the interface. It grows when a number, a struct or a meaning changes.
 pub fn fd_version() -> u32
-    ensures { result ≡ 3 }
+    ensures { result ≡ 4 }
 {
-    3
+    4
 }
 
 /// Makes calls in order on the decimal that `start` writes, and writes the text of the result.
@@ -102,11 +105,48 @@ pub fn fd_lines(
     convert_column(alloc, lines, skip > 0, forms, calls, texts, buffer)
 }
 
-/// Formats a decimal as `Intl.NumberFormat` does, by the locale of a tag and the options of a number skeleton of ICU.
+/// Formats a decimal as `Intl.NumberFormat` does, by the locale of a tag and its options.
 ///
-/// The errors, the first that holds: of the skeleton, with its byte; `UnknownLocale`; `UnknownNumberingSystem`, of the
-/// skeleton; of the text; `Overflow`, if the number that is shown is beyond the limits; `BufferTooSmall`.
+/// The errors, the first that holds: `UnknownOption`; `DigitOptions`, if ECMA-402 has an error for the numbers of
+/// digits; `UnknownLocale`; `UnknownNumberingSystem`; of the text; `Overflow`, if the number that is shown is beyond the
+/// limits; `BufferTooSmall`.
 pub fn fd_format_number(
+    alloc: Global,
+    text: &[u8],
+    locale: &[u8],
+    options: &FdNumberOptions,
+    buffer: &mut [u8],
+) -> FdResult
+    ensures { Encodes result
+        (λ answer. FormatsNumber answer text.now locale.now options.now buffer.old buffer.new) }
+{
+    encode(format_number(alloc, text, formatter_by_options(locale, options), buffer))
+}
+
+/// Reads a number that [`fd_format_number`] writes by this tag and these options, and writes the own text of the value
+/// that is shown. With `lenient` the number may be as people type it.
+///
+/// The errors, the first that holds: as `fd_format_number` of the options and the locale; `UnreadableFormat`, if the
+/// formatter has no reader; of the text; `BufferTooSmall`.
+pub fn fd_read_number(
+    alloc: Global,
+    text: &[u8],
+    locale: &[u8],
+    options: &FdNumberOptions,
+    lenient: u32,
+    buffer: &mut [u8],
+) -> FdResult
+    ensures { Encodes result
+        (λ answer. ReadsNumber answer text.now locale.now options.now (nat_lt 0 lenient) buffer.old buffer.new) }
+{
+    let formatter = formatter_by_options(locale, options);
+    encode(read_number(alloc, text, formatter, lenient > 0, buffer))
+}
+
+/// As [`fd_format_number`], by a number skeleton of ICU.
+///
+/// The errors: as there, but of the options those of the skeleton, with its byte.
+pub fn fd_format_by_skeleton(
     alloc: Global,
     text: &[u8],
     locale: &[u8],
@@ -114,17 +154,15 @@ pub fn fd_format_number(
     buffer: &mut [u8],
 ) -> FdResult
     ensures { Encodes result
-        (λ answer. FormatsNumber answer text.now locale.now skeleton.now buffer.old buffer.new) }
+        (λ answer. FormatsBySkeleton answer text.now locale.now skeleton.now buffer.old buffer.new) }
 {
-    encode(format_number(alloc, text, locale, skeleton, buffer))
+    encode(format_number(alloc, text, formatter_by_skeleton(locale, skeleton), buffer))
 }
 
-/// Reads a number that [`fd_format_number`] writes by this tag and this skeleton, and writes the own text of the value
-/// that is shown. With `lenient` the number may be as people type it.
+/// As [`fd_read_number`], by a number skeleton of ICU.
 ///
-/// The errors, the first that holds: as `fd_format_number` of the skeleton and the locale; `UnreadableFormat`, if the
-/// formatter has no reader; of the text; `BufferTooSmall`.
-pub fn fd_read_number(
+/// The errors: as there, of the skeleton as `fd_format_by_skeleton`.
+pub fn fd_read_by_skeleton(
     alloc: Global,
     text: &[u8],
     locale: &[u8],
@@ -133,9 +171,19 @@ pub fn fd_read_number(
     buffer: &mut [u8],
 ) -> FdResult
     ensures { Encodes result
-        (λ answer. ReadsNumber answer text.now locale.now skeleton.now (nat_lt 0 lenient) buffer.old buffer.new) }
+        (λ answer. ReadsBySkeleton answer text.now locale.now skeleton.now (nat_lt 0 lenient) buffer.old buffer.new) }
 {
-    encode(read_number(alloc, text, locale, skeleton, lenient > 0, buffer))
+    let formatter = formatter_by_skeleton(locale, skeleton);
+    encode(read_number(alloc, text, formatter, lenient > 0, buffer))
+}
+
+/// Writes the shortest number skeleton of the options of a number, with the code of a currency in capitals.
+///
+/// The errors, the first that holds: `UnknownOption`; `DigitOptions`; `NoSkeleton`; `BufferTooSmall`.
+pub fn fd_skeleton(alloc: Global, options: &FdNumberOptions, buffer: &mut [u8]) -> FdResult
+    ensures { Encodes result (λ answer. WritesSkeleton answer options.now buffer.old buffer.new) }
+{
+    encode(write_skeleton(alloc, options, buffer))
 }
 
 /// Compares the numbers of two decimals: -1, 0 or 1.

@@ -1,10 +1,9 @@
-//! Numbers as a locale writes them by a number skeleton, read.
+//! Numbers as a locale writes them by options or a number skeleton, read.
 ghost use Rattle.std.specs.Prelude.{◌≡◌, IfOk, IfErr};
 ghost use Rattle.number_format.specs.NumberReading.{CanRead, number_reader_of};
-ghost use Rattle.fixed_decimal_c.specs.NumberReadings.{error_of_reader, HasNoReader, parse_mode, WritesRead, ReadsText, ReadsNumber};
+ghost use Rattle.fixed_decimal_c.specs.NumberReadings.{error_of_reader, HasNoReader, parse_mode, WritesRead, ReadsText, ReadsIfMade};
 
 use crate::error::{FdError, error_of_parsing};
-use crate::number_text::number_formatter;
 use crate::texts::write_value;
 use fixed_decimal::{Decimal, ParseError};
 use number_format::{NumberFormatter, NumberReader, NumberReaderError, ParseMode};
@@ -74,17 +73,15 @@ fn read_text(
     write_read(alloc, read, buffer)
 }
 
-/// Reads a text as the locale of a tag and a skeleton have it, and writes the decimal.
+/// Reads a text as a formatter writes it, if there is one, and writes the decimal.
 pub(crate) fn read_number(
     alloc: Global,
     text: &[u8],
-    tag: &[u8],
-    skeleton: &[u8],
+    formatter: Result<NumberFormatter, FdError>,
     lenient: bool,
     buffer: &mut [u8],
 ) -> Result<usize, FdError>
-    ensures { ReadsNumber result text.now tag.now skeleton.now lenient buffer.old buffer.new }
+    ensures { ReadsIfMade formatter lenient result text.now buffer.old buffer.new }
 {
-    let formatter = number_formatter(tag, skeleton)?;
-    read_text(alloc, formatter, text, lenient, buffer)
+    read_text(alloc, formatter?, text, lenient, buffer)
 }

@@ -1,12 +1,13 @@
-//! Numbers as a locale writes them, by a number skeleton.
+//! Numbers as a locale writes them, by options or a number skeleton.
 ghost use Rattle.std.specs.Prelude.{◌≡◌, IfOk, IfErr};
 ghost use Rattle.fixed_decimal_c.specs.declared.forms.Format.TheVariants.{Skeleton};
-ghost use Rattle.fixed_decimal_c.specs.NumberTexts.{error_of_skeleton, error_of_formatter, error_of_format, AreOptionsOf, SkeletonFails, IsFormatterFor, FormatterFails};
-ghost use Rattle.fixed_decimal_c.specs.Formats.{WritesBy, FormatsText, FormatsNumber};
+ghost use Rattle.fixed_decimal_c.specs.NumberTexts.{error_of_skeleton, error_of_formatter, error_of_format, AreOptionsOf, SkeletonFails, HasFormatter, OptionsFail, IsFormatterFor, FormatterFails, IsFormatterBy, FormatterByFails, WritesSkeleton};
+ghost use Rattle.fixed_decimal_c.specs.Formats.{WritesBy, FormatsText, FormatsIfMade};
 
 use crate::error::FdError;
+use crate::number_options::FdNumberOptions;
 use crate::numbers::read;
-use crate::texts::write_value;
+use crate::texts::{deliver, write_value};
 use fixed_decimal::{Decimal, RoundError};
 use number_format::{NumberFormatError, NumberFormatter, NumberOptions, SkeletonError};
 use std::alloc::Global;
@@ -58,18 +59,58 @@ fn options(skeleton: &[u8]) -> Result<NumberOptions, FdError>
     }
 }
 
-/// Returns the formatter of a tag and a skeleton.
-pub(crate) fn number_formatter(tag: &[u8], skeleton: &[u8]) -> Result<NumberFormatter, FdError>
-    ensures ok { IfOk result (IsFormatterFor tag.now skeleton.now) }
-    ensures err { IfErr result (λ error. FormatterFails error tag.now skeleton.now) }
+/// Returns the formatter of a tag and options.
+fn formatter_of(tag: &[u8], options: NumberOptions) -> Result<NumberFormatter, FdError>
+    ensures ok { IfOk result (HasFormatter tag.now options) }
+    ensures err { IfErr result (λ error. OptionsFail error tag.now options) }
 {
-    let options = options(skeleton)?;
     let Ok(tag) = str::from_utf8(tag) else {
         return Err(FdError::UnknownLocale);
     };
     match NumberFormatter::try_new(tag, options) {
         Ok(formatter) => Ok(formatter),
         Err(error) => Err(error_of_formatter(error)),
+    }
+}
+
+/// Returns the formatter of a tag and a skeleton.
+pub(crate) fn formatter_by_skeleton(tag: &[u8], skeleton: &[u8]) -> Result<NumberFormatter, FdError>
+    ensures ok { IfOk result (IsFormatterFor tag.now skeleton.now) }
+    ensures err { IfErr result (λ error. FormatterFails error tag.now skeleton.now) }
+{
+    formatter_of(tag, options(skeleton)?)
+}
+
+/// Returns the formatter of a tag and the options that C passes.
+pub(crate) fn formatter_by_options(
+    tag: &[u8],
+    options: &FdNumberOptions,
+) -> Result<NumberFormatter, FdError>
+    ensures ok { IfOk result (IsFormatterBy tag.now options.now) }
+    ensures err { IfErr result (λ error. FormatterByFails error tag.now options.now) }
+{
+    match options.decode() {
+        Ok(options) => formatter_of(tag, options),
+        Err(error) => Err(error),
+    }
+}
+
+/// Writes the shortest skeleton of the options that C passes.
+pub(crate) fn write_skeleton(
+    alloc: Global,
+    options: &FdNumberOptions,
+    buffer: &mut [u8],
+) -> Result<usize, FdError>
+    ensures { WritesSkeleton result options.now buffer.old buffer.new }
+{
+    let options = match options.decode() {
+        Ok(options) => options,
+        Err(error) => return Err(error),
+    };
+    match options.to_skeleton(alloc) {
+        Ok(Some(text)) => deliver(text.as_bytes(), buffer),
+        Ok(None) => Err(FdError::NoSkeleton),
+        Err(_) => Err(FdError::Memory),
     }
 }
 
@@ -103,16 +144,14 @@ fn format_text(
     write_number(alloc, formatter, value, 0, &[], buffer)
 }
 
-/// Reads a decimal, and writes it as the locale of a tag and a skeleton have it.
+/// Reads a decimal, and writes it by a formatter, if there is one.
 pub(crate) fn format_number(
     alloc: Global,
     text: &[u8],
-    tag: &[u8],
-    skeleton: &[u8],
+    formatter: Result<NumberFormatter, FdError>,
     buffer: &mut [u8],
 ) -> Result<usize, FdError>
-    ensures { FormatsNumber result text.now tag.now skeleton.now buffer.old buffer.new }
+    ensures { FormatsIfMade formatter result text.now buffer.old buffer.new }
 {
-    let formatter = number_formatter(tag, skeleton)?;
-    format_text(alloc, &formatter, text, buffer)
+    format_text(alloc, &formatter?, text, buffer)
 }

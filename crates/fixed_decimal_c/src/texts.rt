@@ -13,7 +13,7 @@ use std::alloc::Global;
 
 /// Copies a text to the start of a buffer, if it fits.
 #[inline]
-fn deliver(text: &[u8], buffer: &mut [u8]) -> Result<usize, FdError>
+pub(crate) fn deliver(text: &[u8], buffer: &mut [u8]) -> Result<usize, FdError>
     ensures { Delivers result text.now buffer.old buffer.new }
 {
     let needed = text.len();

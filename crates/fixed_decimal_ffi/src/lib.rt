@@ -9,15 +9,16 @@ ghost use Rattle.fixed_decimal_c.specs.Lines.{ConvertsColumn};
 ghost use Rattle.fixed_decimal_c.specs.Numbers.{Compares, Equates, HasSign, HasI64, HasU64};
 ghost use Rattle.fixed_decimal_c.specs.Locales.{IsLocaleNumber, IsRulesNumber, IsNamedRulesNumber};
 ghost use Rattle.fixed_decimal_c.specs.Categories.{HasCategory, HasCategoryOf};
-ghost use Rattle.fixed_decimal_c.specs.Formats.{FormatsNumber};
-ghost use Rattle.fixed_decimal_c.specs.NumberReadings.{ReadsNumber};
+ghost use Rattle.fixed_decimal_c.specs.Formats.{FormatsNumber, FormatsBySkeleton};
+ghost use Rattle.fixed_decimal_c.specs.NumberReadings.{ReadsNumber, ReadsBySkeleton};
+ghost use Rattle.fixed_decimal_c.specs.NumberTexts.{WritesSkeleton};
 
-use fixed_decimal_c::{FdCall, FdColumn, FdForms, FdNumber, FdResult, FdUnsigned};
+use fixed_decimal_c::{FdCall, FdColumn, FdForms, FdNumber, FdNumberOptions, FdResult, FdUnsigned};
 use std::alloc::Global;
 
 #[unsafe(no_mangle)]
 pub extern "C" fn fd_version() -> u32
-    ensures { result ≡ 3 }
+    ensures { result ≡ 4 }
 {
     fixed_decimal_c::fd_version()
 }
@@ -70,17 +71,46 @@ pub extern "C" fn fd_format_number(
     alloc: Global,
     text: &[u8],
     locale: &[u8],
-    skeleton: &[u8],
+    options: &FdNumberOptions,
     buffer: &mut [u8],
 ) -> FdResult
     ensures { Encodes result
-        (λ answer. FormatsNumber answer text.now locale.now skeleton.now buffer.old buffer.new) }
+        (λ answer. FormatsNumber answer text.now locale.now options.now buffer.old buffer.new) }
 {
-    fixed_decimal_c::fd_format_number(alloc, text, locale, skeleton, buffer)
+    fixed_decimal_c::fd_format_number(alloc, text, locale, options, buffer)
 }
 
 #[unsafe(no_mangle)]
 pub extern "C" fn fd_read_number(
+    alloc: Global,
+    text: &[u8],
+    locale: &[u8],
+    options: &FdNumberOptions,
+    lenient: u32,
+    buffer: &mut [u8],
+) -> FdResult
+    ensures { Encodes result
+        (λ answer. ReadsNumber answer text.now locale.now options.now (nat_lt 0 lenient) buffer.old buffer.new) }
+{
+    fixed_decimal_c::fd_read_number(alloc, text, locale, options, lenient, buffer)
+}
+
+#[unsafe(no_mangle)]
+pub extern "C" fn fd_format_by_skeleton(
+    alloc: Global,
+    text: &[u8],
+    locale: &[u8],
+    skeleton: &[u8],
+    buffer: &mut [u8],
+) -> FdResult
+    ensures { Encodes result
+        (λ answer. FormatsBySkeleton answer text.now locale.now skeleton.now buffer.old buffer.new) }
+{
+    fixed_decimal_c::fd_format_by_skeleton(alloc, text, locale, skeleton, buffer)
+}
+
+#[unsafe(no_mangle)]
+pub extern "C" fn fd_read_by_skeleton(
     alloc: Global,
     text: &[u8],
     locale: &[u8],
@@ -89,9 +119,20 @@ pub extern "C" fn fd_read_number(
     buffer: &mut [u8],
 ) -> FdResult
     ensures { Encodes result
-        (λ answer. ReadsNumber answer text.now locale.now skeleton.now (nat_lt 0 lenient) buffer.old buffer.new) }
+        (λ answer. ReadsBySkeleton answer text.now locale.now skeleton.now (nat_lt 0 lenient) buffer.old buffer.new) }
 {
-    fixed_decimal_c::fd_read_number(alloc, text, locale, skeleton, lenient, buffer)
+    fixed_decimal_c::fd_read_by_skeleton(alloc, text, locale, skeleton, lenient, buffer)
+}
+
+#[unsafe(no_mangle)]
+pub extern "C" fn fd_skeleton(
+    alloc: Global,
+    options: &FdNumberOptions,
+    buffer: &mut [u8],
+) -> FdResult
+    ensures { Encodes result (λ answer. WritesSkeleton answer options.now buffer.old buffer.new) }
+{
+    fixed_decimal_c::fd_skeleton(alloc, options, buffer)
 }
 
 #[unsafe(no_mangle)]

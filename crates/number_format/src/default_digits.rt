@@ -34,7 +34,8 @@ impl NumberOptions {
         matches!(kind, (NumberStyle::Decimal, NumberNotation::Standard))
     }
 
-    fn increment(&self) -> u16
+    /// Returns the increment of a rounding that no setting gives: that of a currency's cash, else 1.
+    pub fn default_increment(&self) -> u16
         ensures { result ≡ increment self.now.style (is_compact self.now.notation) }
     {
         match self.style {
@@ -49,7 +50,8 @@ impl NumberOptions {
         }
     }
 
-    fn defaults(&self) -> DigitDefaults
+    /// Returns the numbers of fraction digits that ECMA-402 has for the style and the notation.
+    pub fn digit_defaults(&self) -> DigitDefaults
         ensures { IsDefault self.now result }
     {
         let (min, max) = match self.style {
@@ -81,13 +83,12 @@ impl NumberOptions {
             maximum_fraction_digits: None,
             minimum_significant_digits: None,
             maximum_significant_digits: None,
-            rounding_increment: self.increment(),
+            rounding_increment: self.default_increment(),
             rounding_mode: SignedRoundingMode::Unsigned(UnsignedRoundingMode::HalfExpand),
             rounding_priority: RoundingPriority::Auto,
             trailing_zeros: TrailingZeros::Auto,
         };
-        let defaults = self.defaults();
-        match settings.resolve(&defaults) {
+        match settings.resolve(&self.digit_defaults()) {
             Ok(digits) => Some(digits),
             Err(_) => None,
         }

@@ -107,8 +107,7 @@ pub struct NumberOptions {
     pub scale: i16,
     /// Its notation.
     pub notation: NumberNotation,
-    /// Which digits are shown. `None`: with style `Decimal` in notation `Standard` all digits as they stand, else those
-    /// that ECMA-402 has for the style and the notation.
+    /// Which digits are shown. `None`: of a plain number in standard notation all digits, else those of ECMA-402.
     pub digits: Option<DigitOptions>,
     /// Which sign is written, of the number as it is rounded.
     pub sign_display: SignDisplay,

@@ -1,13 +1,13 @@
 //! Decimals by the symbols of a locale: how they are written, and that they are read back; and plural categories.
 ghost use Rattle.decimal_format.specs.Readable.{IsReadable};
 
-use crate::numbers::expanded;
+use crate::numbers::{expanded, is_text};
 use decimal_format::{DecimalFormatter, DecimalSymbols, GroupingStrategy};
 use fixed_decimal::{Decimal, DigitList, DigitStore, PackedDigits, Signed, UnsignedOver};
 use locale_data::{PluralRuleType, PluralRulesError, locale, plural_rules_of};
 use plural_rules::PluralOperands;
 use std::alloc::Global;
-use test_support::{displays, fails_without_room, has_text, is_outcome, named};
+use test_support::{is_outcome, named};
 
 const STRATEGIES: &[(&str, GroupingStrategy)] = &[
     ("auto", GroupingStrategy::Auto),
@@ -15,18 +15,6 @@ const STRATEGIES: &[(&str, GroupingStrategy)] = &[
     ("always", GroupingStrategy::Always),
     ("min2", GroupingStrategy::Min2),
 ];
-
-/// Whether a formatter writes a number as this text, also by Display, and fails with each sink without room.
-fn writes<D: DigitStore>(
-    formatter: &DecimalFormatter<'_>,
-    value: &Signed<UnsignedOver<D>>,
-    text: &str,
-) -> bool {
-    let formatted = formatter.format(value);
-    has_text(&formatted, text)
-        && displays(&formatted, text.as_bytes())
-        && fails_without_room(&formatted, text.as_bytes())
-}
 
 /// Whether a number over a store has this text, and both readers read the text back.
 fn formats<D: DigitStore>(
@@ -41,22 +29,7 @@ fn formats<D: DigitStore>(
     let value = Signed::<UnsignedOver<D>>::try_from_str(alloc, number).ok()?;
     let strict = symbols.read::<D>(alloc, text.as_bytes()).ok()?;
     let lenient = symbols.read_lenient::<D>(alloc, text).ok()?;
-    Some(writes(formatter, &value, text) && strict == value && lenient == value)
-}
-
-/// Whether a number has this text over each store.
-fn formats_over_each(
-    alloc: Global,
-    formatter: &DecimalFormatter<'_>,
-    number: &str,
-    text: &str,
-) -> Option<bool>
-    requires { IsReadable formatter.now.symbols }
-{
-    Some(
-        formats::<PackedDigits>(alloc, formatter, number, text)?
-            && formats::<DigitList>(alloc, formatter, number, text)?,
-    )
+    Some(is_text(&formatter.format(&value), text) && strict == value && lenient == value)
 }
 
 /// Whether a number has this category by the plural rules of a language.
@@ -92,7 +65,10 @@ fn holds_in(
         "lenient" => is_outcome::<Decimal>(symbols.read_lenient(alloc, number), text),
         _ => {
             let formatter = DecimalFormatter::new(symbols, named(STRATEGIES, word)?);
-            formats_over_each(alloc, &formatter, number, text)
+            Some(
+                formats::<PackedDigits>(alloc, &formatter, number, text)?
+                    && formats::<DigitList>(alloc, &formatter, number, text)?,
+            )
         }
     }
 }

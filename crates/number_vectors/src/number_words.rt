@@ -3,10 +3,10 @@ use decimal_format::GroupingStrategy;
 use fixed_decimal::SignDisplay;
 use fixed_decimal::SignedRoundingMode::{self, Ceil, Floor, HalfCeil, HalfFloor, Unsigned};
 use fixed_decimal::UnsignedRoundingMode::{Expand, HalfEven, HalfExpand, HalfTrunc, Trunc};
-use locale_data::{CurrencyCode, CurrencySign, currency_digits};
+use locale_data::{CurrencyCode, CurrencySign};
 use number_format::{
-    BothDigits, CompactLength, CurrencyDisplay, CurrencyStyle, CurrencyUsage, DigitDefaults,
-    DigitOptions, DigitOptionsError, DigitSettings, ExponentOptions, ExponentSign, FractionDigits,
+    BothDigits, CompactLength, CurrencyDisplay, CurrencyStyle, CurrencyUsage, DigitOptions,
+    DigitOptionsError, DigitSettings, ExponentOptions, ExponentSign, FractionDigits,
     FractionMultiples, Increment, IntegerDigits, Minimum, Notation, NumberNotation, NumberOptions,
     NumberReaderError, NumberStyle, Precision, RoundingPriority, SignificantDigits, TrailingZeros,
 };
@@ -63,23 +63,6 @@ pub struct Options {
 }
 
 impl Options {
-    /// Returns the numbers of digits by default; of a currency node takes its digits in each notation.
-    fn defaults(&self) -> DigitDefaults {
-        let digits = currency_digits(self.currency).digits as u16;
-        let fraction = match self.style {
-            Style::Decimal => FractionDigits { min: 0, max: 3 },
-            Style::Percent => FractionDigits { min: 0, max: 0 },
-            Style::Currency => FractionDigits {
-                min: digits,
-                max: digits,
-            },
-        };
-        DigitDefaults {
-            fraction: self.fraction.unwrap_or(fraction),
-            is_compact: self.is_compact(),
-        }
-    }
-
     fn is_compact(&self) -> bool {
         matches!(self.notation, NotationName::Compact)
     }
@@ -102,7 +85,7 @@ impl Options {
     }
 
     /// Returns the options of a format with these digits. In compact notation `auto` is `min2`, as node has it.
-    pub fn number(&self, digits: DigitOptions) -> NumberOptions {
+    pub fn number(&self, digits: Option<DigitOptions>) -> NumberOptions {
         const PLAIN: ExponentOptions = ExponentOptions {
             digits: 1,
             sign: ExponentSign::Auto,
@@ -129,7 +112,7 @@ impl Options {
                 NotationName::Engineering => NumberNotation::Engineering(PLAIN),
                 NotationName::Compact => NumberNotation::Compact(self.compact_length),
             },
-            digits: Some(digits),
+            digits,
             sign_display: self.display,
             grouping: match self.grouping {
                 GroupingStrategy::Auto if self.is_compact() => GroupingStrategy::Min2,
@@ -149,7 +132,11 @@ impl Options {
 
     /// Returns the digit options: those of the settings, with what the row says beyond them.
     pub fn digits(&self) -> Result<DigitOptions, DigitOptionsError> {
-        let mut digits = self.settings.resolve(&self.defaults())?;
+        let mut defaults = self.number(None).digit_defaults();
+        if let Some(fraction) = self.fraction {
+            defaults.fraction = fraction;
+        }
+        let mut digits = self.settings.resolve(&defaults)?;
         if let Some(integer) = self.integer {
             digits.integer = integer;
         }

@@ -9,10 +9,11 @@ use fixed_decimal::{
 };
 use locale_data::locale;
 use number_format::{
-    DigitOptions, DigitOptionsError, FormatError, FormattedNumber, Notation, NumberFormatter,
-    NumberReader, NumberReaderError,
+    DigitOptions, DigitOptionsError, FormatError, Notation, NumberFormatter, NumberReader,
+    NumberReaderError,
 };
 use std::alloc::Global;
+use std::fmt::Display;
 use test_support::{
     LimitedSink, LimitedStore, SixteenDigits, displays, expand_runs, fails_without_room, has_text,
     shows,
@@ -121,7 +122,7 @@ fn has_text_over<D: DigitStore>(
 }
 
 /// Whether a formatted number has this text, also by Display, and fails with each sink without room.
-fn is_text(formatted: &FormattedNumber<'_>, text: &str) -> bool {
+pub fn is_text<T: Writeable + Display>(formatted: &T, text: &str) -> bool {
     has_text(formatted, text)
         && displays(formatted, text.as_bytes())
         && fails_without_room(formatted, text.as_bytes())
@@ -187,8 +188,8 @@ fn checks(
     digits: DigitOptions,
     (text, expected): (&str, &str),
 ) -> Option<bool> {
-    let formatter = NumberFormatter::try_new(tag, options.number(digits)).ok()?;
-    let reader = NumberFormatter::try_new(tag, options.number(digits))
+    let formatter = NumberFormatter::try_new(tag, options.number(Some(digits))).ok()?;
+    let reader = NumberFormatter::try_new(tag, options.number(Some(digits)))
         .ok()?
         .into_reader(alloc);
     match options.check {

@@ -7,22 +7,22 @@ use Rattle.std.specs.Prelude.{◌≡◌, Some}
 
 pub returns-in-Ok : goal.returns-in-Ok
 returns-in-Ok c =
-    let d = c.defaults-defaults.result in
-    let settings = ap no_settings c.increment.ensures in (
+    let d = c.digit_defaults.result in
+    let settings = ap no_settings c.default_increment.ensures in (
       sym c.shows_all_digits.ensures ∙ c.if-shows_all_digits.false,
       (
         d,
-        c.defaults-defaults.ensures,
+        c.digit_defaults.ensures,
         subst (λ s. IsResolved s d c.in-Ok.digits) settings c.in-Ok.ensures.ok,
       ),
     )
 
 pub returns-in-Err : goal.returns-in-Err
 returns-in-Err c =
-    let d = c.defaults-defaults.result in
-    let settings = ap no_settings c.increment.ensures in
+    let d = c.digit_defaults.result in
+    let settings = ap no_settings c.default_increment.ensures in
     let o = c.args.self.now in
     let fails : resolve_error (no_settings (increment o.style (is_compact o.notation))) d ≡ Some c.in-Err.field-0 =
     subst (λ s. resolve_error s d ≡ Some c.in-Err.field-0) settings c.in-Err.ensures.error in
-    let none = defaults_resolve o d c.defaults-defaults.ensures in
+    let none = defaults_resolve o d c.digit_defaults.ensures in
     absurd (cc)

@@ -1,5 +1,0 @@
-use Rattle.std.proofs.Common.{inl}
-use Rattle.fixed_decimal_c.proofs.number_reading.read_number.Goals as goal
-
-pub returns : goal.returns
-returns c = inl (c.in_ok-formatter.formatter, c.in_ok-formatter.ensures.ok, c.read_text.ensures)

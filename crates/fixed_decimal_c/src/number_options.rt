@@ -1,0 +1,249 @@
+//! The options of a number, as C passes them.
+ghost use Rattle.std.specs.Prelude.{◌≡◌, slice_get, IfOk, IfErr, IfSome, IfNone};
+ghost use Rattle.decimal_format.specs.declared.grouping.GroupingStrategy.{GroupingStrategy};
+ghost use Rattle.number_format.specs.declared.number_options.NumberOptions.{NumberOptions};
+ghost use Rattle.number_format.specs.declared.settings.DigitSettings.{DigitSettings};
+ghost use Rattle.fixed_decimal_c.specs.NumberOptions.{grouping_code, grouping_in, system_of, given, are_letters, currency_of, style_of, error_of_digits, AreChoices, AreSettings, AreNumberOptions, NumberOptionsFail};
+
+use crate::calls::{display, mode};
+use crate::error::FdError;
+use decimal_format::GroupingStrategy;
+use locale_data::{CurrencyCode, CurrencySign, Name};
+use number_format::{
+    CompactLength, CurrencyDisplay, CurrencyStyle, CurrencyUsage, DigitOptionsError, DigitSettings,
+    ExponentOptions, ExponentSign, NumberNotation, NumberOptions, NumberStyle, RoundingPriority,
+    TrailingZeros,
+};
+
+/// The options of a number: those of ECMA-402, and a scale. A word is its number in the list of its option.
+///
+/// 65,535 is no number of digits and no increment: what ECMA-402 has for the style and the notation applies.
+#[repr(C)]
+#[derive(Clone, Copy)]
+pub struct FdNumberOptions {
+    /// The style: 0 decimal, 1 percent, 2 permille, 3 currency.
+    pub style: u8,
+    /// The code of the currency, three letters.
+    pub currency: [u8; 3],
+    /// The name of the numbering system, padded with spaces; if it begins with 0, that of the locale.
+    pub numbering_system: Name,
+    /// Which symbol of the currency is written: 0 that of the locale, 1 the narrow one, 2 the code, 3 none.
+    pub currency_display: u8,
+    /// The pattern of an amount: 0 the usual one, 1 that of accounts.
+    pub currency_sign: u8,
+    /// The use for which the digits of the currency are chosen: 0 the usual one, 1 cash.
+    pub currency_usage: u8,
+    /// The notation: 0 standard, 1 scientific, 2 engineering, 3 compact with short words, 4 with long ones.
+    pub notation: u8,
+    /// The display of the sign of the number that is shown.
+    pub sign_display: u8,
+    /// Where separators of groups are written.
+    pub grouping: u8,
+    /// The mode of the rounding.
+    pub rounding_mode: u8,
+    /// Which of two roundings is chosen: 0 by the numbers that are given, 1 the more precise one, 2 the other.
+    pub rounding_priority: u8,
+    /// Whether fraction digits that are all 0 are shown: 0 yes, 1 no.
+    pub trailing_zeros: u8,
+    /// The power of ten by which the number is multiplied first.
+    pub scale: i16,
+    /// The least number of integer digits, 1 to 21.
+    pub minimum_integer_digits: u16,
+    /// The least number of fraction digits, 0 to 100.
+    pub minimum_fraction_digits: u16,
+    /// The greatest number of fraction digits, 0 to 100.
+    pub maximum_fraction_digits: u16,
+    /// The least number of significant digits, 1 to 21.
+    pub minimum_significant_digits: u16,
+    /// The greatest number of significant digits, 1 to 21.
+    pub maximum_significant_digits: u16,
+    /// The increment of the rounding: 1, 2 or 5 with up to three zeros, or 25 with up to two.
+    pub rounding_increment: u16,
+}
+
+const PLAIN: ExponentOptions = ExponentOptions {
+    digits: 1,
+    sign: ExponentSign::Auto,
+};
+
+const NOTATIONS: [NumberNotation; 5] = [
+    NumberNotation::Standard,
+    NumberNotation::Scientific(PLAIN),
+    NumberNotation::Engineering(PLAIN),
+    NumberNotation::Compact(CompactLength::Short),
+    NumberNotation::Compact(CompactLength::Long),
+];
+
+const UNITS: [NumberStyle; 3] = [
+    NumberStyle::Decimal,
+    NumberStyle::Percent,
+    NumberStyle::Permille,
+];
+
+const DISPLAYS: [CurrencyDisplay; 4] = [
+    CurrencyDisplay::Symbol,
+    CurrencyDisplay::Narrow,
+    CurrencyDisplay::Code,
+    CurrencyDisplay::Hidden,
+];
+
+const SIGNS: [CurrencySign; 2] = [CurrencySign::Standard, CurrencySign::Accounting];
+
+const USAGES: [CurrencyUsage; 2] = [CurrencyUsage::Standard, CurrencyUsage::Cash];
+
+const PRIORITIES: [RoundingPriority; 3] = [
+    RoundingPriority::Auto,
+    RoundingPriority::MorePrecision,
+    RoundingPriority::LessPrecision,
+];
+
+const TRAILING_ZEROS: [TrailingZeros; 2] = [TrailingZeros::Auto, TrailingZeros::StripIfInteger];
+
+/// Returns the choice with this number.
+fn choice<T: Copy>(choices: &[T], code: u8) -> Option<T>
+    ensures { result ≡ slice_get choices.now code }
+{
+    match choices.get(code as usize) {
+        Some(choice) => Some(*choice),
+        None => None,
+    }
+}
+
+pub(crate) fn grouping(code: u8) -> Option<GroupingStrategy>
+    ensures some { IfSome result (λ g. code ≡ grouping_code g) }
+    ensures none { IfNone result ((g : GroupingStrategy) → code ≡ grouping_code g → ⊥) }
+{
+    match code {
+        0 => Some(GroupingStrategy::Auto),
+        1 => Some(GroupingStrategy::Never),
+        2 => Some(GroupingStrategy::Always),
+        3 => Some(GroupingStrategy::Min2),
+        _ => None,
+    }
+}
+
+fn grouping_in(notation: NumberNotation, grouping: GroupingStrategy) -> GroupingStrategy
+    ensures { result ≡ grouping_in notation grouping }
+{
+    match (notation, grouping) {
+        (NumberNotation::Compact(_), GroupingStrategy::Auto) => GroupingStrategy::Min2,
+        _ => grouping,
+    }
+}
+
+fn system(name: Name) -> Option<Name>
+    ensures { result ≡ system_of name }
+{
+    if name[0] == 0 { None } else { Some(name) }
+}
+
+fn given(count: u16) -> Option<u16>
+    ensures { result ≡ given count }
+{
+    match count {
+        u16::MAX => None,
+        _ => Some(count),
+    }
+}
+
+fn are_letters(code: CurrencyCode) -> bool
+    ensures { result ≡ are_letters code }
+{
+    code[0].is_ascii_alphabetic() && code[1].is_ascii_alphabetic() && code[2].is_ascii_alphabetic()
+}
+
+impl FdNumberOptions {
+    fn currency(&self) -> Option<NumberStyle>
+        ensures { result ≡ currency_of self.now }
+    {
+        if !are_letters(self.currency) {
+            return None;
+        }
+        Some(NumberStyle::Currency(CurrencyStyle {
+            code: self.currency,
+            display: choice(&DISPLAYS, self.currency_display)?,
+            sign: choice(&SIGNS, self.currency_sign)?,
+            usage: choice(&USAGES, self.currency_usage)?,
+        }))
+    }
+
+    fn style(&self) -> Option<NumberStyle>
+        ensures { result ≡ style_of self.now }
+    {
+        match self.style {
+            3 => self.currency(),
+            _ => choice(&UNITS, self.style),
+        }
+    }
+
+    /// Returns all options but the digits.
+    fn choices(&self) -> Option<NumberOptions>
+        ensures some { IfSome result (AreChoices self.now) }
+        ensures none { IfNone result ((o : NumberOptions) → AreChoices self.now o → ⊥) }
+    {
+        let notation = choice(&NOTATIONS, self.notation)?;
+        Some(NumberOptions {
+            style: self.style()?,
+            scale: self.scale,
+            notation,
+            digits: None,
+            sign_display: display(self.sign_display)?,
+            grouping: grouping_in(notation, grouping(self.grouping)?),
+            numbering_system: system(self.numbering_system),
+        })
+    }
+
+    /// Returns the numbers of digits that are given with these options.
+    fn settings(&self, options: &NumberOptions) -> Option<DigitSettings>
+        ensures some { IfSome result (AreSettings self.now options.now) }
+        ensures none { IfNone result ((s : DigitSettings) → AreSettings self.now options.now s → ⊥) }
+    {
+        Some(DigitSettings {
+            minimum_integer_digits: given(self.minimum_integer_digits),
+            minimum_fraction_digits: given(self.minimum_fraction_digits),
+            maximum_fraction_digits: given(self.maximum_fraction_digits),
+            minimum_significant_digits: given(self.minimum_significant_digits),
+            maximum_significant_digits: given(self.maximum_significant_digits),
+            rounding_increment: given(self.rounding_increment).unwrap_or(
+                options.default_increment(),
+            ),
+            rounding_mode: mode(self.rounding_mode)?,
+            rounding_priority: choice(&PRIORITIES, self.rounding_priority)?,
+            trailing_zeros: choice(&TRAILING_ZEROS, self.trailing_zeros)?,
+        })
+    }
+
+    /// Returns the options.
+    pub(crate) fn decode(&self) -> Result<NumberOptions, FdError>
+        ensures ok { IfOk result (AreNumberOptions self.now) }
+        ensures err { IfErr result (λ error. NumberOptionsFail error self.now) }
+    {
+        let Some(options) = self.choices() else {
+            return Err(FdError::UnknownOption);
+        };
+        let Some(settings) = self.settings(&options) else {
+            return Err(FdError::UnknownOption);
+        };
+        match settings.resolve(&options.digit_defaults()) {
+            Ok(digits) => Ok(NumberOptions {
+                digits: Some(digits),
+                ..options
+            }),
+            Err(error) => Err(error_of_digits(error)),
+        }
+    }
+}
+
+fn error_of_digits(error: DigitOptionsError) -> FdError
+    ensures { result ≡ error_of_digits error }
+{
+    let at = match error {
+        DigitOptionsError::IntegerDigits => 0,
+        DigitOptionsError::Increment => 1,
+        DigitOptionsError::SignificantDigits => 2,
+        DigitOptionsError::FractionDigits => 3,
+        DigitOptionsError::IncrementPrecision => 4,
+        DigitOptionsError::IncrementDigits => 5,
+    };
+    FdError::DigitOptions { at }
+}
