@@ -329,12 +329,13 @@ static void test_format_number(void) {
     } rows[] = {
         {"1234.5678", "en", FD_NUMBER_OPTIONS, "1,234.568"},
         {"-1234.565", "de", OPTIONS(MONEY("EUR")), "-1.234,57\xc2\xa0" "€"},
-        {"0.125", "fr", OPTIONS(.style = FD_PERCENT, .scale = 2, FRACTION(FD_DEFAULT, 1)), "12,5\xe2\x80\xaf%"},
+        {"0.125", "fr", OPTIONS(.style = FD_PERCENT, .scale = 2, FRACTION(FD_DEFAULT, 1)), "12,5\xc2\xa0%"},
         {"12", "en", OPTIONS(.style = FD_PERMILLE), "12‰"},
-        {"1234567", "es", OPTIONS(.notation = FD_COMPACT_LONG), "1,2\xc2\xa0millones"},
+        {"1234567", "es", OPTIONS(.notation = FD_COMPACT_LONG), "1,2 millones"},
         {"1234567890123456789", "en", OPTIONS(.notation = FD_COMPACT_SHORT), "1,234,568T"},
         {"1234567890123456", "es", OPTIONS(.notation = FD_COMPACT_SHORT), "1235\xc2\xa0" "B"},
         {"-1234.5", "en", OPTIONS(MONEY("usd"), .currency_sign = FD_ACCOUNTING), "($1,234.50)"},
+        {"-5", "en", OPTIONS(MONEY("USD"), .currency_sign = FD_ACCOUNTING, .sign_display = FD_NEVER), "$5.00"},
         {"1234.5", "ja", OPTIONS(MONEY("JPY"), .currency_display = FD_CODE), "JPY\xc2\xa0" "1,235"},
         {"1234.5", "en-CA", OPTIONS(MONEY("USD"), .currency_display = FD_NARROW_SYMBOL), "$1,234.50"},
         {"1234.5", "en", OPTIONS(MONEY("USD"), .currency_display = FD_HIDDEN), "1,234.50"},
@@ -382,7 +383,7 @@ static void test_read_number(void) {
         const char *own;
     } rows[] = {
         {"-1.234,57\xc2\xa0" "€", "de", OPTIONS(MONEY("EUR")), 0, FD_OK, "-1234.57"},
-        {"12,5\xe2\x80\xaf%", "fr", OPTIONS(.style = FD_PERCENT, .scale = 2), 0, FD_OK, "0.125"},
+        {"12,5\xc2\xa0%", "fr", OPTIONS(.style = FD_PERCENT, .scale = 2), 0, FD_OK, "0.125"},
         {"EUR 1.234,5", "de", OPTIONS(MONEY("EUR")), 1, FD_OK, "1234.5"},
         {"EUR 1.234,5", "de", OPTIONS(MONEY("EUR")), 0, FD_SYNTAX, ""},
         {"1", "de", OPTIONS(.notation = FD_COMPACT_SHORT), 1, FD_UNREADABLE_FORMAT, ""},
@@ -449,7 +450,7 @@ static void test_option_errors(void) {
     CHECK(fd_format_number(B("1e32767"), B("en"), &plain, buffer, 8).status == FD_OVERFLOW);
 }
 
-/* The skeleton of options writes what they write. */
+/* The skeleton of options writes what they write. Amounts in accounting without a sign have none. */
 static void test_skeletons_of_options(void) {
     static const struct {
         fd_number_options options;
@@ -458,6 +459,8 @@ static void test_skeletons_of_options(void) {
         {OPTIONS(MONEY("eur"), FRACTION(2, 2), .rounding_mode = FD_HALF_EVEN), "currency/EUR .00"},
         {OPTIONS(.style = FD_PERCENT, .scale = 2, FRACTION(0, 0), .rounding_mode = FD_HALF_EVEN), "%x100 ."},
         {OPTIONS(.notation = FD_COMPACT_SHORT, .rounding_mode = FD_HALF_EVEN), "K"}};
+    fd_number_options unsigned_amounts = OPTIONS(MONEY("USD"), .currency_sign = FD_ACCOUNTING, .sign_display = FD_NEVER);
+    CHECK(fd_skeleton(&unsigned_amounts, (uint8_t[64]){0}, 64).status == FD_NO_SKELETON);
     for (size_t i = 0; i < sizeof rows / sizeof *rows; i++) {
         uint8_t buffer[64], first[64], second[64];
         size_t n = fd_skeleton(&rows[i].options, buffer, 0).count;

@@ -174,6 +174,9 @@ def test_options():
     check(number_skeleton(rounding_mode="halfEven", **money) == "currency/EUR", "a skeleton")
     check(Decimal.read("1.234,50\xa0€", "de", **money) == Decimal("1234.50"), "an amount is read")
     check(Decimal.read("EUR 5", "de", lenient=True, **money) == Decimal("5"), "an amount is read leniently")
+    unsigned = {"style": "currency", "currency": "USD", "currency_sign": "accounting", "sign_display": "never"}
+    check(Decimal("-5").format("en", **unsigned) == "$5.00", "an amount without a sign")
+    raises(DecimalError, lambda: number_skeleton(**unsigned), "no skeleton")
     check(Decimal("1234.5").format("en", numbering_system="arab") == "١٬٢٣٤٫٥", "a numbering system")
     raises(DecimalError, lambda: Decimal("1").format("en", numbering_system="roman"), "unknown numbering system")
     for error, wrong in ((ValueError, {"style": "unit"}), (ValueError, {"style": "currency"}), (TypeError, {"unit": "meter"}),
