@@ -108,8 +108,8 @@ pub fn fd_lines(
 /// Formats a decimal as `Intl.NumberFormat` does, by the locale of a tag and its options.
 ///
 /// The errors, the first that holds: `UnknownOption`; `DigitOptions`, if ECMA-402 has an error for the numbers of
-/// digits; `UnknownLocale`; `UnknownNumberingSystem`; of the text; `Overflow`, if the number that is shown is beyond the
-/// limits; `BufferTooSmall`.
+/// digits; `UnknownLocale`; `UnknownNumberingSystem`; of the text; `Overflow`, if the number that is shown is beyond
+/// the limits; `BufferTooSmall`.
 pub fn fd_format_number(
     alloc: Global,
     text: &[u8],
