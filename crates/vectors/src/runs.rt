@@ -89,6 +89,37 @@ pub fn has_limited_outcome<D: DigitStore>(
     }
 }
 
+/// Whether a run fails with a sink that has room for `room` bytes of its text, which it takes.
+fn fails_at<D: DigitStore>(
+    alloc: Global,
+    (start, calls): (&str, &[Call<'_>]),
+    text: &str,
+    room: usize,
+) -> Option<bool> {
+    let mut sink = LimitedSink::new(text.as_bytes(), room);
+    match run_over::<D, LimitedSink<'_>>(alloc, start.as_bytes(), calls, &mut sink) {
+        Ok(()) => Some(false),
+        Err(error) => Some(is_error(alloc, &error, "sink")? && sink.failed() && sink.has_taken(room)),
+    }
+}
+
+/// Whether a run that writes a text fails with sinks that have no room for all of it.
+fn fails_without_room<D: DigitStore>(
+    alloc: Global,
+    start: &str,
+    calls: &[Call<'_>],
+    wanted: &str,
+) -> Option<bool> {
+    let run = (start, calls);
+    let length = wanted.len();
+    Some(
+        wanted.contains(':')
+            || (fails_at::<D>(alloc, run, wanted, 0)?
+                && fails_at::<D>(alloc, run, wanted, length / 2)?
+                && fails_at::<D>(alloc, run, wanted, length.saturating_sub(1))?),
+    )
+}
+
 /// Whether a sink that cannot grow has failed: it keeps a prefix of a text, and takes nothing more.
 fn has_failed(sink: &mut TextBuf, text: &str) -> bool {
     let length = sink.as_bytes().len();
@@ -115,7 +146,7 @@ fn has_outcome_in_memory(
     }
 }
 
-/// The same into a sink in memory, over a store, and over one that counts.
+/// The same into a sink in memory, over a store, over one that counts, and into sinks without room.
 pub fn has_outcome<D: DigitStore>(
     alloc: Global,
     start: &str,
@@ -127,6 +158,7 @@ pub fn has_outcome<D: DigitStore>(
     Some(
         has_outcome_in_memory(alloc, start, calls, wanted)?
             && has_outcome_over::<D>(alloc, start, calls, wanted)?
-            && has_outcome_over::<Counting<D>>(alloc, start, calls, wanted)?,
+            && has_outcome_over::<Counting<D>>(alloc, start, calls, wanted)?
+            && fails_without_room::<D>(alloc, start, calls, wanted)?,
     )
 }
