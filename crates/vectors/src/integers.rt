@@ -55,7 +55,10 @@ fn makes_named<D: DigitStore>(alloc: Global, text: &str) -> bool {
         "1" => has_text(&UnsignedOver::<D>::one(alloc), text),
         "-12" => {
             let absolute = UnsignedOver::<D>::from_u8(alloc, 12);
-            has_text(&Signed::<UnsignedOver<D>>::new(Sign::Negative, absolute), text)
+            has_text(
+                &Signed::<UnsignedOver<D>>::new(Sign::Negative, absolute),
+                text,
+            )
         }
         _ => true,
     }

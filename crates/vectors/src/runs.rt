@@ -99,7 +99,9 @@ fn fails_at<D: DigitStore>(
     let mut sink = LimitedSink::new(text.as_bytes(), room);
     match run_over::<D, LimitedSink<'_>>(alloc, start.as_bytes(), calls, &mut sink) {
         Ok(()) => Some(false),
-        Err(error) => Some(is_error(alloc, &error, "sink")? && sink.failed() && sink.has_taken(room)),
+        Err(error) => Some(
+            is_error(alloc, &error, "sink")? && sink.failed() && sink.has_taken(room),
+        ),
     }
 }
 

@@ -1,5 +1,5 @@
 //! The small callers, each once: the clause of each says its whole result.
-use fixed_decimal::{Call, Decimal, ParseError, Sink, UnsignedDecimal};
+use fixed_decimal::{Call, Decimal, Sink, UnsignedDecimal};
 use std::alloc::Global;
 use test_support::{LimitedSink, shows};
 use uses::bill::split_bill;
@@ -30,8 +30,8 @@ fn is_cash(alloc: Global) -> bool {
 }
 
 /// Whether an amount is split into three parts.
-fn is_split(alloc: Global, amount: &UnsignedDecimal) -> bool {
-    match &split_bill(alloc, amount, 3) {
+fn is_split(alloc: Global) -> bool {
+    match &split_bill(alloc, &UnsignedDecimal::from_u8(alloc, 100), 3) {
         Ok(parts) => match parts.as_slice() {
             [first, second, third] => {
                 shows(first, b"33.34") && shows(second, b"33.33") && shows(third, b"33.33")
@@ -47,13 +47,22 @@ fn is_limited(value: &mut Decimal) -> bool {
     limit_decimals(value, 2).is_ok() && shows(value, b"-0.12")
 }
 
-#[test]
-fn callers(rt: HostRuntime) -> Result<(), ParseError> {
+/// Whether the callers that write into a sink write their texts.
+fn are_written(alloc: Global) -> bool {
     let mut sink = LimitedSink::new(WRITTEN, usize::MAX);
-    assert!(rt; write_each(rt.alloc(), &mut sink) && sink.has_all());
-    assert!(rt; is_cash(rt.alloc()));
-    assert!(rt; is_split(rt.alloc(), &UnsignedDecimal::from_u8(rt.alloc(), 100)));
-    let mut value = Decimal::try_from_str(rt.alloc(), "-0.125")?;
-    assert!(rt; is_limited(&mut value));
-    Ok(())
+    write_each(alloc, &mut sink) && sink.has_all()
+}
+
+/// Whether the callers that make or change a value have their results.
+fn are_made(alloc: Global) -> bool {
+    match Decimal::try_from_str(alloc, "-0.125") {
+        Ok(mut value) => is_limited(&mut value) && is_cash(alloc) && is_split(alloc),
+        Err(_) => false,
+    }
+}
+
+#[test]
+fn callers(rt: HostRuntime) {
+    assert!(rt; are_written(rt.alloc()));
+    assert!(rt; are_made(rt.alloc()));
 }
