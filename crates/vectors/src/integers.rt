@@ -1,5 +1,5 @@
 //! Values made of integers.
-use fixed_decimal::{DigitStore, FixedInteger, Sign, Signed, UnsignedOver};
+use fixed_decimal::{DigitStore, FixedInteger, Signed, UnsignedOver};
 use std::alloc::Global;
 use test_support::{Value, has_text};
 
@@ -44,31 +44,10 @@ fn makes_integers(alloc: Global, text: &str) -> Option<bool> {
         try_from_i128 i128, try_from_usize usize, try_from_isize isize)
 }
 
-/// Whether 0 and 1 are made by their names, and a decimal of its sign.
-fn makes_named<D: DigitStore>(alloc: Global, text: &str) -> bool {
-    match text {
-        "0" => {
-            has_text(&UnsignedOver::<D>::zero(alloc), text)
-                && has_text(&Signed::<UnsignedOver<D>>::zero(alloc), text)
-                && has_text(&FixedInteger::zero(alloc), text)
-        }
-        "1" => has_text(&UnsignedOver::<D>::one(alloc), text),
-        "-12" => {
-            let absolute = UnsignedOver::<D>::from_u8(alloc, 12);
-            has_text(
-                &Signed::<UnsignedOver<D>>::new(Sign::Negative, absolute),
-                text,
-            )
-        }
-        _ => true,
-    }
-}
-
 /// Whether values of each type are made of an integer.
 pub fn are_made<D: DigitStore>(alloc: Global, text: &str) -> Option<bool> {
     Some(
-        makes_named::<D>(alloc, text)
-            && makes_unsigned::<D>(alloc, text)?
+        makes_unsigned::<D>(alloc, text)?
             && makes_decimals::<D>(alloc, text)?
             && makes_integers(alloc, text)?,
     )

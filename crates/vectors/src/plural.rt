@@ -6,16 +6,13 @@ use test_support::CountingStore;
 
 /// Whether a text is parsed as rules, or fails with the error that a word names, at an offset.
 pub fn reads(alloc: Global, text: &str, (word, at): (&str, &str)) -> Option<bool> {
-    match PluralRules::try_from_str(alloc, text) {
-        Ok(_) => Some(word == "read"),
-        Err(RulesError::Syntax { at: offset }) => {
-            Some(word == "syntax" && at.parse::<usize>() == Ok(offset))
-        }
-        Err(RulesError::Limit { at: offset }) => {
-            Some(word == "limit" && at.parse::<usize>() == Ok(offset))
-        }
-        Err(RulesError::Memory) => None,
-    }
+    let (found, offset) = match PluralRules::try_from_str(alloc, text) {
+        Ok(_) => return Some(word == "read"),
+        Err(RulesError::Syntax { at }) => ("syntax", at),
+        Err(RulesError::Limit { at }) => ("limit", at),
+        Err(RulesError::Memory) => return None,
+    };
+    Some(word == found && at.parse::<usize>().ok()? == offset)
 }
 
 /// Whether the category of a text over a store that counts is found by this number of digits accessed.
