@@ -1,6 +1,6 @@
-//! What `{}` writes of the errors whose texts no clause states.
+//! What `{}` writes of the errors whose texts no clause states, by itself or with options.
 use decimal_format::SymbolsError;
-use fixed_decimal::{CallError, ConcatenateError, IntegerError, ParseError};
+use fixed_decimal::{CallError, ConcatenateError, IntegerError, ParseError, RunError};
 use std::error::Error;
 use test_support::displays;
 
@@ -18,6 +18,27 @@ const CALL_ERRORS: &[(CallError, &str)] = &[
         "Call 18446744073709551615: Magnitude or number of digits exceeded",
     ),
     (CallError::Memory { at: 12 }, "Call 12: Out of memory"),
+];
+
+const RUN_ERRORS: &[(RunError, &str)] = &[
+    (
+        RunError::Start(ParseError::Syntax),
+        "Start: Failed to parse the input string",
+    ),
+    (
+        RunError::Operand {
+            at: 0,
+            fault: ParseError::Limit,
+        },
+        "Call 0: Magnitude or number of digits exceeded",
+    ),
+    (RunError::Overlap { at: 1 }, "Call 1: The numbers overlap"),
+    (
+        RunError::Limit { at: usize::MAX },
+        "Call 18446744073709551615: Magnitude or number of digits exceeded",
+    ),
+    (RunError::Memory { at: 12 }, "Call 12: Out of memory"),
+    (RunError::Sink, "The sink refused a byte"),
 ];
 
 const CONCATENATE_ERRORS: &[(ConcatenateError<u8>, &str)] = &[
@@ -71,6 +92,7 @@ fn are_shown<E: Error>(rows: &[(E, &str)]) -> bool {
 #[test]
 fn displays_errors(rt: HostRuntime) {
     assert!(rt; are_shown(CALL_ERRORS));
+    assert!(rt; are_shown(RUN_ERRORS));
     assert!(rt; are_shown(CONCATENATE_ERRORS));
     assert!(rt; are_shown(INTEGER_ERRORS));
     assert!(rt; are_shown(SYMBOLS_ERRORS));
