@@ -1,22 +1,9 @@
-//! What rows of texts do not test: types, failing sinks, and callers. A helper holds one value, and returns whether its
-//! row holds.
-use fixed_decimal::{
-    Decimal, DigitList, DigitStore, PackedDigits, ParseError, UnsignedOver, Writeable,
-};
-use std::alloc::Global;
-use test_support::{displays, shows};
+//! What neither rows of texts nor clauses say: how often writers are called, texts of errors, and callers. Functions
+//! with a contract and no test are proved, and not run.
 
 mod callers;
-mod changes;
-mod constructors;
-mod digits;
 mod errors;
 mod modes;
-mod operands;
-mod rules;
-mod runs;
-
-/// Whether a value has this text.
-fn prints<T: Writeable + Drop>(value: T, text: &str) -> bool {
-    shows(&value, text.as_bytes())
-}
+mod references;
+mod sinks;
+mod stores;

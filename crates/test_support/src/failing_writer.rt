@@ -26,7 +26,6 @@ pub struct FailingWriter<'a> {
     width: usize,
     failure: WriteFailure,
     writes: usize,
-    failures: usize,
     flushes: usize,
 }
 
@@ -39,7 +38,6 @@ impl<'a> FailingWriter<'a> {
             width: 1,
             failure,
             writes: 0,
-            failures: 0,
             flushes: 0,
         }
     }
@@ -65,11 +63,6 @@ impl<'a> FailingWriter<'a> {
         self.writes
     }
 
-    /// Returns the number of failed writes.
-    pub fn failures(&self) -> usize {
-        self.failures
-    }
-
     /// Returns the number of flushes.
     pub fn flushes(&self) -> usize {
         self.flushes
@@ -79,7 +72,6 @@ impl<'a> FailingWriter<'a> {
     fn fail(&mut self) -> io::Result<usize>
         ensures { IfOk result (λ taken. taken ≡ 0) }
     {
-        self.failures = self.failures.saturating_add(1);
         match self.failure {
             WriteFailure::Zero | WriteFailure::Flush => Ok(0),
             WriteFailure::StorageFull => Err(io::Error::from(io::ErrorKind::StorageFull)),

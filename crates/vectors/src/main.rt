@@ -21,7 +21,11 @@
 //! integers | TEXT | U64 I64 U128 I128       Each an integer, of which values are made, or the error: `range`, `whole`.
 //! digits | TEXT | MAGNITUDE | DIGITS        The digits from the magnitude down.
 //! plural | RULES | CATEGORY | SAMPLES       The plural category of each sample, as CLDR writes rules and samples.
+//! rules | TEXT | RESULT [| OFFSET]          TEXT is `read` as plural rules, or fails with `syntax` or `limit`.
+//! accesses | RULES | TEXT | COUNT           The number of digits accessed to find the category.
 //! ```
+//!
+//! Runs that write a text are made once more into sinks with room for a part of it, which have to take the part.
 //!
 //! Rows of `decimal`, `order`, `pair decimal` and `integers` are checked on values with a sign, and where their texts
 //! have none on values without one too. Roundings are made by each call that makes them, and the digits that a single

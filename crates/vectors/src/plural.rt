@@ -1,7 +1,33 @@
-//! Plural categories of samples as CLDR writes them.
-use fixed_decimal::{CompactDecimal, Decimal};
-use plural_rules::{PluralOperands, PluralRules};
+//! The parser of plural rules, and plural categories of samples as CLDR writes them.
+use fixed_decimal::{CompactDecimal, Decimal, UnsignedOver};
+use plural_rules::{PluralOperands, PluralRules, RulesError};
 use std::alloc::Global;
+use test_support::CountingStore;
+
+/// Whether a text is parsed as rules, or fails with the error that a word names, at an offset.
+pub fn reads(alloc: Global, text: &str, (word, at): (&str, &str)) -> Option<bool> {
+    let (found, offset) = match PluralRules::try_from_str(alloc, text) {
+        Ok(_) => return Some(word == "read"),
+        Err(RulesError::Syntax { at }) => ("syntax", at),
+        Err(RulesError::Limit { at }) => ("limit", at),
+        Err(RulesError::Memory) => return None,
+    };
+    Some(word == found && at.parse::<usize>().ok()? == offset)
+}
+
+/// Whether the category of a text over a store that counts is found by this number of digits accessed.
+pub fn accesses<S: CountingStore>(
+    alloc: Global,
+    rules: &str,
+    text: &str,
+    count: &str,
+) -> Option<bool> {
+    let rules = PluralRules::try_from_str(alloc, rules).ok()?;
+    let value = UnsignedOver::<S>::try_from_str(alloc, text).ok()?;
+    value.store().restart();
+    let _ = rules.category(&PluralOperands::of(&value));
+    Some(value.store().accessed()? == count.parse::<usize>().ok()?)
+}
 
 /// Whether a text has a category. One with a `c` is a compact decimal.
 fn takes(alloc: Global, rules: &PluralRules, text: &str, category: &str) -> Option<bool> {

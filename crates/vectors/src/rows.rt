@@ -1,4 +1,5 @@
 //! Rows by their kinds.
+use crate::edited::Counting;
 use crate::{comparing, digits, edited, plural, reading, runs};
 use fixed_decimal::{DigitList, DigitStore, PackedDigits};
 use std::alloc::{AllocError, Global};
@@ -23,6 +24,8 @@ pub enum Kind {
     Integers,
     Digits,
     Plural,
+    Rules,
+    Accesses,
 }
 
 const KINDS: &[(&str, Kind)] = &[
@@ -47,6 +50,8 @@ const KINDS: &[(&str, Kind)] = &[
     ("integers", Kind::Integers),
     ("digits", Kind::Digits),
     ("plural", Kind::Plural),
+    ("rules", Kind::Rules),
+    ("accesses", Kind::Accesses),
 ];
 
 /// Returns the text of a field, which is in parts if it has a star.
@@ -88,6 +93,7 @@ fn holds_over<D: DigitStore>(
         Kind::DecimalPair => comparing::are_decimals::<D>(alloc, (first, second), third),
         Kind::Integers => digits::has_integers::<D>(alloc, first, second),
         Kind::Digits => digits::has_digits::<D>(alloc, first, second, third),
+        Kind::Accesses => plural::accesses::<Counting<D>>(alloc, first, second, third),
         _ => None,
     }
 }
@@ -103,6 +109,7 @@ fn holds_by_kind(alloc: Global, kind: Kind, row: (&str, &str, &str), count: &str
             comparing::is_pair(alloc, kind, (first, second), third)
         }
         Kind::Plural => plural::take(alloc, first, second, third),
+        Kind::Rules => plural::reads(alloc, first, (second, third)),
         _ => Some(
             holds_over::<DigitList>(alloc, kind, row, count)?
                 && holds_over::<PackedDigits>(alloc, kind, row, count)?,

@@ -43,16 +43,18 @@ fn is_error(alloc: Global, error: &RunError, wanted: &str) -> Option<bool> {
     Some(is_same)
 }
 
-/// Whether a run over a store writes a text, or writes nothing and fails with the error of the text.
+/// Whether a run over a store writes a text, or writes nothing and fails with the error of the text. It fails with the
+/// sink, which has room for `room` bytes and takes these, if the text has more.
 fn has_outcome_over<D: DigitStore>(
     alloc: Global,
-    start: &str,
-    calls: &[Call<'_>],
+    (start, calls): (&str, &[Call<'_>]),
     wanted: &str,
+    room: usize,
 ) -> Option<bool> {
-    let mut sink = LimitedSink::new(wanted.as_bytes(), usize::MAX);
+    let mut sink = LimitedSink::new(wanted.as_bytes(), room);
     match run_over::<D, LimitedSink<'_>>(alloc, start.as_bytes(), calls, &mut sink) {
         Ok(()) => Some(sink.has_all()),
+        Err(RunError::Sink) => Some(room < wanted.len() && sink.failed() && sink.has_taken(room)),
         Err(error) => {
             Some(sink.has_taken(0) && !sink.failed() && is_error(alloc, &error, wanted)?)
         }
@@ -62,10 +64,10 @@ fn has_outcome_over<D: DigitStore>(
 /// The same over a store that is out of memory for more than `M` digits.
 fn has_outcome_within<D: DigitStore, M: DigitLimit>(
     alloc: Global,
-    (start, calls): (&str, &[Call<'_>]),
+    run: (&str, &[Call<'_>]),
     wanted: &str,
 ) -> Option<bool> {
-    has_outcome_over::<LimitedStore<D, M>>(alloc, start, calls, wanted)
+    has_outcome_over::<LimitedStore<D, M>>(alloc, run, wanted, usize::MAX)
 }
 
 /// The same over a store that is out of memory for more than `most` digits, if it keeps fewer in place.
@@ -100,8 +102,7 @@ fn has_failed(sink: &mut TextBuf, text: &str) -> bool {
 /// The same into a sink in memory; `None` if the sink fails as it has to.
 fn has_outcome_in_memory(
     alloc: Global,
-    start: &str,
-    calls: &[Call<'_>],
+    (start, calls): (&str, &[Call<'_>]),
     wanted: &str,
 ) -> Option<bool> {
     let mut sink = TextBuf::new(alloc);
@@ -115,7 +116,7 @@ fn has_outcome_in_memory(
     }
 }
 
-/// The same into a sink in memory, over a store, and over one that counts.
+/// The same into a sink in memory, over a store and over one that counts, and into sinks without room for the text.
 pub fn has_outcome<D: DigitStore>(
     alloc: Global,
     start: &str,
@@ -123,10 +124,13 @@ pub fn has_outcome<D: DigitStore>(
     wanted: &str,
 ) -> Option<bool> {
     let calls = calls(alloc, words)?;
-    let calls = calls.as_slice();
+    let run = (start, calls.as_slice());
+    let length = wanted.len();
     Some(
-        has_outcome_in_memory(alloc, start, calls, wanted)?
-            && has_outcome_over::<D>(alloc, start, calls, wanted)?
-            && has_outcome_over::<Counting<D>>(alloc, start, calls, wanted)?,
+        has_outcome_in_memory(alloc, run, wanted)?
+            && has_outcome_over::<D>(alloc, run, wanted, usize::MAX)?
+            && has_outcome_over::<D>(alloc, run, wanted, length / 2)?
+            && has_outcome_over::<Counting<D>>(alloc, run, wanted, length.saturating_sub(1))?
+            && has_outcome_over::<Counting<D>>(alloc, run, wanted, usize::MAX)?,
     )
 }

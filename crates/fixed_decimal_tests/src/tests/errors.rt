@@ -1,10 +1,25 @@
-//! What `{}` writes of each error.
-use super::*;
+//! What `{}` writes of the errors whose texts no clause states, by itself or with options.
 use decimal_format::SymbolsError;
-use fixed_decimal::{ConcatenateError, IntegerError, LimitError, RoundError, RunError, SinkFault};
+use fixed_decimal::{CallError, ConcatenateError, IntegerError, ParseError, RunError};
 use std::error::Error;
+use test_support::displays;
 
-/// Errors of runs, and their texts.
+const CALL_ERRORS: &[(CallError, &str)] = &[
+    (
+        CallError::Operand {
+            at: 0,
+            fault: ParseError::Limit,
+        },
+        "Call 0: Magnitude or number of digits exceeded",
+    ),
+    (CallError::Overlap { at: 1 }, "Call 1: The numbers overlap"),
+    (
+        CallError::Limit { at: usize::MAX },
+        "Call 18446744073709551615: Magnitude or number of digits exceeded",
+    ),
+    (CallError::Memory { at: 12 }, "Call 12: Out of memory"),
+];
+
 const RUN_ERRORS: &[(RunError, &str)] = &[
     (
         RunError::Start(ParseError::Syntax),
@@ -26,7 +41,16 @@ const RUN_ERRORS: &[(RunError, &str)] = &[
     (RunError::Sink, "The sink refused a byte"),
 ];
 
-/// Errors of symbols, and their texts.
+const CONCATENATE_ERRORS: &[(ConcatenateError<u8>, &str)] = &[
+    (ConcatenateError::Overlap(5), "The numbers overlap"),
+    (ConcatenateError::Memory(5), "Out of memory"),
+];
+
+const INTEGER_ERRORS: &[(IntegerError, &str)] = &[
+    (IntegerError::NotWhole, "Not a whole number"),
+    (IntegerError::OutOfRange, "Integer out of range"),
+];
+
 const SYMBOLS_ERRORS: &[(SymbolsError, &str)] = &[
     (SymbolsError::DigitWidths, "The digits differ in length"),
     (
@@ -55,37 +79,21 @@ const SYMBOLS_ERRORS: &[(SymbolsError, &str)] = &[
     ),
 ];
 
-/// Whether `{}` writes this text of an error, with any options.
-fn displays_as<E: Error>(error: &E, text: &str) -> bool {
-    displays(error, text.as_bytes())
-}
-
-/// Whether errors of a number, of two numbers and of a sink have their texts.
-fn have_texts() -> bool {
-    displays_as(&ConcatenateError::Overlap(5), "The numbers overlap")
-        && displays_as(&ConcatenateError::Memory(5), "Out of memory")
-        && displays_as(&LimitError, "Magnitude or number of digits exceeded")
-        && displays_as(&RoundError::Limit, "Magnitude or number of digits exceeded")
-        && displays_as(&RoundError::Memory, "Out of memory")
-        && displays_as(&SinkFault, "The sink refused a byte")
-}
-
-/// Whether errors of texts and of integers have their texts.
-fn have_texts_of_reading() -> bool {
-    displays_as(&ParseError::Limit, "Magnitude or number of digits exceeded")
-        && displays_as(&ParseError::Syntax, "Failed to parse the input string")
-        && displays_as(&ParseError::Memory, "Out of memory")
-        && displays_as(&IntegerError::NotWhole, "Not a whole number")
-        && displays_as(&IntegerError::OutOfRange, "Integer out of range")
+/// Whether `{}` writes each error as its text, with any options.
+fn are_shown<E: Error>(rows: &[(E, &str)]) -> bool {
+    for (error, text) in rows {
+        if !displays(error, text.as_bytes()) {
+            return false;
+        }
+    }
+    true
 }
 
 #[test]
 fn displays_errors(rt: HostRuntime) {
-    assert!(rt; have_texts() && have_texts_of_reading());
-    for (error, text) in RUN_ERRORS {
-        assert!(rt; displays_as(error, text), "{text}");
-    }
-    for (error, text) in SYMBOLS_ERRORS {
-        assert!(rt; displays(error, text.as_bytes()), "{text}");
-    }
+    assert!(rt; are_shown(CALL_ERRORS));
+    assert!(rt; are_shown(RUN_ERRORS));
+    assert!(rt; are_shown(CONCATENATE_ERRORS));
+    assert!(rt; are_shown(INTEGER_ERRORS));
+    assert!(rt; are_shown(SYMBOLS_ERRORS));
 }

@@ -5,7 +5,6 @@ use fixed_decimal::SignedRoundingMode::{Ceil, Floor, HalfCeil, HalfFloor, Unsign
 use fixed_decimal::UnsignedRoundingMode::{self, Expand, HalfEven, HalfExpand, HalfTrunc, Trunc};
 use fixed_decimal::{RoundingIncrement, Sign, SignDisplay};
 use std::cmp::Ordering;
-use std::process::Abort;
 
 /// The modes are ordered as they are written.
 fn modes_in_order(mode: UnsignedRoundingMode) -> bool
@@ -14,22 +13,20 @@ fn modes_in_order(mode: UnsignedRoundingMode) -> bool
     Unsigned(mode) < Ceil && Ceil < Floor && Floor < HalfCeil && HalfCeil < HalfFloor
 }
 
-fn assert_order(rt: &impl Abort, low: UnsignedRoundingMode, high: UnsignedRoundingMode) {
-    assert!(rt; low < high);
-    assert_eq!(rt; high.cmp(&low), Ordering::Greater);
+fn unsigned_modes_in_order() -> bool
+    ensures { result ≡ true }
+{
+    Expand < Trunc
+        && Trunc < HalfExpand
+        && HalfExpand < HalfTrunc
+        && HalfTrunc < HalfEven
+        && HalfEven.cmp(&Expand) == Ordering::Greater
 }
 
-#[test]
-fn orders_modes(rt: HostRuntime) {
-    assert_order(&rt, Expand, Trunc);
-    assert_order(&rt, Trunc, HalfExpand);
-    assert_order(&rt, HalfExpand, HalfTrunc);
-    assert_order(&rt, HalfTrunc, HalfEven);
-}
-
-#[test]
-fn has_defaults(rt: HostRuntime) {
-    assert!(rt; Sign::default() == Sign::None);
-    assert!(rt; SignDisplay::default() == SignDisplay::Auto);
-    assert!(rt; RoundingIncrement::default() == RoundingIncrement::MultiplesOf1);
+fn have_defaults() -> bool
+    ensures { result ≡ true }
+{
+    Sign::default() == Sign::None
+        && SignDisplay::default() == SignDisplay::Auto
+        && RoundingIncrement::default() == RoundingIncrement::MultiplesOf1
 }

@@ -1,0 +1,108 @@
+//! How often sinks call their writers, and when no longer.
+use decimal_digits::sink::{BufferedOut, Out, Sink, SinkFault};
+use std::alloc::{AllocError, Global};
+use std::io::{ErrorKind, Write};
+use test_support::FailingWriter;
+use test_support::WriteFailure::{self, Flush, Interrupted, StorageFull, Zero};
+
+/// The text that is put into sinks.
+const TEXT: &[u8] = b"-1234.50";
+
+/// The number of bytes that a writer takes, one a write, how it fails, the kind of its error, and the numbers of its
+/// writes and flushes.
+type Row = (usize, WriteFailure, Option<ErrorKind>, usize, usize);
+
+const ROWS: &[Row] = &[
+    (0, Zero, Some(ErrorKind::WriteZero), 1, 0),
+    (3, Zero, Some(ErrorKind::WriteZero), 4, 0),
+    (7, Zero, Some(ErrorKind::WriteZero), 8, 0),
+    (0, StorageFull, Some(ErrorKind::StorageFull), 1, 0),
+    (7, StorageFull, Some(ErrorKind::StorageFull), 8, 0),
+    (0, Interrupted, Some(ErrorKind::Interrupted), 1, 0),
+    (7, Interrupted, Some(ErrorKind::Interrupted), 8, 0),
+    (8, Flush, Some(ErrorKind::BrokenPipe), 8, 1),
+    (8, Zero, None, 8, 1),
+];
+
+/// Whether a writer has taken its bytes, and was called so often.
+fn is_called(writer: &FailingWriter<'_>, (room, _, _, writes, flushes): Row) -> bool {
+    writer.has_taken(room) && writer.writes() == writes && writer.flushes() == flushes
+}
+
+/// Puts the text and flushes, up to the first error.
+fn put<W: Write>(out: &mut Out<W>) -> Result<(), SinkFault> {
+    out.put_bytes(b"")?;
+    out.put_byte(TEXT[0])?;
+    out.put_bytes(&TEXT[1..])?;
+    out.flush()
+}
+
+/// Whether each call of a sink fails.
+fn rejects_all<W: Write>(out: &mut Out<W>) -> bool {
+    out.put_byte(b'0').is_err() && out.put_bytes(b"0").is_err() && out.flush().is_err()
+}
+
+/// Whether a sink calls its writer so often, and no more after an error.
+fn calls(row: Row) -> bool {
+    let mut out = Out::new(FailingWriter::new(TEXT, row.0, row.1));
+    let is_right = match put(&mut out) {
+        Ok(()) => row.2.is_none(),
+        Err(SinkFault) => row.2.is_some() && rejects_all(&mut out),
+    };
+    is_right && is_called(&out.into_writer(), row)
+}
+
+/// The same of a sink that writes in blocks, with the kind of the error.
+fn calls_when_closed(alloc: Global, row: Row) -> Result<bool, AllocError> {
+    let mut sink = BufferedOut::open(alloc, FailingWriter::new(TEXT, row.0, row.1))?;
+    let is_taken = sink.put_bytes(TEXT).is_ok();
+    let closed = sink.close();
+    let is_kind = closed.error() == row.2;
+    Ok(is_taken && is_kind && is_called(&closed.into_writer(), row))
+}
+
+#[test]
+fn calls_writers(rt: HostRuntime) {
+    for row in ROWS {
+        assert!(rt; calls(*row), "{} bytes", row.0);
+        assert!(rt;
+            calls_when_closed(rt.alloc(), *row) == Ok(true),
+            "{} bytes",
+            row.0
+        );
+    }
+}
+
+/// The sizes of slices, and the number of writes to a writer that takes any number of bytes a call.
+const WRITES: &[(&[usize], usize)] = &[
+    (&[], 0),
+    (&[0], 0),
+    (&[1, 1, 1], 1),
+    (&[65_536], 1),
+    (&[65_536, 1], 2),
+    (&[65_535, 2], 2),
+    (&[65_537], 1),
+    (&[1, 65_537, 1], 3),
+];
+
+/// Returns the number of writes of slices of these sizes.
+fn writes_of(alloc: Global, bytes: &[u8], sizes: &[usize]) -> Result<usize, AllocError> {
+    let writer = FailingWriter::new(b"", usize::MAX, Zero).with_width(usize::MAX);
+    let mut sink = BufferedOut::open(alloc, writer)?;
+    for size in sizes {
+        let _ = sink.put_bytes(&bytes[..bytes.len().min(*size)]);
+    }
+    Ok(sink.close().into_writer().writes())
+}
+
+#[test]
+fn writes_blocks(rt: HostRuntime) -> Result<(), AllocError> {
+    let bytes = vec![in rt.alloc(); b'7'; 65_537]?;
+    for (sizes, writes) in WRITES {
+        assert!(rt;
+            writes_of(rt.alloc(), bytes.as_slice(), sizes) == Ok(*writes),
+            "{writes}"
+        );
+    }
+    Ok(())
+}
