@@ -37,3 +37,12 @@ returns-clause-value g c =
     one_by c.args.mode c.args.remainder _ _ _ _ true c.last_of-last.ensures.value c.if-not-rounds_up.ensures
     (leading_raised c.args.keep (c.args.keep - 1) _ _ (omega arith) (λ i h. grind (arith, nibble_rules))
     (grind (arith, nibble_rules)) (λ i h l. absurd (omega arith)) (λ i h l. absurd (omega arith)))
+
+pub returns-clause-stripped : goal.returns-clause-stripped
+returns-clause-stripped g c = grind (arith, nibble_rules)
+
+pub keep_leading-requires : goal.keep_leading-requires
+keep_leading-requires g c = grind arith
+
+pub add_one-requires : goal.add_one-requires
+add_one-requires g c = grind arith
