@@ -1,5 +1,4 @@
-use Rattle.std.proofs.Common.{arith}
-use Rattle.std.proofs.lemmas.Grind.{common_steps}
+use Rattle.std.proofs.{Common.arith, lemmas.Grind.common_steps}
 use Rattle.decimal_digits.proofs.rounding.round_digits.keep_leading.Goals as goal
 
 pub returns-then-last-eq0 : goal.returns-then-last-eq0

@@ -1,5 +1,4 @@
-use Rattle.std.proofs.Common.{◌-◌, true, false, refl, arith, rules}
-use Rattle.std.proofs.lemmas.Option.{IfSome_then}
+use Rattle.std.proofs.{Common.{◌-◌, true, false, refl, arith, rules}, lemmas.Option.IfSome_then}
 use Rattle.decimal_digits.proofs.lemmas.{digits.Nibbles.nibble_rules, rounding.{Leading.leading_raised, Remainders.{one_by, exact_stays}, Results.if_none}}
 use Rattle.decimal_digits.proofs.rounding.round_digits.round_by_one.Goals as goal
 

@@ -1,5 +1,4 @@
-use Rattle.std.proofs.Common.{◌≡◌, ◌+◌, ◌-◌, ◌≤◌, length, refl, arith, rules}
-use Rattle.std.proofs.lemmas.{Grind.common_steps, List.Elements.recursion_from_All}
+use Rattle.std.proofs.{Common.{◌≡◌, ◌+◌, ◌-◌, ◌≤◌, length, refl, arith, rules}, lemmas.{Grind.common_steps, List.Elements.recursion_from_All}}
 use Rattle.decimal_digits.proofs.lemmas.{digits.Nibbles.nibble_rules, rounding.{Leading.{leading_none, leading_hundred, leading_same, one_more}, NumberAt.powers, Results.none_is_error}}
 use Rattle.decimal_digits.specs.{Remainders.leading, declared.rounding.RoundError.TheVariants.Limit, declared.rounding.RoundingIncrement.TheVariants.MultiplesOf1}
 use Rattle.decimal_digits.proofs.rounding.round_digits.round_leading.Goals as goal

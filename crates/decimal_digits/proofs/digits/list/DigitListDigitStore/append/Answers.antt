@@ -1,5 +1,4 @@
-use Rattle.std.proofs.Common.{arith}
-use Rattle.std.proofs.lemmas.Grind.{common_steps, elements, moves}
+use Rattle.std.proofs.{Common.arith, lemmas.Grind.{common_steps, elements, moves}}
 use Rattle.decimal_digits.proofs.digits.list.DigitListDigitStore.append.Goals as goal
 
 pub invariant_of-self-in-loop : goal.invariant_of-self-in-loop

@@ -1,5 +1,4 @@
-use Rattle.std.proofs.Common.{◌-◌, get_or, ◌∙◌, ap, sym, arith}
-use Rattle.std.proofs.lemmas.List.{get_or-take}
+use Rattle.std.proofs.{Common.{◌-◌, get_or, ◌∙◌, ap, sym, arith}, lemmas.List.get_or-take}
 use Rattle.decimal_digits.proofs.lemmas.digits.Nibbles.{nibble_rules}
 use Rattle.decimal_digits.proofs.digits.packed.bulk.count_trailing_nibbles.Goals as goal
 

@@ -1,5 +1,4 @@
-use Rattle.std.proofs.Common.{length, get_or, ap, arith}
-use Rattle.std.proofs.lemmas.Grind.{same_number_lists}
+use Rattle.std.proofs.{Common.{length, get_or, ap, arith}, lemmas.Grind.same_number_lists}
 use Rattle.decimal_digits.proofs.{lemmas.digits.Nibbles.nibble_rules, digits.packed.nibbles.append_nibbles.Goals.{then-count-eq1, else-count-eq1}}
 use Rattle.decimal_digits.proofs.digits.packed.nibbles.append_nibbles.Goals as goal
 
