@@ -1,7 +1,5 @@
 -- A value times a power of ten.
-use Rattle.std.proofs.Common.{◌≡◌, ℕ, ◌+◌, ◌-◌, ◌*◌, ◌/◌, ◌^◌, ◌<◌, ◌≤◌, false, List, length, sym, ◌∙◌, ap, arith, ◌⊎◌, Some, None, ℤ, pos, negsuc, ◌+ℤ◌, ◌≤ℤ◌, ◌<ℤ◌}
-use Rattle.std.proofs.Math.Nat.{zero-div}
-use Rattle.std.proofs.lemmas.{Bool.cases_lt, Int.{ints, clamps}, Nat.pow-add}
+use Rattle.std.proofs.{Common.{◌≡◌, ℕ, ◌+◌, ◌-◌, ◌*◌, ◌/◌, ◌^◌, ◌<◌, ◌≤◌, false, List, length, sym, ◌∙◌, ap, arith, ◌⊎◌, Some, None, ℤ, pos, negsuc, ◌+ℤ◌, ◌≤ℤ◌, ◌<ℤ◌}, Math.Nat.zero-div, lemmas.{Bool.cases_lt, Int.{ints, clamps}, Nat.pow-add}}
 use Rattle.std.specs.{Int.{int_max, int_min}, Int.Digits.number_from_digits}
 use Rattle.decimal_digits.proofs.lemmas.{digits.Rules.steps, ops.Offsets.offset_is, rounding.Ends.shift_up}
 use Rattle.decimal_digits.specs.{Digits.{number_of, number_at}, Number.offset}
