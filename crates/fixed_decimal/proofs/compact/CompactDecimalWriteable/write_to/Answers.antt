@@ -1,5 +1,4 @@
-use Rattle.std.proofs.Common.{arith}
-use Rattle.std.proofs.lemmas.Result.{IfOk-from_err, on_ok_weaker}
+use Rattle.std.proofs.{Common.arith, lemmas.Result.{IfOk-from_err, on_ok_weaker}}
 use Rattle.decimal_digits.proofs.lemmas.rounding.Results.{on_err}
 use Rattle.fixed_decimal.proofs.lemmas.{integer.CompactTexts.compact_reads_back, signed_decimal.Writing.{first_fails, second_fails, both_written}}
 use Rattle.fixed_decimal.proofs.compact.CompactDecimalWriteable.write_to.Goals as goal

@@ -1,6 +1,4 @@
-use Rattle.std.proofs.Common.{[], append-nil}
-use Rattle.std.proofs.KnownBytes.{Appends-kept}
-use Rattle.std.proofs.lemmas.Result.{IfOk-from_err, on_ok_weaker}
+use Rattle.std.proofs.{Common.{[], append-nil}, KnownBytes.Appends-kept, lemmas.Result.{IfOk-from_err, on_ok_weaker}}
 use Rattle.decimal_digits.proofs.lemmas.rounding.Results.{on_err}
 use Rattle.fixed_decimal.proofs.lemmas.{integer.ScientificTexts.scientific_reads_back, signed_decimal.Writing.{first_fails, second_fails, both_written}}
 use Rattle.fixed_decimal.proofs.scientific.ScientificDecimalWriteable.write_to.Goals as goal
