@@ -39,9 +39,3 @@ returns-clause-value g c =
 
 pub returns-clause-stripped : goal.returns-clause-stripped
 returns-clause-stripped g c = grind (arith, nibble_rules)
-
-pub keep_leading-requires : goal.keep_leading-requires
-keep_leading-requires g c = grind arith
-
-pub add_one-requires : goal.add_one-requires
-add_one-requires g c = grind arith

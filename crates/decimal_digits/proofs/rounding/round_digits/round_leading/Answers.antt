@@ -104,17 +104,5 @@ returns-in-Ok-clause-value g c =
     c.round_last_two-rounded.ensures.rounds _ _ _ c.last_two_of-last_two.ensures.value
     (rw c.last_two_of-last_two.ensures.reads.0 at c.in-Ok.ensures.value)
 
-pub round_by_one-requires : goal.round_by_one-requires
-round_by_one-requires g c = grind arith
-
-pub keep_leading-requires : goal.keep_leading-requires
-keep_leading-requires g c = grind arith
-
-pub add_one-requires : goal.add_one-requires
-add_one-requires g c = grind arith
-
-pub write_last_two-requires : goal.write_last_two-requires
-write_last_two-requires g c = grind arith
-
 pub strip_trailing_zeros-requires : goal.strip_trailing_zeros-requires
 strip_trailing_zeros-requires g c = grind (arith, nibble_rules)

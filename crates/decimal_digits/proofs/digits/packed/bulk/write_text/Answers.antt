@@ -12,8 +12,5 @@ returns-then-not-is_empty c =
     same_number_lists _ _ (grind (arith, nibble_rules))
     (λ k h. grind (arith, nibble_rules, ap (λ l. get_or l (k - 1) 0) written))
 
-pub write_pairs-requires : goal.write_pairs-requires
-write_pairs-requires c = grind (arith, nibble_rules)
-
 pub write_pairs-requires-then-not-is_empty : goal.write_pairs-requires-then-not-is_empty
 write_pairs-requires-then-not-is_empty c = grind (arith, nibble_rules)
