@@ -1,7 +1,5 @@
 -- The lemmas for callers: what a proof outside these libraries cites of them, each with its use.
-use Rattle.std.proofs.Common.{◌≡◌, ℕ, zero, suc, ◌+◌, ◌-◌, ◌*◌, ◌/◌, ◌<◌, ◌≤◌, false, List, [], ◌∷◌, ◌++◌, refl, sym, ◌∙◌, ap, arith, Ok, Err, Some, ℤ, pos, ◌-ℤ◌, ◌%◌, ◌^◌, inl, inr, append_assoc, Option, ◌↔◌, unsigned_abs, negsuc, ◌+ℤ◌, ◌≤ℤ◌, ◌<ℤ◌, ◌==◌}
-use Rattle.std.proofs.Math.Nat.{mod-lt, mul_assoc, mul-le-mul_right, mul-lt-mul_of_pos_right, le-mul_of_pos_right, mul-div_cancel, mul-mod_left, div-add-mod', pow-le-pow_right}
-use Rattle.std.proofs.lemmas.{Bool.cases_lt, Bool.Decides.nat_tests, Int.{ints, clamps}}
+use Rattle.std.proofs.{Common.{◌≡◌, ℕ, zero, suc, ◌+◌, ◌-◌, ◌*◌, ◌/◌, ◌<◌, ◌≤◌, false, List, [], ◌∷◌, ◌++◌, refl, sym, ◌∙◌, ap, arith, Ok, Err, Some, ℤ, pos, ◌-ℤ◌, ◌%◌, ◌^◌, inl, inr, append_assoc, Option, ◌↔◌, unsigned_abs, negsuc, ◌+ℤ◌, ◌≤ℤ◌, ◌<ℤ◌, ◌==◌}, Math.Nat.{mod-lt, mul_assoc, mul-le-mul_right, mul-lt-mul_of_pos_right, le-mul_of_pos_right, mul-div_cancel, mul-mod_left, div-add-mod', pow-le-pow_right}, lemmas.{Bool.Decides.nat_tests, Bool.cases_lt, Int.{ints, clamps}}}
 use Rattle.std.specs.{Int.{int_gap, abs_diff}, Io.KnownBytes.Appends}
 use Rattle.decimal_digits.proofs.lemmas.rounding.Ends.{no_more_zeros}
 use Rattle.decimal_digits.specs.{AppendsPrefix.AppendsPrefix, Number.{weight, digit, size, offset, magnitude_at, first, last}, Rounding.IsNearest}

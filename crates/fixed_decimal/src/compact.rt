@@ -146,7 +146,6 @@ impl CompactDecimal {
     /// - `Syntax`: the text after that `c` is empty, begins with `0`, or is not all digits, as in `1c01` and `1c1c1`.
     /// - `Limit`: the exponent is above 255.
     /// - `Memory`: out of memory, only for more than `INLINE_DIGITS` digits of the significand.
-    #[tactic(auto, using(crate::proofs::lemmas::integer::CompactTexts::compact_reads))]
     pub fn try_from_str(alloc: Global, text: &str) -> Result<Self, ParseError>
         ensures parses { IsParseResult (HasLongSignificand INLINE_DIGITS) result (read_compact text.now) }
         // The result of reading, by the parts of the text.

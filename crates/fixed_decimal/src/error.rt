@@ -52,7 +52,7 @@ impl fmt::Display for RunError {
             RunError::Overlap { at } => write!(f, "Call {at}: The numbers overlap"),
             RunError::Limit { at } => write!(f, "Call {at}: {}", LimitError),
             RunError::Memory { at } => write!(f, "Call {at}: {}", RoundError::Memory),
-            RunError::Sink => write!(f, "{}", SinkFault),
+            RunError::Sink => SinkFault.fmt(f),
         }
     }
 }

@@ -110,7 +110,6 @@ impl ScientificDecimal {
     /// - `Syntax`, `Limit`: those of `Decimal`, for the text before the `e`.
     /// - `Syntax`, `Limit`: those of `FixedInteger`, for the text after the `e`; so `1e1.0` is `Limit`.
     /// - `Memory`: out of memory, only for more than `INLINE_DIGITS` digits of a part; the other part is dropped.
-    #[tactic(auto, using(crate::proofs::lemmas::integer::ScientificTexts::scientific_reads))]
     pub fn try_from_utf8(alloc: Global, text: &[u8]) -> Result<Self, ParseError>
         ensures parses { IsParseResult (HasLongField INLINE_DIGITS) result (read_scientific text.now) }
         // The result of reading, by the parts of the text.

@@ -1,7 +1,5 @@
 -- The number that a list of decimal digits writes.
-use Rattle.std.proofs.Common.{◌≡◌, ℕ, zero, suc, ◌+◌, ◌-◌, ◌*◌, ◌/◌, ◌%◌, ◌^◌, ◌<◌, ◌≤◌, List, [], ◌∷◌, ◌++◌, length, get_or, take, drop, replicate, sym, ◌∙◌, ap, arith, rules}
-use Rattle.std.proofs.Math.Nat.{mul-le-mul_right, pow-zero, pow-suc, one-le-pow, div-one}
-use Rattle.std.proofs.lemmas.{Bool.Decides.nat_tests, Int.{ints, clamps}, Int.Digits.{number_lt, number_after_append, number_more}, List.{take-append-drop, length-drop}, Nat.{div-mul-add, mod-mul-add}}
+use Rattle.std.proofs.{Common.{◌≡◌, ℕ, zero, suc, ◌+◌, ◌-◌, ◌*◌, ◌/◌, ◌%◌, ◌^◌, ◌<◌, ◌≤◌, List, [], ◌∷◌, ◌++◌, length, get_or, take, drop, replicate, sym, ◌∙◌, ap, arith, rules}, Math.Nat.{mul-le-mul_right, pow-zero, pow-suc, one-le-pow, div-one}, lemmas.{Bool.Decides.nat_tests, Int.Digits.{number_lt, number_after_append, number_more}, Int.{ints, clamps}, List.{take-append-drop, length-drop}, Nat.{div-mul-add, mod-mul-add}}}
 use Rattle.std.specs.Int.Digits.{number_from_digits_after, number_from_digits, AllBelowBase}
 
 -- a power of ten is above 0

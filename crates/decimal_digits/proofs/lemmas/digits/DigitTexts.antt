@@ -1,6 +1,5 @@
 -- Digits and the text that writes them.
-use Rattle.std.proofs.Common.{◌≡◌, ℕ, ◌+◌, ◌<◌, ◌≤◌, List, length, get_or, arith}
-use Rattle.std.proofs.lemmas.{Str.digit_value_digit, Str.Parse.digit_at}
+use Rattle.std.proofs.{Common.{◌≡◌, ℕ, ◌+◌, ◌<◌, ◌≤◌, List, length, get_or, arith}, lemmas.{Str.Parse.digit_at, Str.digit_value_digit}}
 use Rattle.std.specs.{Char.digit_value, Str.Parse.AllDigits}
 
 -- each byte of a text of digits is an ASCII digit

@@ -1,6 +1,5 @@
 -- The nibbles of a number in base 16, the highest first.
-use Rattle.std.proofs.Common.{◌≡◌, ℕ, zero, suc, ◌+◌, ◌-◌, ◌*◌, ◌/◌, ◌^◌, ◌<◌, ◌≤◌, List, [], ◌∷◌, ◌++◌, length, get_or, take, replicate, refl, sym, ◌∙◌, ap, arith, All}
-use Rattle.std.proofs.lemmas.{Bool.Decides.nat_tests, Grind.{common_steps, same_number_lists}, Int.{clamps, ints}, Int.Digits.number_lt, List.{length-append, length-replicate, get_or_past, take_all}, List.Elements.{recursion_from_All, All-append, All-from_recursion, All-replicate}, Nat.{div-mul-add, mod-mul-add, pow-add, mul-pow}}
+use Rattle.std.proofs.{Common.{◌≡◌, ℕ, zero, suc, ◌+◌, ◌-◌, ◌*◌, ◌/◌, ◌^◌, ◌<◌, ◌≤◌, List, [], ◌∷◌, ◌++◌, length, get_or, take, replicate, refl, sym, ◌∙◌, ap, arith, All}, lemmas.{Bool.Decides.nat_tests, Grind.{common_steps, same_number_lists}, Int.Digits.number_lt, Int.{clamps, ints}, List.Elements.{recursion_from_All, All-append, All-from_recursion, All-replicate}, List.{length-append, length-replicate, get_or_past, take_all}, Nat.{div-mul-add, mod-mul-add, pow-add, mul-pow}}}
 use Rattle.std.specs.{Int.{w64, to_be_bytes, bytes_high_first, byte_at}, Int.Digits.{number_from_digits_after, number_from_digits, AllBelowBase}}
 use Rattle.decimal_digits.proofs.lemmas.digits.{DigitLists.{below_take, number_after, number_pad}, Nibbles.nibble_rules, Packing.{encodes, front_digits}, Rules.steps}
 use Rattle.decimal_digits.specs.{Nibbles.{digits_in, nibbles, leading_bytes, wide_leading_bytes, padded, IsPacked}, Packing.Encodes}

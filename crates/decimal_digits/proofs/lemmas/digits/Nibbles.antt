@@ -1,7 +1,5 @@
 -- The nibbles of bytes.
-use Rattle.std.proofs.Common.{◌≡◌, ℕ, zero, suc, ◌+◌, ◌*◌, ◌/◌, ◌%◌, ◌<◌, ◌⊎◌, inl, inr, List, [], ◌∷◌, length, get_or, drop, map, refl, sym, ◌∙◌, ap, arith}
-use Rattle.std.proofs.Math.ListN.{get_or-map}
-use Rattle.std.proofs.lemmas.{Bool.cases_eq, Grind.{same_number_lists, get_or_head, get_or-set_at}, List.{length-append, length-drop, length-map, length-replicate, length-set, length-take, get_or-drop, get_or-replicate, get_or-take, get_or_past, get_or-append_right, get_or-map as map_at, get_or-set_other, get_or_append_left, take_at}}
+use Rattle.std.proofs.{Common.{◌≡◌, ℕ, zero, suc, ◌+◌, ◌*◌, ◌/◌, ◌%◌, ◌<◌, ◌⊎◌, inl, inr, List, [], ◌∷◌, length, get_or, drop, map, refl, sym, ◌∙◌, ap, arith}, Math.ListN.get_or-map, lemmas.{Bool.cases_eq, Grind.{same_number_lists, get_or_head, get_or-set_at}, List.{length-append, length-drop, length-map, length-replicate, length-set, length-take, get_or-drop, get_or-replicate, get_or-take, get_or_past, get_or-append_right, get_or-map as map_at, get_or-set_other, get_or_append_left, take_at}}}
 use Rattle.std.specs.{Char.digit_value, List.refill}
 use Rattle.decimal_digits.specs.{Nibbles.nibbles, Packing.length-nibbles}
 

@@ -1,6 +1,5 @@
 -- Lists that are equal in two parts, which may overlap.
-use Rattle.std.proofs.Common.{◌≡◌, ℕ, ◌+◌, ◌-◌, ◌≤◌, ◌++◌, List, length, take, drop, sym, ◌∙◌, ap, arith, ◌↔◌}
-use Rattle.std.proofs.lemmas.List.{drop-drop, length-drop, take-append-drop, take_all}
+use Rattle.std.proofs.{Common.{◌≡◌, ℕ, ◌+◌, ◌-◌, ◌≤◌, ◌++◌, List, length, take, drop, sym, ◌∙◌, ap, arith, ◌↔◌}, lemmas.List.{drop-drop, length-drop, take-append-drop, take_all}}
 
 -- if a fact says that the last k items are equal, and the first n of at most n + k are, it says that the lists are
 pub by_ends : (P : Type 0) (n k : ℕ) (xs ys : List ℕ) → length xs ≡ length ys → k ≤ length xs → length xs ≤ n + k

@@ -1,6 +1,5 @@
 -- The digits that packed bytes hold.
-use Rattle.std.proofs.Common.{◌≡◌, ℕ, zero, suc, ◌+◌, ◌*◌, ◌/◌, ◌%◌, ◌<◌, ◌≤◌, List, [], ◌++◌, length, get_or, take, drop, replicate, inl, inr, refl, sym, ◌∙◌, ap, arith, All, max}
-use Rattle.std.proofs.lemmas.{Bool.cases_lt, Grind.same_number_lists, List.{get_or_default, get_or_past, get_or-take}}
+use Rattle.std.proofs.{Common.{◌≡◌, ℕ, zero, suc, ◌+◌, ◌*◌, ◌/◌, ◌%◌, ◌<◌, ◌≤◌, List, [], ◌++◌, length, get_or, take, drop, replicate, inl, inr, refl, sym, ◌∙◌, ap, arith, All, max}, lemmas.{Bool.cases_lt, Grind.same_number_lists, List.{get_or_default, get_or_past, get_or-take}}}
 use Rattle.decimal_digits.proofs.lemmas.digits.{Nibbles.{nibble_rules, high_nibble, low_nibble}, Rules.steps}
 use Rattle.decimal_digits.specs.{Nibbles.{digits_in, nibbles, IsPacked}, Packing.{Encodes, EncodesPadded, IsPadded, padding, length_digits}}
 

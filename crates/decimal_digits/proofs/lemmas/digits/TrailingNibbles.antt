@@ -1,7 +1,5 @@
 -- The bits of nibbles, and equal nibbles at the end of the first nibbles of a word.
-use Rattle.std.proofs.Common.{◌≡◌, ℕ, zero, suc, ◌+◌, ◌-◌, ◌*◌, ◌/◌, ◌%◌, ◌^◌, ◌<◌, ◌≤◌, get_or, replicate, inl, inr, refl, sym, ◌∙◌, ap, arith, ◌≢◌, min}
-use Rattle.std.proofs.Math.Nat.{div-div-eq-div-mul, div-le_self}
-use Rattle.std.proofs.lemmas.{Bool.cases_lt, Bool.Decides.nat_tests, Grind.common_steps, Int.{clamps, ints}, List.get_or-replicate, Nat.{pow-add, and_le_l, and_le_r, shr-shr, xor_lt, xor_mod, xor_shr}, Nat.Bits.bit_at-trailing_zeros}
+use Rattle.std.proofs.{Common.{◌≡◌, ℕ, zero, suc, ◌+◌, ◌-◌, ◌*◌, ◌/◌, ◌%◌, ◌^◌, ◌<◌, ◌≤◌, get_or, replicate, inl, inr, refl, sym, ◌∙◌, ap, arith, ◌≢◌, min}, Math.Nat.{div-div-eq-div-mul, div-le_self}, lemmas.{Bool.Decides.nat_tests, Bool.cases_lt, Grind.common_steps, Int.{clamps, ints}, List.get_or-replicate, Nat.Bits.bit_at-trailing_zeros, Nat.{pow-add, and_le_l, and_le_r, shr-shr, xor_lt, xor_mod, xor_shr}}}
 use Rattle.std.specs.{Int.{w64, bit_at, trailing_zeros}, Int.Bits.{bit_xor, xor_add_and, xor_self}, Int.Count.trailing_of_zero, Int.Digits.number_from_digits}
 use Rattle.decimal_digits.proofs.lemmas.digits.{LeadingBytes.hex_pow, Words.{repeated_below, word_nibble, word_of_nibbles}}
 use Rattle.decimal_digits.specs.Nibbles.{word_nibbles}

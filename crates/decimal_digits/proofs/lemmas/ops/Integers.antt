@@ -1,6 +1,5 @@
 -- The decimal digits of an integer, the last one first.
-use Rattle.std.proofs.Common.{◌≡◌, ℕ, ◌/◌, ◌%◌, ◌^◌, ◌<◌, ◌≤◌, ◌∷◌, length, arith}
-use Rattle.std.proofs.lemmas.{Int.Digits.{digits_of_step, length-digits_of-le}, List.{reverse-append, length-reverse}}
+use Rattle.std.proofs.{Common.{◌≡◌, ℕ, ◌/◌, ◌%◌, ◌^◌, ◌<◌, ◌≤◌, ◌∷◌, length, arith}, lemmas.{Int.Digits.{digits_of_step, length-digits_of-le}, List.{reverse-append, length-reverse}}}
 use Rattle.decimal_digits.specs.AscendingDigits.{ascending_digits}
 
 -- the last digit, and then the digits of the rest

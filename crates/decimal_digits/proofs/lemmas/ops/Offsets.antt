@@ -1,6 +1,5 @@
 -- Magnitudes as offsets.
-use Rattle.std.proofs.Common.{◌≡◌, ◌+◌, ◌-◌, ◌≤◌, arith, ℤ, pos, negsuc, ◌≤ℤ◌}
-use Rattle.std.proofs.lemmas.Int.{ints}
+use Rattle.std.proofs.{Common.{◌≡◌, ◌+◌, ◌-◌, ◌≤◌, arith, ℤ, pos, negsuc, ◌≤ℤ◌}, lemmas.Int.ints}
 use Rattle.std.specs.Int.{int_gap}
 use Rattle.decimal_digits.specs.Number.{offset, magnitude_at}
 use borrow.Author.Differences.{up, down}

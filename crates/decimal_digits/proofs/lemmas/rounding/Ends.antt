@@ -1,7 +1,5 @@
 -- The first and the last digit of a number.
-use Rattle.std.proofs.Common.{◌≡◌, ℕ, zero, suc, ◌+◌, ◌-◌, ◌*◌, ◌/◌, ◌%◌, ◌^◌, ◌<◌, ◌≤◌, ◌==◌, true, false, refl, sym, ◌∙◌, ap, subst, arith, rules, inl, inr, pos, nat_le, Bool}
-use Rattle.std.proofs.Math.Nat.{pow-le-pow_right, div-add-mod', mul-pos, mod-le, pow-suc, mul-mod_left, mul-div_cancel, div-eq_of_lt, mul-div-mul_right}
-use Rattle.std.proofs.lemmas.{Bool.cases_lt, Nat.pow-add}
+use Rattle.std.proofs.{Common.{◌≡◌, ℕ, zero, suc, ◌+◌, ◌-◌, ◌*◌, ◌/◌, ◌%◌, ◌^◌, ◌<◌, ◌≤◌, ◌==◌, true, false, refl, sym, ◌∙◌, ap, subst, arith, rules, inl, inr, pos, nat_le, Bool}, Math.Nat.{pow-le-pow_right, div-add-mod', mul-pos, mod-le, pow-suc, mul-mod_left, mul-div_cancel, div-eq_of_lt, mul-div-mul_right}, lemmas.{Bool.cases_lt, Nat.pow-add}}
 use Rattle.decimal_digits.proofs.lemmas.digits.DigitLists.{ten_pos}
 use Rattle.decimal_digits.specs.Number.{greatest, first, last, magnitude_at}
 

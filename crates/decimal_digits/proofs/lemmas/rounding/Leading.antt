@@ -1,7 +1,5 @@
 -- The digits that are kept, and the last two of them.
-use Rattle.std.proofs.Common.{◌≡◌, ℕ, zero, suc, ◌+◌, ◌-◌, ◌*◌, ◌/◌, ◌%◌, ◌^◌, ◌<◌, ◌≤◌, List, [], ◌∷◌, length, get_or, take, drop, refl, sym, ◌∙◌, ap, arith, inl, inr, add-one}
-use Rattle.std.proofs.Math.Nat.{mul-le-mul_right}
-use Rattle.std.proofs.lemmas.{Bool.cases_lt, Int.Digits.number_more, List.{length-drop, length-take, length-take-le, take_all, get_or_past, get_or-take, get_or-drop}}
+use Rattle.std.proofs.{Common.{◌≡◌, ℕ, zero, suc, ◌+◌, ◌-◌, ◌*◌, ◌/◌, ◌%◌, ◌^◌, ◌<◌, ◌≤◌, List, [], ◌∷◌, length, get_or, take, drop, refl, sym, ◌∙◌, ap, arith, inl, inr, add-one}, Math.Nat.mul-le-mul_right, lemmas.{Bool.cases_lt, Int.Digits.number_more, List.{length-drop, length-take, length-take-le, take_all, get_or_past, get_or-take, get_or-drop}}}
 use Rattle.std.specs.Int.Digits.{number_from_digits, AllBelowBase}
 use Rattle.decimal_digits.proofs.lemmas.{digits.{DigitLists.{below_drop, below_take, ten_pos}, Rules.steps}, rounding.NumberAt.{powers, number_at-none, number_at-more, number_at-split, number_at-lt, number_at-ge, number_at-pos}}
 use Rattle.decimal_digits.specs.{Digits.number_at, Remainders.{leading, RemainderIs, RemainderByDigit, HasDigits}, declared.rounding.remainder.Remainder.Remainder, declared.rounding.remainder.Remainder.TheVariants.{Zero, BelowHalf, Half, AboveHalf}}

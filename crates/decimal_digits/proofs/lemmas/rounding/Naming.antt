@@ -1,7 +1,5 @@
 -- The remainder forms give the multiples that the modes name among all, and a mode names one alone.
-use Rattle.std.proofs.Common.{ℕ, ◌≡◌, ◌+◌, ◌*◌, ◌/◌, ◌%◌, ◌<◌, ◌≤◌, ◌⊎◌, ◌==◌, true, inl, inr, sym, ◌∙◌, ap, subst, arith, ℤ, pos, negsuc, ◌≤ℤ◌, rules, nat_lt, ◌*ℤ◌}
-use Rattle.std.proofs.Math.Nat.{mul-le-mul_right, div-add-mod', mod-lt}
-use Rattle.std.proofs.lemmas.{Bool.{cases_lt, cases_eq, cases_order, cond_both, ltb-true, ltb-false, eqb-true, eqb-false}, Bool.Decides.nat_tests, Grind.common_steps, Int.{clamps, ints}}
+use Rattle.std.proofs.{Common.{ℕ, ◌≡◌, ◌+◌, ◌*◌, ◌/◌, ◌%◌, ◌<◌, ◌≤◌, ◌⊎◌, ◌==◌, true, inl, inr, sym, ◌∙◌, ap, subst, arith, ℤ, pos, negsuc, ◌≤ℤ◌, rules, nat_lt, ◌*ℤ◌}, Math.Nat.{mul-le-mul_right, div-add-mod', mod-lt}, lemmas.{Bool.Decides.nat_tests, Bool.{cases_lt, cases_eq, cases_order, cond_both, ltb-true, ltb-false, eqb-true, eqb-false}, Grind.common_steps, Int.{clamps, ints}}}
 use Rattle.decimal_digits.specs.{Rounding.{Chooses, Named, distance, IsNearest, AllTies, below, above, rounded_number}, declared.rounding.UnsignedRoundingMode.UnsignedRoundingMode, declared.rounding.UnsignedRoundingMode.TheVariants.{Expand, Trunc, HalfExpand, HalfTrunc, HalfEven}}
 
 -- multiples of u are at least u apart

@@ -1,7 +1,5 @@
 -- The number that a list of digits writes at given places.
-use Rattle.std.proofs.Common.{◌≡◌, ℕ, ◌+◌, ◌-◌, ◌*◌, ◌^◌, ◌<◌, ◌≤◌, List, [], ◌∷◌, length, get_or, take, drop, ◌∙◌, ap, arith, ℤ}
-use Rattle.std.proofs.Math.Nat.{mul-le-mul_right, mul-lt-mul_of_pos_right, mul-pos, mod-le}
-use Rattle.std.proofs.lemmas.{Int.Digits.number_lt, List.{length-take-le, length-drop}, Nat.pow-add}
+use Rattle.std.proofs.{Common.{◌≡◌, ℕ, ◌+◌, ◌-◌, ◌*◌, ◌^◌, ◌<◌, ◌≤◌, List, [], ◌∷◌, length, get_or, take, drop, ◌∙◌, ap, arith, ℤ}, Math.Nat.{mul-le-mul_right, mul-lt-mul_of_pos_right, mul-pos, mod-le}, lemmas.{Int.Digits.number_lt, List.{length-take-le, length-drop}, Nat.pow-add}}
 use Rattle.std.specs.Int.Digits.{AllBelowBase}
 use Rattle.decimal_digits.proofs.lemmas.digits.DigitLists.{ten_pos, number_split, number_front, number_back}
 use Rattle.decimal_digits.specs.{Digits.{number_at, number_of}, Number.offset}

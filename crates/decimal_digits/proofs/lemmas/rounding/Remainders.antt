@@ -1,7 +1,5 @@
 -- The remainder below a position, and how a mode rounds it.
-use Rattle.std.proofs.Common.{ℕ, ◌≡◌, ◌+◌, ◌-◌, ◌*◌, ◌/◌, ◌%◌, ◌<◌, ◌≤◌, ◌==◌, refl, ◌∙◌, ap, arith, true, false, ℤ, cond, Bool}
-use Rattle.std.proofs.Math.Nat.{mul-le-mul_right, mul-pos, div-add-mod'}
-use Rattle.std.proofs.lemmas.{Bool.Decides.nat_tests, Nat.{div-mul-add, mod-mul-add}}
+use Rattle.std.proofs.{Common.{ℕ, ◌≡◌, ◌+◌, ◌-◌, ◌*◌, ◌/◌, ◌%◌, ◌<◌, ◌≤◌, ◌==◌, refl, ◌∙◌, ap, arith, true, false, ℤ, cond, Bool}, Math.Nat.{mul-le-mul_right, mul-pos, div-add-mod'}, lemmas.{Bool.Decides.nat_tests, Nat.{div-mul-add, mod-mul-add}}}
 use Rattle.decimal_digits.proofs.lemmas.digits.DigitLists.{ten_pos}
 use Rattle.decimal_digits.specs.{Number.offset, Remainders.{RemainderIs, rounds_up_of, RoundsTo}, Rounding.{step_of, unit_at, rounded_number}, contracts.rounding.remainder.Remainder.the_type, declared.rounding.RoundingIncrement.RoundingIncrement, declared.rounding.UnsignedRoundingMode.UnsignedRoundingMode, declared.rounding.remainder.Remainder.Remainder, declared.rounding.remainder.Remainder.TheVariants.{Zero, BelowHalf, Half, AboveHalf}}
 use denote.Enum.Declared.{tag_of}

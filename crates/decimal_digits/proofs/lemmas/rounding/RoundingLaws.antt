@@ -1,7 +1,5 @@
 -- Laws of rounding, on numbers alone.
-use Rattle.std.proofs.Common.{ℕ, ◌≡◌, ◌*◌, ◌<◌, ◌≤◌, inl, inr, refl, sym, ◌∙◌, ap, subst, arith, pos}
-use Rattle.std.proofs.Math.Nat.{mul_assoc, zero-mul}
-use Rattle.std.proofs.lemmas.{Bool.cases_eq, Int.ints}
+use Rattle.std.proofs.{Common.{ℕ, ◌≡◌, ◌*◌, ◌<◌, ◌≤◌, inl, inr, refl, sym, ◌∙◌, ap, subst, arith, pos}, Math.Nat.{mul_assoc, zero-mul}, lemmas.{Bool.cases_eq, Int.ints}}
 use Rattle.decimal_digits.proofs.lemmas.rounding.Naming.{rounded_number_is_named, named_is}
 use Rattle.decimal_digits.specs.{Rounding.{Chooses, Named, rounded_number}, declared.rounding.UnsignedRoundingMode.UnsignedRoundingMode, declared.rounding.UnsignedRoundingMode.TheVariants.{Expand, Trunc, HalfExpand, HalfTrunc, HalfEven}}
 

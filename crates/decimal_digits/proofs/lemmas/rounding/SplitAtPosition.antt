@@ -1,7 +1,5 @@
 -- A number split at a position into quotient and remainder, and the number after rounding.
-use Rattle.std.proofs.Common.{◌≡◌, ℕ, ◌+◌, ◌-◌, ◌*◌, ◌^◌, ◌<◌, ◌≤◌, List, length, get_or, drop, refl, ◌∙◌, ap, arith, ℤ, pos, negsuc, ◌≤ℤ◌, ◌+ℤ◌, ◌<ℤ◌}
-use Rattle.std.proofs.Math.Nat.{mul-pos, pow-le-pow_right, mul-lt-mul_of_pos_right, mul-le-mul_right}
-use Rattle.std.proofs.lemmas.Int.{ints}
+use Rattle.std.proofs.{Common.{◌≡◌, ℕ, ◌+◌, ◌-◌, ◌*◌, ◌^◌, ◌<◌, ◌≤◌, List, length, get_or, drop, refl, ◌∙◌, ap, arith, ℤ, pos, negsuc, ◌≤ℤ◌, ◌+ℤ◌, ◌<ℤ◌}, Math.Nat.{mul-pos, pow-le-pow_right, mul-lt-mul_of_pos_right, mul-le-mul_right}, lemmas.Int.ints}
 use Rattle.std.specs.Int.Digits.{AllBelowBase}
 use Rattle.decimal_digits.proofs.lemmas.{digits.{DigitLists.ten_pos, Rules.steps}, ops.Offsets.{offset_is, magnitude_at-offset, gap_is}, rounding.{Ends.{first_is, last_is, first_zero}, Leading.{leading_none, leading_all, split_at, tail_told}, NumberAt.{powers, number_at-none, number_at-more, number_at-lt, number_at-ge, number_at-pos}}}
 use Rattle.decimal_digits.specs.{Digits.{number_at, number_of, IsStripped}, Number.{offset, weight, first, size, magnitude_at, number_limit}, Remainders.{leading, RemainderByDigit, HasDigits, RoundsTo, SplitsAs, RoundLeadingFails}, RoundedDigits.Represents, Rounding.{step_of, unit_at, rounded_number, DigitRoundingFails}, declared.rounding.RoundError.RoundError, declared.rounding.RoundError.TheVariants.{Limit, Memory}, declared.rounding.RoundingIncrement.RoundingIncrement, declared.rounding.UnsignedRoundingMode.UnsignedRoundingMode, declared.rounding.remainder.Remainder.Remainder, declared.rounding.remainder.Remainder.TheVariants.BelowHalf}

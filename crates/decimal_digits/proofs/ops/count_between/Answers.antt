@@ -1,5 +1,4 @@
-use Rattle.std.proofs.Common.{arith}
-use Rattle.std.proofs.lemmas.Int.{ints}
+use Rattle.std.proofs.{Common.arith, lemmas.Int.ints}
 use Rattle.decimal_digits.proofs.lemmas.ops.Offsets.{gap_is}
 use Rattle.decimal_digits.proofs.ops.count_between.Goals as goal
 

@@ -1,5 +1,4 @@
-use Rattle.std.proofs.Common.{◌+◌, ◌*◌, ◌≤◌, length, ap, ◌∙◌, arith, rules, w16, negsuc, ◌≤ℤ◌}
-use Rattle.std.proofs.lemmas.{Grind.common_steps, Int.{ints, to_z-of_z}, List.Elements.recursion_from_All}
+use Rattle.std.proofs.{Common.{◌+◌, ◌*◌, ◌≤◌, length, ap, ◌∙◌, arith, rules, w16, negsuc, ◌≤ℤ◌}, lemmas.{Grind.common_steps, Int.{ints, to_z-of_z}, List.Elements.recursion_from_All}}
 use Rattle.std.specs.Int.RustNames.{FitsSigned}
 use Rattle.decimal_digits.proofs.lemmas.{ops.Offsets.offset_is, rounding.{NumberAt.number_at-none, SplitAtPosition.{represents, represents_none, number_up}}}
 use Rattle.decimal_digits.specs.Number.{offset, weight}

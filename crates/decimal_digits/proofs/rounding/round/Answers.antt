@@ -1,5 +1,4 @@
-use Rattle.std.proofs.Common.{◌≡◌, length, ap, ◌∙◌, arith, rules, w16}
-use Rattle.std.proofs.lemmas.{Grind.common_steps, Bool.cases_lt, Int.{ints, to_z-of_z}}
+use Rattle.std.proofs.{Common.{◌≡◌, length, ap, ◌∙◌, arith, rules, w16}, lemmas.{Bool.cases_lt, Grind.common_steps, Int.{ints, to_z-of_z}}}
 use Rattle.std.specs.Int.RustNames.{FitsSigned}
 use Rattle.decimal_digits.proofs.lemmas.{digits.DigitLists.ten_pos, ops.Offsets.offset_is, rounding.{NumberAt.number_of-none, Remainders.unit_pos, RoundingLaws.rounded_number-zero, SplitAtPosition.{rounded_split, represents_none, digit_rounding_fails}}}
 use Rattle.decimal_digits.specs.{Digits.number_of, Number.{offset, weight}, Remainders.leading, Rounding.{step_of, unit_at, rounded_number, DigitRoundingFails}}

@@ -1,7 +1,5 @@
 -- The order and the equality of two numbers, by their digits.
-use Rattle.std.proofs.Common.{◌≡◌, ℕ, zero, suc, ◌+◌, ◌-◌, ◌*◌, ◌^◌, ◌<◌, ◌≤◌, ◌%◌, ◌/◌, List, [], ◌∷◌, ◌++◌, length, get_or, drop, take, replicate, refl, sym, ◌∙◌, ap, arith, ◌⊎◌, inl, inr, min, ℤ, ◌<ℤ◌, All, subst, pos, negsuc, ◌+ℤ◌, ◌-ℤ◌, ◌≤ℤ◌, Bool, true, false, rules, IsTrue, ◌↔◌}
-use Rattle.std.proofs.Math.Nat.{mul-le-mul_right, pow-le-pow_right}
-use Rattle.std.proofs.lemmas.{Bool.cases_lt, Bool.Decides.nat_tests, Cmp.{nat_list_cmp_total, tied_itself}, Grind.{common_steps, same_number_lists}, Int.{ints, clamps}, Int.Digits.number_lt, List.{length-drop, length-take-le, length-append, length-replicate, take-append-drop, take-take, ext_get_or}, List.Elements.recursion_from_All}
+use Rattle.std.proofs.{Common.{◌≡◌, ℕ, zero, suc, ◌+◌, ◌-◌, ◌*◌, ◌^◌, ◌<◌, ◌≤◌, ◌%◌, ◌/◌, List, [], ◌∷◌, ◌++◌, length, get_or, drop, take, replicate, refl, sym, ◌∙◌, ap, arith, ◌⊎◌, inl, inr, min, ℤ, ◌<ℤ◌, All, subst, pos, negsuc, ◌+ℤ◌, ◌-ℤ◌, ◌≤ℤ◌, Bool, true, false, rules, IsTrue, ◌↔◌}, Math.Nat.{mul-le-mul_right, pow-le-pow_right}, lemmas.{Bool.Decides.nat_tests, Bool.cases_lt, Cmp.{nat_list_cmp_total, tied_itself}, Grind.{common_steps, same_number_lists}, Int.Digits.number_lt, Int.{ints, clamps}, List.Elements.recursion_from_All, List.{length-drop, length-take-le, length-append, length-replicate, take-append-drop, take-take, ext_get_or}}}
 use Rattle.std.specs.{Cmp.{nat_cmp_is, IsEquivalence}, Cmp.Lexicographic.slice_cmp, Int.Digits.{number_from_digits, AllBelowBase}, Ordering.{nat_cmp, ordering_then, ordering_reverse, int_cmp}, declared.cmp.Ordering.Ordering, declared.cmp.Ordering.TheVariants.{Less, Equal, Greater}}
 use Rattle.decimal_digits.proofs.lemmas.{digits.{DigitLists.{below_take, below_drop, number_first, number_pad}, LeadingBytes.{below_sixteen, length-padded, padded_digits, padded_few, padded_front}, Nibbles.nibble_rules, Rules.steps}, ops.Offsets.offset_is}
 use Rattle.decimal_digits.specs.{Digits.{number_of, number_at}, Nibbles.{padded, nibbles, digits_in, bcd_number, IsPacked}, Number.{offset, digit, first, last}}

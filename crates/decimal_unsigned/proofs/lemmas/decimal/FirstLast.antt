@@ -1,7 +1,5 @@
 -- Each number other than 0 has a first and a last digit.
-use Rattle.std.proofs.Common.{◌≡◌, ℕ, zero, suc, ◌+◌, ◌-◌, ◌*◌, ◌/◌, ◌%◌, ◌^◌, ◌<◌, ◌≤◌, sym, ◌∙◌, ap, subst, arith, inl, inr, ℤ, pos, ◌<ℤ◌, ◌≤ℤ◌, rules}
-use Rattle.std.proofs.Math.Nat.{pow-le-pow_right, mul-le-mul_right, pow-suc, mod-lt, mul_assoc, div-add-mod', le-mul_of_pos_right, lt_of_mul-lt-mul_right, mul-add-mod_self_right, mod-le, div-le_self}
-use Rattle.std.proofs.lemmas.{Bool.cases_lt, Int.ints, Nat.pow-add}
+use Rattle.std.proofs.{Common.{◌≡◌, ℕ, zero, suc, ◌+◌, ◌-◌, ◌*◌, ◌/◌, ◌%◌, ◌^◌, ◌<◌, ◌≤◌, sym, ◌∙◌, ap, subst, arith, inl, inr, ℤ, pos, ◌<ℤ◌, ◌≤ℤ◌, rules}, Math.Nat.{pow-le-pow_right, mul-le-mul_right, pow-suc, mod-lt, mul_assoc, div-add-mod', le-mul_of_pos_right, lt_of_mul-lt-mul_right, mul-add-mod_self_right, mod-le, div-le_self}, lemmas.{Bool.cases_lt, Int.ints, Nat.pow-add}}
 use Rattle.decimal_digits.proofs.lemmas.{digits.{DigitLists.ten_pos, Rules.steps}, ops.Offsets.offset_is, rounding.Ends.{first_is, first_zero, last_is}}
 use Rattle.decimal_digits.specs.Number.{offset, first, last, magnitude_at}
 

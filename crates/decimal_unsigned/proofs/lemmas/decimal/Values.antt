@@ -1,7 +1,5 @@
 -- What the digits of a value say of its number, and which digits are stored.
-use Rattle.std.proofs.Common.{◌≡◌, ℕ, ◌+◌, ◌-◌, ◌*◌, ◌^◌, ◌<◌, ◌≤◌, List, [], length, ◌∙◌, ap, arith, w16, to_z, of_z, ℤ, pos, negsuc, ◌+ℤ◌, ◌-ℤ◌, ◌≤ℤ◌, ◌<ℤ◌, ◌%◌, subst, sym, w32, slice_index}
-use Rattle.std.proofs.Math.Nat.{mul-le-mul_right, mul-lt-mul_of_pos_right, pow-le-pow_right, mul-mod_left}
-use Rattle.std.proofs.lemmas.{Bool.Decides.nat_tests, Int.{ints, to_z-of_z}, Int.Digits.number_lt, Nat.pow-add}
+use Rattle.std.proofs.{Common.{◌≡◌, ℕ, ◌+◌, ◌-◌, ◌*◌, ◌^◌, ◌<◌, ◌≤◌, List, [], length, ◌∙◌, ap, arith, w16, to_z, of_z, ℤ, pos, negsuc, ◌+ℤ◌, ◌-ℤ◌, ◌≤ℤ◌, ◌<ℤ◌, ◌%◌, subst, sym, w32, slice_index}, Math.Nat.{mul-le-mul_right, mul-lt-mul_of_pos_right, pow-le-pow_right, mul-mod_left}, lemmas.{Bool.Decides.nat_tests, Int.Digits.number_lt, Int.{ints, to_z-of_z}, Nat.pow-add}}
 use Rattle.std.specs.{Int.int_gap, Int.Digits.{number_from_digits, AllBelowBase}}
 use Rattle.decimal_digits.proofs.lemmas.{digits.{DigitLists.{ten_pos, number_back, number_front, number-digit}, Rules.steps}, ops.Offsets.{offset_is, gap_is, magnitude_at-offset}, rounding.Ends.{first_is, first_zero, no_more_zeros, last_is, last_zero, digit_above, digit_below, shift_down}}
 use Rattle.decimal_digits.specs.{Digits.{number_of, number_at}, Number.{offset, digit, first, last, size, IsLast, IsFirst}}

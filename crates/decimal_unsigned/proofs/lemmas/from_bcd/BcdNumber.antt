@@ -1,8 +1,6 @@
 -- The number that packed BCD digits write, computed by joining neighboring lanes of a word: digits to pairs, pairs to
 -- fours, and so on. A lane of w bits holds a number below c.
-use Rattle.std.proofs.Common.{◌≡◌, ℕ, zero, suc, ◌+◌, ◌-◌, ◌*◌, ◌/◌, ◌%◌, ◌^◌, ◌<◌, ◌≤◌, List, length, get_or, take, refl, sym, ◌∙◌, ap, arith, bit_and}
-use Rattle.std.proofs.Math.Nat.{zero-div, zero-mod}
-use Rattle.std.proofs.lemmas.{Int.Digits.number_more, List.take_all, List.Elements.All-from_recursion, Nat.{mod-mul-add, and_block, and_mask, and_le_r, div-mul-add}}
+use Rattle.std.proofs.{Common.{◌≡◌, ℕ, zero, suc, ◌+◌, ◌-◌, ◌*◌, ◌/◌, ◌%◌, ◌^◌, ◌<◌, ◌≤◌, List, length, get_or, take, refl, sym, ◌∙◌, ap, arith, bit_and}, Math.Nat.{zero-div, zero-mod}, lemmas.{Int.Digits.number_more, List.Elements.All-from_recursion, List.take_all, Nat.{mod-mul-add, and_block, and_mask, and_le_r, div-mul-add}}}
 use Rattle.std.specs.Int.Digits.{number_from_digits, AllBelowBase}
 use Rattle.decimal_digits.proofs.lemmas.digits.Rules.{steps}
 

@@ -1,7 +1,5 @@
 -- Digits whose last is at magnitude 0, without trailing zeros.
-use Rattle.std.proofs.Common.{◌≡◌, ℕ, zero, suc, ◌+◌, ◌-◌, ◌*◌, ◌^◌, ◌<◌, ◌≤◌, List, length, get_or, take, drop, refl, sym, ◌∙◌, ap, arith, inl, inr, Result, Ok, Err, ℤ, pos, ◌≤ℤ◌, All, IfOk}
-use Rattle.std.proofs.Math.Nat.{mul-le-mul_right}
-use Rattle.std.proofs.lemmas.{Bool.cases_lt, Grind.elements, Int.ints, Int.Digits.{number_lt, all_below_base_digits_of, first_digits_of}, List.{length-take-le, get_or-take}, List.Elements.{recursion_from_All, All-from_recursion}, Nat.pow-add}
+use Rattle.std.proofs.{Common.{◌≡◌, ℕ, zero, suc, ◌+◌, ◌-◌, ◌*◌, ◌^◌, ◌<◌, ◌≤◌, List, length, get_or, take, drop, refl, sym, ◌∙◌, ap, arith, inl, inr, Result, Ok, Err, ℤ, pos, ◌≤ℤ◌, All, IfOk}, Math.Nat.mul-le-mul_right, lemmas.{Bool.cases_lt, Grind.elements, Int.Digits.{number_lt, all_below_base_digits_of, first_digits_of}, Int.ints, List.Elements.{recursion_from_All, All-from_recursion}, List.{length-take-le, get_or-take}, Nat.pow-add}}
 use Rattle.std.specs.Int.Digits.{number_from_digits, AllBelowBase, digits_of}
 use Rattle.decimal_digits.proofs.lemmas.{digits.{DigitLists.{ten_pos, below_take}, Rules.steps}, ops.Offsets.{offset_is, magnitude_at-offset}, rounding.Ends.first_is}
 use Rattle.decimal_digits.specs.{Digits.number_of, Number.{offset, weight, first, size, magnitude_at}}

@@ -1,7 +1,5 @@
 -- The integer that the digits of a value write.
-use Rattle.std.proofs.Common.{w16, to_z, of_z, zero, suc, ◌≡◌, ℕ, ◌+◌, ◌-◌, ◌*◌, ◌/◌, ◌%◌, ◌^◌, ◌<◌, ◌≤◌, List, length, get_or, take, drop, refl, sym, ◌∙◌, ap, arith, Ok, Err, ℤ, pos, ◌+ℤ◌, ◌<ℤ◌, Result, All}
-use Rattle.std.proofs.Math.Nat.{mul-mod_left, pow-le-pow_right, mul-div_cancel}
-use Rattle.std.proofs.lemmas.{Bool.Decides.nat_tests, Int.ints, Int.Digits.number_more as number_more_digits, List.{length-take-le, take_all, get_or-drop}, List.Elements.recursion_from_All, Nat.pow-add}
+use Rattle.std.proofs.{Common.{w16, to_z, of_z, zero, suc, ◌≡◌, ℕ, ◌+◌, ◌-◌, ◌*◌, ◌/◌, ◌%◌, ◌^◌, ◌<◌, ◌≤◌, List, length, get_or, take, drop, refl, sym, ◌∙◌, ap, arith, Ok, Err, ℤ, pos, ◌+ℤ◌, ◌<ℤ◌, Result, All}, Math.Nat.{mul-mod_left, pow-le-pow_right, mul-div_cancel}, lemmas.{Bool.Decides.nat_tests, Int.Digits.number_more as number_more_digits, Int.ints, List.Elements.recursion_from_All, List.{length-take-le, take_all, get_or-drop}, Nat.pow-add}}
 use Rattle.std.specs.Int.Digits.{number_from_digits, AllBelowBase}
 use Rattle.decimal_digits.proofs.lemmas.{digits.{DigitLists.{ten_pos, below_take, number_back, number-div}, LeadingBytes.{below_sixteen, get_or-padded, hex_pow, sixteen, sixteen_are, sixteen_digits}, Rules.steps}, ops.Offsets.offset_is, rounding.{Ends.no_more_zeros, Leading.{leading_none, leading_more}, NumberAt.{number_at-none, number_at-more, number_at-lt, number_at-ge}}}
 use Rattle.decimal_digits.specs.{Digits.{number_of, number_at}, Nibbles.bcd_number, Number.{offset, weight}, Remainders.leading}

@@ -1,6 +1,5 @@
 -- Laws of concatenation.
-use Rattle.std.proofs.Common.{◌≡◌, ℕ, ◌+◌, ◌-◌, ◌%◌, ◌<◌, ◌≤◌, false, nat_lt, ◌||◌, refl, ◌∙◌, ap, arith, inl, inr, ℤ, pos, ◌+ℤ◌, ◌-ℤ◌, ◌≤ℤ◌, rules}
-use Rattle.std.proofs.lemmas.{Bool.cases_lt, Bool.Decides.nat_tests, Int.{ints, clamps}}
+use Rattle.std.proofs.{Common.{◌≡◌, ℕ, ◌+◌, ◌-◌, ◌%◌, ◌<◌, ◌≤◌, false, nat_lt, ◌||◌, refl, ◌∙◌, ap, arith, inl, inr, ℤ, pos, ◌+ℤ◌, ◌-ℤ◌, ◌≤ℤ◌, rules}, lemmas.{Bool.Decides.nat_tests, Bool.cases_lt, Int.{ints, clamps}}}
 use Rattle.std.specs.Int.{int_max, int_min}
 use Rattle.decimal_digits.proofs.lemmas.{digits.Rules.steps, ops.Offsets.offset_is}
 use Rattle.decimal_digits.specs.Number.{offset, weight, first, last}

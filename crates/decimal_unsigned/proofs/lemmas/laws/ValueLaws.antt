@@ -1,7 +1,5 @@
 -- Laws of trims, and of the parts of a value at a position.
-use Rattle.std.proofs.Common.{◌≡◌, ℕ, ◌-◌, ◌*◌, ◌%◌, ◌<◌, ◌≤◌, length, sym, ◌∙◌, ap, subst, arith, inl, inr, None, ℤ, pos, ◌≤ℤ◌, rules}
-use Rattle.std.proofs.Math.Nat.{pow-le-pow_right}
-use Rattle.std.proofs.lemmas.{Bool.cases_lt, Int.{ints, clamps}, Option.none-some}
+use Rattle.std.proofs.{Common.{◌≡◌, ℕ, ◌-◌, ◌*◌, ◌%◌, ◌<◌, ◌≤◌, length, sym, ◌∙◌, ap, subst, arith, inl, inr, None, ℤ, pos, ◌≤ℤ◌, rules}, Math.Nat.pow-le-pow_right, lemmas.{Bool.cases_lt, Int.{ints, clamps}, Option.none-some}}
 use Rattle.std.specs.{Int.{int_max, int_min}, Option.unwrap_or}
 use Rattle.decimal_digits.proofs.lemmas.{digits.Rules.steps, ops.Offsets.{offset_is, gap_is}, rounding.Ends.{no_more_zeros, last_zero}}
 use Rattle.decimal_digits.specs.{Number.{offset, weight, first, last, number_limit}, Rounding.{unit_at, rounded_number}, declared.rounding.RoundingIncrement.RoundingIncrement, declared.rounding.RoundingIncrement.TheVariants.MultiplesOf1, declared.rounding.UnsignedRoundingMode.TheVariants.Trunc}

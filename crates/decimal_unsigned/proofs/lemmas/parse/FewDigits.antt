@@ -1,7 +1,5 @@
 -- The number of digits of a text's value, and when a text has a value.
-use Rattle.std.proofs.Common.{◌≡◌, ℕ, suc, ◌+◌, ◌-◌, ◌*◌, ◌%◌, ◌^◌, ◌<◌, ◌≤◌, Bool, true, false, ◌||◌, List, ◌++◌, length, refl, sym, ◌∙◌, ap, subst, arith, rules, inl, inr, Result, Ok, Err, Option, Some, None, ℤ, pos, negsuc, ◌+ℤ◌, ◌-ℤ◌, ◌≤ℤ◌, IsOkAnd, nat_eq}
-use Rattle.std.proofs.Math.Nat.{mul-mod_left, mul-le-mul_right, mul_assoc}
-use Rattle.std.proofs.lemmas.{Bool.{cases_lt, or_parts}, Int.ints, Int.Digits.{number_lt, digits_value_is}, Nat.pow-add}
+use Rattle.std.proofs.{Common.{◌≡◌, ℕ, suc, ◌+◌, ◌-◌, ◌*◌, ◌%◌, ◌^◌, ◌<◌, ◌≤◌, Bool, true, false, ◌||◌, List, ◌++◌, length, refl, sym, ◌∙◌, ap, subst, arith, rules, inl, inr, Result, Ok, Err, Option, Some, None, ℤ, pos, negsuc, ◌+ℤ◌, ◌-ℤ◌, ◌≤ℤ◌, IsOkAnd, nat_eq}, Math.Nat.{mul-mod_left, mul-le-mul_right, mul_assoc}, lemmas.{Bool.{cases_lt, or_parts}, Int.Digits.{number_lt, digits_value_is}, Int.ints, Nat.pow-add}}
 use Rattle.std.specs.Str.Parse.{AllDigits, digits_value}
 use Rattle.decimal_digits.proofs.lemmas.{digits.{DigitLists.ten_pos, Rules.steps}, ops.Offsets.gap_is, rounding.Ends.{no_more_zeros, shift_up}}
 use Rattle.decimal_digits.specs.Number.{size, first, last}

@@ -1,7 +1,5 @@
 -- The parts of a text are those of the grammar.
-use Rattle.std.proofs.Common.{◌≡◌, ℕ, ◌<◌, Bool, true, false, cond, ◌⊎◌, List, [], ◌∷◌, ◌++◌, length, refl, sym, ◌∙◌, ap, subst, arith, nat_lt, ◌==◌, append-nil, Option, Some, None, ℤ, pos, ◌&&◌, option_map, zero, suc, ◌+◌, ◌-◌, ◌*◌, ◌%◌, ◌^◌, ◌≤◌, min, get_or, take, drop, map, append_assoc, eqb-true, neg_ℤ}
-use Rattle.std.proofs.Math.Bool.{and_assoc, and-true}
-use Rattle.std.proofs.lemmas.{Bool.cases_lt, Bool.Decides.nat_tests, Grind.common_steps, Int.Digits.digits_value_more, List.{take-append-drop, length-drop, length-take-le, drop-drop, get_or-map}, List.Elements.{All-from_recursion, All-take, All-drop, recursion_from_All}, Str.digit_value_digit, Str.Parse.{digit_from_value, digit_at, IsNumeralModel, numerals_by_value, tells_all_ascii_digits}}
+use Rattle.std.proofs.{Common.{◌≡◌, ℕ, ◌<◌, Bool, true, false, cond, ◌⊎◌, List, [], ◌∷◌, ◌++◌, length, refl, sym, ◌∙◌, ap, subst, arith, nat_lt, ◌==◌, append-nil, Option, Some, None, ℤ, pos, ◌&&◌, option_map, zero, suc, ◌+◌, ◌-◌, ◌*◌, ◌%◌, ◌^◌, ◌≤◌, min, get_or, take, drop, map, append_assoc, eqb-true, neg_ℤ}, Math.Bool.{and_assoc, and-true}, lemmas.{Bool.Decides.nat_tests, Bool.cases_lt, Grind.common_steps, Int.Digits.digits_value_more, List.Elements.{All-from_recursion, All-take, All-drop, recursion_from_All}, List.{take-append-drop, length-drop, length-take-le, drop-drop, get_or-map}, Str.Parse.{digit_from_value, digit_at, IsNumeralModel, numerals_by_value, tells_all_ascii_digits}, Str.digit_value_digit}}
 use Rattle.std.specs.{Char.{is_ascii_digit, digit_value}, List.prefix_len, Str.all_ascii_digits, Str.Parse.{AllDigits, digits_value, IsNumeral}}
 use Rattle.decimal_digits.proofs.lemmas.digits.Rules.{steps}
 use Rattle.decimal_unsigned.specs.{Grammar.{Literal, Grammar, integer, decimal, IsMantissa, undotted, dotted, IsExponent, unsigned, plus, minus, Form, scientific}, Reading.{leading_digits, after_digits, numeral_of, exponent_of, is_letter, with_exponent, after_fraction, after_whole, parts_of}}

@@ -1,6 +1,5 @@
 -- The number that the digits between leading and trailing zeros write.
-use Rattle.std.proofs.Common.{◌≡◌, ℕ, suc, ◌+◌, ◌-◌, ◌*◌, ◌^◌, ◌<◌, ◌≤◌, List, [], ◌∷◌, length, get_or, take, drop, ◌++◌, map, min, refl, sym, ◌∙◌, ap, arith, ℤ, pos, ◌-ℤ◌}
-use Rattle.std.proofs.lemmas.{Grind.{common_steps, elements}, List.{length-map, length-drop, get_or-take, get_or-drop, map-append, take-map, drop-map}, Nat.pow-add}
+use Rattle.std.proofs.{Common.{◌≡◌, ℕ, suc, ◌+◌, ◌-◌, ◌*◌, ◌^◌, ◌<◌, ◌≤◌, List, [], ◌∷◌, length, get_or, take, drop, ◌++◌, map, min, refl, sym, ◌∙◌, ap, arith, ℤ, pos, ◌-ℤ◌}, lemmas.{Grind.{common_steps, elements}, List.{length-map, length-drop, get_or-take, get_or-drop, map-append, take-map, drop-map}, Nat.pow-add}}
 use Rattle.std.specs.{Char.digit_value, Int.Digits.{number_from_digits, AllBelowBase}}
 use Rattle.decimal_digits.proofs.lemmas.{digits.{DigitLists.{below_take, number_split, below_drop, number_after}, Rules.steps}, ops.Offsets.offset_is}
 use Rattle.decimal_digits.specs.{Digits.{number_of, number_at}, Number.offset}

@@ -1,7 +1,5 @@
 -- Eight bytes of a text at a time.
-use Rattle.std.proofs.Common.{◌≡◌, ℕ, zero, suc, ◌+◌, ◌-◌, ◌*◌, ◌/◌, ◌%◌, ◌^◌, ◌<◌, ◌≤◌, List, [], ◌∷◌, ◌++◌, length, get_or, take, refl, sym, ◌∙◌, ap, subst, arith, rules, map, bit_and, bit_or}
-use Rattle.std.proofs.Math.Nat.{pow-suc}
-use Rattle.std.proofs.lemmas.{Int.Digits.{digits_value_is, number_lt, all_below_base_from_digits, number_more, digits_value_more, digits_more}, List.{length-map, take_all}, List.Elements.All-from_recursion, Nat.{and_block, and_mask, or_block, or_of_8, le_or_l, le_or_r}, Str.digit_value_digit}
+use Rattle.std.proofs.{Common.{◌≡◌, ℕ, zero, suc, ◌+◌, ◌-◌, ◌*◌, ◌/◌, ◌%◌, ◌^◌, ◌<◌, ◌≤◌, List, [], ◌∷◌, ◌++◌, length, get_or, take, refl, sym, ◌∙◌, ap, subst, arith, rules, map, bit_and, bit_or}, Math.Nat.pow-suc, lemmas.{Int.Digits.{digits_value_is, number_lt, all_below_base_from_digits, number_more, digits_value_more, digits_more}, List.Elements.All-from_recursion, List.{length-map, take_all}, Nat.{and_block, and_mask, or_block, or_of_8, le_or_l, le_or_r}, Str.digit_value_digit}}
 use Rattle.std.specs.{Char.digit_value, Int.{w64, from_be_bytes}, Int.Digits.{number_from_digits, AllBelowBase}, Str.Parse.{AllDigits, digits_value, digits_value_after}}
 use Rattle.decimal_digits.proofs.lemmas.digits.{LeadingBytes.below_sixteen, Rules.steps, Words.eight_bytes}
 use Rattle.decimal_unsigned.proofs.lemmas.{decimal.Comparing.all_below, from_bcd.BcdNumber.{Lanes, joined, value, value_front, mask, top, stepped, value_joined}}

@@ -1,6 +1,5 @@
 -- The exponent that the code stores, and the value of the parts by the digits that are kept.
-use Rattle.std.proofs.Common.{◌≡◌, ℕ, ◌+◌, ◌-◌, ◌*◌, ◌^◌, ◌<◌, ◌≤◌, ◌==◌, Bool, true, false, ◌||◌, ◌⊎◌, ◌++◌, length, get_or, refl, sym, ◌∙◌, ap, subst, arith, ℤ, pos, negsuc, ◌+ℤ◌, ◌-ℤ◌, ◌≤ℤ◌, ◌<ℤ◌, int_lt, Option, Some, None, Ok, Err, cond, inl, inr, List, [], ◌∷◌, option_map, rules, if◌then◌else◌, IfSome}
-use Rattle.std.proofs.lemmas.{Bool.cases_lt, Bool.Decides.nat_tests, Int.{ints, clamps}, Int.Digits.{digits_value_is, all_below_base_from_digits}, List.{length-map, length-append}}
+use Rattle.std.proofs.{Common.{◌≡◌, ℕ, ◌+◌, ◌-◌, ◌*◌, ◌^◌, ◌<◌, ◌≤◌, ◌==◌, Bool, true, false, ◌||◌, ◌⊎◌, ◌++◌, length, get_or, refl, sym, ◌∙◌, ap, subst, arith, ℤ, pos, negsuc, ◌+ℤ◌, ◌-ℤ◌, ◌≤ℤ◌, ◌<ℤ◌, int_lt, Option, Some, None, Ok, Err, cond, inl, inr, List, [], ◌∷◌, option_map, rules, if◌then◌else◌, IfSome}, lemmas.{Bool.Decides.nat_tests, Bool.cases_lt, Int.Digits.{digits_value_is, all_below_base_from_digits}, Int.{ints, clamps}, List.{length-map, length-append}}}
 use Rattle.std.specs.{Char.digit_value, Int.{int_max, int_min}, Int.Digits.AllBelowBase, Str.Parse.{AllDigits, digits_value}}
 use Rattle.decimal_digits.proofs.lemmas.{digits.Rules.steps, ops.Offsets.offset_is}
 use Rattle.decimal_digits.specs.{Digits.number_of, Number.{first, last}}

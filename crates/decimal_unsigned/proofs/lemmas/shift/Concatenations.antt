@@ -1,6 +1,5 @@
 -- Digits, zeros and then more digits.
-use Rattle.std.proofs.Common.{◌≡◌, ℕ, ◌+◌, ◌-◌, ◌*◌, ◌^◌, ◌<◌, ◌≤◌, false, List, ◌++◌, length, replicate, refl, sym, ◌∙◌, ap, arith, ℤ, pos, negsuc, ◌+ℤ◌, ◌-ℤ◌, ◌≤ℤ◌, ◌<ℤ◌}
-use Rattle.std.proofs.lemmas.{Bool.Decides.nat_tests, Int.{ints, clamps}, List.{length-append, length-replicate, get_or_append_left, get_or-append_right}, List.Elements.{recursion_from_All, All-from_recursion, All-append, All-replicate}, Nat.pow-add}
+use Rattle.std.proofs.{Common.{◌≡◌, ℕ, ◌+◌, ◌-◌, ◌*◌, ◌^◌, ◌<◌, ◌≤◌, false, List, ◌++◌, length, replicate, refl, sym, ◌∙◌, ap, arith, ℤ, pos, negsuc, ◌+ℤ◌, ◌-ℤ◌, ◌≤ℤ◌, ◌<ℤ◌}, lemmas.{Bool.Decides.nat_tests, Int.{ints, clamps}, List.Elements.{recursion_from_All, All-from_recursion, All-append, All-replicate}, List.{length-append, length-replicate, get_or_append_left, get_or-append_right}, Nat.pow-add}}
 use Rattle.std.specs.{Int.{int_max, int_min}, Int.Digits.number_from_digits}
 use Rattle.decimal_digits.proofs.lemmas.{digits.{DigitLists.{number_pad, number-append}, Rules.steps}, ops.Offsets.{offset_is, gap_is}}
 use Rattle.decimal_digits.specs.{Digits.{number_of, number_at}, Number.{offset, first, last}}

@@ -1,7 +1,5 @@
 -- The part of a number below a position, by its digits.
-use Rattle.std.proofs.Common.{◌≡◌, ℕ, ◌+◌, ◌-◌, ◌*◌, ◌%◌, ◌^◌, ◌<◌, ◌≤◌, min, List, length, get_or, take, drop, refl, sym, ◌∙◌, ap, subst, arith, inl, inr, ℤ, pos, negsuc, ◌+ℤ◌, ◌-ℤ◌, ◌≤ℤ◌}
-use Rattle.std.proofs.Math.Nat.{mul-mod_left, mul-lt-mul_of_pos_right, pow-le-pow_right, mod-eq_of_lt}
-use Rattle.std.proofs.lemmas.{Bool.cases_lt, Int.{ints, clamps}, List.{length-drop, length-take-le, get_or-take, get_or-drop, drop-drop}, Nat.{pow-add, mod-mul-add}}
+use Rattle.std.proofs.{Common.{◌≡◌, ℕ, ◌+◌, ◌-◌, ◌*◌, ◌%◌, ◌^◌, ◌<◌, ◌≤◌, min, List, length, get_or, take, drop, refl, sym, ◌∙◌, ap, subst, arith, inl, inr, ℤ, pos, negsuc, ◌+ℤ◌, ◌-ℤ◌, ◌≤ℤ◌}, Math.Nat.{mul-mod_left, mul-lt-mul_of_pos_right, pow-le-pow_right, mod-eq_of_lt}, lemmas.{Bool.cases_lt, Int.{ints, clamps}, List.{length-drop, length-take-le, get_or-take, get_or-drop, drop-drop}, Nat.{pow-add, mod-mul-add}}}
 use Rattle.std.specs.{Int.{int_max, int_min, int_gap}, Int.Digits.number_from_digits}
 use Rattle.decimal_digits.proofs.lemmas.{digits.{DigitLists.{ten_pos, number_split, below_drop, number-drop-lt}, Rules.steps}, ops.Offsets.{offset_is, gap_is}}
 use Rattle.decimal_digits.specs.{Digits.{number_of, number_at}, Number.{offset, weight}}

@@ -1,6 +1,5 @@
 -- Laws of rounding, on values.
-use Rattle.std.proofs.Common.{◌≡◌, ℕ, ◌-◌, ◌*◌, ◌^◌, ◌<◌, ◌≤◌, sym, subst, arith, Option, Some, ℤ, negsuc, ◌≤ℤ◌, rules, if◌then◌else◌}
-use Rattle.std.proofs.lemmas.{Bool.Decides.nat_tests, Int.{ints, clamps}, Nat.pow-add}
+use Rattle.std.proofs.{Common.{◌≡◌, ℕ, ◌-◌, ◌*◌, ◌^◌, ◌<◌, ◌≤◌, sym, subst, arith, Option, Some, ℤ, negsuc, ◌≤ℤ◌, rules, if◌then◌else◌}, lemmas.{Bool.Decides.nat_tests, Int.{ints, clamps}, Nat.pow-add}}
 use Rattle.std.specs.Int.{int_max}
 use Rattle.decimal_digits.proofs.lemmas.{digits.Rules.steps, ops.Offsets.offset_le, rounding.{Naming.rounded_number_is_named, Remainders.unit_pos, RoundingLaws.{rounded_number-idempotent, rounded_number-zero, rounded_number-finer, rounded_number-monotone, trunc-coarser, expand-coarser, trunc_le, le_expand}}}
 use Rattle.decimal_digits.specs.{Number.{offset, first, size}, Rounding.{unit_at, rounded_number, DigitRoundingFails}, declared.rounding.RoundError.RoundError, declared.rounding.RoundError.TheVariants.{Limit, Memory}, declared.rounding.RoundingIncrement.TheVariants.MultiplesOf1, declared.rounding.UnsignedRoundingMode.UnsignedRoundingMode, declared.rounding.UnsignedRoundingMode.TheVariants.{Trunc, Expand}}

@@ -1,7 +1,5 @@
 -- Roundings: the values of the fields afterwards, and when each multiple that a mode names is below the limit.
-use Rattle.std.proofs.Common.{◌≡◌, ℕ, ◌<◌, ◌≤◌, List, length, sym, ◌∙◌, ap, arith, Option, Some, None, Result, ℤ, pos, negsuc, ◌-ℤ◌, ◌≤ℤ◌, ◌+◌, ◌-◌, ◌*◌, ◌^◌, refl, inl, inr, ◌+ℤ◌, ◌<ℤ◌, rules, IsOk, IsErrOf}
-use Rattle.std.proofs.Math.Nat.{pow-le-pow_right, mul-le-mul_right}
-use Rattle.std.proofs.lemmas.{Bool.cases_lt, Bool.Decides.nat_tests, Int.{ints, clamps}, Nat.pow-add, Option.none-some}
+use Rattle.std.proofs.{Common.{◌≡◌, ℕ, ◌<◌, ◌≤◌, List, length, sym, ◌∙◌, ap, arith, Option, Some, None, Result, ℤ, pos, negsuc, ◌-ℤ◌, ◌≤ℤ◌, ◌+◌, ◌-◌, ◌*◌, ◌^◌, refl, inl, inr, ◌+ℤ◌, ◌<ℤ◌, rules, IsOk, IsErrOf}, Math.Nat.{pow-le-pow_right, mul-le-mul_right}, lemmas.{Bool.Decides.nat_tests, Bool.cases_lt, Int.{ints, clamps}, Nat.pow-add, Option.none-some}}
 use Rattle.std.specs.{Int.{int_max, int_min}, Int.Digits.AllBelowBase, Result.is_ok}
 use Rattle.decimal_digits.proofs.lemmas.{digits.{DigitLists.ten_pos, Rules.steps}, ops.Offsets.offset_is, rounding.{Ends.first_zero, NumberAt.number_of-none, Remainders.unit_pos, RoundingLaws.{trunc_le, rounded_number-multiple, rounded_number-monotone}}}
 use Rattle.decimal_digits.specs.{Digits.number_of, Number.{first, size, number_limit, offset, weight}, RoundedDigits.{Represents, NoDigitsBelow}, Rounding.{unit_at, rounded_number}, declared.rounding.RoundError.RoundError, declared.rounding.RoundError.TheVariants.Limit, declared.rounding.RoundingIncrement.RoundingIncrement, declared.rounding.RoundingIncrement.TheVariants.{MultiplesOf1, MultiplesOf2, MultiplesOf5, MultiplesOf25}, declared.rounding.UnsignedRoundingMode.UnsignedRoundingMode, declared.rounding.UnsignedRoundingMode.TheVariants.Trunc}

@@ -1,12 +1,10 @@
 -- A value times a power of ten.
-use Rattle.std.proofs.Common.{◌≡◌, ℕ, ◌+◌, ◌-◌, ◌*◌, ◌/◌, ◌^◌, ◌<◌, ◌≤◌, false, List, length, sym, ◌∙◌, ap, arith, ◌⊎◌, Some, None, ℤ, pos, negsuc, ◌+ℤ◌, ◌≤ℤ◌, ◌<ℤ◌}
-use Rattle.std.proofs.Math.Nat.{zero-div}
-use Rattle.std.proofs.lemmas.{Bool.cases_lt, Int.{ints, clamps}, Nat.pow-add}
+use Rattle.std.proofs.{Common.{◌≡◌, ℕ, ◌+◌, ◌-◌, ◌*◌, ◌/◌, ◌^◌, ◌<◌, ◌≤◌, suc, false, List, length, refl, sym, ◌∙◌, ap, arith, ◌⊎◌, inl, inr, Some, None, ℤ, pos, negsuc, ◌+ℤ◌, ◌≤ℤ◌, ◌<ℤ◌}, Math.Nat.zero-div, lemmas.{Bool.cases_lt, Int.{ints, clamps}, Nat.pow-add}}
 use Rattle.std.specs.{Int.{int_max, int_min}, Int.Digits.number_from_digits}
 use Rattle.decimal_digits.proofs.lemmas.{digits.Rules.steps, ops.Offsets.offset_is, rounding.Ends.shift_up}
 use Rattle.decimal_digits.specs.{Digits.{number_of, number_at}, Number.offset}
 use Rattle.decimal_unsigned.proofs.lemmas.decimal.Values.{number_of-none, lowest, stored_as, last_covered}
-use Rattle.decimal_unsigned.specs.{Edits.{leaves_limits, multiplied, multiplied_pow10}, Stored.IsStored, Unsigned.Unsigned}
+use Rattle.decimal_unsigned.specs.{Edits.{leaves_limits, times_power, multiplied, multiplied_pow10}, Stored.IsStored, Unsigned.Unsigned}
 
 -- the range of a shifted value
 pub record Moves (ds : List ℕ) (m hi lo d m' hi' lo' : ℤ) : Type 0 where
@@ -42,14 +40,26 @@ unfolding number_of number_at
 number_down ds m m' n h e = grind (steps, shift_up)
 
 -- the moved digits are the number times the power
+times_is : {ds : List ℕ} {m hi lo m' hi' lo' : ℤ} (d : ℤ) → IsStored ds m hi lo → Moves ds m hi lo d m' hi' lo'
+    → number_of ds m' ≡ times_power (number_of ds m) d
+times_is {ds} {m} {hi} {lo} {m'} (pos n) t s = elim (cases_lt 0 (length ds)) [
+  | inl h ↦ number_up ds m m' n (omega (arith, t.fits)) (omega (arith, ints, s.some h, offset_is, lowest t))
+  | inr h ↦
+      rw (number_of-none (moved t s) (omega arith), number_of-none t (omega arith)) (omega arith)
+]
+times_is {ds} {m} {hi} {lo} {m'} (negsuc n) t s = elim (cases_lt 0 (length ds)) [
+  | inl h ↦
+      let u = moved t s in
+      number_down ds m m' (suc n) (omega (arith, u.fits)) (omega (arith, ints, s.some h, offset_is, lowest t, lowest u))
+  | inr h ↦ rw (number_of-none (moved t s) (omega arith), number_of-none t (omega arith)) (sym (zero-div _))
+]
+
+-- and their value is multiplied
 pub multiplied_is : {ds : List ℕ} {m hi lo m' hi' lo' : ℤ} (d : ℤ) → IsStored ds m hi lo
     → Moves ds m hi lo d m' hi' lo'
     → record { number = number_of ds m'; hi = hi'; lo = lo' }
     ≡ multiplied (record { number = number_of ds m; hi = hi; lo = lo }) d
-multiplied_is {ds} {m} {hi} {lo} {m'} {hi'} {lo'} (pos n) t s =
-    grind (steps, moved, cases_lt, number_up, offset_is, lowest, number_of-none)
-multiplied_is {ds} {m} {hi} {lo} {m'} {hi'} {lo'} (negsuc n) t s =
-    grind (steps, moved, cases_lt, number_down, offset_is, lowest, number_of-none, zero-div)
+multiplied_is d t s = rw (s.hi_is, s.lo_is, times_is d t s) refl
 
 -- a shifted range within the limits does not leave the limits
 pub stays_in : (v : Unsigned) (d : ℤ) → (v.hi +ℤ d) ≤ℤ pos 32767 → negsuc 32767 ≤ℤ (v.lo +ℤ d)

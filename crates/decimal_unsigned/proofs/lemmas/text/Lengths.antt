@@ -1,6 +1,5 @@
 -- The length in bytes of the text of a value.
-use Rattle.std.proofs.Common.{◌≡◌, ℕ, suc, ◌+◌, ◌<◌, ◌≤◌, length, arith, ℤ, pos, negsuc, ◌≤ℤ◌, ◌<ℤ◌}
-use Rattle.std.proofs.lemmas.{Int.ints, List.length-append}
+use Rattle.std.proofs.{Common.{◌≡◌, ℕ, suc, ◌+◌, ◌<◌, ◌≤◌, length, arith, ℤ, pos, negsuc, ◌≤ℤ◌, ◌<ℤ◌}, lemmas.{Int.ints, List.length-append}}
 use Rattle.std.specs.Int.{int_gap}
 use Rattle.decimal_digits.proofs.lemmas.{digits.Rules.steps, ops.Offsets.gap_is}
 use Rattle.decimal_unsigned.proofs.lemmas.text.Writing.{length-bytes_down, fraction_text, text_is}

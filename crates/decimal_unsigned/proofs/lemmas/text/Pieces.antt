@@ -1,7 +1,5 @@
 -- Blocks and pieces of the text of a value, and texts of at most sixteen digits.
-use Rattle.std.proofs.Common.{◌≡◌, ℕ, suc, ◌+◌, ◌-◌, ◌<◌, ◌≤◌, List, [], ◌∷◌, ◌++◌, length, take, drop, refl, sym, ◌∙◌, ap, arith, ℤ, pos, negsuc, ◌+ℤ◌, ◌-ℤ◌, ◌≤ℤ◌, get_or, replicate, inl, inr, min, ◌<ℤ◌, Option, None, Some, append-nil, IfSome, IfNone}
-use Rattle.std.proofs.Math.Seq.{take-append-add, drop-append-add}
-use Rattle.std.proofs.lemmas.{Bool.cases_lt, Grind.{common_steps, elements}, Int.ints, List.{length-append, length-drop, take_all, get_or-take, get_or-drop, length-take-le, length-map, length-replicate, get_or-map, take-append-le, drop-append-le, get_or-replicate, take_at}}
+use Rattle.std.proofs.{Common.{◌≡◌, ℕ, suc, ◌+◌, ◌-◌, ◌<◌, ◌≤◌, List, [], ◌∷◌, ◌++◌, length, take, drop, refl, sym, ◌∙◌, ap, arith, ℤ, pos, negsuc, ◌+ℤ◌, ◌-ℤ◌, ◌≤ℤ◌, get_or, replicate, inl, inr, min, ◌<ℤ◌, Option, None, Some, append-nil, IfSome, IfNone}, Math.Seq.{take-append-add, drop-append-add}, lemmas.{Bool.cases_lt, Grind.{common_steps, elements}, Int.ints, List.{length-append, length-drop, take_all, get_or-take, get_or-drop, length-take-le, length-map, length-replicate, get_or-map, take-append-le, drop-append-le, get_or-replicate, take_at}}}
 use Rattle.std.specs.{Int.int_gap, Option.unwrap_or}
 use Rattle.decimal_digits.proofs.lemmas.{digits.Rules.steps, ops.Offsets.{offset_is, gap_is}}
 use Rattle.decimal_digits.specs.{Digits.{number_of, text_of}, Number.{offset, digit}}

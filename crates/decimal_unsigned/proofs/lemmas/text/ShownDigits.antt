@@ -1,7 +1,5 @@
 -- The digits that a value shows.
-use Rattle.std.proofs.Common.{◌≡◌, ℕ, zero, suc, ◌+◌, ◌-◌, ◌*◌, ◌/◌, ◌%◌, ◌^◌, ◌<◌, List, [], ◌∷◌, ◌++◌, length, drop, min, get_or, refl, inl, inr, sym, ◌∙◌, ap, arith, w16, to_z, of_z, ℤ, pos, negsuc, ◌+ℤ◌, ◌-ℤ◌, ◌≤ℤ◌, ◌<ℤ◌, All, ◌≤◌, rules}
-use Rattle.std.proofs.Math.Nat.{pow-le-pow_right, div-div-eq-div-mul, div-eq_of_lt}
-use Rattle.std.proofs.lemmas.{Bool.cases_lt, Grind.{elements, same_number_lists}, Int.{ints, by_lt_z, to_z-of_z}, List.{length-append, nil_from_length, get_or_past}, Nat.pow-add}
+use Rattle.std.proofs.{Common.{◌≡◌, ℕ, zero, suc, ◌+◌, ◌-◌, ◌*◌, ◌/◌, ◌%◌, ◌^◌, ◌<◌, List, [], ◌∷◌, ◌++◌, length, drop, min, get_or, refl, inl, inr, sym, ◌∙◌, ap, arith, w16, to_z, of_z, ℤ, pos, negsuc, ◌+ℤ◌, ◌-ℤ◌, ◌≤ℤ◌, ◌<ℤ◌, All, ◌≤◌, rules}, Math.Nat.{pow-le-pow_right, div-div-eq-div-mul, div-eq_of_lt}, lemmas.{Bool.cases_lt, Grind.{elements, same_number_lists}, Int.{ints, by_lt_z, to_z-of_z}, List.{length-append, nil_from_length, get_or_past}, Nat.pow-add}}
 use Rattle.std.specs.Int.{int_gap}
 use Rattle.decimal_digits.proofs.lemmas.{digits.{LeadingBytes.{get_or-padded, length-padded}, Packing.rest_at, Rules.steps, Words.{bcd_nibble, cut, word_nibble, zero_word}}, ops.Offsets.gap_is}
 use Rattle.decimal_digits.specs.{Digits.number_of, Nibbles.{padded, bcd_number, word_nibbles}, Number.digit}

@@ -1,7 +1,5 @@
 -- The text of a value by its bytes, and what has been written of it.
-use Rattle.std.proofs.Common.{◌≡◌, ℕ, suc, ◌+◌, ◌≤◌, List, [], ◌∷◌, ◌++◌, length, take, drop, Option, refl, subst, arith, ℤ, pos, ◌-ℤ◌, zero, ◌<◌, get_or, sym, ◌∙◌, ap, negsuc, ◌≤ℤ◌, slice_index, EachIndex}
-use Rattle.std.proofs.KnownBytes.{Appends-trans}
-use Rattle.std.proofs.lemmas.{Grind.elements, Int.ints, List.{take-append-drop, get_or-take, get_or-drop, length-take-le, length-drop}, Str.Ascii.{IsAscii-nil, IsAscii-cons}}
+use Rattle.std.proofs.{Common.{◌≡◌, ℕ, suc, ◌+◌, ◌≤◌, List, [], ◌∷◌, ◌++◌, length, take, drop, Option, refl, subst, arith, ℤ, pos, ◌-ℤ◌, zero, ◌<◌, get_or, sym, ◌∙◌, ap, negsuc, ◌≤ℤ◌, slice_index, EachIndex}, KnownBytes.Appends-trans, lemmas.{Grind.elements, Int.ints, List.{take-append-drop, get_or-take, get_or-drop, length-take-le, length-drop}, Str.Ascii.{IsAscii-nil, IsAscii-cons}}}
 use Rattle.std.specs.{Int.int_gap, Io.KnownBytes.Appends, Str.IsAscii}
 use Rattle.decimal_digits.proofs.lemmas.{digits.Rules.steps, sink.Sinks.{prefix_more, then_prefix}}
 use Rattle.decimal_digits.specs.{AppendsPrefix.AppendsPrefix, Number.digit}

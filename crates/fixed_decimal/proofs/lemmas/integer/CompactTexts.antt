@@ -1,7 +1,5 @@
 -- The text of a compact value: its exponent's digits, and that it reads as the value.
-use Rattle.std.proofs.Common.{◌≡◌, ℕ, zero, suc, ◌+◌, ◌/◌, ◌<◌, ◌≤◌, Bool, false, List, [], ◌∷◌, get_or, refl, sym, ◌∙◌, ap, arith, Option, Some, None, Ok, Err, ◌%◌, ◌^◌, true, append-nil}
-use Rattle.std.proofs.Math.Dec.{eqb-suc-zero}
-use Rattle.std.proofs.lemmas.{Bool.Decides.nat_tests, Fmt.{IsAscii-decimal, decimal_digit, decimal_step, decimal_is_IsNumeral, first_decimal}, List.Folds.list_any-append, Str.{IsUtf8-nil, IsUtf8-from_ascii, IsAscii-append}, Str.Parse.digit_from_value}
+use Rattle.std.proofs.{Common.{◌≡◌, ℕ, zero, suc, ◌+◌, ◌/◌, ◌<◌, ◌≤◌, Bool, false, List, [], ◌∷◌, get_or, refl, sym, ◌∙◌, ap, arith, Option, Some, None, Ok, Err, ◌%◌, ◌^◌, true, append-nil}, Math.Dec.eqb-suc-zero, lemmas.{Bool.Decides.nat_tests, Fmt.{IsAscii-decimal, decimal_digit, decimal_step, decimal_is_IsNumeral, first_decimal}, List.Folds.list_any-append, Str.Parse.digit_from_value, Str.{IsUtf8-nil, IsUtf8-from_ascii, IsAscii-append}}}
 use Rattle.std.specs.{Fmt.decimal, List.list_any, Str.IsUtf8, Str.Parse.{AllDigits, IsNumeral, digits_value}}
 use Rattle.decimal_unsigned.proofs.lemmas.parse.GrammarParts.{numeral-complete}
 use Rattle.decimal_unsigned.specs.Reading.{syntax, is_letter}

@@ -1,6 +1,5 @@
 -- Where a text is split at a letter.
-use Rattle.std.proofs.Common.{◌≡◌, ◌==◌, ℕ, false, List, [], ◌∷◌, ◌++◌, refl, arith, Some, None}
-use Rattle.std.proofs.lemmas.Bool.Decides.{nat_tests}
+use Rattle.std.proofs.{Common.{◌≡◌, ◌==◌, ℕ, false, List, [], ◌∷◌, ◌++◌, refl, arith, Some, None}, lemmas.Bool.Decides.nat_tests}
 use Rattle.std.specs.List.{list_any}
 use Rattle.fixed_decimal.specs.Split.{split_once}
 

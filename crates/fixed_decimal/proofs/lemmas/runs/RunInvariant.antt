@@ -1,7 +1,5 @@
 -- One call more.
-use Rattle.std.proofs.Common.{◌≡◌, ℕ, suc, ◌+◌, ◌<◌, List, [], ◌∷◌, ◌++◌, length, get_or, take, drop, refl, sym, ◌∙◌, ap, arith, Result, Ok, Err}
-use Rattle.std.proofs.Math.Seq.{drop-cons}
-use Rattle.std.proofs.lemmas.{List.{take_more, length-take-le}, Option.slice_get-get_or}
+use Rattle.std.proofs.{Common.{◌≡◌, ℕ, suc, ◌+◌, ◌<◌, List, [], ◌∷◌, ◌++◌, length, get_or, take, drop, refl, sym, ◌∙◌, ap, arith, Result, Ok, Err}, Math.Seq.drop-cons, lemmas.{List.{take_more, length-take-le}, Option.slice_get-get_or}}
 use Rattle.fixed_decimal.specs.{Calls.{CallsFail, CallFails, call_number}, Decimal.Decimal, DecimalText.{read_decimal, and_then}, Errors.{IsReached, run_error, RunFails}, Outcome.{OutcomeError, step, after_calls}, declared.runs.Call.Call, declared.runs.CallError.CallError, declared.runs.CallError.TheVariants.{Operand, Overlap, Limit, Memory}}
 use Rattle.decimal_unsigned.specs.declared.error.ParseError.TheVariants as parse
 

@@ -1,6 +1,5 @@
 -- Laws of sequences of roundings, and of runs.
-use Rattle.std.proofs.Common.{◌≡◌, ℕ, ◌+◌, ◌<◌, List, [], ◌∷◌, sym, ◌∙◌, ap, arith, rules, Option, Some, None, Err, ℤ, map, option_map, option_and_then, if◌then◌else◌}
-use Rattle.std.proofs.lemmas.{Int.{ints, clamps}, List.Elements.{All-head, All-tail, All-cons}}
+use Rattle.std.proofs.{Common.{◌≡◌, ℕ, ◌+◌, ◌<◌, List, [], ◌∷◌, sym, ◌∙◌, ap, arith, rules, Option, Some, None, Err, ℤ, map, option_map, option_and_then, if◌then◌else◌}, lemmas.{Int.{ints, clamps}, List.Elements.{All-head, All-tail, All-cons}}}
 use Rattle.std.specs.{Int.int_max, List.{All, fold}, Option.unwrap_or}
 use Rattle.decimal_digits.proofs.lemmas.rounding.{Remainders.unit_pos, RoundingLaws.trunc_le}
 use Rattle.decimal_digits.specs.{Number.number_limit, Rounding.{unit_at, rounded_number}, declared.rounding.RoundingIncrement.TheVariants.MultiplesOf1, declared.rounding.UnsignedRoundingMode.UnsignedRoundingMode, declared.rounding.UnsignedRoundingMode.TheVariants.{Expand, Trunc}}

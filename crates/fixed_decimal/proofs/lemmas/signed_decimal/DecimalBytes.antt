@@ -1,7 +1,5 @@
 -- The bytes of a decimal's text, and its length.
-use Rattle.std.proofs.Common.{◌≡◌, ℕ, zero, suc, ◌+◌, ◌/◌, ◌<◌, ◌≤◌, Bool, false, [], ◌∷◌, ◌++◌, length, refl, ◌∙◌, ap, arith, ℤ, pos, ◌-ℤ◌}
-use Rattle.std.proofs.Math.Nat.{mod-lt}
-use Rattle.std.proofs.lemmas.{Bool.Decides.nat_tests, Int.ints, List.length-append, List.Folds.list_any-append}
+use Rattle.std.proofs.{Common.{◌≡◌, ℕ, zero, suc, ◌+◌, ◌/◌, ◌<◌, ◌≤◌, Bool, false, [], ◌∷◌, ◌++◌, length, refl, ◌∙◌, ap, arith, ℤ, pos, ◌-ℤ◌}, Math.Nat.mod-lt, lemmas.{Bool.Decides.nat_tests, Int.ints, List.Folds.list_any-append, List.length-append}}
 use Rattle.std.specs.List.{list_any}
 use Rattle.decimal_digits.proofs.lemmas.ops.Offsets.{gap_is}
 use Rattle.decimal_digits.specs.Number.{digit, weight}

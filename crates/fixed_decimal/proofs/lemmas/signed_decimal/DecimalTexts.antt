@@ -1,6 +1,5 @@
 -- The text of a decimal, and the reading of one.
-use Rattle.std.proofs.Common.{◌≡◌, ℕ, ◌<◌, ◌≤◌, length, List, ◌∷◌, ◌++◌, refl, sym, ◌∙◌, ap, subst, arith, Result, Ok, Err, IsOkAnd, ◌↔◌}
-use Rattle.std.proofs.lemmas.Bool.Decides.{nat_tests}
+use Rattle.std.proofs.{Common.{◌≡◌, ℕ, ◌<◌, ◌≤◌, length, List, ◌∷◌, ◌++◌, refl, sym, ◌∙◌, ap, subst, arith, Result, Ok, Err, IsOkAnd, ◌↔◌}, lemmas.Bool.Decides.nat_tests}
 use Rattle.decimal_digits.specs.Number.{size}
 use Rattle.decimal_unsigned.proofs.lemmas.{parse.{FewDigits.{plain_is_read, few_are_held}, ReadingGrammar.{syntax_is, limit_is, value_is, result_syntax, result_limit}}, text.ReadBack.read_text}
 use Rattle.decimal_unsigned.specs.{Grammar.Literal, ParseResult.{IsParseResult, IsPlain, digit_count}, Reading.{value_of, syntax, ReadError, parts_of, after_whole, value_or_syntax, read, limit}, Text.text, Unsigned.{Unsigned, IsValue}, declared.error.ParseError.ParseError, declared.error.ParseError.TheVariants.{Limit, Memory}}

@@ -1,6 +1,5 @@
 -- Rounding of decimals by the rounding of their absolute values.
-use Rattle.std.proofs.Common.{ℕ, ◌≡◌, ◌≤◌, refl, ap, subst, arith, Option, Result, ℤ, IsOk, IsSome, ◌≤ℤ◌}
-use Rattle.std.proofs.lemmas.Int.{ints, to_z-of_z}
+use Rattle.std.proofs.{Common.{ℕ, ◌≡◌, ◌≤◌, refl, ap, subst, arith, Option, Result, ℤ, IsOk, IsSome, ◌≤ℤ◌}, lemmas.Int.{ints, to_z-of_z}}
 use Rattle.std.specs.{Option.unwrap_or, Result.is_ok}
 use Rattle.decimal_digits.proofs.lemmas.rounding.Remainders.{unit_pos}
 use Rattle.decimal_digits.specs.{declared.rounding.RoundError.RoundError, declared.rounding.RoundingIncrement.RoundingIncrement, declared.rounding.RoundingIncrement.TheVariants.MultiplesOf1, declared.rounding.UnsignedRoundingMode.TheVariants.Trunc}

@@ -1,8 +1,5 @@
 -- Writing a text of two parts to a sink.
-use Rattle.std.proofs.Common.{List, ℕ, ◌++◌, Result, Option, OnOk, OnErr}
-use Rattle.std.proofs.KnownBytes.{Appends-trans}
-use Rattle.std.proofs.Output.{has_written_styled_append}
-use Rattle.std.proofs.lemmas.Result.{on_ok_weaker, on_err_weaker}
+use Rattle.std.proofs.{Common.{List, ℕ, ◌++◌, Result, Option, OnOk, OnErr}, KnownBytes.Appends-trans, Output.has_written_styled_append, lemmas.Result.{on_ok_weaker, on_err_weaker}}
 use Rattle.std.specs.Io.KnownBytes.{Appends}
 use Rattle.decimal_digits.proofs.lemmas.{rounding.Results.on_err, sink.Sinks.{prefix_more, then_prefix}}
 use Rattle.decimal_digits.specs.AppendsPrefix.{AppendsPrefix}

@@ -1,5 +1,4 @@
-use Rattle.std.proofs.Common.{◌≡◌, ◌+◌, ◌-◌, ◌∷◌, ◌++◌, length, take, drop, ◌∙◌, ap, arith}
-use Rattle.std.proofs.lemmas.Grind.{common_steps}
+use Rattle.std.proofs.{Common.{◌≡◌, ◌+◌, ◌-◌, ◌∷◌, ◌++◌, length, take, drop, ◌∙◌, ap, arith}, lemmas.Grind.common_steps}
 use Rattle.fixed_decimal.proofs.lemmas.integer.Splitting.{split_none, split_at}
 use Rattle.fixed_decimal.specs.Split.{split_once}
 use Rattle.fixed_decimal.proofs.split.split_once.Goals as goal

@@ -1,5 +1,4 @@
-use Rattle.std.proofs.Common.{drop, sym, ap, arith}
-use Rattle.std.proofs.lemmas.List.{drop_all}
+use Rattle.std.proofs.{Common.{drop, sym, ap, arith}, lemmas.List.drop_all}
 use Rattle.decimal_digits.proofs.lemmas.digits.{Nibbles.nibble_rules, Words.bcd_of_word}
 use Rattle.decimal_digits.specs.Nibbles.{bcd_number, padded}
 use Rattle.decimal_digits.proofs.digits.DigitStore.bcd_at.Goals as goal

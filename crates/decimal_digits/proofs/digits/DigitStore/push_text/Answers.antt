@@ -1,5 +1,4 @@
-use Rattle.std.proofs.Common.{arith}
-use Rattle.std.proofs.lemmas.{Grind.common_steps, List.{map_more, append_assoc}}
+use Rattle.std.proofs.{Common.arith, lemmas.{Grind.common_steps, List.{map_more, append_assoc}}}
 use Rattle.decimal_digits.proofs.lemmas.digits.DigitTexts.{ascii_at}
 use Rattle.decimal_digits.proofs.digits.DigitStore.push_text.Goals as goal
 

@@ -9,3 +9,9 @@ returns-clause-value g c =
     (λ i h. grind (arith, nibble_rules))
     (grind (arith, nibble_rules)) (λ i h l. nines.ensures.equal i (omega arith) l)
     (λ i h l. grind (arith, nibble_rules))
+
+pub returns-clause-stripped : goal.returns-clause-stripped
+returns-clause-stripped g c = grind (arith, nibble_rules)
+
+pub returns-then-nines-places : goal.returns-then-nines-places
+returns-then-nines-places g c = grind arith

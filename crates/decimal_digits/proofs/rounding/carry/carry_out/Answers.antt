@@ -1,5 +1,4 @@
-use Rattle.std.proofs.Common.{arith}
-use Rattle.std.proofs.lemmas.Grind.{common_steps}
+use Rattle.std.proofs.{Common.arith, lemmas.Grind.common_steps}
 use Rattle.decimal_digits.proofs.lemmas.rounding.Leading.{leading_carry}
 use Rattle.decimal_digits.proofs.rounding.carry.carry_out.Goals as goal
 

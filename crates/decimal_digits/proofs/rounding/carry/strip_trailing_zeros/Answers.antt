@@ -5,3 +5,9 @@ use Rattle.decimal_digits.proofs.rounding.carry.strip_trailing_zeros.Goals as go
 pub returns-clause-value : goal.returns-clause-value
 returns-clause-value g c =
     leading_same _ _ _ (λ i h. grind (arith, nibble_rules, c.count_trailing-zeros.ensures.equal i))
+
+pub returns-clause-some : goal.returns-clause-some
+returns-clause-some g c = grind (arith, nibble_rules)
+
+pub returns-clause-stripped : goal.returns-clause-stripped
+returns-clause-stripped g c = grind (arith, nibble_rules)

@@ -1,5 +1,4 @@
-use Rattle.std.proofs.Common.{◌-◌, true, false, refl, arith, rules}
-use Rattle.std.proofs.lemmas.Option.{IfSome_then}
+use Rattle.std.proofs.{Common.{◌-◌, true, false, refl, arith, rules}, lemmas.Option.IfSome_then}
 use Rattle.decimal_digits.proofs.lemmas.{digits.Nibbles.nibble_rules, rounding.{Leading.leading_raised, Remainders.{one_by, exact_stays}, Results.if_none}}
 use Rattle.decimal_digits.proofs.rounding.round_digits.round_by_one.Goals as goal
 
@@ -37,3 +36,6 @@ returns-clause-value g c =
     one_by c.args.mode c.args.remainder _ _ _ _ true c.last_of-last.ensures.value c.if-not-rounds_up.ensures
     (leading_raised c.args.keep (c.args.keep - 1) _ _ (omega arith) (λ i h. grind (arith, nibble_rules))
     (grind (arith, nibble_rules)) (λ i h l. absurd (omega arith)) (λ i h l. absurd (omega arith)))
+
+pub returns-clause-stripped : goal.returns-clause-stripped
+returns-clause-stripped g c = grind (arith, nibble_rules)

@@ -1,5 +1,4 @@
-use Rattle.std.proofs.Common.{◌≡◌, ◌+◌, ◌-◌, ◌≤◌, length, refl, arith, rules}
-use Rattle.std.proofs.lemmas.{Grind.common_steps, List.Elements.recursion_from_All}
+use Rattle.std.proofs.{Common.{◌≡◌, ◌+◌, ◌-◌, ◌≤◌, length, refl, arith, rules}, lemmas.{Grind.common_steps, List.Elements.recursion_from_All}}
 use Rattle.decimal_digits.proofs.lemmas.{digits.Nibbles.nibble_rules, rounding.{Leading.{leading_none, leading_hundred, leading_same, one_more}, NumberAt.powers, Results.none_is_error}}
 use Rattle.decimal_digits.specs.{Remainders.leading, declared.rounding.RoundError.TheVariants.Limit, declared.rounding.RoundingIncrement.TheVariants.MultiplesOf1}
 use Rattle.decimal_digits.proofs.rounding.round_digits.round_leading.Goals as goal
@@ -11,11 +10,14 @@ returns-then-matches-clause-fails_with g c =
     (none_is_error c.round_by_one.result Limit _ c.round_by_one.ensures.full c.round_by_one.ensures.up
     (λ full up. (_, full, up)))
 
-pub returns-then-keep-le2-clause-value : goal.returns-then-keep-le2-clause-value
-returns-then-keep-le2-clause-value g c =
+pub returns-then-keep-le2 : goal.returns-then-keep-le2
+returns-then-keep-le2 g c =
     let ds = g.D.DigitStore.digits c.args.counted.now.list.now in
-    c.round_last_two-rounded.ensures.rounds _ _ _ c.last_two_of-last_two.ensures.value
-    (omega (arith, c.in-Some.ensures.value, leading_none (c.args.keep - 2) ds (omega arith)))
+    let rounds = c.round_last_two-rounded.ensures.rounds (leading (c.args.keep - 2) ds) (leading c.args.keep ds)
+    (leading c.in-Some.places (g.D.DigitStore.digits c.write_number.new.counted.list.now))
+    c.last_two_of-last_two.ensures.value
+    (omega (arith, c.in-Some.ensures.value, leading_none (c.args.keep - 2) ds (omega arith))) in
+    grind arith
 
 pub returns-in_default-write_number-clause-fails_with : goal.returns-in_default-write_number-clause-fails_with
 returns-in_default-write_number-clause-fails_with g c =
@@ -38,12 +40,15 @@ returns-in_default-add_one-clause-fails_with g c =
           refl,
     )
 
-pub returns-then-rounded-eq100-clause-value : goal.returns-then-rounded-eq100-clause-value
-returns-then-rounded-eq100-clause-value g c =
+pub returns-then-rounded-eq100 : goal.returns-then-rounded-eq100
+returns-then-rounded-eq100 g c =
+    let ds = g.D.DigitStore.digits c.args.counted.now.list.now in
     let value = rw c.last_two_of-last_two.ensures.reads.0 at c.in-Some-add_one.ensures.value in
     let more = leading_hundred c.in-Some-add_one.places _ c.in-Some-add_one.ensures.length in
-    c.round_last_two-rounded.ensures.rounds _ _ _ c.last_two_of-last_two.ensures.value
-    (omega (arith, value, more, c.if-rounded-eq100.true))
+    let rounds = c.round_last_two-rounded.ensures.rounds (leading (c.args.keep - 2) ds) (leading c.args.keep ds)
+    (leading (c.in-Some-add_one.places + 2) (g.D.DigitStore.digits c.add_one.new.counted.list.now))
+    c.last_two_of-last_two.ensures.value (omega (arith, value, more, c.if-rounded-eq100.true)) in
+    grind arith
 
 pub returns-in-Err-clause-fails_with : goal.returns-in-Err-clause-fails_with
 returns-in-Err-clause-fails_with g c =
@@ -78,11 +83,15 @@ returns-then-rounded-eq0-clause-value g c =
     c.round_last_two-rounded.ensures.rounds _ _ _ c.last_two_of-last_two.ensures.value
     (omega (arith, more, rw len at c.strip_trailing_zeros.ensures.value, round_digits, c.if-rounded-eq0.true))
 
-pub returns-then-ne-clause-value : goal.returns-then-ne-clause-value
-returns-then-ne-clause-value g c =
+pub returns-then-ne : goal.returns-then-ne
+returns-then-ne g c =
+    let ds = g.D.DigitStore.digits c.args.counted.now.list.now in
     let value = rw c.last_two_of-last_two.ensures.reads.0 at c.keep_leading.ensures.value in
-    c.round_last_two-rounded.ensures.rounds _ _ _ c.last_two_of-last_two.ensures.value
-    (omega (arith, value, c.last_two_of-last_two.ensures.value, c.if-rounded-last_two.true))
+    let rounds = c.round_last_two-rounded.ensures.rounds (leading (c.args.keep - 2) ds) (leading c.args.keep ds)
+    (leading c.args.keep (g.D.DigitStore.digits c.keep_leading.new.counted.list.now))
+    c.last_two_of-last_two.ensures.value
+    (omega (arith, value, c.last_two_of-last_two.ensures.value, c.if-rounded-last_two.true)) in
+    grind arith
 
 pub returns-else-ne-clause-value : goal.returns-else-ne-clause-value
 returns-else-ne-clause-value g c =
@@ -94,3 +103,6 @@ pub returns-in-Ok-clause-value : goal.returns-in-Ok-clause-value
 returns-in-Ok-clause-value g c =
     c.round_last_two-rounded.ensures.rounds _ _ _ c.last_two_of-last_two.ensures.value
     (rw c.last_two_of-last_two.ensures.reads.0 at c.in-Ok.ensures.value)
+
+pub strip_trailing_zeros-requires : goal.strip_trailing_zeros-requires
+strip_trailing_zeros-requires g c = grind (arith, nibble_rules)

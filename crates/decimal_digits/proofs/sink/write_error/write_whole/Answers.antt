@@ -1,5 +1,4 @@
-use Rattle.std.proofs.Common.{arith}
-use Rattle.std.proofs.lemmas.{Grind.common_steps, List.{length-drop, length-take}}
+use Rattle.std.proofs.{Common.arith, lemmas.{Grind.common_steps, List.{length-drop, length-take}}}
 use Rattle.decimal_digits.proofs.lemmas.sink.Sinks.{took_more}
 use Rattle.decimal_digits.proofs.sink.write_error.write_whole.Goals as goal
 

@@ -1,5 +1,4 @@
-use Rattle.std.proofs.Common.{arith}
-use Rattle.std.proofs.lemmas.Grind.{common_steps}
+use Rattle.std.proofs.{Common.arith, lemmas.Grind.common_steps}
 use Rattle.decimal_digits.proofs.lemmas.ops.Integers.{ascending_digits-step}
 use Rattle.decimal_digits.proofs.uint_iterator.IntIteratorIterator.next.Goals as goal
 

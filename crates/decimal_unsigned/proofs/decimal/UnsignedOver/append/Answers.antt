@@ -1,5 +1,4 @@
-use Rattle.std.proofs.Common.{◌≡◌, w16, to_z, of_z, arith, ◌+ℤ◌, ◌+◌, ◌-◌, pos}
-use Rattle.std.proofs.lemmas.{Bool.false≢true, Int.{ints, clamps}}
+use Rattle.std.proofs.{Common.{◌≡◌, w16, to_z, of_z, arith, ◌+ℤ◌, ◌+◌, ◌-◌, pos}, lemmas.{Bool.false≢true, Grind.common_steps, Int.{ints, clamps}}}
 use Rattle.std.specs.Int.{int_max, int_min}
 use Rattle.decimal_digits.proofs.lemmas.ops.Offsets.{gap_is}
 use Rattle.decimal_digits.specs.Number.{first, last}
@@ -41,3 +40,9 @@ returns-clause-ok g c =
     rw (c.in_ok-append.ensures.ok, hi_is g c, lo_is g c)
     (append_value c.self.invariant c.other.invariant c.self.view_is c.other.view_is _ c.requires.first_is_nonzero
     c.requires.second_is_nonzero (apart g (goal.at.returns-clause-ok g c).After-count_between))
+
+pub count_between-requires : goal.count_between-requires
+count_between-requires g c = grind (arith, common_steps)
+
+pub overflow_sub-zeros : goal.overflow_sub-zeros
+overflow_sub-zeros g c = grind (arith, common_steps)

@@ -1,5 +1,4 @@
-use Rattle.std.proofs.Common.{arith}
-use Rattle.std.proofs.lemmas.Grind.{common_steps}
+use Rattle.std.proofs.{Common.arith, lemmas.Grind.common_steps}
 use Rattle.decimal_unsigned.proofs.lemmas.shift.Concatenations.{disjoint, not_overlapping}
 use Rattle.decimal_unsigned.proofs.decimal.UnsignedOver.concatenate_end.Goals as goal
 
@@ -12,3 +11,15 @@ returns-then-overlaps-clause-disjoint g c = grind (arith, not_overlapping, commo
 
 pub returns-then-overlaps-clause-fits : goal.returns-then-overlaps-clause-fits
 returns-then-overlaps-clause-fits g c = grind (arith, not_overlapping, common_steps)
+
+pub returns-then-is_zero : goal.returns-then-is_zero
+returns-then-is_zero g c = grind (arith, common_steps)
+
+pub returns-then-is_zero-2 : goal.returns-then-is_zero-2
+returns-then-is_zero-2 g c = grind (arith, common_steps)
+
+pub returns-in-Ok : goal.returns-in-Ok
+returns-in-Ok g c = grind (arith, common_steps)
+
+pub returns-in-Err : goal.returns-in-Err
+returns-in-Err g c = grind (arith, common_steps)

@@ -1,5 +1,4 @@
-use Rattle.std.proofs.Common.{◌≡◌, ◌+◌, ◌-◌, length, take, drop, w16, of_z, to_z, ◌∙◌, ap, arith, min, ◌-ℤ◌, pos}
-use Rattle.std.proofs.lemmas.{Int.{ints, to_z-of_z}, List.{length-take-le, length-drop}}
+use Rattle.std.proofs.{Common.{◌≡◌, ◌+◌, ◌-◌, length, take, drop, w16, of_z, to_z, ◌∙◌, ap, arith, min, ◌-ℤ◌, pos}, lemmas.{Int.{ints, to_z-of_z}, List.{length-take-le, length-drop}}}
 use Rattle.std.specs.Int.{int_gap}
 use Rattle.decimal_digits.specs.Number.{offset, digit}
 use Rattle.decimal_unsigned.proofs.lemmas.{decimal.Values.{magnitude_kept, value_of_view}, text.Pieces.{index_gap, block_digit}}

@@ -1,5 +1,4 @@
-use Rattle.std.proofs.Common.{◌≡◌, ◌+◌, ◌-◌, ◌<◌, w16, of_z, to_z, ℤ, ℕ, pos, ◌-ℤ◌, suc, ◌++◌, ◌∷◌, length, take, drop, refl, sym, ◌∙◌, ap, arith, append-nil}
-use Rattle.std.proofs.lemmas.{Grind.common_steps, List.nil_from_length}
+use Rattle.std.proofs.{Common.{◌≡◌, ◌+◌, ◌-◌, ◌<◌, w16, of_z, to_z, ℤ, ℕ, pos, ◌-ℤ◌, suc, ◌++◌, ◌∷◌, length, take, drop, refl, sym, ◌∙◌, ap, arith, append-nil}, lemmas.{Grind.common_steps, List.nil_from_length}}
 use Rattle.decimal_unsigned.proofs.lemmas.{decimal.Values.narrow_kept, text.{Pieces.{zeros_front, zeros_after, zeros_rest, piece_above, piece_over, piece_below, fits_above, fits_after, fits_below}, Writing.bytes_are}}
 use Rattle.decimal_unsigned.specs.Text.{text}
 use lib.Signed.{mag}

@@ -1,5 +1,4 @@
-use Rattle.std.proofs.Common.{arith, refl, sym, w16, to_z, of_z}
-use Rattle.std.proofs.lemmas.Int.{ints, clamps}
+use Rattle.std.proofs.{Common.{arith, refl, sym, w16, to_z, of_z}, lemmas.Int.{ints, clamps}}
 use Rattle.decimal_unsigned.proofs.lemmas.parse.BcdValues.{zero_stored, zero_is, short_sizes, short_value, short_zeros, wide_allocates, ok_is}
 use Rattle.decimal_unsigned.proofs.decimal.UnsignedOver.from_bcd_digits.Goals as goal
 

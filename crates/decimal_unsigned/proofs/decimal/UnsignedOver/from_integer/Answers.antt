@@ -1,5 +1,4 @@
-use Rattle.std.proofs.Common.{arith, ap, ◌≡◌, ◌-◌, take, drop, length}
-use Rattle.std.proofs.lemmas.{Grind.common_steps, Int.{ints, clamps}, Int.Digits.{length-digits_of-le, number_digits_of}}
+use Rattle.std.proofs.{Common.{arith, ap, ◌≡◌, ◌-◌, take, drop, length}, lemmas.{Grind.common_steps, Int.Digits.{length-digits_of-le, number_digits_of}, Int.{ints, clamps}}}
 use Rattle.std.specs.Int.Digits.{digits_of}
 use Rattle.decimal_unsigned.proofs.{lemmas.from_bcd.Integers.{UpToLast, digits_at_end, digits_of-below, digits_of-front, whole_stored, whole_value, whole_size}, decimal.UnsignedOver.from_integer.Goals.After-trimmed_len}
 use Rattle.decimal_unsigned.proofs.decimal.UnsignedOver.from_integer.Goals as goal

@@ -1,5 +1,4 @@
-use Rattle.std.proofs.Common.{arith}
-use Rattle.std.proofs.lemmas.Int.Digits.{length-digits_of-le}
+use Rattle.std.proofs.{Common.arith, lemmas.Int.Digits.length-digits_of-le}
 use Rattle.decimal_unsigned.proofs.decimal.UnsignedOver.from_u16.Goals as goal
 
 pub unwrap-requires : goal.unwrap-requires

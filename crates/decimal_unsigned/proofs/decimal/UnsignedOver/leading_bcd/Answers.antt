@@ -1,5 +1,4 @@
-use Rattle.std.proofs.Common.{◌≡◌, ◌-◌, w16, to_z, of_z, ◌∙◌, ap, arith, pos, ◌+ℤ◌, ◌-ℤ◌}
-use Rattle.std.proofs.lemmas.Int.{ints}
+use Rattle.std.proofs.{Common.{◌≡◌, ◌-◌, w16, to_z, of_z, ◌∙◌, ap, arith, pos, ◌+ℤ◌, ◌-ℤ◌}, lemmas.Int.ints}
 use Rattle.decimal_digits.proofs.lemmas.ops.Offsets.{gap_is}
 use Rattle.decimal_digits.specs.Number.{digit}
 use Rattle.decimal_unsigned.proofs.lemmas.{decimal.Values.{magnitude_kept, hi_kept}, text.ShownDigits.digit_of_nibble}

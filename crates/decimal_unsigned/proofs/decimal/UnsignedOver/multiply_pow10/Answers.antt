@@ -1,5 +1,4 @@
-use Rattle.std.proofs.Common.{◌≡◌, w16, to_z, of_z, refl, sym, ◌∙◌, ap, arith}
-use Rattle.std.proofs.lemmas.{Grind.common_steps, Int.{ints, clamps, to_z-of_z}}
+use Rattle.std.proofs.{Common.{◌≡◌, w16, to_z, of_z, refl, sym, ◌∙◌, ap, arith}, lemmas.{Grind.common_steps, Int.{ints, clamps, to_z-of_z}}}
 use Rattle.decimal_unsigned.proofs.{lemmas.{decimal.Values.{hi_kept, lo_kept, magnitude_kept, narrow_kept, wide_kept}, shift.Shifts.{Moves, moved, stays_in, multiplied_is, multiplied_pow10_is, multiplied_pow10_over}}, decimal.UnsignedOver.multiply_pow10.Goals.{then-len-eq0, else-len-eq0}}
 use Rattle.decimal_unsigned.specs.{Edits.{multiplied, multiplied_pow10}, Unsigned.Unsigned}
 use Rattle.decimal_unsigned.proofs.decimal.UnsignedOver.multiply_pow10.Goals as goal

@@ -1,5 +1,4 @@
-use Rattle.std.proofs.Common.{sym, ◌∙◌, arith, rules}
-use Rattle.std.proofs.lemmas.{Grind.common_steps, Int.ints}
+use Rattle.std.proofs.{Common.{sym, ◌∙◌, arith, rules}, lemmas.{Grind.common_steps, Int.ints}}
 use Rattle.decimal_digits.proofs.lemmas.ops.Offsets.{offset_is}
 use Rattle.decimal_unsigned.proofs.lemmas.decimal.Values.{last-number_of, last_of_none, magnitude_kept, narrow_kept, last_told}
 use Rattle.decimal_unsigned.proofs.decimal.UnsignedOver.nonzero_magnitude_end.Goals as goal

@@ -1,5 +1,4 @@
-use Rattle.std.proofs.Common.{◌≡◌, ℕ, List, w16, to_z, of_z, sym, ◌∙◌, ap, arith, rules, Err, Some, pos, ◌-ℤ◌}
-use Rattle.std.proofs.lemmas.{Int.{ints, to_z-of_z}, List.Elements.recursion_from_All, Result.err_from_is_err_and}
+use Rattle.std.proofs.{Common.{◌≡◌, ℕ, List, w16, to_z, of_z, sym, ◌∙◌, ap, arith, rules, Err, Some, pos, ◌-ℤ◌}, lemmas.{Int.{ints, to_z-of_z}, List.Elements.recursion_from_All, Result.err_from_is_err_and}}
 use Rattle.std.specs.Int.{int_max, int_min}
 use Rattle.decimal_digits.specs.{Digits.number_of, declared.rounding.RoundError.TheVariants.Limit}
 use Rattle.decimal_unsigned.proofs.lemmas.{decimal.Values.{size-number_of, narrow_kept, magnitude_kept, hi_kept, value_of_view}, shift.{RoundingLaws.{is_rounded, fails, rounding_is_idempotent}, Roundings.{stored_left, rounded_left, number_of-stored, length-stored, not_limit_error, rounding_is_ok}}}

@@ -1,5 +1,4 @@
-use Rattle.std.proofs.Common.{arith}
-use Rattle.std.proofs.lemmas.{Grind.common_steps, Int.to_z-of_z}
+use Rattle.std.proofs.{Common.arith, lemmas.{Grind.common_steps, Int.to_z-of_z}}
 use Rattle.decimal_unsigned.proofs.decimal.UnsignedOver.rounded_with_mode_and_increment.Goals as goal
 
 pub returns-in-Ok-clause-rounds : goal.returns-in-Ok-clause-rounds

@@ -1,5 +1,4 @@
-use Rattle.std.proofs.Common.{ap, arith}
-use Rattle.std.proofs.lemmas.Int.{ints}
+use Rattle.std.proofs.{Common.{ap, arith}, lemmas.Int.ints}
 use Rattle.decimal_digits.specs.Number.{last}
 use Rattle.decimal_unsigned.proofs.lemmas.decimal.Values.{lower_stored}
 use Rattle.decimal_unsigned.specs.Unsigned.{Unsigned}

@@ -1,5 +1,4 @@
-use Rattle.std.proofs.Common.{◌≡◌, ◌≤◌, min, length, w16, w32, pos, ◌+ℤ◌, ◌-ℤ◌, to_z, of_z, refl, sym, ◌∙◌, ap, subst, arith}
-use Rattle.std.proofs.lemmas.Int.{ints, to_z-of_z}
+use Rattle.std.proofs.{Common.{◌≡◌, ◌≤◌, min, length, w16, w32, pos, ◌+ℤ◌, ◌-ℤ◌, to_z, of_z, refl, sym, ◌∙◌, ap, subst, arith}, lemmas.Int.{ints, to_z-of_z}}
 use Rattle.std.specs.Int.{int_max, int_gap}
 use Rattle.decimal_digits.proofs.lemmas.ops.Offsets.{offset_is}
 use Rattle.decimal_unsigned.proofs.{lemmas.{decimal.Values.{lo_kept, magnitude_kept, narrow_kept, lowest, value_of_view}, laws.ValueLaws.splits, shift.Cuts.{Cuts, stored_cut, with_max_position_is}, text.Pieces.index_gap}, decimal.UnsignedOver.set_max_position.Goals.{then-start-len, else-start-len}}

@@ -1,5 +1,4 @@
-use Rattle.std.proofs.Common.{arith}
-use Rattle.std.proofs.lemmas.Grind.{common_steps}
+use Rattle.std.proofs.{Common.arith, lemmas.Grind.common_steps}
 use Rattle.decimal_unsigned.proofs.lemmas.{decimal.Values.narrow_kept, laws.ValueLaws.{least_hi, shortest}}
 use Rattle.decimal_unsigned.proofs.decimal.UnsignedOver.trim_start.Goals as goal
 

@@ -1,5 +1,4 @@
-use Rattle.std.proofs.Common.{ap, subst}
-use Rattle.std.proofs.lemmas.Int.{to_z-of_z}
+use Rattle.std.proofs.{Common.{ap, subst}, lemmas.Int.to_z-of_z}
 use Rattle.std.specs.Option.{unwrap_or}
 use Rattle.decimal_digits.specs.{declared.rounding.RoundingIncrement.TheVariants.MultiplesOf1, declared.rounding.UnsignedRoundingMode.TheVariants.Trunc}
 use Rattle.decimal_unsigned.proofs.lemmas.{laws.ValueLaws.{splits, trunc_succeeds}, shift.Roundings.ok_unless_none}

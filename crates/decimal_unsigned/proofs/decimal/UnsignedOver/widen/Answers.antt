@@ -1,5 +1,4 @@
-use Rattle.std.proofs.Common.{arith}
-use Rattle.std.proofs.lemmas.Int.{ints, clamps}
+use Rattle.std.proofs.{Common.arith, lemmas.Int.{ints, clamps}}
 use Rattle.decimal_unsigned.proofs.lemmas.shift.Concatenations.{wider}
 use Rattle.decimal_unsigned.proofs.decimal.UnsignedOver.widen.Goals as goal
 

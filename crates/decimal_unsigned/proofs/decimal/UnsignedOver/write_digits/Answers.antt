@@ -1,5 +1,4 @@
-use Rattle.std.proofs.Common.{arith}
-use Rattle.std.proofs.lemmas.{Grind.common_steps, Int.ints}
+use Rattle.std.proofs.{Common.arith, lemmas.{Grind.common_steps, Int.ints}}
 use Rattle.decimal_digits.proofs.lemmas.ops.Offsets.{offset_is}
 use Rattle.decimal_unsigned.proofs.decimal.UnsignedOver.write_digits.Goals as goal
 

@@ -1,5 +1,4 @@
-use Rattle.std.proofs.Common.{arith}
-use Rattle.std.proofs.lemmas.{Grind.common_steps, List.take_rest}
+use Rattle.std.proofs.{Common.arith, lemmas.{Grind.common_steps, List.take_rest}}
 use Rattle.decimal_unsigned.proofs.lemmas.decimal.Comparing.{all_below, ends_order}
 use Rattle.decimal_unsigned.proofs.decimal.compare.compare_bytes.Goals as goal
 

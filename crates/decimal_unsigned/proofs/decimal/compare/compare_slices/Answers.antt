@@ -1,5 +1,4 @@
-use Rattle.std.proofs.Common.{arith}
-use Rattle.std.proofs.lemmas.{Grind.common_steps, Cmp.{nat_list_cmp_total, tied_itself}, Slice.Eq.slice_eq-Decides}
+use Rattle.std.proofs.{Common.arith, lemmas.{Cmp.{nat_list_cmp_total, tied_itself}, Grind.common_steps, Slice.Eq.slice_eq-Decides}}
 use Rattle.decimal_unsigned.proofs.decimal.compare.compare_slices.Goals as goal
 
 pub returns-then-eq : goal.returns-then-eq

@@ -1,5 +1,4 @@
-use Rattle.std.proofs.Common.{◌≡◌, ◌+◌, ◌-◌, ◌*◌, ◌/◌, ◌^◌, ◌<◌, drop, ap, arith}
-use Rattle.std.proofs.lemmas.List.Elements.{All-drop}
+use Rattle.std.proofs.{Common.{◌≡◌, ◌+◌, ◌-◌, ◌*◌, ◌/◌, ◌^◌, ◌<◌, drop, ap, arith}, lemmas.List.Elements.All-drop}
 use Rattle.decimal_digits.specs.Remainders.{leading}
 use Rattle.decimal_unsigned.proofs.{lemmas.from_bcd.WholeNumbers.{few_leading, more_leading}, decimal.to_integer.leading_u64.Given.Over}
 use Rattle.decimal_unsigned.proofs.decimal.to_integer.leading_u64.Goals as goal

@@ -1,5 +1,4 @@
-use Rattle.std.proofs.Common.{arith}
-use Rattle.std.proofs.lemmas.Nat.{and_le_l}
+use Rattle.std.proofs.{Common.arith, lemmas.Nat.and_le_l}
 use Rattle.decimal_unsigned.proofs.lemmas.from_bcd.BcdNumber.{joined_all}
 use Rattle.decimal_unsigned.proofs.decimal.to_integer.number_of_bcd.Goals as goal
 

@@ -1,5 +1,4 @@
-use Rattle.std.proofs.Common.{arith}
-use Rattle.std.proofs.lemmas.Result.{IfOk-from_err, on_ok_weaker}
+use Rattle.std.proofs.{Common.{sym, ◌∙◌, arith}, lemmas.{Bool.false≢true, Result.{IfOk-from_err, on_ok_weaker}}}
 use Rattle.decimal_digits.proofs.lemmas.rounding.Results.{on_err}
 use Rattle.fixed_decimal.proofs.lemmas.{integer.CompactTexts.compact_reads_back, signed_decimal.Writing.{first_fails, second_fails, both_written}}
 use Rattle.fixed_decimal.proofs.compact.CompactDecimalWriteable.write_to.Goals as goal
@@ -25,6 +24,6 @@ returns g c =
       err = second_fails _ _ _ _ _ _ first.ok rest.prefix;
       had_not_failed = on_ok_weaker _ (λ _. first.had_not_failed) rest.had_not_failed;
       failed = rest.failed;
-      unchanged = λ h. let n = first.had_not_failed in absurd (cc);
+      unchanged = λ h. absurd (false≢true (sym first.had_not_failed ∙ h));
       reads_back = rw c.exponent_text-length.ensures.text (compact_reads_back _ first.reads_back (omega arith));
     })

@@ -1,5 +1,4 @@
-use Rattle.std.proofs.Common.{refl}
-use Rattle.std.proofs.Output.{has_written_styled_append}
+use Rattle.std.proofs.{Common.refl, Output.has_written_styled_append}
 use Rattle.fixed_decimal.proofs.scientific.ScientificDecimalDisplay.fmt.Goals as goal
 
 pub returns-clause-styled : goal.returns-clause-styled

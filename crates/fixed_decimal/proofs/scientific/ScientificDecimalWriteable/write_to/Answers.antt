@@ -1,6 +1,4 @@
-use Rattle.std.proofs.Common.{[], append-nil}
-use Rattle.std.proofs.KnownBytes.{Appends-kept}
-use Rattle.std.proofs.lemmas.Result.{IfOk-from_err, on_ok_weaker}
+use Rattle.std.proofs.{Common.{[], append-nil, sym, ◌∙◌}, KnownBytes.Appends-kept, lemmas.{Bool.false≢true, Result.{IfOk-from_err, on_ok_weaker}}}
 use Rattle.decimal_digits.proofs.lemmas.rounding.Results.{on_err}
 use Rattle.fixed_decimal.proofs.lemmas.{integer.ScientificTexts.scientific_reads_back, signed_decimal.Writing.{first_fails, second_fails, both_written}}
 use Rattle.fixed_decimal.proofs.scientific.ScientificDecimalWriteable.write_to.Goals as goal
@@ -27,7 +25,7 @@ returns-in_err-put_byte g c =
       err = first_fails _ _ _ _ _ (_, [], append-nil _, Appends-kept _ _ _ _ first.ok c.in_err-put_byte.ensures.keeps);
       had_not_failed = IfOk-from_err _ _ c.from_residual-in_err-put_byte.ensures.0;
       failed = on_err _ _ c.in_err-put_byte.ensures.failed;
-      unchanged = λ h. let n = first.had_not_failed in absurd (cc);
+      unchanged = λ h. absurd (false≢true (sym first.had_not_failed ∙ h));
       reads_back = scientific_reads_back _ first.reads_back exponent.valid exponent.integer;
     })
 
@@ -42,6 +40,6 @@ returns g c =
       err = second_fails _ _ _ _ _ _ first.ok (second_fails _ _ _ _ _ _ byte rest.err);
       had_not_failed = on_ok_weaker _ (λ _. first.had_not_failed) rest.had_not_failed;
       failed = rest.failed;
-      unchanged = λ h. let n = first.had_not_failed in absurd (cc);
+      unchanged = λ h. absurd (false≢true (sym first.had_not_failed ∙ h));
       reads_back = scientific_reads_back _ first.reads_back exponent.valid exponent.integer;
     })

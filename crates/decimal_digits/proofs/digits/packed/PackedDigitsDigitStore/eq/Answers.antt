@@ -1,5 +1,4 @@
-use Rattle.std.proofs.Common.{arith}
-use Rattle.std.proofs.lemmas.Grind.{common_steps}
+use Rattle.std.proofs.{Common.arith, lemmas.Grind.common_steps}
 use Rattle.decimal_digits.proofs.lemmas.digits.Packing.{same_bytes}
 use Rattle.decimal_digits.proofs.digits.packed.PackedDigitsDigitStore.eq.Goals as goal
 

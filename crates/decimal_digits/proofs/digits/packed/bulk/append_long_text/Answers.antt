@@ -22,3 +22,12 @@ pub returns-then-not-is_empty-clause-fits : goal.returns-then-not-is_empty-claus
 returns-then-not-is_empty-clause-fits c =
     let e = c.append_pairs-then-not-is_empty.ensures.appended in
     grind (arith, nibble_rules, ap length c.set_nibble.ensures.written, ap length e)
+
+pub set_nibble-requires : goal.set_nibble-requires
+set_nibble-requires c = grind (arith, nibble_rules)
+
+pub append_pairs-requires-then-not-is_empty : goal.append_pairs-requires-then-not-is_empty
+append_pairs-requires-then-not-is_empty c = grind (arith, nibble_rules)
+
+pub returns-else-not-is_empty : goal.returns-else-not-is_empty
+returns-else-not-is_empty c = grind (arith, nibble_rules)

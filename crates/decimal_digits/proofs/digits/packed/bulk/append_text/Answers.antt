@@ -1,5 +1,4 @@
-use Rattle.std.proofs.Common.{arith}
-use Rattle.std.proofs.lemmas.Grind.{common_steps}
+use Rattle.std.proofs.{Common.arith, lemmas.Grind.common_steps}
 use Rattle.decimal_digits.proofs.lemmas.digits.Words.{join_text, zeros_after}
 use Rattle.decimal_digits.proofs.digits.packed.bulk.append_text.Goals as goal
 

@@ -1,6 +1,4 @@
-use Rattle.std.proofs.Common.{arith}
-use Rattle.std.proofs.Math.Seq.{take-add}
-use Rattle.std.proofs.lemmas.{Grind.common_steps, List.take_rest}
+use Rattle.std.proofs.{Common.arith, Math.Seq.take-add, lemmas.{Grind.common_steps, List.take_rest}}
 use Rattle.decimal_digits.proofs.lemmas.digits.Overlaps.{by_ends}
 use Rattle.decimal_digits.proofs.digits.packed.bytes.are_equal.Goals as goal
 

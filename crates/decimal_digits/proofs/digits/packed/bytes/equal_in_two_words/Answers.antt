@@ -1,5 +1,4 @@
-use Rattle.std.proofs.Common.{rules}
-use Rattle.std.proofs.lemmas.List.{take_rest}
+use Rattle.std.proofs.{Common.rules, lemmas.List.take_rest}
 use Rattle.decimal_digits.proofs.lemmas.digits.Overlaps.{by_ends}
 use Rattle.decimal_digits.proofs.digits.packed.bytes.equal_in_two_words.Goals as goal
 

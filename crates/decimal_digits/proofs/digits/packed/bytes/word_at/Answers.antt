@@ -1,5 +1,4 @@
-use Rattle.std.proofs.Common.{◌≡◌, ◌+◌, ◌*◌, ◌/◌, drop, get_or, sym, ◌∙◌, ap, arith}
-use Rattle.std.proofs.lemmas.{Grind.common_steps, List.{drop_all, take_rest, get_or-drop, get_or-take}}
+use Rattle.std.proofs.{Common.{◌≡◌, ◌+◌, ◌*◌, ◌/◌, drop, get_or, sym, ◌∙◌, ap, arith}, lemmas.{Grind.common_steps, List.{drop_all, take_rest, get_or-drop, get_or-take}}}
 use Rattle.decimal_digits.proofs.lemmas.digits.{Nibbles.nibble_rules, Packing.digit_at, Words.{bcd_of_word, front_at, nibbles_drop}}
 use Rattle.decimal_digits.specs.{Nibbles.{digits_in, nibbles, bcd_number, padded}, Packing.{padding}}
 use Rattle.decimal_digits.proofs.digits.packed.bytes.word_at.Goals as goal

@@ -1,5 +1,4 @@
-use Rattle.std.proofs.Common.{◌≡◌, ℕ, zero, suc, ◌+◌, ◌<◌, List, [], ◌∷◌, ◌++◌, take, drop, refl, arith, slice_index, slice_index_or}
-use Rattle.std.proofs.lemmas.Grind.{common_steps}
+use Rattle.std.proofs.{Common.{◌≡◌, ℕ, zero, suc, ◌+◌, ◌<◌, List, [], ◌∷◌, ◌++◌, take, drop, refl, arith, slice_index, slice_index_or}, lemmas.Grind.common_steps}
 use Rattle.decimal_digits.specs.{Digits.text_of, Nibbles.{nibbles, word_nibbles}}
 use lib.Dec.{eqb, ltb, leb}
 use lib.Lanes.{top}

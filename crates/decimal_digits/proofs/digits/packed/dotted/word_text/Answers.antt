@@ -1,5 +1,4 @@
-use Rattle.std.proofs.Common.{◌≡◌, ℕ, suc, zero, ◌+◌, ◌*◌, ◌/◌, ◌%◌, ◌^◌, ◌∷◌, [], ◌∙◌, ap, arith}
-use Rattle.std.proofs.Math.Nat.{div-div-eq-div-mul}
+use Rattle.std.proofs.{Common.{◌≡◌, ℕ, suc, zero, ◌+◌, ◌*◌, ◌/◌, ◌%◌, ◌^◌, ◌∷◌, [], ◌∙◌, ap, arith}, Math.Nat.div-div-eq-div-mul}
 use Rattle.std.specs.Int.{byte_at}
 use Rattle.decimal_digits.specs.Nibbles.{nibbles, word_nibbles}
 use Rattle.decimal_digits.proofs.digits.packed.dotted.word_text.Goals as goal

@@ -1,5 +1,4 @@
-use Rattle.std.proofs.Common.{◌≡◌, ◌+◌, ◌*◌, ◌%◌, ℕ, refl, arith}
-use Rattle.std.proofs.lemmas.List.{append_assoc, replicate-append-replicate, take-replicate}
+use Rattle.std.proofs.{Common.{◌≡◌, ◌+◌, ◌*◌, ◌%◌, ℕ, refl, arith}, lemmas.List.{append_assoc, replicate-append-replicate, take-replicate}}
 use Rattle.decimal_digits.proofs.digits.packed.nibbles.push_zeros.Goals as goal
 
 pub loop-preserved : goal.loop-preserved

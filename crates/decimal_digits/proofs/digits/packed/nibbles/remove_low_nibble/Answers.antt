@@ -1,5 +1,4 @@
-use Rattle.std.proofs.Common.{length, get_or, ap, arith}
-use Rattle.std.proofs.lemmas.Grind.{same_number_lists}
+use Rattle.std.proofs.{Common.{length, get_or, ap, arith}, lemmas.Grind.same_number_lists}
 use Rattle.decimal_digits.proofs.lemmas.digits.Nibbles.{nibble_rules}
 use Rattle.decimal_digits.proofs.digits.packed.nibbles.remove_low_nibble.Goals as goal
 

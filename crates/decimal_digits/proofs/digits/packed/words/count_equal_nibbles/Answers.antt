@@ -1,5 +1,4 @@
-use Rattle.std.proofs.Common.{refl, ◌∙◌, arith}
-use Rattle.std.proofs.lemmas.Grind.{common_steps}
+use Rattle.std.proofs.{Common.{refl, ◌∙◌, arith}, lemmas.Grind.common_steps}
 use Rattle.decimal_digits.proofs.lemmas.digits.TrailingNibbles.{trailing}
 use Rattle.decimal_digits.proofs.digits.packed.words.count_equal_nibbles.Goals as goal
 

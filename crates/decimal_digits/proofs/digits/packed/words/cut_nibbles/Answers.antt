@@ -1,5 +1,4 @@
-use Rattle.std.proofs.Common.{refl, arith}
-use Rattle.std.proofs.lemmas.{Grind.common_steps, List.drop_all}
+use Rattle.std.proofs.{Common.{refl, arith}, lemmas.{Grind.common_steps, List.drop_all}}
 use Rattle.decimal_digits.proofs.lemmas.digits.Words.{cut, zero_word, length-word_nibbles}
 use Rattle.decimal_digits.proofs.digits.packed.words.cut_nibbles.Goals as goal
 

@@ -1,5 +1,4 @@
-use Rattle.std.proofs.Common.{◌≡◌, ◌+◌, ◌-◌, ◌*◌, ◌++◌, length, drop, replicate, ◌∙◌, ap, arith}
-use Rattle.std.proofs.lemmas.List.{drop-drop, get_or-drop}
+use Rattle.std.proofs.{Common.{◌≡◌, ◌+◌, ◌-◌, ◌*◌, ◌++◌, length, drop, replicate, ◌∙◌, ap, arith}, lemmas.List.{drop-drop, get_or-drop}}
 use Rattle.decimal_digits.proofs.lemmas.digits.{Nibbles.nibble_rules, Words.{word_of_bytes, nibbles_drop}}
 use Rattle.decimal_digits.specs.Nibbles.{nibbles}
 use Rattle.decimal_digits.proofs.digits.packed.words.end_word.Goals as goal

@@ -1,5 +1,4 @@
-use Rattle.std.proofs.Common.{refl, arith}
-use Rattle.std.proofs.lemmas.{Grind.common_steps, Grind.same_number_lists, List.take_all}
+use Rattle.std.proofs.{Common.{refl, arith}, lemmas.{Grind.common_steps, Grind.same_number_lists, List.take_all}}
 use Rattle.decimal_digits.proofs.lemmas.digits.{Nibbles.nibble_rules, Words.{pack_more, packed, zero_word}}
 use Rattle.decimal_digits.proofs.digits.packed.words.pack_word.Goals as goal
 

@@ -1,5 +1,4 @@
-use Rattle.std.proofs.Common.{◌+◌, [], ◌∷◌, refl}
-use Rattle.std.proofs.raw_atomic.Walks.{proved}
+use Rattle.std.proofs.{Common.{◌+◌, [], ◌∷◌, refl}, raw_atomic.Walks.proved}
 use Rattle.decimal_digits.proofs.{lemmas.digits.Counters.{bare, made}, digits.steps.Steps.after.Statement.statement}
 use Rattle.decimal_digits.specs.{contracts.digits.steps.Steps.the_row as row, declared.digits.steps.Steps.Steps}
 use base.Fml.{ftrue}

@@ -1,5 +1,4 @@
-use Rattle.std.proofs.Common.{arith}
-use Rattle.std.proofs.lemmas.Grind.{common_steps}
+use Rattle.std.proofs.{Common.arith, lemmas.Grind.common_steps}
 use Rattle.decimal_digits.proofs.lemmas.{rounding.Results.on_err_of, sink.Sinks.{prefix_passed, none_passed}}
 use Rattle.decimal_digits.proofs.sink.buffered_out.BufferedOut.put_after_block.Goals as goal
 

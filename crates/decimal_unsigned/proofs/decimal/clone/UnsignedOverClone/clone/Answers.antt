@@ -1,5 +1,4 @@
-use Rattle.std.proofs.Common.{sym, ◌∙◌, ap}
-use Rattle.std.proofs.lemmas.Result.{err_from_is_err_and}
+use Rattle.std.proofs.{Common.{sym, ◌∙◌, ap}, lemmas.Result.err_from_is_err_and}
 use Rattle.decimal_digits.specs.Number.{size}
 use Rattle.decimal_unsigned.proofs.lemmas.decimal.Values.{size-number_of}
 use Rattle.decimal_unsigned.specs.Unsigned.{Unsigned}

@@ -1,5 +1,4 @@
-use Rattle.std.proofs.Common.{arith}
-use Rattle.std.proofs.lemmas.Grind.{common_steps}
+use Rattle.std.proofs.{Common.arith, lemmas.Grind.common_steps}
 use Rattle.decimal_unsigned.proofs.lemmas.text.ShownDigits.{length-left}
 use Rattle.decimal_unsigned.proofs.decimal.digits.DigitsExactSizeIterator.len.Goals as goal
 

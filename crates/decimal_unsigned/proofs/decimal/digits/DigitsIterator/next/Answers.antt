@@ -1,5 +1,4 @@
-use Rattle.std.proofs.Common.{length, sym, ◌∙◌, ap, arith, rules}
-use Rattle.std.proofs.lemmas.Grind.{common_steps}
+use Rattle.std.proofs.{Common.{length, sym, ◌∙◌, ap, arith, rules}, lemmas.Grind.common_steps}
 use Rattle.decimal_unsigned.proofs.lemmas.text.ShownDigits.{none_left, refilled, word_next}
 use Rattle.decimal_unsigned.proofs.decimal.digits.DigitsIterator.next.Goals as goal
 

@@ -1,5 +1,4 @@
-use Rattle.std.proofs.Common.{ap, arith, length, map}
-use Rattle.std.proofs.lemmas.List.{length-append, length-map}
+use Rattle.std.proofs.{Common.{ap, arith, length, map}, lemmas.List.{length-append, length-map}}
 use Rattle.std.specs.Char.{digit_value}
 use Rattle.decimal_digits.specs.Number.{size}
 use Rattle.decimal_unsigned.proofs.lemmas.decimal.Values.{size-number_of}

@@ -1,5 +1,4 @@
-use Rattle.std.proofs.Common.{◌≡◌, ◌+◌, ◌-◌, length, take, drop, ap, ◌∙◌, arith}
-use Rattle.std.proofs.lemmas.List.{drop-drop}
+use Rattle.std.proofs.{Common.{◌≡◌, ◌+◌, ◌-◌, length, take, drop, ap, ◌∙◌, arith}, lemmas.List.drop-drop}
 use Rattle.decimal_unsigned.proofs.lemmas.parse.BcdValues.{read_eight}
 use Rattle.decimal_unsigned.proofs.decimal.parse.fast_path.count_groups.Goals as goal
 

@@ -1,5 +1,4 @@
-use Rattle.std.proofs.Common.{arith}
-use Rattle.std.proofs.lemmas.Grind.{common_steps}
+use Rattle.std.proofs.{Common.arith, lemmas.Grind.common_steps}
 use Rattle.decimal_unsigned.proofs.lemmas.parse.{BcdValues.{read_digit}, GrammarParts.{digit_at_most}}
 use Rattle.decimal_unsigned.proofs.decimal.parse.fast_path.count_wide.Goals as goal
 

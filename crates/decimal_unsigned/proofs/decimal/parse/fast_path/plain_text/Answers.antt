@@ -1,5 +1,4 @@
-use Rattle.std.proofs.Common.{◌≡◌, ◌-◌, ◌<◌, length, get_or, drop, arith}
-use Rattle.std.proofs.lemmas.{Grind.elements, List.{length-take, length-drop, drop_all}}
+use Rattle.std.proofs.{Common.{◌≡◌, ◌-◌, ◌<◌, length, get_or, drop, arith}, lemmas.{Grind.elements, List.{length-take, length-drop, drop_all}}}
 use Rattle.decimal_unsigned.proofs.lemmas.parse.BcdValues.{plain_whole, plain_point, after_byte}
 use Rattle.decimal_unsigned.proofs.decimal.parse.fast_path.plain_text.Goals as goal
 

@@ -1,5 +1,4 @@
-use Rattle.std.proofs.Common.{arith, refl}
-use Rattle.std.proofs.lemmas.Int.{ints}
+use Rattle.std.proofs.{Common.{arith, refl}, lemmas.Int.ints}
 use Rattle.std.specs.Int.{w128}
 use Rattle.decimal_digits.proofs.lemmas.digits.LeadingBytes.{wide_bytes_encode}
 use Rattle.decimal_unsigned.proofs.lemmas.parse.BcdValues.{few_digits, number_fits, plain_bcd, plain_read, bcd_sizes, bcd_value}

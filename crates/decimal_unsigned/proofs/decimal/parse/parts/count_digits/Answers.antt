@@ -1,5 +1,4 @@
-use Rattle.std.proofs.Common.{arith}
-use Rattle.std.proofs.lemmas.{Grind.common_steps, List.Sums.prefix_len-drop_yes}
+use Rattle.std.proofs.{Common.arith, lemmas.{Grind.common_steps, List.Sums.prefix_len-drop_yes}}
 use Rattle.decimal_unsigned.proofs.decimal.parse.parts.count_digits.Goals as goal
 
 pub loop-i-preserved : goal.loop-i-preserved

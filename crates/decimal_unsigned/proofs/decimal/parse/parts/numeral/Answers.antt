@@ -1,5 +1,4 @@
-use Rattle.std.proofs.Common.{arith}
-use Rattle.std.proofs.lemmas.Grind.{common_steps}
+use Rattle.std.proofs.{Common.arith, lemmas.Grind.common_steps}
 use Rattle.decimal_unsigned.proofs.lemmas.parse.GrammarParts.{numeral_more, digits_step}
 use Rattle.decimal_unsigned.proofs.decimal.parse.parts.numeral.Goals as goal
 

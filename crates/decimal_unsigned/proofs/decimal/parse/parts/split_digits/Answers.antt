@@ -1,5 +1,4 @@
-use Rattle.std.proofs.Common.{arith}
-use Rattle.std.proofs.lemmas.List.Sums.{prefix_len-le-length}
+use Rattle.std.proofs.{Common.arith, lemmas.List.Sums.prefix_len-le-length}
 use Rattle.std.specs.Char.{is_ascii_digit}
 use Rattle.decimal_unsigned.proofs.decimal.parse.parts.split_digits.Goals as goal
 

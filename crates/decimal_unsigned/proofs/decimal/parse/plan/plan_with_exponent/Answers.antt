@@ -1,5 +1,4 @@
-use Rattle.std.proofs.Common.{◌≡◌, ℕ, ◌<◌, ◌≤◌, ◌+◌, ◌-◌, ◌∙◌, length, to_z, of_z, refl, arith, inl, inr, ℤ, pos, negsuc, ◌+ℤ◌, ◌-ℤ◌, ◌≤ℤ◌, w32}
-use Rattle.std.proofs.lemmas.Int.{ints}
+use Rattle.std.proofs.{Common.{◌≡◌, ℕ, ◌<◌, ◌≤◌, ◌+◌, ◌-◌, ◌∙◌, length, to_z, of_z, refl, arith, inl, inr, ℤ, pos, negsuc, ◌+ℤ◌, ◌-ℤ◌, ◌≤ℤ◌, w32}, lemmas.Int.ints}
 use Rattle.decimal_unsigned.proofs.{lemmas.{decimal.Values.{narrow_kept, wide_kept}, parse.Plans.{length_digits, limit_scaled, makes_scaled}}, decimal.parse.plan.plan_with_exponent.Goals.{After-subtract_counts-4, then-hi-gt32767-via-then-hi-gt32767, then-hi-gt32767-via-else-hi-gt32767+then-lo-ltminus32768}}
 use Rattle.decimal_unsigned.specs.Parts.{view}
 use lib.Signed.{mag}

@@ -1,5 +1,4 @@
-use Rattle.std.proofs.Common.{arith, refl}
-use Rattle.std.proofs.lemmas.Int.{ints}
+use Rattle.std.proofs.{Common.{arith, refl}, lemmas.Int.ints}
 use Rattle.decimal_unsigned.proofs.lemmas.parse.Plans.{long_whole, long_fraction, makes_zero, makes_plain, is_plan_at}
 use Rattle.decimal_unsigned.specs.Parts.{view}
 use Rattle.decimal_unsigned.proofs.decimal.parse.plan.planned.Goals as goal

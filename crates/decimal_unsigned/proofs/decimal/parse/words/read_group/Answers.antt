@@ -1,5 +1,4 @@
-use Rattle.std.proofs.Common.{arith, refl}
-use Rattle.std.proofs.lemmas.Grind.{common_steps}
+use Rattle.std.proofs.{Common.{arith, refl}, lemmas.Grind.common_steps}
 use Rattle.decimal_unsigned.proofs.lemmas.parse.PlainTexts.{group_found, group_number}
 use Rattle.decimal_unsigned.proofs.decimal.parse.words.read_group.Goals as goal
 

@@ -1,5 +1,4 @@
-use Rattle.std.proofs.Common.{arith}
-use Rattle.std.proofs.lemmas.{Grind.common_steps, List.length-take}
+use Rattle.std.proofs.{Common.arith, lemmas.{Grind.common_steps, List.length-take}}
 use Rattle.decimal_digits.proofs.lemmas.{rounding.Results.on_err, sink.Sinks.{fresh_more, fresh_some}}
 use Rattle.decimal_unsigned.proofs.lemmas.text.{Lengths.text_some, ReadBack.read_text, Pieces.{block_of, zeros_first}, Writing.{wrote_more, wrote_part}}
 use Rattle.decimal_unsigned.specs.Text.{text}
@@ -33,3 +32,6 @@ returns-then-is_short-clause-reads_back g c = read_text _ c.writeable_length_hin
 
 pub returns-then-length-eq1-clause-reads_back : goal.returns-then-length-eq1-clause-reads_back
 returns-then-length-eq1-clause-reads_back g c = read_text _ c.writeable_length_hint-length.ensures.valid
+
+pub returns-clause-ok : goal.returns-clause-ok
+returns-clause-ok g c = grind (arith, common_steps)

@@ -1,5 +1,4 @@
-use Rattle.std.proofs.Common.{arith}
-use Rattle.std.proofs.lemmas.{Grind.common_steps, Int.ints}
+use Rattle.std.proofs.{Common.arith, lemmas.{Grind.common_steps, Int.ints}}
 use Rattle.decimal_unsigned.proofs.lemmas.{decimal.Values.counted, text.Lengths.{length-text_whole, length-text_dotted, text_short}}
 use Rattle.decimal_unsigned.proofs.decimal.text.UnsignedOverWriteable.writeable_length_hint.Goals as goal
 

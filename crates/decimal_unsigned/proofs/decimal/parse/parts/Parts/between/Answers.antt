@@ -1,5 +1,4 @@
-use Rattle.std.proofs.Common.{arith}
-use Rattle.std.proofs.lemmas.Grind.{common_steps}
+use Rattle.std.proofs.{Common.arith, lemmas.Grind.common_steps}
 use Rattle.decimal_unsigned.proofs.lemmas.parse.{GrammarParts.{digits_within, digits_left, digits_right}, Middle.middle_written}
 use Rattle.decimal_unsigned.proofs.decimal.parse.parts.Parts.between.Goals as goal
 

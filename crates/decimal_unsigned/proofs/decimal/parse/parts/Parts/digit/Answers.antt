@@ -1,5 +1,4 @@
-use Rattle.std.proofs.Common.{arith}
-use Rattle.std.proofs.lemmas.{Grind.common_steps, List.length-map}
+use Rattle.std.proofs.{Common.arith, lemmas.{Grind.common_steps, List.length-map}}
 use Rattle.decimal_unsigned.proofs.lemmas.parse.GrammarParts.{writes_at}
 use Rattle.decimal_unsigned.proofs.decimal.parse.parts.Parts.digit.Goals as goal
 
