@@ -26,3 +26,18 @@ returns-clause-number g c =
     c.raise-2.ensures ∙ ap (λ k. k * 10 ^ c.halves-half.result.1) c.raise.ensures
     ∙ raised_twice c.args.value.now.number c.halves-half.result.0 c.halves-half.result.1 _
     (omega (arith, ints, clamps, sum, min))
+
+pub raise-requires-clause-few : goal.raise-requires-clause-few
+raise-requires-clause-few g c = c.halves-half.ensures.few.0
+
+pub raise-requires-clause-low : goal.raise-requires-clause-low
+raise-requires-clause-low g c =
+    let m_fits : FitsSigned w16 c.nonzero_magnitude_start.result = search rules in
+    let e_fits : FitsSigned w32 c.exponent_at-exponent.result = search rules in
+    let low = simp to_z-of_z at c.exponent_at-exponent.ensures.at_least in
+    let sum = simp to_z-of_z at c.halves-half.ensures.sum in
+    let is = c.nonzero_magnitude_start.ensures.value in
+    omega (arith, ints, clamps)
+
+pub raise-requires-2-clause-few : goal.raise-requires-2-clause-few
+raise-requires-2-clause-few g c = c.halves-half.ensures.few.1
