@@ -2,7 +2,6 @@ use Rattle.std.proofs.Common.{◌*◌, ◌^◌, ◌∙◌, ap, arith, rules, w16
 use Rattle.std.specs.Prelude.{pos}
 use Rattle.std.proofs.lemmas.Int.{ints, clamps, to_z-of_z}
 use Rattle.fixed_decimal.proofs.Calling.{below_limit}
-use Rattle.number_format.specs.Scaled.{exponent_at}
 use Rattle.number_format.proofs.Scales.{raised_first, raised_twice}
 use Rattle.number_format.proofs.notation.Notation.raise.Goals as goal
 
@@ -27,35 +26,3 @@ returns-clause-number g c =
     c.raise-2.ensures ∙ ap (λ k. k * 10 ^ c.halves-half.result.1) c.raise.ensures
     ∙ raised_twice c.args.value.now.number c.halves-half.result.0 c.halves-half.result.1 _
     (omega (arith, ints, clamps, sum, min))
-
-pub raise-requires-clause-few : goal.raise-requires-clause-few
-raise-requires-clause-few g c = c.halves-half.ensures.few.0
-
-pub raise-requires-clause-low : goal.raise-requires-clause-low
-raise-requires-clause-low g c =
-    let m_fits : FitsSigned w16 c.nonzero_magnitude_start.result = search rules in
-    let e_fits : FitsSigned w32 c.exponent_at-exponent.result = search rules in
-    let low = simp to_z-of_z at c.exponent_at-exponent.ensures.at_least in
-    let sum = simp to_z-of_z at c.halves-half.ensures.sum in
-    let is = c.nonzero_magnitude_start.ensures.value in
-    omega (arith, ints, clamps)
-
-pub raise-requires-2-clause-few : goal.raise-requires-2-clause-few
-raise-requires-2-clause-few g c = c.halves-half.ensures.few.1
-
-pub returns-clause-exponent : goal.returns-clause-exponent
-returns-clause-exponent g c =
-    let m_fits : FitsSigned w16 c.nonzero_magnitude_start.result = search rules in
-    let e_fits : FitsSigned w32 c.exponent_at-exponent.result = search rules in
-    let is = simp to_z-of_z at c.exponent_at-exponent.ensures.value
-    ∙ ap (exponent_at c.args.self.now) c.nonzero_magnitude_start.ensures.value in
-    let min = simp to_z-of_z at c.min.ensures.value in
-    omega (arith, ints, clamps)
-
-pub returns-clause-at_least : goal.returns-clause-at_least
-returns-clause-at_least g c =
-    let m_fits : FitsSigned w16 c.nonzero_magnitude_start.result = search rules in
-    let e_fits : FitsSigned w32 c.exponent_at-exponent.result = search rules in
-    let low = simp to_z-of_z at c.exponent_at-exponent.ensures.at_least in
-    let min = simp to_z-of_z at c.min.ensures.value in
-    omega (arith, ints, clamps)

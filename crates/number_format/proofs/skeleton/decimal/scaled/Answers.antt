@@ -11,18 +11,6 @@ power_is : (zeroes fraction : ℕ) (e : ℤ) → zeroes < 2 ^ 64 → fraction < 
     ≡ (pos zeroes +ℤ e) -ℤ pos fraction
 power_is zeroes fraction e few less low high = omega (arith, ints)
 
-pub overflow_cast-result : goal.overflow_cast-result
-overflow_cast-result c = omega (arith, ints)
-
-pub overflow_add-result : goal.overflow_add-result
-overflow_add-result c = omega (arith, ints)
-
-pub overflow_cast-result-2 : goal.overflow_cast-result-2
-overflow_cast-result-2 c = omega (arith, ints)
-
-pub overflow_sub-result : goal.overflow_sub-result
-overflow_sub-result c = omega (arith, ints)
-
 pub returns : goal.returns
 returns c =
     let s = c.args.significand in
