@@ -31,7 +31,6 @@ pub fn fraction_digits_are_monotone()
 /// Where one is cut off, the rest need not be a multiple of the increment: by 25 with one integer digit 75 becomes 5,
 /// and then 0. By `LessPrecision` zero may show fewer zeros than a number that becomes zero: by 1 fraction digit and 1
 /// significant digit 0.004 becomes `0.0`, and then `0`.
-#[tactic(auto, using(crate::proofs::DigitLaws::applies_once))]
 pub fn applying_is_idempotent()
     ensures { (o : DigitOptions) (v w : Decimal) → IsFractional o.precision → o.integer.max ≡ 32768
         → applied o v ≡ Some w → applied o w ≡ Some w }

@@ -1,4 +1,5 @@
-use Rattle.std.proofs.Common.{◌≡◌, ℕ, ℤ, List, Some, ap, arith}
+use Rattle.std.proofs.Common.{◌≡◌, ℕ, ℤ, ◌==◌, Bool, false, List, Some, refl, sym, ◌∙◌, ap, subst, arith}
+use Rattle.std.specs.Prelude.{if◌then◌else◌, slice_index}
 use Rattle.std.proofs.lemmas.Option.{none-some, same_Some}
 use Rattle.fixed_decimal.specs.declared.rounding.SignedRoundingMode.{SignedRoundingMode}
 use Rattle.decimal_digits.specs.declared.rounding.RoundingIncrement.{RoundingIncrement}
@@ -6,9 +7,55 @@ use Rattle.fixed_decimal.specs.declared.variations.Sign.TheVariants as sign
 use Rattle.fixed_decimal.specs.declared.variations.SignDisplay.TheVariants as display
 use Rattle.fixed_decimal.specs.declared.runs.Call.{Call}
 use Rattle.fixed_decimal.specs.declared.runs.Call.TheVariants.{MultiplyPow10, TrimStart, TrimEnd, TrimEndIfInteger, PadStart, PadEnd, SetMaxPosition, Round, SetSign, ApplySignDisplay, Concatenate}
-use Rattle.cli.specs.Calls.{Names}
+use Rattle.cli.specs.Calls.{Names, IsSame}
 use Rattle.cli.proofs.calls.call.Goals as goal
 use Rattle.cli.proofs.calls.call.Goals.{In_default-rounding}
+
+-- ---- The calls without a parameter, by bytes of their words.
+abbrev has_parameter : List ℕ → Bool
+has_parameter word =
+    let first = slice_index word 0 in
+    if first == 116 then false
+    else if first == 100 then false
+    else if first == 115 then slice_index word 1 == 104
+    else true
+
+abbrev named_by : List ℕ → Call
+named_by word =
+    if slice_index word 0 == 116
+    then (if slice_index word 5 == 115 then TrimStart else if slice_index word 8 == 45 then TrimEndIfInteger else TrimEnd)
+    else if slice_index word 0 == 115
+    then (if slice_index word 5 == 110 then SetSign sign.None
+    else if slice_index word 5 == 109 then SetSign sign.Negative else SetSign sign.Positive)
+    else if slice_index word 9 == 117 then ApplySignDisplay display.Auto
+    else if slice_index word 8 == 97 then ApplySignDisplay display.Always
+    else if slice_index word 8 == 101 then ApplySignDisplay display.ExceptZero
+    else if slice_index word 10 == 118 then ApplySignDisplay display.Never
+    else ApplySignDisplay display.Negative
+
+call_is : (word : List ℕ) (call : Call) → Names word call → has_parameter word ≡ false → named_by word ≡ call
+call_is word TrimStart h none = ap named_by h
+call_is word TrimEnd h none = ap named_by h
+call_is word TrimEndIfInteger h none = ap named_by h
+call_is word (SetSign sign.None) h none = ap named_by h
+call_is word (SetSign sign.Negative) h none = ap named_by h
+call_is word (SetSign sign.Positive) h none = ap named_by h
+call_is word (ApplySignDisplay display.Auto) h none = ap named_by h
+call_is word (ApplySignDisplay display.Never) h none = ap named_by h
+call_is word (ApplySignDisplay display.Always) h none = ap named_by h
+call_is word (ApplySignDisplay display.ExceptZero) h none = ap named_by h
+call_is word (ApplySignDisplay display.Negative) h none = ap named_by h
+call_is word (Concatenate text) h none = let has = ap has_parameter h in absurd (cc)
+call_is word call h none = let has = ap has_parameter h.1 in absurd (cc)
+
+is_same : (call : Call) → IsSame call call
+is_same (Concatenate text) = refl
+is_same call = refl
+
+unique : (word : List ℕ) → has_parameter word ≡ false → (first second : Call) → Names word first → Names word second
+    → IsSame first second
+unique word none first second h k =
+    subst (IsSame first) (sym (call_is word first h none) ∙ call_is word second k none) (is_same first)
 
 -- a word that names a rounding names no other call
 one_rounding :
@@ -53,3 +100,36 @@ returns-in_default-rounding-clause-none c =
 pub returns-in_default-rounding-clause-unique : goal.returns-in_default-rounding-clause-unique
 returns-in_default-rounding-clause-unique c = λ first second h k.
     absurd (no_call (goal.at.returns-in_default-rounding-clause-unique c).In_default-rounding first h)
+
+pub returns-in-text-clause-unique : goal.returns-in-text-clause-unique
+returns-in-text-clause-unique c = unique c.args.word.now (ap has_parameter c.in-text.is)
+
+pub returns-in-text-2-clause-unique : goal.returns-in-text-2-clause-unique
+returns-in-text-2-clause-unique c = unique c.args.word.now (ap has_parameter c.in-text-2.is)
+
+pub returns-in-text-3-clause-unique : goal.returns-in-text-3-clause-unique
+returns-in-text-3-clause-unique c = unique c.args.word.now (ap has_parameter c.in-text-3.is)
+
+pub returns-in-text-4-clause-unique : goal.returns-in-text-4-clause-unique
+returns-in-text-4-clause-unique c = unique c.args.word.now (ap has_parameter c.in-text-4.is)
+
+pub returns-in-text-5-clause-unique : goal.returns-in-text-5-clause-unique
+returns-in-text-5-clause-unique c = unique c.args.word.now (ap has_parameter c.in-text-5.is)
+
+pub returns-in-text-6-clause-unique : goal.returns-in-text-6-clause-unique
+returns-in-text-6-clause-unique c = unique c.args.word.now (ap has_parameter c.in-text-6.is)
+
+pub returns-in-text-7-clause-unique : goal.returns-in-text-7-clause-unique
+returns-in-text-7-clause-unique c = unique c.args.word.now (ap has_parameter c.in-text-7.is)
+
+pub returns-in-text-8-clause-unique : goal.returns-in-text-8-clause-unique
+returns-in-text-8-clause-unique c = unique c.args.word.now (ap has_parameter c.in-text-8.is)
+
+pub returns-in-text-9-clause-unique : goal.returns-in-text-9-clause-unique
+returns-in-text-9-clause-unique c = unique c.args.word.now (ap has_parameter c.in-text-9.is)
+
+pub returns-in-text-10-clause-unique : goal.returns-in-text-10-clause-unique
+returns-in-text-10-clause-unique c = unique c.args.word.now (ap has_parameter c.in-text-10.is)
+
+pub returns-in-text-11-clause-unique : goal.returns-in-text-11-clause-unique
+returns-in-text-11-clause-unique c = unique c.args.word.now (ap has_parameter c.in-text-11.is)

@@ -11,3 +11,14 @@ returns c =
     let power = simp to_z-of_z at c.compact_power.ensures in
     let min = simp to_z-of_z at c.min.ensures.value in
     omega (arith, ints, clamps)
+
+pub overflow_add-first : goal.overflow_add-first
+overflow_add-first c =
+    let first_fits : FitsSigned w16 c.nonzero_magnitude_start-first.result = search rules in
+    omega (arith, ints)
+
+pub overflow_cast-result : goal.overflow_cast-result
+overflow_cast-result c =
+    let first_fits : FitsSigned w16 c.nonzero_magnitude_start-first.result = search rules in
+    let min = simp to_z-of_z at c.min.ensures.value in
+    omega (arith, ints, clamps)

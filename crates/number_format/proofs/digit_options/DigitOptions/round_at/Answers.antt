@@ -31,3 +31,18 @@ returns-clause-rounds g c =
 
 pub returns-clause-accesses : goal.returns-clause-accesses
 returns-clause-accesses g c = λ h. c.in_default.ensures.accesses (λ e. absurd cc)
+
+pub returns-in_err-position-clause-accesses : goal.returns-in_err-position-clause-accesses
+returns-in_err-position-clause-accesses g c = λ h. omega arith
+
+pub returns-in_err-position-clause-limit_accesses : goal.returns-in_err-position-clause-limit_accesses
+returns-in_err-position-clause-limit_accesses g c = λ h. omega arith
+
+pub returns-in-Err-clause-accesses : goal.returns-in-Err-clause-accesses
+returns-in-Err-clause-accesses g c = λ h. c.in-Err.ensures.accesses (λ e. h cc)
+
+pub returns-in-Err-clause-limit_accesses : goal.returns-in-Err-clause-limit_accesses
+returns-in-Err-clause-limit_accesses g c = λ e. c.in-Err.ensures.limit_accesses cc
+
+pub returns-clause-limit_accesses : goal.returns-clause-limit_accesses
+returns-clause-limit_accesses g c = λ e. absurd cc
