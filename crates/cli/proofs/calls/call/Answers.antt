@@ -1,4 +1,4 @@
-use Rattle.std.proofs.Common.{◌≡◌, ℕ, ℤ, ◌==◌, Bool, false, List, Some, refl, sym, ◌∙◌, ap, subst, arith}
+use Rattle.std.proofs.Common.{◌≡◌, ℕ, ℤ, ◌==◌, Bool, true, false, List, Some, refl, sym, ◌∙◌, ap, subst, arith}
 use Rattle.std.specs.Prelude.{if◌then◌else◌, slice_index}
 use Rattle.std.proofs.lemmas.Option.{none-some, same_Some}
 use Rattle.fixed_decimal.specs.declared.rounding.SignedRoundingMode.{SignedRoundingMode}
