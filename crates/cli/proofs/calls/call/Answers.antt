@@ -23,7 +23,8 @@ has_parameter word =
 abbrev named_by : List ℕ → Call
 named_by word =
     if slice_index word 0 == 116
-    then (if slice_index word 5 == 115 then TrimStart else if slice_index word 8 == 45 then TrimEndIfInteger else TrimEnd)
+    then (if slice_index word 5 == 115 then TrimStart
+    else if slice_index word 8 == 45 then TrimEndIfInteger else TrimEnd)
     else if slice_index word 0 == 115
     then (if slice_index word 5 == 110 then SetSign sign.None
     else if slice_index word 5 == 109 then SetSign sign.Negative else SetSign sign.Positive)
