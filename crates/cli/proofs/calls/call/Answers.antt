@@ -1,4 +1,4 @@
-use Rattle.std.proofs.Common.{◌≡◌, ℕ, ℤ, ◌==◌, Bool, false, List, Some, refl, sym, ◌∙◌, ap, subst, arith}
+use Rattle.std.proofs.Common.{◌≡◌, ℕ, ℤ, ◌==◌, Bool, true, false, List, Some, refl, sym, ◌∙◌, ap, subst, arith}
 use Rattle.std.specs.Prelude.{if◌then◌else◌, slice_index}
 use Rattle.std.proofs.lemmas.Option.{none-some, same_Some}
 use Rattle.fixed_decimal.specs.declared.rounding.SignedRoundingMode.{SignedRoundingMode}
@@ -23,7 +23,8 @@ has_parameter word =
 abbrev named_by : List ℕ → Call
 named_by word =
     if slice_index word 0 == 116
-    then (if slice_index word 5 == 115 then TrimStart else if slice_index word 8 == 45 then TrimEndIfInteger else TrimEnd)
+    then (if slice_index word 5 == 115 then TrimStart
+    else if slice_index word 8 == 45 then TrimEndIfInteger else TrimEnd)
     else if slice_index word 0 == 115
     then (if slice_index word 5 == 110 then SetSign sign.None
     else if slice_index word 5 == 109 then SetSign sign.Negative else SetSign sign.Positive)
