@@ -49,7 +49,7 @@ fn read(alloc: Global, text: &[u8]) -> Result<PluralRules, RulesError>
 
 /// The reason for which a text of rules is rejected.
 ///
-/// `n =` is `Syntax { at: 3 }`.
+/// `one: n =` is `Syntax { at: 8 }`.
 #[derive(Clone, Copy, Debug, PartialEq)]
 pub enum RulesError {
     /// The text is not rules: `at` is the offset of the first byte that cannot follow those before it, or the length of

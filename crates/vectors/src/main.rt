@@ -25,7 +25,7 @@
 //! accesses | RULES | TEXT | COUNT           The number of digits accessed to find the category.
 //! ```
 //!
-//! Runs that write a text are made once more into sinks with room for a part of it, which have to take the part.
+//! Runs that write a text are made once more into sinks with room for a prefix of it, which have to take the prefix.
 //!
 //! Rows of `decimal`, `order`, `pair decimal` and `integers` are checked on values with a sign, and where their texts
 //! have none on values without one too. Roundings are made by each call that makes them, and the digits that a single

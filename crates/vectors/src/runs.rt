@@ -116,6 +116,20 @@ fn has_outcome_in_memory(
     }
 }
 
+/// The same into sinks with room for a prefix of the text: for each one, or of a long text for some.
+fn has_outcome_without_room<D: DigitStore>(
+    alloc: Global,
+    run: (&str, &[Call<'_>]),
+    wanted: &str,
+) -> Option<bool> {
+    for room in (0..wanted.len()).step_by(wanted.len() / 16 + 1) {
+        if !has_outcome_over::<D>(alloc, run, wanted, room)? {
+            return Some(false);
+        }
+    }
+    Some(true)
+}
+
 /// The same into a sink in memory, over a store and over one that counts, and into sinks without room for the text.
 pub fn has_outcome<D: DigitStore>(
     alloc: Global,
@@ -125,12 +139,10 @@ pub fn has_outcome<D: DigitStore>(
 ) -> Option<bool> {
     let calls = calls(alloc, words)?;
     let run = (start, calls.as_slice());
-    let length = wanted.len();
     Some(
         has_outcome_in_memory(alloc, run, wanted)?
             && has_outcome_over::<D>(alloc, run, wanted, usize::MAX)?
-            && has_outcome_over::<D>(alloc, run, wanted, length / 2)?
-            && has_outcome_over::<Counting<D>>(alloc, run, wanted, length.saturating_sub(1))?
-            && has_outcome_over::<Counting<D>>(alloc, run, wanted, usize::MAX)?,
+            && has_outcome_over::<Counting<D>>(alloc, run, wanted, usize::MAX)?
+            && has_outcome_without_room::<D>(alloc, run, wanted)?,
     )
 }
