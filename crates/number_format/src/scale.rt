@@ -63,18 +63,6 @@ fn raise<D: DigitStore>(value: &mut UnsignedOver<D>, count: u16)
     value.multiply_pow10(count as i16).unwrap();
 }
 
-fn shift_down<D: DigitStore>(value: &mut UnsignedOver<D>, count: u16) -> Result<(), RoundError>
-    requires { count ≤ 32767 }
-    ensures ok { OnOk result (value.new.number ≡ value.old.number / 10 ^ count) }
-    ensures fits { OnOk result (negsuc 32767 ≤ℤ (last value.old.number -ℤ pos count)) }
-    ensures err { IfErr result (λ e. (e ≡ RoundError.Limit) × ((last value.old.number -ℤ pos count) <ℤ negsuc 32767)) }
-{
-    value.trim_end();
-    value
-        .multiply_pow10(-(count as i16))
-        .map_err(|_| RoundError::Limit)
-}
-
 fn lower<D: DigitStore>(value: &mut UnsignedOver<D>, count: u16) -> Result<(), RoundError>
     requires { count ≤ 32767 }
     ensures ok { OnOk result (value.new.number ≡ value.old.number / 10 ^ count) }
@@ -86,7 +74,11 @@ fn lower<D: DigitStore>(value: &mut UnsignedOver<D>, count: u16) -> Result<(), R
         let _last = value.nonzero_magnitude_end();
         return Ok(());
     }
-    shift_down(value, count)
+    value.trim_end();
+    match value.multiply_pow10(-(count as i16)) {
+        Ok(()) => Ok(()),
+        Err(_) => Err(RoundError::Limit),
+    }
 }
 
 impl DigitOptions {
