@@ -100,6 +100,13 @@ if command -v sqlite3 > /dev/null && echo '#include <sqlite3ext.h>' | gcc -E -x 
   row "SELECT fixdec('EUR 1.234,5', 'read:de:lenient:currency/EUR', 'format:en:currency/EUR .00')" '€1,234.50'
   row "SELECT group_concat(x, ' ') FROM (SELECT column1 AS x FROM (VALUES ('b'), ('10'), ('9.50'), ('a'), ('-1e2'), ('9.5')) ORDER BY x COLLATE decimal_compare, x)" \
     '-1e2 9.5 9.50 10 a b'
+  row "SELECT format_number('de', 1234.5, 'style', 'currency', 'currency', 'EUR'), format_number('en', '1234.5678')" \
+    $'1.234,50\u00a0€|1,234.568'
+  row "SELECT format_number('fr', '0.125', 'style', 'percent', 'maximumFractionDigits', 1), format_number('de', 5, NULL, 1)" \
+    $'12,5\u00a0%|'
+  row "SELECT format_number('es', 1234567, 'notation', 'compact', 'compactDisplay', 'long', 'numberingSystem', 'arab')" '١٫٢ millones'
+  row "SELECT read_number('de', '-1.234,57' || char(160) || '€', 'style', 'currency', 'currency', 'EUR')" -1234.57
+  row "SELECT length(format_number('en', printf('%.*c', 300, '7'), 'useGrouping', 'always'))" 399
   rejects fixdec "'1x', 'trim-end'|start: syntax" "'10', 'trim-end', 'shift:32767'|call 1: overflow" \
     "'1', 'trimm'|no such call" "'1', 'round:0:up:1'|no such call" "'1', 'format:tlh'|unknown locale" \
     "'1', 'round:0:ceil:3'|no such call: 0" "'12', 'concat:25'|call 0: overlap" "'1', 'read:de:K'|skeleton: no reader" \
@@ -109,7 +116,11 @@ if command -v sqlite3 > /dev/null && echo '#include <sqlite3ext.h>' | gcc -E -x 
   rejects plural "'one: n =', '1'|rules: syntax at 8" "'xx', '1'|unknown locale" "'en:nominal', '1'|rules: syntax at 0" \
     "'en', '1x'|start: syntax"
   rejects format_number "'tlh', 'percent/w', 'x'|skeleton: syntax at 7" "'en', '.00 measure-unit/length-meter', '1'|skeleton: unsupported at 4" \
-    "'tlh', 'percent', 'x'|unknown locale" "'en', 'percent', '1x'|start: syntax" "'en', 'scale/100', '1e32767'|format: overflow"
+    "'tlh', 'percent', 'x'|unknown locale" "'en', 'percent', '1x'|start: syntax" "'en', 'scale/100', '1e32767'|format: overflow" \
+    "'en'|a locale, a text" "'en', 1, 'style'|skeleton: syntax at 0" "'en', 1, 'style', 'unit'|no such option" \
+    "'en', 1, 'style', 'currency'|unknown option" "'en', 1, 'minimumIntegerDigits', 22|no such numbers of digits" \
+    "'en', 1, 'minimumIntegerDigits', -1|no such option" "'tlh', 1, 'notation', 'compact'|unknown locale"
+  rejects read_number "'en', '1', 'notation', 'compact'|no reader of such numbers" "'en', '1x', 'notation', 'standard'|start: syntax"
 else
   missing 'sqlite3 and its headers'
 fi

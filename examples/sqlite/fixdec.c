@@ -1,9 +1,12 @@
 /* Decimals in SQLite: fixdec(text, word, ..) with the words of the programs, format_number(locale, skeleton, text),
+ * format_number and read_number(locale, text, name, value, ..) with options of Intl.NumberFormat by their names,
  * plural(locale or rules, text), and the collation decimal_compare. NULL in, NULL out; an error is an SQL error.
  *   gcc -shared -fPIC -I ../../c fixdec.c ../../c/out/libfixed_decimal.a -o fixdec.so
- *   SELECT fixdec('1234.565', 'round:-2:half-even:1', 'format:de');  -- 1.234,56 */
+ *   SELECT fixdec('1234.565', 'round:-2:half-even:1', 'format:de');  -- 1.234,56
+ *   SELECT format_number('de', 1234.5, 'style', 'currency', 'currency', 'EUR');  -- 1.234,50 € */
 #include <fixed_decimal.h>
 #include <sqlite3ext.h>
+#include <stddef.h>
 #include <stdio.h>
 #include <string.h>
 SQLITE_EXTENSION_INIT1
@@ -17,7 +20,7 @@ static const char modes[] = "ceil floor expand trunc half-ceil half-floor half-e
 static const char *const reasons[] = {"", "start: syntax", "start: limit", "memory", "call %d: syntax",
     "call %d: limit", "call %d: overlap", "call %d: overflow", "", "no such call: %d", "unknown locale",
     "unknown option", "", "", "rules: syntax at %d", "rules: limit at %d", "skeleton: syntax at %d",
-    "skeleton: unsupported at %d", "unknown numbering system", "skeleton: no reader"};
+    "skeleton: unsupported at %d", "unknown numbering system", "skeleton: no reader", "no such numbers of digits"};
 
 /* Sets an option by the word that ends at one of `ends`, and returns its length; 0: it is none of the words. */
 static size_t choose(uint8_t *option, const char *words, const char *text, const char *ends) {
@@ -100,6 +103,70 @@ static void convert(sqlite3_context *context, int count, sqlite3_value **values)
     if (out != buffer) sqlite3_free(out);
 }
 
+typedef struct { fd_number_options number; uint8_t is_long; } named;
+#define OPTION(field) offsetof(named, number.field)
+
+/* The options of Intl.NumberFormat with their words, each with a space after it, or for a number of digits none. */
+static const struct { const char *name; size_t offset; const char *words; } options[] = {
+    {"style", OPTION(style), "decimal percent permille currency "},
+    {"currencyDisplay", OPTION(currency_display), "symbol narrowSymbol code hidden "},
+    {"currencySign", OPTION(currency_sign), "standard accounting "},
+    {"currencyUsage", OPTION(currency_usage), "standard cash "},
+    {"notation", OPTION(notation), "standard scientific engineering compact "},
+    {"compactDisplay", offsetof(named, is_long), "short long "},
+    {"signDisplay", OPTION(sign_display), "auto never always exceptZero negative "},
+    {"useGrouping", OPTION(grouping), "auto false always min2 "},
+    {"roundingMode", OPTION(rounding_mode),
+     "ceil floor expand trunc halfCeil halfFloor halfExpand halfTrunc halfEven "},
+    {"roundingPriority", OPTION(rounding_priority), "auto morePrecision lessPrecision "},
+    {"trailingZeroDisplay", OPTION(trailing_zeros), "auto stripIfInteger "},
+    {"minimumIntegerDigits", OPTION(minimum_integer_digits), NULL},
+    {"minimumFractionDigits", OPTION(minimum_fraction_digits), NULL},
+    {"maximumFractionDigits", OPTION(maximum_fraction_digits), NULL},
+    {"minimumSignificantDigits", OPTION(minimum_significant_digits), NULL},
+    {"maximumSignificantDigits", OPTION(maximum_significant_digits), NULL},
+    {"roundingIncrement", OPTION(rounding_increment), NULL}};
+
+/* Sets an option by its name; 0: there is none, or no such value. */
+static int set_option(named *o, const char *name, sqlite3_value *value) {
+    const char *text = (const char *)sqlite3_value_text(value);
+    size_t count = strlen(text);
+    if (strcmp(name, "currency") == 0) return count == 3 && memcpy(o->number.currency, text, 3);
+    if (strcmp(name, "numberingSystem") == 0)
+        return count <= 16 && memcpy(memset(o->number.numbering_system, ' ', 16), text, count);
+    for (size_t i = 0; i < sizeof options / sizeof *options; i++) {
+        uint8_t *field = (uint8_t *)o + options[i].offset;
+        int digits = sqlite3_value_int(value);
+        if (strcmp(name, options[i].name) != 0) continue;
+        if (options[i].words) return choose(field, options[i].words, text, "") > 0;
+        return digits >= 0 && digits < FD_DEFAULT && memcpy(field, &(uint16_t){(uint16_t)digits}, sizeof(uint16_t));
+    }
+    return 0;
+}
+
+/* read_number, which has user data, and format_number with options. */
+static void number(sqlite3_context *context, int count, sqlite3_value **values) {
+    named o = {FD_NUMBER_OPTIONS, 0};
+    uint8_t buffer[128], *out = buffer;
+    for (int i = 0; i < count; i++) if (sqlite3_value_type(values[i]) == SQLITE_NULL) return;
+    if (count < 2 || count % 2) return sqlite3_result_error(context, "a locale, a text, and names with values", -1);
+    for (int i = 2; i < count; i += 2)
+        if (!set_option(&o, (const char *)sqlite3_value_text(values[i]), values[i + 1]))
+            return sqlite3_result_error(context, "no such option", -1);
+    if (o.number.style == FD_PERCENT) o.number.scale = 2;
+    if (o.number.notation == FD_COMPACT_SHORT) o.number.notation += o.is_long;
+    fd_result answer = {.count = sizeof buffer};
+    do
+        answer = sqlite3_user_data(context)
+            ? fd_read_number(BYTES(values[1]), BYTES(values[0]), &o.number, 0, out, answer.count)
+            : fd_format_number(BYTES(values[1]), BYTES(values[0]), &o.number, out, answer.count);
+    while (answer.status == FD_BUFFER_TOO_SMALL && (out = sqlite3_malloc64(answer.count)));
+    if (!out) return sqlite3_result_error_nomem(context);
+    if (answer.status == FD_UNREADABLE_FORMAT) return sqlite3_result_error(context, "no reader of such numbers", -1);
+    finish(context, answer.status, answer.at, 0, (char *)out, (int)answer.count);
+    if (out != buffer) sqlite3_free(out);
+}
+
 /* By value; texts that are no decimals are after all decimals, by bytes. */
 static int compare(void *ignored, int left_count, const void *left, int right_count, const void *right) {
     (void)ignored;
@@ -116,6 +183,8 @@ int sqlite3_fixdec_init(sqlite3 *db, char **unused, const sqlite3_api_routines *
     int flags = SQLITE_UTF8 | SQLITE_DETERMINISTIC | SQLITE_INNOCUOUS;
     return sqlite3_create_function(db, "fixdec", -1, flags, db, convert, 0, 0)
            || sqlite3_create_function(db, "format_number", 3, flags, NULL, convert, 0, 0)
+           || sqlite3_create_function(db, "format_number", -1, flags, NULL, number, 0, 0)
+           || sqlite3_create_function(db, "read_number", -1, flags, db, number, 0, 0)
            || sqlite3_create_function(db, "plural", 2, flags, NULL, plural, 0, 0)
            || sqlite3_create_collation(db, "decimal_compare", SQLITE_UTF8, NULL, compare) ? SQLITE_ERROR : SQLITE_OK;
 }
