@@ -27,6 +27,13 @@ static int all(const uint8_t *p, size_t n, uint8_t b) {
     return 1;
 }
 
+/* A text is written to the start of a buffer of 0xA5 with this room, if it fits. */
+static void check_text(fd_result r, const uint8_t *buffer, size_t size, size_t room, const char *text) {
+    size_t n = strlen(text);
+    if (room < n) CHECK(r.status == FD_BUFFER_TOO_SMALL && r.count == n && r.at == 0 && all(buffer, size, 0xA5));
+    else CHECK(gives(r, buffer, text) && all(buffer + n, size - n, 0xA5));
+}
+
 /* fd_run, or fd_convert where there are forms. */
 static fd_result convert(const char *start, const fd_forms *forms, const fd_call *calls, size_t count, const char *texts,
                          uint8_t *buffer, size_t room) {
@@ -40,12 +47,7 @@ static void at_all_sizes(const char *start, const fd_forms *forms, const fd_call
     for (size_t room = 0; room < n + 9; room++) {
         uint8_t *buffer = malloc(room ? room : 1);
         memset(buffer, 0xA5, room ? room : 1);
-        fd_result r = convert(start, forms, calls, count, texts, buffer, room);
-        if (room < n) {
-            CHECK(r.status == FD_BUFFER_TOO_SMALL && r.count == n && r.at == 0 && all(buffer, room, 0xA5));
-        } else {
-            CHECK(gives(r, buffer, text) && all(buffer + n, room - n, 0xA5));
-        }
+        check_text(convert(start, forms, calls, count, texts, buffer, room), buffer, room, room, text);
         free(buffer);
     }
 }
@@ -367,8 +369,7 @@ static void test_format_number(void) {
             uint8_t *buffer = malloc(room ? room : 1);
             memset(buffer, 0xA5, room ? room : 1);
             fd_result r = fd_format_number(BYTES(rows[i].number), BYTES(rows[i].tag), &rows[i].options, buffer, room);
-            if (room < n) CHECK(r.status == FD_BUFFER_TOO_SMALL && r.count == n && all(buffer, room, 0xA5));
-            else CHECK(gives(r, buffer, rows[i].text) && all(buffer + n, room - n, 0xA5));
+            check_text(r, buffer, room, room, rows[i].text);
             free(buffer);
         }
     }
@@ -396,8 +397,7 @@ static void test_read_number(void) {
             fd_result r = fd_read_number(BYTES(rows[i].text), BYTES(rows[i].tag), &rows[i].options, rows[i].lenient,
                                          buffer, room);
             if (rows[i].status != FD_OK) CHECK(r.status == rows[i].status && r.count == 0 && all(buffer, 40, 0xA5));
-            else if (room < n) CHECK(r.status == FD_BUFFER_TOO_SMALL && r.count == n && all(buffer, 40, 0xA5));
-            else CHECK(gives(r, buffer, rows[i].own) && all(buffer + n, 40 - n, 0xA5));
+            else check_text(r, buffer, 40, room, rows[i].own);
         }
     }
 }
@@ -530,11 +530,7 @@ static void test_format_by_skeleton(void) {
             for (int by_form = 0; by_form < 2; by_form++) {
                 fd_result r = by_form ? convert_number(rows[i][0], rows[i][1], rows[i][2], FD_NONE(fd_call), 0, buffer, room)
                                       : format_by_skeleton(rows[i][0], rows[i][1], rows[i][2], buffer, room);
-                if (room < n) {
-                    CHECK(r.status == FD_BUFFER_TOO_SMALL && r.count == n && r.at == 0 && all(buffer, room, 0xA5));
-                } else {
-                    CHECK(gives(r, buffer, rows[i][3]) && all(buffer + n, room - n, 0xA5));
-                }
+                check_text(r, buffer, room, room, rows[i][3]);
             }
             free(buffer);
         }
@@ -599,8 +595,7 @@ static void test_read_by_skeleton(void) {
             fd_result r = fd_read_by_skeleton(BYTES(rows[i].text), BYTES(rows[i].tag), BYTES(rows[i].skeleton),
                                               rows[i].lenient, buffer, room);
             if (rows[i].status != FD_OK) CHECK(r.status == rows[i].status && r.count == 0 && all(buffer, 40, 0xA5));
-            else if (room < n) CHECK(r.status == FD_BUFFER_TOO_SMALL && r.count == n && all(buffer, 40, 0xA5));
-            else CHECK(gives(r, buffer, own) && all(buffer + n, 40 - n, 0xA5));
+            else check_text(r, buffer, 40, room, own);
         }
     }
 }

@@ -82,27 +82,6 @@ static void plural(sqlite3_context *context, int count, sqlite3_value **values) 
     finish(context, answer.status, answer.at, 0, names[answer.value], -1);
 }
 
-/* fixdec, which has user data, and format_number. */
-static void convert(sqlite3_context *context, int count, sqlite3_value **values) {
-    int fixdec = sqlite3_user_data(context) != NULL;
-    job j = {.count = 0};
-    uint8_t buffer[128], *out = buffer;
-    if (count == 0) return;
-    for (int i = 0; i < count; i++) if (sqlite3_value_type(values[i]) == SQLITE_NULL) return;
-    for (int i = 1; fixdec && i < count; i++)
-        if (i > MAX_WORDS || !parse(&j, (const char *)sqlite3_value_text(values[i])))
-            return sqlite3_result_error(context, "no such call", -1);
-    fd_result answer = {.count = sizeof buffer};
-    do
-        answer = fixdec
-            ? fd_convert(BYTES(values[0]), &j.forms, j.calls, j.count, j.texts, j.used, out, answer.count)
-            : fd_format_by_skeleton(BYTES(values[2]), BYTES(values[0]), BYTES(values[1]), out, answer.count);
-    while (answer.status == FD_BUFFER_TOO_SMALL && (out = sqlite3_malloc64(answer.count)));
-    if (!out) return sqlite3_result_error_nomem(context);
-    finish(context, answer.status, answer.at, j.count, (char *)out, (int)answer.count);
-    if (out != buffer) sqlite3_free(out);
-}
-
 typedef struct { fd_number_options number; uint8_t is_long; } named;
 #define OPTION(field) offsetof(named, number.field)
 
@@ -144,26 +123,58 @@ static int set_option(named *o, const char *name, sqlite3_value *value) {
     return 0;
 }
 
-/* read_number, which has user data, and format_number with options. */
-static void number(sqlite3_context *context, int count, sqlite3_value **values) {
+/* Parses words of the programs. An SQL error: 0. */
+static int parse_words(sqlite3_context *context, job *j, int count, sqlite3_value **values) {
+    for (int i = 0; i < count; i++)
+        if (i == MAX_WORDS || !parse(j, (const char *)sqlite3_value_text(values[i])))
+            return sqlite3_result_error(context, "no such call", -1), 0;
+    return 1;
+}
+
+/* Parses names of options with their values. An SQL error: 0. */
+static int parse_options(sqlite3_context *context, named *o, int count, sqlite3_value **values) {
+    if (count < 0 || count % 2) return sqlite3_result_error(context, "a locale, a text, and names with values", -1), 0;
+    for (int i = 0; i < count; i += 2)
+        if (!set_option(o, (const char *)sqlite3_value_text(values[i]), values[i + 1]))
+            return sqlite3_result_error(context, "no such option", -1), 0;
+    if (o->number.style == FD_PERCENT) o->number.scale = 2;
+    if (o->number.notation == FD_COMPACT_SHORT) o->number.notation += o->is_long;
+    return 1;
+}
+
+/* The functions that write a text, which have one of these as user data. */
+enum { WORDS, SKELETON, FORMAT, READ_BACK };
+static const int ways[] = {WORDS, SKELETON, FORMAT, READ_BACK};
+
+static void convert(sqlite3_context *context, int count, sqlite3_value **values) {
+    int way = *(const int *)sqlite3_user_data(context);
+    job j = {.count = 0};
     named o = {FD_NUMBER_OPTIONS, 0};
     uint8_t buffer[128], *out = buffer;
-    for (int i = 0; i < count; i++) if (sqlite3_value_type(values[i]) == SQLITE_NULL) return;
-    if (count < 2 || count % 2) return sqlite3_result_error(context, "a locale, a text, and names with values", -1);
-    for (int i = 2; i < count; i += 2)
-        if (!set_option(&o, (const char *)sqlite3_value_text(values[i]), values[i + 1]))
-            return sqlite3_result_error(context, "no such option", -1);
-    if (o.number.style == FD_PERCENT) o.number.scale = 2;
-    if (o.number.notation == FD_COMPACT_SHORT) o.number.notation += o.is_long;
     fd_result answer = {.count = sizeof buffer};
+    if (way == WORDS && count == 0) return;
+    for (int i = 0; i < count; i++) if (sqlite3_value_type(values[i]) == SQLITE_NULL) return;
+    if (way == WORDS && !parse_words(context, &j, count - 1, values + 1)) return;
+    if (way >= FORMAT && !parse_options(context, &o, count - 2, values + 2)) return;
     do
-        answer = sqlite3_user_data(context)
-            ? fd_read_number(BYTES(values[1]), BYTES(values[0]), &o.number, 0, out, answer.count)
-            : fd_format_number(BYTES(values[1]), BYTES(values[0]), &o.number, out, answer.count);
+        switch (way) {
+        case WORDS:
+            answer = fd_convert(BYTES(values[0]), &j.forms, j.calls, j.count, j.texts, j.used, out, answer.count);
+            break;
+        case SKELETON:
+            answer = fd_format_by_skeleton(BYTES(values[2]), BYTES(values[0]), BYTES(values[1]), out, answer.count);
+            break;
+        case FORMAT:
+            answer = fd_format_number(BYTES(values[1]), BYTES(values[0]), &o.number, out, answer.count);
+            break;
+        default:
+            answer = fd_read_number(BYTES(values[1]), BYTES(values[0]), &o.number, 0, out, answer.count);
+        }
     while (answer.status == FD_BUFFER_TOO_SMALL && (out = sqlite3_malloc64(answer.count)));
     if (!out) return sqlite3_result_error_nomem(context);
-    if (answer.status == FD_UNREADABLE_FORMAT) return sqlite3_result_error(context, "no reader of such numbers", -1);
-    finish(context, answer.status, answer.at, 0, (char *)out, (int)answer.count);
+    if (way == READ_BACK && answer.status == FD_UNREADABLE_FORMAT)
+        return sqlite3_result_error(context, "no reader of such numbers", -1);
+    finish(context, answer.status, answer.at, j.count, (char *)out, (int)answer.count);
     if (out != buffer) sqlite3_free(out);
 }
 
@@ -181,10 +192,10 @@ int sqlite3_fixdec_init(sqlite3 *db, char **unused, const sqlite3_api_routines *
     SQLITE_EXTENSION_INIT2(api);
     (void)unused;
     int flags = SQLITE_UTF8 | SQLITE_DETERMINISTIC | SQLITE_INNOCUOUS;
-    return sqlite3_create_function(db, "fixdec", -1, flags, db, convert, 0, 0)
-           || sqlite3_create_function(db, "format_number", 3, flags, NULL, convert, 0, 0)
-           || sqlite3_create_function(db, "format_number", -1, flags, NULL, number, 0, 0)
-           || sqlite3_create_function(db, "read_number", -1, flags, db, number, 0, 0)
+    return sqlite3_create_function(db, "fixdec", -1, flags, (void *)&ways[WORDS], convert, 0, 0)
+           || sqlite3_create_function(db, "format_number", 3, flags, (void *)&ways[SKELETON], convert, 0, 0)
+           || sqlite3_create_function(db, "format_number", -1, flags, (void *)&ways[FORMAT], convert, 0, 0)
+           || sqlite3_create_function(db, "read_number", -1, flags, (void *)&ways[READ_BACK], convert, 0, 0)
            || sqlite3_create_function(db, "plural", 2, flags, NULL, plural, 0, 0)
            || sqlite3_create_collation(db, "decimal_compare", SQLITE_UTF8, NULL, compare) ? SQLITE_ERROR : SQLITE_OK;
 }
