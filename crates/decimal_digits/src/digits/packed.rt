@@ -13,11 +13,11 @@ use super::DigitStore;
 use bulk::{append_text, count_trailing_nibbles, write_text};
 use bytes::{
     append_digits, append_word, append_zeros, are_equal, copy_bytes, copy_wide, cut_digits,
-    drop_unused, keep_digits, pack_digits, push_digit, reserve_digits, set_digit, word_at,
+    drop_unused, keep_digits, pack_digits, push_digit, reserve_digits, word_at,
 };
 pub use dotted::dotted_text;
 pub(super) use nibbles::unpack;
-use nibbles::{byte_count, nibble_at};
+use nibbles::{byte_count, nibble_at, set_nibble};
 use smallvec::SmallVec;
 use std::alloc::{AllocError, Global};
 pub(super) use words::pack_word;
@@ -130,7 +130,7 @@ impl DigitStore for PackedDigits {
 
     #[inline]
     fn set(&mut self, index: usize, digit: u8) {
-        set_digit(&mut self.bytes, self.len, index, digit);
+        set_nibble(&mut self.bytes, index, digit);
     }
 
     #[inline]

@@ -41,24 +41,6 @@ pub fn replace_by_digit<D: DigitStore>(counted: &mut Counted<'_, D>, digit: u8)
 }
 
 #[inline]
-pub fn replace_by_two_digits<D: DigitStore>(counted: &mut Counted<'_, D>, first: u8, second: u8)
-    requires first { first < 10 }
-    requires second { second < 10 }
-    ensures digits { D.digits (list_of counted.new) ≡ first ∷ second ∷ [] }
-    ensures accesses { accesses_of counted.new ≡ accesses_of counted.old + 2 }
-    ensures borrows { Continues counted.old counted.new }
-{
-    if counted.len() < 2 {
-        replace_by_digit(counted, first);
-        counted.push_in_room(second);
-    } else {
-        counted.truncate(2);
-        counted.set(0, first);
-        counted.set(1, second);
-    }
-}
-
-#[inline]
 pub fn carry_out<D: DigitStore>(
     counted: &mut Counted<'_, D>,
     places: usize,

@@ -4,7 +4,7 @@ ghost use Rattle.decimal_digits.specs.Counted.{list_of, accesses_of, Continues, 
 ghost use Rattle.decimal_digits.specs.Digits.{IsStripped};
 ghost use Rattle.decimal_digits.specs.Remainders.{leading};
 
-use super::carry::{replace_by_digit, replace_by_two_digits};
+use super::carry::replace_by_digit;
 use crate::digits::{Counted, DigitStore};
 use std::alloc::AllocError;
 
@@ -117,10 +117,9 @@ pub fn write_number<D: DigitStore>(
         0 => counted.clear(),
         1..=9 => replace_by_digit(counted, number),
         10..=99 => {
-            if number % 10 == 0 {
-                replace_by_digit(counted, number / 10);
-            } else {
-                replace_by_two_digits(counted, number / 10, number % 10);
+            replace_by_digit(counted, number / 10);
+            if number % 10 != 0 {
+                counted.push_in_room(number % 10);
             }
         }
         _ => replace_by_digit(counted, 1),

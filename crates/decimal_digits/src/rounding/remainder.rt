@@ -8,7 +8,7 @@ use super::{RoundingIncrement, UnsignedRoundingMode};
 /// A remainder, compared with half of the unit.
 ///
 /// The discriminants are quarters of the unit; 1 and 3 stand for all between 0, half and the whole unit.
-#[derive(Clone, Copy, PartialEq, Eq)]
+#[derive(Clone, Copy)]
 pub enum Remainder {
     Zero = 0,
     BelowHalf = 1,
@@ -16,28 +16,18 @@ pub enum Remainder {
     AboveHalf = 3,
 }
 
-fn step(increment: RoundingIncrement) -> u8
-    ensures { result ≡ step_of increment }
-{
-    match increment {
-        RoundingIncrement::MultiplesOf1 => 1,
-        RoundingIncrement::MultiplesOf2 => 2,
-        RoundingIncrement::MultiplesOf5 => 5,
-        RoundingIncrement::MultiplesOf25 => 25,
-    }
-}
-
 // Each increment has its own division: one by a constant is far faster than one by a variable.
 #[inline]
-fn split_by(increment: RoundingIncrement, number: u8) -> (u8, bool)
-    ensures rest { result.0 ≡ number % step_of increment }
-    ensures odd { result.1 ≡ (number / step_of increment % 2 == 1) }
+fn split_by(increment: RoundingIncrement, number: u8) -> (u8, u8, bool)
+    ensures step { result.0 ≡ step_of increment }
+    ensures rest { result.1 ≡ number % step_of increment }
+    ensures odd { result.2 ≡ (number / step_of increment % 2 == 1) }
 {
     match increment {
-        RoundingIncrement::MultiplesOf1 => (0, number % 2 == 1),
-        RoundingIncrement::MultiplesOf2 => (number % 2, number / 2 % 2 == 1),
-        RoundingIncrement::MultiplesOf5 => (number % 5, number / 5 % 2 == 1),
-        RoundingIncrement::MultiplesOf25 => (number % 25, number / 25 % 2 == 1),
+        RoundingIncrement::MultiplesOf1 => (1, 0, number % 2 == 1),
+        RoundingIncrement::MultiplesOf2 => (2, number % 2, number / 2 % 2 == 1),
+        RoundingIncrement::MultiplesOf5 => (5, number % 5, number / 5 % 2 == 1),
+        RoundingIncrement::MultiplesOf25 => (25, number % 25, number / 25 % 2 == 1),
     }
 }
 
@@ -87,8 +77,7 @@ pub fn round_last_two(
         → RoundsTo mode (step_of increment) remainder n m }
     ensures unchanged { remainder ≡ Remainder.Zero → last_two % step_of increment ≡ 0 → result ≡ last_two }
 {
-    let step = step(increment);
-    let (rest, odd) = split_by(increment, last_two);
+    let (step, rest, odd) = split_by(increment, last_two);
     if rounds_up(mode, combine_remainders(step, rest, remainder), odd) {
         last_two - rest + step
     } else {

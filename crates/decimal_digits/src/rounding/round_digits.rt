@@ -70,7 +70,7 @@ fn round_by_one<D: DigitStore>(
     ensures reads { IfNone result (OnlyReads (length (D.digits (list_of counted.old)) + 1) counted.old counted.new) }
     ensures borrows { Continues counted.old counted.new }
 {
-    if remainder == Remainder::Zero {
+    if matches!(remainder, Remainder::Zero) {
         return Some(keep);
     }
     let last = last_of(counted, keep);
@@ -122,7 +122,7 @@ pub fn round_leading<D: DigitStore>(
     let last_two = last_two_of(counted, keep);
     let rounded = round_last_two(last_two, remainder, mode, increment);
     if rounded == last_two {
-        if remainder != Remainder::Zero {
+        if !matches!(remainder, Remainder::Zero) {
             keep_leading(counted, keep, last_two % 10);
         }
         return Ok(keep);

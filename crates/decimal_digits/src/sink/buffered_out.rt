@@ -52,7 +52,10 @@ impl<W: Write + Drop> BufferedOut<W> {
     pub fn error(&self) -> Option<ErrorKind>
         ensures { is_some result ≡ self.now.has_failed }
     {
-        self.error.as_ref().map(WriteError::kind)
+        match &self.error {
+            Some(error) => Some(error.kind()),
+            None => None,
+        }
     }
 
     /// Drops the block, and does not call the writer.

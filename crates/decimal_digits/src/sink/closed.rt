@@ -37,7 +37,10 @@ impl<W> Closed<W> {
     pub fn error(&self) -> Option<ErrorKind>
         ensures { is_some result ≡ self.now.1 }
     {
-        self.error.as_ref().map(WriteError::kind)
+        match &self.error {
+            Some(error) => Some(error.kind()),
+            None => None,
+        }
     }
 
     /// Returns the writer.

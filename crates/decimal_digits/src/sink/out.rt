@@ -70,7 +70,10 @@ impl<W: Write + Drop> Out<BufWriter<W>> {
     {
         let Out { writer, error } = self;
         let (writer, _unwritten) = writer.into_parts();
-        Closed::new(writer, error.map(WriteError::into_inner))
+        match error {
+            Some(error) => Closed::new(writer, Some(error.into_inner())),
+            None => Closed::new(writer, None),
+        }
     }
 
     /// Writes what the buffer holds, and does not flush the writer. After a failed call the writer is not called again.

@@ -75,9 +75,10 @@ pub fn write_whole<W: Write>(writer: &mut W, bytes: &[u8]) -> Result<(), WriteEr
 pub fn flush<W: Write>(writer: &mut W) -> Result<(), WriteError<W>>
     ensures { Keeps (W.contents writer.old) (W.contents writer.new) }
 {
-    writer
-        .flush()
-        .map_err(|error| WriteError::new(error.kind(), 0))
+    match writer.flush() {
+        Ok(()) => Ok(()),
+        Err(error) => Err(WriteError::new(error.kind(), 0)),
+    }
 }
 
 pub(super) fn keep_error<W>(

@@ -1,7 +1,7 @@
 //! Packed BCD: lists of digits in bytes, two digits to a byte.
 #![tactic(auto, using(crate::proofs::lemmas::digits::Nibbles::nibble_rules))]
 
-ghost use Rattle.std.specs.Prelude.{◌≡◌, ℕ, ◌+◌, ◌-◌, ◌*◌, ◌%◌, ◌^◌, ◌<◌, ◌≤◌, ◌↔◌, [], ◌∷◌, ◌++◌, length, map, take, drop, replicate, slice_set, All, IsTrue, IsOk, IfOk, IfSome, OnOk};
+ghost use Rattle.std.specs.Prelude.{◌≡◌, ℕ, ◌+◌, ◌-◌, ◌*◌, ◌%◌, ◌^◌, ◌<◌, ◌≤◌, ◌↔◌, [], ◌∷◌, ◌++◌, length, map, take, drop, replicate, All, IsTrue, IsOk, IfOk, IfSome, OnOk};
 ghost use Rattle.std.specs.Int.{w64, to_be_bytes};
 ghost use Rattle.smallvec.specs.SmallVec.{small_vec_len};
 ghost use Rattle.decimal_digits.specs.Nibbles.{digits_in, bcd_number, nibbles, wide_leading_bytes, word_nibbles, IsPacked};
@@ -76,17 +76,6 @@ pub(super) fn reserve_digits(bytes: &mut Bytes, total: usize) -> Result<(), Allo
 {
     let old_len = bytes.len();
     bytes.reserve(byte_count(total).saturating_sub(old_len))
-}
-
-#[inline]
-pub(super) fn set_digit(bytes: &mut Bytes, len: usize, index: usize, digit: u8)
-    requires padded { IsPadded bytes.old.items len }
-    requires in_range { index < len }
-    requires is_digit { digit < 10 }
-    ensures encodes { EncodesPadded bytes.new.items len (slice_set (digits_in bytes.old.items len) index digit) }
-    ensures capacity { bytes.new.capacity ≡ bytes.old.capacity }
-{
-    set_nibble(bytes, index, digit);
 }
 
 #[inline]

@@ -1,4 +1,4 @@
-use Rattle.std.proofs.Common.{◌-◌, arith}
+use Rattle.std.proofs.{Common.{◌-◌, arith}, lemmas.List.{length-set, length-take}}
 use Rattle.decimal_digits.proofs.lemmas.{digits.Nibbles.nibble_rules, rounding.Leading.leading_raised}
 use Rattle.decimal_digits.proofs.rounding.carry.add_one.Goals as goal
 
@@ -9,6 +9,9 @@ returns-clause-value g c =
     (λ i h. grind (arith, nibble_rules))
     (grind (arith, nibble_rules)) (λ i h l. nines.ensures.equal i (omega arith) l)
     (λ i h l. grind (arith, nibble_rules))
+
+pub returns-clause-accesses : goal.returns-clause-accesses
+returns-clause-accesses g c = grind (arith, length-set, length-take)
 
 pub returns-clause-stripped : goal.returns-clause-stripped
 returns-clause-stripped g c = grind (arith, nibble_rules)

@@ -1,15 +1,21 @@
 use Rattle.std.proofs.{Common.{◌-◌, true, false, refl, arith, rules}, lemmas.Option.IfSome_then}
 use Rattle.decimal_digits.proofs.lemmas.{digits.Nibbles.nibble_rules, rounding.{Leading.leading_raised, Remainders.{one_by, exact_stays}, Results.if_none}}
+use Rattle.decimal_digits.specs.Remainders.{leading}
 use Rattle.decimal_digits.proofs.rounding.round_digits.round_by_one.Goals as goal
 
-pub returns-then-eq-clause-value : goal.returns-then-eq-clause-value
-returns-then-eq-clause-value g c = exact_stays c.args.mode c.args.remainder _ _ (search rules) refl
+pub returns-then-matches : goal.returns-then-matches
+returns-then-matches g c =
+    let n = leading c.args.keep (g.D.DigitStore.digits c.args.counted.now.list.now) in
+    let rounds = exact_stays c.args.mode c.args.remainder n n (search rules) refl in
+    grind arith
 
-pub returns-then-not-rounds_up-clause-value : goal.returns-then-not-rounds_up-clause-value
-returns-then-not-rounds_up-clause-value g c =
+pub returns-then-not-rounds_up : goal.returns-then-not-rounds_up
+returns-then-not-rounds_up g c =
     let value = rw c.last_of-last.ensures.reads.0 at c.keep_leading.ensures.value in
-    one_by c.args.mode c.args.remainder _ _ _ _ false c.last_of-last.ensures.value c.if-not-rounds_up.ensures
-    (omega (arith, value))
+    let n = leading c.args.keep (g.D.DigitStore.digits c.keep_leading.new.counted.list.now) in
+    let rounds = one_by c.args.mode c.args.remainder _ n _ _ false c.last_of-last.ensures.value
+    c.if-not-rounds_up.ensures (omega (arith, value)) in
+    grind arith
 
 pub returns-then-keep-eq0-clause-value : goal.returns-then-keep-eq0-clause-value
 returns-then-keep-eq0-clause-value g c =

@@ -83,8 +83,8 @@ returns-then-rounded-eq0-clause-value g c =
     c.round_last_two-rounded.ensures.rounds _ _ _ c.last_two_of-last_two.ensures.value
     (omega (arith, more, rw len at c.strip_trailing_zeros.ensures.value, round_digits, c.if-rounded-eq0.true))
 
-pub returns-then-ne : goal.returns-then-ne
-returns-then-ne g c =
+pub returns-then-not-matches : goal.returns-then-not-matches
+returns-then-not-matches g c =
     let ds = g.D.DigitStore.digits c.args.counted.now.list.now in
     let value = rw c.last_two_of-last_two.ensures.reads.0 at c.keep_leading.ensures.value in
     let rounds = c.round_last_two-rounded.ensures.rounds (leading (c.args.keep - 2) ds) (leading c.args.keep ds)
@@ -93,16 +93,20 @@ returns-then-ne g c =
     (omega (arith, value, c.last_two_of-last_two.ensures.value, c.if-rounded-last_two.true)) in
     grind arith
 
-pub returns-else-ne-clause-value : goal.returns-else-ne-clause-value
-returns-else-ne-clause-value g c =
-    rw (c.last_two_of-last_two.ensures.reads.0)
-    (c.round_last_two-rounded.ensures.rounds _ _ _ c.last_two_of-last_two.ensures.value
-    (omega (arith, c.last_two_of-last_two.ensures.value, c.if-rounded-last_two.true)))
+pub returns-else-not-matches : goal.returns-else-not-matches
+returns-else-not-matches g c =
+    let ds = g.D.DigitStore.digits c.args.counted.now.list.now in
+    let rounds = c.round_last_two-rounded.ensures.rounds _ _ (leading c.args.keep ds)
+    c.last_two_of-last_two.ensures.value
+    (omega (arith, c.last_two_of-last_two.ensures.value, c.if-rounded-last_two.true)) in
+    grind arith
 
-pub returns-in-Ok-clause-value : goal.returns-in-Ok-clause-value
-returns-in-Ok-clause-value g c =
-    c.round_last_two-rounded.ensures.rounds _ _ _ c.last_two_of-last_two.ensures.value
-    (rw c.last_two_of-last_two.ensures.reads.0 at c.in-Ok.ensures.value)
+pub returns-in-Ok : goal.returns-in-Ok
+returns-in-Ok g c =
+    let rounds = c.round_last_two-rounded.ensures.rounds _ _
+    (leading c.args.keep (g.D.DigitStore.digits c.write_last_two.new.counted.list.now))
+    c.last_two_of-last_two.ensures.value (rw c.last_two_of-last_two.ensures.reads.0 at c.in-Ok.ensures.value) in
+    grind arith
 
 pub strip_trailing_zeros-requires : goal.strip_trailing_zeros-requires
 strip_trailing_zeros-requires g c = grind (arith, nibble_rules)
