@@ -52,10 +52,7 @@ impl<W: Write + Drop> BufferedOut<W> {
     pub fn error(&self) -> Option<ErrorKind>
         ensures { is_some result ≡ self.now.has_failed }
     {
-        match &self.error {
-            Some(error) => Some(error.kind()),
-            None => None,
-        }
+        Some(self.error.as_ref()?.kind())
     }
 
     /// Drops the block, and does not call the writer.

@@ -37,10 +37,7 @@ impl<W> Closed<W> {
     pub fn error(&self) -> Option<ErrorKind>
         ensures { is_some result ≡ self.now.1 }
     {
-        match &self.error {
-            Some(error) => Some(error.kind()),
-            None => None,
-        }
+        Some(self.error.as_ref()?.kind())
     }
 
     /// Returns the writer.

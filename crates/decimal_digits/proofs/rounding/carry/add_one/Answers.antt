@@ -1,4 +1,4 @@
-use Rattle.std.proofs.{Common.{◌-◌, arith}, lemmas.List.{length-set, length-take}}
+use Rattle.std.proofs.{Common.{◌-◌, ℕ, length, ap, arith}, lemmas.List.{length-set, length-take}}
 use Rattle.decimal_digits.proofs.lemmas.{digits.Nibbles.nibble_rules, rounding.Leading.leading_raised}
 use Rattle.decimal_digits.proofs.rounding.carry.add_one.Goals as goal
 
@@ -11,7 +11,9 @@ returns-clause-value g c =
     (λ i h l. grind (arith, nibble_rules))
 
 pub returns-clause-accesses : goal.returns-clause-accesses
-returns-clause-accesses g c = grind (arith, length-set, length-take)
+returns-clause-accesses g c =
+    let put = ap length c.set.ensures.digits in
+    omega (arith, put, ap length c.truncate.ensures.digits, length-set {A = ℕ}, length-take {A = ℕ})
 
 pub returns-clause-stripped : goal.returns-clause-stripped
 returns-clause-stripped g c = grind (arith, nibble_rules)

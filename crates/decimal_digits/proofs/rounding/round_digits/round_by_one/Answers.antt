@@ -3,11 +3,8 @@ use Rattle.decimal_digits.proofs.lemmas.{digits.Nibbles.nibble_rules, rounding.{
 use Rattle.decimal_digits.specs.Remainders.{leading}
 use Rattle.decimal_digits.proofs.rounding.round_digits.round_by_one.Goals as goal
 
-pub returns-then-matches : goal.returns-then-matches
-returns-then-matches g c =
-    let n = leading c.args.keep (g.D.DigitStore.digits c.args.counted.now.list.now) in
-    let rounds = exact_stays c.args.mode c.args.remainder n n (search rules) refl in
-    grind arith
+pub returns-then-matches-clause-value : goal.returns-then-matches-clause-value
+returns-then-matches-clause-value g c = exact_stays c.args.mode c.args.remainder _ _ (search rules) refl
 
 pub returns-then-not-rounds_up : goal.returns-then-not-rounds_up
 returns-then-not-rounds_up g c =

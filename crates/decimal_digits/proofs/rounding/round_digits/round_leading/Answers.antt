@@ -95,9 +95,8 @@ returns-then-not-matches g c =
 
 pub returns-else-not-matches : goal.returns-else-not-matches
 returns-else-not-matches g c =
-    let ds = g.D.DigitStore.digits c.args.counted.now.list.now in
-    let rounds = c.round_last_two-rounded.ensures.rounds _ _ (leading c.args.keep ds)
-    c.last_two_of-last_two.ensures.value
+    let rounds = c.round_last_two-rounded.ensures.rounds _ _
+    (leading c.args.keep (g.D.DigitStore.digits c.args.counted.now.list.now)) c.last_two_of-last_two.ensures.value
     (omega (arith, c.last_two_of-last_two.ensures.value, c.if-rounded-last_two.true)) in
     grind arith
 

@@ -8,8 +8,7 @@ use Rattle.decimal_digits.proofs.digits.packed.bulk.append_long_text.Goals as go
 text_encodes : (bs cs : List ℕ) (len : ℕ) (ds text : List ℕ) → Encodes bs len ds → AllDigits 10 text
     → nibbles cs ≡ take len (nibbles bs) ++ (low_nibbles text ++ replicate ((len + length text) % 2) 0)
     → Encodes cs (len + length text) (ds ++ map digit_value text)
-text_encodes bs cs len ds text p all e =
-    encodes _ _ _ (grind (arith, nibble_rules, ap length e, ascii_at text all))
+text_encodes bs cs len ds text p all e = encodes _ _ _ (grind (arith, nibble_rules, ap length e, ascii_at text all))
 
 even : (bs cs : List ℕ) (len : ℕ) (ds text : List ℕ) → Encodes bs len ds
     → nibbles cs ≡ nibbles bs ++ (low_nibbles text ++ replicate (length text % 2) 0) → AllDigits 10 text → len % 2 ≡ 0
@@ -20,7 +19,6 @@ even bs cs len ds text p e all is =
     text_encodes bs cs len ds text p all (e ∙ ap (λ n. nibbles bs ++ (low_nibbles text ++ replicate n 0)) z
     ∙ ap (λ ns. ns ++ (low_nibbles text ++ replicate ((len + length text) % 2) 0)) front)
 
--- the first digit of the text is in the unused nibble
 odd : (bs ms cs : List ℕ) (len k d : ℕ) (ds text : List ℕ) → Encodes bs len ds
     → nibbles ms ≡ slice_set (nibbles bs) len d
     → nibbles cs ≡ nibbles ms ++ (low_nibbles (drop k text) ++ replicate (length (drop k text) % 2) 0)
@@ -42,14 +40,14 @@ pub returns-then-odd-eq0 : goal.returns-then-odd-eq0
 returns-then-odd-eq0 c =
     let p = even _ _ _ _ _ c.drop_unused.ensures.encodes c.append_pairs.ensures.appended c.requires.are_digits
     (omega arith) in
-    record { encodes = encodes_many _ _ _ (omega arith) p; capacity = omega arith; fits = omega (arith, p.packed.count) }
+    record { encodes = encodes_many _ _ _ (omega arith) p; capacity = omega arith; fits = omega arith }
 
 pub returns-then-not-is_empty : goal.returns-then-not-is_empty
 returns-then-not-is_empty c =
     let p = odd _ _ _ _ (c.args.len % 2) _ _ _ c.drop_unused.ensures.encodes c.set_nibble.ensures.written
     (simp take_rest at c.append_pairs-then-not-is_empty.ensures.appended) c.requires.are_digits (omega arith)
     (omega arith) (grind (arith, nat_tests)) refl in
-    record { encodes = encodes_many _ _ _ (omega arith) p; capacity = omega arith; fits = omega (arith, p.packed.count) }
+    record { encodes = encodes_many _ _ _ (omega arith) p; capacity = omega arith; fits = omega arith }
 
 pub set_nibble-requires : goal.set_nibble-requires
 set_nibble-requires c = grind (arith, nibble_rules)
