@@ -245,7 +245,6 @@ impl fmt::Display for CompactDecimal {
     ghost styled_output = { λ v _. Some (compact_text v) };
 
     /// Writes the text that `write_to` appends, and ignores the options of the format: `{:8}` writes `1.20c6` too.
-    #[tactic(auto, using(crate::proofs::lemmas::signed_decimal::Writing::formatting))]
     fn fmt<W: fmt::Write>(&self, f: &mut fmt::Formatter<W>) -> fmt::Result {
         let (exponent, length) = exponent_text(self.exponent);
         self.significand.fmt(f)?;
