@@ -48,10 +48,15 @@ impl Model for ScientificDecimal {
     ghost view = { λ s. scientific s.significand s.exponent };
 }
 
-#[tactic(auto, unfolding(crate::specs::Scientific::split_at_e))]
+#[tactic(
+    auto,
+    using(crate::proofs::lemmas::integer::ScientificTexts::scientific_reads),
+    unfolding(crate::specs::Scientific::split_at_e)
+)]
 fn split_at_e(text: &[u8]) -> Result<(&[u8], &[u8]), ParseError>
-    ensures { MatchResult result (λ parts. split_at_e text.now ≡ Ok (parts.0.now, parts.1.now))
+    ensures parts { MatchResult result (λ parts. split_at_e text.now ≡ Ok (parts.0.now, parts.1.now))
         (λ e. ParseFails ⊥ e (split_at_e text.now)) }
+    ensures reads { ReadsScientific text.now (read_scientific text.now) }
 {
     let Some((significand, exponent)) = split_once(text, b'e') else {
         return Err(ParseError::Syntax);
