@@ -164,7 +164,6 @@ impl CompactDecimal {
     }
 
     // Apart from `eq`, whose proof needs these clauses of one result.
-    #[tactic(auto, using(crate::proofs::lemmas::integer::CompactTexts::same_fields))]
     fn has_same_fields(&self, other: &Self) -> bool
         ensures value { IsTrue result ↔ (self.now ≡ other.now) }
         ensures texts { IsTrue result ↔ (compact_text self.now ≡ compact_text other.now) }

@@ -1,6 +1,5 @@
 //! The errors of calls and of runs as texts, and the first as the second.
-ghost use Rattle.std.specs.Option.{option_map};
-ghost use Rattle.std.specs.Fmt.{DisplaysOnOk};
+ghost use Rattle.std.specs.{Option.option_map, Fmt.DisplaysOnOk};
 ghost use Rattle.fixed_decimal.specs.ErrorText.{call_text};
 
 use crate::runs::{CallError, RunError};

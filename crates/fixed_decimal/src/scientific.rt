@@ -142,7 +142,6 @@ impl ScientificDecimal {
     }
 
     // Apart from `eq`, whose proof needs these clauses of one result.
-    #[tactic(auto, using(crate::proofs::lemmas::integer::ScientificTexts::same_fields))]
     fn has_same_fields(&self, other: &Self) -> bool
         ensures value { IsTrue result ↔ (self.now ≡ other.now) }
         ensures texts { IsTrue result ↔ (scientific_text self.now ≡ scientific_text other.now) }
