@@ -4,9 +4,6 @@ use Rattle.fixed_decimal.proofs.runs.concatenate.Goals as goal
 pub returns-in-Err : goal.returns-in-Err
 returns-in-Err g c = grind (arith, common_steps)
 
-pub returns-in-Ok-concatenate_end : goal.returns-in-Ok-concatenate_end
-returns-in-Ok-concatenate_end g c = grind (arith, common_steps)
-
 pub returns-in-Err-Overlap : goal.returns-in-Err-Overlap
 returns-in-Err-Overlap g c = grind (arith, common_steps)
 

@@ -3,6 +3,3 @@ use Rattle.decimal_unsigned.proofs.decimal.round.highest_after.Goals as goal
 
 pub returns-else-position-hi : goal.returns-else-position-hi
 returns-else-position-hi c = omega (arith, ints, clamps, c.max-else-position-hi.ensures)
-
-pub returns-then-position-hi : goal.returns-then-position-hi
-returns-then-position-hi c = omega (arith, ints, clamps, c.max.ensures)
