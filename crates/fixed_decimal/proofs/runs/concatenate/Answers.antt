@@ -4,8 +4,5 @@ use Rattle.fixed_decimal.proofs.runs.concatenate.Goals as goal
 pub returns-in-Err : goal.returns-in-Err
 returns-in-Err g c = grind (arith, common_steps)
 
-pub returns-in-Err-Overlap : goal.returns-in-Err-Overlap
-returns-in-Err-Overlap g c = grind (arith, common_steps)
-
 pub returns : goal.returns
 returns g c = grind (arith, common_steps)
