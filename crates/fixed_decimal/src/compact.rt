@@ -66,7 +66,7 @@ fn read_exponent(text: Option<&[u8]>) -> Result<u8, ParseError>
     }
 }
 
-#[tactic(auto, using(crate::proofs::lemmas::integer::compact_reads), unfolding(crate::specs::Compact::split_at_c))]
+#[tactic(auto, using(crate::proofs::lemmas::integer::reads), unfolding(crate::specs::Compact::split_at_c))]
 fn split_at_c(text: &[u8]) -> Result<(&[u8], Option<&[u8]>), ParseError>
     ensures parts { MatchResult result (λ parts. split_at_c text.now ≡ Ok (parts.0.now, option_copied parts.1))
         (λ e. ParseFails ⊥ e (split_at_c text.now)) }

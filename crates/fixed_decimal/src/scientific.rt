@@ -48,7 +48,7 @@ impl Model for ScientificDecimal {
     ghost view = { λ s. scientific s.significand s.exponent };
 }
 
-#[tactic(auto, using(crate::proofs::lemmas::integer::scientific_reads), unfolding(crate::specs::Scientific::split_at_e))]
+#[tactic(auto, using(crate::proofs::lemmas::integer::reads), unfolding(crate::specs::Scientific::split_at_e))]
 fn split_at_e(text: &[u8]) -> Result<(&[u8], &[u8]), ParseError>
     ensures parts { MatchResult result (λ parts. split_at_e text.now ≡ Ok (parts.0.now, parts.1.now))
         (λ e. ParseFails ⊥ e (split_at_e text.now)) }
