@@ -66,10 +66,11 @@ fn read_exponent(text: Option<&[u8]>) -> Result<u8, ParseError>
     }
 }
 
-#[tactic(auto, unfolding(crate::specs::Compact::split_at_c))]
+#[tactic(auto, using(crate::proofs::lemmas::integer::reads), unfolding(crate::specs::Compact::split_at_c))]
 fn split_at_c(text: &[u8]) -> Result<(&[u8], Option<&[u8]>), ParseError>
-    ensures { MatchResult result (λ parts. split_at_c text.now ≡ Ok (parts.0.now, option_copied parts.1))
+    ensures parts { MatchResult result (λ parts. split_at_c text.now ≡ Ok (parts.0.now, option_copied parts.1))
         (λ e. ParseFails ⊥ e (split_at_c text.now)) }
+    ensures reads { ReadsCompact text.now (read_compact text.now) }
 {
     if has_letter(text) {
         return Err(ParseError::Syntax);
@@ -159,7 +160,6 @@ impl CompactDecimal {
     }
 
     // Apart from `eq`, whose proof needs these clauses of one result.
-    #[tactic(auto, using(crate::proofs::lemmas::integer::CompactTexts::same_fields))]
     fn has_same_fields(&self, other: &Self) -> bool
         ensures value { IsTrue result ↔ (self.now ≡ other.now) }
         ensures texts { IsTrue result ↔ (compact_text self.now ≡ compact_text other.now) }
@@ -245,7 +245,6 @@ impl fmt::Display for CompactDecimal {
     ghost styled_output = { λ v _. Some (compact_text v) };
 
     /// Writes the text that `write_to` appends, and ignores the options of the format: `{:8}` writes `1.20c6` too.
-    #[tactic(auto, using(crate::proofs::lemmas::signed_decimal::Writing::formatting))]
     fn fmt<W: fmt::Write>(&self, f: &mut fmt::Formatter<W>) -> fmt::Result {
         let (exponent, length) = exponent_text(self.exponent);
         self.significand.fmt(f)?;

@@ -1,4 +1,6 @@
 //! The errors of calls and of runs as texts, and the first as the second.
+ghost use Rattle.std.specs.{Option.option_map, Fmt.DisplaysOnOk};
+ghost use Rattle.fixed_decimal.specs.ErrorText.{call_text};
 
 use crate::runs::{CallError, RunError};
 use decimal_digits::rounding::RoundError;
@@ -24,14 +26,24 @@ impl From<CallError> for RunError {
     }
 }
 
+fn write_call<W: fmt::Write, E: fmt::Display>(
+    f: &mut fmt::Formatter<W>,
+    at: usize,
+    error: &E,
+) -> fmt::Result
+    ensures { DisplaysOnOk W.write_str_gives f.old result (option_map (call_text at) (E.output error.now)) f.new }
+{
+    write!(f, "Call {at}: {error}")
+}
+
 impl fmt::Display for CallError {
     /// Writes the text of the [`RunError`]: `Call 0: The numbers overlap`.
     fn fmt<W: fmt::Write>(&self, f: &mut fmt::Formatter<W>) -> fmt::Result {
         match self {
-            CallError::Operand { at, fault } => write!(f, "Call {at}: {fault}"),
+            CallError::Operand { at, fault } => write_call(f, *at, fault),
             CallError::Overlap { at } => write!(f, "Call {at}: The numbers overlap"),
-            CallError::Limit { at } => write!(f, "Call {at}: {}", LimitError),
-            CallError::Memory { at } => write!(f, "Call {at}: {}", RoundError::Memory),
+            CallError::Limit { at } => write_call(f, *at, &LimitError),
+            CallError::Memory { at } => write_call(f, *at, &RoundError::Memory),
         }
     }
 }
@@ -48,10 +60,10 @@ impl fmt::Display for RunError {
     fn fmt<W: fmt::Write>(&self, f: &mut fmt::Formatter<W>) -> fmt::Result {
         match self {
             RunError::Start(fault) => write!(f, "Start: {fault}"),
-            RunError::Operand { at, fault } => write!(f, "Call {at}: {fault}"),
+            RunError::Operand { at, fault } => write_call(f, *at, fault),
             RunError::Overlap { at } => write!(f, "Call {at}: The numbers overlap"),
-            RunError::Limit { at } => write!(f, "Call {at}: {}", LimitError),
-            RunError::Memory { at } => write!(f, "Call {at}: {}", RoundError::Memory),
+            RunError::Limit { at } => write_call(f, *at, &LimitError),
+            RunError::Memory { at } => write_call(f, *at, &RoundError::Memory),
             RunError::Sink => SinkFault.fmt(f),
         }
     }

@@ -48,10 +48,11 @@ impl Model for ScientificDecimal {
     ghost view = { λ s. scientific s.significand s.exponent };
 }
 
-#[tactic(auto, unfolding(crate::specs::Scientific::split_at_e))]
+#[tactic(auto, using(crate::proofs::lemmas::integer::reads), unfolding(crate::specs::Scientific::split_at_e))]
 fn split_at_e(text: &[u8]) -> Result<(&[u8], &[u8]), ParseError>
-    ensures { MatchResult result (λ parts. split_at_e text.now ≡ Ok (parts.0.now, parts.1.now))
+    ensures parts { MatchResult result (λ parts. split_at_e text.now ≡ Ok (parts.0.now, parts.1.now))
         (λ e. ParseFails ⊥ e (split_at_e text.now)) }
+    ensures reads { ReadsScientific text.now (read_scientific text.now) }
 {
     let Some((significand, exponent)) = split_once(text, b'e') else {
         return Err(ParseError::Syntax);
@@ -137,7 +138,6 @@ impl ScientificDecimal {
     }
 
     // Apart from `eq`, whose proof needs these clauses of one result.
-    #[tactic(auto, using(crate::proofs::lemmas::integer::ScientificTexts::same_fields))]
     fn has_same_fields(&self, other: &Self) -> bool
         ensures value { IsTrue result ↔ (self.now ≡ other.now) }
         ensures texts { IsTrue result ↔ (scientific_text self.now ≡ scientific_text other.now) }

@@ -1,5 +1,5 @@
 -- Writing a text of two parts to a sink.
-use Rattle.std.proofs.{Common.{List, ℕ, ◌++◌, Result, Option, OnOk, OnErr}, KnownBytes.Appends-trans, Output.has_written_styled_append, lemmas.Result.{on_ok_weaker, on_err_weaker}}
+use Rattle.std.proofs.{Common.{List, ℕ, ◌++◌, Result, Option, OnOk, OnErr}, KnownBytes.Appends-trans, lemmas.Result.{on_ok_weaker, on_err_weaker}}
 use Rattle.std.specs.Io.KnownBytes.{Appends}
 use Rattle.decimal_digits.proofs.lemmas.{rounding.Results.on_err, sink.Sinks.{prefix_more, then_prefix}}
 use Rattle.decimal_digits.specs.AppendsPrefix.{AppendsPrefix}
@@ -21,6 +21,3 @@ pub both_written : {A E : Type 0} (r : Result A E) (a b c : Option (List ℕ)) (
     → OnOk r (Appends b c ys)
     → OnOk r (Appends a c (xs ++ ys))
 both_written r a b c xs ys p = on_ok_weaker r (Appends-trans a b c xs ys p)
-
--- for formatting a text of two parts
-pub ruleset formatting = (has_written_styled_append)

@@ -6,11 +6,8 @@ pub append-requires-clause-disjoint : goal.append-requires-clause-disjoint
 append-requires-clause-disjoint g c = grind (arith, disjoint, common_steps)
 
 -- the branch is unreachable if the second number begins below the last digit of the first
-pub returns-then-overlaps-clause-disjoint : goal.returns-then-overlaps-clause-disjoint
-returns-then-overlaps-clause-disjoint g c = grind (arith, not_overlapping, common_steps)
-
-pub returns-then-overlaps-clause-fits : goal.returns-then-overlaps-clause-fits
-returns-then-overlaps-clause-fits g c = grind (arith, not_overlapping, common_steps)
+pub returns-then-overlaps : goal.returns-then-overlaps
+returns-then-overlaps g c = grind (arith, not_overlapping, common_steps)
 
 pub returns-then-is_zero : goal.returns-then-is_zero
 returns-then-is_zero g c = grind (arith, common_steps)

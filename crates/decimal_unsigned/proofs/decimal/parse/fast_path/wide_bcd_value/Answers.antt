@@ -26,20 +26,14 @@ returns-clause-value c =
     (omega (arith, ints, c.to_bounds.ensures.lo))
     (λ ds l few below e. wide_bytes_encode ds _ _ l few below e))
 
-pub to_bounds-requires-clause-magnitude_in : goal.to_bounds-requires-clause-magnitude_in
-to_bounds-requires-clause-magnitude_in c =
+pub to_bounds-requires : goal.to_bounds-requires
+to_bounds-requires c =
     let few = few_digits c.args.text.now c.in_ok-plain.plain c.in_ok-plain.ensures in
-    (omega (arith, ints, few), omega (arith, ints, few))
-
-pub to_bounds-requires-clause-hi_in : goal.to_bounds-requires-clause-hi_in
-to_bounds-requires-clause-hi_in c =
-    let few = few_digits c.args.text.now c.in_ok-plain.plain c.in_ok-plain.ensures in
-    (omega (arith, ints, few), omega (arith, ints, few))
-
-pub to_bounds-requires-clause-lo_in : goal.to_bounds-requires-clause-lo_in
-to_bounds-requires-clause-lo_in c =
-    let few = few_digits c.args.text.now c.in_ok-plain.plain c.in_ok-plain.ensures in
-    (omega (arith, ints, few), omega (arith, ints, few))
+    record {
+      magnitude_in = (omega (arith, ints, few), omega (arith, ints, few));
+      hi_in = (omega (arith, ints, few), omega (arith, ints, few));
+      lo_in = (omega (arith, ints, few), omega (arith, ints, few));
+    }
 
 pub subtract_counts-requires-clause-first_in : goal.subtract_counts-requires-clause-first_in
 subtract_counts-requires-clause-first_in c = omega arith

@@ -18,20 +18,14 @@ returns-in_err-put_bytes-clause-err g c =
     (omega (arith, few, c.min.ensures, c.writeable_length_hint-length.ensures.length)) c.copy_text.ensures
     c.loop-written.invariant.appended c.in_err-put_bytes.ensures.prefix)
 
-pub returns-clause-had_not_failed : goal.returns-clause-had_not_failed
-returns-clause-had_not_failed g c = grind (arith, fresh_some, text_some, common_steps)
-
-pub returns-clause-reads_back : goal.returns-clause-reads_back
-returns-clause-reads_back g c = read_text _ c.writeable_length_hint-length.ensures.valid
-
 pub returns-in_err-put_bytes-clause-reads_back : goal.returns-in_err-put_bytes-clause-reads_back
 returns-in_err-put_bytes-clause-reads_back g c = read_text _ c.writeable_length_hint-length.ensures.valid
 
-pub returns-then-is_short-clause-reads_back : goal.returns-then-is_short-clause-reads_back
-returns-then-is_short-clause-reads_back g c = read_text _ c.writeable_length_hint-length.ensures.valid
+pub returns-then-is_short : goal.returns-then-is_short
+returns-then-is_short g c = grind (arith, read_text, common_steps)
 
-pub returns-then-length-eq1-clause-reads_back : goal.returns-then-length-eq1-clause-reads_back
-returns-then-length-eq1-clause-reads_back g c = read_text _ c.writeable_length_hint-length.ensures.valid
+pub returns-then-length-eq1 : goal.returns-then-length-eq1
+returns-then-length-eq1 g c = grind (arith, read_text, common_steps)
 
-pub returns-clause-ok : goal.returns-clause-ok
-returns-clause-ok g c = grind (arith, common_steps)
+pub returns : goal.returns
+returns g c = grind (arith, fresh_some, text_some, read_text, common_steps)
