@@ -1,13 +1,7 @@
-use Rattle.std.proofs.Common.{◌≡◌, ℕ, ◌+◌, ◌*◌, ◌≤◌, List, length, take, slice_set, ◌∙◌, ap, arith}
+use Rattle.std.proofs.Common.{◌*◌, length, take, ◌∙◌, ap, arith}
 use Rattle.decimal_digits.proofs.{lemmas.digits.{Nibbles.nibble_rules, Packing.{encodes, encodes_many}, Words.{keep_pads, nibbles_take}}, digits.packed.bytes.keep_some.Goals.{then-count-eq1, else-count-eq1}}
-use Rattle.decimal_digits.specs.{Nibbles.{nibbles, digits_in}, Packing.{Encodes, IsPadded, padding}}
+use Rattle.decimal_digits.specs.{Nibbles.nibbles, Packing.padding}
 use Rattle.decimal_digits.proofs.digits.packed.bytes.keep_some.Goals as goal
-
--- an unused nibble is set to 0
-cut_after : (bs cs : List ℕ) (len count n : ℕ) → IsPadded bs len
-    → nibbles cs ≡ take (2 * n) (slice_set (nibbles bs) count 0) → count ≤ len → 2 * n ≡ count + 1
-    → Encodes cs count (take count (digits_in bs len))
-cut_after bs cs len count n p e in_range at = encodes _ _ _ (grind (arith, nibble_rules, padding, e, ap length e))
 
 pub returns-then-count-le16-clause-encodes : goal.returns-then-count-le16-clause-encodes
 returns-then-count-le16-clause-encodes c =
@@ -22,9 +16,8 @@ returns-clause-encodes c =
     encodes_many _ _ _ (omega arith)
     (elim c.if-count-eq1.branch [
       | then-count-eq1 w ↦
-          cut_after _ _ _ _ _ c.requires.padded
-          (ap nibbles front ∙ nibbles_take _ _
-          ∙ ap (take (2 * c.byte_count.result)) (ap (λ v. nibbles v.items) w.bytes-is ∙ w.set_nibble.ensures.written))
-          (omega arith) (omega arith)
+          let e = ap nibbles front ∙ nibbles_take _ _
+          ∙ ap (take (2 * c.byte_count.result)) (ap (λ v. nibbles v.items) w.bytes-is ∙ w.set_nibble.ensures.written) in
+          encodes _ _ _ (grind (arith, nibble_rules, padding, e, ap length e))
       | else-count-eq1 w ↦ rw front (encodes _ _ _ (grind (arith, nibble_rules, padding)))
     ])
