@@ -14,7 +14,7 @@ use fixed_decimal::DigitStore;
 use plural_rules::{Modulus, Operand, PluralCategory, PluralOperands, relation_holds};
 
 /// Plural rules, as a text and as rows.
-#[derive(Clone, Copy, Debug)]
+#[derive(Clone, Copy)]
 pub struct RuleSet {
     /// The range of the text in `PLURAL_RULES_TEXTS`.
     pub text: TableRange,
@@ -23,7 +23,7 @@ pub struct RuleSet {
 }
 
 /// The plural rules of a language.
-#[derive(Clone, Copy, Debug)]
+#[derive(Clone, Copy)]
 pub struct LanguageRules {
     /// The tag of the language.
     pub tag: Name,
