@@ -68,15 +68,23 @@ fn operand_is_in<D: DigitStore>(
 ) -> bool
     ensures { result ≡ list_any (in_range (operand_value number.now operand)) ranges.now }
 {
-    ranges.iter().any(|range| range.contains(operand_up_to(number, operand, range.high)))
+    for range in ranges {
+        if range.contains(operand_up_to(number, operand, range.high)) {
+            return true;
+        }
+    }
+    false
 }
 
 fn remainder_is_in(remainder: u64, ranges: &[Range]) -> bool
     ensures { result ≡ list_any (in_range remainder) ranges.now }
 {
-    ranges
-        .iter()
-        .any(|range| range.low <= remainder && remainder <= range.high)
+    for range in ranges {
+        if range.low <= remainder && remainder <= range.high {
+            return true;
+        }
+    }
+    false
 }
 
 /// Returns whether a relation holds: an operand, or its remainder by a modulus, is in one of the ranges, or for `!=` in
