@@ -10,7 +10,8 @@ use Rattle.locale_data.proofs.lookup.symbols_at.Goals as goal
 pub returns-in_err-locale-clause-value : goal.returns-in_err-locale-clause-value
 returns-in_err-locale-clause-value c =
     c.from_residual.ensures
-    ∙ sym (no_locale c.args.numbers (at_none _ _ c.locales.ensures c.args.numbers.locale c.in_err-locale.ensures.lookup))
+    ∙ sym (no_locale c.args.numbers
+    (at_none _ _ c.locales.ensures c.args.numbers.locale c.in_err-locale.ensures.lookup))
 
 pub returns-in_err-system-clause-value : goal.returns-in_err-system-clause-value
 returns-in_err-system-clause-value c =
