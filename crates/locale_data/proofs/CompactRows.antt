@@ -1,7 +1,6 @@
 -- The ranges of compact patterns are parts of tables, and their texts are texts, by computation.
 use Rattle.std.proofs.Common.{◌≡◌, ℕ, ℤ, ◌==◌, ◌&&◌, Bool, true, false, cond, List, [], ◌∷◌, Option, Some, None, refl, subst, sym, ap, ◌∙◌, ◌⊎◌, inl, inr}
 use Rattle.std.proofs.lemmas.Bool.{and_parts}
-use Rattle.std.proofs.lemmas.Option.{same_Some}
 use Rattle.std.specs.Prelude.{slice_get, option_and_then, not}
 use Rattle.std.specs.List.{list_all, Contains}
 use Rattle.std.specs.Option.{option_or, option_map_or}
@@ -12,10 +11,9 @@ use Rattle.locale_data.specs.declared.compact.CompactCount.{CompactCount}
 use Rattle.locale_data.specs.declared.compact.CompactCount.TheVariants.{ExactlyOne, Zero, One, Two, Few, Many, Other}
 use Rattle.locale_data.specs.declared.compact.CompactPattern.{CompactPattern}
 use Rattle.locale_data.specs.declared.compact.CompactRun.{CompactRun}
-use Rattle.locale_data.specs.declared.compact.CompactSet.{CompactSet}
 use Rattle.locale_data.specs.declared.compact.CompactStyle.{CompactStyle}
 use Rattle.locale_data.specs.declared.compact.PercentUnit.{PercentUnit}
-use Rattle.locale_data.specs.declared.compact_table.TheConstants.{COMPACT_SETS, COMPACT_RUNS, COMPACT_PATTERNS, PERCENT_UNITS}
+use Rattle.locale_data.specs.declared.compact_table.TheConstants.{COMPACT_RUNS, COMPACT_PATTERNS, PERCENT_UNITS}
 use Rattle.locale_data.specs.declared.number_formats.NumberFormats.{NumberFormats}
 use Rattle.locale_data.specs.Compact.{count_of, count_code, range_of, run_at, pattern_with, pattern_for, needs_category, compact_patterns, unit_for, has_texts, has_unit_texts, AreTexts, IsRun}
 use Rattle.locale_data.specs.declared.rows.TableRange.{TableRange}

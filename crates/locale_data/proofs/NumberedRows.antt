@@ -24,12 +24,14 @@ own_symbols system locale (Some own) inside = elim ((slice_get_cases (own_rows s
   | inr past ↦ absurd (omega (arith, past.0))
 ]
 
--- a row that is looked up by its index
-pub at_some : {X : Type 0} (xs : List X) (i : ℕ) (r : Bor X) → IsItemAt xs i (Some r) → slice_get xs i ≡ Some r.now
-at_some xs i r h = slice_get_read xs (length xs) i r.now refl h.3.0 h.1
+-- a row that is looked up by its index in a table that is lent
+pub at_some : {X : Type 0} (table xs : List X) → xs ≡ table → (i : ℕ) (r : Bor X) → IsItemAt xs i (Some r)
+    → slice_get table i ≡ Some r.now
+at_some table xs lent i r h = ap (λ l. slice_get l i) (sym lent) ∙ slice_get_read xs (length xs) i r.now refl h.3.0 h.1
 
-pub at_none : {X : Type 0} (xs : List X) (i : ℕ) → IsItemAt xs i None → slice_get xs i ≡ None
-at_none xs i h = slice_get_past xs i h.3
+pub at_none : {X : Type 0} (table xs : List X) → xs ≡ table → (i : ℕ) → IsItemAt xs i None
+    → slice_get table i ≡ None
+at_none table xs lent i h = ap (λ l. slice_get l i) (sym lent) ∙ slice_get_past xs i h.3
 
 module _ (numbers : LocaleNumbers) where
   pub no_locale : slice_get LOCALES numbers.locale ≡ None → symbols_at numbers ≡ None

@@ -3,6 +3,7 @@ ghost use Rattle.std.specs.Prelude.{◌≡◌, ◌≤◌, length, IfSome, true};
 ghost use Rattle.std.specs.Option.{option_copied};
 ghost use Rattle.locale_data.specs.declared.compact_table.TheConstants.{COMPACT_RUNS};
 ghost use Rattle.locale_data.specs.Rows.{part};
+ghost use Rattle.locale_data.specs.Texts.{is_text};
 ghost use Rattle.locale_data.specs.Compact.{count_of, count_code, range_of, run_at, pattern_with, pattern_for, patterns_in, compact_patterns, needs_category, text_of, has_texts, has_unit_texts, AreTexts, IsRun, IsExponent, unit_for, IsUnitText, IsUnit};
 
 use crate::compact_table::{
@@ -14,7 +15,7 @@ use crate::texts::text_in;
 use plural_rules::PluralCategory;
 
 /// The compact patterns of a locale, as parts of a table of runs.
-#[derive(Clone, Copy, Debug)]
+#[derive(Clone, Copy)]
 pub struct CompactSet {
     /// Short patterns: `1.2M`.
     pub short: TableRange,
@@ -25,7 +26,7 @@ pub struct CompactSet {
 }
 
 /// Magnitudes that have the same patterns: those up to the run before it.
-#[derive(Clone, Copy, Debug)]
+#[derive(Clone, Copy)]
 pub struct CompactRun {
     /// The first magnitude.
     pub first: u8,
@@ -36,7 +37,7 @@ pub struct CompactRun {
 }
 
 /// The numbers that a pattern is for.
-#[derive(Clone, Copy, Debug, PartialEq)]
+#[derive(Clone, Copy)]
 pub enum CompactCount {
     /// The number 1 itself.
     ExactlyOne,
@@ -50,7 +51,7 @@ pub enum CompactCount {
 }
 
 /// How a pattern is written.
-#[derive(Clone, Copy, Debug, PartialEq)]
+#[derive(Clone, Copy)]
 pub enum CompactForm {
     /// A sign, the prefix, the number and the suffix.
     Number,
@@ -63,7 +64,7 @@ pub enum CompactForm {
 }
 
 /// A prefix or a suffix, as ranges of bytes.
-#[derive(Clone, Copy, Debug)]
+#[derive(Clone, Copy)]
 pub struct AffixText {
     /// The text before the currency, or all of it.
     pub before: TableRange,
@@ -74,7 +75,7 @@ pub struct AffixText {
 }
 
 /// A compact pattern.
-#[derive(Clone, Copy, Debug)]
+#[derive(Clone, Copy)]
 pub struct CompactPattern {
     /// The numbers that it is for.
     pub count: CompactCount,
@@ -87,7 +88,7 @@ pub struct CompactPattern {
 }
 
 /// The text around a number in compact notation with its percent sign, as ranges of bytes.
-#[derive(Clone, Copy, Debug)]
+#[derive(Clone, Copy)]
 pub struct UnitPattern {
     /// The text before the number.
     pub prefix: TableRange,
@@ -96,7 +97,7 @@ pub struct UnitPattern {
 }
 
 /// How percent is written in compact notation.
-#[derive(Clone, Copy, Debug)]
+#[derive(Clone, Copy)]
 pub struct PercentUnit {
     /// The pattern of the plural category `one`.
     pub one: UnitPattern,
@@ -145,11 +146,11 @@ pub enum CompactStyle {
 }
 
 /// The compact patterns of a magnitude, as a part of the table of patterns.
-#[derive(Clone, Copy, Debug)]
+#[derive(Clone, Copy)]
 pub struct CompactPatterns(pub TableRange);
 
 /// What is written around a number in compact notation with its percent sign.
-#[derive(Clone, Copy, Debug)]
+#[derive(Clone, Copy)]
 pub struct UnitAffixes {
     /// The text before the number; at most 255 bytes.
     pub prefix: &'static str,
@@ -222,6 +223,14 @@ fn needs_category(patterns: &[CompactPattern]) -> bool
     }
 }
 
+fn compact_text(range: TableRange) -> &'static str
+    requires { is_text COMPACT_BYTES range ≡ true }
+    ensures value { result.now ≡ text_of range }
+    ensures short { length result.now ≤ 255 }
+{
+    text_in(&COMPACT_BYTES, range)
+}
+
 impl AffixText {
     /// Returns the text before the currency, or all of it.
     pub fn before_text(&self) -> &'static str
@@ -229,7 +238,7 @@ impl AffixText {
         ensures value { result.now ≡ text_of self.now.before }
         ensures short { length result.now ≤ 255 }
     {
-        text_in(&COMPACT_BYTES, self.before)
+        compact_text(self.before)
     }
 
     /// Returns the text after the currency.
@@ -238,7 +247,7 @@ impl AffixText {
         ensures value { result.now ≡ text_of self.now.after }
         ensures short { length result.now ≤ 255 }
     {
-        text_in(&COMPACT_BYTES, self.after)
+        compact_text(self.after)
     }
 }
 
@@ -282,8 +291,8 @@ fn unit_of(unit: &UnitPattern) -> UnitAffixes
     ensures short { (length result.prefix.now ≤ 255) × (length result.suffix.now ≤ 255) }
 {
     UnitAffixes {
-        prefix: text_in(&COMPACT_BYTES, unit.prefix),
-        suffix: text_in(&COMPACT_BYTES, unit.suffix),
+        prefix: compact_text(unit.prefix),
+        suffix: compact_text(unit.suffix),
     }
 }
 

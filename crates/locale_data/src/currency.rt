@@ -9,8 +9,8 @@ use crate::currency_table::{
     CURRENCIES, CURRENCY_BYTES, CURRENCY_SYMBOLS, CURRENCY_TEXTS, OVERRIDES_BY_CURRENCY,
 };
 use crate::formats::formats_of;
-use crate::formats_table::{CURRENCY_OVERRIDES, MONEY_FORMATS, PATTERNS};
-use crate::number_formats::NumberFormats;
+use crate::formats_table::{CURRENCY_OVERRIDES, MONEY_FORMATS};
+use crate::number_formats::{NumberFormats, pattern_at};
 use crate::patterns::{MoneySeparator, Pattern};
 use crate::rows::{Name, Row, TableRange, indexed_row, row_in, row_named};
 use crate::texts::text_in;
@@ -19,7 +19,7 @@ use crate::texts::text_in;
 pub type CurrencyCode = [u8; 3];
 
 /// A currency, and what it has in locales.
-#[derive(Clone, Copy, Debug)]
+#[derive(Clone, Copy)]
 pub struct Currency {
     /// Its code in lower case.
     pub code: Name,
@@ -48,7 +48,7 @@ impl Row for Currency {
 }
 
 /// The symbols of a currency in a locale, as indices.
-#[derive(Clone, Copy, Debug)]
+#[derive(Clone, Copy)]
 pub struct LocaleCurrency {
     /// The tag of the locale.
     pub tag: Name,
@@ -67,7 +67,7 @@ impl Row for LocaleCurrency {
 }
 
 /// The pattern of a currency in a locale.
-#[derive(Clone, Copy, Debug)]
+#[derive(Clone, Copy)]
 pub struct LocaleOverride {
     /// The tag of the locale.
     pub tag: Name,
@@ -84,7 +84,7 @@ impl Row for LocaleOverride {
 }
 
 /// The text of a symbol.
-#[derive(Clone, Copy, Debug)]
+#[derive(Clone, Copy)]
 pub struct CurrencyText {
     /// Its bytes.
     pub bytes: TableRange,
@@ -95,7 +95,7 @@ pub struct CurrencyText {
 }
 
 /// The numbers of digits of a currency.
-#[derive(Clone, Copy, Debug, PartialEq)]
+#[derive(Clone, Copy)]
 pub struct CurrencyDigits {
     /// The number of fraction digits.
     pub digits: u8,
@@ -144,7 +144,7 @@ pub enum SymbolWidth {
 }
 
 /// A symbol of a currency.
-#[derive(Clone, Copy, Debug)]
+#[derive(Clone, Copy)]
 pub struct CurrencySymbol {
     /// Its text, of at most 255 bytes.
     pub text: &'static str,
@@ -214,7 +214,7 @@ pub enum CurrencySign {
 }
 
 /// How a currency is written.
-#[derive(Clone, Copy, Debug)]
+#[derive(Clone, Copy)]
 pub struct CurrencyPattern {
     /// The pattern.
     pub pattern: Pattern,
@@ -250,7 +250,7 @@ fn overridden(index: u8) -> CurrencyPattern
 {
     let replaced = indexed_row(&CURRENCY_OVERRIDES, index as usize);
     CurrencyPattern {
-        pattern: *indexed_row(&PATTERNS, replaced.pattern as usize),
+        pattern: *pattern_at(replaced.pattern),
         decimal: Some(replaced.decimal),
         grouping: Some(replaced.grouping),
     }
@@ -287,7 +287,7 @@ pub fn currency_pattern(
     match override_of(tag.as_bytes(), code).or(money.replaced) {
         Some(index) => overridden(index),
         None => CurrencyPattern {
-            pattern: *indexed_row(&PATTERNS, pattern_index(&formats, sign) as usize),
+            pattern: *pattern_at(pattern_index(&formats, sign)),
             decimal: money.decimal,
             grouping: money.grouping,
         },

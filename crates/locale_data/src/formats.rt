@@ -8,7 +8,7 @@ use crate::number_formats::NumberFormats;
 use crate::rows::{Name, Row, TableRange, row_in, row_named, row_of};
 
 /// What a locale has in the numbering system `latn`, as indices of tables.
-#[derive(Clone, Copy, Debug)]
+#[derive(Clone, Copy)]
 pub struct LocaleFormats {
     /// The tag of the locale.
     pub tag: Name,
@@ -37,7 +37,7 @@ impl Row for LocaleFormats {
 }
 
 /// What a locale has in another numbering system; the rest is that of root there, or else that of the locale in `latn`.
-#[derive(Clone, Copy, Debug)]
+#[derive(Clone, Copy)]
 pub struct SystemFormats {
     /// The tag of the locale.
     pub tag: Name,
@@ -62,7 +62,7 @@ impl Row for SystemFormats {
 }
 
 /// A numbering system in which locales have formats of their own.
-#[derive(Clone, Copy, Debug)]
+#[derive(Clone, Copy)]
 pub struct FormatSystem {
     /// Its name in CLDR.
     pub name: Name,

@@ -12,12 +12,26 @@ use crate::tag::requested_system;
 use decimal_format::{Affixes, DecimalSymbols, GroupingSizes};
 use std::str;
 
+// A function that names a table is checked with all of its rows, so what several functions read is lent by one.
+
+pub(crate) fn locales() -> &'static [LocaleSymbols]
+    ensures { result.now ≡ LOCALES }
+{
+    &LOCALES
+}
+
+pub(crate) fn numbering_systems() -> &'static [NumberingSystem]
+    ensures { result.now ≡ NUMBERING_SYSTEMS }
+{
+    &NUMBERING_SYSTEMS
+}
+
 #[tactic(auto, unfolding(crate::specs::Locales::system_named))]
 pub(crate) fn system_named(name: &[u8]) -> Option<usize>
     ensures value { row_at NUMBERING_SYSTEMS result ≡ system_named name.now }
     ensures inside { IfSome result (λ i. i < length NUMBERING_SYSTEMS) }
 {
-    number_named(&NUMBERING_SYSTEMS, name)
+    number_named(numbering_systems(), name)
 }
 
 fn system_number(tag: &[u8], locale: &LocaleSymbols) -> Option<usize>
@@ -102,8 +116,9 @@ fn locale_and_system(tag: &[u8]) -> Option<(usize, usize)>
     ensures inside { IfSome result (λ found. (found.0 < length LOCALES) × (found.1 < length NUMBERING_SYSTEMS)) }
     ensures unknown { IsNone result ↔ IsUnknown tag.now }
 {
-    let locale = row_number(&LOCALES, tag)?;
-    let system = system_number(tag, indexed_row(&LOCALES, locale))?;
+    let rows = locales();
+    let locale = row_number(rows, tag)?;
+    let system = system_number(tag, indexed_row(rows, locale))?;
     Some((locale, system))
 }
 
@@ -114,7 +129,7 @@ pub fn locale_numbers(tag: &str) -> Option<LocaleNumbers>
 {
     let tag = tag.as_bytes();
     let (locale, system) = locale_and_system(tag)?;
-    let own = row_number(own_rows(indexed_row(&NUMBERING_SYSTEMS, system)), tag);
+    let own = row_number(own_rows(indexed_row(numbering_systems(), system)), tag);
     Some(LocaleNumbers {
         locale: locale as u16,
         system: system as u16,
@@ -135,7 +150,7 @@ pub fn system_of(tag: &str) -> Option<&'static str>
     ensures unknown { IsNone result ↔ IsUnknown tag.now }
 {
     let (_, system) = locale_and_system(tag.as_bytes())?;
-    match str::from_utf8(unpadded(&indexed_row(&NUMBERING_SYSTEMS, system).name)) {
+    match str::from_utf8(unpadded(&indexed_row(numbering_systems(), system).name)) {
         Ok(name) => Some(name),
         Err(_) => unreachable!(),
     }
@@ -146,8 +161,8 @@ pub fn symbols_at(numbers: LocaleNumbers) -> Option<DecimalSymbols<'static>>
     ensures value { result ≡ symbols_at numbers }
     ensures readable { IfSome result (λ s. IsReadable s) }
 {
-    let locale = LOCALES.get(numbers.locale as usize)?;
-    let system = NUMBERING_SYSTEMS.get(numbers.system as usize)?;
+    let locale = locales().get(numbers.locale as usize)?;
+    let system = numbering_systems().get(numbers.system as usize)?;
     let Some(own) = numbers.own else {
         return Some(symbols_in(system, locale, None));
     };

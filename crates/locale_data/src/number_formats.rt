@@ -8,7 +8,7 @@ use crate::patterns::{NumberSigns, Pattern};
 use crate::rows::indexed_row;
 
 /// The formats of numbers in a locale and a numbering system.
-#[derive(Clone, Copy, Debug)]
+#[derive(Clone, Copy)]
 pub struct NumberFormats {
     pub(crate) percent: u8,
     pub(crate) standard: u8,
@@ -26,12 +26,19 @@ pub struct NumberFormats {
     pub ghost money_listed: { money < length MONEY_FORMATS },
 }
 
+pub(crate) fn pattern_at(index: u8) -> &'static Pattern
+    requires { index < length PATTERNS }
+    ensures { slice_get PATTERNS index ≡ Some result.now }
+{
+    indexed_row(&PATTERNS, index as usize)
+}
+
 impl NumberFormats {
     /// Returns the pattern of percent.
     pub fn percent(&self) -> &'static Pattern
         ensures { slice_get PATTERNS self.now.percent ≡ Some result.now }
     {
-        indexed_row(&PATTERNS, self.percent as usize)
+        pattern_at(self.percent)
     }
 
     /// Returns the exponent separator and the percent sign.

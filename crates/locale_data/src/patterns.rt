@@ -5,7 +5,7 @@ ghost use Rattle.locale_data.specs.Patterns.{literal_text, separator_text, expon
 use fixed_decimal::Sign;
 
 /// A piece of a prefix or a suffix.
-#[derive(Clone, Copy, Debug, PartialEq)]
+#[derive(Clone, Copy)]
 pub enum Piece {
     /// Nothing.
     Empty,
@@ -48,7 +48,7 @@ impl Piece {
 }
 
 /// A prefix or a suffix: four pieces, one after another.
-#[derive(Clone, Copy, Debug)]
+#[derive(Clone, Copy)]
 pub struct Affix {
     pub first: Piece,
     pub second: Piece,
@@ -57,7 +57,7 @@ pub struct Affix {
 }
 
 /// A prefix and a suffix.
-#[derive(Clone, Copy, Debug)]
+#[derive(Clone, Copy)]
 pub struct AffixPair {
     /// The text before the number.
     pub prefix: Affix,
@@ -69,7 +69,7 @@ pub struct AffixPair {
 ///
 /// `prefix, number, suffix` of UTS 35 part 3, Number Patterns, for each sign that is shown. A negative number may have
 /// parentheses in place of a minus sign.
-#[derive(Clone, Copy, Debug)]
+#[derive(Clone, Copy)]
 pub struct Pattern {
     /// The affixes of a number without a sign.
     pub positive: AffixPair,
@@ -97,7 +97,7 @@ impl Pattern {
 }
 
 /// A separator of money.
-#[derive(Clone, Copy, Debug, PartialEq)]
+#[derive(Clone, Copy)]
 pub enum MoneySeparator {
     Period,
     Comma,
@@ -122,7 +122,7 @@ impl MoneySeparator {
 }
 
 /// A pattern that a locale has for a single currency, in each numbering system.
-#[derive(Clone, Copy, Debug)]
+#[derive(Clone, Copy)]
 pub struct CurrencyOverride {
     /// The index of its pattern.
     pub pattern: u8,
@@ -133,7 +133,7 @@ pub struct CurrencyOverride {
 }
 
 /// How a locale writes money, in each numbering system.
-#[derive(Clone, Copy, Debug)]
+#[derive(Clone, Copy)]
 pub struct MoneyFormat {
     /// The decimal separator, if it is not that of other numbers.
     pub decimal: Option<MoneySeparator>,
@@ -144,7 +144,7 @@ pub struct MoneyFormat {
 }
 
 /// The text between a significand and its exponent.
-#[derive(Clone, Copy, Debug, PartialEq)]
+#[derive(Clone, Copy)]
 pub enum ExponentSeparator {
     LatinCapitalE,
     LatinSmallE,
@@ -179,7 +179,7 @@ impl ExponentSeparator {
 }
 
 /// A percent sign.
-#[derive(Clone, Copy, Debug, PartialEq)]
+#[derive(Clone, Copy)]
 pub enum PercentSign {
     Percent,
     Arabic,
@@ -207,7 +207,7 @@ impl PercentSign {
 }
 
 /// The symbols of a numbering system that plain decimals do not have.
-#[derive(Clone, Copy, Debug)]
+#[derive(Clone, Copy)]
 pub struct NumberSigns {
     /// The text between a significand and its exponent.
     pub exponent: ExponentSeparator,

@@ -14,7 +14,7 @@ use fixed_decimal::DigitStore;
 use plural_rules::{Modulus, Operand, PluralCategory, PluralOperands, relation_holds};
 
 /// Plural rules, as a text and as rows.
-#[derive(Clone, Copy, Debug)]
+#[derive(Clone, Copy)]
 pub struct RuleSet {
     /// The range of the text in `PLURAL_RULES_TEXTS`.
     pub text: TableRange,
@@ -23,7 +23,7 @@ pub struct RuleSet {
 }
 
 /// The plural rules of a language.
-#[derive(Clone, Copy, Debug)]
+#[derive(Clone, Copy)]
 pub struct LanguageRules {
     /// The tag of the language.
     pub tag: Name,
@@ -87,18 +87,26 @@ impl RelationRow {
 fn all_hold<D: DigitStore>(relations: TableRange, number: &PluralOperands<'_, D>) -> bool
     ensures { result ≡ list_all (holds number.now) (relations_in relations) }
 {
-    part(&PLURAL_RELATIONS, relations)
-        .iter()
-        .all(|relation| relation.holds(number))
+    let rows = part(&PLURAL_RELATIONS, relations);
+    for relation in rows {
+        if !relation.holds(number) {
+            return false;
+        }
+    }
+    true
 }
 
 impl RuleRow {
     fn is_met<D: DigitStore>(&self, number: &PluralOperands<'_, D>) -> bool
         ensures { result ≡ is_met number.now (rule_of self.now) }
     {
-        part(&PLURAL_ALTERNATIVES, self.alternatives)
-            .iter()
-            .any(|relations| all_hold(*relations, number))
+        let rows = part(&PLURAL_ALTERNATIVES, self.alternatives);
+        for relations in rows {
+            if all_hold(*relations, number) {
+                return true;
+            }
+        }
+        false
     }
 }
 
@@ -110,8 +118,10 @@ pub(crate) fn category_in<D: DigitStore>(
     ensures { result ≡ category_of (rules_in rules) number.now }
 {
     let rows = part(&PLURAL_RULE_ROWS, rules);
-    match rows.iter().find(|rule| rule.is_met(number)) {
-        None => PluralCategory::Other,
-        Some(rule) => rule.category,
+    for rule in rows {
+        if rule.is_met(number) {
+            return rule.category;
+        }
     }
+    PluralCategory::Other
 }

@@ -3,10 +3,10 @@ ghost use Rattle.std.specs.Prelude.{◌≡◌, None, IfSome, IfNone, IsSomeAnd};
 ghost use Rattle.std.specs.Option.{option_copied};
 ghost use Rattle.locale_data.specs.Plurals.{set_at, rules_text_at, IsRulesText, HasNoRules, IsRulesAt, IsCategoryAt, IsRulesOf};
 
-use crate::plural_rows::{RuleSet, category_in};
+use crate::lookup::locales;
+use crate::plural_rows::{LanguageRules, RuleSet, category_in};
 use crate::plurals_table::{OTHER, PLURAL_RULES, PLURAL_RULES_TEXTS};
 use crate::rows::{part, row_number};
-use crate::symbols_table::LOCALES;
 use fixed_decimal::DigitStore;
 use plural_rules::{PluralCategory, PluralOperands, PluralRules};
 use std::alloc::Global;
@@ -30,6 +30,12 @@ pub struct RulesNumber {
     pub rule_type: PluralRuleType,
 }
 
+fn languages() -> &'static [LanguageRules]
+    ensures { result.now ≡ PLURAL_RULES }
+{
+    &PLURAL_RULES
+}
+
 /// Returns the plural rules of a tag, as [`rules_text_at`] and [`plural_rules_at`] take them. Returns `None` where
 /// [`plural_rules_text`] does.
 pub fn plural_rules_number(tag: &str, rule_type: PluralRuleType) -> Option<RulesNumber>
@@ -37,13 +43,13 @@ pub fn plural_rules_number(tag: &str, rule_type: PluralRuleType) -> Option<Rules
     ensures unknown { IfNone result (HasNoRules tag.now) }
 {
     let tag = tag.as_bytes();
-    if let Some(index) = row_number(&PLURAL_RULES, tag) {
+    if let Some(index) = row_number(languages(), tag) {
         return Some(RulesNumber {
             language: Some(index as u16),
             rule_type,
         });
     }
-    match row_number(&LOCALES, tag) {
+    match row_number(locales(), tag) {
         Some(_) => Some(RulesNumber {
             language: None,
             rule_type,
@@ -58,7 +64,7 @@ fn set_at(number: RulesNumber) -> Option<RuleSet>
     let Some(index) = number.language else {
         return Some(OTHER);
     };
-    match PLURAL_RULES.get(index as usize) {
+    match languages().get(index as usize) {
         Some(language) => Some(language.set(number.rule_type)),
         None => None,
     }

@@ -20,7 +20,7 @@ pub trait Row {
 }
 
 /// The part of a table from an index up to, and without, another.
-#[derive(Clone, Copy, Debug)]
+#[derive(Clone, Copy)]
 pub struct TableRange(pub u16, pub u16);
 
 /// Returns the part of a table in a range, as far as the table goes.

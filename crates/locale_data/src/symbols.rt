@@ -6,7 +6,7 @@ use crate::rows::{Name, Row, TableRange};
 use decimal_format::GroupingSizes;
 
 /// A separator, or the text before a number with a sign.
-#[derive(Clone, Copy, Debug)]
+#[derive(Clone, Copy)]
 pub enum Symbol {
     Period,
     Comma,
@@ -76,7 +76,7 @@ impl Symbol {
 }
 
 /// The symbols around the digits. In CLDR 48 no locale writes a sign after them.
-#[derive(Clone, Copy, Debug)]
+#[derive(Clone, Copy)]
 pub struct SymbolSet {
     /// The decimal separator.
     pub decimal: Symbol,
@@ -89,7 +89,7 @@ pub struct SymbolSet {
 }
 
 /// A decimal numbering system.
-#[derive(Clone, Copy, Debug)]
+#[derive(Clone, Copy)]
 pub struct NumberingSystem {
     /// Its name in CLDR: `latn`.
     pub name: Name,
@@ -110,7 +110,7 @@ impl Row for NumberingSystem {
 }
 
 /// The symbols of a locale in a numbering system.
-#[derive(Clone, Copy, Debug)]
+#[derive(Clone, Copy)]
 pub struct LocaleSymbols {
     /// The tag of the locale: `de-ch`.
     pub tag: Name,

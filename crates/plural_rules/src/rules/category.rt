@@ -68,15 +68,23 @@ fn operand_is_in<D: DigitStore>(
 ) -> bool
     ensures { result ≡ list_any (in_range (operand_value number.now operand)) ranges.now }
 {
-    ranges.iter().any(|range| range.contains(operand_up_to(number, operand, range.high)))
+    for range in ranges {
+        if range.contains(operand_up_to(number, operand, range.high)) {
+            return true;
+        }
+    }
+    false
 }
 
 fn remainder_is_in(remainder: u64, ranges: &[Range]) -> bool
     ensures { result ≡ list_any (in_range remainder) ranges.now }
 {
-    ranges
-        .iter()
-        .any(|range| range.low <= remainder && remainder <= range.high)
+    for range in ranges {
+        if range.low <= remainder && remainder <= range.high {
+            return true;
+        }
+    }
+    false
 }
 
 /// Returns whether a relation holds: an operand, or its remainder by a modulus, is in one of the ranges, or for `!=` in
@@ -121,16 +129,25 @@ impl Relation {
 fn all_hold<D: DigitStore>(relations: &[Relation], number: &PluralOperands<'_, D>) -> bool
     ensures { result ≡ list_all (holds number.now) relations.now }
 {
-    relations.iter().all(|relation| relation.holds(number))
+    for relation in relations {
+        if !relation.holds(number) {
+            return false;
+        }
+    }
+    true
 }
 
 impl Rule {
     fn is_met<D: DigitStore>(&self, number: &PluralOperands<'_, D>) -> bool
         ensures { result ≡ is_met number.now self.now }
     {
-        self.alternatives
-            .iter()
-            .any(|relations| all_hold(relations, number))
+        let alternatives = self.alternatives.as_slice();
+        for relations in alternatives {
+            if all_hold(relations, number) {
+                return true;
+            }
+        }
+        false
     }
 }
 
@@ -142,9 +159,12 @@ impl PluralRules {
     pub fn category<D: DigitStore>(&self, number: &PluralOperands<'_, D>) -> PluralCategory
         ensures { result ≡ category_of self.now number.now }
     {
-        match self.rules.iter().find(|rule| rule.is_met(number)) {
-            None => PluralCategory::Other,
-            Some(rule) => rule.category,
+        let rules = self.rules.as_slice();
+        for rule in rules {
+            if rule.is_met(number) {
+                return rule.category;
+            }
         }
+        PluralCategory::Other
     }
 }

@@ -1,5 +1,5 @@
 -- The text by other symbols, or under another strategy.
-use Rattle.std.proofs.Common.{◌≡◌, ℕ, zero, suc, List, [], ◌++◌, refl, append-nil}
+use Rattle.std.proofs.Common.{◌≡◌, ℕ, zero, suc, List, [], ◌++◌, refl, append-nil, arith}
 use Rattle.std.specs.Prelude.{ℤ, pos, ◌-ℤ◌}
 use Rattle.decimal_digits.specs.Number.{digit}
 use Rattle.decimal_unsigned.specs.Text.{dot_before, text_down}
@@ -14,7 +14,6 @@ use Rattle.decimal_format.specs.Ascii.{ascii_with}
 use Rattle.decimal_format.specs.Formatted.{separator_before, separator_after, formatted_down, formatted}
 use Rattle.decimal_format.proofs.lemmas.symbols.AsciiDigits.{ten_digits}
 use Rattle.decimal_format.proofs.lemmas.formatter.Magnitudes.{digit_below}
-use Rattle.std.proofs.Common.{arith}
 
 -- under `Never` there is no separator
 never_separates : (s : Symbols) (hi m : ℤ) → separator_after s Never hi m ≡ []

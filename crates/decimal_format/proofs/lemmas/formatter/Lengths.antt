@@ -1,5 +1,5 @@
 -- The length of the text.
-use Rattle.std.proofs.Common.{◌≡◌, ℕ, suc, ◌+◌, ◌-◌, ◌*◌, ◌<◌, Bool, true, false, List, [], ◌∷◌, ◌++◌, length, ◌∙◌, ap, arith, length-append}
+use Rattle.std.proofs.Common.{◌≡◌, ℕ, suc, ◌+◌, ◌-◌, ◌*◌, ◌<◌, Bool, true, false, List, [], ◌∷◌, ◌++◌, length, ◌∙◌, ap, arith, length-append, rules}
 use Rattle.std.specs.Prelude.{if◌then◌else◌, pos, ◌-ℤ◌, ◌≤ℤ◌, ◌<ℤ◌}
 use Rattle.std.specs.Int.{int_gap, int_min}
 use Rattle.std.specs.Int.Digits.{AllBelowBase}
@@ -17,7 +17,6 @@ use Rattle.decimal_format.specs.Reading.{digits_text, fraction_text}
 use Rattle.decimal_format.specs.Scanning.{separator_if}
 use Rattle.decimal_format.proofs.lemmas.reader.NumeralTexts.{digits_of_value, absolute_is}
 use Rattle.decimal_format.proofs.lemmas.symbols.Separators.{separators_below-suc, separators_below-zero}
-use Rattle.std.proofs.Common.{rules}
 
 module _ (s : Symbols) (w : ℕ) (width : HaveWidth s.digits w) where
   length-separator : (b : Bool) → length (separator_if s b) ≡ (if b then 1 else 0) * length s.grouping

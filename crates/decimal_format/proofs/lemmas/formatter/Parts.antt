@@ -1,5 +1,5 @@
 -- The text of a part: digits without a separator between them.
-use Rattle.std.proofs.Common.{◌≡◌, ℕ, suc, ◌+◌, ◌-◌, ◌<◌, ◌≤◌, List, [], ◌∷◌, ◌++◌, length, Option, sym, ◌∙◌, ap, subst, arith, append_assoc, append-nil}
+use Rattle.std.proofs.Common.{◌≡◌, ℕ, suc, ◌+◌, ◌-◌, ◌<◌, ◌≤◌, List, [], ◌∷◌, ◌++◌, length, Option, sym, ◌∙◌, ap, subst, arith, append_assoc, append-nil, rules}
 use Rattle.std.specs.Prelude.{Bool, false, if◌then◌else◌, slice_index, slice_range, EachIndex, ℤ, pos, ◌-ℤ◌}
 use Rattle.std.proofs.lemmas.Int.{ints}
 use Rattle.std.proofs.lemmas.List.Edits.{length-between, get_or-between}
@@ -15,7 +15,6 @@ use Rattle.decimal_format.specs.Formatted.{FormattedAbsolute, separator_before, 
 use Rattle.decimal_format.specs.Parts.{magnitude_of, part_text, AreDigits, IsRun, digits_text, run_text}
 use Rattle.decimal_format.proofs.lemmas.formatter.Magnitudes.{formatted_down-add, digit_below}
 use Rattle.decimal_format.proofs.lemmas.symbols.Rules.{steps}
-use Rattle.std.proofs.Common.{rules}
 
 -- the digits of two pieces without a separator between them
 regroup : (a d t z : List ℕ) → (a ++ (d ++ [])) ++ ([] ++ (t ++ z)) ≡ a ++ ((d ++ t) ++ z)

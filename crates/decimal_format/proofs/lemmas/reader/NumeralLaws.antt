@@ -1,5 +1,5 @@
 -- A text is that of one numeral, and of one decimal.
-use Rattle.std.proofs.Common.{◌≡◌, ◌≢◌, ℕ, ◌-◌, inl, inr, Bool, true, false, List, [], ◌∷◌, ◌++◌, length, refl, sym, ◌∙◌, ap, subst, append-nil}
+use Rattle.std.proofs.Common.{◌≡◌, ◌≢◌, ℕ, ◌-◌, inl, inr, Bool, true, false, List, [], ◌∷◌, ◌++◌, length, refl, sym, ◌∙◌, ap, subst, append-nil, arith, rules}
 use Rattle.std.specs.Prelude.{◌⊎◌, Result, Ok, Err, IfOk, MatchResult, ◌↔◌, pos}
 use Rattle.std.specs.Int.Digits.{AllBelowBase}
 use Rattle.std.proofs.Math.Bool.{and-false}
@@ -24,8 +24,6 @@ use Rattle.decimal_format.proofs.lemmas.reader.Codes.{none_not_decimal}
 use Rattle.decimal_format.proofs.lemmas.reader.DigitTexts.{digits_text-cong, nil_ends, fraction_ends, digits-unique, ends_integer}
 use Rattle.decimal_format.proofs.lemmas.reader.NumeralTexts.{HasDigits, same_value, digits_are_value, formatted-digits, digits_of_value}
 use Rattle.decimal_format.proofs.lemmas.reader.Scans.{number_begins, begins-append, sign-unique, strategy_is, strategy_if, strategy_separates}
-use Rattle.std.proofs.Common.{arith}
-use Rattle.std.proofs.Common.{rules}
 
 -- a text by some strategy has separators at ends of groups, all of them or none
 pub numeral_is_lenient : (s : Symbols) (bytes : List ℕ) (w : Numeral) → IsNumeral s bytes w

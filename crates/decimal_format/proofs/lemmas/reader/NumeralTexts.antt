@@ -1,5 +1,5 @@
 -- The digits of a value, and the value of digits.
-use Rattle.std.proofs.Common.{◌≡◌, ℕ, zero, suc, ◌+◌, ◌-◌, ◌*◌, ◌/◌, ◌%◌, ◌^◌, ◌<◌, ◌≤◌, false, List, [], ◌∷◌, ◌++◌, length, take, drop, refl, sym, ◌∙◌, ap, subst, arith, append_assoc, append-nil, length-append, length-drop, take-append-drop}
+use Rattle.std.proofs.Common.{◌≡◌, ℕ, zero, suc, ◌+◌, ◌-◌, ◌*◌, ◌/◌, ◌%◌, ◌^◌, ◌<◌, ◌≤◌, false, List, [], ◌∷◌, ◌++◌, length, take, drop, refl, sym, ◌∙◌, ap, subst, arith, append_assoc, append-nil, length-append, length-drop, take-append-drop, rules}
 use Rattle.std.specs.Int.Digits.{AllBelowBase, number_from_digits}
 use Rattle.std.specs.Prelude.{ℤ, pos, negsuc, ◌-ℤ◌}
 use Rattle.std.specs.Int.{int_gap, int_min}
@@ -22,7 +22,6 @@ use Rattle.decimal_format.specs.Reading.{Numeral, AreDigits, IsBeyondLimits, dig
 use Rattle.decimal_format.specs.Scanning.{value_of}
 use Rattle.decimal_format.proofs.lemmas.reader.Bcd.{below_append, below_first, below_rest}
 use Rattle.decimal_format.proofs.lemmas.reader.DigitTexts.{digits_text-first}
-use Rattle.std.proofs.Common.{rules}
 
 -- ---- The digits of a number.
 -- those at the given number of magnitudes, from m down

@@ -1,5 +1,5 @@
 -- The ASCII digits, and digits given in ASCII.
-use Rattle.std.proofs.Common.{◌≡◌, ℕ, suc, ◌+◌, ◌-◌, ◌<◌, ◌≤◌, List, [], ◌∷◌, ◌++◌, length, take, drop, refl, sym, ◌∙◌, ap, arith, append_assoc, append-nil, take-append-drop}
+use Rattle.std.proofs.Common.{◌≡◌, ℕ, suc, ◌+◌, ◌-◌, ◌<◌, ◌≤◌, List, [], ◌∷◌, ◌++◌, length, take, drop, refl, sym, ◌∙◌, ap, arith, append_assoc, append-nil, take-append-drop, rules}
 use Rattle.std.specs.Prelude.{encode_utf8, slice_index}
 use Rattle.std.proofs.lemmas.Bool.Decides.{nat_tests}
 use Rattle.std.proofs.lemmas.Str.{encode_ascii}
@@ -11,7 +11,6 @@ use Rattle.decimal_format.specs.Parts.{digits_text}
 use Rattle.decimal_format.proofs.lemmas.symbols.Apart.{passes_below}
 use Rattle.decimal_format.specs.Symbols.{Symbols, digit_text}
 use Rattle.decimal_format.proofs.lemmas.symbols.Rules.{steps}
-use Rattle.std.proofs.Common.{rules}
 
 -- the bytes of the ASCII digits
 pub ten_digits : (d : ℕ) → d < 10 → encode_utf8 (slice_index ascii_digits d) ≡ (48 + d) ∷ []

@@ -3,12 +3,12 @@ use Rattle.locale_data.specs.declared.compact_table.TheConstants.{COMPACT_BYTES}
 use Rattle.locale_data.specs.Texts.{is_text}
 use Rattle.locale_data.proofs.compact.unit_of.Goals as goal
 
-pub text_in-requires : goal.text_in-requires
-text_in-requires c =
+pub compact_text-requires : goal.compact_text-requires
+compact_text-requires c =
     let unit = c.args.unit.now in
     (and_parts (is_text COMPACT_BYTES unit.prefix) (is_text COMPACT_BYTES unit.suffix) c.requires).0
 
-pub text_in-requires-2 : goal.text_in-requires-2
-text_in-requires-2 c =
+pub compact_text-requires-2 : goal.compact_text-requires-2
+compact_text-requires-2 c =
     let unit = c.args.unit.now in
     (and_parts (is_text COMPACT_BYTES unit.prefix) (is_text COMPACT_BYTES unit.suffix) c.requires).1

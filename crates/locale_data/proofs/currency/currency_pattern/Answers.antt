@@ -39,4 +39,4 @@ returns-in-None c =
     c.indexed_row-money.result.now c.override_of.result c.or.result c.as_bytes.result.now c.formats_of-formats.ensures
     c.indexed_row-money.ensures c.as_bytes.ensures.value c.override_of.ensures.value c.or.ensures
     (ap (pattern_by c.formats_of-formats.result c.indexed_row-money.result.now c.args.sign) c.in-None.is
-    ∙ (rw (sym c.pattern_index.ensures, c.indexed_row.ensures) refl))
+    ∙ (rw (sym c.pattern_index.ensures, c.pattern_at.ensures) refl))

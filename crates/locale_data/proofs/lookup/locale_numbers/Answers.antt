@@ -12,7 +12,8 @@ use Rattle.locale_data.proofs.lookup.locale_numbers.Goals as goal
 pub row_number-own-requires : goal.row_number-own-requires
 row_number-own-requires c =
     let system = c.indexed_row.result.now in
-    let listed = contains_at NUMBERING_SYSTEMS c.in_ok-locale.system system c.indexed_row.ensures in
+    let at = rw c.numbering_systems.ensures at c.indexed_row.ensures in
+    let listed = contains_at NUMBERING_SYSTEMS c.in_ok-locale.system system at in
     rw c.own_rows.ensures (has_rows_if_listed system listed)
 
 pub returns-clause-found : goal.returns-clause-found
@@ -28,7 +29,7 @@ returns-clause-found c =
       own = o;
     } in
     let found = symbols_found tag (numbers_of c.row_number-own.result) c.indexed_row.result.now
-    c.in_ok-locale.ensures.found c.indexed_row.ensures inside own in
+    c.in_ok-locale.ensures.found (rw c.numbering_systems.ensures at c.indexed_row.ensures) inside own in
     subst (λ t. IsSomeAnd (symbols_at (numbers_of c.in_16_bits.result)) (IsLocale t)) c.as_bytes-tag.ensures.value
     (subst (λ o. IsSomeAnd (symbols_at (numbers_of o)) (IsLocale tag)) (sym c.in_16_bits.ensures) found)
 

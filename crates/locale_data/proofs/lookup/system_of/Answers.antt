@@ -9,7 +9,8 @@ use Rattle.locale_data.proofs.lookup.system_of.Goals as goal
 pub unreachable-requires : goal.unreachable-requires
 unreachable-requires c =
     let system = c.indexed_row.result.now in
-    let listed = contains_at NUMBERING_SYSTEMS c.in_ok-system.system system c.indexed_row.ensures in
+    let at = rw c.numbering_systems.ensures at c.indexed_row.ensures in
+    let listed = contains_at NUMBERING_SYSTEMS c.in_ok-system.system system at in
     c.in-Err.ensures.cases.0 (subst IsUtf8 (sym c.unpadded.ensures) (has_text_if_listed system listed))
 
 pub returns-clause-unknown : goal.returns-clause-unknown

@@ -7,10 +7,10 @@ use Rattle.locale_data.proofs.RulesTexts.{language_found, locale_found}
 use Rattle.locale_data.proofs.plurals.plural_rules_number.Goals as goal
 
 pub row_number-requires : goal.row_number-requires
-row_number-requires c = languages_are_table
+row_number-requires c = rw c.languages.ensures languages_are_table
 
 pub row_number-requires-2 : goal.row_number-requires-2
-row_number-requires-2 c = locales_are_table
+row_number-requires-2 c = rw c.locales.ensures locales_are_table
 
 pub returns-in-Some-clause-found : goal.returns-in-Some-clause-found
 returns-in-Some-clause-found c =
@@ -18,7 +18,8 @@ returns-in-Some-clause-found c =
     subst (λ t. IsSomeAnd (option_map text_of (indexed_set (Some c.in-Some.index) c.args.rule_type))
     (IsRulesText t c.args.rule_type))
     c.as_bytes-tag.ensures.value
-    (language_found tag c.args.rule_type c.in-Some.index c.in-Some.ensures.value c.in-Some.ensures.inside)
+    (language_found tag c.args.rule_type c.in-Some.index (rw c.languages.ensures at c.in-Some.ensures.value)
+    (rw c.languages.ensures at c.in-Some.ensures.inside))
 
 pub returns-in-Some-row_number-clause-found : goal.returns-in-Some-row_number-clause-found
 returns-in-Some-row_number-clause-found c =
@@ -26,9 +27,12 @@ returns-in-Some-row_number-clause-found c =
     let locale = c.in-Some-row_number in
     subst (λ t. IsSomeAnd (option_map text_of (indexed_set None c.args.rule_type)) (IsRulesText t c.args.rule_type))
     c.as_bytes-tag.ensures.value
-    (locale_found tag c.args.rule_type locale.field-0 c.in_default.ensures.value locale.ensures.value
-    locale.ensures.inside)
+    (locale_found tag c.args.rule_type locale.field-0 (rw c.languages.ensures at c.in_default.ensures.value)
+    (rw c.locales.ensures at locale.ensures.value) (rw c.locales.ensures at locale.ensures.inside))
 
 pub returns-in-None-clause-unknown : goal.returns-in-None-clause-unknown
 returns-in-None-clause-unknown c =
-    subst HasNoRules c.as_bytes-tag.ensures.value (c.in_default.ensures.value, c.in-None.ensures.value)
+    subst HasNoRules c.as_bytes-tag.ensures.value (
+      rw c.languages.ensures at c.in_default.ensures.value,
+      rw c.locales.ensures at c.in-None.ensures.value,
+    )

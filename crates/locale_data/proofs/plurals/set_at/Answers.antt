@@ -1,7 +1,6 @@
 use Rattle.std.proofs.Common.{Some, ap, sym, ◌∙◌}
 use Rattle.std.specs.Option.{option_map}
 use Rattle.locale_data.specs.declared.plural_rows.LanguageRules.{LanguageRules}
-use Rattle.locale_data.specs.declared.plurals_table.TheConstants.{PLURAL_RULES}
 use Rattle.locale_data.specs.Plurals.{set_of, indexed_set}
 use Rattle.locale_data.proofs.NumberedRows.{at_some, at_none}
 use Rattle.locale_data.proofs.plurals.set_at.Goals as goal
@@ -13,12 +12,12 @@ pub returns-in-Some-get : goal.returns-in-Some-get
 returns-in-Some-get c =
     let language = c.in-Some-get.language in
     let set = λ (l : LanguageRules). set_of l c.args.number.rule_type in
-    let at = at_some PLURAL_RULES c.in-Some.index language c.in-Some-get.ensures.lookup in
+    let at = at_some _ _ c.languages.ensures c.in-Some.index language c.in-Some-get.ensures.lookup in
     ap Some c.set.ensures
     ∙ sym (ap (λ o. indexed_set o c.args.number.rule_type) c.in-Some.is ∙ ap (option_map set) at)
 
 pub returns-in-None : goal.returns-in-None
 returns-in-None c =
     let set = λ (l : LanguageRules). set_of l c.args.number.rule_type in
-    let at = at_none PLURAL_RULES c.in-Some.index c.in-None.ensures.lookup in
+    let at = at_none _ _ c.languages.ensures c.in-Some.index c.in-None.ensures.lookup in
     sym (ap (λ o. indexed_set o c.args.number.rule_type) c.in-Some.is ∙ ap (option_map set) at)

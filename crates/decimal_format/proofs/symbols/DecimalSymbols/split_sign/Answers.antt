@@ -1,4 +1,4 @@
-use Rattle.std.proofs.Common.{◌++◌, sym, ◌∙◌, ap, append-nil}
+use Rattle.std.proofs.Common.{◌++◌, sym, ◌∙◌, ap, append-nil, arith}
 use Rattle.fixed_decimal.specs.declared.variations.Sign.TheVariants.{None}
 use Rattle.decimal_format.specs.Readable.{BeginsWithDigit}
 use Rattle.decimal_format.proofs.lemmas.symbols.AsciiDigits.{digit_text-ascii}
@@ -6,7 +6,6 @@ use Rattle.std.proofs.lemmas.List.{append_cancel_right}
 use Rattle.decimal_format.specs.Symbols.{sign_affixes}
 use Rattle.decimal_format.proofs.lemmas.reader.Scans.{begins-append, sign-unique}
 use Rattle.decimal_format.proofs.symbols.DecimalSymbols.split_sign.Goals as goal
-use Rattle.std.proofs.Common.{arith}
 
 pub returns-in-Some-clause-unique : goal.returns-in-Some-clause-unique
 returns-in-Some-clause-unique g c = λ sign number begins e.

@@ -1,23 +1,15 @@
-use Rattle.std.proofs.Common.{◌≡◌, Bool, ◌||◌, List, [], ◌∷◌, rules, tests, refl, sym, ◌∙◌, ap}
-use Rattle.std.proofs.lemmas.Iterator.{YieldsList-from_slice}
-use Rattle.std.proofs.lemmas.Iterator.Search.{any_from_yields_List}
-use Rattle.std.specs.Prelude.{map}
-use Rattle.std.specs.List.{list_any, list_all}
-use Rattle.plural_rules.specs.Rules.{holds}
-use Rattle.locale_data.specs.PluralRows.{relations_in}
+use Rattle.std.proofs.Common.{refl, arith}
+use Rattle.std.proofs.lemmas.Grind.{common_steps}
 use Rattle.locale_data.proofs.plural_rows.RuleRow.is_met.Goals as goal
 
--- a test of the images of a list
-list_any-map : {X Y : Type 0} (test : Y → Bool) (f : X → Y) (xs : List X)
-    → list_any test (map f xs) ≡ list_any (λ x. test (f x)) xs
-list_any-map test f [] = refl
-list_any-map test f (x ∷ xs) = ap (λ b. test (f x) || b) (list_any-map test f xs)
+pub loop-relations-init : goal.loop-relations-init
+loop-relations-init g c = rw c.part-rows.ensures refl
+
+pub returns-then-all_hold : goal.returns-then-all_hold
+returns-then-all_hold g c = grind (arith, common_steps)
+
+pub loop-relations-preserved : goal.loop-relations-preserved
+loop-relations-preserved g c = grind (arith, common_steps)
 
 pub returns : goal.returns
-returns g c =
-    let rows = c.part.result.now in
-    let met = list_all (holds c.args.number.now) in
-    any_from_yields_List (λ r. met (relations_in r)) _ _ c.any.result c.any.ensures.ran
-    (YieldsList-from_slice rows cc) (λ x b q k. search (rules, tests))
-    ∙ sym (list_any-map met relations_in rows)
-    ∙ ap (λ rows. list_any met (map relations_in rows)) c.part.ensures
+returns g c = grind (arith, common_steps)

@@ -1,21 +1,17 @@
-use Rattle.std.proofs.Common.{◌≡◌, Bool, ◌||◌, List, [], ◌∷◌, map, rules, tests, refl, sym, ◌∙◌, ap}
-use Rattle.std.proofs.lemmas.Iterator.{YieldsList-from_slice}
-use Rattle.std.proofs.lemmas.Iterator.Search.{any_from_yields_List}
-use Rattle.std.specs.List.{list_any, list_all}
-use Rattle.plural_rules.specs.Rules.{holds, is_met}
+use Rattle.std.proofs.Common.{sym, ◌∙◌, ap, refl, arith}
+use Rattle.std.proofs.lemmas.Grind.{common_steps}
+use Rattle.plural_rules.specs.Rules.{is_met}
 use Rattle.plural_rules.proofs.rules.Rule.is_met.Goals as goal
 
--- a test of the images of a list
-list_any-map : {X Y : Type 0} (test : Y → Bool) (f : X → Y) (xs : List X)
-    → list_any test (map f xs) ≡ list_any (λ x. test (f x)) xs
-list_any-map test f [] = refl
-list_any-map test f (x ∷ xs) = ap (λ b. test (f x) || b) (list_any-map test f xs)
+pub loop-relations-init : goal.loop-relations-init
+loop-relations-init g c =
+    ap (is_met c.args.number.now) (sym c.self.view_is) ∙ (rw c.as_slice-alternatives.ensures.value refl)
+
+pub returns-then-all_hold : goal.returns-then-all_hold
+returns-then-all_hold g c = grind (arith, common_steps)
+
+pub loop-relations-preserved : goal.loop-relations-preserved
+loop-relations-preserved g c = grind (arith, common_steps)
 
 pub returns : goal.returns
-returns g c =
-    let alternatives = c.self.inside.alternatives.items in
-    let met = list_all (holds c.args.number.now) in
-    any_from_yields_List (λ a. met a.items) _ _ c.any.result c.any.ensures.ran (YieldsList-from_slice alternatives cc)
-    (λ x b q k. search (rules, tests))
-    ∙ sym (list_any-map met (λ a. a.items) alternatives)
-    ∙ ap (is_met c.args.number.now) c.self.view_is
+returns g c = grind (arith, common_steps)
