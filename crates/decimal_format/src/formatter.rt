@@ -34,7 +34,7 @@ impl<'a> Model for DecimalFormatter<'a> {
 }
 
 /// An absolute value that is written by the symbols of a locale. It borrows the value.
-#[derive(Drop)]
+#[derive(Debug, Drop)]
 pub struct FormattedAbsolute<'f, D: DigitStore> {
     symbols: &'f DecimalSymbols<'f>,
     strategy: GroupingStrategy,
@@ -52,7 +52,7 @@ impl<'f, D: DigitStore> Model for FormattedAbsolute<'f, D> {
 /// A decimal that is written by the symbols of a locale. It borrows the decimal.
 ///
 /// `FormattedDecimal` of ICU4X.
-#[derive(Drop)]
+#[derive(Debug, Drop)]
 pub struct FormattedDecimal<'f, D: DigitStore> {
     absolute: FormattedAbsolute<'f, D>,
     sign: Sign,

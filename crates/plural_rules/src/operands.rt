@@ -19,7 +19,7 @@ use std::marker::Model;
 /// It borrows a value, and does not allocate. Contracts see the value multiplied by 10^exponent, and the exponent of
 /// the compact decimal, which is 0 for every other value. `1.230` has i 1, v 3, w 2, f 230, t 23 and c 0; `1.2c6` has
 /// i 1200000, v 0, w 0, f 0, t 0 and c 6.
-#[derive(Drop)]
+#[derive(Debug, Drop)]
 pub struct PluralOperands<'a, D: DigitStore> {
     value: &'a UnsignedOver<D>,
     exponent: u8,

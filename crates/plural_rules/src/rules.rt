@@ -61,7 +61,7 @@ pub enum Operand {
 }
 
 /// A range of integers, both ends included: `2..4`. It is empty if the first is above the last.
-#[derive(Clone, Copy)]
+#[derive(Clone, Copy, Debug, PartialEq, Eq)]
 pub struct Range {
     /// The first.
     pub low: u64,
@@ -73,7 +73,7 @@ pub struct Range {
 pub const MAX_MODULUS: u64 = 1_000_000_000_000_000_000;
 
 /// A modulus, from 1 to 10^18.
-#[derive(Clone, Copy)]
+#[derive(Clone, Copy, Debug)]
 pub struct Modulus {
     divisor: u64,
 }
@@ -113,6 +113,7 @@ impl Modulus {
 }
 
 /// A relation: an operand, or its remainder by a modulus, is in one of the ranges, or in none of them: `i % 10 = 2..4`.
+#[derive(Debug)]
 pub struct Relation {
     operand: Operand,
     modulus: Option<Modulus>,
@@ -161,6 +162,7 @@ impl Relation {
 }
 
 /// A category and its condition: all relations of one alternative hold. With no alternatives it never holds.
+#[derive(Debug)]
 pub struct Rule {
     category: PluralCategory,
     alternatives: Vec<Vec<Relation>>,
@@ -201,6 +203,7 @@ impl Rule {
 /// Plural rules: categories in order, each with its condition.
 ///
 /// Contracts see the list of the rules.
+#[derive(Debug)]
 pub struct PluralRules {
     rules: Vec<Rule>,
 }

@@ -14,7 +14,7 @@ use std::alloc::Global;
 
 /// Texts that may be around a number, and the sign that they show: of `(` and `)`, `Negative`. With `None` the number
 /// may show its own.
-#[derive(Clone, Copy)]
+#[derive(Clone, Copy, Debug)]
 pub struct Alternative<'a> {
     /// The text before the number.
     pub prefix: &'a str,
