@@ -95,14 +95,14 @@ fn push_notation(text: &mut String, notation: NumberNotation) -> Result<(), Allo
     }
 }
 
-fn push_width(text: &mut String, display: CurrencyDisplay) -> Result<(), AllocError>
-    ensures { Appends result text.old text.new (width_text display) }
+fn width_text(display: CurrencyDisplay) -> &'static str
+    ensures { result.now ≡ width_text display }
 {
     match display {
-        CurrencyDisplay::Symbol => Ok(()),
-        CurrencyDisplay::Narrow => text.push_str("unit-width-narrow "),
-        CurrencyDisplay::Code => text.push_str("unit-width-iso-code "),
-        CurrencyDisplay::Hidden => text.push_str("unit-width-hidden "),
+        CurrencyDisplay::Symbol => "",
+        CurrencyDisplay::Narrow => "unit-width-narrow ",
+        CurrencyDisplay::Code => "unit-width-iso-code ",
+        CurrencyDisplay::Hidden => "unit-width-hidden ",
     }
 }
 
@@ -113,7 +113,7 @@ fn push_currency(text: &mut String, currency: CurrencyStyle) -> Result<(), Alloc
     text.push_str("currency/")?;
     push_ascii(text, &currency.code)?;
     text.push(' ')?;
-    push_width(text, currency.display)
+    text.push_str(width_text(currency.display))
 }
 
 /// Appends the last digits of a number, at most five.
@@ -365,15 +365,6 @@ fn has_thousands(digits: u16, increment: u16) -> bool
     increment % 1000 == 0 && (digits == 0 || digits == 2 || digits == 3)
 }
 
-/// Appends an increment with a negative exponent: `25e-4`.
-fn push_fractions(text: &mut String, digits: u16, increment: u16) -> Result<(), AllocError>
-    ensures { Appends result text.old text.new (decimal_text increment ++ 101 ∷ 45 ∷ decimal_text digits) }
-{
-    push_number(text, increment)?;
-    text.push_str("e-")?;
-    push_number(text, digits)
-}
-
 /// Appends an increment with a number of fraction digits.
 fn push_increment(text: &mut String, digits: u16, increment: u16) -> Result<(), AllocError>
     requires few { increment ≤ 5000 }
@@ -386,7 +377,9 @@ fn push_increment(text: &mut String, digits: u16, increment: u16) -> Result<(), 
         return push_number(text, increment);
     }
     if digits > 3 && increment % 10 != 0 {
-        return push_fractions(text, digits, increment);
+        push_number(text, increment)?;
+        text.push_str("e-")?;
+        return push_number(text, digits);
     }
     push_pointed(text, digits, increment)
 }
