@@ -487,20 +487,20 @@ fn push_shown_precision(
     push_stripped(text, style, digits)
 }
 
-fn push_mode(text: &mut String, mode: SignedRoundingMode) -> Result<(), AllocError>
-    ensures { Appends result text.old text.new (mode_text mode) }
+fn mode_text(mode: SignedRoundingMode) -> &'static str
+    ensures { result.now ≡ mode_text mode }
 {
     match mode {
-        SignedRoundingMode::Ceil => text.push_str("rounding-mode-ceiling "),
-        SignedRoundingMode::Floor => text.push_str("rounding-mode-floor "),
-        SignedRoundingMode::HalfCeil => text.push_str("rounding-mode-half-ceiling "),
-        SignedRoundingMode::HalfFloor => text.push_str("rounding-mode-half-floor "),
+        SignedRoundingMode::Ceil => "rounding-mode-ceiling ",
+        SignedRoundingMode::Floor => "rounding-mode-floor ",
+        SignedRoundingMode::HalfCeil => "rounding-mode-half-ceiling ",
+        SignedRoundingMode::HalfFloor => "rounding-mode-half-floor ",
         SignedRoundingMode::Unsigned(mode) => match mode {
-            UnsignedRoundingMode::Expand => text.push_str("rounding-mode-up "),
-            UnsignedRoundingMode::Trunc => text.push_str("rounding-mode-down "),
-            UnsignedRoundingMode::HalfExpand => text.push_str("rounding-mode-half-up "),
-            UnsignedRoundingMode::HalfTrunc => text.push_str("rounding-mode-half-down "),
-            UnsignedRoundingMode::HalfEven => Ok(()),
+            UnsignedRoundingMode::Expand => "rounding-mode-up ",
+            UnsignedRoundingMode::Trunc => "rounding-mode-down ",
+            UnsignedRoundingMode::HalfExpand => "rounding-mode-half-up ",
+            UnsignedRoundingMode::HalfTrunc => "rounding-mode-half-down ",
+            UnsignedRoundingMode::HalfEven => "",
         },
     }
 }
@@ -602,7 +602,7 @@ fn push_digits(text: &mut String, options: &NumberOptions) -> Result<(), AllocEr
         return Ok(());
     };
     push_shown_precision(text, options, digits)?;
-    push_mode(text, digits.mode)?;
+    text.push_str(mode_text(digits.mode))?;
     push_integer(text, digits.integer)
 }
 
