@@ -530,20 +530,16 @@ fn push_integer(text: &mut String, integer: IntegerDigits) -> Result<(), AllocEr
     push_integer_width(text, max - min, min)
 }
 
-fn push_grouping(
-    text: &mut String,
-    is_compact: bool,
-    grouping: GroupingStrategy,
-) -> Result<(), AllocError>
-    ensures { Appends result text.old text.new (grouping_text is_compact grouping) }
+fn grouping_text(is_compact: bool, grouping: GroupingStrategy) -> &'static str
+    ensures { result.now ≡ grouping_text is_compact grouping }
 {
     match (is_compact, grouping) {
-        (true, GroupingStrategy::Min2) => Ok(()),
-        (true, GroupingStrategy::Auto) => text.push_str("group-auto "),
-        (false, GroupingStrategy::Auto) => Ok(()),
-        (_, GroupingStrategy::Never) => text.push_str(",_ "),
-        (_, GroupingStrategy::Always) => text.push_str(",! "),
-        (false, GroupingStrategy::Min2) => text.push_str(",? "),
+        (true, GroupingStrategy::Min2) => "",
+        (true, GroupingStrategy::Auto) => "group-auto ",
+        (false, GroupingStrategy::Auto) => "",
+        (_, GroupingStrategy::Never) => ",_ ",
+        (_, GroupingStrategy::Always) => ",! ",
+        (false, GroupingStrategy::Min2) => ",? ",
     }
 }
 
@@ -556,19 +552,19 @@ fn style_sign(style: NumberStyle) -> CurrencySign
     }
 }
 
-fn push_sign(text: &mut String, sign: CurrencySign, display: SignDisplay) -> Result<(), AllocError>
-    ensures { Appends result text.old text.new (sign_text sign display) }
+fn sign_text(sign: CurrencySign, display: SignDisplay) -> &'static str
+    ensures { result.now ≡ sign_text sign display }
 {
     match (sign, display) {
-        (CurrencySign::Standard, SignDisplay::Auto) => Ok(()),
-        (CurrencySign::Standard, SignDisplay::Always) => text.push_str("+! "),
-        (CurrencySign::Standard, SignDisplay::ExceptZero) => text.push_str("+? "),
-        (CurrencySign::Standard, SignDisplay::Negative) => text.push_str("+- "),
-        (CurrencySign::Accounting, SignDisplay::Auto) => text.push_str("() "),
-        (CurrencySign::Accounting, SignDisplay::Always) => text.push_str("()! "),
-        (CurrencySign::Accounting, SignDisplay::ExceptZero) => text.push_str("()? "),
-        (CurrencySign::Accounting, SignDisplay::Negative) => text.push_str("()- "),
-        (_, SignDisplay::Never) => text.push_str("+_ "),
+        (CurrencySign::Standard, SignDisplay::Auto) => "",
+        (CurrencySign::Standard, SignDisplay::Always) => "+! ",
+        (CurrencySign::Standard, SignDisplay::ExceptZero) => "+? ",
+        (CurrencySign::Standard, SignDisplay::Negative) => "+- ",
+        (CurrencySign::Accounting, SignDisplay::Auto) => "() ",
+        (CurrencySign::Accounting, SignDisplay::Always) => "()! ",
+        (CurrencySign::Accounting, SignDisplay::ExceptZero) => "()? ",
+        (CurrencySign::Accounting, SignDisplay::Negative) => "()- ",
+        (_, SignDisplay::Never) => "+_ ",
     }
 }
 
@@ -613,7 +609,7 @@ pub(crate) fn push_skeleton(text: &mut String, options: &NumberOptions) -> Resul
     push_notation(text, options.notation)?;
     push_style(text, options.style, options.scale)?;
     push_digits(text, options)?;
-    push_grouping(text, options.is_compact(), options.grouping)?;
-    push_sign(text, style_sign(options.style), options.sign_display)?;
+    text.push_str(grouping_text(options.is_compact(), options.grouping))?;
+    text.push_str(sign_text(style_sign(options.style), options.sign_display))?;
     push_system(text, options.numbering_system)
 }
