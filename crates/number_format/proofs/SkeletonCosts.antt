@@ -233,6 +233,9 @@ unit_at_most :
 unit_at_most unit.Percent s scale = omega (arith, style_at_most (Some (unit.Percent, s)) scale)
 unit_at_most u s scale = omega arith
 
+none_pairs : false ≡ true → ⊥
+none_pairs p = cc
+
 -- a choice adds no more to others than it takes alone
 pub stem_at_most :
     (c : Choices) (s : Span) (ch : Choice) (e : Expected) → pairs ch e ≡ true → has c ch ≡ false
@@ -243,8 +246,24 @@ stem_at_most c s (choice.Unit u) expected.Name p h = omega (arith, none_costs c 
 stem_at_most c s choice.UnitPerUnit expected.Name p h =
     omega (arith, none_costs c (or_left (is_some c.unit) (is_some c.per_unit) h))
 stem_at_most c s (choice.Scale d) expected.Scale p h = omega (arith, ap (style_cost c.unit) (none_is c.scale h))
-stem_at_most c s ch expected.Stem p h = first_of (cc, omega arith)
-stem_at_most c s ch e p h = first_of (cc, omega arith)
+stem_at_most c s (choice.Notation n) expected.Stem p h = omega arith
+stem_at_most c s (choice.Notation n) (expected.Exponent e) p h = omega arith
+stem_at_most c s choice.PercentTimes100 expected.Stem p h = omega arith
+stem_at_most c s choice.PerUnit expected.Name p h = omega arith
+stem_at_most c s choice.Usage expected.Name p h = omega arith
+stem_at_most c s (choice.Precision q) expected.Increment p h = omega arith
+stem_at_most c s (choice.Precision q) (expected.Significant f) p h = omega arith
+stem_at_most c s (choice.Precision q) expected.StripIfInteger p h = omega arith
+stem_at_most c s (choice.Mode m) expected.Stem p h = omega arith
+stem_at_most c s (choice.Grouping g) expected.Stem p h = omega arith
+stem_at_most c s (choice.Integer i) expected.Stem p h = omega arith
+stem_at_most c s (choice.Integer i) expected.Integer p h = omega arith
+stem_at_most c s (choice.System n) expected.Stem p h = omega arith
+stem_at_most c s (choice.System n) expected.System p h = omega arith
+stem_at_most c s (choice.Width w) expected.Stem p h = omega arith
+stem_at_most c s (choice.Sign shown sign) expected.Stem p h = omega arith
+stem_at_most c s (choice.IsDecimalAlways always) expected.Stem p h = omega arith
+stem_at_most c s ch e p h = absurd (none_pairs p)
 
 -- ---- Choices that a text can make.
 abbrev pub is_capital : ℕ → Bool

@@ -1,5 +1,5 @@
 -- The options that a skeleton names, by ICU's defaults. An error names the stem that this library has not.
-use Rattle.std.specs.Prelude.{ℕ, ◌==◌, nat_lt, Bool, true, false, ◌||◌, not, if◌then◌else◌, ℤ, pos, negsuc, int_lt, List, map, Option, Some, None, Result, Ok, Err}
+use Rattle.std.specs.Prelude.{ℕ, ◌==◌, nat_lt, Bool, true, false, ◌||◌, not, if◌then◌else◌, ℤ, pos, negsuc, int_lt, List, map, Option, Some, None, unwrap_or, Result, Ok, Err}
 use Rattle.std.specs.Char.{to_ascii_uppercase}
 use Rattle.std.specs.Option.{option_map}
 use Rattle.decimal_format.specs.declared.grouping.GroupingStrategy.{GroupingStrategy}
@@ -41,12 +41,10 @@ width_of (Some (None, stem)) = Err (unsupported stem)
 width_of None = Ok display.Symbol
 
 abbrev pub currency_sign_of : Option (SignDisplay × CurrencySign) → CurrencySign
-currency_sign_of (Some (shown, sign)) = sign
-currency_sign_of None = currency_sign.Standard
+currency_sign_of s = (unwrap_or s (sign.Auto, currency_sign.Standard)).1
 
 abbrev pub sign_display_of : Option (SignDisplay × CurrencySign) → SignDisplay
-sign_display_of (Some (shown, sign)) = shown
-sign_display_of None = sign.Auto
+sign_display_of s = (unwrap_or s (sign.Auto, currency_sign.Standard)).0
 
 abbrev pub usage_of : Option (ChosenPrecision × Span) → CurrencyUsage
 usage_of (Some (precision.Currency u, stem)) = u

@@ -86,7 +86,7 @@ impl NumberFormatter {
         if has_currency {
             TextPart::new(PartKind::Currency, self.currency.text())
         } else {
-            TextPart::empty()
+            TextPart::new(PartKind::Literal, "")
         }
     }
 
@@ -104,7 +104,7 @@ impl NumberFormatter {
                 self.pattern_part(prefix.third),
                 self.pattern_part(prefix.fourth),
                 space_if(ends_with_currency(prefix) && self.currency.space_after),
-                TextPart::empty(),
+                TextPart::new(PartKind::Literal, ""),
             ],
             has_number: true,
             suffix: [
@@ -122,7 +122,7 @@ impl NumberFormatter {
         ensures { part_pieces result ≡ first_sign self.now sign form }
     {
         match form {
-            CompactForm::SignLast => TextPart::empty(),
+            CompactForm::SignLast => TextPart::new(PartKind::Literal, ""),
             _ => self.sign_part(sign),
         }
     }
@@ -132,7 +132,7 @@ impl NumberFormatter {
     {
         match form {
             CompactForm::SignLast => self.sign_part(sign),
-            _ => TextPart::empty(),
+            _ => TextPart::new(PartKind::Literal, ""),
         }
     }
 
@@ -186,7 +186,7 @@ impl NumberFormatter {
                 TextPart::new(PartKind::Compact, suffix.before_text()),
                 self.currency_if(suffix.has_currency),
                 TextPart::new(PartKind::Compact, suffix.after_text()),
-                TextPart::empty(),
+                TextPart::new(PartKind::Literal, ""),
                 TextPart::new(PartKind::Literal, unit.suffix),
             ],
         }

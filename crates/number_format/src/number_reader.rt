@@ -55,28 +55,28 @@ fn alternative(form: &Form) -> Alternative<'_>
 fn push_form(
     forms: &mut Vec<Form>,
     alloc: Global,
-    prefix: &[&str],
-    suffix: &[&str],
+    prefix: [&str; 3],
+    suffix: [&str; 2],
     sign: Sign,
 ) -> Result<(), AllocError>
     ensures { OnOk result (forms.new.items ≡ forms.old.items
-        ++ form (flat_map (λ t. t.now) prefix.now) (flat_map (λ t. t.now) suffix.now) sign ∷ []) }
+        ++ form (flat_map (λ t. t.now) prefix.entry) (flat_map (λ t. t.now) suffix.entry) sign ∷ []) }
 {
-    forms.push((OwnedAffixes::joined(alloc, prefix, suffix)?, sign))?;
+    forms.push((OwnedAffixes::joined(alloc, &prefix, &suffix)?, sign))?;
     Ok(())
 }
 
 fn push_name(forms: &mut Vec<Form>, alloc: Global, name: &str) -> Result<(), AllocError>
     ensures { OnOk result (forms.new.items ≡ forms.old.items ++ forms_of_name name.now) }
 {
-    push_form(forms, alloc, &[name], &[], Sign::None)?;
-    push_form(forms, alloc, &[name, " "], &[], Sign::None)?;
-    push_form(forms, alloc, &[], &[name], Sign::None)?;
-    push_form(forms, alloc, &[], &[" ", name], Sign::None)?;
-    push_form(forms, alloc, &["-", name], &[], Sign::Negative)?;
-    push_form(forms, alloc, &["-", name, " "], &[], Sign::Negative)?;
-    push_form(forms, alloc, &["+", name], &[], Sign::Positive)?;
-    push_form(forms, alloc, &["+", name, " "], &[], Sign::Positive)
+    push_form(forms, alloc, ["", name, ""], ["", ""], Sign::None)?;
+    push_form(forms, alloc, ["", name, " "], ["", ""], Sign::None)?;
+    push_form(forms, alloc, ["", "", ""], ["", name], Sign::None)?;
+    push_form(forms, alloc, ["", "", ""], [" ", name], Sign::None)?;
+    push_form(forms, alloc, ["-", name, ""], ["", ""], Sign::Negative)?;
+    push_form(forms, alloc, ["-", name, " "], ["", ""], Sign::Negative)?;
+    push_form(forms, alloc, ["+", name, ""], ["", ""], Sign::Positive)?;
+    push_form(forms, alloc, ["+", name, " "], ["", ""], Sign::Positive)
 }
 
 /// Reads the numbers that a [`NumberFormatter`] writes. Making it allocates, reading a short text does not.
@@ -132,12 +132,11 @@ impl NumberFormatter {
     fn names(&self) -> (&str, &str, &str)
         ensures { result.0.now ∷ result.1.now ∷ result.2.now ∷ [] ≡ names_by self.now self.now.options.style }
     {
-        let currency = &self.currency;
-        let code = text_or_nothing(&currency.code);
+        let code = text_or_nothing(&self.currency.code);
         match self.options.style {
             NumberStyle::Decimal => ("", "", ""),
             NumberStyle::Percent | NumberStyle::Permille => (self.percent.text, "", ""),
-            NumberStyle::Currency(_) => (currency.wide, currency.narrow, code),
+            NumberStyle::Currency(_) => (self.currency.wide, self.currency.narrow, code),
         }
     }
 
@@ -150,8 +149,8 @@ impl NumberFormatter {
         forms.push((self.affix_texts(alloc, Sign::None)?, Sign::None))?;
         forms.push((self.affix_texts(alloc, Sign::Negative)?, Sign::Negative))?;
         forms.push((self.affix_texts(alloc, Sign::Positive)?, Sign::Positive))?;
-        push_form(&mut forms, alloc, &[], &[], Sign::None)?;
-        push_form(&mut forms, alloc, &["("], &[")"], Sign::Negative)?;
+        push_form(&mut forms, alloc, ["", "", ""], ["", ""], Sign::None)?;
+        push_form(&mut forms, alloc, ["(", "", ""], [")", ""], Sign::Negative)?;
         push_name(&mut forms, alloc, symbol)?;
         push_name(&mut forms, alloc, narrow)?;
         push_name(&mut forms, alloc, code)?;
@@ -180,10 +179,12 @@ impl NumberFormatter {
         ensures err { IfErr result (λ e. CannotRead e self) }
     {
         let shift = self.shift()?;
-        let forms = self.forms(alloc).map_err(|_| NumberReaderError::Memory)?;
-        let affixes = self
-            .sign_affixes(alloc)
-            .map_err(|_| NumberReaderError::Memory)?;
+        let Ok(forms) = self.forms(alloc) else {
+            return Err(NumberReaderError::Memory);
+        };
+        let Ok(affixes) = self.sign_affixes(alloc) else {
+            return Err(NumberReaderError::Memory);
+        };
         match AffixReader::new(self.symbols, affixes) {
             Ok(reader) => Ok(NumberReader {
                 reader: reader.with_shift(shift),

@@ -1,6 +1,6 @@
 //! What a style of numbers writes: its pattern, its percent sign, and its currency.
 ghost use Rattle.std.specs.Prelude.{◌≡◌, ◌≤◌, [], false, None, IfSome, length};
-ghost use Rattle.number_format.specs.NumberStyles.{before, plain_pattern, percent_text, text_or_nothing, currency_text, piece_or, ends_with_currency, begins_with_currency, in_system, IsShownBy, IsShownWith, IsShownCurrency};
+ghost use Rattle.number_format.specs.NumberStyles.{before, plain_pattern, percent_text, text_or_nothing, symbol_text, currency_text, piece_or, ends_with_currency, begins_with_currency, in_system, IsShownBy, IsShownWith, IsShownCurrency};
 
 use crate::number_options::{CurrencyDisplay, CurrencyStyle, NumberStyle};
 use crate::text_part::{PartKind, TextPart};
@@ -56,7 +56,7 @@ pub(crate) fn percent_text(style: NumberStyle, sign: PercentSign) -> &'static st
 }
 
 /// A currency as it is shown.
-#[derive(Clone, Copy, Debug)]
+#[derive(Clone, Copy)]
 pub(crate) struct ShownCurrency {
     pub(crate) symbol: TextPart<'static>,
     pub(crate) code: CurrencyCode,
@@ -77,6 +77,15 @@ pub(crate) fn text_or_nothing(bytes: &[u8]) -> &str
     }
 }
 
+fn symbol_text(symbol: Option<CurrencySymbol>) -> &'static str
+    ensures { result.now ≡ symbol_text symbol }
+{
+    match symbol {
+        Some(symbol) => symbol.text,
+        None => "",
+    }
+}
+
 impl ShownCurrency {
     pub(crate) fn text(&self) -> &str
         ensures value { result.now ≡ currency_text self.now }
@@ -94,7 +103,7 @@ impl ShownCurrency {
         ensures symbol { result.shows_code ≡ false }
     {
         ShownCurrency {
-            symbol: TextPart::empty(),
+            symbol: TextPart::new(PartKind::Literal, ""),
             code: [b' '; 3],
             shows_code: false,
             space_before: false,
@@ -147,8 +156,8 @@ impl ShownCurrency {
         code.make_ascii_uppercase();
         let named = ShownCurrency {
             code,
-            wide: wide.map_or("", |symbol| symbol.text),
-            narrow: narrow.map_or("", |symbol| symbol.text),
+            wide: symbol_text(wide),
+            narrow: symbol_text(narrow),
             ..Self::none()
         };
         match style.display {

@@ -1,5 +1,5 @@
 //! Parts of the text of a number, and their kinds.
-ghost use Rattle.std.specs.Prelude.{◌≡◌, ◌≤◌, [], length};
+ghost use Rattle.std.specs.Prelude.{◌≡◌, ◌≤◌, length};
 
 /// What a part of the text of a number is, as `formatToParts` of ECMA-402 names it.
 #[derive(Clone, Copy, Debug, PartialEq)]
@@ -51,14 +51,5 @@ impl<'f> TextPart<'f> {
         ensures text { result.text.now ≡ text.now }
     {
         TextPart { kind, text }
-    }
-
-    pub(crate) fn empty() -> Self
-        ensures { result.text.now ≡ [] }
-    {
-        TextPart {
-            kind: PartKind::Literal,
-            text: "",
-        }
     }
 }

@@ -1,6 +1,6 @@
 //! What the stems of a skeleton choose.
 ghost use Rattle.std.specs.Prelude.{◌≡◌};
-ghost use Rattle.number_format.specs.SkeletonChoices.{has, with, no_choices};
+ghost use Rattle.number_format.specs.SkeletonChoices.{has, with};
 
 use crate::number_options::{CompactLength, CurrencyDisplay, CurrencyUsage, ExponentSign};
 use crate::precision::Minimum;
@@ -104,27 +104,6 @@ pub(crate) struct Choices {
 }
 
 impl Choices {
-    pub(crate) fn none() -> Self
-        ensures { result ≡ no_choices }
-    {
-        Choices {
-            notation: None,
-            unit: None,
-            per_unit: None,
-            usage: None,
-            precision: None,
-            strips_if_integer: false,
-            mode: None,
-            grouping: None,
-            integer: None,
-            system: None,
-            width: None,
-            sign: None,
-            decimal: None,
-            scale: None,
-        }
-    }
-
     /// Returns whether the group of a choice has one.
     pub(crate) fn has(&self, choice: Choice) -> bool
         ensures { result ≡ has self.now choice }
@@ -160,7 +139,13 @@ impl Choices {
             Choice::Unit(unit) => all.unit = Some((unit, stem)),
             Choice::PercentTimes100 => {
                 all.unit = Some((ChosenUnit::Percent, stem));
-                all.scale = Some((SkeletonDecimal::hundred(), stem));
+                let hundred = SkeletonDecimal {
+                    is_negative: false,
+                    digits: 1,
+                    power: 2,
+                    after_point: None,
+                };
+                all.scale = Some((hundred, stem));
             }
             Choice::UnitPerUnit => {
                 all.unit = Some((ChosenUnit::Other, stem));

@@ -1,6 +1,6 @@
 //! The decimals of `scale/` and `precision-increment/`.
 ghost use Rattle.std.specs.Prelude.{◌≡◌, ◌≤◌, ◌<◌, length, pos, negsuc, ◌+ℤ◌, ◌-ℤ◌, ◌≤ℤ◌, IfSome};
-ghost use Rattle.number_format.specs.SkeletonDecimals.{sign_length, no_digits, with_byte, significand, exponent_size, exponent, fraction_length, after_fraction, after_point, scaled, decimal, hundred};
+ghost use Rattle.number_format.specs.SkeletonDecimals.{sign_length, no_digits, with_byte, significand, exponent_size, exponent, fraction_length, after_fraction, after_point, scaled, decimal};
 
 use crate::skeleton::counts::{after, before, byte_at, run};
 
@@ -164,17 +164,4 @@ pub(crate) fn decimal(text: &[u8]) -> Option<SkeletonDecimal>
     let mantissa = before(unsigned, unsigned.len().saturating_sub(tail.len()));
     let is_negative = byte_at(text, 0) == b'-';
     Some(scaled(significand_of(mantissa), exponent, is_negative, rest))
-}
-
-impl SkeletonDecimal {
-    pub(crate) fn hundred() -> Self
-        ensures { result ≡ hundred }
-    {
-        SkeletonDecimal {
-            is_negative: false,
-            digits: 1,
-            power: 2,
-            after_point: None,
-        }
-    }
 }

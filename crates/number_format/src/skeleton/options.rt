@@ -1,6 +1,6 @@
 //! The options of stems.
 ghost use Rattle.std.specs.Prelude.{◌≡◌};
-ghost use Rattle.number_format.specs.SkeletonOptions.{last, chosen_exponent_sign, sign_option, changed_exponent, exponent_option, is_code_byte, currency_option, integer_option, decimal_system, is_algorithmic, system_option, scale_option, increment_option, both, from_to, strip_option, significant_option, option};
+ghost use Rattle.number_format.specs.SkeletonOptions.{last, chosen_exponent_sign, changed_exponent, exponent_option, is_code_byte, currency_option, integer_option, decimal_system, is_algorithmic, system_option, scale_option, increment_option, both, strip_option, significant_option, option};
 
 use crate::number_options::ExponentSign;
 use crate::precision::Minimum;
@@ -34,12 +34,6 @@ fn chosen_exponent_sign(choice: Choice) -> Option<ExponentSign>
     }
 }
 
-fn sign_option(text: &[u8]) -> Option<ExponentSign>
-    ensures { result ≡ sign_option text.now }
-{
-    chosen_exponent_sign(named(text)?.choice)
-}
-
 fn changed_exponent(exponent: Exponent, text: &[u8]) -> Option<Exponent>
     ensures { result ≡ changed_exponent exponent text.now }
 {
@@ -52,7 +46,7 @@ fn changed_exponent(exponent: Exponent, text: &[u8]) -> Option<Exponent>
             ..exponent
         });
     }
-    let sign = sign_option(text)?;
+    let sign = chosen_exponent_sign(named(text)?.choice)?;
     Some(Exponent { sign, ..exponent })
 }
 
@@ -185,15 +179,6 @@ fn strip_option(text: &[u8]) -> Option<Meaning>
     last(Choice::StripIfInteger)
 }
 
-fn from_to(min: usize, max: usize) -> Counts
-    ensures { result ≡ from_to min max }
-{
-    Counts {
-        min,
-        max: Some(max),
-    }
-}
-
 fn significant_option(fraction: Counts, text: &[u8]) -> Option<Meaning>
     ensures { result ≡ significant_option fraction text.now }
 {
@@ -201,26 +186,24 @@ fn significant_option(fraction: Counts, text: &[u8]) -> Option<Meaning>
     let rest = after(text, least);
     let greatest = least + run(rest, b'#', b'#');
     let priority = after(text, greatest);
+    let significant = Counts {
+        min: least,
+        max: Some(greatest),
+    };
     if least == 0 {
         strip_option(text)
     } else if is_wild(rest) {
-        both(fraction, from_to(1, least), MorePrecision, Minimum::Both)
+        let significant = Counts {
+            min: 1,
+            max: Some(least),
+        };
+        both(fraction, significant, MorePrecision, Minimum::Both)
     } else if priority.is_empty() && least == 1 {
-        both(fraction, from_to(1, greatest), LessPrecision, Minimum::Both)
+        both(fraction, significant, LessPrecision, Minimum::Both)
     } else if is_byte(priority, b'r') {
-        both(
-            fraction,
-            from_to(least, greatest),
-            MorePrecision,
-            Minimum::Chosen,
-        )
+        both(fraction, significant, MorePrecision, Minimum::Chosen)
     } else if is_byte(priority, b's') {
-        both(
-            fraction,
-            from_to(least, greatest),
-            LessPrecision,
-            Minimum::Chosen,
-        )
+        both(fraction, significant, LessPrecision, Minimum::Chosen)
     } else {
         None
     }

@@ -1,6 +1,6 @@
 //! The pieces of a skeleton, one after another.
 ghost use Rattle.std.specs.Prelude.{◌≡◌, ◌+◌, ◌<◌, ◌^◌, ◌≤◌, length};
-ghost use Rattle.number_format.specs.SkeletonReading.{separator_length, is_stem, needs_option, no_stems, read_stem, read_option, read_piece, at_end, next};
+ghost use Rattle.number_format.specs.SkeletonReading.{separator_length, is_stem, needs_option, no_stems, read_stem, read_piece, at_end, next};
 
 use crate::skeleton::SkeletonError;
 use crate::skeleton::choices::{Choices, Span};
@@ -45,7 +45,22 @@ impl Reading {
         ensures { result ≡ no_stems }
     {
         Reading {
-            choices: Choices::none(),
+            choices: Choices {
+                notation: None,
+                unit: None,
+                per_unit: None,
+                usage: None,
+                precision: None,
+                strips_if_integer: false,
+                mode: None,
+                grouping: None,
+                integer: None,
+                system: None,
+                width: None,
+                sign: None,
+                decimal: None,
+                scale: None,
+            },
             expected: Expected::Stem,
             stem: Span { start: 0, end: 0 },
         }
@@ -65,17 +80,6 @@ impl Reading {
         })
     }
 
-    fn read_option(self, text: &[u8]) -> Option<Self>
-        ensures { result ≡ read_option self text.now }
-    {
-        let meaning = option(self.expected, text)?;
-        Some(Reading {
-            choices: self.choices.with(meaning.choice, self.stem),
-            expected: meaning.expected,
-            stem: self.stem,
-        })
-    }
-
     #[tactic(auto, unfolding(crate::specs::SkeletonReading::read_piece))]
     fn read_piece(self, start: usize, text: &[u8]) -> Option<Self>
         requires { start + length text.now < 2 ^ 64 }
@@ -85,7 +89,12 @@ impl Reading {
             if text.is_empty() {
                 return None;
             }
-            return self.read_option(text);
+            let meaning = option(self.expected, text)?;
+            return Some(Reading {
+                choices: self.choices.with(meaning.choice, self.stem),
+                expected: meaning.expected,
+                stem: self.stem,
+            });
         }
         if text.is_empty() {
             return Some(self);

@@ -1,8 +1,8 @@
 //! The options that the choices of a skeleton are, by ICU's defaults.
 ghost use Rattle.std.specs.Prelude.{◌≡◌, ◌≤◌, pos, negsuc, ◌≤ℤ◌, Ok, Err, MatchResult};
 ghost use Rattle.number_format.specs.ShownDigits.{increment_of};
-ghost use Rattle.number_format.specs.SkeletonDigits.{unsupported, fraction_of, significant_of, fraction_digits, unit_of, multiples_of, increment_of_decimal, money_precision, both_of, currency_digits_of, currency_of, chosen_precision, precision_of, precision_value, integer_of, mode_of, trailing_zeros_of, digits_of, digits_value, is_compact};
-ghost use Rattle.number_format.specs.SkeletonMeaning.{exponent_notation, notation_of, width_of, percent_style, currency_sign_of, sign_display_of, usage_of, style_of, scale_power, scale_of, grouping_of, system_of, others_of, options_of, options_value};
+ghost use Rattle.number_format.specs.SkeletonDigits.{unsupported, fraction_of, significant_of, fraction_digits, unit_of, multiples_of, increment_of_decimal, money_precision, both_of, currency_of, chosen_precision, precision_of, precision_value, integer_of, mode_of, trailing_zeros_of, digits_of, digits_value, is_compact};
+ghost use Rattle.number_format.specs.SkeletonMeaning.{notation_of, width_of, percent_style, usage_of, style_of, scale_power, scale_of, grouping_of, system_of, others_of, options_of, options_value};
 
 use crate::digit_options::{DigitOptions, TrailingZeros};
 use crate::digit_ranges::{
@@ -16,7 +16,7 @@ use crate::precision::{BothDigits, Minimum, Precision};
 use crate::settings::RoundingPriority;
 use crate::skeleton::SkeletonError;
 use crate::skeleton::choices::{
-    Choices, ChosenNotation, ChosenPrecision, ChosenUnit, Exponent, Span, TwoCounts,
+    Choices, ChosenNotation, ChosenPrecision, ChosenUnit, Span, TwoCounts,
 };
 use crate::skeleton::counts::Counts;
 use crate::skeleton::decimal::SkeletonDecimal;
@@ -31,22 +31,6 @@ fn unsupported(stem: Span) -> SkeletonError
         start: stem.start,
         end: stem.end,
     }
-}
-
-fn exponent_notation(exponent: Exponent, stem: Span) -> Result<NumberNotation, SkeletonError>
-    ensures { result ≡ exponent_notation exponent stem }
-{
-    if exponent.digits == 0 || exponent.digits > 65535 {
-        return Err(unsupported(stem));
-    }
-    let options = ExponentOptions {
-        digits: exponent.digits as u16,
-        sign: exponent.sign,
-    };
-    if exponent.is_engineering {
-        return Ok(NumberNotation::Engineering(options));
-    }
-    Ok(NumberNotation::Scientific(options))
 }
 
 fn percent_style(
@@ -188,7 +172,19 @@ impl Choices {
         ensures { result ≡ notation_of self.now.notation }
     {
         match self.notation {
-            Some((ChosenNotation::Exponent(exponent), stem)) => exponent_notation(exponent, stem),
+            Some((ChosenNotation::Exponent(exponent), stem)) => {
+                if exponent.digits == 0 || exponent.digits > 65535 {
+                    return Err(unsupported(stem));
+                }
+                let options = ExponentOptions {
+                    digits: exponent.digits as u16,
+                    sign: exponent.sign,
+                };
+                if exponent.is_engineering {
+                    return Ok(NumberNotation::Engineering(options));
+                }
+                Ok(NumberNotation::Scientific(options))
+            }
             Some((ChosenNotation::Compact(length), _)) => Ok(NumberNotation::Compact(length)),
             _ => Ok(NumberNotation::Standard),
         }
@@ -201,24 +197,6 @@ impl Choices {
             Some((Some(display), _)) => Ok(display),
             Some((None, stem)) => Err(unsupported(stem)),
             None => Ok(CurrencyDisplay::Symbol),
-        }
-    }
-
-    fn currency_sign(&self) -> CurrencySign
-        ensures { result ≡ currency_sign_of self.now.sign }
-    {
-        match self.sign {
-            Some((_, sign)) => sign,
-            None => CurrencySign::Standard,
-        }
-    }
-
-    fn sign_display(&self) -> SignDisplay
-        ensures { result ≡ sign_display_of self.now.sign }
-    {
-        match self.sign {
-            Some((display, _)) => display,
-            None => SignDisplay::Auto,
         }
     }
 
@@ -244,7 +222,10 @@ impl Choices {
             Some((ChosenUnit::Currency(code), _)) => Ok(NumberStyle::Currency(CurrencyStyle {
                 code,
                 display,
-                sign: self.currency_sign(),
+                sign: self
+                    .sign
+                    .unwrap_or((SignDisplay::Auto, CurrencySign::Standard))
+                    .1,
                 usage: self.currency_usage(),
             })),
             Some((ChosenUnit::Other, stem)) => Err(unsupported(stem)),
@@ -321,19 +302,6 @@ impl Choices {
         }
     }
 
-    fn digits_of_currency(&self) -> CurrencyDigits
-        ensures { result ≡ currency_digits_of self.now.unit }
-    {
-        match self.unit {
-            Some((ChosenUnit::Currency(code), _)) => currency_digits(code),
-            _ => CurrencyDigits {
-                digits: 2,
-                cash_digits: 2,
-                cash_increment: 0,
-            },
-        }
-    }
-
     fn currency_precision(
         &self,
         usage: CurrencyUsage,
@@ -342,7 +310,15 @@ impl Choices {
         ensures { MatchResult result (λ p. currency_of self.now.unit usage stem ≡ Ok (precision_value p))
             (λ e. currency_of self.now.unit usage stem ≡ Err e) }
     {
-        money_precision(usage.digits(self.digits_of_currency()), stem)
+        if let Some((ChosenUnit::Currency(code), _)) = self.unit {
+            return money_precision(usage.digits(currency_digits(code)), stem);
+        }
+        let digits = CurrencyDigits {
+            digits: 2,
+            cash_digits: 2,
+            cash_increment: 0,
+        };
+        money_precision(usage.digits(digits), stem)
     }
 
     fn chosen_precision(
@@ -419,7 +395,10 @@ impl Choices {
             scale: self.power_of_ten()?,
             notation: self.number_notation()?,
             digits: Some(self.digit_options()?),
-            sign_display: self.sign_display(),
+            sign_display: self
+                .sign
+                .unwrap_or((SignDisplay::Auto, CurrencySign::Standard))
+                .0,
             grouping: self.grouping_strategy()?,
             numbering_system: self.numbering_system()?,
         })

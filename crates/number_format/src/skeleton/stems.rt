@@ -1,6 +1,6 @@
 //! The stems of skeletons, and the options of those that need one.
 ghost use Rattle.std.specs.Prelude.{◌≡◌};
-ghost use Rattle.number_format.specs.SkeletonStems.{is_name, named, precision_of, beside_significant, fraction_stem, significant_stem, exponent_sign, exponent_stem, integer_stem, stem};
+ghost use Rattle.number_format.specs.SkeletonStems.{is_name, named, fraction_stem, significant_stem, exponent_sign, exponent_stem, integer_stem, stem};
 
 use crate::number_options::CurrencyUsage::{Cash, Standard};
 use crate::number_options::{CompactLength, CurrencyDisplay, ExponentSign};
@@ -187,31 +187,19 @@ pub(crate) fn named(text: &[u8]) -> Option<Meaning>
     }
 }
 
-fn precision_of(fraction: Counts) -> ChosenPrecision
-    ensures { result ≡ precision_of fraction }
-{
-    if fraction.min == 0 && fraction.max.is_none() {
-        return ChosenPrecision::Unlimited;
-    }
-    ChosenPrecision::Fraction(fraction)
-}
-
-fn beside_significant(fraction: Counts) -> Counts
-    ensures { result ≡ beside_significant fraction }
-{
-    if fraction.min == 0 && fraction.max.is_none() {
-        return NO_DIGITS;
-    }
-    fraction
-}
-
 fn fraction_stem(text: &[u8]) -> Option<Meaning>
     ensures { result ≡ fraction_stem text.now }
 {
     let fraction = digit_counts(after(text, 1), b'0', b'#')?;
+    if fraction.min == 0 && fraction.max.is_none() {
+        return Some(Meaning {
+            choice: Choice::Precision(ChosenPrecision::Unlimited),
+            expected: Expected::Significant(NO_DIGITS),
+        });
+    }
     Some(Meaning {
-        choice: Choice::Precision(precision_of(fraction)),
-        expected: Expected::Significant(beside_significant(fraction)),
+        choice: Choice::Precision(ChosenPrecision::Fraction(fraction)),
+        expected: Expected::Significant(fraction),
     })
 }
 

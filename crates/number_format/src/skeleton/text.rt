@@ -95,14 +95,14 @@ fn push_notation(text: &mut String, notation: NumberNotation) -> Result<(), Allo
     }
 }
 
-fn push_width(text: &mut String, display: CurrencyDisplay) -> Result<(), AllocError>
-    ensures { Appends result text.old text.new (width_text display) }
+fn width_text(display: CurrencyDisplay) -> &'static str
+    ensures { result.now ≡ width_text display }
 {
     match display {
-        CurrencyDisplay::Symbol => Ok(()),
-        CurrencyDisplay::Narrow => text.push_str("unit-width-narrow "),
-        CurrencyDisplay::Code => text.push_str("unit-width-iso-code "),
-        CurrencyDisplay::Hidden => text.push_str("unit-width-hidden "),
+        CurrencyDisplay::Symbol => "",
+        CurrencyDisplay::Narrow => "unit-width-narrow ",
+        CurrencyDisplay::Code => "unit-width-iso-code ",
+        CurrencyDisplay::Hidden => "unit-width-hidden ",
     }
 }
 
@@ -113,7 +113,7 @@ fn push_currency(text: &mut String, currency: CurrencyStyle) -> Result<(), Alloc
     text.push_str("currency/")?;
     push_ascii(text, &currency.code)?;
     text.push(' ')?;
-    push_width(text, currency.display)
+    text.push_str(width_text(currency.display))
 }
 
 /// Appends the last digits of a number, at most five.
@@ -365,15 +365,6 @@ fn has_thousands(digits: u16, increment: u16) -> bool
     increment % 1000 == 0 && (digits == 0 || digits == 2 || digits == 3)
 }
 
-/// Appends an increment with a negative exponent: `25e-4`.
-fn push_fractions(text: &mut String, digits: u16, increment: u16) -> Result<(), AllocError>
-    ensures { Appends result text.old text.new (decimal_text increment ++ 101 ∷ 45 ∷ decimal_text digits) }
-{
-    push_number(text, increment)?;
-    text.push_str("e-")?;
-    push_number(text, digits)
-}
-
 /// Appends an increment with a number of fraction digits.
 fn push_increment(text: &mut String, digits: u16, increment: u16) -> Result<(), AllocError>
     requires few { increment ≤ 5000 }
@@ -386,7 +377,9 @@ fn push_increment(text: &mut String, digits: u16, increment: u16) -> Result<(), 
         return push_number(text, increment);
     }
     if digits > 3 && increment % 10 != 0 {
-        return push_fractions(text, digits, increment);
+        push_number(text, increment)?;
+        text.push_str("e-")?;
+        return push_number(text, digits);
     }
     push_pointed(text, digits, increment)
 }
@@ -494,20 +487,20 @@ fn push_shown_precision(
     push_stripped(text, style, digits)
 }
 
-fn push_mode(text: &mut String, mode: SignedRoundingMode) -> Result<(), AllocError>
-    ensures { Appends result text.old text.new (mode_text mode) }
+fn mode_text(mode: SignedRoundingMode) -> &'static str
+    ensures { result.now ≡ mode_text mode }
 {
     match mode {
-        SignedRoundingMode::Ceil => text.push_str("rounding-mode-ceiling "),
-        SignedRoundingMode::Floor => text.push_str("rounding-mode-floor "),
-        SignedRoundingMode::HalfCeil => text.push_str("rounding-mode-half-ceiling "),
-        SignedRoundingMode::HalfFloor => text.push_str("rounding-mode-half-floor "),
+        SignedRoundingMode::Ceil => "rounding-mode-ceiling ",
+        SignedRoundingMode::Floor => "rounding-mode-floor ",
+        SignedRoundingMode::HalfCeil => "rounding-mode-half-ceiling ",
+        SignedRoundingMode::HalfFloor => "rounding-mode-half-floor ",
         SignedRoundingMode::Unsigned(mode) => match mode {
-            UnsignedRoundingMode::Expand => text.push_str("rounding-mode-up "),
-            UnsignedRoundingMode::Trunc => text.push_str("rounding-mode-down "),
-            UnsignedRoundingMode::HalfExpand => text.push_str("rounding-mode-half-up "),
-            UnsignedRoundingMode::HalfTrunc => text.push_str("rounding-mode-half-down "),
-            UnsignedRoundingMode::HalfEven => Ok(()),
+            UnsignedRoundingMode::Expand => "rounding-mode-up ",
+            UnsignedRoundingMode::Trunc => "rounding-mode-down ",
+            UnsignedRoundingMode::HalfExpand => "rounding-mode-half-up ",
+            UnsignedRoundingMode::HalfTrunc => "rounding-mode-half-down ",
+            UnsignedRoundingMode::HalfEven => "",
         },
     }
 }
@@ -537,20 +530,16 @@ fn push_integer(text: &mut String, integer: IntegerDigits) -> Result<(), AllocEr
     push_integer_width(text, max - min, min)
 }
 
-fn push_grouping(
-    text: &mut String,
-    is_compact: bool,
-    grouping: GroupingStrategy,
-) -> Result<(), AllocError>
-    ensures { Appends result text.old text.new (grouping_text is_compact grouping) }
+fn grouping_text(is_compact: bool, grouping: GroupingStrategy) -> &'static str
+    ensures { result.now ≡ grouping_text is_compact grouping }
 {
     match (is_compact, grouping) {
-        (true, GroupingStrategy::Min2) => Ok(()),
-        (true, GroupingStrategy::Auto) => text.push_str("group-auto "),
-        (false, GroupingStrategy::Auto) => Ok(()),
-        (_, GroupingStrategy::Never) => text.push_str(",_ "),
-        (_, GroupingStrategy::Always) => text.push_str(",! "),
-        (false, GroupingStrategy::Min2) => text.push_str(",? "),
+        (true, GroupingStrategy::Min2) => "",
+        (true, GroupingStrategy::Auto) => "group-auto ",
+        (false, GroupingStrategy::Auto) => "",
+        (_, GroupingStrategy::Never) => ",_ ",
+        (_, GroupingStrategy::Always) => ",! ",
+        (false, GroupingStrategy::Min2) => ",? ",
     }
 }
 
@@ -563,19 +552,19 @@ fn style_sign(style: NumberStyle) -> CurrencySign
     }
 }
 
-fn push_sign(text: &mut String, sign: CurrencySign, display: SignDisplay) -> Result<(), AllocError>
-    ensures { Appends result text.old text.new (sign_text sign display) }
+fn sign_text(sign: CurrencySign, display: SignDisplay) -> &'static str
+    ensures { result.now ≡ sign_text sign display }
 {
     match (sign, display) {
-        (CurrencySign::Standard, SignDisplay::Auto) => Ok(()),
-        (CurrencySign::Standard, SignDisplay::Always) => text.push_str("+! "),
-        (CurrencySign::Standard, SignDisplay::ExceptZero) => text.push_str("+? "),
-        (CurrencySign::Standard, SignDisplay::Negative) => text.push_str("+- "),
-        (CurrencySign::Accounting, SignDisplay::Auto) => text.push_str("() "),
-        (CurrencySign::Accounting, SignDisplay::Always) => text.push_str("()! "),
-        (CurrencySign::Accounting, SignDisplay::ExceptZero) => text.push_str("()? "),
-        (CurrencySign::Accounting, SignDisplay::Negative) => text.push_str("()- "),
-        (_, SignDisplay::Never) => text.push_str("+_ "),
+        (CurrencySign::Standard, SignDisplay::Auto) => "",
+        (CurrencySign::Standard, SignDisplay::Always) => "+! ",
+        (CurrencySign::Standard, SignDisplay::ExceptZero) => "+? ",
+        (CurrencySign::Standard, SignDisplay::Negative) => "+- ",
+        (CurrencySign::Accounting, SignDisplay::Auto) => "() ",
+        (CurrencySign::Accounting, SignDisplay::Always) => "()! ",
+        (CurrencySign::Accounting, SignDisplay::ExceptZero) => "()? ",
+        (CurrencySign::Accounting, SignDisplay::Negative) => "()- ",
+        (_, SignDisplay::Never) => "+_ ",
     }
 }
 
@@ -609,7 +598,7 @@ fn push_digits(text: &mut String, options: &NumberOptions) -> Result<(), AllocEr
         return Ok(());
     };
     push_shown_precision(text, options, digits)?;
-    push_mode(text, digits.mode)?;
+    text.push_str(mode_text(digits.mode))?;
     push_integer(text, digits.integer)
 }
 
@@ -620,7 +609,7 @@ pub(crate) fn push_skeleton(text: &mut String, options: &NumberOptions) -> Resul
     push_notation(text, options.notation)?;
     push_style(text, options.style, options.scale)?;
     push_digits(text, options)?;
-    push_grouping(text, options.is_compact(), options.grouping)?;
-    push_sign(text, style_sign(options.style), options.sign_display)?;
+    text.push_str(grouping_text(options.is_compact(), options.grouping))?;
+    text.push_str(sign_text(style_sign(options.style), options.sign_display))?;
     push_system(text, options.numbering_system)
 }
