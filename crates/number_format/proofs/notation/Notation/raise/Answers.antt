@@ -1,6 +1,5 @@
 use Rattle.std.proofs.Common.{◌*◌, ◌^◌, ◌∙◌, ap, arith, rules, w16, w32, FitsSigned}
 use Rattle.std.specs.Prelude.{pos}
-use Rattle.std.proofs.lemmas.Grind.{common_steps}
 use Rattle.std.proofs.lemmas.Int.{ints, clamps, to_z-of_z}
 use Rattle.fixed_decimal.proofs.Calling.{below_limit}
 use Rattle.number_format.proofs.Scales.{raised_first, raised_twice}
@@ -27,15 +26,3 @@ returns-clause-number g c =
     c.raise-2.ensures ∙ ap (λ k. k * 10 ^ c.halves-half.result.1) c.raise.ensures
     ∙ raised_twice c.args.value.now.number c.halves-half.result.0 c.halves-half.result.1 _
     (omega (arith, ints, clamps, sum, min))
-
-pub raise-requires-clause-low : goal.raise-requires-clause-low
-raise-requires-clause-low g c = grind (arith, common_steps)
-
-pub returns-clause-exponent : goal.returns-clause-exponent
-returns-clause-exponent g c = grind (arith, common_steps)
-
-pub returns-clause-at_least : goal.returns-clause-at_least
-returns-clause-at_least g c = grind (arith, common_steps)
-
-pub returns-clause-at_most : goal.returns-clause-at_most
-returns-clause-at_most g c = grind (arith, common_steps)
