@@ -16,7 +16,7 @@ pub enum Program {
 }
 
 /// What an only word asks for, instead of the work of a program.
-#[derive(Clone, Copy, Debug, PartialEq)]
+#[derive(Clone, Copy)]
 pub enum Request {
     Help,
     Version,
