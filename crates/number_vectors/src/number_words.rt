@@ -332,7 +332,7 @@ fn set_count(settings: &mut DigitSettings, name: &str, count: u16) -> Option<()>
 }
 
 /// Sets the value of a name that has many: beyond ECMA-402 `defaults` are the numbers of fraction digits by default,
-/// `integer` and the precisions replace what the settings say, and `scale` that of the style.
+/// `integer` and the precisions replace what the settings say, and `scale` that of a style before it.
 fn set_value(options: &mut Options, name: &str, value: &str) -> Option<()> {
     match name {
         "currency" => options.currency.code = code(value)?,
