@@ -17,11 +17,17 @@ usage_of Fixdec = FIXDEC.now
 usage_of FixdecLines = FIXDEC_LINES.now
 usage_of Plural = PLURAL.now
 
--- what follows the usage line
-unfoldable pub words_and_table_of : Program → List ℕ
-words_and_table_of Fixdec = TEXT.now ++ CALLS.now
-words_and_table_of FixdecLines = OPTIONS.now ++ CALLS.now
-words_and_table_of Plural = RULES.now ++ OPERANDS.now
+-- a text on the words, which follows the usage line
+unfoldable pub words_of : Program → List ℕ
+words_of Fixdec = TEXT.now
+words_of FixdecLines = OPTIONS.now
+words_of Plural = RULES.now
+
+-- the table of the words
+unfoldable pub table_of : Program → List ℕ
+table_of Fixdec = CALLS.now
+table_of FixdecLines = CALLS.now
+table_of Plural = OPERANDS.now
 
 -- the stems of skeletons, if the program has them
 unfoldable pub skeletons_of : Program → List ℕ
@@ -35,7 +41,7 @@ version_of program = name_of program ++ (32 ∷ VERSION.now) ++ (10 ∷ [])
 
 abbrev pub help_of : Program → List ℕ
 help_of program =
-    (usage_of program ++ words_and_table_of program) ++ (skeletons_of program ++ version_of program)
+    (usage_of program ++ (words_of program ++ table_of program)) ++ (skeletons_of program ++ version_of program)
 
 -- what a request asks for
 abbrev pub answer_of : Program → Request → List ℕ

@@ -9,7 +9,7 @@ use crate::shown_word::ShownWord;
 use std::fmt;
 
 /// What a word `field:..` names.
-#[derive(Clone, Copy, Debug)]
+#[derive(Clone, Copy)]
 pub enum Column<'a> {
     /// `field:N`: the field with this 0-based index.
     Index(usize),
@@ -18,7 +18,7 @@ pub enum Column<'a> {
 }
 
 /// How an error names a field.
-#[derive(Clone, Copy, Debug, PartialEq)]
+#[derive(Clone, Copy, Debug)]
 pub enum FieldLabel {
     /// By its 0-based index.
     Index(usize),

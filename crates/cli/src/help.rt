@@ -1,7 +1,7 @@
 //! The texts of `--help` and `--version`.
 ghost use Rattle.std.specs.Prelude.{◌≡◌, ◌++◌, OnOk};
 ghost use Rattle.std.specs.Io.KnownBytes.{Appends};
-ghost use Rattle.cli.specs.Help.{name_of, usage_of, words_and_table_of, skeletons_of, version_of, help_of, answer_of};
+ghost use Rattle.cli.specs.Help.{name_of, usage_of, words_of, table_of, skeletons_of, version_of, help_of, answer_of};
 
 use crate::locale_list::print_locales;
 use fixed_decimal::{WriteError, write_whole};
@@ -16,7 +16,7 @@ pub enum Program {
 }
 
 /// What an only word asks for, instead of the work of a program.
-#[derive(Clone, Copy, Debug, PartialEq)]
+#[derive(Clone, Copy)]
 pub enum Request {
     Help,
     Version,
@@ -179,9 +179,10 @@ impl Program {
     }
 
     /// Returns what follows the usage line: a text on the words, and a table.
-    #[tactic(auto, unfolding(crate::specs::Help::words_and_table_of))]
+    #[tactic(auto, unfolding(crate::specs::Help::words_of, crate::specs::Help::table_of))]
     fn words_and_table(self) -> (&'static str, &'static str)
-        ensures { (result.0.now ++ result.1.now) ≡ words_and_table_of self }
+        ensures words { result.0.now ≡ words_of self }
+        ensures table { result.1.now ≡ table_of self }
     {
         match self {
             Program::Fixdec => (TEXT, CALLS),
@@ -213,7 +214,7 @@ impl Program {
 
     fn print_words<W: Write>(self, out: &mut W) -> Result<(), WriteError<W>>
         ensures { OnOk result (Appends (W.contents out.old) (W.contents out.new)
-            (usage_of self ++ words_and_table_of self)) }
+            (usage_of self ++ (words_of self ++ table_of self))) }
     {
         let (words, table) = self.words_and_table();
         write_whole(out, self.usage().as_bytes())?;

@@ -13,7 +13,7 @@ use plural_rules::{PluralRules, RulesError};
 use std::alloc::Global;
 
 /// Why a word names no plural rules.
-#[derive(Clone, Copy, Debug, PartialEq)]
+#[derive(Clone, Copy, Debug)]
 pub enum NamedRulesError {
     /// The locale with this tag is unknown.
     UnknownLocale(ShownWord),

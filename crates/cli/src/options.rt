@@ -12,7 +12,7 @@ use crate::fields::Field;
 use crate::filter::OnError;
 
 /// The options of a filter, each of which a word names at most once.
-#[derive(Clone, Copy, Debug)]
+#[derive(Clone, Copy)]
 pub struct Options<'a> {
     /// `skip` or `keep`: what the filter does at a line that fails.
     pub on_error: OnError,

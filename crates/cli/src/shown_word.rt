@@ -6,7 +6,7 @@ use arrayvec::ArrayString;
 use std::fmt;
 
 /// The first characters of a word, in at most 40 bytes, with `?` for each control.
-#[derive(Clone, Copy, Debug, PartialEq)]
+#[derive(Clone, Copy, Debug)]
 pub struct ShownWord {
     pub(crate) text: ArrayString<40>,
 }

@@ -4,7 +4,6 @@ use std::test::Fail;
 
 mod blocks;
 mod errors;
-mod failing_writers;
 mod rows;
 
 /// Returns the words of a line, which single blanks separate.

@@ -6,26 +6,11 @@ use std::io::Read;
 /// A reader of a text, with at most `most` bytes a read, which may fail after the text.
 #[derive(Drop)]
 pub struct ChunkReader<'a> {
-    text: &'a [u8],
-    most: usize,
-    fault: Fault,
-    is_read: bool,
-}
-
-impl<'a> ChunkReader<'a> {
-    pub fn new(text: &'a [u8], most: usize, fault: Fault) -> Self {
-        ChunkReader {
-            text,
-            most,
-            fault,
-            is_read: false,
-        }
-    }
-
+    pub text: &'a [u8],
+    pub most: usize,
+    pub fault: Fault,
     /// Whether the reader was called.
-    pub fn is_read(&self) -> bool {
-        self.is_read
-    }
+    pub is_read: bool,
 }
 
 impl Read for ChunkReader<'_> {

@@ -20,7 +20,7 @@ mod row;
 use cli::{ErrorLines, LineReader, Program, fixdec, fixdec_lines, plural};
 use fixed_decimal::Closed;
 use input::ChunkReader;
-use row::{Fault, Row};
+use row::{Expected, Fault, Row, unescaped};
 use std::alloc::Global;
 use std::env::Args;
 use std::io;
@@ -53,11 +53,23 @@ fn run_lines<'a>(
 }
 
 /// Whether a row holds. With status 2 the input is not read. Errors are one write a line, where a write takes a line.
-fn holds_by(alloc: Global, row: &Row<'_>, (most, width, failure): Chunking) -> Option<bool> {
+fn holds_by(
+    alloc: Global,
+    row: &Row<'_>,
+    text: &[u8],
+    output: &Expected,
+    errors: &Expected,
+    (most, width, failure): Chunking,
+) -> Option<bool> {
     let arguments = row.arguments(alloc)?;
-    let mut input = ChunkReader::new(row.input.as_slice(), most, row.fault);
-    let out = row.output.writer(failure).with_width(width);
-    let mut err = row.errors.writer(failure).with_width(width);
+    let mut input = ChunkReader {
+        text,
+        most,
+        fault: row.fault,
+        is_read: false,
+    };
+    let out = output.writer(failure).with_width(width);
+    let mut err = errors.writer(failure).with_width(width);
     let (status, back) = match row.program {
         Program::Fixdec => fixdec::run_arguments(alloc, arguments, out, &mut err),
         Program::FixdecLines => run_lines(alloc, arguments, &mut input, out, &mut err)?,
@@ -65,21 +77,24 @@ fn holds_by(alloc: Global, row: &Row<'_>, (most, width, failure): Chunking) -> O
             plural::run_arguments(alloc, arguments, out, &mut ErrorLines::new(&mut err))
         }
     };
-    let is_whole = width == 1 || row.errors.is_in_lines(&err);
-    let is_unread = status != 2 || !input.is_read();
-    let is_written = back.is_some_and(|closed| row.output.is_in(&closed.into_writer()));
-    Some(status == row.status && is_written && row.errors.is_in(&err) && is_whole && is_unread)
+    let is_whole = width == 1 || errors.is_in_lines(&err);
+    let is_unread = status != 2 || !input.is_read;
+    let is_written = back.is_some_and(|closed| output.is_in(&closed.into_writer()));
+    Some(status == row.status && is_written && errors.is_in(&err) && is_whole && is_unread)
 }
 
 /// Whether a row holds with each size of reads and writes.
 fn holds(alloc: Global, line: &str) -> Option<bool> {
-    let row = Row::parse(alloc, line)?;
+    let row = Row::parse(line)?;
+    let input = unescaped(alloc, row.input)?;
+    let output = Expected::parse(alloc, row.output)?;
+    let errors = Expected::parse(alloc, row.errors)?;
     let chunkings = match row.fault {
         Fault::Flush => CLOSED_PIPE,
         _ => CHUNKINGS,
     };
     for chunking in chunkings {
-        if holds_by(alloc, &row, *chunking) != Some(true) {
+        if holds_by(alloc, &row, input.as_slice(), &output, &errors, *chunking) != Some(true) {
             return Some(false);
         }
     }

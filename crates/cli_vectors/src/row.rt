@@ -48,7 +48,7 @@ fn escaped_byte(part: &str) -> Option<(u8, &str)> {
 }
 
 /// Returns the bytes of a text with escapes.
-fn unescaped(alloc: Global, text: &str) -> Option<Vec<u8>> {
+pub fn unescaped(alloc: Global, text: &str) -> Option<Vec<u8>> {
     let mut bytes = Vec::new(alloc);
     for (index, part) in text.split('\\').enumerate() {
         let mut rest = part;
@@ -71,7 +71,7 @@ pub struct Expected {
 
 impl Expected {
     /// Parses a field.
-    fn parse(alloc: Global, field: &str) -> Option<Self> {
+    pub fn parse(alloc: Global, field: &str) -> Option<Self> {
         let Some((taken, rest)) = field.split_once('|') else {
             return Some(Expected {
                 text: unescaped(alloc, field)?,
@@ -102,24 +102,24 @@ impl Expected {
     }
 }
 
-/// A program, its words and input, and what it writes.
-#[derive(Drop)]
+/// A program, its words and input, and what it writes, with escapes.
+#[derive(Clone, Copy)]
 pub struct Row<'a> {
     pub program: Program,
     pub fault: Fault,
     words: &'a str,
-    pub input: Vec<u8>,
+    pub input: &'a str,
     pub status: u8,
-    pub output: Expected,
-    pub errors: Expected,
+    pub output: &'a str,
+    pub errors: &'a str,
 }
 
 impl<'a> Row<'a> {
     /// Parses a line.
-    pub fn parse(alloc: Global, line: &'a str) -> Option<Self> {
+    pub fn parse(line: &'a str) -> Option<Self> {
         let (program, line) = line.split_once('\t')?;
         let (words, line) = line.split_once('\t')?;
-        let (text, line) = line.split_once('\t')?;
+        let (input, line) = line.split_once('\t')?;
         let (status, line) = line.split_once('\t').unwrap_or((line, ""));
         let (output, errors) = line.split_once('\t').unwrap_or((line, ""));
         let (program, fault) = program.split_once(' ').unwrap_or((program, ""));
@@ -127,10 +127,10 @@ impl<'a> Row<'a> {
             program: named(PROGRAMS, program)?,
             fault: named(FAULTS, fault)?,
             words,
-            input: unescaped(alloc, text)?,
+            input,
             status: status.parse().ok()?,
-            output: Expected::parse(alloc, output)?,
-            errors: Expected::parse(alloc, errors)?,
+            output,
+            errors,
         })
     }
 

@@ -12,23 +12,6 @@ use number_format::{
 };
 use test_support::named;
 
-/// The styles by the names of ECMA-402.
-#[derive(Clone, Copy)]
-enum Style {
-    Decimal,
-    Percent,
-    Currency,
-}
-
-/// The notations by the names of ECMA-402.
-#[derive(Clone, Copy)]
-enum NotationName {
-    Standard,
-    Scientific,
-    Engineering,
-    Compact,
-}
-
 /// What a row checks.
 #[derive(Clone, Copy)]
 pub enum Check {
@@ -45,87 +28,62 @@ pub enum Check {
 /// What the words of a row say.
 #[derive(Clone, Copy)]
 pub struct Options {
-    style: Style,
-    currency: CurrencyCode,
-    currency_display: CurrencyDisplay,
-    currency_sign: CurrencySign,
-    notation: NotationName,
+    /// All but the digits, the currency and the length of compact notation.
+    pub number: NumberOptions,
+    currency: CurrencyStyle,
     compact_length: CompactLength,
     settings: DigitSettings,
     fraction: Option<FractionDigits>,
-    pub display: SignDisplay,
-    pub grouping: GroupingStrategy,
     integer: Option<IntegerDigits>,
     precision: Option<Precision>,
-    scale: Option<i16>,
     pub check: Check,
     pub is_limited: bool,
 }
 
 impl Options {
-    fn is_compact(&self) -> bool {
-        matches!(self.notation, NotationName::Compact)
-    }
-
     /// Whether `scale` and a decimal formatter write the text in this locale.
     pub fn is_plain(&self, tag: &str) -> bool {
-        matches!((self.style, self.check), (Style::Decimal, Check::Text))
-            && self.scale.is_none()
-            && (matches!(self.notation, NotationName::Standard)
-                || tag == "en" && !self.is_compact())
+        let is_decimal = matches!(
+            (self.number.style, self.check),
+            (NumberStyle::Decimal, Check::Text)
+        );
+        let is_written = match self.number.notation {
+            NumberNotation::Standard => true,
+            NumberNotation::Compact(_) => false,
+            _ => tag == "en",
+        };
+        is_decimal && self.number.scale == 0 && is_written
     }
 
     /// Returns the notation of `scale`.
     pub fn notation(&self) -> Notation {
-        match self.notation {
-            NotationName::Scientific => Notation::Scientific,
-            NotationName::Engineering => Notation::Engineering,
-            NotationName::Standard | NotationName::Compact => Notation::Standard,
+        match self.number.notation {
+            NumberNotation::Scientific(_) => Notation::Scientific,
+            NumberNotation::Engineering(_) => Notation::Engineering,
+            NumberNotation::Standard | NumberNotation::Compact(_) => Notation::Standard,
         }
     }
 
     /// Returns the options of a format with these digits. In compact notation `auto` is `min2`, as node has it.
     pub fn number(&self, digits: Option<DigitOptions>) -> NumberOptions {
-        const PLAIN: ExponentOptions = ExponentOptions {
-            digits: 1,
-            sign: ExponentSign::Auto,
-        };
-        let (style, scale) = match self.style {
-            Style::Decimal => (NumberStyle::Decimal, 0),
-            Style::Percent => (NumberStyle::Percent, 2),
-            Style::Currency => (
-                NumberStyle::Currency(CurrencyStyle {
-                    code: self.currency,
-                    display: self.currency_display,
-                    sign: self.currency_sign,
-                    usage: CurrencyUsage::Standard,
-                }),
-                0,
-            ),
-        };
-        NumberOptions {
-            style,
-            scale: self.scale.unwrap_or(scale),
-            notation: match self.notation {
-                NotationName::Standard => NumberNotation::Standard,
-                NotationName::Scientific => NumberNotation::Scientific(PLAIN),
-                NotationName::Engineering => NumberNotation::Engineering(PLAIN),
-                NotationName::Compact => NumberNotation::Compact(self.compact_length),
-            },
-            digits,
-            sign_display: self.display,
-            grouping: match self.grouping {
-                GroupingStrategy::Auto if self.is_compact() => GroupingStrategy::Min2,
-                grouping => grouping,
-            },
-            numbering_system: None,
+        let mut number = self.number;
+        number.digits = digits;
+        if let NumberStyle::Currency(_) = number.style {
+            number.style = NumberStyle::Currency(self.currency);
         }
+        if let NumberNotation::Compact(_) = number.notation {
+            number.notation = NumberNotation::Compact(self.compact_length);
+            if number.grouping == GroupingStrategy::Auto {
+                number.grouping = GroupingStrategy::Min2;
+            }
+        }
+        number
     }
 
     /// Returns why there is no reader, where there is none.
     pub fn reader_error(&self) -> NumberReaderError {
-        match self.notation {
-            NotationName::Standard => NumberReaderError::Scale,
+        match self.number.notation {
+            NumberNotation::Standard => NumberReaderError::Scale,
             _ => NumberReaderError::Notation,
         }
     }
@@ -147,144 +105,159 @@ impl Options {
     }
 }
 
-/// The names of options, as ECMA-402 has them, and those that it does not have: `defaults` are the numbers of fraction
-/// digits by default, `integer` and the precisions replace what the settings say, `scale` that of the style, `check` is
-/// what is checked, and with `limited` the digits are in a store that is out of memory for more than 16 of them.
+/// What a word of the table says.
 #[derive(Clone, Copy)]
-enum Name {
-    Style,
-    Currency,
-    CurrencyDisplay,
-    CurrencySign,
-    CompactDisplay,
-    MinimumIntegerDigits,
-    MinimumFractionDigits,
-    MaximumFractionDigits,
-    MinimumSignificantDigits,
-    MaximumSignificantDigits,
-    RoundingIncrement,
-    RoundingMode,
-    RoundingPriority,
-    TrailingZeroDisplay,
-    Notation,
-    SignDisplay,
-    UseGrouping,
-    Defaults,
-    Integer,
-    Fraction,
-    Multiples,
-    Significant,
-    More,
-    Less,
-    Scale,
-    Check,
+enum Word {
+    /// A style, and its scale.
+    Style(NumberStyle, i16),
+    CurrencyDisplay(CurrencyDisplay),
+    CurrencySign(CurrencySign),
+    Notation(NumberNotation),
+    CompactLength(CompactLength),
+    Sign(SignDisplay),
+    Grouping(GroupingStrategy),
+    Mode(SignedRoundingMode),
+    Priority(RoundingPriority),
+    TrailingZeros(TrailingZeros),
+    Check(Check),
     Limited,
 }
 
-const NAMES: &[(&str, Name)] = &[
-    ("style", Name::Style),
-    ("currency", Name::Currency),
-    ("currencyDisplay", Name::CurrencyDisplay),
-    ("currencySign", Name::CurrencySign),
-    ("compactDisplay", Name::CompactDisplay),
-    ("minimumIntegerDigits", Name::MinimumIntegerDigits),
-    ("minimumFractionDigits", Name::MinimumFractionDigits),
-    ("maximumFractionDigits", Name::MaximumFractionDigits),
-    ("minimumSignificantDigits", Name::MinimumSignificantDigits),
-    ("maximumSignificantDigits", Name::MaximumSignificantDigits),
-    ("roundingIncrement", Name::RoundingIncrement),
-    ("roundingMode", Name::RoundingMode),
-    ("roundingPriority", Name::RoundingPriority),
-    ("trailingZeroDisplay", Name::TrailingZeroDisplay),
-    ("notation", Name::Notation),
-    ("signDisplay", Name::SignDisplay),
-    ("useGrouping", Name::UseGrouping),
-    ("defaults", Name::Defaults),
-    ("integer", Name::Integer),
-    ("fraction", Name::Fraction),
-    ("multiples", Name::Multiples),
-    ("significant", Name::Significant),
-    ("more", Name::More),
-    ("less", Name::Less),
-    ("scale", Name::Scale),
-    ("check", Name::Check),
-    ("limited", Name::Limited),
+const CURRENCY: CurrencyStyle = CurrencyStyle {
+    code: *b"XXX",
+    display: CurrencyDisplay::Symbol,
+    sign: CurrencySign::Standard,
+    usage: CurrencyUsage::Standard,
+};
+
+const EXPONENT: ExponentOptions = ExponentOptions {
+    digits: 1,
+    sign: ExponentSign::Auto,
+};
+
+/// The words of options with few values, by the names of ECMA-402. Those that it does not have: `check` is what is
+/// checked, and with `limited` the digits are in a store that is out of memory for more than 16 of them.
+const WORDS: &[(&str, Word)] = &[
+    ("style=decimal", Word::Style(NumberStyle::Decimal, 0)),
+    ("style=percent", Word::Style(NumberStyle::Percent, 2)),
+    (
+        "style=currency",
+        Word::Style(NumberStyle::Currency(CURRENCY), 0),
+    ),
+    (
+        "currencyDisplay=symbol",
+        Word::CurrencyDisplay(CurrencyDisplay::Symbol),
+    ),
+    (
+        "currencyDisplay=narrowSymbol",
+        Word::CurrencyDisplay(CurrencyDisplay::Narrow),
+    ),
+    (
+        "currencyDisplay=code",
+        Word::CurrencyDisplay(CurrencyDisplay::Code),
+    ),
+    (
+        "currencySign=standard",
+        Word::CurrencySign(CurrencySign::Standard),
+    ),
+    (
+        "currencySign=accounting",
+        Word::CurrencySign(CurrencySign::Accounting),
+    ),
+    (
+        "notation=standard",
+        Word::Notation(NumberNotation::Standard),
+    ),
+    (
+        "notation=scientific",
+        Word::Notation(NumberNotation::Scientific(EXPONENT)),
+    ),
+    (
+        "notation=engineering",
+        Word::Notation(NumberNotation::Engineering(EXPONENT)),
+    ),
+    (
+        "notation=compact",
+        Word::Notation(NumberNotation::Compact(CompactLength::Short)),
+    ),
+    (
+        "compactDisplay=short",
+        Word::CompactLength(CompactLength::Short),
+    ),
+    (
+        "compactDisplay=long",
+        Word::CompactLength(CompactLength::Long),
+    ),
+    ("signDisplay=auto", Word::Sign(SignDisplay::Auto)),
+    ("signDisplay=never", Word::Sign(SignDisplay::Never)),
+    ("signDisplay=always", Word::Sign(SignDisplay::Always)),
+    (
+        "signDisplay=exceptZero",
+        Word::Sign(SignDisplay::ExceptZero),
+    ),
+    ("signDisplay=negative", Word::Sign(SignDisplay::Negative)),
+    ("useGrouping=auto", Word::Grouping(GroupingStrategy::Auto)),
+    ("useGrouping=false", Word::Grouping(GroupingStrategy::Never)),
+    (
+        "useGrouping=always",
+        Word::Grouping(GroupingStrategy::Always),
+    ),
+    ("useGrouping=min2", Word::Grouping(GroupingStrategy::Min2)),
+    ("roundingMode=ceil", Word::Mode(Ceil)),
+    ("roundingMode=expand", Word::Mode(Unsigned(Expand))),
+    ("roundingMode=floor", Word::Mode(Floor)),
+    ("roundingMode=trunc", Word::Mode(Unsigned(Trunc))),
+    ("roundingMode=halfCeil", Word::Mode(HalfCeil)),
+    ("roundingMode=halfExpand", Word::Mode(Unsigned(HalfExpand))),
+    ("roundingMode=halfFloor", Word::Mode(HalfFloor)),
+    ("roundingMode=halfTrunc", Word::Mode(Unsigned(HalfTrunc))),
+    ("roundingMode=halfEven", Word::Mode(Unsigned(HalfEven))),
+    (
+        "roundingPriority=auto",
+        Word::Priority(RoundingPriority::Auto),
+    ),
+    (
+        "roundingPriority=morePrecision",
+        Word::Priority(RoundingPriority::MorePrecision),
+    ),
+    (
+        "roundingPriority=lessPrecision",
+        Word::Priority(RoundingPriority::LessPrecision),
+    ),
+    (
+        "trailingZeroDisplay=auto",
+        Word::TrailingZeros(TrailingZeros::Auto),
+    ),
+    (
+        "trailingZeroDisplay=stripIfInteger",
+        Word::TrailingZeros(TrailingZeros::StripIfInteger),
+    ),
+    ("check=parts", Word::Check(Check::Parts)),
+    ("check=read", Word::Check(Check::Read)),
+    ("check=lenient", Word::Check(Check::Lenient)),
+    ("limited=yes", Word::Limited),
 ];
 
-const MODES: &[(&str, SignedRoundingMode)] = &[
-    ("ceil", Ceil),
-    ("expand", Unsigned(Expand)),
-    ("floor", Floor),
-    ("trunc", Unsigned(Trunc)),
-    ("halfCeil", HalfCeil),
-    ("halfExpand", Unsigned(HalfExpand)),
-    ("halfFloor", HalfFloor),
-    ("halfTrunc", Unsigned(HalfTrunc)),
-    ("halfEven", Unsigned(HalfEven)),
-];
-
-const PRIORITIES: &[(&str, RoundingPriority)] = &[
-    ("auto", RoundingPriority::Auto),
-    ("morePrecision", RoundingPriority::MorePrecision),
-    ("lessPrecision", RoundingPriority::LessPrecision),
-];
-
-const TRAILING_ZEROS: &[(&str, TrailingZeros)] = &[
-    ("auto", TrailingZeros::Auto),
-    ("stripIfInteger", TrailingZeros::StripIfInteger),
-];
-
-const DISPLAYS: &[(&str, SignDisplay)] = &[
-    ("auto", SignDisplay::Auto),
-    ("never", SignDisplay::Never),
-    ("always", SignDisplay::Always),
-    ("exceptZero", SignDisplay::ExceptZero),
-    ("negative", SignDisplay::Negative),
-];
-
-const GROUPINGS: &[(&str, GroupingStrategy)] = &[
-    ("auto", GroupingStrategy::Auto),
-    ("false", GroupingStrategy::Never),
-    ("always", GroupingStrategy::Always),
-    ("min2", GroupingStrategy::Min2),
-];
-
-const STYLES: &[(&str, Style)] = &[
-    ("decimal", Style::Decimal),
-    ("percent", Style::Percent),
-    ("currency", Style::Currency),
-];
-
-const CURRENCY_DISPLAYS: &[(&str, CurrencyDisplay)] = &[
-    ("symbol", CurrencyDisplay::Symbol),
-    ("narrowSymbol", CurrencyDisplay::Narrow),
-    ("code", CurrencyDisplay::Code),
-];
-
-const CURRENCY_SIGNS: &[(&str, CurrencySign)] = &[
-    ("standard", CurrencySign::Standard),
-    ("accounting", CurrencySign::Accounting),
-];
-
-const LENGTHS: &[(&str, CompactLength)] = &[
-    ("short", CompactLength::Short),
-    ("long", CompactLength::Long),
-];
-
-const NOTATIONS: &[(&str, NotationName)] = &[
-    ("standard", NotationName::Standard),
-    ("scientific", NotationName::Scientific),
-    ("engineering", NotationName::Engineering),
-    ("compact", NotationName::Compact),
-];
-
-const CHECKS: &[(&str, Check)] = &[
-    ("parts", Check::Parts),
-    ("read", Check::Read),
-    ("lenient", Check::Lenient),
-];
-
-const MINIMA: &[(&str, Minimum)] = &[("chosen", Minimum::Chosen), ("both", Minimum::Both)];
+/// Sets what a word of the table says.
+fn set_word(options: &mut Options, word: Word) {
+    match word {
+        Word::Style(style, scale) => {
+            options.number.style = style;
+            options.number.scale = scale;
+        }
+        Word::CurrencyDisplay(display) => options.currency.display = display,
+        Word::CurrencySign(sign) => options.currency.sign = sign,
+        Word::Notation(notation) => options.number.notation = notation,
+        Word::CompactLength(length) => options.compact_length = length,
+        Word::Sign(display) => options.number.sign_display = display,
+        Word::Grouping(grouping) => options.number.grouping = grouping,
+        Word::Mode(mode) => options.settings.rounding_mode = mode,
+        Word::Priority(priority) => options.settings.rounding_priority = priority,
+        Word::TrailingZeros(zeros) => options.settings.trailing_zeros = zeros,
+        Word::Check(check) => options.check = check,
+        Word::Limited => options.is_limited = true,
+    }
+}
 
 /// Parses a code of three letters.
 fn code(word: &str) -> Option<CurrencyCode> {
@@ -296,97 +269,99 @@ fn code(word: &str) -> Option<CurrencyCode> {
 }
 
 /// Parses two numbers, separated by a comma.
-fn pair(word: &str) -> Option<(u32, u32)> {
+fn pair(word: &str) -> Option<(u16, u16)> {
     let (first, second) = word.split_once(',')?;
     Some((first.parse().ok()?, second.parse().ok()?))
 }
 
 /// Parses two numbers of fraction digits.
 fn fraction(word: &str) -> Option<FractionDigits> {
-    let (min, max) = word.split_once(',')?;
-    FractionDigits::new(min.parse().ok()?, max.parse().ok()?).ok()
+    let (min, max) = pair(word)?;
+    FractionDigits::new(min, max).ok()
 }
 
 /// Parses two numbers of significant digits.
 fn significant(word: &str) -> Option<SignificantDigits> {
-    let (min, max) = pair(word)?;
-    SignificantDigits::new(min, max).ok()
-}
-
-/// Parses a number of fraction digits and an increment.
-fn multiples(word: &str) -> Option<FractionMultiples> {
-    let (digits, increment) = word.split_once(',')?;
-    let increment = Increment::new(increment.parse().ok()?).ok()?;
-    FractionMultiples::new(digits.parse().ok()?, increment).ok()
+    let (min, max) = word.split_once(',')?;
+    SignificantDigits::new(min.parse().ok()?, max.parse().ok()?).ok()
 }
 
 /// Parses numbers of fraction digits, of significant digits, and which least number is shown, separated by semicolons.
 fn both(word: &str) -> Option<BothDigits> {
     let (first, word) = word.split_once(';')?;
-    let (second, word) = word.split_once(';')?;
+    let (second, minimum) = word.split_once(';')?;
     Some(BothDigits {
         fraction: fraction(first)?,
         significant: significant(second)?,
-        minimum: named(MINIMA, word)?,
+        minimum: match minimum {
+            "chosen" => Minimum::Chosen,
+            "both" => Minimum::Both,
+            _ => return None,
+        },
     })
 }
 
-/// Returns options with the value of a name.
-fn with(mut options: Options, name: Name, value: &str) -> Option<Options> {
+/// Parses a precision, which replaces what the settings say.
+fn precision(name: &str, value: &str) -> Option<Precision> {
     match name {
-        Name::MinimumIntegerDigits => {
-            options.settings.minimum_integer_digits = Some(value.parse().ok()?);
+        "fraction" => Some(Precision::Fraction(fraction(value)?)),
+        "multiples" => {
+            let (digits, increment) = pair(value)?;
+            let increment = Increment::new(increment).ok()?;
+            Some(Precision::Multiples(FractionMultiples::new(digits, increment).ok()?))
         }
-        Name::MinimumFractionDigits => {
-            options.settings.minimum_fraction_digits = Some(value.parse().ok()?);
-        }
-        Name::MaximumFractionDigits => {
-            options.settings.maximum_fraction_digits = Some(value.parse().ok()?);
-        }
-        Name::MinimumSignificantDigits => {
-            options.settings.minimum_significant_digits = Some(value.parse().ok()?);
-        }
-        Name::MaximumSignificantDigits => {
-            options.settings.maximum_significant_digits = Some(value.parse().ok()?);
-        }
-        Name::RoundingIncrement => options.settings.rounding_increment = value.parse().ok()?,
-        Name::RoundingMode => options.settings.rounding_mode = named(MODES, value)?,
-        Name::RoundingPriority => options.settings.rounding_priority = named(PRIORITIES, value)?,
-        Name::TrailingZeroDisplay => {
-            options.settings.trailing_zeros = named(TRAILING_ZEROS, value)?;
-        }
-        Name::Style => options.style = named(STYLES, value)?,
-        Name::Currency => options.currency = code(value)?,
-        Name::CurrencyDisplay => options.currency_display = named(CURRENCY_DISPLAYS, value)?,
-        Name::CurrencySign => options.currency_sign = named(CURRENCY_SIGNS, value)?,
-        Name::CompactDisplay => options.compact_length = named(LENGTHS, value)?,
-        Name::Notation => options.notation = named(NOTATIONS, value)?,
-        Name::SignDisplay => options.display = named(DISPLAYS, value)?,
-        Name::UseGrouping => options.grouping = named(GROUPINGS, value)?,
-        Name::Defaults => options.fraction = Some(fraction(value)?),
-        Name::Integer => {
-            let (min, max) = value.split_once(',')?;
-            options.integer = Some(IntegerDigits::new(min.parse().ok()?, max.parse().ok()?).ok()?);
-        }
-        Name::Fraction => options.precision = Some(Precision::Fraction(fraction(value)?)),
-        Name::Multiples => options.precision = Some(Precision::Multiples(multiples(value)?)),
-        Name::Significant => options.precision = Some(Precision::Significant(significant(value)?)),
-        Name::More => options.precision = Some(Precision::MorePrecision(both(value)?)),
-        Name::Less => options.precision = Some(Precision::LessPrecision(both(value)?)),
-        Name::Scale => options.scale = Some(value.parse().ok()?),
-        Name::Check => options.check = named(CHECKS, value)?,
-        Name::Limited => options.is_limited = true,
+        "significant" => Some(Precision::Significant(significant(value)?)),
+        "more" => Some(Precision::MorePrecision(both(value)?)),
+        "less" => Some(Precision::LessPrecision(both(value)?)),
+        _ => None,
     }
-    Some(options)
+}
+
+/// Sets a number of the settings of ECMA-402.
+fn set_count(settings: &mut DigitSettings, name: &str, count: u16) -> Option<()> {
+    match name {
+        "minimumIntegerDigits" => settings.minimum_integer_digits = Some(count),
+        "minimumFractionDigits" => settings.minimum_fraction_digits = Some(count),
+        "maximumFractionDigits" => settings.maximum_fraction_digits = Some(count),
+        "minimumSignificantDigits" => settings.minimum_significant_digits = Some(count),
+        "maximumSignificantDigits" => settings.maximum_significant_digits = Some(count),
+        "roundingIncrement" => settings.rounding_increment = count,
+        _ => return None,
+    }
+    Some(())
+}
+
+/// Sets the value of a name that has many: beyond ECMA-402 `defaults` are the numbers of fraction digits by default,
+/// `integer` and the precisions replace what the settings say, and `scale` that of a style before it.
+fn set_value(options: &mut Options, name: &str, value: &str) -> Option<()> {
+    match name {
+        "currency" => options.currency.code = code(value)?,
+        "defaults" => options.fraction = Some(fraction(value)?),
+        "integer" => {
+            let (min, max) = pair(value)?;
+            options.integer = Some(IntegerDigits::new(min, max).ok()?);
+        }
+        "scale" => options.number.scale = value.parse().ok()?,
+        _ => match precision(name, value) {
+            Some(precision) => options.precision = Some(precision),
+            None => set_count(&mut options.settings, name, value.parse().ok()?)?,
+        },
+    }
+    Some(())
 }
 
 /// The options of a decimal, if no word follows.
 const DECIMAL: Options = Options {
-    style: Style::Decimal,
-    currency: *b"XXX",
-    currency_display: CurrencyDisplay::Symbol,
-    currency_sign: CurrencySign::Standard,
-    notation: NotationName::Standard,
+    number: NumberOptions {
+        style: NumberStyle::Decimal,
+        scale: 0,
+        notation: NumberNotation::Standard,
+        digits: None,
+        sign_display: SignDisplay::Auto,
+        grouping: GroupingStrategy::Auto,
+        numbering_system: None,
+    },
+    currency: CURRENCY,
     compact_length: CompactLength::Short,
     settings: DigitSettings {
         minimum_integer_digits: None,
@@ -400,11 +375,8 @@ const DECIMAL: Options = Options {
         trailing_zeros: TrailingZeros::Auto,
     },
     fraction: None,
-    display: SignDisplay::Auto,
-    grouping: GroupingStrategy::Auto,
     integer: None,
     precision: None,
-    scale: None,
     check: Check::Text,
     is_limited: false,
 };
@@ -416,8 +388,13 @@ pub fn parse_options(words: &str) -> Option<Options> {
         return Some(options);
     }
     for word in words.split(' ') {
-        let (name, value) = word.split_once('=')?;
-        options = with(options, named(NAMES, name)?, value)?;
+        match named(WORDS, word) {
+            Some(word) => set_word(&mut options, word),
+            None => {
+                let (name, value) = word.split_once('=')?;
+                set_value(&mut options, name, value)?;
+            }
+        }
     }
     Some(options)
 }

@@ -73,7 +73,7 @@ fn applies<D: DigitStore>(
     };
     match applied {
         Ok(()) => {
-            value.apply_sign_display(options.display);
+            value.apply_sign_display(options.number.sign_display);
             writes(alloc, formatter, &value, None, text)
         }
         Err(error) => Some(is_named(error, text)? && shows(&value, number.as_bytes())),
@@ -95,7 +95,9 @@ fn scales<D: DigitStore>(
                 Notation::Standard => None,
                 _ => Some(scaled.exponent()),
             };
-            let significand = scaled.into_significand().with_sign_display(options.display);
+            let significand = scaled
+                .into_significand()
+                .with_sign_display(options.number.sign_display);
             writes(alloc, formatter, &significand, exponent, text)
         }
         Err(error) => is_named(error, text),
@@ -110,7 +112,7 @@ fn has_text_over<D: DigitStore>(
     digits: &DigitOptions,
     (number, text): (&str, &str),
 ) -> Option<bool> {
-    let formatter = DecimalFormatter::new(locale(tag)?, options.grouping);
+    let formatter = DecimalFormatter::new(locale(tag)?, options.number.grouping);
     if let Notation::Standard = options.notation() {
         let value: Signed<UnsignedOver<D>> = Signed::try_from_str(alloc, number).ok()?;
         if !applies(alloc, &formatter, options, digits, value, (number, text))? {

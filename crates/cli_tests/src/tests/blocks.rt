@@ -26,43 +26,29 @@ const ROWS: &[(&str, usize, WriteFailure, u8, usize)] = &[
     ("fixdec 5 up", 9, StorageFull, 2, 0),
 ];
 
-/// Makes a writer that takes `capacity` bytes, any bytes, and any number of them in a call.
-fn writer(capacity: usize, write_failure: WriteFailure) -> FailingWriter<'static> {
-    FailingWriter::new(b"", capacity, write_failure).with_width(usize::MAX)
-}
-
-/// Returns the status of a line, and the number of calls of the writer if it is returned.
+/// Returns the status of a line, and the number of calls of a writer that takes any number of bytes in a call, if it is
+/// returned.
 fn counted(
     alloc: Global,
     line: &str,
-    capacity: usize,
-    write_failure: WriteFailure,
+    room: usize,
+    failure: WriteFailure,
 ) -> Result<(u8, Option<usize>), Fail> {
     let arguments = words(alloc, line)?.into_iter();
-    let out = writer(capacity, write_failure);
+    let out = FailingWriter::new(b"", room, failure).with_width(usize::MAX);
     let (status, out) = run_arguments(alloc, Ok(arguments), out, &mut io::sink());
     Ok((status, out.map(|closed| closed.into_writer().writes())))
-}
-
-/// Does the same, and once more if it may be out of memory.
-fn counted_with_retry(
-    alloc: Global,
-    line: &str,
-    capacity: usize,
-    write_failure: WriteFailure,
-) -> Result<(u8, Option<usize>), Fail> {
-    let first = counted(alloc, line, capacity, write_failure)?;
-    if first.0 == 3 {
-        return counted(alloc, line, capacity, write_failure);
-    }
-    Ok(first)
 }
 
 #[test]
 fn writes_blocks(rt: HostRuntime) -> Result<(), Fail> {
     let alloc = rt.alloc();
-    for (line, capacity, write_failure, status, writes) in ROWS {
-        let found = counted_with_retry(alloc, line, *capacity, *write_failure)?;
+    for (line, room, failure, status, writes) in ROWS {
+        let mut found = counted(alloc, line, *room, *failure)?;
+        if found.0 == 3 {
+            // The first run may be out of memory.
+            found = counted(alloc, line, *room, *failure)?;
+        }
         assert_eq!(rt; found, (*status, Some(*writes)));
     }
     Ok(())
