@@ -55,52 +55,35 @@ pub struct StartError {
 
 impl fmt::Display for StartError {
     fn fmt<W: fmt::Write>(&self, f: &mut fmt::Formatter<W>) -> fmt::Result {
-        let (before, word, after) = self.why.texts();
-        if before.starts_with(':') {
-            if self.program == Program::Fixdec {
-                return f.write_str(self.program.usage());
+        let name = self.program.name();
+        match self.why {
+            WordsError::UnknownLocale(tag) => write!(f, "unknown locale: {tag}"),
+            WordsError::SkeletonSyntax { at } => write!(f, "skeleton: syntax at {at}"),
+            WordsError::SkeletonUnsupported(stem) => write!(f, "skeleton: unsupported {stem}"),
+            WordsError::NoReader => f.write_str("skeleton: no reader"),
+            WordsError::Memory => f.write_str("memory"),
+            WordsError::Output => f.write_str("output"),
+            _ if self.program == Program::Fixdec => f.write_str(self.program.usage()),
+            WordsError::NotText => write!(f, "{name}: a word is not UTF-8"),
+            WordsError::NoText => write!(f, "{name}: no TEXT"),
+            WordsError::NoSuchWord(word) => {
+                write!(f, "{name}: no such word: {word} (--help lists all)")
             }
-            f.write_str(self.program.name())?;
+            WordsError::AfterCall(word) => write!(f, "{name}: {word} stands after a call"),
+            WordsError::Misplaced(word) => {
+                write!(f, "{name}: {word} is not in its place (--help lists all)")
+            }
+            WordsError::NoField => write!(f, "{name}: csv and delimiter:C need field:N"),
+            WordsError::NoCsv => write!(f, "{name}: records needs csv"),
+            WordsError::NoHeader => write!(f, "{name}: field:NAME needs header"),
+            WordsError::QuoteDelimiter => write!(f, "{name}: a quote is no delimiter of csv"),
         }
-        f.write_str(before)?;
-        if let WordsError::SkeletonSyntax { at } = self.why {
-            return write!(f, "{at}");
-        }
-        if let Some(word) = word {
-            f.write_str(word.text.as_str())?;
-        }
-        f.write_str(after)
     }
 }
 
 impl error::Error for StartError {}
 
 impl WordsError {
-    /// Returns the text before a word, the word, and the text after it. A colon follows the name of the program.
-    fn texts(self) -> (&'static str, Option<ShownWord>, &'static str) {
-        match self {
-            WordsError::NotText => (": a word is not UTF-8", None, ""),
-            WordsError::NoText => (": no TEXT", None, ""),
-            WordsError::NoSuchWord(word) => {
-                (": no such word: ", Some(word), " (--help lists all)")
-            }
-            WordsError::AfterCall(word) => (": ", Some(word), " stands after a call"),
-            WordsError::Misplaced(word) => {
-                (": ", Some(word), " is not in its place (--help lists all)")
-            }
-            WordsError::NoField => (": csv and delimiter:C need field:N", None, ""),
-            WordsError::NoCsv => (": records needs csv", None, ""),
-            WordsError::NoHeader => (": field:NAME needs header", None, ""),
-            WordsError::QuoteDelimiter => (": a quote is no delimiter of csv", None, ""),
-            WordsError::UnknownLocale(tag) => ("unknown locale: ", Some(tag), ""),
-            WordsError::SkeletonSyntax { .. } => ("skeleton: syntax at ", None, ""),
-            WordsError::SkeletonUnsupported(stem) => ("skeleton: unsupported ", Some(stem), ""),
-            WordsError::NoReader => ("skeleton: no reader", None, ""),
-            WordsError::Memory => ("memory", None, ""),
-            WordsError::Output => ("output", None, ""),
-        }
-    }
-
     fn status(&self) -> u8
         ensures status { result ≡ status_of_words self.now }
         ensures positive { 0 < result }
