@@ -1,6 +1,6 @@
 //! A text that is expected.
 
-/// A text that is expected byte by byte, and the part that has been received.
+/// A text that is expected, and the part that has been received.
 #[derive(Clone, Copy)]
 pub struct ExpectedText<'a> {
     rest: &'a [u8],
@@ -18,12 +18,12 @@ impl<'a> ExpectedText<'a> {
         }
     }
 
-    /// Receives a byte, whether it is the next of the text or not.
-    pub fn take(&mut self, byte: u8) {
-        self.taken = self.taken.saturating_add(1);
-        match self.rest.split_first() {
-            Some((next, rest)) if *next == byte => self.rest = rest,
-            _ => self.is_other = true,
+    /// Receives bytes, whether they are the next of the text or not.
+    pub fn take(&mut self, bytes: &[u8]) {
+        self.taken = self.taken.saturating_add(bytes.len());
+        match self.rest.strip_prefix(bytes) {
+            Some(rest) => self.rest = rest,
+            None => self.is_other = true,
         }
     }
 
@@ -34,11 +34,11 @@ impl<'a> ExpectedText<'a> {
 
     /// Whether the bytes received are exactly the first `count` of the text.
     pub fn matches_prefix(&self, count: usize) -> bool {
-        !self.is_other && self.taken == count
+        !self.is_other & (self.taken == count)
     }
 
     /// Whether the bytes received are exactly the text.
     pub fn is_whole(&self) -> bool {
-        !self.is_other && self.rest.is_empty()
+        !self.is_other & self.rest.is_empty()
     }
 }

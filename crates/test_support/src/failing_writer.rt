@@ -91,9 +91,7 @@ impl Write for FailingWriter<'_> {
         if taken == 0 {
             return self.fail();
         }
-        for byte in &bytes[..taken] {
-            self.expected.take(*byte);
-        }
+        self.expected.take(&bytes[..taken]);
         Ok(taken)
     }
 

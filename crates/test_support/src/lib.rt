@@ -8,7 +8,6 @@ mod counts;
 mod digit_limit;
 mod expected_text;
 mod failing_writer;
-mod joins;
 mod limited_sink;
 mod limited_store;
 mod rounds;
@@ -22,7 +21,6 @@ pub use digit_limit::{
     SixteenDigits, TwentyOneDigits,
 };
 pub use failing_writer::{FailingWriter, WriteFailure};
-pub use joins::{Join, Joined, Joins};
 pub use limited_sink::{LimitedSink, displays, fails_without_room, shows};
 pub use limited_store::{CountingStore, LimitedStore};
 pub use rounds::{RoundedResult, Rounding, RoundingMethod, Rounds, rounded, rounding_methods};

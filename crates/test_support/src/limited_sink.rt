@@ -45,7 +45,7 @@ impl Sink for LimitedSink<'_> {
             self.failed = true;
             return Err(SinkFault);
         }
-        self.expected.take(byte);
+        self.expected.take(&[byte]);
         Ok(())
     }
 
@@ -66,7 +66,7 @@ impl fmt::Write for LimitedSink<'_> {
 /// Whether a value has this text. Does not allocate.
 pub fn shows<T: Writeable>(value: &T, text: &[u8]) -> bool {
     let mut sink = LimitedSink::new(text, usize::MAX);
-    value.write_to(&mut sink).is_ok() && sink.has_all()
+    value.write_to(&mut sink).is_ok() & sink.has_all()
 }
 
 /// Whether `{}` writes this text of a value, also with options. Does not allocate.
@@ -74,9 +74,9 @@ pub fn displays<T: fmt::Display>(value: &T, text: &[u8]) -> bool {
     let mut plain = LimitedSink::new(text, usize::MAX);
     let mut sink = LimitedSink::new(text, usize::MAX);
     write!(plain, "{value}").is_ok()
-        && plain.has_all()
-        && write!(sink, "{value:<090.1}").is_ok()
-        && sink.has_all()
+        & plain.has_all()
+        & write!(sink, "{value:<090.1}").is_ok()
+        & sink.has_all()
 }
 
 /// Whether writing a value fails with sinks that have room for a prefix of its text: with each one, or for a long text
@@ -85,7 +85,7 @@ pub fn fails_without_room<T: Writeable>(value: &T, text: &[u8]) -> bool {
     for room in (0..text.len()).step_by(text.len() / 128 + 1) {
         let mut sink = LimitedSink::new(text, room);
         let failed = value.write_to(&mut sink).is_err();
-        if !failed || !sink.failed() || !sink.has_taken(room) {
+        if !(failed & sink.failed() & sink.has_taken(room)) {
             return false;
         }
     }

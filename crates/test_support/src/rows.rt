@@ -13,13 +13,12 @@ pub fn named<T: Copy>(table: &[(&str, T)], word: &str) -> Option<T> {
     None
 }
 
-/// Returns whether a line is a row: it is not blank, and if it starts with `#` it has a tab.
-fn is_row(line: &str) -> bool {
-    !line.is_empty() && (!line.starts_with('#') || line.contains('\t'))
-}
-
-/// Returns the number of rows of a line: that of the first text of a table that it contains, or 1.
+/// Returns the number of rows of a line: none if it is blank, or starts with `#` and has no tab; else that of the first
+/// text of a table that it contains, or 1.
 fn rows_of(line: &str, repeated: &[(&str, u32)]) -> u32 {
+    if line.is_empty() || (line.starts_with('#') && !line.contains('\t')) {
+        return 0;
+    }
     for (text, count) in repeated {
         if line.contains(*text) {
             return *count;
@@ -43,34 +42,41 @@ fn row_holds<F: Fn(Global, &str, u32) -> Option<bool>>(
     }
 }
 
-/// Prints the rows of a text that fail, with their line numbers, and in a last line the numbers of rows.
-fn check_lines<R: AllocGlobal + Print, F: Fn(Global, &str, u32) -> Option<bool>>(
-    rt: &R,
-    text: &str,
-    repeated: &[(&str, u32)],
-    holds: F,
-) -> ExitCode
-    requires { F.IsAlwaysCallable holds }
-{
-    let (mut hold, mut fail) = (0u64, 0u64);
-    for (index, line) in text.lines().enumerate() {
-        if !is_row(line) {
-            continue;
-        }
-        for row in 0..rows_of(line, repeated) {
-            if row_holds(rt.alloc(), line, row, &holds) {
-                hold = hold.saturating_add(1);
-            } else {
-                fail = fail.saturating_add(1);
-                let _ = println!(rt; "line {}, row {row}: {line}", index.saturating_add(1));
-            }
-        }
-    }
+/// Prints a row that fails.
+fn report<R: Print>(rt: &R, index: usize, row: u32, line: &str) {
+    let _ = println!(rt; "line {}, row {row}: {line}", index.saturating_add(1));
+}
+
+/// Prints the numbers of rows, and returns the status.
+fn conclude<R: Print>(rt: &R, hold: u64, fail: u64) -> ExitCode {
     if println!(rt; "{hold} rows hold, {fail} fail").is_ok() && fail == 0 {
         ExitCode::SUCCESS
     } else {
         ExitCode::FAILURE
     }
+}
+
+/// Prints the rows of a text that fail, with their line numbers, and in a last line the numbers of rows.
+fn check_lines<R: AllocGlobal + Print, F: Fn(Global, &str, u32) -> Option<bool>>(
+    rt: &R,
+    text: &str,
+    repeated: &[(&str, u32)],
+    holds: &F,
+) -> ExitCode
+    requires { F.IsAlwaysCallable holds.now }
+{
+    let (mut hold, mut fail) = (0u64, 0u64);
+    for (index, line) in text.lines().enumerate() {
+        for row in 0..rows_of(line, repeated) {
+            if row_holds(rt.alloc(), line, row, holds) {
+                hold = hold.saturating_add(1);
+            } else {
+                fail = fail.saturating_add(1);
+                report(rt, index, row, line);
+            }
+        }
+    }
+    conclude(rt, hold, fail)
 }
 
 /// Checks the rows of each line of standard input: by the table `repeated` lines with a text are a number of rows, and
@@ -86,7 +92,7 @@ pub fn check_rows<R: AllocGlobal + Print + Input, F: Fn(Global, &str, u32) -> Op
     requires { F.IsAlwaysCallable holds }
 {
     match io::read_to_string(rt.alloc(), rt.reader()) {
-        Ok(text) => check_lines(rt, text.as_str(), repeated, holds),
+        Ok(text) => check_lines(rt, text.as_str(), repeated, &holds),
         Err(_) => ExitCode::FAILURE,
     }
 }

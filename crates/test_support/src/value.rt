@@ -48,7 +48,7 @@ pub fn is_outcome<T: Writeable + Drop>(
 
 /// Whether a value has this text, and its length as the length hint.
 pub fn has_text<T: Writeable>(value: &T, text: &str) -> bool {
-    value.writeable_length_hint() == text.len() && shows(value, text.as_bytes())
+    (value.writeable_length_hint() == text.len()) & shows(value, text.as_bytes())
 }
 
 impl<D: DigitStore> Value for UnsignedOver<D> {

@@ -1,6 +1,7 @@
 //! The digits of values, and their conversion to integers.
 use crate::edited::has_sign;
 use crate::integers::are_made;
+use crate::rows::all_hold;
 use fixed_decimal::{DigitStore, IntegerError, Signed, UnsignedOver};
 use std::alloc::Global;
 use std::str::FromStr;
@@ -25,15 +26,15 @@ pub fn has_digits<D: DigitStore>(
     digits: &str,
 ) -> Option<bool> {
     let highest = magnitude.parse::<i16>().ok()?;
-    let value = UnsignedOver::<D>::try_from_str(alloc, text).ok()?;
     if digits.len() > (i32::from(highest) + 32769) as usize {
         return None;
     }
+    let value = UnsignedOver::<D>::try_from_str(alloc, text).ok()?;
     let Ok(mut places) = vec![in alloc; b'x'; digits.len()] else {
         return None;
     };
     value.write_digits(highest, places.as_mut_slice());
-    Some(places.as_slice() == digits.as_bytes() && has_each(&value, highest, digits))
+    Some((places.as_slice() == digits.as_bytes()) & has_each(&value, highest, digits))
 }
 
 /// Whether an integer or an error is the one that a word names.
@@ -62,7 +63,7 @@ fn has_unsigned<D: DigitStore>(
         return Some(true);
     }
     let value = UnsignedOver::<D>::try_from_str(alloc, text).ok()?;
-    Some(is_named(value.try_to_u64(), narrow.0) && is_named(value.try_to_u128(), wide.0))
+    Some(is_named(value.try_to_u64(), narrow.0) & is_named(value.try_to_u128(), wide.0))
 }
 
 /// Whether the decimal of a text converts to these integers.
@@ -70,9 +71,9 @@ fn has_signed<D: DigitStore>(alloc: Global, text: &str, (narrow, wide): Words<'_
     let value = Signed::<UnsignedOver<D>>::try_from_str(alloc, text).ok()?;
     Some(
         is_named(value.try_to_u64(), narrow.0)
-            && is_named(value.try_to_i64(), narrow.1)
-            && is_named(value.try_to_u128(), wide.0)
-            && is_named(value.try_to_i128(), wide.1),
+            & is_named(value.try_to_i64(), narrow.1)
+            & is_named(value.try_to_u128(), wide.0)
+            & is_named(value.try_to_i128(), wide.1),
     )
 }
 
@@ -89,9 +90,9 @@ pub fn has_integers<D: DigitStore>(alloc: Global, text: &str, words: &str) -> Op
     let words = split(words)?;
     let (unsigned, signed) = words.1;
     let widest = if signed == "range" { unsigned } else { signed };
-    Some(
-        has_unsigned::<D>(alloc, text, words)?
-            && has_signed::<D>(alloc, text, words)?
-            && are_made::<D>(alloc, widest)?,
-    )
+    all_hold(&[
+        has_unsigned::<D>(alloc, text, words),
+        has_signed::<D>(alloc, text, words),
+        are_made::<D>(alloc, widest),
+    ])
 }

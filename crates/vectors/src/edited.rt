@@ -1,5 +1,6 @@
 //! Calls on values with a sign and without, in place and by value, and the digits that they access.
 use crate::calls::step;
+use crate::rows::all_hold;
 use crate::runs;
 use decimal_digits::digits::DigitStore;
 use decimal_digits::rounding::RoundError;
@@ -9,8 +10,8 @@ use decimal_unsigned::decimal::UnsignedOver;
 use fixed_decimal::{Call, Signed, SignedRoundingMode};
 use std::alloc::{AllocError, Global};
 use test_support::{
-    CountingStore, Counts, Join, Joins, LimitedStore, MaxDigits, RoundedResult, RoundingMethod,
-    Value, has_text, rounded, rounding_methods,
+    CountingStore, Counts, LimitedStore, MaxDigits, RoundedResult, RoundingMethod, Value, has_text,
+    rounded, rounding_methods,
 };
 
 /// A value after a call, and whether the call was made or rejected, or was out of memory. `None`: there is no such
@@ -84,24 +85,56 @@ fn edited_by_value<D: DigitStore>(
     Some((value, Ok(true)))
 }
 
-/// Concatenates the number of a text. A call that fails returns this number with its text, or counts as one that was
-/// made.
-fn joined<D: DigitStore>(
-    alloc: Global,
+/// A concatenation, or the error with both values.
+type Joined<T> = Result<T, ConcatenateError<(T, T)>>;
+
+/// Concatenates by value, or in place, and returns the values that this leaves.
+fn concatenated<D: DigitStore>(
     value: UnsignedOver<D>,
-    join: Join,
-    operand: &[u8],
+    other: UnsignedOver<D>,
+    method: RoundingMethod,
+) -> Joined<UnsignedOver<D>> {
+    if !is_in_place(method) {
+        return value.concatenated_end(other);
+    }
+    let mut value = value;
+    match value.concatenate_end(other) {
+        Ok(()) => Ok(value),
+        Err(ConcatenateError::Overlap(other)) => Err(ConcatenateError::Overlap((value, other))),
+        Err(ConcatenateError::Memory(other)) => Err(ConcatenateError::Memory((value, other))),
+    }
+}
+
+/// Returns the result of a concatenation that failed: it counts as one that was made, if it returns another number than
+/// that of a text.
+fn not_joined<D: DigitStore>(
+    value: UnsignedOver<D>,
+    other: UnsignedOver<D>,
+    text: &str,
+    is_made: Result<bool, AllocError>,
 ) -> CallResult<UnsignedOver<D>> {
-    let other = UnsignedOver::<D>::try_from_utf8(alloc, operand).ok()?;
-    let (value, other, is_made) = match value.joined_by(other, join) {
-        Ok(value) => return Some((value, Ok(true))),
-        Err(ConcatenateError::Overlap((value, other))) => (value, other, Ok(false)),
-        Err(ConcatenateError::Memory((value, other))) => (value, other, Err(AllocError)),
-    };
-    if has_text(&other, str::from_utf8(operand).ok()?) {
+    if has_text(&other, text) {
         Some((value, is_made))
     } else {
         Some((value, Ok(true)))
+    }
+}
+
+/// Concatenates the number of a text.
+fn joined<D: DigitStore>(
+    alloc: Global,
+    value: UnsignedOver<D>,
+    method: RoundingMethod,
+    operand: &[u8],
+) -> CallResult<UnsignedOver<D>> {
+    let text = str::from_utf8(operand).ok()?;
+    let other = UnsignedOver::<D>::try_from_utf8(alloc, operand).ok()?;
+    match concatenated(value, other, method) {
+        Ok(value) => Some((value, Ok(true))),
+        Err(ConcatenateError::Overlap((value, other))) => not_joined(value, other, text, Ok(false)),
+        Err(ConcatenateError::Memory((value, other))) => {
+            not_joined(value, other, text, Err(AllocError))
+        }
     }
 }
 
@@ -111,10 +144,7 @@ impl<D: DigitStore> Edited for UnsignedOver<D> {
             Call::Round(position, SignedRoundingMode::Unsigned(mode), increment) => {
                 of_rounding(rounded(self, method, (position, mode, increment)))
             }
-            Call::Concatenate(operand) if is_in_place(method) => {
-                joined(alloc, self, Join::InPlace, operand)
-            }
-            Call::Concatenate(operand) => joined(alloc, self, Join::ByValue, operand),
+            Call::Concatenate(operand) => joined(alloc, self, method, operand),
             _ if is_in_place(method) => edited_in_place(self, call),
             _ => edited_by_value(self, call),
         }
@@ -175,25 +205,37 @@ fn methods_of(words: &str) -> &'static [RoundingMethod] {
     found
 }
 
-/// Returns a value after calls, and whether each was made or rejected as it has to be. One that is out of memory is
-/// made again, on the value that it left.
-fn left<T: Edited>(
+/// Returns a value after a call, and whether it was made or rejected. One that is out of memory is made again, on the
+/// value that it left.
+fn left_by<T: Edited>(
+    alloc: Global,
+    value: T,
+    method: RoundingMethod,
+    call: Call<'_>,
+) -> Option<(T, bool)> {
+    let (value, is_made) = match value.called(alloc, method, call)? {
+        (value, Err(AllocError)) => value.called(alloc, method, call)?,
+        made => made,
+    };
+    Some((value, is_made.ok()?))
+}
+
+/// Whether a value has a text after calls, and each was made or rejected as it has to be.
+fn leaves_by<T: Value + Edited>(
     alloc: Global,
     value: T,
     method: RoundingMethod,
     (words, all_rejected): (&str, bool),
-) -> Option<(T, bool)> {
+    wanted: &str,
+) -> Option<bool> {
     let (mut value, mut is_right) = (value, true);
     for word in words.split(',') {
         let (call, is_rejected) = step(word)?;
-        let (next, is_made) = match value.called(alloc, method, call)? {
-            (value, Err(AllocError)) => value.called(alloc, method, call)?,
-            made => made,
-        };
-        is_right &= is_made.ok()? != (is_rejected || all_rejected);
+        let (next, is_made) = left_by(alloc, value, method, call)?;
+        is_right &= is_made != (is_rejected | all_rejected);
         value = next;
     }
-    Some((value, is_right))
+    Some(is_right & has_text(&value, wanted))
 }
 
 /// Whether a value has a text after calls, in each way; `!` if each of them is rejected.
@@ -209,8 +251,7 @@ fn leaves<T: Value + Edited>(
     let mut all = true;
     for method in methods_of(words) {
         let copy = value.copy().ok()?;
-        let (left, is_right) = left(alloc, copy, *method, (words, all_rejected))?;
-        all &= is_right && has_text(&left, wanted);
+        all &= leaves_by(alloc, copy, *method, (words, all_rejected), wanted)?;
     }
     Some(all)
 }
@@ -227,9 +268,9 @@ fn rounds_within<S: CountingStore>(
     let requests = if increment == MultiplesOf25 { 1 } else { 0 };
     match store.accessed() {
         Some(accessed) => {
-            accessed == exact.unwrap_or(accessed)
-                && accessed.saturating_add(left) <= length.saturating_add(7)
-                && store.allocations() <= requests
+            (accessed == exact.unwrap_or(accessed))
+                & (accessed.saturating_add(left) <= length.saturating_add(7))
+                & (store.allocations() <= requests)
         }
         None => false,
     }
@@ -239,7 +280,7 @@ fn rounds_within<S: CountingStore>(
 /// was made by one call that may allocate; where it adds no digit, or is rejected, it does not allocate.
 fn joins_within<S: CountingStore>(store: &S, length: usize, is_made: bool) -> bool {
     if is_made && length == 0 {
-        return store.accessed().is_none() && store.allocations() <= 1;
+        return store.accessed().is_none() & (store.allocations() <= 1);
     }
     (is_made && store.len() > length) || store.has_not_allocated()
 }
@@ -263,7 +304,7 @@ fn equals_in_place<T: Value + Counts>(left: &T, right: &T) -> Option<bool> {
     left.counted().restart();
     right.counted().restart();
     let is_equal = left.equals(right);
-    if left.counted().has_not_allocated() && right.counted().has_not_allocated() {
+    if left.counted().has_not_allocated() & right.counted().has_not_allocated() {
         Some(is_equal)
     } else {
         None
@@ -279,12 +320,15 @@ fn memory_of(call: Call<'_>, is_rejected: bool, count: &str) -> usize {
     }
 }
 
+/// A call, the number of digits for which it gets memory, and the number of digits that it accesses, if a row says it.
+type Limits<'a> = (Call<'a>, usize, Option<usize>);
+
 /// Whether a call on a value stays within its bounds in a way, and comparisons with its copies do not allocate.
 fn call_stays_within<T: Value + Edited + Counts>(
     alloc: Global,
     value: &T,
     method: RoundingMethod,
-    (call, memory, exact): (Call<'_>, usize, Option<usize>),
+    (call, memory, exact): Limits<'_>,
 ) -> Option<bool> {
     let copy = value.copy().ok()?;
     let is_copy = equals_in_place(&copy, value)?;
@@ -293,7 +337,21 @@ fn call_stays_within<T: Value + Edited + Counts>(
     copy.counted().restart();
     let (left, is_made) = copy.called(alloc, method, call)?;
     let is_within = is_within(left.counted(), call, (length, exact), is_made.ok()?);
-    Some(is_copy && is_within && equals_in_place(&left, value).is_some())
+    Some(is_copy & is_within & equals_in_place(&left, value).is_some())
+}
+
+/// The same in each way.
+fn calls_stay_within<T: Value + Edited + Counts>(
+    alloc: Global,
+    value: &T,
+    methods: &[RoundingMethod],
+    limits: Limits<'_>,
+) -> Option<bool> {
+    let mut all = true;
+    for method in methods {
+        all &= call_stays_within(alloc, value, *method, limits)?;
+    }
+    Some(all)
 }
 
 /// Whether a call that is the only one of a row stays within its bounds in each way.
@@ -307,13 +365,10 @@ fn stays_within<T: Value + Edited + Counts>(
         return Some(true);
     }
     let (call, is_rejected) = step(words)?;
+    let memory = memory_of(call, is_rejected | (wanted == "!"), count);
+    let limits = (call, memory, count.parse().ok());
     let value = T::read(alloc, start).ok()?;
-    let memory = memory_of(call, is_rejected || wanted == "!", count);
-    let mut all = true;
-    for method in methods_of(words) {
-        all &= call_stays_within(alloc, &value, *method, (call, memory, count.parse().ok()))?;
-    }
-    Some(all)
+    calls_stay_within(alloc, &value, methods_of(words), limits)
 }
 
 /// Whether a text has a sign.
@@ -335,47 +390,54 @@ fn needs_sign(start: &str, words: &str) -> bool {
     has_sign(start)
 }
 
+/// A store that counts, with memory for every number.
+pub type Counting<D> = LimitedStore<D, MaxDigits>;
+
+/// A row: the text and the calls, and the text that is wanted and a count.
+type Row<'a> = ((&'a str, &'a str), (&'a str, &'a str));
+
 /// Whether a value over a store has a text after calls, with a sign, and without one if none is needed.
 fn leave<D: DigitStore>(
     alloc: Global,
-    (start, words): (&str, &str),
-    wanted: &str,
+    ((start, words), (wanted, _)): Row<'_>,
     is_signed: bool,
 ) -> Option<bool> {
-    Some(
-        leaves::<Signed<UnsignedOver<D>>>(alloc, start, words, wanted)?
-            && (is_signed || leaves::<UnsignedOver<D>>(alloc, start, words, wanted)?),
-    )
+    let leaves_signed = leaves::<Signed<UnsignedOver<D>>>(alloc, start, words, wanted);
+    if is_signed {
+        return leaves_signed;
+    }
+    all_hold(&[
+        leaves_signed,
+        leaves::<UnsignedOver<D>>(alloc, start, words, wanted),
+    ])
 }
 
 /// Whether the only call of a row stays within its bounds, with a sign, and without one if none is needed.
 fn stay<S: CountingStore>(
     alloc: Global,
-    (start, words): (&str, &str),
-    expected: (&str, &str),
+    ((start, words), expected): Row<'_>,
     is_signed: bool,
 ) -> Option<bool> {
-    Some(
-        stays_within::<Signed<UnsignedOver<S>>>(alloc, start, words, expected)?
-            && (is_signed || stays_within::<UnsignedOver<S>>(alloc, start, words, expected)?),
-    )
+    let signed_stays = stays_within::<Signed<UnsignedOver<S>>>(alloc, start, words, expected);
+    if is_signed {
+        return signed_stays;
+    }
+    all_hold(&[
+        signed_stays,
+        stays_within::<UnsignedOver<S>>(alloc, start, words, expected),
+    ])
 }
 
-/// A store that counts, with memory for every number.
-pub type Counting<D> = LimitedStore<D, MaxDigits>;
-
 /// Whether a value over a store has a text after calls, in each way and in a run; `!` if each of them is rejected.
-pub fn holds<D: DigitStore>(
-    alloc: Global,
-    row: (&str, &str),
-    (wanted, count): (&str, &str),
-) -> Option<bool> {
-    let (start, words) = row;
+pub fn holds<D: DigitStore>(alloc: Global, row: Row<'_>) -> Option<bool> {
+    let ((start, words), (wanted, _)) = row;
     let is_signed = needs_sign(start, words);
-    let is_rejected = words.contains('!') || wanted == "!";
-    Some(
-        leave::<D>(alloc, row, wanted, is_signed)?
-            && stay::<Counting<D>>(alloc, row, (wanted, count), is_signed)?
-            && (is_rejected || runs::has_outcome::<D>(alloc, start, words, wanted)?),
-    )
+    let hold = all_hold(&[
+        leave::<D>(alloc, row, is_signed),
+        stay::<Counting<D>>(alloc, row, is_signed),
+    ]);
+    if words.contains('!') || wanted == "!" {
+        return hold;
+    }
+    all_hold(&[hold, runs::has_outcome::<D>(alloc, start, words, wanted)])
 }

@@ -1,27 +1,51 @@
 //! Values made of integers.
+use crate::rows::all_hold;
 use fixed_decimal::{DigitStore, FixedInteger, Signed, UnsignedOver};
-use std::alloc::Global;
+use std::alloc::{AllocError, Global};
+use std::str::FromStr;
 use test_support::{Value, has_text};
 
-/// Whether a value has a text, and equals the value that the text writes.
-fn is_value<T: Value>(alloc: Global, value: T, text: &str) -> Option<bool> {
-    Some(has_text(&value, text) && value.equals(&T::read(alloc, text).ok()?))
+/// Returns the integer of a text, or 0 if the text is none of the type, and whether it is one.
+fn integer_of<I: FromStr + Copy>(text: &str, zero: I) -> (I, bool)
+where
+    I::Err: Drop,
+{
+    let integer = text.parse::<I>().ok();
+    (integer.unwrap_or(zero), integer.is_some())
+}
+
+/// Whether all before holds, and if a text is of the type of an integer, the value that was made of it has this text,
+/// and equals the value that the text writes.
+fn and_is_made<T: Value>(
+    all: Option<bool>,
+    alloc: Global,
+    made: Result<T, AllocError>,
+    (text, is_of_type): (&str, bool),
+) -> Option<bool> {
+    let value = made.ok()?;
+    if !is_of_type {
+        return all;
+    }
+    let is_value = has_text(&value, text) & value.equals(&T::read(alloc, text).ok()?);
+    Some(all? & is_value)
 }
 
 /// Whether each call, of those that do not allocate and of others, makes the value of an integer, if it is of the type.
 macro_rules! makes {
-    ($alloc:expr, $text:expr, $value:ty, $($small:ident $integer:ty),*; $($call:ident $wide:ty),*) => {
-        Some(
-            true $(&& match $text.parse::<$integer>() {
-                Ok(integer) => is_value($alloc, <$value>::$small($alloc, integer), $text)?,
-                Err(_) => true,
-            })*
-            $(&& match $text.parse::<$wide>() {
-                Ok(integer) => is_value($alloc, <$value>::$call($alloc, integer).ok()?, $text)?,
-                Err(_) => true,
-            })*
-        )
-    };
+    ($alloc:expr, $text:expr, $value:ty, $($small:ident $integer:ty),*; $($call:ident $wide:ty),*) => {{
+        let all = Some(true);
+        $(
+            let (integer, is_of_type) = integer_of::<$integer>($text, 0);
+            let made = Ok(<$value>::$small($alloc, integer));
+            let all = and_is_made(all, $alloc, made, ($text, is_of_type));
+        )*
+        $(
+            let (integer, is_of_type) = integer_of::<$wide>($text, 0);
+            let made = <$value>::$call($alloc, integer);
+            let all = and_is_made(all, $alloc, made, ($text, is_of_type));
+        )*
+        all
+    }};
 }
 
 /// Whether unsigned values are made of an integer.
@@ -46,9 +70,9 @@ fn makes_integers(alloc: Global, text: &str) -> Option<bool> {
 
 /// Whether values of each type are made of an integer.
 pub fn are_made<D: DigitStore>(alloc: Global, text: &str) -> Option<bool> {
-    Some(
-        makes_unsigned::<D>(alloc, text)?
-            && makes_decimals::<D>(alloc, text)?
-            && makes_integers(alloc, text)?,
-    )
+    all_hold(&[
+        makes_unsigned::<D>(alloc, text),
+        makes_decimals::<D>(alloc, text),
+        makes_integers(alloc, text),
+    ])
 }

@@ -12,7 +12,7 @@ pub fn reads(alloc: Global, text: &str, (word, at): (&str, &str)) -> Option<bool
         Err(RulesError::Limit { at }) => ("limit", at),
         Err(RulesError::Memory) => return None,
     };
-    Some(word == found && at.parse::<usize>().ok()? == offset)
+    Some((word == found) & (at.parse::<usize>().ok()? == offset))
 }
 
 /// Whether the category of a text over a store that counts is found by this number of digits accessed.
@@ -63,9 +63,9 @@ fn range_takes(
 ) -> Option<bool> {
     let has_tenths = first.contains('.');
     let (low, high) = (units_of(alloc, first)?, units_of(alloc, last)?);
-    let mut all = low < high
-        && takes(alloc, rules, first, category)?
-        && takes(alloc, rules, last, category)?;
+    let mut all = (low < high)
+        & takes(alloc, rules, first, category)?
+        & takes(alloc, rules, last, category)?;
     for count in low..=high {
         let text = text_of(alloc, count, has_tenths)?;
         all &= takes(alloc, rules, text.as_str(), category)?;

@@ -1,10 +1,10 @@
 //! The parser of each kind of value, and the parts of the values.
 use crate::calls::SIGNS;
-use crate::rows::Kind;
+use crate::rows::{Kind, all_hold};
 use decimal_unsigned::decimal::lowest_of;
 use fixed_decimal::{
-    CompactDecimal, Decimal, DigitStore, FixedInteger, LimitError, ScientificDecimal, Signed,
-    UnsignedOver,
+    CompactDecimal, Decimal, DigitStore, FixedInteger, LimitError, ParseError, ScientificDecimal,
+    Signed, UnsignedOver,
 };
 use std::alloc::Global;
 use std::convert::TryFrom;
@@ -13,27 +13,37 @@ use test_support::{EightDigits, LimitedStore, Value, displays, has_text, named, 
 
 /// Whether a value has a text, also for `{}`.
 fn is_shown<T: Value + Display>(value: &T, text: &str) -> bool {
-    has_text(value, text) && displays(value, text.as_bytes())
+    has_text(value, text) & displays(value, text.as_bytes())
 }
 
 /// Whether a second value equals the first and has its text.
 fn is_again<T: Value + Display>(again: T, value: &T, text: &str) -> bool {
-    again.equals(value) && is_shown(&again, text)
+    again.equals(value) & is_shown(&again, text)
+}
+
+/// Whether a text was parsed as a value that prints a text, is copied and is parsed again, or failed with a word.
+fn is_read_as<T: Value + Display>(
+    alloc: Global,
+    found: Result<T, ParseError>,
+    text: &str,
+    wanted: &str,
+) -> Option<bool> {
+    match found {
+        Ok(value) => Some(
+            is_shown(&value, wanted)
+                & is_again(value.copy().ok()?, &value, wanted)
+                & is_again(T::read(alloc, text).ok()?, &value, wanted),
+        ),
+        error => Some(parse_outcome(error)? == wanted),
+    }
 }
 
 /// Whether a text and its bytes are parsed as a value that prints a text and is copied, or fail with a word.
 fn reads_as<T: Value + Display>(alloc: Global, text: &str, wanted: &str) -> Option<bool> {
-    match (T::read(alloc, text), T::read_bytes(alloc, text)) {
-        (Ok(value), Ok(other)) => Some(
-            is_shown(&value, wanted)
-                && is_again(value.copy().ok()?, &value, wanted)
-                && is_again(other, &value, wanted),
-        ),
-        (value, other) => {
-            let outcomes = (parse_outcome(value)?, parse_outcome(other)?);
-            Some(outcomes == (wanted, wanted))
-        }
-    }
+    all_hold(&[
+        is_read_as(alloc, T::read(alloc, text), text, wanted),
+        is_read_as(alloc, T::read_bytes(alloc, text), text, wanted),
+    ])
 }
 
 /// The magnitudes of a value: the highest shown, the first and the last digit that is not 0, the lowest shown, and
@@ -70,10 +80,15 @@ fn has_magnitudes<D: DigitStore>(
 ) -> Option<bool> {
     let value = UnsignedOver::<D>::try_from_str(alloc, text).ok()?;
     Some(
-        magnitudes(alloc, &value)?.as_str() == wanted
-            && lowest_of(text.as_bytes()) == Ok(value.lowest())
-            && shows_digits(&value, shown),
+        (magnitudes(alloc, &value)?.as_str() == wanted)
+            & (lowest_of(text.as_bytes()) == Ok(value.lowest()))
+            & shows_digits(&value, shown),
     )
+}
+
+/// Returns the name of the result of parsing a text over a store.
+fn outcome_over<D: DigitStore>(alloc: Global, text: &str) -> Option<&'static str> {
+    parse_outcome(UnsignedOver::<D>::try_from_str(alloc, text))
 }
 
 /// Whether the lowest magnitude of a text is found; or if it has none, whether that and a store that is out of memory
@@ -83,8 +98,9 @@ fn finds_lowest<D: DigitStore>(alloc: Global, text: &str, wanted: &str) -> Optio
     if wanted != "syntax" && wanted != "limit" {
         return Some(lowest == "read");
     }
-    let value = UnsignedOver::<LimitedStore<D, EightDigits>>::try_from_str(alloc, text);
-    Some(lowest == wanted && parse_outcome(value)? == wanted)
+    Some(
+        (lowest == wanted) & (outcome_over::<LimitedStore<D, EightDigits>>(alloc, text)? == wanted),
+    )
 }
 
 /// Whether an unsigned value is parsed over a store, as a row says.
@@ -93,11 +109,16 @@ pub fn reads_unsigned<D: DigitStore>(
     text: &str,
     (wanted, facts): (&str, &str),
 ) -> Option<bool> {
-    Some(
-        reads_as::<UnsignedOver<D>>(alloc, text, wanted)?
-            && (facts.is_empty() || has_magnitudes::<D>(alloc, text, (wanted, facts))?)
-            && finds_lowest::<D>(alloc, text, wanted)?,
-    )
+    let has_magnitudes = if facts.is_empty() {
+        Some(true)
+    } else {
+        has_magnitudes::<D>(alloc, text, (wanted, facts))
+    };
+    all_hold(&[
+        reads_as::<UnsignedOver<D>>(alloc, text, wanted),
+        has_magnitudes,
+        finds_lowest::<D>(alloc, text, wanted),
+    ])
 }
 
 /// Whether a decimal is parsed over a store, and has a sign.
@@ -124,61 +145,73 @@ fn becomes_integer(alloc: Global, text: &str, wanted: &str) -> Option<bool> {
     };
     match FixedInteger::try_from(decimal) {
         Ok(integer) => {
-            Some(has_text(&integer, wanted) && has_text(&Decimal::from(integer), wanted))
+            Some(has_text(&integer, wanted) & has_text(&Decimal::from(integer), wanted))
         }
         Err(LimitError) => Some(wanted == "limit"),
     }
 }
 
-/// Whether a compact value has the parts of its text, and is made of them.
+/// Whether a compact value has the parts of its text, if there are any, and is made of them.
 fn has_compact_parts(alloc: Global, text: &str, parts: &str) -> Option<bool> {
+    if parts.is_empty() {
+        return Some(true);
+    }
     let (significand, exponent) = parts.split_once(' ')?;
     let exponent = exponent.parse().ok()?;
-    let value = CompactDecimal::try_from_str(alloc, text).ok()?;
     let decimal = Decimal::try_from_str(alloc, significand).ok()?;
-    let made = CompactDecimal::from_significand_and_exponent(decimal, exponent);
+    let is_made = has_text(
+        &CompactDecimal::from_significand_and_exponent(decimal, exponent),
+        text,
+    );
+    let value = CompactDecimal::try_from_str(alloc, text).ok()?;
     Some(
-        has_text(&made, text)
-            && value.exponent() == exponent
-            && has_text(value.significand(), significand)
-            && has_text(&value.into_significand(), significand),
+        is_made
+            & (value.exponent() == exponent)
+            & has_text(value.significand(), significand)
+            & has_text(&value.into_significand(), significand),
     )
 }
 
-/// Whether a scientific value has the parts of its text, and is made of them.
-fn has_scientific_parts(alloc: Global, text: &str, parts: &str) -> Option<bool> {
-    let (significand, exponent) = parts.split_once(' ')?;
-    let value = ScientificDecimal::try_from_str(alloc, text).ok()?;
+/// Whether a scientific value is made of the parts of its text.
+fn is_made_of_parts(
+    alloc: Global,
+    text: &str,
+    (significand, exponent): (&str, &str),
+) -> Option<bool> {
     let decimal = Decimal::try_from_str(alloc, significand).ok()?;
     let integer = FixedInteger::try_from_str(alloc, exponent).ok()?;
+    Some(has_text(&ScientificDecimal::from(decimal, integer), text))
+}
+
+/// Whether a scientific value has the parts of its text, if there are any, and is made of them.
+fn has_scientific_parts(alloc: Global, text: &str, parts: &str) -> Option<bool> {
+    if parts.is_empty() {
+        return Some(true);
+    }
+    let (significand, exponent) = parts.split_once(' ')?;
+    let is_made = is_made_of_parts(alloc, text, (significand, exponent))?;
+    let value = ScientificDecimal::try_from_str(alloc, text).ok()?;
     let has_parts = has_text(value.significand(), significand)
-        && has_text(value.exponent(), exponent);
+        & has_text(value.exponent(), exponent);
     let (first, second) = value.into_parts();
-    Some(
-        has_parts
-            && has_text(&first, significand)
-            && has_text(&second, exponent)
-            && has_text(&ScientificDecimal::from(decimal, integer), text),
-    )
+    Some(is_made & has_parts & has_text(&first, significand) & has_text(&second, exponent))
 }
 
 /// Whether a text is parsed as a value of a kind that prints a text, or fails with a word, and has parts.
 pub fn reads(alloc: Global, kind: Kind, text: &str, (wanted, parts): (&str, &str)) -> Option<bool> {
-    let is_read = match kind {
-        Kind::Integer => {
-            reads_as::<FixedInteger>(alloc, text, wanted)? && becomes_integer(alloc, text, wanted)?
-        }
-        Kind::Scientific => reads_as::<ScientificDecimal>(alloc, text, wanted)?,
-        Kind::Compact => reads_as::<CompactDecimal>(alloc, text, wanted)?,
-        _ => return None,
-    };
     match kind {
-        Kind::Scientific if !parts.is_empty() => {
-            Some(is_read && has_scientific_parts(alloc, wanted, parts)?)
-        }
-        Kind::Compact if !parts.is_empty() => {
-            Some(is_read && has_compact_parts(alloc, wanted, parts)?)
-        }
-        _ => Some(is_read),
+        Kind::Integer => all_hold(&[
+            reads_as::<FixedInteger>(alloc, text, wanted),
+            becomes_integer(alloc, text, wanted),
+        ]),
+        Kind::Scientific => all_hold(&[
+            reads_as::<ScientificDecimal>(alloc, text, wanted),
+            has_scientific_parts(alloc, wanted, parts),
+        ]),
+        Kind::Compact => all_hold(&[
+            reads_as::<CompactDecimal>(alloc, text, wanted),
+            has_compact_parts(alloc, wanted, parts),
+        ]),
+        _ => None,
     }
 }

@@ -54,6 +54,19 @@ const KINDS: &[(&str, Kind)] = &[
     ("accesses", Kind::Accesses),
 ];
 
+/// Whether all parts of a row hold; `None` if each does for which no call failed.
+pub fn all_hold(parts: &[Option<bool>]) -> Option<bool> {
+    let mut all = Some(true);
+    for part in parts {
+        match part {
+            Some(true) => {}
+            Some(false) => return Some(false),
+            None => all = None,
+        }
+    }
+    all
+}
+
 /// Returns the text of a field, which is in parts if it has a star.
 fn text_of(alloc: Global, field: &str) -> Result<String, AllocError> {
     if field.contains('*') {
@@ -84,7 +97,7 @@ fn holds_over<D: DigitStore>(
     match kind {
         Kind::Unsigned => reading::reads_unsigned::<D>(alloc, first, (second, third)),
         Kind::Signed => reading::reads_signed::<D>(alloc, first, (second, third)),
-        Kind::Decimal => edited::holds::<D>(alloc, (first, second), (third, count)),
+        Kind::Decimal => edited::holds::<D>(alloc, ((first, second), (third, count))),
         Kind::Run => runs::has_outcome::<D>(alloc, first, second, third),
         Kind::LimitedRun(most) => {
             runs::has_limited_outcome::<D>(alloc, most, (first, second), third)
@@ -110,10 +123,10 @@ fn holds_by_kind(alloc: Global, kind: Kind, row: (&str, &str, &str), count: &str
         }
         Kind::Plural => plural::take(alloc, first, second, third),
         Kind::Rules => plural::reads(alloc, first, (second, third)),
-        _ => Some(
-            holds_over::<DigitList>(alloc, kind, row, count)?
-                && holds_over::<PackedDigits>(alloc, kind, row, count)?,
-        ),
+        _ => all_hold(&[
+            holds_over::<DigitList>(alloc, kind, row, count),
+            holds_over::<PackedDigits>(alloc, kind, row, count),
+        ]),
     }
 }
 

@@ -1,6 +1,7 @@
 //! Whole runs.
 use crate::calls::calls;
 use crate::edited::Counting;
+use crate::rows::all_hold;
 use fixed_decimal::{Call, DigitStore, ParseError, RunError, Sink, TextBuf, run, run_over};
 use std::alloc::{AllocError, Global};
 use test_support::{
@@ -54,31 +55,29 @@ fn has_outcome_over<D: DigitStore>(
     let mut sink = LimitedSink::new(wanted.as_bytes(), room);
     match run_over::<D, LimitedSink<'_>>(alloc, start.as_bytes(), calls, &mut sink) {
         Ok(()) => Some(sink.has_all()),
-        Err(RunError::Sink) => Some(room < wanted.len() && sink.failed() && sink.has_taken(room)),
-        Err(error) => {
-            Some(sink.has_taken(0) && !sink.failed() && is_error(alloc, &error, wanted)?)
-        }
+        Err(RunError::Sink) => Some((room < wanted.len()) & sink.failed() & sink.has_taken(room)),
+        Err(error) if sink.has_taken(0) & !sink.failed() => is_error(alloc, &error, wanted),
+        Err(_) => Some(false),
     }
 }
 
 /// The same over a store that is out of memory for more than `M` digits.
 fn has_outcome_within<D: DigitStore, M: DigitLimit>(
     alloc: Global,
-    run: (&str, &[Call<'_>]),
+    (start, words): (&str, &str),
     wanted: &str,
 ) -> Option<bool> {
-    has_outcome_over::<LimitedStore<D, M>>(alloc, run, wanted, usize::MAX)
+    let calls = calls(alloc, words)?;
+    has_outcome_over::<LimitedStore<D, M>>(alloc, (start, calls.as_slice()), wanted, usize::MAX)
 }
 
 /// The same over a store that is out of memory for more than `most` digits, if it keeps fewer in place.
 pub fn has_limited_outcome<D: DigitStore>(
     alloc: Global,
     most: usize,
-    (start, words): (&str, &str),
+    run: (&str, &str),
     wanted: &str,
 ) -> Option<bool> {
-    let calls = calls(alloc, words)?;
-    let run = (start, calls.as_slice());
     match most {
         _ if most < D::L => Some(true),
         8 => has_outcome_within::<D, EightDigits>(alloc, run, wanted),
@@ -94,9 +93,9 @@ pub fn has_limited_outcome<D: DigitStore>(
 /// Whether a sink that cannot grow has failed: it keeps a prefix of a text, and takes nothing more.
 fn has_failed(sink: &mut TextBuf, text: &str) -> bool {
     let length = sink.as_bytes().len();
-    let takes_nothing = sink.put_byte(b'x').is_err() && sink.put_bytes(b"").is_err();
-    let is_kept = sink.as_bytes().len() == length && text.as_bytes().starts_with(sink.as_bytes());
-    sink.failed() && takes_nothing && is_kept
+    let takes_nothing = sink.put_byte(b'x').is_err() & sink.put_bytes(b"").is_err();
+    let is_kept = (sink.as_bytes().len() == length) & text.as_bytes().starts_with(sink.as_bytes());
+    sink.failed() & takes_nothing & is_kept
 }
 
 /// The same into a sink in memory; `None` if the sink fails as it has to.
@@ -107,12 +106,12 @@ fn has_outcome_in_memory(
 ) -> Option<bool> {
     let mut sink = TextBuf::new(alloc);
     match run(alloc, start.as_bytes(), calls, &mut sink) {
-        Ok(()) => Some(!sink.failed() && sink.as_bytes() == wanted.as_bytes()),
+        Ok(()) => Some(!sink.failed() & (sink.as_bytes() == wanted.as_bytes())),
         Err(RunError::Sink) if has_failed(&mut sink, wanted) => None,
-        Err(error) => {
-            let is_unwritten = sink.as_bytes().is_empty() && !sink.failed();
-            Some(is_unwritten && is_error(alloc, &error, wanted)?)
+        Err(error) if sink.as_bytes().is_empty() & !sink.failed() => {
+            is_error(alloc, &error, wanted)
         }
+        Err(_) => Some(false),
     }
 }
 
@@ -139,10 +138,10 @@ pub fn has_outcome<D: DigitStore>(
 ) -> Option<bool> {
     let calls = calls(alloc, words)?;
     let run = (start, calls.as_slice());
-    Some(
-        has_outcome_in_memory(alloc, run, wanted)?
-            && has_outcome_over::<D>(alloc, run, wanted, usize::MAX)?
-            && has_outcome_over::<Counting<D>>(alloc, run, wanted, usize::MAX)?
-            && has_outcome_without_room::<D>(alloc, run, wanted)?,
-    )
+    all_hold(&[
+        has_outcome_in_memory(alloc, run, wanted),
+        has_outcome_over::<D>(alloc, run, wanted, usize::MAX),
+        has_outcome_over::<Counting<D>>(alloc, run, wanted, usize::MAX),
+        has_outcome_without_room::<D>(alloc, run, wanted),
+    ])
 }
