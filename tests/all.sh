@@ -21,6 +21,8 @@ run() {
   fi
 }
 
+# One job for each check, as many checks as there are processors: two jobs take a third more processor time.
+export RT_JOBS=${RT_JOBS:-$(nproc)}
 run rt ci
 # The scripts take the programs that the gate has just built.
 export BUILT_BY_GATE=1

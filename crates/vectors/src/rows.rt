@@ -54,7 +54,7 @@ const KINDS: &[(&str, Kind)] = &[
     ("accesses", Kind::Accesses),
 ];
 
-/// Whether all parts of a row hold; `None` if each does for which no call failed.
+/// Whether all parts of a row hold: `Some(false)` if one does not, otherwise `None` if a call of one failed.
 pub fn all_hold(parts: &[Option<bool>]) -> Option<bool> {
     let mut all = Some(true);
     for part in parts {
