@@ -24,6 +24,8 @@ use decimal_format::GroupingStrategy;
 use fixed_decimal::{SignDisplay, SignedRoundingMode, UnsignedRoundingMode};
 use locale_data::{CurrencyDigits, CurrencySign, Name, currency_digits};
 
+const STANDARD_SIGN: (SignDisplay, CurrencySign) = (SignDisplay::Auto, CurrencySign::Standard);
+
 fn unsupported(stem: Span) -> SkeletonError
     ensures { result ≡ unsupported stem }
 {
@@ -222,10 +224,7 @@ impl Choices {
             Some((ChosenUnit::Currency(code), _)) => Ok(NumberStyle::Currency(CurrencyStyle {
                 code,
                 display,
-                sign: self
-                    .sign
-                    .unwrap_or((SignDisplay::Auto, CurrencySign::Standard))
-                    .1,
+                sign: self.sign.unwrap_or(STANDARD_SIGN).1,
                 usage: self.currency_usage(),
             })),
             Some((ChosenUnit::Other, stem)) => Err(unsupported(stem)),
@@ -395,10 +394,7 @@ impl Choices {
             scale: self.power_of_ten()?,
             notation: self.number_notation()?,
             digits: Some(self.digit_options()?),
-            sign_display: self
-                .sign
-                .unwrap_or((SignDisplay::Auto, CurrencySign::Standard))
-                .0,
+            sign_display: self.sign.unwrap_or(STANDARD_SIGN).0,
             grouping: self.grouping_strategy()?,
             numbering_system: self.numbering_system()?,
         })
