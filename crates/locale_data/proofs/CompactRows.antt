@@ -13,27 +13,35 @@ use Rattle.locale_data.specs.declared.compact.CompactPattern.{CompactPattern}
 use Rattle.locale_data.specs.declared.compact.CompactRun.{CompactRun}
 use Rattle.locale_data.specs.declared.compact.CompactStyle.{CompactStyle}
 use Rattle.locale_data.specs.declared.compact.PercentUnit.{PercentUnit}
-use Rattle.locale_data.specs.declared.compact_table.TheConstants.{COMPACT_RUNS, COMPACT_PATTERNS, PERCENT_UNITS}
+use Rattle.locale_data.specs.declared.compact_table.TheConstants.{COMPACT_BYTES, COMPACT_RUNS, COMPACT_PATTERNS, PERCENT_UNITS}
 use Rattle.locale_data.specs.declared.number_formats.NumberFormats.{NumberFormats}
 use Rattle.locale_data.specs.Compact.{count_of, count_code, range_of, run_at, pattern_with, pattern_for, needs_category, compact_patterns, unit_for, has_texts, has_unit_texts, AreTexts, IsRun}
 use Rattle.locale_data.specs.declared.rows.TableRange.{TableRange}
 use Rattle.locale_data.specs.Rows.{part}
 use Rattle.locale_data.proofs.EachRow.{passes}
 use Rattle.locale_data.proofs.SortedRows.{find_some}
-use Rattle.locale_data.proofs.TableTexts.{passes_at, contains-part}
+use Rattle.locale_data.proofs.TableTexts.{passes_at, contains-part, rests, table_rests, is_text_by, texts-by}
 
-abbrev has_affixes : CompactPattern → Bool
-has_affixes p = has_texts p.prefix && has_texts p.suffix
+abbrev compact_rests : List (List ℕ)
+compact_rests = table_rests COMPACT_BYTES
 
-patterns_have_affixes : list_all has_affixes COMPACT_PATTERNS ≡ true
-unfolding is_utf8 chars lib.Utf8.encode
+abbrev has_affixes : List (List ℕ) → CompactPattern → Bool
+has_affixes rests p = (is_text_by rests p.prefix.before && is_text_by rests p.prefix.after)
+    && (is_text_by rests p.suffix.before && is_text_by rests p.suffix.after)
+
+patterns_have_affixes : list_all (has_affixes compact_rests) COMPACT_PATTERNS ≡ true
+unfolding rests is_utf8 chars lib.Utf8.encode
 patterns_have_affixes = refl
 
 has_affixes_if_listed : (p : CompactPattern) → Contains COMPACT_PATTERNS p → AreTexts p
 has_affixes_if_listed p listed =
-    let parts = and_parts (has_texts p.prefix) (has_texts p.suffix)
-    (passes has_affixes COMPACT_PATTERNS p patterns_have_affixes listed) in
-    record { prefix = parts.0; suffix = parts.1 }
+    let parts = and_parts (is_text_by compact_rests p.prefix.before && is_text_by compact_rests p.prefix.after)
+    (is_text_by compact_rests p.suffix.before && is_text_by compact_rests p.suffix.after)
+    (passes (has_affixes compact_rests) COMPACT_PATTERNS p patterns_have_affixes listed) in
+    record {
+      prefix = texts-by COMPACT_BYTES p.prefix.before p.prefix.after parts.0;
+      suffix = texts-by COMPACT_BYTES p.suffix.before p.suffix.after parts.1;
+    }
 
 abbrev has_units : PercentUnit → Bool
 has_units unit = has_unit_texts unit.one && has_unit_texts unit.other

@@ -22,7 +22,7 @@ use Rattle.locale_data.specs.Tag.{compared}
 use Rattle.locale_data.specs.Texts.{is_text}
 use Rattle.locale_data.proofs.EachRow.{passes, below}
 use Rattle.locale_data.proofs.SortedRows.{find_some}
-use Rattle.locale_data.proofs.TableTexts.{passes_at}
+use Rattle.locale_data.proofs.TableTexts.{passes_at, rests, table_rests, is_text_by, text-by}
 
 -- ---- The tables are sorted.
 
@@ -93,12 +93,16 @@ symbol-below c tag own width listed is =
     by (Some l) Wide is root each = below l.symbol (length CURRENCY_TEXTS) (of_row l is each).0
     by (Some l) Narrow is root each = below l.narrow (length CURRENCY_TEXTS) (of_row l is each).1
 
-texts_are_texts : list_all (λ t. is_text CURRENCY_BYTES t.bytes) CURRENCY_TEXTS ≡ true
-unfolding is_utf8 chars lib.Utf8.encode
+abbrev is_currency_text : CurrencyText → Bool
+is_currency_text t = is_text_by (table_rests CURRENCY_BYTES) t.bytes
+
+texts_are_texts : list_all is_currency_text CURRENCY_TEXTS ≡ true
+unfolding rests is_utf8 chars lib.Utf8.encode
 texts_are_texts = refl
 
 pub text_if_listed : (t : CurrencyText) → Contains CURRENCY_TEXTS t → is_text CURRENCY_BYTES t.bytes ≡ true
-text_if_listed t listed = passes (λ t. is_text CURRENCY_BYTES t.bytes) CURRENCY_TEXTS t texts_are_texts listed
+text_if_listed t listed =
+    text-by CURRENCY_BYTES t.bytes (passes is_currency_text CURRENCY_TEXTS t texts_are_texts listed)
 
 abbrev override_fits : LocaleOverride → Bool
 override_fits l = nat_lt l.pattern (length CURRENCY_OVERRIDES)

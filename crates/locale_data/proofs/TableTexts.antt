@@ -1,10 +1,13 @@
 -- Rows by index, and ranges that are texts.
-use Rattle.std.proofs.Common.{◌≡◌, ℕ, ◌≤◌, nat_le, Bool, true, List, length, slice_get, Some, arith}
-use Rattle.std.proofs.lemmas.Bool.{and_parts}
+use Rattle.std.proofs.Common.{◌≡◌, ℕ, zero, suc, ◌≤◌, ◌+◌, ◌-◌, ◌*◌, ◌/◌, ◌%◌, ◌&&◌, nat_le, Bool, true, false, List, [], ◌∷◌, length, take, drop, slice_get, Option, Some, None, refl, sym, ap, ap₂, ◌∙◌, arith}
+use Rattle.std.proofs.lemmas.Bool.{and_parts, false≢true}
 use Rattle.std.proofs.lemmas.Bool.Decides.{nat_tests}
 use Rattle.std.proofs.lemmas.List.Elements.{All-take, All-drop, All-contains, All-contains_itself}
+use Rattle.std.proofs.lemmas.List.{drop-drop}
+use Rattle.std.proofs.lemmas.Option.{none-some, same_Some}
 use Rattle.std.proofs.lemmas.Str.{IsUtf8-from_is_utf8}
 use Rattle.std.specs.List.{list_all, Contains}
+use Rattle.std.specs.Option.{option_map_or}
 use Rattle.std.specs.Str.{IsUtf8, is_utf8}
 use Rattle.locale_data.specs.declared.rows.TableRange.{TableRange}
 use Rattle.locale_data.specs.Rows.{part}
@@ -33,3 +36,53 @@ pub contains-part : {X : Type 0} (xs : List X) (range : TableRange) (x : X) → 
 contains-part xs range x has =
     let all = All-drop (Contains xs) range.0 xs (All-contains_itself xs) in
     All-contains (Contains xs) (part xs range) x (All-take (Contains xs) _ _ all) has
+
+-- ---- Texts by the rests of a table, so that none is found from the table's start.
+
+-- a list from each multiple of 64 on, k times
+unfoldable pub rests : {X : Type 0} → ℕ → List X → List (List X)
+rests zero xs = []
+rests (suc k) xs = xs ∷ rests k (drop 64 xs)
+
+rest-at : {X : Type 0} (k : ℕ) (xs : List X) (q : ℕ) (ys : List X) → slice_get (rests k xs) q ≡ Some ys
+    → ys ≡ drop (q * 64) xs
+unfolding rests
+rest-at zero xs q ys e = absurd (none-some ys e)
+rest-at (suc k) xs zero ys e = sym (same_Some xs ys e)
+rest-at (suc k) xs (suc q) ys e =
+    rest-at k (drop 64 xs) q ys e ∙ drop-drop (q * 64) 64 xs ∙ ap (λ n. drop n xs) (omega arith)
+
+-- the rests of a table of bytes, one for each text of it to begin in
+abbrev pub table_rests : List ℕ → List (List ℕ)
+table_rests bytes = rests (length bytes / 64 + 1) bytes
+
+-- a range of a table, in the rest that it begins in
+abbrev in_rest : TableRange → TableRange
+in_rest range = record { 0 = range.0 % 64; 1 = range.0 % 64 + (range.1 - range.0) }
+
+abbrev pub is_text_by : List (List ℕ) → TableRange → Bool
+is_text_by rests range = option_map_or (λ rest. is_text rest (in_rest range)) (slice_get rests (range.0 / 64)) false
+
+-- a text of a rest is one of the table
+pub text-by : (bytes : List ℕ) (range : TableRange) → is_text_by (table_rests bytes) range ≡ true
+    → is_text bytes range ≡ true
+text-by bytes range is = by (slice_get (table_rests bytes) (range.0 / 64)) refl is
+  where
+    by : (o : Option (List ℕ)) → slice_get (table_rests bytes) (range.0 / 64) ≡ o
+        → option_map_or (λ rest. is_text rest (in_rest range)) o false ≡ true → is_text bytes range ≡ true
+    by None e is = absurd (false≢true is)
+    by (Some rest) e is =
+        let from : drop (range.0 % 64) rest ≡ drop range.0 bytes =
+            ap (drop (range.0 % 64)) (rest-at (length bytes / 64 + 1) bytes (range.0 / 64) rest e)
+            ∙ drop-drop (range.0 % 64) (range.0 / 64 * 64) bytes ∙ ap (λ n. drop n bytes) (omega arith) in
+        let same : part rest (in_rest range) ≡ part bytes range = ap₂ take (omega arith) from in
+        rw same at is
+
+pub texts-by : (bytes : List ℕ) (first second : TableRange)
+    → (is_text_by (table_rests bytes) first && is_text_by (table_rests bytes) second) ≡ true
+    → (is_text bytes first && is_text bytes second) ≡ true
+texts-by bytes first second are =
+    let parts = and_parts (is_text_by (table_rests bytes) first) (is_text_by (table_rests bytes) second) are in
+    let one = text-by bytes first parts.0 in
+    let other = text-by bytes second parts.1 in
+    cc
