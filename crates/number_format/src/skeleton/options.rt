@@ -1,6 +1,6 @@
 //! The options of stems.
 ghost use Rattle.std.specs.Prelude.{◌≡◌};
-ghost use Rattle.number_format.specs.SkeletonOptions.{last, chosen_exponent_sign, changed_exponent, exponent_option, is_code_byte, currency_option, integer_option, decimal_system, is_algorithmic, system_option, scale_option, increment_option, both, strip_option, significant_option, option};
+ghost use Rattle.number_format.specs.SkeletonOptions.{last, chosen_exponent_sign, sign_option, changed_exponent, exponent_option, is_code_byte, currency_option, integer_option, decimal_system, is_algorithmic, system_option, scale_option, increment_option, both, strip_option, significant_option, option};
 
 use crate::number_options::ExponentSign;
 use crate::precision::Minimum;
@@ -34,19 +34,24 @@ fn chosen_exponent_sign(choice: Choice) -> Option<ExponentSign>
     }
 }
 
+fn sign_option(text: &[u8]) -> Option<ExponentSign>
+    ensures { result ≡ sign_option text.now }
+{
+    chosen_exponent_sign(named(text)?.choice)
+}
+
 fn changed_exponent(exponent: Exponent, text: &[u8]) -> Option<Exponent>
     ensures { result ≡ changed_exponent exponent text.now }
 {
     let digits = after(text, 1);
-    if (byte_at(text, 0) == b'*' || byte_at(text, 0) == b'+')
-        && run(digits, b'e', b'e') == digits.len()
-    {
+    let is_count = byte_at(text, 0) == b'*' || byte_at(text, 0) == b'+';
+    if is_count && run(digits, b'e', b'e') == digits.len() {
         return Some(Exponent {
             digits: digits.len(),
             ..exponent
         });
     }
-    let sign = chosen_exponent_sign(named(text)?.choice)?;
+    let sign = sign_option(text)?;
     Some(Exponent { sign, ..exponent })
 }
 
