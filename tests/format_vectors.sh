@@ -1,7 +1,7 @@
 #!/usr/bin/env bash
 # Checks the texts of numbers in locales against node's: `tests/format_vectors.sh [TSV]`.
 #
-# TSV has rows of a locale, options as JSON by the names of ECMA-402, a number and its text; or rows of `number_vectors`,
+# TSV has rows of a locale, options as JSON by the names of ECMA-402, a number and its text; or rows of `vectors`,
 # also with a numbering system after the locale. Without it `tools/locales/node.js` makes rows for all locales by the node
 # that is installed, which has to be node 20 for the texts of CLDR 48.
 #
@@ -16,8 +16,8 @@ elif grep -q $'^[^#\t]*\t{' "$1"; then
 else
   awk -F '\t' -v OFS='\t' '/^#/ { next } NF == 5 { print $1 "-u-nu-" $2, $3, $4, $5; next } { print }' "$1" > "$room/rows"
 fi
-copy_programs number_vectors
-"$room/number_vectors" < "$room/rows" > "$room/out"
+copy_programs vectors
+"$room/vectors" < "$room/rows" > "$room/out"
 sed -n '1,20p' "$room/out"
 read -r passed _ _ failed _ < <(tail -n 1 "$room/out")
 finish

@@ -154,7 +154,7 @@ def test_class():
 
 def test_options():
     """The rows of `Intl.NumberFormat` in the tests of numbers: options, a number and its text in a locale."""
-    rows = os.path.join(os.path.dirname(os.path.abspath(__file__)), "../../crates/number_vectors/stdin")
+    rows = os.path.join(os.path.dirname(os.path.abspath(__file__)), "../../crates/vectors/stdin")
     with open(rows, encoding="utf-8") as file:
         rows = [row for line in file if len(row := line.rstrip("\n").split("\t")) == 4
                 and ("=" in row[1] or not row[1]) and not re.search(r"[*]|\b(?:check|scale)=", line)]

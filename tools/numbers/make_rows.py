@@ -1,7 +1,7 @@
 #!/usr/bin/env python3
-"""Writes rows of `number_vectors` of texts and errors of `Intl.NumberFormat`:
+"""Writes rows of `vectors` of texts and errors of `Intl.NumberFormat`:
 
-    python3 tools/numbers/make_rows.py TEXTS ERRORS CURRENCIES >> crates/number_vectors/stdin
+    python3 tools/numbers/make_rows.py TEXTS ERRORS CURRENCIES >> crates/vectors/stdin
     python3 tools/numbers/make_rows.py TEXTS
 
 TEXTS has rows of a locale, options as JSON by the names of ECMA-402, a number and its text; ERRORS has a locale, options

@@ -1,7 +1,7 @@
 #!/usr/bin/env python3
-"""Writes rows of `number_vectors`: skeletons, and the options or the error that ICU has for each.
+"""Writes rows of `vectors`: skeletons, and the options or the error that ICU has for each.
 
-    python3 tools/numbers/skeleton_rows.py SKELETONS MODEL >> crates/number_vectors/stdin
+    python3 tools/numbers/skeleton_rows.py SKELETONS MODEL >> crates/vectors/stdin
 
 SKELETONS has `skeleton_errors.tsv` and `normal.tsv`, which ICU wrote, `readings.tsv`, and `skeleton.py`, a reader that says
 a skeleton in the options of ECMA-402; MODEL has its tables. Of `unit/` and the like the library does not read the names,
@@ -31,7 +31,7 @@ def rows(path):
 
 
 def escaped(text):
-    """A skeleton of a row as `number_vectors` reads it: only `\\\\{TEXT*COUNT}` stays short."""
+    """A skeleton of a row as `vectors` reads it: only `\\\\{TEXT*COUNT}` stays short."""
     def one(match):
         code = match.group(0)
         if code[1] == "u":

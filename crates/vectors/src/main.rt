@@ -1,7 +1,8 @@
-//! Checks test vectors over every store of digits: texts, calls, and their expected results.
+//! Checks test vectors over every store of digits: texts, calls, and their expected results; and numbers in locales.
 //!
-//! Each line of standard input is a row of fields with ` | ` between them. Blank lines and lines that start with `#`
-//! are not rows. Each row that fails is printed with its line number; the last line counts the rows.
+//! Each line of standard input is a row of fields: with tabs between them as the module `locales` says, the others with
+//! ` | `. Blank lines, and lines that start with `#` and have no tab, are not rows. Each row that fails is printed with
+//! its line number; the last line counts the rows.
 //!
 //! ```text
 //! unsigned | TEXT | RESULT                  TEXT is read as a value that prints RESULT, or fails with
@@ -31,7 +32,7 @@
 //! have none on values without one too. Roundings are made by each call that makes them, and the digits that a single
 //! call accesses are counted; one that is rejected or does not allocate gets no memory. The calls are those of
 //! `fixdec`, separated by commas. A field with a `*` is written in parts, separated by spaces: `9*3 .5` is `999.5`. A
-//! line with `*n` is a row for each length up to 200, and for each hundredth up to 5,000; one with the mode `each` is a
+//! line with `*N` is a row for each length up to 200, and for each hundredth up to 5,000; one with the mode `each` is a
 //! row for each mode, with a result for each. A row whose kind begins with `not`, as `not run`, has a wrong result, and
 //! holds where the check rejects it.
 #![tactic(auto)]
@@ -41,6 +42,7 @@ mod comparing;
 mod digits;
 mod edited;
 mod integers;
+mod locales;
 mod plural;
 mod reading;
 mod rows;
@@ -52,9 +54,9 @@ use std::process::ExitCode;
 use test_support::check_rows;
 
 /// Lines that are a row for each mode, and for each length.
-const REPEATED: &[(&str, u32)] = &[(":each:", 9), ("*n", 248)];
+const REPEATED: &[(&str, u32)] = &[(":each:", 9), ("*N", 248)];
 
-/// Returns the lengths for `*n`: each up to 200, and then each hundredth up to 5,000.
+/// Returns the lengths for `*N`: each up to 200, and then each hundredth up to 5,000.
 fn length(index: u32) -> u32 {
     if index < 200 {
         index.saturating_add(1)
@@ -66,7 +68,7 @@ fn length(index: u32) -> u32 {
 /// Returns the row of a line with a length.
 fn of_length(alloc: Global, line: &str, length: u32) -> Option<String> {
     let length = format!(in alloc; "*{length}").ok()?;
-    line.replace(alloc, "*n", length.as_str()).ok()
+    line.replace(alloc, "*N", length.as_str()).ok()
 }
 
 /// Returns the row of a mode, of the text before the mode, and the text after it.
@@ -77,8 +79,19 @@ fn of_mode(alloc: Global, (front, back): (&str, &str), index: u32) -> Option<Str
     format!(in alloc; "{front}:{mode}:{increment} | {result}").ok()
 }
 
+/// Whether the fields of a row have tabs between them: in those of the others there may be tabs.
+fn is_in_locale(line: &str) -> bool {
+    match line.split_once('\t') {
+        Some((first, _)) => !first.contains(" | "),
+        None => false,
+    }
+}
+
 /// Whether a row of a line holds.
 fn holds(alloc: Global, line: &str, index: u32) -> Option<bool> {
+    if is_in_locale(line) {
+        return locales::holds(alloc, line);
+    }
     let row = match line.split_once(":each:") {
         Some(parts) => of_mode(alloc, parts, index)?,
         None => of_length(alloc, line, length(index))?,

@@ -1,7 +1,7 @@
 //! Decimals by the symbols of a locale: how they are written, and that they are read back; and plural categories.
 ghost use Rattle.decimal_format.specs.Readable.{IsReadable};
 
-use crate::numbers::{expanded, is_text};
+use crate::locales::numbers::{expanded, is_text};
 use decimal_format::{DecimalFormatter, DecimalSymbols, GroupingStrategy};
 use fixed_decimal::{Decimal, DigitList, DigitStore, PackedDigits, Signed, UnsignedOver};
 use locale_data::{PluralRuleType, PluralRulesError, locale, plural_rules_of};

@@ -1,5 +1,5 @@
 //! The options that number skeletons name, and their errors.
-use crate::skeleton_words::OptionsText;
+use crate::locales::skeleton_words::OptionsText;
 use number_format::{NumberOptions, SkeletonError};
 use std::alloc::{AllocError, Global};
 

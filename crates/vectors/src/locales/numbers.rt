@@ -1,7 +1,7 @@
 //! Numbers by options.
-use crate::number_words::{Check, Options, parse_options};
-use crate::parts::has_parts;
-use crate::reading::{reads, reads_leniently};
+use crate::locales::number_words::{Check, Options, parse_options};
+use crate::locales::parts::has_parts;
+use crate::locales::reading::{reads, reads_leniently};
 use decimal_format::DecimalFormatter;
 use fixed_decimal::{
     Decimal, DigitList, DigitStore, FixedInteger, PackedDigits, RoundError, Signed, Sink,
