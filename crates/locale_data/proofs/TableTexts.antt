@@ -73,8 +73,8 @@ text-by bytes range is = by (slice_get (table_rests bytes) (range.0 / 64)) refl 
     by None e is = absurd (false≢true is)
     by (Some rest) e is =
         let from : drop (range.0 % 64) rest ≡ drop range.0 bytes =
-            ap (drop (range.0 % 64)) (rest-at (length bytes / 64 + 1) bytes (range.0 / 64) rest e)
-            ∙ drop-drop (range.0 % 64) (range.0 / 64 * 64) bytes ∙ ap (λ n. drop n bytes) (omega arith) in
+        ap (drop (range.0 % 64)) (rest-at (length bytes / 64 + 1) bytes (range.0 / 64) rest e)
+        ∙ drop-drop (range.0 % 64) (range.0 / 64 * 64) bytes ∙ ap (λ n. drop n bytes) (omega arith) in
         let same : part rest (in_rest range) ≡ part bytes range = ap₂ take (omega arith) from in
         rw same at is
 
