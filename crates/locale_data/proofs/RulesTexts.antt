@@ -1,8 +1,8 @@
 -- The texts of the tables are the rules of the rows, by computation.
 use Rattle.std.proofs.Common.{◌≡◌, ℕ, ◌<◌, true, List, length, map, codes, Option, Some, None, Result, Ok, Err, slice_get, refl, ap, subst, sym, ◌∙◌}
-use Rattle.std.proofs.lemmas.Option.{same_Some, slice_get-map}
+use Rattle.std.proofs.lemmas.Option.{none-some, same_Some, slice_get-map}
 use Rattle.std.specs.Prelude.{IsSome, IsSomeAnd}
-use Rattle.std.specs.Option.{option_map}
+use Rattle.std.specs.Option.{option_map, option_and_then}
 use Rattle.plural_rules.specs.declared.parse.RulesError.{RulesError}
 use Rattle.plural_rules.specs.declared.parse.RulesError.TheVariants.{Syntax, Limit, Memory}
 use Rattle.plural_rules.specs.declared.parse.state.State.TheVariants as state
@@ -19,7 +19,7 @@ use Rattle.locale_data.specs.declared.plural_rows.LanguageRules.{LanguageRules}
 use Rattle.locale_data.specs.declared.plural_rows.RuleSet.{RuleSet}
 use Rattle.locale_data.specs.declared.plurals.PluralRuleType.{PluralRuleType}
 use Rattle.locale_data.specs.declared.plurals.PluralRuleType.TheVariants.{Cardinal, Ordinal}
-use Rattle.locale_data.specs.declared.plurals_table.TheConstants.{OTHER, PLURAL_RULES}
+use Rattle.locale_data.specs.declared.plurals_table.TheConstants.{OTHER, PLURAL_RULES, PLURAL_RULES_TEXTS}
 use Rattle.locale_data.specs.declared.symbols.LocaleSymbols.{LocaleSymbols}
 use Rattle.locale_data.specs.declared.symbols_table.TheConstants.{LOCALES}
 use Rattle.locale_data.specs.Rows.{row_at}
@@ -30,15 +30,21 @@ use Rattle.locale_data.specs.Plurals.IsRulesText.{of_language, of_locale}
 use Rattle.locale_data.specs.PluralRows.{rules_in}
 use Rattle.locale_data.specs.Plurals.{set_of, text_of, indexed_set, set_at, rules_text_at, IsCategoryAt, IsLanguageOf, IsLocaleOf, IsRulesText, IsRulesAt, IsRulesOf}
 use Rattle.locale_data.proofs.EachRow.{not_past}
+use Rattle.locale_data.proofs.TableTexts.{rests, table_rests, part_by, part-by}
 
 -- the rules of a text, or None if it is not rules or a number is too great
 abbrev rules_by : List ℕ → Option (List RuleValue)
 rules_by text = read true state.Category no_rules text
 
--- the rows of each language make the rules of the text
+-- the rules of the text of a set, by the rests of the table of texts
+abbrev rules_near : List (List ℕ) → RuleSet → Option (List RuleValue)
+rules_near rests set = option_and_then rules_by (part_by rests set.text)
+
+-- the rows of each language make them
 languages_have_rules : (rule_type : PluralRuleType)
-    → map (λ l. rules_by (text_of (set_of l rule_type))) PLURAL_RULES
+    → map (λ l. rules_near (table_rests PLURAL_RULES_TEXTS) (set_of l rule_type)) PLURAL_RULES
     ≡ map (λ l. Some (rules_in (set_of l rule_type).rules)) PLURAL_RULES
+unfolding rests
 languages_have_rules Cardinal = refl
 languages_have_rules Ordinal = refl
 
@@ -51,11 +57,23 @@ same_at f g xs k x same at =
 abbrev HasRules : RuleSet → Type 0
 HasRules set = rules_by (text_of set) ≡ Some (rules_in set.rules)
 
+-- so the text in the table has them
+has_by_rests : (set : RuleSet) → rules_near (table_rests PLURAL_RULES_TEXTS) set ≡ Some (rules_in set.rules)
+    → HasRules set
+has_by_rests set is = by (part_by (table_rests PLURAL_RULES_TEXTS) set.text) refl is
+  where
+    by : (o : Option (List ℕ)) → part_by (table_rests PLURAL_RULES_TEXTS) set.text ≡ o
+        → option_and_then rules_by o ≡ Some (rules_in set.rules) → HasRules set
+    by None e is = absurd (none-some (rules_in set.rules) is)
+    by (Some found) e is = ap rules_by (sym (part-by PLURAL_RULES_TEXTS set.text found e)) ∙ is
+
 language_has_rules : (index : ℕ) (rule_type : PluralRuleType) (language : LanguageRules)
     → slice_get PLURAL_RULES index ≡ Some language → HasRules (set_of language rule_type)
 language_has_rules index rule_type language at =
-    same_at (λ l. rules_by (text_of (set_of l rule_type))) (λ l. Some (rules_in (set_of l rule_type).rules))
-    PLURAL_RULES index language (languages_have_rules rule_type) at
+    has_by_rests (set_of language rule_type)
+    (same_at (λ l. rules_near (table_rests PLURAL_RULES_TEXTS) (set_of l rule_type))
+    (λ l. Some (rules_in (set_of l rule_type).rules)) PLURAL_RULES index language
+    (languages_have_rules rule_type) at)
 
 has_rules : (number : RulesNumber) (set : RuleSet) → set_at number ≡ Some set → HasRules set
 has_rules number set at = by number.language number.rule_type at

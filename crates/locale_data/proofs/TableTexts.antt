@@ -7,11 +7,11 @@ use Rattle.std.proofs.lemmas.List.{drop-drop}
 use Rattle.std.proofs.lemmas.Option.{none-some, same_Some}
 use Rattle.std.proofs.lemmas.Str.{IsUtf8-from_is_utf8}
 use Rattle.std.specs.List.{list_all, Contains}
-use Rattle.std.specs.Option.{option_map_or}
+use Rattle.std.specs.Option.{option_map, option_map_or}
 use Rattle.std.specs.Str.{IsUtf8, is_utf8}
 use Rattle.locale_data.specs.declared.rows.TableRange.{TableRange}
 use Rattle.locale_data.specs.Rows.{part}
-use Rattle.locale_data.specs.Texts.{is_text}
+use Rattle.locale_data.specs.Texts.{is_short_text, is_text}
 use Rattle.locale_data.proofs.EachRow.{passes, contains_at}
 
 -- a test that passes for each row of a table passes for that at an index
@@ -60,23 +60,35 @@ table_rests bytes = rests (length bytes / 64 + 1) bytes
 abbrev in_rest : TableRange → TableRange
 in_rest range = record { 0 = range.0 % 64; 1 = range.0 % 64 + (range.1 - range.0) }
 
+-- the part of a table in a range, by the rests of the table
+abbrev pub part_by : List (List ℕ) → TableRange → Option (List ℕ)
+part_by rests range = option_map (λ rest. part rest (in_rest range)) (slice_get rests (range.0 / 64))
+
+pub part-by : (bytes : List ℕ) (range : TableRange) (found : List ℕ) → part_by (table_rests bytes) range ≡ Some found
+    → found ≡ part bytes range
+part-by bytes range found e = by (slice_get (table_rests bytes) (range.0 / 64)) refl e
+  where
+    by : (o : Option (List ℕ)) → slice_get (table_rests bytes) (range.0 / 64) ≡ o
+        → option_map (λ rest. part rest (in_rest range)) o ≡ Some found → found ≡ part bytes range
+    by None at e = absurd (none-some found e)
+    by (Some rest) at e =
+        let from : drop (range.0 % 64) rest ≡ drop range.0 bytes =
+        ap (drop (range.0 % 64)) (rest-at (length bytes / 64 + 1) bytes (range.0 / 64) rest at)
+        ∙ drop-drop (range.0 % 64) (range.0 / 64 * 64) bytes ∙ ap (λ n. drop n bytes) (omega arith) in
+        sym (same_Some (part rest (in_rest range)) found e) ∙ ap₂ take (omega arith) from
+
 abbrev pub is_text_by : List (List ℕ) → TableRange → Bool
-is_text_by rests range = option_map_or (λ rest. is_text rest (in_rest range)) (slice_get rests (range.0 / 64)) false
+is_text_by rests range = option_map_or is_short_text (part_by rests range) false
 
 -- a text of a rest is one of the table
 pub text-by : (bytes : List ℕ) (range : TableRange) → is_text_by (table_rests bytes) range ≡ true
     → is_text bytes range ≡ true
-text-by bytes range is = by (slice_get (table_rests bytes) (range.0 / 64)) refl is
+text-by bytes range is = by (part_by (table_rests bytes) range) refl is
   where
-    by : (o : Option (List ℕ)) → slice_get (table_rests bytes) (range.0 / 64) ≡ o
-        → option_map_or (λ rest. is_text rest (in_rest range)) o false ≡ true → is_text bytes range ≡ true
+    by : (o : Option (List ℕ)) → part_by (table_rests bytes) range ≡ o → option_map_or is_short_text o false ≡ true
+        → is_text bytes range ≡ true
     by None e is = absurd (false≢true is)
-    by (Some rest) e is =
-        let from : drop (range.0 % 64) rest ≡ drop range.0 bytes =
-        ap (drop (range.0 % 64)) (rest-at (length bytes / 64 + 1) bytes (range.0 / 64) rest e)
-        ∙ drop-drop (range.0 % 64) (range.0 / 64 * 64) bytes ∙ ap (λ n. drop n bytes) (omega arith) in
-        let same : part rest (in_rest range) ≡ part bytes range = ap₂ take (omega arith) from in
-        rw same at is
+    by (Some found) e is = ap is_short_text (sym (part-by bytes range found e)) ∙ is
 
 pub texts-by : (bytes : List ℕ) (first second : TableRange)
     → (is_text_by (table_rests bytes) first && is_text_by (table_rests bytes) second) ≡ true

@@ -4,6 +4,10 @@ use Rattle.std.specs.Str.{is_utf8}
 use Rattle.locale_data.specs.declared.rows.TableRange.{TableRange}
 use Rattle.locale_data.specs.Rows.{part}
 
--- a range of a table of bytes is a text of at most 255 bytes
+-- bytes are a text of at most 255 bytes
+abbrev pub is_short_text : List ℕ → Bool
+is_short_text bytes = is_utf8 bytes && nat_le (length bytes) 255
+
+-- a range of a table of bytes is one
 abbrev pub is_text : List ℕ → TableRange → Bool
-is_text bytes range = is_utf8 (part bytes range) && nat_le (length (part bytes range)) 255
+is_text bytes range = is_short_text (part bytes range)
