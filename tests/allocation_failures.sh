@@ -1,9 +1,10 @@
 #!/usr/bin/env bash
-# Makes each allocation of two built programs fail in turn, by a `malloc` that fails once:
+# Makes each allocation of three built programs fail in turn, by a `malloc` that fails once:
 #
 # - `vectors` checks the rows of each file of `tests/allocations`, which make each kind of call that allocates. It has to
 #   print that all rows hold: a call reports that it is out of memory, changes nothing, and succeeds when it is made
 #   again. Where the input itself is not read it prints nothing, and ends with status 1.
+# - `fixdec` has to end with status 3, and `memory` with nothing written, or as ever where it asked again, for less.
 # - `fixdec_lines` has to end with status 3, and `memory` with nothing written, or `line N: memory` with the lines
 #   before, or as ever where it asked again, for less; and it allocates no more for a thousand lines of at most 16
 #   digits than for one, also by number skeletons.
@@ -12,7 +13,7 @@
 set -u
 cd "$(dirname "$0")/.." || exit 1
 . tests/programs.sh
-copy_programs vectors fixdec_lines
+copy_programs vectors fixdec fixdec_lines
 cp tests/allocations/*.txt "$room"
 gcc -shared -fPIC -O2 -Wall -Wextra -Werror tests/failing_malloc.c -o "$room/failing_malloc.so" -ldl
 judge $? 'the failing malloc'
@@ -71,6 +72,20 @@ no_more 12345678901234.56 12345678901234.50 round:-2:half-even:25
 euro=$'\xe2\x82\xac' dollars='$12,345,678,901,234.56'
 no_more "12.345.678.901.234,56"$'\xc2\xa0'"$euro" "$dollars" read:de:currency/EUR format:en:currency/USD
 no_more "$euro 12345678901234,56" "$dollars" read:de:lenient:currency/EUR format:en:currency/USD
+
+# Those of the words, of their calls, of the buffer, the start, an operand, a concatenation and a rounding.
+for words in '1e20 trim-start concat:0.12345678901234567' '1234567812345678 round:-1:trunc:25 concat:0.005'; do
+  fail_each /dev/null fixdec $words
+  for ((at = 1; at <= ${all:-0}; at++)); do
+    read -r count status < "$at.end"
+    if [ "$count" -gt "$all" ]; then
+      cmp -s "$at.out" 0.out && [ ! -s "$at.err" ]
+    else
+      [ "$status" = 3 ] && [ ! -s "$at.out" ] && [ "$(cat "$at.err")" = memory ]
+    fi
+    judge $? "$words, allocation $at of $all: status $status, $(head -c 100 "$at.out" "$at.err")"
+  done
+done
 
 # Those of the words, of their calls, of the buffers, of lines that get longer, of long numbers and of concatenations.
 printf '70\n12345678901234567890.125\nx\n1e20\n%0200d\n' 5 > in

@@ -10,15 +10,16 @@
 //! 5. and 6. Standard output and standard error. A bar ends the bytes for which there is room.
 //!
 //! `\n`, `\r`, `\t` and `\xff` are bytes. A row is checked with several sizes of reads and writes, and several failures
-//! of a writer without room. Blank lines, and lines that start with `#` and have no tab, are not rows. Each row that
-//! fails is printed with its line number; the last line counts the rows.
+//! of a writer without room; one of `fixdec` also by `program`. Blank lines, and lines that start with `#` and have no
+//! tab, are not rows. Each row that fails is printed with its line number; the last line counts the rows.
 #![tactic(auto)]
 
 mod input;
+mod longest_lines;
 mod row;
 
 use cli::{ErrorLines, LineReader, Program, fixdec, fixdec_lines, plural};
-use fixed_decimal::Closed;
+use fixed_decimal::{Closed, Out};
 use input::ChunkReader;
 use row::{Expected, Fault, Row, unescaped};
 use std::alloc::Global;
@@ -77,10 +78,33 @@ fn holds_by(
             plural::run_arguments(alloc, arguments, out, &mut ErrorLines::new(&mut err))
         }
     };
-    let is_whole = width == 1 || errors.is_in_lines(&err);
+    let Some(closed) = back else {
+        return Some(false);
+    };
+    let out = closed.into_writer();
+    let is_block = row.program != Program::Fixdec || output.is_in_one_write(&out);
+    let is_whole = width == 1 || (errors.is_in_lines(&err) && is_block);
     let is_unread = status != 2 || !input.is_read;
-    let is_written = back.is_some_and(|closed| output.is_in(&closed.into_writer()));
-    Some(status == row.status && is_written && errors.is_in(&err) && is_whole && is_unread)
+    let are_written = output.is_in(&out) && errors.is_in(&err);
+    Some(status == row.status && are_written && is_whole && is_unread)
+}
+
+/// Whether `program` of `fixdec`, which has no help, does what a row says of the words, with no buffer for the output.
+fn holds_of_words(
+    alloc: Global,
+    row: &Row<'_>,
+    output: &Expected,
+    errors: &Expected,
+    failure: WriteFailure,
+) -> Option<bool> {
+    if row.program != Program::Fixdec || row.is_of_arguments() {
+        return Some(true);
+    }
+    let words = row.words(alloc)?;
+    let mut out = Out::new(output.writer(failure));
+    let mut err = errors.writer(failure);
+    let status = fixdec::program(alloc, words.as_slice(), &mut out, &mut err);
+    Some(status == row.status && output.is_in(&out.into_writer()) && errors.is_in(&err))
 }
 
 /// Whether a row holds with each size of reads and writes.
@@ -94,7 +118,9 @@ fn holds(alloc: Global, line: &str) -> Option<bool> {
         _ => CHUNKINGS,
     };
     for chunking in chunkings {
-        if holds_by(alloc, &row, input.as_slice(), &output, &errors, *chunking) != Some(true) {
+        let holds = holds_by(alloc, &row, input.as_slice(), &output, &errors, *chunking)?
+            && holds_of_words(alloc, &row, &output, &errors, chunking.2)?;
+        if !holds {
             return Some(false);
         }
     }
@@ -102,5 +128,9 @@ fn holds(alloc: Global, line: &str) -> Option<bool> {
 }
 
 fn main(rt: HostRuntime) -> ExitCode {
+    if !longest_lines::are_reported() {
+        let _ = println!(rt; "the longest lines of errors are not reported");
+        return ExitCode::FAILURE;
+    }
     check_rows(&rt, &[], |alloc, row, _| holds(alloc, row))
 }

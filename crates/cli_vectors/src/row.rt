@@ -95,6 +95,12 @@ impl Expected {
         writer.has_taken(self.room.min(self.text.len()))
     }
 
+    /// Whether a writer took the text in one write, and failed in the next one if there is no room for all.
+    pub fn is_in_one_write(&self, writer: &FailingWriter<'_>) -> bool {
+        let taken = usize::from(self.room > 0 && !self.text.is_empty());
+        writer.writes() == taken + usize::from(self.room < self.text.len())
+    }
+
     /// Whether a writer took each line in one write, if there is room for all.
     pub fn is_in_lines(&self, writer: &FailingWriter<'_>) -> bool {
         let lines = self.text.iter().filter(|byte| **byte == b'\n').count();
@@ -134,19 +140,35 @@ impl<'a> Row<'a> {
         })
     }
 
-    /// Returns the arguments: the name of the program, and the words.
-    pub fn arguments(&self, alloc: Global) -> Option<io::Result<Args>> {
-        if let Fault::Words(kind) = self.fault {
-            return Some(Err(io::Error::from(kind)));
-        }
+    /// Whether the row is of the arguments: they are not read, or ask for help.
+    pub fn is_of_arguments(&self) -> bool {
+        matches!(self.fault, Fault::Words(_)) || self.words == "--help" || self.words == "-h"
+    }
+
+    /// Returns the words.
+    pub fn words(&self, alloc: Global) -> Option<Vec<String>> {
         let mut words = Vec::new(alloc);
-        words.push(String::from_str(alloc, "program").ok()?).ok()?;
         if !self.words.is_empty() {
             for word in self.words.split('|') {
                 let bytes = unescaped(alloc, word)?;
                 words.push(String::from_utf8(bytes).ok()?).ok()?;
             }
         }
-        Some(Ok(words.into_iter()))
+        Some(words)
+    }
+
+    /// Returns the arguments: the name of the program, and the words.
+    pub fn arguments(&self, alloc: Global) -> Option<io::Result<Args>> {
+        if let Fault::Words(kind) = self.fault {
+            return Some(Err(io::Error::from(kind)));
+        }
+        let mut arguments = Vec::new(alloc);
+        arguments
+            .push(String::from_str(alloc, "program").ok()?)
+            .ok()?;
+        for word in self.words(alloc)? {
+            arguments.push(word).ok()?;
+        }
+        Some(Ok(arguments.into_iter()))
     }
 }

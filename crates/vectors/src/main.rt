@@ -24,6 +24,7 @@
 //! plural | RULES | CATEGORY | SAMPLES       The plural category of each sample, as CLDR writes rules and samples.
 //! rules | TEXT | RESULT [| OFFSET]          TEXT is `read` as plural rules, or fails with `syntax` or `limit`.
 //! accesses | RULES | TEXT | COUNT           The number of digits accessed to find the category.
+//! check | NAME | WHAT                       What is no row of texts, by its name in the module `checks`.
 //! ```
 //!
 //! Runs that write a text are made once more into sinks with room for a prefix of it, which have to take the prefix.
@@ -38,6 +39,7 @@
 #![tactic(auto)]
 
 mod calls;
+mod checks;
 mod comparing;
 mod digits;
 mod edited;

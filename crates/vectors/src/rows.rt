@@ -1,6 +1,6 @@
 //! Rows by their kinds.
 use crate::edited::Counting;
-use crate::{comparing, digits, edited, plural, reading, runs};
+use crate::{checks, comparing, digits, edited, plural, reading, runs};
 use fixed_decimal::{DigitList, DigitStore, PackedDigits};
 use std::alloc::{AllocError, Global};
 use test_support::{expand_runs, named};
@@ -26,6 +26,7 @@ pub enum Kind {
     Plural,
     Rules,
     Accesses,
+    Check,
 }
 
 const KINDS: &[(&str, Kind)] = &[
@@ -52,6 +53,7 @@ const KINDS: &[(&str, Kind)] = &[
     ("plural", Kind::Plural),
     ("rules", Kind::Rules),
     ("accesses", Kind::Accesses),
+    ("check", Kind::Check),
 ];
 
 /// Whether all parts of a row hold: `Some(false)` if one does not, otherwise `None` if a call of one failed.
@@ -123,6 +125,7 @@ fn holds_by_kind(alloc: Global, kind: Kind, row: (&str, &str, &str), count: &str
         }
         Kind::Plural => plural::take(alloc, first, second, third),
         Kind::Rules => plural::reads(alloc, first, (second, third)),
+        Kind::Check => checks::hold(alloc, first),
         _ => all_hold(&[
             holds_over::<DigitList>(alloc, kind, row, count),
             holds_over::<PackedDigits>(alloc, kind, row, count),

@@ -8,8 +8,6 @@ fn lends<D: DigitStore>(alloc: Global) -> bool {
     D::empty(alloc).as_bcd().is_some()
 }
 
-#[test]
-fn lends_packed_bytes(rt: HostRuntime) {
-    assert!(rt; lends::<PackedDigits>(rt.alloc()) && !lends::<DigitList>(rt.alloc()));
-    assert_eq!(rt; size_of::<Steps>(), 0);
+pub fn hold(alloc: Global) -> bool {
+    lends::<PackedDigits>(alloc) && !lends::<DigitList>(alloc) && size_of::<Steps>() == 0
 }

@@ -61,16 +61,19 @@ fn call(alloc: Global, row: Row) -> bool {
     calls(row) && calls_when_closed(alloc, row) == Ok(true)
 }
 
-#[test]
-fn calls_writers(rt: HostRuntime) {
+/// Whether writers are called so often, with each failure after each number of bytes.
+fn are_called(alloc: Global) -> bool {
     for room in 0..TEXT.len() {
         for (failure, kind) in FAILURES {
-            let row = (room, *failure, Some(*kind), room.saturating_add(1), 0);
-            assert!(rt; call(rt.alloc(), row), "{room} bytes");
+            if !call(
+                alloc,
+                (room, *failure, Some(*kind), room.saturating_add(1), 0),
+            ) {
+                return false;
+            }
         }
     }
-    assert!(rt; call(rt.alloc(), (8, Flush, Some(ErrorKind::BrokenPipe), 8, 1)));
-    assert!(rt; call(rt.alloc(), (8, Zero, None, 8, 1)));
+    call(alloc, (8, Flush, Some(ErrorKind::BrokenPipe), 8, 1)) && call(alloc, (8, Zero, None, 8, 1))
 }
 
 /// The sizes of slices, and the number of writes to a writer that takes any number of bytes a call.
@@ -95,14 +98,12 @@ fn writes_of(alloc: Global, bytes: &[u8], sizes: &[usize]) -> Result<usize, Allo
     Ok(sink.close().into_writer().writes())
 }
 
-#[test]
-fn writes_blocks(rt: HostRuntime) -> Result<(), AllocError> {
-    let bytes = vec![in rt.alloc(); b'7'; 65_537]?;
+pub fn hold(alloc: Global) -> Option<bool> {
+    let bytes = vec![in alloc; b'7'; 65_537].ok()?;
     for (sizes, writes) in WRITES {
-        assert!(rt;
-            writes_of(rt.alloc(), bytes.as_slice(), sizes) == Ok(*writes),
-            "{writes}"
-        );
+        if writes_of(alloc, bytes.as_slice(), sizes).ok()? != *writes {
+            return Some(false);
+        }
     }
-    Ok(())
+    Some(are_called(alloc))
 }

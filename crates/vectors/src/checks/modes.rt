@@ -30,3 +30,7 @@ fn have_defaults() -> bool
         && SignDisplay::default() == SignDisplay::Auto
         && RoundingIncrement::default() == RoundingIncrement::MultiplesOf1
 }
+
+pub fn are_ordered() -> bool {
+    modes_in_order(Trunc) && unsigned_modes_in_order() && have_defaults()
+}

@@ -1,4 +1,4 @@
-//! Changes of the absolute value through `DerefMut`: the contracts here are proved from the one of `deref_mut`.
+//! Changes of the absolute value of a decimal, through `DerefMut`.
 ghost use Rattle.std.specs.Prelude.{◌≡◌, negsuc, Some, option_map, IfOk, OnOk, OnErr};
 ghost use Rattle.decimal_unsigned.specs.Edits.{multiplied_pow10, trimmed_end};
 ghost use Rattle.decimal_unsigned.specs.Concatenation.{concatenated_end};
@@ -8,8 +8,10 @@ use fixed_decimal::{
     ConcatenateError, Decimal, DigitStore, LimitError, Sign, Signed, UnsignedDecimal, UnsignedOver,
 };
 
-/// Two calls in sequence, the first of which may fail, over any store.
-fn to_cents<D: DigitStore>(value: &mut Signed<UnsignedOver<D>>) -> Result<(), LimitError>
+/// Divides by 100 and trims the zeros at the end, over any store. Err: beyond the limits, and the value is unchanged.
+pub fn divide_by_hundred<D: DigitStore>(
+    value: &mut Signed<UnsignedOver<D>>,
+) -> Result<(), LimitError>
     ensures ok { OnOk result (with_absolute value.old
         (option_map trimmed_end (multiplied_pow10 value.old.absolute (negsuc 1))) ≡ Some value.new) }
     ensures err { OnErr result (value.new ≡ value.old) }
@@ -19,8 +21,8 @@ fn to_cents<D: DigitStore>(value: &mut Signed<UnsignedOver<D>>) -> Result<(), Li
     Ok(())
 }
 
-/// An explicit reference to an owned decimal.
-fn owned_to_cents(mut value: Decimal) -> Result<Decimal, LimitError>
+/// Returns a hundredth, by a reference to the absolute value. Err: beyond the limits.
+pub fn hundredth(mut value: Decimal) -> Result<Decimal, LimitError>
     ensures { IfOk result (λ v. with_absolute value (multiplied_pow10 value.absolute (negsuc 1)) ≡ Some v) }
 {
     let inside: &mut UnsignedDecimal = &mut *value;
@@ -28,8 +30,8 @@ fn owned_to_cents(mut value: Decimal) -> Result<Decimal, LimitError>
     Ok(value)
 }
 
-/// A call that may fail.
-fn append(
+/// Concatenates a number. Err: an overlap or out of memory, with the number, and the value is unchanged.
+pub fn append(
     value: &mut Decimal,
     other: UnsignedDecimal,
 ) -> Result<(), ConcatenateError<UnsignedDecimal>>
@@ -39,15 +41,15 @@ fn append(
     value.concatenate_end(other)
 }
 
-/// Replaces the absolute value, of any type.
-fn replace<T: Drop>(value: &mut Signed<T>, next: T)
+/// Replaces the absolute value, of any type, and keeps the sign.
+pub fn replace<T: Drop>(value: &mut Signed<T>, next: T)
     ensures { value.new ≡ record value.old { absolute = next } }
 {
     **value = next;
 }
 
-/// Sets a sign, and then makes a call.
-fn negated_cents(mut value: Decimal) -> Result<Decimal, LimitError>
+/// Returns a hundredth with a minus sign. Err: beyond the limits.
+pub fn negative_hundredth(mut value: Decimal) -> Result<Decimal, LimitError>
     ensures { IfOk result (λ v. with_absolute (record value { sign = Sign.Negative })
         (multiplied_pow10 value.absolute (negsuc 1)) ≡ Some v) }
 {

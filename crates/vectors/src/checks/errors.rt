@@ -89,11 +89,10 @@ fn are_shown<E: Error>(rows: &[(E, &str)]) -> bool {
     true
 }
 
-#[test]
-fn displays_errors(rt: HostRuntime) {
-    assert!(rt; are_shown(CALL_ERRORS));
-    assert!(rt; are_shown(RUN_ERRORS));
-    assert!(rt; are_shown(CONCATENATE_ERRORS));
-    assert!(rt; are_shown(INTEGER_ERRORS));
-    assert!(rt; are_shown(SYMBOLS_ERRORS));
+pub fn are_displayed() -> bool {
+    are_shown(CALL_ERRORS)
+        && are_shown(RUN_ERRORS)
+        && are_shown(CONCATENATE_ERRORS)
+        && are_shown(INTEGER_ERRORS)
+        && are_shown(SYMBOLS_ERRORS)
 }
