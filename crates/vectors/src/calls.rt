@@ -42,36 +42,6 @@ const DISPLAYS: &[(&str, SignDisplay)] = &[
     ("negative", SignDisplay::Negative),
 ];
 
-/// The calls without their arguments.
-#[derive(Clone, Copy)]
-enum Name {
-    TrimStart,
-    TrimEnd,
-    TrimEndIfInteger,
-    Shift,
-    PadStart,
-    PadEnd,
-    Max,
-    Round,
-    Sign,
-    Display,
-    Concat,
-}
-
-const NAMES: &[(&str, Name)] = &[
-    ("trim-start", Name::TrimStart),
-    ("trim-end", Name::TrimEnd),
-    ("trim-end-if-integer", Name::TrimEndIfInteger),
-    ("shift", Name::Shift),
-    ("pad-start", Name::PadStart),
-    ("pad-end", Name::PadEnd),
-    ("max", Name::Max),
-    ("round", Name::Round),
-    ("sign", Name::Sign),
-    ("display", Name::Display),
-    ("concat", Name::Concat),
-];
-
 /// Parses a position, a mode and an increment, separated by colons.
 fn rounding<'a>(words: &str) -> Option<Call<'a>> {
     let (position, words) = words.split_once(':')?;
@@ -84,19 +54,20 @@ fn rounding<'a>(words: &str) -> Option<Call<'a>> {
 }
 
 /// Returns the call with a name and an argument.
-fn call(name: Name, argument: &str) -> Option<Call<'_>> {
+fn call<'a>(name: &str, argument: &'a str) -> Option<Call<'a>> {
     match name {
-        Name::TrimStart => Some(Call::TrimStart),
-        Name::TrimEnd => Some(Call::TrimEnd),
-        Name::TrimEndIfInteger => Some(Call::TrimEndIfInteger),
-        Name::Shift => Some(Call::MultiplyPow10(argument.parse().ok()?)),
-        Name::PadStart => Some(Call::PadStart(argument.parse().ok()?)),
-        Name::PadEnd => Some(Call::PadEnd(argument.parse().ok()?)),
-        Name::Max => Some(Call::SetMaxPosition(argument.parse().ok()?)),
-        Name::Round => rounding(argument),
-        Name::Sign => Some(Call::SetSign(named(SIGNS, argument)?)),
-        Name::Display => Some(Call::ApplySignDisplay(named(DISPLAYS, argument)?)),
-        Name::Concat => Some(Call::Concatenate(argument.as_bytes())),
+        "trim-start" => Some(Call::TrimStart),
+        "trim-end" => Some(Call::TrimEnd),
+        "trim-end-if-integer" => Some(Call::TrimEndIfInteger),
+        "shift" => Some(Call::MultiplyPow10(argument.parse().ok()?)),
+        "pad-start" => Some(Call::PadStart(argument.parse().ok()?)),
+        "pad-end" => Some(Call::PadEnd(argument.parse().ok()?)),
+        "max" => Some(Call::SetMaxPosition(argument.parse().ok()?)),
+        "round" => rounding(argument),
+        "sign" => Some(Call::SetSign(named(SIGNS, argument)?)),
+        "display" => Some(Call::ApplySignDisplay(named(DISPLAYS, argument)?)),
+        "concat" => Some(Call::Concatenate(argument.as_bytes())),
+        _ => None,
     }
 }
 
@@ -108,7 +79,7 @@ pub fn step(word: &str) -> Option<(Call<'_>, bool)> {
         None => (word, false),
     };
     let (name, argument) = word.split_once(':').unwrap_or((word, ""));
-    Some((call(named(NAMES, name)?, argument)?, is_rejected))
+    Some((call(name, argument)?, is_rejected))
 }
 
 /// Parses words as calls.
