@@ -74,7 +74,8 @@ no_more "12.345.678.901.234,56"$'\xc2\xa0'"$euro" "$dollars" read:de:currency/EU
 no_more "$euro 12345678901234,56" "$dollars" read:de:lenient:currency/EUR format:en:currency/USD
 
 # Those of the words, of their calls, of the buffer, the start, an operand, a concatenation and a rounding.
-for words in '1e20 trim-start concat:0.12345678901234567' '1234567812345678 round:-1:trunc:25 concat:0.005'; do
+for words in '1e20 trim-start concat:0.12345678901234567' \
+  '1234567812345678 round:-1:trunc:25 concat:0.0012345678901234567'; do
   fail_each /dev/null fixdec $words
   for ((at = 1; at <= ${all:-0}; at++)); do
     read -r count status < "$at.end"
