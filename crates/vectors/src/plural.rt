@@ -30,7 +30,7 @@ pub fn accesses<S: CountingStore>(
 }
 
 /// Whether a text has a category. One with a `c` is a compact decimal.
-fn takes(alloc: Global, rules: &PluralRules, text: &str, category: &str) -> Option<bool> {
+pub fn takes(alloc: Global, rules: &PluralRules, text: &str, category: &str) -> Option<bool> {
     if text.contains('c') {
         let number = CompactDecimal::try_from_str(alloc, text).ok()?;
         return Some(rules.category(&PluralOperands::of_compact(&number)).name() == category);

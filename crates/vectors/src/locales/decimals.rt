@@ -2,10 +2,10 @@
 ghost use Rattle.decimal_format.specs.Readable.{IsReadable};
 
 use crate::locales::numbers::{expanded, is_text};
+use crate::plural::takes;
 use decimal_format::{DecimalFormatter, DecimalSymbols, GroupingStrategy};
 use fixed_decimal::{Decimal, DigitList, DigitStore, PackedDigits, Signed, UnsignedOver};
 use locale_data::{PluralRuleType, PluralRulesError, locale, plural_rules_of};
-use plural_rules::PluralOperands;
 use std::alloc::Global;
 use test_support::{is_outcome, named};
 
@@ -44,8 +44,7 @@ fn has_category(
         Err(PluralRulesError::UnknownLocale) => return Some(category == "unknown"),
         rules => rules.ok()?,
     };
-    let value = Decimal::try_from_str(alloc, number).ok()?;
-    Some(rules.category(&PluralOperands::of_decimal(&value)).name() == category)
+    takes(alloc, &rules, number, category)
 }
 
 /// Whether a row of a locale holds.
