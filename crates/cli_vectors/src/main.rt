@@ -14,6 +14,7 @@
 //! tab, are not rows. Each row that fails is printed with its line number; the last line counts the rows.
 #![tactic(auto)]
 
+mod blocks;
 mod input;
 mod longest_lines;
 mod row;
@@ -95,14 +96,14 @@ fn holds_of_words(
     row: &Row<'_>,
     output: &Expected,
     errors: &Expected,
-    failure: WriteFailure,
+    (_, width, failure): Chunking,
 ) -> Option<bool> {
     if row.program != Program::Fixdec || row.is_of_arguments() {
         return Some(true);
     }
     let words = row.words(alloc)?;
-    let mut out = Out::new(output.writer(failure));
-    let mut err = errors.writer(failure);
+    let mut out = Out::new(output.writer(failure).with_width(width));
+    let mut err = errors.writer(failure).with_width(width);
     let status = fixdec::program(alloc, words.as_slice(), &mut out, &mut err);
     Some(status == row.status && output.is_in(&out.into_writer()) && errors.is_in(&err))
 }
@@ -119,7 +120,7 @@ fn holds(alloc: Global, line: &str) -> Option<bool> {
     };
     for chunking in chunkings {
         let holds = holds_by(alloc, &row, input.as_slice(), &output, &errors, *chunking)?
-            && holds_of_words(alloc, &row, &output, &errors, chunking.2)?;
+            && holds_of_words(alloc, &row, &output, &errors, *chunking)?;
         if !holds {
             return Some(false);
         }
@@ -130,6 +131,10 @@ fn holds(alloc: Global, line: &str) -> Option<bool> {
 fn main(rt: HostRuntime) -> ExitCode {
     if !longest_lines::are_reported() {
         let _ = println!(rt; "the longest lines of errors are not reported");
+        return ExitCode::FAILURE;
+    }
+    if blocks::are_written(rt.alloc()) != Some(true) {
+        let _ = println!(rt; "the longest number is not written in blocks");
         return ExitCode::FAILURE;
     }
     check_rows(&rt, &[], |alloc, row, _| holds(alloc, row))
