@@ -73,25 +73,9 @@ euro=$'\xe2\x82\xac' dollars='$12,345,678,901,234.56'
 no_more "12.345.678.901.234,56"$'\xc2\xa0'"$euro" "$dollars" read:de:currency/EUR format:en:currency/USD
 no_more "$euro 12345678901234,56" "$dollars" read:de:lenient:currency/EUR format:en:currency/USD
 
-# Those of the words, of their calls, of the buffer, the start, an operand, a concatenation and a rounding.
-for words in '1e20 trim-start concat:0.12345678901234567' \
-  '1234567812345678 round:-1:trunc:25 concat:0.0012345678901234567'; do
-  fail_each /dev/null fixdec $words
-  for ((at = 1; at <= ${all:-0}; at++)); do
-    read -r count status < "$at.end"
-    if [ "$count" -gt "$all" ]; then
-      cmp -s "$at.out" 0.out && [ ! -s "$at.err" ]
-    else
-      [ "$status" = 3 ] && [ ! -s "$at.out" ] && [ "$(cat "$at.err")" = memory ]
-    fi
-    judge $? "$words, allocation $at of $all: status $status, $(head -c 100 "$at.out" "$at.err")"
-  done
-done
-
-# Those of the words, of their calls, of the buffers, of lines that get longer, of long numbers and of concatenations.
-printf '70\n12345678901234567890.125\nx\n1e20\n%0200d\n' 5 > in
-for mode in '' skip; do
-  fail_each in fixdec_lines $mode concat:0.12345678901234567 round:-2:half-even:25
+# each_ends INPUT PROGRAM WORD..: each allocation fails as said above.
+each_ends() {
+  fail_each "$@"
   for ((at = 1; at <= ${all:-0}; at++)); do
     read -r count status < "$at.end"
     line=$(sed -n 's/^line \([0-9]*\): memory$/\1/p' "$at.err")
@@ -105,6 +89,14 @@ for mode in '' skip; do
     fi
     judge $? "$words, allocation $at of $all: status $status, $(head -c 100 "$at.err" | tr '\n' '|')"
   done
+}
+# Those of the words, of their calls, of the buffer, the start, an operand, a concatenation and a rounding.
+each_ends /dev/null fixdec 1e20 trim-start concat:0.12345678901234567
+each_ends /dev/null fixdec 1234567812345678 round:-1:trunc:25 concat:0.0012345678901234567
+# Those of lines that get longer, and of long numbers.
+printf '70\n12345678901234567890.125\nx\n1e20\n%0200d\n' 5 > in
+for mode in '' skip; do
+  each_ends in fixdec_lines $mode concat:0.12345678901234567 round:-2:half-even:25
 done
 
 finish
