@@ -37,12 +37,12 @@ abbrev rules_by : List ℕ → Option (List RuleValue)
 rules_by text = read true state.Category no_rules text
 
 -- the rules of the text of a set, by the rests of the table of texts
-abbrev rules_near : List (List ℕ) → RuleSet → Option (List RuleValue)
-rules_near rests set = option_and_then rules_by (part_by rests set.text)
+abbrev rules_near : RuleSet → Option (List RuleValue)
+rules_near set = option_and_then rules_by (part_by (table_rests PLURAL_RULES_TEXTS) set.text)
 
 -- the rows of each language make them
 languages_have_rules : (rule_type : PluralRuleType)
-    → map (λ l. rules_near (table_rests PLURAL_RULES_TEXTS) (set_of l rule_type)) PLURAL_RULES
+    → map (λ l. rules_near (set_of l rule_type)) PLURAL_RULES
     ≡ map (λ l. Some (rules_in (set_of l rule_type).rules)) PLURAL_RULES
 unfolding rests
 languages_have_rules Cardinal = refl
@@ -58,8 +58,7 @@ abbrev HasRules : RuleSet → Type 0
 HasRules set = rules_by (text_of set) ≡ Some (rules_in set.rules)
 
 -- so the text in the table has them
-has_by_rests : (set : RuleSet) → rules_near (table_rests PLURAL_RULES_TEXTS) set ≡ Some (rules_in set.rules)
-    → HasRules set
+has_by_rests : (set : RuleSet) → rules_near set ≡ Some (rules_in set.rules) → HasRules set
 has_by_rests set is = by (part_by (table_rests PLURAL_RULES_TEXTS) set.text) refl is
   where
     by : (o : Option (List ℕ)) → part_by (table_rests PLURAL_RULES_TEXTS) set.text ≡ o
@@ -71,9 +70,8 @@ language_has_rules : (index : ℕ) (rule_type : PluralRuleType) (language : Lang
     → slice_get PLURAL_RULES index ≡ Some language → HasRules (set_of language rule_type)
 language_has_rules index rule_type language at =
     has_by_rests (set_of language rule_type)
-    (same_at (λ l. rules_near (table_rests PLURAL_RULES_TEXTS) (set_of l rule_type))
-    (λ l. Some (rules_in (set_of l rule_type).rules)) PLURAL_RULES index language
-    (languages_have_rules rule_type) at)
+    (same_at (λ l. rules_near (set_of l rule_type)) (λ l. Some (rules_in (set_of l rule_type).rules)) PLURAL_RULES
+    index language (languages_have_rules rule_type) at)
 
 has_rules : (number : RulesNumber) (set : RuleSet) → set_at number ≡ Some set → HasRules set
 has_rules number set at = by number.language number.rule_type at
