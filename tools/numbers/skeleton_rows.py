@@ -21,6 +21,9 @@ COUNTS = ["{@*65536}", "{@*65537}", "@{#*65535}", "@{#*65536}", ".{0*32768}", ".
           "precision-increment/1e-32768", "precision-increment/5e-32769", "precision-increment/5e3",
           "precision-increment/5e4", "precision-increment/.{0*32767}5", "precision-increment/.{0*32768}5",
           "{.*65536}", "{percent *65536}", "currency/{E*65536}", "numbering-system/{l*65536}", "{/*65536}"]
+DEFAULTS = {"style": "decimal", "currencyDisplay": "symbol", "currencySign": "standard", "currencyUsage": "standard",
+            "compactDisplay": "short", "integer": "1,32768", "trailingZeroDisplay": "auto", "signDisplay": "auto",
+            "useGrouping": "auto"}
 
 
 def rows(path):
@@ -83,12 +86,12 @@ def precision(text, reading, said):
     """The words of the precision, or None if the library has not such an increment or number of digits."""
     options, chosen = said.options, reading.precision
     if chosen is None and "compact" in options.get("notation", ""):
-        return "more:0:0:1:2:chosen"
+        return "more=0,0;1,2;chosen"
     if chosen is None and options.get("style") == "currency":
         count, _ = skeleton.currency_digits(options["currency"], "standard")
-        return f"fraction:{count}:{count}"
+        return f"fraction={count},{count}"
     if chosen is None:
-        return f"fraction:0:{options['maximumFractionDigits']}"
+        return f"fraction=0,{options['maximumFractionDigits']}"
     if chosen[0] in ("increment", "currency"):
         if "increment" in said.kinds or reading.bounds:
             return None
@@ -96,21 +99,22 @@ def precision(text, reading, said):
         if count > 32768:
             return None
         increment = options.get("roundingIncrement", 1)
-        return f"fraction:{count}:{count}" if increment == 1 else f"multiples:{count}:{increment}"
+        is_plain = chosen[0] == "currency" and increment == 1
+        return f"fraction={count},{count}" if is_plain else f"multiples={count},{increment}"
     if chosen[0] == "unlimited":
-        return "fraction:0:65535"
+        return "fraction=0,65535"
     if chosen[0] == "fraction":
         low, high = chosen[1], min(65535, 65535 if chosen[2] is None else chosen[2])
-        return f"fraction:{low}:{high}" if low <= 32768 else None
+        return f"fraction={low},{high}" if low <= 32768 else None
     if chosen[0] == "significant":
         low, high = chosen[1], min(65536, 65536 if chosen[2] is None else chosen[2])
-        return f"significant:{low}:{high}" if low <= 65536 else None
+        return f"significant={low},{high}" if low <= 65536 else None
     _, low, high, least, most, priority, both = chosen
     high, most = min(65535, 65535 if high is None else high), min(65536, most)
     if low > 32768 or least > most:
         return None
     name = {"relaxed": "more", "strict": "less"}[priority]
-    return f"{name}:{low}:{high}:{least}:{most}:{'both' if both else 'chosen'}"
+    return f"{name}={low},{high};{least},{most};{'both' if both else 'chosen'}"
 
 
 def words(text):
@@ -122,23 +126,37 @@ def words(text):
     stem = unsupported(text, reading, said)
     if stem is not None:
         return "unsupported " + stem
+    return " ".join(f"{name}={value}" for name, value in named(text, reading, said) if value != DEFAULTS.get(name))
+
+
+def named(text, reading, said):
+    """The options of a skeleton by their names."""
     options = said.options
     style = "permille" if "permille" in said.kinds else options.get("style", "decimal")
+    yield "style", style
+    if said.scale != {"percent": 2, "permille": 3}.get(style, 0):
+        yield "scale", said.scale
     if style == "currency":
-        display = "hidden" if "hidden" in said.kinds else options.get("currencyDisplay", "symbol").removesuffix("Symbol")
-        usage = "cash" if reading.precision == ("currency", "cash") else "standard"
-        style = f"currency:{options['currency']}:{display}:{options.get('currencySign', 'standard')}:{usage}"
+        yield "currency", options["currency"]
+        yield "currencyDisplay", "hidden" if "hidden" in said.kinds else options.get("currencyDisplay", "symbol")
+        yield "currencySign", options.get("currencySign", "standard")
+        yield "currencyUsage", "cash" if reading.precision == ("currency", "cash") else "standard"
     notation = options.get("notation", "standard")
-    if notation == "compact":
-        notation += ":" + options["compactDisplay"]
-    elif notation != "standard":
+    if notation in ("scientific", "engineering"):
         sign = reading.exponent_sign if reading.exponent_sign in ("always", "never") else "auto"
-        notation += f":{reading.exponent_digits}:{sign}"
+        yield notation, f"{reading.exponent_digits},{sign}"
+    elif notation == "compact":
+        yield "notation", "compact"
+        yield "compactDisplay", options["compactDisplay"]
+    yield tuple(precision(text, reading, said).split("="))
     low, high = reading.integer or (1, None)
-    strip = " strip" if "trailingZeroDisplay" in options else ""
-    return (f"{style} {said.scale} {notation} {precision(text, reading, said)} {options['roundingMode']} "
-            f"integer:{low}:{min(32768, high or 32768)}{strip} sign:{options.get('signDisplay', 'auto')} "
-            f"grouping:{str(options.get('useGrouping', 'auto')).lower()} {reading.system or 'none'}")
+    yield "integer", f"{low},{min(32768, high or 32768)}"
+    yield "roundingMode", options["roundingMode"]
+    yield "trailingZeroDisplay", "stripIfInteger" if "trailingZeroDisplay" in options else "auto"
+    yield "signDisplay", options.get("signDisplay", "auto")
+    yield "useGrouping", str(options.get("useGrouping", "auto")).lower()
+    if reading.system:
+        yield "numberingSystem", reading.system
 
 
 def read(text):

@@ -42,15 +42,31 @@ const DISPLAYS: &[(&str, SignDisplay)] = &[
     ("negative", SignDisplay::Negative),
 ];
 
+/// Parses a number.
+fn number(word: &str) -> Option<i16> {
+    word.parse().ok()
+}
+
 /// Parses a position, a mode and an increment, separated by colons.
 fn rounding<'a>(words: &str) -> Option<Call<'a>> {
     let (position, words) = words.split_once(':')?;
     let (mode, increment) = words.split_once(':')?;
     Some(Call::Round(
-        position.parse().ok()?,
+        number(position)?,
         named(MODES, mode)?,
         named(INCREMENTS, increment)?,
     ))
+}
+
+/// Returns the call with a name and a number.
+fn call_by<'a>(name: &str, number: i16) -> Option<Call<'a>> {
+    match name {
+        "shift" => Some(Call::MultiplyPow10(number)),
+        "pad-start" => Some(Call::PadStart(number)),
+        "pad-end" => Some(Call::PadEnd(number)),
+        "max" => Some(Call::SetMaxPosition(number)),
+        _ => None,
+    }
 }
 
 /// Returns the call with a name and an argument.
@@ -59,15 +75,11 @@ fn call<'a>(name: &str, argument: &'a str) -> Option<Call<'a>> {
         "trim-start" => Some(Call::TrimStart),
         "trim-end" => Some(Call::TrimEnd),
         "trim-end-if-integer" => Some(Call::TrimEndIfInteger),
-        "shift" => Some(Call::MultiplyPow10(argument.parse().ok()?)),
-        "pad-start" => Some(Call::PadStart(argument.parse().ok()?)),
-        "pad-end" => Some(Call::PadEnd(argument.parse().ok()?)),
-        "max" => Some(Call::SetMaxPosition(argument.parse().ok()?)),
         "round" => rounding(argument),
         "sign" => Some(Call::SetSign(named(SIGNS, argument)?)),
         "display" => Some(Call::ApplySignDisplay(named(DISPLAYS, argument)?)),
         "concat" => Some(Call::Concatenate(argument.as_bytes())),
-        _ => None,
+        _ => call_by(name, number(argument)?),
     }
 }
 

@@ -12,8 +12,8 @@
 //!                                     mostly by the names of ECMA-402. TEXT: the text, or the name of the error.
 //! [LOCALE] OPTIONS TEXT VALUE         With `check=read` or `check=lenient`.
 //! [LOCALE] OPTIONS NUMBER PARTS       With `check=parts`.
-//! SKELETON OPTIONS                    The words of its options; `syntax K` with the offset of the error, `unsupported
-//!                                     STEM`; or `=` and another skeleton that has the same options.
+//! SKELETON OPTIONS                    Its options; `syntax K` with the offset of the error, `unsupported STEM`; or `=`
+//!                                     and another skeleton that has the same options.
 //! ```
 //!
 //! Of options that are rejected the number is empty, and the text may also be the class of ECMA-402's error. In numbers
@@ -25,7 +25,6 @@ mod number_words;
 mod numbers;
 mod parts;
 mod reading;
-mod skeleton_words;
 mod skeletons;
 
 use std::alloc::Global;

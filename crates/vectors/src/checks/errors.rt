@@ -1,98 +1,70 @@
 //! What `{}` writes of the errors whose texts no clause states, by itself or with options.
 use decimal_format::SymbolsError;
 use fixed_decimal::{CallError, ConcatenateError, IntegerError, ParseError, RunError};
-use std::error::Error;
 use test_support::displays;
 
-const CALL_ERRORS: &[(CallError, &str)] = &[
-    (
-        CallError::Operand {
-            at: 0,
-            fault: ParseError::Limit,
-        },
-        "Call 0: Magnitude or number of digits exceeded",
-    ),
-    (CallError::Overlap { at: 1 }, "Call 1: The numbers overlap"),
-    (
-        CallError::Limit { at: usize::MAX },
-        "Call 18446744073709551615: Magnitude or number of digits exceeded",
-    ),
-    (CallError::Memory { at: 12 }, "Call 12: Out of memory"),
-];
+const OPERAND: &[u8] = b"Call 0: Magnitude or number of digits exceeded";
 
-const RUN_ERRORS: &[(RunError, &str)] = &[
-    (
-        RunError::Start(ParseError::Syntax),
-        "Start: Failed to parse the input string",
-    ),
-    (
-        RunError::Operand {
-            at: 0,
-            fault: ParseError::Limit,
-        },
-        "Call 0: Magnitude or number of digits exceeded",
-    ),
-    (RunError::Overlap { at: 1 }, "Call 1: The numbers overlap"),
-    (
-        RunError::Limit { at: usize::MAX },
-        "Call 18446744073709551615: Magnitude or number of digits exceeded",
-    ),
-    (RunError::Memory { at: 12 }, "Call 12: Out of memory"),
-    (RunError::Sink, "The sink refused a byte"),
-];
+const OVERLAP: &[u8] = b"Call 1: The numbers overlap";
 
-const CONCATENATE_ERRORS: &[(ConcatenateError<u8>, &str)] = &[
-    (ConcatenateError::Overlap(5), "The numbers overlap"),
-    (ConcatenateError::Memory(5), "Out of memory"),
-];
+const LIMIT: &[u8] = b"Call 18446744073709551615: Magnitude or number of digits exceeded";
 
-const INTEGER_ERRORS: &[(IntegerError, &str)] = &[
-    (IntegerError::NotWhole, "Not a whole number"),
-    (IntegerError::OutOfRange, "Integer out of range"),
-];
+const MEMORY: &[u8] = b"Call 12: Out of memory";
 
-const SYMBOLS_ERRORS: &[(SymbolsError, &str)] = &[
-    (SymbolsError::DigitWidths, "The digits differ in length"),
-    (
-        SymbolsError::DecimalTooLong,
-        "The decimal separator has more than 255 bytes",
-    ),
-    (
-        SymbolsError::GroupingTooLong,
-        "The grouping separator has more than 255 bytes",
-    ),
-    (
-        SymbolsError::MinusPrefixTooLong,
-        "The prefix of the minus sign has more than 255 bytes",
-    ),
-    (
-        SymbolsError::MinusSuffixTooLong,
-        "The suffix of the minus sign has more than 255 bytes",
-    ),
-    (
-        SymbolsError::PlusPrefixTooLong,
-        "The prefix of the plus sign has more than 255 bytes",
-    ),
-    (
-        SymbolsError::PlusSuffixTooLong,
-        "The suffix of the plus sign has more than 255 bytes",
-    ),
-];
+fn calls_are_displayed() -> bool {
+    let (at, fault) = (0, ParseError::Limit);
+    displays(&CallError::Operand { at, fault }, OPERAND)
+        && displays(&CallError::Overlap { at: 1 }, OVERLAP)
+        && displays(&CallError::Limit { at: usize::MAX }, LIMIT)
+        && displays(&CallError::Memory { at: 12 }, MEMORY)
+}
 
-/// Whether `{}` writes each error as its text, with any options.
-fn are_shown<E: Error>(rows: &[(E, &str)]) -> bool {
-    for (error, text) in rows {
-        if !displays(error, text.as_bytes()) {
-            return false;
-        }
-    }
-    true
+fn runs_are_displayed() -> bool {
+    let (at, fault) = (0, ParseError::Limit);
+    displays(
+        &RunError::Start(ParseError::Syntax),
+        b"Start: Failed to parse the input string",
+    ) && displays(&RunError::Operand { at, fault }, OPERAND)
+        && displays(&RunError::Overlap { at: 1 }, OVERLAP)
+        && displays(&RunError::Limit { at: usize::MAX }, LIMIT)
+        && displays(&RunError::Memory { at: 12 }, MEMORY)
+        && displays(&RunError::Sink, b"The sink refused a byte")
+}
+
+fn symbols_are_displayed() -> bool {
+    displays(&SymbolsError::DigitWidths, b"The digits differ in length")
+        && displays(
+            &SymbolsError::DecimalTooLong,
+            b"The decimal separator has more than 255 bytes",
+        )
+        && displays(
+            &SymbolsError::GroupingTooLong,
+            b"The grouping separator has more than 255 bytes",
+        )
+        && displays(
+            &SymbolsError::MinusPrefixTooLong,
+            b"The prefix of the minus sign has more than 255 bytes",
+        )
+        && displays(
+            &SymbolsError::MinusSuffixTooLong,
+            b"The suffix of the minus sign has more than 255 bytes",
+        )
+        && displays(
+            &SymbolsError::PlusPrefixTooLong,
+            b"The prefix of the plus sign has more than 255 bytes",
+        )
+        && displays(
+            &SymbolsError::PlusSuffixTooLong,
+            b"The suffix of the plus sign has more than 255 bytes",
+        )
 }
 
 pub fn are_displayed() -> bool {
-    are_shown(CALL_ERRORS)
-        && are_shown(RUN_ERRORS)
-        && are_shown(CONCATENATE_ERRORS)
-        && are_shown(INTEGER_ERRORS)
-        && are_shown(SYMBOLS_ERRORS)
+    calls_are_displayed()
+        && runs_are_displayed()
+        && symbols_are_displayed()
+        && displays(&ConcatenateError::Overlap(5u8), b"The numbers overlap")
+        && displays(&ConcatenateError::Memory(5u8), b"Out of memory")
+        && displays(&IntegerError::NotWhole, b"Not a whole number")
+        && displays(&IntegerError::OutOfRange, b"Integer out of range")
 }

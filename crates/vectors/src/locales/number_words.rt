@@ -64,7 +64,7 @@ impl Options {
         }
     }
 
-    /// Returns the options of a format with these digits. In compact notation `auto` is `min2`, as node has it.
+    /// Returns the options of a format with these digits.
     pub fn number(&self, digits: Option<DigitOptions>) -> NumberOptions {
         let mut number = self.number;
         number.digits = digits;
@@ -73,11 +73,18 @@ impl Options {
         }
         if let NumberNotation::Compact(_) = number.notation {
             number.notation = NumberNotation::Compact(self.compact_length);
-            if number.grouping == GroupingStrategy::Auto {
-                number.grouping = GroupingStrategy::Min2;
-            }
         }
         number
+    }
+
+    /// Returns the options as node has them: in compact notation `auto` is `min2`.
+    pub fn of_node(mut self) -> Self {
+        if let NumberNotation::Compact(_) = self.number.notation {
+            if self.number.grouping == GroupingStrategy::Auto {
+                self.number.grouping = GroupingStrategy::Min2;
+            }
+        }
+        self
     }
 
     /// Returns why there is no reader, where there is none.
@@ -112,6 +119,7 @@ enum Word {
     Style(NumberStyle, i16),
     CurrencyDisplay(CurrencyDisplay),
     CurrencySign(CurrencySign),
+    Cash,
     Notation(NumberNotation),
     CompactLength(CompactLength),
     Sign(SignDisplay),
@@ -140,6 +148,7 @@ const EXPONENT: ExponentOptions = ExponentOptions {
 const WORDS: &[(&str, Word)] = &[
     ("style=decimal", Word::Style(NumberStyle::Decimal, 0)),
     ("style=percent", Word::Style(NumberStyle::Percent, 2)),
+    ("style=permille", Word::Style(NumberStyle::Permille, 3)),
     (
         "style=currency",
         Word::Style(NumberStyle::Currency(CURRENCY), 0),
@@ -157,6 +166,10 @@ const WORDS: &[(&str, Word)] = &[
         Word::CurrencyDisplay(CurrencyDisplay::Code),
     ),
     (
+        "currencyDisplay=hidden",
+        Word::CurrencyDisplay(CurrencyDisplay::Hidden),
+    ),
+    (
         "currencySign=standard",
         Word::CurrencySign(CurrencySign::Standard),
     ),
@@ -164,6 +177,7 @@ const WORDS: &[(&str, Word)] = &[
         "currencySign=accounting",
         Word::CurrencySign(CurrencySign::Accounting),
     ),
+    ("currencyUsage=cash", Word::Cash),
     (
         "notation=standard",
         Word::Notation(NumberNotation::Standard),
@@ -247,6 +261,7 @@ fn set_word(options: &mut Options, word: Word) {
         }
         Word::CurrencyDisplay(display) => options.currency.display = display,
         Word::CurrencySign(sign) => options.currency.sign = sign,
+        Word::Cash => options.currency.usage = CurrencyUsage::Cash,
         Word::Notation(notation) => options.number.notation = notation,
         Word::CompactLength(length) => options.compact_length = length,
         Word::Sign(display) => options.number.sign_display = display,
@@ -266,6 +281,27 @@ fn code(word: &str) -> Option<CurrencyCode> {
         return None;
     }
     Some([bytes[0], bytes[1], bytes[2]])
+}
+
+/// Parses the name of a numbering system.
+fn system(word: &str) -> Option<[u8; 16]> {
+    let mut name = *b"                ";
+    name.get_mut(..word.len())?.copy_from_slice(word.as_bytes());
+    Some(name)
+}
+
+/// Parses the least number of exponent digits and the sign of an exponent, separated by a comma.
+fn exponent(word: &str) -> Option<ExponentOptions> {
+    let (digits, sign) = word.split_once(',')?;
+    Some(ExponentOptions {
+        digits: digits.parse().ok()?,
+        sign: match sign {
+            "auto" => ExponentSign::Auto,
+            "always" => ExponentSign::Always,
+            "never" => ExponentSign::Never,
+            _ => return None,
+        },
+    })
 }
 
 /// Parses two numbers, separated by a comma.
@@ -332,7 +368,8 @@ fn set_count(settings: &mut DigitSettings, name: &str, count: u16) -> Option<()>
 }
 
 /// Sets the value of a name that has many: beyond ECMA-402 `defaults` are the numbers of fraction digits by default,
-/// `integer` and the precisions replace what the settings say, and `scale` that of a style before it.
+/// `integer` and the precisions replace what the settings say, `scientific` and `engineering` have an exponent, and
+/// `scale` replaces that of a style before it.
 fn set_value(options: &mut Options, name: &str, value: &str) -> Option<()> {
     match name {
         "currency" => options.currency.code = code(value)?,
@@ -342,6 +379,13 @@ fn set_value(options: &mut Options, name: &str, value: &str) -> Option<()> {
             options.integer = Some(IntegerDigits::new(min, max).ok()?);
         }
         "scale" => options.number.scale = value.parse().ok()?,
+        "scientific" => {
+            options.number.notation = NumberNotation::Scientific(exponent(value)?);
+        }
+        "engineering" => {
+            options.number.notation = NumberNotation::Engineering(exponent(value)?);
+        }
+        "numberingSystem" => options.number.numbering_system = Some(system(value)?),
         _ => match precision(name, value) {
             Some(precision) => options.precision = Some(precision),
             None => set_count(&mut options.settings, name, value.parse().ok()?)?,

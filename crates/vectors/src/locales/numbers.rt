@@ -215,7 +215,7 @@ pub fn expanded(alloc: Global, field: &str) -> Option<String> {
 
 /// Whether a row holds.
 pub fn holds(alloc: Global, tag: &str, words: &str, (number, text): (&str, &str)) -> Option<bool> {
-    let options = parse_options(words)?;
+    let options = parse_options(words)?.of_node();
     let digits = match options.digits() {
         Ok(digits) => digits,
         Err(error) => {

@@ -1,5 +1,5 @@
 //! The options that number skeletons name, and their errors.
-use crate::locales::skeleton_words::OptionsText;
+use crate::locales::number_words::parse_options;
 use number_format::{NumberOptions, SkeletonError};
 use std::alloc::{AllocError, Global};
 
@@ -22,15 +22,29 @@ fn expanded(alloc: Global, escaped: &str) -> Result<String, AllocError> {
     Ok(text)
 }
 
-/// Returns the words of a skeleton: those of its options, or of its error.
-fn skeleton_words(alloc: Global, text: &str) -> Result<String, AllocError> {
+/// Returns what is read of a skeleton, its options or its error, as a text.
+fn reading_of(alloc: Global, text: &str) -> Result<String, AllocError> {
     match NumberOptions::try_from_skeleton(text) {
-        Ok(options) => format!(in alloc; "{}", OptionsText(&options)),
+        Ok(options) => format!(in alloc; "{options:?}"),
         Err(SkeletonError::Syntax { at }) => format!(in alloc; "syntax {at}"),
         Err(SkeletonError::Unsupported { start, end }) => {
             format!(in alloc; "unsupported {}", text.get(start..end).unwrap_or("?"))
         }
     }
+}
+
+/// Returns the text of what a row expects.
+fn expected_reading(alloc: Global, expected: &str) -> Option<String> {
+    if let Some(skeleton) = expected.strip_prefix('=') {
+        let skeleton = expanded(alloc, skeleton).ok()?;
+        return reading_of(alloc, skeleton.as_str()).ok();
+    }
+    if expected.starts_with("syntax ") || expected.starts_with("unsupported ") {
+        return expanded(alloc, expected).ok();
+    }
+    let options = parse_options(expected)?;
+    let options = options.number(Some(options.digits().ok()?));
+    format!(in alloc; "{options:?}").ok()
 }
 
 /// Whether the options of a skeleton are printed as a skeleton that is not longer, nor its own skeleton longer.
@@ -50,12 +64,6 @@ pub fn holds(alloc: Global, skeleton: &str, expected: &str) -> Option<bool> {
     if !prints_shorter(alloc, skeleton.as_str())? {
         return Some(false);
     }
-    let words = skeleton_words(alloc, skeleton.as_str()).ok()?;
-    match expected.strip_prefix('=') {
-        Some(other) => {
-            let other = expanded(alloc, other).ok()?;
-            Some(words.as_str() == skeleton_words(alloc, other.as_str()).ok()?.as_str())
-        }
-        None => Some(words.as_str() == expanded(alloc, expected).ok()?.as_str()),
-    }
+    let reading = reading_of(alloc, skeleton.as_str()).ok()?;
+    Some(reading.as_str() == expected_reading(alloc, expected)?.as_str())
 }
