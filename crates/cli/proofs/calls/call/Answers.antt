@@ -1,4 +1,4 @@
-use Rattle.std.proofs.Common.{◌≡◌, ℕ, ℤ, ◌==◌, Bool, true, false, List, Some, refl, sym, ◌∙◌, ap, subst, arith}
+use Rattle.std.proofs.Common.{◌≡◌, ℕ, ℤ, ◌==◌, Bool, true, false, List, Some, codes, refl, sym, ◌∙◌, ap, subst, arith}
 use Rattle.std.specs.Prelude.{if◌then◌else◌, slice_index}
 use Rattle.std.proofs.lemmas.Option.{none-some, same_Some}
 use Rattle.fixed_decimal.specs.declared.rounding.SignedRoundingMode.{SignedRoundingMode}
@@ -7,7 +7,7 @@ use Rattle.fixed_decimal.specs.declared.variations.Sign.TheVariants as sign
 use Rattle.fixed_decimal.specs.declared.variations.SignDisplay.TheVariants as display
 use Rattle.fixed_decimal.specs.declared.runs.Call.{Call}
 use Rattle.fixed_decimal.specs.declared.runs.Call.TheVariants.{MultiplyPow10, TrimStart, TrimEnd, TrimEndIfInteger, PadStart, PadEnd, SetMaxPosition, Round, SetSign, ApplySignDisplay, Concatenate}
-use Rattle.cli.specs.Calls.{Names, IsSame}
+use Rattle.cli.specs.Calls.{HasNumber, Names, IsSame}
 use Rattle.cli.proofs.calls.call.Goals as goal
 use Rattle.cli.proofs.calls.call.Goals.{In_default-rounding}
 
@@ -66,6 +66,28 @@ one_rounding :
 one_rounding word x h only (Round p m i) k = ap (λ y. Round y.0 y.1 y.2) (same_Some _ _ (only p m i k))
 one_rounding word x h only call k = absurd (grind arith)
 
+-- a word that names a call with a number names no other call
+one_pad_start :
+    (word : List ℕ) (n : ℤ) → HasNumber (codes "pad-start:") word n
+    → ((m : ℤ) → HasNumber (codes "pad-start:") word m → Some n ≡ Some m)
+    → (call : Call) → Names word call → PadStart n ≡ call
+one_pad_start word n h only (PadStart m) k = ap PadStart (same_Some _ _ (only m k))
+one_pad_start word n h only call k = absurd (grind arith)
+
+one_pad_end :
+    (word : List ℕ) (n : ℤ) → HasNumber (codes "pad-end:") word n
+    → ((m : ℤ) → HasNumber (codes "pad-end:") word m → Some n ≡ Some m)
+    → (call : Call) → Names word call → PadEnd n ≡ call
+one_pad_end word n h only (PadEnd m) k = ap PadEnd (same_Some _ _ (only m k))
+one_pad_end word n h only call k = absurd (grind arith)
+
+one_max :
+    (word : List ℕ) (n : ℤ) → HasNumber (codes "max:") word n
+    → ((m : ℤ) → HasNumber (codes "max:") word m → Some n ≡ Some m)
+    → (call : Call) → Names word call → SetMaxPosition n ≡ call
+one_max word n h only (SetMaxPosition m) k = ap SetMaxPosition (same_Some _ _ (only m k))
+one_max word n h only call k = absurd (grind arith)
+
 -- the word names no call
 no_call : (c : In_default-rounding) (call : Call) → Names c.args.word.now call → ⊥
 no_call c TrimStart h = c.in_default.not-text h
@@ -92,6 +114,30 @@ returns-in-Some-rounding-clause-unique c = λ first second h k.
     rw (
       ← one_rounding c.args.word.now _ found.some found.only first h,
       ← one_rounding c.args.word.now _ found.some found.only second k,
+    )
+
+pub returns-in-Some-number_after-clause-unique : goal.returns-in-Some-number_after-clause-unique
+returns-in-Some-number_after-clause-unique c = λ first second h k.
+    let found = c.in-Some-number_after.ensures in
+    rw (
+      ← one_pad_start c.args.word.now _ found.some found.only first h,
+      ← one_pad_start c.args.word.now _ found.some found.only second k,
+    )
+
+pub returns-in-Some-number_after-2-clause-unique : goal.returns-in-Some-number_after-2-clause-unique
+returns-in-Some-number_after-2-clause-unique c = λ first second h k.
+    let found = c.in-Some-number_after-2.ensures in
+    rw (
+      ← one_pad_end c.args.word.now _ found.some found.only first h,
+      ← one_pad_end c.args.word.now _ found.some found.only second k,
+    )
+
+pub returns-in-Some-number_after-3-clause-unique : goal.returns-in-Some-number_after-3-clause-unique
+returns-in-Some-number_after-3-clause-unique c = λ first second h k.
+    let found = c.in-Some-number_after-3.ensures in
+    rw (
+      ← one_max c.args.word.now _ found.some found.only first h,
+      ← one_max c.args.word.now _ found.some found.only second k,
     )
 
 pub returns-in_default-rounding-clause-none : goal.returns-in_default-rounding-clause-none
