@@ -42,13 +42,11 @@ fn is_named<T: FromStr + PartialEq + Drop>(found: Result<T, IntegerError>, word:
 where
     T::Err: Drop,
 {
-    match found {
-        Ok(found) => match word.parse::<T>() {
-            Ok(wanted) => found == wanted,
-            Err(_) => false,
-        },
-        Err(IntegerError::OutOfRange) => word == "range",
-        Err(IntegerError::NotWhole) => word == "whole",
+    match (found, word.parse::<T>()) {
+        (Ok(found), Ok(wanted)) => found == wanted,
+        (Err(IntegerError::OutOfRange), _) => word == "range",
+        (Err(IntegerError::NotWhole), _) => word == "whole",
+        _ => false,
     }
 }
 

@@ -323,31 +323,20 @@ fn memory_of(call: Call<'_>, is_rejected: bool, count: &str) -> usize {
 /// A call, the number of digits for which it gets memory, and the number of digits that it accesses, if a row says it.
 type Limits<'a> = (Call<'a>, usize, Option<usize>);
 
-/// Returns what a call leaves, and whether it stays within its bounds.
-fn called_within<T: Value + Edited + Counts>(
-    alloc: Global,
-    value: T,
-    method: RoundingMethod,
-    (call, memory, exact): Limits<'_>,
-) -> Option<(T, bool)> {
-    let length = value.counted().len();
-    value.counted().bound(memory);
-    value.counted().restart();
-    let (left, is_made) = value.called(alloc, method, call)?;
-    let is_within = is_within(left.counted(), call, (length, exact), is_made.ok()?);
-    Some((left, is_within))
-}
-
 /// Whether a call on a value stays within its bounds in a way, and comparisons with its copies do not allocate.
 fn call_stays_within<T: Value + Edited + Counts>(
     alloc: Global,
     value: &T,
     method: RoundingMethod,
-    limits: Limits<'_>,
+    (call, memory, exact): Limits<'_>,
 ) -> Option<bool> {
     let copy = value.copy().ok()?;
     let is_copy = equals_in_place(&copy, value)?;
-    let (left, is_within) = called_within(alloc, copy, method, limits)?;
+    let length = copy.counted().len();
+    copy.counted().bound(memory);
+    copy.counted().restart();
+    let (left, is_made) = copy.called(alloc, method, call)?;
+    let is_within = is_within(left.counted(), call, (length, exact), is_made.ok()?);
     Some(is_copy & is_within & equals_in_place(&left, value).is_some())
 }
 
