@@ -34,12 +34,13 @@ pub chooses : (f : NumberFormatter) (significand : Decimal) (e : ℤ) (choice : 
     → compact_style f.options.notation f.options.style ≡ style → (category : PluralCategory)
     → IsCategoryAt f.rules (operands.plain significand.absolute) category
     → chosen_pattern style choice
-    ≡ compact_pattern f.formats style (compact_magnitude significand e) category (is_one significand)
+    ≡ compact_pattern f.formats style (compact_magnitude f.notation significand e) category (is_one significand)
     → ChoosesPattern f significand e choice
 chooses f significand e choice style is category of pattern = record {
   category = category;
   of_significand = of;
   pattern =
       subst (λ s. chosen_pattern s choice
-      ≡ compact_pattern f.formats s (compact_magnitude significand e) category (is_one significand)) (sym is) pattern;
+      ≡ compact_pattern f.formats s (compact_magnitude f.notation significand e) category (is_one significand))
+      (sym is) pattern;
 }

@@ -45,7 +45,8 @@ formatter_text f v u text standard (pieces, is, of_pieces) shown =
     (exponent_of (standard i) (number i).exponent)
     (around_by f (shown_sign f (number i).significand)
     (compact_pattern f.formats (compact_style (standard i) f.options.style)
-    (compact_magnitude (number i).significand (number i).exponent) is.category (is_one (number i).significand)))
+    (compact_magnitude f.notation (number i).significand (number i).exponent) is.category
+    (is_one (number i).significand)))
     (unit_texts f.formats (compact_style (standard i) f.options.style) f.options.style is.whole)))
     ∙ text_around f s shown.number
     ∙ (λ i. (affixes i).prefix

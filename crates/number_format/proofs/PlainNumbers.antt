@@ -95,7 +95,8 @@ of_plain f own g name v text plain valid no_suffix (pieces, is, of_pieces) =
     (around_by f (displayed_sign (plain.options i).sign_display (number i).significand.absolute.number
     (number i).significand.sign)
     (compact_pattern f.formats (compact_style (plain.options i).notation (plain.options i).style)
-    (compact_magnitude (number i).significand (number i).exponent) is.category (is_one (number i).significand)))
+    (compact_magnitude f.notation (number i).significand (number i).exponent) is.category
+    (is_one (number i).significand)))
     (unit_texts f.formats (compact_style (plain.options i).notation (plain.options i).style) (plain.options i).style
     is.whole))
     ∙ (λ i. pieces_for f (plain.symbols i) (plain.pattern i) (plain.options i).grouping v.absolute s))

@@ -1,6 +1,7 @@
 -- The significand and the exponent of a number: the exponent is that of the rounded number, also if it carries.
-use Rattle.std.proofs.Common.{◌≡◌, ℕ, ◌+◌, ◌-◌, ◌*◌, ◌/◌, ◌^◌, ◌<◌, ◌≤◌, Bool, false, inl, inr, refl, sym, ◌∙◌, ap, arith, subst, ◌%◌}
-use Rattle.std.specs.Prelude.{◌⊎◌, ◌||◌, Option, Some, None, option_and_then, unsigned_abs, ℤ, pos, negsuc, ◌+ℤ◌, ◌-ℤ◌, ◌≤ℤ◌, int_lt, ◌<ℤ◌}
+use lib.Signed.{mag}
+use Rattle.std.proofs.Common.{w16, to_z, of_z, ◌≡◌, ℕ, ◌+◌, ◌-◌, ◌*◌, ◌/◌, ◌^◌, ◌<◌, ◌≤◌, Bool, false, inl, inr, refl, sym, ◌∙◌, ap, arith, subst, ◌%◌}
+use Rattle.std.specs.Prelude.{if◌then◌else◌, nat_lt, ◌⊎◌, ◌||◌, Option, Some, None, option_map, option_and_then, unsigned_abs, ℤ, pos, negsuc, ◌+ℤ◌, ◌-ℤ◌, ◌≤ℤ◌, int_lt, ◌<ℤ◌}
 use Rattle.std.specs.Int.{int_max, int_min}
 use Rattle.std.proofs.Math.Nat.{mul_assoc, le-mul_of_pos_right, mul-lt-mul_of_pos_right, mul-mod_left, div-add-mod', div-le_self, pow-le-pow_right}
 use Rattle.std.proofs.lemmas.Int.{ints, clamps}
@@ -10,11 +11,11 @@ use Rattle.decimal_digits.specs.Number.{offset, number_limit, first, last, lowes
 use Rattle.decimal_unsigned.specs.Rounded.{reaches_limit}
 use Rattle.fixed_decimal.specs.Decimal.{Decimal}
 use Rattle.fixed_decimal.specs.declared.variations.Sign.{Sign}
-use Rattle.fixed_decimal.proofs.Calling.{extent, first_of, last_of, offset_is, ten_pos, powers, first_up, first_zero, first_le}
+use Rattle.fixed_decimal.proofs.Calling.{narrow_kept, extent, first_of, last_of, offset_is, ten_pos, powers, first_up, first_zero, first_le}
 use Rattle.number_format.specs.declared.digit_options.DigitOptions.{DigitOptions}
 use Rattle.number_format.specs.declared.notation.Notation.{Notation}
 use Rattle.number_format.specs.ShownDigits.{Rounded, position_at, rounded_at, rounded_within, shown, base_of}
-use Rattle.number_format.specs.Scaled.{whole_exponent, base_exponent, raised, Settled, settled_with, settled, ScaledValue, scaled_value, written, scaled, KeepsValueOf, exponent_at, compact_exponent, HasNoIncrement, IsOrdered, KeepsExponent}
+use Rattle.number_format.specs.Scaled.{exponent_from_0, whole_exponent, carried_exponent, base_exponent, raised, Settled, settled_with, settled, ScaledValue, scaled_value, written, scaled, KeepsValueOf, exponent_at, compact_exponent, HasNoIncrement, IsOrdered, KeepsExponent}
 use Rattle.number_format.proofs.Applied.{shown_number}
 use Rattle.decimal_digits.specs.Rounding.{unit_at, rounded_number}
 use Rattle.decimal_digits.specs.declared.rounding.RoundingIncrement.TheVariants.{MultiplesOf1}
@@ -77,6 +78,23 @@ scaled-some notation o v base number t is shifted settles fits new exponent sign
     ∙ (rw (settles, not_below (last t.number -ℤ pos t.exponent) fits)
     (sym (λ i. Some (scaled_value (record { sign = sign i; absolute = digits i }) (sum i)))))
 
+-- the settled number, by the exponents of the first digits as `i16`
+pub settled_by : (notation : Notation) (o : DigitOptions) (sign : Sign) (n e next : ℕ) (r : Rounded) (x y : ℤ)
+    → mag x < 32768 → mag y < 32768 → x ≡ first n → y ≡ first r.number
+    → e ≡ exponent_from_0 notation (to_z w16 (of_z w16 x))
+    → next ≡ exponent_from_0 notation (int_min (to_z w16 (of_z w16 x) +ℤ pos 1) (to_z w16 (of_z w16 y)))
+    → rounded_within o sign e n ≡ Some r
+    → settled notation o sign n
+    ≡ (if nat_lt e next then option_map (settled_with next) (rounded_within o sign next r.number)
+    else Some (settled_with e r))
+settled_by notation o sign n e next r x y small small' is is' e_is next_is within =
+    let low : to_z w16 (of_z w16 x) ≡ first n = narrow_kept small ∙ is in
+    let high : to_z w16 (of_z w16 y) ≡ first r.number = narrow_kept small' ∙ is' in
+    let own : e ≡ whole_exponent notation n = e_is ∙ ap (exponent_from_0 notation) low in
+    let carried : next ≡ carried_exponent notation n r.number =
+    next_is ∙ (λ i. exponent_from_0 notation (int_min (low i +ℤ pos 1) (high i))) in
+    grind arith
+
 -- ---- What a settled number is.
 module _ (notation : Notation) (o : DigitOptions) (sign : Sign) (n : ℕ) (s : Settled) where
   abbrev own : ℕ
@@ -87,7 +105,7 @@ module _ (notation : Notation) (o : DigitOptions) (sign : Sign) (n : ℕ) (s : S
 
   -- the exponent of the rounded number
   abbrev after : ℕ
-  after = whole_exponent notation once.number
+  after = carried_exponent notation n once.number
 
   abbrev twice : Rounded
   twice = rounded_at o sign after once.number
@@ -156,10 +174,6 @@ keeps_value_of notation o v all s is =
 -- a compact exponent is not below 0
 compact_some : (table : CompactExponents) (m : ℤ) → pos 0 ≤ℤ compact_exponent table m
 compact_some table m = grind (arith, ints)
-
--- the exponent of a magnitude, and 0 if it is below 0
-abbrev pub exponent_from_0 : Notation → ℤ → ℕ
-exponent_from_0 notation m = unsigned_abs (int_max (pos 0) (exponent_at notation m))
 
 -- up to the magnitude 0 it is 0
 pub exponent_low : (notation : Notation) (m : ℤ) → m ≤ℤ pos 0 → exponent_from_0 notation m ≡ 0
@@ -276,6 +290,12 @@ module _ (notation : Notation) (o : DigitOptions) (sign : Sign) (n : ℕ) (plain
         (first_near mode n position few
         (position_most o.precision plain exponent n (first n) (omega (arith, ints)) (omega (arith, ints, low, at))))
 
+    -- the first digit moves up by at most 1, so the carried exponent is that of the rounded number
+    carried_is : carried_exponent notation n made ≡ next
+    carried_is =
+        let moved : int_min (first n +ℤ pos 1) (first made) ≡ first made = omega (arith, ints, clamps, near.most) in
+        ap (exponent_from_0 notation) moved
+
     -- after a carry a second rounding keeps the number, and a first one with the new exponent makes it
     module _ (more : exponent < next) (fits : made < number_limit) where
       grown : first n <ℤ first made
@@ -333,16 +353,20 @@ module _ (notation : Notation) (o : DigitOptions) (sign : Sign) (n : ℕ) (plain
     pub settles : (m : ℤ) → first n ≡ m → Settles notation o sign n s
     settles (negsuc k) at = elim (once_or_twice notation o sign n s is).2 [
       | inl kept ↦ let a = none k at in let b = none_after k at in grind (arith, ints)
-      | inr twice ↦ absurd (omega (arith, none_after k at, twice.1))
+      | inr twice ↦
+          let low : int_min (first n +ℤ pos 1) (first made) ≤ℤ pos 0 = omega (arith, ints, clamps, at) in
+          absurd (omega (arith, exponent_low notation (int_min (first n +ℤ pos 1) (first made)) low, twice.1))
     ]
     settles (pos k) at = elim (once_or_twice notation o sign n s is).2 [
-      | inl kept ↦ let a = no_fall k at in let b = (near k at).least in grind arith
+      | inl kept ↦ let a = no_fall k at in let b = (near k at).least in let c = carried_is k at in grind arith
       | inr twice ↦
           let fits = (once_or_twice notation o sign n s is).0 in
-          let a = again k at twice.1 fits in
-          let b = directly k at twice.1 fits in
-          let c = (near k at).carried (grown k at twice.1 fits) in
+          let more : exponent < next = omega (arith, twice.1, carried_is k at) in
+          let a = again k at more fits in
+          let b = directly k at more fits in
+          let c = (near k at).carried (grown k at more fits) in
           let d = (near k at).least in
+          let e = carried_is k at in
           grind arith
     ]
 

@@ -65,7 +65,7 @@ pub record ChoosesPattern (f : NumberFormatter) (significand : Decimal) (e : ℤ
   pub pattern :
       let style = compact_style f.options.notation f.options.style in
       chosen_pattern style choice
-      ≡ compact_pattern f.formats style (compact_magnitude significand e) category (is_one significand)
+      ≡ compact_pattern f.formats style (compact_magnitude f.notation significand e) category (is_one significand)
 
 -- and the same texts around the whole text
 pub record ChoosesUnit (f : NumberFormatter) (significand : Decimal) (e : ℤ) (chosen : PluralCategory) : Type 0 where

@@ -9,7 +9,7 @@ use Rattle.plural_rules.specs.declared.rules.PluralCategory.{PluralCategory}
 use Rattle.locale_data.specs.declared.{compact.{AffixText.AffixText, CompactForm.CompactForm, CompactPattern.CompactPattern, CompactStyle.CompactStyle, PercentUnit.PercentUnit}, compact_table.TheConstants.PERCENT_UNITS, number_formats.NumberFormats.NumberFormats, rows.TableRange.TableRange}
 use Rattle.locale_data.specs.{Compact.{text_of, pattern_for, compact_patterns, unit_for}, Plurals.IsCategoryAt}
 use Rattle.number_format.specs.declared.{digit_options.DigitOptions.DigitOptions, notation.Notation.Notation, number_around.NumberAffixes.NumberAffixes, number_formatter.NumberFormatter.NumberFormatter, number_options.{CompactLength.CompactLength, ExponentOptions.ExponentOptions, ExponentSign.ExponentSign, NumberNotation.NumberNotation, NumberStyle.NumberStyle}, text_part.PartKind.PartKind}
-use Rattle.number_format.specs.{NumberStyles.currency_text, PatternTexts.{Around, around, literal, sign_text, sign_pieces, space_if, style_around}, ShownDigits.base_of, TextParts.{pieces_text, pieces_of, parts_pieces, digit_pieces}, Scaled.{ScaledValue, scaled_value, scaled}}
+use Rattle.number_format.specs.{NumberStyles.currency_text, PatternTexts.{Around, around, literal, sign_text, sign_pieces, space_if, style_around}, ShownDigits.base_of, TextParts.{pieces_text, pieces_of, parts_pieces, digit_pieces}, Scaled.{ScaledValue, scaled_value, scaled, exponent_at}}
 use Rattle.number_format.specs.TextParts as parts
 
 -- ---- The number: scaled, rounded, and split into a significand and an exponent.
@@ -141,9 +141,12 @@ is_one v =
 abbrev pub compact_power : ℤ → ℤ
 compact_power e = int_max (pos 0) (int_min e (pos 255))
 
--- the magnitude of the first digit before the division
-abbrev pub compact_magnitude : Decimal → ℤ → ℤ
-compact_magnitude significand e = int_min (first significand.absolute.number +ℤ compact_power e) (pos 32767)
+-- the magnitude whose pattern is taken: that of the first digit before the division; or, where an increment carried it
+-- to a pattern with a greater exponent, that of the power itself
+abbrev pub compact_magnitude : Notation → Decimal → ℤ → ℤ
+compact_magnitude notation significand e =
+    let m = int_min (first significand.absolute.number +ℤ compact_power e) (pos 32767) in
+    if int_lt (compact_power e) (exponent_at notation m) then compact_power e else m
 
 -- the pattern of a magnitude and a plural category, in compact notation
 abbrev pub compact_pattern : NumberFormats → Option CompactStyle → ℤ → PluralCategory → Bool → Option CompactPattern
@@ -192,7 +195,8 @@ pub record AreNumberPieces (f : NumberFormatter) (v : Decimal) (pieces : List pa
   pub value : pieces ≡ pieces_around f number.significand.absolute (exponent_of f.options.notation number.exponent)
       (around_by f (shown_sign f number.significand)
       (compact_pattern f.formats (compact_style f.options.notation f.options.style)
-      (compact_magnitude number.significand number.exponent) category (is_one number.significand))) (unit_by f whole)
+      (compact_magnitude f.notation number.significand number.exponent) category
+      (is_one number.significand))) (unit_by f whole)
 
 -- the text of a number: that of its pieces
 abbrev pub IsNumberText : NumberFormatter → Decimal → List ℕ → Type 0

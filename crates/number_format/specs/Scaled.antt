@@ -26,11 +26,19 @@ exponent_at Scientific m = m
 exponent_at Engineering m = m -ℤ int_rem_euclid m (pos 3)
 exponent_at (Compact table) m = compact_exponent table m
 
--- the exponent of a number, and 0 if it is below 0
-abbrev pub whole_exponent : Notation → ℕ → ℕ
-whole_exponent notation n = unsigned_abs (int_max (pos 0) (exponent_at notation (first n)))
+-- the same, and 0 if it is below 0
+abbrev pub exponent_from_0 : Notation → ℤ → ℕ
+exponent_from_0 notation m = unsigned_abs (int_max (pos 0) (exponent_at notation m))
 
--- and 0 if it is above 0
+-- that of a number
+abbrev pub whole_exponent : Notation → ℕ → ℕ
+whole_exponent notation n = exponent_from_0 notation (first n)
+
+-- that of a number which was rounded: if the first digit moved up, by however much, that of the next magnitude
+abbrev pub carried_exponent : Notation → ℕ → ℕ → ℕ
+carried_exponent notation n rounded = exponent_from_0 notation (int_min (first n +ℤ pos 1) (first rounded))
+
+-- the exponent of a number, and 0 if it is above 0
 abbrev pub base_exponent : Notation → ℕ → ℤ
 base_exponent notation n = int_min (pos 0) (exponent_at notation (first n))
 
@@ -47,13 +55,13 @@ pub record Settled : Type 0 where
 abbrev pub settled_with : ℕ → Rounded → Settled
 settled_with exponent r = record { exponent = exponent; number = r.number; last_shown = r.last_shown }
 
--- a number whose exponent is 0 or more, rounded with the exponent of its magnitude; if the rounding carried it into a
--- magnitude with a greater exponent, 1000K, the same rounded with that exponent, 1M
+-- a number whose exponent is 0 or more, rounded with the exponent of its magnitude; if the rounding carried it to a
+-- higher magnitude, 1000K, and the next magnitude has a greater exponent, the same rounded with that exponent, 1M
 abbrev pub settled : Notation → DigitOptions → Sign → ℕ → Option Settled
 settled notation o sign n =
     let exponent = whole_exponent notation n in
     option_and_then (λ r.
-    let next = whole_exponent notation r.number in
+    let next = carried_exponent notation n r.number in
     if nat_lt exponent next then option_map (settled_with next) (rounded_within o sign next r.number)
     else Some (settled_with exponent r)) (rounded_within o sign exponent n)
 
@@ -62,8 +70,8 @@ abbrev pub ScalingNeedsMemory : ℕ → Notation → DigitOptions → Sign → �
 ScalingNeedsMemory held notation o sign n =
     let exponent = whole_exponent notation n in
     let made = (rounded_at o sign exponent n).number in
-    NeedsMemory held o sign exponent n
-    ⊎ ((exponent < whole_exponent notation made) × NeedsMemory held o sign (whole_exponent notation made) made)
+    let next = carried_exponent notation n made in
+    NeedsMemory held o sign exponent n ⊎ ((exponent < next) × NeedsMemory held o sign next made)
 
 pub record ScaledValue : Type 0 where
   pub significand : Decimal

@@ -1,6 +1,6 @@
 //! Formatting of a number.
-ghost use Rattle.std.specs.{Prelude.{◌≡◌, ◌≢◌, Some, None, pos, true, IfOk, IfErr, IsErrOf, IsSomeAnd, OnOk, OnErr}, Io.KnownBytes.Appends};
-ghost use Rattle.decimal_digits.specs.{AppendsPrefix.AppendsPrefix, declared.rounding.RoundingIncrement.TheVariants.MultiplesOf25};
+ghost use Rattle.std.specs.{Prelude.{◌≡◌, ◌≢◌, Some, None, pos, ◌+ℤ◌, true, IfOk, IfErr, IsErrOf, IsSomeAnd, OnOk, OnErr}, Int.int_min, Io.KnownBytes.Appends};
+ghost use Rattle.decimal_digits.specs.{AppendsPrefix.AppendsPrefix, Number.first, declared.rounding.RoundingIncrement.TheVariants.MultiplesOf25};
 ghost use Rattle.fixed_decimal.specs.Decimal.{Decimal};
 ghost use Rattle.locale_data.specs.Plurals.{IsCategoryAt};
 ghost use Rattle.number_format.specs.{FormattedNumbers.{formatted_number_pieces, formatted_number_text, ChoosesPattern, ChoosesUnit}, NumberText.{shown_number, is_one, compact_magnitude, compact_power, exponent_sign, shown_exponent, rounded_in, AreNumberPieces, IsNumberText, HasNumberText, NeedsMemory}, Scaled.scaled_value, ShownDigits.base_of};
@@ -44,11 +44,23 @@ fn is_one(significand: &Decimal) -> bool
     operands.i() == Some(1) && operands.w() == 0
 }
 
-pub(crate) fn compact_magnitude(significand: &Decimal, exponent: i32) -> i16
-    ensures { result ≡ compact_magnitude significand.now exponent }
+fn undivided_magnitude(significand: &Decimal, power: u8) -> i16
+    ensures { result ≡ int_min (first significand.now.absolute.number +ℤ pos power) (pos 32767) }
 {
     let first = significand.absolute.nonzero_magnitude_start();
-    (first as i32 + compact_power(exponent) as i32).min(32767) as i16
+    (first as i32 + power as i32).min(32767) as i16
+}
+
+fn compact_magnitude(notation: &Notation, significand: &Decimal, exponent: i32) -> i16
+    ensures { result ≡ compact_magnitude notation.now significand.now exponent }
+{
+    let power = compact_power(exponent);
+    let magnitude = undivided_magnitude(significand, power);
+    if notation.exponent_at(magnitude) > power as i32 {
+        power as i16
+    } else {
+        magnitude
+    }
 }
 
 fn compact_power(exponent: i32) -> u8
@@ -163,7 +175,7 @@ impl NumberFormatter {
         let Some(style) = self.options.compact_style() else {
             return NO_CHOICE;
         };
-        let magnitude = compact_magnitude(significand, exponent);
+        let magnitude = compact_magnitude(&self.notation, significand, exponent);
         let patterns = self.formats.compact_patterns(style, magnitude);
         if !patterns.needs_category() {
             return CompactChoice {

@@ -5,7 +5,7 @@ ghost use Rattle.decimal_digits.specs.Number.{first, last, size};
 ghost use Rattle.fixed_decimal.specs.Decimal.{integer_decimal};
 ghost use Rattle.fixed_decimal.specs.Scientific.{scientific};
 ghost use Rattle.number_format.specs.ShownDigits.{NeedsMemory};
-ghost use Rattle.number_format.specs.Scaled.{whole_exponent, base_exponent, raised, settled, ScalingNeedsMemory, scaled_value, scaled};
+ghost use Rattle.number_format.specs.Scaled.{exponent_from_0, base_exponent, raised, settled, ScalingNeedsMemory, scaled_value, scaled};
 
 use crate::digit_options::DigitOptions;
 use crate::notation::Notation;
@@ -115,11 +115,19 @@ impl Notation {
         exponent.min(0)
     }
 
-    fn whole_exponent<D: DigitStore>(&self, value: &UnsignedOver<D>) -> u16
-        ensures value { result ≡ whole_exponent self.now value.now.number }
+    fn exponent_from_0(&self, magnitude: i16) -> u16
+        ensures value { result ≡ exponent_from_0 self.now magnitude }
         ensures at_most { result ≤ 32767 }
     {
-        self.exponent_at(value.nonzero_magnitude_start()).max(0) as u16
+        self.exponent_at(magnitude).max(0) as u16
+    }
+
+    // An increment may carry the first digit up by more than 1.
+    fn carried_exponent(&self, first: i16, carried: i16) -> u16
+        ensures value { result ≡ exponent_from_0 self.now (int_min (first +ℤ pos 1) carried) }
+        ensures at_most { result ≤ 32767 }
+    {
+        self.exponent_from_0(if carried > first { first + 1 } else { carried })
     }
 
     #[inline(always)]
@@ -137,9 +145,10 @@ impl Notation {
         ensures sign { OnOk result (value.new.sign ≡ value.old.sign) }
         ensures at_most { IfOk result (λ r. r.0 ≤ 32767) }
     {
-        let exponent = self.whole_exponent(&value.absolute);
+        let first = value.absolute.nonzero_magnitude_start();
+        let exponent = self.exponent_from_0(first);
         let last = options.round_at(value, exponent, &mut Steps::new())?;
-        let next = self.whole_exponent(&value.absolute);
+        let next = self.carried_exponent(first, value.absolute.nonzero_magnitude_start());
         if next > exponent {
             let last = options.round_at(value, next, &mut Steps::new())?;
             return Ok((next, last));
@@ -167,9 +176,9 @@ impl Notation {
 
     /// Returns the significand and the exponent that the notation writes for a decimal, with the digits of options.
     ///
-    /// The exponent is that of the decimal's magnitude. If the rounding carries the number into a magnitude with a
-    /// greater exponent, it is that one, and the rounded number is rounded again: by at most 2 significant digits
-    /// `999999` is `1` and 6. `ComputeExponent` of ECMA-402.
+    /// The exponent is that of the decimal's magnitude. If the rounding carries the number to a higher magnitude and
+    /// the next magnitude has a greater exponent, it is that one, and the rounded number is rounded again: by at most 2
+    /// significant digits `999999` is `1` and 6. `ComputeExponent` of ECMA-402.
     ///
     /// # Errors
     ///

@@ -1,14 +1,12 @@
-use Rattle.std.proofs.Common.{arith, rules, w16, w32, FitsSigned}
+use Rattle.std.proofs.Common.{arith, rules, w16, FitsSigned}
 use Rattle.std.proofs.lemmas.Int.{ints, clamps, to_z-of_z}
-use Rattle.number_format.proofs.format.compact_magnitude.Goals as goal
+use Rattle.number_format.proofs.format.undivided_magnitude.Goals as goal
 
 pub returns : goal.returns
 returns c =
     let first = c.nonzero_magnitude_start-first in
-    let fits : FitsSigned w32 c.args.exponent = search rules in
     let first_fits : FitsSigned w16 first.result = search rules in
     let value = first.ensures.value in
-    let power = simp to_z-of_z at c.compact_power.ensures in
     let min = simp to_z-of_z at c.min.ensures.value in
     omega (arith, ints, clamps)
 

@@ -1,0 +1,47 @@
+use Rattle.std.proofs.Common.{◌∙◌, ap, arith}
+use Rattle.std.proofs.lemmas.Grind.{common_steps}
+use Rattle.decimal_digits.specs.Number.{first}
+use Rattle.number_format.specs.ShownDigits.{rounded_with}
+use Rattle.number_format.proofs.Scales.{settled_by}
+use Rattle.number_format.proofs.notation.Notation.settle.Goals as goal
+
+pub returns-clause-settles : goal.returns-clause-settles
+returns-clause-settles g c =
+    let value = c.args.value.now in
+    let e = c.exponent_from_0-exponent.result in
+    let low = c.nonzero_magnitude_start-first in
+    let high = c.nonzero_magnitude_start in
+    let is = (c.in_ok-last.ensures).rounds in
+    let settles = settled_by c.args.self.now c.args.options.now value.sign value.absolute.number e
+    c.carried_exponent-next.result (rounded_with c.args.options.now e value) low.result high.result low.type_inv
+    high.type_inv low.ensures.value (high.ensures.value ∙ ap first is.number) c.exponent_from_0-exponent.ensures.value
+    c.carried_exponent-next.ensures.value is.within in
+    grind (arith, common_steps)
+
+pub returns-then-next-exponent-clause-settles : goal.returns-then-next-exponent-clause-settles
+returns-then-next-exponent-clause-settles g c =
+    let value = c.args.value.now in
+    let e = c.exponent_from_0-exponent.result in
+    let low = c.nonzero_magnitude_start-first in
+    let high = c.nonzero_magnitude_start in
+    let is = (c.in_ok-last.ensures).rounds in
+    let settles = settled_by c.args.self.now c.args.options.now value.sign value.absolute.number e
+    c.carried_exponent-next.result (rounded_with c.args.options.now e value) low.result high.result low.type_inv
+    high.type_inv low.ensures.value (high.ensures.value ∙ ap first is.number) c.exponent_from_0-exponent.ensures.value
+    c.carried_exponent-next.ensures.value is.within in
+    let again = (c.in_ok-last-2.ensures).rounds in
+    grind (arith, common_steps)
+
+pub returns-in_err-last-2-clause-limit : goal.returns-in_err-last-2-clause-limit
+returns-in_err-last-2-clause-limit g c =
+    let value = c.args.value.now in
+    let e = c.exponent_from_0-exponent.result in
+    let low = c.nonzero_magnitude_start-first in
+    let high = c.nonzero_magnitude_start in
+    let is = (c.in_ok-last.ensures).rounds in
+    let settles = settled_by c.args.self.now c.args.options.now value.sign value.absolute.number e
+    c.carried_exponent-next.result (rounded_with c.args.options.now e value) low.result high.result low.type_inv
+    high.type_inv low.ensures.value (high.ensures.value ∙ ap first is.number) c.exponent_from_0-exponent.ensures.value
+    c.carried_exponent-next.ensures.value is.within in
+    let fails = (c.in_err-last-2.ensures).rounds in
+    grind (arith, common_steps)
