@@ -1,0 +1,128 @@
+#!/usr/bin/env python3
+"""Compares numbers of the Python module with node's `Intl.NumberFormat`, by random options in random locales:
+
+    python3 diff/numbers.py LOCALES [CASES [SEED]]
+
+LOCALES is what `fixdec_lines --locales` prints, CASES is 20,000 by default. In standard notation texts are read back.
+Prints how often the two agree, how often each known difference occurs, and each other one, with status 1. Needs the
+module, by `pip install ./python`, and node with the same CLDR.
+"""
+import collections
+import json
+import random
+import re
+import subprocess
+import sys
+
+from fixed_decimal import Decimal
+
+NODE = """
+const formatted = ([locale, number, options]) => {
+  try { return new Intl.NumberFormat(locale, options).format(number); } catch (error) { return null; }
+};
+const isKnown = locale => {
+  try { return Intl.NumberFormat.supportedLocalesOf([locale]).length; } catch (error) { return false; }
+};
+const [locales, cases] = JSON.parse(require('fs').readFileSync(0));
+console.log(JSON.stringify(cases ? cases.map(formatted) : locales.filter(isKnown)));
+"""
+CURRENCIES = "EUR USD JPY CHF INR KWD BRL GBP XAF CAD ILS TND CLF XXX ZZZ MXN KRW UYW HUF IDR".split()
+INCREMENTS = [1, 2, 5, 10, 20, 25, 50, 100, 200, 250, 500, 1000, 2000, 2500, 5000]
+# The values of each option, and how often it is given.
+CHOICES = {
+    "notation": (0.4, ["compact", "compact", "scientific", "engineering"]),
+    "compactDisplay": (0.4, ["short", "long"]),
+    "signDisplay": (0.4, ["auto", "never", "always", "exceptZero", "negative"]),
+    "useGrouping": (0.4, ["always", "auto", "min2", False, True]),
+    "minimumIntegerDigits": (0.2, range(1, 9)),
+    "roundingMode": (0.4, ["ceil", "floor", "expand", "trunc", "halfCeil", "halfFloor", "halfExpand", "halfTrunc",
+                           "halfEven"]),
+    "roundingPriority": (0.2, ["auto", "morePrecision", "lessPrecision"]),
+    "trailingZeroDisplay": (0.2, ["auto", "stripIfInteger"]),
+    "numberingSystem": (0.1, ["arab", "deva", "beng", "thai", "fullwide", "latn", "hanidec"]),
+}
+
+
+def random_digits(rng, *lengths):
+    return "".join(rng.choices("012345678909", k=rng.choice(lengths)))
+
+
+def random_number(rng):
+    whole = rng.choice([random_digits(rng, 1, 2, 3, 4, 6, 9, 15, 30), "0", "9" * rng.randint(1, 9)])
+    fraction = rng.choice(["", "", "." + random_digits(rng, 1, 2, 5, 12), ".0000" + random_digits(rng, 1, 4), ".9995"])
+    return rng.choice(["", "-"]) + whole + fraction
+
+
+def random_options(rng):
+    options = {"style": rng.choice(["decimal", "percent", "currency"])}
+    if options["style"] == "currency":
+        options["currency"] = rng.choice(CURRENCIES)
+        options["currencyDisplay"] = rng.choice(["symbol", "narrowSymbol", "code"])
+        options["currencySign"] = rng.choice(["standard", "accounting"])
+    for name, (share, values) in CHOICES.items():
+        if rng.random() < share:
+            options[name] = rng.choice(values)
+    for kind, most in (("Fraction", 8), ("Significant", 9)):
+        if rng.random() < 0.3:
+            low, high = sorted(rng.choices(range(1 if kind == "Significant" else 0, most), k=2))
+            options |= {f"minimum{kind}Digits": low, f"maximum{kind}Digits": high}
+    if rng.random() < 0.15:
+        options["roundingIncrement"] = rng.choice(INCREMENTS)
+        options["maximumFractionDigits"] = options["minimumFractionDigits"] = rng.randint(0, 4)
+    return options
+
+
+def by_module(locale, number, options):
+    """The text, None where there is none, or a message if it does not read back."""
+    names = {re.sub("[A-Z]", lambda letter: "_" + letter[0].lower(), name): value for name, value in options.items()}
+    try:
+        text = Decimal(number).format(locale, **names)
+    except ValueError:
+        return None
+    # By two precisions a number that is rounded to 0 is shown otherwise than 0.
+    is_read = not options.keys() & {"notation", "roundingPriority"}
+    if is_read and Decimal.read(text, locale, **names).format(locale, **names) != text:
+        return f"{text} is not read back"
+    return text
+
+
+def known(locale, number, options, text):
+    """The name of a difference that is node's."""
+    compact, increment = options.get("notation") == "compact", options.get("roundingIncrement", 1)
+    digits = len(re.sub("[^0-9]", "", number))
+    if text and re.search("[\ud800-\udfff]", text):
+        return "half of a digit in an exponent"
+    if increment > 1 and digits > 28:
+        return "an increment and more than 34 digits"
+    if compact and increment > 10:
+        return "compact, by the pattern of the rounded number"
+    if compact and digits > 15:
+        return "compact, more digits than a double has"
+    if (locale, options.get("numberingSystem")) == ("az", "arab") or locale == "yrl":
+        return "letters or signs in a pattern"
+    return None
+
+
+def node(*given):
+    ran = subprocess.run(["node", "-e", NODE], input=json.dumps(given), stdout=subprocess.PIPE, text=True, check=True)
+    return json.loads(ran.stdout)
+
+
+def main(path, cases=20_000, seed=1):
+    rng = random.Random(int(seed))
+    with open(path, encoding="utf-8") as file:
+        locales = node([line.split()[0] for line in file], None)
+    rows = [(rng.choice(locales), random_number(rng), random_options(rng)) for _ in range(int(cases))]
+    counts = collections.Counter()
+    for row, text in zip(rows, node([], rows)):
+        own = by_module(*row)
+        name = "no text in either" if own is text is None else "equal" if own == text else known(*row, text)
+        counts[name] += 1
+        if not name:
+            print(*row, f"here {own!r}, in node {text!r}")
+    print(*(f"{count} {name or 'differ'}" for name, count in counts.most_common()), sep="\n")
+    return 1 if counts[None] else 0
+
+
+if __name__ == "__main__":
+    sys.exit(main(*sys.argv[1:]))
