@@ -4,8 +4,8 @@
     python3 diff/numbers.py LOCALES [CASES [SEED]]
 
 LOCALES is what `fixdec_lines --locales` prints, CASES is 20,000 by default. In standard notation texts are read back.
-Prints how often the two agree, how often each known difference occurs, and each other one, with status 1. Needs the
-module, by `pip install ./python`, and node with the same CLDR.
+Prints how often the two agree and how often each known difference occurs; each other difference, and each text that is
+not read back, is a line, with status 1. Needs the module, by `pip install ./python`, and node with the same CLDR.
 """
 import collections
 import json
@@ -72,22 +72,29 @@ def random_options(rng):
     return options
 
 
+def keywords(options):
+    return {re.sub("[A-Z]", lambda letter: "_" + letter[0].lower(), name): value for name, value in options.items()}
+
+
 def by_module(locale, number, options):
-    """The text, None where there is none, or a message if it does not read back."""
-    names = {re.sub("[A-Z]", lambda letter: "_" + letter[0].lower(), name): value for name, value in options.items()}
     try:
-        text = Decimal(number).format(locale, **names)
+        return Decimal(number).format(locale, **keywords(options))
     except ValueError:
         return None
+
+
+def is_read_back(text, locale, options):
     # By two precisions a number that is rounded to 0 is shown otherwise than 0.
-    is_read = not options.keys() & {"notation", "roundingPriority"}
-    if is_read and Decimal.read(text, locale, **names).format(locale, **names) != text:
-        return f"{text} is not read back"
-    return text
+    if options.keys() & {"notation", "roundingPriority"}:
+        return True
+    try:
+        return Decimal.read(text, locale, **keywords(options)).format(locale, **keywords(options)) == text
+    except ValueError:
+        return False
 
 
 def known(locale, number, options, text):
-    """The name of a difference that is node's."""
+    """The name of a difference that is node's, whose text is given."""
     compact, increment = options.get("notation") == "compact", options.get("roundingIncrement", 1)
     digits = len(re.sub("[^0-9]", "", number))
     if text and re.search("[\ud800-\udfff]", text):
@@ -115,8 +122,11 @@ def main(path, cases=20_000, seed=1):
     rows = [(rng.choice(locales), random_number(rng), random_options(rng)) for _ in range(int(cases))]
     counts = collections.Counter()
     for row, text in zip(rows, node([], rows)):
+        locale, _, options = row
         own = by_module(*row)
-        name = "no text in either" if own is text is None else "equal" if own == text else known(*row, text)
+        name = "no text in either" if own is text is None else "equal" if own == text else own and known(*row, text)
+        if own and not is_read_back(own, locale, options):
+            name = None
         counts[name] += 1
         if not name:
             print(*row, f"here {own!r}, in node {text!r}")
