@@ -4,8 +4,8 @@
 #
 #   bench/hosts.sh [LINES]        by default 5000000
 #
-# It takes the libraries and the program that the gate has built, and needs cargo, python3-distributed and
-# python3-babel, and four idle processors.
+# It proves what the gate has not built of the same sources. It needs cargo, python3-distributed and python3-babel, and
+# four idle processors.
 set -euo pipefail
 cd "$(dirname "$0")/.."
 lines=${1:-5000000}
@@ -13,7 +13,8 @@ room=$(mktemp -d)
 others=()
 trap 'kill "${others[@]}" 2> /dev/null || true; wait; rm -rf "$room"' EXIT
 program=$PWD/crates/fixdec_lines/out/fixdec_lines
-BUILT_BY_GATE=1 bash c/build.sh
+python3 tools/built.py programs fixdec_lines
+bash c/build.sh
 FIXED_DECIMAL_LIB=$PWD/c/out/libfixed_decimal.a CARGO_TARGET_DIR=$room/target \
   cargo run --quiet --release --offline --manifest-path bench/hosts/Cargo.toml
 

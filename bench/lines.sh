@@ -24,7 +24,7 @@
 set -euo pipefail
 lines=${1:-5000000} passes=${2:-5}
 cd "$(dirname "$0")/.."
-[ -n "${BUILT_BY_GATE:-}" ] || (cd crates/fixdec_lines && rt run) > /dev/null 2>&1
+python3 tools/built.py programs fixdec_lines
 room=$(mktemp -d)
 trap 'rm -rf "$room"' EXIT
 cp crates/fixdec_lines/out/fixdec_lines "$room/fixdec_lines"

@@ -15,7 +15,7 @@
 set -euo pipefail
 rounds=${1:-2000}
 here=$(cd "$(dirname "$0")" && pwd)
-(cd "$here/../crates/fixdec" && rt run -- 250 shift:-2) > /dev/null 2>&1
+python3 "$here/../tools/built.py" programs fixdec
 room=$(mktemp -d)
 trap 'rm -rf "$room"' EXIT
 cp "$here/../crates/fixdec/out/fixdec" "$room/fixdec"

@@ -1,20 +1,30 @@
 #!/usr/bin/env bash
-# Makes c/out/libfixed_decimal.a, libfixed_decimal.so.4 and fixed_decimal.pc; `PREFIX=/usr/local bash c/build.sh install`
-# copies them and the header. Needs `rt` and gcc. With BUILT_BY_GATE set it takes the libraries that the gate has built.
+# Makes c/out/libfixed_decimal.a, libfixed_decimal.so.VERSION and fixed_decimal.pc; VERSION is that of the interface.
+#
+#     bash c/build.sh
+#     PREFIX=/usr/local bash c/build.sh install
+#
+# `install` copies them and the header to PREFIX, by default /usr/local, or, if DESTDIR is set, to DESTDIR/PREFIX; a
+# relative one is in the current folder. A program that is compiled by c/out/fixed_decimal.pc finds the shared library in
+# c/out. Needs `rt` and gcc. What the gate has built of the same sources is not proved again; with BUILT_BY_GATE=1 only
+# the exports are.
 set -eu
+[ $# = 0 ] || { [ $# = 1 ] && [ "$1" = install ]; } || { echo "usage: c/build.sh [install]" >&2; exit 2; }
+prefix=$(realpath -ms -- "${PREFIX:-/usr/local}")
+to=${DESTDIR:+$(realpath -ms -- "$DESTDIR")}$prefix
 cd "$(dirname "$0")"
-here=$PWD crate=$PWD/../crates/fixed_decimal_ffi version=4
+here=$PWD
+version=$(sed -n 's/^#define FD_VERSION //p' fixed_decimal.h)
+rm -rf out
+python3 ../tools/built.py archive
 kit=$(dirname "$(dirname "$(readlink -f "$(command -v rt)")")")
-archive=$crate/out/libfixed_decimal_ffi.a
-if [ -z "${BUILT_BY_GATE:-}" ]; then
-  (cd "$crate" && rt lib)
-elif [ ! -f "$archive" ]; then
-  python3 ../tools/static_library.py
-fi
-rm -rf out && mkdir out && cd out
-cp "$archive" libfixed_decimal.a
+mkdir out
+cd out
+cp ../../crates/fixed_decimal_ffi/out/libfixed_decimal_ffi.a libfixed_decimal.a
 # The three functions over malloc, realloc and free that the kit's allocator calls.
-mkdir heap && (cd heap && ar x "$kit/c/liblibc_c.a") && ar r libfixed_decimal.a heap/*.o 2>/dev/null
+mkdir heap
+(cd heap; ar x "$kit/c/liblibc_c.a")
+ar r libfixed_decimal.a heap/*.o 2>/dev/null
 rm -r heap
 ranlib libfixed_decimal.a
 {
@@ -26,20 +36,26 @@ gcc -shared -o libfixed_decimal.so.$version -Wl,-soname,libfixed_decimal.so.$ver
   -Wl,--whole-archive libfixed_decimal.a -Wl,--no-whole-archive -Wl,--version-script=exports.map
 ln -s libfixed_decimal.so.$version libfixed_decimal.so
 rm exports.map
-prefix=${PREFIX:-$here/out}
-lib=$prefix/lib include=$prefix/include
-[ -n "${PREFIX:-}" ] || { lib=$here/out include=$here; }
-cat >fixed_decimal.pc <<END
-Name: fixed_decimal
-Description: Exact decimals for display
-Version: $version
-Libs: -L$lib -lfixed_decimal
-Cflags: -I$include
-END
+
+# package LIB INCLUDE FLAG..: the file of pkg-config for a library and a header in these folders.
+package() {
+  local lib include
+  lib=$(sed "s/[\\\\ \"'\$#]/\\\\&/g" <<<"$1")
+  include=$(sed "s/[\\\\ \"'\$#]/\\\\&/g" <<<"$2")
+  echo "Name: fixed_decimal"
+  echo "Description: Exact decimals for display"
+  echo "Version: $version"
+  echo "Libs: -L$lib ${3:+$3$lib }-lfixed_decimal"
+  echo "Cflags: -I$include"
+}
+
+package "$here/out" "$here" -Wl,-rpath, >fixed_decimal.pc
 if [ "${1:-}" = install ]; then
-  install -d "$lib/pkgconfig" "$include"
-  install -m 644 libfixed_decimal.a libfixed_decimal.so.$version "$lib"
-  ln -sf libfixed_decimal.so.$version "$lib/libfixed_decimal.so"
-  install -m 644 fixed_decimal.pc "$lib/pkgconfig"
-  install -m 644 "$here/fixed_decimal.h" "$include"
+  install -d "$to/lib/pkgconfig" "$to/include"
+  install -m 644 libfixed_decimal.a libfixed_decimal.so.$version "$to/lib"
+  ln -sf libfixed_decimal.so.$version "$to/lib/libfixed_decimal.so"
+  package "$prefix/lib" "$prefix/include" >"$to/lib/pkgconfig/fixed_decimal.pc"
+  chmod 644 "$to/lib/pkgconfig/fixed_decimal.pc"
+  install -m 644 "$here/fixed_decimal.h" "$to/include"
+  echo "installed libfixed_decimal $version in $to"
 fi

@@ -14,8 +14,8 @@
  *   (FD_NONE will do), and the number is below 2^63.
  * - The buffer overlaps no other argument, and no other thread reads or writes it during the call; nor writes another.
  * - malloc, realloc and free are those of one allocator, and the call is not made in a signal handler, nor in the
- *   forked child of a process with threads. Values of up to 16 digits, in texts of less than 64 bytes and lists of up to eight
- *   calls, need no memory; fd_category allocates for its rules.
+ *   forked child of a process with threads. Values of up to 16 digits, in texts of up to 64 bytes and lists of up to
+ *   eight calls, need no memory; fd_category allocates for its rules.
  *
  * Texts need not be UTF-8 and do not end in a zero byte: neither those that are passed nor those that are written.
  *
@@ -35,7 +35,7 @@ extern "C" {
 #endif
 
 /* The version of this interface: it grows when a number, a struct or a meaning changes. */
-#define FD_VERSION 4
+#define FD_VERSION 5
 
 /* The version of the library, to be compared with FD_VERSION. */
 uint32_t fd_version(void);
@@ -164,7 +164,18 @@ typedef struct fd_forms {
     fd_form format;
 } fd_forms;
 
-/* Words of the options of a number. */
+/* What a word of the programs is. */
+enum fd_word_kind { FD_READ_WORD = 0, FD_CALL_WORD = 1, FD_FORMAT_WORD = 2 };
+
+/* A word of the programs. All fields that its kind does not use are 0, and with an error all but the status. */
+typedef struct fd_word {
+    uint32_t status; /* FD_OK, FD_UNKNOWN_CALL or FD_UNKNOWN_LOCALE */
+    uint32_t kind;   /* an fd_word_kind */
+    fd_call call;    /* FD_CALL_WORD: the call; its text_start counts from the word's first byte */
+    fd_form form;    /* the others: the form; start and skeleton_start count from the word's first byte */
+} fd_word;
+
+/* Words of the options of a number: those of Intl.NumberFormat, and FD_PERMILLE and FD_HIDDEN of ICU. */
 enum fd_style { FD_DECIMAL = 0, FD_PERCENT = 1, FD_PERMILLE = 2, FD_CURRENCY = 3 };
 enum fd_currency_display { FD_SYMBOL = 0, FD_NARROW_SYMBOL = 1, FD_CODE = 2, FD_HIDDEN = 3 };
 enum fd_currency_sign { FD_STANDARD_SIGN = 0, FD_ACCOUNTING = 1 };
@@ -247,6 +258,16 @@ fd_result fd_run(const uint8_t *start, size_t start_count, const fd_call *calls,
 fd_result fd_convert(const uint8_t *text, size_t count, const fd_forms *forms, const fd_call *calls, size_t call_count,
                      const uint8_t *texts, size_t texts_count, uint8_t *buffer, size_t capacity);
 
+/* Reads one word as fixdec does: `read:LOCALE[:lenient][:SKELETON]`, a call, or `format:LOCALE[:GROUPING|:SKELETON]`.
+ *
+ * To convert by words, place them one after another into the texts, add the offset of each word there to its
+ * text_start, start and skeleton_start, and pass the calls and the forms to fd_convert or fd_lines. Check that `read:`
+ * is the first word and `format:` the last one, each at most once.
+ * FD_UNKNOWN_CALL: it is no word, or not UTF-8, or its last option is empty, as in `format:de:`.
+ * FD_UNKNOWN_LOCALE: the tag is empty, and there is no skeleton, as in `format:`: an fd_form without both would be that
+ * of no locale. Other unknown locales, and wrong skeletons, are errors of fd_convert. */
+fd_word fd_parse_word(const uint8_t *word, size_t count);
+
 /* Formats a decimal as Intl.NumberFormat does, in the locale of a tag and by its options.
  *
  * The buffer is as after fd_run.
@@ -277,7 +298,8 @@ fd_result fd_read_by_skeleton(const uint8_t *text, size_t count, const uint8_t *
                               const uint8_t *skeleton, size_t skeleton_count, uint32_t lenient, uint8_t *buffer,
                               size_t capacity);
 
-/* Writes the shortest skeleton of these options, for an fd_form. It allocates; the buffer is as after fd_run.
+/* Writes a skeleton that reads as these options, for an fd_form, in the words of ICU's normal form: FD_DECIMAL with
+ * FD_COMPACT_SHORT is "compact-short rounding-mode-half-up". It allocates; the buffer is as after fd_run.
  * Errors, the first that holds: FD_UNKNOWN_OPTION; FD_DIGIT_OPTIONS; FD_MEMORY; FD_NO_SKELETON; FD_BUFFER_TOO_SMALL. */
 fd_result fd_skeleton(const fd_number_options *options, uint8_t *buffer, size_t capacity);
 

@@ -13,20 +13,11 @@ work=$(cd "$work" && pwd)
 kit=$(dirname "$(rt doc)")
 jobs=${JOBS:-$(nproc)}
 
-# Whether a library of the project was built after the last change of a crate, by `rt ci`, `rt run` or `rt check` of a
-# crate above.
-is_built() {
-    local made=$project/crates/$1/out/rlib/$1.rlib/format
-    [ -f "$made" ] &&
-        [ -z "$(find "$project"/crates/*/src "$project"/crates/*/specs "$project"/crates/*/proofs \
-            -type f -newer "$made" -print -quit)" ]
-}
-
 # build NAME ROOT FILES DEP..: a crate in $work/NAME, a program (ROOT is src/main.rt) or else a static library, of the
-# files FILES*.rt or FILES*.rt.txt, over libraries of the kit and of the project. Of these the ones that are not built
-# are proved first.
+# files FILES*.rt or FILES*.rt.txt, over libraries of the kit and of the project. Of the latter those are proved first
+# that the gate, or an earlier run, has not built of the same sources.
 build() {
-    local name=$1 root=$2 files=$3 words=() folder
+    local name=$1 root=$2 files=$3 words=() folder dep libraries=()
     shift 3
     rm -rf "${work:?}/$name"
     mkdir -p "$work/$name/src" "$work/$name/specs"
@@ -40,10 +31,11 @@ build() {
             words+=(--extern "$dep=$kit/rlibs/$dep.rlib")
             continue
         fi
+        libraries+=("$dep")
         words+=(--extern "$dep=$folder/out/rlib/$dep.rlib")
-        is_built "$dep" || (cd "$folder" && rt lib --jobs "$jobs") >"$work/$dep.txt" 2>&1 ||
-            { tail -n 30 "$work/$dep.txt" >&2; die "$dep was not built"; }
     done
+    JOBS=$jobs python3 "$project/tools/built.py" libraries "${libraries[@]}" || die "$name was not built"
+    echo "proves and builds $name" >&2
     for folder in "$kit/rlibs" "$project"/crates/*/out/rlib; do
         words+=(-L "dependency=$folder")
     done

@@ -63,7 +63,7 @@ copy_smallvec() {
 
 # The Rust crate, over the shared library: the driver links another static one.
 copy_host() {
-    bash "$project/c/build.sh" >"$work/c.txt" 2>&1 || { tail -n 30 "$work/c.txt" >&2; die "the C library was not built"; }
+    bash "$project/c/build.sh" >&2 || die "the C library was not built"
     rm -rf "$work/fixed_decimal_proved"
     cp -r "$project/rust" "$work/fixed_decimal_proved"
     export FIXED_DECIMAL_LIB=$project/c/out/libfixed_decimal.so LD_LIBRARY_PATH=$project/c/out

@@ -3,12 +3,15 @@
 
     python3 diff/numbers.py LOCALES [CASES [SEED]]
 
-LOCALES is what `fixdec_lines --locales` prints, CASES is 20,000 by default. In standard notation texts are read back.
-Prints how often the two agree and how often each known difference occurs; each other difference, and each text that is
-not read back, is a line, with status 1. Needs the module, by `pip install ./python`, and node with the same CLDR.
+LOCALES is what `fixdec_lines --locales` prints, CASES is 20,000 by default. The tags are those of LOCALES that node
+knows, and those of node itself: each tag of a language, a script and a region of tools/locales/symbols.tsv that node
+resolves to itself. A few have a private use that looks like a numbering system. In standard notation texts are read
+back. Prints how often the two agree and how often each known difference occurs; each other difference, and each text
+that is not read back, is a line, with status 1. Needs the module, by `pip install ./python`, and node with this CLDR.
 """
 import collections
 import json
+import os
 import random
 import re
 import subprocess
@@ -23,10 +26,17 @@ const formatted = ([locale, number, options]) => {
 const isKnown = locale => {
   try { return Intl.NumberFormat.supportedLocalesOf([locale]).length; } catch (error) { return false; }
 };
-const [locales, cases] = JSON.parse(require('fs').readFileSync(0));
-console.log(JSON.stringify(cases ? cases.map(formatted) : locales.filter(isKnown)));
+const isOwn = tag => {
+  try { return new Intl.NumberFormat(tag).resolvedOptions().locale === tag; } catch (error) { return false; }
+};
+const combined = ([languages, scripts, regions]) =>
+  languages.flatMap(language => ['', ...scripts].flatMap(script => ['', ...regions].map(region =>
+    [language, script, region].filter(subtag => subtag).join('-'))));
+const [locales, subtags, cases] = JSON.parse(require('fs').readFileSync(0));
+console.log(JSON.stringify(cases ? cases.map(formatted)
+  : [...new Set([...locales.filter(isKnown), ...combined(subtags).filter(isOwn)])]));
 """
-CURRENCIES = "EUR USD JPY CHF INR KWD BRL GBP XAF CAD ILS TND CLF XXX ZZZ MXN KRW UYW HUF IDR".split()
+CURRENCIES = "EUR USD JPY CHF INR KWD BRL GBP XAF CAD ILS TND CLF XXX ZZZ MXN KRW UYW HUF IDR BYN".split()
 INCREMENTS = [1, 2, 5, 10, 20, 25, 50, 100, 200, 250, 500, 1000, 2000, 2500, 5000]
 # The values of each option, and how often it is given.
 CHOICES = {
@@ -39,8 +49,21 @@ CHOICES = {
                            "halfEven"]),
     "roundingPriority": (0.2, ["auto", "morePrecision", "lessPrecision"]),
     "trailingZeroDisplay": (0.2, ["auto", "stripIfInteger"]),
-    "numberingSystem": (0.1, ["arab", "deva", "beng", "thai", "fullwide", "latn", "hanidec"]),
+    "numberingSystem": (0.1, ["arab", "arabext", "deva", "beng", "thai", "fullwide", "latn", "hanidec"]),
 }
+
+
+def subtags():
+    """The languages, the scripts and the regions of the tags of the tables."""
+    path = os.path.join(os.path.dirname(os.path.abspath(__file__)), "..", "tools", "locales", "symbols.tsv")
+    with open(path, encoding="utf-8") as file:
+        parts = {part for line in file for part in line.split("\t")[0].partition("-u-")[0].split("-")} - {"root"}
+    patterns = "[a-z]{2,3}", "[A-Z][a-z]{3}", "[A-Z]{2}|[0-9]{3}"
+    return [sorted(part for part in parts if re.fullmatch(pattern, part)) for pattern in patterns]
+
+
+def random_locale(rng, locales):
+    return rng.choice(locales) + ("-x-a-u-nu-arab" if rng.random() < 0.02 else "")
 
 
 def random_digits(rng, *lengths):
@@ -93,6 +116,10 @@ def is_read_back(text, locale, options):
         return False
 
 
+def is_azerbaijani(tag):
+    return re.fullmatch("az(-latn)?(-az)?", tag) is not None
+
+
 def known(locale, number, options, text):
     """The name of a difference that is node's, whose text is given."""
     compact, increment = options.get("notation") == "compact", options.get("roundingIncrement", 1)
@@ -105,8 +132,13 @@ def known(locale, number, options, text):
         return "compact, by the pattern of the rounded number"
     if compact and digits > 15:
         return "compact, more digits than a double has"
-    if (locale, options.get("numberingSystem")) == ("az", "arab") or locale == "yrl":
+    tag = locale.partition("-x-")[0].lower()
+    if is_azerbaijani(tag) and options.get("numberingSystem") in ("arab", "arabext") or tag == "yrl":
         return "letters or signs in a pattern"
+    if (tag, options.get("currency")) == ("sr-cyrl-me", "BYN"):
+        return "a currency of Cyrillic Montenegro by its name in Latin letters"
+    if tag == "ku-iq":
+        return "ku-IQ, which node has without the data of ku"
     return None
 
 
@@ -118,10 +150,10 @@ def node(*given):
 def main(path, cases=20_000, seed=1):
     rng = random.Random(int(seed))
     with open(path, encoding="utf-8") as file:
-        locales = node([line.split()[0] for line in file], None)
-    rows = [(rng.choice(locales), random_number(rng), random_options(rng)) for _ in range(int(cases))]
+        locales = node([line.split()[0] for line in file], subtags(), None)
+    rows = [(random_locale(rng, locales), random_number(rng), random_options(rng)) for _ in range(int(cases))]
     counts = collections.Counter()
-    for row, text in zip(rows, node([], rows)):
+    for row, text in zip(rows, node([], [], rows)):
         locale, _, options = row
         own = by_module(*row)
         name = "no text in either" if own is text is None else "equal" if own == text else own and known(*row, text)

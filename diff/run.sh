@@ -18,7 +18,8 @@ while [ $# -gt 0 ]; do
 done
 need_packages librust-smallvec-dev
 build decimal_calls src/lib.rt "$here/library/" std decimal_digits decimal_unsigned fixed_decimal
-build fixdec src/main.rt "$project/crates/fixdec/src/" std cli
+JOBS=$jobs python3 "$project/tools/built.py" programs fixdec
+install -D -m 755 "$project/crates/fixdec/out/fixdec" "$work/fixdec/fixdec"
 export LIBRARY=$work/decimal_calls
 copy_original
 copy_host

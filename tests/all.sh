@@ -1,6 +1,6 @@
 #!/usr/bin/env bash
-# All tests: the gate, the built programs as a shell runs them, failing allocations, the C library, Rust and Dask,
-# setting up, and the documents. The last line is `N passed, M failed`; the status is 0 if M is 0.
+# All tests: the gate, the built programs as a shell runs them, failing allocations, interrupted writes, the C library,
+# Rust and Dask, setting up, installs, and the documents. The last line is `N passed, M failed`; the status is 0 if M is 0.
 set -u
 cd "$(dirname "$0")/.." || exit 1
 log=$(mktemp) || exit 1
@@ -23,14 +23,17 @@ run() {
 
 # One job for each check, as many checks as there are processors: two jobs take a third more processor time.
 export RT_JOBS=${RT_JOBS:-$(nproc)}
-run rt ci
-# The scripts take the programs that the gate has just built.
+run python3 tools/built.py gate
+# The scripts take what `rt ci` has just built, and nothing else.
 export BUILT_BY_GATE=1
 run bash tests/end_to_end.sh
 run bash tests/allocation_failures.sh
+run bash tests/interrupted_writes.sh
 run bash tests/c.sh
 run bash tests/hosts.sh
+run bash tests/dask.sh
 run bash tests/setting_up.sh
+run bash tests/installs.sh
 run python3 tools/check_documents.py
 
 echo "$passed passed, $failed failed"

@@ -48,7 +48,7 @@ judge $? 'the example writes 1.234,56'
 nm -D --defined-only c/out/libfixed_decimal.so | awk '{ print $3 }' | grep -v '^fd_' > "$room/others"
 [ ! -s "$room/others" ]
 judge $? 'the shared library exports no other names'
-readelf -d c/out/libfixed_decimal.so | grep -q 'SONAME.*libfixed_decimal.so.4'
+readelf -d c/out/libfixed_decimal.so | grep -q 'SONAME.*libfixed_decimal.so.5'
 judge $? 'the shared library has a soname'
 
 # ---- Python
@@ -68,9 +68,9 @@ fi
 if command -v sqlite3 > /dev/null && echo '#include <sqlite3ext.h>' | gcc -E -x c - > /dev/null 2>&1; then
   try 'the extension' gcc -shared -fPIC -O2 -Wall -Wextra -Werror -Ic examples/sqlite/fixdec.c c/out/libfixed_decimal.a \
     -o "$room/fixdec.so"
-  # row SQL RESULT
+  # row SQL RESULT [COMMAND..]: the result, after these commands
   row() {
-    found=$(sqlite3 -cmd ".load $room/fixdec" :memory: "$1" 2>&1)
+    found=$(sqlite3 "${@:3}" -cmd ".load $room/fixdec" :memory: "$1" 2>&1)
     [ "$found" = "$2" ]
     judge $? "$1: $found"
   }
@@ -107,12 +107,46 @@ if command -v sqlite3 > /dev/null && echo '#include <sqlite3ext.h>' | gcc -E -x 
   row "SELECT format_number('es', 1234567, 'notation', 'compact', 'compactDisplay', 'long', 'numberingSystem', 'arab')" '١٫٢ millones'
   row "SELECT read_number('de', '-1.234,57' || char(160) || '€', 'style', 'currency', 'currency', 'EUR')" -1234.57
   row "SELECT length(format_number('en', printf('%.*c', 300, '7'), 'useGrouping', 'always'))" 399
+  row "SELECT read_number('de', 'currency/EUR', '-1.234,57' || char(160) || '€'), read_number('en', NULL, '1') IS NULL" \
+    '-1234.57|1'
+  row "SELECT format_number('en', 5, 'minimumFractionDigits', '2'), format_number('en', 5, 'minimumFractionDigits', 2)" \
+    '5.00|5.00'
+  row "SELECT fixdec(x'312e35', x'73686966743a31'), fixdec(x'31', 'concat:0.' || printf('%.*c', 3, '7'))" '15|1.777'
+  row "SELECT length(fixdec('1', 'concat:0.' || printf('%.*c', 2100, '7')))" 2102
+  row "SELECT fixdec('1'$(printf ", 'shift:1'%.0s" {1..60}))" 1000000000000000000000000000000000000000000000000000000000000
+  row "SELECT try_fixdec('x', 'trim-end') IS NULL, try_fixdec('10', 'shift:32767') IS NULL, try_fixdec('1.50', 'trim-end')" \
+    '1|1|1.5'
+  row "SELECT try_fixdec('12', 'concat:25') IS NULL, try_fixdec('1', 'format:de:K'), try_fixdec(printf('%.*c', 32769, '1')) IS NULL" \
+    '1|1|1'
+  row "SELECT try_read_number('de', 'x', 'useGrouping', 'auto') IS NULL, try_read_number('de', 'currency/EUR', '1,50' || char(160) || '€')" \
+    '1|1.50'
+  row "SELECT try_read_number('de', 'currency/EUR', '1 USD') IS NULL, try_read_number('de', '', '1.234,5')" '1|1234.5'
+  for encoding in 8 16le 16be; do
+    row "SELECT fixdec(x'3132', 'shift:1'), fixdec(CAST(CAST('12' AS BLOB) AS TEXT), CAST(x'73686966743a31' AS BLOB))" \
+      '120|120' -cmd "PRAGMA encoding='UTF-$encoding'"
+    row "SELECT try_fixdec(x'31003200') IS NULL, fixdec(12, 'format:fr'), fixdec('1,5', 'read:fr'), plural('en', 1)" \
+      '1|12|1.5|one' -cmd "PRAGMA encoding='UTF-$encoding'"
+  done
   rejects fixdec "'1x', 'trim-end'|start: syntax" "'10', 'trim-end', 'shift:32767'|call 1: overflow" \
     "'1', 'trimm'|no such call" "'1', 'round:0:up:1'|no such call" "'1', 'format:tlh'|unknown locale" \
-    "'1', 'round:0:ceil:3'|no such call: 0" "'12', 'concat:25'|call 0: overlap" "'1', 'read:de:K'|skeleton: no reader" \
+    "'1', 'round:0:ceil:3'|no such call" "'12', 'concat:25'|call 0: overlap" "'1', 'read:de:K'|skeleton: no reader" \
     "'1', 'format:de:'|no such call" "'1', 'read:de:lenient:'|no such call" "'1 USD', 'read:de:currency/EUR'|start: syntax" \
     "'x', 'read:de:percent/w'|skeleton: syntax at 7" "'x', 'format:de:percent/w'|skeleton: syntax at 7" "'1', 'format:tlh:K'|unknown locale" \
-    "'1e32766', 'shift:1', 'format:en:scale/100'|format: overflow"
+    "'1e32766', 'shift:1', 'format:en:scale/100'|format: overflow" "zeroblob(1000001)|start: syntax"
+  rejects fixdec "'5', 'shift:4294967298'|no such call" "'5', 'shift:65537'|no such call" "'5', 'shift: 2'|no such call" \
+    "'5', 'shift:+2'|no such call" "'5', 'shift:0000002'|no such call" "'5', 'shift:'|no such call" \
+    "'5', 'round:0:ceil:4294967297'|no such call" "'5', 'round:0:ceil: +1'|no such call" "'5', 'round:0:ceil'|no such call" \
+    "'5', x'73686966743a3200'|no such call" "'5', CAST(x'73686966743a3200' AS TEXT)|no such call" "'5', x'ff'|no such call" \
+    "'5', ''|no such call" "'5', 7|no such call" "'5', 'format'|no such call" "'5', 'sign:minus:'|no such call" \
+    "'1', 'shift:1', 'read:de'|no such call" "'1', 'read:de', 'read:de'|no such call" "'1', 'read:de:'|no such call" \
+    "'1', 'format:de', 'shift:1'|no such call" "'1', 'format:de', 'format:en'|no such call" "'1', 'format:'|unknown locale" \
+    "'1', 'read:'|unknown locale" "'1', 'format::K'|unknown locale" "'1', 'format::x/'|skeleton: syntax at 0" \
+    "'1', 'format:de:auto:K'|skeleton: syntax at 0" "'1', CAST(x'666f726d61743a64650078' AS TEXT)|unknown locale" \
+    "'1', 'concat:x'|call 0: syntax" "'1', x'636f6e6361743a313200'|call 0: syntax"
+  rejects try_fixdec "'1', 'trimm'|no such call" "'x', 'format:tlh'|unknown locale" "'1', 'concat:x'|call 0: syntax" \
+    "'x', 'format:de:percent/w'|skeleton: syntax at 7"
+  rejects try_read_number "'tlh', '', 'x'|unknown locale" "'en', 'x', 'style', 'unit'|no such option" \
+    "'en', 'K', 'x'|skeleton: no reader" "'en', 'x', 'notation', 'compact'|no reader of such numbers"
   rejects plural "'one: n =', '1'|rules: syntax at 8" "'xx', '1'|unknown locale" "'en:nominal', '1'|rules: syntax at 0" \
     "'en', '1x'|start: syntax"
   rejects format_number "'tlh', 'percent/w', 'x'|skeleton: syntax at 7" "'en', '.00 measure-unit/length-meter', '1'|skeleton: unsupported at 4" \
@@ -120,7 +154,24 @@ if command -v sqlite3 > /dev/null && echo '#include <sqlite3ext.h>' | gcc -E -x 
     "'en'|a locale, a text" "'en', 1, 'style'|skeleton: syntax at 0" "'en', 1, 'style', 'unit'|no such option" \
     "'en', 1, 'style', 'currency'|unknown option" "'en', 1, 'minimumIntegerDigits', 22|no such numbers of digits" \
     "'en', 1, 'minimumIntegerDigits', -1|no such option" "'tlh', 1, 'notation', 'compact'|unknown locale"
-  rejects read_number "'en', '1', 'notation', 'compact'|no reader of such numbers" "'en', '1x', 'notation', 'standard'|start: syntax"
+  for digits in "'abc'" "''" 4294967298 65535 2.9 2.0 "x'32'" "'+2'" "' 2'" "CAST(x'3200' AS TEXT)"; do
+    rejects format_number "'en', 5, 'minimumFractionDigits', $digits|no such option"
+  done
+  rejects format_number "'en', 5, CAST(x'7374796c6500' AS TEXT), 'percent'|no such option" "'en', 5, 'style', x'70657263656e74'|no such option" \
+    "'en', 5, 'style', CAST(x'70657263656e7400' AS TEXT)|no such option" "'en', 5, 'useGrouping', 0|no such option" \
+    "'en', 5, 'numberingSystem', 'arab '|no such option" "'en', 5, 'numberingSystem', CAST(x'00' AS TEXT)|no such option" \
+    "'en', 5, 'numberingSystem', ''|unknown numbering system"
+  rejects read_number "'en', '1', 'notation', 'compact'|no reader of such numbers" "'en', '1x', 'notation', 'standard'|start: syntax" \
+    "'en', 'K', '1'|skeleton: no reader" "'en', 'percent/w', 'x'|skeleton: syntax at 7" "'en', '1', 'style'|skeleton: syntax at 0"
+  for value in 'zeroblob(50000000)' 'CAST(zeroblob(50000000) AS TEXT)'; do
+    found=$(sqlite3 -cmd ".load $room/fixdec" -cmd 'PRAGMA hard_heap_limit=10000000' :memory: "SELECT fixdec($value)" 2>&1)
+    [[ $found == *'out of memory'* ]]
+    judge $? "fixdec($value), with 10 MB: ${found##*$'\n'}"
+  done
+  try 'the test of memory in SQLite compiles' gcc -std=gnu11 -Wall -Wextra -Werror -g -O1 -DSQLITE_CORE -Ic \
+    c/tests/sqlite_memory.c examples/sqlite/fixdec.c c/out/libfixed_decimal.a -lsqlite3 \
+    -Wl,--wrap=malloc,--wrap=realloc -o "$room/sqlite_memory"
+  try 'each allocation of SQLite fails in turn' "$room/sqlite_memory"
 else
   missing 'sqlite3 and its headers'
 fi

@@ -1,8 +1,8 @@
 #!/usr/bin/env bash
 # Runs the built programs `fixdec`, `fixdec_lines` and `plural`, and compares standard output, standard error and the
 # status: a row for each line of an error, and words and inputs that only a real command line has; `cli_vectors` has all
-# others. `rt run` proves and builds them first, but where the gate just did. Needs bash, and prlimit of util-linux. The
-# last line is `N passed, M failed`; the status is 0 if M is 0.
+# others. tools/built.py proves and builds them first, but where the gate just did. Needs bash, and prlimit of
+# util-linux. The last line is `N passed, M failed`; the status is 0 if M is 0.
 set -u
 cd "$(dirname "$0")/.." || exit 1
 . tests/programs.sh
@@ -140,6 +140,9 @@ lines 0 '250\n7\n' $'2.50\n0.07\n' '' shift:-2
 lines 0 '1.234,565\n-7\n' $'€1,234.56\n-€7.00\n' '' read:de round:-2:half-even:1 format:en:currency/EUR
 lines 0 '\ufeffname,price\r\n"a\nb", 250 \r\n' $'\ufeffname,price\r\n"a\nb", 2.50 \r\n' '' \
   trim records header csv field:price shift:-2
+lines 0 '\ufeffprice,name\r\n250,tea\r\n' $'\ufeffprice,name\r\n2.50,tea\r\n' '' header csv field:price shift:-2
+lines 0 '\ufeff"name","price"\r\ntea,250\r\n' $'\ufeff"name","price"\r\ntea,2.50\r\n' '' \
+  header csv field:price shift:-2
 
 # Status 1: the first line that fails ends the run, or lines that fail are skipped or kept.
 lines 1 '1\nx\n2\n' $'1\n' $'line 2: start: syntax\n'
@@ -183,6 +186,20 @@ lines 0 "$names\n$(seq -s, 200)\n" "$names"$'\n'"$many"$'\n' '' header csv "${wo
 long=$(printf '%065536d' 0)x
 lines 0 "a,$long\n1,2\n" "a,$long"$'\n1,20\n' '' header csv "field:$long" shift:1
 lines 1 'a\n' '' "line 1: no field $(printf '%040d' 0)"$'\n' header csv "field:$long"
+
+# stack KIB COUNT PREFIX OPTION..: in a stack of this many KiB, the input of a row of COUNT fields, after a header of
+# their names if the prefix is not empty, is converted field by field, and each word names one field.
+stack() {
+  name="$2 fields $3N in a stack of $1 KiB"
+  { [ -z "$3" ] || seq -s, -f "$3%.0f" "$2"; seq -s, "$2"; } > "$room/in"
+  mapfile -t words < <(seq -f "field:$3%.0f" "$2")
+  (ulimit -s "$1" && exec env -i "$room/fixdec_lines" "${@:4}" "${words[@]}") > "$room/out" 2> "$room/err" < "$room/in"
+  found=$?
+  compare 0 "$(cat "$room/in")"$'\n' ''
+}
+stack 1024 12000 '' csv
+stack 1024 12000 f header csv
+stack 4096 32767 '' csv
 
 # With status 2 the input is not read.
 printf '1\n2\n' > "$room/in"
@@ -260,6 +277,7 @@ row plural 1 $'one\nother\n' $'text 3: limit\n' "$one" 1 2 1e99999 1
 row plural 2 '' $'plural: no TEXT\n'
 row plural 2 '' $'plural: a word is not UTF-8\n' "$one" $'1\xff'
 row plural 2 '' $'unknown locale: xx\n' xx 1
+row plural 2 '' $'plural: no such type: ordnial\n' en:ordnial 1
 
 # Status 3: standard output fails. A failed standard error changes no status.
 shell 3 '' $'output\n' 'plural "$one" 1 > /dev/full'

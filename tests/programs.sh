@@ -1,22 +1,20 @@
 # What the scripts share that run built programs: they source this file at the top of the repository.
 #
-# `copy_programs NAME..` copies programs to the folder $room; `rt run` proves and builds them first, but where the gate
-# just did. `judge $? NAME` counts the status of the last command, `missing NAME` says what is not run, and fails under
-# ALL=1, and `finish` prints the last line.
+# `copy_programs NAME..` copies programs to the folder $room; tools/built.py proves and builds them first, but where the
+# gate just did. `judge $? NAME` counts the status of the last command, `missing NAME` says what is not run, and fails
+# under ALL=1, and `finish` prints the last line.
 room=$(mktemp -d) || exit 1
 trap 'rm -rf "$room"' EXIT
 passed=0
 failed=0
 
 copy_programs() {
+  if ! python3 tools/built.py programs "$@"; then
+    echo "0 passed, 1 failed"
+    exit 1
+  fi
   for name in "$@"; do
-    [ -n "${BUILT_BY_GATE:-}" ] || (cd "crates/$name" && rt run) > /dev/null 2>&1 < /dev/null
-    if ! cp "crates/$name/out/$name" "$room/"; then
-      echo "the program was not built: try rt run in crates/$name"
-      echo "0 passed, 1 failed"
-      exit 1
-    fi
-    chmod +x "$room/$name"
+    cp "crates/$name/out/$name" "$room/" && chmod +x "$room/$name" || exit 1
   done
 }
 

@@ -1,8 +1,9 @@
 #!/usr/bin/env bash
 # Sets the project up as README says: makes a clone of the last commit, without built files, and runs README's first
 # command in it, which proves nothing and takes half a minute; installs the built programs, runs README's other commands
-# with them, and packs them; and runs PROGRAMS' command of GNU parallel, if that is there. `rt run` proves and builds the
-# programs first, but where the gate just did. The last line is `N passed, M failed`; the status is 0 if M is 0.
+# with them, and packs them; and runs PROGRAMS' command of GNU parallel, if that is there. tools/built.py proves and
+# builds the programs first, but where the gate just did. The last line is `N passed, M failed`; the status is 0 if M is
+# 0.
 set -u
 cd "$(dirname "$0")/.." || exit 1
 . tests/programs.sh

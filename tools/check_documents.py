@@ -49,19 +49,19 @@ def quoted(text):
 
 
 def check_names():
-    """Each name of code or path in backticks exists."""
+    """Each name of code or path in backticks exists, but for what is built."""
     words = set(FOREIGN)
     for path, text in CODE.items():
         words.update(re.findall(r"[A-Za-z_][\w'-]*|[A-Za-z_]\w*", re.sub(r"//.*|(?m:^--.*)", "", text)))
         words.update(word for name in re.findall(r"[A-Za-z_][\w'-]*", text) for word in name.split("-"))
-    words.update(word for path in FILES if path.endswith((".h", ".pyi")) for word in re.findall(r"\w+", read(path)))
+    words.update(word for path in FILES if path.endswith((".h", ".c", ".pyi")) for word in re.findall(r"\w+", read(path)))
     words.update(part.split(".")[0] for path in FILES for part in path.split("/"))
     for document in DOCUMENTS:
         for word in quoted(re.sub(r"```.*?```", "", read(document), flags=re.S)):
             if "/" in word or re.search(r"\.(rt|antt|md|py|sh|txt)$", word):
                 found = any(path.startswith(word) or f"/{word}" in f"/{path}" for path in FILES) or glob.glob(word)
-                check(found or " " in word, f"{document}: there is no file `{word}`")
-            elif NAME.fullmatch(word) and not re.match(r"\w+:[^:]|rt |git ", word):
+                check(found or " " in word or "out" in word.split("/"), f"{document}: there is no file `{word}`")
+            elif NAME.fullmatch(word) and not re.match(r"\w+:[^:]|rt |git |cargo ", word):
                 for name in re.findall(r"[A-Za-z_]\w*", word):
                     check(name in words, f"{document}: `{name}` of `{word}` is nowhere in the code")
 
@@ -73,7 +73,8 @@ def check_links():
             path = os.path.normpath(os.path.join(os.path.dirname(document), target)) if target else document
             good = os.path.exists(path)
             heads = re.findall(r"^#+ (.*)", read(path), re.M) if good and heading else []
-            good = good and (not heading or heading in [head.lower().replace(" ", "-") for head in heads])
+            anchors = [re.sub(r"[^\w -]", "", head).lower().replace(" ", "-") for head in heads]
+            good = good and (not heading or heading in anchors)
             check(good, f"{document}: the link {target}#{heading} leads nowhere")
 
 
@@ -190,20 +191,43 @@ def check_help():
     check(rows == re.findall(r"^(\S+) +(.*)", calls, re.M), f"PROGRAMS: the calls are not those of --help: {rows}")
 
 
+def check_versions():
+    """C names the version of the interface, and PROGRAMS that of the programs."""
+    interface = re.search(r"^#define FD_VERSION (\d+)$", read("c/fixed_decimal.h"), re.M)[1]
+    for text in [f"libfixed_decimal.so.{interface},", f"it is {interface}, as `FD_VERSION`"]:
+        check(text in read("docs/C.md"), f"docs/C.md: {text}")
+    version = re.search(r'const VERSION: &str = "(.*)";', CODE["crates/cli/src/help.rt"])[1]
+    check(f"`plural {version}`" in read("docs/PROGRAMS.md"), f"docs/PROGRAMS.md: `plural {version}`")
+
+
 def check_counts():
-    """The documents count lines of definitions and wrong bodies as they are, and keep to their lengths."""
+    """The documents count lines of definitions, lines of constants and wrong bodies as they are."""
     specs = [path for path in CODE if re.match(rf"crates/(?:{'|'.join(CRATES)})/specs/(?!Lib)", path)]
     edits = [path.split("/")[-2] == "must-fail" for path in FILES if path.endswith(".edit")]
     for document, counted in [
-        ("README.md", f"{lines_of(specs)}, of which `run` cites {lines_of(specs_of_run())}"),
+        ("README.md", f"{lines_of(specs)}. Of these `run` cites {lines_of(specs_of_run())}"),
         ("docs/DESIGN.md", f"{sum(edits)} of {len(edits)} are in `must-fail/`"),
+        ("docs/PROVED.md", f"{sum(CODE[path].count(chr(10)) for path in CODE if path.endswith('_table.rt')):,} lines"),
     ]:
         check(counted in re.sub(r"\s+", " ", read(document)), f"{document}: {counted}")
-    for most, documents in [(120, ["README.md"]), (130, ["docs/DESIGN.md", "docs/DECISIONS.md"])]:
-        lines = sum(read(document).count("\n") for document in documents)
-        check(lines <= most, f"{' and '.join(documents)}: {lines} lines, and at most {most} are allowed")
-    words = sum(len(read(document).split()) for document in [*DOCUMENTS, "bench/README.md", "diff/README.md"])
-    check(words <= 13_000, f"the documents have {words:,} words, and at most 13,000 are allowed")
+
+
+def check_wrong_bodies():
+    """Each text that a wrong body changes is in its file exactly once, after the changes before it."""
+    for path in FILES:
+        if not path.endswith(".edit"):
+            continue
+        crate, texts, file, old = path.split("/")[1], {}, "", ""
+        for line in read(path).splitlines():
+            word, _, rest = line.partition(": ")
+            if word == "file":
+                file = f"crates/{crate}/{rest.strip()}"
+            elif word == "old":
+                old = rest
+            elif word in ("new", "new:"):
+                text = texts.get(file, CODE.get(file, ""))
+                check(text.count(old) == 1, f"{path}: {file} has this {text.count(old)} times: {old}")
+                texts[file] = text.replace(old, rest)
 
 
 def check_modules():
@@ -256,8 +280,8 @@ def check_examples():
                         check(written == wanted, f"{document}: `{command}` writes {written!r}")
 
 
-for part in [check_names, check_links, check_quotes, check_proved, check_public, check_code, check_help, check_counts, check_modules,
-             check_examples]:
+for part in [check_names, check_links, check_quotes, check_proved, check_public, check_code, check_help, check_versions,
+             check_counts, check_wrong_bodies, check_modules, check_examples]:
     part()
 print("\n".join([*failures, f"{passes} passed, {len(failures)} failed"]))
 sys.exit(1 if failures else 0)

@@ -3,43 +3,17 @@
 #
 #     bash tools/install.sh [PREFIX]
 #
-# PREFIX is ~/.local by default. It needs the Rattle kit, whose command is `rt`; the programs need only the C library.
-# With BUILT_BY_GATE=1 it copies the programs that `rt ci` has built.
+# PREFIX is ~/.local by default; a relative one is in the current folder. With DESTDIR set they are copied to
+# DESTDIR/PREFIX/bin. It needs the Rattle kit, whose command is `rt`. The programs need Linux on x86-64 with glibc 2.34
+# or later, since the linker of the kit has no option for an older one. What the gate has built of the same sources is
+# not proved again, and with BUILT_BY_GATE=1 nothing is.
 set -eu
-prefix=${1:-$HOME/.local}
+[[ $# -le 1 && "${1:-}" != -* ]] || { echo "usage: install.sh [PREFIX]" >&2; exit 2; }
+bin=${DESTDIR:+$(realpath -ms -- "$DESTDIR")}$(realpath -ms "${1:-$HOME/.local}")/bin
 cd "$(dirname "$0")/.."
 programs="fixdec fixdec_lines plural"
-log=$(mktemp)
-trap 'rm -f "$log"' EXIT
-
-# below CRATE: the crates of the repository that a crate stands on, the lowest first, and itself.
-below() {
-  for used in $(sed -n "s/^$1: //p" crates.txt); do
-    [ ! -d "crates/$used" ] || below "$used"
-  done
-  echo "$1"
-}
-
-# build CRATE: builds a library, or runs a program without words, which builds it.
-build() {
-  case " $programs " in
-    *" $1 "*) (cd "crates/$1" && rt run) < /dev/null || [ -x "crates/$1/out/$1" ] ;;
-    *) (cd "crates/$1" && rt lib) ;;
-  esac
-}
-
-if [ -z "${BUILT_BY_GATE:-}" ]; then
-  crates=$(for program in $programs; do below "$program"; done | awk '!seen[$0]++')
-  total=$(wc -w <<< "$crates")
-  echo "proves and builds $total crates, the first time in about 15 minutes on four processors"
-  number=0
-  for crate in $crates; do
-    number=$((number + 1))
-    echo "$number of $total: $crate"
-    build "$crate" > "$log" 2>&1 || { tail -n 20 "$log" >&2; exit 1; }
-  done
-fi
+python3 tools/built.py programs $programs
 for program in $programs; do
-  install -D -m 755 "crates/$program/out/$program" "$prefix/bin/$program"
+  install -D -m 755 "crates/$program/out/$program" "$bin/$program"
 done
-echo "installed $programs in $prefix/bin"
+echo "installed $programs in $bin"

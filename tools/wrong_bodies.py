@@ -135,6 +135,7 @@ def faults_in(crate):
     os.chdir(f"crates/{crate}")
     paths = glob.glob(f"{top}/wrong_bodies/{crate}/*.edit") + glob.glob("must-fail/*.edit")
     bodies = [WrongBody(path) for path in sorted(paths)]
+    print(f"{crate}: tries {len(bodies)} wrong bodies", flush=True)
     together = [body for body in bodies if body.is_of_its_function()]
     alone = [body for body in bodies if body not in together]
     for batch in batches_of(together):

@@ -458,13 +458,14 @@ static void test_skeletons_of_options(void) {
     } rows[] = {
         {OPTIONS(MONEY("eur"), FRACTION(2, 2), .rounding_mode = FD_HALF_EVEN), "currency/EUR .00"},
         {OPTIONS(.style = FD_PERCENT, .scale = 2, FRACTION(0, 0), .rounding_mode = FD_HALF_EVEN), "%x100 ."},
+        {OPTIONS(.scale = -12000, FRACTION(0, 6), .rounding_mode = FD_HALF_EVEN), "scale/1e-12000"},
         {OPTIONS(.notation = FD_COMPACT_SHORT, .rounding_mode = FD_HALF_EVEN), "K"}};
     fd_number_options unsigned_amounts = OPTIONS(MONEY("USD"), .currency_sign = FD_ACCOUNTING, .sign_display = FD_NEVER);
     CHECK(fd_skeleton(&unsigned_amounts, (uint8_t[64]){0}, 64).status == FD_NO_SKELETON);
     for (size_t i = 0; i < sizeof rows / sizeof *rows; i++) {
         uint8_t buffer[64], first[64], second[64];
         size_t n = fd_skeleton(&rows[i].options, buffer, 0).count;
-        CHECK(fd_skeleton(&rows[i].options, buffer, n - 1).status == FD_BUFFER_TOO_SMALL && n <= strlen(rows[i].skeleton));
+        CHECK(fd_skeleton(&rows[i].options, buffer, n - 1).status == FD_BUFFER_TOO_SMALL);
         CHECK(fd_skeleton(&rows[i].options, buffer, 64).count == n);
         fd_result r = fd_format_number(B("-98765.4321"), B("de"), &rows[i].options, first, 64);
         CHECK(fd_format_by_skeleton(B("-98765.4321"), B("de"), buffer, n, second, 64).count == r.count);
@@ -641,7 +642,53 @@ static void test_read_forms(void) {
     CHECK(fd_convert(B("x"), &forms, FD_NONE(fd_call), 0, BYTES(texts), b, 64).status == FD_UNKNOWN_LOCALE);
 }
 
+/* Each kind of word, its offsets, and the zeros of what it does not use. */
+static void test_words(void) {
+    static const struct { const char *word; fd_word is; } rows[] = {
+        {"shift:-2", {.kind = FD_CALL_WORD, .call = {.kind = FD_SHIFT, .position = -2}}},
+        {"trim-start", {.kind = FD_CALL_WORD, .call = {.kind = FD_TRIM_START}}},
+        {"trim-end", {.kind = FD_CALL_WORD, .call = {.kind = FD_TRIM_END}}},
+        {"trim-end-if-integer", {.kind = FD_CALL_WORD, .call = {.kind = FD_TRIM_END_IF_INTEGER}}},
+        {"pad-start:32767", {.kind = FD_CALL_WORD, .call = {.kind = FD_PAD_START, .position = 32767}}},
+        {"pad-end:-32768", {.kind = FD_CALL_WORD, .call = {.kind = FD_PAD_END, .position = -32768}}},
+        {"max:000003", {.kind = FD_CALL_WORD, .call = {.kind = FD_MAX, .position = 3}}},
+        {"round:-2:half-even:25", {.kind = FD_CALL_WORD, .call = {FD_ROUND, FD_HALF_EVEN, 25, -2, 0, 0}}},
+        {"sign:plus", {.kind = FD_CALL_WORD, .call = {.kind = FD_SIGN, .option = FD_PLUS}}},
+        {"display:except-zero", {.kind = FD_CALL_WORD, .call = {.kind = FD_DISPLAY, .option = FD_EXCEPT_ZERO}}},
+        {"concat:", {.kind = FD_CALL_WORD, .call = {.kind = FD_CONCAT, .text_start = 7}}},
+        {"concat:a:b", {.kind = FD_CALL_WORD, .call = {.kind = FD_CONCAT, .text_start = 7, .text_count = 3}}},
+        {"read:de", {.form = {.start = 5, .count = 2}}},
+        {"read:de_CH.UTF-8:lenient", {.form = {.start = 5, .count = 11, .option = FD_LENIENT}}},
+        {"read:de:K", {.form = {.start = 5, .count = 2, .skeleton_start = 8, .skeleton_count = 1}}},
+        {"read:de:lenient:%:x", {.form = {0, 5, 2, 16, 3, FD_LENIENT}}},
+        {"read::K", {.form = {.start = 5, .skeleton_start = 6, .skeleton_count = 1}}},
+        {"format:xx", {.kind = FD_FORMAT_WORD, .form = {.start = 7, .count = 2}}},
+        {"format:en:min2", {.kind = FD_FORMAT_WORD, .form = {.start = 7, .count = 2, .option = FD_GROUP_MIN2}}},
+        {"format:en:Never", {.kind = FD_FORMAT_WORD, .form = {0, 7, 2, 10, 5, 0}}},
+        {"format:en:never:", {.kind = FD_FORMAT_WORD, .form = {0, 7, 2, 10, 6, 0}}},
+        {"read:", {.status = FD_UNKNOWN_LOCALE}}, {"read::lenient", {.status = FD_UNKNOWN_LOCALE}},
+        {"format:", {.status = FD_UNKNOWN_LOCALE}}, {"format::never", {.status = FD_UNKNOWN_LOCALE}},
+        {"", {.status = FD_UNKNOWN_CALL}}, {"read", {.status = FD_UNKNOWN_CALL}},
+        {"read:de:", {.status = FD_UNKNOWN_CALL}}, {"read:de:lenient:", {.status = FD_UNKNOWN_CALL}},
+        {"format:de:", {.status = FD_UNKNOWN_CALL}}, {"format::", {.status = FD_UNKNOWN_CALL}},
+        {"shift:4294967298", {.status = FD_UNKNOWN_CALL}}, {"shift:+2", {.status = FD_UNKNOWN_CALL}},
+        {"shift: 2", {.status = FD_UNKNOWN_CALL}}, {"shift:32768", {.status = FD_UNKNOWN_CALL}},
+        {"round:0:ceil:3", {.status = FD_UNKNOWN_CALL}}, {"concat:\xff", {.status = FD_UNKNOWN_CALL}}};
+    for (size_t i = 0; i < sizeof rows / sizeof *rows; i++) {
+        fd_word word = fd_parse_word(BYTES(rows[i].word)), is = rows[i].is;
+        CHECK(word.status == is.status && word.kind == is.kind && word.call.kind == is.call.kind);
+        CHECK(word.call.option == is.call.option && word.call.increment == is.call.increment);
+        CHECK(word.call.position == is.call.position && word.call.text_start == is.call.text_start);
+        CHECK(word.call.text_count == is.call.text_count && word.form.locale == 0 && word.form.start == is.form.start);
+        CHECK(word.form.count == is.form.count && word.form.option == is.form.option);
+        CHECK(word.form.skeleton_start == is.form.skeleton_start);
+        CHECK(word.form.skeleton_count == is.form.skeleton_count);
+    }
+    CHECK(fd_parse_word(B("trim-end\0")).status == FD_UNKNOWN_CALL);
+}
+
 int main(void) {
+    test_words();
     test_calls();
     test_errors();
     test_long_texts();

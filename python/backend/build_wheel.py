@@ -5,13 +5,16 @@ It takes the library and the header of c/, or of the folder that FIXED_DECIMAL n
 import base64
 import hashlib
 import os
+import re
 import shlex
 import subprocess
 import sysconfig
 import zipfile
 
 HERE = os.path.dirname(os.path.dirname(os.path.abspath(__file__)))
-NAME, VERSION = "fixed_decimal", "1"
+NAME = "fixed_decimal"
+with open(os.path.join(HERE, "pyproject.toml"), encoding="utf-8") as project:
+    VERSION = re.search('^version = "(.*)"$', project.read(), re.M)[1]
 
 
 def native(folder):
@@ -24,7 +27,7 @@ def native(folder):
     path = os.path.join(folder, "_native" + sysconfig.get_config_var("EXT_SUFFIX"))
     subprocess.run([
         *shlex.split(sysconfig.get_config_var("CC") or "gcc"), "-shared", "-fPIC", "-O2", "-pthread",
-        "-fvisibility=hidden",
+        "-fvisibility=hidden", f'-DFIXED_DECIMAL_VERSION="{VERSION}"',
         "-I" + home, "-I" + sysconfig.get_path("include"), os.path.join(HERE, NAME, "_native.c"), archive,
         "-Wl,--exclude-libs,ALL", "-o", path,
     ], check=True)
@@ -45,7 +48,8 @@ def build_wheel(wheel_directory, config_settings=None, metadata_directory=None):
         contents[f"{NAME}/{os.path.basename(path)}"] = binary.read()
     os.remove(path)
     contents[f"{info}/METADATA"] = f"Metadata-Version: 2.1\nName: {NAME}\nVersion: {VERSION}\n".encode()
-    contents[f"{info}/WHEEL"] = f"Wheel-Version: 1.0\nGenerator: build_wheel\nRoot-Is-Purelib: false\nTag: {tag}\n".encode()
+    wheel = f"Wheel-Version: 1.0\nGenerator: build_wheel\nRoot-Is-Purelib: false\nTag: {tag}\n"
+    contents[f"{info}/WHEEL"] = wheel.encode()
     rows = []
     for name, data in contents.items():
         digest = base64.urlsafe_b64encode(hashlib.sha256(data).digest()).rstrip(b"=").decode()

@@ -7,6 +7,8 @@ _Display = Literal["auto", "never", "always", "except-zero", "negative"]
 _Grouping = Literal["auto", "never", "always", "min2"]
 _Category = Literal["zero", "one", "two", "few", "many", "other"]
 
+__version__: str
+
 class _Options(TypedDict, total=False):
     style: str
     currency: str
@@ -46,7 +48,7 @@ class Decimal:
     @overload
     def format(self, locale: str, *, skeleton: str | None = None) -> str: ...
     @overload
-    def format(self, locale: str, **options: Unpack[_Options]) -> str: ...
+    def format(self, locale: str, *, skeleton: None = None, **options: Unpack[_Options]) -> str: ...
     @overload
     @staticmethod
     def read(text: str, locale: str, /, *, skeleton: str | None = None, lenient: bool = False) -> Decimal: ...
@@ -63,7 +65,8 @@ class Decimal:
     def __ge__(self, other: Decimal, /) -> bool: ...
 
 def column(
-    texts: Iterable[str], *calls: str, read: str | None = None, read_skeleton: str | None = None, lenient: bool = False,
-    format: str | None = None, skeleton: str | None = None, **options: Unpack[_Options],
+    texts: Iterable[str | int | decimal.Decimal | Decimal], *calls: str, read: str | None = None,
+    read_skeleton: str | None = None, lenient: bool = False, format: str | None = None, skeleton: str | None = None,
+    **options: Unpack[_Options],
 ) -> list[str]: ...
 def number_skeleton(**options: Unpack[_Options]) -> str: ...

@@ -18,6 +18,8 @@ static PyObject *decimal_error;
 #define IS_DECIMAL(object) Py_IS_TYPE(object, &DecimalType)
 #define BYTES(decimal) ((const uint8_t *)(decimal)->text), ((size_t)Py_SIZE(decimal))
 #define ROOM 128
+/* The number of bits of 10^32768: an int of more has more digits than a Decimal. */
+#define MOST_BITS 108853
 
 static const char *const reasons[] = {"", "syntax", "limit", "memory", "operand syntax", "operand limit", "overlap",
     "overflow", "", "unknown call", "unknown locale", "unknown option", "not whole", "out of range", "rules syntax",
@@ -38,11 +40,32 @@ static PyObject *fail(uint32_t status, size_t at) {
     return NULL;
 }
 
-/* The index of a word, or -1 with ValueError. */
-static int index_of(const char *const *words, const char *word, const char *what) {
-    for (int i = 0; words[i]; i++)
-        if (strcmp(words[i], word) == 0) return i;
-    PyErr_Format(PyExc_ValueError, "no such %s: %s", what, word);
+/* Raises TypeError for a value that is no str. */
+static void *fail_type(const char *what, PyObject *value) {
+    return PyErr_Format(PyExc_TypeError, "%s is a str, not %.100s", what, Py_TYPE(value)->tp_name);
+}
+
+/* The UTF-8 bytes of a str. One with a lone surrogate has none: DecimalError by the status. NULL with an exception. */
+static const uint8_t *utf8_of(PyObject *text, size_t *count, const char *what, uint32_t status) {
+    Py_ssize_t size;
+    if (!PyUnicode_Check(text)) return fail_type(what, text);
+    const char *bytes = PyUnicode_AsUTF8AndSize(text, &size);
+    if (bytes) return *count = (size_t)size, (const uint8_t *)bytes;
+    if (!PyErr_ExceptionMatches(PyExc_UnicodeEncodeError)) return NULL;
+    PyErr_Clear();
+    return fail(status, 0), NULL;
+}
+
+/* The index of a word, or -1 with an exception. */
+static int index_of(const char *const *words, PyObject *word, const char *what) {
+    Py_ssize_t count;
+    if (!PyUnicode_Check(word)) return fail_type(what, word), -1;
+    const char *bytes = PyUnicode_AsUTF8AndSize(word, &count);
+    if (!bytes && !PyErr_ExceptionMatches(PyExc_UnicodeEncodeError)) return -1;
+    for (int i = 0; bytes && words[i]; i++)
+        if (strcmp(words[i], bytes) == 0 && strlen(bytes) == (size_t)count) return i;
+    PyErr_Clear();
+    PyErr_Format(PyExc_ValueError, "no such %s: %U", what, word);
     return -1;
 }
 
@@ -69,31 +92,78 @@ static PyObject *run(const uint8_t *text, size_t count, const fd_call *calls, si
 }
 
 static PyObject *parse(PyObject *text) {
-    Py_ssize_t count;
-    const char *bytes = PyUnicode_AsUTF8AndSize(text, &count);
-    if (bytes) return run((const uint8_t *)bytes, (size_t)count, FD_NONE(fd_call), 0);
-    if (!PyErr_ExceptionMatches(PyExc_UnicodeEncodeError)) return NULL;
-    PyErr_Clear();
-    return fail(FD_SYNTAX, 0);
+    size_t count;
+    const uint8_t *bytes = utf8_of(text, &count, "a text", FD_SYNTAX);
+    return bytes ? run(bytes, count, FD_NONE(fd_call), 0) : NULL;
 }
 
-/* Of an int its digits, and of a decimal.Decimal its digits without an exponent. */
-static PyObject *parse_number(PyObject *value) {
-    PyObject *text;
-    if (PyLong_Check(value)) {
-        text = PyNumber_ToBase(value, 10);
-    } else {
-        PyObject *module = PyImport_ImportModule("decimal");
-        PyObject *type = module ? PyObject_GetAttrString(module, "Decimal") : NULL;
-        int is = type ? PyObject_IsInstance(value, type) : -1;
-        Py_XDECREF(type);
-        Py_XDECREF(module);
-        if (is < 0) return NULL;
-        if (!is) return PyErr_Format(PyExc_TypeError, "a Decimal is made from a str, an int or a decimal.Decimal");
-        PyObject *form = PyUnicode_FromString("f");
-        text = form ? PyObject_Format(value, form) : NULL;
-        Py_XDECREF(form);
+/* The digits of an int. An int with more bits than 10^32768 is rejected before its digits are made. */
+static PyObject *text_of_int(PyObject *value) {
+    int is_long;
+    PyLong_AsLongLongAndOverflow(value, &is_long);
+    if (is_long) {
+        PyObject *bits = PyObject_CallMethod((PyObject *)&PyLong_Type, "bit_length", "O", value);
+        if (!bits) return NULL;
+        size_t count = PyLong_AsSize_t(bits);
+        Py_DECREF(bits);
+        if (count == (size_t)-1 && PyErr_Occurred()) return NULL;
+        if (count > MOST_BITS) return fail(FD_LIMIT, 0);
     }
+    return PyNumber_ToBase(value, 10);
+}
+
+/* decimal.Decimal, which is imported at first use: a borrowed reference. */
+static PyObject *python_decimal(void) {
+    static PyObject *type;
+    if (!type) {
+        PyObject *module = PyImport_ImportModule("decimal");
+        PyObject *found = module ? PyObject_GetAttrString(module, "Decimal") : NULL;
+        Py_XDECREF(module);
+        if (found) Py_XSETREF(type, found);
+    }
+    return type;
+}
+
+/* Whether a decimal.Decimal is 0; -1 with an exception. */
+static int is_zero(PyObject *value) {
+    PyObject *found = PyObject_CallMethod(python_decimal(), "is_zero", "O", value);
+    int is = found ? PyObject_IsTrue(found) : -1;
+    Py_XDECREF(found);
+    return is;
+}
+
+/* The digits of a decimal.Decimal without an exponent. If its first digit is beyond the limits, it is rejected before
+ * its digits are made. A zero with a positive exponent is written as 0. The methods are those of decimal.Decimal also
+ * for a subclass: the text is that of the value. */
+static PyObject *text_of_decimal(PyObject *value) {
+    PyObject *found = PyObject_CallMethod(python_decimal(), "adjusted", "O", value);
+    if (!found) return NULL;
+    Py_ssize_t magnitude = PyLong_AsSsize_t(found);
+    Py_DECREF(found);
+    if (magnitude == -1 && PyErr_Occurred()) return NULL;
+    int is_beyond = magnitude < INT16_MIN || (magnitude > INT16_MAX && !is_zero(value));
+    if (PyErr_Occurred()) return NULL;
+    if (is_beyond) return fail(FD_LIMIT, 0);
+    return PyObject_CallMethod(python_decimal(), "__format__", "Os", value, "f");
+}
+
+/* The text of an int or a decimal.Decimal. With an index the value is in a column. NULL with an exception. */
+static PyObject *text_of_number(PyObject *value, Py_ssize_t index) {
+    if (PyLong_Check(value)) return text_of_int(value);
+    PyObject *type = python_decimal();
+    int is = type ? PyObject_IsInstance(value, type) : -1;
+    if (is < 0) return NULL;
+    if (is) return text_of_decimal(value);
+    const char *name = Py_TYPE(value)->tp_name, *advice = PyFloat_Check(value) ? ": write str(x) of a float x" : "";
+    return index < 0
+        ? PyErr_Format(PyExc_TypeError, "a Decimal is made from a str, an int or a decimal.Decimal, not %.100s%s", name,
+                       advice)
+        : PyErr_Format(PyExc_TypeError, "text %zd is a str, an int or a Decimal, not %.100s%s", index, name, advice);
+}
+
+/* The decimal of an int or a decimal.Decimal. */
+static PyObject *parse_number(PyObject *value) {
+    PyObject *text = text_of_number(value, -1);
     PyObject *made = text ? parse(text) : NULL;
     Py_XDECREF(text);
     return made;
@@ -173,16 +243,23 @@ static int position_of(PyObject *value, int16_t *position) {
     return 1;
 }
 
-/* The arguments of a method by their names; 0 with TypeError. */
+/* The arguments of a method by their names, and in a new dictionary the others, if it takes others. 0 with an
+ * exception. */
 static int bind(const char *method, const char *const *names, PyObject *const *arguments, Py_ssize_t count,
-                PyObject *keywords, PyObject **values) {
+                PyObject *keywords, PyObject **values, PyObject **others) {
     Py_ssize_t most = 0;
     while (names[most]) most++;
     if (count > most) return PyErr_Format(PyExc_TypeError, "%s() takes at most %zd arguments", method, most), 0;
     for (Py_ssize_t i = 0; i < count; i++) values[i] = arguments[i];
     for (Py_ssize_t i = 0; keywords && i < PyTuple_GET_SIZE(keywords); i++) {
+        PyObject *name = PyTuple_GET_ITEM(keywords, i);
         Py_ssize_t at = 0;
-        while (at < most && PyUnicode_CompareWithASCIIString(PyTuple_GET_ITEM(keywords, i), names[at])) at++;
+        while (at < most && PyUnicode_CompareWithASCIIString(name, names[at])) at++;
+        if (at == most && others) {
+            if (!*others && !(*others = PyDict_New())) return 0;
+            if (PyDict_SetItem(*others, name, arguments[count + i]) < 0) return 0;
+            continue;
+        }
         if (at == most || values[at]) return PyErr_Format(PyExc_TypeError, "%s() has no such argument", method), 0;
         values[at] = arguments[count + i];
     }
@@ -193,12 +270,11 @@ static int bind(const char *method, const char *const *names, PyObject *const *a
 static PyObject *decimal_round(Decimal *self, PyObject *const *arguments, Py_ssize_t count, PyObject *keywords) {
     static const char *const names[] = {"position", "mode", "increment", NULL};
     PyObject *values[3] = {NULL, NULL, NULL};
-    if (!bind("round", names, arguments, count, keywords, values)) return NULL;
+    if (!bind("round", names, arguments, count, keywords, values, NULL)) return NULL;
     fd_call call = {.kind = FD_ROUND, .option = FD_HALF_EVEN, .increment = 1};
     if (!position_of(values[0], &call.position)) return NULL;
     if (values[1]) {
-        const char *word = PyUnicode_AsUTF8(values[1]);
-        int mode = word ? index_of(modes, word, "mode") : -1;
+        int mode = index_of(modes, values[1], "mode");
         if (mode < 0) return NULL;
         call.option = (uint8_t)mode;
     }
@@ -237,31 +313,35 @@ static PyObject *decimal_pad(Decimal *self, PyObject *arguments, PyObject *keywo
 }
 
 static PyObject *decimal_sign(Decimal *self, PyObject *value) {
-    const char *word = PyUnicode_AsUTF8(value);
-    int display = word ? index_of(displays, word, "display of a sign") : -1;
+    int display = index_of(displays, value, "display of a sign");
     fd_call call = {.kind = FD_DISPLAY, .option = (uint8_t)display};
     return display < 0 ? NULL : run(BYTES(self), &call, 1);
 }
 
-/* The number of the locale of a tag; 0 with an error. That of the last tag is kept. */
+/* The number of the locale of a tag; 0 with an exception. The last tag is kept with its number. Only an exact str is
+ * kept: releasing an instance of a subclass may run code that calls this function. */
 static uint64_t locale_of(PyObject *tag) {
     static PyObject *last;
     static uint64_t number;
     if (tag == last) return number;
-    Py_ssize_t count;
-    const char *bytes = PyUnicode_AsUTF8AndSize(tag, &count);
+    size_t count;
+    const uint8_t *bytes = utf8_of(tag, &count, "a locale", FD_UNKNOWN_LOCALE);
     if (!bytes) return 0;
-    fd_unsigned answer = fd_locale((const uint8_t *)bytes, (size_t)count);
+    fd_unsigned answer = fd_locale(bytes, count);
     if (answer.status != FD_OK) return fail(answer.status, answer.at), 0;
-    number = answer.value;
-    Py_XSETREF(last, Py_NewRef(tag));
-    return number;
+    if (PyUnicode_CheckExact(tag)) {
+        PyObject *before = last;
+        last = Py_NewRef(tag);
+        number = answer.value;
+        Py_XDECREF(before);
+    }
+    return answer.value;
 }
 
 /* How a number is written: a tag, and a skeleton or, without one, options. */
 typedef struct {
     const uint8_t *tag, *skeleton;
-    Py_ssize_t tag_count, skeleton_count;
+    size_t tag_count, skeleton_count;
     fd_number_options options;
 } Style;
 
@@ -277,56 +357,69 @@ static int options_of(PyObject *value, fd_number_options *options) {
 
 /* Reads a style from a tag, and a skeleton or the bytes of options. 0 with an exception. */
 static int bind_style(PyObject *tag, PyObject *value, Style *style) {
-    style->tag = (const uint8_t *)PyUnicode_AsUTF8AndSize(tag, &style->tag_count);
+    style->tag = utf8_of(tag, &style->tag_count, "a locale", FD_UNKNOWN_LOCALE);
     style->skeleton = NULL;
     if (!style->tag) return 0;
     if (PyBytes_Check(value)) return options_of(value, &style->options);
-    style->skeleton = (const uint8_t *)PyUnicode_AsUTF8AndSize(value, &style->skeleton_count);
+    style->skeleton = utf8_of(value, &style->skeleton_count, "a skeleton", FD_SKELETON_SYNTAX);
     return style->skeleton != NULL;
 }
 
-/* What a text is formatted by: a style, or forms without one. */
+/* What a text is formatted by: a style; or without one forms, after a call if there is one. */
 typedef struct {
     const Style *style;
     fd_forms forms;
+    fd_call call;
+    size_t call_count;
 } Format;
 
 static fd_result format_into(const Decimal *self, const Format *format, uint8_t *buffer, size_t room) {
     const Style *style = format->style;
-    if (!style) return fd_convert(BYTES(self), &format->forms, FD_NONE(fd_call), 0, FD_NONE(uint8_t), 0, buffer, room);
+    if (!style)
+        return fd_convert(BYTES(self), &format->forms, &format->call, format->call_count, FD_NONE(uint8_t), 0, buffer,
+                          room);
     return style->skeleton
-        ? fd_format_by_skeleton(BYTES(self), style->tag, (size_t)style->tag_count, style->skeleton,
-                                (size_t)style->skeleton_count, buffer, room)
-        : fd_format_number(BYTES(self), style->tag, (size_t)style->tag_count, &style->options, buffer, room);
+        ? fd_format_by_skeleton(BYTES(self), style->tag, style->tag_count, style->skeleton, style->skeleton_count,
+                                buffer, room)
+        : fd_format_number(BYTES(self), style->tag, style->tag_count, &style->options, buffer, room);
 }
 
-/* A function of fixed_decimal._options: a new reference. */
-static PyObject *option_function(const char *name) {
+/* The result of a function of fixed_decimal._options, by keywords. */
+static PyObject *option_function(const char *name, PyObject *keywords) {
     PyObject *module = PyImport_ImportModule("fixed_decimal._options");
     PyObject *function = module ? PyObject_GetAttrString(module, name) : NULL;
+    PyObject *made = function ? PyObject_VectorcallDict(function, NULL, 0, keywords) : NULL;
+    Py_XDECREF(function);
     Py_XDECREF(module);
-    return function;
+    return made;
 }
 
-/* The arguments of format(): a locale, and a grouping, a skeleton, or options by their names in ECMA-402, of which
- * fixed_decimal._options makes bytes. 0 with an exception; the last value is a new reference or NULL. */
-static int bind_format(PyObject *const *arguments, Py_ssize_t count, PyObject *keywords, PyObject **values) {
-    static const char *const names[] = {"locale", "grouping", "skeleton", NULL};
-    Py_ssize_t named = keywords ? PyTuple_GET_SIZE(keywords) : 0, own = 0;
-    for (Py_ssize_t i = 0; i < named; i++)
-        for (int k = 0; names[k]; k++) own += !PyUnicode_CompareWithASCIIString(PyTuple_GET_ITEM(keywords, i), names[k]);
-    if (own == named || count != 1) {
-        if (!bind("format", names, arguments, count, keywords, values)) return 0;
-        if (values[1] && values[2] && values[2] != Py_None)
-            return PyErr_SetString(PyExc_TypeError, "format() takes a grouping or a skeleton"), 0;
-        values[2] = values[2] == Py_None ? NULL : Py_XNewRef(values[2]);
-        return 1;
-    }
-    values[0] = arguments[0];
-    PyObject *function = option_function("number_options");
-    values[2] = function ? PyObject_Vectorcall(function, arguments + 1, 0, keywords) : NULL;
-    Py_XDECREF(function);
-    return values[2] != NULL;
+/* Whether options name only the grouping and the sign, so that nothing is rounded. */
+static int is_plain(PyObject *options) {
+    Py_ssize_t at = 0;
+    PyObject *name, *value;
+    while (PyDict_Next(options, &at, &name, &value))
+        if (PyUnicode_CompareWithASCIIString(name, "use_grouping") &&
+            PyUnicode_CompareWithASCIIString(name, "sign_display"))
+            return 0;
+    return 1;
+}
+
+/* Reads options that round nothing: the grouping, and a call if they name the sign. 0 with an exception. */
+static int bind_plain(PyObject *options, uint8_t *grouping, fd_call *call, size_t *call_count) {
+    fd_number_options found;
+    PyObject *bytes = option_function("number_options", options);
+    int is_bound = bytes && options_of(bytes, &found);
+    Py_XDECREF(bytes);
+    if (!is_bound) return 0;
+    PyObject *sign = PyUnicode_FromString("sign_display");
+    int has_sign = sign ? PyDict_Contains(options, sign) : -1;
+    Py_XDECREF(sign);
+    if (has_sign < 0) return 0;
+    *grouping = found.grouping;
+    *call = (fd_call){.kind = FD_DISPLAY, .option = found.sign_display};
+    *call_count = (size_t)has_sign;
+    return 1;
 }
 
 /* The text, as format_into writes it. */
@@ -349,42 +442,63 @@ static PyObject *formatted(const Decimal *self, const Format *format) {
     }
 }
 
-static PyObject *decimal_format(Decimal *self, PyObject *const *arguments, Py_ssize_t count, PyObject *keywords) {
-    PyObject *values[3] = {NULL, NULL, NULL}, *made = NULL;
-    if (!bind_format(arguments, count, keywords, values)) return NULL;
-    Format format = {.forms.format.option = FD_GROUP_AUTO};
+/* The text by a locale, and a skeleton or the bytes of options. */
+static PyObject *formatted_by_style(const Decimal *self, PyObject *locale, PyObject *value) {
     Style style;
-    if (values[2]) {
-        format.style = &style;
-        if (bind_style(values[0], values[2], &style)) made = formatted(self, &format);
-        Py_DECREF(values[2]);
-        return made;
+    Format format = {.style = &style};
+    return bind_style(locale, value, &style) ? formatted(self, &format) : NULL;
+}
+
+/* The text by a locale, and a grouping or options that round nothing, or neither. */
+static PyObject *formatted_plainly(const Decimal *self, PyObject *locale, PyObject *grouping, PyObject *options) {
+    Format format = {.forms.format.option = FD_GROUP_AUTO};
+    fd_form *form = &format.forms.format;
+    if (grouping) {
+        int found = index_of(groupings, grouping, "grouping");
+        if (found < 0) return NULL;
+        form->option = (uint8_t)found;
     }
-    if (values[1]) {
-        const char *word = PyUnicode_AsUTF8(values[1]);
-        int grouping = word ? index_of(groupings, word, "grouping") : -1;
-        if (grouping < 0) return NULL;
-        format.forms.format.option = (uint8_t)grouping;
+    if (options && !bind_plain(options, &form->option, &format.call, &format.call_count)) return NULL;
+    form->locale = locale_of(locale);
+    return form->locale ? formatted(self, &format) : NULL;
+}
+
+/* The arguments: a locale, and a grouping, a skeleton, or options by their names in ECMA-402. */
+static PyObject *decimal_format(Decimal *self, PyObject *const *arguments, Py_ssize_t count, PyObject *keywords) {
+    static const char *const names[] = {"locale", "grouping", "skeleton", NULL};
+    PyObject *values[3] = {NULL, NULL, NULL}, *options = NULL, *made = NULL;
+    if (!bind("format", names, arguments, count, keywords, values, &options)) return Py_XDECREF(options), NULL;
+    PyObject *skeleton = values[2] == Py_None ? NULL : values[2];
+    if (!!values[1] + !!skeleton + !!options > 1) {
+        PyErr_SetString(PyExc_TypeError, "format() takes a grouping, a skeleton or options");
+    } else if (skeleton) {
+        made = PyUnicode_Check(skeleton) ? formatted_by_style(self, values[0], skeleton)
+                                         : fail_type("a skeleton", skeleton);
+    } else if (options && !is_plain(options)) {
+        PyObject *bytes = option_function("number_options", options);
+        if (bytes) made = formatted_by_style(self, values[0], bytes);
+        Py_XDECREF(bytes);
+    } else {
+        made = formatted_plainly(self, values[0], values[1], options);
     }
-    format.forms.format.locale = locale_of(values[0]);
-    return format.forms.format.locale ? formatted(self, &format) : NULL;
+    Py_XDECREF(options);
+    return made;
 }
 
 /* A text to be read. */
 typedef struct {
-    const char *text;
-    Py_ssize_t count;
+    const uint8_t *text;
+    size_t count;
     Style style;
     int lenient;
 } Number;
 
 static fd_result read_into(const Number *number, uint8_t *buffer, size_t room) {
     const Style *style = &number->style;
-    const uint8_t *text = (const uint8_t *)number->text;
     return style->skeleton
-        ? fd_read_by_skeleton(text, (size_t)number->count, style->tag, (size_t)style->tag_count, style->skeleton,
-                              (size_t)style->skeleton_count, (uint32_t)number->lenient, buffer, room)
-        : fd_read_number(text, (size_t)number->count, style->tag, (size_t)style->tag_count, &style->options,
+        ? fd_read_by_skeleton(number->text, number->count, style->tag, style->tag_count, style->skeleton,
+                              style->skeleton_count, (uint32_t)number->lenient, buffer, room)
+        : fd_read_number(number->text, number->count, style->tag, style->tag_count, &style->options,
                          (uint32_t)number->lenient, buffer, room);
 }
 
@@ -404,41 +518,92 @@ static PyObject *read_number(const Number *number) {
 /* The arguments: a text, a locale, and by their names those of fixed_decimal._options.reading. */
 static PyObject *decimal_read(PyObject *ignored, PyObject *arguments, PyObject *keywords) {
     Number number;
-    PyObject *tag, *style;
+    PyObject *text, *tag, *style, *made = NULL;
     (void)ignored;
-    if (!PyArg_ParseTuple(arguments, "s#U:read", &number.text, &number.count, &tag)) return NULL;
-    PyObject *function = option_function("reading"), *none = PyTuple_New(0), *made = NULL;
-    PyObject *reading = function && none ? PyObject_Call(function, none, keywords) : NULL;
+    if (!PyArg_ParseTuple(arguments, "OO:read", &text, &tag)) return NULL;
+    number.text = utf8_of(text, &number.count, "a text", FD_SYNTAX);
+    if (!number.text) return NULL;
+    PyObject *reading = option_function("reading", keywords);
     if (reading && PyArg_ParseTuple(reading, "Op", &style, &number.lenient) && bind_style(tag, style, &number.style))
         made = read_number(&number);
     Py_XDECREF(reading);
-    Py_XDECREF(none);
-    Py_XDECREF(function);
     return made;
 }
 
 /* By a locale, as `pl` or `en:ordinal`, or by rules in CLDR's syntax. */
 static PyObject *decimal_plural(Decimal *self, PyObject *value) {
-    Py_ssize_t count;
-    const uint8_t *word = (const uint8_t *)PyUnicode_AsUTF8AndSize(value, &count);
+    size_t count;
+    const uint8_t *word = utf8_of(value, &count, "a locale", FD_RULES_SYNTAX);
     if (!word) return NULL;
-    fd_unsigned rules = fd_rules(word, (size_t)count);
+    fd_unsigned rules = fd_rules(word, count);
     if (rules.status != FD_OK) return fail(rules.status, rules.at);
-    fd_number answer = rules.value ? fd_category_of(rules.value, BYTES(self))
-                                   : fd_category(word, (size_t)count, BYTES(self));
+    fd_number answer = rules.value ? fd_category_of(rules.value, BYTES(self)) : fd_category(word, count, BYTES(self));
     return answer.status == FD_OK ? PyUnicode_FromString(categories[answer.value]) : fail(answer.status, answer.at);
 }
 
-/* As Python's own decimals answer a format specification; without one, as of any object, the text. */
+/* How a text is padded to a width; with the alignment '=' the fill is between the sign and the digits. */
+typedef struct {
+    Py_UCS4 fill, alignment;
+    Py_ssize_t width;
+} Padding;
+
+static int is_alignment(PyObject *text, Py_ssize_t at) {
+    Py_UCS4 found = at < PyUnicode_GET_LENGTH(text) ? PyUnicode_READ_CHAR(text, at) : 0;
+    return found == '<' || found == '>' || found == '=' || found == '^';
+}
+
+/* Reads a specification that has only a fill, an alignment and a width; the defaults are those of numbers. Returns 0
+ * for any other specification. */
+static int padding_of(PyObject *specification, Padding *padding) {
+    *padding = (Padding){.fill = ' ', .alignment = '>'};
+    Py_ssize_t size = PyUnicode_GET_LENGTH(specification), at = 0;
+    if (is_alignment(specification, 1)) {
+        padding->fill = PyUnicode_READ_CHAR(specification, 0);
+        padding->alignment = PyUnicode_READ_CHAR(specification, 1);
+        at = 2;
+    } else if (is_alignment(specification, 0)) {
+        padding->alignment = PyUnicode_READ_CHAR(specification, 0);
+        at = 1;
+    } else if (size && PyUnicode_READ_CHAR(specification, 0) == '0') {
+        padding->fill = '0', padding->alignment = '=';
+        at = 1;
+    }
+    if (at < size && PyUnicode_READ_CHAR(specification, at) == '0') return 0;
+    for (; at < size; at++) {
+        Py_UCS4 digit = PyUnicode_READ_CHAR(specification, at) - '0';
+        if (digit > 9 || padding->width > (PY_SSIZE_T_MAX - 9) / 10) return 0;
+        padding->width = 10 * padding->width + (Py_ssize_t)digit;
+    }
+    return 1;
+}
+
+static PyObject *padded(Decimal *self, const Padding *padding) {
+    Py_ssize_t count = Py_SIZE(self), more = padding->width - count, before = more;
+    if (more <= 0) return decimal_str(self);
+    Py_ssize_t sign = padding->alignment == '=' && (self->text[0] == '-' || self->text[0] == '+');
+    if (padding->alignment == '<') before = 0;
+    if (padding->alignment == '^') before = more / 2;
+    PyObject *made = PyUnicode_New(padding->width, padding->fill > 127 ? padding->fill : 127);
+    if (!made) return NULL;
+    for (Py_ssize_t at = 0; at < count; at++)
+        PyUnicode_WRITE(PyUnicode_KIND(made), PyUnicode_DATA(made), at < sign ? at : before + at, self->text[at]);
+    if (PyUnicode_Fill(made, sign, before, padding->fill) < 0 ||
+        PyUnicode_Fill(made, before + count, more - before, padding->fill) < 0)
+        Py_CLEAR(made);
+    return made;
+}
+
+/* Pads the text if the specification has only a fill, an alignment and a width; otherwise formats as decimal.Decimal
+ * does. */
 static PyObject *decimal_dunder_format(Decimal *self, PyObject *specification) {
-    if (PyUnicode_CheckExact(specification) && PyUnicode_GET_LENGTH(specification) == 0) return decimal_str(self);
-    PyObject *module = PyImport_ImportModule("decimal");
-    PyObject *text = decimal_str(self);
-    PyObject *value = module && text ? PyObject_CallMethod(module, "Decimal", "O", text) : NULL;
+    Padding padding;
+    if (!PyUnicode_Check(specification)) return fail_type("a specification", specification);
+    if (padding_of(specification, &padding)) return padded(self, &padding);
+    PyObject *text = decimal_str(self), *type = text ? python_decimal() : NULL;
+    PyObject *value = type ? PyObject_CallFunctionObjArgs(type, text, NULL) : NULL;
     PyObject *made = value ? PyObject_Format(value, specification) : NULL;
     Py_XDECREF(value);
     Py_XDECREF(text);
-    Py_XDECREF(module);
     return made;
 }
 
@@ -451,20 +616,19 @@ static PyObject *decimal_reduce(Decimal *self, PyObject *ignored) {
 #define BLOCK_TEXTS 16384
 #define MOST_BLOCKS 17
 
-/* What a column does with each text. */
-typedef struct {
-    fd_forms forms;
-    const fd_call *calls;
-    size_t call_count;
-    const uint8_t *texts;
-    size_t texts_count;
-} Work;
-
 /* Bytes that grow. */
 typedef struct {
     char *bytes;
     size_t count, room;
 } Buffer;
+
+/* What a column does with each text, and the texts of its forms and calls, one after another. */
+typedef struct {
+    fd_forms forms;
+    fd_call *calls;
+    size_t call_count;
+    Buffer texts;
+} Work;
 
 /* Texts of a column from an index on, as lines, and the lines of their results. */
 typedef struct {
@@ -478,7 +642,7 @@ typedef struct {
 } Block;
 
 /* Makes room for a number of bytes more; 0 if out of memory. */
-static int reserve(Buffer *buffer, size_t more) {
+static inline int reserve(Buffer *buffer, size_t more) {
     if (more <= buffer->room - buffer->count) return 1;
     size_t room = 2 * buffer->room + more;
     char *bytes = PyMem_RawRealloc(buffer->bytes, room);
@@ -488,20 +652,79 @@ static int reserve(Buffer *buffer, size_t more) {
     return 1;
 }
 
+/* Appends bytes; 0 with MemoryError. */
+static inline int append(Buffer *buffer, const void *bytes, size_t count) {
+    if (!reserve(buffer, count + 1)) return PyErr_NoMemory(), 0;
+    memcpy(buffer->bytes + buffer->count, bytes, count);
+    buffer->count += count;
+    return 1;
+}
+
+/* Sets the line of the raised DecimalError; other exceptions stay as they are. */
+static void set_line(size_t index) {
+    PyObject *type, *value, *trace;
+    PyErr_Fetch(&type, &value, &trace);
+    PyErr_NormalizeException(&type, &value, &trace);
+    int is_own = PyErr_GivenExceptionMatches(type, decimal_error);
+    PyObject *line = is_own ? PyLong_FromSize_t(index) : NULL;
+    int is_set = line && PyObject_SetAttrString(value, "line", line) == 0;
+    Py_XDECREF(line);
+    if (is_set || !is_own) {
+        PyErr_Restore(type, value, trace);
+    } else {
+        Py_XDECREF(type), Py_XDECREF(value), Py_XDECREF(trace);
+    }
+}
+
+/* Raises MemoryError, or DecimalError, with the index of the text if the error is one of a text: up to FD_OVERFLOW. */
+static int fail_at(uint32_t status, size_t at, size_t index) {
+    fail(status, at);
+    if (status <= FD_OVERFLOW) set_line(index);
+    return 0;
+}
+
+/* Appends a line; 0 with an exception. */
+static inline int append_line(Buffer *input, const void *bytes, size_t count, Py_ssize_t index) {
+    if (memchr(bytes, '\n', count)) return PyErr_Format(PyExc_ValueError, "text %zd has a line feed", index), 0;
+    if (!append(input, bytes, count)) return 0;
+    input->bytes[input->count++] = '\n';
+    return 1;
+}
+
+/* Appends the line of a str; 0 with an exception. */
+static inline int append_str(Buffer *input, PyObject *text, Py_ssize_t index) {
+    Py_ssize_t count;
+    const char *bytes = PyUnicode_AsUTF8AndSize(text, &count);
+    if (bytes) return append_line(input, bytes, (size_t)count, index);
+    if (!PyErr_ExceptionMatches(PyExc_UnicodeEncodeError)) return 0;
+    PyErr_Clear();
+    return fail_at(FD_SYNTAX, 0, (size_t)index);
+}
+
+/* Appends the line of a number, as Decimal() makes it; 0 with an exception. This may run Python code. */
+static int append_number(Block *block, PyObject *value, Py_ssize_t index) {
+    Buffer *input = &block->input;
+    if (block->work->forms.read.count)
+        return PyErr_Format(PyExc_TypeError, "text %zd is read by a locale: it is a str, not %.100s", index,
+                            Py_TYPE(value)->tp_name), 0;
+    if (IS_DECIMAL(value)) return append_line(input, ((Decimal *)value)->text, (size_t)Py_SIZE(value), index);
+    Py_INCREF(value);
+    PyObject *text = text_of_number(value, index);
+    Py_DECREF(value);
+    int is_appended = text && append_str(input, text, index);
+    Py_XDECREF(text);
+    if (!text) set_line((size_t)index);
+    return is_appended;
+}
+
 /* Makes lines of the next texts of a list; 0 with an exception at the first that is none, which ends the lines. */
 static int fill(Block *block, PyObject *list, Py_ssize_t size) {
-    Py_ssize_t end = size - block->first < BLOCK_TEXTS ? size : block->first + BLOCK_TEXTS, count;
-    Buffer *input = &block->input;
-    input->count = 0;
-    if (PyList_GET_SIZE(list) != size) return PyErr_SetString(PyExc_RuntimeError, "the list has changed"), 0;
+    Py_ssize_t end = size - block->first < BLOCK_TEXTS ? size : block->first + BLOCK_TEXTS;
+    block->input.count = 0;
     for (Py_ssize_t i = block->first; i < end; i++) {
-        const char *text = PyUnicode_AsUTF8AndSize(PyList_GET_ITEM(list, i), &count);
-        if (!text) return 0;
-        if (memchr(text, '\n', (size_t)count)) return PyErr_Format(PyExc_ValueError, "text %zd has a line feed", i), 0;
-        if (!reserve(input, (size_t)count + 1)) return PyErr_NoMemory(), 0;
-        memcpy(input->bytes + input->count, text, (size_t)count);
-        input->count += (size_t)count;
-        input->bytes[input->count++] = '\n';
+        if (PyList_GET_SIZE(list) != size) return PyErr_SetString(PyExc_RuntimeError, "the list has changed"), 0;
+        PyObject *text = PyList_GET_ITEM(list, i);
+        if (!(PyUnicode_Check(text) ? append_str(&block->input, text, i) : append_number(block, text, i))) return 0;
     }
     return 1;
 }
@@ -512,13 +735,14 @@ static void *convert(void *argument) {
     const Work *work = block->work;
     Buffer *output = &block->output;
     const uint8_t *input = block->input.bytes ? (const uint8_t *)block->input.bytes : FD_NONE(uint8_t);
+    const uint8_t *texts = work->texts.bytes ? (const uint8_t *)work->texts.bytes : FD_NONE(uint8_t);
     size_t read = 0;
     output->count = block->converted = 0;
     for (size_t more = block->input.count + 64;; more *= 2) {
         block->answer = (fd_column){.status = FD_MEMORY};
         if (!reserve(output, more)) return NULL;
         block->answer = fd_lines(input + read, block->input.count - read, 0, &work->forms, work->calls,
-                                 work->call_count, work->texts, work->texts_count,
+                                 work->call_count, texts, work->texts.count,
                                  (uint8_t *)output->bytes + output->count, output->room - output->count);
         read += block->answer.read;
         output->count += block->answer.written;
@@ -537,21 +761,11 @@ static void start(Block *block, int is_only) {
     Py_END_ALLOW_THREADS
 }
 
-/* Raises DecimalError with the index of the text, or MemoryError. */
-static void fail_at(const Block *block) {
-    fail(block->answer.status, block->answer.at);
-    if (block->answer.status == FD_MEMORY) return;
-    PyObject *type, *value, *trace, *index = PyLong_FromSize_t((size_t)block->first + block->converted);
-    PyErr_Fetch(&type, &value, &trace);
-    PyErr_NormalizeException(&type, &value, &trace);
-    if (index && value) PyObject_SetAttrString(value, "line", index);
-    Py_XDECREF(index);
-    PyErr_Restore(type, value, trace);
-}
-
 /* Puts the results of a converted block into a list; 0 with an exception. Only with a format are they not ASCII. */
 static int take_results(const Block *block, PyObject *made) {
-    if (block->answer.status != FD_OK) return fail_at(block), 0;
+    const fd_column *answer = &block->answer;
+    if (answer->status != FD_OK)
+        return fail_at(answer->status, answer->at, (size_t)block->first + block->converted);
     const char *bytes = block->output.bytes, *end = bytes + block->output.count;
     int is_ascii = block->work->forms.format.count == 0;
     for (Py_ssize_t i = block->first; bytes < end; i++) {
@@ -584,6 +798,7 @@ static PyObject *convert_list(PyObject *list, Block *blocks, size_t count) {
     while (made && !type && (next < size || next == 0)) {
         Block *block = &blocks[turn++ % count];
         finish(block, &made);
+        if (made && PyErr_CheckSignals() < 0) Py_CLEAR(made);
         if (!made) break;
         block->first = next;
         next += BLOCK_TEXTS;
@@ -601,41 +816,91 @@ static PyObject *convert_list(PyObject *list, Block *blocks, size_t count) {
     return made;
 }
 
-/* column(list of str, calls, texts, lenient, bytes of the tag to read by, of its skeleton, and of both to format by) */
-static PyObject *native_column(PyObject *module, PyObject *arguments) {
-    PyObject *list, *made;
-    const char *calls, *texts;
-    Py_ssize_t calls_size, texts_size, counts[4];
-    int lenient;
-    (void)module;
-    if (!PyArg_ParseTuple(arguments, "O!y#y#pnnnn", &PyList_Type, &list, &calls, &calls_size, &texts, &texts_size,
-                          &lenient, &counts[0], &counts[1], &counts[2], &counts[3]))
-        return NULL;
-    fd_call *aligned = PyMem_Malloc((size_t)calls_size + 1);
+/* Reads a form: a tag or None, and a skeleton or None. The empty skeleton is passed as white space, since no bytes mean
+ * no skeleton. 0 with an exception. */
+static int bind_form(Buffer *texts, PyObject *tag, PyObject *skeleton, fd_form *form) {
+    const uint8_t *bytes;
+    if (tag != Py_None) {
+        if (!(bytes = utf8_of(tag, &form->count, "a locale", FD_UNKNOWN_LOCALE))) return 0;
+        if (!form->count) return fail(FD_UNKNOWN_LOCALE, 0), 0;
+        form->start = texts->count;
+        if (!append(texts, bytes, form->count)) return 0;
+    }
+    if (skeleton == Py_None) return 1;
+    if (!(bytes = utf8_of(skeleton, &form->skeleton_count, "a skeleton", FD_SKELETON_SYNTAX))) return 0;
+    if (!form->skeleton_count) bytes = (const uint8_t *)" ", form->skeleton_count = 1;
+    form->skeleton_start = texts->count;
+    return append(texts, bytes, form->skeleton_count);
+}
+
+/* Reads the form of the results: a tag or None, and a skeleton or None, or options. 0 with an exception. */
+static int bind_results(Work *work, PyObject *tag, PyObject *skeleton, PyObject *options) {
+    fd_form *form = &work->forms.format;
+    if (!PyDict_GET_SIZE(options)) return bind_form(&work->texts, tag, skeleton, form);
+    if (skeleton != Py_None) return PyErr_SetString(PyExc_TypeError, "column() takes a skeleton or options"), 0;
+    if (is_plain(options)) {
+        fd_call *call = work->calls + work->call_count;
+        size_t count;
+        if (!bind_plain(options, &form->option, call, &count)) return 0;
+        work->call_count += count;
+        return tag == Py_None ? (fail(FD_UNKNOWN_LOCALE, 0), 0) : bind_form(&work->texts, tag, Py_None, form);
+    }
+    PyObject *found = option_function("number_skeleton", options);
+    int is_bound = found && bind_form(&work->texts, tag, found, form);
+    Py_XDECREF(found);
+    return is_bound;
+}
+
+/* Reads the word of a call, as the programs do; 0 with an exception. */
+static int bind_call(Work *work, PyObject *word) {
+    Py_ssize_t count = 0;
+    if (!PyUnicode_Check(word)) return fail_type("a call", word), 0;
+    const char *bytes = PyUnicode_AsUTF8AndSize(word, &count);
+    if (!bytes && !PyErr_ExceptionMatches(PyExc_UnicodeEncodeError)) return 0;
+    if (!bytes) PyErr_Clear();
+    fd_word found = {.status = FD_UNKNOWN_CALL};
+    if (bytes && !memchr(bytes, 0, (size_t)count)) found = fd_parse_word((const uint8_t *)bytes, (size_t)count);
+    if (found.status != FD_OK || found.kind != FD_CALL_WORD)
+        return PyErr_Format(PyExc_ValueError, "no such call: %U", word), 0;
+    found.call.text_start += work->texts.count;
+    work->calls[work->call_count++] = found.call;
+    return append(&work->texts, bytes, (size_t)count);
+}
+
+/* Converts the texts of a list by blocks, in as many threads as there are processors. */
+static PyObject *convert_by_blocks(PyObject *list, const Work *work) {
     Block *blocks = PyMem_Calloc(MOST_BLOCKS, sizeof(Block));
-    if (aligned && blocks) {
-        memcpy(aligned, calls, (size_t)calls_size);
-        Work work = {.calls = aligned, .call_count = (size_t)calls_size / sizeof(fd_call),
-                     .texts = (const uint8_t *)texts, .texts_count = (size_t)texts_size};
-        fd_form *forms[2] = {&work.forms.read, &work.forms.format};
-        for (size_t i = 0, start = 0; i < 2; i++) {
-            forms[i]->start = start, forms[i]->count = (size_t)counts[2 * i];
-            forms[i]->skeleton_start = start += forms[i]->count;
-            start += forms[i]->skeleton_count = (size_t)counts[2 * i + 1];
-        }
-        work.forms.read.option = lenient ? FD_LENIENT : FD_STRICT;
-        for (size_t i = 0; i < MOST_BLOCKS; i++) blocks[i].work = &work;
-        long processors = sysconf(_SC_NPROCESSORS_ONLN);
-        made = convert_list(list, blocks, processors < 1 ? 1 : processors < MOST_BLOCKS ? processors + 1 : MOST_BLOCKS);
-        for (size_t i = 0; i < MOST_BLOCKS; i++) {
-            PyMem_RawFree(blocks[i].input.bytes);
-            PyMem_RawFree(blocks[i].output.bytes);
-        }
-    } else {
-        made = PyErr_NoMemory();
+    if (!blocks) return PyErr_NoMemory();
+    for (size_t i = 0; i < MOST_BLOCKS; i++) blocks[i].work = work;
+    long processors = sysconf(_SC_NPROCESSORS_ONLN);
+    size_t count = processors < 1 ? 1 : processors < MOST_BLOCKS ? (size_t)processors + 1 : MOST_BLOCKS;
+    PyObject *made = convert_list(list, blocks, count);
+    for (size_t i = 0; i < MOST_BLOCKS; i++) {
+        PyMem_RawFree(blocks[i].input.bytes);
+        PyMem_RawFree(blocks[i].output.bytes);
     }
     PyMem_Free(blocks);
-    PyMem_Free(aligned);
+    return made;
+}
+
+/* column(list, words of calls, read, read_skeleton, lenient, format, skeleton, options) */
+static PyObject *native_column(PyObject *module, PyObject *arguments) {
+    PyObject *list, *words, *read, *read_skeleton, *format, *skeleton, *options, *made = NULL;
+    int is_lenient;
+    (void)module;
+    if (!PyArg_ParseTuple(arguments, "O!O!OOpOOO!", &PyList_Type, &list, &PyTuple_Type, &words, &read, &read_skeleton,
+                          &is_lenient, &format, &skeleton, &PyDict_Type, &options))
+        return NULL;
+    Py_ssize_t count = PyTuple_GET_SIZE(words), at = 0;
+    Work work = {.calls = PyMem_Calloc((size_t)count + 1, sizeof(fd_call))};
+    if (!work.calls) return PyErr_NoMemory();
+    while (at < count && bind_call(&work, PyTuple_GET_ITEM(words, at))) at++;
+    work.forms.read.option = is_lenient ? FD_LENIENT : FD_STRICT;
+    if (at == count && bind_form(&work.texts, read, read_skeleton, &work.forms.read) &&
+        bind_results(&work, format, skeleton, options))
+        made = convert_by_blocks(list, &work);
+    PyMem_RawFree(work.texts.bytes);
+    PyMem_Free(work.calls);
     return made;
 }
 
@@ -650,27 +915,75 @@ static PyObject *native_skeleton(PyObject *ignored, PyObject *value) {
     return PyUnicode_DecodeUTF8((char *)buffer, (Py_ssize_t)answer.count, NULL);
 }
 
+PyDoc_STRVAR(round_text, "round($self, /, position, mode='half-even', increment=1)\n--\n\n"
+"Rounds to a multiple of increment * 10^position. The increment is 1, 2, 5 or 25.\n\n"
+">>> Decimal('1234.565').round(-2)\nDecimal('1234.56')\n"
+">>> Decimal('1234.565').round(-2, 'half-expand')\nDecimal('1234.57')\n"
+">>> Decimal('113').round(0, increment=25)\nDecimal('125')\n");
+PyDoc_STRVAR(shift_text, "shift($self, power, /)\n--\n\n"
+"Multiplies by a power of ten.\n\n"
+">>> Decimal('250').shift(-2)\nDecimal('2.50')\n");
+PyDoc_STRVAR(trim_text, "trim($self, /)\n--\n\n"
+"Removes leading zeros, and trailing zeros of the fraction.\n\n"
+">>> Decimal('007.50').trim()\nDecimal('7.5')\n");
+PyDoc_STRVAR(pad_text, "pad($self, /, start=0, end=0)\n--\n\n"
+"Shows zeros below the position start, and down to the position end.\n\n"
+">>> Decimal('42').pad(4, -2)\nDecimal('0042.00')\n");
+PyDoc_STRVAR(sign_text, "sign($self, display, /)\n--\n\n"
+"Sets the sign that a display shows: auto, never, always, except-zero or negative.\n\n"
+">>> Decimal('5').sign('always')\nDecimal('+5')\n");
+PyDoc_STRVAR(compare_text, "compare($self, other, /)\n--\n\n"
+"Returns the order of two numbers: -1, 0 or 1.\n\n"
+">>> Decimal('1.0').compare(Decimal('1'))\n0\n");
+PyDoc_STRVAR(format_text, "format($self, /, locale, grouping='auto', skeleton=None, **options)\n--\n\n"
+"Returns the text in the form of a locale.\n\n"
+">>> Decimal('1234567.50').format('de')\n'1.234.567,50'\n"
+">>> Decimal('1234567.50').format('de', grouping='never')\n'1234567,50'\n\n"
+"A skeleton is a number skeleton of ICU:\n\n"
+">>> Decimal('-1234.5').format('es', skeleton='KK')\n'-1,2 mil'\n\n"
+"Options have the names, the words and the defaults of Intl.NumberFormat (ECMA-402), so at most three fraction\n"
+"digits are shown:\n\n"
+">>> Decimal('0.12345').format('de', style='decimal')\n'0,123'\n"
+">>> Decimal('0.12345').format('de', maximum_fraction_digits=4)\n'0,1235'\n\n"
+"With no options but use_grouping and sign_display all digits and zeros stay, as without options:\n\n"
+">>> Decimal('1234.56780').format('de', use_grouping=False, sign_display='always')\n'+1234,56780'\n");
+PyDoc_STRVAR(read_text, "read(text, locale, /, *, skeleton=None, lenient=False, **options)\n--\n\n"
+"Reads a number as format() writes it by these arguments; or, if lenient, as people type it.\n\n"
+">>> Decimal.read('1.234,50', 'de')\nDecimal('1234.50')\n"
+">>> Decimal.read('EUR 1.234,5', 'de', style='currency', currency='EUR', lenient=True)\nDecimal('1234.5')\n");
+PyDoc_STRVAR(plural_text, "plural($self, locale_or_rules, /)\n--\n\n"
+"Returns the plural category by a locale, or by rules in CLDR's syntax.\n\n"
+">>> Decimal('2').plural('ru'), Decimal('22').plural('en:ordinal')\n('few', 'two')\n"
+">>> Decimal('1.0').plural('one: i = 1 and v = 0')\n'other'\n");
+PyDoc_STRVAR(dunder_format_text, "__format__($self, specification, /)\n--\n\n"
+"Pads the text if the specification has only a fill, an alignment and a width; otherwise formats as\n"
+"decimal.Decimal does.\n\n"
+">>> f\"{Decimal('007.50'):>8}\"\n'  007.50'\n"
+">>> f\"{Decimal('-7.50'):0=8}\"\n'-0007.50'\n"
+">>> f\"{Decimal('1234.565'):,.2f}\"\n'1,234.56'\n");
+PyDoc_STRVAR(class_text, "Decimal(value='0', /)\n--\n\n"
+"An immutable decimal, with its zeros as written. It is made from a str, an int or a decimal.Decimal.\n\n"
+">>> Decimal('007.50')\nDecimal('007.50')\n"
+">>> Decimal('1.0') == Decimal('1'), Decimal('1.0') <= Decimal('1')\n(False, True)\n");
+
+#define FUNCTION(name) ((PyCFunction)(void (*)(void))(name))
 static PyMethodDef decimal_methods[] = {
-    {"round", (PyCFunction)(void (*)(void))decimal_round, METH_FASTCALL | METH_KEYWORDS,
-     "Rounds to a multiple of increment * 10^position."},
-    {"shift", (PyCFunction)decimal_shift, METH_O, "Multiplies by a power of ten."},
-    {"trim", (PyCFunction)decimal_trim, METH_NOARGS, "Removes leading zeros, and trailing zeros of the fraction."},
-    {"pad", (PyCFunction)(void (*)(void))decimal_pad, METH_VARARGS | METH_KEYWORDS,
-     "Shows zeros below the position start, and down to the position end."},
-    {"sign", (PyCFunction)decimal_sign, METH_O, "Sets the sign that a display shows."},
-    {"compare", (PyCFunction)decimal_compare, METH_O, "Returns the order of two numbers: -1, 0 or 1."},
-    {"format", (PyCFunction)(void (*)(void))decimal_format, METH_FASTCALL | METH_KEYWORDS,
-     "Returns the text in the form of a locale: by its separators, a number skeleton of ICU, or options of ECMA-402."},
-    {"read", (PyCFunction)(void (*)(void))decimal_read, METH_STATIC | METH_VARARGS | METH_KEYWORDS,
-     "Reads a number as format() writes it by these options; or, if lenient, as people type it."},
-    {"plural", (PyCFunction)decimal_plural, METH_O, "Returns the plural category by a locale, or by rules in CLDR's syntax."},
-    {"__format__", (PyCFunction)decimal_dunder_format, METH_O, "Formats as decimal.Decimal does."},
-    {"__reduce__", (PyCFunction)decimal_reduce, METH_NOARGS, NULL},
+    {"round", FUNCTION(decimal_round), METH_FASTCALL | METH_KEYWORDS, round_text},
+    {"shift", FUNCTION(decimal_shift), METH_O, shift_text},
+    {"trim", FUNCTION(decimal_trim), METH_NOARGS, trim_text},
+    {"pad", FUNCTION(decimal_pad), METH_VARARGS | METH_KEYWORDS, pad_text},
+    {"sign", FUNCTION(decimal_sign), METH_O, sign_text},
+    {"compare", FUNCTION(decimal_compare), METH_O, compare_text},
+    {"format", FUNCTION(decimal_format), METH_FASTCALL | METH_KEYWORDS, format_text},
+    {"read", FUNCTION(decimal_read), METH_STATIC | METH_VARARGS | METH_KEYWORDS, read_text},
+    {"plural", FUNCTION(decimal_plural), METH_O, plural_text},
+    {"__format__", FUNCTION(decimal_dunder_format), METH_O, dunder_format_text},
+    {"__reduce__", FUNCTION(decimal_reduce), METH_NOARGS, NULL},
     {NULL, NULL, 0, NULL}};
 
 static PyTypeObject DecimalType = {
     PyVarObject_HEAD_INIT(NULL, 0).tp_name = "fixed_decimal.Decimal",
-    .tp_doc = "An immutable decimal, with its zeros as written.",
+    .tp_doc = class_text,
     .tp_basicsize = sizeof(Decimal),
     .tp_itemsize = 1,
     .tp_flags = Py_TPFLAGS_DEFAULT,
@@ -696,6 +1009,8 @@ PyMODINIT_FUNC PyInit__native(void) {
     Py_XDECREF(errors);
     if (!decimal_error || PyType_Ready(&DecimalType) < 0) return NULL;
     PyObject *module = PyModule_Create(&definition);
-    if (module && PyModule_AddObjectRef(module, "Decimal", (PyObject *)&DecimalType) < 0) Py_CLEAR(module);
+    if (module && (PyModule_AddObjectRef(module, "Decimal", (PyObject *)&DecimalType) < 0 ||
+                   PyModule_AddStringConstant(module, "__version__", FIXED_DECIMAL_VERSION) < 0))
+        Py_CLEAR(module);
     return module;
 }

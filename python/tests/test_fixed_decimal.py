@@ -1,16 +1,28 @@
-"""The module beside Python's decimal: `python3 test_fixed_decimal.py [CASES]`. Prints `N passed, M failed` last."""
+"""The module beside Python's decimal: `python3 test_fixed_decimal.py [CASES]`. Prints `N passed, M failed` last.
+
+A test that this python cannot run is a line `not run: ..`.
+"""
+import ast
 import decimal
+import doctest
+import functools
+import importlib.metadata
+import inspect
 import os
 import pickle
 import random
 import re
+import signal
 import sys
+import time
 
+import fixed_decimal
 from fixed_decimal import Decimal, DecimalError, column, number_skeleton
 
 MODES = {  # those that decimal has
-    "ceil": decimal.ROUND_CEILING, "floor": decimal.ROUND_FLOOR, "expand": decimal.ROUND_UP, "trunc": decimal.ROUND_DOWN,
-    "half-even": decimal.ROUND_HALF_EVEN, "half-expand": decimal.ROUND_HALF_UP, "half-trunc": decimal.ROUND_HALF_DOWN,
+    "ceil": decimal.ROUND_CEILING, "floor": decimal.ROUND_FLOOR, "expand": decimal.ROUND_UP,
+    "trunc": decimal.ROUND_DOWN, "half-even": decimal.ROUND_HALF_EVEN, "half-expand": decimal.ROUND_HALF_UP,
+    "half-trunc": decimal.ROUND_HALF_DOWN,
 }
 CONTEXT = decimal.Context(prec=400, Emin=-999999, Emax=999999, traps=[decimal.InvalidOperation])
 passed, failures = 0, []
@@ -24,13 +36,14 @@ def check(good, *case):
         failures.append(case)
 
 
-def raises(error, call, reason=None):
+def raises(error, call, reason=None, text=None):
     try:
         call()
     except error as found:
         check(reason is None or found.reason == reason, error, reason, found)
+        check(text is None or str(found) == text, error, text, found)
     else:
-        check(False, error, reason)
+        check(False, error, reason, text)
 
 
 def random_text(rng):
@@ -66,9 +79,8 @@ def test_random(cases):
         check(decimal.Decimal(str(ours.shift(power))) == CONTEXT.scaleb(theirs, power), text, power)
         check(decimal.Decimal(str(ours.trim())) == theirs and str(ours.trim()).strip("-") not in ("", "."), text)
         check(decimal.Decimal(str(ours.pad(9, -9))) == theirs, text)
-        specification = rng.choice((".2f", ",", ",.3f", "+.1f", "020.4f", "e", ".3%", "*>30", ""))
-        check(format(ours, specification) == (format(theirs, specification) if specification else str(ours)), text,
-              specification)
+        specification = rng.choice((".2f", ",", ",.3f", "+.1f", "020.4f", "e", ".3%", "+12", "<+9"))
+        check(format(ours, specification) == format(theirs, specification), text, specification)
 
 
 def test_other_modes(cases):
@@ -83,6 +95,85 @@ def test_other_modes(cases):
             check(decimal.Decimal(str(Decimal(text).round(position, mode))) == want, text, position, mode)
 
 
+def test_padding(cases):
+    """A specification that has only a fill, an alignment and a width pads the text, as a number."""
+    rng = random.Random(10)
+    for _ in range(cases):
+        width, fill = rng.randint(1, 60), rng.choice("*x0 é€😀<=")
+        text = random_text(rng)
+        if text[0] != "-" and rng.random() < 0.2:
+            text = "+" + text
+        sign = text[: text[0] in "+-"]
+        rows = [
+            ("", text), (f"{width}", text.rjust(width)), (f"0{width}", text.zfill(width)), ("0", text), ("<", text),
+            (f">{width}", text.rjust(width)), (f"<{width}", text.ljust(width)),
+            (f"{fill}>{width}", text.rjust(width, fill)), (f"{fill}<{width}", text.ljust(width, fill)),
+            (f"{fill}^{width}", format(text, f"{fill}^{width}")), (f"^{width}", format(text, f"^{width}")),
+            (f"{fill}={width}", sign + text[len(sign):].rjust(width - len(sign), fill)),
+        ]
+        for specification, want in rows:
+            found = format(Decimal(text), specification)
+            check(found == want, text, specification, found)
+            if str(decimal.Decimal(text)) == text:
+                check(format(decimal.Decimal(text), specification) == want, text, specification, "decimal")
+    for bad in ("<06", "006", "6x", "de", "6" * 30, "x", "<<<6"):
+        raises((ValueError, OverflowError), lambda: format(decimal.Decimal(1), bad))
+        raises((ValueError, OverflowError), lambda: format(Decimal(1), bad))
+    raises(TypeError, lambda: Decimal(1).__format__(6))
+
+
+def test_numbers(cases):
+    """An int or a decimal.Decimal is as its text without an exponent, or beyond the limit at once."""
+    rng = random.Random(11)
+    for _ in range(cases):
+        digits = tuple(rng.randrange(10) for _ in range(rng.choice((1, 2, 9, 30))))
+        exponent = rng.choice((0, 0, rng.randint(-40, 40), rng.randint(-33000, -32700), rng.randint(32700, 33000)))
+        value = decimal.Decimal((rng.randrange(2), digits, exponent))
+        whole, _, part = format(value, "f").lstrip("-").partition(".")
+        if len(whole) > 32768 or len(part) > 32768:
+            raises(DecimalError, lambda: Decimal(value), "limit")
+        else:
+            check(str(Decimal(value)) == format(value, "f"), value)
+        number = rng.randint(-(10 ** rng.randint(1, 400)), 10**20)
+        check(str(Decimal(number)) == str(number), number)
+    check(str(Decimal(decimal.Decimal("1.50"))) == "1.50", "trailing zeros")
+    for text, want in (("0E+999999999", "0"), ("-0E+999999999", "-0"), ("0E+32768", "0"), ("1E-2", "0.01"),
+                       ("0E-32768", "0." + "0" * 32768), ("1E+32767", "1" + "0" * 32767)):
+        check(str(Decimal(decimal.Decimal(text))) == want, text)
+    for text in ("NaN", "-NaN", "sNaN", "NaN12", "Infinity", "-Infinity"):
+        raises(DecimalError, lambda: Decimal(decimal.Decimal(text)), "syntax")
+    class Disguised(decimal.Decimal):
+        """A decimal.Decimal whose methods speak of another number."""
+
+        def __format__(self, specification):
+            return "9"
+
+        def adjusted(self):
+            return 0
+
+        def is_zero(self):
+            return True
+
+    check(column([Disguised("-1.50")]) == [str(Decimal(Disguised("-1.50")))] == ["-1.50"], "a subclass is its value")
+    raises(DecimalError, lambda: Decimal(Disguised("1E+99999999")), "limit")
+    start = time.process_time()
+    for text in ("1E+999999999", "-1E+999999999", "1E-999999999", "0E-999999999", "0E-32769", "1E+32768"):
+        raises(DecimalError, lambda: Decimal(decimal.Decimal(text)), "limit")
+    huge = 1 << 332192810  # more than 10^8 digits
+    for value in (huge, -huge, type("Whole", (int,), {"bit_length": lambda self: 1})(huge)):
+        raises(DecimalError, lambda: Decimal(value), "limit")
+        raises(DecimalError, lambda: column([5, value]), "limit", "line 1: limit")
+    check(time.process_time() - start < 2, "at once", time.process_time() - start)
+    if hasattr(sys, "set_int_max_str_digits"):
+        before = sys.get_int_max_str_digits()
+        raises(ValueError, lambda: Decimal(10**5000))
+        sys.set_int_max_str_digits(0)
+        check(str(Decimal(1 - 10**32768)) == "-" + "9" * 32768, "the greatest int")
+        for value in (10**32768, -(10**32768), (1 << 108853) - 1, 1 << 108853):
+            raises(DecimalError, lambda: Decimal(value), "limit")
+        sys.set_int_max_str_digits(before)
+
+
 def test_class():
     rows = [
         (str(Decimal()), "0"), (str(Decimal("1e3")), "1000"), (str(Decimal(-250)), "-250"), (str(Decimal(True)), "1"),
@@ -95,7 +186,8 @@ def test_class():
         (Decimal("1234567.5").format("en-IN"), "12,34,567.5"), (Decimal("1234.5").format("de"), "1.234,5"),
         (Decimal("1234.5").format("de", grouping="never"), "1234,5"), (Decimal("1234").format("hi-u-nu-deva"), "१,२३४"),
         (Decimal("1").plural("one: i = 1 and v = 0"), "one"), (Decimal("1.0").plural("one: i = 1 and v = 0"), "other"),
-        (Decimal("2").plural("ru"), "few"), (Decimal("22").plural("en:ordinal"), "two"), (Decimal("1").plural("ja"), "other"),
+        (Decimal("2").plural("ru"), "few"), (Decimal("22").plural("en:ordinal"), "two"),
+        (Decimal("1").plural("ja"), "other"),
         (Decimal("1.0").plural("en_GB.UTF-8:cardinal"), "other"), (Decimal("1").plural("other:"), "other"),
         (Decimal("1234567").format("de", skeleton="currency/INR"), "1.234.567,00\xa0₹"),
         (Decimal("-1234.5").format("es", skeleton="KK"), "-1,2 mil"),
@@ -126,19 +218,33 @@ def test_class():
         (ValueError, lambda: Decimal("1").round(0, "up")), (OverflowError, lambda: Decimal("1").shift(40000)),
         (TypeError, lambda: Decimal("1").round()), (TypeError, lambda: Decimal("1").round(0, places=1)),
         (ValueError, lambda: Decimal("1").format("de", "some")), (ValueError, lambda: Decimal("1").sign("plus")),
+        (ValueError, lambda: Decimal("1").round(0, "ceil\0junk")), (ValueError, lambda: Decimal("1").sign("always\0")),
+        (ValueError, lambda: Decimal("1").format("de", "never\0")), (ValueError, lambda: Decimal("1").sign("\udcff")),
+        (TypeError, lambda: Decimal("1").round(0, None)), (TypeError, lambda: Decimal("1").sign(b"always")),
+        (TypeError, lambda: Decimal("1").format("de", "auto", style="percent")),
+        (TypeError, lambda: Decimal("1").format(style="percent")), (TypeError, lambda: Decimal("1").format("de", None)),
+        (TypeError, lambda: Decimal("1").format("de", skeleton=b" " * 44)),
+        (TypeError, lambda: Decimal.read("1", "de", skeleton=b" " * 44)),
+        (TypeError, lambda: column(["1"], skeleton=b"K")),
     ):
         raises(error, call)
+    raises(TypeError, lambda: Decimal(1.5),
+           text="a Decimal is made from a str, an int or a decimal.Decimal, not float: write str(x) of a float x")
     raises(DecimalError, lambda: Decimal("1").format("tlh", skeleton="percent"), "unknown locale")
     raises(DecimalError, lambda: Decimal("1").format("tlh", skeleton="percent/w"), "skeleton syntax")
     raises(DecimalError, lambda: Decimal("1").format("en", skeleton="measure-unit/length-foot"), "skeleton unsupported")
     raises(TypeError, lambda: Decimal("1").format("en", "auto", "percent"))
     raises(DecimalError, lambda: Decimal("1").format("tlh"), "unknown locale")
     raises(DecimalError, lambda: Decimal.read("1", "tlh"), "unknown locale")
+    raises(DecimalError, lambda: Decimal.read("\ud800", "de"), "syntax")
     raises(DecimalError, lambda: Decimal.read("1", "de", skeleton="percent/w"), "skeleton syntax")
     raises(DecimalError, lambda: Decimal.read("1 Mio.", "de", notation="compact"), "unreadable format")
     raises(DecimalError, lambda: Decimal.read("EUR 1", "de", skeleton="currency/EUR"), "syntax")
     raises(TypeError, lambda: Decimal.read("1", "de", skeleton="percent", style="percent"))
     raises(TypeError, lambda: Decimal.read("1"))
+    raises(TypeError, lambda: Decimal.read(b"1", "de"), text="a text is a str, not bytes")
+    raises(TypeError, lambda: Decimal.read(Decimal("1"), "de"), text="a text is a str, not fixed_decimal.Decimal")
+    raises(TypeError, lambda: Decimal.read("1", None), text="a locale is a str, not NoneType")
     raises(DecimalError, lambda: Decimal("1").format(""), "unknown locale")
     raises(DecimalError, lambda: Decimal("10").shift(32767), "overflow")
     raises(DecimalError, lambda: Decimal("1").round(0, increment=3), "unknown call")
@@ -150,6 +256,63 @@ def test_class():
     raises(TypeError, lambda: Decimal("1").format())
     raises(TypeError, lambda: Decimal("1").format("de", locale="de"))
     raises(TypeError, lambda: Decimal("1").format(1))
+    raises(DecimalError, lambda: Decimal("1").format("\ud800"), "unknown locale")
+    raises(DecimalError, lambda: Decimal("1").plural("\ud800"), "rules syntax")
+    check(Decimal("0.5").format(locale="de", style="percent") == "50\xa0%", "a locale by keyword, and options")
+    check(Decimal("0.5").format(locale="de", skeleton="percent") == "0,5\xa0%", "a locale by keyword, and a skeleton")
+    check(Decimal("0.5").format("de", skeleton=None, style="percent") == "50\xa0%", "no skeleton, and options")
+
+
+def test_kept_locale():
+    """The kept tag is that of its number, also if the end of a str formats."""
+
+    class Tag(str):
+        def __del__(self):
+            Decimal("1234.5").format("en")
+
+    wants = {"de": "1.234,5", "en": "1,234.5", "fr": "1\u202f234,5"}
+    for first in wants:
+        for second in wants:
+            tag = Tag(first)
+            check(Decimal("1234.5").format(tag) == wants[first], first)
+            del tag
+            check([Decimal("1234.5").format(second) for _ in range(2)] == [wants[second]] * 2, first, second)
+
+
+def test_version():
+    changes = os.path.join(os.path.dirname(os.path.abspath(__file__)), "../../CHANGELOG.md")
+    with open(changes, encoding="utf-8") as file:
+        newest = re.search(r"^## \[(\d\S*)\]", file.read(), re.M)[1]
+    found = fixed_decimal.__version__, importlib.metadata.version("fixed_decimal")
+    check(found == (newest, newest), "the version", found, newest)
+
+
+def test_stub():
+    """The stub has the public names of the module and of its class, with their parameters."""
+    with open(os.path.join(os.path.dirname(fixed_decimal.__file__), "__init__.pyi"), encoding="utf-8") as file:
+        tree = ast.parse(file.read())
+    classes = {node.name: node.body for node in tree.body if isinstance(node, ast.ClassDef)}
+    for home, body in ((fixed_decimal, tree.body), (Decimal, classes["Decimal"])):
+        stubs = {}
+        for node in body:
+            if isinstance(node, ast.FunctionDef) and not node.name.startswith("__"):
+                found = node.args.posonlyargs + node.args.args + node.args.kwonlyargs
+                found += [it for it in (node.args.vararg, node.args.kwarg) if it]
+                stubs.setdefault(node.name, set()).update(it.arg for it in found)
+        for name, parameters in stubs.items():
+            check(set(inspect.signature(getattr(home, name)).parameters) == parameters, "the stub of", name, parameters)
+        own = [name for name, value in vars(home).items() if callable(value) and not name.startswith("_")]
+        check(set(own) - classes.keys() <= stubs.keys(), "the stub", home, own)
+    names = [name for name in vars(fixed_decimal) if name in fixed_decimal.__all__]
+    check(set(names) == set(fixed_decimal.__all__), "__all__", names)
+
+
+def test_examples():
+    """Those of the docstrings."""
+    for module in (fixed_decimal, fixed_decimal._errors, fixed_decimal._options):
+        found = doctest.testmod(module, extraglobs={"column": column})
+        check(found.failed == 0 and found.attempted > 0, "examples", module, found)
+    check(doctest.testmod(fixed_decimal).attempted > 25, "the examples of Decimal")
 
 
 def test_options():
@@ -157,21 +320,31 @@ def test_options():
     rows = os.path.join(os.path.dirname(os.path.abspath(__file__)), "../../crates/vectors/stdin")
     with open(rows, encoding="utf-8") as file:
         rows = [row for line in file if len(row := line.rstrip("\n").split("\t")) == 4
-                and ("=" in row[1] or not row[1]) and not re.search(r"[*]|\b(?:check|scale)=", line)]
+                and ("=" in row[1] or not row[1]) and not re.search(r"[*]|\b(?:check|scale|integer|fraction)=", line)]
     check(len(rows) > 7000, len(rows))
+    plain = 0
     for locale, words, number, text in rows:
         options = {}
         for word in words.split():
             name, value = word.split("=")
             value = int(value) if value.isdigit() else {"true": True, "false": False}.get(value, value)
             options[re.sub("[A-Z]", lambda capital: "_" + capital[0].lower(), name)] = value
-        found = Decimal(number).format(locale, **options or {"style": "decimal"})
+        found = Decimal(number).format(locale, **{"style": "decimal", **options})
         check(found == text, locale, words, number, found, text)
+        # Without rounding it is the same if nothing is rounded, and no zeros are dropped.
+        has_own_digits = re.fullmatch(r"-?(0|[1-9]\d*)(\.\d{0,2}[1-9])?", number)
+        if has_own_digits and options.keys() <= {"use_grouping", "sign_display"}:
+            plain += 1
+            check(Decimal(number).format(locale, **options) == text, locale, words, number, text)
+            check(column([number], format=locale, **options) == [text], locale, words, number, text)
+    check(plain > 300, "rows that are not rounded", plain)
     money = {"style": "currency", "currency": "EUR"}
     check(Decimal("1234.5").format("de", **money) == "1.234,50\xa0€", "an amount")
     check(column(["1234.5"], format="de", **money) == ["1.234,50\xa0€"], "a column of amounts")
     check(number_skeleton(rounding_mode="half-even") == number_skeleton(rounding_mode="halfEven"), "words with hyphens")
     check(number_skeleton(rounding_mode="halfEven", **money) == "currency/EUR", "a skeleton")
+    check(number_skeleton(notation="compact", sign_display="negative") == "compact-short rounding-mode-half-up sign-negative",
+          "the words of ICU's normal form")
     check(Decimal.read("1.234,50\xa0€", "de", **money) == Decimal("1234.50"), "an amount is read")
     check(Decimal.read("EUR 5", "de", lenient=True, **money) == Decimal("5"), "an amount is read leniently")
     unsigned = {"style": "currency", "currency": "USD", "currency_sign": "accounting", "sign_display": "never"}
@@ -179,11 +352,55 @@ def test_options():
     raises(DecimalError, lambda: number_skeleton(**unsigned), "no skeleton")
     check(Decimal("1234.5").format("en", numbering_system="arab") == "١٬٢٣٤٫٥", "a numbering system")
     raises(DecimalError, lambda: Decimal("1").format("en", numbering_system="roman"), "unknown numbering system")
-    for error, wrong in ((ValueError, {"style": "unit"}), (ValueError, {"style": "currency"}), (TypeError, {"unit": "meter"}),
-                         (ValueError, {"minimum_fraction_digits": 3, "maximum_fraction_digits": 2}),
-                         (ValueError, {"maximum_significant_digits": 22}), (TypeError, {"style": "percent", "skeleton": "K"}),
-                         (ValueError, {"rounding_increment": 5, "maximum_fraction_digits": 2})):
-        raises(error, lambda: Decimal("1").format("de", **wrong))
+    for wrong in ({"style": "unit"}, {"style": "currency"}, {"compact_display": "wide"}, {"currency": "EURO"},
+                  {"numbering_system": "arab\n"}, {"style": "percent\0"}, {"style": "\ud800"},
+                  {"minimum_fraction_digits": -1},
+                  {"maximum_significant_digits": 22}, {"minimum_fraction_digits": 65535},
+                  {"minimum_fraction_digits": 3, "maximum_fraction_digits": 2},
+                  {"rounding_increment": 5, "maximum_fraction_digits": 2}):
+        raises(ValueError, lambda: Decimal("1").format("de", **wrong))
+    for wrong in ({"unit": "meter"}, {"style": "percent", "skeleton": "K"}, {"style": None}, {"style": []},
+                  {"currency": b"EUR"}, {"maximum_fraction_digits": "2"}):
+        raises(TypeError, lambda: Decimal("1").format("de", **wrong))
+
+
+def test_plain_options():
+    """Options that only say the groups and the sign round nothing, and drop no zeros."""
+    for number, options, want in (
+        ("1234.56780", {"use_grouping": False}, "1234,56780"), ("1234.56780", {"use_grouping": True}, "1.234,56780"),
+        ("+5", {"use_grouping": "min2"}, "+5"), ("0.00001234", {"sign_display": "always"}, "+0,00001234"),
+        ("-0.00", {"sign_display": "never"}, "0,00"), ("0.00", {"sign_display": "exceptZero"}, "0,00"),
+        ("-1234.50", {"use_grouping": False, "sign_display": "never"}, "1234,50"),
+        ("007.10", {"use_grouping": False}, "007,10"),
+        ("1234.56780", {"use_grouping": False, "style": "decimal"}, "1234,568"),
+        ("1234.56780", {"use_grouping": False, "maximum_fraction_digits": 1}, "1234,6"),
+    ):
+        found = Decimal(number).format("de", **options), column([number], format="de", **options)
+        check(found == (want, [want]), number, options, want, found)
+    check(column(["5"], "shift:3", format="de", sign_display="always") == ["+5.000"], "calls, and a sign")
+    for wrong in ({"use_grouping": 1}, {"use_grouping": 0}, {"use_grouping": 1.0}, {"use_grouping": None},
+                  {"sign_display": True}):
+        raises(TypeError, lambda: Decimal("1").format("de", **wrong))
+        raises(TypeError, lambda: column(["1"], format="de", **wrong))
+    raises(ValueError, lambda: Decimal("1").format("de", sign_display="plus"))
+    raises(DecimalError, lambda: column(["1"], use_grouping=False), "unknown locale")
+    raises(TypeError, lambda: column(["1"], format="de", skeleton="K", use_grouping=False))
+
+
+def test_types_of_options():
+    """An option has a type: what is equal to a number of digits is none, whether that is used before or after."""
+    for style in ("percent", "decimal"):
+        for count in (2, 3):
+            for wrong in (float(count), complex(count), decimal.Decimal(count), str(count)):
+                options = {"style": style, "minimum_fraction_digits": wrong}
+                raises(TypeError, lambda: Decimal("5").format("de", **options))
+                raises(TypeError, lambda: number_skeleton(**options))
+                raises(TypeError, lambda: Decimal.read("5", "de", **options))
+                right = Decimal("5").format("de", style=style, minimum_fraction_digits=count)
+                check(right == ("500," + "0" * count + "\xa0%" if style == "percent" else "5," + "0" * count), right)
+                raises(TypeError, lambda: Decimal("5").format("de", **options))
+                raises(TypeError, lambda: number_skeleton(**options))
+                raises(TypeError, lambda: Decimal.read("5", "de", **options))
 
 
 def test_column(cases):
@@ -197,7 +414,8 @@ def test_column(cases):
     check(column(["1.234,5", "7"], read="de", format="en-IN") == ["1,234.5", "7"], "read")
     check(column(["1.234,5\xa0€"], "shift:2", read="de", read_skeleton="currency/EUR") == ["123450"], "read amounts")
     check(column(["EUR 5", "7"], read="de", read_skeleton="currency/EUR", lenient=True) == ["5", "7"], "read leniently")
-    check(column(["12.5%"], read="en", read_skeleton="%x100", format="de", skeleton="%x100 .0") == ["12,5\xa0%"], "both")
+    both = {"read_skeleton": "%x100", "skeleton": "%x100 .0"}
+    check(column(["12.5%"], read="en", format="de", **both) == ["12,5\xa0%"], "both")
     check(column(["1 234,5"], read="fr", lenient=True) == ["1234.5"], "lenient")
     check(column(["12", "7"], "concat:0.5", "concat:0.005") == ["12.505", "7.505"], "operands")
     check(column(["1"] * 5, "pad-end:-32768") == ["1." + "0" * 32768] * 5, "long")
@@ -205,7 +423,8 @@ def test_column(cases):
     for error, call in (
         (ValueError, lambda: column(["1\n2"])), (ValueError, lambda: column(["1"], "round")),
         (ValueError, lambda: column(["1"], "trim-end:1")), (ValueError, lambda: column(["1"], "shift:99999")),
-        (ValueError, lambda: column(["1"], "no")), (TypeError, lambda: column([1])),
+        (ValueError, lambda: column(["1"], "no")), (TypeError, lambda: column(["1"], 5)),
+        (TypeError, lambda: column(["1"], format=b"de")), (TypeError, lambda: column(["1"], read=5)),
     ):
         raises(error, call)
     raises(DecimalError, lambda: column(["1"], read="tlh"), "unknown locale")
@@ -221,15 +440,160 @@ def test_column(cases):
         except DecimalError as error:
             check((error.reason, error.line) == ("syntax", before), error.reason, error.line)
     raises(ValueError, lambda: column(["1"] * 50000 + ["1\n2", "x"]))
+    # The error has the number of the text, if it is the text that fails.
+    raises(DecimalError, lambda: column(["1", "2", "x"]), "syntax", "line 2: syntax")
+    raises(DecimalError, lambda: column(["1", "10"], "shift:32767"), "overflow", "line 1: overflow")
+    raises(DecimalError, lambda: column(["1", "\udcff"]), "syntax", "line 1: syntax")
+    raises(DecimalError, lambda: column(["1"], format="tlh"), "unknown locale", "unknown locale")
+    raises(DecimalError, lambda: column(["1"], format=""), "unknown locale", "unknown locale")
+    raises(DecimalError, lambda: column(["1"], read="\udcff"), "unknown locale", "unknown locale")
+    raises(DecimalError, lambda: Decimal("x"), "syntax", "syntax")
+    try:
+        column(["1", "x"])
+    except DecimalError as error:
+        copy = pickle.loads(pickle.dumps(error))
+        check((copy.reason, copy.at, copy.line, str(copy)) == ("syntax", 0, 1, "line 1: syntax"), "a copy", copy)
+
+
+def test_words():
+    """The words are those of fixdec, and no others."""
+    for word, text, want in (
+        ("shift:-2", "250", "2.50"), ("trim-start", "007", "7"), ("trim-end", "7.50", "7.5"),
+        ("trim-end-if-integer", "7.00", "7"), ("pad-start:3", "7", "007"), ("pad-end:-2", "7", "7.00"),
+        ("max:2", "4235.970", "35.970"), ("round:-2:half-even:1", "1234.565", "1234.56"),
+        ("round:0:half-expand:25", "113", "125"), ("sign:minus", "5", "-5"), ("sign:none", "-5", "5"),
+        ("sign:plus", "5", "+5"), ("display:except-zero", "5", "+5"), ("concat:0.5", "12", "12.5"),
+        ("concat:0." + "0" * 2000 + "5", "12", "12." + "0" * 2000 + "5"),
+    ):
+        check(column([text], word) == [want], word, text, column([text], word))
+    check(column(["1"], *["shift:1", "shift:-1"] * 100, "shift:2") == ["100"], "201 words")
+    check(column(["1"], "concat:0.5", "concat:0.05", read="de", format="de") == ["1,55"], "operands beside forms")
+    for word in (
+        "", " ", "shift", "shift:", "shift: 1", "shift: 1_0", "shift:1_0", "shift:+2", "shift:٣", "shift:2 ",
+        "shift:2\0", "shift:2\n", "shift:4294967298", "shift:99999", "shift:2:2", "ceil\0junk", "trim-end:",
+        "trim-end:1", "trim-end\0", "Trim-end", "round:-2:half-even", "round:-2:half-even:1:1",
+        "round:-2:half-even:4294967297",
+        "round:-2:ceil\0:1", "round:-2:half-even:1\0", "round:0:up:1", "sign:5", "display:", "concat", "concat:5\0",
+        "concat:\udcff", "\udcff", "read:de", "format:de", "format:", "read:", "format:de:K", "read:de:lenient", "skip",
+        "field:2",
+    ):
+        raises(ValueError, lambda: column(["1"], word), text=f"no such call: {word}")
+        raises(ValueError, lambda: column([], "trim-end", word), text=f"no such call: {word}")
+
+
+def test_column_of_numbers():
+    numbers = [1234, Decimal("001.50"), "7", decimal.Decimal("1.50"), True, 10**30, decimal.Decimal("1E+3"), -5]
+    check(column(numbers) == [str(Decimal(number)) for number in numbers], "numbers")
+    check(column(numbers, "shift:1") == [str(Decimal(number).shift(1)) for number in numbers], "numbers, and a call")
+    check(column(numbers, format="de") == [Decimal(number).format("de") for number in numbers], "numbers in a locale")
+    check(column(range(40000)) == [str(number) for number in range(40000)], "many")
+    for texts, options, message in (
+        (["1", 1.5], {}, "text 1 is a str, an int or a Decimal, not float: write str(x) of a float x"),
+        (["1", None], {}, "text 1 is a str, an int or a Decimal, not NoneType"),
+        (["1", b"1"], {}, "text 1 is a str, an int or a Decimal, not bytes"),
+        (["1,5", 5], {"read": "de"}, "text 1 is read by a locale: it is a str, not int"),
+        ([decimal.Decimal(1)], {"read": "de"}, "text 0 is read by a locale: it is a str, not decimal.Decimal"),
+    ):
+        raises(TypeError, lambda: column(texts, **options), text=message)
+    raises(DecimalError, lambda: column([5, decimal.Decimal("NaN")]), "syntax", "line 1: syntax")
+    raises(DecimalError, lambda: column(["x", 1.5]), "syntax", "line 0: syntax")
+    raises(DecimalError, lambda: column(["1"] * 20000 + ["x"] + [1.5]), "syntax", "line 20000: syntax")
+
+
+def test_signals():
+    """A signal is handled between the blocks of a column: it ends a long one, or changes the list."""
+    texts = ["1234.5"] * 2000000 + ["x"]
+
+    def stops(number, frame):
+        raise KeyboardInterrupt
+
+    def shortens(number, frame):
+        del texts[-1]
+
+    before = signal.getsignal(signal.SIGALRM)
+    try:
+        # The last text is wrong: were the signal handled after all texts, the error would be DecimalError.
+        for handler, error in ((stops, KeyboardInterrupt), (shortens, RuntimeError)):
+            signal.signal(signal.SIGALRM, handler)
+            signal.setitimer(signal.ITIMER_REAL, 0.001)
+            raises(error, lambda: column(texts, format="de"))
+    finally:
+        signal.setitimer(signal.ITIMER_REAL, 0)
+        signal.signal(signal.SIGALRM, before)
+
+
+def test_memory():
+    """Each allocation of Python fails in turn: a call has its result, or raises MemoryError."""
+    try:
+        from _testcapi import remove_mem_hooks, set_nomemory
+    except ImportError:
+        return print("not run: _testcapi is missing")
+    many, number, big = ["1234.5"] * 40000, decimal.Decimal("1.50"), 1 << 400
+    one, padded, long = Decimal("1234.5"), Decimal("1").pad(end=-300), "7" * 300
+    amount = {"style": "currency", "currency": "EUR"}
+    rows = [
+        (lambda: Decimal("1.50"), Decimal("1.50")), (lambda: Decimal(long), Decimal(long)),
+        (lambda: Decimal(number), Decimal("1.50")), (lambda: Decimal(big), Decimal(str(big))),
+        (lambda: str(one), "1234.5"), (lambda: repr(one), "Decimal('1234.5')"), (lambda: hash(one), hash(one)),
+        (lambda: one.round(0, "ceil"), Decimal("1235")), (lambda: one.pad(end=-2, start=5), Decimal("01234.50")),
+        (lambda: one.sign("always"), Decimal("+1234.5")), (lambda: one.format("de"), "1.234,5"),
+        (lambda: one.format("de-" + "AT"[:2]), "1\xa0234,5"), (lambda: padded.format("de"), "1," + "0" * 300),
+        (lambda: one.format("de", use_grouping=False), "1234,5"),
+        (lambda: one.format("de", sign_display="always"), "+1.234,5"),
+        (lambda: one.format("de", **amount), "1.234,50\xa0€"),
+        (lambda: one.format(locale="de", skeleton="percent"), "1.234,5\xa0%"), (lambda: one.plural("de"), "other"),
+        (lambda: Decimal.read("1.234,5", "de"), one), (lambda: f"{one:€>8}", "€€1234.5"),
+        (lambda: f"{one:.2f}", "1234.50"), (lambda: pickle.loads(pickle.dumps(one)), one),
+        (lambda: number_skeleton(rounding_mode="half-even", **amount), "currency/EUR"),
+        (lambda: column(["250", 5, number], "shift:-2"), ["2.50", "0.05", "0.0150"]),
+        (lambda: column(["1", "5"], "concat:0.5", read="en", format="de", **amount), ["1,50\xa0€", "5,50\xa0€"]),
+        (lambda: column(many, format="de", use_grouping=False), ["1234,5"] * 40000),
+        (functools.partial(Decimal, "x"), ("syntax", None)),
+        (functools.partial(one.format, "tlh"), ("unknown locale", None)),
+        (functools.partial(column, ["1", "x"]), ("syntax", 1)),
+        (functools.partial(column, ["1", big**500]), ("limit", 1)),
+        (functools.partial(column, ["1", "\udcff"]), ("syntax", 1)),
+    ]
+    sys._getframe()  # so that CPython makes no object of this frame when an error is raised
+    for call, want in rows:
+        failed = passes = count = 0
+        while passes < 15:
+            if count:  # the first call has memory: what is made once is made
+                set_nomemory(count - 1, count)
+            try:
+                found = call()
+            except MemoryError:
+                found = MemoryError
+            except DecimalError as error:
+                found = error.reason, error.line
+            finally:
+                remove_mem_hooks()
+            failed += found is MemoryError
+            passes = 0 if found is MemoryError else passes + 1
+            count += 1 + count // 100
+            check(found is MemoryError or found == want, "without memory", found, want)
+        check(failed > 0, "an allocation", want)
 
 
 if __name__ == "__main__":
     count = int(sys.argv[1]) if len(sys.argv) > 1 else 15000
     test_random(count)
     test_other_modes(count // 7)
+    test_padding(count // 7)
+    test_numbers(count // 7)
     test_class()
+    test_kept_locale()
+    test_version()
+    test_stub()
+    test_examples()
     test_options()
+    test_plain_options()
+    test_types_of_options()
     test_column(count)
+    test_words()
+    test_column_of_numbers()
+    test_signals()
+    test_memory()
     for case in failures[:20]:
         print("failed:", *case)
     print(f"{passed} passed, {len(failures)} failed")

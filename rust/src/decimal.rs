@@ -28,7 +28,12 @@ const NONZERO: [char; 9] = ['1', '2', '3', '4', '5', '6', '7', '8', '9'];
 /// A decimal as it is shown: a number of up to 65,536 digits with all its zeros, and a sign.
 ///
 /// Two are equal if their texts are: `1.0` is not `1`, and `-0` not `0`. [`compare`](Decimal::compare) has the order of
-/// the numbers. `{}` writes the text, with the width, the fill and the alignment of the format; a precision is ignored.
+/// the numbers.
+///
+/// `{}` writes the text, with the width, the fill and the alignment of the format; the default is to the right, as for
+/// numbers. `{:+}` writes a plus if the text has no sign. `{:.2}` rounds to two fraction digits, ties to even. The
+/// rounding fails with [`fmt::Error`] if its result is 10^32768 or more, or if more than 32,768 fraction digits are asked
+/// for.
 ///
 /// ```
 /// use fixed_decimal_proved::Decimal;
@@ -382,6 +387,16 @@ impl Decimal {
     }
 
     /// The order of the numbers: `1.0` and `1` are equal, and `-0` and `0`.
+    ///
+    /// `PartialOrd` is not implemented: it has to agree with `==`, which compares texts, and by text `1.0` is not `1`.
+    /// Sort by `values.sort_by(Decimal::compare)`.
+    ///
+    /// ```
+    /// # use fixed_decimal_proved::Decimal;
+    /// let mut values = ["10", "9.50", "-1", "9.5"].map(|text| text.parse::<Decimal>().unwrap());
+    /// values.sort_by(Decimal::compare);
+    /// assert_eq!(values.map(|value| value.to_string()), ["-1", "9.50", "9.5", "10"]);
+    /// ```
     pub fn compare(&self, other: &Decimal) -> Ordering {
         match ffi::compare(&self.text, &other.text) {
             Ok(order) => order.cmp(&0),
@@ -728,11 +743,35 @@ impl FromStr for Decimal {
 impl fmt::Display for Decimal {
     fn fmt(&self, f: &mut fmt::Formatter<'_>) -> fmt::Result {
         match f.precision() {
-            // `pad` would cut the text off.
-            Some(_) => f.write_str(&self.text),
-            None => f.pad(&self.text),
+            None => write_number(f, &self.text),
+            Some(digits) => {
+                let position = i32::try_from(digits).ok().and_then(|digits| i16::try_from(-digits).ok());
+                let rounded = position.and_then(|position| self.clone().rounded(position).ok()).ok_or(fmt::Error)?;
+                write_number(f, &rounded.text)
+            }
         }
     }
+}
+
+/// Writes a text with the sign, the width, the fill and the alignment of the format, as numbers are written.
+fn write_number(f: &mut fmt::Formatter<'_>, text: &str) -> fmt::Result {
+    let digits = text.trim_start_matches(['-', '+']);
+    let sign = match &text[..text.len() - digits.len()] {
+        "" if f.sign_plus() => "+",
+        sign => sign,
+    };
+    let missing = f.width().unwrap_or(0).saturating_sub(sign.len() + digits.len());
+    if f.sign_aware_zero_pad() {
+        return write!(f, "{sign}{}{digits}", "0".repeat(missing));
+    }
+    let before = match f.align() {
+        Some(fmt::Alignment::Left) => 0,
+        Some(fmt::Alignment::Center) => missing / 2,
+        Some(fmt::Alignment::Right) | None => missing,
+    };
+    let fill = |count| f.fill().to_string().repeat(count);
+    let (before, after) = (fill(before), fill(missing - before));
+    write!(f, "{before}{sign}{digits}{after}")
 }
 
 impl fmt::Debug for Decimal {

@@ -266,6 +266,6 @@ mod tests {
     #[test]
     fn structs_are_those_of_the_library() {
         // SAFETY: the function takes nothing.
-        assert_eq!(unsafe { super::fd_version() }, 4);
+        assert_eq!(unsafe { super::fd_version() }, 5);
     }
 }

@@ -4,8 +4,8 @@
 //! library, whose functions are proved; methods have the names of the original. What passes the limits, magnitudes
 //! -32768 to 32767, is an error, and the value is unchanged. Out of memory ends the program, as with a `Vec`.
 //!
-//! The crate links the library, `.a` or `.so`, that the environment's `FIXED_DECIMAL_LIB` names, else the static one that
-//! `c/build.sh` makes, which needs the Rattle kit.
+//! The crate links the library, `.a` or `.so`, that the environment's `FIXED_DECIMAL_LIB` names, or else the static one
+//! in `c/out`. If there is none, the build stops: run `bash c/build.sh` first, which needs the Rattle kit.
 #![deny(unsafe_code, unsafe_op_in_unsafe_fn, missing_debug_implementations)]
 
 mod decimal;

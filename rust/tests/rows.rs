@@ -140,9 +140,44 @@ fn texts() {
         assert_eq!(Decimal::try_from_str(text), Err(ParseError::Limit), "{text}");
     }
     assert_eq!(Decimal::try_from_utf8(b"1\xff"), Err(ParseError::Syntax));
-    let value = decimal("-2.50");
-    assert_eq!(format!("{value}|{value:>7}|{value:*<7}|{value:.1}|{value:?}"), "-2.50|  -2.50|-2.50**|-2.50|Decimal(-2.50)");
     assert_eq!(Decimal::default(), decimal("0"));
+}
+
+/// The texts that `f64` has for the same number and format, where its text is the decimal's.
+#[test]
+fn formats() {
+    for (text, n) in
+        [("2.5", 2.5), ("-2.5", -2.5), ("0.125", 0.125), ("-0.375", -0.375), ("1234.5", 1234.5), ("9.75", 9.75)]
+    {
+        let d = decimal(text);
+        assert_eq!(format!("{d}|{d:+}|{d:9}|{d:+9}"), format!("{n}|{n:+}|{n:9}|{n:+9}"));
+        assert_eq!(format!("{d:<9}|{d:>9}|{d:^9}"), format!("{n:<9}|{n:>9}|{n:^9}"));
+        assert_eq!(format!("{d:*<9}|{d:é>+9}|{d:09}"), format!("{n:*<9}|{n:é>+9}|{n:09}"));
+        assert_eq!(format!("{d:+09}|{d:1}|{d:^8}"), format!("{n:+09}|{n:1}|{n:^8}"));
+        for p in 0..5 {
+            assert_eq!(format!("{d:.p$}|{d:+.p$}|{d:10.p$}"), format!("{n:.p$}|{n:+.p$}|{n:10.p$}"));
+            assert_eq!(format!("{d:<+10.p$}|{d:^10.p$}|{d:010.p$}"), format!("{n:<+10.p$}|{n:^10.p$}|{n:010.p$}"));
+        }
+    }
+    let d = decimal("-2.50");
+    assert_eq!(format!("{d}|{d:>7}|{d:*<7}|{d:.1}|{d:?}"), "-2.50|  -2.50|-2.50**|-2.5|Decimal(-2.50)");
+    let d = decimal("+7");
+    assert_eq!(format!("{d}|{d:+}|{d:.1}|{d:5}|{d:05}"), "+7|+7|+7.0|   +7|+0007");
+    assert_eq!(format!("{:.0}|{:.0}|{:+.1}", decimal("0.5"), decimal("1.5"), decimal("-0.04")), "0|2|-0.0");
+    assert_eq!(format!("{:+}|{:+}", decimal("0"), decimal("-0")), "+0|-0");
+}
+
+#[test]
+fn formats_that_fail() {
+    use std::fmt::Write;
+    let mut text = String::new();
+    let nines = decimal(&format!("{}.9", "9".repeat(32768)));
+    assert!(write!(text, "{nines:.0}").is_err());
+    assert!(write!(text, "{nines:>60000.0}").is_err());
+    assert!(write!(text, "{:.32769}", decimal("1")).is_err());
+    assert_eq!(text, "");
+    assert!(write!(text, "{:.32768}", decimal("1")).is_ok());
+    assert_eq!(text, format!("1.{}", "0".repeat(32768)));
 }
 
 #[test]

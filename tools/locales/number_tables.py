@@ -19,17 +19,21 @@ PERCENT_SIGNS = {
     "%": "Percent", "\u066a": "Arabic", "\u066a\u061c": "ArabicBeforeArabicMark", "\u066a\u200f": "ArabicBeforeRightMark",
     "\u200e%\u200e": "Enclosed", "~": "Tilde",
 }
+PERMILLE_SIGNS = {
+    "\u2030": "Permille", "\u0609": "Arabic", "\u0609\u200f": "ArabicBeforeRightMark", "0/00": "Ascii",
+}
 COUNTS = {"1": "ExactlyOne", "zero": "Zero", "one": "One", "two": "Two", "few": "Few", "many": "Many", "other": "Other"}
 STYLES = (("compact.tsv", "short"), ("compact.tsv", "long"), ("compact_currency.tsv", "short"))
 FIELDS = ("percent", "standard", "accounting", "signs", "compact")
-# Tags of CLDR's aliases, which have the rows of another tag.
-ALIASES = {"in": "id", "iw": "he", "mo": "ro", "sh": "sr-latn", "tl": "fil"}
+# Aliases of tags in CLDR and BCP 47, which have the rows of another tag, also with more subtags.
+ALIASES = {"en-us-posix": "en-us-u-va-posix", "in": "id", "iw": "he", "kk-cn": "kk-arab-cn", "mo": "ro",
+           "sh": "sr-latn", "tl": "fil"}
 FORMATS_HEAD = """use crate::formats::{FormatSystem, LocaleFormats, SystemFormats};
 use crate::patterns::ExponentSeparator::*;
 use crate::patterns::Piece::*;
 use crate::patterns::{
     Affix, AffixPair, CurrencyOverride, MoneyFormat, MoneySeparator, NumberSigns, Pattern,
-    PercentSign,
+    PercentSign, PermilleSign,
 };
 use crate::rows::TableRange;
 
@@ -211,7 +215,7 @@ class Data:
         self.symbols = table("currency_symbols.tsv", 2)
         self.digits = table("currency_digits.tsv", 1)
         self.digits = {code.upper(): digits for code, digits in self.digits.items()}
-        self.signs = {key: (row[0], row[3]) for key, row in table("scientific.tsv", 2).items()}
+        self.signs = {key: (row[0], *row[3:]) for key, row in table("scientific.tsv", 2).items()}
         self.compact = {(name, style): {key[:2]: runs for key, runs in blocks(name).items() if key[2] == style}
                         for name, style in STYLES}
 
@@ -223,8 +227,8 @@ class Data:
 
 def canonical(tag):
     """The tag that an alias stands for."""
-    language, hyphen, rest = tag.partition("-")
-    return ALIASES.get(language, language) + hyphen + rest
+    alias = next((it for it in path(tag) if it in ALIASES), None)
+    return ALIASES[alias] + tag[len(alias):] if alias else tag
 
 
 def own(table, tag, *key):
@@ -353,8 +357,9 @@ def formats_table(formats):
                 f"{separator(grouping)} }},\n" for pattern, decimal, grouping in formats.overrides.all]
     money = [f"    MoneyFormat {{ decimal: {option(separator(decimal))}, grouping: {option(separator(grouping))}, "
              f"replaced: {option(index)} }},\n" for decimal, grouping, index in formats.money.all]
-    signs = [f"    NumberSigns {{ exponent: {EXPONENTS[exponent]}, percent: PercentSign::{PERCENT_SIGNS[percent]} }},\n"
-             for exponent, percent in formats.signs.all]
+    signs = [f"    NumberSigns {{ exponent: {EXPONENTS[exponent]}, percent: PercentSign::{PERCENT_SIGNS[percent]},\n"
+             f"        permille: PermilleSign::{PERMILLE_SIGNS[permille]} }},\n"
+             for exponent, percent, permille in formats.signs.all]
     shared, others, roots, systems = {}, [], {}, []
     for system, (root, found) in formats.systems.items():
         if tuple(found) not in shared:
@@ -373,7 +378,7 @@ def formats_table(formats):
         called("The patterns of percent and of currencies.", "PATTERNS", "Pattern", "patterns", patterns),
         array("The patterns of single currencies.", "CURRENCY_OVERRIDES", "CurrencyOverride", replaced),
         array("How locales write money.", "MONEY_FORMATS", "MoneyFormat", money),
-        array("The exponent separators and percent signs.", "NUMBER_SIGNS", "NumberSigns", signs),
+        array("The exponent separators, percent signs and per mille signs.", "NUMBER_SIGNS", "NumberSigns", signs),
         "/// The formats of a tag that is not listed.\n#[rattlefmt::skip]\npub const ROOT_FORMATS: LocaleFormats = "
         f"LocaleFormats {{\n    {root},\n}};\n",
         *constants,

@@ -232,11 +232,23 @@ def main(folder, model):
     for text in hostile():
         if "unit" not in stems(text):
             put(text, expected(skeleton.unescape(text)))
-    print("# Normal forms have the options of their skeletons.")
+    print("# Options are printed as ICU's normal form, which has the options of its skeleton.")
     for text, normal in rows(os.path.join(folder, "normal.tsv")):
-        loses_grouping = text.startswith("K") and "group-auto" in text
-        if text != normal and not loses_grouping and "error " not in normal and "unit/" not in normal:
-            print(escaped(text) + "\t=" + escaped(normal))
+        loses_grouping = re.match("K|compact", text) and "group-auto" in text
+        if loses_grouping or "error " in normal or "unit/" in normal:
+            continue
+        if words(skeleton.unescape(text)).startswith("unsupported ") or says_more(normal):
+            if text != normal:
+                print(escaped(text) + "\t=" + escaped(normal))
+        else:
+            print(escaped(text) + "\t>" + escaped(normal))
+
+
+def says_more(normal):
+    """Whether a normal form has a stem that changes no option: without a currency, or of the sign of an exponent."""
+    always = r"(scientific|engineering)\S*/sign-(except-zero|accounting|negative)|precision-currency-standard"
+    of_currencies = r"sign-accounting|unit-width|precision-currency-cash"
+    return re.search(always, normal) or "currency/" not in normal and re.search(of_currencies, normal)
 
 
 if __name__ == "__main__":

@@ -1,6 +1,6 @@
 -- The fields of a line that are replaced by their conversions.
-use Rattle.std.proofs.Common.{◌≡◌, ◌≢◌, ℕ, suc, ◌+◌, ◌<◌, ◌≤◌, inl, inr, refl, sym, ap, subst, ◌∙◌, arith, add-one, Some, Ok, Err, Option, Bool, false, List, ◌∷◌, ◌++◌, length, take, drop, get_or, append_assoc, take_all, drop-cons}
-use Rattle.std.specs.Prelude.{All, Contains}
+use Rattle.std.proofs.Common.{◌≡◌, ◌≢◌, ℕ, suc, ◌+◌, ◌<◌, ◌≤◌, inl, inr, refl, sym, ap, subst, ◌∙◌, arith, add-one, Some, None, Ok, Err, Option, Bool, false, List, ◌∷◌, ◌++◌, length, take, drop, get_or, append_assoc, take_all, drop-cons}
+use Rattle.std.specs.Prelude.{All, Contains, IfSome, IsSomeAnd}
 use Rattle.std.proofs.lemmas.List.Elements.{All-push, All-weaker}
 use Rattle.cli.specs.declared.columns.FieldLabel.{FieldLabel}
 use Rattle.cli.specs.declared.edits.FieldConversion.{FieldConversion}
@@ -8,7 +8,7 @@ use Rattle.cli.specs.declared.error.LineError.{LineError}
 use Rattle.cli.specs.declared.error.OperationError.{OperationError}
 use Rattle.cli.specs.declared.error.OperationError.TheVariants.{Memory}
 use Rattle.cli.specs.declared.fields.Field.{Field}
-use Rattle.cli.specs.Edits.{HasEdit, HasNoEdit, AreEdited, HasEditedText, IsEditedLine, EditingFails}
+use Rattle.cli.specs.Edits.{HasEdit, EditFails, AreEdited, HasEditedText, IsEditedLine, EditingFails}
 use Rattle.cli.specs.Error.{line_error}
 use Rattle.cli.specs.FieldConversion.{IsFieldResult}
 use Rattle.cli.specs.Fields.{at_index, has_open_quote, bounds, located, record_of, within, replaced, bytes_of}
@@ -57,22 +57,36 @@ module _ (trims : Bool) (base : Field) (line : List ℕ) where
 
   -- ---- The first error.
 
+  -- a field that is in the line fails
+  pub edit_fails :
+      (it : FieldConversion) (found : ℕ × ℕ) (error : OperationError)
+      → located (at_index base it.index) line ≡ Ok found
+      → (error ≢ Memory → IsFieldResult trims base it.conversion.now (within line found) (Err error))
+      → EditFails trims base line it error
+  edit_fails it found Memory at is = inr (refl, (found, at))
+  edit_fails it found error at is = inl (rw at (is (λ memory. cc)))
+
   -- this field, of this rank, has this error
   abbrev pub Fails : List FieldConversion → ℕ → OperationError → Option FieldLabel → Type 0
   Fails fields rank error failed =
-      (it : FieldConversion) × Contains fields it × HasNoEdit trims base line it error × (failed ≡ Some it.label)
+      (it : FieldConversion) × Contains fields it × EditFails trims base line it error × (failed ≡ Some it.label)
       × (it.rank ≡ rank)
 
   -- of the first fields each one of a lower rank has a conversion
   abbrev pub Convert : List FieldConversion → ℕ → ℕ → Type 0
   Convert fields i rank = All (λ it. it.rank < rank → HasEdit trims base line it) (take i fields)
 
+  -- of the first fields the one of this rank fails first, with this error; or each one has a conversion
+  abbrev pub Found : List FieldConversion → ℕ → Option ℕ → OperationError → Option FieldLabel → Type 0
+  Found fields i (Some rank) error failed = Convert fields i rank × Fails fields rank error failed
+  Found fields i None error failed = (error ≡ Memory) × All (HasEdit trims base line) (take i fields)
+
   -- one more field
   module _
       (fields : List FieldConversion) (i : ℕ) (one : FieldConversion) (inside : i < length fields)
       (is : one ≡ get_or fields i one)
     where
-      pub convert_more :
+      convert_more :
           (rank : ℕ) → Convert fields i rank → (one.rank < rank → HasEdit trims base line one)
           → Convert fields (i + 1) rank
       convert_more rank all has =
@@ -81,29 +95,53 @@ module _ (trims : Bool) (base : Field) (line : List ℕ) where
           (All-push (λ it. it.rank < rank → HasEdit trims base line it) (take i fields) one all has)
 
       -- it comes later
-      pub convert_past : (rank : ℕ) → Convert fields i rank → rank < one.rank → Convert fields (i + 1) rank
-      convert_past rank all past = convert_more rank all (λ below. absurd (omega (arith, below, past)))
+      pub found_after :
+          (rank : Option ℕ) (error : OperationError) (failed : Option FieldLabel) → Found fields i rank error failed
+          → IsSomeAnd rank (λ it. it < one.rank) → Found fields (i + 1) rank error failed
+      found_after (Some rank) error failed (all, fails) after =
+          (convert_more rank all (λ below. absurd (omega (arith, below, after))), fails)
+      found_after None error failed found after = absurd after
+
+      -- it has a conversion
+      pub found_more :
+          (rank : Option ℕ) (error : OperationError) (failed : Option FieldLabel) → Found fields i rank error failed
+          → HasEdit trims base line one → Found fields (i + 1) rank error failed
+      found_more (Some rank) error failed (all, fails) has = (convert_more rank all (λ _. has), fails)
+      found_more None error failed (memory, all) has = (
+        memory,
+        subst (All (HasEdit trims base line)) (sym (taken fields i one inside is))
+            (All-push (HasEdit trims base line) (take i fields) one all has),
+      )
+
+      -- each one of a lower rank has a conversion
+      convert_lower :
+          (rank : Option ℕ) (error : OperationError) (failed : Option FieldLabel) → Found fields i rank error failed
+          → IfSome rank (λ it. one.rank ≤ it) → Convert fields i one.rank
+      convert_lower (Some rank) error failed (all, fails) lower =
+          All-weaker (λ it. it.rank < rank → HasEdit trims base line it)
+          (λ it. it.rank < one.rank → HasEdit trims base line it)
+          (λ it has below. has (omega (arith, lower, below))) (take i fields) all
+      convert_lower None error failed (memory, all) lower =
+          All-weaker (HasEdit trims base line) (λ it. it.rank < one.rank → HasEdit trims base line it)
+          (λ it has below. has) (take i fields) all
 
       -- it fails, and comes first
-      module _ (rank : ℕ) (all : Convert fields i rank) (lower : one.rank ≤ rank) where
-        pub convert_lower : Convert fields (i + 1) one.rank
-        convert_lower =
-            convert_more one.rank
-            (All-weaker (λ it. it.rank < rank → HasEdit trims base line it)
-            (λ it. it.rank < one.rank → HasEdit trims base line it)
-            (λ it has below. has (omega (arith, lower, below))) (take i fields) all)
-            (λ below. absurd (omega (arith, below)))
+      pub found_first :
+          (rank : Option ℕ) (before : OperationError) (failed : Option FieldLabel)
+          → Found fields i rank before failed → IfSome rank (λ it. one.rank ≤ it) → (error : OperationError)
+          → EditFails trims base line one error → Found fields (i + 1) (Some one.rank) error (Some one.label)
+      found_first rank before failed found lower error fails = (
+        convert_more one.rank (convert_lower rank before failed found lower) (λ below. absurd (omega (arith, below))),
+        (one, (i, inside, sym is), fails, refl, refl),
+      )
 
-      pub one_fails : (error : OperationError) → HasNoEdit trims base line one error
-          → Fails fields one.rank error (Some one.label)
-      one_fails error none = (one, (i, inside, sym is), none, refl, refl)
-
-  pub first_fails :
-      (fields : List FieldConversion) (i rank : ℕ) (error : OperationError) (failed : Option FieldLabel)
-      → length fields ≤ i → Convert fields i rank → Fails fields rank error failed
-      → IsEditedLine trims base line fields (Err (line_error failed error))
-  first_fails fields i rank error failed end all (it, contains, none, named, same) =
-      (it, contains, none, named, rw (take_all i fields end, sym same) at all)
+  pub found_all :
+      (fields : List FieldConversion) (i : ℕ) (rank : Option ℕ) (error : OperationError) (failed : Option FieldLabel)
+      → length fields ≤ i → Found fields i rank error failed
+      → EditingFails trims base line fields (line_error failed error)
+  found_all fields i (Some rank) error failed end (all, (it, contains, fails, named, same)) =
+      inl (it, contains, fails, named, rw (take_all i fields end, sym same) at all)
+  found_all fields i None error failed end (memory, all) = inr (memory, rw (take_all i fields end) at all)
 
 -- ---- The result of a line.
 
@@ -120,16 +158,7 @@ module _
         subst (λ b. HasEditedText trims base (within line b) fields (λ text. P (replaced line b text))) is_body
         (text, is, p)
 
-    no_edit :
-        (error : LineError) (why : OperationError) → error.error ≡ why
-        → (error.error ≢ Memory → IsEditedLine trims base (within line body) fields (Err error))
-        → EditingFails trims base (within line body) fields error
-    no_edit error Memory same is = inl same
-    no_edit error why same is = inr (is (λ memory. cc))
-
     pub editing_fails :
-        (error : LineError)
-        → (error.error ≢ Memory → IsEditedLine trims base (within line body) fields (Err error))
+        (error : LineError) → EditingFails trims base (within line body) fields error
         → EditingFails trims base (within line (body_bounds trims number line)) fields error
-    editing_fails error is =
-        subst (λ b. EditingFails trims base (within line b) fields error) is_body (no_edit error error.error refl is)
+    editing_fails error is = subst (λ b. EditingFails trims base (within line b) fields error) is_body is

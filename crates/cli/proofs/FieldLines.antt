@@ -9,12 +9,14 @@ use Rattle.cli.specs.declared.columns.FieldLabel.{FieldLabel}
 use Rattle.cli.specs.declared.conversion.Conversion.{Conversion}
 use Rattle.cli.specs.declared.error.OperationError.{OperationError}
 use Rattle.cli.specs.declared.error.OperationError.TheVariants.{Quote, Memory, Output}
+use Rattle.cli.specs.declared.edits.FieldConversion.{FieldConversion}
 use Rattle.cli.specs.declared.fields.Field.{Field}
 use Rattle.cli.specs.declared.filter.Filter.{Filter}
 use Rattle.cli.specs.Conversion.{HasOutcome, OperationsFail}
 use Rattle.cli.specs.declared.error.LineError.{LineError}
 use Rattle.cli.specs.declared.targets.Target.{Target}
 use Rattle.cli.specs.declared.targets.Target.TheVariants.{One, Fields}
+use Rattle.cli.specs.Edits.{HasNoEdit, EditFails}
 use Rattle.cli.specs.Error.{status_of_operation, error_of_line}
 use Rattle.cli.specs.FieldConversion.{IsTextResult, is_trimmed, IsFieldResult, HasFieldText, IsLineResult, HasLineText, LineFails, map_text, with_text}
 use Rattle.cli.specs.Fields.{is_quoted, Holds, located, within, replaced, bytes_of}
@@ -106,6 +108,13 @@ error_is_result trims (Some field) conversion line Memory one h = absurd (omega 
 error_is_result trims (Some field) conversion line Output one h = absurd (omega (arith, one))
 error_is_result trims (Some field) conversion line error one h = h
 
+edit_is_none :
+    (trims : Bool) (base : Field) (line : List ℕ) (it : FieldConversion) (error : OperationError)
+    → status_of_operation error ≡ 1 → EditFails trims base line it error → HasNoEdit trims base line it error
+edit_is_none trims base line it error one (inl none) = none
+edit_is_none trims base line it error one (inr (memory, at)) =
+    absurd (omega (arith, one, ap status_of_operation memory))
+
 -- the result of the line with this number
 target_is_result :
     (trims : Bool) (target : Target) (bytes : List ℕ) (error : LineError) → status_of_operation error.error ≡ 1
@@ -115,9 +124,10 @@ target_is_result trims (One field conversion) bytes error one (none, fails) = (
   error_is_result trims field conversion.now bytes error.error one fails,
   ap (λ (field : Option FieldLabel). Err (record { field = field; error = error.error })) none,
 )
-target_is_result trims (Fields base fields) bytes error one (inl memory) =
+target_is_result trims (Fields base fields) bytes error one (inl (it, contains, fails, named, before)) =
+    (it, contains, edit_is_none trims base bytes it error.error one fails, named, before)
+target_is_result trims (Fields base fields) bytes error one (inr (memory, all)) =
     absurd (omega (arith, one, ap status_of_operation memory))
-target_is_result trims (Fields base fields) bytes error one (inr is) = is
 
 pub rejected_line :
     (filter : Filter) (number : ℕ) (line : List ℕ) (error : LineError) → status_of_operation error.error ≡ 1

@@ -1,16 +1,16 @@
 -- The words of several fields.
-use Rattle.std.proofs.Common.{◌≡◌, ◌≢◌, ℕ, ◌<◌, ◌≤◌, false, inl, inr, sym, ◌∙◌, List, [], ◌∷◌, ◌++◌, length, take, drop, get_or, append_assoc, take-append-drop, drop-cons, String}
+use Rattle.std.proofs.Common.{◌≡◌, ◌≢◌, ℕ, ◌<◌, ◌≤◌, false, inl, inr, sym, ◌∙◌, List, [], ◌∷◌, length, take, drop, get_or, append_assoc, take-append-drop, drop-cons, String}
 use Rattle.std.specs.Prelude.{All, ◌==◌}
 use Rattle.std.specs.declared.alloc.Global.{Global}
 use Rattle.std.proofs.Math.Nat.{le_refl}
 use Rattle.std.proofs.lemmas.Bool.{false≢true}
-use Rattle.std.proofs.lemmas.List.{take_all, drop_all}
+use Rattle.std.proofs.lemmas.List.{append-nil, take_all, drop_all}
 use Rattle.cli.specs.declared.columns.Column.{Column}
 use Rattle.cli.specs.declared.error.WordsError.{WordsError}
 use Rattle.cli.specs.declared.error.WordsError.TheVariants.{Misplaced, Memory}
 use Rattle.cli.specs.declared.targets.NamedField.{NamedField}
 use Rattle.cli.specs.Columns.{IsFieldWord}
-use Rattle.cli.specs.Targets.{IsSplit, IsGroup, has_column, IsNamed, HasMore, GroupFails, MoreFail}
+use Rattle.cli.specs.Targets.{BeginsWithField, IsSplit, IsGroup, has_column, AddsNamed, HasMore, GroupFails, MoreFail}
 use Rattle.cli.specs.Words.{ConversionFails}
 
 -- ---- The words before a field.
@@ -36,38 +36,49 @@ split_none words index all none = (
 
 -- ---- The words of a field, and of the others.
 
-module _
-    (words own others : List (String Global)) (word : List ℕ) (column : Column) (before : List NamedField)
-    (group : IsGroup words word column own others)
-  where
-    -- they name a field
-    module _ (it : NamedField) (new : has_column before column ≡ false) (names : IsNamed column own it) where
-      pub more_named :
-          (after : List NamedField) → HasMore others (before ++ (it ∷ [])) after → HasMore words before after
-      more_named after (more, name, same) = (
-        it ∷ more,
-        (word, column, own, others, group, (new, names, name)),
-        same ∙ append_assoc before (it ∷ []) more,
-      )
+-- the words of a new field name no conversion
+pub conversion_fails :
+    (before : List NamedField) (word : List ℕ) (column : Column) (own : List (String Global)) (error : WordsError)
+    → has_column before column ≡ false → ConversionFails own error → GroupFails before error word column own
+conversion_fails before word column own (Misplaced it) new fails = inr (new, fails)
+conversion_fails before word column own Memory new fails = (new, inl fails)
+conversion_fails before word column own error new fails = (new, fails)
 
-      pub more_fail : (error : WordsError) → MoreFail others (before ++ (it ∷ [])) error → MoreFail words before error
-      more_fail error (more, fail) = (it ∷ more, (word, column, own, others, group, (new, names, fail)))
+module _ (words : List (String Global)) (before : List NamedField) where
+  -- words before those that are left name these fields: what holds of those that are left holds of all
+  pub record Parsed (left : List (String Global)) (fields : List NamedField) : Type 0 where
+    pub begins : BeginsWithField left
+    pub more : (after : List NamedField) → HasMore left fields after → HasMore words before after
+    pub fails : (error : WordsError) → MoreFail left fields error → MoreFail words before error
 
-    -- they name none
-    conversion_fails :
-        (error : WordsError) → has_column before column ≡ false → ConversionFails own error
-        → GroupFails before error word column own
-    conversion_fails (Misplaced it) new fails = inr (new, fails)
-    conversion_fails Memory new fails = (new, inl fails)
-    conversion_fails error new fails = (new, fails)
+  pub parsed_none : BeginsWithField words → Parsed words before
+  parsed_none begins = record { begins = begins; more = λ after has. has; fails = λ error fails. fails }
 
-    pub group_fails : (error : WordsError) → GroupFails before error word column own → MoreFail words before error
-    group_fails error fails = ([], (word, column, own, others, group, fails))
+  module _ (left : List (String Global)) (fields : List NamedField) (parsed : Parsed left fields) where
+    pub parsed_all : left ≡ [] → HasMore words before fields
+    parsed_all none = parsed.more fields ([], none, sym (append-nil fields))
 
-    pub own_fail :
-        (error : WordsError) → has_column before column ≡ false → ConversionFails own error
-        → MoreFail words before error
-    own_fail error new fails = group_fails error (conversion_fails error new fails)
+    module _
+        (word : List ℕ) (column : Column) (own others : List (String Global))
+        (group : IsGroup left word column own others)
+      where
+        -- they name a field
+        pub parsed_more : (after : List NamedField) → AddsNamed column own fields after → Parsed others after
+        parsed_more after (it, new, names, is) = record {
+          begins = group.split.2;
+          more = λ all (more, name, same). parsed.more all (
+            it ∷ more,
+            (word, column, own, others, group, (new, names, rw is at name)),
+            same ∙ rw is (append_assoc fields (it ∷ []) more),
+          );
+          fails = λ error (more, fail).
+              parsed.fails error (it ∷ more, (word, column, own, others, group, (new, names, rw is at fail)));
+        }
+
+        -- they name none
+        pub parsed_fails :
+            (error : WordsError) → GroupFails fields error word column own → MoreFail words before error
+        parsed_fails error fails = parsed.fails error ([], (word, column, own, others, group, fails))
 
 -- ---- All words.
 

@@ -1,21 +1,20 @@
 -- The fields of a header, and their names.
-use Rattle.std.proofs.Common.{◌≡◌, ℕ, zero, suc, ◌+◌, ◌<◌, ◌≤◌, Bool, true, false, List, [], ◌∷◌, ◌++◌, length, take, slice_get, Option, Some, Result, Ok, Err, refl, sym, ap, subst, ◌∙◌, arith, drop, ◌-◌, inl, inr, ◌⊎◌, ◌&&◌, ⊎_elim}
+use Rattle.std.proofs.Common.{◌≡◌, ℕ, zero, suc, ◌+◌, ◌<◌, ◌≤◌, Bool, true, false, List, [], ◌∷◌, ◌++◌, length, take, slice_get, get_or, Option, Some, refl, sym, ap, subst, ◌∙◌, arith, add-one, drop, drop-cons, ◌-◌, inl, inr, ◌⊎◌, ◌&&◌, ⊎_elim}
 use Rattle.std.proofs.Math.Nat.{eq-or-lt_of_le}
 use Rattle.std.proofs.lemmas.Bool.{and_parts, false≢true}
 use Rattle.std.proofs.lemmas.Grind.{common_steps}
+use Rattle.std.proofs.lemmas.List.{drop_all}
 use Rattle.std.proofs.lemmas.Option.{slice_get_past}
 use Rattle.std.specs.List.{list_any}
-use Rattle.std.specs.Prelude.{IfOk, insert}
+use Rattle.std.specs.Prelude.{insert}
 use Rattle.cli.specs.declared.fields.Field.{Field}
-use Rattle.cli.specs.declared.columns.FieldLabel.TheVariants as label
 use Rattle.cli.specs.declared.edits.FieldConversion.{FieldConversion}
 use Rattle.cli.specs.declared.error.HeaderError.{HeaderError}
-use Rattle.cli.specs.declared.error.HeaderError.TheVariants.{SameField}
 use Rattle.cli.specs.declared.targets.NamedField.{NamedField}
 use Rattle.cli.specs.FieldConversion.{is_trimmed}
 use Rattle.cli.specs.declared.headers.Header.{Header}
 use Rattle.cli.specs.Fields.{at_index, bounds, within, is_outside, is_quote, is_quoted, quoted}
-use Rattle.cli.specs.Headers.{HasBounds, HoldsName, HasName, NoneHas, IsIndexOf, HasNoIndex, has_index, IsPlaced, count_before, with_field, AreFields, FieldsFail}
+use Rattle.cli.specs.Headers.{HasBounds, HoldsName, HasName, NoneHas, count_before, with_field, AddsField, FieldFails, AreFields, FieldsFail}
 use Rattle.cli.specs.Trim.{text_of}
 use Rattle.cli.proofs.Separators.{Spaced, Scanned, scanned_start, scanned_end, scanned_separator, scanned_quoted, scanned_all, scanned_none}
 use Rattle.memchr.specs.Find.{matches}
@@ -226,12 +225,6 @@ module _ (trims : Bool) (field : Field) (header name : List ℕ) where
 
 -- ---- The fields that words name.
 
--- what follows from a fact of a value
-pub ok_weaker :
-    {X E : Type 0} (r : Result X E) (P Q : X → Type 0) → ((x : X) → P x → Q x) → IfOk r P → IfOk r Q
-ok_weaker (Ok x) P Q f h = f x h
-ok_weaker (Err e) P Q f h = tt
-
 -- a field that is inserted
 pub inserted :
     (before : List FieldConversion) (index count : ℕ) (it : FieldConversion) (after : List FieldConversion)
@@ -240,34 +233,41 @@ pub inserted :
 inserted before index count it after same counted is =
     is ∙ ap (λ n. insert before n it) (counted ∙ ap (count_before before) (sym same))
 
-module _
-    (trims : Bool) (field : Field) (header : List ℕ) (before : List FieldConversion) (all rest : List NamedField)
-    (first : NamedField) (index : ℕ) (is : all ≡ first ∷ rest)
-  where
-    -- the first word names a field
-    module _
-        (placed : FieldConversion) (indexed : IsIndexOf trims field header first.column index)
-        (new : has_index before index ≡ false) (places : IsPlaced index (length before) first placed)
-      where
-        pub fields_more :
-            (after : List FieldConversion)
-            → AreFields trims field header (with_field before placed) rest after
-            → AreFields trims field header before all after
-        fields_more after more = rw is (index, placed, indexed, new, places, more)
+module _ (trims : Bool) (field : Field) (header : List ℕ) (named : List NamedField) where
+  -- the first words name these fields: what holds of the others holds of all
+  pub record Placed (i : ℕ) (fields : List FieldConversion) : Type 0 where
+    pub more :
+        (all : List FieldConversion) → AreFields trims field header fields (drop i named) all
+        → AreFields trims field header [] named all
+    pub fails :
+        (error : HeaderError) → FieldsFail trims field header fields (drop i named) error
+        → FieldsFail trims field header [] named error
 
-        pub fields_fail :
-            (error : HeaderError) → FieldsFail trims field header (with_field before placed) rest error
-            → FieldsFail trims field header before all error
-        fields_fail error fails = rw is (inr (index, indexed, inr (placed, new, places, fails)))
+  pub placed_none : Placed 0 []
+  placed_none = record { more = λ all are. are; fails = λ error fails. fails }
 
-    -- or one that a word before names
-    pub field_again :
-        IsIndexOf trims field header first.column index → has_index before index ≡ true
-        → FieldsFail trims field header before all (SameField (label.Index index))
-    field_again indexed again = rw is (inr (index, indexed, inl (again, refl)))
+  pub placed_all :
+      (i : ℕ) (fields : List FieldConversion) → Placed i fields → length named ≤ i
+      → AreFields trims field header [] named fields
+  placed_all i fields placed end = placed.more fields (rw (drop_all i named end) refl)
 
-    -- or none
-    pub no_index :
-        (error : HeaderError) → HasNoIndex trims field header first.column error
-        → FieldsFail trims field header before all error
-    no_index error none = rw is (inl none)
+  module _
+      (i : ℕ) (fields : List FieldConversion) (placed : Placed i fields) (it : NamedField) (inside : i < length named)
+      (is : it ≡ get_or named i it)
+    where
+      first : drop i named ≡ it ∷ drop (i + 1) named
+      first = rw add-one (drop-cons named i it inside ∙ ap (λ x. x ∷ drop (suc i) named) (sym is))
+
+      -- one more word names a field
+      pub placed_more :
+          (after : List FieldConversion) → AddsField trims field header it fields after → Placed (i + 1) after
+      placed_more after adds = record {
+        more = λ all are. placed.more all (rw first (after, adds, are));
+        fails = λ error fails. placed.fails error (rw first (inr (after, adds, fails)));
+      }
+
+      -- or none
+      pub placed_fails :
+          (error : HeaderError) → FieldFails trims field header fields it error
+          → FieldsFail trims field header [] named error
+      placed_fails error fails = placed.fails error (rw first (inl fails))

@@ -18,3 +18,4 @@ pub mod HeaderNames
 pub mod NamedRuns
 pub mod OptionWords
 pub mod ShownWords
+pub mod UnknownTypes

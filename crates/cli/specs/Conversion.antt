@@ -13,7 +13,7 @@ use Rattle.fixed_decimal.specs.declared.runs.Call.{Call}
 use Rattle.fixed_decimal.specs.declared.runs.CallError.{CallError}
 use Rattle.fixed_decimal.specs.declared.runs.RunError.{RunError}
 use Rattle.decimal_format.specs.Formatted.{Formatter, formatted}
-use Rattle.number_format.specs.NumberText.{IsNumberText, NeedsMemory, shown_number}
+use Rattle.number_format.specs.NumberText.{IsNumberText, WritingNeedsMemory, shown_number}
 use Rattle.cli.specs.declared.conversion.Conversion.{Conversion}
 use Rattle.cli.specs.declared.locale_formatter.LocaleFormatter.{LocaleFormatter}
 use Rattle.cli.specs.declared.locale_formatter.LocaleFormatter.TheVariants.{AllDigits, Skeleton}
@@ -86,7 +86,7 @@ HasTextBy formatter v P = (text : List ℕ) × IsTextBy formatter v (Ok text) ×
 
 -- formatting may need memory
 abbrev pub FormattingNeedsMemory : Option LocaleFormatter → Decimal → Type 0
-FormattingNeedsMemory (Some (Skeleton f)) v = NeedsMemory f v
+FormattingNeedsMemory (Some (Skeleton f)) v = WritingNeedsMemory f v
 FormattingNeedsMemory formatter v = ⊥
 
 -- writing the text of a decimal may fail with this error

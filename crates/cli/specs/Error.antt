@@ -18,7 +18,7 @@ use Rattle.cli.specs.declared.error.ProgramError.TheVariants as program
 use Rattle.cli.specs.declared.error.WordsError.{WordsError}
 use Rattle.cli.specs.declared.error.WordsError.TheVariants as words
 use Rattle.cli.specs.declared.named_rules.NamedRulesError.{NamedRulesError}
-use Rattle.cli.specs.declared.named_rules.NamedRulesError.TheVariants.{UnknownLocale, Rules}
+use Rattle.cli.specs.declared.named_rules.NamedRulesError.TheVariants.{UnknownLocale, UnknownType, Rules}
 use Rattle.cli.specs.declared.help.Program.{Program}
 use Rattle.cli.specs.declared.help.Program.TheVariants.{Plural}
 
@@ -102,6 +102,7 @@ conversion_error error = program.Operation error
 -- the error of a word that names no rules
 abbrev pub error_of_rules : NamedRulesError → ProgramError
 error_of_rules (UnknownLocale tag) = start_error Plural (words.UnknownLocale tag)
+error_of_rules (UnknownType letters) = start_error Plural (words.UnknownType letters)
 error_of_rules (Rules (rules.Syntax at)) = program.Rules at Syntax
 error_of_rules (Rules (rules.Limit at)) = program.Rules at Limit
 error_of_rules (Rules rules.Memory) = start_error Plural words.Memory

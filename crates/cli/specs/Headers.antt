@@ -63,22 +63,31 @@ module _ (trims : Bool) (field : Field) (header : List ℕ) where
       × ((index : ℕ) × (other : ℕ) × (index ≢ other) × HasName name.now index × HasName name.now other)
   HasNoIndex column error = ⊥
 
+  -- the word names a field that is new, which is added to these in the order of a line
+  abbrev pub AddsField : NamedField → List FieldConversion → List FieldConversion → Type 0
+  AddsField it before after =
+      (index : ℕ) × (placed : FieldConversion) × IsIndexOf it.column index × (has_index before index ≡ false)
+      × IsPlaced index (length before) it placed × (after ≡ with_field before placed)
+
+  -- the word names no field, or one of these, for this error
+  abbrev pub FieldFails : List FieldConversion → NamedField → HeaderError → Type 0
+  FieldFails before it error =
+      HasNoIndex it.column error
+      ⊎ ((index : ℕ) × IsIndexOf it.column index × (has_index before index ≡ true)
+      × (error ≡ SameField (label.Index index)))
+
   -- these fields and those that words name, none of them twice, are these, in the order of a line
   abbrev pub AreFields : List FieldConversion → List NamedField → List FieldConversion → Type 0
   AreFields before [] fields = fields ≡ before
   AreFields before (it ∷ named) fields =
-      (index : ℕ) × (placed : FieldConversion) × IsIndexOf it.column index × (has_index before index ≡ false)
-      × IsPlaced index (length before) it placed × AreFields (with_field before placed) named fields
+      (next : List FieldConversion) × AddsField it before next × AreFields next named fields
 
-  -- after these fields the first word that names none, or one of them, has this error
+  -- after these fields the first word that fails has this error
   abbrev pub FieldsFail : List FieldConversion → List NamedField → HeaderError → Type 0
   FieldsFail before [] error = ⊥
   FieldsFail before (it ∷ named) error =
-      HasNoIndex it.column error
-      ⊎ ((index : ℕ) × IsIndexOf it.column index
-      × (((has_index before index ≡ true) × (error ≡ SameField (label.Index index)))
-      ⊎ ((placed : FieldConversion) × (has_index before index ≡ false) × IsPlaced index (length before) it placed
-      × FieldsFail (with_field before placed) named error)))
+      FieldFails before it error
+      ⊎ ((next : List FieldConversion) × AddsField it before next × FieldsFail next named error)
 
 -- this is the header with these bytes
 abbrev pub IsHeaderOf : Bool → Field → List ℕ → Header → Type 0

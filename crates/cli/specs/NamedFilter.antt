@@ -25,9 +25,10 @@ use Rattle.cli.specs.Trim.{body_bounds}
 
 -- ---- The filter, with a header.
 
--- the bytes of a header that its fields are in
-abbrev pub header_record : Options → Field → List ℕ → List ℕ
-header_record options field header = record_of field (within header (body_bounds options.trims 1 header))
+-- the bytes of a header that its fields are in: without a byte order mark at its start and a carriage return at its
+-- end, which are around the names that Excel writes
+abbrev pub header_record : Field → List ℕ → List ℕ
+header_record field header = record_of field (within header (body_bounds true 1 header))
 
 -- whether a header has no fields: it is a broken record, or in CSV a quote is left open
 abbrev pub is_broken_header : Options → Field → List ℕ → Bool
@@ -38,14 +39,14 @@ is_broken_header options field header =
 abbrev pub ArePlaced : Options → Field → List NamedField → List ℕ → List FieldConversion → Type 0
 ArePlaced options field named header fields =
     (is_broken_header options field header ≡ false)
-    × AreFields options.trims field (header_record options field header) [] named fields
+    × AreFields options.trims field (header_record field header) [] named fields
 
--- or it does not have them, for this error
+-- or it does not have them, for this error: it has no fields; or it has, and the first word that fails has this error,
+-- or the program is out of memory for the fields
 abbrev pub PlacesFail : Options → Field → List NamedField → List ℕ → HeaderError → Type 0
 PlacesFail options field named header error =
-    (error ≡ Memory)
-    ⊎ MatchBool (is_broken_header options field header) (error ≡ Quote)
-    (FieldsFail options.trims field (header_record options field header) [] named error)
+    MatchBool (is_broken_header options field header) (error ≡ Quote)
+    ((error ≡ Memory) ⊎ FieldsFail options.trims field (header_record field header) [] named error)
 
 -- the filter with these options
 abbrev pub filter_of : Options → Target → Filter

@@ -36,10 +36,10 @@ NamesReader _ _ = ⊥
 
 -- ---- Errors.
 
--- the texts of the formatter are not read; or out of memory for them
+-- the texts of the formatter are not read; or they are, and the program is out of memory for them
 abbrev pub IsErrorOfReader : NumberFormatter → WordsError → Type 0
 IsErrorOfReader f NoReader = ¬ CanRead f
-IsErrorOfReader f Memory = ⊤
+IsErrorOfReader f Memory = CanRead f
 IsErrorOfReader f error = ⊥
 
 -- the skeleton has no formatter in the locale; or it has one, and there is no reader

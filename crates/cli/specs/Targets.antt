@@ -57,6 +57,11 @@ has_column fields column = list_any (λ it. is_same it.column column) fields
 abbrev pub IsNamed : Column → List (String Global) → NamedField → Type 0
 IsNamed column own it = (it.column ≡ column) × IsLabel column it.label × NamesConversion own it.conversion
 
+-- the field is new, and is added to these with the conversion of the words
+abbrev pub AddsNamed : Column → List (String Global) → List NamedField → List NamedField → Type 0
+AddsNamed column own before after =
+    (it : NamedField) × (has_column before column ≡ false) × IsNamed column own it × (after ≡ before ++ (it ∷ []))
+
 -- after these fields the words name these, none of them twice: field:.. [read:..] [CALL].. [format:..] of each
 abbrev pub NameMore : List NamedField → List (String Global) → List NamedField → Type 0
 NameMore before words [] = words ≡ []

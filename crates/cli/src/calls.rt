@@ -78,7 +78,8 @@ fn rounding(word: &str) -> Option<(i16, SignedRoundingMode, RoundingIncrement)>
     ))
 }
 
-fn call(word: &str) -> Option<Call<'_>>
+/// Parses a word as a call.
+pub fn call(word: &str) -> Option<Call<'_>>
     ensures some { IfSome result (Names word.now) }
     ensures none { IfNone result ((call : Call) → ¬ Names word.now call) }
     ensures unique { (first second : Call) → Names word.now first → Names word.now second → IsSame first second }

@@ -1,6 +1,6 @@
 //! The fields of a line that are replaced by their conversions.
-ghost use Rattle.std.specs.Prelude.{◌≡◌, ◌≢◌, Ok, Err, IfOk, IfErr, OnOk};
-ghost use Rattle.cli.specs.Edits.{HasEdit, HasNoEdit, IsEditedLine};
+ghost use Rattle.std.specs.Prelude.{◌≡◌, ◌≢◌, ◌<◌, ◌≤◌, true, false, Ok, IfOk, IfErr, IfSome, IsSomeAnd, OnOk};
+ghost use Rattle.cli.specs.Edits.{HasEdit, EditFails, IsEditedLine, EditingFails};
 ghost use Rattle.cli.specs.Error.{line_error};
 ghost use Rattle.cli.specs.Fields.{within};
 
@@ -35,8 +35,7 @@ impl FieldConversion<'_> {
         line: &[u8],
     ) -> Result<(), OperationError>
         ensures ok { OnOk result (HasEdit trims base.now line.now self.now) }
-        ensures err { IfErr result (λ error. error ≢ OperationError.Memory
-            → HasNoEdit trims base.now line.now self.now error) }
+        ensures err { IfErr result (EditFails trims base.now line.now self.now) }
         ensures no_output { IfErr result (λ error. error ≢ OperationError.Output) }
     {
         let bounds = base.at(self.index).locate(line)?;
@@ -88,8 +87,19 @@ pub fn edited(
     Ok(text)
 }
 
+/// Returns whether a rank is greater than another one, if there is one.
+fn is_after(rank: usize, other: Option<usize>) -> bool
+    ensures yes { result ≡ true → IsSomeAnd other (λ it. it < rank) }
+    ensures no { result ≡ false → IfSome other (λ it. rank ≤ it) }
+{
+    match other {
+        Some(other) => other < rank,
+        None => false,
+    }
+}
+
 /// Returns the error of the first of these fields, in the order of words, that fails, and names it in `failed`.
-/// `Memory`: out of memory, or none fails.
+/// `Memory`: out of memory for that field, or none fails.
 #[inline(never)]
 pub fn first_error(
     alloc: Global,
@@ -99,19 +109,18 @@ pub fn first_error(
     line: &[u8],
     failed: &mut Option<FieldLabel>,
 ) -> OperationError
-    ensures error { result ≢ OperationError.Memory
-        → IsEditedLine trims base.now line.now fields.now (Err (line_error failed.new result)) }
+    ensures error { EditingFails trims base.now line.now fields.now (line_error failed.new result) }
     ensures no_output { result ≢ OperationError.Output }
 {
     let mut first = OperationError::Memory;
-    let mut rank = usize::MAX;
+    let mut first_rank = None;
     for it in fields {
-        if it.rank > rank {
+        if is_after(it.rank, first_rank) {
             continue;
         }
         if let Err(error) = it.check(alloc, trims, base, line) {
             first = error;
-            rank = it.rank;
+            first_rank = Some(it.rank);
             *failed = Some(it.label);
         }
     }

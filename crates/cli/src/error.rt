@@ -34,6 +34,8 @@ pub enum WordsError {
     QuoteDelimiter,
     /// The locale with this tag is unknown.
     UnknownLocale(ShownWord),
+    /// No type of plural rules has this name.
+    UnknownType(ShownWord),
     /// A text is no skeleton, from the byte with this 0-based index.
     SkeletonSyntax { at: usize },
     /// A text is a skeleton, but this stem is none of the library.
@@ -65,6 +67,7 @@ impl fmt::Display for StartError {
             WordsError::Output => f.write_str("output"),
             _ if self.program == Program::Fixdec => f.write_str(self.program.usage()),
             WordsError::NotText => write!(f, "{name}: a word is not UTF-8"),
+            WordsError::UnknownType(word) => write!(f, "{name}: no such type: {word}"),
             WordsError::NoText => write!(f, "{name}: no TEXT"),
             WordsError::NoSuchWord(word) => {
                 write!(f, "{name}: no such word: {word} (--help lists all)")
@@ -367,6 +370,9 @@ impl From<NamedRulesError> for ProgramError {
             }
             NamedRulesError::UnknownLocale(tag) => {
                 return ProgramError::start(Program::Plural, WordsError::UnknownLocale(tag));
+            }
+            NamedRulesError::UnknownType(letters) => {
+                return ProgramError::start(Program::Plural, WordsError::UnknownType(letters));
             }
         };
         ProgramError::Rules { at, reason }

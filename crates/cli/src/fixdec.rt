@@ -95,8 +95,9 @@ fn conclude_on<E: Write>(done: Result<(), ProgramError>, err: &mut E) -> u8
 /// Runs the program on the words after its name, and returns the exit status.
 ///
 /// The first word is the text, whatever it holds. A second word `read:LOCALE` or `read:LOCALE:lenient` reads it in the
-/// form of the locale; a last word `format:LOCALE` or `format:LOCALE:GROUPING` writes the result so. Each other word is
-/// a call: `shift:D`, `trim-start`, `trim-end`, `trim-end-if-integer`, `pad-start:P`, `pad-end:P`, `max:P`,
+/// form of the locale, and `read:LOCALE:SKELETON` or `read:LOCALE:lenient:SKELETON` in that of a number skeleton. A
+/// last word `format:LOCALE`, `format:LOCALE:GROUPING` or `format:LOCALE:SKELETON` writes the result so. Each other
+/// word is a call: `shift:D`, `trim-start`, `trim-end`, `trim-end-if-integer`, `pad-start:P`, `pad-end:P`, `max:P`,
 /// `round:P:MODE:INC`, `sign:SIGN`, `display:DISPLAY` or `concat:TEXT`, whose text is all that follows the colon. D and
 /// P are an optional minus and one to six digits, from -32768 to 32767. The words `250` and `shift:-2` print `2.50`.
 ///

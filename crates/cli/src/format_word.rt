@@ -17,7 +17,8 @@ use locale_data::locale;
 use number_format::{NumberFormatError, NumberFormatter, NumberOptions, SkeletonError};
 use std::str;
 
-fn parse_strategy(option: Option<&str>) -> Option<GroupingStrategy>
+/// Parses the option of `format:` as a grouping strategy.
+pub fn parse_strategy(option: Option<&str>) -> Option<GroupingStrategy>
     ensures some { IfSome result (IsStrategyOption (option_copied option.entry)) }
     ensures none { IfNone result
         ((strategy : GroupingStrategy) → ¬ IsStrategyOption (option_copied option.entry) strategy) }

@@ -1,7 +1,7 @@
 //! The fields that words name, in a header.
-ghost use Rattle.std.specs.Prelude.{◌≡◌, ◌≢◌, ◌<◌, ◌≤◌, ℕ, None, true, false, length, vec_len, IfSome, IfOk, IfErr};
+ghost use Rattle.std.specs.Prelude.{◌≡◌, ◌≢◌, ◌<◌, ◌≤◌, ℕ, None, true, false, [], length, vec_len, IfSome, IfOk, IfErr, OnOk};
 ghost use Rattle.cli.specs.Fields.{within, quoted};
-ghost use Rattle.cli.specs.Headers.{HoldsName, HasName, NoneHas, IsHeaderOf, HasBounds, IsIndexOf, HasNoIndex, has_index, count_before, IsPlaced, AreFields, FieldsFail};
+ghost use Rattle.cli.specs.Headers.{HoldsName, HasName, NoneHas, IsHeaderOf, HasBounds, IsIndexOf, HasNoIndex, has_index, count_before, IsPlaced, AddsField, FieldFails, AreFields, FieldsFail};
 
 use crate::columns::{Column, FieldLabel};
 use crate::edits::{FieldConversion, within};
@@ -135,31 +135,47 @@ impl<'a> Header<'a> {
         }
     }
 
-    /// Returns these fields and those that words name, up to the first one that fails.
-    pub fn with_fields(
+    /// Adds the field that words name, in the order of a line.
+    fn push_named(
         &self,
         alloc: Global,
-        named: &'a [NamedField<'a>],
-        mut fields: Vec<FieldConversion<'a>>,
-    ) -> Result<Vec<FieldConversion<'a>>, HeaderError>
+        it: &'a NamedField<'a>,
+        fields: &mut Vec<FieldConversion<'a>>,
+    ) -> Result<(), HeaderError>
         requires { HasBounds self.now }
-        ensures ok { IfOk result (λ all. AreFields self.now.trims self.now.field self.now.bytes.now
-            fields.entry.items named.now all.items) }
-        ensures err { IfErr result (λ error. error ≢ HeaderError.Memory → FieldsFail self.now.trims self.now.field
-            self.now.bytes.now fields.entry.items named.now error) }
+        ensures ok { OnOk result (AddsField self.now.trims self.now.field self.now.bytes.now it.now
+            fields.old.items fields.new.items) }
+        ensures err { IfErr result (λ error. error ≢ HeaderError.Memory → FieldFails self.now.trims self.now.field
+            self.now.bytes.now fields.old.items it.now error) }
     {
-        let Some((first, rest)) = named.split_first() else {
-            return Ok(fields);
-        };
-        let index = self.index_of(alloc, first.column)?;
+        let index = self.index_of(alloc, it.column)?;
         if has_index(fields.as_slice(), index) {
             return Err(HeaderError::SameField(FieldLabel::Index(index)));
         }
         let before = count_before(fields.as_slice(), index);
-        let it = placed(index, fields.len(), first);
-        if let Err(_) = fields.insert(before, it) {
+        let placed = placed(index, fields.len(), it);
+        if let Err(_) = fields.insert(before, placed) {
             return Err(HeaderError::Memory);
         }
-        self.with_fields(alloc, rest, fields)
+        Ok(())
+    }
+
+    /// Returns the fields that words name, up to the first one that fails.
+    pub fn named_fields(
+        &self,
+        alloc: Global,
+        named: &'a [NamedField<'a>],
+    ) -> Result<Vec<FieldConversion<'a>>, HeaderError>
+        requires { HasBounds self.now }
+        ensures ok { IfOk result (λ all. AreFields self.now.trims self.now.field self.now.bytes.now
+            [] named.now all.items) }
+        ensures err { IfErr result (λ error. error ≢ HeaderError.Memory → FieldsFail self.now.trims self.now.field
+            self.now.bytes.now [] named.now error) }
+    {
+        let mut fields = Vec::new(alloc);
+        for it in named {
+            self.push_named(alloc, it, &mut fields)?;
+        }
+        Ok(fields)
     }
 }

@@ -128,7 +128,7 @@ SKELETON: stems with spaces between them, in one word, as 'format:de:currency/EU
 currency/EUR            an amount; with unit-width-narrow, unit-width-iso-code or unit-width-hidden
 percent, %x100          12 is 12%, 0.12 is 12%
 K, KK                   1.2K, 1.2 thousand
-E0, EE0                 1.2E3, with an exponent that is a multiple of 3; E+!00: 1.2E+03
+E0, EE0                 12000 is 1.2E4, or 12E3 with an exponent that is a multiple of 3; E+!00: 1.2E+04
 .00 .0# .00* . .+       two fraction digits, one or two, two or more, none, all; .00/w: none if they are 0
 @@ @@# @@*              two significant digits, two or three, two or more
 precision-increment/0.05, precision-currency-cash

@@ -67,12 +67,12 @@ impl<'a> Options<'a> {
         if self.is_broken_header(&field, header) {
             return Err(HeaderError::Quote);
         }
-        let body = body_bounds(self.trims, 1, header);
+        let body = body_bounds(true, 1, header);
         let record = field.record(&header[body.0..body.1]);
         let Ok(header) = Header::of(alloc, self.trims, field, record) else {
             return Err(HeaderError::Memory);
         };
-        header.with_fields(alloc, named, Vec::new(alloc))
+        header.named_fields(alloc, named)
     }
 }
 

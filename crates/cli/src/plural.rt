@@ -81,7 +81,7 @@ fn print<O: Write + Drop>(
 /// closed pipe:
 ///
 /// - Status 1: the rules or a text are rejected, as `rules: syntax at 4` and `text 2: limit`.
-/// - Status 2: no text, or `unknown locale: xx`.
+/// - Status 2: no text, `unknown locale: xx`, or `plural: no such type: x`.
 /// - Status 3: `memory`, or `output` where a write or the flush of `out` fails.
 pub fn run_arguments<O: Write + Drop, D: Diagnostics<ProgramError>>(
     alloc: Global,

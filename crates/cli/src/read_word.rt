@@ -16,7 +16,8 @@ use locale_data::locale;
 use number_format::{NumberFormatter, NumberReader, NumberReaderError, ParseMode};
 use std::alloc::Global;
 
-fn split_mode(option: Option<&str>) -> (ParseMode, Option<&str>)
+/// Splits the option of `read:` into the mode and the skeleton.
+pub fn split_mode(option: Option<&str>) -> (ParseMode, Option<&str>)
     ensures { IsReadOption (option_copied option.entry) result.0 (option_copied result.1) }
 {
     let Some(text) = option else {

@@ -1,6 +1,6 @@
 //! What is converted of each line: the line, or the fields that words name.
 ghost use Rattle.std.specs.Prelude.{◌≡◌, [], None, IfSome, IfOk, IfErr, OnOk};
-ghost use Rattle.cli.specs.Targets.{BeginsWithField, IsSplit, IsGroup, any_name, has_column, have_names, IsOnlyIndex, AreSeveral, HasMore, MoreFail, NamesTarget, NameNoTarget};
+ghost use Rattle.cli.specs.Targets.{BeginsWithField, IsSplit, IsGroup, any_name, has_column, have_names, IsOnlyIndex, AreSeveral, AddsNamed, GroupFails, HasMore, MoreFail, NamesTarget, NameNoTarget};
 
 use crate::columns::{Column, FieldLabel};
 use crate::conversion::Conversion;
@@ -131,6 +131,26 @@ fn first_group(words: &[String]) -> Option<Group<'_>>
     })
 }
 
+/// Adds the field that words name, with its conversion.
+fn push_named<'a>(
+    alloc: Global,
+    group: Group<'a>,
+    fields: &mut Vec<NamedField<'a>>,
+) -> Result<(), WordsError>
+    ensures ok { OnOk result (AddsNamed group.entry.column group.entry.own.now fields.old.items fields.new.items) }
+    ensures err { IfErr result (λ error. GroupFails fields.old.items error group.entry.word.now group.entry.column
+        group.entry.own.now) }
+{
+    if has_column(fields.as_slice(), group.column) {
+        return Err(WordsError::Misplaced(ShownWord::of(group.word)));
+    }
+    let conversion = parse_conversion(alloc, group.own)?;
+    if let Err(_) = fields.push(NamedField::new(group.column, conversion)) {
+        return Err(WordsError::Memory);
+    }
+    Ok(())
+}
+
 /// Parses the words of more fields.
 fn parse_more<'a>(
     alloc: Global,
@@ -141,17 +161,12 @@ fn parse_more<'a>(
     ensures ok { OnOk result (HasMore words.now fields.old.items fields.new.items) }
     ensures err { IfErr result (MoreFail words.now fields.old.items) }
 {
-    let Some(group) = first_group(words) else {
-        return Ok(());
-    };
-    if has_column(fields.as_slice(), group.column) {
-        return Err(WordsError::Misplaced(ShownWord::of(group.word)));
+    let mut left = words;
+    while let Some(group) = first_group(left) {
+        push_named(alloc, group, fields)?;
+        left = group.others;
     }
-    let conversion = parse_conversion(alloc, group.own)?;
-    if let Err(_) = fields.push(NamedField::new(group.column, conversion)) {
-        return Err(WordsError::Memory);
-    }
-    parse_more(alloc, group.others, fields)
+    Ok(())
 }
 
 /// Parses the words after the options, which name the first field.

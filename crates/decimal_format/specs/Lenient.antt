@@ -10,7 +10,9 @@ use Rattle.decimal_format.specs.Grouping.{ends_group}
 use Rattle.decimal_format.specs.Formatted.{formatted}
 use Rattle.decimal_format.specs.Reading.{Numeral, AreDigits, numeral_text, IsNumeral, IsWritten}
 
--- ---- Classes of characters, as in CLDR's lenient parsing.
+-- ---- Classes of characters: those of CLDR 48's parseLenients, without the minus signs U+2013, U+207B, U+208B and
+-- U+2796, the plus signs U+207A, U+208A, U+2795, U+FB29 and U+FE62, and the apostrophes U+02BC, U+055A, U+1FBD, U+1FBF
+-- and U+FF07. Direction marks and spaces are no sets of CLDR.
 
 -- direction marks: U+200E, U+200F, U+061C
 abbrev pub is_mark : ℕ → Bool

@@ -2,6 +2,7 @@
 pub mod Symbols
 pub mod Grouping
 pub mod Formatted
+pub mod Blocks
 pub mod Ascii
 pub mod Readable
 pub mod Reading

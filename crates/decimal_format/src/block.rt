@@ -1,5 +1,7 @@
 //! A sink of a fixed size, on the stack.
-ghost use Rattle.std.specs.Prelude.{◌≡◌, ℕ, List, [], ◌∷◌, ◌++◌, ◌+◌, ◌<◌, ◌≤◌, ◌↔◌, IsTrue, length, take, Some, OnOk, OnErr, Bool, true, false, if◌then◌else◌};
+ghost use Rattle.std.specs.Prelude.{◌≡◌, ℕ, List, [], ◌∷◌, ◌++◌, ◌+◌, ◌-◌, ◌<◌, ◌≤◌, ◌↔◌, IsTrue, length, take, Some, OnOk, OnErr, Bool, true, false, if◌then◌else◌};
+ghost use Rattle.decimal_digits.specs.AppendsPrefix.{AppendsPrefix};
+ghost use Rattle.decimal_format.specs.Blocks.{DoNotFit};
 
 use fixed_decimal::{Sink, SinkFault};
 use std::marker::Model;
@@ -7,7 +9,7 @@ use std::marker::Model;
 /// The number of bytes that a block holds.
 const SIZE: usize = 192;
 
-/// A sink that holds up to 192 bytes, and fails when more are put into it.
+/// A sink that holds up to 192 bytes. When more are put into it, it keeps the first 192 and fails.
 #[derive(Drop)]
 pub struct Block {
     bytes: [u8; SIZE],
@@ -20,7 +22,7 @@ impl Model for Block {
 
     ghost view = { λ s. (take s.len s.bytes, s.failed) };
 
-    ghost invariant = { λ s. s.len ≤ 192 };
+    ghost invariant = { λ s. (s.len ≤ 192) × (s.failed ≡ true → s.len ≡ 192) };
 }
 
 impl Block {
@@ -36,10 +38,12 @@ impl Block {
         }
     }
 
-    /// Returns the bytes that were put, in order.
+    /// Returns the bytes that were put, in order: 192 if the block has failed.
     #[inline]
     pub fn as_bytes(&self) -> &[u8]
-        ensures { result.now ≡ self.now.0 }
+        ensures value { result.now ≡ self.now.0 }
+        ensures at_most { length self.now.0 ≤ 192 }
+        ensures full { self.now.1 ≡ true → length self.now.0 ≡ 192 }
     {
         &self.bytes[..self.len]
     }
@@ -78,15 +82,26 @@ impl Block {
         self.len = end;
     }
 
+    #[inline(never)]
+    fn fail(&mut self, bytes: &[u8])
+        requires { 192 ≤ length self.old.0 + length bytes.now }
+        ensures { self.new ≡ (self.old.0 ++ take (192 - length self.old.0) bytes.now, true) }
+    {
+        let room = SIZE - self.len;
+        self.push_if(&bytes[..room], true);
+        self.failed = true;
+    }
+
     #[inline]
     pub(crate) fn append(&mut self, bytes: &[u8]) -> Result<(), SinkFault>
         ensures ok { OnOk result (self.new ≡ (self.old.0 ++ bytes.now, false)) }
         ensures had_not_failed { OnOk result (self.old.1 ≡ false) }
         ensures at_most { OnOk result (length self.new.0 ≤ 192) }
-        ensures err { OnErr result (self.new ≡ (self.old.0, true)) }
+        ensures unchanged { self.old.1 ≡ true → self.new.0 ≡ self.old.0 }
+        ensures err { OnErr result (DoNotFit self.old self.new bytes.now) }
     {
         if self.failed || !self.has_room(bytes.len()) {
-            self.failed = true;
+            self.fail(bytes);
             return Err(SinkFault);
         }
         self.push_if(bytes, true);
@@ -99,12 +114,23 @@ impl Sink for Block {
 
     ghost has_failed = { λ s. s.1 };
 
-    fn put_byte(&mut self, byte: u8) -> Result<(), SinkFault> {
+    fn put_byte(&mut self, byte: u8) -> Result<(), SinkFault>
+        ensures ok { OnOk result (self.new ≡ (self.old.0 ++ byte ∷ [], false)) }
+        ensures had_not_failed { OnOk result (self.old.1 ≡ false) }
+        ensures keeps { OnErr result (self.new ≡ (self.old.0, true)) }
+        ensures err { OnErr result (DoNotFit self.old self.new (byte ∷ [])) }
+    {
         self.append(&[byte])
     }
 
     #[inline]
-    fn put_bytes(&mut self, bytes: &[u8]) -> Result<(), SinkFault> {
+    fn put_bytes(&mut self, bytes: &[u8]) -> Result<(), SinkFault>
+        ensures ok { OnOk result (self.new ≡ (self.old.0 ++ bytes.now, false)) }
+        ensures had_not_failed { OnOk result (self.old.1 ≡ false) }
+        ensures prefix { OnErr result (AppendsPrefix (Some self.old.0) (Some self.new.0) bytes.now) }
+        ensures unchanged { self.old.1 ≡ true → self.new.0 ≡ self.old.0 }
+        ensures err { OnErr result (DoNotFit self.old self.new bytes.now) }
+    {
         self.append(bytes)
     }
 

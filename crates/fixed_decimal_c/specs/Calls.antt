@@ -1,5 +1,5 @@
 -- Calls, as C passes them.
-use Rattle.std.specs.Prelude.{◌≡◌, ℕ, ◌+◌, ◌≤◌, ◌<◌, ⊤, List, [], ◌∷◌, length, take, drop, slice_get, IsSomeAnd}
+use Rattle.std.specs.Prelude.{◌≡◌, ℕ, ℤ, pos, ◌+◌, ◌≤◌, ◌<◌, ⊤, List, [], ◌∷◌, length, take, drop, slice_get, codes, IsSomeAnd}
 use Rattle.decimal_digits.specs.declared.rounding.UnsignedRoundingMode.TheVariants as unsigned
 use Rattle.fixed_decimal.specs.declared.rounding.SignedRoundingMode.{SignedRoundingMode}
 use Rattle.fixed_decimal.specs.declared.rounding.SignedRoundingMode.TheVariants as mode
@@ -80,3 +80,47 @@ IsUnknown _ calls texts = ⊥
 abbrev pub DecodeFails : FdError → List FdCall → List ℕ → Type 0
 DecodeFails Memory calls texts = 8 < length calls
 DecodeFails error calls texts = IsUnknown error calls texts
+
+-- ---- The call that C receives for a word.
+
+-- the call with all fields 0
+abbrev pub no_call : FdCall
+no_call = record { kind = 0; option = 0; increment = 0; position = pos 0; text_start = 0; text_count = 0 }
+
+-- a call with a position, and with all other fields 0
+abbrev pub positioned : ℕ → ℤ → FdCall
+positioned kind position =
+    record { kind = kind; option = 0; increment = 0; position = position; text_start = 0; text_count = 0 }
+
+-- a call with an option, and with all other fields 0
+abbrev pub optional : ℕ → ℕ → FdCall
+optional kind option =
+    record { kind = kind; option = option; increment = 0; position = pos 0; text_start = 0; text_count = 0 }
+
+-- the call as C receives it, with the fields 0 that it does not use; an operand begins after `concat:`
+abbrev pub fd_call_of : Call → FdCall
+fd_call_of (MultiplyPow10 delta) = positioned 0 delta
+fd_call_of TrimStart = optional 1 0
+fd_call_of TrimEnd = optional 2 0
+fd_call_of TrimEndIfInteger = optional 3 0
+fd_call_of (PadStart position) = positioned 4 position
+fd_call_of (PadEnd position) = positioned 5 position
+fd_call_of (SetMaxPosition position) = positioned 6 position
+fd_call_of (Round position m i) = record {
+  kind = 7;
+  option = mode_code m;
+  increment = increment_code i;
+  position = position;
+  text_start = 0;
+  text_count = 0;
+}
+fd_call_of (SetSign s) = optional 8 (sign_code s)
+fd_call_of (ApplySignDisplay d) = optional 9 (display_code d)
+fd_call_of (Concatenate t) = record {
+  kind = 10;
+  option = 0;
+  increment = 0;
+  position = pos 0;
+  text_start = length (codes "concat:");
+  text_count = length t.now;
+}

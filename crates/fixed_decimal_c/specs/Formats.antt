@@ -4,7 +4,7 @@ use Rattle.fixed_decimal.specs.Decimal.{Decimal}
 use Rattle.fixed_decimal.specs.DecimalText.{decimal_text, read_decimal}
 use Rattle.decimal_format.specs.Formatted.{formatted}
 use Rattle.number_format.specs.declared.number_formatter.NumberFormatter.{NumberFormatter}
-use Rattle.number_format.specs.NumberText.{shown_number, IsNumberText, NeedsMemory}
+use Rattle.number_format.specs.NumberText.{shown_number, IsNumberText, FormattingNeedsMemory}
 use Rattle.fixed_decimal_c.specs.declared.error.FdError.{FdError}
 use Rattle.fixed_decimal_c.specs.declared.error.FdError.TheVariants.{Memory, Overflow, BufferTooSmall}
 use Rattle.fixed_decimal_c.specs.declared.forms.Format.{Format}
@@ -26,7 +26,7 @@ HasTextBy format v end P = (text : List ℕ) × IsTextBy format v text × P (tex
 
 -- formatting a number fails: it is shown beyond the limits, after `at` calls; or out of memory, where it needs it
 abbrev pub FormatFails : Format → Decimal → ℕ → FdError → Type 0
-FormatFails (Skeleton f) v at Memory = NeedsMemory f v
+FormatFails (Skeleton f) v at Memory = FormattingNeedsMemory f v
 FormatFails (Skeleton f) v at (Overflow place) = (place ≡ at) × (shown_number f v ≡ None)
 FormatFails format v at error = ⊥
 

@@ -13,3 +13,4 @@ pub mod NumberReadings
 pub mod Conversions
 pub mod Lines
 pub mod Categories
+pub mod Words

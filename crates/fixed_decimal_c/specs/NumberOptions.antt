@@ -1,5 +1,5 @@
 -- The options of a number that C passes.
-use Rattle.std.specs.Prelude.{◌≡◌, ℕ, ◌⊎◌, ◌==◌, ◌&&◌, Bool, true, if◌then◌else◌, Option, Some, None, unwrap_or, List, [], ◌∷◌, slice_get, slice_index}
+use Rattle.std.specs.Prelude.{◌≡◌, ℕ, ◌⊎◌, ◌==◌, ◌&&◌, Bool, if◌then◌else◌, Option, Some, None, unwrap_or, List, [], ◌∷◌, slice_get, slice_index}
 use Rattle.std.specs.Char.{is_ascii_alphabetic}
 use Rattle.decimal_format.specs.declared.grouping.GroupingStrategy.{GroupingStrategy}
 use Rattle.locale_data.specs.declared.currency.CurrencySign.{CurrencySign}

@@ -11,7 +11,6 @@ use Rattle.number_format.specs.declared.skeleton.SkeletonError.{SkeletonError}
 use Rattle.number_format.specs.declared.skeleton.SkeletonError.TheVariants as read
 use Rattle.number_format.specs.Formatters.{IsFormatter, IsFormatterError}
 use Rattle.number_format.specs.SkeletonMeaning.{skeleton_options, options_value, in_capitals}
-use Rattle.number_format.specs.SkeletonTexts.{IsShortest, HasNoSkeleton}
 use Rattle.fixed_decimal_c.specs.declared.error.FdError.{FdError}
 use Rattle.fixed_decimal_c.specs.declared.number_options.FdNumberOptions.{FdNumberOptions}
 use Rattle.fixed_decimal_c.specs.NumberOptions.{AreNumberOptions, NumberOptionsFail}
@@ -81,17 +80,16 @@ abbrev pub IsMadeBySkeleton : Result NumberFormatter FdError → List ℕ → Li
 IsMadeBySkeleton (Ok f) tag skeleton = IsFormatterFor tag skeleton f
 IsMadeBySkeleton (Err error) tag skeleton = FormatterFails error tag skeleton
 
--- the options that C passes have no skeleton, or it is out of memory; or C passes none
+-- C passes no options, or it is out of memory, or the options have no skeleton
 abbrev pub SkeletonTextFails : FdError → FdNumberOptions → Type 0
 SkeletonTextFails error c =
     NumberOptionsFail error c
-    ⊎ ((o : NumberOptions) × AreNumberOptions c o
-    × ((error ≡ Memory) ⊎ ((error ≡ NoSkeleton) × HasNoSkeleton (options_value (in_capitals o)))))
+    ⊎ ((o : NumberOptions) × AreNumberOptions c o × ((error ≡ Memory) ⊎ (error ≡ NoSkeleton)))
 
--- the shortest skeleton of the options that C passes is written if it fits; or there is none, and the buffer is as it
+-- a skeleton that reads as the options that C passes is written if it fits; or there is none, and the buffer is as it
 -- was
 abbrev pub WritesSkeleton : Result ℕ FdError → FdNumberOptions → List ℕ → List ℕ → Type 0
 WritesSkeleton answer c old new =
-    ((o : NumberOptions) × AreNumberOptions c o × (text : List ℕ) × IsShortest text (options_value (in_capitals o))
-    × Delivers answer text old new)
+    ((o : NumberOptions) × AreNumberOptions c o × (text : List ℕ)
+    × (skeleton_options text ≡ Ok (options_value (in_capitals o))) × Delivers answer text old new)
     ⊎ ((error : FdError) × (answer ≡ Err error) × SkeletonTextFails error c × (new ≡ old))

@@ -5,7 +5,7 @@ ghost use Rattle.fixed_decimal.specs.declared.rounding.SignedRoundingMode.{Signe
 ghost use Rattle.decimal_digits.specs.declared.rounding.RoundingIncrement.{RoundingIncrement};
 ghost use Rattle.fixed_decimal.specs.declared.variations.Sign.{Sign};
 ghost use Rattle.fixed_decimal.specs.declared.variations.SignDisplay.{SignDisplay};
-ghost use Rattle.fixed_decimal_c.specs.Calls.{mode_code, increment_code, sign_code, display_code, IsPart, IsCall, AreCalls, IsUnknown, DecodeFails};
+ghost use Rattle.fixed_decimal_c.specs.Calls.{mode_code, increment_code, sign_code, display_code, IsPart, IsCall, AreCalls, IsUnknown, DecodeFails, positioned, optional, fd_call_of};
 ghost use Rattle.fixed_decimal_c.specs.Runs.{Runs};
 
 use crate::error::FdError;
@@ -35,6 +35,16 @@ pub struct FdCall {
     /// The number of bytes of that operand.
     pub text_count: usize,
 }
+
+/// The call with all fields 0.
+pub(crate) const NO_CALL: FdCall = FdCall {
+    kind: 0,
+    option: 0,
+    increment: 0,
+    position: 0,
+    text_start: 0,
+    text_count: 0,
+};
 
 /// Returns the mode of a rounding with this number.
 pub(crate) fn mode(code: u8) -> Option<SignedRoundingMode>
@@ -138,6 +148,105 @@ fn decode<'t>(call: &FdCall, texts: &'t [u8]) -> Option<Call<'t>>
             None => None,
         },
         _ => None,
+    }
+}
+
+fn mode_code(mode: SignedRoundingMode) -> u8
+    ensures { result ≡ mode_code mode }
+{
+    match mode {
+        SignedRoundingMode::Ceil => 0,
+        SignedRoundingMode::Floor => 1,
+        SignedRoundingMode::Unsigned(UnsignedRoundingMode::Expand) => 2,
+        SignedRoundingMode::Unsigned(UnsignedRoundingMode::Trunc) => 3,
+        SignedRoundingMode::HalfCeil => 4,
+        SignedRoundingMode::HalfFloor => 5,
+        SignedRoundingMode::Unsigned(UnsignedRoundingMode::HalfExpand) => 6,
+        SignedRoundingMode::Unsigned(UnsignedRoundingMode::HalfTrunc) => 7,
+        SignedRoundingMode::Unsigned(UnsignedRoundingMode::HalfEven) => 8,
+    }
+}
+
+fn increment_code(increment: RoundingIncrement) -> u8
+    ensures { result ≡ increment_code increment }
+{
+    match increment {
+        RoundingIncrement::MultiplesOf1 => 1,
+        RoundingIncrement::MultiplesOf2 => 2,
+        RoundingIncrement::MultiplesOf5 => 5,
+        RoundingIncrement::MultiplesOf25 => 25,
+    }
+}
+
+fn sign_code(sign: Sign) -> u8
+    ensures { result ≡ sign_code sign }
+{
+    match sign {
+        Sign::None => 0,
+        Sign::Negative => 1,
+        Sign::Positive => 2,
+    }
+}
+
+fn display_code(display: SignDisplay) -> u8
+    ensures { result ≡ display_code display }
+{
+    match display {
+        SignDisplay::Auto => 0,
+        SignDisplay::Never => 1,
+        SignDisplay::Always => 2,
+        SignDisplay::ExceptZero => 3,
+        SignDisplay::Negative => 4,
+    }
+}
+
+fn positioned(kind: u8, position: i16) -> FdCall
+    ensures { result ≡ positioned kind position }
+{
+    FdCall {
+        kind,
+        position,
+        ..NO_CALL
+    }
+}
+
+fn optional(kind: u8, option: u8) -> FdCall
+    ensures { result ≡ optional kind option }
+{
+    FdCall {
+        kind,
+        option,
+        ..NO_CALL
+    }
+}
+
+/// Returns the call as C passes it, with the word `concat:..` of a concatenation as the texts.
+pub(crate) fn encode_call(call: Call) -> FdCall
+    ensures { result ≡ fd_call_of call.entry }
+{
+    match call {
+        Call::MultiplyPow10(distance) => positioned(0, distance),
+        Call::TrimStart => optional(1, 0),
+        Call::TrimEnd => optional(2, 0),
+        Call::TrimEndIfInteger => optional(3, 0),
+        Call::PadStart(position) => positioned(4, position),
+        Call::PadEnd(position) => positioned(5, position),
+        Call::SetMaxPosition(position) => positioned(6, position),
+        Call::Round(position, mode, increment) => FdCall {
+            kind: 7,
+            option: mode_code(mode),
+            increment: increment_code(increment),
+            position,
+            ..NO_CALL
+        },
+        Call::SetSign(sign) => optional(8, sign_code(sign)),
+        Call::ApplySignDisplay(display) => optional(9, display_code(display)),
+        Call::Concatenate(text) => FdCall {
+            kind: 10,
+            text_start: "concat:".len(),
+            text_count: text.len(),
+            ..NO_CALL
+        },
     }
 }
 

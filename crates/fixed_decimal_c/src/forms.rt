@@ -37,6 +37,16 @@ pub struct FdForm {
     pub option: u8,
 }
 
+/// The form with all fields 0.
+pub(crate) const NO_FORM: FdForm = FdForm {
+    locale: 0,
+    start: 0,
+    count: 0,
+    skeleton_start: 0,
+    skeleton_count: 0,
+    option: 0,
+};
+
 /// The forms of a conversion.
 #[repr(C)]
 #[derive(Clone, Copy)]

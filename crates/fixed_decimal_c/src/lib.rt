@@ -15,6 +15,7 @@ ghost use Rattle.fixed_decimal_c.specs.Categories.{HasCategory, HasCategoryOf};
 ghost use Rattle.fixed_decimal_c.specs.Formats.{FormatsNumber, FormatsBySkeleton};
 ghost use Rattle.fixed_decimal_c.specs.NumberReadings.{ReadsNumber, ReadsBySkeleton};
 ghost use Rattle.fixed_decimal_c.specs.NumberTexts.{WritesSkeleton};
+ghost use Rattle.fixed_decimal_c.specs.Words.{IsWord};
 
 mod answer;
 mod block;
@@ -23,6 +24,7 @@ mod categories;
 mod convert;
 mod error;
 mod forms;
+pub mod laws;
 mod lines;
 mod locales;
 mod number_options;
@@ -30,6 +32,7 @@ mod number_reading;
 mod number_text;
 mod numbers;
 mod texts;
+mod words;
 
 pub use answer::{FdColumn, FdNumber, FdResult, FdUnsigned};
 use answer::{encode, encode_number, encode_unsigned};
@@ -47,12 +50,14 @@ use number_reading::read_number;
 use number_text::{format_number, formatter_by_options, formatter_by_skeleton, write_skeleton};
 use numbers::{compare_texts, equal_texts, sign_of, to_i64, to_u64};
 use std::alloc::Global;
+pub use words::FdWord;
+use words::parse_word;
 
 /// Returns the version of the interface. It grows when a number, a struct or a meaning changes.
 pub fn fd_version() -> u32
-    ensures { result ≡ 4 }
+    ensures { result ≡ 5 }
 {
-    4
+    5
 }
 
 /// Makes calls in order on the decimal that `start` writes, and writes the text of the result.
@@ -177,7 +182,7 @@ pub fn fd_read_by_skeleton(
     encode(read_number(alloc, text, formatter, lenient > 0, buffer))
 }
 
-/// Writes the shortest number skeleton of the options of a number, with the code of a currency in capitals.
+/// Writes a number skeleton that reads as the options of a number, with the code of a currency in capitals.
 ///
 /// The errors, the first that holds: `UnknownOption`; `DigitOptions`; `NoSkeleton`; `BufferTooSmall`.
 pub fn fd_skeleton(alloc: Global, options: &FdNumberOptions, buffer: &mut [u8]) -> FdResult
@@ -257,4 +262,14 @@ pub fn fd_category_of(alloc: Global, rules: u64, text: &[u8]) -> FdNumber
     ensures { EncodesNumber result (λ answer. HasCategoryOf answer rules text.now) }
 {
     encode_number(category_by(alloc, rules, text))
+}
+
+/// Reads a word as the programs do: `read:LOCALE[:lenient][:SKELETON]`, a call, or
+/// `format:LOCALE[:GROUPING|:SKELETON]`. Offsets in the call and in the form count from the first byte of the word.
+///
+/// The errors: `UnknownCall`, if it is no word; `UnknownLocale`, if the tag is empty and there is no skeleton.
+pub fn fd_parse_word(word: &[u8]) -> FdWord
+    ensures { IsWord word.now result }
+{
+    parse_word(word)
 }

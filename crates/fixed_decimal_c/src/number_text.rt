@@ -95,7 +95,7 @@ pub(crate) fn formatter_by_options(
     }
 }
 
-/// Writes the shortest skeleton of the options that C passes.
+/// Writes a skeleton of the options that C passes.
 pub(crate) fn write_skeleton(
     alloc: Global,
     options: &FdNumberOptions,

@@ -12,13 +12,16 @@ ghost use Rattle.fixed_decimal_c.specs.Categories.{HasCategory, HasCategoryOf};
 ghost use Rattle.fixed_decimal_c.specs.Formats.{FormatsNumber, FormatsBySkeleton};
 ghost use Rattle.fixed_decimal_c.specs.NumberReadings.{ReadsNumber, ReadsBySkeleton};
 ghost use Rattle.fixed_decimal_c.specs.NumberTexts.{WritesSkeleton};
+ghost use Rattle.fixed_decimal_c.specs.Words.{IsWord};
 
-use fixed_decimal_c::{FdCall, FdColumn, FdForms, FdNumber, FdNumberOptions, FdResult, FdUnsigned};
+use fixed_decimal_c::{
+    FdCall, FdColumn, FdForms, FdNumber, FdNumberOptions, FdResult, FdUnsigned, FdWord,
+};
 use std::alloc::Global;
 
 #[unsafe(no_mangle)]
 pub extern "C" fn fd_version() -> u32
-    ensures { result ≡ 4 }
+    ensures { result ≡ 5 }
 {
     fixed_decimal_c::fd_version()
 }
@@ -203,4 +206,11 @@ pub extern "C" fn fd_category_of(alloc: Global, rules: u64, text: &[u8]) -> FdNu
     ensures { EncodesNumber result (λ answer. HasCategoryOf answer rules text.now) }
 {
     fixed_decimal_c::fd_category_of(alloc, rules, text)
+}
+
+#[unsafe(no_mangle)]
+pub extern "C" fn fd_parse_word(word: &[u8]) -> FdWord
+    ensures { IsWord word.now result }
+{
+    fixed_decimal_c::fd_parse_word(word)
 }

@@ -9,9 +9,8 @@ use Rattle.locale_data.specs.declared.compact_table.TheConstants.{COMPACT_SETS, 
 use Rattle.locale_data.specs.declared.formats.FormatSystem.{FormatSystem}
 use Rattle.locale_data.specs.declared.formats.LocaleFormats.{LocaleFormats}
 use Rattle.locale_data.specs.declared.formats.SystemFormats.{SystemFormats}
-use Rattle.locale_data.specs.declared.formats.TheConstants.{NO_FORMATS}
 use Rattle.locale_data.specs.declared.formats_table.TheConstants.{PATTERNS, NUMBER_SIGNS, MONEY_FORMATS, LOCALE_FORMATS, ROOT_FORMATS, FORMATS_BY_SYSTEM, FORMAT_SYSTEMS}
-use Rattle.locale_data.specs.Formats.{chosen, format_system, IsRowElse, IsLatinFormats, AreOfSystem}
+use Rattle.locale_data.specs.Formats.{chosen, format_system, no_formats, IsRowElse, IsLatinFormats, AreOfSystem}
 use Rattle.locale_data.specs.Rows.{part, unpadded, IsRowOf}
 use Rattle.locale_data.specs.SortedRows.{number, is_table}
 use Rattle.locale_data.specs.Tag.{compared}
@@ -104,7 +103,7 @@ system-fits name tag own root are = by (format_system name) refl are
         let rows = part FORMATS_BY_SYSTEM s.rows in
         let each = passes (λ (s : FormatSystem). list_all system_fits (part FORMATS_BY_SYSTEM s.rows)) FORMAT_SYSTEMS s
         rows_fit listed in (
-          else-passes _ rows NO_FORMATS tag own system_fits each refl a,
+          else-passes _ rows no_formats tag own system_fits each refl a,
           ap system_fits b ∙ passes (λ (s : FormatSystem). system_fits s.root) FORMAT_SYSTEMS s roots_fit listed,
         )
 

@@ -4,7 +4,7 @@ use Rattle.std.proofs.Math.Dec.{eqb-suc-suc}
 use Rattle.std.proofs.lemmas.Bool.Decides.{nat_tests}
 use Rattle.std.proofs.lemmas.List.{at_drop_more}
 use Rattle.std.specs.List.{starts_with}
-use Rattle.locale_data.specs.Tag.{tag_byte, compared, is_tag_prefix, from_first}
+use Rattle.locale_data.specs.Tag.{tag_byte, compared, is_tag_prefix, from_first, before_text}
 
 -- a tag is a part, or has a hyphen after it
 pub hyphen : (part tag : List ℕ)
@@ -31,3 +31,15 @@ from_first-tail text tag i inside none =
     let all = get_or tag i 0 ∷ rest in
     let absent : starts_with nat_eq (compared all) text ≡ false = cc in
     ap (from_first text) d ∙ ap (λ v. cond v (Some all) (from_first text rest)) absent
+
+-- where a text is not at an index, the part before its first occurrence has one byte more
+pub before_text-tail : (text tag : List ℕ) (i : ℕ) → i < length tag
+    → starts_with nat_eq (compared (drop i tag)) text ≡ false
+    → before_text text (drop i tag) ≡ get_or tag i 0 ∷ before_text text (drop (i + 1) tag)
+before_text-tail text tag i inside none =
+    let d = at_drop_more (λ xs. xs) tag i 0 inside in
+    let h = ap (λ xs. starts_with nat_eq (compared xs) text) d in
+    let rest = drop (i + 1) tag in
+    let all = get_or tag i 0 ∷ rest in
+    let absent : starts_with nat_eq (compared all) text ≡ false = cc in
+    ap (before_text text) d ∙ ap (λ v. cond v [] (get_or tag i 0 ∷ before_text text rest)) absent

@@ -1,11 +1,10 @@
 -- The formats of numbers in a locale and a numbering system.
-use Rattle.std.specs.Prelude.{◌≡◌, ℕ, List, Option, None, Some, unwrap_or}
+use Rattle.std.specs.Prelude.{◌≡◌, ℕ, List, replicate, Option, None, Some, unwrap_or}
 use Rattle.std.specs.Option.{option_or}
 use Rattle.locale_data.specs.declared.formats.FormatSystem.{FormatSystem}
 use Rattle.locale_data.specs.declared.formats.LocaleFormats.{LocaleFormats}
 use Rattle.locale_data.specs.declared.number_formats.NumberFormats.{NumberFormats}
 use Rattle.locale_data.specs.declared.formats.SystemFormats.{SystemFormats}
-use Rattle.locale_data.specs.declared.formats.TheConstants.{NO_FORMATS}
 use Rattle.locale_data.specs.declared.formats_table.TheConstants.{FORMATS_BY_SYSTEM, FORMAT_SYSTEMS, LOCALE_FORMATS, ROOT_FORMATS}
 use Rattle.locale_data.specs.Rows.{part, row_named, IsRowOf}
 use Rattle.locale_data.specs.Tag.{compared}
@@ -24,12 +23,23 @@ format_system name = row_named (λ s. s.name) FORMAT_SYSTEMS (compared name)
 abbrev pub IsLatinFormats : List ℕ → LocaleFormats → Type 0
 IsLatinFormats = IsRowElse (λ l. l.tag) LOCALE_FORMATS ROOT_FORMATS
 
+-- nothing in a numbering system: each format is that of `latn`
+abbrev pub no_formats : SystemFormats
+no_formats = record {
+  tag = replicate 16 32;
+  percent = None;
+  standard = None;
+  accounting = None;
+  signs = None;
+  compact = None;
+}
+
 abbrev pub IsOwnFormats : List ℕ → FormatSystem → SystemFormats → Type 0
-IsOwnFormats tag system = IsRowElse (λ l. l.tag) (part FORMATS_BY_SYSTEM system.rows) NO_FORMATS tag
+IsOwnFormats tag system = IsRowElse (λ l. l.tag) (part FORMATS_BY_SYSTEM system.rows) no_formats tag
 
 -- what a tag has in a numbering system, and what root has there
 abbrev pub AreOfSystem : Option FormatSystem → List ℕ → SystemFormats → SystemFormats → Type 0
-AreOfSystem None tag own root = (own ≡ NO_FORMATS) × (root ≡ NO_FORMATS)
+AreOfSystem None tag own root = (own ≡ no_formats) × (root ≡ no_formats)
 AreOfSystem (Some system) tag own root = IsOwnFormats tag system own × (root ≡ system.root)
 
 -- the index that a tag has in a numbering system, or else that of root there, or else that of the tag in `latn`

@@ -10,6 +10,8 @@ use Rattle.locale_data.specs.declared.patterns.MoneySeparator.TheVariants as sep
 use Rattle.locale_data.specs.declared.patterns.Pattern.{Pattern}
 use Rattle.locale_data.specs.declared.patterns.PercentSign.{PercentSign}
 use Rattle.locale_data.specs.declared.patterns.PercentSign.TheVariants as percent
+use Rattle.locale_data.specs.declared.patterns.PermilleSign.{PermilleSign}
+use Rattle.locale_data.specs.declared.patterns.PermilleSign.TheVariants as permille
 use Rattle.locale_data.specs.declared.patterns.Piece.{Piece}
 use Rattle.locale_data.specs.declared.patterns.Piece.TheVariants.{OpenParenthesis, CloseParenthesis, NoBreakSpace, NarrowNoBreakSpace, ArabicMark, LeftMark, RightMark}
 
@@ -60,3 +62,10 @@ percent_text percent.ArabicBeforeArabicMark = 217 ∷ 170 ∷ 216 ∷ 156 ∷ []
 percent_text percent.ArabicBeforeRightMark = 217 ∷ 170 ∷ 226 ∷ 128 ∷ 143 ∷ []
 percent_text percent.Enclosed = 226 ∷ 128 ∷ 142 ∷ 37 ∷ 226 ∷ 128 ∷ 142 ∷ []
 percent_text percent.Tilde = 126 ∷ []
+
+-- the bytes of a per mille sign in UTF-8: U+2030, U+0609, U+0609 before U+200F, `0/00`
+abbrev pub permille_text : PermilleSign → List ℕ
+permille_text permille.Permille = 226 ∷ 128 ∷ 176 ∷ []
+permille_text permille.Arabic = 216 ∷ 137 ∷ []
+permille_text permille.ArabicBeforeRightMark = 216 ∷ 137 ∷ 226 ∷ 128 ∷ 143 ∷ []
+permille_text permille.Ascii = 48 ∷ 47 ∷ 48 ∷ 48 ∷ []

@@ -18,7 +18,7 @@ pub struct LocaleFormats {
     pub standard: u8,
     /// The pattern of currencies in accounts.
     pub accounting: u8,
-    /// The exponent separator and the percent sign.
+    /// The exponent separator, the percent sign and the per mille sign.
     pub signs: u8,
     /// The compact patterns.
     pub compact: u8,
@@ -47,7 +47,7 @@ pub struct SystemFormats {
     pub standard: Option<u8>,
     /// The pattern of currencies in accounts.
     pub accounting: Option<u8>,
-    /// The exponent separator and the percent sign.
+    /// The exponent separator, the percent sign and the per mille sign.
     pub signs: Option<u8>,
     /// The compact patterns.
     pub compact: Option<u8>,

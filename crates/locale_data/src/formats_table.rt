@@ -5,7 +5,7 @@ use crate::patterns::ExponentSeparator::*;
 use crate::patterns::Piece::*;
 use crate::patterns::{
     Affix, AffixPair, CurrencyOverride, MoneyFormat, MoneySeparator, NumberSigns, Pattern,
-    PercentSign,
+    PercentSign, PermilleSign,
 };
 use crate::rows::TableRange;
 
@@ -247,28 +247,51 @@ pub static MONEY_FORMATS: [MoneyFormat; 7] = [
     MoneyFormat { decimal: None, grouping: None, replaced: Some(3) },
 ];
 
-/// The exponent separators and percent signs.
+/// The exponent separators, percent signs and per mille signs.
 #[rattlefmt::skip]
-pub static NUMBER_SIGNS: [NumberSigns; 19] = [
-    NumberSigns { exponent: LatinCapitalE, percent: PercentSign::Percent },
-    NumberSigns { exponent: LatinCapitalE, percent: PercentSign::Enclosed },
-    NumberSigns { exponent: LatinCapitalE, percent: PercentSign::Arabic },
-    NumberSigns { exponent: LatinSmallE, percent: PercentSign::Percent },
-    NumberSigns { exponent: TimesTen, percent: PercentSign::Percent },
-    NumberSigns { exponent: DotTen, percent: PercentSign::Percent },
-    NumberSigns { exponent: CyrillicIe, percent: PercentSign::Percent },
-    NumberSigns { exponent: AdlamMiim, percent: PercentSign::Percent },
-    NumberSigns { exponent: ArabicAlef, percent: PercentSign::ArabicBeforeArabicMark },
-    NumberSigns { exponent: ArabicHamza, percent: PercentSign::ArabicBeforeArabicMark },
-    NumberSigns { exponent: ArabicAlef, percent: PercentSign::Arabic },
-    NumberSigns { exponent: Caret, percent: PercentSign::Percent },
-    NumberSigns { exponent: ArabicAlef, percent: PercentSign::ArabicBeforeRightMark },
-    NumberSigns { exponent: Caret, percent: PercentSign::ArabicBeforeArabicMark },
-    NumberSigns { exponent: LatinCapitalE, percent: PercentSign::ArabicBeforeArabicMark },
-    NumberSigns { exponent: TimesArabicTen, percent: PercentSign::ArabicBeforeArabicMark },
-    NumberSigns { exponent: TimesArabicTen, percent: PercentSign::Arabic },
-    NumberSigns { exponent: TimesArabicTen, percent: PercentSign::Tilde },
-    NumberSigns { exponent: TimesArabicTen, percent: PercentSign::Percent },
+pub static NUMBER_SIGNS: [NumberSigns; 21] = [
+    NumberSigns { exponent: LatinCapitalE, percent: PercentSign::Percent,
+        permille: PermilleSign::Permille },
+    NumberSigns { exponent: LatinCapitalE, percent: PercentSign::Enclosed,
+        permille: PermilleSign::Permille },
+    NumberSigns { exponent: LatinCapitalE, percent: PercentSign::Arabic,
+        permille: PermilleSign::Permille },
+    NumberSigns { exponent: LatinSmallE, percent: PercentSign::Percent,
+        permille: PermilleSign::Permille },
+    NumberSigns { exponent: TimesTen, percent: PercentSign::Percent,
+        permille: PermilleSign::Permille },
+    NumberSigns { exponent: DotTen, percent: PercentSign::Percent,
+        permille: PermilleSign::Permille },
+    NumberSigns { exponent: CyrillicIe, percent: PercentSign::Percent,
+        permille: PermilleSign::Permille },
+    NumberSigns { exponent: LatinCapitalE, percent: PercentSign::Percent,
+        permille: PermilleSign::Ascii },
+    NumberSigns { exponent: AdlamMiim, percent: PercentSign::Percent,
+        permille: PermilleSign::Permille },
+    NumberSigns { exponent: ArabicAlef, percent: PercentSign::ArabicBeforeArabicMark,
+        permille: PermilleSign::Arabic },
+    NumberSigns { exponent: ArabicHamza, percent: PercentSign::ArabicBeforeArabicMark,
+        permille: PermilleSign::Arabic },
+    NumberSigns { exponent: ArabicAlef, percent: PercentSign::Arabic,
+        permille: PermilleSign::Arabic },
+    NumberSigns { exponent: LatinCapitalE, percent: PercentSign::Arabic,
+        permille: PermilleSign::Arabic },
+    NumberSigns { exponent: Caret, percent: PercentSign::Percent,
+        permille: PermilleSign::Permille },
+    NumberSigns { exponent: ArabicAlef, percent: PercentSign::ArabicBeforeRightMark,
+        permille: PermilleSign::Arabic },
+    NumberSigns { exponent: Caret, percent: PercentSign::ArabicBeforeArabicMark,
+        permille: PermilleSign::Arabic },
+    NumberSigns { exponent: LatinCapitalE, percent: PercentSign::ArabicBeforeArabicMark,
+        permille: PermilleSign::Arabic },
+    NumberSigns { exponent: TimesArabicTen, percent: PercentSign::ArabicBeforeArabicMark,
+        permille: PermilleSign::ArabicBeforeRightMark },
+    NumberSigns { exponent: TimesArabicTen, percent: PercentSign::Arabic,
+        permille: PermilleSign::Arabic },
+    NumberSigns { exponent: TimesArabicTen, percent: PercentSign::Tilde,
+        permille: PermilleSign::Arabic },
+    NumberSigns { exponent: TimesArabicTen, percent: PercentSign::Percent,
+        permille: PermilleSign::Permille },
 ];
 
 /// The formats of a tag that is not listed.
@@ -284,17 +307,17 @@ const ROOT_0: SystemFormats = SystemFormats {
 
 #[rattlefmt::skip]
 const ROOT_1: SystemFormats = SystemFormats {
-    tag: *b"                ", percent: Some(0), standard: Some(9), accounting: Some(9), signs: Some(8), compact: None,
+    tag: *b"                ", percent: Some(0), standard: Some(9), accounting: Some(9), signs: Some(9), compact: None,
 };
 
 #[rattlefmt::skip]
 const ROOT_2: SystemFormats = SystemFormats {
-    tag: *b"                ", percent: None, standard: None, accounting: None, signs: Some(16), compact: None,
+    tag: *b"                ", percent: None, standard: None, accounting: None, signs: Some(18), compact: None,
 };
 
 /// The formats of locales in `latn`.
 #[rattlefmt::skip]
-pub static LOCALE_FORMATS: [LocaleFormats; 334] = locales! {
+pub static LOCALE_FORMATS: [LocaleFormats; 336] = locales! {
     b"af              " 0 2 3 0 1 0 0; b"agq             " 0 4 4 0 0 0 0; b"ak              " 0 2 3 0 2 0 0;
     b"am              " 0 2 3 0 3 0 0; b"ar              " 0 5 6 1 4 1 0; b"ar-sa           " 0 5 6 2 4 1 0;
     b"ar-so           " 0 5 6 2 4 1 0; b"ars             " 0 5 6 2 4 1 0; b"as              " 7 8 3 0 5 0 0;
@@ -322,35 +345,36 @@ pub static LOCALE_FORMATS: [LocaleFormats; 334] = locales! {
     b"en-lv           " 0 9 9 0 30 0 3; b"en-mv           " 0 1 1 0 30 0 0; b"en-nl           " 0 13 24 0 30 0 3;
     b"en-no           " 10 9 9 0 30 0 0; b"en-pl           " 0 9 11 0 30 0 0; b"en-pt           " 0 9 11 0 30 0 3;
     b"en-ro           " 0 9 11 0 30 0 0; b"en-se           " 10 9 9 4 30 0 0; b"en-si           " 0 9 11 3 30 0 3;
-    b"en-sk           " 0 9 11 3 30 0 3; b"en-ua           " 0 9 9 0 30 0 0; b"en-us-u-va-posix" 35 36 3 0 30 0 0;
-    b"eo              " 0 18 19 0 31 5 0; b"es              " 10 9 9 0 32 6 0; b"es-419          " 0 2 2 0 139 6 0;
-    b"es-ar           " 0 1 24 0 139 6 0; b"es-bo           " 0 2 2 0 139 6 0; b"es-br           " 0 2 2 0 139 6 0;
-    b"es-bz           " 0 2 2 0 139 6 0; b"es-cl           " 0 27 27 0 139 6 0; b"es-co           " 0 1 1 0 139 6 0;
-    b"es-cr           " 0 2 2 0 139 6 0; b"es-cu           " 0 2 2 0 139 6 0; b"es-do           " 0 2 3 0 139 6 0;
-    b"es-ec           " 0 27 27 0 139 6 0; b"es-gq           " 10 2 2 0 32 6 0; b"es-gt           " 0 2 2 0 140 6 0;
-    b"es-hn           " 0 2 2 0 139 6 0; b"es-mx           " 0 2 2 0 141 6 0; b"es-ni           " 0 2 2 0 139 6 0;
-    b"es-pa           " 0 2 2 0 139 6 0; b"es-pe           " 0 1 1 0 142 6 0; b"es-pr           " 0 2 2 0 139 6 0;
-    b"es-py           " 0 13 13 0 139 6 0; b"es-sv           " 0 2 2 0 139 6 0; b"es-us           " 0 2 2 0 143 6 0;
-    b"es-uy           " 0 1 24 0 139 6 0; b"es-ve           " 0 27 27 0 139 6 0;
-    b"et              " 0 9 11 4 33 0 0; b"eu              " 20 9 11 0 34 7 0; b"ewo             " 0 9 9 0 0 0 0;
-    b"fa              " 0 21 22 0 35 1 0; b"fa-af           " 0 1 34 0 35 1 0; b"ff              " 0 9 9 0 0 0 0;
-    b"ff-adlm         " 0 1 1 0 144 0 0; b"fi              " 10 9 9 0 36 2 0; b"fil             " 0 2 3 0 37 0 0;
-    b"fo              " 10 9 11 0 38 2 0; b"fr              " 10 9 11 0 39 2 0;
-    b"fr-ca           " 10 9 11 0 145 6 0; b"fr-ch           " 0 9 11 0 39 2 4;
-    b"fy              " 0 23 24 0 40 0 0; b"ga              " 0 2 3 0 41 0 0; b"gd              " 0 2 3 0 42 0 0;
-    b"gl              " 10 9 11 0 43 2 0; b"gsw             " 10 9 9 0 44 0 0; b"gu              " 7 17 25 0 45 0 0;
-    b"guz             " 0 2 3 0 0 0 0; b"gv              " 0 2 2 0 0 0 0; b"ha              " 0 1 1 0 46 0 0;
-    b"haw             " 0 2 3 0 0 0 0; b"he              " 0 26 26 0 47 0 0; b"hi              " 7 17 17 0 48 0 0;
-    b"hi-latn         " 7 17 17 0 138 0 0; b"hr              " 10 9 9 0 49 2 0; b"hsb             " 10 9 9 0 50 2 0;
-    b"hu              " 0 9 9 0 51 0 0; b"hy              " 0 9 9 0 52 0 0; b"ia              " 0 1 24 0 53 0 0;
-    b"id              " 0 2 2 0 54 0 0; b"ie              " 0 13 13 0 0 0 0; b"ig              " 0 2 3 0 55 0 0;
-    b"in              " 0 2 2 0 54 0 0; b"is              " 0 9 9 0 56 8 0; b"it              " 0 9 9 0 57 0 0;
-    b"it-ch           " 0 33 33 0 57 0 0; b"iw              " 0 26 26 0 47 0 0; b"ja              " 0 2 3 0 58 0 0;
-    b"jmc             " 0 2 2 0 0 0 0; b"jv              " 0 1 1 0 59 0 0; b"ka              " 0 9 9 0 60 0 0;
-    b"kab             " 0 4 4 0 61 0 0; b"kam             " 0 2 3 0 0 0 0; b"kde             " 0 2 3 0 0 0 0;
-    b"kea             " 0 9 11 0 62 0 0; b"kea-cv          " 0 9 11 0 62 0 5; b"kgp             " 0 1 1 0 63 0 0;
-    b"khq             " 0 4 4 0 0 0 0; b"ki              " 0 2 3 0 0 0 0; b"kk              " 0 9 9 0 64 0 0;
-    b"kk-arab         " 0 1 1 0 146 0 0; b"kl              " 10 27 27 0 0 0 0; b"kln             " 0 2 3 0 0 0 0;
+    b"en-sk           " 0 9 11 3 30 0 3; b"en-ua           " 0 9 9 0 30 0 0; b"en-us-posix     " 35 36 3 7 30 0 0;
+    b"en-us-u-va-posix" 35 36 3 7 30 0 0; b"eo              " 0 18 19 0 31 5 0; b"es              " 10 9 9 0 32 6 0;
+    b"es-419          " 0 2 2 0 139 6 0; b"es-ar           " 0 1 24 0 139 6 0; b"es-bo           " 0 2 2 0 139 6 0;
+    b"es-br           " 0 2 2 0 139 6 0; b"es-bz           " 0 2 2 0 139 6 0; b"es-cl           " 0 27 27 0 139 6 0;
+    b"es-co           " 0 1 1 0 139 6 0; b"es-cr           " 0 2 2 0 139 6 0; b"es-cu           " 0 2 2 0 139 6 0;
+    b"es-do           " 0 2 3 0 139 6 0; b"es-ec           " 0 27 27 0 139 6 0; b"es-gq           " 10 2 2 0 32 6 0;
+    b"es-gt           " 0 2 2 0 140 6 0; b"es-hn           " 0 2 2 0 139 6 0; b"es-mx           " 0 2 2 0 141 6 0;
+    b"es-ni           " 0 2 2 0 139 6 0; b"es-pa           " 0 2 2 0 139 6 0; b"es-pe           " 0 1 1 0 142 6 0;
+    b"es-pr           " 0 2 2 0 139 6 0; b"es-py           " 0 13 13 0 139 6 0; b"es-sv           " 0 2 2 0 139 6 0;
+    b"es-us           " 0 2 2 0 143 6 0; b"es-uy           " 0 1 24 0 139 6 0;
+    b"es-ve           " 0 27 27 0 139 6 0; b"et              " 0 9 11 4 33 0 0;
+    b"eu              " 20 9 11 0 34 7 0; b"ewo             " 0 9 9 0 0 0 0; b"fa              " 0 21 22 0 35 1 0;
+    b"fa-af           " 0 1 34 0 35 1 0; b"ff              " 0 9 9 0 0 0 0; b"ff-adlm         " 0 1 1 0 144 0 0;
+    b"fi              " 10 9 9 0 36 2 0; b"fil             " 0 2 3 0 37 0 0; b"fo              " 10 9 11 0 38 2 0;
+    b"fr              " 10 9 11 0 39 2 0; b"fr-ca           " 10 9 11 0 145 6 0;
+    b"fr-ch           " 0 9 11 0 39 2 4; b"fy              " 0 23 24 0 40 0 0; b"ga              " 0 2 3 0 41 0 0;
+    b"gd              " 0 2 3 0 42 0 0; b"gl              " 10 9 11 0 43 2 0; b"gsw             " 10 9 9 0 44 0 0;
+    b"gu              " 7 17 25 0 45 0 0; b"guz             " 0 2 3 0 0 0 0; b"gv              " 0 2 2 0 0 0 0;
+    b"ha              " 0 1 1 0 46 0 0; b"haw             " 0 2 3 0 0 0 0; b"he              " 0 26 26 0 47 0 0;
+    b"hi              " 7 17 17 0 48 0 0; b"hi-latn         " 7 17 17 0 138 0 0;
+    b"hr              " 10 9 9 0 49 2 0; b"hsb             " 10 9 9 0 50 2 0; b"hu              " 0 9 9 0 51 0 0;
+    b"hy              " 0 9 9 0 52 0 0; b"ia              " 0 1 24 0 53 0 0; b"id              " 0 2 2 0 54 0 0;
+    b"ie              " 0 13 13 0 0 0 0; b"ig              " 0 2 3 0 55 0 0; b"in              " 0 2 2 0 54 0 0;
+    b"is              " 0 9 9 0 56 8 0; b"it              " 0 9 9 0 57 0 0; b"it-ch           " 0 33 33 0 57 0 0;
+    b"iw              " 0 26 26 0 47 0 0; b"ja              " 0 2 3 0 58 0 0; b"jmc             " 0 2 2 0 0 0 0;
+    b"jv              " 0 1 1 0 59 0 0; b"ka              " 0 9 9 0 60 0 0; b"kab             " 0 4 4 0 61 0 0;
+    b"kam             " 0 2 3 0 0 0 0; b"kde             " 0 2 3 0 0 0 0; b"kea             " 0 9 11 0 62 0 0;
+    b"kea-cv          " 0 9 11 0 62 0 5; b"kgp             " 0 1 1 0 63 0 0; b"khq             " 0 4 4 0 0 0 0;
+    b"ki              " 0 2 3 0 0 0 0; b"kk              " 0 9 9 0 64 0 0; b"kk-arab         " 0 1 1 0 146 0 0;
+    b"kk-cn           " 0 1 1 0 146 0 0; b"kl              " 10 27 27 0 0 0 0; b"kln             " 0 2 3 0 0 0 0;
     b"km              " 0 4 28 0 65 0 0; b"kn              " 0 2 3 0 66 0 0; b"ko              " 0 2 3 0 67 0 0;
     b"kok             " 0 17 17 0 68 0 0; b"kok-latn        " 0 17 17 0 147 0 0; b"ks              " 0 2 2 0 0 0 0;
     b"ks-deva         " 0 1 1 0 0 0 0; b"ksb             " 0 4 4 0 0 0 0; b"ksf             " 0 9 9 0 0 0 0;
@@ -416,54 +440,54 @@ pub static LOCALE_FORMATS: [LocaleFormats; 334] = locales! {
 #[rattlefmt::skip]
 pub static FORMATS_BY_SYSTEM: [SystemFormats; 145] = in_system! {
     b"ba              ", None, Some(9), Some(11), None, None; b"bs              ", Some(10), None, None, None, None;
-    b"bs-cyrl         ", Some(0), None, None, None, None; b"ff-adlm         ", None, None, None, Some(7), None;
+    b"bs-cyrl         ", Some(0), None, None, None, None; b"ff-adlm         ", None, None, None, Some(8), None;
     b"ba              ", None, Some(9), Some(11), None, None;
-    b"ar              ", None, Some(37), Some(37), Some(9), None;
-    b"ars             ", None, Some(37), Some(37), Some(9), None;
-    b"ast             ", None, None, None, Some(10), None; b"az              ", None, None, None, Some(10), None;
-    b"az-cyrl         ", None, None, None, Some(8), None; b"br              ", Some(10), None, None, None, None;
-    b"ckb             ", Some(10), None, None, Some(10), None;
-    b"cv              ", Some(10), Some(9), Some(11), Some(8), None;
-    b"eu              ", None, None, None, Some(8), None;
-    b"fa              ", None, Some(38), Some(38), Some(2), None;
-    b"fr              ", None, None, None, Some(8), None;
-    b"fr-ch           ", None, Some(9), Some(9), Some(8), None;
-    b"gd              ", None, None, None, Some(10), None; b"ha              ", None, None, None, Some(11), None;
-    b"ig              ", Some(10), Some(2), Some(2), Some(12), None;
-    b"ko              ", None, None, None, Some(8), None;
-    b"nb              ", Some(10), Some(1), Some(1), Some(8), None;
+    b"ar              ", None, Some(37), Some(37), Some(10), None;
+    b"ars             ", None, Some(37), Some(37), Some(10), None;
+    b"ast             ", None, None, None, Some(11), None; b"az              ", None, None, None, Some(11), None;
+    b"az-cyrl         ", None, None, None, Some(9), None; b"br              ", Some(10), None, None, None, None;
+    b"ckb             ", Some(10), None, None, Some(11), None;
+    b"cv              ", Some(10), Some(9), Some(11), Some(9), None;
+    b"eu              ", None, None, None, Some(9), None;
+    b"fa              ", None, Some(38), Some(38), Some(12), None;
+    b"fr              ", None, None, None, Some(9), None;
+    b"fr-ch           ", None, Some(9), Some(9), Some(9), None;
+    b"gd              ", None, None, None, Some(11), None; b"ha              ", None, None, None, Some(13), None;
+    b"ig              ", Some(10), Some(2), Some(2), Some(14), None;
+    b"ko              ", None, None, None, Some(9), None;
+    b"nb              ", Some(10), Some(1), Some(1), Some(9), None;
     b"nl              ", Some(10), None, None, None, None;
-    b"nn              ", Some(10), Some(1), Some(1), Some(8), None;
-    b"no              ", Some(10), Some(1), Some(1), Some(8), None;
+    b"nn              ", Some(10), Some(1), Some(1), Some(9), None;
+    b"no              ", Some(10), Some(1), Some(1), Some(9), None;
     b"pa              ", None, Some(17), Some(17), Some(0), None;
-    b"pa-arab         ", None, Some(9), Some(9), Some(8), None;
-    b"pa-pk           ", None, Some(9), Some(9), Some(8), None;
-    b"ps              ", None, None, None, Some(13), None; b"so              ", None, None, None, Some(14), None;
-    b"sv              ", None, None, None, Some(15), None; b"to              ", None, None, None, Some(8), None;
-    b"ur              ", None, None, None, Some(14), None; b"uz              ", None, None, None, Some(13), None;
-    b"uz-af           ", None, None, None, Some(8), None; b"uz-arab         ", None, None, None, Some(8), None;
-    b"uz-cyrl         ", None, None, None, Some(8), None; b"zh              ", None, Some(2), Some(2), None, None;
-    b"zh-hant         ", None, Some(9), Some(9), Some(8), None;
-    b"zh-hk           ", None, Some(9), Some(9), Some(8), None;
-    b"zh-mo           ", None, Some(9), Some(9), Some(8), None;
-    b"zh-tw           ", None, Some(9), Some(9), Some(8), None;
-    b"ar              ", None, None, None, Some(16), None; b"ars             ", None, None, None, Some(16), None;
-    b"az              ", None, None, None, Some(17), None; b"az-cyrl         ", None, None, None, Some(16), None;
+    b"pa-arab         ", None, Some(9), Some(9), Some(9), None;
+    b"pa-pk           ", None, Some(9), Some(9), Some(9), None;
+    b"ps              ", None, None, None, Some(15), None; b"so              ", None, None, None, Some(16), None;
+    b"sv              ", None, None, None, Some(17), None; b"to              ", None, None, None, Some(9), None;
+    b"ur              ", None, None, None, Some(16), None; b"uz              ", None, None, None, Some(15), None;
+    b"uz-af           ", None, None, None, Some(9), None; b"uz-arab         ", None, None, None, Some(9), None;
+    b"uz-cyrl         ", None, None, None, Some(9), None; b"zh              ", None, Some(2), Some(2), None, None;
+    b"zh-hant         ", None, Some(9), Some(9), Some(9), None;
+    b"zh-hk           ", None, Some(9), Some(9), Some(9), None;
+    b"zh-mo           ", None, Some(9), Some(9), Some(9), None;
+    b"zh-tw           ", None, Some(9), Some(9), Some(9), None;
+    b"ar              ", None, None, None, Some(18), None; b"ars             ", None, None, None, Some(18), None;
+    b"az              ", None, None, None, Some(19), None; b"az-cyrl         ", None, None, None, Some(18), None;
     b"ba              ", None, Some(9), Some(11), None, None; b"bs              ", Some(10), None, None, None, None;
-    b"bs-cyrl         ", Some(0), None, None, None, None; b"cv              ", None, None, None, Some(16), None;
-    b"fa              ", None, Some(38), Some(22), Some(16), None;
-    b"fa-af           ", None, Some(1), Some(34), Some(16), None;
-    b"gd              ", None, None, None, Some(16), None; b"ha              ", None, None, None, Some(11), None;
+    b"bs-cyrl         ", Some(0), None, None, None, None; b"cv              ", None, None, None, Some(18), None;
+    b"fa              ", None, Some(38), Some(22), Some(18), None;
+    b"fa-af           ", None, Some(1), Some(34), Some(18), None;
+    b"gd              ", None, None, None, Some(18), None; b"ha              ", None, None, None, Some(13), None;
     b"ks-deva         ", None, Some(2), Some(2), None, None;
-    b"nb              ", None, Some(1), Some(1), Some(16), None;
-    b"nn              ", None, Some(1), Some(1), Some(16), None;
-    b"no              ", None, Some(1), Some(1), Some(16), None;
-    b"pa              ", None, None, None, Some(16), None; b"sd-deva         ", Some(35), None, None, None, None;
-    b"sd-in           ", Some(35), None, None, None, None; b"so              ", None, None, None, Some(2), None;
-    b"sv              ", None, None, None, Some(16), None; b"tk              ", None, None, None, Some(16), None;
-    b"ur              ", None, None, None, Some(18), None; b"uz              ", None, None, None, Some(16), None;
-    b"zh-hant         ", None, None, None, Some(16), None; b"zh-hk           ", None, None, None, Some(16), None;
-    b"zh-mo           ", None, None, None, Some(16), None; b"zh-tw           ", None, None, None, Some(16), None;
+    b"nb              ", None, Some(1), Some(1), Some(18), None;
+    b"nn              ", None, Some(1), Some(1), Some(18), None;
+    b"no              ", None, Some(1), Some(1), Some(18), None;
+    b"pa              ", None, None, None, Some(18), None; b"sd-deva         ", Some(35), None, None, None, None;
+    b"sd-in           ", Some(35), None, None, None, None; b"so              ", None, None, None, Some(12), None;
+    b"sv              ", None, None, None, Some(18), None; b"tk              ", None, None, None, Some(18), None;
+    b"ur              ", None, None, None, Some(20), None; b"uz              ", None, None, None, Some(18), None;
+    b"zh-hant         ", None, None, None, Some(18), None; b"zh-hk           ", None, None, None, Some(18), None;
+    b"zh-mo           ", None, None, None, Some(18), None; b"zh-tw           ", None, None, None, Some(18), None;
     b"ba              ", None, Some(9), Some(11), None, None; b"bs              ", Some(10), None, None, None, None;
     b"bs-cyrl         ", Some(0), None, None, None, None; b"nb              ", None, Some(1), Some(1), None, None;
     b"nn              ", None, Some(1), Some(1), None, None;

@@ -1,4 +1,5 @@
-//! The symbols of decimals in each locale, as CLDR 48 has them.
+//! What each locale of CLDR 48 has for numbers: numbering systems, symbols, patterns, compact patterns, currencies and
+//! plural rules. Units and ranges are not there yet.
 //!
 //! ```
 //! let symbols = locale("hi-u-nu-deva").ok_or(UnknownLocale)?;
@@ -42,7 +43,7 @@ pub use lookup::{LocaleNumbers, locale, locale_numbers, symbols_at, system_of};
 pub use number_formats::NumberFormats;
 pub use patterns::{
     Affix, AffixPair, CurrencyOverride, ExponentSeparator, MoneyFormat, MoneySeparator,
-    NumberSigns, Pattern, PercentSign, Piece,
+    NumberSigns, Pattern, PercentSign, PermilleSign, Piece,
 };
 pub use plural_rows::{LanguageRules, RuleSet};
 pub use plurals::{

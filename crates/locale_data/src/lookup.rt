@@ -175,7 +175,7 @@ pub fn symbols_at(numbers: LocaleNumbers) -> Option<DecimalSymbols<'static>>
 /// `tag` is a tag of BCP 47, as `de-CH` or `hi-u-nu-deva`, or the name of a locale in a shell, as `de_CH.UTF-8`.
 /// Letters may be of either case, and `_`, `.` and `@` are hyphens. The locale is the listed one with the longest tag
 /// that is `tag` or has a hyphen after it there, so `de-DE` has the symbols of `de`. The numbering system is the one
-/// that `nu` names, or the default one of the locale.
+/// that `nu` names, or the default one of the locale; what follows `-x-` is for private use, and names none.
 ///
 /// The symbols are readable. Returns `None` if no tag of the locale is listed, or the numbering system is not.
 ///

@@ -41,7 +41,7 @@ impl NumberFormats {
         pattern_at(self.percent)
     }
 
-    /// Returns the exponent separator and the percent sign.
+    /// Returns the exponent separator, the percent sign and the per mille sign.
     pub fn signs(&self) -> NumberSigns
         ensures { slice_get NUMBER_SIGNS self.now.signs ≡ Some result }
     {

@@ -1,6 +1,6 @@
 //! The patterns of percent and of currencies: what is written before and after a number.
 ghost use Rattle.std.specs.Prelude.{◌≡◌};
-ghost use Rattle.locale_data.specs.Patterns.{literal_text, separator_text, exponent_text, percent_text, affixes_of};
+ghost use Rattle.locale_data.specs.Patterns.{literal_text, separator_text, exponent_text, percent_text, permille_text, affixes_of};
 
 use fixed_decimal::Sign;
 
@@ -206,6 +206,30 @@ impl PercentSign {
     }
 }
 
+/// A per mille sign.
+#[derive(Clone, Copy)]
+pub enum PermilleSign {
+    Permille,
+    Arabic,
+    ArabicBeforeRightMark,
+    /// `0/00`
+    Ascii,
+}
+
+impl PermilleSign {
+    /// Returns the text.
+    pub fn text(self) -> &'static str
+        ensures { result.now ≡ permille_text self }
+    {
+        match self {
+            PermilleSign::Permille => "\u{2030}",
+            PermilleSign::Arabic => "\u{609}",
+            PermilleSign::ArabicBeforeRightMark => "\u{609}\u{200f}",
+            PermilleSign::Ascii => "0/00",
+        }
+    }
+}
+
 /// The symbols of a numbering system that plain decimals do not have.
 #[derive(Clone, Copy)]
 pub struct NumberSigns {
@@ -213,4 +237,6 @@ pub struct NumberSigns {
     pub exponent: ExponentSeparator,
     /// The percent sign.
     pub percent: PercentSign,
+    /// The per mille sign.
+    pub permille: PermilleSign,
 }

@@ -833,7 +833,7 @@ pub static NUMBERING_SYSTEMS: [NumberingSystem; 78] = [
 
 /// The locales, each with its default numbering system.
 #[rattlefmt::skip]
-pub static LOCALES: [LocaleSymbols; 361] = [
+pub static LOCALES: [LocaleSymbols; 363] = [
     LocaleSymbols { tag: *b"af              ", system: 31, symbols: AF, sizes: THREES },
     LocaleSymbols { tag: *b"agq             ", system: 31, symbols: AF, sizes: THREES },
     LocaleSymbols { tag: *b"ak              ", system: 31, symbols: AK, sizes: THREES },
@@ -939,6 +939,7 @@ pub static LOCALES: [LocaleSymbols; 361] = [
     LocaleSymbols { tag: *b"en-si           ", system: 31, symbols: AST, sizes: THREES },
     LocaleSymbols { tag: *b"en-sk           ", system: 31, symbols: AF, sizes: THREES },
     LocaleSymbols { tag: *b"en-ua           ", system: 31, symbols: AF, sizes: THREES },
+    LocaleSymbols { tag: *b"en-us-posix     ", system: 31, symbols: AK, sizes: NO_GROUPS },
     LocaleSymbols { tag: *b"en-us-u-va-posix", system: 31, symbols: AK, sizes: NO_GROUPS },
     LocaleSymbols { tag: *b"en-za           ", system: 31, symbols: AF, sizes: THREES },
     LocaleSymbols { tag: *b"eo              ", system: 31, symbols: EN_FR, sizes: THREES },
@@ -1021,6 +1022,7 @@ pub static LOCALES: [LocaleSymbols; 361] = [
     LocaleSymbols { tag: *b"ki              ", system: 31, symbols: AK, sizes: THREES },
     LocaleSymbols { tag: *b"kk              ", system: 31, symbols: AF, sizes: THREES },
     LocaleSymbols { tag: *b"kk-arab         ", system: 31, symbols: AK, sizes: THREES },
+    LocaleSymbols { tag: *b"kk-cn           ", system: 31, symbols: AK, sizes: THREES },
     LocaleSymbols { tag: *b"kkj             ", system: 31, symbols: AST, sizes: THREES },
     LocaleSymbols { tag: *b"kl              ", system: 31, symbols: AST, sizes: THREES },
     LocaleSymbols { tag: *b"kln             ", system: 31, symbols: AK, sizes: THREES },

@@ -2,7 +2,7 @@
 ghost use Rattle.std.specs.Prelude.{◌≡◌, ◌≤◌, length, nat_eq, IfSome, IsTrue};
 ghost use Rattle.std.specs.Option.{option_copied};
 ghost use Rattle.std.specs.List.{starts_with};
-ghost use Rattle.locale_data.specs.Tag.{tag_byte, compared, from_first, first_subtag, requested_system};
+ghost use Rattle.locale_data.specs.Tag.{tag_byte, compared, from_first, without_private_use, first_subtag, requested_system};
 
 /// Returns how a byte is compared: letters in lower case, `_`, `.` and `@` as hyphens.
 pub fn tag_byte(byte: u8) -> u8
@@ -38,6 +38,17 @@ fn from_first<'a>(text: &[u8], tag: &'a [u8]) -> Option<&'a [u8]>
     None
 }
 
+fn without_private_use(tag: &[u8]) -> &[u8]
+    ensures { result.now ≡ without_private_use tag.now }
+{
+    for index in 0..tag.len() {
+        if begins_with(&tag[index..], b"-x-") {
+            return &tag[..index];
+        }
+    }
+    tag
+}
+
 fn first_subtag(tag: &[u8]) -> &[u8]
     ensures { result.now ≡ first_subtag tag.now }
 {
@@ -49,11 +60,12 @@ fn first_subtag(tag: &[u8]) -> &[u8]
     tag
 }
 
-/// Returns the numbering system that a tag names: `deva` of `hi-u-nu-deva`.
+/// Returns the numbering system that a tag names: `deva` of `hi-u-nu-deva`. What follows `-x-` is for private use, and
+/// names none.
 pub fn requested_system(tag: &[u8]) -> Option<&[u8]>
     ensures { option_copied result ≡ requested_system tag.now }
 {
-    let extension = from_first(b"-u-", tag)?;
+    let extension = from_first(b"-u-", without_private_use(tag))?;
     let keyword = from_first(b"-nu-", &extension[2..])?;
     Some(first_subtag(&keyword[4..]))
 }

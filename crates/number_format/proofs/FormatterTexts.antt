@@ -37,13 +37,13 @@ pub formatter_text : (f : NumberFormatter) (v u : Decimal) (text : List ℕ) →
     → IsShownAs f v u → text ≡ text_with (reader_of f) f.options.grouping u
 formatter_text f v u text standard (pieces, is, of_pieces) shown =
     let number : is.number ≡ shown.number = some_same _ _ (sym is.number_is ∙ shown.number_is) in
-    let s = shown_sign f shown.number.significand in
+    let s = shown_sign f v shown.number.significand in
     let affixes = ap (affixes_for f) (sym shown.sign) ∙ by_is f u.sign in
     of_pieces
     ∙ ap pieces_text is.value
     ∙ (λ i. pieces_text (pieces_around f (number i).significand.absolute
     (exponent_of (standard i) (number i).exponent)
-    (around_by f (shown_sign f (number i).significand)
+    (around_by f (shown_sign f v (number i).significand)
     (compact_pattern f.formats (compact_style (standard i) f.options.style)
     (compact_magnitude f.notation (number i).significand (number i).exponent) is.category
     (is_one (number i).significand)))

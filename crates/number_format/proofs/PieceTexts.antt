@@ -1,5 +1,5 @@
 -- Pieces of a text, and their texts.
-use Rattle.std.proofs.Common.{◌≡◌, ℕ, zero, suc, ◌+◌, ◌<◌, List, [], ◌∷◌, ◌++◌, length, get_or, take, sym, ◌∙◌, ap, refl, arith, append_assoc, append-nil}
+use Rattle.std.proofs.Common.{◌≡◌, ℕ, zero, suc, ◌+◌, ◌-◌, ◌<◌, List, [], ◌∷◌, ◌++◌, length, get_or, take, drop, take-append-drop, sym, ◌∙◌, ap, subst, refl, arith, append_assoc, append-nil}
 use Rattle.std.specs.Prelude.{Option, Some, None, ℤ, pos, ◌-ℤ◌, Bool, true, false, if◌then◌else◌}
 use Rattle.std.proofs.lemmas.List.{take_more}
 use Rattle.std.proofs.lemmas.List.Concat.{flat_map-cons}
@@ -18,7 +18,7 @@ use Rattle.number_format.specs.declared.number_formatter.NumberFormatter.{Number
 use Rattle.number_format.specs.declared.text_part.PartKind.{PartKind}
 use Rattle.number_format.specs.declared.text_part.PartKind.TheVariants as kind
 use Rattle.number_format.specs.declared.text_part.TextPart.{TextPart}
-use Rattle.number_format.specs.TextParts.{Piece, Puts, part_pieces, parts_text, pieces_text, pieces_of, parts_pieces, digit_kind, magnitude_pieces, first_pieces, digit_pieces}
+use Rattle.number_format.specs.TextParts.{Piece, Puts, PutsPrefix, part_pieces, parts_text, pieces_text, pieces_of, parts_pieces, digit_kind, magnitude_pieces, first_pieces, digit_pieces}
 use Rattle.number_format.specs.FormattedNumbers.{chosen_pattern, around_of, unit_of, exponent_text, number_text, number_text_if, around_text, formatted_number_text}
 use Rattle.number_format.specs.NumberText.{pattern_around, compact_style, unit_texts, around_by, exponent_kind, exponent_pieces, exponent_of, number_part, AreParts}
 use Rattle.number_format.specs.PatternTexts.{literal, sign_text}
@@ -33,6 +33,33 @@ puts_trans (Some x) None c ps qs p q = absurd p
 puts_trans (Some x) (Some y) None ps qs p q = absurd q
 puts_trans (Some x) (Some y) (Some z) ps qs p q = q ∙ ap (λ l. l ++ qs) p ∙ append_assoc x ps qs
 
+-- a prefix of pieces is a prefix of more pieces
+pub prefix_more : (a b : Option (List Piece)) (ps qs : List Piece) → PutsPrefix a b ps → PutsPrefix a b (ps ++ qs)
+prefix_more a b ps qs (part, rest, e, p) = (part, rest ++ qs, sym (append_assoc part rest qs) ∙ ap (λ l. l ++ qs) e, p)
+
+-- pieces and then a prefix of the next
+pub then_prefix : (a b c : Option (List Piece)) (ps qs : List Piece) → Puts a b ps → PutsPrefix b c qs
+    → PutsPrefix a c (ps ++ qs)
+then_prefix a b c ps qs q (part, rest, e, p) =
+    (ps ++ part, rest, append_assoc ps part rest ∙ ap (λ l. ps ++ l) e, puts_trans a b c ps part q p)
+
+-- a piece that is rejected
+pub prefix_none : (a b : Option (List Piece)) (ps : List Piece) → Puts a b [] → PutsPrefix a b ps
+prefix_none a b ps p = ([], ps, refl, p)
+
+-- the prefix that was put, if the first, the second or the third of three lists fails
+module _ (xs ys zs : List Piece) where
+  pub first_of_three : (a b : Option (List Piece)) → PutsPrefix a b xs → PutsPrefix a b (xs ++ (ys ++ zs))
+  first_of_three a b p = prefix_more a b xs (ys ++ zs) p
+
+  pub second_of_three : (a b c : Option (List Piece)) → Puts a b xs → PutsPrefix b c ys
+      → PutsPrefix a c (xs ++ (ys ++ zs))
+  second_of_three a b c p q = then_prefix a b c xs (ys ++ zs) p (prefix_more b c ys zs q)
+
+  pub third_of_three : (a b c d : Option (List Piece)) → Puts a b xs → Puts b c ys → PutsPrefix c d zs
+      → PutsPrefix a d (xs ++ (ys ++ zs))
+  third_of_three a b c d p q r = then_prefix a b d xs (ys ++ zs) p (then_prefix b c d ys zs q r)
+
 -- one part more
 pub parts_pieces-more : (parts : List TextPart) (i : ℕ) (p : TextPart) → i < length parts → p ≡ get_or parts i p
     → parts_pieces (take (i + 1) parts) ≡ parts_pieces (take i parts) ++ pieces_of p.kind p.text.now
@@ -44,6 +71,17 @@ parts_pieces-more parts i p h e =
     ∙ append-nil (part_pieces (get_or parts i p))
     ∙ ap part_pieces (sym e))
 
+-- one part between those before it and those after it
+pub parts_pieces-split : (parts : List TextPart) (i : ℕ) (p : TextPart) → i < length parts → p ≡ get_or parts i p
+    → parts_pieces (take i parts) ++ (pieces_of p.kind p.text.now ++ parts_pieces (drop (i + 1) parts))
+    ≡ parts_pieces parts
+parts_pieces-split parts i p h e =
+    let part = pieces_of p.kind p.text.now in
+    sym (append_assoc (parts_pieces (take i parts)) part (parts_pieces (drop (i + 1) parts)))
+    ∙ ap (λ l. l ++ parts_pieces (drop (i + 1) parts)) (sym (parts_pieces-more parts i p h e))
+    ∙ sym (flat_map-append part_pieces (take (i + 1) parts) (drop (i + 1) parts))
+    ∙ ap parts_pieces (take-append-drop (i + 1) parts)
+
 -- one magnitude more
 pub first_pieces-more : (k : PartKind) (s : Symbols) (strategy : GroupingStrategy) (v : Unsigned) (i : ℕ)
     → first_pieces k s strategy v (i + 1)
@@ -52,6 +90,35 @@ unfolding first_pieces
 first_pieces-more k s strategy v i =
     let e : i + 1 ≡ suc i = omega arith in
     ap (first_pieces k s strategy v) e
+
+-- the first n magnitudes are a prefix of n + k
+pub first_pieces-prefix : (kind : PartKind) (s : Symbols) (strategy : GroupingStrategy) (v : Unsigned) (n k : ℕ)
+    → (rest : List Piece) × (first_pieces kind s strategy v n ++ rest ≡ first_pieces kind s strategy v (n + k))
+first_pieces-prefix kind s strategy v n zero =
+    let e : n ≡ n + zero = omega arith in
+    ([], append-nil (first_pieces kind s strategy v n) ∙ ap (first_pieces kind s strategy v) e)
+first_pieces-prefix kind s strategy v n (suc k) =
+    let (rest, is) = first_pieces-prefix kind s strategy v n k in
+    let e : (n + k) + 1 ≡ n + suc k = omega arith in
+    let more = magnitude_pieces kind s strategy v (v.hi -ℤ pos (n + k)) in (
+      rest ++ more,
+      sym (append_assoc (first_pieces kind s strategy v n) rest more)
+          ∙ ap (λ l. l ++ more) is
+          ∙ sym (first_pieces-more kind s strategy v (n + k))
+          ∙ ap (first_pieces kind s strategy v) e,
+    )
+
+-- a prefix of one magnitude more is a prefix of all
+pub digits_prefix : (kind : PartKind) (s : Symbols) (strategy : GroupingStrategy) (v : Unsigned) (n : ℕ)
+    (a b c : Option (List Piece)) → n < shown_count v → Puts a b (first_pieces kind s strategy v n)
+    → PutsPrefix b c (magnitude_pieces kind s strategy v (v.hi -ℤ pos n))
+    → PutsPrefix a c (digit_pieces kind s strategy v)
+digits_prefix kind s strategy v n a b c h p q =
+    let e' : (n + 1) + (shown_count v - (n + 1)) ≡ shown_count v = omega (arith, h) in
+    let (rest, is) = first_pieces-prefix kind s strategy v (n + 1) (shown_count v - (n + 1)) in
+    subst (PutsPrefix a c) (is ∙ ap (first_pieces kind s strategy v) e')
+    (prefix_more a c _ rest (subst (PutsPrefix a c) (sym (first_pieces-more kind s strategy v n))
+    (then_prefix a b c _ _ p q)))
 
 abbrev bytes : Piece → List ℕ
 bytes p = p.text

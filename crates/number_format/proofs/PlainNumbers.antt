@@ -6,7 +6,7 @@ use Rattle.fixed_decimal.specs.{Decimal.{Decimal, with_absolute, with_sign_displ
 use Rattle.decimal_format.specs.{Formatted.{absolute_text, formatted}, Symbols.{Symbols, sign_affixes}, declared.grouping.GroupingStrategy.{GroupingStrategy, TheVariants.{Auto, Never, Always, Min2}}}
 use Rattle.locale_data.specs.declared.{currency.CurrencyPattern.CurrencyPattern, patterns.Pattern.Pattern}
 use Rattle.number_format.specs.declared.{digit_options.DigitOptions.DigitOptions, number_formatter.NumberFormatter.NumberFormatter, text_part.PartKind.PartKind}
-use Rattle.number_format.specs.{DefaultDigits.AreDefaultDigits, Formatters.{IsFormatterIn, plain_options, style_sizes, with_separators}, NumberStyles.plain_pattern, NumberText.{IsNumberText, rounded_in, shown_number, exponent_of, compact_magnitude, is_one, compact_pattern, compact_style, unit_texts, around_by, pieces_around}, PatternTexts.{literal, style_around}, Scaled.{ScaledValue, scaled_value}, TextParts.{Piece, pieces_text, pieces_of, digit_pieces}}
+use Rattle.number_format.specs.{DefaultDigits.AreDefaultDigits, Formatters.{IsFormatterIn, plain_options, style_sizes, with_separators}, NumberStyles.plain_pattern, NumberText.{IsNumberText, rounded_in, number_before_cut, shown_number, exponent_of, compact_magnitude, is_one, compact_pattern, compact_style, unit_texts, around_by, pieces_around}, PatternTexts.{literal, style_around}, Scaled.{ScaledValue, scaled_value}, TextParts.{Piece, pieces_text, pieces_of, digit_pieces}}
 use Rattle.number_format.proofs.{PieceTexts.{text-append, text-of, text-of_digits}, ReadBack.unshifted}
 
 some_same : (x y : ScaledValue) → Some x ≡ Some y → x ≡ y
@@ -92,7 +92,7 @@ of_plain f own g name v text plain valid no_suffix (pieces, is, of_pieces) =
     ∙ ap pieces_text (is.value
     ∙ (λ i. pieces_around f (number i).significand.absolute
     (exponent_of (plain.options i).notation (number i).exponent)
-    (around_by f (displayed_sign (plain.options i).sign_display (number i).significand.absolute.number
+    (around_by f (displayed_sign (plain.options i).sign_display (number_before_cut f v)
     (number i).significand.sign)
     (compact_pattern f.formats (compact_style (plain.options i).notation (plain.options i).style)
     (compact_magnitude f.notation (number i).significand (number i).exponent) is.category

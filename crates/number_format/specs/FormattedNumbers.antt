@@ -1,12 +1,12 @@
 -- The text of a formatted number.
-use Rattle.std.specs.Prelude.{◌≡◌, ℕ, Bool, if◌then◌else◌, List, [], ◌++◌, Option, Some, None, unsigned_abs, ℤ}
+use Rattle.std.specs.Prelude.{◌≡◌, ◌↔◌, ℕ, Bool, IsTrue, if◌then◌else◌, List, [], ◌++◌, Option, Some, None, ℤ}
 use Rattle.fixed_decimal.specs.Decimal.{Decimal}
 use Rattle.decimal_format.specs.{Formatted.absolute_text, Symbols.Affixes, declared.grouping.GroupingStrategy.TheVariants.Never}
 use Rattle.locale_data.specs.{Compact.{pattern_for, patterns_in}, Plurals.IsCategoryAt, declared.compact.{CompactPattern.CompactPattern, CompactStyle.CompactStyle}}
 use Rattle.plural_rules.specs.Operands as operands
 use Rattle.plural_rules.specs.declared.rules.PluralCategory.{PluralCategory}
-use Rattle.number_format.specs.declared.{formatted_number.{CompactChoice.CompactChoice, FormattedNumber.FormattedNumber}, number_formatter.NumberFormatter.NumberFormatter}
-use Rattle.number_format.specs.{NumberText.{around_by, compact_style, compact_pattern, compact_magnitude, compact_power, is_one, unit_by, exponent_of, pieces_around}, PatternTexts.{Around, sign_text}, TextParts.{Piece, pieces_text}}
+use Rattle.number_format.specs.declared.{format.ShownNumber.ShownNumber, formatted_number.{CompactChoice.CompactChoice, FormattedNumber.FormattedNumber}, number_formatter.NumberFormatter.NumberFormatter}
+use Rattle.number_format.specs.{NumberText.{around_by, compact_style, compact_pattern, compact_magnitude, is_one, number_before_cut, shown_number, unit_by, whole_number, exponent_of, number_part, pieces_around}, PatternTexts.{Around, sign_text}, Scaled.scaled_value, TextParts.{Piece, pieces_text}}
 
 -- the compact pattern that is chosen, in compact notation
 abbrev pub chosen_pattern : Option CompactStyle → CompactChoice → Option CompactPattern
@@ -49,7 +49,13 @@ number_text n =
     absolute_text n.formatter.now.symbols n.formatter.now.options.grouping n.value.absolute
     ++ exponent_text n.formatter.now (exponent_of n.formatter.now.options.notation n.exponent)
 
--- the same, if the text has a number
+-- the pieces of these, if the text has a number
+abbrev pub number_pieces_if : FormattedNumber → Bool → List Piece
+number_pieces_if n has_number =
+    if has_number then number_part n.formatter.now n.value.absolute
+    (exponent_of n.formatter.now.options.notation n.exponent) else []
+
+-- the same text, if the text has a number
 abbrev pub number_text_if : FormattedNumber → Bool → List ℕ
 number_text_if n has_number = if has_number then number_text n else []
 
@@ -67,8 +73,13 @@ pub record ChoosesPattern (f : NumberFormatter) (significand : Decimal) (e : ℤ
       chosen_pattern style choice
       ≡ compact_pattern f.formats style (compact_magnitude f.notation significand e) category (is_one significand)
 
--- and the same texts around the whole text
-pub record ChoosesUnit (f : NumberFormatter) (significand : Decimal) (e : ℤ) (chosen : PluralCategory) : Type 0 where
+-- and the same texts around the whole text as the number before it is divided does
+pub record ChoosesUnit (f : NumberFormatter) (v : Decimal) (chosen : PluralCategory) : Type 0 where
   pub category : PluralCategory
-  pub of_whole : IsCategoryAt f.rules (operands.compact significand.absolute (unsigned_abs (compact_power e))) category
+  pub of_whole : IsCategoryAt f.rules (operands.plain (whole_number f v)) category
   pub texts : unit_by f chosen ≡ unit_by f category
+
+-- what is known of a rounded number: its significand, its exponent, and whether it is 0 before digits are cut off
+pub record IsShownNumber (f : NumberFormatter) (v significand : Decimal) (shown : ShownNumber) : Type 0 where
+  pub number_is : shown_number f v ≡ Some (scaled_value significand shown.exponent)
+  pub zero : IsTrue shown.is_zero ↔ (number_before_cut f v ≡ 0)

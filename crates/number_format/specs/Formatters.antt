@@ -2,8 +2,8 @@
 use Rattle.std.specs.{Prelude.{◌≡◌, ℕ, ◌+◌, ◌<◌, ◌==◌, false, ◌⊎◌, if◌then◌else◌, List, [], slice_get, slice_index, Option, Some, None, unwrap_or, IsSomeAnd, MatchOption, pos, ⊤}, Option.option_map}
 use Rattle.fixed_decimal.specs.declared.variations.SignDisplay.{SignDisplay}
 use Rattle.decimal_format.specs.{Symbols.Symbols, declared.grouping.{GroupingSizes.GroupingSizes, GroupingStrategy.GroupingStrategy}}
-use Rattle.locale_data.specs.declared.{compact.CompactStyle.CompactStyle, currency.{CurrencyPattern.CurrencyPattern, CurrencySign.CurrencySign}, formats_table.TheConstants.{PATTERNS, NUMBER_SIGNS}, number_formats.NumberFormats.NumberFormats, patterns.{NumberSigns.NumberSigns, Pattern.Pattern}, symbols_table.TheConstants.LOCALES, plurals.PluralRuleType.TheVariants.Cardinal}
-use Rattle.locale_data.specs.{Compact.IsExponent, Currencies.IsCurrencyPattern, Formats.AreFormatsOf, Locales.{IsListed, IsLocale, IsLocaleIn, IsSystemName, IsUnknown, system_named}, Patterns.{separator_text, exponent_text}, Plurals.{rules_text_at, IsRulesText, HasNoRules}, Rows.unpadded}
+use Rattle.locale_data.specs.declared.{compact.CompactStyle.CompactStyle, currency.{CurrencyPattern.CurrencyPattern, CurrencySign.CurrencySign}, formats_table.TheConstants.{PATTERNS, NUMBER_SIGNS}, number_formats.NumberFormats.NumberFormats, patterns.{NumberSigns.NumberSigns, Pattern.Pattern}, plurals.PluralRuleType.TheVariants.Cardinal}
+use Rattle.locale_data.specs.{Compact.IsExponent, Currencies.IsCurrencyPattern, Formats.AreFormatsOf, Locales.{IsLocale, IsLocaleIn, IsSystemName, IsUnknown, system_named}, Patterns.{separator_text, exponent_text}, Plurals.{rules_text_at, IsRulesText, HasNoRules}, Rows.unpadded}
 use Rattle.number_format.specs.declared.{notation.Notation.Notation, number_formatter.{NumberFormatError.NumberFormatError, NumberFormatter.NumberFormatter}, number_options.{NumberNotation.NumberNotation, NumberOptions.NumberOptions, NumberStyle.NumberStyle}, number_style.ShownCurrency.ShownCurrency}
 use Rattle.number_format.specs.{DefaultDigits.AreDefaultDigits, NumberStyles.{plain_pattern, percent_text, text_or_nothing, in_system, IsShownBy, IsShownCurrency}, NumberText.compact_style}
 
@@ -67,27 +67,28 @@ pub record IsFormatterIn (tag system : List ℕ) (own : Symbols) (o : NumberOpti
   pub symbols : f.symbols
       ≡ record (with_separators own written) { sizes = style_sizes written.pattern o.grouping own.sizes }
   pub pattern : f.pattern ≡ written.pattern
-  pub percent : f.percent.text.now ≡ percent_text o.style signs.percent
+  pub percent : f.percent.text.now ≡ percent_text o.style signs
   pub separator : f.separator.text.now ≡ exponent_text signs.exponent
   pub options : f.options ≡ o
   pub notation_is : IsNotationBy f.formats o.notation (compact_style o.notation o.style) f.notation
   pub digits : MatchOption o.digits (AreDefaultDigits o f.digits) (λ given. f.digits ≡ Some given)
 
--- the formatter of a tag and options, in the numbering system of the options, or else that of the tag
+-- the formatter of a known tag and options, in the numbering system of the options, or else that of the tag
 pub record IsFormatter (tag : List ℕ) (o : NumberOptions) (f : NumberFormatter) : Type 0 where
+  pub known : ¬ IsUnknown tag
   pub system : List ℕ
   pub own : Symbols
   pub in_system_of : MatchOption o.numbering_system (IsLocale tag own × IsSystemName tag system)
       (λ name. IsLocaleIn tag system own × (system ≡ text_or_nothing (unpadded name)))
   pub made : IsFormatterIn tag system own o f
 
--- the tag is unknown, or has no plural rules, which each listed locale has; or the numbering system of the options is
--- not listed
+-- the tag is unknown, or has no plural rules, which each listed locale has; or the tag is known, and the numbering
+-- system of the options is not listed
 abbrev pub IsFormatterError : List ℕ → Option (List ℕ) → NumberFormatError → Type 0
 IsFormatterError tag name NumberFormatError.UnknownLocale = IsUnknown tag ⊎ HasNoRules tag
 IsFormatterError tag None NumberFormatError.UnknownNumberingSystem = ⊥
 IsFormatterError tag (Some name) NumberFormatError.UnknownNumberingSystem =
-    IsListed LOCALES tag None ⊎ (system_named (text_or_nothing (unpadded name)) ≡ None)
+    (¬ IsUnknown tag) × (system_named (text_or_nothing (unpadded name)) ≡ None)
 
 -- a decimal in standard notation, without digits, a scale or a sign of their own
 abbrev pub plain_options : GroupingStrategy → Option (List ℕ) → NumberOptions

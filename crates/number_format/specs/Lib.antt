@@ -5,12 +5,13 @@ pub mod Scaled
 pub mod SkeletonCounts
 pub mod SkeletonDecimals
 pub mod SkeletonChoices
+pub mod SkeletonWords
 pub mod SkeletonStems
 pub mod SkeletonOptions
 pub mod SkeletonReading
 pub mod SkeletonDigits
 pub mod SkeletonMeaning
-pub mod SkeletonTexts
+pub mod NoSkeletons
 pub mod AffixedTexts
 pub mod TextParts
 pub mod DefaultDigits

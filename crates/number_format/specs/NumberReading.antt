@@ -36,11 +36,11 @@ pub record CanRead (f : NumberFormatter) : Type 0 where
   pub readable : IsReadable f.symbols
   pub named : AreNamed f.symbols (affixes_of_formatter f)
 
--- what an error says
+-- what an error says; `Memory` is reported only where the texts are read
 abbrev pub CannotRead : NumberReaderError → NumberFormatter → Type 0
 CannotRead NumberReaderError.Notation f = ¬ IsStandard f
 CannotRead NumberReaderError.Scale f = IsStandard f × (f.options.scale ≡ negsuc 32767)
-CannotRead NumberReaderError.Memory f = CanUndo f
+CannotRead NumberReaderError.Memory f = CanRead f
 CannotRead NumberReaderError.Symbols f = CanUndo f × ¬ IsReadable f.symbols
 CannotRead NumberReaderError.Affixes f =
     CanUndo f × (IsReadable f.symbols × ¬ AreNamed f.symbols (affixes_of_formatter f))
@@ -50,7 +50,7 @@ pub record IsShownAs (f : NumberFormatter) (v u : Decimal) : Type 0 where
   pub number : ScaledValue
   pub number_is : shown_number f v ≡ Some number
   pub absolute : u.absolute ≡ number.significand.absolute
-  pub sign : u.sign ≡ shown_sign f number.significand
+  pub sign : u.sign ≡ shown_sign f v number.significand
 
 -- ---- As people type it.
 

@@ -1,7 +1,7 @@
 -- What a style of numbers writes: its pattern, its percent sign, and its currency.
 use Rattle.std.specs.{Prelude.{◌≡◌, ℕ, Bool, true, false, not, codes, ◌&&◌, if◌then◌else◌, List, [], ◌∷◌, map, Option, Some, None, MatchOption}, Char.to_ascii_uppercase, Option.option_map_or, Str.{is_utf8, bytes_eq}}
 use Rattle.decimal_format.specs.declared.grouping.GroupingSizes.{GroupingSizes}
-use Rattle.locale_data.specs.{Currencies.{currency_with, IsSymbolOf}, declared.{currency.{CurrencySymbol.CurrencySymbol, SymbolWidth.SymbolWidth}, patterns.{Affix.Affix, AffixPair.AffixPair, Pattern.Pattern, PercentSign.PercentSign, Piece.{Piece, TheVariants.{Empty, Minus, Plus, Currency}}}}}
+use Rattle.locale_data.specs.{Currencies.{currency_with, IsSymbolOf}, declared.{currency.{CurrencySymbol.CurrencySymbol, SymbolWidth.SymbolWidth}, patterns.{Affix.Affix, AffixPair.AffixPair, NumberSigns.NumberSigns, Pattern.Pattern, Piece.{Piece, TheVariants.{Empty, Minus, Plus, Currency}}}}}
 use Rattle.locale_data.specs.Patterns as pattern
 use Rattle.number_format.specs.declared.{number_options.{CurrencyDisplay.CurrencyDisplay, CurrencyStyle.CurrencyStyle, NumberStyle.NumberStyle}, number_style.ShownCurrency.ShownCurrency}
 
@@ -41,13 +41,10 @@ ends_with_currency a = is_currency (piece_or a.fourth (piece_or a.third (piece_o
 abbrev pub begins_with_currency : Affix → Bool
 begins_with_currency a = is_currency (piece_or a.first (piece_or a.second (piece_or a.third a.fourth)))
 
--- the percent sign, or the per mille sign that belongs to it: U+2030, or in Arabic U+0609
-abbrev pub percent_text : NumberStyle → PercentSign → List ℕ
-percent_text NumberStyle.Permille PercentSign.Percent = 226 ∷ 128 ∷ 176 ∷ []
-percent_text NumberStyle.Permille PercentSign.Enclosed = 226 ∷ 128 ∷ 176 ∷ []
-percent_text NumberStyle.Permille PercentSign.Tilde = 226 ∷ 128 ∷ 176 ∷ []
-percent_text NumberStyle.Permille other = 216 ∷ 137 ∷ []
-percent_text other s = pattern.percent_text s
+-- the percent sign, or the per mille sign
+abbrev pub percent_text : NumberStyle → NumberSigns → List ℕ
+percent_text NumberStyle.Permille signs = pattern.permille_text signs.permille
+percent_text other signs = pattern.percent_text signs.percent
 
 -- ---- Currencies.
 

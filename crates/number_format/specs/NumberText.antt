@@ -1,6 +1,6 @@
 -- The text of a number: what a formatter writes.
-use Rattle.std.specs.{Prelude.{◌≡◌, ℕ, ◌==◌, min, Bool, true, false, not, ◌&&◌, if◌then◌else◌, ◌⊎◌, IsSomeAnd, List, [], ◌∷◌, ◌++◌, Option, Some, None, option_and_then, slice_get, unsigned_abs, ℤ, pos, ◌+ℤ◌, int_lt}, Int.{int_max, int_min}}
-use Rattle.decimal_digits.specs.{Number.first, declared.rounding.RoundingIncrement.TheVariants.MultiplesOf25}
+use Rattle.std.specs.{Prelude.{◌≡◌, ◌≢◌, ℕ, ◌==◌, min, Bool, true, false, not, ◌&&◌, if◌then◌else◌, ◌⊎◌, IsSome, IsSomeAnd, List, [], ◌∷◌, ◌++◌, Option, Some, None, option_and_then, slice_get, unsigned_abs, ℤ, pos, ◌+ℤ◌, int_lt}, Int.{int_max, int_min}, Option.option_map_or}
+use Rattle.decimal_digits.specs.Number.{first}
 use Rattle.decimal_unsigned.specs.{Unsigned.{Unsigned, integer_value}, Edits.{multiplied_pow10, padded_start}, declared.decimal.TheConstants.INLINE_DIGITS}
 use Rattle.fixed_decimal.specs.{Decimal.{Decimal, with_absolute, displayed_sign}, DecimalText.IsLong, declared.variations.Sign.Sign}
 use Rattle.decimal_format.specs.{Symbols.{Affixes, affixes}, declared.grouping.GroupingStrategy.TheVariants.Never}
@@ -9,7 +9,8 @@ use Rattle.plural_rules.specs.declared.rules.PluralCategory.{PluralCategory}
 use Rattle.locale_data.specs.declared.{compact.{AffixText.AffixText, CompactForm.CompactForm, CompactPattern.CompactPattern, CompactStyle.CompactStyle, PercentUnit.PercentUnit}, compact_table.TheConstants.PERCENT_UNITS, number_formats.NumberFormats.NumberFormats, rows.TableRange.TableRange}
 use Rattle.locale_data.specs.{Compact.{text_of, pattern_for, compact_patterns, unit_for}, Plurals.IsCategoryAt}
 use Rattle.number_format.specs.declared.{digit_options.DigitOptions.DigitOptions, notation.Notation.Notation, number_around.NumberAffixes.NumberAffixes, number_formatter.NumberFormatter.NumberFormatter, number_options.{CompactLength.CompactLength, ExponentOptions.ExponentOptions, ExponentSign.ExponentSign, NumberNotation.NumberNotation, NumberStyle.NumberStyle}, text_part.PartKind.PartKind}
-use Rattle.number_format.specs.{NumberStyles.currency_text, PatternTexts.{Around, around, literal, sign_text, sign_pieces, space_if, style_around}, ShownDigits.base_of, TextParts.{pieces_text, pieces_of, parts_pieces, digit_pieces}, Scaled.{ScaledValue, scaled_value, scaled, exponent_at}}
+use Rattle.number_format.specs.{NumberStyles.currency_text, PatternTexts.{Around, around, literal, sign_text, sign_pieces, space_if, style_around}, ShownDigits.{rounded_whole}, TextParts.{pieces_text, pieces_of, parts_pieces, digit_pieces}, Scaled.{ScaledValue, scaled_value, scaled, raised, rounded_number, exponent_at, ScalingNeedsMemory}}
+use Rattle.number_format.specs.ShownDigits as shown_digits
 use Rattle.number_format.specs.TextParts as parts
 
 -- ---- The number: scaled, rounded, and split into a significand and an exponent.
@@ -24,9 +25,28 @@ abbrev pub shown_number : NumberFormatter → Decimal → Option ScaledValue
 shown_number f v =
     option_and_then (rounded_in f.notation f.digits) (with_absolute v (multiplied_pow10 v.absolute f.options.scale))
 
--- the sign that is shown, of the rounded number
-abbrev pub shown_sign : NumberFormatter → Decimal → Sign
-shown_sign f v = displayed_sign f.options.sign_display v.absolute.number v.sign
+-- the rounded number, with the integer digits that are cut off; 0 if a limit is passed
+abbrev pub rounded_by : Notation → Option DigitOptions → Decimal → ℕ
+rounded_by notation None v = v.absolute.number
+rounded_by notation (Some digits) v = rounded_number notation digits v
+
+abbrev pub number_before_cut : NumberFormatter → Decimal → ℕ
+number_before_cut f v =
+    option_map_or (rounded_by f.notation f.digits) (with_absolute v (multiplied_pow10 v.absolute f.options.scale)) 0
+
+-- the sign that is shown with a significand: that of the rounded number, also if its digits are cut off: `+0` of 1000
+-- by at most three integer digits
+abbrev pub shown_sign : NumberFormatter → Decimal → Decimal → Sign
+shown_sign f v significand = displayed_sign f.options.sign_display (number_before_cut f v) significand.sign
+
+-- the number before compact notation divides it, scaled and rounded; as it is if a limit is passed
+abbrev pub whole_by : Option DigitOptions → Decimal → Unsigned
+whole_by None v = v.absolute
+whole_by (Some digits) v = rounded_whole digits v
+
+abbrev pub whole_number : NumberFormatter → Decimal → Unsigned
+whole_number f v =
+    option_map_or (whole_by f.digits) (with_absolute v (multiplied_pow10 v.absolute f.options.scale)) v.absolute
 
 -- ---- Before and after the number.
 
@@ -183,17 +203,16 @@ exponent_of (NumberNotation.Engineering o) e = Some (shown_exponent o e)
 exponent_of other e = None
 
 -- the pieces of a number, with their kinds; compact patterns are by the plural category of the significand as it is
--- shown, and those around the whole text by that of the whole number
+-- shown, and those around the whole text by that of the number before it is divided
 pub record AreNumberPieces (f : NumberFormatter) (v : Decimal) (pieces : List parts.Piece) : Type 0 where
   pub number : ScaledValue
   pub category : PluralCategory
   pub whole : PluralCategory
   pub number_is : shown_number f v ≡ Some number
   pub of_significand : IsCategoryAt f.rules (operands.plain number.significand.absolute) category
-  pub of_whole : IsCategoryAt f.rules
-      (operands.compact number.significand.absolute (unsigned_abs (compact_power number.exponent))) whole
+  pub of_whole : IsCategoryAt f.rules (operands.plain (whole_number f v)) whole
   pub value : pieces ≡ pieces_around f number.significand.absolute (exponent_of f.options.notation number.exponent)
-      (around_by f (shown_sign f number.significand)
+      (around_by f (shown_sign f v number.significand)
       (compact_pattern f.formats (compact_style f.options.notation f.options.style)
       (compact_magnitude f.notation number.significand number.exponent) category
       (is_one number.significand))) (unit_by f whole)
@@ -208,7 +227,38 @@ HasNumberText f v P = (text : List ℕ) × IsNumberText f v text × P text
 
 -- ---- Out of memory.
 
--- the number has more digits than are kept without an allocation, or is rounded by an increment of 25
+-- in a rounding; without digits nothing is rounded
+abbrev pub RoundingNeedsMemory : Notation → Option DigitOptions → Decimal → Type 0
+RoundingNeedsMemory notation None v = ⊥
+RoundingNeedsMemory notation (Some digits) v =
+    ScalingNeedsMemory INLINE_DIGITS notation digits v.sign (raised notation v.absolute.number)
+
+-- in a rounding of the scaled number
 abbrev pub NeedsMemory : NumberFormatter → Decimal → Type 0
 NeedsMemory f v =
-    IsLong INLINE_DIGITS v ⊎ IsSomeAnd f.digits (λ o. base_of o.precision ≡ MultiplesOf25)
+    IsSomeAnd (with_absolute v (multiplied_pow10 v.absolute f.options.scale)) (RoundingNeedsMemory f.notation f.digits)
+
+-- in the rounding of the number before compact notation divides it
+abbrev pub WholeRoundingNeedsMemory : NumberFormatter → Decimal → Type 0
+WholeRoundingNeedsMemory f v =
+    IsSomeAnd (with_absolute v (multiplied_pow10 v.absolute f.options.scale))
+    (λ w. IsSomeAnd f.digits (λ o. shown_digits.NeedsMemory INLINE_DIGITS o w.sign 0 w.absolute.number))
+
+-- percent in compact notation rounds a copy of the number, for the category of its pattern: in this rounding, or for
+-- the copy of a number of more digits than are kept without an allocation
+abbrev pub WholeNeedsMemory : NumberFormatter → Decimal → Type 0
+WholeNeedsMemory f v =
+    IsSome (compact_style f.options.notation f.options.style) × (f.options.style ≡ NumberStyle.Percent)
+    × (IsLong INLINE_DIGITS v ⊎ WholeRoundingNeedsMemory f v)
+
+-- in a rounding, or for the category of percent in compact notation
+abbrev pub WritingNeedsMemory : NumberFormatter → Decimal → Type 0
+WritingNeedsMemory f v = NeedsMemory f v ⊎ WholeNeedsMemory f v
+
+-- the number is copied before it is rounded: always, except in standard notation without a scale
+abbrev pub IsCopied : NumberFormatter → Type 0
+IsCopied f = f.notation ≡ Notation.Standard → f.options.scale ≢ pos 0
+
+-- as in writing; or for a copy of a number of more digits than are kept without an allocation
+abbrev pub FormattingNeedsMemory : NumberFormatter → Decimal → Type 0
+FormattingNeedsMemory f v = WritingNeedsMemory f v ⊎ (IsCopied f × IsLong INLINE_DIGITS v)

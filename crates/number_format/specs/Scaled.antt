@@ -1,6 +1,7 @@
 -- The significand and the exponent that a notation writes for a number.
 use Rattle.std.specs.Prelude.{◌≡◌, ℕ, ◌+◌, ◌*◌, ◌/◌, ◌^◌, ◌<◌, ◌⊎◌, nat_lt, if◌then◌else◌, slice_index, Option, Some, None, option_map, option_and_then, unsigned_abs, ℤ, pos, ◌+ℤ◌, ◌-ℤ◌, ◌≤ℤ◌, int_lt}
 use Rattle.std.specs.Int.{int_max, int_min, int_rem_euclid}
+use Rattle.std.specs.Option.{option_map_or}
 use Rattle.decimal_digits.specs.Number.{number_limit, weight, first, last, lowest_magnitude}
 use Rattle.fixed_decimal.specs.Decimal.{Decimal}
 use Rattle.fixed_decimal.specs.declared.variations.Sign.{Sign}
@@ -64,6 +65,11 @@ settled notation o sign n =
     let next = carried_exponent notation n r.number in
     if nat_lt exponent next then option_map (settled_with next) (rounded_within o sign next r.number)
     else Some (settled_with exponent r)) (rounded_within o sign exponent n)
+
+-- the rounded number, with the digits that are cut off; 0 if a limit is passed
+abbrev pub rounded_number : Notation → DigitOptions → Decimal → ℕ
+rounded_number notation o v =
+    option_map_or (λ s. s.number) (settled notation o v.sign (raised notation v.absolute.number)) 0
 
 -- out of memory in the rounding, or in the second one after a carry
 abbrev pub ScalingNeedsMemory : ℕ → Notation → DigitOptions → Sign → ℕ → Type 0

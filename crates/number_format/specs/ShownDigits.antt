@@ -3,6 +3,7 @@
 -- below -32768 is 1 unit: at such a position nothing is rounded.
 use Rattle.std.specs.Prelude.{◌≡◌, ℕ, ◌*◌, ◌%◌, ◌^◌, ◌<◌, Bool, true, false, not, ◌||◌, if◌then◌else◌, Option, Some, None, ℤ, pos, ◌+ℤ◌, ◌-ℤ◌, ◌≤ℤ◌, int_lt, int_le}
 use Rattle.std.specs.Int.{int_max, int_min}
+use Rattle.std.specs.Option.{option_map_or}
 use Rattle.decimal_digits.specs.Number.{number_limit, weight, first, last, size, lowest_magnitude, highest_magnitude}
 use Rattle.decimal_digits.specs.Rounding.{step_of, unit_at, rounded_number, DigitRoundingNeedsMemory}
 use Rattle.decimal_digits.specs.declared.rounding.RoundError.{RoundError}
@@ -154,6 +155,20 @@ abbrev pub rounded_within : DigitOptions → Sign → ℕ → ℕ → Option Rou
 rounded_within o sign exponent n =
     let r = rounded_at o sign exponent n in
     if int_lt highest_magnitude (position_at o.precision exponent n) || reaches_limit r.number then None else Some r
+
+-- the digits of a rounded number that options show, none of which is cut off
+abbrev pub shown_whole : DigitOptions → ℕ → ℤ → Unsigned
+shown_whole o rounded end =
+    stripped o.trailing_zeros (record {
+      number = rounded;
+      hi = int_max (pos 0) (first rounded);
+      lo = int_min (int_min (int_max end lowest_magnitude) (pos 0)) (last rounded);
+    })
+
+-- a decimal rounded in standard notation, with all its integer digits; as it is if a limit is passed
+abbrev pub rounded_whole : DigitOptions → Decimal → Unsigned
+rounded_whole o v =
+    option_map_or (λ r. shown_whole o r.number r.last_shown) (rounded_within o v.sign 0 v.absolute.number) v.absolute
 
 -- a rounding below the limit makes one digit more than the `held` that fit without an allocation: by 25 or its tens
 abbrev pub NeedsMemory : ℕ → DigitOptions → Sign → ℕ → ℕ → Type 0

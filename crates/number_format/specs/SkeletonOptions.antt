@@ -17,12 +17,12 @@ use Rattle.number_format.specs.declared.skeleton.choices.ChosenNotation.TheVaria
 use Rattle.number_format.specs.declared.skeleton.choices.ChosenPrecision.TheVariants as precision
 use Rattle.number_format.specs.declared.skeleton.choices.ChosenUnit.TheVariants as unit
 use Rattle.number_format.specs.declared.skeleton.counts.Counts.{Counts}
-use Rattle.number_format.specs.declared.skeleton.options.TheConstants.{ALGORITHMIC}
 use Rattle.number_format.specs.declared.skeleton.stems.{Expected.Expected, Meaning.Meaning}
 use Rattle.number_format.specs.declared.skeleton.stems.Expected.TheVariants as expected
 use Rattle.number_format.specs.SkeletonCounts.{run, is_byte, is_wild}
 use Rattle.number_format.specs.SkeletonDecimals.{decimal}
 use Rattle.number_format.specs.SkeletonStems.{is_name, named}
+use Rattle.number_format.specs.SkeletonWords.{algorithmic}
 
 -- an option that none may follow
 abbrev pub last : Choice → Option Meaning
@@ -86,7 +86,7 @@ abbrev pub decimal_system : List ℕ → Option (List ℕ)
 decimal_system text = option_map (λ s. s.name) (find (λ s. is_name s.name text) NUMBERING_SYSTEMS)
 
 abbrev pub is_algorithmic : List ℕ → Bool
-is_algorithmic text = list_any (λ name. is_name name text) ALGORITHMIC
+is_algorithmic text = list_any (λ name. is_name name text) algorithmic
 
 abbrev pub system_option : List ℕ → Option Meaning
 system_option text =

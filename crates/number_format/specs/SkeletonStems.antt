@@ -1,4 +1,4 @@
--- The stems of skeletons: words, by the table `STEMS`, and those that are numbers of digits.
+-- The stems of skeletons: words, and those that are numbers of digits.
 use Rattle.std.specs.Prelude.{ℕ, ◌==◌, nat_eq, nat_lt, Bool, ◌||◌, ◌&&◌, if◌then◌else◌, List, length, drop, slice_index, find, is_none, is_some, Option, Some, None, unwrap_or}
 use Rattle.std.specs.Option.{option_map}
 use Rattle.std.specs.List.{starts_with}
@@ -10,8 +10,8 @@ use Rattle.number_format.specs.declared.skeleton.choices.{ChosenPrecision.Chosen
 use Rattle.number_format.specs.declared.skeleton.counts.Counts.{Counts}
 use Rattle.number_format.specs.declared.skeleton.stems.Expected.TheVariants as expected
 use Rattle.number_format.specs.declared.skeleton.stems.Meaning.{Meaning}
-use Rattle.number_format.specs.declared.skeleton.stems.TheConstants.{STEMS}
 use Rattle.number_format.specs.SkeletonCounts.{run, counts}
+use Rattle.number_format.specs.SkeletonWords.{stems}
 
 -- the text that is padded with spaces
 abbrev pub is_name : List ℕ → List ℕ → Bool
@@ -20,7 +20,7 @@ is_name padded text = starts_with nat_eq padded text && (slice_index padded (len
 -- a stem that is a word
 abbrev pub named : List ℕ → Option Meaning
 named text =
-    option_map (λ s. record { choice = s.choice; expected = s.expected }) (find (λ s. is_name s.text text) STEMS)
+    option_map (λ s. record { choice = s.choice; expected = s.expected }) (find (λ s. is_name s.text text) stems)
 
 -- `.*` is any number of fraction digits, but none beside significant digits
 abbrev pub is_any : Counts → Bool

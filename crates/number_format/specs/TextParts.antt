@@ -23,6 +23,10 @@ Puts None new more = ⊤
 Puts (Some pieces) None more = ⊥
 Puts (Some pieces) (Some others) more = others ≡ pieces ++ more
 
+-- known pieces grow by a prefix of others
+abbrev pub PutsPrefix : Option (List Piece) → Option (List Piece) → List Piece → Type 0
+PutsPrefix old new more = (part rest : List Piece) × (part ++ rest ≡ more) × Puts old new part
+
 -- a text as a piece; an empty text is none
 abbrev pub pieces_of : PartKind → List ℕ → List Piece
 pieces_of kind [] = []

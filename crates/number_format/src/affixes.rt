@@ -86,6 +86,19 @@ fn are_suffixes_apart(symbols: &DecimalSymbols<'_>, first: &str, second: &str) -
     }
 }
 
+pub(crate) fn are_pair_apart(
+    symbols: &DecimalSymbols<'_>,
+    first: Affixes<'_>,
+    second: Affixes<'_>,
+) -> bool
+    requires { IsReadable symbols.now }
+    ensures { IsTrue result ↔ ArePairApart symbols.now (affixes first.entry.prefix.now first.entry.suffix.now)
+        (affixes second.entry.prefix.now second.entry.suffix.now) }
+{
+    are_prefixes_apart(symbols, first.prefix, second.prefix)
+        || are_suffixes_apart(symbols, first.suffix, second.suffix)
+}
+
 impl SignAffixes {
     /// Makes the affixes of the three signs: `none` are those of a number without a sign.
     ///
@@ -125,10 +138,7 @@ impl SignAffixes {
         requires { IsReadable symbols.now }
         ensures { IsTrue result ↔ ArePairApart symbols.now (by_sign self.now first) (by_sign self.now second) }
     {
-        let first = self.of_sign(first);
-        let second = self.of_sign(second);
-        are_prefixes_apart(symbols, first.prefix, second.prefix)
-            || are_suffixes_apart(symbols, first.suffix, second.suffix)
+        are_pair_apart(symbols, self.of_sign(first), self.of_sign(second))
     }
 
     /// Returns whether the prefix before a number or the suffix after it names its sign, so that no text is that of

@@ -1,9 +1,9 @@
 //! Rounds a decimal to the digits that options show.
-ghost use Rattle.std.specs.Prelude.{◌≡◌, ◌+◌, ◌%◌, ◌≤◌, pos, IsErrOf, MatchResult};
+ghost use Rattle.std.specs.Prelude.{◌≡◌, ◌+◌, ◌%◌, ◌≤◌, pos, IfErr, IsErrOf, OnOk, MatchResult};
 ghost use Rattle.decimal_digits.specs.Number.{weight, size};
 ghost use Rattle.decimal_digits.specs.Rounding.{unit_at};
 ghost use Rattle.decimal_unsigned.specs.Rounded.{ChangesInPlace};
-ghost use Rattle.number_format.specs.ShownDigits.{base_of, rounded_with, stripped, shown, IsApplied, ApplyFails, IsRoundedAt, RoundingFailsAt};
+ghost use Rattle.number_format.specs.ShownDigits.{base_of, rounded_with, rounded_whole, stripped, shown, shown_whole, NeedsMemory, IsApplied, ApplyFails, IsRoundedAt, RoundingFailsAt};
 
 use crate::digit_options::{DigitOptions, TrailingZeros};
 use fixed_decimal::{DigitStore, RoundError, Signed, Steps, UnsignedOver};
@@ -107,6 +107,35 @@ impl DigitOptions {
     {
         self.cut_integer_digits(value);
         value.pad_start(self.integer.min as i16);
+        value.pad_end(last.clamp(-32768, 0) as i16);
+        self.trailing_zeros.strip(value);
+    }
+}
+
+impl DigitOptions {
+    /// Rounds a decimal as in standard notation, and cuts no integer digit off; beyond a limit the value is unchanged.
+    pub(crate) fn show_whole<D: DigitStore>(
+        &self,
+        value: &mut Signed<UnsignedOver<D>>,
+    ) -> Result<(), RoundError>
+        ensures ok { OnOk result (value.new.absolute ≡ rounded_whole self.now value.old) }
+        ensures err { IfErr result
+            (λ e. (e ≡ RoundError.Memory) × NeedsMemory D.L self.now value.old.sign 0 value.old.absolute.number) }
+    {
+        match self.round_at(value, 0, &mut Steps::new()) {
+            Ok(last) => {
+                self.pad_whole(&mut value.absolute, last);
+                Ok(())
+            }
+            Err(RoundError::Limit) => Ok(()),
+            Err(RoundError::Memory) => Err(RoundError::Memory),
+        }
+    }
+
+    fn pad_whole<D: DigitStore>(&self, value: &mut UnsignedOver<D>, last: i32)
+        ensures { value.new ≡ shown_whole self.now value.old.number last }
+    {
+        value.pad_start(1);
         value.pad_end(last.clamp(-32768, 0) as i16);
         self.trailing_zeros.strip(value);
     }

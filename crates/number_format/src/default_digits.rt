@@ -50,7 +50,8 @@ impl NumberOptions {
         }
     }
 
-    /// Returns the numbers of fraction digits that ECMA-402 has for the style and the notation.
+    /// Returns the numbers of fraction digits that ECMA-402 has for the style and the notation; of money those of the
+    /// currency in each notation, as node, where ECMA-402 has them in standard notation only.
     pub fn digit_defaults(&self) -> DigitDefaults
         ensures { IsDefault self.now result }
     {

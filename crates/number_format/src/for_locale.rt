@@ -98,7 +98,7 @@ impl NumberFormatter {
     /// # Errors
     ///
     /// - `UnknownLocale`: [`locale`] returns `None`.
-    /// - `UnknownNumberingSystem`: no numbering system has the name that the options have.
+    /// - `UnknownNumberingSystem`: it returns symbols, and no numbering system has the name that the options have.
     pub fn try_new(tag: &str, options: NumberOptions) -> Result<NumberFormatter, NumberFormatError>
         ensures ok { IfOk result (λ f. IsFormatter tag.now options f) }
         ensures err { IfErr result (λ e. IsFormatterError tag.now options.numbering_system e) }
@@ -139,7 +139,7 @@ impl NumberFormatter {
         let sizes = style_sizes(&written.pattern, options.grouping, own);
         let symbols = with_separators(symbols, &written).with_sizes(sizes);
         let signs = formats.signs();
-        let percent = percent_text(options.style, signs.percent);
+        let percent = percent_text(options.style, signs);
         let mut formatter = NumberFormatter {
             symbols,
             pattern: written.pattern,

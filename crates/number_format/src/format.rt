@@ -1,16 +1,19 @@
 //! Formatting of a number.
-ghost use Rattle.std.specs.{Prelude.{◌≡◌, ◌≢◌, Some, None, pos, ◌+ℤ◌, true, IfOk, IfErr, IsErrOf, IsSomeAnd, OnOk, OnErr}, Int.int_min, Io.KnownBytes.Appends};
-ghost use Rattle.decimal_digits.specs.{AppendsPrefix.AppendsPrefix, Number.first, declared.rounding.RoundingIncrement.TheVariants.MultiplesOf25};
-ghost use Rattle.fixed_decimal.specs.Decimal.{Decimal};
+ghost use Rattle.std.specs.{Prelude.{◌≡◌, ◌≢◌, ◌↔◌, ◌⊎◌, ℕ, Some, None, pos, ◌+ℤ◌, true, IsTrue, IfOk, IfErr, IsErrOf, OnOk, OnErr}, Int.int_min, Io.KnownBytes.Appends};
+ghost use Rattle.decimal_digits.specs.{AppendsPrefix.AppendsPrefix, Number.first};
+ghost use Rattle.decimal_unsigned.specs.declared.decimal.TheConstants.{INLINE_DIGITS};
+ghost use Rattle.fixed_decimal.specs.{Decimal.{Decimal, displayed_sign}, DecimalText.IsLong};
 ghost use Rattle.locale_data.specs.Plurals.{IsCategoryAt};
-ghost use Rattle.number_format.specs.{FormattedNumbers.{formatted_number_pieces, formatted_number_text, ChoosesPattern, ChoosesUnit}, NumberText.{shown_number, is_one, compact_magnitude, compact_power, exponent_sign, shown_exponent, rounded_in, AreNumberPieces, IsNumberText, HasNumberText, NeedsMemory}, Scaled.scaled_value, ShownDigits.base_of};
+ghost use Rattle.plural_rules.specs.Operands.{plain};
+ghost use Rattle.number_format.specs.{FormattedNumbers.{formatted_number_pieces, formatted_number_text, ChoosesPattern, ChoosesUnit, IsShownNumber}, NumberText.{shown_number, is_one, compact_magnitude, compact_power, exponent_sign, shown_exponent, rounded_in, rounded_by, whole_number, AreNumberPieces, IsNumberText, HasNumberText, RoundingNeedsMemory, NeedsMemory, WholeRoundingNeedsMemory, WholeNeedsMemory, WritingNeedsMemory, FormattingNeedsMemory}, Scaled.scaled_value};
 
 use crate::formatted_number::{CompactChoice, FormattedNumber, NO_CHOICE};
 use crate::notation::Notation;
 use crate::number_formatter::NumberFormatter;
 use crate::number_options::{ExponentOptions, ExponentSign, NumberStyle};
 use fixed_decimal::{
-    Decimal, DecimalStore, RoundError, Sign, Sink, SinkFault, UnsignedDecimal, Writeable,
+    Decimal, DecimalStore, RoundError, Sign, SignDisplay, Sink, SinkFault, UnsignedDecimal,
+    Writeable,
 };
 use locale_data::plural_category_at;
 use plural_rules::{PluralCategory, PluralOperands};
@@ -32,6 +35,26 @@ pub enum NumberWriteError {
     Format(RoundError),
     /// The sink has failed, and has taken a prefix of the text.
     Sink,
+}
+
+/// A rounded number, besides its significand.
+#[derive(Clone, Copy)]
+pub(crate) struct ShownNumber {
+    pub(crate) exponent: i32,
+    /// Whether it is 0 before integer digits are cut off.
+    pub(crate) is_zero: bool,
+}
+
+fn displayed_sign(display: SignDisplay, is_zero: bool, sign: Sign) -> Sign
+    ensures { (number : ℕ) → (IsTrue is_zero ↔ (number ≡ 0)) → result ≡ displayed_sign display number sign }
+{
+    match (display, sign) {
+        (SignDisplay::Never, _) => Sign::None,
+        (SignDisplay::ExceptZero | SignDisplay::Negative, _) if is_zero => Sign::None,
+        (_, Sign::Negative) => sign,
+        (SignDisplay::Auto | SignDisplay::Negative, _) => Sign::None,
+        (SignDisplay::Always | SignDisplay::ExceptZero, _) => Sign::Positive,
+    }
 }
 
 fn is_one(significand: &Decimal) -> bool
@@ -90,17 +113,22 @@ pub(crate) fn shown_exponent(alloc: Global, options: ExponentOptions, exponent: 
 
 impl NumberFormatter {
     #[inline(always)]
-    fn rounded(&self, value: &mut Decimal) -> Result<i32, RoundError>
-        ensures ok { IfOk result
-            (λ e. rounded_in self.now.notation self.now.digits value.old ≡ Some (scaled_value value.new e)) }
+    fn rounded(&self, value: &mut Decimal) -> Result<ShownNumber, RoundError>
+        ensures ok { IfOk result (λ s. rounded_in self.now.notation self.now.digits value.old
+            ≡ Some (scaled_value value.new s.exponent)) }
+        ensures zero { IfOk result (λ s. IsTrue s.is_zero
+            ↔ (rounded_by self.now.notation self.now.digits value.old ≡ 0)) }
         ensures limit { IsErrOf result RoundError.Limit
             → rounded_in self.now.notation self.now.digits value.old ≡ None }
         ensures memory { IsErrOf result RoundError.Memory
-            → IsSomeAnd self.now.digits (λ o. base_of o.precision ≡ MultiplesOf25) }
+            → RoundingNeedsMemory self.now.notation self.now.digits value.old }
         ensures unchanged { self.now.notation ≡ Notation.Standard → OnErr result (value.new ≡ value.old) }
     {
         let Some(digits) = &self.digits else {
-            return Ok(0);
+            return Ok(ShownNumber {
+                exponent: 0,
+                is_zero: value.absolute.is_zero(),
+            });
         };
         match &self.notation {
             Notation::Standard => digits.show_in_place(value),
@@ -108,11 +136,10 @@ impl NumberFormatter {
         }
     }
 
-    fn shown_number(&self, value: &mut Decimal) -> Result<i32, RoundError>
-        ensures ok { IfOk result (λ e. shown_number self.now value.old ≡ Some (scaled_value value.new e)) }
+    fn shown_number(&self, value: &mut Decimal) -> Result<ShownNumber, RoundError>
+        ensures ok { IfOk result (IsShownNumber self.now value.old value.new) }
         ensures limit { IsErrOf result RoundError.Limit → shown_number self.now value.old ≡ None }
-        ensures memory { IsErrOf result RoundError.Memory
-            → IsSomeAnd self.now.digits (λ o. base_of o.precision ≡ MultiplesOf25) }
+        ensures memory { IsErrOf result RoundError.Memory → NeedsMemory self.now value.old }
         ensures unchanged { self.now.notation ≡ Notation.Standard → self.now.options.scale ≡ pos 0
             → OnErr result (value.new ≡ value.old) }
     {
@@ -126,11 +153,10 @@ impl NumberFormatter {
 
     // Not inlined: most numbers are not scaled.
     #[inline(never)]
-    fn scaled(&self, value: &mut Decimal) -> Result<i32, RoundError>
-        ensures ok { IfOk result (λ e. shown_number self.now value.old ≡ Some (scaled_value value.new e)) }
+    fn scaled(&self, value: &mut Decimal) -> Result<ShownNumber, RoundError>
+        ensures ok { IfOk result (IsShownNumber self.now value.old value.new) }
         ensures limit { IsErrOf result RoundError.Limit → shown_number self.now value.old ≡ None }
-        ensures memory { IsErrOf result RoundError.Memory
-            → IsSomeAnd self.now.digits (λ o. base_of o.precision ≡ MultiplesOf25) }
+        ensures memory { IsErrOf result RoundError.Memory → NeedsMemory self.now value.old }
     {
         if let Err(_) = value.absolute.multiply_pow10(self.options.scale) {
             return Err(RoundError::Limit);
@@ -138,11 +164,11 @@ impl NumberFormatter {
         self.rounded(value)
     }
 
-    fn show(&self, value: &mut Decimal) -> Result<i32, RoundError>
-        ensures ok { IfOk result (λ e. shown_number self.now value.old ≡ Some (scaled_value value.new e)) }
+    fn show(&self, value: &mut Decimal) -> Result<ShownNumber, RoundError>
+        ensures ok { IfOk result (IsShownNumber self.now value.old value.new) }
         ensures unchanged { OnErr result (value.new ≡ value.old) }
         ensures limit { IsErrOf result RoundError.Limit → shown_number self.now value.old ≡ None }
-        ensures memory { IsErrOf result RoundError.Memory → NeedsMemory self.now value.old }
+        ensures memory { IsErrOf result RoundError.Memory → FormattingNeedsMemory self.now value.old }
     {
         if matches!(self.notation, Notation::Standard) && self.options.scale == 0 {
             return self.shown_number(value);
@@ -151,7 +177,7 @@ impl NumberFormatter {
             return Err(RoundError::Memory);
         };
         match self.shown_number(value) {
-            Ok(exponent) => Ok(exponent),
+            Ok(shown) => Ok(shown),
             Err(error) => {
                 *value = kept;
                 Err(error)
@@ -191,16 +217,42 @@ impl NumberFormatter {
         }
     }
 
-    fn whole_category(&self, significand: &Decimal, exponent: i32) -> PluralCategory
-        ensures { ChoosesUnit self.now significand.now exponent result }
+    fn whole_category(&self, value: &Decimal) -> Result<PluralCategory, RoundError>
+        ensures ok { IfOk result (ChoosesUnit self.now value.now) }
+        ensures err { IfErr result (λ e. (e ≡ RoundError.Memory) × WholeNeedsMemory self.now value.now) }
     {
         match (self.options.compact_style(), self.options.style) {
-            (Some(_), NumberStyle::Percent) => {
-                let power = compact_power(exponent);
-                self.category(&PluralOperands::of_scaled(&significand.absolute, power))
-            }
-            _ => PluralCategory::Other,
+            (Some(_), NumberStyle::Percent) => self.undivided_category(value),
+            _ => Ok(PluralCategory::Other),
         }
+    }
+
+    fn show_whole(&self, value: &mut Decimal) -> Result<(), RoundError>
+        ensures ok { OnOk result (value.new.absolute ≡ whole_number self.now value.old) }
+        ensures err { IfErr result (λ e. (e ≡ RoundError.Memory) × WholeRoundingNeedsMemory self.now value.old) }
+    {
+        let scale = self.options.scale;
+        if let Err(_) = value.absolute.multiply_pow10(scale) {
+            return Ok(());
+        }
+        match &self.digits {
+            Some(digits) => digits.show_whole(value),
+            None => Ok(()),
+        }
+    }
+
+    // Not inlined: only percent in compact notation needs it.
+    #[inline(never)]
+    fn undivided_category(&self, value: &Decimal) -> Result<PluralCategory, RoundError>
+        ensures ok { IfOk result (IsCategoryAt self.now.rules (plain (whole_number self.now value.now))) }
+        ensures err { IfErr result (λ e. (e ≡ RoundError.Memory)
+            × (IsLong INLINE_DIGITS value.now ⊎ WholeRoundingNeedsMemory self.now value.now)) }
+    {
+        let Ok(mut whole) = value.clone() else {
+            return Err(RoundError::Memory);
+        };
+        self.show_whole(&mut whole)?;
+        Ok(self.category(&PluralOperands::of_decimal(&whole)))
     }
 
     #[inline(always)]
@@ -225,7 +277,8 @@ impl NumberFormatter {
     /// The number, unchanged:
     ///
     /// - `Limit`: a digit of the scaled or of the rounded number is above 10^32767 or below 10^-32768.
-    /// - `Memory`: out of memory, only for a number of more than `INLINE_DIGITS` digits or by an increment of 25.
+    /// - `Memory`: out of memory, for one digit more as in [`Notation::scale`], or for a copy of a number of more than
+    ///   `INLINE_DIGITS` digits. In standard notation without a scale the number is not copied.
     // Inlined, so that the number is not copied twice more.
     #[inline(always)]
     pub fn format(
@@ -237,12 +290,16 @@ impl NumberFormatter {
         ensures text { IfOk result (λ t. IsNumberText self.now value (formatted_number_text t)) }
         ensures unchanged { IfErr result (λ e. e.value ≡ value) }
         ensures limit { IfErr result (λ e. e.error ≡ RoundError.Limit → shown_number self.now value ≡ None) }
-        ensures memory { IfErr result (λ e. e.error ≡ RoundError.Memory → NeedsMemory self.now value) }
+        ensures memory { IfErr result (λ e. e.error ≡ RoundError.Memory → FormattingNeedsMemory self.now value) }
     {
+        let whole = match self.whole_category(&value) {
+            Ok(whole) => whole,
+            Err(error) => return Err(FormatError { error, value }),
+        };
         match self.show(&mut value) {
-            Ok(exponent) => {
+            Ok(shown) => {
                 let mut number = self.number(alloc, value);
-                number.choose(exponent);
+                number.choose(shown, whole);
                 Ok(number)
             }
             Err(error) => Err(FormatError { error, value }),
@@ -254,7 +311,8 @@ impl NumberFormatter {
     ///
     /// # Errors
     ///
-    /// As [`NumberWriteError`] describes.
+    /// As [`NumberWriteError`] describes. The number is not copied: `Memory` is only for one digit more, as in
+    /// [`Notation::scale`].
     #[inline(always)]
     pub fn write<W: Sink>(
         &self,
@@ -266,7 +324,8 @@ impl NumberFormatter {
             (HasNumberText self.now value (Appends (W.contents sink.old) (W.contents sink.new))) }
         ensures unchanged { IfErr result (λ e. e ≢ NumberWriteError.Sink → sink.new ≡ sink.old) }
         ensures limit { IsErrOf result (NumberWriteError.Format RoundError.Limit) → shown_number self.now value ≡ None }
-        ensures memory { IsErrOf result (NumberWriteError.Format RoundError.Memory) → NeedsMemory self.now value }
+        ensures memory { IsErrOf result (NumberWriteError.Format RoundError.Memory)
+            → WritingNeedsMemory self.now value }
         ensures failed { IsErrOf result NumberWriteError.Sink → W.has_failed sink.new ≡ true }
         ensures prefix { IsErrOf result NumberWriteError.Sink
             → HasNumberText self.now value (AppendsPrefix (W.contents sink.old) (W.contents sink.new)) }
@@ -283,17 +342,18 @@ impl NumberFormatter {
 }
 
 impl<'f> FormattedNumber<'f> {
-    /// Chooses what is written around a significand and an exponent, and sets the sign that is shown.
-    fn choose(&mut self, exponent: i32)
-        ensures { (v : Decimal) → shown_number self.old.formatter.now v ≡ Some (scaled_value self.old.value exponent)
+    /// Chooses what is written around a significand and its exponent, and sets the sign that is shown.
+    fn choose(&mut self, shown: ShownNumber, whole: PluralCategory)
+        ensures { (v : Decimal) → IsShownNumber self.old.formatter.now v self.old.value shown
+            → ChoosesUnit self.old.formatter.now v whole
             → AreNumberPieces self.old.formatter.now v (formatted_number_pieces self.new) }
     {
         let formatter = self.formatter;
-        self.choice = formatter.choice(&self.value, exponent);
-        self.whole = formatter.whole_category(&self.value, exponent);
-        self.exponent = exponent;
-        self.value
-            .apply_sign_display(formatter.options.sign_display);
+        let display = formatter.options.sign_display;
+        self.choice = formatter.choice(&self.value, shown.exponent);
+        self.whole = whole;
+        self.exponent = shown.exponent;
+        self.value.sign = displayed_sign(display, shown.is_zero, self.value.sign);
     }
 
     // The value becomes the significand in place: a copy has to wait until its digits are stored.
@@ -304,11 +364,12 @@ impl<'f> FormattedNumber<'f> {
         ensures limit { IsErrOf result RoundError.Limit
             → shown_number self.old.formatter.now self.old.value ≡ None }
         ensures memory { IsErrOf result RoundError.Memory
-            → NeedsMemory self.old.formatter.now self.old.value }
+            → WritingNeedsMemory self.old.formatter.now self.old.value }
     {
         let formatter = self.formatter;
-        let exponent = formatter.shown_number(&mut self.value)?;
-        self.choose(exponent);
+        let whole = formatter.whole_category(&self.value)?;
+        let shown = formatter.shown_number(&mut self.value)?;
+        self.choose(shown, whole);
         Ok(())
     }
 }

@@ -1,7 +1,12 @@
-//! The digits that a format of a number shows, and its exponent: what `Intl.NumberFormat` decides before it writes.
+//! Formats and reads numbers as `Intl.NumberFormat` of ECMA-402 does, with the data of CLDR, on decimals of any length.
 //!
-//! Rounding and zeros are those of `SetNumberFormatDigitOptions` and `FormatNumericToString` of ECMA-402, and exponents
-//! those of its `ComputeExponent`, on decimals of any length.
+//! - [`NumberFormatter`] writes a number in a locale by [`NumberOptions`], which a number skeleton of ICU can name:
+//!   plain numbers, percent, permille and money, in standard, scientific, engineering and compact notation.
+//! - [`NumberReader`] reads what a formatter writes.
+//! - [`DigitOptions`] and [`Notation`] decide which digits are shown, and the exponent:
+//!   `SetNumberFormatDigitOptions`, `FormatNumericToString` and `ComputeExponent` of ECMA-402.
+//!
+//! Units and ranges are not there yet.
 //!
 //! ```
 //! let digits = SignificantDigits::new(1, 3)?;

@@ -17,7 +17,7 @@ use locale_data::{NumberFormats, Pattern, RulesNumber};
 pub enum NumberFormatError {
     /// No tag of the locale is listed, or the numbering system that it names is not.
     UnknownLocale,
-    /// The numbering system of the options is not listed.
+    /// The locale is known, and the numbering system of the options is not listed.
     UnknownNumberingSystem,
 }
 

@@ -69,7 +69,7 @@ pub enum ExponentSign {
 /// How an exponent is written.
 #[derive(Clone, Copy, Debug)]
 pub struct ExponentOptions {
-    /// The least number of digits, from 1.
+    /// The least number of digits: 0 is as 1, and more than 32,767 are as 32,767.
     pub digits: u16,
     /// Its sign.
     pub sign: ExponentSign,
@@ -107,11 +107,12 @@ pub struct NumberOptions {
     pub scale: i16,
     /// Its notation.
     pub notation: NumberNotation,
-    /// Which digits are shown. `None`: of a plain number in standard notation all digits, else those of ECMA-402.
+    /// Which digits are shown. `None`: of a plain number in standard notation all digits, of money those of the
+    /// currency, else those of ECMA-402.
     pub digits: Option<DigitOptions>,
-    /// Which sign is written, of the number as it is rounded.
+    /// Which sign is written: that of the rounded number, also if its integer digits are cut off.
     pub sign_display: SignDisplay,
-    /// Where groups are separated.
+    /// Where groups are separated. In compact notation node takes `Auto` for `Min2`, and ECMA-402 does not.
     pub grouping: GroupingStrategy,
     /// The numbering system, as `latn`. `None`: that of the locale.
     pub numbering_system: Option<Name>,

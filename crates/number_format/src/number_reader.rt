@@ -1,20 +1,23 @@
 //! Readers of what formatters write.
-ghost use Rattle.std.specs.Prelude.{◌≡◌, ◌∷◌, [], ◌++◌, ◌-ℤ◌, pos, length, map, flat_map, IfOk, IfErr, OnOk};
-ghost use Rattle.number_format.specs.{AffixedTexts.IsReadExactly, NumberReading.{affixes_for, affixes_of_formatter, CanRead, CanUndo, CannotRead, names_by, form, form_of, forms_of_name, number_reader_of, typed_forms, IsReadLeniently, IsReadInMode}};
+ghost use Rattle.std.specs.Prelude.{◌≡◌, ◌↔◌, ◌≤◌, ◌∷◌, [], ◌++◌, ◌-ℤ◌, pos, length, map, flat_map, IsTrue, IfOk, IfErr, OnOk};
+ghost use Rattle.decimal_format.specs.Readable.{IsReadable};
+ghost use Rattle.number_format.specs.{AffixedTexts.{ArePairApart, AreNamed, IsReadExactly}, TextParts.parts_text, NumberReading.{affixes_for, affixes_of_formatter, CanRead, CanUndo, CannotRead, names_by, form, form_of, forms_of_name, number_reader_of, typed_forms, IsReadLeniently, IsReadInMode}};
 
-use crate::affixes::{OwnedAffixes, SignAffixes};
+use crate::affixes::{OwnedAffixes, SignAffixes, are_pair_apart};
 use crate::number_around::NO_UNIT;
 use crate::number_formatter::NumberFormatter;
 use crate::number_options::{NumberNotation, NumberStyle};
 use crate::number_style::text_or_nothing;
-use crate::reader::{AffixError, AffixReader};
+use crate::reader::AffixReader;
+use crate::text_part::TextPart;
+use arrayvec::ArrayString;
 use decimal_format::{Affixes, Alternative};
 use fixed_decimal::{DigitStore, ParseError, Sign, Signed, UnsignedOver};
 use std::alloc::{AllocError, Global};
 use std::marker::Model;
 use std::str;
 
-/// Why the texts of a formatter cannot be read: the first of these that holds, or out of memory after the first two.
+/// Why the texts of a formatter cannot be read: the first of these that holds, or out of memory if none does.
 #[derive(Clone, Copy, Debug, PartialEq, Eq)]
 pub enum NumberReaderError {
     /// The notation is compact, scientific or engineering.
@@ -36,6 +39,36 @@ pub enum ParseMode {
     Strict,
     /// As people type numbers.
     Lenient,
+}
+
+/// The texts before and after a number: each of at most seven parts.
+#[derive(Drop)]
+struct PartTexts {
+    prefix: ArrayString<1785>,
+    suffix: ArrayString<1785>,
+}
+
+impl PartTexts {
+    fn texts(&self) -> Affixes<'_>
+        ensures prefix { result.prefix.now ≡ self.now.prefix.bytes }
+        ensures suffix { result.suffix.now ≡ self.now.suffix.bytes }
+    {
+        Affixes {
+            prefix: self.prefix.as_str(),
+            suffix: self.suffix.as_str(),
+        }
+    }
+}
+
+fn joined(parts: &[TextPart<'_>]) -> ArrayString<1785>
+    requires { length parts.now ≤ 7 }
+    ensures { result.bytes ≡ parts_text parts.now }
+{
+    let mut text = ArrayString::new();
+    for part in parts {
+        text.push_str(part.text);
+    }
+    text
 }
 
 /// Texts around a number, and the sign that they show.
@@ -82,7 +115,7 @@ fn push_name(forms: &mut Vec<Form>, alloc: Global, name: &str) -> Result<(), All
 /// Reads the numbers that a [`NumberFormatter`] writes. Making it allocates, reading a short text does not.
 ///
 /// ```
-/// let formatter = NumberFormatter::try_new("de", options)?; // EUR, with the pattern of accounts
+/// let formatter = NumberFormatter::try_new("de", options)?; // EUR
 /// let reader = formatter.into_reader(alloc)?;
 /// reader.read(alloc, "-1.234,50\u{a0}€".as_bytes())?; // -1234.50
 /// ```
@@ -129,6 +162,36 @@ impl NumberFormatter {
         })
     }
 
+    fn part_texts(&self, sign: Sign) -> PartTexts
+        ensures prefix { result.prefix.bytes ≡ (affixes_for self.now sign).prefix }
+        ensures suffix { result.suffix.bytes ≡ (affixes_for self.now sign).suffix }
+    {
+        let affixes = self.affixes(sign, None, NO_UNIT);
+        PartTexts {
+            prefix: joined(&affixes.prefix),
+            suffix: joined(&affixes.suffix),
+        }
+    }
+
+    fn is_pair_apart(&self, first: Sign, second: Sign) -> bool
+        requires { IsReadable self.now.symbols }
+        ensures { IsTrue result
+            ↔ ArePairApart self.now.symbols (affixes_for self.now first) (affixes_for self.now second) }
+    {
+        let first = self.part_texts(first);
+        let second = self.part_texts(second);
+        are_pair_apart(&self.symbols, first.texts(), second.texts())
+    }
+
+    fn are_apart(&self) -> bool
+        requires { IsReadable self.now.symbols }
+        ensures { IsTrue result ↔ AreNamed self.now.symbols (affixes_of_formatter self.now) }
+    {
+        self.is_pair_apart(Sign::None, Sign::Negative)
+            && self.is_pair_apart(Sign::None, Sign::Positive)
+            && self.is_pair_apart(Sign::Negative, Sign::Positive)
+    }
+
     fn names(&self) -> (&str, &str, &str)
         ensures { result.0.now ∷ result.1.now ∷ result.2.now ∷ [] ≡ names_by self.now self.now.options.style }
     {
@@ -173,26 +236,27 @@ impl NumberFormatter {
     ///
     /// # Errors
     ///
-    /// A [`NumberReaderError`]: the texts of the formatter do not have one meaning each, or out of memory.
+    /// - `Memory`: out of memory, though the texts of the formatter can be read.
+    /// - Others: the texts of the formatter do not have one meaning each.
     pub fn into_reader(self, alloc: Global) -> Result<NumberReader, NumberReaderError>
         ensures ok { IfOk result (λ r. (r ≡ number_reader_of self) × CanRead self) }
         ensures err { IfErr result (λ e. CannotRead e self) }
     {
         let shift = self.shift()?;
+        if !self.symbols.is_readable() {
+            return Err(NumberReaderError::Symbols);
+        }
+        if !self.are_apart() {
+            return Err(NumberReaderError::Affixes);
+        }
         let Ok(forms) = self.forms(alloc) else {
             return Err(NumberReaderError::Memory);
         };
         let Ok(affixes) = self.sign_affixes(alloc) else {
             return Err(NumberReaderError::Memory);
         };
-        match AffixReader::new(self.symbols, affixes) {
-            Ok(reader) => Ok(NumberReader {
-                reader: reader.with_shift(shift),
-                forms,
-            }),
-            Err(AffixError::Symbols) => Err(NumberReaderError::Symbols),
-            Err(AffixError::Affixes) => Err(NumberReaderError::Affixes),
-        }
+        let reader = AffixReader::readable(self.symbols, affixes).with_shift(shift);
+        Ok(NumberReader { reader, forms })
     }
 }
 

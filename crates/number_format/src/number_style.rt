@@ -6,7 +6,7 @@ use crate::number_options::{CurrencyDisplay, CurrencyStyle, NumberStyle};
 use crate::text_part::{PartKind, TextPart};
 use decimal_format::GroupingSizes;
 use locale_data::{
-    Affix, AffixPair, CurrencyCode, CurrencySymbol, Pattern, PercentSign, Piece, SymbolWidth,
+    Affix, AffixPair, CurrencyCode, CurrencySymbol, NumberSigns, Pattern, Piece, SymbolWidth,
     currency_symbol,
 };
 use std::str;
@@ -42,16 +42,13 @@ pub(crate) fn plain_pattern(sizes: GroupingSizes) -> Pattern
     }
 }
 
-pub(crate) fn percent_text(style: NumberStyle, sign: PercentSign) -> &'static str
-    ensures value { result.now ≡ percent_text style sign }
+pub(crate) fn percent_text(style: NumberStyle, signs: NumberSigns) -> &'static str
+    ensures value { result.now ≡ percent_text style signs }
     ensures short { length result.now ≤ 255 }
 {
     match style {
-        NumberStyle::Permille => match sign {
-            PercentSign::Percent | PercentSign::Enclosed | PercentSign::Tilde => "\u{2030}",
-            _ => "\u{609}",
-        },
-        _ => sign.text(),
+        NumberStyle::Permille => signs.permille.text(),
+        _ => signs.percent.text(),
     }
 }
 

@@ -88,11 +88,19 @@ impl<'a> AffixReader<'a> {
         if !affixes.are_apart(&symbols) {
             return Err(AffixError::Affixes);
         }
-        Ok(AffixReader {
+        Ok(Self::readable(symbols, affixes))
+    }
+
+    pub(crate) fn readable(symbols: DecimalSymbols<'a>, affixes: SignAffixes) -> Self
+        requires readable { IsReadable symbols }
+        requires named { AreNamed symbols affixes }
+        ensures { result ≡ record { symbols = symbols.entry; affixes = affixes; shift = pos 0 } }
+    {
+        AffixReader {
             symbols,
             affixes,
             shift: 0,
-        })
+        }
     }
 
     /// Returns the reader that multiplies what it reads by 10^shift, and so undoes the scale of a formatter: by -2,

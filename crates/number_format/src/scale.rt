@@ -1,13 +1,13 @@
 //! The significand and the exponent of a number.
-ghost use Rattle.std.specs.Prelude.{◌≡◌, ◌+◌, ◌*◌, ◌/◌, ◌^◌, ◌≤◌, Some, None, IsOk, IfOk, OnOk, OnErr, IfErr, IsErrOf, MatchOption, ◌⊎◌, pos, ◌+ℤ◌, ◌-ℤ◌, ◌≤ℤ◌, ◌<ℤ◌, negsuc, unsigned_abs};
+ghost use Rattle.std.specs.Prelude.{◌≡◌, ◌↔◌, ◌+◌, ◌*◌, ◌/◌, ◌^◌, ◌≤◌, Some, None, IsTrue, IsOk, IfOk, OnOk, OnErr, IfErr, IsErrOf, MatchOption, ◌⊎◌, pos, ◌+ℤ◌, ◌-ℤ◌, ◌≤ℤ◌, ◌<ℤ◌, negsuc, unsigned_abs};
 ghost use Rattle.std.specs.Int.{int_min};
 ghost use Rattle.decimal_digits.specs.Number.{first, last, size};
 ghost use Rattle.fixed_decimal.specs.Decimal.{integer_decimal};
 ghost use Rattle.fixed_decimal.specs.Scientific.{scientific};
-ghost use Rattle.number_format.specs.ShownDigits.{NeedsMemory};
-ghost use Rattle.number_format.specs.Scaled.{exponent_from_0, base_exponent, raised, settled, ScalingNeedsMemory, scaled_value, scaled};
+ghost use Rattle.number_format.specs.Scaled.{exponent_from_0, base_exponent, raised, settled, rounded_number, ScalingNeedsMemory, scaled_value, scaled};
 
 use crate::digit_options::DigitOptions;
+use crate::format::ShownNumber;
 use crate::notation::Notation;
 use fixed_decimal::{
     CompactDecimal, DecimalStore, DigitStore, FixedInteger, INLINE_DIGITS, RoundError,
@@ -86,17 +86,23 @@ impl DigitOptions {
     pub(crate) fn show_in_place<D: DigitStore>(
         &self,
         value: &mut Signed<UnsignedOver<D>>,
-    ) -> Result<i32, RoundError>
+    ) -> Result<ShownNumber, RoundError>
         ensures ok { IfOk result
-            (λ e. scaled Notation.Standard self.now value.old ≡ Some (scaled_value value.new e)) }
+            (λ s. scaled Notation.Standard self.now value.old ≡ Some (scaled_value value.new s.exponent)) }
+        ensures zero { IfOk result
+            (λ s. IsTrue s.is_zero ↔ (rounded_number Notation.Standard self.now value.old ≡ 0)) }
         ensures unchanged { OnErr result (value.new ≡ value.old) }
         ensures limit { IsErrOf result RoundError.Limit → scaled Notation.Standard self.now value.old ≡ None }
-        ensures memory { IsErrOf result RoundError.Memory
-            → NeedsMemory D.L self.now value.old.sign 0 value.old.absolute.number }
+        ensures memory { IsErrOf result RoundError.Memory → ScalingNeedsMemory D.L Notation.Standard self.now
+            value.old.sign (raised Notation.Standard value.old.absolute.number) }
     {
         let last = self.round_at(value, 0, &mut Steps::new())?;
+        let is_zero = value.absolute.is_zero();
         self.show(&mut value.absolute, last);
-        Ok(0)
+        Ok(ShownNumber {
+            exponent: 0,
+            is_zero,
+        })
     }
 }
 
@@ -161,17 +167,24 @@ impl Notation {
         &self,
         options: &DigitOptions,
         value: &mut Signed<UnsignedOver<D>>,
-    ) -> Result<i32, RoundError>
-        ensures ok { IfOk result (λ e. scaled self.now options.now value.old ≡ Some (scaled_value value.new e)) }
+    ) -> Result<ShownNumber, RoundError>
+        ensures ok { IfOk result
+            (λ s. scaled self.now options.now value.old ≡ Some (scaled_value value.new s.exponent)) }
+        ensures zero { IfOk result
+            (λ s. IsTrue s.is_zero ↔ (rounded_number self.now options.now value.old ≡ 0)) }
         ensures limit { IsErrOf result RoundError.Limit → scaled self.now options.now value.old ≡ None }
         ensures memory { IsErrOf result RoundError.Memory
             → ScalingNeedsMemory D.L self.now options.now value.old.sign (raised self.now value.old.absolute.number) }
     {
         let base = self.raise(&mut value.absolute);
         let (exponent, last) = self.settle(options, value)?;
+        let is_zero = value.absolute.is_zero();
         lower(&mut value.absolute, exponent)?;
         options.show(&mut value.absolute, last);
-        Ok(base + exponent as i32)
+        Ok(ShownNumber {
+            exponent: base + exponent as i32,
+            is_zero,
+        })
     }
 
     /// Returns the significand and the exponent that the notation writes for a decimal, with the digits of options.
@@ -195,10 +208,10 @@ impl Notation {
         ensures memory { IsErrOf result RoundError.Memory
             → ScalingNeedsMemory D.L self.now options.now value.sign (raised self.now value.absolute.number) }
     {
-        let exponent = self.scale_in_place(options, &mut value)?;
+        let shown = self.scale_in_place(options, &mut value)?;
         Ok(Scaled {
             significand: value,
-            exponent,
+            exponent: shown.exponent,
         })
     }
 }

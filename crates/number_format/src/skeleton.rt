@@ -1,12 +1,13 @@
 //! Number skeletons, the texts for formats of ICU.
-ghost use Rattle.std.specs.Prelude.{◌≡◌, Ok, Err, IfOk, IfSome, IfNone, MatchResult, string_bytes};
+ghost use Rattle.std.specs.Prelude.{◌≡◌, true, Ok, Err, None, IfOk, IfSome, MatchResult, string_bytes};
 ghost use Rattle.number_format.specs.SkeletonMeaning.{skeleton_options, options_value, style_in_capitals, in_capitals};
-ghost use Rattle.number_format.specs.SkeletonTexts.{IsShortest, HasNoSkeleton};
+ghost use Rattle.number_format.specs.NoSkeletons.{has_no_stem};
 ghost use Rattle.number_format.specs.SkeletonReading.{choices_of};
 
 mod choices;
 mod counts;
 mod decimal;
+mod no_stem;
 mod options;
 mod reading;
 mod resolve;
@@ -16,6 +17,7 @@ mod text;
 
 use crate::number_options::{CurrencyStyle, NumberOptions, NumberStyle};
 use choices::Choices;
+use no_stem::has_no_stem;
 use reading::{Reading, separator_length};
 use same::same_options;
 use std::alloc::{AllocError, Global};
@@ -92,18 +94,23 @@ impl NumberOptions {
         read_choices(text.as_bytes())?.options()
     }
 
-    /// Returns the shortest skeleton that reads as these options, with the code of a currency in capitals, or `None` if
-    /// no text does, as of options without digits.
+    /// Returns a skeleton that reads as these options, with the code of a currency in capitals, or `None` if an option
+    /// has no stem, as without digits.
+    ///
+    /// The stems are those of ICU's normal form, and `group-auto` in compact notation.
     ///
     /// # Errors
     ///
     /// Out of memory.
     pub fn to_skeleton(&self, alloc: Global) -> Result<Option<String>, AllocError>
-        ensures shortest { IfOk result (λ found. IfSome found
-            (λ text. IsShortest (string_bytes text) (options_value (in_capitals self.now)))) }
-        ensures none { IfOk result (λ found. IfNone found (HasNoSkeleton (options_value (in_capitals self.now)))) }
+        ensures reads { IfOk result (λ found. IfSome found
+            (λ text. skeleton_options (string_bytes text) ≡ Ok (options_value (in_capitals self.now)))) }
+        ensures none { has_no_stem (options_value (in_capitals self.now)) ≡ true → result ≡ Ok None }
     {
         let options = self.in_capitals();
+        if has_no_stem(&options) {
+            return Ok(None);
+        }
         let mut text = String::new(alloc);
         push_skeleton(&mut text, &options)?;
         text.pop();

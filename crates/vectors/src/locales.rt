@@ -12,8 +12,9 @@
 //!                                     mostly by the names of ECMA-402. TEXT: the text, or the name of the error.
 //! [LOCALE] OPTIONS TEXT VALUE         With `check=read` or `check=lenient`.
 //! [LOCALE] OPTIONS NUMBER PARTS       With `check=parts`.
-//! SKELETON OPTIONS                    Its options; `syntax K` with the offset of the error, `unsupported STEM`; or `=`
-//!                                     and another skeleton that has the same options.
+//! SKELETON OPTIONS                    Its options; `syntax K` with the offset of the error, `unsupported STEM`; `=`
+//!                                     and another skeleton that has the same options; or `>` and the skeleton that
+//!                                     they are printed as. What is printed has to read as the same options.
 //! ```
 //!
 //! Of options that are rejected the number is empty, and the text may also be the class of ECMA-402's error. In numbers

@@ -15,8 +15,9 @@ const BLOCK: usize = 65_536;
 
 /// A sink that writes to a writer in blocks of 64 KiB, and slices that are longer at once.
 ///
-/// The contents are those of the writer and then the bytes in the block, which `close` writes. A call of the writer
-/// that fails or takes no byte is a failure of the sink, after which the writer is not called again.
+/// The contents are those of the writer and then the bytes in the block, which `close` writes. A write that is
+/// interrupted is repeated. A call of the writer that fails otherwise or takes no byte is a failure of the sink, after
+/// which the writer is not called again.
 #[derive(Drop)]
 pub struct BufferedOut<W: Write> {
     writer: W,

@@ -3,14 +3,15 @@ ghost use Rattle.std.specs.Prelude.{◌≡◌, ℕ, List, OnOk, OnErr, Bool, tru
 ghost use Rattle.std.specs.Io.KnownBytes.{Keeps, append_known};
 ghost use Rattle.std.specs.Io.Buffered.{writer_contents, writer_inner};
 
-use super::write_error::{flush, keep_error, write_whole};
+use super::write_error::{flush, keep_error, write_byte, write_whole};
 use super::{Closed, Sink, SinkFault, WriteError};
 use std::io::{BufWriter, Write};
 use std::marker::Model;
 
 /// A sink over a writer, by one write for each byte.
 ///
-/// A write that fails or takes no byte is a failure of the sink, after which the writer is not called again. Contracts
+/// A write that fails, is interrupted, or takes no byte is a failure of the sink, after which the writer is not called
+/// again. Contracts
 /// see the writer, and whether the sink has failed. Over a `Vec<u8>`, `into_writer` returns the vector with the text of
 /// the numbers.
 #[derive(Debug, Drop)]
@@ -103,7 +104,7 @@ impl<W: Write> Sink for Out<W> {
         if self.error.is_some() {
             return Err(SinkFault);
         }
-        keep_error(write_whole(&mut self.writer, &[byte]), &mut self.error)
+        keep_error(write_byte(&mut self.writer, byte), &mut self.error)
     }
 
     fn failed(&self) -> bool {

@@ -1,5 +1,5 @@
 //! Calls of a writer, and the error of one that failed.
-ghost use Rattle.std.specs.Prelude.{◌≡◌, ◌<◌, ℕ, length, take, IsSome, IsOk, IsErr, OnOk, OnErr, IfErr};
+ghost use Rattle.std.specs.Prelude.{◌≡◌, ◌≢◌, ◌<◌, ◌≤◌, ℕ, [], ◌∷◌, length, take, IsSome, IsOk, IsErr, OnOk, OnErr, IfOk, IfErr};
 ghost use Rattle.std.specs.Io.KnownBytes.{Keeps, Appends};
 
 use super::SinkFault;
@@ -53,8 +53,43 @@ impl<W: Write + Drop> WriteError<BufWriter<W>> {
     }
 }
 
-/// Writes all bytes. The writer is called until it has taken them all, and not again after a call that fails or takes
-/// no byte.
+/// Writes a byte, by one call of the writer: a call that is interrupted fails.
+pub(super) fn write_byte<W: Write>(writer: &mut W, byte: u8) -> Result<(), WriteError<W>>
+    ensures ok { OnOk result (Appends (W.contents writer.old) (W.contents writer.new) (byte ∷ [])) }
+    ensures err { IfErr result (λ written. written ≡ 0) }
+    ensures keeps { OnErr result (Keeps (W.contents writer.old) (W.contents writer.new)) }
+{
+    match writer.write(&[byte]) {
+        Ok(0) => Err(WriteError::new(ErrorKind::WriteZero, 0)),
+        Ok(_) => Ok(()),
+        Err(error) => Err(WriteError::new(error.kind(), 0)),
+    }
+}
+
+/// Writes some bytes, by a call of the writer that is repeated while it is interrupted.
+fn write_some<W: Write>(writer: &mut W, bytes: &[u8]) -> Result<usize, ErrorKind>
+    ensures at_most { IfOk result (λ count. count ≤ length bytes.now) }
+    ensures ok { IfOk result (λ count.
+        Appends (W.contents writer.old) (W.contents writer.new) (take count bytes.now)) }
+    ensures err { OnErr result (Keeps (W.contents writer.old) (W.contents writer.new)) }
+    ensures repeated { IfErr result (λ kind. kind ≢ ErrorKind.Interrupted) }
+{
+    for _ in 0..u64::MAX {
+        match writer.write(bytes) {
+            Ok(count) => return Ok(count),
+            Err(error) => {
+                let kind = error.kind();
+                if kind != ErrorKind::Interrupted {
+                    return Err(kind);
+                }
+            }
+        }
+    }
+    Err(ErrorKind::Other)
+}
+
+/// Writes all bytes. The writer is called until it has taken them all, again if a call is interrupted, and not again
+/// after a call that fails otherwise or takes no byte.
 pub fn write_whole<W: Write>(writer: &mut W, bytes: &[u8]) -> Result<(), WriteError<W>>
     ensures ok { OnOk result (Appends (W.contents writer.old) (W.contents writer.new) bytes.now) }
     ensures err { IfErr result (λ written.
@@ -63,10 +98,10 @@ pub fn write_whole<W: Write>(writer: &mut W, bytes: &[u8]) -> Result<(), WriteEr
 {
     let mut written = 0;
     while written < bytes.len() {
-        match writer.write(&bytes[written..]) {
+        match write_some(writer, &bytes[written..]) {
             Ok(0) => return Err(WriteError::new(ErrorKind::WriteZero, written)),
             Ok(count) => written += count,
-            Err(error) => return Err(WriteError::new(error.kind(), written)),
+            Err(kind) => return Err(WriteError::new(kind, written)),
         }
     }
     Ok(())

@@ -4,6 +4,7 @@ ghost use Rattle.std.specs.Int.{int_gap};
 ghost use Rattle.std.specs.Io.KnownBytes.{Keeps, Appends};
 ghost use Rattle.decimal_digits.specs.AppendsPrefix.{AppendsPrefix};
 ghost use Rattle.decimal_unsigned.specs.Unsigned.{IsValue};
+ghost use Rattle.decimal_format.specs.Blocks.{Fills, DoesNotFit};
 ghost use Rattle.decimal_format.specs.Formatted.{shown_count, separator_before, separator_after, absolute_text, formatted_absolute_text, formatted_text};
 ghost use Rattle.decimal_format.specs.Parts.{magnitude_of, part_text, AreDigits, IsRun, digits_text, run_text, separators_below};
 
@@ -152,25 +153,36 @@ impl<'f, D: DigitStore> FormattedAbsolute<'f, D> {
     #[inline]
     fn put_absolute(&self, block: &mut Block) -> Result<(), SinkFault>
         requires { shown_count self.now.value ≤ 32 }
-        ensures { OnOk result (block.new.0
+        ensures ok { OnOk result (block.new.0
             ≡ block.old.0 ++ absolute_text self.now.symbols self.now.strategy self.now.value) }
+        ensures err { OnErr result (Fills block.old block.new
+            (absolute_text self.now.symbols self.now.strategy self.now.value)) }
     {
         let count = self.shown_count();
         if count <= SHORT && block.has_room(SHORT_ROOM) && self.has_short_separators() {
             self.push_digits(block);
             return Ok(());
         }
-        self.write_part(0, count, block)
+        match self.write_part(0, count, block) {
+            Ok(()) => Ok(()),
+            Err(SinkFault) => {
+                // Proof hint: a block that has failed is full.
+                let _bytes = block.as_bytes();
+                Err(SinkFault)
+            }
+        }
     }
 
     /// Appends the text without the sign, if it fits the block and has at most 32 digits.
     ///
     /// # Errors
     ///
-    /// It does not, or the block has failed before.
+    /// - There are more than 32 digits; the block is unchanged.
+    /// - The text does not fit, or the block has failed before; the block is full.
     #[inline]
     pub fn put_to_block(&self, block: &mut Block) -> Result<(), SinkFault>
-        ensures { OnOk result (block.new.0 ≡ block.old.0 ++ formatted_absolute_text self.now) }
+        ensures ok { OnOk result (block.new.0 ≡ block.old.0 ++ formatted_absolute_text self.now) }
+        ensures err { OnErr result (DoesNotFit self.now block.old block.new) }
     {
         if self.shown_count() > PART {
             return Err(SinkFault);

@@ -65,7 +65,7 @@ fn exponent_option(exponent: Exponent, text: &[u8]) -> Option<Meaning>
     })
 }
 
-fn is_code_byte(byte: u8) -> bool
+pub(crate) fn is_code_byte(byte: u8) -> bool
     ensures { result ≡ is_code_byte byte }
 {
     match byte {
@@ -117,12 +117,12 @@ fn decimal_system(text: &[u8]) -> Option<Name>
 
 /// The numbering systems of CLDR whose numbers are not digits from 0 to 9.
 #[rattlefmt::skip]
-pub(crate) static ALGORITHMIC: [Name; 18] = [
+pub(crate) static ALGORITHMIC: [Name; 19] = [
     *b"armn            ", *b"armnlow         ", *b"cyrl            ", *b"ethi            ",
     *b"geor            ", *b"grek            ", *b"greklow         ", *b"hanidays        ",
     *b"hans            ", *b"hansfin         ", *b"hant            ", *b"hantfin         ",
     *b"hebr            ", *b"jpan            ", *b"jpanfin         ", *b"jpanyear        ",
-    *b"roman           ", *b"romanlow        ",
+    *b"roman           ", *b"romanlow        ", *b"taml            ",
 ];
 
 fn is_algorithmic(text: &[u8]) -> bool

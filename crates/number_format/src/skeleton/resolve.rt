@@ -129,7 +129,7 @@ fn increment(decimal: SkeletonDecimal, stem: Span) -> Result<FractionMultiples, 
 }
 
 /// Returns a number of fraction digits and an increment, 0 for none, without a zero at the end of the increment.
-fn money_precision(digits: (u8, u8), stem: Span) -> Result<Precision, SkeletonError>
+pub(crate) fn money_precision(digits: (u8, u8), stem: Span) -> Result<Precision, SkeletonError>
     ensures { MatchResult result (λ p. money_precision digits stem ≡ Ok (precision_value p))
         (λ e. money_precision digits stem ≡ Err e) }
 {

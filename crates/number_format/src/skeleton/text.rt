@@ -1,260 +1,127 @@
-//! The text of options as a skeleton, by the shortest stems.
-ghost use Rattle.std.specs.Prelude.{◌≡◌, ◌≤◌, ◌<◌, ◌++◌, ◌∷◌, [], if◌then◌else◌, true, OnOk, pos, string_bytes, replicate, take, codes};
-ghost use Rattle.std.specs.Option.{option_map};
-ghost use Rattle.number_format.specs.SkeletonCounts.{run};
+//! The text of options as a skeleton: a stem for each option that is not the default, in the words and the order of
+//! ICU's normal form. Beyond ICU's, `group-auto` is written in compact notation, and stems of default precisions are
+//! left out.
+ghost use Rattle.std.specs.Prelude.{◌≡◌, ◌≤◌};
 ghost use Rattle.number_format.specs.ShownDigits.{increment_of};
-ghost use Rattle.number_format.specs.SkeletonDigits.{precision_value, digits_value};
-ghost use Rattle.number_format.specs.SkeletonMeaning.{options_value};
-ghost use Rattle.number_format.specs.SkeletonTexts.{Appends, decimal_length, is_default, is_cash, strips, style_sign, last_digits, decimal_text, power_text, thousands_text, whole_text, pointed_by, pointed_text, has_thousands, increment_text, least_digits_text, exponent_text, notation_text, width_text, scale_text, ascii, style_text, fraction_text, beside_text, range_text, significant_text, precision_text, strips_text, shown_precision_text, mode_text, integer_text, grouping_text, sign_text, system_text, digits_text, options_text};
-ghost use Rattle.number_format.specs.declared.precision.Precision.TheVariants.{MorePrecision, LessPrecision};
 
 use crate::digit_options::{DigitOptions, TrailingZeros};
 use crate::digit_ranges::{FractionDigits, FractionMultiples, IntegerDigits, SignificantDigits};
 use crate::number_options::{
-    CompactLength, CurrencyDisplay, CurrencyStyle, CurrencyUsage, ExponentOptions, ExponentSign,
-    NumberNotation, NumberOptions, NumberStyle,
+    CompactLength, CurrencyDisplay, CurrencyUsage, ExponentOptions, ExponentSign, NumberNotation,
+    NumberOptions, NumberStyle,
 };
 use crate::precision::{BothDigits, Minimum, Precision};
-use crate::skeleton::counts::{before, run};
-use crate::skeleton::stems::is_name;
 use decimal_format::GroupingStrategy;
 use fixed_decimal::{RoundingIncrement, SignDisplay, SignedRoundingMode, UnsignedRoundingMode};
-use locale_data::{CurrencySign, Name, currency_digits};
+use locale_data::{CurrencyCode, CurrencySign, Name, currency_digits};
 use std::alloc::AllocError;
 
-fn push_run(text: &mut String, character: char, count: u32) -> Result<(), AllocError>
-    requires { character < 128 }
-    ensures { Appends result text.old text.new (replicate count character) }
-{
+fn push_run(text: &mut String, character: char, count: u32) -> Result<(), AllocError> {
     for _ in 0..count {
         text.push(character)?;
     }
     Ok(())
 }
 
-/// Appends the bytes that are ASCII.
-fn push_ascii(text: &mut String, bytes: &[u8]) -> Result<(), AllocError>
-    ensures { Appends result text.old text.new (ascii bytes.now) }
-{
-    for byte in bytes {
-        if *byte < 128 {
-            text.push(*byte as char)?;
+/// Appends bytes up to the first space.
+fn push_name(text: &mut String, name: &[u8]) -> Result<(), AllocError> {
+    for byte in name {
+        if *byte == b' ' {
+            return Ok(());
         }
+        text.push(*byte as char)?;
     }
     Ok(())
 }
 
-/// Appends `/*ee`, or nothing for one digit.
-fn push_least_digits(text: &mut String, digits: u16) -> Result<(), AllocError>
-    ensures { Appends result text.old text.new (least_digits_text digits) }
-{
-    if digits <= 1 {
-        return Ok(());
-    }
-    text.push_str("/*")?;
-    push_run(text, 'e', digits as u32)
-}
-
+/// Appends `scientific/*ee/sign-always`.
 fn push_exponent(
     text: &mut String,
-    short: &str,
-    long: &str,
+    stem: &str,
     exponent: ExponentOptions,
-) -> Result<(), AllocError>
-    ensures { Appends result text.old text.new (exponent_text short.now long.now exponent.digits exponent.sign) }
-{
-    match exponent.sign {
-        ExponentSign::Never => {
-            text.push_str(long)?;
-            push_least_digits(text, exponent.digits)?;
-            text.push_str("/+_ ")
-        }
-        ExponentSign::Always => {
-            text.push_str(short)?;
-            text.push_str("+!")?;
-            push_run(text, '0', exponent.digits as u32)?;
-            text.push(' ')
-        }
-        ExponentSign::Auto => {
-            text.push_str(short)?;
-            push_run(text, '0', exponent.digits as u32)?;
-            text.push(' ')
-        }
+) -> Result<(), AllocError> {
+    text.push_str(stem)?;
+    if exponent.digits != 1 {
+        text.push_str("/*")?;
+        push_run(text, 'e', exponent.digits as u32)?;
     }
+    text.push_str(match exponent.sign {
+        ExponentSign::Auto => " ",
+        ExponentSign::Always => "/sign-always ",
+        ExponentSign::Never => "/sign-never ",
+    })
 }
 
-fn push_notation(text: &mut String, notation: NumberNotation) -> Result<(), AllocError>
-    ensures { Appends result text.old text.new (notation_text notation) }
-{
+fn push_notation(text: &mut String, notation: NumberNotation) -> Result<(), AllocError> {
     match notation {
         NumberNotation::Standard => Ok(()),
-        NumberNotation::Scientific(exponent) => push_exponent(text, "E", "scientific", exponent),
-        NumberNotation::Engineering(exponent) => push_exponent(text, "EE", "engineering", exponent),
-        NumberNotation::Compact(CompactLength::Short) => text.push_str("K "),
-        NumberNotation::Compact(CompactLength::Long) => text.push_str("KK "),
+        NumberNotation::Scientific(exponent) => push_exponent(text, "scientific", exponent),
+        NumberNotation::Engineering(exponent) => push_exponent(text, "engineering", exponent),
+        NumberNotation::Compact(CompactLength::Short) => text.push_str("compact-short "),
+        NumberNotation::Compact(CompactLength::Long) => text.push_str("compact-long "),
     }
 }
 
-fn width_text(display: CurrencyDisplay) -> &'static str
-    ensures { result.now ≡ width_text display }
-{
-    match display {
-        CurrencyDisplay::Symbol => "",
-        CurrencyDisplay::Narrow => "unit-width-narrow ",
-        CurrencyDisplay::Code => "unit-width-iso-code ",
-        CurrencyDisplay::Hidden => "unit-width-hidden ",
-    }
-}
-
-fn push_currency(text: &mut String, currency: CurrencyStyle) -> Result<(), AllocError>
-    ensures { Appends result text.old text.new
-        (codes "currency/" ++ ascii currency.code ++ 32 ∷ width_text currency.display) }
-{
+fn push_currency(text: &mut String, code: CurrencyCode) -> Result<(), AllocError> {
     text.push_str("currency/")?;
-    push_ascii(text, &currency.code)?;
-    text.push(' ')?;
-    text.push_str(width_text(currency.display))
-}
-
-/// Appends the last digits of a number, at most five.
-fn push_last_digits(text: &mut String, number: u16, count: usize) -> Result<(), AllocError>
-    requires { count ≤ 5 }
-    ensures { Appends result text.old text.new (last_digits number count) }
-{
-    let digits = [
-        number / 10000,
-        number / 1000,
-        number / 100,
-        number / 10,
-        number,
-    ];
-    let last = &digits[5 - count..];
-    for number in last {
-        text.push((b'0' + (*number % 10) as u8) as char)?;
-    }
-    Ok(())
-}
-
-fn decimal_length(number: u16) -> usize
-    ensures value { result ≡ decimal_length number }
-    ensures at_most { result ≤ 5 }
-{
-    match number {
-        0..=9 => 1,
-        10..=99 => 2,
-        100..=999 => 3,
-        1000..=9999 => 4,
-        _ => 5,
-    }
-}
-
-fn push_number(text: &mut String, number: u16) -> Result<(), AllocError>
-    ensures { Appends result text.old text.new (decimal_text number) }
-{
-    push_last_digits(text, number, decimal_length(number))
-}
-
-fn push_power(text: &mut String, power: i16) -> Result<(), AllocError>
-    ensures { Appends result text.old text.new (power_text power) }
-{
-    match power {
-        -2 => text.push_str(".01"),
-        -1 => text.push_str(".1"),
-        0 => text.push_str("1"),
-        1 => text.push_str("10"),
-        2 => text.push_str("100"),
-        _ if power < 0 => {
-            text.push_str("1e-")?;
-            push_number(text, power.unsigned_abs())
-        }
-        _ => {
-            text.push_str("1e")?;
-            push_number(text, power.unsigned_abs())
-        }
-    }
-}
-
-fn push_scale(text: &mut String, scale: i16) -> Result<(), AllocError>
-    ensures { Appends result text.old text.new (scale_text scale) }
-{
-    if scale == 0 {
-        return Ok(());
-    }
-    text.push_str("scale/")?;
-    push_power(text, scale)?;
+    push_name(text, &code)?;
     text.push(' ')
 }
 
-fn push_scaled(text: &mut String, stem: &str, scale: i16) -> Result<(), AllocError>
-    ensures { Appends result text.old text.new (stem.now ++ scale_text scale) }
-{
-    text.push_str(stem)?;
-    push_scale(text, scale)
+fn push_unit(text: &mut String, style: NumberStyle) -> Result<(), AllocError> {
+    match style {
+        NumberStyle::Decimal => Ok(()),
+        NumberStyle::Percent => text.push_str("percent "),
+        NumberStyle::Permille => text.push_str("permille "),
+        NumberStyle::Currency(currency) => push_currency(text, currency.code),
+    }
 }
 
-fn push_style(text: &mut String, style: NumberStyle, scale: i16) -> Result<(), AllocError>
-    ensures { Appends result text.old text.new (style_text style scale) }
-{
-    match style {
-        NumberStyle::Decimal => push_scale(text, scale),
-        NumberStyle::Percent if scale == 2 => text.push_str("%x100 "),
-        NumberStyle::Percent => push_scaled(text, "% ", scale),
-        NumberStyle::Permille => push_scaled(text, "permille ", scale),
-        NumberStyle::Currency(currency) => {
-            push_currency(text, currency)?;
-            push_scale(text, scale)
+/// Appends `.00##`, or `.00*` where the greatest number is no limit.
+fn push_fraction(text: &mut String, fraction: FractionDigits) -> Result<(), AllocError> {
+    match (fraction.min, fraction.max) {
+        (0, 0) => text.push_str("precision-integer"),
+        (0, 65535) => text.push_str("precision-unlimited"),
+        (min, max) => {
+            text.push('.')?;
+            push_run(text, '0', min as u32)?;
+            if max == 65535 {
+                return text.push('*');
+            }
+            push_run(text, '#', (fraction.max - fraction.min) as u32)
         }
     }
 }
 
-/// Appends `.00##` or `.00*`.
-fn push_fraction(text: &mut String, fraction: FractionDigits) -> Result<(), AllocError>
-    ensures { Appends result text.old text.new (fraction_text (fraction.min, fraction.max)) }
-{
-    text.push('.')?;
-    push_run(text, '0', fraction.min as u32)?;
-    if fraction.max == 65535 {
-        return text.push('*');
-    }
-    push_run(text, '#', (fraction.max - fraction.min) as u32)
-}
-
-/// Appends `.00##/` or `.00*/`.
-fn push_beside(text: &mut String, fraction: FractionDigits) -> Result<(), AllocError>
-    ensures { Appends result text.old text.new (beside_text (fraction.min, fraction.max)) }
-{
-    if fraction.min == 0 {
+/// Appends the stem of fraction digits before a slash, where `.*` would be none.
+fn push_fraction_beside(text: &mut String, fraction: FractionDigits) -> Result<(), AllocError> {
+    if fraction.min == 0 && fraction.max == 65535 {
         text.push('.')?;
-        push_run(text, '#', fraction.max as u32)?;
-        return text.push('/');
+        push_run(text, '#', 65535)?;
+    } else {
+        push_fraction(text, fraction)?;
     }
-    push_fraction(text, fraction)?;
     text.push('/')
 }
 
 /// Appends `@@##`.
-fn push_range(text: &mut String, significant: SignificantDigits) -> Result<(), AllocError>
-    ensures { Appends result text.old text.new (range_text (significant.min, significant.max)) }
-{
+fn push_range(text: &mut String, significant: SignificantDigits) -> Result<(), AllocError> {
     push_run(text, '@', significant.min)?;
     push_run(text, '#', significant.max - significant.min)
 }
 
-/// Appends `@@##` or `@@*`.
-fn push_significant(text: &mut String, significant: SignificantDigits) -> Result<(), AllocError>
-    ensures { Appends result text.old text.new (significant_text (significant.min, significant.max)) }
-{
-    if significant.max == 65536 && significant.min < 65536 {
+/// Appends `@@##`, or `@@*` where the greatest number is no limit.
+fn push_significant(text: &mut String, significant: SignificantDigits) -> Result<(), AllocError> {
+    if significant.max == 65536 {
         push_run(text, '@', significant.min)?;
         return text.push('*');
     }
     push_range(text, significant)
 }
 
-fn push_more_precision(text: &mut String, both: BothDigits) -> Result<(), AllocError>
-    ensures { Appends result text.old text.new (precision_text (precision_value (MorePrecision both))) }
-{
-    push_beside(text, both.fraction)?;
+/// Appends `.00/@@*` or `.00/@@#r`.
+fn push_more_precision(text: &mut String, both: BothDigits) -> Result<(), AllocError> {
+    push_fraction_beside(text, both.fraction)?;
     match both.minimum {
         Minimum::Both => {
             push_run(text, '@', both.significant.max)?;
@@ -267,10 +134,9 @@ fn push_more_precision(text: &mut String, both: BothDigits) -> Result<(), AllocE
     }
 }
 
-fn push_less_precision(text: &mut String, both: BothDigits) -> Result<(), AllocError>
-    ensures { Appends result text.old text.new (precision_text (precision_value (LessPrecision both))) }
-{
-    push_beside(text, both.fraction)?;
+/// Appends `.00/@#` or `.00/@@#s`.
+fn push_less_precision(text: &mut String, both: BothDigits) -> Result<(), AllocError> {
+    push_fraction_beside(text, both.fraction)?;
     push_range(text, both.significant)?;
     match both.minimum {
         Minimum::Both => Ok(()),
@@ -296,106 +162,62 @@ pub(crate) fn increment_of(multiples: FractionMultiples) -> u16
     }
 }
 
-/// Appends an increment with an exponent: `5e3`, `5.e1` or `.5e1`.
-fn push_thousands(text: &mut String, digits: u16, increment: u16) -> Result<(), AllocError>
-    requires few { increment ≤ 5000 }
-    ensures { Appends result text.old text.new (thousands_text digits increment) }
-{
-    match digits {
-        0 => {
-            push_last_digits(text, increment / 1000, 1)?;
-            text.push_str("e3")
-        }
-        2 => {
-            push_last_digits(text, increment / 1000, 1)?;
-            text.push_str(".e1")
-        }
-        _ => {
-            text.push('.')?;
-            push_last_digits(text, increment / 1000, 1)?;
-            text.push_str("e1")
+/// Appends the last digits of a number, at most four.
+fn push_last_digits(text: &mut String, number: u16, count: u16) -> Result<(), AllocError> {
+    for (place, digits) in [
+        (4, number / 1000),
+        (3, number / 100),
+        (2, number / 10),
+        (1, number),
+    ] {
+        if place <= count {
+            text.push((b'0' + (digits % 10) as u8) as char)?;
         }
     }
+    Ok(())
 }
 
-/// Appends the integer digits of a number, of which 0 has none.
-fn push_whole(text: &mut String, number: u16) -> Result<(), AllocError>
-    ensures { Appends result text.old text.new (whole_text number) }
-{
-    if number == 0 {
+/// Appends a number without leading zeros.
+fn push_number(text: &mut String, number: u16) -> Result<(), AllocError> {
+    let count = match number {
+        0..=9 => 1,
+        10..=99 => 2,
+        100..=999 => 3,
+        1000..=9999 => 4,
+        _ => {
+            text.push((b'0' + (number / 10_000) as u8) as char)?;
+            4
+        }
+    };
+    push_last_digits(text, number, count)
+}
+
+/// Appends an increment in units of the last of a number of fraction digits: `0.05` of 2 and 5.
+fn push_increment(text: &mut String, digits: u16, increment: u16) -> Result<(), AllocError> {
+    push_number(
+        text,
+        match digits {
+            0 => increment,
+            1 => increment / 10,
+            2 => increment / 100,
+            3 => increment / 1000,
+            _ => 0,
+        },
+    )?;
+    if digits == 0 {
         return Ok(());
     }
-    push_number(text, number)
-}
-
-fn push_pointed_by(
-    text: &mut String,
-    unit: u16,
-    places: usize,
-    zeros: u16,
-    increment: u16,
-) -> Result<(), AllocError>
-    requires some { 0 < unit }
-    requires few { places ≤ 5 }
-    ensures { Appends result text.old text.new (pointed_by unit places zeros increment) }
-{
-    push_whole(text, increment / unit)?;
     text.push('.')?;
-    push_run(text, '0', zeros as u32)?;
-    push_last_digits(text, increment, places)
+    push_run(text, '0', digits.saturating_sub(4) as u32)?;
+    push_last_digits(text, increment, digits)
 }
 
-/// Appends an increment with a decimal point: `2.50` or `.050`.
-fn push_pointed(text: &mut String, digits: u16, increment: u16) -> Result<(), AllocError>
-    requires some { 0 < digits }
-    ensures { Appends result text.old text.new (pointed_text digits increment) }
-{
-    match digits {
-        1 => push_pointed_by(text, 10, 1, 0, increment),
-        2 => push_pointed_by(text, 100, 2, 0, increment),
-        3 => push_pointed_by(text, 1000, 3, 0, increment),
-        _ => push_pointed_by(text, 10000, 4, digits - 4, increment),
-    }
-}
-
-/// Returns whether an increment is shortest in thousands, with an exponent.
-fn has_thousands(digits: u16, increment: u16) -> bool
-    ensures { result ≡ has_thousands digits increment }
-{
-    increment % 1000 == 0 && (digits == 0 || digits == 2 || digits == 3)
-}
-
-/// Appends an increment with a number of fraction digits.
-fn push_increment(text: &mut String, digits: u16, increment: u16) -> Result<(), AllocError>
-    requires few { increment ≤ 5000 }
-    ensures { Appends result text.old text.new (increment_text digits increment) }
-{
-    if has_thousands(digits, increment) {
-        return push_thousands(text, digits, increment);
-    }
-    if digits == 0 {
-        return push_number(text, increment);
-    }
-    if digits > 3 && increment % 10 != 0 {
-        push_number(text, increment)?;
-        text.push_str("e-")?;
-        return push_number(text, digits);
-    }
-    push_pointed(text, digits, increment)
-}
-
-fn push_multiples(text: &mut String, multiples: FractionMultiples) -> Result<(), AllocError>
-    ensures { OnOk result (string_bytes text.new
-        ≡ string_bytes text.old ++ codes "precision-increment/"
-        ++ increment_text multiples.digits (increment_of multiples.increment)) }
-{
+fn push_multiples(text: &mut String, multiples: FractionMultiples) -> Result<(), AllocError> {
     text.push_str("precision-increment/")?;
     push_increment(text, multiples.digits, increment_of(multiples))
 }
 
-fn push_precision(text: &mut String, precision: Precision) -> Result<(), AllocError>
-    ensures { Appends result text.old text.new (precision_text (precision_value precision)) }
-{
+fn push_precision(text: &mut String, precision: Precision) -> Result<(), AllocError> {
     match precision {
         Precision::Fraction(fraction) => push_fraction(text, fraction),
         Precision::Multiples(multiples) => push_multiples(text, multiples),
@@ -405,10 +227,8 @@ fn push_precision(text: &mut String, precision: Precision) -> Result<(), AllocEr
     }
 }
 
-/// Returns whether a precision needs no stem.
-fn is_default(is_compact: bool, style: NumberStyle, precision: Precision) -> bool
-    ensures { result ≡ is_default is_compact style (precision_value precision) }
-{
+/// Returns whether a skeleton without a stem of a precision has this precision.
+fn is_default(is_compact: bool, style: NumberStyle, precision: Precision) -> bool {
     match (is_compact, style, precision) {
         (true, _, Precision::MorePrecision(both)) => {
             let is_chosen = match both.minimum {
@@ -431,65 +251,38 @@ fn is_default(is_compact: bool, style: NumberStyle, precision: Precision) -> boo
     }
 }
 
-fn is_cash(style: NumberStyle) -> bool
-    ensures { result ≡ is_cash style }
-{
+fn is_cash(style: NumberStyle) -> bool {
     match style {
         NumberStyle::Currency(currency) => currency.usage == CurrencyUsage::Cash,
         _ => false,
     }
 }
 
-fn strips(trailing_zeros: TrailingZeros) -> bool
-    ensures { result ≡ strips trailing_zeros }
-{
+fn strips(trailing_zeros: TrailingZeros) -> bool {
     match trailing_zeros {
         TrailingZeros::StripIfInteger => true,
         TrailingZeros::Auto => false,
     }
 }
 
-/// Appends the stem of a precision, which is not the default or has `/w`.
-fn push_stripped(
-    text: &mut String,
-    style: NumberStyle,
-    digits: DigitOptions,
-) -> Result<(), AllocError>
-    ensures { Appends result text.old text.new ((if is_cash style then codes "precision-currency-cash"
-        else precision_text (precision_value digits.precision)) ++ strips_text (strips digits.trailing_zeros)) }
-{
-    if is_cash(style) {
-        text.push_str("precision-currency-cash")?;
-    } else {
-        push_precision(text, digits.precision)?;
-    }
-    if strips(digits.trailing_zeros) {
-        return text.push_str("/w ");
-    }
-    text.push(' ')
-}
-
+/// Appends the stem of a precision, if it is not the default or has `/w`.
 fn push_shown_precision(
     text: &mut String,
     options: &NumberOptions,
     digits: DigitOptions,
-) -> Result<(), AllocError>
-    ensures { Appends result text.old text.new
-        (shown_precision_text options.now.notation options.now.style (digits_value digits)) }
-{
-    let style = options.style;
-    if !is_cash(style)
-        && !strips(digits.trailing_zeros)
-        && is_default(options.is_compact(), style, digits.precision)
-    {
+) -> Result<(), AllocError> {
+    let strips = strips(digits.trailing_zeros);
+    if is_cash(options.style) {
+        text.push_str("precision-currency-cash")?;
+    } else if strips || !is_default(options.is_compact(), options.style, digits.precision) {
+        push_precision(text, digits.precision)?;
+    } else {
         return Ok(());
     }
-    push_stripped(text, style, digits)
+    text.push_str(if strips { "/w " } else { " " })
 }
 
-fn mode_text(mode: SignedRoundingMode) -> &'static str
-    ensures { result.now ≡ mode_text mode }
-{
+fn mode_text(mode: SignedRoundingMode) -> &'static str {
     match mode {
         SignedRoundingMode::Ceil => "rounding-mode-ceiling ",
         SignedRoundingMode::Floor => "rounding-mode-floor ",
@@ -505,111 +298,120 @@ fn mode_text(mode: SignedRoundingMode) -> &'static str
     }
 }
 
-/// Appends `integer-width/##00`.
-fn push_integer_width(text: &mut String, more: u16, least: u16) -> Result<(), AllocError>
-    ensures { OnOk result (string_bytes text.new
-        ≡ string_bytes text.old ++ codes "integer-width/" ++ replicate more 35 ++ replicate least 48 ++ 32 ∷ []) }
-{
-    text.push_str("integer-width/")?;
-    push_run(text, '#', more as u32)?;
-    push_run(text, '0', least as u32)?;
-    text.push(' ')
+fn grouping_text(is_compact: bool, grouping: GroupingStrategy) -> &'static str {
+    match (is_compact, grouping) {
+        (true, GroupingStrategy::Min2) | (false, GroupingStrategy::Auto) => "",
+        (true, GroupingStrategy::Auto) => "group-auto ",
+        (false, GroupingStrategy::Min2) => "group-min2 ",
+        (_, GroupingStrategy::Never) => "group-off ",
+        (_, GroupingStrategy::Always) => "group-on-aligned ",
+    }
 }
 
-fn push_integer(text: &mut String, integer: IntegerDigits) -> Result<(), AllocError>
-    ensures { Appends result text.old text.new (integer_text (integer.min, integer.max)) }
-{
-    let (min, max) = (integer.min, integer.max);
-    if max == 32768 {
-        if min == 1 {
+/// Appends `integer-width/*00`, or `integer-width/##00` where there is a greatest number.
+fn push_integer(text: &mut String, integer: IntegerDigits) -> Result<(), AllocError> {
+    if integer.max == 32768 {
+        if integer.min == 1 {
             return Ok(());
         }
-        push_run(text, '0', min as u32)?;
-        return text.push(' ');
+        text.push_str("integer-width/*")?;
+    } else {
+        text.push_str("integer-width/")?;
+        push_run(text, '#', (integer.max - integer.min) as u32)?;
     }
-    push_integer_width(text, max - min, min)
-}
-
-fn grouping_text(is_compact: bool, grouping: GroupingStrategy) -> &'static str
-    ensures { result.now ≡ grouping_text is_compact grouping }
-{
-    match (is_compact, grouping) {
-        (true, GroupingStrategy::Min2) => "",
-        (true, GroupingStrategy::Auto) => "group-auto ",
-        (false, GroupingStrategy::Auto) => "",
-        (_, GroupingStrategy::Never) => ",_ ",
-        (_, GroupingStrategy::Always) => ",! ",
-        (false, GroupingStrategy::Min2) => ",? ",
-    }
-}
-
-fn style_sign(style: NumberStyle) -> CurrencySign
-    ensures { result ≡ style_sign style }
-{
-    match style {
-        NumberStyle::Currency(currency) => currency.sign,
-        _ => CurrencySign::Standard,
-    }
-}
-
-fn sign_text(sign: CurrencySign, display: SignDisplay) -> &'static str
-    ensures { result.now ≡ sign_text sign display }
-{
-    match (sign, display) {
-        (CurrencySign::Standard, SignDisplay::Auto) => "",
-        (CurrencySign::Standard, SignDisplay::Always) => "+! ",
-        (CurrencySign::Standard, SignDisplay::ExceptZero) => "+? ",
-        (CurrencySign::Standard, SignDisplay::Negative) => "+- ",
-        (CurrencySign::Accounting, SignDisplay::Auto) => "() ",
-        (CurrencySign::Accounting, SignDisplay::Always) => "()! ",
-        (CurrencySign::Accounting, SignDisplay::ExceptZero) => "()? ",
-        (CurrencySign::Accounting, SignDisplay::Negative) => "()- ",
-        (_, SignDisplay::Never) => "+_ ",
-    }
-}
-
-fn push_named_system(text: &mut String, name: Name) -> Result<(), AllocError>
-    ensures { OnOk result (string_bytes text.new
-        ≡ string_bytes text.old ++ codes "numbering-system/" ++ ascii (take (run 33 126 name) name) ++ 32 ∷ []) }
-{
-    text.push_str("numbering-system/")?;
-    let length = run(&name, b'!', b'~');
-    push_ascii(text, before(&name, length))?;
+    push_run(text, '0', integer.min as u32)?;
     text.push(' ')
 }
 
-fn push_system(text: &mut String, system: Option<Name>) -> Result<(), AllocError>
-    ensures { Appends result text.old text.new (system_text system) }
-{
+fn push_system(text: &mut String, system: Option<Name>) -> Result<(), AllocError> {
     let Some(name) = system else {
         return Ok(());
     };
-    if is_name(&name, b"latn") {
+    if name == *b"latn            " {
         return text.push_str("latin ");
     }
-    push_named_system(text, name)
+    text.push_str("numbering-system/")?;
+    push_name(text, &name)?;
+    text.push(' ')
 }
 
-fn push_digits(text: &mut String, options: &NumberOptions) -> Result<(), AllocError>
-    ensures { Appends result text.old text.new
-        (digits_text options.now.notation options.now.style (option_map digits_value options.now.digits)) }
-{
-    let Some(digits) = options.digits else {
+fn width_text(display: CurrencyDisplay) -> &'static str {
+    match display {
+        CurrencyDisplay::Symbol => "",
+        CurrencyDisplay::Narrow => "unit-width-narrow ",
+        CurrencyDisplay::Code => "unit-width-iso-code ",
+        CurrencyDisplay::Hidden => "unit-width-hidden ",
+    }
+}
+
+fn sign_text(sign: CurrencySign, display: SignDisplay) -> &'static str {
+    match (sign, display) {
+        (CurrencySign::Standard, SignDisplay::Auto) => "",
+        (CurrencySign::Standard, SignDisplay::Always) => "sign-always ",
+        (CurrencySign::Standard, SignDisplay::ExceptZero) => "sign-except-zero ",
+        (CurrencySign::Standard, SignDisplay::Negative) => "sign-negative ",
+        (CurrencySign::Accounting, SignDisplay::Auto) => "sign-accounting ",
+        (CurrencySign::Accounting, SignDisplay::Always) => "sign-accounting-always ",
+        (CurrencySign::Accounting, SignDisplay::ExceptZero) => "sign-accounting-except-zero ",
+        (CurrencySign::Accounting, SignDisplay::Negative) => "sign-accounting-negative ",
+        (_, SignDisplay::Never) => "sign-never ",
+    }
+}
+
+/// Appends the stems of a currency's width and of the sign.
+fn push_sign(
+    text: &mut String,
+    style: NumberStyle,
+    display: SignDisplay,
+) -> Result<(), AllocError> {
+    match style {
+        NumberStyle::Currency(currency) => {
+            text.push_str(width_text(currency.display))?;
+            text.push_str(sign_text(currency.sign, display))
+        }
+        _ => text.push_str(sign_text(CurrencySign::Standard, display)),
+    }
+}
+
+/// Appends `100` or `0.01`.
+fn push_power(text: &mut String, power: i16) -> Result<(), AllocError> {
+    if power >= 0 {
+        text.push('1')?;
+        return push_run(text, '0', power.unsigned_abs() as u32);
+    }
+    text.push_str("0.")?;
+    push_run(text, '0', (power.unsigned_abs() - 1) as u32)?;
+    text.push('1')
+}
+
+/// Appends `scale/100` or `scale/0.01`, and of a power beyond 100 the exponent, as `scale/1e-200`.
+fn push_scale(text: &mut String, scale: i16) -> Result<(), AllocError> {
+    if scale == 0 {
         return Ok(());
-    };
-    push_shown_precision(text, options, digits)?;
-    text.push_str(mode_text(digits.mode))?;
-    push_integer(text, digits.integer)
+    }
+    text.push_str("scale/")?;
+    if scale.unsigned_abs() <= 100 {
+        push_power(text, scale)?;
+    } else {
+        text.push_str(if scale < 0 { "1e-" } else { "1e" })?;
+        push_number(text, scale.unsigned_abs())?;
+    }
+    text.push(' ')
 }
 
-/// Appends the skeleton of options, with a space after it.
-pub(crate) fn push_skeleton(text: &mut String, options: &NumberOptions) -> Result<(), AllocError>
-    ensures { Appends result text.old text.new (options_text (options_value options.now)) }
-{
+/// Appends the skeleton of options, with a space after each stem.
+pub(crate) fn push_skeleton(text: &mut String, options: &NumberOptions) -> Result<(), AllocError> {
     push_notation(text, options.notation)?;
-    push_style(text, options.style, options.scale)?;
-    push_digits(text, options)?;
+    push_unit(text, options.style)?;
+    if let Some(digits) = options.digits {
+        push_shown_precision(text, options, digits)?;
+        text.push_str(mode_text(digits.mode))?;
+    }
     text.push_str(grouping_text(options.is_compact(), options.grouping))?;
-    text.push_str(sign_text(style_sign(options.style), options.sign_display))?;
-    push_system(text, options.numbering_system)
+    if let Some(digits) = options.digits {
+        push_integer(text, digits.integer)?;
+    }
+    push_system(text, options.numbering_system)?;
+    push_sign(text, options.style, options.sign_display)?;
+    push_scale(text, options.scale)
 }

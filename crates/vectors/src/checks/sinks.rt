@@ -8,20 +8,45 @@ use test_support::WriteFailure::{self, Flush, Interrupted, StorageFull, Zero};
 /// The text that is put into sinks.
 const TEXT: &[u8] = b"-1234.50";
 
-/// The number of bytes that a writer takes, one a write, how it fails, the kind of its error, and the numbers of its
-/// writes and flushes.
-type Row = (usize, WriteFailure, Option<ErrorKind>, usize, usize);
+/// A writer that takes `room` bytes, one a write, and how it then fails; and what a sink makes of it: the number of
+/// bytes that are taken, the kind of the error, and the numbers of writes and flushes.
+#[derive(Clone, Copy)]
+struct Row {
+    room: usize,
+    failure: WriteFailure,
+    taken: usize,
+    error: Option<ErrorKind>,
+    writes: usize,
+    flushes: usize,
+}
 
-/// Failures of a write, with the kinds of their errors.
-const FAILURES: &[(WriteFailure, ErrorKind)] = &[
-    (Zero, ErrorKind::WriteZero),
-    (StorageFull, ErrorKind::StorageFull),
-    (Interrupted, ErrorKind::Interrupted),
-];
+/// The row of a writer that is not called again after its first failure.
+fn failing(room: usize, failure: WriteFailure, error: ErrorKind) -> Row {
+    Row {
+        room,
+        failure,
+        taken: room,
+        error: Some(error),
+        writes: room.saturating_add(1),
+        flushes: 0,
+    }
+}
+
+/// The row of a writer that has taken the whole text, and is then flushed.
+fn taking(room: usize, failure: WriteFailure, error: Option<ErrorKind>, writes: usize) -> Row {
+    Row {
+        room,
+        failure,
+        taken: TEXT.len(),
+        error,
+        writes,
+        flushes: 1,
+    }
+}
 
 /// Whether a writer has taken its bytes, and was called so often.
-fn is_called(writer: &FailingWriter<'_>, (room, _, _, writes, flushes): Row) -> bool {
-    writer.has_taken(room) && writer.writes() == writes && writer.flushes() == flushes
+fn is_called(writer: &FailingWriter<'_>, row: Row) -> bool {
+    writer.has_taken(row.taken) && writer.writes() == row.writes && writer.flushes() == row.flushes
 }
 
 /// Puts the text and flushes, up to the first error.
@@ -39,20 +64,20 @@ fn rejects_all<W: Write>(out: &mut Out<W>) -> bool {
 
 /// Whether a sink calls its writer so often, and no more after an error.
 fn calls(row: Row) -> bool {
-    let mut out = Out::new(FailingWriter::new(TEXT, row.0, row.1));
+    let mut out = Out::new(FailingWriter::new(TEXT, row.room, row.failure));
     let is_right = match put(&mut out) {
-        Ok(()) => row.2.is_none(),
-        Err(SinkFault) => row.2.is_some() && rejects_all(&mut out),
+        Ok(()) => row.error.is_none(),
+        Err(SinkFault) => row.error.is_some() && rejects_all(&mut out),
     };
     is_right && is_called(&out.into_writer(), row)
 }
 
 /// The same of a sink that writes in blocks, with the kind of the error.
 fn calls_when_closed(alloc: Global, row: Row) -> Result<bool, AllocError> {
-    let mut sink = BufferedOut::open(alloc, FailingWriter::new(TEXT, row.0, row.1))?;
+    let mut sink = BufferedOut::open(alloc, FailingWriter::new(TEXT, row.room, row.failure))?;
     let is_taken = sink.put_bytes(TEXT).is_ok();
     let closed = sink.close();
-    let is_kind = closed.error() == row.2;
+    let is_kind = closed.error() == row.error;
     Ok(is_taken && is_kind && is_called(&closed.into_writer(), row))
 }
 
@@ -61,19 +86,25 @@ fn call(alloc: Global, row: Row) -> bool {
     calls(row) && calls_when_closed(alloc, row) == Ok(true)
 }
 
+/// Whether a write that is interrupted is a failure of a sink that makes one write a byte, and is repeated by one that
+/// writes in blocks.
+fn is_interrupted(alloc: Global, room: usize) -> bool {
+    calls(failing(room, Interrupted, ErrorKind::Interrupted))
+        && calls_when_closed(alloc, taking(room, Interrupted, None, 9)) == Ok(true)
+}
+
 /// Whether writers are called so often, with each failure after each number of bytes.
 fn are_called(alloc: Global) -> bool {
     for room in 0..TEXT.len() {
-        for (failure, kind) in FAILURES {
-            if !call(
-                alloc,
-                (room, *failure, Some(*kind), room.saturating_add(1), 0),
-            ) {
-                return false;
-            }
+        if !call(alloc, failing(room, Zero, ErrorKind::WriteZero))
+            || !call(alloc, failing(room, StorageFull, ErrorKind::StorageFull))
+            || !is_interrupted(alloc, room)
+        {
+            return false;
         }
     }
-    call(alloc, (8, Flush, Some(ErrorKind::BrokenPipe), 8, 1)) && call(alloc, (8, Zero, None, 8, 1))
+    call(alloc, taking(8, Flush, Some(ErrorKind::BrokenPipe), 8))
+        && call(alloc, taking(8, Zero, None, 8))
 }
 
 /// The sizes of slices, and the number of writes to a writer that takes any number of bytes a call.

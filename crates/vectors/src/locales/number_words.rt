@@ -41,7 +41,8 @@ pub struct Options {
 }
 
 impl Options {
-    /// Whether `scale` and a decimal formatter write the text in this locale.
+    /// Whether `scale` and a decimal formatter write the text in this locale. They do not know the sign of a number
+    /// whose digits are cut off.
     pub fn is_plain(&self, tag: &str) -> bool {
         let is_decimal = matches!(
             (self.number.style, self.check),
@@ -52,7 +53,11 @@ impl Options {
             NumberNotation::Compact(_) => false,
             _ => tag == "en",
         };
-        is_decimal && self.number.scale == 0 && is_written
+        let is_signed = match self.number.sign_display {
+            SignDisplay::ExceptZero | SignDisplay::Negative => self.integer.is_none(),
+            _ => true,
+        };
+        is_decimal && self.number.scale == 0 && is_written && is_signed
     }
 
     /// Returns the notation of `scale`.

@@ -31,8 +31,10 @@ fn name(kind: PartKind) -> &'static str {
     }
 }
 
-impl PartSink for PartTexts<'_> {
+impl<'a> PartSink for PartTexts<'a> {
     ghost pieces = { λ _. None };
+
+    ghost has_failed = { λ s. ⟦<LimitedSink<'a> as Sink>⟧.has_failed s.text };
 
     fn put(&mut self, kind: PartKind, text: &str) -> Result<(), SinkFault> {
         if self.last != Some(kind) {

@@ -47,22 +47,28 @@ fn expected_reading(alloc: Global, expected: &str) -> Option<String> {
     format!(in alloc; "{options:?}").ok()
 }
 
-/// Whether the options of a skeleton are printed as a skeleton that is not longer, nor its own skeleton longer.
-fn prints_shorter(alloc: Global, text: &str) -> Option<bool> {
-    let Ok(options) = NumberOptions::try_from_skeleton(text) else {
-        return Some(true);
-    };
-    let shorter = options.to_skeleton(alloc).ok()??;
-    let again = NumberOptions::try_from_skeleton(shorter.as_str()).ok()?;
-    let same = again.to_skeleton(alloc).ok()??;
-    Some(shorter.as_str().len() <= text.len() && shorter.as_str() == same.as_str())
+/// Returns the skeleton that the options of a skeleton are printed as, if it reads as the same options.
+fn printed(alloc: Global, options: &NumberOptions) -> Option<String> {
+    let printed = options.to_skeleton(alloc).ok()??;
+    let again = NumberOptions::try_from_skeleton(printed.as_str()).ok()?;
+    let again = format!(in alloc; "{again:?}").ok()?;
+    let options = format!(in alloc; "{options:?}").ok()?;
+    if again.as_str() == options.as_str() {
+        Some(printed)
+    } else {
+        None
+    }
 }
 
 /// Whether a row holds.
 pub fn holds(alloc: Global, skeleton: &str, expected: &str) -> Option<bool> {
     let skeleton = expanded(alloc, skeleton).ok()?;
-    if !prints_shorter(alloc, skeleton.as_str())? {
-        return Some(false);
+    let printed = match NumberOptions::try_from_skeleton(skeleton.as_str()) {
+        Ok(options) => printed(alloc, &options)?,
+        Err(_) => String::new(alloc),
+    };
+    if let Some(normal) = expected.strip_prefix('>') {
+        return Some(printed.as_str() == expanded(alloc, normal).ok()?.as_str());
     }
     let reading = reading_of(alloc, skeleton.as_str()).ok()?;
     Some(reading.as_str() == expected_reading(alloc, expected)?.as_str())

@@ -11,7 +11,7 @@ pub returns-in-Err-UnknownLocale-clause-err : goal.returns-in-Err-UnknownLocale-
 returns-in-Err-UnknownLocale-clause-err c =
     let (is, names) = c.in-Some.ensures.some in
     let unknown = rw (c.in-Err-UnknownLocale.field-0-is, is) at c.in-Err-UnknownLocale.ensures in
-    ((c.in-Some.rule_type, names), unknown, rw is at c.of.ensures)
+    ((c.in-Some.rule_type, names), unknown, rw is at c.of-in-Err-UnknownLocale.ensures)
 
 pub returns-in-Err-Memory-clause-err : goal.returns-in-Err-Memory-clause-err
 returns-in-Err-Memory-clause-err c =

@@ -7,8 +7,7 @@ returns-in-Err c = inr (c.in-Err.error, refl, inl c.in-Err.ensures.err, refl)
 
 pub returns-in-Ok-None : goal.returns-in-Ok-None
 returns-in-Ok-None c =
-    let none = rw c.in-Ok-None.field-0-is at c.in-Ok-None.ensures.none in
-    inr (NoSkeleton, refl, inr (c.in-Ok.options, c.in-Ok.ensures.ok, inr (refl, none)), refl)
+    inr (NoSkeleton, refl, inr (c.in-Ok.options, c.in-Ok.ensures.ok, inr refl), refl)
 
 pub returns-in-Err-to_skeleton : goal.returns-in-Err-to_skeleton
 returns-in-Err-to_skeleton c =

@@ -12,7 +12,7 @@ returns-in-Some g c =
     let short : length (replaced s text) ≤ 2 ^ 64 - 1 =
     omega (arith, ap length c.in-Some.ensures.0, c.in-Some.ensures.1) in
     let whole : c.as_bytes.result.now ≡ normalized s text =
-    c.as_bytes.ensures ∙ c.in-Some.ensures.0 ∙ sym (take_all (2 ^ 64 - 1) (replaced s text) short) in
+    c.as_bytes.ensures.value ∙ c.in-Some.ensures.0 ∙ sym (take_all (2 ^ 64 - 1) (replaced s text) short) in
     subst (λ (b : List ℕ). IsRead g.D.DigitStore.L (IsNumeralOfFirst s b c.args.alternatives.now)
     (IsWrittenOfFirst s b c.args.alternatives.now) c.read_first.result) whole c.read_first.ensures
 

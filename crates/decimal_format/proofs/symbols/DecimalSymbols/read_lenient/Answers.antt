@@ -20,7 +20,7 @@ returns-in-Some g c =
     let short : length (replaced s text) ≤ 2 ^ 64 - 1 =
     omega (arith, ap length c.in-Some.ensures.0, c.in-Some.ensures.1) in
     let whole : c.as_bytes-in-Some.result.now ≡ normalized s text =
-    c.as_bytes-in-Some.ensures ∙ c.in-Some.ensures.0 ∙ sym (take_all (2 ^ 64 - 1) (replaced s text) short) in
+    c.as_bytes-in-Some.ensures.value ∙ c.in-Some.ensures.0 ∙ sym (take_all (2 ^ 64 - 1) (replaced s text) short) in
     read_next strict (rw whole at c.read_groups.ensures)
 
 pub returns-in-Err-Limit : goal.returns-in-Err-Limit

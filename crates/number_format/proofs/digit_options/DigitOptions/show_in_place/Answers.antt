@@ -1,6 +1,7 @@
-use Rattle.std.proofs.Common.{refl, rules, w32, FitsSigned}
+use Rattle.std.proofs.Common.{◌≡◌, refl, sym, subst, rules, w32, FitsSigned}
 use Rattle.std.proofs.lemmas.Int.{to_z-of_z}
-use Rattle.number_format.proofs.StandardNotation.{standard-some}
+use Rattle.std.specs.Prelude.{◌↔◌, IsTrue}
+use Rattle.number_format.proofs.StandardNotation.{standard-some, standard-number}
 use Rattle.number_format.proofs.digit_options.DigitOptions.show_in_place.Goals as goal
 
 pub returns-clause-ok : goal.returns-clause-ok
@@ -10,3 +11,9 @@ returns-clause-ok g c =
     standard-some o c.args.value.now c.round_at.new.value c.in_ok-last.last c.in_ok-last.ensures.rounds
     (record { sign = c.round_at.new.value.sign; absolute = c.show.new.value }) refl
     (simp to_z-of_z at c.show.ensures.value)
+
+pub returns-clause-zero : goal.returns-clause-zero
+returns-clause-zero g c =
+    subst (λ n. IsTrue c.is_zero-is_zero.result ↔ (n ≡ 0))
+    (sym (standard-number c.args.self.now c.args.value.now c.round_at.new.value c.in_ok-last.last
+    c.in_ok-last.ensures.rounds)) c.is_zero-is_zero.ensures.zero

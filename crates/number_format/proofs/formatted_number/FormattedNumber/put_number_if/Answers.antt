@@ -1,39 +1,36 @@
-use Rattle.std.proofs.Common.{◌≡◌, refl, sym, ◌∙◌, ap, subst}
-use Rattle.std.proofs.lemmas.Result.{on_ok_weaker}
-use Rattle.std.specs.Prelude.{if◌then◌else◌, []}
-use Rattle.fixed_decimal.specs.declared.variations.Sign.{Sign}
-use Rattle.fixed_decimal.specs.declared.variations.Sign.TheVariants as sign
+use Rattle.std.proofs.Common.{ap, subst, sym, true, ◌≡◌, ◌++◌, ◌∙◌, rules}
+use Rattle.std.proofs.lemmas.Result.{on_err_weaker}
+use Rattle.std.specs.Prelude.{OnErr, Some}
+use Rattle.fixed_decimal.proofs.Calling.{on_err}
 use Rattle.number_format.specs.declared.text_part.PartKind.TheVariants as kind
-use Rattle.number_format.specs.NumberText.{exponent_kind, exponent_of, number_part}
-use Rattle.number_format.specs.TextParts.{Puts, pieces_of}
-use Rattle.number_format.proofs.PieceTexts.{puts_trans}
+use Rattle.number_format.specs.FormattedNumbers.{number_pieces_if}
+use Rattle.number_format.specs.NumberText.{exponent_pieces}
+use Rattle.number_format.specs.TextParts.{PutsPrefix, digit_pieces}
+use Rattle.number_format.proofs.PieceTexts.{prefix_more, then_prefix}
 use Rattle.number_format.proofs.formatted_number.FormattedNumber.put_number_if.Goals as goal
-use Rattle.number_format.proofs.formatted_number.FormattedNumber.put_number_if.Goals.{in-Positive, in_default}
 
-minus_kind : (s : Sign) → (s ≡ sign.Positive → ⊥) → kind.ExponentMinusSign ≡ exponent_kind s
-minus_kind sign.None other = refl
-minus_kind sign.Negative other = refl
-minus_kind sign.Positive other = absurd (other refl)
+pub returns-in_err-put_digits-clause-err : goal.returns-in_err-put_digits-clause-err
+returns-in_err-put_digits-clause-err g c =
+    let has : c.args.has_number ≡ true = search rules in
+    let start = g.P.PartSink.pieces c.args.sink.now in
+    let end = g.P.PartSink.pieces c.put_digits.new.sink in
+    subst (λ b. OnErr c.from_residual.result (PutsPrefix start end (number_pieces_if c.args.self.now b))) (sym has)
+    (on_err c.from_residual.result _
+    (prefix_more _ _ _ _ (rw c.digits.ensures at c.in_err-put_digits.ensures.err)))
 
-pub returns-in-Some : goal.returns-in-Some
-returns-in-Some g c =
+pub returns-in-Some-clause-err : goal.returns-in-Some-clause-err
+returns-in-Some-clause-err g c =
     let n = c.args.self.now in
     let f = n.formatter.now in
-    let e = c.in-Some.exponent in
+    let digits = digit_pieces kind.Integer f.symbols f.options.grouping n.value.absolute in
+    let exponent = exponent_pieces f (Some c.in-Some.exponent) in
+    let e = ap (exponent_pieces f) (sym c.shown_exponent.ensures ∙ c.in-Some.is) in
+    let has : c.args.has_number ≡ true = search rules in
     let start = g.P.PartSink.pieces c.args.sink.now in
-    let end = g.P.PartSink.pieces c.put_digits-in-Some.new.sink in
-    let shown = exponent_of f.options.notation n.exponent in
-    let chosen : c.match-exponent.kind ≡ exponent_kind e.sign = elim c.match-exponent.branch [
-      | in-Positive w ↦ w.kind-is ∙ sym (ap exponent_kind w.in-Positive.is)
-      | in_default w ↦ w.kind-is ∙ minus_kind e.sign w.in_default.not-Positive
-    ] in
-    let first = rw c.digits.ensures at c.in_ok-put_digits.ensures in
-    let mark = subst (Puts _ _) (λ i. pieces_of (chosen i) (c.affixes.ensures.prefix i))
-    c.in_ok-put-in-Some-2.ensures in
-    on_ok_weaker c.put_digits-in-Some.result
-    (λ last. subst (λ b. Puts start end (if b then number_part f n.value.absolute shown else [])) (sym
-    c.if-not-has_number.false)
-    (subst (λ x. Puts start end (number_part f n.value.absolute x)) (sym (sym c.shown_exponent.ensures ∙ c.in-Some.is))
-    (puts_trans _ _ _ _ _ first (puts_trans _ _ _ _ _ c.in_ok-put-in-Some.ensures
-    (puts_trans _ _ _ _ _ mark (rw c.exponent_digits-digits.ensures at last))))))
-    c.put_digits-in-Some.ensures
+    let end = g.P.PartSink.pieces c.put_exponent.new.sink in
+    subst (λ b. OnErr c.put_exponent.result (PutsPrefix start end (number_pieces_if n b))) (sym has)
+    (subst (λ l. OnErr c.put_exponent.result (PutsPrefix start end (digits ++ l))) (sym e)
+    (on_err_weaker c.put_exponent.result
+    (then_prefix start (g.P.PartSink.pieces c.put_digits.new.sink) end digits exponent
+    (rw c.digits.ensures at c.in_ok-put_digits.ensures.ok))
+    c.put_exponent.ensures.err))

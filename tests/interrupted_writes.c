@@ -1,0 +1,16 @@
+/* Preloaded: each write is interrupted once before it is made. */
+#define _GNU_SOURCE
+#include <dlfcn.h>
+#include <errno.h>
+#include <unistd.h>
+
+ssize_t write(int file, const void *bytes, size_t count) {
+    static int interrupted;
+    ssize_t (*made)(int, const void *, size_t) = (ssize_t (*)(int, const void *, size_t))dlsym(RTLD_NEXT, "write");
+    interrupted = !interrupted;
+    if (interrupted) {
+        errno = EINTR;
+        return -1;
+    }
+    return made(file, bytes, count);
+}
