@@ -384,13 +384,13 @@ fn push_power(text: &mut String, power: i16) -> Result<(), AllocError> {
     text.push('1')
 }
 
-/// Appends `scale/100` or `scale/0.01`, and of a power beyond 100 the exponent, as `scale/1e-200`.
+/// Appends `scale/100` or `scale/0.01`, or the exponent, as `scale/1e-200`, where the text would be longer than 510 bytes.
 fn push_scale(text: &mut String, scale: i16) -> Result<(), AllocError> {
     if scale == 0 {
         return Ok(());
     }
     text.push_str("scale/")?;
-    if scale.unsigned_abs() <= 100 {
+    if (scale.unsigned_abs() as usize) <= 500usize.saturating_sub(text.len()) {
         push_power(text, scale)?;
     } else {
         text.push_str(if scale < 0 { "1e-" } else { "1e" })?;
