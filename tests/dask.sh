@@ -55,7 +55,7 @@ first=$(($(head -c $((start - 1)) numbers | wc -l) + 2))
 
 # run WORD..: convert.py, by the Python and the modules that are tried.
 run() {
-  PYTHONPATH=$modules timeout 60 "$python" "$convert" "$@"
+  PYTHONPATH=$modules timeout 300 "$python" "$convert" "$@"
 }
 
 # row NAME BLOCK FILE.. -- WORD..: the bytes and the status of fixdec_lines for each file; of a header only the first.
@@ -74,8 +74,9 @@ row() {
     [[ " $* " != *' header '* ]] || [ ! -s "$file" ] || skipped=1
   done
   run --program "$program" --block "$block" "${files[@]}" -- "$@" > found 2> log
-  [ $? = "$status" ] && cmp -s found expected && cmp -s log lines
-  judge $? "$dask, $name: $(tail -n 1 log)"
+  ended=$?
+  [ $ended = "$status" ] && cmp -s found expected && cmp -s log lines
+  judge $? "$dask, $name: status $ended, $(tail -n 1 log)"
 }
 
 # fails STATUS LINE WORD..: convert.py writes this one line on standard error and has this status.
@@ -162,6 +163,11 @@ rows() {
 
 python=python3 dask="a stand-in for Dask"
 rows
+# A client that is never closed.
+cp -r "$modules" never && sed -i 's/self.threads.shutdown.*/__import__("time").sleep(1000)/' never/dask/distributed.py
+./fixdec_lines shift:1 < numbers > expected
+modules=$room/never run --program ./fixdec_lines numbers -- shift:1 > found 2> log && cmp -s found expected && [ ! -s log ]
+judge $? "$dask, which does not close: $(tail -n 1 log)"
 
 # ---- Dask
 modules='' dask=Dask

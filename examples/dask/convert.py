@@ -20,6 +20,7 @@ import re
 import signal
 import subprocess
 import sys
+import threading
 from collections import deque
 from itertools import islice
 
@@ -242,6 +243,13 @@ def connected(scheduler):
         raise Failure(f"convert.py: {scheduler or 'Dask'}: {reason(error)}")
 
 
+def close(client):
+    """Closes Dask, which removes its scratch files. On a busy machine it may not end, so five seconds are enough."""
+    closing = threading.Thread(target=client.close, daemon=True)
+    closing.start()
+    closing.join(5)
+
+
 def convert_files(arguments):
     if not sys.stdout:
         raise Failure("output: standard output is closed")
@@ -261,8 +269,11 @@ def convert_files(arguments):
         raise Failure(ending(options.program, first.returncode))
     if first.returncode:
         return first.returncode
-    with connected(options.scheduler) as client:
+    client = connected(options.scheduler)
+    try:
         return convert_all(client, options, header, len(first.stdout))
+    finally:
+        close(client)
 
 
 def main():
@@ -279,4 +290,5 @@ def main():
 
 
 if __name__ == "__main__":
-    sys.exit(main())
+    # Nothing is buffered, and no thread of Dask is waited for.
+    os._exit(main())

@@ -14,8 +14,5 @@ class Client:
         assert pure is False
         return self.threads.submit(function, *arguments)
 
-    def __enter__(self):
-        return self
-
-    def __exit__(self, *_):
+    def close(self):
         self.threads.shutdown(cancel_futures=True)
