@@ -2,8 +2,8 @@
 // call.
 //
 // `format` is LocalizedNumberFormatter::formatDecimal of a text, and its text in UTF-8; `read` is unum_parseDecimal of
-// the text in UTF-16. Both are made before the clock starts. `make` is UnlocalizedNumberFormatter::locale, and `first` also
-// formats the number.
+// the text in UTF-16. Both are made before the clock starts. `make` is UnlocalizedNumberFormatter::locale, and `first`
+// also formats the number.
 #include <unicode/numberformatter.h>
 #include <unicode/unistr.h>
 #include <unicode/unum.h>

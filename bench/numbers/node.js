@@ -1,5 +1,5 @@
-// Times node for bench/numbers.sh: a row `format`, `make` or `first`, locale, skeleton, number, nanoseconds of a call, by the
-// options that the skeleton has in ECMA-402. `format` is Intl.NumberFormat.prototype.format, `make` is
+// Times node for bench/numbers.sh: a row `format`, `make` or `first`, locale, skeleton, number, nanoseconds of a call,
+// by the options that the skeleton has in ECMA-402. `format` is Intl.NumberFormat.prototype.format, `make` is
 // `new Intl.NumberFormat`, and `first` also formats the number. Reading is not in ECMA-402.
 const CALLS = 20_000;
 const NUMBERS = ["1234.5", "-1234567.891", "0.25"];

@@ -24,8 +24,8 @@ for tag, system, is_default, *fields in rows("symbols.tsv"):
 for kind, tag, rules in rows("plural_rules.tsv"):
     if tag != "root":
         languages.setdefault(rules, (tag, kind))
-print("# Made by `node tools/locales/node.js vectors | python3 tools/locales/choose_rows.py`, with node 20.20.2, ICU 78.2 "
-      "and CLDR 48, under the license in tools/locales/LICENSE.")
+print("# Made by `node tools/locales/node.js vectors | python3 tools/locales/choose_rows.py`, with node 20.20.2, "
+      "ICU 78.2 and CLDR 48, under the license in tools/locales/LICENSE.")
 tags, first, auto, count = set(locales.values()), set(languages.values()), {}, collections.Counter()
 for row in sys.stdin:
     tag, kind, number, text = row.rstrip("\n").split("\t")

@@ -49,7 +49,7 @@ def chosen(path, limit):
 
 
 if __name__ == "__main__":
-    print("# Made by `python3 tools/locales/choose_vectors.py TEXTS`, of texts of node 20.20.2 with CLDR 48, under the license "
-          "in tools/locales/LICENSE.")
+    print("# Made by `python3 tools/locales/choose_vectors.py TEXTS`, of texts of node 20.20.2 with CLDR 48, under "
+          "the license in tools/locales/LICENSE.")
     for row in chosen(sys.argv[1], int(sys.argv[2]) if sys.argv[2:] else 160):
         print("\t".join(row))

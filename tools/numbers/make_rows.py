@@ -125,8 +125,8 @@ def ends():
 
 def main(texts_path, errors_path, currencies_path):
     currencies = {row[0]: row[1] for row in rows(currencies_path)}
-    print("# Made by `python3 tools/numbers/make_rows.py TEXTS ERRORS CURRENCIES`, of texts of node 20.20.2 with CLDR 48, "
-          "under the license in tools/locales/LICENSE.")
+    print("# Made by `python3 tools/numbers/make_rows.py TEXTS ERRORS CURRENCIES`, of texts of node 20.20.2 with "
+          "CLDR 48, under the license in tools/locales/LICENSE.")
     print("\n# Both ends.\n" + "\n".join(ends()))
     plain = (f"{words(options, SHOWN)}\t{number}\t{text}" for tag, options, number, text in texts(texts_path)
              if is_plain(tag, options))
