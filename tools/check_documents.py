@@ -15,8 +15,8 @@ CALLERS = ["uses", "plural_rules", "decimal_format", "locale_data", "number_form
 # Words of other programs that are no names in the code.
 FOREIGN = set("FloatPrecision DoublePrecision WithInfinity try_from_f64 ryu LengthHint strtod".split())
 # Modules and functions that are public for the crates of this repository alone.
-INTERNAL = re.compile(r"/src/(?:rounding/|digits/packed/|digits/steps|ops|uint_iterator|block|decimal/parse/|reader/|rows|tag|\w+_table)")
-HIDDEN = {"from_bcd_digits", "from_short_text", "scan_from", "lowest_of", "NO_FORMATS"}
+INTERNAL = re.compile(r"/src/(?:rounding/|digits/packed/|digits/steps|ops|uint_iterator|block|decimal/parse/|reader/|search|tag|tables/)")
+HIDDEN = {"from_bcd_digits", "from_short_text", "scan_from", "lowest_of"}
 NAME = re.compile(r"[A-Za-z_][\w:<>&', ]*(\([\w:<>&', ]*\))?")
 OUTSIDE = re.compile(r"\b(?:document|paper|issue|session|request|promise|definition) \d|\b[DTRW]\d{1,2}\b"
                      r"|/(?:work|tmp|root|home)/")
@@ -131,7 +131,7 @@ def check_public():
     named = set(re.findall(r"\w+", " ".join(quoted(text) + re.findall(r"```.*?```", text, re.S))))
     laws = set(quoted(read("docs/PROVED.md")))
     for path, text in CODE.items():
-        if path.endswith("_table.rt"):
+        if "/locale_data/src/tables/" in path:
             named.update(re.findall(r"\b[A-Z]\w+", text))
     for path, text in CODE.items():
         if re.search(r"/src/\w*laws\.rt$", path):
@@ -207,7 +207,7 @@ def check_counts():
     for document, counted in [
         ("README.md", f"{lines_of(specs)}. Of these `run` cites {lines_of(specs_of_run())}"),
         ("docs/DESIGN.md", f"{sum(edits)} of {len(edits)} are in `must-fail/`"),
-        ("docs/PROVED.md", f"{sum(CODE[path].count(chr(10)) for path in CODE if path.endswith('_table.rt')):,} lines"),
+        ("docs/PROVED.md", f"{sum(CODE[path].count(chr(10)) for path in CODE if '/src/tables/' in path):,} lines"),
     ]:
         check(counted in re.sub(r"\s+", " ", read(document)), f"{document}: {counted}")
 
