@@ -125,14 +125,10 @@ def check_proved():
 
 
 def check_public():
-    """CALLING names each public type and function of the libraries, but for the types of the rows of tables; PROVED names
-    each law."""
+    """CALLING names each public type and function of the libraries, but for those of `INTERNAL`; PROVED names each law."""
     text = read("CALLING.md")
     named = set(re.findall(r"\w+", " ".join(quoted(text) + re.findall(r"```.*?```", text, re.S))))
     laws = set(quoted(read("docs/PROVED.md")))
-    for path, text in CODE.items():
-        if "/locale_data/src/tables/" in path:
-            named.update(re.findall(r"\b[A-Z]\w+", text))
     for path, text in CODE.items():
         if re.search(r"/src/\w*laws\.rt$", path):
             for public, name, _ in functions(path):

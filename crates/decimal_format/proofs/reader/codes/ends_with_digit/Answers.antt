@@ -3,7 +3,7 @@ use Rattle.std.proofs.lemmas.List.{nil_from_length, take_all}
 use Rattle.std.proofs.Math.Seq.{drop-append_seam}
 use Rattle.decimal_format.specs.Symbols.{Symbols, HaveWidth, digit_text}
 use Rattle.decimal_format.specs.Readable.{BeginsWithDigit, EndsWithDigit}
-use Rattle.decimal_format.proofs.symbols.DecimalSymbols.ends_with_digit.Goals as goal
+use Rattle.decimal_format.proofs.reader.codes.ends_with_digit.Goals as goal
 
 module _ (s : Symbols) (width front : ℕ) (text : List ℕ) (one_width : HaveWidth s.digits width)
     (count : length text ≡ front + width) where
@@ -44,7 +44,7 @@ module _ (s : Symbols) (width front : ℕ) (text : List ℕ) (one_width : HaveWi
 
 pub returns-in-Some : goal.returns-in-Some
 returns-in-Some c =
-    let s = c.args.self.now in
+    let s = c.args.symbols.now in
     let text = c.args.text.now in
     let front = c.in-Some.front in
     let count : length text ≡ front + c.digit_width.result = omega (arith, c.in-Some.ensures) in
