@@ -12,8 +12,14 @@ LIBRARIES = [*CRATES[:4], "locale_data", "number_format"]
 # Crates whose proofs cite of the libraries only the lemmas for callers.
 CALLERS = ["uses", "plural_rules", "decimal_format", "locale_data", "number_format", "cli", "fixed_decimal_c"]
 # Modules and functions that are public for the crates of this repository alone.
+<<<<<<< HEAD
 INTERNAL = re.compile(r"/src/(?:rounding/|digits/packed/|digits/steps|ops|uint_iterator|block|decimal/parse/|reader/|rows|tag|\w+_table)")
 HIDDEN = {"from_bcd_digits", "from_short_text", "scan_from", "lowest_of", "NO_FORMATS"}
+=======
+INTERNAL = re.compile(r"/src/(?:rounding/|digits/packed/|digits/steps|ops|uint_iterator|block|decimal/parse/|reader/|search|tag|tables/)")
+HIDDEN = {"from_bcd_digits", "from_short_text", "scan_from", "lowest_of"}
+NAME = re.compile(r"[A-Za-z_][\w:<>&', ]*(\([\w:<>&', ]*\))?")
+>>>>>>> C
 OUTSIDE = re.compile(r"\b(?:document|paper|issue|session|request|promise|definition) \d|\b[DTRW]\d{1,2}\b"
                      r"|/(?:work|tmp|root|home)/")
 
@@ -105,14 +111,10 @@ def check_proved():
 
 
 def check_public():
-    """CALLING names each public type and function of the libraries, but for the types of the rows of tables; PROVED names
-    each law."""
+    """CALLING names each public type and function of the libraries, but for those of `INTERNAL`; PROVED names each law."""
     text = read("CALLING.md")
     named = set(re.findall(r"\w+", " ".join(quoted(text) + re.findall(r"```.*?```", text, re.S))))
     laws = set(quoted(read("docs/PROVED.md")))
-    for path, text in CODE.items():
-        if path.endswith("_table.rt"):
-            named.update(re.findall(r"\b[A-Z]\w+", text))
     for path, text in CODE.items():
         if re.search(r"/src/\w*laws\.rt$", path):
             for public, name, _ in functions(path):
@@ -193,7 +195,7 @@ def check_counts():
     for document, counted in [
         ("README.md", f"{lines_of(specs)}. Of these `run` cites {lines_of(specs_of_run())}"),
         ("docs/DESIGN.md", f"{sum(edits)} of {len(edits)} are in `must-fail/`"),
-        ("docs/PROVED.md", f"{sum(CODE[path].count(chr(10)) for path in CODE if path.endswith('_table.rt')):,} lines"),
+        ("docs/PROVED.md", f"{sum(CODE[path].count(chr(10)) for path in CODE if '/src/tables/' in path):,} lines"),
     ]:
         check(counted in re.sub(r"\s+", " ", read(document)), f"{document}: {counted}")
 

@@ -40,7 +40,7 @@ class Tables:
             with open(os.path.join(SOURCES, name), encoding="utf-8") as file:
                 return file.read()
 
-        formats, currency, compact = map(read, ("formats_table.rt", "currency_table.rt", "compact_table.rt"))
+        formats, currency, compact = map(read, ("formats.rt", "currencies.rt", "compact.rt"))
         self.affixes = {name: "".join(NAMES.get(it, "") for it in re.findall(r": (\w+)", pieces))
                         for name, pieces in re.findall(r"const (A\d+): Affix = Affix \{(.*)\};", formats)}
         self.patterns = [tuple([self.affixes[it] for it in row[:6]] + row[6:]) for row in table(formats, "PATTERNS")]

@@ -1,5 +1,5 @@
 #!/usr/bin/env python3
-"""Writes the tables of crates/locale_data/src from the files of data in this folder.
+"""Writes the tables of crates/locale_data/src/tables from the files of data in this folder.
 
 `tools/locales/make_tables.py` writes the files, `tools/locales/make_tables.py --check` fails if they would change. With a
 folder after `--check` it also compares what the tables say of every tag and numbering system with the rows of the files
@@ -36,15 +36,15 @@ SIZES = {
 }
 HEAD = '''//! The numbering systems, and the locales with their symbols.
 // Written by tools/locales/make_tables.py from data of CLDR 48; their license is tools/locales/LICENSE. Do not edit.
-use crate::rows::TableRange;
-use crate::symbols::Symbol::*;
-use crate::symbols::{LocaleSymbols, NumberingSystem, SymbolSet};
+use super::rows::TableRange;
+use super::rows::symbols::Symbol::*;
+use super::rows::symbols::{LocaleSymbols, NumberingSystem, SymbolSet};
 use decimal_format::GroupingSizes;
 '''
 PLURALS_HEAD = """//! The plural rules of languages.
 // Written by tools/locales/make_tables.py from data of CLDR 48; their license is tools/locales/LICENSE. Do not edit.
-use crate::plural_rows::{LanguageRules, RelationRow, RuleRow, RuleSet};
-use crate::rows::TableRange;
+use super::rows::TableRange;
+use super::rows::plurals::{LanguageRules, RelationRow, RuleRow, RuleSet};
 use plural_rules::Operand::*;
 use plural_rules::PluralCategory::*;
 use plural_rules::Range;
@@ -91,7 +91,7 @@ def fields_of(symbols):
 
 
 def symbol_tables():
-    """The text of symbols_table.rt."""
+    """The text of symbols.rt."""
     default, fields, own = fields_of(rows("symbols.tsv"))
     numbers = {name: number for number, (name, _) in enumerate(rows("systems.tsv"))}
     sets = {}
@@ -140,7 +140,7 @@ def rule_text(text, alternatives, relations, ranges):
 
 
 def plural_tables():
-    """The text of plurals_table.rt."""
+    """The text of plurals.rt."""
     given = {}
     for kind, tag, text in rows("plural_rules.tsv"):
         given.setdefault(tag.lower(), {})[kind] = text or "other:"
@@ -169,7 +169,7 @@ def plural_tables():
 def tables():
     """The text of each file."""
     tags = {row[0].lower() for row in rows("symbols.tsv")} - {"root"}
-    return {"symbols_table.rt": symbol_tables(), "plurals_table.rt": plural_tables(), **number_tables(tags)}
+    return {"symbols.rt": symbol_tables(), "plurals.rt": plural_tables(), **number_tables(tags)}
 
 
 def main(words):

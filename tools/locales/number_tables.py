@@ -28,14 +28,14 @@ FIELDS = ("percent", "standard", "accounting", "signs", "compact")
 # Aliases of tags in CLDR and BCP 47, which have the rows of another tag, also with more subtags.
 ALIASES = {"en-us-posix": "en-us-u-va-posix", "in": "id", "iw": "he", "kk-cn": "kk-arab-cn", "mo": "ro",
            "sh": "sr-latn", "tl": "fil"}
-FORMATS_HEAD = """use crate::formats::{FormatSystem, LocaleFormats, SystemFormats};
-use crate::patterns::ExponentSeparator::*;
-use crate::patterns::Piece::*;
-use crate::patterns::{
+FORMATS_HEAD = """use super::rows::TableRange;
+use super::rows::formats::{FormatSystem, LocaleFormats, SystemFormats};
+use super::rows::patterns::ExponentSeparator::*;
+use super::rows::patterns::Piece::*;
+use super::rows::patterns::{
     Affix, AffixPair, CurrencyOverride, MoneyFormat, MoneySeparator, NumberSigns, Pattern,
     PercentSign, PermilleSign,
 };
-use crate::rows::TableRange;
 
 macro_rules! patterns {
     ($($a:ident $b:ident $c:ident $d:ident $e:ident $f:ident $primary:literal $secondary:literal;)*) => {
@@ -84,8 +84,8 @@ macro_rules! systems {
     };
 }
 """
-CURRENCY_HEAD = """use crate::currency::{Currency, CurrencyText, LocaleCurrency, LocaleOverride};
-use crate::rows::TableRange;
+CURRENCY_HEAD = """use super::rows::TableRange;
+use super::rows::currencies::{Currency, CurrencyText, LocaleCurrency, LocaleOverride};
 
 macro_rules! currencies {
     ($($code:literal $digits:literal $cash_digits:literal $cash_increment:literal $symbol:literal $narrow:literal
@@ -121,10 +121,12 @@ macro_rules! texts {
     };
 }
 """
-COMPACT_HEAD = """use crate::compact::CompactCount::*;
-use crate::compact::CompactForm::*;
-use crate::compact::{AffixText, CompactPattern, CompactRun, CompactSet, PercentUnit, UnitPattern};
-use crate::rows::TableRange;
+COMPACT_HEAD = """use super::rows::TableRange;
+use super::rows::compact::CompactCount::*;
+use super::rows::compact::CompactForm::*;
+use super::rows::compact::{
+    AffixText, CompactPattern, CompactRun, CompactSet, PercentUnit, UnitPattern,
+};
 
 macro_rules! sets {
     ($($a:literal $b:literal $c:literal $d:literal $e:literal $f:literal;)*) => {
@@ -467,5 +469,4 @@ def number_tables(tags):
     data = Data()
     formats = Formats(data, tags)
     currencies = currency_table(data, tags, formats)
-    return {"formats_table.rt": formats_table(formats), "currency_table.rt": currencies,
-            "compact_table.rt": compact_table(formats)}
+    return {"formats.rt": formats_table(formats), "currencies.rt": currencies, "compact.rt": compact_table(formats)}

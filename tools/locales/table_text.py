@@ -2,7 +2,7 @@
 import os
 
 FOLDER = os.path.dirname(os.path.abspath(__file__))
-SOURCES = os.path.join(FOLDER, "..", "..", "crates", "locale_data", "src")
+SOURCES = os.path.join(FOLDER, "..", "..", "crates", "locale_data", "src", "tables")
 SKIP = "#[rattlefmt::skip]\n"
 
 

@@ -8,7 +8,7 @@ ghost use Rattle.decimal_format.specs.Scanning.{separator_if};
 
 mod display;
 mod short;
-mod text;
+pub(crate) mod text;
 
 use crate::grouping::GroupingStrategy;
 use crate::symbols::DecimalSymbols;

@@ -12,13 +12,12 @@ mod block;
 mod error;
 mod formatter;
 mod grouping;
+pub mod internal;
 pub mod laws;
 mod reader;
 mod symbols;
 
-pub use block::Block;
 pub use error::SymbolsError;
 pub use formatter::{DecimalFormatter, FormattedAbsolute, FormattedDecimal};
 pub use grouping::{GroupingSizes, GroupingStrategy};
-pub use reader::alternatives::Alternative;
 pub use symbols::{Affixes, DecimalSymbols};

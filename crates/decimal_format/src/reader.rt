@@ -8,7 +8,7 @@ ghost use Rattle.decimal_format.specs.Lenient.{IsLenientNumeral};
 ghost use Rattle.decimal_format.specs.Scanning.{separated_if, SkipsSeparator, IsSpelled, ReadsSpelled, ReadsDigits, HasPart, IsScan, IsNumeralBy, IsWrittenBy};
 
 pub(crate) mod alternatives;
-mod codes;
+pub(crate) mod codes;
 pub(crate) mod input;
 mod lenient;
 mod value;

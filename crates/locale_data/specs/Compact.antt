@@ -3,21 +3,21 @@ use Rattle.std.specs.Prelude.{◌≡◌, ◌==◌, ◌&&◌, ℕ, ℤ, pos, int_
 use Rattle.std.specs.Option.{option_or, option_map_or}
 use Rattle.plural_rules.specs.declared.rules.PluralCategory.{PluralCategory}
 use Rattle.plural_rules.specs.declared.rules.PluralCategory.TheVariants as category
-use Rattle.locale_data.specs.declared.compact.AffixText.{AffixText}
-use Rattle.locale_data.specs.declared.compact.CompactCount.{CompactCount}
-use Rattle.locale_data.specs.declared.compact.CompactCount.TheVariants.{ExactlyOne, Zero, One, Two, Few, Many, Other}
-use Rattle.locale_data.specs.declared.compact.CompactPattern.{CompactPattern}
+use Rattle.locale_data.specs.declared.tables.rows.compact.AffixText.{AffixText}
+use Rattle.locale_data.specs.declared.tables.rows.compact.CompactCount.{CompactCount}
+use Rattle.locale_data.specs.declared.tables.rows.compact.CompactCount.TheVariants.{ExactlyOne, Zero, One, Two, Few, Many, Other}
+use Rattle.locale_data.specs.declared.tables.rows.compact.CompactPattern.{CompactPattern}
 use Rattle.locale_data.specs.declared.compact.CompactPatterns.{CompactPatterns}
-use Rattle.locale_data.specs.declared.compact.CompactRun.{CompactRun}
-use Rattle.locale_data.specs.declared.compact.CompactSet.{CompactSet}
+use Rattle.locale_data.specs.declared.tables.rows.compact.CompactRun.{CompactRun}
+use Rattle.locale_data.specs.declared.tables.rows.compact.CompactSet.{CompactSet}
 use Rattle.locale_data.specs.declared.compact.CompactStyle.{CompactStyle}
 use Rattle.locale_data.specs.declared.compact.CompactStyle.TheVariants.{Short, Long, Currency}
-use Rattle.locale_data.specs.declared.compact.PercentUnit.{PercentUnit}
+use Rattle.locale_data.specs.declared.tables.rows.compact.PercentUnit.{PercentUnit}
 use Rattle.locale_data.specs.declared.compact.UnitAffixes.{UnitAffixes}
-use Rattle.locale_data.specs.declared.compact.UnitPattern.{UnitPattern}
-use Rattle.locale_data.specs.declared.compact_table.TheConstants.{COMPACT_SETS, COMPACT_RUNS, COMPACT_PATTERNS, COMPACT_BYTES, PERCENT_UNITS}
+use Rattle.locale_data.specs.declared.tables.rows.compact.UnitPattern.{UnitPattern}
+use Rattle.locale_data.specs.declared.tables.compact.TheConstants.{COMPACT_SETS, COMPACT_RUNS, COMPACT_PATTERNS, COMPACT_BYTES, PERCENT_UNITS}
 use Rattle.locale_data.specs.declared.number_formats.NumberFormats.{NumberFormats}
-use Rattle.locale_data.specs.declared.rows.TableRange.{TableRange}
+use Rattle.locale_data.specs.declared.tables.rows.TableRange.{TableRange}
 use Rattle.locale_data.specs.Rows.{part}
 use Rattle.locale_data.specs.Texts.{is_text}
 

@@ -1,21 +1,21 @@
 -- The digits, symbols and patterns of currencies.
 use Rattle.std.specs.Prelude.{◌≡◌, ℕ, List, Option, None, Some, slice_get}
 use Rattle.std.specs.Option.{option_or, option_map, option_and_then}
-use Rattle.locale_data.specs.declared.currency.Currency.{Currency}
+use Rattle.locale_data.specs.declared.tables.rows.currencies.Currency.{Currency}
 use Rattle.locale_data.specs.declared.currency.CurrencyDigits.{CurrencyDigits}
 use Rattle.locale_data.specs.declared.currency.CurrencyPattern.{CurrencyPattern}
 use Rattle.locale_data.specs.declared.currency.CurrencySign.{CurrencySign}
 use Rattle.locale_data.specs.declared.currency.CurrencySign.TheVariants.{Standard, Accounting}
 use Rattle.locale_data.specs.declared.currency.CurrencySymbol.{CurrencySymbol}
-use Rattle.locale_data.specs.declared.currency.CurrencyText.{CurrencyText}
-use Rattle.locale_data.specs.declared.currency.LocaleCurrency.{LocaleCurrency}
-use Rattle.locale_data.specs.declared.currency.LocaleOverride.{LocaleOverride}
+use Rattle.locale_data.specs.declared.tables.rows.currencies.CurrencyText.{CurrencyText}
+use Rattle.locale_data.specs.declared.tables.rows.currencies.LocaleCurrency.{LocaleCurrency}
+use Rattle.locale_data.specs.declared.tables.rows.currencies.LocaleOverride.{LocaleOverride}
 use Rattle.locale_data.specs.declared.currency.SymbolWidth.{SymbolWidth}
 use Rattle.locale_data.specs.declared.currency.SymbolWidth.TheVariants.{Wide, Narrow}
-use Rattle.locale_data.specs.declared.currency_table.TheConstants.{CURRENCIES, CURRENCY_BYTES, CURRENCY_SYMBOLS, CURRENCY_TEXTS, OVERRIDES_BY_CURRENCY}
-use Rattle.locale_data.specs.declared.formats_table.TheConstants.{CURRENCY_OVERRIDES, MONEY_FORMATS, PATTERNS}
+use Rattle.locale_data.specs.declared.tables.currencies.TheConstants.{CURRENCIES, CURRENCY_BYTES, CURRENCY_SYMBOLS, CURRENCY_TEXTS, OVERRIDES_BY_CURRENCY}
+use Rattle.locale_data.specs.declared.tables.formats.TheConstants.{CURRENCY_OVERRIDES, MONEY_FORMATS, PATTERNS}
 use Rattle.locale_data.specs.declared.number_formats.NumberFormats.{NumberFormats}
-use Rattle.locale_data.specs.declared.patterns.MoneyFormat.{MoneyFormat}
+use Rattle.locale_data.specs.declared.tables.rows.patterns.MoneyFormat.{MoneyFormat}
 use Rattle.locale_data.specs.Formats.{AreFormatsOf}
 use Rattle.locale_data.specs.Rows.{part, row_named, IsRowOf}
 use Rattle.locale_data.specs.Tag.{compared}

@@ -1,11 +1,11 @@
 -- The formats of numbers in a locale and a numbering system.
 use Rattle.std.specs.Prelude.{◌≡◌, ℕ, List, replicate, Option, None, Some, unwrap_or}
 use Rattle.std.specs.Option.{option_or}
-use Rattle.locale_data.specs.declared.formats.FormatSystem.{FormatSystem}
-use Rattle.locale_data.specs.declared.formats.LocaleFormats.{LocaleFormats}
+use Rattle.locale_data.specs.declared.tables.rows.formats.FormatSystem.{FormatSystem}
+use Rattle.locale_data.specs.declared.tables.rows.formats.LocaleFormats.{LocaleFormats}
 use Rattle.locale_data.specs.declared.number_formats.NumberFormats.{NumberFormats}
-use Rattle.locale_data.specs.declared.formats.SystemFormats.{SystemFormats}
-use Rattle.locale_data.specs.declared.formats_table.TheConstants.{FORMATS_BY_SYSTEM, FORMAT_SYSTEMS, LOCALE_FORMATS, ROOT_FORMATS}
+use Rattle.locale_data.specs.declared.tables.rows.formats.SystemFormats.{SystemFormats}
+use Rattle.locale_data.specs.declared.tables.formats.TheConstants.{FORMATS_BY_SYSTEM, FORMAT_SYSTEMS, LOCALE_FORMATS, ROOT_FORMATS}
 use Rattle.locale_data.specs.Rows.{part, row_named, IsRowOf}
 use Rattle.locale_data.specs.Tag.{compared}
 

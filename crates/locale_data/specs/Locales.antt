@@ -3,11 +3,11 @@ use Rattle.std.specs.Prelude.{◌≡◌, ℕ, List, [], length, Option, None, So
 use Rattle.std.specs.Option.{option_map, option_and_then}
 use Rattle.decimal_format.specs.declared.grouping.GroupingSizes.{GroupingSizes}
 use Rattle.decimal_format.specs.Symbols.{Symbols, symbols, affixes, HaveWidth}
-use Rattle.locale_data.specs.declared.lookup.LocaleNumbers.{LocaleNumbers}
-use Rattle.locale_data.specs.declared.symbols.LocaleSymbols.{LocaleSymbols}
-use Rattle.locale_data.specs.declared.symbols.NumberingSystem.{NumberingSystem}
-use Rattle.locale_data.specs.declared.symbols.SymbolSet.{SymbolSet}
-use Rattle.locale_data.specs.declared.symbols_table.TheConstants.{LOCALES, LOCALES_BY_SYSTEM, NUMBERING_SYSTEMS}
+use Rattle.locale_data.specs.declared.locales.LocaleId.{LocaleId}
+use Rattle.locale_data.specs.declared.tables.rows.symbols.LocaleSymbols.{LocaleSymbols}
+use Rattle.locale_data.specs.declared.tables.rows.symbols.NumberingSystem.{NumberingSystem}
+use Rattle.locale_data.specs.declared.tables.rows.symbols.SymbolSet.{SymbolSet}
+use Rattle.locale_data.specs.declared.tables.symbols.TheConstants.{LOCALES, LOCALES_BY_SYSTEM, NUMBERING_SYSTEMS}
 use Rattle.locale_data.specs.Rows.{part, unpadded, row_named, IsRowOf}
 use Rattle.locale_data.specs.Symbol.{symbol_text}
 use Rattle.locale_data.specs.Tag.{compared, requested_system}
@@ -48,17 +48,17 @@ system_by (Some name) locale = system_named name
 unfoldable pub system_of : List ℕ → LocaleSymbols → Option NumberingSystem
 system_of tag locale = system_by (requested_system tag) locale
 
--- those of a locale in a numbering system, whose own symbols are a row with a number, or None
+-- those of a locale in a numbering system, whose own symbols are a row with an index, or None
 abbrev pub own_symbols_at : NumberingSystem → LocaleSymbols → Option ℕ → Option Symbols
 own_symbols_at system locale None = Some (symbols_in system locale None)
 own_symbols_at system locale (Some own) =
     option_map (λ row. symbols_in system locale (Some row)) (slice_get (own_rows system) own)
 
--- the symbols that rows with numbers make, if there are such rows
-unfoldable pub symbols_at : LocaleNumbers → Option Symbols
-symbols_at numbers =
-    option_and_then (λ locale. option_and_then (λ system. own_symbols_at system locale numbers.own)
-    (slice_get NUMBERING_SYSTEMS numbers.system)) (slice_get LOCALES numbers.locale)
+-- the symbols that rows with indices make, if there are such rows
+unfoldable pub symbols_at : LocaleId → Option Symbols
+symbols_at id =
+    option_and_then (λ locale. option_and_then (λ system. own_symbols_at system locale id.own)
+    (slice_get NUMBERING_SYSTEMS id.system)) (slice_get LOCALES id.locale)
 
 -- the symbols are those of the listed locale with the longest tag, in the numbering system of the tag or its default
 pub record IsLocale (tag : List ℕ) (s : Symbols) : Type 0 where

@@ -1,10 +1,10 @@
 -- The plural rules that rows of tables make. Only private contracts cite this file.
 use Rattle.std.specs.Prelude.{List, map}
 use Rattle.plural_rules.specs.Rules.{RelationValue, relation, modulus_of, RuleValue, rule}
-use Rattle.locale_data.specs.declared.plural_rows.RelationRow.{RelationRow}
-use Rattle.locale_data.specs.declared.plural_rows.RuleRow.{RuleRow}
-use Rattle.locale_data.specs.declared.plurals_table.TheConstants.{PLURAL_ALTERNATIVES, PLURAL_RANGES, PLURAL_RELATIONS, PLURAL_RULE_ROWS}
-use Rattle.locale_data.specs.declared.rows.TableRange.{TableRange}
+use Rattle.locale_data.specs.declared.tables.rows.plurals.RelationRow.{RelationRow}
+use Rattle.locale_data.specs.declared.tables.rows.plurals.RuleRow.{RuleRow}
+use Rattle.locale_data.specs.declared.tables.plurals.TheConstants.{PLURAL_ALTERNATIVES, PLURAL_RANGES, PLURAL_RELATIONS, PLURAL_RULE_ROWS}
+use Rattle.locale_data.specs.declared.tables.rows.TableRange.{TableRange}
 use Rattle.locale_data.specs.Rows.{part}
 
 abbrev pub relation_of : RelationRow → RelationValue

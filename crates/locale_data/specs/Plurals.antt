@@ -11,12 +11,12 @@ use Rattle.locale_data.specs.declared.plurals.PluralRulesError.{PluralRulesError
 use Rattle.locale_data.specs.declared.plurals.PluralRulesError.TheVariants.{UnknownLocale, Memory}
 use Rattle.locale_data.specs.declared.plurals.PluralRuleType.{PluralRuleType}
 use Rattle.locale_data.specs.declared.plurals.PluralRuleType.TheVariants.{Cardinal, Ordinal}
-use Rattle.locale_data.specs.declared.plural_rows.LanguageRules.{LanguageRules}
-use Rattle.locale_data.specs.declared.plural_rows.RuleSet.{RuleSet}
-use Rattle.locale_data.specs.declared.plurals.RulesNumber.{RulesNumber}
-use Rattle.locale_data.specs.declared.plurals_table.TheConstants.{OTHER, PLURAL_RULES, PLURAL_RULES_TEXTS}
-use Rattle.locale_data.specs.declared.symbols.LocaleSymbols.{LocaleSymbols}
-use Rattle.locale_data.specs.declared.symbols_table.TheConstants.{LOCALES}
+use Rattle.locale_data.specs.declared.tables.rows.plurals.LanguageRules.{LanguageRules}
+use Rattle.locale_data.specs.declared.tables.rows.plurals.RuleSet.{RuleSet}
+use Rattle.locale_data.specs.declared.plurals.PluralRulesId.{PluralRulesId}
+use Rattle.locale_data.specs.declared.tables.plurals.TheConstants.{OTHER, PLURAL_RULES, PLURAL_RULES_TEXTS}
+use Rattle.locale_data.specs.declared.tables.rows.symbols.LocaleSymbols.{LocaleSymbols}
+use Rattle.locale_data.specs.declared.tables.symbols.TheConstants.{LOCALES}
 use Rattle.locale_data.specs.Rows.{part, IsRowOf}
 
 -- the rules of a language for numbers of things or for places in an order
@@ -32,11 +32,11 @@ abbrev pub indexed_set : Option ℕ → PluralRuleType → Option RuleSet
 indexed_set None rule_type = Some OTHER
 indexed_set (Some index) rule_type = option_map (λ language. set_of language rule_type) (slice_get PLURAL_RULES index)
 
-abbrev pub set_at : RulesNumber → Option RuleSet
-set_at number = indexed_set number.language number.rule_type
+abbrev pub set_at : PluralRulesId → Option RuleSet
+set_at id = indexed_set id.language id.rule_type
 
-abbrev pub rules_text_at : RulesNumber → Option (List ℕ)
-rules_text_at number = option_map text_of (set_at number)
+abbrev pub rules_text_at : PluralRulesId → Option (List ℕ)
+rules_text_at id = option_map text_of (set_at id)
 
 -- the language with the longest tag that is a prefix of a tag, or None
 abbrev pub IsLanguageOf : List ℕ → Option LanguageRules → Type 0
@@ -58,16 +58,16 @@ abbrev pub HasNoRules : List ℕ → Type 0
 HasNoRules tag = IsLanguageOf tag None × IsLocaleOf tag None
 
 -- the rules by the grammar of texts, or why there are none; out of memory only for a text of rules
-abbrev pub IsRulesAt : RulesNumber → Result (List RuleValue) PluralRulesError → Type 0
-IsRulesAt number (Ok found) = (text : List ℕ) × (rules_text_at number ≡ Some text) × Grammar text found
-IsRulesAt number (Err UnknownLocale) = rules_text_at number ≡ None
-IsRulesAt number (Err Memory) =
-    (text : List ℕ) × (rules_text_at number ≡ Some text) × IsParseResult text (Err rules.Memory)
+abbrev pub IsRulesAt : PluralRulesId → Result (List RuleValue) PluralRulesError → Type 0
+IsRulesAt id (Ok found) = (text : List ℕ) × (rules_text_at id ≡ Some text) × Grammar text found
+IsRulesAt id (Err UnknownLocale) = rules_text_at id ≡ None
+IsRulesAt id (Err Memory) =
+    (text : List ℕ) × (rules_text_at id ≡ Some text) × IsParseResult text (Err rules.Memory)
 
 -- the category of a number by those rules
-abbrev pub IsCategoryAt : RulesNumber → Operands → PluralCategory → Type 0
-IsCategoryAt number operands category =
-    IsSomeAnd (rules_text_at number) (λ text. IsCategoryByText text operands category)
+abbrev pub IsCategoryAt : PluralRulesId → Operands → PluralCategory → Type 0
+IsCategoryAt id operands category =
+    IsSomeAnd (rules_text_at id) (λ text. IsCategoryByText text operands category)
 
 -- the rules of a tag, or why there are none
 abbrev pub IsRulesOf : List ℕ → PluralRuleType → Result (List RuleValue) PluralRulesError → Type 0

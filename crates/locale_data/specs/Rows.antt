@@ -3,7 +3,7 @@ use Rattle.std.specs.Prelude.{◌≡◌, ◌≤◌, ℕ, ◌==◌, Bool, true, f
 use Rattle.std.specs.List.{before_first}
 use Rattle.std.specs.Option.{option_and_then}
 use Rattle.std.specs.Str.{bytes_eq}
-use Rattle.locale_data.specs.declared.rows.TableRange.{TableRange}
+use Rattle.locale_data.specs.declared.tables.rows.TableRange.{TableRange}
 use Rattle.locale_data.specs.Tag.{is_tag_prefix}
 
 -- the part of a table in a range, as far as the table goes
@@ -14,9 +14,9 @@ part table range = slice_range table range.0 range.1
 abbrev pub unpadded : List ℕ → List ℕ
 unpadded padded = before_first (λ b. b == 32) padded
 
--- the row with a number, from 0
+-- the row with an index
 abbrev pub row_at : {R : Type 0} → List R → Option ℕ → Option R
-row_at rows number = option_and_then (slice_get rows) number
+row_at rows index = option_and_then (slice_get rows) index
 
 -- the row with a name
 abbrev pub row_named : {R : Type 0} → (R → List ℕ) → List R → List ℕ → Option R

@@ -14,14 +14,15 @@ abbrev pub IsPadded : List ℕ → List ℕ → Type 0
 IsPadded padded text = (length padded ≡ 16) × ((k : ℕ) → k < 16 → slice_index padded k ≡ padded_byte text k)
 
 -- the number whose digits to base 256 are the first bytes of a text with spaces after it, in 128 bits
-abbrev pub number_of_first : List ℕ → ℕ → ℕ
-number_of_first text zero = 0
-number_of_first text (suc k) = (number_of_first text k * 256 % 2 ^ 128 + padded_byte text k) % 2 ^ 128
+abbrev pub key_of_first : List ℕ → ℕ → ℕ
+key_of_first text zero = 0
+key_of_first text (suc k) = (key_of_first text k * 256 % 2 ^ 128 + padded_byte text k) % 2 ^ 128
 
-unfoldable pub number : List ℕ → ℕ
-number text = number_of_first text 16
+-- what a binary search compares: 16 bytes as a number
+unfoldable pub key : List ℕ → ℕ
+key text = key_of_first text 16
 
--- each number is less than the next
+-- each key is less than the next
 abbrev pub increases : List ℕ → Bool
 increases [] = true
 increases (m ∷ []) = true
@@ -29,7 +30,7 @@ increases (m ∷ n ∷ rest) = nat_lt m n && increases (n ∷ rest)
 
 -- a name has no byte after a space but spaces
 abbrev pub is_padded : List ℕ → Bool
-is_padded name = from_be_bytes w128 name == number (unpadded name)
+is_padded name = from_be_bytes w128 name == key (unpadded name)
 
 -- the names of a list of rows are padded, and each is less than the next
 abbrev pub is_table : {R : Type 0} → (R → List ℕ) → List R → Bool
@@ -45,7 +46,7 @@ abbrev pub HasNoLonger : {R : Type 0} → (R → List ℕ) → List R → List �
 HasNoLonger name_of rows tag end =
     All (λ row. is_candidate name_of tag row ≡ true → length (unpadded (name_of row)) ≤ end) rows
 
--- there is no row at an index, or its number is at least 256 ^ (16 - end) above another
+-- there is no row at an index, or its key is at least 256 ^ (16 - end) above another
 abbrev pub IsFar : {R : Type 0} → (R → List ℕ) → List R → ℕ → ℕ → ℕ → Type 0
 IsFar {R} name_of rows index n end =
     (end < 16) × ((row : R) → index < length rows

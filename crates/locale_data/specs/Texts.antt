@@ -1,7 +1,7 @@
 -- Texts as ranges of a table of bytes.
 use Rattle.std.specs.Prelude.{ℕ, ◌&&◌, nat_le, Bool, List, length}
 use Rattle.std.specs.Str.{is_utf8}
-use Rattle.locale_data.specs.declared.rows.TableRange.{TableRange}
+use Rattle.locale_data.specs.declared.tables.rows.TableRange.{TableRange}
 use Rattle.locale_data.specs.Rows.{part}
 
 -- bytes are a text of at most 255 bytes

@@ -1,136 +1,47 @@
 //! The compact patterns of locales.
 ghost use Rattle.std.specs.Prelude.{◌≡◌, ◌≤◌, length, IfSome, true};
 ghost use Rattle.std.specs.Option.{option_copied};
-ghost use Rattle.locale_data.specs.declared.compact_table.TheConstants.{COMPACT_RUNS};
+ghost use Rattle.locale_data.specs.declared.tables.compact.TheConstants.{COMPACT_RUNS};
 ghost use Rattle.locale_data.specs.Rows.{part};
 ghost use Rattle.locale_data.specs.Texts.{is_text};
 ghost use Rattle.locale_data.specs.Compact.{count_of, count_code, range_of, run_at, pattern_with, pattern_for, patterns_in, compact_patterns, needs_category, text_of, has_texts, has_unit_texts, AreTexts, IsRun, IsExponent, unit_for, IsUnitText, IsUnit};
 
-use crate::compact_table::{
+use crate::number_formats::NumberFormats;
+use crate::search::{indexed_row, part};
+use crate::tables::compact::{
     COMPACT_BYTES, COMPACT_PATTERNS, COMPACT_RUNS, COMPACT_SETS, PERCENT_UNITS,
 };
-use crate::number_formats::NumberFormats;
-use crate::rows::{TableRange, indexed_row, part};
+use crate::tables::rows::TableRange;
+use crate::tables::rows::compact::{
+    AffixText, CompactCount, CompactPattern, CompactRun, CompactSet, PercentUnit, UnitPattern,
+};
 use crate::texts::text_in;
 use plural_rules::PluralCategory;
 
-/// The compact patterns of a locale, as parts of a table of runs.
-#[derive(Clone, Copy)]
-pub struct CompactSet {
-    /// Short patterns: `1.2M`.
-    pub short: TableRange,
-    /// Long patterns: `1.2 million`.
-    pub long: TableRange,
-    /// The patterns of currencies: `$1.2M`.
-    pub currency: TableRange,
-}
-
-/// Magnitudes that have the same patterns: those up to the run before it.
-#[derive(Clone, Copy)]
-pub struct CompactRun {
-    /// The first magnitude.
-    pub first: u8,
-    /// The power of ten by which a number is divided.
-    pub exponent: u8,
-    /// The patterns.
-    pub patterns: TableRange,
-}
-
-/// The numbers that a pattern is for.
-#[derive(Clone, Copy)]
-pub enum CompactCount {
-    /// The number 1 itself.
-    ExactlyOne,
-    /// A plural category, as the next five.
-    Zero,
-    One,
-    Two,
-    Few,
-    Many,
-    Other,
-}
-
-/// How a pattern is written.
-#[derive(Clone, Copy)]
-pub enum CompactForm {
-    /// A sign, the prefix, the number and the suffix.
-    Number,
-    /// The prefix, a sign, the number and the suffix.
-    SignLast,
-    /// A sign and the prefix, without a number.
-    Literal,
-    /// As a number that is not in compact notation.
-    Plain,
-}
-
-/// A prefix or a suffix, as ranges of bytes.
-#[derive(Clone, Copy)]
-pub struct AffixText {
-    /// The text before the currency, or all of it.
-    pub before: TableRange,
-    /// Whether it has the currency.
-    pub has_currency: bool,
-    /// The text after the currency.
-    pub after: TableRange,
-}
-
-/// A compact pattern.
-#[derive(Clone, Copy)]
-pub struct CompactPattern {
-    /// The numbers that it is for.
-    pub count: CompactCount,
-    /// How it is written.
-    pub form: CompactForm,
-    /// The text before the number.
-    pub prefix: AffixText,
-    /// The text after the number.
-    pub suffix: AffixText,
-}
-
-/// The text around a number in compact notation with its percent sign, as ranges of bytes.
-#[derive(Clone, Copy)]
-pub struct UnitPattern {
-    /// The text before the number.
-    pub prefix: TableRange,
-    /// The text after the number.
-    pub suffix: TableRange,
-}
-
-/// How percent is written in compact notation.
-#[derive(Clone, Copy)]
-pub struct PercentUnit {
-    /// The pattern of the plural category `one`.
-    pub one: UnitPattern,
-    /// The pattern of the other categories.
-    pub other: UnitPattern,
-}
-
-impl CompactCount {
-    fn of_category(category: PluralCategory) -> CompactCount
-        ensures { result ≡ count_of category }
-    {
-        match category {
-            PluralCategory::Zero => CompactCount::Zero,
-            PluralCategory::One => CompactCount::One,
-            PluralCategory::Two => CompactCount::Two,
-            PluralCategory::Few => CompactCount::Few,
-            PluralCategory::Many => CompactCount::Many,
-            PluralCategory::Other => CompactCount::Other,
-        }
+fn count_of(category: PluralCategory) -> CompactCount
+    ensures { result ≡ count_of category }
+{
+    match category {
+        PluralCategory::Zero => CompactCount::Zero,
+        PluralCategory::One => CompactCount::One,
+        PluralCategory::Two => CompactCount::Two,
+        PluralCategory::Few => CompactCount::Few,
+        PluralCategory::Many => CompactCount::Many,
+        PluralCategory::Other => CompactCount::Other,
     }
+}
 
-    fn code(self) -> u8
-        ensures { result ≡ count_code self }
-    {
-        match self {
-            CompactCount::ExactlyOne => 0,
-            CompactCount::Zero => 1,
-            CompactCount::One => 2,
-            CompactCount::Two => 3,
-            CompactCount::Few => 4,
-            CompactCount::Many => 5,
-            CompactCount::Other => 6,
-        }
+fn count_code(count: CompactCount) -> u8
+    ensures { result ≡ count_code count }
+{
+    match count {
+        CompactCount::ExactlyOne => 0,
+        CompactCount::Zero => 1,
+        CompactCount::One => 2,
+        CompactCount::Two => 3,
+        CompactCount::Few => 4,
+        CompactCount::Many => 5,
+        CompactCount::Other => 6,
     }
 }
 
@@ -189,7 +100,7 @@ fn pattern_with(patterns: &[CompactPattern], count: CompactCount) -> Option<&Com
     ensures { option_copied result ≡ pattern_with count patterns.now }
 {
     for pattern in patterns {
-        if pattern.count.code() == count.code() {
+        if count_code(pattern.count) == count_code(count) {
             return Some(pattern);
         }
     }
@@ -209,7 +120,7 @@ fn pattern_for(
         None
     };
     exact
-        .or(pattern_with(patterns, CompactCount::of_category(category)))
+        .or(pattern_with(patterns, count_of(category)))
         .or(pattern_with(patterns, CompactCount::Other))
 }
 
@@ -218,7 +129,7 @@ fn needs_category(patterns: &[CompactPattern]) -> bool
 {
     match patterns {
         [] => false,
-        [pattern] => pattern.count.code() != CompactCount::Other.code(),
+        [pattern] => count_code(pattern.count) != count_code(CompactCount::Other),
         _ => true,
     }
 }

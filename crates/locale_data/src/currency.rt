@@ -1,43 +1,24 @@
 //! The symbols, digits and patterns of currencies.
 ghost use Rattle.std.specs.Prelude.{◌≡◌, ◌<◌, ◌≤◌, ◌↔◌, length, Contains, Some, None, IsNone, IfSome};
 ghost use Rattle.std.specs.Option.{option_copied};
-ghost use Rattle.locale_data.specs.declared.currency_table.TheConstants.{CURRENCIES, CURRENCY_TEXTS};
-ghost use Rattle.locale_data.specs.declared.formats_table.TheConstants.{CURRENCY_OVERRIDES};
+ghost use Rattle.locale_data.specs.declared.tables.currencies.TheConstants.{CURRENCIES, CURRENCY_TEXTS};
+ghost use Rattle.locale_data.specs.declared.tables.formats.TheConstants.{CURRENCY_OVERRIDES};
 ghost use Rattle.locale_data.specs.Currencies.{currency_with, digits_of, symbol_index, IsSymbol, IsSymbolRow, IsSymbolOf, IsOverrideRow, IsOverride, overridden, pattern_index, IsCurrencyPattern};
 
-use crate::currency_table::{
+use crate::formats::formats_of;
+use crate::number_formats::{NumberFormats, pattern_at};
+use crate::search::{Row, indexed_row, row_in, row_named};
+use crate::tables::currencies::{
     CURRENCIES, CURRENCY_BYTES, CURRENCY_SYMBOLS, CURRENCY_TEXTS, OVERRIDES_BY_CURRENCY,
 };
-use crate::formats::formats_of;
-use crate::formats_table::{CURRENCY_OVERRIDES, MONEY_FORMATS};
-use crate::number_formats::{NumberFormats, pattern_at};
-use crate::patterns::{MoneySeparator, Pattern};
-use crate::rows::{Name, Row, TableRange, indexed_row, row_in, row_named};
+use crate::tables::formats::{CURRENCY_OVERRIDES, MONEY_FORMATS};
+use crate::tables::rows::Name;
+use crate::tables::rows::currencies::{Currency, CurrencyText, LocaleCurrency, LocaleOverride};
+use crate::tables::rows::patterns::{MoneySeparator, Pattern};
 use crate::texts::text_in;
 
 /// A code of ISO 4217, as `*b"USD"`. Letters may be of either case.
 pub type CurrencyCode = [u8; 3];
-
-/// A currency, and what it has in locales.
-#[derive(Clone, Copy)]
-pub struct Currency {
-    /// Its code in lower case.
-    pub code: Name,
-    /// The number of fraction digits.
-    pub digits: u8,
-    /// The number of fraction digits in cash.
-    pub cash_digits: u8,
-    /// The increment in cash, in units of the last digit; 0 for 1.
-    pub cash_increment: u8,
-    /// The index of its symbol in root.
-    pub symbol: u16,
-    /// The index of its narrow symbol in root.
-    pub narrow: u16,
-    /// The locales that have other symbols.
-    pub symbols: TableRange,
-    /// The locales that have a pattern for it.
-    pub overrides: TableRange,
-}
 
 impl Row for Currency {
     ghost name = { λ currency. currency.code };
@@ -45,17 +26,6 @@ impl Row for Currency {
     fn name(&self) -> Name {
         self.code
     }
-}
-
-/// The symbols of a currency in a locale, as indices.
-#[derive(Clone, Copy)]
-pub struct LocaleCurrency {
-    /// The tag of the locale.
-    pub tag: Name,
-    /// The symbol.
-    pub symbol: u16,
-    /// The narrow symbol.
-    pub narrow: u16,
 }
 
 impl Row for LocaleCurrency {
@@ -66,32 +36,12 @@ impl Row for LocaleCurrency {
     }
 }
 
-/// The pattern of a currency in a locale.
-#[derive(Clone, Copy)]
-pub struct LocaleOverride {
-    /// The tag of the locale.
-    pub tag: Name,
-    /// The index of the override.
-    pub pattern: u8,
-}
-
 impl Row for LocaleOverride {
     ghost name = { λ locale. locale.tag };
 
     fn name(&self) -> Name {
         self.tag
     }
-}
-
-/// The text of a symbol.
-#[derive(Clone, Copy)]
-pub struct CurrencyText {
-    /// Its bytes.
-    pub bytes: TableRange,
-    /// Whether a space separates it from a digit before it.
-    pub space_before: bool,
-    /// Whether a space separates it from a digit after it.
-    pub space_after: bool,
 }
 
 /// The numbers of digits of a currency.

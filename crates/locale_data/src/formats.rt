@@ -1,32 +1,13 @@
 //! The formats of numbers in a locale and a numbering system.
 ghost use Rattle.std.specs.Prelude.{◌≡◌, Contains};
-ghost use Rattle.locale_data.specs.declared.formats_table.TheConstants.{FORMAT_SYSTEMS};
+ghost use Rattle.locale_data.specs.declared.tables.formats.TheConstants.{FORMAT_SYSTEMS};
 ghost use Rattle.locale_data.specs.Formats.{chosen, format_system, IsOwnFormats, IsLatinFormats, AreOfSystem, AreFormatsOf};
 
-use crate::formats_table::{FORMAT_SYSTEMS, FORMATS_BY_SYSTEM, LOCALE_FORMATS, ROOT_FORMATS};
 use crate::number_formats::NumberFormats;
-use crate::rows::{Name, Row, TableRange, row_in, row_named, row_of};
-
-/// What a locale has in the numbering system `latn`, as indices of tables.
-#[derive(Clone, Copy)]
-pub struct LocaleFormats {
-    /// The tag of the locale.
-    pub tag: Name,
-    /// The pattern of percent.
-    pub percent: u8,
-    /// The pattern of currencies.
-    pub standard: u8,
-    /// The pattern of currencies in accounts.
-    pub accounting: u8,
-    /// The exponent separator, the percent sign and the per mille sign.
-    pub signs: u8,
-    /// The compact patterns.
-    pub compact: u8,
-    /// The pattern of percent in compact notation.
-    pub unit: u8,
-    /// How money is written.
-    pub money: u8,
-}
+use crate::search::{Row, row_in, row_named, row_of};
+use crate::tables::formats::{FORMAT_SYSTEMS, FORMATS_BY_SYSTEM, LOCALE_FORMATS, ROOT_FORMATS};
+use crate::tables::rows::Name;
+use crate::tables::rows::formats::{FormatSystem, LocaleFormats, SystemFormats};
 
 impl Row for LocaleFormats {
     ghost name = { λ locale. locale.tag };
@@ -36,40 +17,12 @@ impl Row for LocaleFormats {
     }
 }
 
-/// What a locale has in another numbering system; the rest is that of root there, or else that of the locale in `latn`.
-#[derive(Clone, Copy)]
-pub struct SystemFormats {
-    /// The tag of the locale.
-    pub tag: Name,
-    /// The pattern of percent.
-    pub percent: Option<u8>,
-    /// The pattern of currencies.
-    pub standard: Option<u8>,
-    /// The pattern of currencies in accounts.
-    pub accounting: Option<u8>,
-    /// The exponent separator, the percent sign and the per mille sign.
-    pub signs: Option<u8>,
-    /// The compact patterns.
-    pub compact: Option<u8>,
-}
-
 impl Row for SystemFormats {
     ghost name = { λ locale. locale.tag };
 
     fn name(&self) -> Name {
         self.tag
     }
-}
-
-/// A numbering system in which locales have formats of their own.
-#[derive(Clone, Copy)]
-pub struct FormatSystem {
-    /// Its name in CLDR.
-    pub name: Name,
-    /// The locales.
-    pub rows: TableRange,
-    /// What root has.
-    pub root: SystemFormats,
 }
 
 impl Row for FormatSystem {
@@ -81,7 +34,7 @@ impl Row for FormatSystem {
 }
 
 /// No formats: each is that of `latn`.
-pub const NO_FORMATS: SystemFormats = SystemFormats {
+const NO_FORMATS: SystemFormats = SystemFormats {
     tag: *b"                ",
     percent: None,
     standard: None,

@@ -1,11 +1,13 @@
 //! What a locale and a numbering system have, as indices of tables.
 ghost use Rattle.std.specs.Prelude.{◌≡◌, ◌<◌, length, slice_get, Some};
-ghost use Rattle.locale_data.specs.declared.compact_table.TheConstants.{COMPACT_SETS, PERCENT_UNITS};
-ghost use Rattle.locale_data.specs.declared.formats_table.TheConstants.{PATTERNS, NUMBER_SIGNS, MONEY_FORMATS};
+ghost use Rattle.locale_data.specs.declared.tables.compact.TheConstants.{COMPACT_SETS, PERCENT_UNITS};
+ghost use Rattle.locale_data.specs.declared.tables.formats.TheConstants.{PATTERNS, NUMBER_SIGNS, MONEY_FORMATS};
+ghost use Rattle.locale_data.specs.Patterns.{affixes_of};
 
-use crate::formats_table::{NUMBER_SIGNS, PATTERNS};
-use crate::patterns::{NumberSigns, Pattern};
-use crate::rows::indexed_row;
+use crate::search::indexed_row;
+use crate::tables::formats::{NUMBER_SIGNS, PATTERNS};
+use crate::tables::rows::patterns::{AffixPair, NumberSigns, Pattern};
+use fixed_decimal::Sign;
 
 /// The formats of numbers in a locale and a numbering system.
 #[derive(Clone, Copy)]
@@ -24,6 +26,19 @@ pub struct NumberFormats {
     pub ghost compact_listed: { compact < length COMPACT_SETS },
     pub ghost unit_listed: { unit < length PERCENT_UNITS },
     pub ghost money_listed: { money < length MONEY_FORMATS },
+}
+
+impl Pattern {
+    /// Returns the affixes of a number that is shown with a sign.
+    pub fn affixes(&self, sign: Sign) -> AffixPair
+        ensures { result ≡ affixes_of self.now sign }
+    {
+        match sign {
+            Sign::None => self.positive,
+            Sign::Negative => self.negative,
+            Sign::Positive => self.plus,
+        }
+    }
 }
 
 pub(crate) fn pattern_at(index: u8) -> &'static Pattern

@@ -1,12 +1,14 @@
 //! The plural rules of a tag.
 ghost use Rattle.std.specs.Prelude.{◌≡◌, None, IfSome, IfNone, IsSomeAnd};
 ghost use Rattle.std.specs.Option.{option_copied};
-ghost use Rattle.locale_data.specs.Plurals.{set_at, rules_text_at, IsRulesText, HasNoRules, IsRulesAt, IsCategoryAt, IsRulesOf};
+ghost use Rattle.locale_data.specs.Plurals.{set_of, set_at, rules_text_at, IsRulesText, HasNoRules, IsRulesAt, IsCategoryAt, IsRulesOf};
 
-use crate::lookup::locales;
-use crate::plural_rows::{LanguageRules, RuleSet, category_in};
-use crate::plurals_table::{OTHER, PLURAL_RULES, PLURAL_RULES_TEXTS};
-use crate::rows::{part, row_number};
+use crate::locales::locales;
+use crate::plural_rows::category_in;
+use crate::search::{Row, part, row_index};
+use crate::tables::plurals::{OTHER, PLURAL_RULES, PLURAL_RULES_TEXTS};
+use crate::tables::rows::Name;
+use crate::tables::rows::plurals::{LanguageRules, RuleSet};
 use fixed_decimal::DigitStore;
 use plural_rules::{PluralCategory, PluralOperands, PluralRules};
 use std::alloc::Global;
@@ -23,11 +25,28 @@ pub enum PluralRuleType {
 /// The plural rules of a tag: the index of its language in `PLURAL_RULES`, and the type. A tag that has no rules but
 /// symbols has no index, and the rules `other:`.
 #[derive(Clone, Copy)]
-pub struct RulesNumber {
+pub struct PluralRulesId {
     /// The index of the language.
     pub language: Option<u16>,
     /// What the rules are for.
     pub rule_type: PluralRuleType,
+}
+
+impl Row for LanguageRules {
+    ghost name = { λ language. language.tag };
+
+    fn name(&self) -> Name {
+        self.tag
+    }
+}
+
+fn set_of(language: &LanguageRules, rule_type: PluralRuleType) -> RuleSet
+    ensures { result ≡ set_of language.now rule_type }
+{
+    match rule_type {
+        PluralRuleType::Cardinal => language.cardinal,
+        PluralRuleType::Ordinal => language.ordinal,
+    }
 }
 
 fn languages() -> &'static [LanguageRules]
@@ -38,19 +57,19 @@ fn languages() -> &'static [LanguageRules]
 
 /// Returns the plural rules of a tag, as [`rules_text_at`] and [`plural_rules_at`] take them. Returns `None` where
 /// [`plural_rules_text`] does.
-pub fn plural_rules_number(tag: &str, rule_type: PluralRuleType) -> Option<RulesNumber>
-    ensures found { IfSome result (λ n. IsSomeAnd (rules_text_at n) (IsRulesText tag.now rule_type)) }
+pub fn plural_rules_id(tag: &str, rule_type: PluralRuleType) -> Option<PluralRulesId>
+    ensures found { IfSome result (λ id. IsSomeAnd (rules_text_at id) (IsRulesText tag.now rule_type)) }
     ensures unknown { IfNone result (HasNoRules tag.now) }
 {
     let tag = tag.as_bytes();
-    if let Some(index) = row_number(languages(), tag) {
-        return Some(RulesNumber {
+    if let Some(index) = row_index(languages(), tag) {
+        return Some(PluralRulesId {
             language: Some(index as u16),
             rule_type,
         });
     }
-    match row_number(locales(), tag) {
-        Some(_) => Some(RulesNumber {
+    match row_index(locales(), tag) {
+        Some(_) => Some(PluralRulesId {
             language: None,
             rule_type,
         }),
@@ -58,23 +77,23 @@ pub fn plural_rules_number(tag: &str, rule_type: PluralRuleType) -> Option<Rules
     }
 }
 
-fn set_at(number: RulesNumber) -> Option<RuleSet>
-    ensures { result ≡ set_at number }
+fn set_at(id: PluralRulesId) -> Option<RuleSet>
+    ensures { result ≡ set_at id }
 {
-    let Some(index) = number.language else {
+    let Some(index) = id.language else {
         return Some(OTHER);
     };
     match languages().get(index as usize) {
-        Some(language) => Some(language.set(number.rule_type)),
+        Some(language) => Some(set_of(language, id.rule_type)),
         None => None,
     }
 }
 
 /// Returns the text of plural rules, and `None` if no language has the index.
-pub fn rules_text_at(number: RulesNumber) -> Option<&'static [u8]>
-    ensures { option_copied result ≡ rules_text_at number }
+pub fn rules_text_at(id: PluralRulesId) -> Option<&'static [u8]>
+    ensures { option_copied result ≡ rules_text_at id }
 {
-    match set_at(number) {
+    match set_at(id) {
         Some(set) => Some(part(&PLURAL_RULES_TEXTS, set.text)),
         None => None,
     }
@@ -93,8 +112,8 @@ pub fn plural_rules_text(tag: &str, rule_type: PluralRuleType) -> Option<&'stati
     ensures found { IfSome result (λ text. IsRulesText tag.now rule_type text.now) }
     ensures unknown { IfNone result (HasNoRules tag.now) }
 {
-    match plural_rules_number(tag, rule_type) {
-        Some(number) => rules_text_at(number),
+    match plural_rules_id(tag, rule_type) {
+        Some(id) => rules_text_at(id),
         None => None,
     }
 }
@@ -113,10 +132,10 @@ pub enum PluralRulesError {
 /// # Errors
 ///
 /// No language has the index, or the program is out of memory.
-pub fn plural_rules_at(alloc: Global, number: RulesNumber) -> Result<PluralRules, PluralRulesError>
-    ensures { IsRulesAt number result }
+pub fn plural_rules_at(alloc: Global, id: PluralRulesId) -> Result<PluralRules, PluralRulesError>
+    ensures { IsRulesAt id result }
 {
-    let Some(text) = rules_text_at(number) else {
+    let Some(text) = rules_text_at(id) else {
         return Err(PluralRulesError::UnknownLocale);
     };
     match PluralRules::try_from_utf8(alloc, text) {
@@ -129,7 +148,7 @@ pub fn plural_rules_at(alloc: Global, number: RulesNumber) -> Result<PluralRules
 /// Returns the plural category of a number by the rules of `rules_text_at`, and `None` if no language has the index. It
 /// does not allocate.
 pub fn plural_category_at<D: DigitStore>(
-    rules: RulesNumber,
+    rules: PluralRulesId,
     number: &PluralOperands<'_, D>,
 ) -> Option<PluralCategory>
     ensures some { IfSome result (λ category. IsCategoryAt rules number.now category) }
@@ -158,8 +177,8 @@ pub fn plural_rules_of(
 ) -> Result<PluralRules, PluralRulesError>
     ensures { IsRulesOf tag.now rule_type result }
 {
-    match plural_rules_number(tag, rule_type) {
-        Some(number) => plural_rules_at(alloc, number),
+    match plural_rules_id(tag, rule_type) {
+        Some(id) => plural_rules_at(alloc, id),
         None => Err(PluralRulesError::UnknownLocale),
     }
 }

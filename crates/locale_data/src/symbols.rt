@@ -1,44 +1,12 @@
-//! The symbols of locales, and the rows of their tables.
+//! The texts of symbols, separators and signs.
 ghost use Rattle.std.specs.Prelude.{◌≡◌};
 ghost use Rattle.locale_data.specs.Symbol.{symbol_text};
+ghost use Rattle.locale_data.specs.Patterns.{literal_text, separator_text, exponent_text, percent_text, permille_text};
 
-use crate::rows::{Name, Row, TableRange};
-use decimal_format::GroupingSizes;
-
-/// A separator, or the text before a number with a sign.
-#[derive(Clone, Copy)]
-pub enum Symbol {
-    Period,
-    Comma,
-    NoBreakSpace,
-    NarrowNoBreakSpace,
-    RightQuote,
-    Apostrophe,
-    ArabicComma,
-    ReversedComma,
-    ArabicDecimal,
-    ArabicThousands,
-    Hyphen,
-    Minus,
-    Plus,
-    /// After an Arabic letter mark, as the next two.
-    ArabicHyphen,
-    ArabicMinus,
-    ArabicPlus,
-    /// After a left-to-right mark, as the next two.
-    LeftHyphen,
-    LeftMinus,
-    LeftPlus,
-    /// After a right-to-left mark, as the next.
-    RightHyphen,
-    RightPlus,
-    /// Between two left-to-right marks, as the next two.
-    EnclosedHyphen,
-    EnclosedMinus,
-    EnclosedPlus,
-    /// Before a left-to-right mark.
-    PlusLeft,
-}
+use crate::tables::rows::patterns::{
+    ExponentSeparator, MoneySeparator, PercentSign, PermilleSign, Piece,
+};
+use crate::tables::rows::symbols::Symbol;
 
 impl Symbol {
     /// Returns the text.
@@ -75,57 +43,85 @@ impl Symbol {
     }
 }
 
-/// The symbols around the digits. In CLDR 48 no locale writes a sign after them.
-#[derive(Clone, Copy)]
-pub struct SymbolSet {
-    /// The decimal separator.
-    pub decimal: Symbol,
-    /// The grouping separator.
-    pub grouping: Symbol,
-    /// The text before a number with a minus sign.
-    pub minus: Symbol,
-    /// The text before a number with a plus sign.
-    pub plus: Symbol,
-}
-
-/// A decimal numbering system.
-#[derive(Clone, Copy)]
-pub struct NumberingSystem {
-    /// Its name in CLDR: `latn`.
-    pub name: Name,
-    /// The digits from 0 to 9.
-    pub digits: [char; 10],
-    /// Its symbols, or those of the locale.
-    pub symbols: Option<SymbolSet>,
-    /// The locales that have symbols of their own in it.
-    pub rows: TableRange,
-}
-
-impl Row for NumberingSystem {
-    ghost name = { λ system. system.name };
-
-    fn name(&self) -> Name {
-        self.name
+impl Piece {
+    /// Returns the text of a piece that is the same in each locale, and no text of a sign or a symbol.
+    pub fn text(self) -> &'static str
+        ensures { result.now ≡ literal_text self }
+    {
+        match self {
+            Piece::OpenParenthesis => "(",
+            Piece::CloseParenthesis => ")",
+            Piece::NoBreakSpace => "\u{a0}",
+            Piece::NarrowNoBreakSpace => "\u{202f}",
+            Piece::ArabicMark => "\u{61c}",
+            Piece::LeftMark => "\u{200e}",
+            Piece::RightMark => "\u{200f}",
+            Piece::Empty | Piece::Minus | Piece::Plus | Piece::Percent | Piece::Currency => "",
+        }
     }
 }
 
-/// The symbols of a locale in a numbering system.
-#[derive(Clone, Copy)]
-pub struct LocaleSymbols {
-    /// The tag of the locale: `de-ch`.
-    pub tag: Name,
-    /// The index of the numbering system in `NUMBERING_SYSTEMS`.
-    pub system: u8,
-    /// The symbols.
-    pub symbols: SymbolSet,
-    /// The sizes of groups.
-    pub sizes: GroupingSizes,
+impl MoneySeparator {
+    /// Returns the text.
+    pub fn text(self) -> &'static str
+        ensures { result.now ≡ separator_text self }
+    {
+        match self {
+            MoneySeparator::Period => ".",
+            MoneySeparator::Comma => ",",
+            MoneySeparator::NoBreakSpace => "\u{a0}",
+            MoneySeparator::NarrowNoBreakSpace => "\u{202f}",
+            MoneySeparator::Dollar => "$",
+        }
+    }
 }
 
-impl Row for LocaleSymbols {
-    ghost name = { λ locale. locale.tag };
+impl ExponentSeparator {
+    /// Returns the text.
+    pub fn text(self) -> &'static str
+        ensures { result.now ≡ exponent_text self }
+    {
+        match self {
+            ExponentSeparator::LatinCapitalE => "E",
+            ExponentSeparator::LatinSmallE => "e",
+            ExponentSeparator::Caret => "^",
+            ExponentSeparator::TimesTen => "\u{d7}10^",
+            ExponentSeparator::DotTen => "\u{b7}10^",
+            ExponentSeparator::TimesArabicTen => "\u{d7}\u{6f1}\u{6f0}^",
+            ExponentSeparator::ArabicHamza => "\u{623}\u{633}",
+            ExponentSeparator::ArabicAlef => "\u{627}\u{633}",
+            ExponentSeparator::CyrillicIe => "\u{415}",
+            ExponentSeparator::AdlamMiim => "\u{1e909}",
+        }
+    }
+}
 
-    fn name(&self) -> Name {
-        self.tag
+impl PercentSign {
+    /// Returns the text.
+    pub fn text(self) -> &'static str
+        ensures { result.now ≡ percent_text self }
+    {
+        match self {
+            PercentSign::Percent => "%",
+            PercentSign::Arabic => "\u{66a}",
+            PercentSign::ArabicBeforeArabicMark => "\u{66a}\u{61c}",
+            PercentSign::ArabicBeforeRightMark => "\u{66a}\u{200f}",
+            PercentSign::Enclosed => "\u{200e}%\u{200e}",
+            PercentSign::Tilde => "~",
+        }
+    }
+}
+
+impl PermilleSign {
+    /// Returns the text.
+    pub fn text(self) -> &'static str
+        ensures { result.now ≡ permille_text self }
+    {
+        match self {
+            PermilleSign::Permille => "\u{2030}",
+            PermilleSign::Arabic => "\u{609}",
+            PermilleSign::ArabicBeforeRightMark => "\u{609}\u{200f}",
+            PermilleSign::Ascii => "0/00",
+        }
     }
 }

@@ -3,7 +3,8 @@ ghost use Rattle.std.specs.Prelude.{◌≡◌, ◌≤◌, length, true};
 ghost use Rattle.locale_data.specs.Rows.{part};
 ghost use Rattle.locale_data.specs.Texts.{is_text};
 
-use crate::rows::{TableRange, part};
+use crate::search::part;
+use crate::tables::rows::TableRange;
 
 /// Returns the text in a range of bytes.
 pub(crate) fn text_in(bytes: &'static [u8], range: TableRange) -> &'static str

@@ -173,23 +173,6 @@ impl<'f, D: DigitStore> FormattedAbsolute<'f, D> {
         }
     }
 
-    /// Appends the text without the sign, if it fits the block and has at most 32 digits.
-    ///
-    /// # Errors
-    ///
-    /// - There are more than 32 digits; the block is unchanged.
-    /// - The text does not fit, or the block has failed before; the block is full.
-    #[inline]
-    pub fn put_to_block(&self, block: &mut Block) -> Result<(), SinkFault>
-        ensures ok { OnOk result (block.new.0 ≡ block.old.0 ++ formatted_absolute_text self.now) }
-        ensures err { OnErr result (DoesNotFit self.now block.old block.new) }
-    {
-        if self.shown_count() > PART {
-            return Err(SinkFault);
-        }
-        self.put_absolute(block)
-    }
-
     fn write_absolute<W: Sink>(&self, sink: &mut W) -> Result<(), SinkFault>
         ensures ok { OnOk result (Appends (W.contents sink.old) (W.contents sink.new)
             (absolute_text self.now.symbols self.now.strategy self.now.value)) }
@@ -264,6 +247,26 @@ impl<'f, D: DigitStore> Writeable for FormattedAbsolute<'f, D> {
         let digits = self.shown_count() as usize * self.symbols.digit_width();
         digits + self.separators_length() + self.fraction_separator().len()
     }
+}
+
+/// Appends the text without the sign, if it fits the block and has at most 32 digits.
+///
+/// # Errors
+///
+/// - There are more than 32 digits; the block is unchanged.
+/// - The text does not fit, or the block has failed before; the block is full.
+#[inline]
+pub fn put_to_block<D: DigitStore>(
+    number: &FormattedAbsolute<'_, D>,
+    block: &mut Block,
+) -> Result<(), SinkFault>
+    ensures ok { OnOk result (block.new.0 ≡ block.old.0 ++ formatted_absolute_text number.now) }
+    ensures err { OnErr result (DoesNotFit number.now block.old block.new) }
+{
+    if number.shown_count() > PART {
+        return Err(SinkFault);
+    }
+    number.put_absolute(block)
 }
 
 impl<'f, D: DigitStore> FormattedDecimal<'f, D> {

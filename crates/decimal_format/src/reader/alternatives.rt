@@ -101,32 +101,32 @@ impl<'a> DecimalSymbols<'a> {
             },
         }
     }
+}
 
-    /// Reads a decimal between affixes as people type them: by the first alternative that reads the text.
-    ///
-    /// The text and the affixes are compared as [`read_lenient`](Self::read_lenient) compares numbers: direction marks
-    /// are ignored, and the kinds of minus signs, of plus signs and of spaces are not distinguished. Separators are
-    /// optional. With the alternative `$` and an empty suffix, `$1234.5` is 1234.5, and with `(` and `)` for
-    /// `Negative`, `(12)` is -12 and `(-12)`, of two signs, is `Syntax`. Requires readable symbols.
-    ///
-    /// # Errors
-    ///
-    /// - `Syntax`: no alternative reads the text.
-    /// - `Limit`: the first that does finds more than 32,768 integer or fraction digits.
-    /// - `Memory`: out of memory; possible only with more than `L` digits.
-    pub fn read_alternatives<D: DigitStore>(
-        &self,
-        alloc: Global,
-        alternatives: &[Alternative<'_>],
-        text: &str,
-    ) -> Result<Signed<UnsignedOver<D>>, ParseError>
-        requires { IsReadable self.now }
-        ensures { IsRead D.L (IsNumeralOfFirst self.now (normalized self.now text.now) alternatives.now)
-            (IsWrittenOfFirst self.now (normalized self.now text.now) alternatives.now) result }
-    {
-        match self.normal_block(text) {
-            Some(block) => self.read_first(alloc, alternatives, block.as_bytes()),
-            None => self.read_first(alloc, alternatives, Normalized::new(self, text)),
-        }
+/// Reads a decimal between affixes as people type them: by the first alternative that reads the text.
+///
+/// The text and the affixes are compared as [`read_lenient`](DecimalSymbols::read_lenient) compares numbers: direction
+/// marks are ignored, and the kinds of minus signs, of plus signs and of spaces are not distinguished. Separators are
+/// optional. With the alternative `$` and an empty suffix, `$1234.5` is 1234.5, and with `(` and `)` for `Negative`,
+/// `(12)` is -12 and `(-12)`, of two signs, is `Syntax`. Requires readable symbols.
+///
+/// # Errors
+///
+/// - `Syntax`: no alternative reads the text.
+/// - `Limit`: the first that does finds more than 32,768 integer or fraction digits.
+/// - `Memory`: out of memory; possible only with more than `L` digits.
+pub fn read_alternatives<D: DigitStore>(
+    symbols: &DecimalSymbols<'_>,
+    alloc: Global,
+    alternatives: &[Alternative<'_>],
+    text: &str,
+) -> Result<Signed<UnsignedOver<D>>, ParseError>
+    requires { IsReadable symbols.now }
+    ensures { IsRead D.L (IsNumeralOfFirst symbols.now (normalized symbols.now text.now) alternatives.now)
+        (IsWrittenOfFirst symbols.now (normalized symbols.now text.now) alternatives.now) result }
+{
+    match symbols.normal_block(text) {
+        Some(block) => symbols.read_first(alloc, alternatives, block.as_bytes()),
+        None => symbols.read_first(alloc, alternatives, Normalized::new(symbols, text)),
     }
 }

@@ -182,25 +182,6 @@ impl<'a> DecimalSymbols<'a> {
         None
     }
 
-    /// Returns whether a text begins with a digit. Requires readable symbols.
-    pub fn begins_with_digit(&self, text: &[u8]) -> bool
-        requires { IsReadable self.now }
-        ensures { IsTrue result ↔ BeginsWithDigit self.now text.now }
-    {
-        self.next_digit(text).is_some()
-    }
-
-    /// Returns whether a text ends with a digit. Requires readable symbols.
-    pub fn ends_with_digit(&self, text: &[u8]) -> bool
-        requires { IsReadable self.now }
-        ensures { IsTrue result ↔ EndsWithDigit self.now text.now }
-    {
-        match text.len().checked_sub(self.digit_width()) {
-            Some(front) => self.begins_with_digit(&text[front..]),
-            None => false,
-        }
-    }
-
     /// Reads up to `most` digits that follow each other: returns the last sixteen as packed BCD, their number, and what
     /// follows them.
     #[inline(always)]
@@ -257,5 +238,24 @@ impl<'a> DecimalSymbols<'a> {
         let (sign, rest) = self.split_prefix(text);
         let number = cut_end(rest, self.affixes(sign).suffix.as_bytes())?;
         Some((sign, number))
+    }
+}
+
+/// Returns whether a text begins with a digit. Requires readable symbols.
+pub fn begins_with_digit(symbols: &DecimalSymbols<'_>, text: &[u8]) -> bool
+    requires { IsReadable symbols.now }
+    ensures { IsTrue result ↔ BeginsWithDigit symbols.now text.now }
+{
+    symbols.next_digit(text).is_some()
+}
+
+/// Returns whether a text ends with a digit. Requires readable symbols.
+pub fn ends_with_digit(symbols: &DecimalSymbols<'_>, text: &[u8]) -> bool
+    requires { IsReadable symbols.now }
+    ensures { IsTrue result ↔ EndsWithDigit symbols.now text.now }
+{
+    match text.len().checked_sub(symbols.digit_width()) {
+        Some(front) => begins_with_digit(symbols, &text[front..]),
+        None => false,
     }
 }

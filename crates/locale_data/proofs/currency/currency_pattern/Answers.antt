@@ -2,9 +2,9 @@ use Rattle.std.proofs.Common.{◌≡◌, ℕ, List, Option, Some, refl, subst, s
 use Rattle.std.specs.Option.{option_or}
 use Rattle.locale_data.specs.declared.currency.CurrencyPattern.{CurrencyPattern}
 use Rattle.locale_data.specs.declared.currency.CurrencySign.{CurrencySign}
-use Rattle.locale_data.specs.declared.formats_table.TheConstants.{MONEY_FORMATS}
+use Rattle.locale_data.specs.declared.tables.formats.TheConstants.{MONEY_FORMATS}
 use Rattle.locale_data.specs.declared.number_formats.NumberFormats.{NumberFormats}
-use Rattle.locale_data.specs.declared.patterns.MoneyFormat.{MoneyFormat}
+use Rattle.locale_data.specs.declared.tables.rows.patterns.MoneyFormat.{MoneyFormat}
 use Rattle.locale_data.specs.Currencies.{currency_with, pattern_by, IsCurrencyPattern, IsOverride}
 use Rattle.locale_data.specs.Formats.{AreFormatsOf}
 use Rattle.locale_data.proofs.currency.currency_pattern.Goals as goal

@@ -1,7 +1,7 @@
 use Rattle.std.specs.Option.{option_copied}
-use Rattle.locale_data.specs.declared.currency_table.TheConstants.{CURRENCY_TEXTS}
-use Rattle.locale_data.proofs.CurrencyRows.{symbol-below}
-use Rattle.locale_data.proofs.EachRow.{contains_at}
+use Rattle.locale_data.specs.declared.tables.currencies.TheConstants.{CURRENCY_TEXTS}
+use Rattle.locale_data.proofs.lemmas.tables.CurrencyRows.{symbol-below}
+use Rattle.locale_data.proofs.lemmas.tables.EachRow.{contains_at}
 use Rattle.locale_data.proofs.currency.currency_symbol.Goals as goal
 
 pub indexed_row-requires : goal.indexed_row-requires

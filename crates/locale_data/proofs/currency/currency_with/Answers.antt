@@ -1,4 +1,4 @@
-use Rattle.locale_data.proofs.CurrencyRows.{currencies_are_table, listed_currency}
+use Rattle.locale_data.proofs.lemmas.tables.CurrencyRows.{currencies_are_table, listed_currency}
 use Rattle.locale_data.proofs.currency.currency_with.Goals as goal
 
 pub row_named-requires : goal.row_named-requires

@@ -1,4 +1,4 @@
-use Rattle.locale_data.proofs.CurrencyRows.{overridden-below}
+use Rattle.locale_data.proofs.lemmas.tables.CurrencyRows.{overridden-below}
 use Rattle.locale_data.proofs.currency.overridden.Goals as goal
 
 pub pattern_at-requires : goal.pattern_at-requires

@@ -1,4 +1,4 @@
-use Rattle.locale_data.proofs.CurrencyRows.{override-below}
+use Rattle.locale_data.proofs.lemmas.tables.CurrencyRows.{override-below}
 use Rattle.locale_data.proofs.currency.override_of.Goals as goal
 
 pub returns-in-Some-override_row-clause-listed : goal.returns-in-Some-override_row-clause-listed

@@ -1,4 +1,4 @@
-use Rattle.locale_data.proofs.CurrencyRows.{has_symbols_if_listed}
+use Rattle.locale_data.proofs.lemmas.tables.CurrencyRows.{has_symbols_if_listed}
 use Rattle.locale_data.proofs.currency.own_symbols.Goals as goal
 
 pub row_in-requires : goal.row_in-requires

@@ -1,6 +1,6 @@
 use Rattle.std.proofs.Common.{subst, refl}
 use Rattle.locale_data.specs.Formats.{format_system, IsLatinFormats, AreOfSystem}
-use Rattle.locale_data.proofs.FormatRows.{formats-below}
+use Rattle.locale_data.proofs.lemmas.tables.FormatRows.{formats-below}
 use Rattle.locale_data.proofs.formats.formats_of.Goals as goal
 
 pub invariant_of-result : goal.invariant_of-result

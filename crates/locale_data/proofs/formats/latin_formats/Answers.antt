@@ -1,5 +1,5 @@
 use Rattle.std.proofs.Common.{Some, None, refl}
-use Rattle.locale_data.proofs.FormatRows.{formats_are_table}
+use Rattle.locale_data.proofs.lemmas.tables.FormatRows.{formats_are_table}
 use Rattle.locale_data.proofs.formats.latin_formats.Goals as goal
 
 pub row_of-requires : goal.row_of-requires

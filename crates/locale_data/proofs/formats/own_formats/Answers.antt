@@ -1,5 +1,5 @@
 use Rattle.std.proofs.Common.{Some, None, refl}
-use Rattle.locale_data.proofs.FormatRows.{has_formats_if_listed}
+use Rattle.locale_data.proofs.lemmas.tables.FormatRows.{has_formats_if_listed}
 use Rattle.locale_data.proofs.formats.own_formats.Goals as goal
 
 pub row_in-requires : goal.row_in-requires

@@ -1,5 +1,5 @@
 use Rattle.std.proofs.Common.{sym}
-use Rattle.locale_data.proofs.FormatRows.{format_systems_are_table, listed_system}
+use Rattle.locale_data.proofs.lemmas.tables.FormatRows.{format_systems_are_table, listed_system}
 use Rattle.locale_data.proofs.formats.system_formats.Goals as goal
 
 pub row_named-requires : goal.row_named-requires

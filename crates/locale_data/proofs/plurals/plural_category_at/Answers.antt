@@ -1,7 +1,7 @@
 use Rattle.std.proofs.Common.{ap, sym}
 use Rattle.std.specs.Option.{option_map}
 use Rattle.locale_data.specs.Plurals.{text_of}
-use Rattle.locale_data.proofs.RulesTexts.{category_by_rows}
+use Rattle.locale_data.proofs.lemmas.tables.RulesTexts.{category_by_rows}
 use Rattle.locale_data.proofs.plurals.plural_category_at.Goals as goal
 
 pub returns-in-Some-clause-some : goal.returns-in-Some-clause-some

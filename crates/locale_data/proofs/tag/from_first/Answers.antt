@@ -2,7 +2,7 @@ use Rattle.std.proofs.Common.{◌≡◌, ◌∙◌, false, nat_eq, drop, arith}
 use Rattle.std.proofs.lemmas.Grind.{common_steps}
 use Rattle.std.specs.List.{starts_with}
 use Rattle.locale_data.specs.Tag.{compared}
-use Rattle.locale_data.proofs.Tags.{from_first-tail}
+use Rattle.locale_data.proofs.lemmas.search.Tags.{from_first-tail}
 use Rattle.locale_data.proofs.tag.from_first.Goals as goal
 
 pub loop-index-preserved : goal.loop-index-preserved

@@ -4,7 +4,7 @@ use Rattle.std.proofs.lemmas.List.{take_more}
 use Rattle.std.specs.Prelude.{codes}
 use Rattle.std.specs.List.{starts_with}
 use Rattle.locale_data.specs.Tag.{compared, before_text}
-use Rattle.locale_data.proofs.Tags.{before_text-tail}
+use Rattle.locale_data.proofs.lemmas.search.Tags.{before_text-tail}
 use Rattle.locale_data.proofs.tag.without_private_use.Goals as goal
 
 pub loop-index-preserved : goal.loop-index-preserved

@@ -1,6 +1,6 @@
 use Rattle.std.proofs.Common.{subst, sym}
 use Rattle.std.specs.Str.{IsUtf8}
-use Rattle.locale_data.proofs.TableTexts.{text-facts}
+use Rattle.locale_data.proofs.lemmas.tables.TableTexts.{text-facts}
 use Rattle.locale_data.proofs.texts.text_in.Goals as goal
 
 pub from_utf8_unchecked-requires : goal.from_utf8_unchecked-requires

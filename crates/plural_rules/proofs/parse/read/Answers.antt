@@ -1,7 +1,7 @@
 use Rattle.std.proofs.Common.{◌≡◌, ◌<◌, length, get_or, Some, ◌∙◌, ap, arith}
 use Rattle.plural_rules.specs.RulesReader.{seen_after, next}
-use Rattle.plural_rules.proofs.ViablePrefixes.{stopped_text, unended_text}
-use Rattle.plural_rules.proofs.ParserInvariants.{checked_first, checked_more, checked_whole, built_whole, small}
+use Rattle.plural_rules.proofs.lemmas.parse.ViablePrefixes.{stopped_text, unended_text}
+use Rattle.plural_rules.proofs.lemmas.parse.ParserInvariants.{checked_first, checked_more, checked_whole, built_whole, small}
 use Rattle.plural_rules.proofs.parse.read.Goals as goal
 use Rattle.std.proofs.lemmas.Grind.{common_steps}
 use Rattle.std.proofs.lemmas.Int.{ints, clamps}

@@ -1,4 +1,4 @@
-use Rattle.plural_rules.proofs.ParserInvariants.{Checked}
+use Rattle.plural_rules.proofs.lemmas.parse.ParserInvariants.{Checked}
 use Rattle.plural_rules.proofs.parse.read.Given as goal
 
 -- the state, the categories, the numbers and the builder are those after the bytes so far

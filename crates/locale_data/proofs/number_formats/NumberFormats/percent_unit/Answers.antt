@@ -1,4 +1,4 @@
-use Rattle.locale_data.proofs.CompactRows.{has_unit_at}
+use Rattle.locale_data.proofs.lemmas.tables.CompactRows.{has_unit_at}
 use Rattle.locale_data.proofs.number_formats.NumberFormats.percent_unit.Goals as goal
 
 pub unit_of-requires : goal.unit_of-requires

@@ -1,7 +1,7 @@
 use Rattle.std.proofs.Common.{ap, arith}
 use Rattle.std.proofs.lemmas.Int.{ints, clamps}
 use Rattle.fixed_decimal.proofs.Calling.{narrow_kept, offset_is}
-use Rattle.plural_rules.proofs.Shifted.{fraction_at}
+use Rattle.plural_rules.proofs.lemmas.operands.Shifted.{fraction_at}
 use Rattle.plural_rules.proofs.operands.PluralOperands.fraction_digits.Goals as goal
 
 pub new-requires : goal.new-requires

@@ -1,6 +1,6 @@
 use Rattle.std.proofs.Common.{arith}
 use Rattle.std.proofs.lemmas.Int.{ints, clamps}
-use Rattle.plural_rules.proofs.Shifted.{integer_digits_of}
+use Rattle.plural_rules.proofs.lemmas.operands.Shifted.{integer_digits_of}
 use Rattle.fixed_decimal.proofs.Calling.{narrow_kept, offset_is}
 use Rattle.plural_rules.proofs.operands.PluralOperands.integer_digits.Goals as goal
 use Rattle.std.proofs.lemmas.Grind.{common_steps}

@@ -1,5 +1,5 @@
 use Rattle.fixed_decimal.proofs.Calling.{read_text, follows_grammar}
-use Rattle.plural_rules.proofs.ByText.{by_text}
+use Rattle.plural_rules.proofs.lemmas.operands.ByText.{by_text}
 use Rattle.plural_rules.proofs.operands.PluralOperands.of.Goals as goal
 use Rattle.std.proofs.Common.{arith}
 use Rattle.std.proofs.Common.{rules}

@@ -1,6 +1,6 @@
 use Rattle.std.proofs.Common.{arith}
 use Rattle.std.proofs.lemmas.Int.{ints}
-use Rattle.plural_rules.proofs.Shifted.{last-shifted}
+use Rattle.plural_rules.proofs.lemmas.operands.Shifted.{last-shifted}
 use Rattle.fixed_decimal.proofs.Calling.{narrow_kept}
 use Rattle.plural_rules.proofs.operands.PluralOperands.w.Goals as goal
 use Rattle.std.proofs.lemmas.Grind.{common_steps}

@@ -1,7 +1,7 @@
 use Rattle.std.proofs.Common.{arith}
 use Rattle.std.proofs.lemmas.Int.{ints, to_z-of_z}
 use Rattle.fixed_decimal.proofs.Calling.{offset_is, narrow_kept}
-use Rattle.plural_rules.proofs.DigitSlice.{step}
+use Rattle.plural_rules.proofs.lemmas.operands.DigitSlice.{step}
 use Rattle.plural_rules.proofs.operands.digits.digit_below.Goals as goal
 
 pub magnitude_below-requires : goal.magnitude_below-requires

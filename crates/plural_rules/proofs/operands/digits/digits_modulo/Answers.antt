@@ -3,7 +3,7 @@ use Rattle.std.proofs.lemmas.Int.{ints, to_z-of_z}
 use Rattle.decimal_digits.specs.Number.{offset}
 use Rattle.fixed_decimal.proofs.Calling.{offset_is, narrow_kept}
 use Rattle.plural_rules.specs.DigitSlice.{digit_slice}
-use Rattle.plural_rules.proofs.DigitSlice.{digit_slice-last}
+use Rattle.plural_rules.proofs.lemmas.operands.DigitSlice.{digit_slice-last}
 use Rattle.plural_rules.proofs.operands.digits.digits_modulo.Goals as goal
 
 pub magnitude_below-requires : goal.magnitude_below-requires

@@ -1,6 +1,6 @@
 use Rattle.std.proofs.Common.{arith}
 use Rattle.std.proofs.lemmas.Int.{to_z-of_z}
-use Rattle.plural_rules.proofs.DigitSlice.{over}
+use Rattle.plural_rules.proofs.lemmas.operands.DigitSlice.{over}
 use Rattle.plural_rules.proofs.operands.digits.digits_up_to.Goals as goal
 
 pub loop-below-preserved : goal.loop-below-preserved

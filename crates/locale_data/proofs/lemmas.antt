@@ -1,0 +1,3 @@
+pub mod search
+pub mod tables
+pub mod locales

@@ -1,0 +1,3 @@
+pub mod Unknown
+pub mod IndexedRows
+pub mod UniqueRows

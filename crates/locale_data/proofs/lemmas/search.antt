@@ -1,0 +1,5 @@
+pub mod Tags
+pub mod SortedRows
+pub mod PrefixKeys
+pub mod LongestRow
+pub mod Searches

@@ -1,0 +1,230 @@
+//! The symbols and the numbering system of a tag.
+ghost use Rattle.std.specs.Prelude.{◌≡◌, ◌↔◌, ◌<◌, ◌^◌, ◌⊎◌, length, None, IsNone, IfNone, IfSome, IsSomeAnd, Contains};
+ghost use Rattle.std.specs.Option.{option_copied};
+ghost use Rattle.locale_data.specs.Rows.{row_at};
+ghost use Rattle.locale_data.specs.Locales.{system_named, system_of, own_rows, symbols_of, symbols_in, symbols_at, HasOneWidth, IsListed, IsLocale, IsLocaleIn, AreRowsOf, IsSystemName, IsUnknown};
+ghost use Rattle.decimal_format.specs.Readable.{IsReadable};
+
+use crate::search::{Row, index_named, indexed_row, part, row_index, row_of, unpadded};
+use crate::tables::rows::Name;
+use crate::tables::rows::symbols::{LocaleSymbols, NumberingSystem, SymbolSet};
+use crate::tables::symbols::{LOCALES, LOCALES_BY_SYSTEM, NUMBERING_SYSTEMS};
+use crate::tag::requested_system;
+use decimal_format::{Affixes, DecimalSymbols, GroupingSizes};
+use std::str;
+
+impl Row for NumberingSystem {
+    ghost name = { λ system. system.name };
+
+    fn name(&self) -> Name {
+        self.name
+    }
+}
+
+impl Row for LocaleSymbols {
+    ghost name = { λ locale. locale.tag };
+
+    fn name(&self) -> Name {
+        self.tag
+    }
+}
+
+// A function that names a table is checked with all of its rows, so what several functions read is lent by one.
+
+pub(crate) fn locales() -> &'static [LocaleSymbols]
+    ensures { result.now ≡ LOCALES }
+{
+    &LOCALES
+}
+
+fn numbering_systems() -> &'static [NumberingSystem]
+    ensures { result.now ≡ NUMBERING_SYSTEMS }
+{
+    &NUMBERING_SYSTEMS
+}
+
+#[tactic(auto, unfolding(crate::specs::Locales::system_named))]
+fn system_named(name: &[u8]) -> Option<usize>
+    ensures value { row_at NUMBERING_SYSTEMS result ≡ system_named name.now }
+    ensures inside { IfSome result (λ i. i < length NUMBERING_SYSTEMS) }
+{
+    index_named(numbering_systems(), name)
+}
+
+fn system_index(tag: &[u8], locale: &LocaleSymbols) -> Option<usize>
+    requires { Contains LOCALES locale.now }
+    ensures value { row_at NUMBERING_SYSTEMS result ≡ system_of tag.now locale.now }
+    ensures inside { IfSome result (λ i. i < length NUMBERING_SYSTEMS) }
+{
+    match requested_system(tag) {
+        Some(name) => system_named(name),
+        None => Some(locale.system as usize),
+    }
+}
+
+fn own_rows(system: &NumberingSystem) -> &'static [LocaleSymbols]
+    ensures { result.now ≡ own_rows system.now }
+{
+    part(&LOCALES_BY_SYSTEM, system.rows)
+}
+
+fn symbols_of(
+    system: &NumberingSystem,
+    set: SymbolSet,
+    sizes: GroupingSizes,
+) -> DecimalSymbols<'static>
+    requires { HasOneWidth system.now.digits }
+    ensures { result ≡ symbols_of system.now set sizes }
+{
+    let minus = Affixes {
+        prefix: set.minus.text(),
+        suffix: "",
+    };
+    let plus = Affixes {
+        prefix: set.plus.text(),
+        suffix: "",
+    };
+    let (decimal, grouping) = (set.decimal.text(), set.grouping.text());
+    DecimalSymbols::of_valid(system.digits, decimal, grouping, minus, plus, sizes)
+}
+
+fn symbols_in(
+    system: &NumberingSystem,
+    locale: &LocaleSymbols,
+    own: Option<&LocaleSymbols>,
+) -> DecimalSymbols<'static>
+    requires { HasOneWidth system.now.digits }
+    ensures { result ≡ symbols_in system.now locale.now (option_copied own.entry) }
+{
+    match own {
+        Some(own) => symbols_of(system, own.symbols, own.sizes),
+        None => symbols_of(
+            system,
+            system.symbols.unwrap_or(locale.symbols),
+            locale.sizes,
+        ),
+    }
+}
+
+/// The indices of the rows of a tag in the tables of symbols. They are the same as long as the tables are.
+#[derive(Clone, Copy)]
+pub struct LocaleId {
+    /// The row of the locale in `LOCALES`.
+    pub locale: u16,
+    /// The numbering system in `NUMBERING_SYSTEMS`.
+    pub system: u16,
+    /// The row of the symbols among those of the numbering system, if it has some for the locale.
+    pub own: Option<u16>,
+}
+
+fn in_16_bits(index: Option<usize>) -> Option<u16>
+    requires { IfSome index (λ i. i < 2 ^ 16) }
+    ensures { result ≡ index }
+{
+    match index {
+        Some(index) => Some(index as u16),
+        None => None,
+    }
+}
+
+/// Returns the row of a tag in `LOCALES`, and its numbering system in `NUMBERING_SYSTEMS`.
+fn locale_and_system(tag: &[u8]) -> Option<(usize, usize)>
+    ensures found { IfSome result (λ found. AreRowsOf tag.now found.0 found.1) }
+    ensures inside { IfSome result (λ found. (found.0 < length LOCALES) × (found.1 < length NUMBERING_SYSTEMS)) }
+    ensures unknown { IsNone result ↔ IsUnknown tag.now }
+{
+    let rows = locales();
+    let locale = row_index(rows, tag)?;
+    let system = system_index(tag, indexed_row(rows, locale))?;
+    Some((locale, system))
+}
+
+/// Returns the rows of a tag, from which [`symbols_at`] makes its symbols. Returns `None` where [`locale`] does.
+pub fn locale_id(tag: &str) -> Option<LocaleId>
+    ensures found { IfSome result (λ id. IsSomeAnd (symbols_at id) (IsLocale tag.now)) }
+    ensures unknown { IsNone result ↔ IsUnknown tag.now }
+{
+    let tag = tag.as_bytes();
+    let (locale, system) = locale_and_system(tag)?;
+    let own = row_index(own_rows(indexed_row(numbering_systems(), system)), tag);
+    Some(LocaleId {
+        locale: locale as u16,
+        system: system as u16,
+        own: in_16_bits(own),
+    })
+}
+
+/// Returns the name of the numbering system of a tag, as `latn`, which [`formats_of`](crate::formats_of) takes.
+///
+/// It is the one that `nu` names, or the default one of the locale. Returns `None` where [`locale`] does.
+///
+/// ```
+/// system_of("ar-EG") // arab
+/// system_of("hi-u-nu-deva") // deva
+/// ```
+pub fn system_of(tag: &str) -> Option<&'static str>
+    ensures found { IfSome result (λ name. IsSystemName tag.now name.now) }
+    ensures unknown { IsNone result ↔ IsUnknown tag.now }
+{
+    let (_, system) = locale_and_system(tag.as_bytes())?;
+    match str::from_utf8(unpadded(&indexed_row(numbering_systems(), system).name)) {
+        Ok(name) => Some(name),
+        Err(_) => unreachable!(),
+    }
+}
+
+/// Returns the symbols of a locale from its rows, and `None` if there are no such rows.
+pub fn symbols_at(id: LocaleId) -> Option<DecimalSymbols<'static>>
+    ensures value { result ≡ symbols_at id }
+    ensures readable { IfSome result (λ s. IsReadable s) }
+{
+    let locale = locales().get(id.locale as usize)?;
+    let system = numbering_systems().get(id.system as usize)?;
+    let Some(own) = id.own else {
+        return Some(symbols_in(system, locale, None));
+    };
+    let own = own_rows(system).get(own as usize)?;
+    Some(symbols_in(system, locale, Some(own)))
+}
+
+/// Returns the symbols of a locale.
+///
+/// `tag` is a tag of BCP 47, as `de-CH` or `hi-u-nu-deva`, or the name of a locale in a shell, as `de_CH.UTF-8`.
+/// Letters may be of either case, and `_`, `.` and `@` are hyphens. The locale is the listed one with the longest tag
+/// that is `tag` or has a hyphen after it there, so `de-DE` has the symbols of `de`. The numbering system is the one
+/// that `nu` names, or the default one of the locale; what follows `-x-` is for private use, and names none.
+///
+/// The symbols are readable. Returns `None` if no tag of the locale is listed, or the numbering system is not.
+///
+/// ```
+/// locale("de_CH.UTF-8") // 1'234'567.5
+/// locale("ar-EG-u-nu-latn") // 1,234,567.5
+/// locale("tlh") // None
+/// ```
+pub fn locale(tag: &str) -> Option<DecimalSymbols<'static>>
+    ensures found { IfSome result (IsLocale tag.now) }
+    ensures readable { IfSome result (λ s. IsReadable s) }
+    ensures unknown { IsNone result ↔ IsUnknown tag.now }
+{
+    match locale_id(tag) {
+        Some(id) => symbols_at(id),
+        None => None,
+    }
+}
+
+/// Returns the symbols of a locale in a numbering system, as `latn`, whichever the tag names.
+///
+/// They are those of [`locale`] for a tag that names this system. Returns `None` if no tag of the locale
+/// is listed, or the numbering system is not.
+///
+/// ```
+/// locale_in("ar-EG", "latn") // 1,234,567.5
+/// ```
+pub fn locale_in(tag: &str, system: &str) -> Option<DecimalSymbols<'static>>
+    ensures found { IfSome result (IsLocaleIn tag.now system.now) }
+    ensures unknown { IfNone result (IsListed LOCALES tag.now None ⊎ (system_named system.now ≡ None)) }
+{
+    let locale = row_of(locales(), tag.as_bytes())?;
+    let system = indexed_row(numbering_systems(), system_named(system.as_bytes())?);
+    Some(symbols_in(system, locale, row_of(own_rows(system), tag.as_bytes())))
+}

@@ -1,0 +1,2 @@
+pub mod operands
+pub mod parse

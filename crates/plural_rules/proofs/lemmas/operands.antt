@@ -1,0 +1,3 @@
+pub mod DigitSlice
+pub mod Shifted
+pub mod ByText
