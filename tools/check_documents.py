@@ -8,10 +8,11 @@ import sys
 import tempfile
 
 CRATES = ["decimal_digits", "decimal_unsigned", "fixed_decimal", "decimal_format", "plural_rules", "locale_data",
-          "number_format", "cli", "fixed_decimal_c"]
+          "number_format", "conversions", "cli", "fixed_decimal_c"]
 LIBRARIES = [*CRATES[:4], "locale_data", "number_format"]
 # Crates whose proofs cite of the libraries only the lemmas for callers.
-CALLERS = ["uses", "plural_rules", "decimal_format", "locale_data", "number_format", "cli", "fixed_decimal_c"]
+CALLERS = ["uses", "plural_rules", "decimal_format", "locale_data", "number_format", "conversions", "cli",
+           "fixed_decimal_c"]
 # Words of other programs that are no names in the code.
 FOREIGN = set("FloatPrecision DoublePrecision WithInfinity try_from_f64 ryu LengthHint strtod".split())
 # Modules and functions that are public for the crates of this repository alone.

@@ -2,11 +2,11 @@
 use Rattle.std.proofs.Common.{◌≡◌, ◌≢◌, ℕ, suc, ◌+◌, ◌<◌, ◌≤◌, inl, inr, refl, sym, ap, subst, ◌∙◌, arith, add-one, Some, None, Ok, Err, Option, Bool, false, List, ◌∷◌, ◌++◌, length, take, drop, get_or, append_assoc, take_all, drop-cons}
 use Rattle.std.specs.Prelude.{All, Contains, IfSome, IsSomeAnd}
 use Rattle.std.proofs.lemmas.List.Elements.{All-push, All-weaker}
-use Rattle.cli.specs.declared.columns.FieldLabel.{FieldLabel}
+use Rattle.cli.specs.declared.error.FieldLabel.{FieldLabel}
 use Rattle.cli.specs.declared.edits.FieldConversion.{FieldConversion}
 use Rattle.cli.specs.declared.error.LineError.{LineError}
-use Rattle.cli.specs.declared.error.OperationError.{OperationError}
-use Rattle.cli.specs.declared.error.OperationError.TheVariants.{Memory}
+use Rattle.conversions.specs.declared.error.OperationError.{OperationError}
+use Rattle.conversions.specs.declared.error.OperationError.TheVariants.{Memory}
 use Rattle.cli.specs.declared.fields.Field.{Field}
 use Rattle.cli.specs.Edits.{HasEdit, EditFails, AreEdited, HasEditedText, IsEditedLine, EditingFails}
 use Rattle.cli.specs.Error.{line_error}

@@ -5,24 +5,25 @@ use Rattle.std.proofs.lemmas.Bool.{false≢true}
 use Rattle.std.proofs.lemmas.List.{append-nil, length-drop, length-take-le, drop-drop, drop-take, take-take, take_rest}
 use Rattle.std.proofs.Math.Seq.{drop-length, take-add, take-length}
 use Rattle.std.specs.Borrow.{Bor}
-use Rattle.cli.specs.declared.columns.FieldLabel.{FieldLabel}
-use Rattle.cli.specs.declared.conversion.Conversion.{Conversion}
-use Rattle.cli.specs.declared.error.OperationError.{OperationError}
-use Rattle.cli.specs.declared.error.OperationError.TheVariants.{Quote, Memory, Output}
+use Rattle.cli.specs.declared.error.FieldLabel.{FieldLabel}
+use Rattle.conversions.specs.declared.conversion.Conversion.{Conversion}
+use Rattle.conversions.specs.declared.error.OperationError.{OperationError}
+use Rattle.conversions.specs.declared.error.OperationError.TheVariants.{Quote, Memory, Output}
 use Rattle.cli.specs.declared.edits.FieldConversion.{FieldConversion}
 use Rattle.cli.specs.declared.fields.Field.{Field}
 use Rattle.cli.specs.declared.filter.Filter.{Filter}
-use Rattle.cli.specs.Conversion.{HasOutcome, OperationsFail}
+use Rattle.conversions.specs.Conversion.{HasOutcome, OperationsFail}
 use Rattle.cli.specs.declared.error.LineError.{LineError}
 use Rattle.cli.specs.declared.targets.Target.{Target}
 use Rattle.cli.specs.declared.targets.Target.TheVariants.{One, Fields}
 use Rattle.cli.specs.Edits.{HasNoEdit, EditFails}
-use Rattle.cli.specs.Error.{status_of_operation, error_of_line}
+use Rattle.conversions.specs.Error.{status_of_operation}
+use Rattle.cli.specs.Error.{error_of_line}
 use Rattle.cli.specs.FieldConversion.{IsTextResult, is_trimmed, IsFieldResult, HasFieldText, IsLineResult, HasLineText, LineFails, map_text, with_text}
 use Rattle.cli.specs.Fields.{is_quoted, Holds, located, within, replaced, bytes_of}
 use Rattle.cli.specs.Filter.{body_of, IsTargetResult, TargetFails, HasConvertedLine, ConvertingFails, ConversionFails, IsResultOfLine, filtered_line, is_broken_row, RowFails, IsResultOfRow}
 use Rattle.cli.specs.Trim.{text_of, with_text_of, body_bounds}
-use Rattle.cli.proofs.Conversions.{error_is_outcome}
+use Rattle.conversions.proofs.lemmas.conversion.Conversions.{error_is_outcome}
 
 -- the bytes from an index to the end
 pub all_after : (n : ℕ) (bytes : List ℕ) → take (length bytes - n) (drop n bytes) ≡ drop n bytes

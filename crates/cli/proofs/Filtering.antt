@@ -16,10 +16,11 @@ use Rattle.cli.specs.declared.error.ProgramError.{ProgramError}
 use Rattle.cli.specs.declared.error.ProgramError.TheVariants.{Line, LongLine, Input, Output}
 use Rattle.cli.specs.declared.filter.Filter.{Filter}
 use Rattle.cli.specs.declared.filter.FilteredRow.{FilteredRow}
-use Rattle.cli.specs.declared.filter.OnError.TheVariants.{Stop}
+use Rattle.cli.specs.declared.options.OnError.TheVariants.{Stop}
 use Rattle.cli.specs.Filter.{Effects, FilteredLine, IsErrorOfReading, IsResultOfRow, lines_of_row, FiltersLine, FiltersNext, output_of_line, errors_of_line}
 use Rattle.cli.specs.Input.{IsRowRead}
-use Rattle.cli.specs.Lines.{lines_of, rows_of, AreRead, number_after, AreResults, output_of, errors_of, have_texts, EndsWith, Returns, Filters, IsConsumed}
+use Rattle.conversions.specs.Lines.{lines_of}
+use Rattle.cli.specs.Lines.{rows_of, AreRead, number_after, AreResults, output_of, errors_of, have_texts, EndsWith, Returns, Filters, IsConsumed}
 use Rattle.cli.proofs.FirstLine.{lines_first}
 
 -- ---- What was read.

@@ -10,7 +10,7 @@ use Rattle.std.proofs.lemmas.Bool.{cond-false}
 use Rattle.std.proofs.lemmas.Grind.{common_steps}
 use Rattle.memchr.specs.Find.{IsFirstByte, is_byte}
 use Rattle.cli.specs.Input.{IsRead}
-use Rattle.cli.specs.Lines.{lines_of}
+use Rattle.conversions.specs.Lines.{lines_of}
 
 -- a byte before other bytes does not change how they end
 strip_more : (x y : ℕ) (t : List ℕ) → strip_last 10 (x ∷ y ∷ t) ≡ x ∷ strip_last 10 (y ∷ t)

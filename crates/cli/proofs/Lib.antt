@@ -1,8 +1,5 @@
-pub mod Numerals
-pub mod RoundingWord
 pub mod Programs
 pub mod Starting
-pub mod Conversions
 pub mod Buffers
 pub mod Filtering
 pub mod Reporting
@@ -17,5 +14,3 @@ pub mod FieldWords
 pub mod HeaderNames
 pub mod NamedRuns
 pub mod OptionWords
-pub mod ShownWords
-pub mod UnknownTypes

@@ -9,7 +9,7 @@ use Rattle.cli.specs.declared.error.ProgramError.TheVariants.{LongLine, Input, H
 use Rattle.std.specs.Borrow.{Bor}
 use Rattle.std.specs.Prelude.{Vec}
 use Rattle.std.specs.declared.alloc.Global.{Global}
-use Rattle.cli.specs.declared.conversion.Conversion.{Conversion}
+use Rattle.conversions.specs.declared.conversion.Conversion.{Conversion}
 use Rattle.cli.specs.declared.edits.FieldConversion.{FieldConversion}
 use Rattle.cli.specs.declared.fields.Field.{Field}
 use Rattle.cli.specs.declared.filter.Filter.{Filter}

@@ -1,6 +1,6 @@
 -- The run that the words of a command line name, and its result.
-use Rattle.std.proofs.Common.{◌≡◌, ℕ, ◌+◌, ◌<◌, List, [], ◌∷◌, ◌++◌, length, take, get_or, String, string_bytes, Option, Result, Ok, Err, IfErr, refl, sym, ap, subst, ◌∙◌, arith, add-one}
-use Rattle.std.specs.Prelude.{IsErrAnd, OnOk}
+use Rattle.std.proofs.Common.{◌≡◌, ℕ, ◌+◌, ◌<◌, List, [], ◌∷◌, ◌++◌, length, take, get_or, String, string_bytes, Option, Result, Ok, Err, IfErr, refl, sym, ap, ◌∙◌, arith, add-one}
+use Rattle.std.specs.Prelude.{OnOk}
 use Rattle.std.specs.declared.alloc.Global.{Global}
 use Rattle.std.specs.Io.KnownBytes.{Keeps}
 use Rattle.std.proofs.Math.Seq.{take-suc}
@@ -9,14 +9,15 @@ use Rattle.std.proofs.KnownBytes.{Appends-kept}
 use Rattle.decimal_digits.specs.AppendsPrefix.{AppendsPrefix}
 use Rattle.fixed_decimal.proofs.Calling.{prefix_more}
 use Rattle.fixed_decimal.specs.declared.runs.Call.{Call}
-use Rattle.cli.specs.declared.conversion.Conversion.{Conversion}
+use Rattle.conversions.specs.declared.conversion.Conversion.{Conversion}
 use Rattle.cli.specs.declared.error.ProgramError.TheVariants as program
-use Rattle.cli.specs.declared.error.OperationError.{OperationError}
-use Rattle.cli.specs.Conversion.{HasOutcome, OperationsFail}
-use Rattle.cli.proofs.Conversions.{output_fails}
-use Rattle.cli.specs.Calls.{Names, NameAll}
+use Rattle.conversions.specs.declared.error.OperationError.{OperationError}
+use Rattle.conversions.specs.Conversion.{HasOutcome, OperationsFail}
+use Rattle.conversions.proofs.lemmas.conversion.Conversions.{output_fails}
+use Rattle.conversions.specs.Calls.{Names}
+use Rattle.cli.specs.Calls.{NameAll}
 use Rattle.cli.specs.Error.{conversion_error}
-use Rattle.cli.specs.declared.error.OperationError.TheVariants.{Output}
+use Rattle.conversions.specs.declared.error.OperationError.TheVariants.{Output}
 use Rattle.cli.specs.Fixdec.{HasRun, NamesRun, HasError, PrintsLine, PrintsLinePrefix, Prints, PrintsPrefix}
 
 -- ---- Words and calls, one by one.
@@ -36,11 +37,6 @@ pub taken :
 taken ws i w l e = rw add-one (take-suc ws i w l ∙ ap (λ x. take i ws ++ (x ∷ [])) (sym e))
 
 -- ---- Results.
-
--- what is true of an error is true of a result with that error
-pub err_with : {A E : Type 0} (Q : E → Type 0) (r : Result A E) (f : E) → IsErrAnd r (λ x. x ≡ f) → Q f → IfErr r Q
-err_with Q (Ok x) f h q = absurd h
-err_with Q (Err e) f h q = subst Q (sym h) q
 
 -- a property that follows from one of an error holds of it
 pub err_map :

@@ -17,7 +17,7 @@ use Rattle.cli.specs.declared.error.ProgramError.{ProgramError}
 use Rattle.cli.specs.declared.error.ProgramError.TheVariants.{Start, Text, Output}
 use Rattle.cli.specs.declared.error.WordsError.TheVariants.{Memory}
 use Rattle.cli.specs.declared.help.Program.TheVariants.{Plural}
-use Rattle.cli.specs.Error.{read_error_of}
+use Rattle.conversions.specs.Error.{read_error_of}
 
 -- the text has more digits than are held without allocation
 abbrev pub IsLongText : List ℕ → Type 0

@@ -2,8 +2,8 @@
 use Rattle.std.specs.Prelude.{◌≡◌, ◌⊎◌, ℕ, ◌<◌, Bool, List, [], ◌∷◌, ◌++◌, length, All, Contains, Some, Result, Ok, Err, MatchResult}
 use Rattle.cli.specs.declared.edits.FieldConversion.{FieldConversion}
 use Rattle.cli.specs.declared.error.LineError.{LineError}
-use Rattle.cli.specs.declared.error.OperationError.{OperationError}
-use Rattle.cli.specs.declared.error.OperationError.TheVariants.{Memory}
+use Rattle.conversions.specs.declared.error.OperationError.{OperationError}
+use Rattle.conversions.specs.declared.error.OperationError.TheVariants.{Memory}
 use Rattle.cli.specs.declared.fields.Field.{Field}
 use Rattle.cli.specs.FieldConversion.{IsFieldResult}
 use Rattle.cli.specs.Fields.{at_index, located, within, bytes_of}

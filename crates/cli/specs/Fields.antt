@@ -3,8 +3,8 @@ use Rattle.std.specs.Prelude.{◌≡◌, ◌⊎◌, ℕ, nat_le, ◌+◌, ◌-�
 use Rattle.std.specs.List.{list_any}
 use Rattle.std.specs.Io.BufRead.{strip_last}
 use Rattle.memchr.specs.Find.{matches, first_of}
-use Rattle.cli.specs.declared.error.OperationError.{OperationError}
-use Rattle.cli.specs.declared.error.OperationError.TheVariants as operation
+use Rattle.conversions.specs.declared.error.OperationError.{OperationError}
+use Rattle.conversions.specs.declared.error.OperationError.TheVariants as operation
 use Rattle.cli.specs.declared.fields.Cursor.{Cursor}
 use Rattle.cli.specs.declared.fields.Field.{Field}
 

@@ -3,7 +3,7 @@ use Rattle.std.specs.Prelude.{◌≡◌, ◌≢◌, ◌⊎◌, ℕ, nat_lt, ◌<
 use Rattle.std.specs.List.{list_any}
 use Rattle.cli.specs.declared.columns.Column.{Column}
 use Rattle.cli.specs.declared.columns.Column.TheVariants.{Index, Name}
-use Rattle.cli.specs.declared.columns.FieldLabel.TheVariants as label
+use Rattle.cli.specs.declared.error.FieldLabel.TheVariants as label
 use Rattle.cli.specs.declared.edits.FieldConversion.{FieldConversion}
 use Rattle.cli.specs.declared.error.HeaderError.{HeaderError}
 use Rattle.cli.specs.declared.error.HeaderError.TheVariants.{NoField, TwoFields, SameField}
@@ -12,7 +12,7 @@ use Rattle.cli.specs.declared.headers.Header.{Header}
 use Rattle.cli.specs.declared.targets.NamedField.{NamedField}
 use Rattle.cli.specs.FieldConversion.{is_trimmed}
 use Rattle.cli.specs.Fields.{at_index, bounds, within, Holds}
-use Rattle.cli.specs.ShownWord.{IsShown}
+use Rattle.conversions.specs.ShownWord.{IsShown}
 use Rattle.cli.specs.Trim.{text_of}
 
 -- the bytes of a field hold this name, with `trim` between blanks and tabs

@@ -7,7 +7,7 @@ use Rattle.cli.specs.Columns.{IsColumn}
 use Rattle.cli.specs.declared.columns.Column.{Column}
 use Rattle.cli.specs.declared.fields.Field.{Field}
 use Rattle.cli.specs.Fields.{quote}
-use Rattle.cli.specs.declared.filter.OnError.TheVariants.{Stop, Skip, Keep}
+use Rattle.cli.specs.declared.options.OnError.TheVariants.{Stop, Skip, Keep}
 use Rattle.cli.specs.declared.options.Options.{Options}
 use Rattle.cli.specs.declared.error.WordsError.{WordsError}
 use Rattle.cli.specs.declared.error.WordsError.TheVariants.{NoField, QuoteDelimiter}

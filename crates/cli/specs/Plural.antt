@@ -9,8 +9,8 @@ use Rattle.cli.specs.declared.error.WordsError.TheVariants.{NoText, Memory}
 use Rattle.cli.specs.declared.help.Program.TheVariants.{Plural}
 use Rattle.cli.specs.Error.{start_error, error_of_rules}
 use Rattle.cli.specs.Categories.{PrintsAll, StopsAt}
-use Rattle.cli.specs.declared.named_rules.NamedRulesError.{NamedRulesError}
-use Rattle.cli.specs.NamedRules.{NamesRules, NamesNoRules}
+use Rattle.conversions.specs.declared.named_rules.NamedRulesError.{NamedRulesError}
+use Rattle.conversions.specs.NamedRules.{NamesRules, NamesNoRules}
 
 -- the first word is followed by others, and P holds of its bytes and of these
 abbrev pub HasTexts : List (String Global) → (List ℕ → List (String Global) → Type 0) → Type 0

@@ -9,8 +9,9 @@ ghost use Rattle.cli.specs.Categories.{IsLongText, read_category, category_line}
 ghost use Rattle.cli.specs.Categories.{TextFails, PrintsAll, StopsAt};
 ghost use Rattle.cli.specs.declared.error.ProgramError.{ProgramError};
 
-use crate::error::{ProgramError, Reason, WordsError};
+use crate::error::{ProgramError, WordsError};
 use crate::help::Program;
+use conversions::Reason;
 use fixed_decimal::{CompactDecimal, Decimal, ParseError, Sink, SinkFault};
 use plural_rules::{PluralCategory, PluralOperands, PluralRules};
 use std::alloc::Global;

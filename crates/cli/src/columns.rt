@@ -4,9 +4,9 @@ ghost use Rattle.std.specs.Char.{is_ascii_digit};
 ghost use Rattle.std.specs.List.{list_all};
 ghost use Rattle.cli.specs.Columns.{IsField, IsName};
 
-use crate::calls::number_after;
-use crate::shown_word::ShownWord;
-use std::fmt;
+use crate::error::FieldLabel;
+use conversions::ShownWord;
+use conversions::parameters::number_after;
 
 /// What a word `field:..` names.
 #[derive(Clone, Copy)]
@@ -15,24 +15,6 @@ pub enum Column<'a> {
     Index(usize),
     /// `field:NAME`: the field with this name in the header.
     Name(&'a str),
-}
-
-/// How an error names a field.
-#[derive(Clone, Copy, Debug)]
-pub enum FieldLabel {
-    /// By its 0-based index.
-    Index(usize),
-    /// By its name in the header.
-    Name(ShownWord),
-}
-
-impl fmt::Display for FieldLabel {
-    fn fmt<W: fmt::Write>(&self, f: &mut fmt::Formatter<W>) -> fmt::Result {
-        match self {
-            FieldLabel::Index(index) => write!(f, "field {}", index.saturating_add(1)),
-            FieldLabel::Name(name) => write!(f, "{name}"),
-        }
-    }
 }
 
 /// Returns the 0-based index of the field that a word names.

@@ -4,11 +4,10 @@ ghost use Rattle.cli.specs.Edits.{HasEdit, EditFails, IsEditedLine, EditingFails
 ghost use Rattle.cli.specs.Error.{line_error};
 ghost use Rattle.cli.specs.Fields.{within};
 
-use crate::columns::FieldLabel;
-use crate::conversion::Conversion;
-use crate::error::OperationError;
+use crate::error::FieldLabel;
 use crate::field_conversion::{append_converted, converted};
 use crate::fields::{Cursor, Field};
+use conversions::{Conversion, OperationError};
 use fixed_decimal::{Sink, TextBuf};
 use std::alloc::Global;
 

@@ -1,12 +1,10 @@
 //! The errors of the programs: a line on standard error and an exit status each.
 ghost use Rattle.std.specs.Prelude.{◌≡◌, ◌<◌, ◌≤◌};
-ghost use Rattle.cli.specs.Error.{status_of_words, status_of_operation, status_of_header, status_of, is_output, start_error};
+ghost use Rattle.cli.specs.Error.{status_of_words, status_of_header, status_of, is_output, start_error};
 
-use crate::columns::FieldLabel;
 use crate::help::Program;
-use crate::named_rules::NamedRulesError;
-use crate::shown_word::ShownWord;
-use fixed_decimal::{ParseError, RunError, SinkFault};
+use conversions::{FormError, NamedRulesError, OperationError, Reason, ShownWord};
+use fixed_decimal::SinkFault;
 use plural_rules::RulesError;
 use std::{error, fmt};
 use thiserror::Error;
@@ -46,6 +44,23 @@ pub enum WordsError {
     Memory,
     /// A write of the help failed.
     Output,
+}
+
+impl From<FormError> for WordsError {
+    ghost use Rattle.cli.specs.Error.{words_error};
+
+    ghost from_gives = { λ error result. result ≡ words_error error };
+
+    fn from(error: FormError) -> WordsError {
+        match error {
+            FormError::NoSuchWord(word) => WordsError::NoSuchWord(word),
+            FormError::UnknownLocale(tag) => WordsError::UnknownLocale(tag),
+            FormError::SkeletonSyntax { at } => WordsError::SkeletonSyntax { at },
+            FormError::SkeletonUnsupported(stem) => WordsError::SkeletonUnsupported(stem),
+            FormError::NoReader => WordsError::NoReader,
+            FormError::Memory => WordsError::Memory,
+        }
+    }
 }
 
 /// The error of a program before its work.
@@ -99,112 +114,21 @@ impl WordsError {
     }
 }
 
-/// The reason for which a text or rules are rejected.
-#[derive(Clone, Copy, Debug, PartialEq, Error)]
-pub enum Reason {
-    /// It is not in the grammar.
-    #[error("syntax")]
-    Syntax,
-    /// It is in the grammar, and a number of it is beyond the limits.
-    #[error("limit")]
-    Limit,
+/// How an error names a field.
+#[derive(Clone, Copy, Debug)]
+pub enum FieldLabel {
+    /// By its 0-based index.
+    Index(usize),
+    /// By its name in the header.
+    Name(ShownWord),
 }
 
-/// The error of a text, or of the line that it is a field of. Calls have 0-based numbers.
-#[derive(Clone, Copy, Debug, PartialEq, Error)]
-pub enum OperationError {
-    /// The line has fewer fields.
-    #[error("field")]
-    Field,
-    /// A quote of the line is in the wrong place.
-    #[error("quote")]
-    Quote,
-    /// The text is rejected.
-    #[error("start: {0}")]
-    Start(Reason),
-    /// The operand of this call is rejected.
-    #[error("call {at}: {reason}")]
-    Operand { at: usize, reason: Reason },
-    /// The numbers that this call concatenates overlap.
-    #[error("call {at}: overlap")]
-    Overlap { at: usize },
-    /// The result of this call is beyond the limits.
-    #[error("call {at}: overflow")]
-    Overflow { at: usize },
-    /// The number is scaled or rounded to be formatted, and is beyond the limits.
-    #[error("format: overflow")]
-    FormatOverflow,
-    /// Out of memory.
-    #[error("memory")]
-    Memory,
-    /// A write or the flush of the output failed.
-    #[error("output")]
-    Output,
-}
-
-impl OperationError {
-    /// Returns the exit status.
-    pub fn status(&self) -> u8
-        ensures status { result ≡ status_of_operation self.now }
-        ensures positive { 0 < result }
-        ensures at_most { result ≤ 3 }
-    {
+impl fmt::Display for FieldLabel {
+    fn fmt<W: fmt::Write>(&self, f: &mut fmt::Formatter<W>) -> fmt::Result {
         match self {
-            OperationError::Field
-            | OperationError::Quote
-            | OperationError::Start(_)
-            | OperationError::Operand { .. }
-            | OperationError::Overlap { .. }
-            | OperationError::Overflow { .. }
-            | OperationError::FormatOverflow => 1,
-            OperationError::Memory | OperationError::Output => 3,
+            FieldLabel::Index(index) => write!(f, "field {}", index.saturating_add(1)),
+            FieldLabel::Name(name) => write!(f, "{name}"),
         }
-    }
-}
-
-impl From<RunError> for OperationError {
-    ghost use Rattle.cli.specs.Error.{error_of_run};
-
-    ghost from_gives = { λ error result. result ≡ error_of_run error };
-
-    fn from(error: RunError) -> OperationError {
-        match error {
-            RunError::Start(ParseError::Syntax) => OperationError::Start(Reason::Syntax),
-            RunError::Start(ParseError::Limit) => OperationError::Start(Reason::Limit),
-            RunError::Operand {
-                at,
-                fault: ParseError::Syntax,
-            } => OperationError::Operand {
-                at,
-                reason: Reason::Syntax,
-            },
-            RunError::Operand {
-                at,
-                fault: ParseError::Limit,
-            } => OperationError::Operand {
-                at,
-                reason: Reason::Limit,
-            },
-            RunError::Overlap { at } => OperationError::Overlap { at },
-            RunError::Limit { at } => OperationError::Overflow { at },
-            RunError::Start(ParseError::Memory)
-            | RunError::Operand {
-                fault: ParseError::Memory,
-                ..
-            }
-            | RunError::Memory { .. } => OperationError::Memory,
-            RunError::Sink => OperationError::Output,
-        }
-    }
-}
-
-impl From<SinkFault> for OperationError {
-    ghost use Rattle.cli.specs.declared.error.OperationError.TheVariants.{Output};
-
-    ghost from_gives = { λ _ result. result ≡ Output };
-
-    fn from(_error: SinkFault) -> OperationError {
-        OperationError::Output
     }
 }
 

@@ -12,32 +12,21 @@ ghost use Rattle.cli.specs.Filter.{IsHeader, body_of, replacement, HasConvertedL
 ghost use Rattle.cli.specs.Input.{bytes_left};
 ghost use Rattle.cli.specs.Lines.{Filters, IsConsumed};
 
-use crate::columns::FieldLabel;
-use crate::conversion::{Conversion, convert};
 use crate::diagnostics::Diagnostics;
 use crate::edits::{FieldConversion, edited, first_error};
-use crate::error::{LineError, OperationError, ProgramError};
+use crate::error::{FieldLabel, LineError, ProgramError};
 use crate::field_conversion::{convert_trimmed, converted, write_field, write_replaced};
 use crate::fields::Field;
 use crate::input::LineReader;
 use crate::line_feed::find_line_feed;
+use crate::options::OnError;
 use crate::records::{is_broken, lines_in};
 use crate::targets::Target;
 use crate::trim::body_bounds;
+use conversions::{Conversion, OperationError, convert};
 use fixed_decimal::{Sink, SinkFault};
 use std::alloc::Global;
 use std::io::{ErrorKind, Read};
-
-/// What a filter does at a line whose conversion fails.
-#[derive(Clone, Copy, Debug, PartialEq)]
-pub enum OnError {
-    /// It ends.
-    Stop,
-    /// It reports the error, writes an empty line, and goes on.
-    Skip,
-    /// It reports the error, copies the line, and goes on.
-    Keep,
-}
 
 /// A row of an input that was filtered: a line, or a record of CSV.
 #[derive(Clone, Copy)]

@@ -3,13 +3,13 @@ ghost use Rattle.std.specs.Prelude.{◌≡◌, ◌≢◌, ◌<◌, ◌≤◌, �
 ghost use Rattle.cli.specs.Fields.{within, quoted};
 ghost use Rattle.cli.specs.Headers.{HoldsName, HasName, NoneHas, IsHeaderOf, HasBounds, IsIndexOf, HasNoIndex, has_index, count_before, IsPlaced, AddsField, FieldFails, AreFields, FieldsFail};
 
-use crate::columns::{Column, FieldLabel};
+use crate::columns::Column;
 use crate::edits::{FieldConversion, within};
-use crate::error::HeaderError;
+use crate::error::{FieldLabel, HeaderError};
 use crate::fields::{Field, write_quoted};
-use crate::shown_word::ShownWord;
 use crate::targets::NamedField;
 use crate::trim::text_of;
+use conversions::ShownWord;
 use fixed_decimal::TextBuf;
 use std::alloc::{AllocError, Global};
 

@@ -2,14 +2,24 @@
 ghost use Rattle.std.specs.Prelude.{◌≡◌, ◌≢◌, ℕ, List, Option, Some, None, IfSome, true, false};
 ghost use Rattle.cli.specs.declared.columns.Column.{Column};
 ghost use Rattle.cli.specs.declared.fields.Field.{Field};
-ghost use Rattle.cli.specs.declared.filter.OnError.TheVariants.{Stop};
+ghost use Rattle.cli.specs.declared.options.OnError.TheVariants.{Stop};
 ghost use Rattle.cli.specs.declared.options.Options.{Options};
 ghost use Rattle.cli.specs.Options.{IsDelimiter, none, Adds, AddsParameter, IsOption, AreOptions, HasField, lacks_csv, field_error};
 
 use crate::columns::Column;
 use crate::error::WordsError;
 use crate::fields::Field;
-use crate::filter::OnError;
+
+/// What a filter does at a line whose conversion fails.
+#[derive(Clone, Copy, Debug, PartialEq)]
+pub enum OnError {
+    /// It ends.
+    Stop,
+    /// It reports the error, writes an empty line, and goes on.
+    Skip,
+    /// It reports the error, copies the line, and goes on.
+    Keep,
+}
 
 /// The options of a filter, each of which a word names at most once.
 #[derive(Clone, Copy)]

@@ -13,7 +13,7 @@ use crate::categories::print_categories;
 use crate::diagnostics::{Diagnostics, ErrorLines, conclude};
 use crate::error::{ProgramError, WordsError};
 use crate::help::Program;
-use crate::named_rules::parse_rules;
+use conversions::parse_rules;
 use fixed_decimal::{BufferedOut, Closed};
 use plural_rules::PluralRules;
 use std::alloc::Global;

@@ -2,13 +2,12 @@
 ghost use Rattle.std.specs.Prelude.{◌≡◌, [], None, IfSome, IfOk, IfErr, OnOk};
 ghost use Rattle.cli.specs.Targets.{BeginsWithField, IsSplit, IsGroup, any_name, has_column, have_names, IsOnlyIndex, AreSeveral, AddsNamed, GroupFails, HasMore, MoreFail, NamesTarget, NameNoTarget};
 
-use crate::columns::{Column, FieldLabel};
-use crate::conversion::Conversion;
+use crate::columns::Column;
 use crate::edits::FieldConversion;
-use crate::error::WordsError;
+use crate::error::{FieldLabel, WordsError};
 use crate::fields::Field;
-use crate::shown_word::ShownWord;
 use crate::words::parse_conversion;
+use conversions::{Conversion, ShownWord};
 use std::alloc::Global;
 
 /// What is converted of each line, and how.

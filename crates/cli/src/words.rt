@@ -1,31 +1,12 @@
 //! The conversion that words name: `[read:LOCALE[:lenient][:SKELETON]] [CALL].. [format:LOCALE[:GROUPING|:SKELETON]]`.
-ghost use Rattle.std.specs.Prelude.{◌≡◌, IfOk, IfErr, Some, None, true, false};
+ghost use Rattle.std.specs.Prelude.{◌≡◌, IfOk, IfErr, Some, None};
 ghost use Rattle.std.specs.Option.{option_copied};
-ghost use Rattle.cli.specs.Words.{IsReadWord, IsFormatWord, IsReadSplit, IsFormatSplit};
-ghost use Rattle.cli.specs.Words.{NamesConversion, ConversionFails, StandsFirst, IsErrorOfWord};
+ghost use Rattle.cli.specs.Words.{IsReadSplit, IsFormatSplit, NamesConversion, ConversionFails};
 
 use crate::calls::parse_calls;
-use crate::conversion::Conversion;
 use crate::error::WordsError;
-use crate::format_word::parse_formatter;
-use crate::options::is_option;
-use crate::read_word::parse_reader;
-use crate::shown_word::ShownWord;
+use conversions::{Conversion, is_format_word, is_read_word, parse_formatter, parse_reader};
 use std::alloc::Global;
-
-fn is_read_word(word: &str) -> bool
-    ensures yes { result ≡ true → IsReadWord word.now }
-    ensures no { result ≡ false → ¬ IsReadWord word.now }
-{
-    word.strip_prefix("read:").is_some()
-}
-
-fn is_format_word(word: &str) -> bool
-    ensures yes { result ≡ true → IsFormatWord word.now }
-    ensures no { result ≡ false → ¬ IsFormatWord word.now }
-{
-    word.strip_prefix("format:").is_some()
-}
 
 fn split_read(words: &[String]) -> (Option<&str>, &[String])
     ensures { IsReadSplit words.now (option_copied result.0) result.1.now }
@@ -49,31 +30,6 @@ fn split_format(words: &[String]) -> (Option<&str>, &[String])
         }
     }
     (None, words)
-}
-
-fn stands_first(word: &str) -> bool
-    ensures yes { result ≡ true → StandsFirst word.now }
-    ensures no { result ≡ false → ¬ StandsFirst word.now }
-{
-    is_option(word) || is_read_word(word)
-}
-
-/// Returns the error of a word that names no call, after this number of calls.
-pub fn error_of_word(calls: usize, word: &str) -> WordsError
-    ensures { IsErrorOfWord calls word.now result }
-{
-    let shown = ShownWord::of(word);
-    if is_format_word(word) {
-        return WordsError::Misplaced(shown);
-    }
-    if !stands_first(word) {
-        return WordsError::NoSuchWord(shown);
-    }
-    if calls == 0 {
-        WordsError::Misplaced(shown)
-    } else {
-        WordsError::AfterCall(shown)
-    }
 }
 
 /// Parses words as a conversion.

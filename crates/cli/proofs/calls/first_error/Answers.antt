@@ -1,6 +1,7 @@
 use Rattle.std.proofs.Common.{[], ◌∷◌, ◌++◌, length, refl, string_bytes}
 use Rattle.std.proofs.lemmas.Option.{slice_get_read}
-use Rattle.cli.specs.Calls.{Names, IsUnknown}
+use Rattle.conversions.specs.Calls.{Names}
+use Rattle.cli.specs.Calls.{IsUnknown}
 use Rattle.cli.proofs.Programs.{names_more, taken}
 use Rattle.cli.proofs.calls.first_error.Goals as goal
 

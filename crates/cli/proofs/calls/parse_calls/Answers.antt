@@ -1,6 +1,6 @@
 use Rattle.std.proofs.Common.{length, refl, inl, string_bytes, arith}
 use Rattle.std.proofs.lemmas.Option.{slice_get_read}
-use Rattle.cli.specs.Calls.{Names}
+use Rattle.conversions.specs.Calls.{Names}
 use Rattle.cli.specs.Calls.{IsUnknown}
 use Rattle.cli.proofs.Programs.{names_more, taken}
 use Rattle.cli.proofs.calls.parse_calls.Goals as goal

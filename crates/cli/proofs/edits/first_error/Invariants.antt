@@ -1,5 +1,5 @@
 use Rattle.std.proofs.Common.{◌≢◌}
-use Rattle.cli.specs.declared.error.OperationError.TheVariants.{Output}
+use Rattle.conversions.specs.declared.error.OperationError.TheVariants.{Output}
 use Rattle.cli.proofs.Editing.{Found}
 use Rattle.cli.proofs.edits.first_error.Given as goal
 

@@ -1,8 +1,8 @@
 use Rattle.std.proofs.Common.{◌≡◌, ◌≢◌, List, ℕ, None, true, inl, inr, refl, rules}
-use Rattle.cli.specs.declared.conversion.Conversion.{Conversion}
-use Rattle.cli.specs.declared.error.OperationError.{OperationError}
-use Rattle.cli.specs.declared.error.OperationError.TheVariants.{Memory, Output}
-use Rattle.cli.specs.Conversion.{OperationsFail}
+use Rattle.conversions.specs.declared.conversion.Conversion.{Conversion}
+use Rattle.conversions.specs.declared.error.OperationError.{OperationError}
+use Rattle.conversions.specs.declared.error.OperationError.TheVariants.{Memory, Output}
+use Rattle.conversions.specs.Conversion.{OperationsFail}
 use Rattle.cli.specs.FieldConversion.{LineFails}
 use Rattle.cli.specs.Fields.{within}
 use Rattle.cli.specs.Trim.{text_of}

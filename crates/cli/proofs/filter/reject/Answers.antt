@@ -1,5 +1,5 @@
 use Rattle.std.proofs.Common.{◌≡◌, Err, refl, rules}
-use Rattle.cli.specs.Error.{status_of_operation}
+use Rattle.conversions.specs.Error.{status_of_operation}
 use Rattle.cli.specs.Filter.{filtered_line}
 use Rattle.cli.proofs.FieldLines.{rejected_row}
 use Rattle.cli.proofs.filter.reject.Goals as goal

@@ -1,10 +1,11 @@
-use Rattle.std.proofs.Common.{◌≢◌, List, String, [], inl, inr}
+use Rattle.std.proofs.Common.{◌≢◌, List, String, [], inl, inr, refl}
 use Rattle.std.specs.declared.alloc.Global.{Global}
 use Rattle.cli.specs.declared.error.WordsError.{WordsError}
 use Rattle.cli.specs.declared.error.WordsError.TheVariants.{Memory}
-use Rattle.cli.specs.Calls.{AreCalls}
-use Rattle.cli.specs.Words.{CallsFail, AreNoCalls, ConversionFails}
-use Rattle.cli.proofs.Programs.{err_with}
+use Rattle.cli.specs.Calls.{AreCalls, CallsFail, AreNoCalls}
+use Rattle.cli.specs.Error.{words_error}
+use Rattle.cli.specs.Words.{ConversionFails}
+use Rattle.conversions.proofs.lemmas.words.Results.{err_with}
 use Rattle.cli.proofs.words.parse_conversion.Goals as goal
 
 -- out of memory, each word names a call
@@ -23,7 +24,8 @@ pub returns-in_err-parse_formatter-in-Ok-clause-err : goal.returns-in_err-parse_
 returns-in_err-parse_formatter-in-Ok-clause-err c =
     let residual = c.from_residual-in_err-parse_formatter-in-Ok in
     let failed = c.in_err-parse_formatter-in-Ok in
-    err_with (ConversionFails c.args.words.now) residual.result failed.field-0.0 residual.ensures.1 (record {
+    err_with (ConversionFails c.args.words.now) residual.result (words_error failed.field-0.0)
+    residual.ensures.1 (record {
       read = _;
       others = _;
       calls = _;
@@ -32,7 +34,7 @@ returns-in_err-parse_formatter-in-Ok-clause-err c =
       last = c.split_format.ensures;
       holds = inr (
         (c.in_ok-reader.reader, c.in_ok-reader.ensures.some),
-        inr ((c.in-Ok.calls.items, c.in-Ok.ensures.some), inl failed.ensures.err),
+        inr ((c.in-Ok.calls.items, c.in-Ok.ensures.some), inl (failed.field-0.0, refl, failed.ensures.err)),
       );
     })
 
@@ -42,7 +44,8 @@ returns-in_err-parse_formatter-in-Err-Memory-clause-err c =
     let residual = c.from_residual-in_err-parse_formatter-in-Err-Memory in
     let failed = c.in_err-parse_formatter-in-Err-Memory in
     let none = rw c.in-Err-Memory.field-0-is at c.in-Err-Memory.ensures.err in
-    err_with (ConversionFails c.args.words.now) residual.result failed.field-0.0 residual.ensures.1 (record {
+    err_with (ConversionFails c.args.words.now) residual.result (words_error failed.field-0.0)
+    residual.ensures.1 (record {
       read = _;
       others = _;
       calls = _;
@@ -51,6 +54,6 @@ returns-in_err-parse_formatter-in-Err-Memory-clause-err c =
       last = c.split_format.ensures;
       holds = inr (
         (c.in_ok-reader.reader, c.in_ok-reader.ensures.some),
-        inr ((all_calls _ none).0, inl failed.ensures.err),
+        inr ((all_calls _ none).0, inl (failed.field-0.0, refl, failed.ensures.err)),
       );
     })

@@ -6,7 +6,7 @@ use Rattle.cli.specs.Edits.{EditingFails}
 use Rattle.cli.specs.Error.{line_error}
 use Rattle.cli.specs.FieldConversion.{LineFails}
 use Rattle.cli.specs.Filter.{body_of, ConvertingFails}
-use Rattle.cli.specs.declared.error.OperationError.TheVariants.{Output}
+use Rattle.conversions.specs.declared.error.OperationError.TheVariants.{Output}
 use Rattle.cli.specs.declared.targets.Target.TheVariants.{One, Fields}
 use Rattle.cli.proofs.FieldLines.{converted_line, converted_one, converting_fails, err_weaker}
 use Rattle.cli.proofs.filter.Filter.convert.Goals as goal

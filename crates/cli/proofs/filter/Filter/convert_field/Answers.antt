@@ -4,7 +4,7 @@ use Rattle.std.specs.Io.KnownBytes.{Appends}
 use Rattle.decimal_digits.specs.AppendsPrefix.{AppendsPrefix}
 use Rattle.cli.specs.Fields.{within}
 use Rattle.cli.specs.FieldConversion.{LineFails, with_text}
-use Rattle.cli.specs.declared.error.OperationError.TheVariants.{Output}
+use Rattle.conversions.specs.declared.error.OperationError.TheVariants.{Output}
 use Rattle.cli.proofs.FieldLines.{field_line, line_fails, line_result}
 use Rattle.cli.proofs.filter.Filter.convert_field.Goals as goal
 

@@ -2,12 +2,12 @@ use Rattle.std.proofs.Common.{◌≢◌, None, true}
 use Rattle.std.proofs.lemmas.Result.{on_ok_weaker}
 use Rattle.std.specs.Io.KnownBytes.{Appends}
 use Rattle.decimal_digits.specs.AppendsPrefix.{AppendsPrefix}
-use Rattle.cli.specs.Conversion.{OperationsFail}
+use Rattle.conversions.specs.Conversion.{OperationsFail}
 use Rattle.cli.specs.FieldConversion.{LineFails}
 use Rattle.cli.specs.Fields.{within}
 use Rattle.cli.specs.Filter.{body_of}
 use Rattle.cli.specs.Trim.{body_bounds}
-use Rattle.cli.specs.declared.error.OperationError.TheVariants.{Output}
+use Rattle.conversions.specs.declared.error.OperationError.TheVariants.{Output}
 use Rattle.cli.proofs.FieldLines.{one_line, one_fails, plain_line, plain_fails, err_weaker}
 use Rattle.cli.proofs.filter.Filter.convert_one.Goals as goal
 
