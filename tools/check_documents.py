@@ -186,7 +186,7 @@ def specs_of_run():
 
 def check_help():
     """PROGRAMS and `--help` say the same of each call."""
-    calls = re.search(r'const CALLS: &str = "\n(.*?)\n\n', CODE["crates/cli/src/help.rt"], re.S)[1]
+    calls = re.search(r'const CALLS: &str = "\n(.*?)\n\n', CODE["crates/cli/src/program/help.rt"], re.S)[1]
     table = re.search(r"## Calls\n(.*?)\n\nP is", read("docs/PROGRAMS.md"), re.S)[1]
     rows = re.findall(r"^\| `(.*?)` \| (.*?) \|", table, re.M)
     check(rows == re.findall(r"^(\S+) +(.*)", calls, re.M), f"PROGRAMS: the calls are not those of --help: {rows}")
@@ -197,7 +197,7 @@ def check_versions():
     interface = re.search(r"^#define FD_VERSION (\d+)$", read("c/fixed_decimal.h"), re.M)[1]
     for text in [f"libfixed_decimal.so.{interface},", f"it is {interface}, as `FD_VERSION`"]:
         check(text in read("docs/C.md"), f"docs/C.md: {text}")
-    version = re.search(r'const VERSION: &str = "(.*)";', CODE["crates/cli/src/help.rt"])[1]
+    version = re.search(r'const VERSION: &str = "(.*)";', CODE["crates/cli/src/program/help.rt"])[1]
     check(f"`plural {version}`" in read("docs/PROGRAMS.md"), f"docs/PROGRAMS.md: `plural {version}`")
 
 

@@ -6,8 +6,8 @@ use Rattle.conversions.specs.Calls.{Names}
 use Rattle.conversions.specs.FormatWord.{IsFormatWord}
 use Rattle.conversions.specs.ReadWord.{IsReadWord}
 use Rattle.conversions.specs.ShownWord.{IsShown}
-use Rattle.cli.specs.declared.error.WordsError.{WordsError}
-use Rattle.cli.specs.declared.error.WordsError.TheVariants.{NoSuchWord, AfterCall, Misplaced, Memory}
+use Rattle.cli.specs.declared.program.error.WordsError.{WordsError}
+use Rattle.cli.specs.declared.program.error.WordsError.TheVariants.{NoSuchWord, AfterCall, Misplaced, Memory}
 use Rattle.cli.specs.Options.{IsOption}
 
 -- the words name these calls, one by one

@@ -9,16 +9,16 @@ use Rattle.conversions.specs.declared.error.Reason.TheVariants.{Syntax, Limit}
 use Rattle.conversions.specs.declared.named_rules.NamedRulesError.{NamedRulesError}
 use Rattle.conversions.specs.declared.named_rules.NamedRulesError.TheVariants.{UnknownLocale, UnknownType, Rules}
 use Rattle.conversions.specs.Error.{status_of_operation}
-use Rattle.cli.specs.declared.error.FieldLabel.{FieldLabel}
-use Rattle.cli.specs.declared.error.HeaderError.{HeaderError}
-use Rattle.cli.specs.declared.error.HeaderError.TheVariants as header
-use Rattle.cli.specs.declared.error.LineError.{LineError}
-use Rattle.cli.specs.declared.error.ProgramError.{ProgramError}
-use Rattle.cli.specs.declared.error.ProgramError.TheVariants as program
-use Rattle.cli.specs.declared.error.WordsError.{WordsError}
-use Rattle.cli.specs.declared.error.WordsError.TheVariants as words
-use Rattle.cli.specs.declared.help.Program.{Program}
-use Rattle.cli.specs.declared.help.Program.TheVariants.{Plural}
+use Rattle.cli.specs.declared.program.error.FieldLabel.{FieldLabel}
+use Rattle.cli.specs.declared.program.error.HeaderError.{HeaderError}
+use Rattle.cli.specs.declared.program.error.HeaderError.TheVariants as header
+use Rattle.cli.specs.declared.program.error.LineError.{LineError}
+use Rattle.cli.specs.declared.program.error.ProgramError.{ProgramError}
+use Rattle.cli.specs.declared.program.error.ProgramError.TheVariants as program
+use Rattle.cli.specs.declared.program.error.WordsError.{WordsError}
+use Rattle.cli.specs.declared.program.error.WordsError.TheVariants as words
+use Rattle.cli.specs.declared.program.help.Program.{Program}
+use Rattle.cli.specs.declared.program.help.Program.TheVariants.{Plural}
 
 -- an error of a line, of this field if it is that of one
 abbrev pub line_error : Option FieldLabel → OperationError → LineError

@@ -3,7 +3,7 @@ use Rattle.std.specs.Prelude.{◌≡◌, ◌⊎◌, ℕ, ◌&&◌, not, Bool, tr
 use Rattle.conversions.specs.declared.conversion.Conversion.{Conversion}
 use Rattle.conversions.specs.declared.error.OperationError.{OperationError}
 use Rattle.conversions.specs.declared.error.OperationError.TheVariants.{Memory, Output, Quote}
-use Rattle.cli.specs.declared.fields.Field.{Field}
+use Rattle.cli.specs.declared.lines.fields.Field.{Field}
 use Rattle.conversions.specs.Conversion.{ConversionError, IsOutcome, OperationsFail, error_of}
 use Rattle.cli.specs.Fields.{is_quoted, Holds, located, within, replaced, bytes_of}
 use Rattle.cli.specs.Trim.{text_of, with_text_of}

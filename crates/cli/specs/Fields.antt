@@ -5,8 +5,8 @@ use Rattle.std.specs.Io.BufRead.{strip_last}
 use Rattle.memchr.specs.Find.{matches, first_of}
 use Rattle.conversions.specs.declared.error.OperationError.{OperationError}
 use Rattle.conversions.specs.declared.error.OperationError.TheVariants as operation
-use Rattle.cli.specs.declared.fields.Cursor.{Cursor}
-use Rattle.cli.specs.declared.fields.Field.{Field}
+use Rattle.cli.specs.declared.lines.fields.Cursor.{Cursor}
+use Rattle.cli.specs.declared.lines.fields.Field.{Field}
 
 -- ---- Where a field is.
 

@@ -7,15 +7,15 @@ use Rattle.std.specs.declared.io.ErrorKind.TheVariants.{OutOfMemory}
 use Rattle.decimal_digits.specs.AppendsPrefix.{AppendsPrefix}
 use Rattle.conversions.specs.declared.error.OperationError.{OperationError}
 use Rattle.conversions.specs.declared.error.OperationError.TheVariants as operation
-use Rattle.cli.specs.declared.error.ProgramError.{ProgramError}
-use Rattle.cli.specs.declared.error.ProgramError.TheVariants.{Line, LongLine, Input, Output}
-use Rattle.cli.specs.declared.filter.Filter.{Filter}
-use Rattle.cli.specs.declared.filter.FilteredRow.{FilteredRow}
-use Rattle.cli.specs.declared.options.OnError.{OnError}
-use Rattle.cli.specs.declared.options.OnError.TheVariants.{Stop, Keep}
-use Rattle.cli.specs.declared.error.LineError.{LineError}
-use Rattle.cli.specs.declared.targets.Target.{Target}
-use Rattle.cli.specs.declared.targets.Target.TheVariants.{One, Fields}
+use Rattle.cli.specs.declared.program.error.ProgramError.{ProgramError}
+use Rattle.cli.specs.declared.program.error.ProgramError.TheVariants.{Line, LongLine, Input, Output}
+use Rattle.cli.specs.declared.lines.filter.Filter.{Filter}
+use Rattle.cli.specs.declared.lines.rows.FilteredRow.{FilteredRow}
+use Rattle.cli.specs.declared.words.options.OnError.{OnError}
+use Rattle.cli.specs.declared.words.options.OnError.TheVariants.{Stop, Keep}
+use Rattle.cli.specs.declared.program.error.LineError.{LineError}
+use Rattle.cli.specs.declared.words.targets.Target.{Target}
+use Rattle.cli.specs.declared.words.targets.Target.TheVariants.{One, Fields}
 use Rattle.cli.specs.Edits.{IsEditedLine, EditingFails}
 use Rattle.conversions.specs.Error.{status_of_operation}
 use Rattle.cli.specs.Error.{error_of_line}

@@ -4,10 +4,10 @@ use Rattle.std.specs.List.{FoldsTo, list_all}
 use Rattle.std.specs.Io.KnownBytes.{Appends, append_known}
 use Rattle.std.specs.declared.io.ErrorKind.{ErrorKind}
 use Rattle.decimal_digits.specs.AppendsPrefix.{AppendsPrefix}
-use Rattle.cli.specs.declared.error.ProgramError.{ProgramError}
-use Rattle.cli.specs.declared.error.ProgramError.TheVariants.{Line, LongLine, Input, Output}
-use Rattle.cli.specs.declared.filter.Filter.{Filter}
-use Rattle.cli.specs.declared.options.OnError.TheVariants.{Stop}
+use Rattle.cli.specs.declared.program.error.ProgramError.{ProgramError}
+use Rattle.cli.specs.declared.program.error.ProgramError.TheVariants.{Line, LongLine, Input, Output}
+use Rattle.cli.specs.declared.lines.filter.Filter.{Filter}
+use Rattle.cli.specs.declared.words.options.OnError.TheVariants.{Stop}
 use Rattle.cli.specs.Filter.{Change, Effects, FilteredLine, lines_of_row, IsResultOfRow, output_of_line, errors_of_line, IsErrorOfReading, IsErrorOfLine}
 use Rattle.cli.specs.Records.{records_of}
 use Rattle.conversions.specs.Lines.{lines_of}

@@ -7,8 +7,8 @@ use Rattle.conversions.specs.declared.locale_formatter.LocaleFormatter.{LocaleFo
 use Rattle.conversions.specs.declared.reader.LocaleReader.{LocaleReader}
 use Rattle.conversions.specs.FormatWord.{IsFormatWord, NamesFormatter, FormatterFails}
 use Rattle.conversions.specs.ReadWord.{IsReadWord, NamesReader, ReaderFails}
-use Rattle.cli.specs.declared.error.WordsError.{WordsError}
-use Rattle.cli.specs.declared.error.WordsError.TheVariants.{Memory}
+use Rattle.cli.specs.declared.program.error.WordsError.{WordsError}
+use Rattle.cli.specs.declared.program.error.WordsError.TheVariants.{Memory}
 use Rattle.cli.specs.Calls.{NameAll, AreCalls, CallsFail}
 use Rattle.cli.specs.Error.{words_error}
 

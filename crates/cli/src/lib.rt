@@ -3,41 +3,24 @@
 //! Each module of a program has `execute`, the body of its `main`.
 #![tactic(auto)]
 
-mod arguments;
-mod calls;
-mod categories;
-mod columns;
-mod diagnostics;
-mod edits;
-mod error;
-mod field_conversion;
-mod fields;
-mod filter;
 pub mod fixdec;
 pub mod fixdec_lines;
-mod headers;
-mod help;
-mod input;
-mod line_feed;
-mod locale_list;
-mod named_filter;
-mod options;
+mod lines;
 pub mod plural;
-mod records;
-mod targets;
-mod trim;
+mod program;
 mod words;
 
-pub use calls::parse_calls;
 pub use conversions::{Conversion, OperationError, Reason, ShownWord, convert};
-pub use diagnostics::{Diagnostics, ErrorLines};
-pub use edits::FieldConversion;
-pub use error::{
+pub use lines::edits::FieldConversion;
+pub use lines::fields::Field;
+pub use lines::filter::Filter;
+pub use lines::input::LineReader;
+pub use lines::rows::filter_lines;
+pub use program::diagnostics::{Diagnostics, ErrorLines};
+pub use program::error::{
     FieldLabel, HeaderError, LineError, ProgramError, StartError, WordsError,
 };
-pub use fields::Field;
-pub use filter::{Filter, filter_lines};
-pub use help::Program;
-pub use input::LineReader;
-pub use options::OnError;
-pub use targets::Target;
+pub use program::help::Program;
+pub use words::calls::parse_calls;
+pub use words::options::OnError;
+pub use words::targets::Target;
