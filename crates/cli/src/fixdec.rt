@@ -10,12 +10,12 @@ ghost use Rattle.cli.specs.Fixdec.{HasError, WordsFail, NamesRun, PrintsLine, Pr
 ghost use Rattle.cli.specs.Diagnostics.{IsReported};
 ghost use Rattle.cli.specs.Arguments.{PrintsFor, ArgumentsFail};
 
-use conversions::{Conversion, OperationError, convert};
 use crate::program::arguments::start;
 use crate::program::diagnostics::{Diagnostics, ErrorLines};
 use crate::program::error::{ProgramError, WordsError};
 use crate::program::help::Program;
 use crate::words::conversion::parse_conversion;
+use conversions::{Conversion, OperationError, convert};
 use fixed_decimal::{Closed, Out, Sink};
 use std::alloc::Global;
 use std::env::Args;

@@ -10,12 +10,12 @@ ghost use Rattle.cli.specs.Arguments.{PrintsFor, ArgumentsFail};
 
 mod categories;
 
-use conversions::parse_rules;
 use crate::plural::categories::print_categories;
 use crate::program::arguments::start;
 use crate::program::diagnostics::{Diagnostics, ErrorLines, conclude};
 use crate::program::error::{ProgramError, WordsError};
 use crate::program::help::Program;
+use conversions::parse_rules;
 use fixed_decimal::{BufferedOut, Closed};
 use plural_rules::PluralRules;
 use std::alloc::Global;

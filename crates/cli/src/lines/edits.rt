@@ -4,10 +4,10 @@ ghost use Rattle.cli.specs.Edits.{HasEdit, EditFails, IsEditedLine, EditingFails
 ghost use Rattle.cli.specs.Error.{line_error};
 ghost use Rattle.cli.specs.Fields.{within};
 
-use conversions::{Conversion, OperationError};
 use crate::lines::field_conversion::{append_converted, converted};
 use crate::lines::fields::{Cursor, Field};
 use crate::program::error::FieldLabel;
+use conversions::{Conversion, OperationError};
 use fixed_decimal::{Sink, TextBuf};
 use std::alloc::Global;
 

@@ -6,9 +6,9 @@ ghost use Rattle.cli.specs.Fields.{within, replaced, bytes_of};
 ghost use Rattle.cli.specs.FieldConversion.{IsTextResult, is_trimmed, IsFieldResult, HasFieldText, with_text, HasLineText, LineFails};
 ghost use Rattle.cli.specs.Trim.{with_text_of};
 
-use conversions::{Conversion, OperationError, convert};
 use crate::lines::fields::Field;
 use crate::lines::trim::{text_of, trimmed_bounds};
+use conversions::{Conversion, OperationError, convert};
 use fixed_decimal::{Sink, SinkFault, TextBuf};
 use std::alloc::Global;
 

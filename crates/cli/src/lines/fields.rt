@@ -7,8 +7,8 @@ ghost use Rattle.decimal_digits.specs.AppendsPrefix.{AppendsPrefix};
 ghost use Rattle.cli.specs.Fields.{is_quote, are_closed, is_outside, at_index, bounds, has_open_quote, bounds_after, IsStart, IsNext, IsCursor, double, doubled, between_quotes, quoted, Holds};
 ghost use Rattle.cli.specs.Fields.{is_quoted, is_special, needs_quotes, bytes_of, record_of, located};
 
-use conversions::OperationError;
 use crate::lines::trim::without_return;
+use conversions::OperationError;
 use decimal_digits::sink::{Sink, SinkFault};
 use memchr::memmem;
 use std::alloc::{AllocError, Global};

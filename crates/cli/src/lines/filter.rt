@@ -10,7 +10,6 @@ ghost use Rattle.cli.specs.Fields.{replaced};
 ghost use Rattle.cli.specs.Trim.{body_bounds};
 ghost use Rattle.cli.specs.Filter.{IsHeader, body_of, replacement, HasConvertedLine, ConvertingFails, HasText, ConversionFails, HasRowText, RowFails, lines_of_row};
 
-use conversions::{Conversion, OperationError, convert};
 use crate::lines::edits::{FieldConversion, edited, first_error};
 use crate::lines::field_conversion::{convert_trimmed, converted, write_field, write_replaced};
 use crate::lines::fields::Field;
@@ -20,6 +19,7 @@ use crate::lines::trim::body_bounds;
 use crate::program::error::FieldLabel;
 use crate::words::options::OnError;
 use crate::words::targets::Target;
+use conversions::{Conversion, OperationError, convert};
 use fixed_decimal::{Sink, SinkFault};
 use std::alloc::Global;
 

@@ -3,13 +3,13 @@ ghost use Rattle.std.specs.Prelude.{◌≡◌, ◌≢◌, ◌<◌, ◌≤◌, �
 ghost use Rattle.cli.specs.Fields.{within, quoted};
 ghost use Rattle.cli.specs.Headers.{HoldsName, HasName, NoneHas, IsHeaderOf, HasBounds, IsIndexOf, HasNoIndex, has_index, count_before, IsPlaced, AddsField, FieldFails, AreFields, FieldsFail};
 
-use conversions::ShownWord;
 use crate::lines::edits::{FieldConversion, within};
 use crate::lines::fields::{Field, write_quoted};
 use crate::lines::trim::text_of;
 use crate::program::error::{FieldLabel, HeaderError};
 use crate::words::columns::Column;
 use crate::words::targets::NamedField;
+use conversions::ShownWord;
 use fixed_decimal::TextBuf;
 use std::alloc::{AllocError, Global};
 

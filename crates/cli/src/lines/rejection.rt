@@ -2,11 +2,11 @@
 ghost use Rattle.std.specs.Prelude.{◌≡◌, ◌≢◌, Err, true};
 ghost use Rattle.cli.specs.Filter.{RowFails, with_error, FiltersLine};
 
-use conversions::OperationError;
 use crate::lines::filter::{Filter, copy_line};
 use crate::program::diagnostics::Diagnostics;
 use crate::program::error::{LineError, ProgramError};
 use crate::words::options::OnError;
+use conversions::OperationError;
 use fixed_decimal::Sink;
 use std::alloc::Global;
 

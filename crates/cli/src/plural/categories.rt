@@ -9,9 +9,9 @@ ghost use Rattle.cli.specs.Categories.{IsLongText, read_category, category_line}
 ghost use Rattle.cli.specs.Categories.{TextFails, PrintsAll, StopsAt};
 ghost use Rattle.cli.specs.declared.program.error.ProgramError.{ProgramError};
 
-use conversions::Reason;
 use crate::program::error::{ProgramError, WordsError};
 use crate::program::help::Program;
+use conversions::Reason;
 use fixed_decimal::{CompactDecimal, Decimal, ParseError, Sink, SinkFault};
 use plural_rules::{PluralCategory, PluralOperands, PluralRules};
 use std::alloc::Global;

@@ -7,8 +7,8 @@ use crate::program::help::{Program, Request};
 use fixed_decimal::Closed;
 use std::alloc::Global;
 use std::env::Args;
-use std::io::{ErrorKind, Write};
 use std::io;
+use std::io::{ErrorKind, Write};
 
 fn words(alloc: Global, arguments: io::Result<Args>) -> Result<Vec<String>, WordsError>
     ensures words { IfOk result (λ words. HaveWords arguments (λ all. words.items ≡ all)) }

@@ -3,8 +3,8 @@ ghost use Rattle.std.specs.Prelude.{◌≡◌, ◌<◌, ◌≤◌, None, is_some
 ghost use Rattle.cli.specs.Diagnostics.{IsErrorLine, Reports, is_closed_pipe, IsFailure, Concludes};
 ghost use Rattle.cli.specs.Error.{status_of};
 
-use arrayvec::ArrayString;
 use crate::program::error::ProgramError;
+use arrayvec::ArrayString;
 use fixed_decimal::{Closed, WriteError, write_whole};
 use std::fmt::{Display, InlineText};
 use std::io::{ErrorKind, Write};

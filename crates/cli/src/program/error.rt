@@ -2,8 +2,8 @@
 ghost use Rattle.std.specs.Prelude.{◌≡◌, ◌<◌, ◌≤◌};
 ghost use Rattle.cli.specs.Error.{status_of_words, status_of_header, status_of, is_output, start_error};
 
-use conversions::{FormError, NamedRulesError, OperationError, Reason, ShownWord};
 use crate::program::help::Program;
+use conversions::{FormError, NamedRulesError, OperationError, Reason, ShownWord};
 use fixed_decimal::SinkFault;
 use plural_rules::RulesError;
 use std::{error, fmt};

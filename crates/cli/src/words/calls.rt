@@ -2,9 +2,9 @@
 ghost use Rattle.std.specs.Prelude.{◌≡◌, IfOk, IfErr, IfSome, None, true, false};
 ghost use Rattle.cli.specs.Calls.{NameAll, AreCalls, StandsFirst, IsErrorOfWord, CallsFail, AreNoCalls};
 
-use conversions::{ShownWord, call, is_format_word, is_read_word};
 use crate::program::error::WordsError;
 use crate::words::options::is_option;
+use conversions::{ShownWord, call, is_format_word, is_read_word};
 use fixed_decimal::Call;
 use std::alloc::Global;
 

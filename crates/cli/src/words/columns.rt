@@ -4,9 +4,9 @@ ghost use Rattle.std.specs.Char.{is_ascii_digit};
 ghost use Rattle.std.specs.List.{list_all};
 ghost use Rattle.cli.specs.Columns.{IsField, IsName};
 
+use crate::program::error::FieldLabel;
 use conversions::ShownWord;
 use conversions::parameters::number_after;
-use crate::program::error::FieldLabel;
 
 /// What a word `field:..` names.
 #[derive(Clone, Copy)]

@@ -3,9 +3,9 @@ ghost use Rattle.std.specs.Prelude.{◌≡◌, IfOk, IfErr, Some, None};
 ghost use Rattle.std.specs.Option.{option_copied};
 ghost use Rattle.cli.specs.Words.{IsReadSplit, IsFormatSplit, NamesConversion, ConversionFails};
 
-use conversions::{Conversion, is_format_word, is_read_word, parse_formatter, parse_reader};
 use crate::program::error::WordsError;
 use crate::words::calls::parse_calls;
+use conversions::{Conversion, is_format_word, is_read_word, parse_formatter, parse_reader};
 use std::alloc::Global;
 
 fn split_read(words: &[String]) -> (Option<&str>, &[String])
