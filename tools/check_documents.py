@@ -7,19 +7,14 @@ import sys
 import tempfile
 
 CRATES = ["decimal_digits", "decimal_unsigned", "fixed_decimal", "decimal_format", "plural_rules", "locale_data",
-          "number_format", "cli", "fixed_decimal_c"]
+          "number_format", "conversions", "cli", "fixed_decimal_c"]
 LIBRARIES = [*CRATES[:4], "locale_data", "number_format"]
 # Crates whose proofs cite of the libraries only the lemmas for callers.
-CALLERS = ["uses", "plural_rules", "decimal_format", "locale_data", "number_format", "cli", "fixed_decimal_c"]
+CALLERS = ["uses", "plural_rules", "decimal_format", "locale_data", "number_format", "conversions", "cli",
+           "fixed_decimal_c"]
 # Modules and functions that are public for the crates of this repository alone.
-<<<<<<< HEAD
-INTERNAL = re.compile(r"/src/(?:rounding/|digits/packed/|digits/steps|ops|uint_iterator|block|decimal/parse/|reader/|rows|tag|\w+_table)")
-HIDDEN = {"from_bcd_digits", "from_short_text", "scan_from", "lowest_of", "NO_FORMATS"}
-=======
 INTERNAL = re.compile(r"/src/(?:rounding/|digits/packed/|digits/steps|ops|uint_iterator|block|decimal/parse/|reader/|search|tag|tables/)")
 HIDDEN = {"from_bcd_digits", "from_short_text", "scan_from", "lowest_of"}
-NAME = re.compile(r"[A-Za-z_][\w:<>&', ]*(\([\w:<>&', ]*\))?")
->>>>>>> C
 OUTSIDE = re.compile(r"\b(?:document|paper|issue|session|request|promise|definition) \d|\b[DTRW]\d{1,2}\b"
                      r"|/(?:work|tmp|root|home)/")
 
@@ -173,7 +168,7 @@ def specs_of_run():
 
 def check_help():
     """PROGRAMS and `--help` say the same of each call."""
-    calls = re.search(r'const CALLS: &str = "\n(.*?)\n\n', CODE["crates/cli/src/help.rt"], re.S)[1]
+    calls = re.search(r'const CALLS: &str = "\n(.*?)\n\n', CODE["crates/cli/src/program/help.rt"], re.S)[1]
     table = re.search(r"## Calls\n(.*?)\n\nP is", read("docs/PROGRAMS.md"), re.S)[1]
     rows = re.findall(r"^\| `(.*?)` \| (.*?) \|", table, re.M)
     check(rows == re.findall(r"^(\S+) +(.*)", calls, re.M), f"PROGRAMS: the calls are not those of --help: {rows}")
@@ -184,7 +179,7 @@ def check_versions():
     interface = re.search(r"^#define FD_VERSION (\d+)$", read("c/fixed_decimal.h"), re.M)[1]
     for text in [f"libfixed_decimal.so.{interface},", f"it is {interface}, as `FD_VERSION`"]:
         check(text in read("docs/C.md"), f"docs/C.md: {text}")
-    version = re.search(r'const VERSION: &str = "(.*)";', CODE["crates/cli/src/help.rt"])[1]
+    version = re.search(r'const VERSION: &str = "(.*)";', CODE["crates/cli/src/program/help.rt"])[1]
     check(f"`plural {version}`" in read("docs/PROGRAMS.md"), f"docs/PROGRAMS.md: `plural {version}`")
 
 

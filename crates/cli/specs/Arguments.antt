@@ -7,14 +7,14 @@ use Rattle.std.specs.declared.alloc.Global.{Global}
 use Rattle.std.specs.declared.vec.IntoIter.{IntoIter}
 use Rattle.std.specs.declared.io.Error.{Error}
 use Rattle.std.specs.declared.io.ErrorKind.TheVariants.{OutOfMemory}
-use Rattle.cli.specs.declared.error.WordsError.{WordsError}
-use Rattle.cli.specs.declared.error.WordsError.TheVariants.{NotText, Memory, Output}
-use Rattle.cli.specs.declared.error.ProgramError.{ProgramError}
-use Rattle.cli.specs.declared.error.ProgramError.TheVariants.{Start}
-use Rattle.cli.specs.declared.help.Program.{Program}
-use Rattle.cli.specs.declared.help.Program.TheVariants.{Fixdec, FixdecLines}
-use Rattle.cli.specs.declared.help.Request.{Request}
-use Rattle.cli.specs.declared.help.Request.TheVariants.{Help, Version, Locales}
+use Rattle.cli.specs.declared.program.error.WordsError.{WordsError}
+use Rattle.cli.specs.declared.program.error.WordsError.TheVariants.{NotText, Memory, Output}
+use Rattle.cli.specs.declared.program.error.ProgramError.{ProgramError}
+use Rattle.cli.specs.declared.program.error.ProgramError.TheVariants.{Start}
+use Rattle.cli.specs.declared.program.help.Program.{Program}
+use Rattle.cli.specs.declared.program.help.Program.TheVariants.{Fixdec, FixdecLines}
+use Rattle.cli.specs.declared.program.help.Request.{Request}
+use Rattle.cli.specs.declared.program.help.Request.TheVariants.{Help, Version, Locales}
 use Rattle.cli.specs.Help.{answer_of}
 
 -- the arguments, or the error of reading them

@@ -1,101 +1,14 @@
--- The call that each word of a command line names, by its bytes.
-use Rattle.std.specs.Prelude.{◌≡◌, ℕ, ◌==◌, ◌&&◌, ⊤, Bool, nat_le, nat_lt, if◌then◌else◌, ℤ, pos, neg_ℤ, List, [], ◌∷◌, ◌++◌, length, take, drop, slice_index, slice_get, codes, String, string_bytes, Option, Some, None, option_map}
-use Rattle.std.specs.Str.{all_ascii_digits}
-use Rattle.std.specs.Str.Parse.{digits_value}
+-- The calls that words name, and the error of a word that names none.
+use Rattle.std.specs.Prelude.{◌≡◌, ◌≢◌, ◌⊎◌, ℕ, ◌<◌, ⊤, List, [], ◌∷◌, take, slice_get, String, string_bytes, Some}
 use Rattle.std.specs.declared.alloc.Global.{Global}
-use Rattle.decimal_digits.specs.Ascii.{minus_sign}
-use Rattle.decimal_digits.specs.declared.rounding.UnsignedRoundingMode.TheVariants as unsigned
-use Rattle.fixed_decimal.specs.declared.rounding.SignedRoundingMode.{SignedRoundingMode}
-use Rattle.fixed_decimal.specs.declared.rounding.SignedRoundingMode.TheVariants as mode
-use Rattle.decimal_digits.specs.declared.rounding.RoundingIncrement.{RoundingIncrement}
-use Rattle.decimal_digits.specs.declared.rounding.RoundingIncrement.TheVariants.{MultiplesOf1, MultiplesOf2, MultiplesOf5, MultiplesOf25}
-use Rattle.fixed_decimal.specs.declared.variations.Sign.{Sign}
-use Rattle.fixed_decimal.specs.declared.variations.Sign.TheVariants as sign
-use Rattle.fixed_decimal.specs.declared.variations.SignDisplay.{SignDisplay}
-use Rattle.fixed_decimal.specs.declared.variations.SignDisplay.TheVariants as display
 use Rattle.fixed_decimal.specs.declared.runs.Call.{Call}
-use Rattle.fixed_decimal.specs.declared.runs.Call.TheVariants.{MultiplyPow10, TrimStart, TrimEnd, TrimEndIfInteger, PadStart, PadEnd, SetMaxPosition, Round, SetSign, ApplySignDisplay, Concatenate}
-
--- ---- Parameters.
-
--- one to six digits and nothing else
-abbrev pub are_digits : List ℕ → Bool
-are_digits bytes = all_ascii_digits bytes && (nat_lt 0 (length bytes) && nat_le (length bytes) 6)
-
--- the number of one to six digits, if it is at most `most`
-abbrev pub digits_up_to : ℕ → List ℕ → Option ℕ
-digits_up_to most bytes =
-    if are_digits bytes && nat_le (digits_value 10 bytes) most then Some (digits_value 10 bytes) else None
-
--- the number of an optional minus and one to six digits, from -32768 to 32767
-abbrev pub number : List ℕ → Option ℤ
-number bytes =
-    if slice_index bytes 0 == minus_sign
-    then option_map (λ n. neg_ℤ (pos n)) (digits_up_to 32768 (drop 1 bytes))
-    else option_map pos (digits_up_to 32767 bytes)
-
--- the word of a mode
-abbrev pub mode_word : SignedRoundingMode → List ℕ
-mode_word mode.Ceil = codes "ceil"
-mode_word mode.Floor = codes "floor"
-mode_word (mode.Unsigned unsigned.Expand) = codes "expand"
-mode_word (mode.Unsigned unsigned.Trunc) = codes "trunc"
-mode_word mode.HalfCeil = codes "half-ceil"
-mode_word mode.HalfFloor = codes "half-floor"
-mode_word (mode.Unsigned unsigned.HalfExpand) = codes "half-expand"
-mode_word (mode.Unsigned unsigned.HalfTrunc) = codes "half-trunc"
-mode_word (mode.Unsigned unsigned.HalfEven) = codes "half-even"
-
--- the word of an increment
-abbrev pub increment_word : RoundingIncrement → List ℕ
-increment_word MultiplesOf1 = codes "1"
-increment_word MultiplesOf2 = codes "2"
-increment_word MultiplesOf5 = codes "5"
-increment_word MultiplesOf25 = codes "25"
-
--- the word of a sign
-abbrev pub sign_word : Sign → List ℕ
-sign_word sign.None = codes "none"
-sign_word sign.Negative = codes "minus"
-sign_word sign.Positive = codes "plus"
-
--- the word of a sign display
-abbrev pub display_word : SignDisplay → List ℕ
-display_word display.Auto = codes "auto"
-display_word display.Never = codes "never"
-display_word display.Always = codes "always"
-display_word display.ExceptZero = codes "except-zero"
-display_word display.Negative = codes "negative"
-
--- ---- Words.
-
--- a name with its colon, and then this number
-abbrev pub HasNumber : List ℕ → List ℕ → ℤ → Type 0
-HasNumber name word n = (digits : List ℕ) × (word ≡ name ++ digits) × (number digits ≡ Some n)
-
--- the word names this call; the text of `concat` is all that follows the first colon
-abbrev pub Names : List ℕ → Call → Type 0
-Names word (MultiplyPow10 delta) = HasNumber (codes "shift:") word delta
-Names word TrimStart = word ≡ codes "trim-start"
-Names word TrimEnd = word ≡ codes "trim-end"
-Names word TrimEndIfInteger = word ≡ codes "trim-end-if-integer"
-Names word (PadStart position) = HasNumber (codes "pad-start:") word position
-Names word (PadEnd position) = HasNumber (codes "pad-end:") word position
-Names word (SetMaxPosition position) = HasNumber (codes "max:") word position
-Names word (Round position mode increment) =
-    (digits : List ℕ)
-    × (word ≡ codes "round:" ++ (digits ++ (codes ":" ++ (mode_word mode ++ (codes ":" ++ increment_word increment)))))
-    × (number digits ≡ Some position)
-Names word (SetSign sign) = word ≡ codes "sign:" ++ sign_word sign
-Names word (ApplySignDisplay display) = word ≡ codes "display:" ++ display_word display
-Names word (Concatenate text) = word ≡ codes "concat:" ++ text.now
-
--- two calls are the same; texts to concatenate are compared by their bytes
-abbrev pub IsSame : Call → Call → Type 0
-IsSame (Concatenate first) (Concatenate second) = first.now ≡ second.now
-IsSame first second = first ≡ second
-
--- ---- Lists of words.
+use Rattle.conversions.specs.Calls.{Names}
+use Rattle.conversions.specs.FormatWord.{IsFormatWord}
+use Rattle.conversions.specs.ReadWord.{IsReadWord}
+use Rattle.conversions.specs.ShownWord.{IsShown}
+use Rattle.cli.specs.declared.program.error.WordsError.{WordsError}
+use Rattle.cli.specs.declared.program.error.WordsError.TheVariants.{NoSuchWord, AfterCall, Misplaced, Memory}
+use Rattle.cli.specs.Options.{IsOption}
 
 -- the words name these calls, one by one
 abbrev pub NameAll : List (String Global) → List Call → Type 0
@@ -114,3 +27,26 @@ IsUnknown word = (call : Call) → Names (string_bytes word) call → ⊥
 -- this word, at this index, is the first that names no call
 abbrev pub IsFirstUnknown : List (String Global) → ℕ → String Global → Type 0
 IsFirstUnknown words at word = (slice_get words at ≡ Some word) × AreCalls (take at words) × IsUnknown word
+
+-- ---- Errors.
+
+-- the word is one that comes before all calls: an option of a filter, or `read:..`
+abbrev pub StandsFirst : List ℕ → Type 0
+StandsFirst word = IsOption word ⊎ IsReadWord word
+
+-- a word that names no call, after this number of calls, has this error
+abbrev pub IsErrorOfWord : ℕ → List ℕ → WordsError → Type 0
+IsErrorOfWord calls word (NoSuchWord it) = ¬ StandsFirst word × ¬ IsFormatWord word × IsShown word it
+IsErrorOfWord calls word (AfterCall it) = StandsFirst word × ¬ IsFormatWord word × (0 < calls) × IsShown word it
+IsErrorOfWord calls word (Misplaced it) = (IsFormatWord word ⊎ (StandsFirst word × (calls ≡ 0))) × IsShown word it
+IsErrorOfWord calls word _ = ⊥
+
+-- the first word that names no call has this error
+abbrev pub CallsFail : List (String Global) → WordsError → Type 0
+CallsFail words error =
+    (calls : ℕ) × (word : String Global) × IsFirstUnknown words calls word
+    × IsErrorOfWord calls (string_bytes word) error
+
+-- the words are no calls, for this error; or each names one, and the list is out of memory
+abbrev pub AreNoCalls : List (String Global) → WordsError → Type 0
+AreNoCalls words error = CallsFail words error ⊎ (AreCalls words × (words ≢ []) × (error ≡ Memory))

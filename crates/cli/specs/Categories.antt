@@ -13,11 +13,11 @@ use Rattle.plural_rules.specs.Rules.{RuleValue, category_of, name_of}
 use Rattle.std.specs.Io.KnownBytes.{Appends}
 use Rattle.std.specs.declared.alloc.Global.{Global}
 use Rattle.decimal_digits.specs.AppendsPrefix.{AppendsPrefix}
-use Rattle.cli.specs.declared.error.ProgramError.{ProgramError}
-use Rattle.cli.specs.declared.error.ProgramError.TheVariants.{Start, Text, Output}
-use Rattle.cli.specs.declared.error.WordsError.TheVariants.{Memory}
-use Rattle.cli.specs.declared.help.Program.TheVariants.{Plural}
-use Rattle.cli.specs.Error.{read_error_of}
+use Rattle.cli.specs.declared.program.error.ProgramError.{ProgramError}
+use Rattle.cli.specs.declared.program.error.ProgramError.TheVariants.{Start, Text, Output}
+use Rattle.cli.specs.declared.program.error.WordsError.TheVariants.{Memory}
+use Rattle.cli.specs.declared.program.help.Program.TheVariants.{Plural}
+use Rattle.conversions.specs.Error.{read_error_of}
 
 -- the text has more digits than are held without allocation
 abbrev pub IsLongText : List ℕ → Type 0

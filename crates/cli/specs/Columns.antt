@@ -4,12 +4,12 @@ use Rattle.std.specs.Char.{is_ascii_digit}
 use Rattle.std.specs.List.{list_all}
 use Rattle.std.specs.Str.{bytes_eq}
 use Rattle.std.specs.declared.alloc.Global.{Global}
-use Rattle.cli.specs.Calls.{HasNumber}
-use Rattle.cli.specs.ShownWord.{IsShown}
-use Rattle.cli.specs.declared.columns.Column.{Column}
-use Rattle.cli.specs.declared.columns.Column.TheVariants.{Index, Name}
-use Rattle.cli.specs.declared.columns.FieldLabel.{FieldLabel}
-use Rattle.cli.specs.declared.columns.FieldLabel.TheVariants as label
+use Rattle.conversions.specs.Parameters.{HasNumber}
+use Rattle.conversions.specs.ShownWord.{IsShown}
+use Rattle.cli.specs.declared.words.columns.Column.{Column}
+use Rattle.cli.specs.declared.words.columns.Column.TheVariants.{Index, Name}
+use Rattle.cli.specs.declared.program.error.FieldLabel.{FieldLabel}
+use Rattle.cli.specs.declared.program.error.FieldLabel.TheVariants as label
 
 -- the word is `field:` and this 1-based number of a field
 abbrev pub IsField : List ℕ → ℕ → Type 0

@@ -1,10 +1,10 @@
 -- The fields of a line that are replaced by their conversions.
 use Rattle.std.specs.Prelude.{◌≡◌, ◌⊎◌, ℕ, ◌<◌, Bool, List, [], ◌∷◌, ◌++◌, length, All, Contains, Some, Result, Ok, Err, MatchResult}
-use Rattle.cli.specs.declared.edits.FieldConversion.{FieldConversion}
-use Rattle.cli.specs.declared.error.LineError.{LineError}
-use Rattle.cli.specs.declared.error.OperationError.{OperationError}
-use Rattle.cli.specs.declared.error.OperationError.TheVariants.{Memory}
-use Rattle.cli.specs.declared.fields.Field.{Field}
+use Rattle.cli.specs.declared.lines.edits.FieldConversion.{FieldConversion}
+use Rattle.cli.specs.declared.program.error.LineError.{LineError}
+use Rattle.conversions.specs.declared.error.OperationError.{OperationError}
+use Rattle.conversions.specs.declared.error.OperationError.TheVariants.{Memory}
+use Rattle.cli.specs.declared.lines.fields.Field.{Field}
 use Rattle.cli.specs.FieldConversion.{IsFieldResult}
 use Rattle.cli.specs.Fields.{at_index, located, within, bytes_of}
 

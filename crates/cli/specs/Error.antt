@@ -1,52 +1,24 @@
 -- The errors of the programs, and the exit status that goes with each.
 use Rattle.std.specs.Prelude.{ℕ, Bool, true, false, Option, None}
-use Rattle.decimal_unsigned.specs.declared.error.ParseError.TheVariants as parse
-use Rattle.decimal_unsigned.specs.Reading.{ReadError, syntax, limit}
 use Rattle.plural_rules.specs.declared.parse.RulesError.TheVariants as rules
-use Rattle.fixed_decimal.specs.declared.runs.RunError.{RunError}
-use Rattle.fixed_decimal.specs.declared.runs.RunError.TheVariants as run
-use Rattle.cli.specs.declared.error.Reason.{Reason}
-use Rattle.cli.specs.declared.error.Reason.TheVariants.{Syntax, Limit}
-use Rattle.cli.specs.declared.error.OperationError.{OperationError}
-use Rattle.cli.specs.declared.error.OperationError.TheVariants.{Field, Quote, Start, Operand, Overlap, Overflow, FormatOverflow, Memory, Output}
-use Rattle.cli.specs.declared.columns.FieldLabel.{FieldLabel}
-use Rattle.cli.specs.declared.error.HeaderError.{HeaderError}
-use Rattle.cli.specs.declared.error.HeaderError.TheVariants as header
-use Rattle.cli.specs.declared.error.LineError.{LineError}
-use Rattle.cli.specs.declared.error.ProgramError.{ProgramError}
-use Rattle.cli.specs.declared.error.ProgramError.TheVariants as program
-use Rattle.cli.specs.declared.error.WordsError.{WordsError}
-use Rattle.cli.specs.declared.error.WordsError.TheVariants as words
-use Rattle.cli.specs.declared.named_rules.NamedRulesError.{NamedRulesError}
-use Rattle.cli.specs.declared.named_rules.NamedRulesError.TheVariants.{UnknownLocale, UnknownType, Rules}
-use Rattle.cli.specs.declared.help.Program.{Program}
-use Rattle.cli.specs.declared.help.Program.TheVariants.{Plural}
-
--- an error of a run as an error of the programs
-abbrev pub error_of_run : RunError → OperationError
-error_of_run (run.Start parse.Syntax) = Start Syntax
-error_of_run (run.Start parse.Limit) = Start Limit
-error_of_run (run.Start parse.Memory) = Memory
-error_of_run (run.Operand at parse.Syntax) = Operand at Syntax
-error_of_run (run.Operand at parse.Limit) = Operand at Limit
-error_of_run (run.Operand at parse.Memory) = Memory
-error_of_run (run.Overlap at) = Overlap at
-error_of_run (run.Limit at) = Overflow at
-error_of_run (run.Memory at) = Memory
-error_of_run run.Sink = Output
-
--- the status of an error of operations: 1 of a rejected line or text and of a failed call, 3 of out of memory and of
--- failed output
-abbrev pub status_of_operation : OperationError → ℕ
-status_of_operation Field = 1
-status_of_operation Quote = 1
-status_of_operation (Start reason) = 1
-status_of_operation (Operand at reason) = 1
-status_of_operation (Overlap at) = 1
-status_of_operation (Overflow at) = 1
-status_of_operation FormatOverflow = 1
-status_of_operation Memory = 3
-status_of_operation Output = 3
+use Rattle.conversions.specs.declared.error.FormError.{FormError}
+use Rattle.conversions.specs.declared.error.FormError.TheVariants as form
+use Rattle.conversions.specs.declared.error.OperationError.{OperationError}
+use Rattle.conversions.specs.declared.error.OperationError.TheVariants.{Output}
+use Rattle.conversions.specs.declared.error.Reason.TheVariants.{Syntax, Limit}
+use Rattle.conversions.specs.declared.named_rules.NamedRulesError.{NamedRulesError}
+use Rattle.conversions.specs.declared.named_rules.NamedRulesError.TheVariants.{UnknownLocale, UnknownType, Rules}
+use Rattle.conversions.specs.Error.{status_of_operation}
+use Rattle.cli.specs.declared.program.error.FieldLabel.{FieldLabel}
+use Rattle.cli.specs.declared.program.error.HeaderError.{HeaderError}
+use Rattle.cli.specs.declared.program.error.HeaderError.TheVariants as header
+use Rattle.cli.specs.declared.program.error.LineError.{LineError}
+use Rattle.cli.specs.declared.program.error.ProgramError.{ProgramError}
+use Rattle.cli.specs.declared.program.error.ProgramError.TheVariants as program
+use Rattle.cli.specs.declared.program.error.WordsError.{WordsError}
+use Rattle.cli.specs.declared.program.error.WordsError.TheVariants as words
+use Rattle.cli.specs.declared.program.help.Program.{Program}
+use Rattle.cli.specs.declared.program.help.Program.TheVariants.{Plural}
 
 -- an error of a line, of this field if it is that of one
 abbrev pub line_error : Option FieldLabel → OperationError → LineError
@@ -55,6 +27,15 @@ line_error field error = record { field = field; error = error }
 -- an error of a line that names no field
 abbrev pub error_of_line : OperationError → LineError
 error_of_line error = line_error None error
+
+-- an error of a form as an error before the work
+abbrev pub words_error : FormError → WordsError
+words_error (form.NoSuchWord word) = words.NoSuchWord word
+words_error (form.UnknownLocale tag) = words.UnknownLocale tag
+words_error (form.SkeletonSyntax at) = words.SkeletonSyntax at
+words_error (form.SkeletonUnsupported stem) = words.SkeletonUnsupported stem
+words_error form.NoReader = words.NoReader
+words_error form.Memory = words.Memory
 
 -- the status of an error before the work: 3 of out of memory and of failed output, 2 of wrong words
 abbrev pub status_of_words : WordsError → ℕ
@@ -106,8 +87,3 @@ error_of_rules (UnknownType letters) = start_error Plural (words.UnknownType let
 error_of_rules (Rules (rules.Syntax at)) = program.Rules at Syntax
 error_of_rules (Rules (rules.Limit at)) = program.Rules at Limit
 error_of_rules (Rules rules.Memory) = start_error Plural words.Memory
-
--- a reason as an error of the libraries
-abbrev pub read_error_of : Reason → ReadError
-read_error_of Syntax = syntax
-read_error_of Limit = limit

@@ -1,10 +1,10 @@
 -- The result of a line: its conversion, or that of one of its fields.
 use Rattle.std.specs.Prelude.{◌≡◌, ◌⊎◌, ℕ, ◌&&◌, not, Bool, true, List, Option, Some, None, Result, Ok, Err, MatchResult}
-use Rattle.cli.specs.declared.conversion.Conversion.{Conversion}
-use Rattle.cli.specs.declared.error.OperationError.{OperationError}
-use Rattle.cli.specs.declared.error.OperationError.TheVariants.{Memory, Output, Quote}
-use Rattle.cli.specs.declared.fields.Field.{Field}
-use Rattle.cli.specs.Conversion.{ConversionError, IsOutcome, OperationsFail, error_of}
+use Rattle.conversions.specs.declared.conversion.Conversion.{Conversion}
+use Rattle.conversions.specs.declared.error.OperationError.{OperationError}
+use Rattle.conversions.specs.declared.error.OperationError.TheVariants.{Memory, Output, Quote}
+use Rattle.cli.specs.declared.lines.fields.Field.{Field}
+use Rattle.conversions.specs.Conversion.{ConversionError, IsOutcome, OperationsFail, error_of}
 use Rattle.cli.specs.Fields.{is_quoted, Holds, located, within, replaced, bytes_of}
 use Rattle.cli.specs.Trim.{text_of, with_text_of}
 

@@ -3,10 +3,10 @@ use Rattle.std.specs.Prelude.{◌≡◌, ◌⊎◌, ℕ, nat_le, ◌+◌, ◌-�
 use Rattle.std.specs.List.{list_any}
 use Rattle.std.specs.Io.BufRead.{strip_last}
 use Rattle.memchr.specs.Find.{matches, first_of}
-use Rattle.cli.specs.declared.error.OperationError.{OperationError}
-use Rattle.cli.specs.declared.error.OperationError.TheVariants as operation
-use Rattle.cli.specs.declared.fields.Cursor.{Cursor}
-use Rattle.cli.specs.declared.fields.Field.{Field}
+use Rattle.conversions.specs.declared.error.OperationError.{OperationError}
+use Rattle.conversions.specs.declared.error.OperationError.TheVariants as operation
+use Rattle.cli.specs.declared.lines.fields.Cursor.{Cursor}
+use Rattle.cli.specs.declared.lines.fields.Field.{Field}
 
 -- ---- Where a field is.
 

@@ -5,19 +5,20 @@ use Rattle.std.specs.Io.KnownBytes.{Appends}
 use Rattle.std.specs.declared.io.ErrorKind.{ErrorKind}
 use Rattle.std.specs.declared.io.ErrorKind.TheVariants.{OutOfMemory}
 use Rattle.decimal_digits.specs.AppendsPrefix.{AppendsPrefix}
-use Rattle.cli.specs.declared.error.OperationError.{OperationError}
-use Rattle.cli.specs.declared.error.OperationError.TheVariants as operation
-use Rattle.cli.specs.declared.error.ProgramError.{ProgramError}
-use Rattle.cli.specs.declared.error.ProgramError.TheVariants.{Line, LongLine, Input, Output}
-use Rattle.cli.specs.declared.filter.Filter.{Filter}
-use Rattle.cli.specs.declared.filter.FilteredRow.{FilteredRow}
-use Rattle.cli.specs.declared.filter.OnError.{OnError}
-use Rattle.cli.specs.declared.filter.OnError.TheVariants.{Stop, Keep}
-use Rattle.cli.specs.declared.error.LineError.{LineError}
-use Rattle.cli.specs.declared.targets.Target.{Target}
-use Rattle.cli.specs.declared.targets.Target.TheVariants.{One, Fields}
+use Rattle.conversions.specs.declared.error.OperationError.{OperationError}
+use Rattle.conversions.specs.declared.error.OperationError.TheVariants as operation
+use Rattle.cli.specs.declared.program.error.ProgramError.{ProgramError}
+use Rattle.cli.specs.declared.program.error.ProgramError.TheVariants.{Line, LongLine, Input, Output}
+use Rattle.cli.specs.declared.lines.filter.Filter.{Filter}
+use Rattle.cli.specs.declared.lines.rows.FilteredRow.{FilteredRow}
+use Rattle.cli.specs.declared.words.options.OnError.{OnError}
+use Rattle.cli.specs.declared.words.options.OnError.TheVariants.{Stop, Keep}
+use Rattle.cli.specs.declared.program.error.LineError.{LineError}
+use Rattle.cli.specs.declared.words.targets.Target.{Target}
+use Rattle.cli.specs.declared.words.targets.Target.TheVariants.{One, Fields}
 use Rattle.cli.specs.Edits.{IsEditedLine, EditingFails}
-use Rattle.cli.specs.Error.{status_of_operation, error_of_line}
+use Rattle.conversions.specs.Error.{status_of_operation}
+use Rattle.cli.specs.Error.{error_of_line}
 use Rattle.cli.specs.FieldConversion.{IsLineResult, LineFails, map_text}
 use Rattle.cli.specs.Fields.{within, replaced}
 use Rattle.cli.specs.Trim.{body_bounds}

@@ -5,15 +5,15 @@ use Rattle.std.specs.Io.KnownBytes.{Appends, append_known}
 use Rattle.std.specs.declared.alloc.Global.{Global}
 use Rattle.decimal_digits.specs.AppendsPrefix.{AppendsPrefix}
 use Rattle.cli.specs.Words.{NamesConversion, ConversionFails}
-use Rattle.cli.specs.declared.error.WordsError.{WordsError}
-use Rattle.cli.specs.declared.error.WordsError.TheVariants.{NoText, Memory}
-use Rattle.cli.specs.declared.conversion.Conversion.{Conversion}
-use Rattle.cli.specs.declared.error.ProgramError.{ProgramError}
-use Rattle.cli.specs.declared.error.ProgramError.TheVariants.{Start, Operation, Output}
-use Rattle.cli.specs.declared.error.OperationError.TheVariants as operation
-use Rattle.cli.specs.Conversion.{HasOutcome, OperationsFail}
+use Rattle.cli.specs.declared.program.error.WordsError.{WordsError}
+use Rattle.cli.specs.declared.program.error.WordsError.TheVariants.{NoText, Memory}
+use Rattle.conversions.specs.declared.conversion.Conversion.{Conversion}
+use Rattle.cli.specs.declared.program.error.ProgramError.{ProgramError}
+use Rattle.cli.specs.declared.program.error.ProgramError.TheVariants.{Start, Operation, Output}
+use Rattle.conversions.specs.declared.error.OperationError.TheVariants as operation
+use Rattle.conversions.specs.Conversion.{HasOutcome, OperationsFail}
 use Rattle.cli.specs.Error.{start_error}
-use Rattle.cli.specs.declared.help.Program.TheVariants.{Fixdec}
+use Rattle.cli.specs.declared.program.help.Program.TheVariants.{Fixdec}
 
 -- the words are TEXT [read:..] [CALL].. [format:..], with this conversion and this text
 abbrev pub NamesRun : List (String Global) → Conversion → List ℕ → Type 0

@@ -4,17 +4,17 @@ use Rattle.std.specs.declared.alloc.Global.{Global}
 use Rattle.std.specs.declared.io.ErrorKind.{ErrorKind}
 use Rattle.cli.specs.Targets.{NamesTarget, NameNoTarget, have_names}
 use Rattle.cli.specs.Options.{none, AreOptions, HasField, lacks_csv, field_error}
-use Rattle.cli.specs.declared.options.Options.{Options}
-use Rattle.cli.specs.declared.fields.Field.{Field}
-use Rattle.cli.specs.declared.error.WordsError.{WordsError}
-use Rattle.cli.specs.declared.error.WordsError.TheVariants.{Memory, NoCsv, NoHeader}
-use Rattle.cli.specs.declared.help.Program.TheVariants.{FixdecLines}
+use Rattle.cli.specs.declared.words.options.Options.{Options}
+use Rattle.cli.specs.declared.lines.fields.Field.{Field}
+use Rattle.cli.specs.declared.program.error.WordsError.{WordsError}
+use Rattle.cli.specs.declared.program.error.WordsError.TheVariants.{Memory, NoCsv, NoHeader}
+use Rattle.cli.specs.declared.program.help.Program.TheVariants.{FixdecLines}
 use Rattle.cli.specs.Error.{start_error}
-use Rattle.cli.specs.declared.error.ProgramError.{ProgramError}
-use Rattle.cli.specs.declared.error.ProgramError.TheVariants.{Start, Output}
-use Rattle.cli.specs.declared.columns.Column.{Column}
-use Rattle.cli.specs.declared.named_filter.NamedFilter.{NamedFilter}
-use Rattle.cli.specs.declared.targets.NamedTarget.{NamedTarget}
+use Rattle.cli.specs.declared.program.error.ProgramError.{ProgramError}
+use Rattle.cli.specs.declared.program.error.ProgramError.TheVariants.{Start, Output}
+use Rattle.cli.specs.declared.words.columns.Column.{Column}
+use Rattle.cli.specs.declared.lines.named_filter.NamedFilter.{NamedFilter}
+use Rattle.cli.specs.declared.words.targets.NamedTarget.{NamedTarget}
 use Rattle.cli.specs.NamedFilter.{FiltersNamed}
 use Rattle.cli.specs.Filter.{Change, Effects}
 use Rattle.cli.specs.Lines.{AppendsUnwritten}

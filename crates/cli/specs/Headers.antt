@@ -1,18 +1,18 @@
 -- The fields that words name, in a header.
 use Rattle.std.specs.Prelude.{◌≡◌, ◌≢◌, ◌⊎◌, ℕ, nat_lt, ◌<◌, ◌≤◌, ◌==◌, Bool, true, false, List, [], ◌∷◌, length, insert, count_by, slice_get, Some}
 use Rattle.std.specs.List.{list_any}
-use Rattle.cli.specs.declared.columns.Column.{Column}
-use Rattle.cli.specs.declared.columns.Column.TheVariants.{Index, Name}
-use Rattle.cli.specs.declared.columns.FieldLabel.TheVariants as label
-use Rattle.cli.specs.declared.edits.FieldConversion.{FieldConversion}
-use Rattle.cli.specs.declared.error.HeaderError.{HeaderError}
-use Rattle.cli.specs.declared.error.HeaderError.TheVariants.{NoField, TwoFields, SameField}
-use Rattle.cli.specs.declared.fields.Field.{Field}
-use Rattle.cli.specs.declared.headers.Header.{Header}
-use Rattle.cli.specs.declared.targets.NamedField.{NamedField}
+use Rattle.cli.specs.declared.words.columns.Column.{Column}
+use Rattle.cli.specs.declared.words.columns.Column.TheVariants.{Index, Name}
+use Rattle.cli.specs.declared.program.error.FieldLabel.TheVariants as label
+use Rattle.cli.specs.declared.lines.edits.FieldConversion.{FieldConversion}
+use Rattle.cli.specs.declared.program.error.HeaderError.{HeaderError}
+use Rattle.cli.specs.declared.program.error.HeaderError.TheVariants.{NoField, TwoFields, SameField}
+use Rattle.cli.specs.declared.lines.fields.Field.{Field}
+use Rattle.cli.specs.declared.lines.headers.Header.{Header}
+use Rattle.cli.specs.declared.words.targets.NamedField.{NamedField}
 use Rattle.cli.specs.FieldConversion.{is_trimmed}
 use Rattle.cli.specs.Fields.{at_index, bounds, within, Holds}
-use Rattle.cli.specs.ShownWord.{IsShown}
+use Rattle.conversions.specs.ShownWord.{IsShown}
 use Rattle.cli.specs.Trim.{text_of}
 
 -- the bytes of a field hold this name, with `trim` between blanks and tabs

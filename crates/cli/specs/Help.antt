@@ -1,11 +1,11 @@
 -- The texts of `--help` and `--version`.
 use Rattle.std.specs.Prelude.{ℕ, List, [], ◌∷◌, ◌++◌, codes}
-use Rattle.cli.specs.declared.help.Program.{Program}
-use Rattle.cli.specs.declared.help.Program.TheVariants.{Fixdec, FixdecLines, Plural}
-use Rattle.cli.specs.declared.help.Request.{Request}
-use Rattle.cli.specs.declared.help.Request.TheVariants.{Help, Version, Locales}
+use Rattle.cli.specs.declared.program.help.Program.{Program}
+use Rattle.cli.specs.declared.program.help.Program.TheVariants.{Fixdec, FixdecLines, Plural}
+use Rattle.cli.specs.declared.program.help.Request.{Request}
+use Rattle.cli.specs.declared.program.help.Request.TheVariants.{Help, Version, Locales}
 use Rattle.cli.specs.LocaleList.{locales_text}
-use Rattle.cli.specs.declared.help.TheConstants.{VERSION, FIXDEC, FIXDEC_LINES, PLURAL, TEXT, OPTIONS, RULES, CALLS, SKELETONS, OPERANDS}
+use Rattle.cli.specs.declared.program.help.TheConstants.{VERSION, FIXDEC, FIXDEC_LINES, PLURAL, TEXT, OPTIONS, RULES, CALLS, SKELETONS, OPERANDS}
 
 unfoldable pub name_of : Program → List ℕ
 name_of Fixdec = codes "fixdec"

@@ -1,22 +1,18 @@
 -- What is written and what is reported for the lines of an input.
-use Rattle.std.specs.Prelude.{◌≡◌, ◌≢◌, ◌⊎◌, ℕ, ◌+◌, ◌≤◌, ◌^◌, ◌==◌, if◌then◌else◌, List, [], ◌∷◌, ◌++◌, flat_map, Bool, true, false, ⊤, Option, Some, Result, Ok, Err, is_ok, IfSome, IsSomeAnd}
-use Rattle.std.specs.List.{FoldsTo, list_all, onto_first}
+use Rattle.std.specs.Prelude.{◌≡◌, ◌≢◌, ◌⊎◌, ℕ, ◌+◌, ◌≤◌, ◌^◌, List, [], ◌∷◌, ◌++◌, flat_map, Bool, true, false, ⊤, Option, Some, Result, Ok, Err, is_ok, IfSome, IsSomeAnd}
+use Rattle.std.specs.List.{FoldsTo, list_all}
 use Rattle.std.specs.Io.KnownBytes.{Appends, append_known}
 use Rattle.std.specs.declared.io.ErrorKind.{ErrorKind}
 use Rattle.decimal_digits.specs.AppendsPrefix.{AppendsPrefix}
-use Rattle.cli.specs.declared.error.ProgramError.{ProgramError}
-use Rattle.cli.specs.declared.error.ProgramError.TheVariants.{Line, LongLine, Input, Output}
-use Rattle.cli.specs.declared.filter.Filter.{Filter}
-use Rattle.cli.specs.declared.filter.OnError.TheVariants.{Stop}
+use Rattle.cli.specs.declared.program.error.ProgramError.{ProgramError}
+use Rattle.cli.specs.declared.program.error.ProgramError.TheVariants.{Line, LongLine, Input, Output}
+use Rattle.cli.specs.declared.lines.filter.Filter.{Filter}
+use Rattle.cli.specs.declared.words.options.OnError.TheVariants.{Stop}
 use Rattle.cli.specs.Filter.{Change, Effects, FilteredLine, lines_of_row, IsResultOfRow, output_of_line, errors_of_line, IsErrorOfReading, IsErrorOfLine}
 use Rattle.cli.specs.Records.{records_of}
+use Rattle.conversions.specs.Lines.{lines_of}
 
 -- ---- The lines of an input.
-
--- the bytes before each line feed, and those after the last one if there are any
-abbrev pub lines_of : List ℕ → List (List ℕ)
-lines_of [] = []
-lines_of (byte ∷ bytes) = if byte == 10 then [] ∷ lines_of bytes else onto_first byte (lines_of bytes)
 
 -- the rows of an input: with `records` its records, and otherwise its lines
 abbrev pub rows_of : Bool → List ℕ → List (List ℕ)

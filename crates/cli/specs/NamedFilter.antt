@@ -1,20 +1,20 @@
 -- The filter that words name, and its run on an input whose header has the names of fields.
 use Rattle.std.specs.Prelude.{◌≡◌, ◌≢◌, ◌⊎◌, ℕ, ◌||◌, ◌&&◌, Bool, true, false, List, [], ◌∷◌, Option, Result, Ok, Err, IfSome, IsSomeAnd, MatchBool, ⊤}
 use Rattle.std.specs.Io.KnownBytes.{Appends}
-use Rattle.cli.specs.declared.edits.FieldConversion.{FieldConversion}
-use Rattle.cli.specs.declared.error.HeaderError.{HeaderError}
-use Rattle.cli.specs.declared.error.HeaderError.TheVariants.{Quote, Memory}
-use Rattle.cli.specs.declared.error.ProgramError.{ProgramError}
-use Rattle.cli.specs.declared.error.ProgramError.TheVariants.{Header, Output}
-use Rattle.cli.specs.declared.fields.Field.{Field}
-use Rattle.cli.specs.declared.filter.Filter.{Filter}
-use Rattle.cli.specs.declared.named_filter.NamedFilter.{NamedFilter}
-use Rattle.cli.specs.declared.options.Options.{Options}
-use Rattle.cli.specs.declared.targets.NamedField.{NamedField}
-use Rattle.cli.specs.declared.targets.NamedTarget.{NamedTarget}
-use Rattle.cli.specs.declared.targets.NamedTarget.TheVariants as named
-use Rattle.cli.specs.declared.targets.Target.{Target}
-use Rattle.cli.specs.declared.targets.Target.TheVariants.{One, Fields}
+use Rattle.cli.specs.declared.lines.edits.FieldConversion.{FieldConversion}
+use Rattle.cli.specs.declared.program.error.HeaderError.{HeaderError}
+use Rattle.cli.specs.declared.program.error.HeaderError.TheVariants.{Quote, Memory}
+use Rattle.cli.specs.declared.program.error.ProgramError.{ProgramError}
+use Rattle.cli.specs.declared.program.error.ProgramError.TheVariants.{Header, Output}
+use Rattle.cli.specs.declared.lines.fields.Field.{Field}
+use Rattle.cli.specs.declared.lines.filter.Filter.{Filter}
+use Rattle.cli.specs.declared.lines.named_filter.NamedFilter.{NamedFilter}
+use Rattle.cli.specs.declared.words.options.Options.{Options}
+use Rattle.cli.specs.declared.words.targets.NamedField.{NamedField}
+use Rattle.cli.specs.declared.words.targets.NamedTarget.{NamedTarget}
+use Rattle.cli.specs.declared.words.targets.NamedTarget.TheVariants as named
+use Rattle.cli.specs.declared.words.targets.Target.{Target}
+use Rattle.cli.specs.declared.words.targets.Target.TheVariants.{One, Fields}
 use Rattle.cli.specs.Fields.{has_open_quote, record_of, within}
 use Rattle.cli.specs.Filter.{Change, Effects, IsErrorOfReading}
 use Rattle.cli.specs.Headers.{AreFields, FieldsFail}

@@ -4,13 +4,13 @@ use Rattle.std.specs.Borrow.{Bor}
 use Rattle.std.specs.Str.{chars}
 use Rattle.std.specs.declared.alloc.Global.{Global}
 use Rattle.cli.specs.Columns.{IsColumn}
-use Rattle.cli.specs.declared.columns.Column.{Column}
-use Rattle.cli.specs.declared.fields.Field.{Field}
+use Rattle.cli.specs.declared.words.columns.Column.{Column}
+use Rattle.cli.specs.declared.lines.fields.Field.{Field}
 use Rattle.cli.specs.Fields.{quote}
-use Rattle.cli.specs.declared.filter.OnError.TheVariants.{Stop, Skip, Keep}
-use Rattle.cli.specs.declared.options.Options.{Options}
-use Rattle.cli.specs.declared.error.WordsError.{WordsError}
-use Rattle.cli.specs.declared.error.WordsError.TheVariants.{NoField, QuoteDelimiter}
+use Rattle.cli.specs.declared.words.options.OnError.TheVariants.{Stop, Skip, Keep}
+use Rattle.cli.specs.declared.words.options.Options.{Options}
+use Rattle.cli.specs.declared.program.error.WordsError.{WordsError}
+use Rattle.cli.specs.declared.program.error.WordsError.TheVariants.{NoField, QuoteDelimiter}
 
 -- the options of no words
 abbrev pub none : Options

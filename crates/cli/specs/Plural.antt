@@ -3,14 +3,14 @@ use Rattle.std.specs.Prelude.{◌≡◌, ◌≢◌, ℕ, ◌<◌, ◌⊎◌, Boo
 use Rattle.std.specs.Io.KnownBytes.{append_known}
 use Rattle.std.specs.declared.alloc.Global.{Global}
 use Rattle.plural_rules.specs.Rules.{RuleValue}
-use Rattle.cli.specs.declared.error.ProgramError.{ProgramError}
-use Rattle.cli.specs.declared.error.ProgramError.TheVariants.{Output}
-use Rattle.cli.specs.declared.error.WordsError.TheVariants.{NoText, Memory}
-use Rattle.cli.specs.declared.help.Program.TheVariants.{Plural}
+use Rattle.cli.specs.declared.program.error.ProgramError.{ProgramError}
+use Rattle.cli.specs.declared.program.error.ProgramError.TheVariants.{Output}
+use Rattle.cli.specs.declared.program.error.WordsError.TheVariants.{NoText, Memory}
+use Rattle.cli.specs.declared.program.help.Program.TheVariants.{Plural}
 use Rattle.cli.specs.Error.{start_error, error_of_rules}
 use Rattle.cli.specs.Categories.{PrintsAll, StopsAt}
-use Rattle.cli.specs.declared.named_rules.NamedRulesError.{NamedRulesError}
-use Rattle.cli.specs.NamedRules.{NamesRules, NamesNoRules}
+use Rattle.conversions.specs.declared.named_rules.NamedRulesError.{NamedRulesError}
+use Rattle.conversions.specs.NamedRules.{NamesRules, NamesNoRules}
 
 -- the first word is followed by others, and P holds of its bytes and of these
 abbrev pub HasTexts : List (String Global) → (List ℕ → List (String Global) → Type 0) → Type 0

@@ -3,17 +3,17 @@ use Rattle.std.specs.Prelude.{◌≡◌, ◌≢◌, ◌⊎◌, ℕ, ⊤, Bool, t
 use Rattle.std.specs.List.{list_any}
 use Rattle.std.specs.declared.alloc.Global.{Global}
 use Rattle.cli.specs.Columns.{IsColumn, IsFieldWord, is_same, is_name, IsLabel}
-use Rattle.cli.specs.declared.columns.Column.{Column}
-use Rattle.cli.specs.declared.columns.Column.TheVariants.{Index}
-use Rattle.cli.specs.declared.conversion.Conversion.{Conversion}
-use Rattle.cli.specs.declared.error.WordsError.{WordsError}
-use Rattle.cli.specs.declared.error.WordsError.TheVariants.{Misplaced, Memory}
-use Rattle.cli.specs.declared.fields.Field.{Field}
-use Rattle.cli.specs.declared.targets.NamedField.{NamedField}
-use Rattle.cli.specs.declared.targets.NamedTarget.{NamedTarget}
-use Rattle.cli.specs.declared.targets.NamedTarget.TheVariants.{One, Fields}
+use Rattle.cli.specs.declared.words.columns.Column.{Column}
+use Rattle.cli.specs.declared.words.columns.Column.TheVariants.{Index}
+use Rattle.conversions.specs.declared.conversion.Conversion.{Conversion}
+use Rattle.cli.specs.declared.program.error.WordsError.{WordsError}
+use Rattle.cli.specs.declared.program.error.WordsError.TheVariants.{Misplaced, Memory}
+use Rattle.cli.specs.declared.lines.fields.Field.{Field}
+use Rattle.cli.specs.declared.words.targets.NamedField.{NamedField}
+use Rattle.cli.specs.declared.words.targets.NamedTarget.{NamedTarget}
+use Rattle.cli.specs.declared.words.targets.NamedTarget.TheVariants.{One, Fields}
 use Rattle.cli.specs.Fields.{at_index}
-use Rattle.cli.specs.ShownWord.{IsShown}
+use Rattle.conversions.specs.ShownWord.{IsShown}
 use Rattle.cli.specs.Words.{NamesConversion, ConversionFails}
 
 -- ---- Words of fields.

@@ -1,26 +1,18 @@
 -- The conversion that words name: [read:LOCALE[:lenient][:SKELETON]] [CALL].. [format:LOCALE[:GROUPING|:SKELETON]].
-use Rattle.std.specs.Prelude.{◌≡◌, ◌≢◌, ◌⊎◌, ℕ, ◌<◌, List, [], ◌∷◌, ◌++◌, codes, String, string_bytes, Option, Some, None}
+use Rattle.std.specs.Prelude.{◌≡◌, ◌≢◌, ◌⊎◌, ℕ, List, [], ◌∷◌, ◌++◌, String, string_bytes, Option, Some, None}
 use Rattle.std.specs.declared.alloc.Global.{Global}
-use Rattle.cli.specs.declared.conversion.Conversion.{Conversion}
-use Rattle.cli.specs.declared.locale_formatter.LocaleFormatter.{LocaleFormatter}
-use Rattle.cli.specs.declared.reader.LocaleReader.{LocaleReader}
-use Rattle.cli.specs.declared.error.WordsError.{WordsError}
-use Rattle.cli.specs.declared.error.WordsError.TheVariants.{NoSuchWord, AfterCall, Misplaced, Memory}
-use Rattle.cli.specs.Calls.{NameAll, AreCalls, IsFirstUnknown}
-use Rattle.cli.specs.FormatWord.{NamesFormatter, FormatterFails}
-use Rattle.cli.specs.Options.{IsOption}
-use Rattle.cli.specs.ReadWord.{NamesReader, ReaderFails}
-use Rattle.cli.specs.ShownWord.{IsShown}
+use Rattle.conversions.specs.declared.conversion.Conversion.{Conversion}
+use Rattle.conversions.specs.declared.error.FormError.{FormError}
+use Rattle.conversions.specs.declared.locale_formatter.LocaleFormatter.{LocaleFormatter}
+use Rattle.conversions.specs.declared.reader.LocaleReader.{LocaleReader}
+use Rattle.conversions.specs.FormatWord.{IsFormatWord, NamesFormatter, FormatterFails}
+use Rattle.conversions.specs.ReadWord.{IsReadWord, NamesReader, ReaderFails}
+use Rattle.cli.specs.declared.program.error.WordsError.{WordsError}
+use Rattle.cli.specs.declared.program.error.WordsError.TheVariants.{Memory}
+use Rattle.cli.specs.Calls.{NameAll, AreCalls, CallsFail}
+use Rattle.cli.specs.Error.{words_error}
 
 -- ---- The first and the last word.
-
--- the word is `read:` and a text
-abbrev pub IsReadWord : List ℕ → Type 0
-IsReadWord word = (text : List ℕ) × (word ≡ codes "read:" ++ text)
-
--- the word is `format:` and a text
-abbrev pub IsFormatWord : List ℕ → Type 0
-IsFormatWord word = (text : List ℕ) × (word ≡ codes "format:" ++ text)
 
 -- the first word is this `read:..`, and these are the words after it; or it is another, and these are all
 abbrev pub IsReadSplit : List (String Global) → Option (List ℕ) → List (String Global) → Type 0
@@ -62,36 +54,19 @@ NamesConversion words conversion =
 
 -- ---- Errors.
 
--- the word is one that comes before all calls: an option of a filter, or `read:..`
-abbrev pub StandsFirst : List ℕ → Type 0
-StandsFirst word = IsOption word ⊎ IsReadWord word
-
--- a word that names no call, after this number of calls, has this error
-abbrev pub IsErrorOfWord : ℕ → List ℕ → WordsError → Type 0
-IsErrorOfWord calls word (NoSuchWord it) = ¬ StandsFirst word × ¬ IsFormatWord word × IsShown word it
-IsErrorOfWord calls word (AfterCall it) = StandsFirst word × ¬ IsFormatWord word × (0 < calls) × IsShown word it
-IsErrorOfWord calls word (Misplaced it) = (IsFormatWord word ⊎ (StandsFirst word × (calls ≡ 0))) × IsShown word it
-IsErrorOfWord calls word _ = ⊥
-
--- the first word that names no call has this error
-abbrev pub CallsFail : List (String Global) → WordsError → Type 0
-CallsFail words error =
-    (calls : ℕ) × (word : String Global) × IsFirstUnknown words calls word
-    × IsErrorOfWord calls (string_bytes word) error
-
--- the words are no calls, for this error; or each names one, and the list is out of memory
-abbrev pub AreNoCalls : List (String Global) → WordsError → Type 0
-AreNoCalls words error = CallsFail words error ⊎ (AreCalls words × (words ≢ []) × (error ≡ Memory))
+-- the error is that of a word that names no form
+abbrev pub IsFormError : (FormError → Type 0) → WordsError → Type 0
+IsFormError Fails error = (why : FormError) × (error ≡ words_error why) × Fails why
 
 -- the first wrong word has this error, from the left: `read:..`, a call, `format:..`; or no word is wrong, and the list
 -- of the calls is out of memory
 abbrev pub PartsFail : WordsError → Option (List ℕ) → List (String Global) → Option (List ℕ) → Type 0
 PartsFail error read calls format =
-    ReaderFails read error
+    IsFormError (ReaderFails read) error
     ⊎ (((reader : Option LocaleReader) × NamesReader read reader)
     × (CallsFail calls error
     ⊎ (AreCalls calls
-    × (FormatterFails format error
+    × (IsFormError (FormatterFails format) error
     ⊎ (((formatter : Option LocaleFormatter) × NamesFormatter format formatter) × (calls ≢ []) × (error ≡ Memory))))))
 
 -- the words name no conversion, for this error

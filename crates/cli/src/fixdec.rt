@@ -2,20 +2,20 @@
 //! of the result.
 ghost use Rattle.std.specs.Prelude.{◌≡◌, ◌≢◌, ◌≤◌, ◌<◌, true, false, Err, IfOk, IfErr, IfSome, OnOk, IsSomeAnd};
 ghost use Rattle.std.specs.Process.{exit_status};
-ghost use Rattle.cli.specs.declared.error.ProgramError.{ProgramError};
-ghost use Rattle.cli.specs.declared.help.Program.TheVariants.{Fixdec};
+ghost use Rattle.cli.specs.declared.program.error.ProgramError.{ProgramError};
+ghost use Rattle.cli.specs.declared.program.help.Program.TheVariants.{Fixdec};
 ghost use Rattle.cli.specs.Error.{status_of};
-ghost use Rattle.cli.specs.Conversion.{OperationsFail};
+ghost use Rattle.conversions.specs.Conversion.{OperationsFail};
 ghost use Rattle.cli.specs.Fixdec.{HasError, WordsFail, NamesRun, PrintsLine, PrintsLinePrefix, Prints, PrintsPrefix};
 ghost use Rattle.cli.specs.Diagnostics.{IsReported};
 ghost use Rattle.cli.specs.Arguments.{PrintsFor, ArgumentsFail};
 
-use crate::arguments::start;
-use crate::conversion::{Conversion, convert};
-use crate::diagnostics::{Diagnostics, ErrorLines};
-use crate::error::{OperationError, ProgramError, WordsError};
-use crate::help::Program;
-use crate::words::parse_conversion;
+use crate::program::arguments::start;
+use crate::program::diagnostics::{Diagnostics, ErrorLines};
+use crate::program::error::{ProgramError, WordsError};
+use crate::program::help::Program;
+use crate::words::conversion::parse_conversion;
+use conversions::{Conversion, OperationError, convert};
 use fixed_decimal::{Closed, Out, Sink};
 use std::alloc::Global;
 use std::env::Args;

@@ -1,19 +1,21 @@
 //! `plural LOCALE[:TYPE] TEXT..` and `plural RULES TEXT..`: prints the plural category of each text on a line.
 ghost use Rattle.std.specs.Prelude.{◌≡◌, ◌<◌, ◌≤◌, IfOk, IfErr, OnOk, IsSomeAnd, false};
 ghost use Rattle.std.specs.Process.{exit_status};
-ghost use Rattle.cli.specs.declared.error.ProgramError.{ProgramError};
-ghost use Rattle.cli.specs.declared.help.Program.TheVariants.{Plural};
+ghost use Rattle.cli.specs.declared.program.error.ProgramError.{ProgramError};
+ghost use Rattle.cli.specs.declared.program.help.Program.TheVariants.{Plural};
 ghost use Rattle.cli.specs.Diagnostics.{Concludes};
 ghost use Rattle.cli.specs.Error.{status_of};
 ghost use Rattle.cli.specs.Plural.{HasRules, RulesFail, Prints, PluralFails};
 ghost use Rattle.cli.specs.Arguments.{PrintsFor, ArgumentsFail};
 
-use crate::arguments::start;
-use crate::categories::print_categories;
-use crate::diagnostics::{Diagnostics, ErrorLines, conclude};
-use crate::error::{ProgramError, WordsError};
-use crate::help::Program;
-use crate::named_rules::parse_rules;
+mod categories;
+
+use crate::plural::categories::print_categories;
+use crate::program::arguments::start;
+use crate::program::diagnostics::{Diagnostics, ErrorLines, conclude};
+use crate::program::error::{ProgramError, WordsError};
+use crate::program::help::Program;
+use conversions::parse_rules;
 use fixed_decimal::{BufferedOut, Closed};
 use plural_rules::PluralRules;
 use std::alloc::Global;

@@ -1,7 +1,7 @@
 use Rattle.std.proofs.Common.{◌≡◌, List, String, [], ◌∷◌, length, refl, rules, arith}
 use Rattle.std.specs.declared.alloc.Global.{Global}
-use Rattle.cli.specs.declared.error.WordsError.TheVariants.{NoText}
-use Rattle.cli.specs.declared.help.Program.TheVariants.{Fixdec}
+use Rattle.cli.specs.declared.program.error.WordsError.TheVariants.{NoText}
+use Rattle.cli.specs.declared.program.help.Program.TheVariants.{Fixdec}
 use Rattle.cli.specs.Error.{start_error}
 use Rattle.cli.specs.Fixdec.{HasError}
 use Rattle.cli.proofs.fixdec.parse_words.Goals as goal

@@ -1,9 +1,9 @@
 use Rattle.std.proofs.Common.{◌≡◌, Err, ap, ◌∙◌}
 use Rattle.std.proofs.lemmas.Result.{err_from_is_err_and}
-use Rattle.cli.specs.declared.error.ProgramError.TheVariants as program
+use Rattle.cli.specs.declared.program.error.ProgramError.TheVariants as program
 use Rattle.cli.specs.Error.{conversion_error}
-use Rattle.cli.proofs.Conversions.{output_fails}
-use Rattle.cli.proofs.Programs.{line_begun, line_kept, run_of, conversion_fails, conversion_output}
+use Rattle.conversions.proofs.lemmas.conversion.Conversions.{output_fails}
+use Rattle.cli.proofs.lemmas.program.Programs.{line_begun, line_kept, run_of, conversion_fails, conversion_output}
 use Rattle.cli.proofs.fixdec.print.Goals as goal
 
 pub returns-in_err-print_line-clause-error : goal.returns-in_err-print_line-clause-error

@@ -1,6 +1,6 @@
 use Rattle.std.proofs.Common.{◌≡◌, Err, rules}
-use Rattle.cli.specs.declared.error.OperationError.TheVariants.{Output}
-use Rattle.cli.proofs.Programs.{text_begun}
+use Rattle.conversions.specs.declared.error.OperationError.TheVariants.{Output}
+use Rattle.cli.proofs.lemmas.program.Programs.{text_begun}
 use Rattle.cli.proofs.fixdec.print_line.Goals as goal
 
 pub returns-in_err-convert-clause-prefix : goal.returns-in_err-convert-clause-prefix

@@ -1,5 +1,5 @@
 use Rattle.std.proofs.Common.{Err, ap, ◌∙◌}
-use Rattle.cli.proofs.Programs.{some_error}
+use Rattle.cli.proofs.lemmas.program.Programs.{some_error}
 use Rattle.cli.proofs.fixdec.program.Goals as goal
 
 pub returns-clause-reported : goal.returns-clause-reported

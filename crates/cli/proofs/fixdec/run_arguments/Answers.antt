@@ -2,12 +2,12 @@ use Rattle.std.proofs.Common.{◌≡◌, ◌≢◌, ◌∙◌, ℕ, List, inr, r
 use Rattle.std.specs.Io.Buffered.{writer_contents, writer_inner, writer_buffer}
 use Rattle.std.specs.Io.KnownBytes.{append_known}
 use Rattle.cli.specs.Fixdec.{PrintsPrefix}
-use Rattle.cli.specs.declared.error.ProgramError.TheVariants.{Output}
-use Rattle.cli.specs.declared.help.Program.TheVariants.{Fixdec}
+use Rattle.cli.specs.declared.program.error.ProgramError.TheVariants.{Output}
+use Rattle.cli.specs.declared.program.help.Program.TheVariants.{Fixdec}
 use Rattle.cli.specs.Error.{status_of}
-use Rattle.cli.proofs.Buffers.{new_writer}
-use Rattle.cli.proofs.Programs.{prints_kept, unwritten_fails}
-use Rattle.cli.proofs.Starting.{have_words, prints_for}
+use Rattle.cli.proofs.lemmas.program.Buffers.{new_writer}
+use Rattle.cli.proofs.lemmas.program.Programs.{prints_kept, unwritten_fails}
+use Rattle.cli.proofs.lemmas.program.Starting.{have_words, prints_for}
 use Rattle.cli.proofs.fixdec.run_arguments.Goals as goal
 
 pub returns-then-has_failed-clause-reported : goal.returns-then-has_failed-clause-reported

@@ -2,15 +2,15 @@ use Rattle.std.proofs.Common.{ℕ, List, [], Option, Some, Result, Ok, Err, IfEr
 use Rattle.std.specs.Io.KnownBytes.{Keeps, append_known}
 use Rattle.std.proofs.KnownBytes.{Appends-kept}
 use Rattle.decimal_digits.specs.AppendsPrefix.{AppendsPrefix}
-use Rattle.cli.specs.declared.error.ProgramError.{ProgramError}
-use Rattle.cli.specs.declared.error.ProgramError.TheVariants.{Start, Output}
-use Rattle.cli.specs.declared.filter.Filter.{Filter}
+use Rattle.cli.specs.declared.program.error.ProgramError.{ProgramError}
+use Rattle.cli.specs.declared.program.error.ProgramError.TheVariants.{Start, Output}
+use Rattle.cli.specs.declared.lines.filter.Filter.{Filter}
 use Rattle.cli.specs.Filter.{Effects, FilteredLine}
-use Rattle.cli.specs.declared.named_filter.NamedFilter.{NamedFilter}
+use Rattle.cli.specs.declared.lines.named_filter.NamedFilter.{NamedFilter}
 use Rattle.cli.specs.Lines.{AreFirst, number_after, Returns, Filters, AppendsUnwritten}
 use Rattle.cli.specs.NamedFilter.{EndsAtHeader, FiltersNamed}
 use Rattle.cli.specs.FixdecLines.{IsEarly}
-use Rattle.cli.proofs.Buffers.{append_known-nil}
+use Rattle.cli.proofs.lemmas.program.Buffers.{append_known-nil}
 use Rattle.cli.proofs.fixdec_lines.filter_words.Goals as goal
 
 unwritten :

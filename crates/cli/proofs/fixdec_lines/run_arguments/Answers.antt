@@ -1,9 +1,9 @@
 use Rattle.std.proofs.Common.{◌≡◌, Ok, Err, inl, inr, ap, refl, true, false, ◌∙◌, rules}
-use Rattle.cli.specs.declared.error.ProgramError.TheVariants.{Output}
-use Rattle.cli.specs.declared.help.Program.TheVariants.{FixdecLines}
-use Rattle.cli.specs.declared.error.WordsError.TheVariants.{Memory}
+use Rattle.cli.specs.declared.program.error.ProgramError.TheVariants.{Output}
+use Rattle.cli.specs.declared.program.help.Program.TheVariants.{FixdecLines}
+use Rattle.cli.specs.declared.program.error.WordsError.TheVariants.{Memory}
 use Rattle.cli.specs.Error.{start_error}
-use Rattle.cli.proofs.Starting.{have_words, prints_for, no_request}
+use Rattle.cli.proofs.lemmas.program.Starting.{have_words, prints_for, no_request}
 use Rattle.cli.proofs.fixdec_lines.run_arguments.Goals as goal
 
 pub returns-clause-reported : goal.returns-clause-reported

@@ -1,9 +1,9 @@
 use Rattle.std.proofs.Common.{◌≡◌, Err, inr, sym, ap, true, false, ◌∙◌}
 use Rattle.std.proofs.lemmas.Bool.{false≢true}
 use Rattle.std.proofs.lemmas.Result.{on_ok_weaker}
-use Rattle.cli.proofs.Buffers.{closed_contents}
-use Rattle.cli.proofs.Programs.{err_map}
-use Rattle.cli.proofs.Printing.{all_kept, stop_kept, begun, has_rules}
+use Rattle.cli.proofs.lemmas.program.Buffers.{closed_contents}
+use Rattle.cli.proofs.lemmas.program.Programs.{err_map}
+use Rattle.cli.proofs.lemmas.program.Printing.{all_kept, stop_kept, begun, has_rules}
 use Rattle.cli.proofs.plural.print.Goals as goal
 
 pub returns-then-has_failed-clause-error : goal.returns-then-has_failed-clause-error

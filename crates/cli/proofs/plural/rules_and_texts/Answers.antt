@@ -1,8 +1,8 @@
 use Rattle.std.proofs.Common.{◌≡◌, ◌≢◌, ◌<◌, [], ◌∷◌, length, string_bytes, inr, refl, ap, subst, arith, rules}
 use Rattle.cli.specs.Error.{error_of_rules}
-use Rattle.cli.specs.NamedRules.{NamesRules, NamesNoRules}
+use Rattle.conversions.specs.NamedRules.{NamesRules, NamesNoRules}
 use Rattle.cli.specs.Plural.{RulesFail}
-use Rattle.cli.proofs.Programs.{err_with}
+use Rattle.conversions.proofs.lemmas.words.Results.{err_with}
 use Rattle.cli.proofs.plural.rules_and_texts.Goals as goal
 
 pub returns-in_err-rules-clause-error : goal.returns-in_err-rules-clause-error

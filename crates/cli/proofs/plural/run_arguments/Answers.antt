@@ -1,8 +1,8 @@
 use Rattle.std.proofs.Common.{Option, Some, None, IsSomeAnd, inr}
-use Rattle.cli.specs.declared.help.Program.TheVariants.{Plural}
+use Rattle.cli.specs.declared.program.help.Program.TheVariants.{Plural}
 use Rattle.cli.specs.Plural.{Prints}
-use Rattle.cli.proofs.Programs.{at_ok, err_map, some_error}
-use Rattle.cli.proofs.Starting.{have_words, prints_for}
+use Rattle.cli.proofs.lemmas.program.Programs.{at_ok, err_map, some_error}
+use Rattle.cli.proofs.lemmas.program.Starting.{have_words, prints_for}
 use Rattle.cli.proofs.plural.run_arguments.Goals as goal
 
 some_map : {A : Type 0} {P Q : A → Type 0} (o : Option A) → ((x : A) → P x → Q x) → IsSomeAnd o P → IsSomeAnd o Q

@@ -1,7 +1,0 @@
-use Rattle.std.proofs.Common.{[], ◌∷◌}
-use Rattle.fixed_decimal.proofs.Calling.{on_err, prefix_more}
-use Rattle.cli.proofs.filter.copy_line.Goals as goal
-
-pub returns-in_err-put_bytes-clause-err : goal.returns-in_err-put_bytes-clause-err
-returns-in_err-put_bytes-clause-err g c =
-    on_err c.from_residual.result _ (prefix_more _ _ c.args.line.now (10 ∷ []) c.in_err-put_bytes.ensures.prefix)

@@ -1,5 +1,0 @@
-use Rattle.cli.proofs.UnknownTypes.{no_unknown_type}
-use Rattle.cli.proofs.laws.rules_have_no_unknown_type.Goals as goal
-
-pub returns : goal.returns
-returns c = no_unknown_type

@@ -1,0 +1,3 @@
+pub mod lines
+pub mod program
+pub mod words

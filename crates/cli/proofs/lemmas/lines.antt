@@ -1,0 +1,9 @@
+pub mod Editing
+pub mod FieldLines
+pub mod Filtering
+pub mod FirstLine
+pub mod FirstRecord
+pub mod HeaderNames
+pub mod NamedRuns
+pub mod Quotes
+pub mod Separators

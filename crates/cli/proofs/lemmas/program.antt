@@ -1,0 +1,5 @@
+pub mod Buffers
+pub mod Printing
+pub mod Programs
+pub mod Reporting
+pub mod Starting

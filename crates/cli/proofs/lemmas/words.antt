@@ -1,0 +1,3 @@
+pub mod CallWords
+pub mod FieldWords
+pub mod OptionWords

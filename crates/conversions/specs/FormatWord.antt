@@ -1,0 +1,108 @@
+-- The formatter that `format:LOCALE[:GROUPING|:SKELETON]` names.
+use Rattle.std.specs.Prelude.{◌≡◌, ◌≢◌, ◌⊎◌, ℕ, ◌-◌, ⊤, if◌then◌else◌, List, [], ◌++◌, take, drop, codes, Option, Some, None, Ok, Err}
+use Rattle.std.specs.Str.{is_utf8}
+use Rattle.decimal_format.specs.declared.grouping.GroupingStrategy.{GroupingStrategy}
+use Rattle.decimal_format.specs.declared.grouping.GroupingStrategy.TheVariants.{Auto, Never, Always, Min2}
+use Rattle.locale_data.specs.Locales.{IsLocale, IsUnknown}
+use Rattle.number_format.specs.declared.number_formatter.NumberFormatError.{NumberFormatError}
+use Rattle.number_format.specs.declared.number_formatter.NumberFormatError.TheVariants as formatter
+use Rattle.number_format.specs.declared.number_formatter.NumberFormatter.{NumberFormatter}
+use Rattle.number_format.specs.declared.number_options.NumberOptions.{NumberOptions}
+use Rattle.number_format.specs.declared.skeleton.SkeletonError.{SkeletonError}
+use Rattle.number_format.specs.declared.skeleton.SkeletonError.TheVariants as skeleton
+use Rattle.number_format.specs.Formatters.{IsFormatter, IsFormatterError}
+use Rattle.number_format.specs.SkeletonMeaning.{skeleton_options, options_value}
+use Rattle.conversions.specs.declared.error.FormError.{FormError}
+use Rattle.conversions.specs.declared.error.FormError.TheVariants.{NoSuchWord, UnknownLocale, SkeletonSyntax, SkeletonUnsupported}
+use Rattle.conversions.specs.declared.locale_formatter.LocaleFormatter.{LocaleFormatter}
+use Rattle.conversions.specs.declared.locale_formatter.LocaleFormatter.TheVariants.{AllDigits, Skeleton}
+use Rattle.conversions.specs.Parameters.{locale_tag, locale_option}
+use Rattle.conversions.specs.ShownWord.{IsShown}
+
+-- the word is `format:` and a text
+abbrev pub IsFormatWord : List ℕ → Type 0
+IsFormatWord word = (text : List ℕ) × (word ≡ codes "format:" ++ text)
+
+-- ---- Options.
+
+-- the word of a grouping strategy
+abbrev pub strategy_word : GroupingStrategy → List ℕ
+strategy_word Auto = codes "auto"
+strategy_word Never = codes "never"
+strategy_word Always = codes "always"
+strategy_word Min2 = codes "min2"
+
+-- the option is the word of the strategy; none is `Auto`
+abbrev pub IsStrategyOption : Option (List ℕ) → GroupingStrategy → Type 0
+IsStrategyOption None strategy = strategy ≡ Auto
+IsStrategyOption (Some option) strategy = option ≡ strategy_word strategy
+
+-- the option is a skeleton: any other text, but the empty one
+abbrev pub IsSkeletonOption : Option (List ℕ) → List ℕ → Type 0
+IsSkeletonOption option text =
+    (option ≡ Some text) × (text ≢ []) × ((strategy : GroupingStrategy) → ¬ IsStrategyOption option strategy)
+
+-- ---- Formatters by a skeleton.
+
+-- the formatter of a locale and of the options that a skeleton names
+abbrev pub IsNumberFormatter : List ℕ → List ℕ → NumberFormatter → Type 0
+IsNumberFormatter tag text f =
+    (o : NumberOptions) × (skeleton_options text ≡ Ok (options_value o)) × IsFormatter tag o f
+
+-- the bytes of a skeleton between these offsets, which are those of a stem; none if they are no text
+abbrev pub stem_bytes : List ℕ → ℕ → ℕ → List ℕ
+stem_bytes text start end =
+    let bytes = take (end - start) (drop start text) in if is_utf8 bytes then bytes else []
+
+-- the error of a skeleton: the offset, or the stem
+abbrev pub IsErrorOfSkeleton : List ℕ → SkeletonError → FormError → Type 0
+IsErrorOfSkeleton text (skeleton.Syntax at) error = error ≡ SkeletonSyntax at
+IsErrorOfSkeleton text (skeleton.Unsupported start end) (SkeletonUnsupported stem) =
+    IsShown (stem_bytes text start end) stem
+IsErrorOfSkeleton text why error = ⊥
+
+-- the error of options in a locale: the tag, or the stem of the numbering system
+abbrev pub IsErrorOfFormatter : List ℕ → NumberFormatError → FormError → Type 0
+IsErrorOfFormatter tag formatter.UnknownLocale (UnknownLocale shown) = IsShown tag shown
+IsErrorOfFormatter tag formatter.UnknownNumberingSystem (SkeletonUnsupported stem) =
+    IsShown (codes "numbering-system") stem
+IsErrorOfFormatter tag why error = ⊥
+
+-- the text is no skeleton of the library; or it is one, and its options have no formatter in the locale
+abbrev pub NumberFormatterFails : List ℕ → List ℕ → FormError → Type 0
+NumberFormatterFails tag text error =
+    ((why : SkeletonError) × (skeleton_options text ≡ Err why) × IsErrorOfSkeleton text why error)
+    ⊎ ((o : NumberOptions) × (skeleton_options text ≡ Ok (options_value o))
+    × ((why : NumberFormatError) × IsFormatterError tag o.numbering_system why × IsErrorOfFormatter tag why error))
+
+-- ---- The word.
+
+-- `format:..` names this formatter; without it there is none
+abbrev pub NamesFormatter : Option (List ℕ) → Option LocaleFormatter → Type 0
+NamesFormatter None None = ⊤
+NamesFormatter (Some format) (Some (AllDigits f)) =
+    IsStrategyOption (locale_option format) f.strategy × IsLocale (locale_tag format) f.symbols
+NamesFormatter (Some format) (Some (Skeleton f)) =
+    (text : List ℕ) × IsSkeletonOption (locale_option format) text × IsNumberFormatter (locale_tag format) text f
+NamesFormatter _ _ = ⊥
+
+-- the locale with this tag is unknown
+abbrev pub IsUnknownLocale : List ℕ → FormError → Type 0
+IsUnknownLocale tag (UnknownLocale shown) = IsUnknown tag × IsShown tag shown
+IsUnknownLocale tag error = ⊥
+
+-- the option of the word is empty
+abbrev pub IsEmptyOption : List ℕ → FormError → Type 0
+IsEmptyOption format (NoSuchWord word) = (locale_option format ≡ Some []) × IsShown format word
+IsEmptyOption format error = ⊥
+
+-- `format:..` names no formatter: the option is empty; or it is that of a strategy, and the locale is unknown; or there
+-- is no formatter by the skeleton
+abbrev pub FormatterFails : Option (List ℕ) → FormError → Type 0
+FormatterFails None error = ⊥
+FormatterFails (Some format) error =
+    IsEmptyOption format error
+    ⊎ ((((strategy : GroupingStrategy) × IsStrategyOption (locale_option format) strategy)
+    × IsUnknownLocale (locale_tag format) error)
+    ⊎ ((text : List ℕ) × IsSkeletonOption (locale_option format) text
+    × NumberFormatterFails (locale_tag format) text error))

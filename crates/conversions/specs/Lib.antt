@@ -1,0 +1,11 @@
+-- Trusted specification.
+pub mod Calls
+pub mod Conversion
+pub mod Error
+pub mod FormatWord
+pub mod Lines
+pub mod NamedRules
+pub mod Parameters
+pub mod ReadWord
+pub mod Reader
+pub mod ShownWord

@@ -1,0 +1,72 @@
+-- The plural rules that a word names: those of a locale, or those that it is the text of.
+use Rattle.std.specs.Prelude.{◌≡◌, ◌≢◌, ℕ, ◌==◌, ◌&&◌, ◌||◌, Bool, true, false, List, [], ◌∷◌, codes, Option, Some, None, Err}
+use Rattle.std.specs.Char.{is_ascii_alphabetic, is_ascii_alphanumeric}
+use Rattle.std.specs.List.{list_all}
+use Rattle.plural_rules.specs.declared.parse.RulesError.TheVariants as rules
+use Rattle.plural_rules.specs.Rules.{RuleValue}
+use Rattle.plural_rules.specs.RulesGrammar.{Grammar}
+use Rattle.plural_rules.specs.RulesParseResult.{IsParseResult}
+use Rattle.locale_data.specs.declared.plurals.PluralRuleType.{PluralRuleType}
+use Rattle.locale_data.specs.declared.plurals.PluralRuleType.TheVariants.{Cardinal, Ordinal}
+use Rattle.locale_data.specs.Plurals.{IsRulesText, HasNoRules}
+use Rattle.conversions.specs.declared.named_rules.NamedRulesError.{NamedRulesError}
+use Rattle.conversions.specs.declared.named_rules.NamedRulesError.TheVariants.{UnknownLocale, UnknownType, Rules}
+use Rattle.conversions.specs.ShownWord.{IsShown}
+use Rattle.conversions.specs.Parameters.{tag_of, option_of}
+
+-- a letter, a digit, or one of - _ . @
+abbrev pub is_tag_byte : ℕ → Bool
+is_tag_byte byte = is_ascii_alphanumeric byte || (byte == 45 || (byte == 95 || (byte == 46 || byte == 64)))
+
+-- the form of a tag: a letter, and then letters, digits and - _ . @
+abbrev pub is_tag : List ℕ → Bool
+is_tag [] = false
+is_tag (first ∷ rest) = is_ascii_alphabetic first && list_all is_tag_byte rest
+
+-- the word of a type
+abbrev pub type_word : PluralRuleType → List ℕ
+type_word Cardinal = codes "cardinal"
+type_word Ordinal = codes "ordinal"
+
+-- the option is the word of the type; none is `Cardinal`
+abbrev pub IsTypeOption : Option (List ℕ) → PluralRuleType → Type 0
+IsTypeOption None rule_type = rule_type ≡ Cardinal
+IsTypeOption (Some option) rule_type = option ≡ type_word rule_type
+
+-- the word is a tag, or a tag, a colon and the word of a type: `ru`, `en:ordinal`
+abbrev pub NamesLocale : List ℕ → PluralRuleType → Type 0
+NamesLocale word rule_type = (is_tag (tag_of word) ≡ true) × IsTypeOption (option_of word) rule_type
+
+-- the word is a tag, a colon and letters that are the word of no type: `en:ordnial`. No text of rules has this form,
+-- since each condition has a relation
+abbrev pub HasUnknownType : List ℕ → List ℕ → Type 0
+HasUnknownType word letters =
+    (is_tag (tag_of word) ≡ true) × (option_of word ≡ Some letters) × (letters ≢ [])
+    × (list_all is_ascii_alphabetic letters ≡ true) × ((rule_type : PluralRuleType) → letters ≢ type_word rule_type)
+
+-- the word has neither form: it is the text of rules, or rejected as such
+abbrev pub IsOther : List ℕ → Type 0
+IsOther word =
+    ((rule_type : PluralRuleType) → ¬ NamesLocale word rule_type)
+    × ((letters : List ℕ) → ¬ HasUnknownType word letters)
+
+-- the text of the rules that a word names: that of its locale; or the word itself, which has no form of a locale
+pub data IsTextOfRules (word text : List ℕ) : Type 0 where
+  of_locale : (rule_type : PluralRuleType) → NamesLocale word rule_type → IsRulesText (tag_of word) rule_type text
+      → IsTextOfRules word text
+  of_word : IsOther word → text ≡ word → IsTextOfRules word text
+
+-- the word names these rules
+abbrev pub NamesRules : List ℕ → List RuleValue → Type 0
+NamesRules word rules = (text : List ℕ) × IsTextOfRules word text × Grammar text rules
+
+-- the word names no rules: its locale has none, or its type is unknown; or there is no memory for them; or it is no
+-- text of rules
+abbrev pub NamesNoRules : List ℕ → NamedRulesError → Type 0
+NamesNoRules word (UnknownLocale tag) =
+    ((rule_type : PluralRuleType) × NamesLocale word rule_type) × HasNoRules (tag_of word) × IsShown (tag_of word) tag
+NamesNoRules word (UnknownType shown) =
+    (letters : List ℕ) × HasUnknownType word letters × IsShown letters shown
+NamesNoRules word (Rules rules.Memory) =
+    (text : List ℕ) × IsTextOfRules word text × IsParseResult text (Err rules.Memory)
+NamesNoRules word (Rules why) = IsOther word × IsParseResult word (Err why)

@@ -1,0 +1,71 @@
+-- The reader that `read:LOCALE[:lenient][:SKELETON]` names.
+use Rattle.std.specs.Prelude.{◌≡◌, ◌≢◌, ◌⊎◌, ℕ, ⊤, List, [], ◌++◌, codes, Option, Some, None}
+use Rattle.locale_data.specs.Locales.{IsLocale}
+use Rattle.number_format.specs.declared.number_formatter.NumberFormatter.{NumberFormatter}
+use Rattle.number_format.specs.declared.number_reader.ParseMode.{ParseMode}
+use Rattle.number_format.specs.declared.number_reader.ParseMode.TheVariants.{Strict, Lenient}
+use Rattle.number_format.specs.NumberReading.{CanRead, NumberReader, number_reader_of}
+use Rattle.conversions.specs.declared.error.FormError.{FormError}
+use Rattle.conversions.specs.declared.error.FormError.TheVariants.{NoSuchWord, NoReader, Memory}
+use Rattle.conversions.specs.declared.reader.LocaleReader.{LocaleReader}
+use Rattle.conversions.specs.declared.reader.LocaleReader.TheVariants.{Decimals, Numbers}
+use Rattle.conversions.specs.FormatWord.{IsNumberFormatter, NumberFormatterFails, IsUnknownLocale}
+use Rattle.conversions.specs.Parameters.{tag_of, option_of, locale_tag, locale_option}
+use Rattle.conversions.specs.ShownWord.{IsShown}
+
+-- the word is `read:` and a text
+abbrev pub IsReadWord : List ℕ → Type 0
+IsReadWord word = (text : List ℕ) × (word ≡ codes "read:" ++ text)
+
+-- the option has this mode and this skeleton: `lenient`, `lenient:SKELETON`, or `SKELETON`
+abbrev pub IsReadOption : Option (List ℕ) → ParseMode → Option (List ℕ) → Type 0
+IsReadOption None mode skeleton = (mode ≡ Strict) × (skeleton ≡ None)
+IsReadOption (Some option) Lenient skeleton = (tag_of option ≡ codes "lenient") × (skeleton ≡ option_of option)
+IsReadOption (Some option) Strict skeleton = (tag_of option ≢ codes "lenient") × (skeleton ≡ Some option)
+
+-- the texts of the formatter by the tag and the skeleton are read, and this is its reader
+abbrev pub IsNumberReader : List ℕ → List ℕ → NumberReader → Type 0
+IsNumberReader tag text r =
+    (f : NumberFormatter) × IsNumberFormatter tag text f × CanRead f × (r ≡ number_reader_of f)
+
+-- `read:..` names this reader; without it there is none
+abbrev pub NamesReader : Option (List ℕ) → Option LocaleReader → Type 0
+NamesReader None None = ⊤
+NamesReader (Some read) (Some (Decimals r)) =
+    IsReadOption (locale_option read) r.mode None × IsLocale (locale_tag read) r.symbols
+NamesReader (Some read) (Some (Numbers r)) =
+    (text : List ℕ) × IsReadOption (locale_option read) r.mode (Some text) × (text ≢ [])
+    × IsNumberReader (locale_tag read) text r.reader
+NamesReader _ _ = ⊥
+
+-- ---- Errors.
+
+-- the texts of the formatter are not read; or they are, and the program is out of memory for them
+abbrev pub IsErrorOfReader : NumberFormatter → FormError → Type 0
+IsErrorOfReader f NoReader = ¬ CanRead f
+IsErrorOfReader f Memory = CanRead f
+IsErrorOfReader f error = ⊥
+
+-- the skeleton has no formatter in the locale; or it has one, and there is no reader
+abbrev pub SkeletonReaderFails : List ℕ → List ℕ → FormError → Type 0
+SkeletonReaderFails tag text error =
+    NumberFormatterFails tag text error
+    ⊎ ((f : NumberFormatter) × IsNumberFormatter tag text f × IsErrorOfReader f error)
+
+-- the skeleton is empty
+abbrev pub IsEmptySkeleton : List ℕ → List ℕ → FormError → Type 0
+IsEmptySkeleton read text (NoSuchWord word) = (text ≡ []) × IsShown read word
+IsEmptySkeleton read text error = ⊥
+
+-- a word with this skeleton names no reader: without one, the locale is unknown; or it is empty, or has no reader
+abbrev pub SkeletonFails : List ℕ → Option (List ℕ) → FormError → Type 0
+SkeletonFails read None error = IsUnknownLocale (locale_tag read) error
+SkeletonFails read (Some text) error =
+    IsEmptySkeleton read text error ⊎ ((text ≢ []) × SkeletonReaderFails (locale_tag read) text error)
+
+-- `read:..` names no reader
+abbrev pub ReaderFails : Option (List ℕ) → FormError → Type 0
+ReaderFails None error = ⊥
+ReaderFails (Some read) error =
+    (mode : ParseMode) × (skeleton : Option (List ℕ)) × IsReadOption (locale_option read) mode skeleton
+    × SkeletonFails read skeleton error
