@@ -149,7 +149,7 @@ fn scaled(
 }
 
 /// Reads a decimal, as `0.05`, `+5.` or `1e-2`.
-pub(crate) fn decimal(text: &[u8]) -> Option<Decimal>
+pub(crate) fn read_decimal(text: &[u8]) -> Option<Decimal>
     ensures { result ≡ decimal text.now }
 {
     let unsigned = after(text, sign_length(text));

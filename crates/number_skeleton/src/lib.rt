@@ -18,8 +18,8 @@ mod error;
 mod meaning;
 mod no_stem;
 mod options;
-mod parse;
-mod print;
+mod parser;
+mod printer;
 mod reading;
 mod resolve;
 mod same;
@@ -28,5 +28,5 @@ mod text;
 mod words;
 
 pub use error::SkeletonError;
-pub use parse::parse;
-pub use print::to_skeleton;
+pub use parser::parse;
+pub use printer::to_skeleton;

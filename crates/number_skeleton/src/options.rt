@@ -6,7 +6,7 @@ use crate::choices::{
     Choice, ChosenNotation, ChosenPrecision, ChosenUnit, Exponent, TwoCounts,
 };
 use crate::counts::{Counts, after, byte_at, is_byte, is_wild, run};
-use crate::decimal::decimal;
+use crate::decimal::read_decimal;
 use crate::meaning::{Expected, Meaning};
 use crate::words::{is_algorithmic, is_name, named};
 use fixed_decimal::SignDisplay;
@@ -128,14 +128,14 @@ fn system_option(text: &[u8]) -> Option<Meaning>
 fn scale_option(text: &[u8]) -> Option<Meaning>
     ensures { result ≡ scale_option text.now }
 {
-    last(Choice::Scale(decimal(text)?))
+    last(Choice::Scale(read_decimal(text)?))
 }
 
 fn increment_option(text: &[u8]) -> Option<Meaning>
     ensures { result ≡ increment_option text.now }
 {
     Some(Meaning {
-        choice: Choice::Precision(ChosenPrecision::Increment(decimal(text)?)),
+        choice: Choice::Precision(ChosenPrecision::Increment(read_decimal(text)?)),
         expected: Expected::StripIfInteger,
     })
 }

@@ -5,7 +5,7 @@ ghost use Rattle.number_skeleton.specs.Stems.{fraction_stem, significant_stem, e
 use crate::choices::{Choice, ChosenNotation, ChosenPrecision, Exponent};
 use crate::counts::{Counts, after, byte_at, digit_counts, run};
 use crate::meaning::{Expected, Meaning};
-use crate::words::named;
+use crate::words::{NO_DIGITS, named};
 use number_format::ExponentSign;
 
 fn fraction_stem(text: &[u8]) -> Option<Meaning>

@@ -33,7 +33,7 @@ const ONE_ENGINEERING_DIGIT: Exponent = Exponent {
     sign: ExponentSign::Auto,
 };
 
-const NO_DIGITS: Counts = Counts {
+pub(crate) const NO_DIGITS: Counts = Counts {
     min: 0,
     max: Some(0),
 };

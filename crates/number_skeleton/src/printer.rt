@@ -4,7 +4,7 @@ ghost use Rattle.number_skeleton.specs.Meaning.{skeleton_options, options_value,
 ghost use Rattle.number_skeleton.specs.NoStem.{has_no_stem};
 
 use crate::no_stem::has_no_stem;
-use crate::parse::parse;
+use crate::parser::parse;
 use crate::same::same_options;
 use crate::text::push_skeleton;
 use number_format::{CurrencyStyle, NumberOptions, NumberStyle};
