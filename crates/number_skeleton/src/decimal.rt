@@ -130,12 +130,7 @@ fn after_point(rest: &[u8]) -> Option<usize>
     None
 }
 
-fn scaled(
-    significand: Significand,
-    exponent: i128,
-    is_negative: bool,
-    rest: &[u8],
-) -> Decimal
+fn scaled(significand: Significand, exponent: i128, is_negative: bool, rest: &[u8]) -> Decimal
     requires at_least { negsuc 999999999 ≤ℤ exponent }
     requires at_most { exponent ≤ℤ pos 999999999 }
     ensures { result ≡ scaled significand exponent is_negative rest.now }

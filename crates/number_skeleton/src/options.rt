@@ -2,9 +2,7 @@
 ghost use Rattle.std.specs.Prelude.{◌≡◌};
 ghost use Rattle.number_skeleton.specs.Options.{last, chosen_exponent_sign, sign_option, changed_exponent, exponent_option, is_code_byte, currency_option, integer_option, decimal_system, system_option, scale_option, increment_option, both, strip_option, significant_option, option};
 
-use crate::choices::{
-    Choice, ChosenNotation, ChosenPrecision, ChosenUnit, Exponent, TwoCounts,
-};
+use crate::choices::{Choice, ChosenNotation, ChosenPrecision, ChosenUnit, Exponent, TwoCounts};
 use crate::counts::{Counts, after, byte_at, is_byte, is_wild, run};
 use crate::decimal::read_decimal;
 use crate::meaning::{Expected, Meaning};

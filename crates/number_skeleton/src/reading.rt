@@ -103,12 +103,7 @@ impl Reading {
 
     /// Reads the piece from an offset, which a slash ends, or a white space or the end of the text.
     #[tactic(auto, unfolding(crate::specs::Reading::next))]
-    fn next(
-        self,
-        start: usize,
-        text: &[u8],
-        ends_in_slash: bool,
-    ) -> Result<Self, SkeletonError>
+    fn next(self, start: usize, text: &[u8], ends_in_slash: bool) -> Result<Self, SkeletonError>
         requires { start + length text.now < 2 ^ 64 }
         ensures { result ≡ next self start text.now ends_in_slash }
     {

@@ -5,11 +5,11 @@ use Rattle.std.proofs.lemmas.Int.{ints}
 use Rattle.number_skeleton.proofs.decimal.scaled.Goals as goal
 
 -- the power, as the code computes it in 128 bits
-power_is : (zeroes fraction : ℕ) (e : ℤ) → zeroes < 2 ^ 64 → fraction < 2 ^ 64 → negsuc 999999999 ≤ℤ e
+power_is : (count fraction : ℕ) (e : ℤ) → count < 2 ^ 64 → fraction < 2 ^ 64 → negsuc 999999999 ≤ℤ e
     → e ≤ℤ pos 999999999
-    → to_z w128 (of_z w128 (to_z w128 (of_z w128 (to_z w128 zeroes +ℤ to_z w128 (of_z w128 e))) -ℤ to_z w128 fraction))
-    ≡ (pos zeroes +ℤ e) -ℤ pos fraction
-power_is zeroes fraction e few less low high = omega (arith, ints)
+    → to_z w128 (of_z w128 (to_z w128 (of_z w128 (to_z w128 count +ℤ to_z w128 (of_z w128 e))) -ℤ to_z w128 fraction))
+    ≡ (pos count +ℤ e) -ℤ pos fraction
+power_is count fraction e few less low high = omega (arith, ints)
 
 pub returns : goal.returns
 returns c =
