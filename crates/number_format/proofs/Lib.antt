@@ -2,7 +2,6 @@ pub mod Roundings
 pub mod Applied
 pub mod Scales
 pub mod DigitLaws
-pub mod SkeletonPieces
 pub mod NamedAffixes
 pub mod AffixedNumbers
 pub mod ReadBack

@@ -2,16 +2,6 @@ pub mod Increments
 pub mod ShownDigits
 pub mod Resolved
 pub mod Scaled
-pub mod SkeletonCounts
-pub mod SkeletonDecimals
-pub mod SkeletonChoices
-pub mod SkeletonWords
-pub mod SkeletonStems
-pub mod SkeletonOptions
-pub mod SkeletonReading
-pub mod SkeletonDigits
-pub mod SkeletonMeaning
-pub mod NoSkeletons
 pub mod AffixedTexts
 pub mod TextParts
 pub mod DefaultDigits

@@ -10,7 +10,8 @@ use fixed_decimal::{SignedRoundingMode, UnsignedRoundingMode};
 use locale_data::{CurrencyDigits, currency_digits};
 
 impl CurrencyUsage {
-    pub(crate) fn digits(self, currency: CurrencyDigits) -> (u8, u8)
+    /// Returns the number of fraction digits that a currency has for this use, and its increment, 0 if it has none.
+    pub fn digits(self, currency: CurrencyDigits) -> (u8, u8)
         ensures { result ≡ usage_digits self currency }
     {
         match self {
@@ -21,7 +22,8 @@ impl CurrencyUsage {
 }
 
 impl NumberOptions {
-    pub(crate) fn is_compact(&self) -> bool
+    /// Returns whether the notation is compact.
+    pub fn is_compact(&self) -> bool
         ensures { result ≡ is_compact self.now.notation }
     {
         matches!(self.notation, NumberNotation::Compact(_))

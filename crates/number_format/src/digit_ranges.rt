@@ -152,6 +152,25 @@ impl Increment {
         };
         Ok(Increment { base, zeros })
     }
+
+    /// Returns the increment as an integer.
+    pub fn value(self) -> u16
+        ensures value { result ≡ step_of self.base * 10 ^ self.zeros }
+        ensures at_most { result ≤ 5000 }
+    {
+        let base: u16 = match self.base {
+            RoundingIncrement::MultiplesOf1 => 1,
+            RoundingIncrement::MultiplesOf2 => 2,
+            RoundingIncrement::MultiplesOf5 => 5,
+            RoundingIncrement::MultiplesOf25 => 25,
+        };
+        match self.zeros {
+            0 => base,
+            1 => base * 10,
+            2 => base * 100,
+            _ => base * 1000,
+        }
+    }
 }
 
 impl FractionMultiples {

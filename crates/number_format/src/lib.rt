@@ -45,7 +45,6 @@ mod scale;
 mod settings;
 mod short_text;
 mod sign_texts;
-mod skeleton;
 mod text_part;
 
 pub use affixes::SignAffixes;
@@ -68,5 +67,4 @@ pub use precision::{BothDigits, Minimum, Precision};
 pub use reader::{AffixError, AffixReader};
 pub use scale::Scaled;
 pub use settings::{DigitDefaults, DigitSettings, RoundingPriority};
-pub use skeleton::SkeletonError;
 pub use text_part::{PartKind, TextPart};

@@ -1,9 +1,0 @@
-use Rattle.std.proofs.Common.{◌≡◌, ◌≤◌, take}
-use Rattle.number_format.specs.SkeletonDecimals.{significand}
-use Rattle.number_format.proofs.skeleton.decimal.significand_of.Given as goal
-
-abbrev pub invariant-loop-byte : goal.invariant-loop-byte
-invariant-loop-byte l = record {
-  value : l.significand ≡ significand (take l.byte-index l.mantissa);
-  few : l.significand.zeros ≤ l.byte-index;
-}

@@ -1,0 +1,10 @@
+pub mod Counts
+pub mod Decimal
+pub mod Choices
+pub mod Words
+pub mod Stems
+pub mod Options
+pub mod Reading
+pub mod Digits
+pub mod Meaning
+pub mod NoStem

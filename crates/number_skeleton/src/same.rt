@@ -1,0 +1,150 @@
+//! Whether two options are the same.
+ghost use Rattle.std.specs.Prelude.{◌≡◌, ◌↔◌, true};
+ghost use Rattle.std.specs.Option.{option_map};
+ghost use Rattle.number_format.specs.Resolved.{counts};
+ghost use Rattle.number_skeleton.specs.Digits.{precision_value, digits_value};
+ghost use Rattle.number_skeleton.specs.Meaning.{options_value};
+ghost use Rattle.number_format.specs.declared.precision.Precision.TheVariants.{Multiples, MorePrecision};
+
+use number_format::{
+    BothDigits, DigitOptions, ExponentOptions, FractionDigits, FractionMultiples, Minimum,
+    NumberNotation, NumberOptions, NumberStyle, Precision, SignificantDigits, TrailingZeros,
+};
+
+fn same_style(first: NumberStyle, second: NumberStyle) -> bool
+    ensures { (result ≡ true) ↔ (first ≡ second) }
+{
+    match (first, second) {
+        (NumberStyle::Decimal, NumberStyle::Decimal) => true,
+        (NumberStyle::Percent, NumberStyle::Percent) => true,
+        (NumberStyle::Permille, NumberStyle::Permille) => true,
+        (NumberStyle::Currency(first), NumberStyle::Currency(second)) => {
+            first.code == second.code
+                && first.display == second.display
+                && first.sign == second.sign
+                && first.usage == second.usage
+        }
+        _ => false,
+    }
+}
+
+fn same_exponent(first: ExponentOptions, second: ExponentOptions) -> bool
+    ensures { (result ≡ true) ↔ (first ≡ second) }
+{
+    first.digits == second.digits && first.sign == second.sign
+}
+
+fn same_notation(first: NumberNotation, second: NumberNotation) -> bool
+    ensures { (result ≡ true) ↔ (first ≡ second) }
+{
+    match (first, second) {
+        (NumberNotation::Standard, NumberNotation::Standard) => true,
+        (NumberNotation::Scientific(first), NumberNotation::Scientific(second)) => {
+            same_exponent(first, second)
+        }
+        (NumberNotation::Engineering(first), NumberNotation::Engineering(second)) => {
+            same_exponent(first, second)
+        }
+        (NumberNotation::Compact(first), NumberNotation::Compact(second)) => first == second,
+        _ => false,
+    }
+}
+
+fn same_fraction(first: FractionDigits, second: FractionDigits) -> bool
+    ensures { (result ≡ true) ↔ (counts first.min first.max ≡ counts second.min second.max) }
+{
+    first.min == second.min && first.max == second.max
+}
+
+fn same_significant(first: SignificantDigits, second: SignificantDigits) -> bool
+    ensures { (result ≡ true) ↔ (counts first.min first.max ≡ counts second.min second.max) }
+{
+    first.min == second.min && first.max == second.max
+}
+
+fn same_multiples(first: FractionMultiples, second: FractionMultiples) -> bool
+    ensures { (result ≡ true) ↔ (precision_value (Multiples first) ≡ precision_value (Multiples second)) }
+{
+    first.digits == second.digits && first.increment.value() == second.increment.value()
+}
+
+fn same_minimum(first: Minimum, second: Minimum) -> bool
+    ensures { (result ≡ true) ↔ (first ≡ second) }
+{
+    match (first, second) {
+        (Minimum::Chosen, Minimum::Chosen) | (Minimum::Both, Minimum::Both) => true,
+        _ => false,
+    }
+}
+
+fn same_both(first: BothDigits, second: BothDigits) -> bool
+    ensures { (result ≡ true) ↔ (precision_value (MorePrecision first) ≡ precision_value (MorePrecision second)) }
+{
+    same_fraction(first.fraction, second.fraction)
+        && same_significant(first.significant, second.significant)
+        && same_minimum(first.minimum, second.minimum)
+}
+
+fn same_precision(first: Precision, second: Precision) -> bool
+    ensures { (result ≡ true) ↔ (precision_value first ≡ precision_value second) }
+{
+    match (first, second) {
+        (Precision::Fraction(first), Precision::Fraction(second)) => same_fraction(first, second),
+        (Precision::Multiples(first), Precision::Multiples(second)) => {
+            same_multiples(first, second)
+        }
+        (Precision::Significant(first), Precision::Significant(second)) => {
+            same_significant(first, second)
+        }
+        (Precision::MorePrecision(first), Precision::MorePrecision(second)) => {
+            same_both(first, second)
+        }
+        (Precision::LessPrecision(first), Precision::LessPrecision(second)) => {
+            same_both(first, second)
+        }
+        _ => false,
+    }
+}
+
+fn same_trailing_zeros(first: TrailingZeros, second: TrailingZeros) -> bool
+    ensures { (result ≡ true) ↔ (first ≡ second) }
+{
+    match (first, second) {
+        (TrailingZeros::Auto, TrailingZeros::Auto) => true,
+        (TrailingZeros::StripIfInteger, TrailingZeros::StripIfInteger) => true,
+        _ => false,
+    }
+}
+
+fn same_digits(first: DigitOptions, second: DigitOptions) -> bool
+    ensures { (result ≡ true) ↔ (digits_value first ≡ digits_value second) }
+{
+    first.integer.min == second.integer.min
+        && first.integer.max == second.integer.max
+        && same_precision(first.precision, second.precision)
+        && first.mode == second.mode
+        && same_trailing_zeros(first.trailing_zeros, second.trailing_zeros)
+}
+
+fn same_digit_options(first: Option<DigitOptions>, second: Option<DigitOptions>) -> bool
+    ensures { (result ≡ true) ↔ (option_map digits_value first ≡ option_map digits_value second) }
+{
+    match (first, second) {
+        (None, None) => true,
+        (Some(first), Some(second)) => same_digits(first, second),
+        _ => false,
+    }
+}
+
+/// Returns whether two options are the same.
+pub(crate) fn same_options(first: &NumberOptions, second: &NumberOptions) -> bool
+    ensures { (result ≡ true) ↔ (options_value first.now ≡ options_value second.now) }
+{
+    same_style(first.style, second.style)
+        && first.scale == second.scale
+        && same_notation(first.notation, second.notation)
+        && same_digit_options(first.digits, second.digits)
+        && first.sign_display == second.sign_display
+        && first.grouping == second.grouping
+        && first.numbering_system == second.numbering_system
+}

@@ -1,0 +1,183 @@
+//! The text of options as a skeleton: a stem for each option that is not the default, in the words and the order of
+//! ICU's normal form. Beyond ICU's, `group-auto` is written in compact notation, and stems of default precisions are
+//! left out.
+mod numbers;
+mod precision;
+
+use decimal_format::GroupingStrategy;
+use fixed_decimal::{SignDisplay, SignedRoundingMode, UnsignedRoundingMode};
+use locale_data::{CurrencyCode, CurrencySign, Name};
+use number_format::{
+    CompactLength, CurrencyDisplay, ExponentOptions, ExponentSign, IntegerDigits, NumberNotation,
+    NumberOptions, NumberStyle,
+};
+use numbers::{push_name, push_number, push_power, push_run};
+use precision::push_shown_precision;
+use std::alloc::AllocError;
+
+/// Appends `scientific/*ee/sign-always`.
+fn push_exponent(
+    text: &mut String,
+    stem: &str,
+    exponent: ExponentOptions,
+) -> Result<(), AllocError> {
+    text.push_str(stem)?;
+    if exponent.digits != 1 {
+        text.push_str("/*")?;
+        push_run(text, 'e', exponent.digits as u32)?;
+    }
+    text.push_str(match exponent.sign {
+        ExponentSign::Auto => " ",
+        ExponentSign::Always => "/sign-always ",
+        ExponentSign::Never => "/sign-never ",
+    })
+}
+
+fn push_notation(text: &mut String, notation: NumberNotation) -> Result<(), AllocError> {
+    match notation {
+        NumberNotation::Standard => Ok(()),
+        NumberNotation::Scientific(exponent) => push_exponent(text, "scientific", exponent),
+        NumberNotation::Engineering(exponent) => push_exponent(text, "engineering", exponent),
+        NumberNotation::Compact(CompactLength::Short) => text.push_str("compact-short "),
+        NumberNotation::Compact(CompactLength::Long) => text.push_str("compact-long "),
+    }
+}
+
+fn push_currency(text: &mut String, code: CurrencyCode) -> Result<(), AllocError> {
+    text.push_str("currency/")?;
+    push_name(text, &code)?;
+    text.push(' ')
+}
+
+fn push_unit(text: &mut String, style: NumberStyle) -> Result<(), AllocError> {
+    match style {
+        NumberStyle::Decimal => Ok(()),
+        NumberStyle::Percent => text.push_str("percent "),
+        NumberStyle::Permille => text.push_str("permille "),
+        NumberStyle::Currency(currency) => push_currency(text, currency.code),
+    }
+}
+
+fn mode_text(mode: SignedRoundingMode) -> &'static str {
+    match mode {
+        SignedRoundingMode::Ceil => "rounding-mode-ceiling ",
+        SignedRoundingMode::Floor => "rounding-mode-floor ",
+        SignedRoundingMode::HalfCeil => "rounding-mode-half-ceiling ",
+        SignedRoundingMode::HalfFloor => "rounding-mode-half-floor ",
+        SignedRoundingMode::Unsigned(mode) => match mode {
+            UnsignedRoundingMode::Expand => "rounding-mode-up ",
+            UnsignedRoundingMode::Trunc => "rounding-mode-down ",
+            UnsignedRoundingMode::HalfExpand => "rounding-mode-half-up ",
+            UnsignedRoundingMode::HalfTrunc => "rounding-mode-half-down ",
+            UnsignedRoundingMode::HalfEven => "",
+        },
+    }
+}
+
+fn grouping_text(is_compact: bool, grouping: GroupingStrategy) -> &'static str {
+    match (is_compact, grouping) {
+        (true, GroupingStrategy::Min2) | (false, GroupingStrategy::Auto) => "",
+        (true, GroupingStrategy::Auto) => "group-auto ",
+        (false, GroupingStrategy::Min2) => "group-min2 ",
+        (_, GroupingStrategy::Never) => "group-off ",
+        (_, GroupingStrategy::Always) => "group-on-aligned ",
+    }
+}
+
+/// Appends `integer-width/*00`, or `integer-width/##00` where there is a greatest number.
+fn push_integer(text: &mut String, integer: IntegerDigits) -> Result<(), AllocError> {
+    if integer.max == 32768 {
+        if integer.min == 1 {
+            return Ok(());
+        }
+        text.push_str("integer-width/*")?;
+    } else {
+        text.push_str("integer-width/")?;
+        push_run(text, '#', (integer.max - integer.min) as u32)?;
+    }
+    push_run(text, '0', integer.min as u32)?;
+    text.push(' ')
+}
+
+fn push_system(text: &mut String, system: Option<Name>) -> Result<(), AllocError> {
+    let Some(name) = system else {
+        return Ok(());
+    };
+    if name == *b"latn            " {
+        return text.push_str("latin ");
+    }
+    text.push_str("numbering-system/")?;
+    push_name(text, &name)?;
+    text.push(' ')
+}
+
+fn width_text(display: CurrencyDisplay) -> &'static str {
+    match display {
+        CurrencyDisplay::Symbol => "",
+        CurrencyDisplay::Narrow => "unit-width-narrow ",
+        CurrencyDisplay::Code => "unit-width-iso-code ",
+        CurrencyDisplay::Hidden => "unit-width-hidden ",
+    }
+}
+
+fn sign_text(sign: CurrencySign, display: SignDisplay) -> &'static str {
+    match (sign, display) {
+        (CurrencySign::Standard, SignDisplay::Auto) => "",
+        (CurrencySign::Standard, SignDisplay::Always) => "sign-always ",
+        (CurrencySign::Standard, SignDisplay::ExceptZero) => "sign-except-zero ",
+        (CurrencySign::Standard, SignDisplay::Negative) => "sign-negative ",
+        (CurrencySign::Accounting, SignDisplay::Auto) => "sign-accounting ",
+        (CurrencySign::Accounting, SignDisplay::Always) => "sign-accounting-always ",
+        (CurrencySign::Accounting, SignDisplay::ExceptZero) => "sign-accounting-except-zero ",
+        (CurrencySign::Accounting, SignDisplay::Negative) => "sign-accounting-negative ",
+        (_, SignDisplay::Never) => "sign-never ",
+    }
+}
+
+/// Appends the stems of a currency's width and of the sign.
+fn push_sign(
+    text: &mut String,
+    style: NumberStyle,
+    display: SignDisplay,
+) -> Result<(), AllocError> {
+    match style {
+        NumberStyle::Currency(currency) => {
+            text.push_str(width_text(currency.display))?;
+            text.push_str(sign_text(currency.sign, display))
+        }
+        _ => text.push_str(sign_text(CurrencySign::Standard, display)),
+    }
+}
+
+/// Appends `scale/100` or `scale/0.01`, or where the text would be longer than 510 bytes the exponent, as
+/// `scale/1e-200`.
+fn push_scale(text: &mut String, scale: i16) -> Result<(), AllocError> {
+    if scale == 0 {
+        return Ok(());
+    }
+    text.push_str("scale/")?;
+    if (scale.unsigned_abs() as usize) <= 500usize.saturating_sub(text.len()) {
+        push_power(text, scale)?;
+    } else {
+        text.push_str(if scale < 0 { "1e-" } else { "1e" })?;
+        push_number(text, scale.unsigned_abs())?;
+    }
+    text.push(' ')
+}
+
+/// Appends the skeleton of options, with a space after each stem.
+pub(crate) fn push_skeleton(text: &mut String, options: &NumberOptions) -> Result<(), AllocError> {
+    push_notation(text, options.notation)?;
+    push_unit(text, options.style)?;
+    if let Some(digits) = options.digits {
+        push_shown_precision(text, options, digits)?;
+        text.push_str(mode_text(digits.mode))?;
+    }
+    text.push_str(grouping_text(options.is_compact(), options.grouping))?;
+    if let Some(digits) = options.digits {
+        push_integer(text, digits.integer)?;
+    }
+    push_system(text, options.numbering_system)?;
+    push_sign(text, options.style, options.sign_display)?;
+    push_scale(text, options.scale)
+}
