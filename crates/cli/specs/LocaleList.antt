@@ -1,7 +1,7 @@
 -- The text of `--locales`.
 use Rattle.std.specs.Prelude.{ℕ, List, [], ◌∷◌, ◌++◌}
-use Rattle.locale_data.specs.declared.symbols.LocaleSymbols.{LocaleSymbols}
-use Rattle.locale_data.specs.declared.symbols_table.TheConstants.{LOCALES}
+use Rattle.locale_data.specs.declared.tables.rows.symbols.LocaleSymbols.{LocaleSymbols}
+use Rattle.locale_data.specs.declared.tables.symbols.TheConstants.{LOCALES}
 use Rattle.locale_data.specs.Rows.{unpadded}
 
 -- the tag of a locale, and a line feed

@@ -4,13 +4,13 @@ use Rattle.std.specs.Prelude.{IsSomeAnd}
 use Rattle.std.specs.Option.{option_and_then}
 use Rattle.locale_data.specs.Plurals.{rules_text_at, IsRulesText}
 use Rattle.locale_data.specs.declared.plurals.PluralRuleType.{PluralRuleType}
-use Rattle.locale_data.specs.declared.plurals.RulesNumber.{RulesNumber}
+use Rattle.locale_data.specs.declared.plurals.PluralRulesId.{PluralRulesId}
 use Rattle.cli.specs.NamedRules.{NamesLocale}
 use Rattle.cli.specs.Parameters.{tag_of}
 use Rattle.fixed_decimal_c.specs.Locales.{rule_type_code, rules_of, IsRulesNumber, IsNamedRulesNumber}
 
 pub rules_have_number :
-    (tag : List ℕ) (code : ℕ) (rule_type : PluralRuleType) (rules : RulesNumber) (number : ℕ)
+    (tag : List ℕ) (code : ℕ) (rule_type : PluralRuleType) (rules : PluralRulesId) (number : ℕ)
     → code ≡ rule_type_code rule_type → rules_of number ≡ Some rules
     → IsSomeAnd (rules_text_at rules) (IsRulesText tag rule_type) → IsRulesNumber (Ok number) tag code
 rules_have_number tag code rule_type rules number is_code numbered of_tag = by (rules_text_at rules) refl of_tag
@@ -21,7 +21,7 @@ rules_have_number tag code rule_type rules number is_code numbered of_tag = by (
     by (Some text) at of_tag = (rule_type, text, is_code, of_tag, ap (option_and_then rules_text_at) numbered ∙ at)
 
 pub named_have_number :
-    (word : List ℕ) (rule_type : PluralRuleType) (rules : RulesNumber) (number : ℕ) → NamesLocale word rule_type
+    (word : List ℕ) (rule_type : PluralRuleType) (rules : PluralRulesId) (number : ℕ) → NamesLocale word rule_type
     → rules_of number ≡ Some rules → IsSomeAnd (rules_text_at rules) (IsRulesText (tag_of word) rule_type)
     → IsNamedRulesNumber (Ok number) word
 named_have_number word rule_type rules zero names numbered of_tag = absurd (cc)

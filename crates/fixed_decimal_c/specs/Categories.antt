@@ -7,7 +7,7 @@ use Rattle.plural_rules.specs.Operands.{plain}
 use Rattle.plural_rules.specs.Rules.{RuleValue, category_of}
 use Rattle.plural_rules.specs.RulesGrammar.{Grammar}
 use Rattle.plural_rules.specs.RulesParseResult.{IsSyntaxErrorAt, IsLimitErrorAt}
-use Rattle.locale_data.specs.declared.plurals.RulesNumber.{RulesNumber}
+use Rattle.locale_data.specs.declared.plurals.PluralRulesId.{PluralRulesId}
 use Rattle.locale_data.specs.Plurals.{rules_text_at, IsCategoryAt}
 use Rattle.fixed_decimal_c.specs.declared.error.FdError.{FdError}
 use Rattle.fixed_decimal_c.specs.declared.error.FdError.TheVariants.{Memory, UnknownLocale, RulesSyntax, RulesLimit}
@@ -42,7 +42,7 @@ HasCategory answer rules text =
     ⊎ ((error : FdError) × (answer ≡ Err error) × RulesFail error rules)
 
 -- the category of a text by rules in a table
-abbrev pub HasCategoryAt : Result ℤ FdError → RulesNumber → List ℕ → Type 0
+abbrev pub HasCategoryAt : Result ℤ FdError → PluralRulesId → List ℕ → Type 0
 HasCategoryAt (Ok n) rules text =
     IsOkAnd (read_decimal text) (λ v. (category : PluralCategory) × IsCategoryAt rules (plain v.absolute) category
     × (n ≡ category_code category))
@@ -51,6 +51,6 @@ HasCategoryAt (Err error) rules text = ParsingFails error text 0
 -- the category of a text by the rules with a number, if there are such rules
 abbrev pub HasCategoryOf : Result ℤ FdError → ℕ → List ℕ → Type 0
 HasCategoryOf answer number text =
-    ((rules : RulesNumber) × (rules_of number ≡ Some rules) × IsSome (rules_text_at rules)
+    ((rules : PluralRulesId) × (rules_of number ≡ Some rules) × IsSome (rules_text_at rules)
     × HasCategoryAt answer rules text)
     ⊎ ((answer ≡ Err UnknownLocale) × (rules_of_number number ≡ None))

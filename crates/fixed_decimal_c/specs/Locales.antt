@@ -7,10 +7,10 @@ use Rattle.cli.specs.NamedRules.{NamesLocale}
 use Rattle.cli.specs.Parameters.{tag_of}
 use Rattle.locale_data.specs.Locales.{symbols_at, IsLocale, IsUnknown}
 use Rattle.locale_data.specs.Plurals.{rules_text_at, IsRulesText, HasNoRules}
-use Rattle.locale_data.specs.declared.lookup.LocaleNumbers.{LocaleNumbers}
+use Rattle.locale_data.specs.declared.locales.LocaleId.{LocaleId}
 use Rattle.locale_data.specs.declared.plurals.PluralRuleType.{PluralRuleType}
 use Rattle.locale_data.specs.declared.plurals.PluralRuleType.TheVariants.{Cardinal, Ordinal}
-use Rattle.locale_data.specs.declared.plurals.RulesNumber.{RulesNumber}
+use Rattle.locale_data.specs.declared.plurals.PluralRulesId.{PluralRulesId}
 use Rattle.fixed_decimal_c.specs.declared.error.FdError.{FdError}
 use Rattle.fixed_decimal_c.specs.declared.error.FdError.TheVariants.{UnknownLocale, UnknownOption}
 
@@ -20,7 +20,7 @@ index_of zero = None
 index_of (suc index) = Some index
 
 -- the rows with a number, 1 + locale + 2^16 (system + 2^16 own), if their indices have 16 bits
-abbrev pub rows_of : ℕ → Option LocaleNumbers
+abbrev pub rows_of : ℕ → Option LocaleId
 rows_of number =
     if (number == 0) || nat_lt (65537 * 2 ^ 32) number
     then None
@@ -45,7 +45,7 @@ rule_type_code Cardinal = 0
 rule_type_code Ordinal = 1
 
 -- the plural rules with a number, 1 + type + 2 language, if the index has 16 bits
-abbrev pub rules_of : ℕ → Option RulesNumber
+abbrev pub rules_of : ℕ → Option PluralRulesId
 rules_of number =
     if (number == 0) || nat_lt (65537 * 2) number
     then None

@@ -7,7 +7,7 @@ ghost use Rattle.fixed_decimal_c.specs.Locales.{index_of, rows_of, symbols_of_nu
 use crate::error::FdError;
 use cli::locale_and_type;
 use decimal_format::DecimalSymbols;
-use locale_data::{LocaleNumbers, PluralRuleType, RulesNumber};
+use locale_data::{LocaleId, PluralRuleType, PluralRulesId};
 use std::str;
 
 /// The number of values of 16 bits.
@@ -36,7 +36,7 @@ fn index_of_number(number: u64) -> Option<u16>
 }
 
 /// Returns the number of rows.
-fn number_of_rows(rows: LocaleNumbers) -> u64
+fn number_of_rows(rows: LocaleId) -> u64
     ensures { rows_of result ≡ Some rows }
 {
     let own = number_of_index(rows.own);
@@ -44,14 +44,14 @@ fn number_of_rows(rows: LocaleNumbers) -> u64
 }
 
 /// Returns the rows with a number.
-fn rows_of_number(number: u64) -> Option<LocaleNumbers>
+fn rows_of_number(number: u64) -> Option<LocaleId>
     ensures { result ≡ rows_of number }
 {
     if number == 0 || number > (SIZE + 1) * SIZE * SIZE {
         return None;
     }
     let rest = number - 1;
-    Some(LocaleNumbers {
+    Some(LocaleId {
         locale: (rest % SIZE) as u16,
         system: (rest / SIZE % SIZE) as u16,
         own: index_of_number(rest / (SIZE * SIZE)),
@@ -76,7 +76,7 @@ pub(crate) fn number_of_locale(tag: &[u8]) -> Result<u64, FdError>
     let Ok(tag) = str::from_utf8(tag) else {
         return Err(FdError::UnknownLocale);
     };
-    match locale_data::locale_numbers(tag) {
+    match locale_data::locale_id(tag) {
         Some(rows) => Ok(number_of_rows(rows)),
         None => Err(FdError::UnknownLocale),
     }
@@ -95,7 +95,7 @@ fn rule_type(code: u32) -> Option<PluralRuleType>
 }
 
 /// Returns the number of plural rules.
-fn number_of_rules(rules: RulesNumber) -> u64
+fn number_of_rules(rules: PluralRulesId) -> u64
     ensures { rules_of result ≡ Some rules }
 {
     let rule_type = match rules.rule_type {
@@ -106,7 +106,7 @@ fn number_of_rules(rules: RulesNumber) -> u64
 }
 
 /// Returns the plural rules with a number.
-pub(crate) fn rules_of_number(number: u64) -> Option<RulesNumber>
+pub(crate) fn rules_of_number(number: u64) -> Option<PluralRulesId>
     ensures { result ≡ rules_of number }
 {
     if number == 0 || number > (SIZE + 1) * 2 {
@@ -117,7 +117,7 @@ pub(crate) fn rules_of_number(number: u64) -> Option<RulesNumber>
     } else {
         PluralRuleType::Ordinal
     };
-    Some(RulesNumber {
+    Some(PluralRulesId {
         language: index_of_number((number - 1) / 2),
         rule_type,
     })
@@ -133,7 +133,7 @@ pub(crate) fn number_of_plural_rules(tag: &[u8], code: u32) -> Result<u64, FdErr
     let Ok(tag) = str::from_utf8(tag) else {
         return Err(FdError::UnknownLocale);
     };
-    match locale_data::plural_rules_number(tag, rule_type) {
+    match locale_data::plural_rules_id(tag, rule_type) {
         Some(rules) => Ok(number_of_rules(rules)),
         None => Err(FdError::UnknownLocale),
     }
@@ -149,7 +149,7 @@ pub(crate) fn number_of_named_rules(word: &[u8]) -> Result<u64, FdError>
     let Some((tag, rule_type)) = locale_and_type(word) else {
         return Ok(0);
     };
-    match locale_data::plural_rules_number(tag, rule_type) {
+    match locale_data::plural_rules_id(tag, rule_type) {
         Some(rules) => Ok(number_of_rules(rules)),
         None => Err(FdError::UnknownLocale),
     }

@@ -7,7 +7,7 @@ use Rattle.plural_rules.specs.Operands as operands
 use Rattle.plural_rules.specs.declared.rules.PluralCategory.{PluralCategory}
 use Rattle.locale_data.specs.declared.compact.CompactStyle.{CompactStyle}
 use Rattle.locale_data.specs.declared.compact.UnitAffixes.{UnitAffixes}
-use Rattle.locale_data.specs.declared.compact_table.TheConstants.{PERCENT_UNITS}
+use Rattle.locale_data.specs.declared.tables.compact.TheConstants.{PERCENT_UNITS}
 use Rattle.locale_data.specs.declared.number_formats.NumberFormats.{NumberFormats}
 use Rattle.locale_data.specs.{Compact.IsUnit, Plurals.IsCategoryAt}
 use Rattle.number_format.specs.declared.{formatted_number.CompactChoice.CompactChoice, number_formatter.NumberFormatter.NumberFormatter, number_options.NumberStyle.NumberStyle}

@@ -4,7 +4,7 @@ use Rattle.std.specs.Prelude.{Option, Some, None, pos, option_and_then}
 use Rattle.decimal_unsigned.specs.{Edits.multiplied_pow10, Unsigned.{Unsigned, IsValue}}
 use Rattle.fixed_decimal.specs.{Decimal.{Decimal, with_absolute, with_sign_display, negative_or, displayed_sign}, declared.variations.{Sign.Sign, SignDisplay.SignDisplay}}
 use Rattle.decimal_format.specs.{Formatted.{absolute_text, formatted}, Symbols.{Symbols, sign_affixes}, declared.grouping.GroupingStrategy.{GroupingStrategy, TheVariants.{Auto, Never, Always, Min2}}}
-use Rattle.locale_data.specs.declared.{currency.CurrencyPattern.CurrencyPattern, patterns.Pattern.Pattern}
+use Rattle.locale_data.specs.declared.{currency.CurrencyPattern.CurrencyPattern, tables.rows.patterns.Pattern.Pattern}
 use Rattle.number_format.specs.declared.{digit_options.DigitOptions.DigitOptions, number_formatter.NumberFormatter.NumberFormatter, text_part.PartKind.PartKind}
 use Rattle.number_format.specs.{DefaultDigits.AreDefaultDigits, Formatters.{IsFormatterIn, plain_options, style_sizes, with_separators}, NumberStyles.plain_pattern, NumberText.{IsNumberText, rounded_in, number_before_cut, shown_number, exponent_of, compact_magnitude, is_one, compact_pattern, compact_style, unit_texts, around_by, pieces_around}, PatternTexts.{literal, style_around}, Scaled.{ScaledValue, scaled_value}, TextParts.{Piece, pieces_text, pieces_of, digit_pieces}}
 use Rattle.number_format.proofs.{PieceTexts.{text-append, text-of, text-of_digits}, ReadBack.unshifted}

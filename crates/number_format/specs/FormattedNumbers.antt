@@ -2,7 +2,7 @@
 use Rattle.std.specs.Prelude.{◌≡◌, ◌↔◌, ℕ, Bool, IsTrue, if◌then◌else◌, List, [], ◌++◌, Option, Some, None, ℤ}
 use Rattle.fixed_decimal.specs.Decimal.{Decimal}
 use Rattle.decimal_format.specs.{Formatted.absolute_text, Symbols.Affixes, declared.grouping.GroupingStrategy.TheVariants.Never}
-use Rattle.locale_data.specs.{Compact.{pattern_for, patterns_in}, Plurals.IsCategoryAt, declared.compact.{CompactPattern.CompactPattern, CompactStyle.CompactStyle}}
+use Rattle.locale_data.specs.{Compact.{pattern_for, patterns_in}, Plurals.IsCategoryAt, declared.{compact.CompactStyle.CompactStyle, tables.rows.compact.CompactPattern.CompactPattern}}
 use Rattle.plural_rules.specs.Operands as operands
 use Rattle.plural_rules.specs.declared.rules.PluralCategory.{PluralCategory}
 use Rattle.number_format.specs.declared.{format.ShownNumber.ShownNumber, formatted_number.{CompactChoice.CompactChoice, FormattedNumber.FormattedNumber}, number_formatter.NumberFormatter.NumberFormatter}

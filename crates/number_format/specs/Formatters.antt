@@ -2,7 +2,7 @@
 use Rattle.std.specs.{Prelude.{◌≡◌, ℕ, ◌+◌, ◌<◌, ◌==◌, false, ◌⊎◌, if◌then◌else◌, List, [], slice_get, slice_index, Option, Some, None, unwrap_or, IsSomeAnd, MatchOption, pos, ⊤}, Option.option_map}
 use Rattle.fixed_decimal.specs.declared.variations.SignDisplay.{SignDisplay}
 use Rattle.decimal_format.specs.{Symbols.Symbols, declared.grouping.{GroupingSizes.GroupingSizes, GroupingStrategy.GroupingStrategy}}
-use Rattle.locale_data.specs.declared.{compact.CompactStyle.CompactStyle, currency.{CurrencyPattern.CurrencyPattern, CurrencySign.CurrencySign}, formats_table.TheConstants.{PATTERNS, NUMBER_SIGNS}, number_formats.NumberFormats.NumberFormats, patterns.{NumberSigns.NumberSigns, Pattern.Pattern}, plurals.PluralRuleType.TheVariants.Cardinal}
+use Rattle.locale_data.specs.declared.{compact.CompactStyle.CompactStyle, currency.{CurrencyPattern.CurrencyPattern, CurrencySign.CurrencySign}, tables.formats.TheConstants.{PATTERNS, NUMBER_SIGNS}, number_formats.NumberFormats.NumberFormats, tables.rows.patterns.{NumberSigns.NumberSigns, Pattern.Pattern}, plurals.PluralRuleType.TheVariants.Cardinal}
 use Rattle.locale_data.specs.{Compact.IsExponent, Currencies.IsCurrencyPattern, Formats.AreFormatsOf, Locales.{IsLocale, IsLocaleIn, IsSystemName, IsUnknown, system_named}, Patterns.{separator_text, exponent_text}, Plurals.{rules_text_at, IsRulesText, HasNoRules}, Rows.unpadded}
 use Rattle.number_format.specs.declared.{notation.Notation.Notation, number_formatter.{NumberFormatError.NumberFormatError, NumberFormatter.NumberFormatter}, number_options.{NumberNotation.NumberNotation, NumberOptions.NumberOptions, NumberStyle.NumberStyle}, number_style.ShownCurrency.ShownCurrency}
 use Rattle.number_format.specs.{DefaultDigits.AreDefaultDigits, NumberStyles.{plain_pattern, percent_text, text_or_nothing, in_system, IsShownBy, IsShownCurrency}, NumberText.compact_style}

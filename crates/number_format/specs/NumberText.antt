@@ -6,7 +6,7 @@ use Rattle.fixed_decimal.specs.{Decimal.{Decimal, with_absolute, displayed_sign}
 use Rattle.decimal_format.specs.{Symbols.{Affixes, affixes}, declared.grouping.GroupingStrategy.TheVariants.Never}
 use Rattle.plural_rules.specs.Operands as operands
 use Rattle.plural_rules.specs.declared.rules.PluralCategory.{PluralCategory}
-use Rattle.locale_data.specs.declared.{compact.{AffixText.AffixText, CompactForm.CompactForm, CompactPattern.CompactPattern, CompactStyle.CompactStyle, PercentUnit.PercentUnit}, compact_table.TheConstants.PERCENT_UNITS, number_formats.NumberFormats.NumberFormats, rows.TableRange.TableRange}
+use Rattle.locale_data.specs.declared.{compact.CompactStyle.CompactStyle, tables.rows.compact.{AffixText.AffixText, CompactForm.CompactForm, CompactPattern.CompactPattern, PercentUnit.PercentUnit}, tables.compact.TheConstants.PERCENT_UNITS, number_formats.NumberFormats.NumberFormats, tables.rows.TableRange.TableRange}
 use Rattle.locale_data.specs.{Compact.{text_of, pattern_for, compact_patterns, unit_for}, Plurals.IsCategoryAt}
 use Rattle.number_format.specs.declared.{digit_options.DigitOptions.DigitOptions, notation.Notation.Notation, number_around.NumberAffixes.NumberAffixes, number_formatter.NumberFormatter.NumberFormatter, number_options.{CompactLength.CompactLength, ExponentOptions.ExponentOptions, ExponentSign.ExponentSign, NumberNotation.NumberNotation, NumberStyle.NumberStyle}, text_part.PartKind.PartKind}
 use Rattle.number_format.specs.{NumberStyles.currency_text, PatternTexts.{Around, around, literal, sign_text, sign_pieces, space_if, style_around}, ShownDigits.{rounded_whole}, TextParts.{pieces_text, pieces_of, parts_pieces, digit_pieces}, Scaled.{ScaledValue, scaled_value, scaled, raised, rounded_number, exponent_at, ScalingNeedsMemory}}

@@ -2,7 +2,7 @@
 use Rattle.std.specs.Prelude.{◌≡◌, ℕ, Bool, true, ◌&&◌, if◌then◌else◌, List, [], ◌∷◌, ◌++◌}
 use Rattle.fixed_decimal.specs.declared.variations.Sign.{Sign}
 use Rattle.decimal_format.specs.Symbols.{Symbols, sign_affixes}
-use Rattle.locale_data.specs.{Patterns.{literal_text, affixes_of}, declared.patterns.{Affix.Affix, Pattern.Pattern, Piece.Piece}}
+use Rattle.locale_data.specs.{Patterns.{literal_text, affixes_of}, declared.tables.rows.patterns.{Affix.Affix, Pattern.Pattern, Piece.Piece}}
 use Rattle.number_format.specs.{NumberStyles.{currency_text, ends_with_currency, begins_with_currency}, TextParts.{pieces_text, pieces_of}, declared.{number_style.ShownCurrency.ShownCurrency, sign_texts.{AffixTexts.AffixTexts, SignTexts.SignTexts}, text_part.PartKind.PartKind}}
 use Rattle.number_format.specs.TextParts as parts
 

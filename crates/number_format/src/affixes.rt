@@ -4,6 +4,7 @@ ghost use Rattle.decimal_format.specs.{Readable.IsReadable, Symbols.affixes};
 ghost use Rattle.number_format.specs.AffixedTexts.{by_sign, ArePrefixesApart, AreSuffixesApart, ArePairApart, AreNamed};
 
 use crate::text_part::TextPart;
+use decimal_format::internal::{begins_with_digit, ends_with_digit};
 use decimal_format::{Affixes, DecimalSymbols};
 use fixed_decimal::Sign;
 use std::alloc::{AllocError, Global};
@@ -71,7 +72,7 @@ fn are_prefixes_apart(symbols: &DecimalSymbols<'_>, first: &str, second: &str) -
     ensures { IsTrue result ↔ ArePrefixesApart symbols.now first.now second.now }
 {
     match first.strip_prefix(second).or(second.strip_prefix(first)) {
-        Some(rest) => !rest.is_empty() && !symbols.begins_with_digit(rest.as_bytes()),
+        Some(rest) => !rest.is_empty() && !begins_with_digit(symbols, rest.as_bytes()),
         None => true,
     }
 }
@@ -81,7 +82,7 @@ fn are_suffixes_apart(symbols: &DecimalSymbols<'_>, first: &str, second: &str) -
     ensures { IsTrue result ↔ AreSuffixesApart symbols.now first.now second.now }
 {
     match first.strip_suffix(second).or(second.strip_suffix(first)) {
-        Some(rest) => !rest.is_empty() && !symbols.ends_with_digit(rest.as_bytes()),
+        Some(rest) => !rest.is_empty() && !ends_with_digit(symbols, rest.as_bytes()),
         None => true,
     }
 }

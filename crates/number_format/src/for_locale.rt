@@ -12,7 +12,7 @@ use decimal_format::{DecimalSymbols, GroupingSizes, GroupingStrategy};
 use fixed_decimal::SignDisplay;
 use locale_data::{
     CompactStyle, CurrencyPattern, CurrencySign, NumberFormats, Pattern, PluralRuleType,
-    currency_pattern, formats_of, locale, locale_in, plural_rules_number, system_of, unpadded,
+    currency_pattern, formats_of, locale, locale_in, plural_rules_id, system_of, unpadded,
 };
 
 fn style_sizes(pattern: &Pattern, strategy: GroupingStrategy, own: GroupingSizes) -> GroupingSizes
@@ -130,7 +130,7 @@ impl NumberFormatter {
         ensures ok { IfOk result (λ f. IsFormatterIn tag.now system.now symbols.entry options.now f) }
         ensures err { IfErr result (λ e. (e ≡ NumberFormatError.UnknownLocale) × HasNoRules tag.now) }
     {
-        let Some(rules) = plural_rules_number(tag, PluralRuleType::Cardinal) else {
+        let Some(rules) = plural_rules_id(tag, PluralRuleType::Cardinal) else {
             return Err(NumberFormatError::UnknownLocale);
         };
         let formats = formats_of(tag, system);

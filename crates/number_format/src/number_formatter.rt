@@ -10,7 +10,7 @@ use crate::number_style::ShownCurrency;
 use crate::sign_texts::SignTexts;
 use crate::text_part::TextPart;
 use decimal_format::DecimalSymbols;
-use locale_data::{NumberFormats, Pattern, RulesNumber};
+use locale_data::{NumberFormats, Pattern, PluralRulesId};
 
 /// Why there is no formatter.
 #[derive(Clone, Copy, Debug, PartialEq)]
@@ -30,7 +30,7 @@ pub struct NumberFormatter {
     pub(crate) separator: TextPart<'static>,
     pub(crate) currency: ShownCurrency,
     pub(crate) formats: NumberFormats,
-    pub(crate) rules: RulesNumber,
+    pub(crate) rules: PluralRulesId,
     pub(crate) options: NumberOptions,
     pub(crate) notation: Notation,
     pub(crate) digits: Option<DigitOptions>,

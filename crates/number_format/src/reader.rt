@@ -4,7 +4,8 @@ ghost use Rattle.decimal_format.specs.{Readable.IsReadable, Reading.IsRead};
 ghost use Rattle.number_format.specs.AffixedTexts.{AreNamed, shifted, IsShown, IsShownNumeral, IsBetween, IsReadExactly, IsReadWith, IsReadTyped};
 
 use crate::affixes::SignAffixes;
-use decimal_format::{Alternative, DecimalSymbols};
+use decimal_format::DecimalSymbols;
+use decimal_format::internal::{Alternative, begins_with_digit, ends_with_digit, read_alternatives};
 use fixed_decimal::{DigitStore, ParseError, Sign, Signed, UnsignedOver};
 use std::alloc::Global;
 use std::marker::Model;
@@ -118,7 +119,7 @@ impl<'a> AffixReader<'a> {
     {
         let affixes = self.affixes.of_sign(sign);
         let middle = cut_affixes(text, affixes.prefix.as_bytes(), affixes.suffix.as_bytes())?;
-        if self.symbols.begins_with_digit(middle) && self.symbols.ends_with_digit(middle) {
+        if begins_with_digit(&self.symbols, middle) && ends_with_digit(&self.symbols, middle) {
             return Some(middle);
         }
         None
@@ -184,14 +185,14 @@ impl<'a> AffixReader<'a> {
     {
         match self.read_shown(alloc, text.as_bytes()) {
             Ok(value) => Ok(value),
-            Err(ParseError::Syntax) => self.symbols.read_alternatives(alloc, alternatives, text),
+            Err(ParseError::Syntax) => read_alternatives(&self.symbols, alloc, alternatives, text),
             Err(ParseError::Limit) => Err(ParseError::Limit),
             Err(ParseError::Memory) => Err(ParseError::Memory),
         }
     }
 
     /// Reads a number as people type it: between the affixes of its sign, or by the first alternative that
-    /// [reads](DecimalSymbols::read_alternatives) the text.
+    /// [reads](read_alternatives) the text.
     ///
     /// A text that [`read`](Self::read) accepts has the same value.
     ///

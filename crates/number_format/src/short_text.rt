@@ -9,7 +9,7 @@ use crate::number_around::space_if;
 use crate::number_formatter::NumberFormatter;
 use crate::number_options::NumberNotation;
 use crate::text_part::{PartKind, TextPart};
-use decimal_format::Block;
+use decimal_format::internal::{Block, put_to_block};
 use fixed_decimal::{Decimal, Sign, Sink, SinkFault};
 use locale_data::{AffixText, CompactForm, CompactPattern};
 
@@ -64,14 +64,14 @@ impl<'f> FormattedNumber<'f> {
         let formatter = self.formatter;
         block.put_bytes(formatter.separator.text.as_bytes())?;
         block.put_bytes(formatter.symbols.affixes(exponent.sign).prefix.as_bytes())?;
-        self.exponent_digits(exponent).put_to_block(block)
+        put_to_block(&self.exponent_digits(exponent), block)
     }
 
     #[inline(always)]
     fn put_digits(&self, block: &mut Block) -> Result<(), SinkFault>
         ensures { OnOk result (block.new.0 ≡ block.old.0 ++ number_text self.now) }
     {
-        self.digits().put_to_block(block)?;
+        put_to_block(&self.digits(), block)?;
         match self.formatter.options.notation {
             NumberNotation::Scientific(options) | NumberNotation::Engineering(options) => {
                 let exponent = shown_exponent(self.alloc, options, self.exponent);

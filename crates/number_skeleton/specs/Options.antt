@@ -4,7 +4,7 @@ use Rattle.std.specs.Char.{to_ascii_uppercase}
 use Rattle.std.specs.Option.{option_map, option_and_then}
 use Rattle.fixed_decimal.specs.declared.variations.SignDisplay.TheVariants as display
 use Rattle.locale_data.specs.declared.currency.CurrencySign.TheVariants.{Standard}
-use Rattle.locale_data.specs.declared.symbols_table.TheConstants.{NUMBERING_SYSTEMS}
+use Rattle.locale_data.specs.declared.tables.symbols.TheConstants.{NUMBERING_SYSTEMS}
 use Rattle.number_format.specs.declared.number_options.ExponentSign.{ExponentSign}
 use Rattle.number_format.specs.declared.number_options.ExponentSign.TheVariants as sign
 use Rattle.number_format.specs.declared.precision.Minimum.{Minimum}

@@ -6,14 +6,14 @@ use Rattle.fixed_decimal_c.specs.Locales.{IsNamedRulesNumber}
 use Rattle.fixed_decimal_c.proofs.NumberedRules.{named_have_number}
 use Rattle.fixed_decimal_c.proofs.locales.number_of_named_rules.Goals as goal
 
-pub returns-in-Some-plural_rules_number : goal.returns-in-Some-plural_rules_number
-returns-in-Some-plural_rules_number c =
+pub returns-in-Some-plural_rules_id : goal.returns-in-Some-plural_rules_id
+returns-in-Some-plural_rules_id c =
     let (is, names) = c.in-Some.ensures.some in
     let rule_type = c.in-Some.rule_type in
-    let found = c.in-Some-plural_rules_number.rules in
+    let found = c.in-Some-plural_rules_id.rules in
     let same : c.in-Ok.word.now ≡ c.args.word.now = search rules in
     let of_tag = subst (λ t. IsSomeAnd (rules_text_at found) (IsRulesText t rule_type)) is
-    c.in-Some-plural_rules_number.ensures.found in
+    c.in-Some-plural_rules_id.ensures.found in
     subst (IsNamedRulesNumber (Ok c.number_of_rules.result)) same
     (named_have_number c.in-Ok.word.now rule_type found c.number_of_rules.result names c.number_of_rules.ensures of_tag)
 

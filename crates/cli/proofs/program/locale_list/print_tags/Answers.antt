@@ -3,7 +3,7 @@ use Rattle.std.specs.Io.KnownBytes.{Appends}
 use Rattle.std.proofs.KnownBytes.{Appends-trans}
 use Rattle.std.proofs.Math.Seq.{take-suc}
 use Rattle.std.proofs.lemmas.List.{append-nil}
-use Rattle.locale_data.specs.declared.symbols.LocaleSymbols.{LocaleSymbols}
+use Rattle.locale_data.specs.declared.tables.rows.symbols.LocaleSymbols.{LocaleSymbols}
 use Rattle.cli.specs.LocaleList.{tag_line, tag_lines}
 use Rattle.cli.proofs.program.locale_list.print_tags.Goals as goal
 

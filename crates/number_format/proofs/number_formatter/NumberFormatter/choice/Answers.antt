@@ -4,8 +4,8 @@ use Rattle.fixed_decimal.proofs.Calling.{narrow_kept}
 use Rattle.plural_rules.specs.Operands as operands
 use Rattle.plural_rules.specs.declared.rules.PluralCategory.TheVariants.{Other}
 use Rattle.locale_data.specs.Compact.{pattern_for, patterns_in, compact_patterns}
-use Rattle.locale_data.proofs.CompactRows.{same_pattern}
-use Rattle.locale_data.proofs.RulesTexts.{category_exists}
+use Rattle.locale_data.proofs.lemmas.tables.CompactRows.{same_pattern}
+use Rattle.locale_data.proofs.lemmas.tables.RulesTexts.{category_exists}
 use Rattle.number_format.specs.NumberText.{is_one}
 use Rattle.number_format.proofs.CompactChoices.{chooses}
 use Rattle.number_format.proofs.number_formatter.NumberFormatter.choice.Goals as goal

@@ -2,7 +2,7 @@ use Rattle.std.proofs.Common.{◌≡◌, ◌≢◌, Some}
 use Rattle.fixed_decimal.specs.Decimal.{Decimal}
 use Rattle.plural_rules.specs.Operands as operands
 use Rattle.plural_rules.specs.declared.rules.PluralCategory.TheVariants.{Other}
-use Rattle.locale_data.proofs.RulesTexts.{category_exists}
+use Rattle.locale_data.proofs.lemmas.tables.RulesTexts.{category_exists}
 use Rattle.locale_data.specs.declared.compact.CompactStyle.{CompactStyle}
 use Rattle.number_format.specs.declared.{number_formatter.NumberFormatter.NumberFormatter, number_options.NumberStyle.NumberStyle}
 use Rattle.number_format.specs.{FormattedNumbers.ChoosesUnit, NumberText.{compact_style, whole_number}}
