@@ -7,11 +7,11 @@ import sys
 import tempfile
 
 CRATES = ["decimal_digits", "decimal_unsigned", "fixed_decimal", "decimal_format", "plural_rules", "locale_data",
-          "number_format", "conversions", "cli", "fixed_decimal_c"]
-LIBRARIES = [*CRATES[:4], "locale_data", "number_format"]
+          "number_format", "number_skeleton", "conversions", "cli", "fixed_decimal_c"]
+LIBRARIES = [*CRATES[:4], "locale_data", "number_format", "number_skeleton"]
 # Crates whose proofs cite of the libraries only the lemmas for callers.
-CALLERS = ["uses", "plural_rules", "decimal_format", "locale_data", "number_format", "conversions", "cli",
-           "fixed_decimal_c"]
+CALLERS = ["uses", "plural_rules", "decimal_format", "locale_data", "number_format", "number_skeleton", "conversions",
+           "cli", "fixed_decimal_c"]
 # Modules and functions that are public for the crates of this repository alone.
 INTERNAL = re.compile(r"/src/(?:rounding/|digits/packed/|digits/steps|ops|uint_iterator|block|decimal/parse/|reader/|search|tag|tables/)")
 HIDDEN = {"from_bcd_digits", "from_short_text", "scan_from", "lowest_of"}

@@ -8,10 +8,10 @@ use Rattle.number_format.specs.declared.number_formatter.NumberFormatError.{Numb
 use Rattle.number_format.specs.declared.number_formatter.NumberFormatError.TheVariants as formatter
 use Rattle.number_format.specs.declared.number_formatter.NumberFormatter.{NumberFormatter}
 use Rattle.number_format.specs.declared.number_options.NumberOptions.{NumberOptions}
-use Rattle.number_format.specs.declared.skeleton.SkeletonError.{SkeletonError}
-use Rattle.number_format.specs.declared.skeleton.SkeletonError.TheVariants as skeleton
+use Rattle.number_skeleton.specs.declared.error.SkeletonError.{SkeletonError}
+use Rattle.number_skeleton.specs.declared.error.SkeletonError.TheVariants as skeleton
 use Rattle.number_format.specs.Formatters.{IsFormatter, IsFormatterError}
-use Rattle.number_format.specs.SkeletonMeaning.{skeleton_options, options_value}
+use Rattle.number_skeleton.specs.Meaning.{skeleton_options, options_value}
 use Rattle.conversions.specs.declared.error.FormError.{FormError}
 use Rattle.conversions.specs.declared.error.FormError.TheVariants.{NoSuchWord, UnknownLocale, SkeletonSyntax, SkeletonUnsupported}
 use Rattle.conversions.specs.declared.locale_formatter.LocaleFormatter.{LocaleFormatter}

@@ -14,7 +14,8 @@ use crate::parameters::{parameters, split_parameters};
 use crate::shown_word::ShownWord;
 use decimal_format::{DecimalFormatter, GroupingStrategy};
 use locale_data::locale;
-use number_format::{NumberFormatError, NumberFormatter, NumberOptions, SkeletonError};
+use number_format::{NumberFormatError, NumberFormatter};
+use number_skeleton::SkeletonError;
 use std::str;
 
 /// Returns whether a word begins with `format:`.
@@ -79,7 +80,7 @@ pub fn number_formatter(tag: &str, skeleton: &str) -> Result<NumberFormatter, Fo
     ensures ok { IfOk result (IsNumberFormatter tag.now skeleton.now) }
     ensures err { IfErr result (NumberFormatterFails tag.now skeleton.now) }
 {
-    let options = match NumberOptions::try_from_skeleton(skeleton) {
+    let options = match number_skeleton::parse(skeleton) {
         Ok(options) => options,
         Err(error) => return Err(error_of_skeleton(skeleton, error)),
     };

@@ -7,10 +7,10 @@ use Rattle.number_format.specs.declared.number_formatter.NumberFormatError.{Numb
 use Rattle.number_format.specs.declared.number_formatter.NumberFormatError.TheVariants as made
 use Rattle.number_format.specs.declared.number_formatter.NumberFormatter.{NumberFormatter}
 use Rattle.number_format.specs.declared.number_options.NumberOptions.{NumberOptions}
-use Rattle.number_format.specs.declared.skeleton.SkeletonError.{SkeletonError}
-use Rattle.number_format.specs.declared.skeleton.SkeletonError.TheVariants as read
+use Rattle.number_skeleton.specs.declared.error.SkeletonError.{SkeletonError}
+use Rattle.number_skeleton.specs.declared.error.SkeletonError.TheVariants as read
 use Rattle.number_format.specs.Formatters.{IsFormatter, IsFormatterError}
-use Rattle.number_format.specs.SkeletonMeaning.{skeleton_options, options_value, in_capitals}
+use Rattle.number_skeleton.specs.Meaning.{skeleton_options, options_value, in_capitals}
 use Rattle.fixed_decimal_c.specs.declared.error.FdError.{FdError}
 use Rattle.fixed_decimal_c.specs.declared.number_options.FdNumberOptions.{FdNumberOptions}
 use Rattle.fixed_decimal_c.specs.NumberOptions.{AreNumberOptions, NumberOptionsFail}

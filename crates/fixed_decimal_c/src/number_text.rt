@@ -9,7 +9,8 @@ use crate::number_options::FdNumberOptions;
 use crate::numbers::read;
 use crate::texts::{deliver, write_value};
 use fixed_decimal::{Decimal, RoundError};
-use number_format::{NumberFormatError, NumberFormatter, NumberOptions, SkeletonError};
+use number_format::{NumberFormatError, NumberFormatter, NumberOptions};
+use number_skeleton::SkeletonError;
 use std::alloc::Global;
 use std::str;
 
@@ -53,7 +54,7 @@ fn options(skeleton: &[u8]) -> Result<NumberOptions, FdError>
             });
         }
     };
-    match NumberOptions::try_from_skeleton(skeleton) {
+    match number_skeleton::parse(skeleton) {
         Ok(options) => Ok(options),
         Err(error) => Err(error_of_skeleton(error)),
     }
@@ -107,7 +108,7 @@ pub(crate) fn write_skeleton(
         Ok(options) => options,
         Err(error) => return Err(error),
     };
-    match options.to_skeleton(alloc) {
+    match number_skeleton::to_skeleton(&options, alloc) {
         Ok(Some(text)) => deliver(text.as_bytes(), buffer),
         Ok(None) => Err(FdError::NoSkeleton),
         Err(_) => Err(FdError::Memory),

@@ -1,6 +1,7 @@
 //! The options that number skeletons name, and their errors.
 use crate::locales::number_words::parse_options;
-use number_format::{NumberOptions, SkeletonError};
+use number_format::NumberOptions;
+use number_skeleton::SkeletonError;
 use std::alloc::{AllocError, Global};
 
 /// Returns the text of a skeleton without escapes and repetitions.
@@ -24,7 +25,7 @@ fn expanded(alloc: Global, escaped: &str) -> Result<String, AllocError> {
 
 /// Returns what is read of a skeleton, its options or its error, as a text.
 fn reading_of(alloc: Global, text: &str) -> Result<String, AllocError> {
-    match NumberOptions::try_from_skeleton(text) {
+    match number_skeleton::parse(text) {
         Ok(options) => format!(in alloc; "{options:?}"),
         Err(SkeletonError::Syntax { at }) => format!(in alloc; "syntax {at}"),
         Err(SkeletonError::Unsupported { start, end }) => {
@@ -49,8 +50,8 @@ fn expected_reading(alloc: Global, expected: &str) -> Option<String> {
 
 /// Returns the skeleton that the options of a skeleton are printed as, if it reads as the same options.
 fn printed(alloc: Global, options: &NumberOptions) -> Option<String> {
-    let printed = options.to_skeleton(alloc).ok()??;
-    let again = NumberOptions::try_from_skeleton(printed.as_str()).ok()?;
+    let printed = number_skeleton::to_skeleton(options, alloc).ok()??;
+    let again = number_skeleton::parse(printed.as_str()).ok()?;
     let again = format!(in alloc; "{again:?}").ok()?;
     let options = format!(in alloc; "{options:?}").ok()?;
     if again.as_str() == options.as_str() {
@@ -63,7 +64,7 @@ fn printed(alloc: Global, options: &NumberOptions) -> Option<String> {
 /// Whether a row holds.
 pub fn holds(alloc: Global, skeleton: &str, expected: &str) -> Option<bool> {
     let skeleton = expanded(alloc, skeleton).ok()?;
-    let printed = match NumberOptions::try_from_skeleton(skeleton.as_str()) {
+    let printed = match number_skeleton::parse(skeleton.as_str()) {
         Ok(options) => printed(alloc, &options)?,
         Err(_) => String::new(alloc),
     };
