@@ -6,11 +6,11 @@ use Rattle.std.specs.Option.{option_map, option_and_then}
 use Rattle.fixed_decimal.specs.declared.variations.SignDisplay.TheVariants as display
 use Rattle.locale_data.specs.declared.currency.CurrencySign.TheVariants.{Standard}
 use Rattle.locale_data.specs.declared.symbols_table.TheConstants.{NUMBERING_SYSTEMS}
-use Rattle.number_format.specs.declared.number_options.ExponentSign.{ExponentSign}
-use Rattle.number_format.specs.declared.number_options.ExponentSign.TheVariants as sign
-use Rattle.number_format.specs.declared.precision.Minimum.{Minimum}
-use Rattle.number_format.specs.declared.precision.Minimum.TheVariants as minimum
-use Rattle.number_format.specs.declared.settings.{RoundingPriority.RoundingPriority, RoundingPriority.TheVariants.{MorePrecision, LessPrecision}}
+use Rattle.number_format.specs.declared.options.ExponentSign.{ExponentSign}
+use Rattle.number_format.specs.declared.options.ExponentSign.TheVariants as sign
+use Rattle.number_format.specs.declared.digits.precision.Minimum.{Minimum}
+use Rattle.number_format.specs.declared.digits.precision.Minimum.TheVariants as minimum
+use Rattle.number_format.specs.declared.digits.settings.{RoundingPriority.RoundingPriority, RoundingPriority.TheVariants.{MorePrecision, LessPrecision}}
 use Rattle.number_format.specs.declared.skeleton.choices.{Choice.Choice, Exponent.Exponent}
 use Rattle.number_format.specs.declared.skeleton.choices.Choice.TheVariants as choice
 use Rattle.number_format.specs.declared.skeleton.choices.ChosenNotation.TheVariants as notation

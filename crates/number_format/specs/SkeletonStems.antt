@@ -2,8 +2,8 @@
 use Rattle.std.specs.Prelude.{ℕ, ◌==◌, nat_eq, nat_lt, Bool, ◌||◌, ◌&&◌, if◌then◌else◌, List, length, drop, slice_index, find, is_none, is_some, Option, Some, None, unwrap_or}
 use Rattle.std.specs.Option.{option_map}
 use Rattle.std.specs.List.{starts_with}
-use Rattle.number_format.specs.declared.number_options.ExponentSign.{ExponentSign}
-use Rattle.number_format.specs.declared.number_options.ExponentSign.TheVariants as sign
+use Rattle.number_format.specs.declared.options.ExponentSign.{ExponentSign}
+use Rattle.number_format.specs.declared.options.ExponentSign.TheVariants as sign
 use Rattle.number_format.specs.declared.skeleton.choices.Choice.TheVariants as choice
 use Rattle.number_format.specs.declared.skeleton.choices.ChosenNotation.TheVariants as notation
 use Rattle.number_format.specs.declared.skeleton.choices.{ChosenPrecision.ChosenPrecision, ChosenPrecision.TheVariants.{Unlimited, Fraction, Significant}}

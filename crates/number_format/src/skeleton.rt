@@ -15,7 +15,7 @@ mod same;
 mod stems;
 mod text;
 
-use crate::number_options::{CurrencyStyle, NumberOptions, NumberStyle};
+use crate::options::{CurrencyStyle, NumberOptions, NumberStyle};
 use choices::Choices;
 use no_stem::has_no_stem;
 use reading::{Reading, separator_length};

@@ -2,9 +2,9 @@
 ghost use Rattle.std.specs.Prelude.{◌≡◌};
 ghost use Rattle.number_format.specs.SkeletonChoices.{has, with};
 
-use crate::number_options::{CompactLength, CurrencyDisplay, CurrencyUsage, ExponentSign};
-use crate::precision::Minimum;
-use crate::settings::RoundingPriority;
+use crate::digits::precision::Minimum;
+use crate::digits::settings::RoundingPriority;
+use crate::options::{CompactLength, CurrencyDisplay, CurrencyUsage, ExponentSign};
 use crate::skeleton::counts::Counts;
 use crate::skeleton::decimal::SkeletonDecimal;
 use decimal_format::GroupingStrategy;

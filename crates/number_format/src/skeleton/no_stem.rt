@@ -5,9 +5,9 @@ ghost use Rattle.number_format.specs.NoSkeletons.{is_unnamed_notation, hides_acc
 ghost use Rattle.number_format.specs.SkeletonDigits.{precision_value, digits_value};
 ghost use Rattle.number_format.specs.SkeletonMeaning.{options_value};
 
-use crate::digit_options::DigitOptions;
-use crate::number_options::{CurrencyUsage, NumberNotation, NumberOptions, NumberStyle};
-use crate::precision::{Minimum, Precision};
+use crate::digits::options::DigitOptions;
+use crate::digits::precision::{Minimum, Precision};
+use crate::options::{CurrencyUsage, NumberNotation, NumberOptions, NumberStyle};
 use crate::skeleton::choices::Span;
 use crate::skeleton::options::is_code_byte;
 use crate::skeleton::resolve::money_precision;

@@ -2,9 +2,9 @@
 ghost use Rattle.std.specs.Prelude.{◌≡◌};
 ghost use Rattle.number_format.specs.SkeletonOptions.{last, chosen_exponent_sign, sign_option, changed_exponent, exponent_option, is_code_byte, currency_option, integer_option, decimal_system, is_algorithmic, system_option, scale_option, increment_option, both, strip_option, significant_option, option};
 
-use crate::number_options::ExponentSign;
-use crate::precision::Minimum;
-use crate::settings::RoundingPriority::{self, LessPrecision, MorePrecision};
+use crate::digits::precision::Minimum;
+use crate::digits::settings::RoundingPriority::{self, LessPrecision, MorePrecision};
+use crate::options::ExponentSign;
 use crate::skeleton::choices::{
     Choice, ChosenNotation, ChosenPrecision, ChosenUnit, Exponent, TwoCounts,
 };

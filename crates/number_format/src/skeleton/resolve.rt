@@ -4,16 +4,16 @@ ghost use Rattle.number_format.specs.ShownDigits.{increment_of};
 ghost use Rattle.number_format.specs.SkeletonDigits.{unsupported, fraction_of, significant_of, fraction_digits, unit_of, multiples_of, increment_of_decimal, money_precision, both_of, currency_of, chosen_precision, precision_of, precision_value, integer_of, mode_of, trailing_zeros_of, digits_of, digits_value, is_compact};
 ghost use Rattle.number_format.specs.SkeletonMeaning.{notation_of, width_of, percent_style, usage_of, style_of, scale_power, scale_of, grouping_of, system_of, others_of, options_of, options_value};
 
-use crate::digit_options::{DigitOptions, TrailingZeros};
-use crate::digit_ranges::{
+use crate::digits::options::{DigitOptions, TrailingZeros};
+use crate::digits::precision::{BothDigits, Minimum, Precision};
+use crate::digits::ranges::{
     FractionDigits, FractionMultiples, Increment, IntegerDigits, SignificantDigits,
 };
-use crate::number_options::{
+use crate::digits::settings::RoundingPriority;
+use crate::options::{
     CurrencyDisplay, CurrencyStyle, CurrencyUsage, ExponentOptions, NumberNotation, NumberOptions,
     NumberStyle,
 };
-use crate::precision::{BothDigits, Minimum, Precision};
-use crate::settings::RoundingPriority;
 use crate::skeleton::SkeletonError;
 use crate::skeleton::choices::{
     Choices, ChosenNotation, ChosenPrecision, ChosenUnit, Span, TwoCounts,

@@ -4,12 +4,12 @@ ghost use Rattle.std.specs.Option.{option_map};
 ghost use Rattle.number_format.specs.Resolved.{counts};
 ghost use Rattle.number_format.specs.SkeletonDigits.{precision_value, digits_value};
 ghost use Rattle.number_format.specs.SkeletonMeaning.{options_value};
-ghost use Rattle.number_format.specs.declared.precision.Precision.TheVariants.{Multiples, MorePrecision};
+ghost use Rattle.number_format.specs.declared.digits.precision.Precision.TheVariants.{Multiples, MorePrecision};
 
-use crate::digit_options::{DigitOptions, TrailingZeros};
-use crate::digit_ranges::{FractionDigits, FractionMultiples, SignificantDigits};
-use crate::number_options::{ExponentOptions, NumberNotation, NumberOptions, NumberStyle};
-use crate::precision::{BothDigits, Minimum, Precision};
+use crate::digits::options::{DigitOptions, TrailingZeros};
+use crate::digits::precision::{BothDigits, Minimum, Precision};
+use crate::digits::ranges::{FractionDigits, FractionMultiples, SignificantDigits};
+use crate::options::{ExponentOptions, NumberNotation, NumberOptions, NumberStyle};
 use crate::skeleton::text::increment_of;
 
 fn same_style(first: NumberStyle, second: NumberStyle) -> bool

@@ -2,8 +2,8 @@
 ghost use Rattle.std.specs.Prelude.{◌≡◌};
 ghost use Rattle.number_format.specs.SkeletonStems.{is_name, named, fraction_stem, significant_stem, exponent_sign, exponent_stem, integer_stem, stem};
 
-use crate::number_options::CurrencyUsage::{Cash, Standard};
-use crate::number_options::{CompactLength, CurrencyDisplay, ExponentSign};
+use crate::options::CurrencyUsage::{Cash, Standard};
+use crate::options::{CompactLength, CurrencyDisplay, ExponentSign};
 use crate::skeleton::choices::{Choice, ChosenNotation, ChosenPrecision, ChosenUnit, Exponent};
 use crate::skeleton::counts::{Counts, after, byte_at, digit_counts, run};
 use crate::skeleton::decimal::SkeletonDecimal;

@@ -4,13 +4,13 @@
 ghost use Rattle.std.specs.Prelude.{◌≡◌, ◌≤◌};
 ghost use Rattle.number_format.specs.ShownDigits.{increment_of};
 
-use crate::digit_options::{DigitOptions, TrailingZeros};
-use crate::digit_ranges::{FractionDigits, FractionMultiples, IntegerDigits, SignificantDigits};
-use crate::number_options::{
+use crate::digits::options::{DigitOptions, TrailingZeros};
+use crate::digits::precision::{BothDigits, Minimum, Precision};
+use crate::digits::ranges::{FractionDigits, FractionMultiples, IntegerDigits, SignificantDigits};
+use crate::options::{
     CompactLength, CurrencyDisplay, CurrencyUsage, ExponentOptions, ExponentSign, NumberNotation,
     NumberOptions, NumberStyle,
 };
-use crate::precision::{BothDigits, Minimum, Precision};
 use decimal_format::GroupingStrategy;
 use fixed_decimal::{RoundingIncrement, SignDisplay, SignedRoundingMode, UnsignedRoundingMode};
 use locale_data::{CurrencyCode, CurrencySign, Name, currency_digits};
