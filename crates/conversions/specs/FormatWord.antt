@@ -4,10 +4,10 @@ use Rattle.std.specs.Str.{is_utf8}
 use Rattle.decimal_format.specs.declared.grouping.GroupingStrategy.{GroupingStrategy}
 use Rattle.decimal_format.specs.declared.grouping.GroupingStrategy.TheVariants.{Auto, Never, Always, Min2}
 use Rattle.locale_data.specs.Locales.{IsLocale, IsUnknown}
-use Rattle.number_format.specs.declared.number_formatter.NumberFormatError.{NumberFormatError}
-use Rattle.number_format.specs.declared.number_formatter.NumberFormatError.TheVariants as formatter
-use Rattle.number_format.specs.declared.number_formatter.NumberFormatter.{NumberFormatter}
-use Rattle.number_format.specs.declared.number_options.NumberOptions.{NumberOptions}
+use Rattle.number_format.specs.declared.format.formatter.NumberFormatError.{NumberFormatError}
+use Rattle.number_format.specs.declared.format.formatter.NumberFormatError.TheVariants as formatter
+use Rattle.number_format.specs.declared.format.formatter.NumberFormatter.{NumberFormatter}
+use Rattle.number_format.specs.declared.options.NumberOptions.{NumberOptions}
 use Rattle.number_skeleton.specs.declared.error.SkeletonError.{SkeletonError}
 use Rattle.number_skeleton.specs.declared.error.SkeletonError.TheVariants as skeleton
 use Rattle.number_format.specs.Formatters.{IsFormatter, IsFormatterError}

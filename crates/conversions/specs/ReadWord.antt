@@ -1,9 +1,9 @@
 -- The reader that `read:LOCALE[:lenient][:SKELETON]` names.
 use Rattle.std.specs.Prelude.{◌≡◌, ◌≢◌, ◌⊎◌, ℕ, ⊤, List, [], ◌++◌, codes, Option, Some, None}
 use Rattle.locale_data.specs.Locales.{IsLocale}
-use Rattle.number_format.specs.declared.number_formatter.NumberFormatter.{NumberFormatter}
-use Rattle.number_format.specs.declared.number_reader.ParseMode.{ParseMode}
-use Rattle.number_format.specs.declared.number_reader.ParseMode.TheVariants.{Strict, Lenient}
+use Rattle.number_format.specs.declared.format.formatter.NumberFormatter.{NumberFormatter}
+use Rattle.number_format.specs.declared.read.number_reader.ParseMode.{ParseMode}
+use Rattle.number_format.specs.declared.read.number_reader.ParseMode.TheVariants.{Strict, Lenient}
 use Rattle.number_format.specs.NumberReading.{CanRead, NumberReader, number_reader_of}
 use Rattle.conversions.specs.declared.error.FormError.{FormError}
 use Rattle.conversions.specs.declared.error.FormError.TheVariants.{NoSuchWord, NoReader, Memory}

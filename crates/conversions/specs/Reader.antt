@@ -11,8 +11,8 @@ use Rattle.decimal_format.specs.Symbols.{Symbols}
 use Rattle.decimal_format.specs.Reading.{Numeral, IsNumeral, IsBeyondLimits, IsWritten, NeedsMemory}
 use Rattle.decimal_format.specs.Lenient.{IsTyped, IsTypedNumeral}
 use Rattle.number_format.specs.NumberReading.{NumberReader, IsReadInMode}
-use Rattle.number_format.specs.declared.number_reader.ParseMode.{ParseMode}
-use Rattle.number_format.specs.declared.number_reader.ParseMode.TheVariants.{Strict, Lenient}
+use Rattle.number_format.specs.declared.read.number_reader.ParseMode.{ParseMode}
+use Rattle.number_format.specs.declared.read.number_reader.ParseMode.TheVariants.{Strict, Lenient}
 
 -- ---- By the symbols of a locale.
 

@@ -5,8 +5,8 @@ use Rattle.std.specs.List.{list_any, after_first, position_or_len}
 use Rattle.std.proofs.Math.Seq.{drop-append_seam, take-length}
 use Rattle.std.proofs.lemmas.List.{take-append-drop, append-nil, length-take, take_min}
 use Rattle.std.proofs.lemmas.Option.{none-some}
-use Rattle.number_format.specs.declared.number_reader.ParseMode.{ParseMode}
-use Rattle.number_format.specs.declared.number_reader.ParseMode.TheVariants.{Strict, Lenient}
+use Rattle.number_format.specs.declared.read.number_reader.ParseMode.{ParseMode}
+use Rattle.number_format.specs.declared.read.number_reader.ParseMode.TheVariants.{Strict, Lenient}
 use Rattle.conversions.specs.Parameters.{is_colon, option_of, parameters_of, locale_tag, locale_option}
 use Rattle.conversions.specs.ReadWord.{IsReadOption}
 use Rattle.fixed_decimal_c.specs.Calls.{IsPart}

@@ -3,7 +3,7 @@ use Rattle.std.specs.Prelude.{◌≡◌, ℕ, ◌⊎◌, List, [], ◌++◌, Non
 use Rattle.fixed_decimal.specs.Decimal.{Decimal}
 use Rattle.fixed_decimal.specs.DecimalText.{decimal_text, read_decimal}
 use Rattle.decimal_format.specs.Formatted.{formatted}
-use Rattle.number_format.specs.declared.number_formatter.NumberFormatter.{NumberFormatter}
+use Rattle.number_format.specs.declared.format.formatter.NumberFormatter.{NumberFormatter}
 use Rattle.number_format.specs.NumberText.{shown_number, IsNumberText, FormattingNeedsMemory}
 use Rattle.fixed_decimal_c.specs.declared.error.FdError.{FdError}
 use Rattle.fixed_decimal_c.specs.declared.error.FdError.TheVariants.{Memory, Overflow, BufferTooSmall}

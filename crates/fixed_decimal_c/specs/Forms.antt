@@ -7,9 +7,9 @@ use Rattle.conversions.specs.declared.reader.LocaleReader.{LocaleReader}
 use Rattle.conversions.specs.declared.reader.LocaleReader.TheVariants.{Decimals, Numbers}
 use Rattle.conversions.specs.declared.reader.SkeletonReader.{SkeletonReader}
 use Rattle.number_format.specs.NumberReading.{CanRead, number_reader_of}
-use Rattle.number_format.specs.declared.number_formatter.NumberFormatter.{NumberFormatter}
-use Rattle.number_format.specs.declared.number_reader.ParseMode.{ParseMode}
-use Rattle.number_format.specs.declared.number_reader.ParseMode.TheVariants.{Strict, Lenient}
+use Rattle.number_format.specs.declared.format.formatter.NumberFormatter.{NumberFormatter}
+use Rattle.number_format.specs.declared.read.number_reader.ParseMode.{ParseMode}
+use Rattle.number_format.specs.declared.read.number_reader.ParseMode.TheVariants.{Strict, Lenient}
 use Rattle.fixed_decimal_c.specs.declared.error.FdError.{FdError}
 use Rattle.fixed_decimal_c.specs.declared.error.FdError.TheVariants.{UnknownLocale, UnknownOption, SkeletonSyntax}
 use Rattle.fixed_decimal_c.specs.declared.forms.FdForm.{FdForm}

@@ -3,7 +3,7 @@ use Rattle.std.specs.Prelude.{◌≡◌, ℕ, ◌⊎◌, ◌==◌, ◌&&◌, Boo
 use Rattle.std.specs.Char.{is_ascii_alphabetic}
 use Rattle.decimal_format.specs.declared.grouping.GroupingStrategy.{GroupingStrategy}
 use Rattle.locale_data.specs.declared.currency.CurrencySign.{CurrencySign}
-use Rattle.number_format.specs.declared.{digit_options.{DigitOptions.DigitOptions, TrailingZeros.TrailingZeros}, error.DigitOptionsError.DigitOptionsError, number_options.{CompactLength.CompactLength, CurrencyDisplay.CurrencyDisplay, CurrencyUsage.CurrencyUsage, ExponentOptions.ExponentOptions, ExponentSign.ExponentSign, NumberNotation.NumberNotation, NumberOptions.NumberOptions, NumberStyle.NumberStyle}, settings.{DigitDefaults.DigitDefaults, DigitSettings.DigitSettings, RoundingPriority.RoundingPriority}}
+use Rattle.number_format.specs.declared.{digits.options.{DigitOptions.DigitOptions, TrailingZeros.TrailingZeros}, digits.error.DigitOptionsError.DigitOptionsError, options.{CompactLength.CompactLength, CurrencyDisplay.CurrencyDisplay, CurrencyUsage.CurrencyUsage, ExponentOptions.ExponentOptions, ExponentSign.ExponentSign, NumberNotation.NumberNotation, NumberOptions.NumberOptions, NumberStyle.NumberStyle}, digits.settings.{DigitDefaults.DigitDefaults, DigitSettings.DigitSettings, RoundingPriority.RoundingPriority}}
 use Rattle.number_format.specs.{DefaultDigits.{IsDefault, increment, is_compact}, Resolved.{IsResolved, resolve_error}}
 use Rattle.fixed_decimal_c.specs.declared.error.FdError.{FdError}
 use Rattle.fixed_decimal_c.specs.declared.error.FdError.TheVariants.{UnknownOption, DigitOptions as WrongDigits}

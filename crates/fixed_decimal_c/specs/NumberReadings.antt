@@ -5,11 +5,11 @@ use Rattle.decimal_unsigned.specs.declared.error.ParseError.{ParseError}
 use Rattle.fixed_decimal.specs.Decimal.{Decimal}
 use Rattle.fixed_decimal.specs.DecimalText.{decimal_text}
 use Rattle.number_format.specs.NumberReading.{CanRead, CannotRead, number_reader_of, IsReadInMode}
-use Rattle.number_format.specs.declared.number_formatter.NumberFormatter.{NumberFormatter}
-use Rattle.number_format.specs.declared.number_reader.NumberReaderError.{NumberReaderError}
-use Rattle.number_format.specs.declared.number_reader.NumberReaderError.TheVariants as made
-use Rattle.number_format.specs.declared.number_reader.ParseMode.{ParseMode}
-use Rattle.number_format.specs.declared.number_reader.ParseMode.TheVariants.{Strict, Lenient}
+use Rattle.number_format.specs.declared.format.formatter.NumberFormatter.{NumberFormatter}
+use Rattle.number_format.specs.declared.read.number_reader.NumberReaderError.{NumberReaderError}
+use Rattle.number_format.specs.declared.read.number_reader.NumberReaderError.TheVariants as made
+use Rattle.number_format.specs.declared.read.number_reader.ParseMode.{ParseMode}
+use Rattle.number_format.specs.declared.read.number_reader.ParseMode.TheVariants.{Strict, Lenient}
 use Rattle.fixed_decimal_c.specs.declared.error.FdError.{FdError}
 use Rattle.fixed_decimal_c.specs.declared.number_options.FdNumberOptions.{FdNumberOptions}
 use Rattle.fixed_decimal_c.specs.declared.error.FdError.TheVariants.{Memory, UnreadableFormat}

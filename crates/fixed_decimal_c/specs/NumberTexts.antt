@@ -3,10 +3,10 @@ use Rattle.std.specs.Prelude.{◌≡◌, ℕ, ◌⊎◌, List, Result, Ok, Err}
 use Rattle.std.specs.Str.{IsUtf8, IsValidUpTo}
 use Rattle.decimal_digits.specs.declared.rounding.RoundError.{RoundError}
 use Rattle.decimal_digits.specs.declared.rounding.RoundError.TheVariants as round
-use Rattle.number_format.specs.declared.number_formatter.NumberFormatError.{NumberFormatError}
-use Rattle.number_format.specs.declared.number_formatter.NumberFormatError.TheVariants as made
-use Rattle.number_format.specs.declared.number_formatter.NumberFormatter.{NumberFormatter}
-use Rattle.number_format.specs.declared.number_options.NumberOptions.{NumberOptions}
+use Rattle.number_format.specs.declared.format.formatter.NumberFormatError.{NumberFormatError}
+use Rattle.number_format.specs.declared.format.formatter.NumberFormatError.TheVariants as made
+use Rattle.number_format.specs.declared.format.formatter.NumberFormatter.{NumberFormatter}
+use Rattle.number_format.specs.declared.options.NumberOptions.{NumberOptions}
 use Rattle.number_skeleton.specs.declared.error.SkeletonError.{SkeletonError}
 use Rattle.number_skeleton.specs.declared.error.SkeletonError.TheVariants as read
 use Rattle.number_format.specs.Formatters.{IsFormatter, IsFormatterError}

@@ -3,7 +3,7 @@ use Rattle.std.specs.Prelude.{◌≡◌, ◌≢◌, ◌⊎◌, ℕ, ◌+◌, Lis
 use Rattle.std.specs.Str.{IsUtf8}
 use Rattle.fixed_decimal.specs.declared.runs.Call.{Call}
 use Rattle.decimal_format.specs.declared.grouping.GroupingStrategy.{GroupingStrategy}
-use Rattle.number_format.specs.declared.number_reader.ParseMode.{ParseMode}
+use Rattle.number_format.specs.declared.read.number_reader.ParseMode.{ParseMode}
 use Rattle.conversions.specs.Calls.{Names}
 use Rattle.conversions.specs.FormatWord.{IsStrategyOption, IsSkeletonOption}
 use Rattle.conversions.specs.Parameters.{locale_tag, locale_option}

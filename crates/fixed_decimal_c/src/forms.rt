@@ -1,7 +1,7 @@
 //! The forms in which a text is read and written: a locale's, or the decimal's own.
 ghost use Rattle.std.specs.Prelude.{◌≡◌, IfSome, IfNone, IfOk, IfErr};
 ghost use Rattle.decimal_format.specs.Readable.{IsReadable};
-ghost use Rattle.number_format.specs.declared.number_reader.ParseMode.{ParseMode};
+ghost use Rattle.number_format.specs.declared.read.number_reader.ParseMode.{ParseMode};
 ghost use Rattle.fixed_decimal_c.specs.Forms.{reading_code, IsLocaleAt, HasNoLocale, AreSymbolsOf, HasNoSymbols, IsReaderOf, FormFails, IsSkeletonReader, SkeletonReaderFails, ReaderFails, IsSkeletonFormatter, SkeletonFormFails, IsFormatOf, FormatFormFails};
 
 use crate::calls::part;

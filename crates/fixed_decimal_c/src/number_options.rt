@@ -1,8 +1,8 @@
 //! The options of a number, as C passes them.
 ghost use Rattle.std.specs.Prelude.{◌≡◌, slice_get, IfOk, IfErr, IfSome, IfNone};
 ghost use Rattle.decimal_format.specs.declared.grouping.GroupingStrategy.{GroupingStrategy};
-ghost use Rattle.number_format.specs.declared.number_options.NumberOptions.{NumberOptions};
-ghost use Rattle.number_format.specs.declared.settings.DigitSettings.{DigitSettings};
+ghost use Rattle.number_format.specs.declared.options.NumberOptions.{NumberOptions};
+ghost use Rattle.number_format.specs.declared.digits.settings.DigitSettings.{DigitSettings};
 ghost use Rattle.fixed_decimal_c.specs.NumberOptions.{grouping_code, grouping_in, system_of, given, are_letters, currency_of, style_of, error_of_digits, AreChoices, AreSettings, AreNumberOptions, NumberOptionsFail};
 
 use crate::calls::{display, mode};

@@ -4,7 +4,7 @@ use Rattle.decimal_unsigned.specs.{Edits.multiplied_pow10, declared.error.ParseE
 use Rattle.fixed_decimal.specs.{Decimal.{Decimal, with_absolute}, declared.variations.Sign.Sign}
 use Rattle.decimal_format.specs.{Alternatives.{IsNumeralOfFirst, IsWrittenOfFirst}, Formatted.absolute_text, Lenient.normalized, Readable.{BeginsWithDigit, EndsWithDigit}, Reading.{Numeral, AreDigits, IsRead, absolute_numeral_text, separated_by}, Symbols.{Symbols, Affixes}}
 use Rattle.decimal_format.specs.declared.{grouping.GroupingStrategy.GroupingStrategy, reader.alternatives.Alternative.Alternative}
-use Rattle.number_format.specs.declared.affixes.SignAffixes.{SignAffixes}
+use Rattle.number_format.specs.declared.read.sign_affixes.SignAffixes.{SignAffixes}
 
 -- ---- Affixes.
 

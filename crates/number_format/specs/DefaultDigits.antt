@@ -3,7 +3,7 @@ use Rattle.std.specs.Prelude.{◌≡◌, ℕ, Bool, true, false, if◌then◌els
 use Rattle.decimal_digits.specs.declared.rounding.UnsignedRoundingMode.TheVariants.{HalfExpand}
 use Rattle.fixed_decimal.specs.declared.rounding.SignedRoundingMode.TheVariants.{Unsigned}
 use Rattle.locale_data.specs.{Currencies.{currency_with, digits_of}, declared.currency.CurrencyDigits.CurrencyDigits}
-use Rattle.number_format.specs.declared.{digit_options.{DigitOptions.DigitOptions, TrailingZeros.TrailingZeros}, number_options.{CurrencyUsage.CurrencyUsage, NumberNotation.NumberNotation, NumberOptions.NumberOptions, NumberStyle.NumberStyle}, settings.{DigitDefaults.DigitDefaults, DigitSettings.DigitSettings, RoundingPriority.RoundingPriority}}
+use Rattle.number_format.specs.declared.{digits.options.{DigitOptions.DigitOptions, TrailingZeros.TrailingZeros}, options.{CurrencyUsage.CurrencyUsage, NumberNotation.NumberNotation, NumberOptions.NumberOptions, NumberStyle.NumberStyle}, digits.settings.{DigitDefaults.DigitDefaults, DigitSettings.DigitSettings, RoundingPriority.RoundingPriority}}
 use Rattle.number_format.specs.{Increments.is_increment, Resolved.{IsResolved, counts}}
 
 abbrev pub is_compact : NumberNotation → Bool

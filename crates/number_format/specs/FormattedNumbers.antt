@@ -5,7 +5,7 @@ use Rattle.decimal_format.specs.{Formatted.absolute_text, Symbols.Affixes, decla
 use Rattle.locale_data.specs.{Compact.{pattern_for, patterns_in}, Plurals.IsCategoryAt, declared.{compact.CompactStyle.CompactStyle, tables.rows.compact.CompactPattern.CompactPattern}}
 use Rattle.plural_rules.specs.Operands as operands
 use Rattle.plural_rules.specs.declared.rules.PluralCategory.{PluralCategory}
-use Rattle.number_format.specs.declared.{format.ShownNumber.ShownNumber, formatted_number.{CompactChoice.CompactChoice, FormattedNumber.FormattedNumber}, number_formatter.NumberFormatter.NumberFormatter}
+use Rattle.number_format.specs.declared.{notation.scale.ShownNumber.ShownNumber, format.compact.CompactChoice.CompactChoice, format.formatted_number.FormattedNumber.FormattedNumber, format.formatter.NumberFormatter.NumberFormatter}
 use Rattle.number_format.specs.{NumberText.{around_by, compact_style, compact_pattern, compact_magnitude, is_one, number_before_cut, shown_number, unit_by, whole_number, exponent_of, number_part, pieces_around}, PatternTexts.{Around, sign_text}, Scaled.scaled_value, TextParts.{Piece, pieces_text}}
 
 -- the compact pattern that is chosen, in compact notation
@@ -19,7 +19,7 @@ pattern_of n =
 
 -- what is around the number
 abbrev pub around_of : FormattedNumber → Around
-around_of n = around_by n.formatter.now n.value.sign (pattern_of n)
+around_of n = around_by n.formatter.now.style n.value.sign (pattern_of n)
 
 -- and around the whole text
 abbrev pub unit_of : FormattedNumber → Affixes
@@ -41,12 +41,12 @@ formatted_number_text n = pieces_text (formatted_number_pieces n)
 abbrev pub exponent_text : NumberFormatter → Option Decimal → List ℕ
 exponent_text f None = []
 exponent_text f (Some e) =
-    f.separator.text.now ++ (sign_text f.symbols e.sign ++ absolute_text f.symbols Never e.absolute)
+    f.separator.text.now ++ (sign_text f.style.symbols e.sign ++ absolute_text f.style.symbols Never e.absolute)
 
 -- the digits of the significand, and the exponent
 abbrev pub number_text : FormattedNumber → List ℕ
 number_text n =
-    absolute_text n.formatter.now.symbols n.formatter.now.options.grouping n.value.absolute
+    absolute_text n.formatter.now.style.symbols n.formatter.now.options.grouping n.value.absolute
     ++ exponent_text n.formatter.now (exponent_of n.formatter.now.options.notation n.exponent)
 
 -- the pieces of these, if the text has a number

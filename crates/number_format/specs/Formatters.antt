@@ -4,7 +4,7 @@ use Rattle.fixed_decimal.specs.declared.variations.SignDisplay.{SignDisplay}
 use Rattle.decimal_format.specs.{Symbols.Symbols, declared.grouping.{GroupingSizes.GroupingSizes, GroupingStrategy.GroupingStrategy}}
 use Rattle.locale_data.specs.declared.{compact.CompactStyle.CompactStyle, currency.{CurrencyPattern.CurrencyPattern, CurrencySign.CurrencySign}, tables.formats.TheConstants.{PATTERNS, NUMBER_SIGNS}, number_formats.NumberFormats.NumberFormats, tables.rows.patterns.{NumberSigns.NumberSigns, Pattern.Pattern}, plurals.PluralRuleType.TheVariants.Cardinal}
 use Rattle.locale_data.specs.{Compact.IsExponent, Currencies.IsCurrencyPattern, Formats.AreFormatsOf, Locales.{IsLocale, IsLocaleIn, IsSystemName, IsUnknown, system_named}, Patterns.{separator_text, exponent_text}, Plurals.{rules_text_at, IsRulesText, HasNoRules}, Rows.unpadded}
-use Rattle.number_format.specs.declared.{notation.Notation.Notation, number_formatter.{NumberFormatError.NumberFormatError, NumberFormatter.NumberFormatter}, number_options.{NumberNotation.NumberNotation, NumberOptions.NumberOptions, NumberStyle.NumberStyle}, number_style.ShownCurrency.ShownCurrency}
+use Rattle.number_format.specs.declared.{notation.Notation.Notation, format.formatter.{NumberFormatError.NumberFormatError, NumberFormatter.NumberFormatter}, options.{NumberNotation.NumberNotation, NumberOptions.NumberOptions, NumberStyle.NumberStyle}, format.currency.ShownCurrency.ShownCurrency}
 use Rattle.number_format.specs.{DefaultDigits.AreDefaultDigits, NumberStyles.{plain_pattern, percent_text, text_or_nothing, in_system, IsShownBy, IsShownCurrency}, NumberText.compact_style}
 
 -- ---- What options say by themselves.
@@ -63,11 +63,11 @@ pub record IsFormatterIn (tag system : List ℕ) (own : Symbols) (o : NumberOpti
   pub formats : AreFormatsOf tag system f.formats
   pub signs_are : slice_get NUMBER_SIGNS f.formats.signs ≡ Some signs
   pub rules : IsSomeAnd (rules_text_at f.rules) (IsRulesText tag Cardinal)
-  pub style_is : IsStyle o.style o.notation tag system own.sizes f.formats o.sign_display written f.currency
-  pub symbols : f.symbols
+  pub style_is : IsStyle o.style o.notation tag system own.sizes f.formats o.sign_display written f.style.currency
+  pub symbols : f.style.symbols
       ≡ record (with_separators own written) { sizes = style_sizes written.pattern o.grouping own.sizes }
-  pub pattern : f.pattern ≡ written.pattern
-  pub percent : f.percent.text.now ≡ percent_text o.style signs
+  pub pattern : f.style.pattern ≡ written.pattern
+  pub percent : f.style.percent.text.now ≡ percent_text o.style signs
   pub separator : f.separator.text.now ≡ exponent_text signs.exponent
   pub options : f.options ≡ o
   pub notation_is : IsNotationBy f.formats o.notation (compact_style o.notation o.style) f.notation

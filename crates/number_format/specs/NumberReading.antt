@@ -3,8 +3,8 @@ use Rattle.std.specs.{Prelude.{◌≡◌, ◌≢◌, ℕ, ◌⊎◌, List, [], �
 use Rattle.decimal_unsigned.specs.declared.error.ParseError.{ParseError, TheVariants.Syntax}
 use Rattle.fixed_decimal.specs.{Decimal.Decimal, declared.variations.Sign.Sign}
 use Rattle.decimal_format.specs.{Readable.IsReadable, Symbols.{Affixes, affixes}, declared.reader.alternatives.Alternative.Alternative}
-use Rattle.number_format.specs.declared.{affixes.SignAffixes.SignAffixes, number_formatter.NumberFormatter.NumberFormatter, number_options.{NumberNotation.NumberNotation, NumberStyle.NumberStyle}, number_reader.{NumberReaderError.NumberReaderError, ParseMode.{ParseMode, TheVariants.{Strict, Lenient}}}}
-use Rattle.number_format.specs.{AffixedTexts.{AreNamed, Reader, IsReadExactly, IsReadTyped}, NumberStyles.text_or_nothing, NumberText.{pattern_around, shown_number, shown_sign}, Scaled.ScaledValue, TextParts.pieces_text}
+use Rattle.number_format.specs.declared.{read.sign_affixes.SignAffixes.SignAffixes, format.affixes.StyleTexts.StyleTexts, format.formatter.NumberFormatter.NumberFormatter, options.{NumberNotation.NumberNotation, NumberStyle.NumberStyle}, read.number_reader.{NumberReaderError.NumberReaderError, ParseMode.{ParseMode, TheVariants.{Strict, Lenient}}}}
+use Rattle.number_format.specs.{AffixedTexts.{AreNamed, Reader, IsReadExactly, IsReadTyped}, NumberStyles.text_or_nothing, NumberText.{shown_number, shown_sign}, PatternTexts.pattern_around, Scaled.ScaledValue, TextParts.pieces_text}
 
 -- ---- Exactly.
 
@@ -12,19 +12,19 @@ use Rattle.number_format.specs.{AffixedTexts.{AreNamed, Reader, IsReadExactly, I
 abbrev pub IsStandard : NumberFormatter → Type 0
 IsStandard f = f.options.notation ≡ NumberNotation.Standard
 
--- what the formatter writes around a number that is shown with a sign
-abbrev pub affixes_for : NumberFormatter → Sign → Affixes
-affixes_for f s =
-    affixes (pieces_text (pattern_around f s).prefix) (pieces_text (pattern_around f s).suffix)
+-- what is written around a number that is shown with a sign
+abbrev pub affixes_for : StyleTexts → Sign → Affixes
+affixes_for t s =
+    affixes (pieces_text (pattern_around t s).prefix) (pieces_text (pattern_around t s).suffix)
 
-abbrev pub affixes_of_formatter : NumberFormatter → SignAffixes
-affixes_of_formatter f =
-    let by = affixes_for f in
+abbrev pub affixes_of_style : StyleTexts → SignAffixes
+affixes_of_style t =
+    let by = affixes_for t in
     record { none = by Sign.None; negative = by Sign.Negative; positive = by Sign.Positive }
 
 -- the reader of its texts, which undoes its scale
 abbrev pub reader_of : NumberFormatter → Reader
-reader_of f = record { symbols = f.symbols; affixes = affixes_of_formatter f; shift = pos 0 -ℤ f.options.scale }
+reader_of f = record { symbols = f.style.symbols; affixes = affixes_of_style f.style; shift = pos 0 -ℤ f.options.scale }
 
 -- the notation and the scale can be undone
 abbrev pub CanUndo : NumberFormatter → Type 0
@@ -33,17 +33,17 @@ CanUndo f = IsStandard f × (f.options.scale ≢ negsuc 32767)
 -- the texts of the formatter are read: a text has at most one sign and one number
 pub record CanRead (f : NumberFormatter) : Type 0 where
   pub undo : CanUndo f
-  pub readable : IsReadable f.symbols
-  pub named : AreNamed f.symbols (affixes_of_formatter f)
+  pub readable : IsReadable f.style.symbols
+  pub named : AreNamed f.style.symbols (affixes_of_style f.style)
 
 -- what an error says; `Memory` is reported only where the texts are read
 abbrev pub CannotRead : NumberReaderError → NumberFormatter → Type 0
 CannotRead NumberReaderError.Notation f = ¬ IsStandard f
 CannotRead NumberReaderError.Scale f = IsStandard f × (f.options.scale ≡ negsuc 32767)
 CannotRead NumberReaderError.Memory f = CanRead f
-CannotRead NumberReaderError.Symbols f = CanUndo f × ¬ IsReadable f.symbols
+CannotRead NumberReaderError.Symbols f = CanUndo f × ¬ IsReadable f.style.symbols
 CannotRead NumberReaderError.Affixes f =
-    CanUndo f × (IsReadable f.symbols × ¬ AreNamed f.symbols (affixes_of_formatter f))
+    CanUndo f × (IsReadable f.style.symbols × ¬ AreNamed f.style.symbols (affixes_of_style f.style))
 
 -- u is the number that the formatter shows of v: scaled, rounded, and with the sign that is written
 pub record IsShownAs (f : NumberFormatter) (v u : Decimal) : Type 0 where
@@ -57,9 +57,9 @@ pub record IsShownAs (f : NumberFormatter) (v u : Decimal) : Type 0 where
 -- the names of a number: the symbol, the narrow symbol and the code of the currency, or the percent sign
 abbrev pub names_by : NumberFormatter → NumberStyle → List (List ℕ)
 names_by f (NumberStyle.Currency c) =
-    f.currency.wide.now ∷ f.currency.narrow.now ∷ text_or_nothing f.currency.code ∷ []
+    f.style.currency.wide.now ∷ f.style.currency.narrow.now ∷ text_or_nothing f.style.currency.code ∷ []
 names_by f NumberStyle.Decimal = [] ∷ [] ∷ [] ∷ []
-names_by f other = f.percent.text.now ∷ [] ∷ [] ∷ []
+names_by f other = f.style.percent.text.now ∷ [] ∷ [] ∷ []
 
 -- what is around a number, and the sign that it shows
 abbrev pub form : List ℕ → List ℕ → Sign → Affixes × Sign
@@ -79,8 +79,8 @@ forms_of_name name =
 -- what may be around a number: what the formatter writes, nothing, parentheses for a minus sign, and the names
 abbrev pub typed_forms : NumberFormatter → List (Affixes × Sign)
 typed_forms f =
-    (affixes_for f Sign.None, Sign.None) ∷ (affixes_for f Sign.Negative, Sign.Negative)
-    ∷ (affixes_for f Sign.Positive, Sign.Positive) ∷ form [] [] Sign.None
+    (affixes_for f.style Sign.None, Sign.None) ∷ (affixes_for f.style Sign.Negative, Sign.Negative)
+    ∷ (affixes_for f.style Sign.Positive, Sign.Positive) ∷ form [] [] Sign.None
     ∷ form (codes "(") (codes ")") Sign.Negative ∷ flat_map forms_of_name (names_by f f.options.style)
 
 pub record NumberReader : Type 0 where

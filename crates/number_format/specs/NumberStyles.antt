@@ -3,7 +3,7 @@ use Rattle.std.specs.{Prelude.{◌≡◌, ℕ, Bool, true, false, not, codes, �
 use Rattle.decimal_format.specs.declared.grouping.GroupingSizes.{GroupingSizes}
 use Rattle.locale_data.specs.{Currencies.{currency_with, IsSymbolOf}, declared.{currency.{CurrencySymbol.CurrencySymbol, SymbolWidth.SymbolWidth}, tables.rows.patterns.{Affix.Affix, AffixPair.AffixPair, NumberSigns.NumberSigns, Pattern.Pattern, Piece.{Piece, TheVariants.{Empty, Minus, Plus, Currency}}}}}
 use Rattle.locale_data.specs.Patterns as pattern
-use Rattle.number_format.specs.declared.{number_options.{CurrencyDisplay.CurrencyDisplay, CurrencyStyle.CurrencyStyle, NumberStyle.NumberStyle}, number_style.ShownCurrency.ShownCurrency}
+use Rattle.number_format.specs.declared.{options.{CurrencyDisplay.CurrencyDisplay, CurrencyStyle.CurrencyStyle, NumberStyle.NumberStyle}, format.currency.ShownCurrency.ShownCurrency}
 
 -- ---- Patterns.
 

@@ -8,8 +8,8 @@ use Rattle.plural_rules.specs.Operands as operands
 use Rattle.plural_rules.specs.declared.rules.PluralCategory.{PluralCategory}
 use Rattle.locale_data.specs.declared.{compact.CompactStyle.CompactStyle, tables.rows.compact.{AffixText.AffixText, CompactForm.CompactForm, CompactPattern.CompactPattern, PercentUnit.PercentUnit}, tables.compact.TheConstants.PERCENT_UNITS, number_formats.NumberFormats.NumberFormats, tables.rows.TableRange.TableRange}
 use Rattle.locale_data.specs.{Compact.{text_of, pattern_for, compact_patterns, unit_for}, Plurals.IsCategoryAt}
-use Rattle.number_format.specs.declared.{digit_options.DigitOptions.DigitOptions, notation.Notation.Notation, number_around.NumberAffixes.NumberAffixes, number_formatter.NumberFormatter.NumberFormatter, number_options.{CompactLength.CompactLength, ExponentOptions.ExponentOptions, ExponentSign.ExponentSign, NumberNotation.NumberNotation, NumberStyle.NumberStyle}, text_part.PartKind.PartKind}
-use Rattle.number_format.specs.{NumberStyles.currency_text, PatternTexts.{Around, around, literal, sign_text, sign_pieces, space_if, style_around}, ShownDigits.{rounded_whole}, TextParts.{pieces_text, pieces_of, parts_pieces, digit_pieces}, Scaled.{ScaledValue, scaled_value, scaled, raised, rounded_number, exponent_at, ScalingNeedsMemory}}
+use Rattle.number_format.specs.declared.{digits.options.DigitOptions.DigitOptions, notation.Notation.Notation, format.affixes.{NumberAffixes.NumberAffixes, StyleTexts.StyleTexts}, format.formatter.NumberFormatter.NumberFormatter, options.{CompactLength.CompactLength, ExponentOptions.ExponentOptions, ExponentSign.ExponentSign, NumberNotation.NumberNotation, NumberStyle.NumberStyle}, format.text_part.PartKind.PartKind}
+use Rattle.number_format.specs.{NumberStyles.currency_text, PatternTexts.{Around, around, literal, sign_text, sign_pieces, space_if, pattern_around}, ShownDigits.{rounded_whole}, TextParts.{pieces_text, pieces_of, parts_pieces, digit_pieces}, Scaled.{ScaledValue, scaled_value, scaled, raised, rounded_number, exponent_at, ScalingNeedsMemory}}
 use Rattle.number_format.specs.ShownDigits as shown_digits
 use Rattle.number_format.specs.TextParts as parts
 
@@ -50,58 +50,54 @@ whole_number f v =
 
 -- ---- Before and after the number.
 
--- the pattern of the formatter, for a sign
-abbrev pub pattern_around : NumberFormatter → Sign → Around
-pattern_around f s = style_around f.symbols f.percent.text.now f.currency f.pattern s
-
 abbrev pub is_empty : List ℕ → Bool
 is_empty [] = true
 is_empty (b ∷ bytes) = false
 
-abbrev pub currency_if : NumberFormatter → Bool → List parts.Piece
-currency_if f has_currency = if has_currency then pieces_of PartKind.Currency (currency_text f.currency) else []
+abbrev pub currency_if : StyleTexts → Bool → List parts.Piece
+currency_if t has_currency = if has_currency then pieces_of PartKind.Currency (currency_text t.currency) else []
 
 abbrev pub compact_pieces : TableRange → List parts.Piece
 compact_pieces range = pieces_of PartKind.Compact (text_of range)
 
 -- a prefix or a suffix of a compact pattern, with the space of a currency beside a digit
-abbrev pub compact_prefix : NumberFormatter → AffixText → List parts.Piece
-compact_prefix f a =
-    compact_pieces a.before ++ (currency_if f a.has_currency
-    ++ (compact_pieces a.after ++ space_if (a.has_currency && (is_empty (text_of a.after) && f.currency.space_after))))
+abbrev pub compact_prefix : StyleTexts → AffixText → List parts.Piece
+compact_prefix t a =
+    compact_pieces a.before ++ (currency_if t a.has_currency
+    ++ (compact_pieces a.after ++ space_if (a.has_currency && (is_empty (text_of a.after) && t.currency.space_after))))
 
-abbrev pub compact_suffix : NumberFormatter → AffixText → List parts.Piece
-compact_suffix f a =
-    space_if (a.has_currency && (is_empty (text_of a.before) && f.currency.space_before))
-    ++ (compact_pieces a.before ++ (currency_if f a.has_currency ++ compact_pieces a.after))
+abbrev pub compact_suffix : StyleTexts → AffixText → List parts.Piece
+compact_suffix t a =
+    space_if (a.has_currency && (is_empty (text_of a.before) && t.currency.space_before))
+    ++ (compact_pieces a.before ++ (currency_if t a.has_currency ++ compact_pieces a.after))
 
 -- the sign before the prefix, or after it
-abbrev pub first_sign : NumberFormatter → Sign → CompactForm → List parts.Piece
-first_sign f s CompactForm.SignLast = []
-first_sign f s other = sign_pieces f.symbols s
+abbrev pub first_sign : StyleTexts → Sign → CompactForm → List parts.Piece
+first_sign t s CompactForm.SignLast = []
+first_sign t s other = sign_pieces t.symbols s
 
-abbrev pub last_sign : NumberFormatter → Sign → CompactForm → List parts.Piece
-last_sign f s CompactForm.SignLast = sign_pieces f.symbols s
-last_sign f s other = []
+abbrev pub last_sign : StyleTexts → Sign → CompactForm → List parts.Piece
+last_sign t s CompactForm.SignLast = sign_pieces t.symbols s
+last_sign t s other = []
 
 abbrev pub has_number : CompactForm → Bool
 has_number CompactForm.Literal = false
 has_number other = true
 
 -- a compact pattern, for a sign
-abbrev pub compact_around : NumberFormatter → Sign → CompactPattern → Around
-compact_around f s p =
-    around (first_sign f s p.form ++ (compact_prefix f p.prefix ++ last_sign f s p.form)) (has_number p.form)
-    (compact_suffix f p.suffix)
+abbrev pub compact_around : StyleTexts → Sign → CompactPattern → Around
+compact_around t s p =
+    around (first_sign t s p.form ++ (compact_prefix t p.prefix ++ last_sign t s p.form)) (has_number p.form)
+    (compact_suffix t p.suffix)
 
 abbrev pub is_plain : CompactForm → Bool
 is_plain CompactForm.Plain = true
 is_plain other = false
 
 -- the pattern of the style, or a compact pattern that is no plain one
-abbrev pub around_by : NumberFormatter → Sign → Option CompactPattern → Around
-around_by f s None = pattern_around f s
-around_by f s (Some p) = if is_plain p.form then pattern_around f s else compact_around f s p
+abbrev pub around_by : StyleTexts → Sign → Option CompactPattern → Around
+around_by t s None = pattern_around t s
+around_by t s (Some p) = if is_plain p.form then pattern_around t s else compact_around t s p
 
 -- the parts are these pieces, with what is written around the whole text
 pub record AreParts (a : Around) (u : Affixes) (shown : NumberAffixes) : Type 0 where
@@ -132,12 +128,12 @@ abbrev pub exponent_pieces : NumberFormatter → Option Decimal → List parts.P
 exponent_pieces f None = []
 exponent_pieces f (Some e) =
     pieces_of PartKind.ExponentSeparator f.separator.text.now
-    ++ (pieces_of (exponent_kind e.sign) (sign_text f.symbols e.sign)
-    ++ digit_pieces PartKind.ExponentInteger f.symbols Never e.absolute)
+    ++ (pieces_of (exponent_kind e.sign) (sign_text f.style.symbols e.sign)
+    ++ digit_pieces PartKind.ExponentInteger f.style.symbols Never e.absolute)
 
 -- the digits of a significand and of an exponent, if there is one
 abbrev pub number_part : NumberFormatter → Unsigned → Option Decimal → List parts.Piece
-number_part f v e = digit_pieces PartKind.Integer f.symbols f.options.grouping v ++ exponent_pieces f e
+number_part f v e = digit_pieces PartKind.Integer f.style.symbols f.options.grouping v ++ exponent_pieces f e
 
 -- ---- Compact notation.
 
@@ -212,7 +208,7 @@ pub record AreNumberPieces (f : NumberFormatter) (v : Decimal) (pieces : List pa
   pub of_significand : IsCategoryAt f.rules (operands.plain number.significand.absolute) category
   pub of_whole : IsCategoryAt f.rules (operands.plain (whole_number f v)) whole
   pub value : pieces ≡ pieces_around f number.significand.absolute (exponent_of f.options.notation number.exponent)
-      (around_by f (shown_sign f v number.significand)
+      (around_by f.style (shown_sign f v number.significand)
       (compact_pattern f.formats (compact_style f.options.notation f.options.style)
       (compact_magnitude f.notation number.significand number.exponent) category
       (is_one number.significand))) (unit_by f whole)

@@ -2,8 +2,8 @@
 use Rattle.std.specs.Prelude.{◌≡◌, ℕ, Bool, true, ◌&&◌, if◌then◌else◌, List, [], ◌∷◌, ◌++◌}
 use Rattle.fixed_decimal.specs.declared.variations.Sign.{Sign}
 use Rattle.decimal_format.specs.Symbols.{Symbols, sign_affixes}
-use Rattle.locale_data.specs.{Patterns.{literal_text, affixes_of}, declared.tables.rows.patterns.{Affix.Affix, Pattern.Pattern, Piece.Piece}}
-use Rattle.number_format.specs.{NumberStyles.{currency_text, ends_with_currency, begins_with_currency}, TextParts.{pieces_text, pieces_of}, declared.{number_style.ShownCurrency.ShownCurrency, sign_texts.{AffixTexts.AffixTexts, SignTexts.SignTexts}, text_part.PartKind.PartKind}}
+use Rattle.locale_data.specs.{Patterns.{literal_text, affixes_of}, declared.tables.rows.patterns.{Affix.Affix, Piece.Piece}}
+use Rattle.number_format.specs.{NumberStyles.{currency_text, ends_with_currency, begins_with_currency}, TextParts.{pieces_text, pieces_of}, declared.{format.affixes.{AffixTexts.AffixTexts, SignTexts.SignTexts, StyleTexts.StyleTexts}, format.text_part.PartKind.PartKind}}
 use Rattle.number_format.specs.TextParts as parts
 
 pub record Around : Type 0 where
@@ -36,15 +36,15 @@ pattern_kind Piece.Percent = PartKind.PercentSign
 pattern_kind Piece.Currency = PartKind.Currency
 pattern_kind other = PartKind.Literal
 
-abbrev pub pattern_text : Symbols → List ℕ → ShownCurrency → Piece → List ℕ
-pattern_text symbols percent currency Piece.Minus = sign_text symbols Sign.Negative
-pattern_text symbols percent currency Piece.Plus = sign_text symbols Sign.Positive
-pattern_text symbols percent currency Piece.Percent = percent
-pattern_text symbols percent currency Piece.Currency = currency_text currency
-pattern_text symbols percent currency other = literal_text other
+abbrev pub pattern_text : StyleTexts → Piece → List ℕ
+pattern_text t Piece.Minus = sign_text t.symbols Sign.Negative
+pattern_text t Piece.Plus = sign_text t.symbols Sign.Positive
+pattern_text t Piece.Percent = t.percent.text.now
+pattern_text t Piece.Currency = currency_text t.currency
+pattern_text t other = literal_text other
 
-abbrev pub pattern_pieces : Symbols → List ℕ → ShownCurrency → Piece → List parts.Piece
-pattern_pieces symbols percent currency p = pieces_of (pattern_kind p) (pattern_text symbols percent currency p)
+abbrev pub pattern_pieces : StyleTexts → Piece → List parts.Piece
+pattern_pieces t p = pieces_of (pattern_kind p) (pattern_text t p)
 
 -- an affix, by the pieces of its pieces
 abbrev pub affix_pieces : (Piece → List parts.Piece) → Affix → List parts.Piece
@@ -54,14 +54,14 @@ affix_pieces of a = of a.first ++ (of a.second ++ (of a.third ++ of a.fourth))
 abbrev pub space_if : Bool → List parts.Piece
 space_if needed = if needed then literal (194 ∷ 160 ∷ []) else []
 
--- a pattern, for a sign
-abbrev pub style_around : Symbols → List ℕ → ShownCurrency → Pattern → Sign → Around
-style_around symbols percent currency pattern s =
-    let pieces = pattern_pieces symbols percent currency in
-    let prefix = (affixes_of pattern s).prefix in
-    let suffix = (affixes_of pattern s).suffix in
-    around (affix_pieces pieces prefix ++ space_if (ends_with_currency prefix && currency.space_after)) true
-    (space_if (begins_with_currency suffix && currency.space_before) ++ affix_pieces pieces suffix)
+-- the pattern of a style, for a sign
+abbrev pub pattern_around : StyleTexts → Sign → Around
+pattern_around t s =
+    let pieces = pattern_pieces t in
+    let prefix = (affixes_of t.pattern s).prefix in
+    let suffix = (affixes_of t.pattern s).suffix in
+    around (affix_pieces pieces prefix ++ space_if (ends_with_currency prefix && t.currency.space_after)) true
+    (space_if (begins_with_currency suffix && t.currency.space_before) ++ affix_pieces pieces suffix)
 
 -- the texts of the pieces around a number
 pub record AreAffixTexts (a : Around) (t : AffixTexts) : Type 0 where
@@ -74,6 +74,5 @@ texts_for t Sign.Negative = t.negative
 texts_for t Sign.Positive = t.positive
 
 -- those of each sign
-abbrev pub AreSignTexts : Symbols → List ℕ → ShownCurrency → Pattern → SignTexts → Type 0
-AreSignTexts symbols percent currency pattern t =
-    (s : Sign) → AreAffixTexts (style_around symbols percent currency pattern s) (texts_for t s)
+abbrev pub AreSignTexts : StyleTexts → SignTexts → Type 0
+AreSignTexts style t = (s : Sign) → AreAffixTexts (pattern_around style s) (texts_for t s)

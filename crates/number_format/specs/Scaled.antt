@@ -5,12 +5,12 @@ use Rattle.std.specs.Option.{option_map_or}
 use Rattle.decimal_digits.specs.Number.{number_limit, weight, first, last, lowest_magnitude}
 use Rattle.fixed_decimal.specs.Decimal.{Decimal}
 use Rattle.fixed_decimal.specs.declared.variations.Sign.{Sign}
-use Rattle.number_format.specs.declared.digit_options.DigitOptions.{DigitOptions}
+use Rattle.number_format.specs.declared.digits.options.DigitOptions.{DigitOptions}
 use Rattle.number_format.specs.declared.notation.CompactExponents.{CompactExponents}
 use Rattle.number_format.specs.declared.notation.Notation.{Notation}
 use Rattle.number_format.specs.declared.notation.Notation.TheVariants.{Standard, Scientific, Engineering, Compact}
-use Rattle.number_format.specs.declared.precision.Precision.{Precision}
-use Rattle.number_format.specs.declared.precision.Precision.TheVariants.{Multiples}
+use Rattle.number_format.specs.declared.digits.precision.Precision.{Precision}
+use Rattle.number_format.specs.declared.digits.precision.Precision.TheVariants.{Multiples}
 use Rattle.number_format.specs.ShownDigits.{Rounded, rounded_at, shown, rounded_within, NeedsMemory}
 
 -- ---- The exponent of a number whose first digit is at a magnitude.

@@ -17,16 +17,16 @@ use Rattle.decimal_unsigned.specs.Rounded.{reaches_limit}
 use Rattle.fixed_decimal.specs.Decimal.{Decimal, signed_number}
 use Rattle.fixed_decimal.specs.SignedRounding.{mode_at, NamedSigned}
 use Rattle.fixed_decimal.specs.declared.variations.Sign.{Sign}
-use Rattle.number_format.specs.declared.digit_options.DigitOptions.{DigitOptions}
-use Rattle.number_format.specs.declared.digit_options.TrailingZeros.{TrailingZeros}
-use Rattle.number_format.specs.declared.digit_options.TrailingZeros.TheVariants.{Auto, StripIfInteger}
-use Rattle.number_format.specs.declared.digit_ranges.FractionDigits.{FractionDigits}
-use Rattle.number_format.specs.declared.digit_ranges.Increment.{Increment}
-use Rattle.number_format.specs.declared.precision.BothDigits.{BothDigits}
-use Rattle.number_format.specs.declared.precision.Minimum.{Minimum}
-use Rattle.number_format.specs.declared.precision.Minimum.TheVariants.{Chosen, Both}
-use Rattle.number_format.specs.declared.precision.Precision.{Precision}
-use Rattle.number_format.specs.declared.precision.Precision.TheVariants.{Fraction, Multiples, Significant, MorePrecision, LessPrecision}
+use Rattle.number_format.specs.declared.digits.options.DigitOptions.{DigitOptions}
+use Rattle.number_format.specs.declared.digits.options.TrailingZeros.{TrailingZeros}
+use Rattle.number_format.specs.declared.digits.options.TrailingZeros.TheVariants.{Auto, StripIfInteger}
+use Rattle.number_format.specs.declared.digits.ranges.FractionDigits.{FractionDigits}
+use Rattle.number_format.specs.declared.digits.ranges.Increment.{Increment}
+use Rattle.number_format.specs.declared.digits.precision.BothDigits.{BothDigits}
+use Rattle.number_format.specs.declared.digits.precision.Minimum.{Minimum}
+use Rattle.number_format.specs.declared.digits.precision.Minimum.TheVariants.{Chosen, Both}
+use Rattle.number_format.specs.declared.digits.precision.Precision.{Precision}
+use Rattle.number_format.specs.declared.digits.precision.Precision.TheVariants.{Fraction, Multiples, Significant, MorePrecision, LessPrecision}
 
 -- the magnitude of the last of the given number of digits, from a first one down
 abbrev pub last_at : ℕ → ℤ → ℤ

@@ -3,7 +3,7 @@ use Rattle.std.specs.Prelude.{ℕ, zero, suc, ◌≡◌, List, [], ◌∷◌, �
 use Rattle.decimal_digits.specs.Number.{digit}
 use Rattle.decimal_unsigned.specs.Unsigned.{Unsigned}
 use Rattle.decimal_format.specs.{Formatted.{separator_before, separator_after, shown_count}, Symbols.{Symbols, digit_text}, declared.grouping.GroupingStrategy.GroupingStrategy}
-use Rattle.number_format.specs.declared.text_part.{PartKind.PartKind, TextPart.TextPart}
+use Rattle.number_format.specs.declared.format.text_part.{PartKind.PartKind, TextPart.TextPart}
 
 -- the texts of parts, one after another
 abbrev pub parts_text : List TextPart → List ℕ

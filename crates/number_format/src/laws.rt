@@ -5,11 +5,11 @@ ghost use Rattle.fixed_decimal.specs.Decimal.{Decimal, with_sign_display};
 ghost use Rattle.decimal_format.specs.{Formatted.formatted, Readable.IsReadable, Symbols.{Symbols, sign_affixes}};
 ghost use Rattle.number_format.specs.{AffixedTexts.{Reader, AreNamed, text_with, shifted, IsReadExactly}, Formatters.{plain_options, IsFormatterIn, IsFormatter}, NumberReading.{IsStandard, reader_of, CanRead, IsShownAs}, NumberText.IsNumberText, ShownDigits.{rounded_with, applied, IsFractional, KeepsDigits}, Scaled.{KeepsExponent, KeepsValueOf}};
 
-use crate::digit_options::DigitOptions;
-use crate::digit_ranges::FractionDigits;
+use crate::digits::options::DigitOptions;
+use crate::digits::ranges::FractionDigits;
+use crate::format::formatter::NumberFormatter;
 use crate::notation::Notation;
-use crate::number_formatter::NumberFormatter;
-use crate::number_options::{NumberNotation, NumberOptions};
+use crate::options::{NumberNotation, NumberOptions};
 use decimal_format::GroupingStrategy;
 use fixed_decimal::{ParseError, SignDisplay};
 
@@ -20,7 +20,7 @@ pub fn fraction_digits_are_kept()
 {}
 
 /// By fraction digits or an increment the greater of two absolute values is rounded to no less.
-#[tactic(auto, using(crate::proofs::DigitLaws::is_monotone))]
+#[tactic(auto, using(crate::proofs::lemmas::digits::DigitLaws::is_monotone))]
 pub fn fraction_digits_are_monotone()
     ensures { (o : DigitOptions) (v w : Decimal) → IsFractional o.precision → v.sign ≡ w.sign
         → v.absolute.number ≤ w.absolute.number → (rounded_with o 0 v).number ≤ (rounded_with o 0 w).number }
@@ -46,7 +46,7 @@ pub fn the_exponent_is_of_the_rounded_number()
 {}
 
 /// The significand times 10 to the power of the exponent is the rounded number, if no integer digit is cut off.
-#[tactic(auto, using(crate::proofs::Scales::keeps_value_of))]
+#[tactic(auto, using(crate::proofs::lemmas::notation::Scales::keeps_value_of))]
 pub fn the_value_is_the_rounded_number()
     ensures { (notation : Notation) (o : DigitOptions) (v : Decimal) → KeepsValueOf notation o v }
 {}

@@ -21,50 +21,31 @@
 //! ```
 #![tactic(auto)]
 
-mod affixes;
-mod apply;
-mod default_digits;
-mod digit_options;
-mod digit_ranges;
-mod error;
-mod for_locale;
+mod digits;
 mod format;
-mod formatted_number;
 pub mod laws;
 mod notation;
-mod number_around;
-mod number_formatter;
-mod number_options;
-mod number_reader;
-mod number_style;
-mod parts;
-mod pieces;
-mod precision;
-mod reader;
-mod scale;
-mod settings;
-mod short_text;
-mod sign_texts;
-mod text_part;
+mod options;
+mod read;
 
-pub use affixes::SignAffixes;
-pub use digit_options::{DigitOptions, TrailingZeros};
-pub use digit_ranges::{
+pub use digits::error::DigitOptionsError;
+pub use digits::options::{DigitOptions, TrailingZeros};
+pub use digits::precision::{BothDigits, Minimum, Precision};
+pub use digits::ranges::{
     FractionDigits, FractionMultiples, Increment, IntegerDigits, SignificantDigits,
 };
-pub use error::DigitOptionsError;
-pub use format::{FormatError, NumberWriteError};
-pub use formatted_number::FormattedNumber;
+pub use digits::settings::{DigitDefaults, DigitSettings, RoundingPriority};
+pub use format::format_number::{FormatError, NumberWriteError};
+pub use format::formatted_number::FormattedNumber;
+pub use format::formatter::{NumberFormatError, NumberFormatter};
+pub use format::parts::PartSink;
+pub use format::text_part::{PartKind, TextPart};
+pub use notation::scale::Scaled;
 pub use notation::{CompactExponents, Notation};
-pub use number_formatter::{NumberFormatError, NumberFormatter};
-pub use number_options::{
+pub use options::{
     CompactLength, CurrencyDisplay, CurrencyStyle, CurrencyUsage, ExponentOptions, ExponentSign,
     NumberNotation, NumberOptions, NumberStyle,
 };
-pub use number_reader::{NumberReader, NumberReaderError, ParseMode};
-pub use pieces::PartSink;
-pub use precision::{BothDigits, Minimum, Precision};
-pub use reader::{AffixError, AffixReader};
-pub use scale::Scaled;
-pub use settings::{DigitDefaults, DigitSettings, RoundingPriority};
-pub use text_part::{PartKind, TextPart};
+pub use read::affix_reader::{AffixError, AffixReader};
+pub use read::number_reader::{NumberReader, NumberReaderError, ParseMode};
+pub use read::sign_affixes::SignAffixes;

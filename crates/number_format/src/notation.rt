@@ -3,6 +3,8 @@ ghost use Rattle.std.specs.Prelude.{◌≡◌, pos, ◌≤ℤ◌, ◌-ℤ◌};
 ghost use Rattle.std.specs.Int.{int_max, int_min};
 ghost use Rattle.number_format.specs.Scaled.{compact_exponent, exponent_at};
 
+pub(crate) mod scale;
+
 /// The exponents of a locale's compact patterns, for the magnitudes 3 to 19.
 ///
 /// A pattern with `n` integer digits for the magnitude `m` has the exponent `m + 1 - n`: that of `00K` is 3 for the

@@ -5,11 +5,11 @@ use Rattle.fixed_decimal.specs.declared.rounding.{SignedRoundingMode.SignedRound
 use Rattle.decimal_digits.specs.declared.rounding.UnsignedRoundingMode.TheVariants.{HalfEven}
 use Rattle.locale_data.specs.declared.currency.CurrencyDigits.{CurrencyDigits}
 use Rattle.locale_data.specs.Currencies.{currency_with, digits_of as listed_digits}
-use Rattle.number_format.specs.declared.digit_options.{DigitOptions.DigitOptions, TrailingZeros.TrailingZeros, TrailingZeros.TheVariants.{Auto, StripIfInteger}}
-use Rattle.number_format.specs.declared.number_options.{CurrencyUsage.CurrencyUsage, CurrencyUsage.TheVariants.{Standard}}
-use Rattle.number_format.specs.declared.precision.{Minimum.Minimum, Minimum.TheVariants.{Chosen}, Precision.Precision}
-use Rattle.number_format.specs.declared.precision.Precision.TheVariants as precision
-use Rattle.number_format.specs.declared.settings.{RoundingPriority.RoundingPriority, RoundingPriority.TheVariants.{LessPrecision}}
+use Rattle.number_format.specs.declared.digits.options.{DigitOptions.DigitOptions, TrailingZeros.TrailingZeros, TrailingZeros.TheVariants.{Auto, StripIfInteger}}
+use Rattle.number_format.specs.declared.options.{CurrencyUsage.CurrencyUsage, CurrencyUsage.TheVariants.{Standard}}
+use Rattle.number_format.specs.declared.digits.precision.{Minimum.Minimum, Minimum.TheVariants.{Chosen}, Precision.Precision}
+use Rattle.number_format.specs.declared.digits.precision.Precision.TheVariants as precision
+use Rattle.number_format.specs.declared.digits.settings.{RoundingPriority.RoundingPriority, RoundingPriority.TheVariants.{LessPrecision}}
 use Rattle.number_skeleton.specs.declared.error.{SkeletonError.SkeletonError, SkeletonError.TheVariants.{Unsupported}}
 use Rattle.number_skeleton.specs.declared.choices.{Choices.Choices, ChosenNotation.ChosenNotation, ChosenNotation.TheVariants.{Compact}, ChosenPrecision.ChosenPrecision, Span.Span, TwoCounts.TwoCounts, ChosenUnit.ChosenUnit, ChosenUnit.TheVariants.{Currency}}
 use Rattle.number_skeleton.specs.declared.choices.ChosenPrecision.TheVariants as chosen

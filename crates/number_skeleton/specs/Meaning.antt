@@ -8,10 +8,10 @@ use Rattle.fixed_decimal.specs.declared.variations.SignDisplay.{SignDisplay}
 use Rattle.fixed_decimal.specs.declared.variations.SignDisplay.TheVariants as sign
 use Rattle.locale_data.specs.declared.currency.CurrencySign.{CurrencySign}
 use Rattle.locale_data.specs.declared.currency.CurrencySign.TheVariants as currency_sign
-use Rattle.number_format.specs.declared.number_options.{CurrencyDisplay.CurrencyDisplay, CurrencyUsage.CurrencyUsage, NumberNotation.NumberNotation, NumberNotation.TheVariants.{Standard, Scientific, Engineering, Compact}, NumberOptions.NumberOptions, NumberStyle.NumberStyle}
-use Rattle.number_format.specs.declared.number_options.CurrencyDisplay.TheVariants as display
-use Rattle.number_format.specs.declared.number_options.CurrencyUsage.TheVariants as usage
-use Rattle.number_format.specs.declared.number_options.NumberStyle.TheVariants as style
+use Rattle.number_format.specs.declared.options.{CurrencyDisplay.CurrencyDisplay, CurrencyUsage.CurrencyUsage, NumberNotation.NumberNotation, NumberNotation.TheVariants.{Standard, Scientific, Engineering, Compact}, NumberOptions.NumberOptions, NumberStyle.NumberStyle}
+use Rattle.number_format.specs.declared.options.CurrencyDisplay.TheVariants as display
+use Rattle.number_format.specs.declared.options.CurrencyUsage.TheVariants as usage
+use Rattle.number_format.specs.declared.options.NumberStyle.TheVariants as style
 use Rattle.number_skeleton.specs.declared.error.SkeletonError.{SkeletonError}
 use Rattle.number_skeleton.specs.declared.choices.{Choices.Choices, ChosenNotation.ChosenNotation, ChosenPrecision.ChosenPrecision, Exponent.Exponent, Span.Span, ChosenUnit.ChosenUnit}
 use Rattle.number_skeleton.specs.declared.choices.ChosenNotation.TheVariants as chosen

@@ -7,8 +7,8 @@ use Rattle.fixed_decimal.specs.declared.variations.SignDisplay.TheVariants.{Neve
 use Rattle.locale_data.specs.declared.currency.CurrencySign.{CurrencySign}
 use Rattle.locale_data.specs.declared.currency.CurrencySign.TheVariants.{Accounting}
 use Rattle.locale_data.specs.declared.tables.symbols.TheConstants.{NUMBERING_SYSTEMS}
-use Rattle.number_format.specs.declared.number_options.{CurrencyUsage.CurrencyUsage, CurrencyUsage.TheVariants.{Cash}, NumberNotation.NumberNotation, NumberNotation.TheVariants.{Scientific, Engineering}, NumberStyle.NumberStyle, NumberStyle.TheVariants.{Permille, Currency}}
-use Rattle.number_format.specs.declared.precision.Minimum.TheVariants.{Both}
+use Rattle.number_format.specs.declared.options.{CurrencyUsage.CurrencyUsage, CurrencyUsage.TheVariants.{Cash}, NumberNotation.NumberNotation, NumberNotation.TheVariants.{Scientific, Engineering}, NumberStyle.NumberStyle, NumberStyle.TheVariants.{Permille, Currency}}
+use Rattle.number_format.specs.declared.digits.precision.Minimum.TheVariants.{Both}
 use Rattle.number_skeleton.specs.declared.error.SkeletonError.{SkeletonError}
 use Rattle.number_format.specs.DefaultDigits.{is_compact, currency_digits}
 use Rattle.number_skeleton.specs.Digits.{PrecisionValue, Fraction, Multiples, More, Less, DigitsValue, money_precision}

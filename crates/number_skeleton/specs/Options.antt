@@ -5,11 +5,11 @@ use Rattle.std.specs.Option.{option_map, option_and_then}
 use Rattle.fixed_decimal.specs.declared.variations.SignDisplay.TheVariants as display
 use Rattle.locale_data.specs.declared.currency.CurrencySign.TheVariants.{Standard}
 use Rattle.locale_data.specs.declared.tables.symbols.TheConstants.{NUMBERING_SYSTEMS}
-use Rattle.number_format.specs.declared.number_options.ExponentSign.{ExponentSign}
-use Rattle.number_format.specs.declared.number_options.ExponentSign.TheVariants as sign
-use Rattle.number_format.specs.declared.precision.Minimum.{Minimum}
-use Rattle.number_format.specs.declared.precision.Minimum.TheVariants as minimum
-use Rattle.number_format.specs.declared.settings.{RoundingPriority.RoundingPriority, RoundingPriority.TheVariants.{MorePrecision, LessPrecision}}
+use Rattle.number_format.specs.declared.options.ExponentSign.{ExponentSign}
+use Rattle.number_format.specs.declared.options.ExponentSign.TheVariants as sign
+use Rattle.number_format.specs.declared.digits.precision.Minimum.{Minimum}
+use Rattle.number_format.specs.declared.digits.precision.Minimum.TheVariants as minimum
+use Rattle.number_format.specs.declared.digits.settings.{RoundingPriority.RoundingPriority, RoundingPriority.TheVariants.{MorePrecision, LessPrecision}}
 use Rattle.number_skeleton.specs.declared.choices.{Choice.Choice, Exponent.Exponent}
 use Rattle.number_skeleton.specs.declared.choices.Choice.TheVariants as choice
 use Rattle.number_skeleton.specs.declared.choices.ChosenNotation.TheVariants as notation

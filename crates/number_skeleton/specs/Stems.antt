@@ -1,8 +1,8 @@
 -- The stems of skeletons: words, and those that are numbers of digits.
 use Rattle.std.specs.Prelude.{ℕ, ◌==◌, nat_lt, Bool, ◌||◌, ◌&&◌, if◌then◌else◌, List, length, drop, slice_index, is_none, is_some, Option, Some, None, unwrap_or}
 use Rattle.std.specs.Option.{option_map}
-use Rattle.number_format.specs.declared.number_options.ExponentSign.{ExponentSign}
-use Rattle.number_format.specs.declared.number_options.ExponentSign.TheVariants as sign
+use Rattle.number_format.specs.declared.options.ExponentSign.{ExponentSign}
+use Rattle.number_format.specs.declared.options.ExponentSign.TheVariants as sign
 use Rattle.number_skeleton.specs.declared.choices.Choice.TheVariants as choice
 use Rattle.number_skeleton.specs.declared.choices.ChosenNotation.TheVariants as notation
 use Rattle.number_skeleton.specs.declared.choices.{ChosenPrecision.ChosenPrecision, ChosenPrecision.TheVariants.{Unlimited, Fraction, Significant}}

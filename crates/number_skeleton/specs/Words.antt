@@ -7,10 +7,10 @@ use Rattle.decimal_format.specs.declared.grouping.GroupingStrategy.TheVariants a
 use Rattle.fixed_decimal.specs.declared.rounding.SignedRoundingMode.TheVariants as mode
 use Rattle.fixed_decimal.specs.declared.variations.SignDisplay.TheVariants as sign
 use Rattle.locale_data.specs.declared.currency.CurrencySign.TheVariants as currency
-use Rattle.number_format.specs.declared.number_options.CompactLength.TheVariants as compact
-use Rattle.number_format.specs.declared.number_options.CurrencyDisplay.TheVariants as display
-use Rattle.number_format.specs.declared.number_options.CurrencyUsage.TheVariants as usage
-use Rattle.number_format.specs.declared.number_options.ExponentSign.TheVariants as exponent_sign
+use Rattle.number_format.specs.declared.options.CompactLength.TheVariants as compact
+use Rattle.number_format.specs.declared.options.CurrencyDisplay.TheVariants as display
+use Rattle.number_format.specs.declared.options.CurrencyUsage.TheVariants as usage
+use Rattle.number_format.specs.declared.options.ExponentSign.TheVariants as exponent_sign
 use Rattle.number_skeleton.specs.declared.choices.Choice.{Choice}
 use Rattle.number_skeleton.specs.declared.choices.Choice.TheVariants as choice
 use Rattle.number_skeleton.specs.declared.choices.ChosenNotation.TheVariants as notation

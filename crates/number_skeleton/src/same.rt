@@ -4,7 +4,7 @@ ghost use Rattle.std.specs.Option.{option_map};
 ghost use Rattle.number_format.specs.Resolved.{counts};
 ghost use Rattle.number_skeleton.specs.Digits.{precision_value, digits_value};
 ghost use Rattle.number_skeleton.specs.Meaning.{options_value};
-ghost use Rattle.number_format.specs.declared.precision.Precision.TheVariants.{Multiples, MorePrecision};
+ghost use Rattle.number_format.specs.declared.digits.precision.Precision.TheVariants.{Multiples, MorePrecision};
 
 use number_format::{
     BothDigits, DigitOptions, ExponentOptions, FractionDigits, FractionMultiples, Minimum,

@@ -1,6 +1,6 @@
 use Rattle.std.proofs.Common.{◌≡◌, ◌≢◌, ◌∙◌, ℕ, List, [], Option, Some, inr, refl, sym, ap, subst, arith}
 use Rattle.std.specs.Option.{option_copied}
-use Rattle.number_format.specs.declared.number_reader.ParseMode.{ParseMode}
+use Rattle.number_format.specs.declared.read.number_reader.ParseMode.{ParseMode}
 use Rattle.conversions.specs.Parameters.{tag_of, option_of, locale_tag, locale_option}
 use Rattle.conversions.specs.ReadWord.{IsReadOption, IsNumberReader, SkeletonReaderFails, ReaderFails}
 use Rattle.conversions.proofs.lemmas.words.Results.{err_with}

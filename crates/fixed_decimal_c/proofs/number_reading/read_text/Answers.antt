@@ -1,6 +1,6 @@
 use Rattle.std.proofs.Common.{inl, subst}
 use Rattle.decimal_unsigned.specs.declared.decimal.TheConstants.{INLINE_DIGITS}
-use Rattle.number_format.specs.declared.number_reader.ParseMode.{ParseMode}
+use Rattle.number_format.specs.declared.read.number_reader.ParseMode.{ParseMode}
 use Rattle.number_format.specs.NumberReading.{NumberReader, number_reader_of, IsReadInMode}
 use Rattle.fixed_decimal_c.proofs.number_reading.read_text.Goals as goal
 

@@ -1,4 +1,4 @@
-use Rattle.number_format.proofs.AffixedNumbers.{named_texts_are_unique}
+use Rattle.number_format.proofs.lemmas.read.AffixedNumbers.{named_texts_are_unique}
 use Rattle.number_format.proofs.laws.affixed_texts_are_unique.Goals as goal
 
 pub returns : goal.returns

@@ -1,4 +1,4 @@
-use Rattle.number_format.proofs.FormatterTexts.{standard}
+use Rattle.number_format.proofs.lemmas.read.FormatterTexts.{standard}
 use Rattle.number_format.proofs.laws.standard_notation_is_read.Goals as goal
 
 pub returns : goal.returns

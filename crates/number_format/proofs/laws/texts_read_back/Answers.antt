@@ -1,4 +1,4 @@
-use Rattle.number_format.proofs.ReadBack as lemmas
+use Rattle.number_format.proofs.lemmas.read.ReadBack as lemmas
 use Rattle.number_format.proofs.laws.texts_read_back.Goals as goal
 
 pub returns : goal.returns

@@ -1,4 +1,4 @@
-use Rattle.number_format.proofs.Scales.{keeps_exponent}
+use Rattle.number_format.proofs.lemmas.notation.Scales.{keeps_exponent}
 use Rattle.number_format.proofs.laws.the_exponent_is_of_the_rounded_number.Goals as goal
 
 pub returns : goal.returns

@@ -2,7 +2,7 @@ use Rattle.std.proofs.Common.{◌*◌, ◌^◌, ◌∙◌, ap, arith, rules, w16
 use Rattle.std.specs.Prelude.{pos}
 use Rattle.std.proofs.lemmas.Int.{ints, clamps, to_z-of_z}
 use Rattle.fixed_decimal.proofs.Calling.{below_limit}
-use Rattle.number_format.proofs.Scales.{raised_first, raised_twice}
+use Rattle.number_format.proofs.lemmas.notation.Scales.{raised_first, raised_twice}
 use Rattle.number_format.proofs.notation.Notation.raise.Goals as goal
 
 pub raise-requires-2-clause-low : goal.raise-requires-2-clause-low

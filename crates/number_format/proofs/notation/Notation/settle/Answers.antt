@@ -4,7 +4,7 @@ use Rattle.std.specs.Prelude.{if◌then◌else◌, nat_lt, Some, option_map}
 use Rattle.decimal_digits.specs.Number.{first}
 use Rattle.number_format.specs.Scaled.{settled, settled_with}
 use Rattle.number_format.specs.ShownDigits.{rounded_with, rounded_within}
-use Rattle.number_format.proofs.Scales.{settled_by}
+use Rattle.number_format.proofs.lemmas.notation.Scales.{settled_by}
 use Rattle.number_format.proofs.notation.Notation.settle.Given.{Over}
 use Rattle.number_format.proofs.notation.Notation.settle.Goals as goal
 use Rattle.number_format.proofs.notation.Notation.settle.Goals.{After-carried_exponent-next}

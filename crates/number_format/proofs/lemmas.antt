@@ -1,0 +1,4 @@
+pub mod digits
+pub mod notation
+pub mod format
+pub mod read

@@ -1,0 +1,4 @@
+pub mod Roundings
+pub mod Applied
+pub mod DigitLaws
+pub mod DefaultsResolve

@@ -1,0 +1,6 @@
+pub mod PartTexts
+pub mod PieceTexts
+pub mod PlainNumbers
+pub mod CompactChoices
+pub mod ExponentDigits
+pub mod StandardNotation

@@ -1,0 +1,241 @@
+-- Pieces of a text, and their texts.
+use Rattle.std.proofs.Common.{◌≡◌, ℕ, zero, suc, ◌+◌, ◌-◌, ◌<◌, List, [], ◌∷◌, ◌++◌, length, get_or, take, drop, take-append-drop, sym, ◌∙◌, ap, subst, refl, arith, append_assoc, append-nil}
+use Rattle.std.specs.Prelude.{Option, Some, None, ℤ, pos, ◌-ℤ◌, Bool, true, false, if◌then◌else◌}
+use Rattle.std.proofs.lemmas.List.{take_more}
+use Rattle.std.proofs.lemmas.List.Concat.{flat_map-cons}
+use Rattle.std.proofs.lemmas.Grind.{flat_map-append}
+use Rattle.decimal_unsigned.specs.Unsigned.{Unsigned}
+use Rattle.fixed_decimal.specs.Decimal.{Decimal}
+use Rattle.decimal_format.specs.declared.grouping.GroupingStrategy.{GroupingStrategy}
+use Rattle.decimal_digits.specs.Number.{digit}
+use Rattle.decimal_format.specs.declared.grouping.GroupingStrategy.TheVariants.{Never}
+use Rattle.decimal_format.specs.Formatted.{separator_before, separator_after, magnitude_text, formatted_down, absolute_text, shown_count}
+use Rattle.decimal_format.specs.Symbols.{Symbols, digit_text}
+use Rattle.decimal_format.proofs.lemmas.formatter.Magnitudes.{one_more}
+use Rattle.number_format.specs.declared.format.formatted_number.FormattedNumber.{FormattedNumber}
+use Rattle.number_format.specs.declared.format.affixes.NumberAffixes.{NumberAffixes}
+use Rattle.number_format.specs.declared.format.formatter.NumberFormatter.{NumberFormatter}
+use Rattle.number_format.specs.declared.format.text_part.PartKind.{PartKind}
+use Rattle.number_format.specs.declared.format.text_part.PartKind.TheVariants as kind
+use Rattle.number_format.specs.declared.format.text_part.TextPart.{TextPart}
+use Rattle.number_format.specs.TextParts.{Piece, Puts, PutsPrefix, part_pieces, parts_text, pieces_text, pieces_of, parts_pieces, digit_kind, magnitude_pieces, first_pieces, digit_pieces}
+use Rattle.number_format.specs.FormattedNumbers.{chosen_pattern, around_of, unit_of, exponent_text, number_text, number_text_if, around_text, formatted_number_text}
+use Rattle.number_format.specs.NumberText.{compact_style, unit_texts, around_by, exponent_kind, exponent_pieces, exponent_of, number_part, AreParts}
+use Rattle.number_format.specs.PatternTexts.{literal, pattern_around, sign_text}
+
+pub puts_nil : (a : Option (List Piece)) → Puts a a []
+puts_nil None = tt
+puts_nil (Some x) = sym (append-nil x)
+
+pub puts_trans : (a b c : Option (List Piece)) (ps qs : List Piece) → Puts a b ps → Puts b c qs → Puts a c (ps ++ qs)
+puts_trans None b c ps qs p q = tt
+puts_trans (Some x) None c ps qs p q = absurd p
+puts_trans (Some x) (Some y) None ps qs p q = absurd q
+puts_trans (Some x) (Some y) (Some z) ps qs p q = q ∙ ap (λ l. l ++ qs) p ∙ append_assoc x ps qs
+
+-- a prefix of pieces is a prefix of more pieces
+pub prefix_more : (a b : Option (List Piece)) (ps qs : List Piece) → PutsPrefix a b ps → PutsPrefix a b (ps ++ qs)
+prefix_more a b ps qs (part, rest, e, p) = (part, rest ++ qs, sym (append_assoc part rest qs) ∙ ap (λ l. l ++ qs) e, p)
+
+-- pieces and then a prefix of the next
+pub then_prefix : (a b c : Option (List Piece)) (ps qs : List Piece) → Puts a b ps → PutsPrefix b c qs
+    → PutsPrefix a c (ps ++ qs)
+then_prefix a b c ps qs q (part, rest, e, p) =
+    (ps ++ part, rest, append_assoc ps part rest ∙ ap (λ l. ps ++ l) e, puts_trans a b c ps part q p)
+
+-- a piece that is rejected
+pub prefix_none : (a b : Option (List Piece)) (ps : List Piece) → Puts a b [] → PutsPrefix a b ps
+prefix_none a b ps p = ([], ps, refl, p)
+
+-- the prefix that was put, if the first, the second or the third of three lists fails
+module _ (xs ys zs : List Piece) where
+  pub first_of_three : (a b : Option (List Piece)) → PutsPrefix a b xs → PutsPrefix a b (xs ++ (ys ++ zs))
+  first_of_three a b p = prefix_more a b xs (ys ++ zs) p
+
+  pub second_of_three : (a b c : Option (List Piece)) → Puts a b xs → PutsPrefix b c ys
+      → PutsPrefix a c (xs ++ (ys ++ zs))
+  second_of_three a b c p q = then_prefix a b c xs (ys ++ zs) p (prefix_more b c ys zs q)
+
+  pub third_of_three : (a b c d : Option (List Piece)) → Puts a b xs → Puts b c ys → PutsPrefix c d zs
+      → PutsPrefix a d (xs ++ (ys ++ zs))
+  third_of_three a b c d p q r = then_prefix a b d xs (ys ++ zs) p (then_prefix b c d ys zs q r)
+
+-- one part more
+pub parts_pieces-more : (parts : List TextPart) (i : ℕ) (p : TextPart) → i < length parts → p ≡ get_or parts i p
+    → parts_pieces (take (i + 1) parts) ≡ parts_pieces (take i parts) ++ pieces_of p.kind p.text.now
+parts_pieces-more parts i p h e =
+    ap parts_pieces (take_more parts i p h)
+    ∙ flat_map-append part_pieces (take i parts) (get_or parts i p ∷ [])
+    ∙ ap (λ l. parts_pieces (take i parts) ++ l)
+    (flat_map-cons part_pieces (get_or parts i p) []
+    ∙ append-nil (part_pieces (get_or parts i p))
+    ∙ ap part_pieces (sym e))
+
+-- one part between those before it and those after it
+pub parts_pieces-split : (parts : List TextPart) (i : ℕ) (p : TextPart) → i < length parts → p ≡ get_or parts i p
+    → parts_pieces (take i parts) ++ (pieces_of p.kind p.text.now ++ parts_pieces (drop (i + 1) parts))
+    ≡ parts_pieces parts
+parts_pieces-split parts i p h e =
+    let part = pieces_of p.kind p.text.now in
+    sym (append_assoc (parts_pieces (take i parts)) part (parts_pieces (drop (i + 1) parts)))
+    ∙ ap (λ l. l ++ parts_pieces (drop (i + 1) parts)) (sym (parts_pieces-more parts i p h e))
+    ∙ sym (flat_map-append part_pieces (take (i + 1) parts) (drop (i + 1) parts))
+    ∙ ap parts_pieces (take-append-drop (i + 1) parts)
+
+-- one magnitude more
+pub first_pieces-more : (k : PartKind) (s : Symbols) (strategy : GroupingStrategy) (v : Unsigned) (i : ℕ)
+    → first_pieces k s strategy v (i + 1)
+    ≡ first_pieces k s strategy v i ++ magnitude_pieces k s strategy v (v.hi -ℤ pos i)
+unfolding first_pieces
+first_pieces-more k s strategy v i =
+    let e : i + 1 ≡ suc i = omega arith in
+    ap (first_pieces k s strategy v) e
+
+-- the first n magnitudes are a prefix of n + k
+pub first_pieces-prefix : (kind : PartKind) (s : Symbols) (strategy : GroupingStrategy) (v : Unsigned) (n k : ℕ)
+    → (rest : List Piece) × (first_pieces kind s strategy v n ++ rest ≡ first_pieces kind s strategy v (n + k))
+first_pieces-prefix kind s strategy v n zero =
+    let e : n ≡ n + zero = omega arith in
+    ([], append-nil (first_pieces kind s strategy v n) ∙ ap (first_pieces kind s strategy v) e)
+first_pieces-prefix kind s strategy v n (suc k) =
+    let (rest, is) = first_pieces-prefix kind s strategy v n k in
+    let e : (n + k) + 1 ≡ n + suc k = omega arith in
+    let more = magnitude_pieces kind s strategy v (v.hi -ℤ pos (n + k)) in (
+      rest ++ more,
+      sym (append_assoc (first_pieces kind s strategy v n) rest more)
+          ∙ ap (λ l. l ++ more) is
+          ∙ sym (first_pieces-more kind s strategy v (n + k))
+          ∙ ap (first_pieces kind s strategy v) e,
+    )
+
+-- a prefix of one magnitude more is a prefix of all
+pub digits_prefix : (kind : PartKind) (s : Symbols) (strategy : GroupingStrategy) (v : Unsigned) (n : ℕ)
+    (a b c : Option (List Piece)) → n < shown_count v → Puts a b (first_pieces kind s strategy v n)
+    → PutsPrefix b c (magnitude_pieces kind s strategy v (v.hi -ℤ pos n))
+    → PutsPrefix a c (digit_pieces kind s strategy v)
+digits_prefix kind s strategy v n a b c h p q =
+    let e' : (n + 1) + (shown_count v - (n + 1)) ≡ shown_count v = omega (arith, h) in
+    let (rest, is) = first_pieces-prefix kind s strategy v (n + 1) (shown_count v - (n + 1)) in
+    subst (PutsPrefix a c) (is ∙ ap (first_pieces kind s strategy v) e')
+    (prefix_more a c _ rest (subst (PutsPrefix a c) (sym (first_pieces-more kind s strategy v n))
+    (then_prefix a b c _ _ p q)))
+
+abbrev bytes : Piece → List ℕ
+bytes p = p.text
+
+pub text-append : (a b : List Piece) → pieces_text (a ++ b) ≡ pieces_text a ++ pieces_text b
+text-append a b = flat_map-append bytes a b
+
+pub text-of : (k : PartKind) (text : List ℕ) → pieces_text (pieces_of k text) ≡ text
+text-of k [] = refl
+text-of k (b ∷ text) = flat_map-cons bytes (record { kind = k; text = b ∷ text }) [] ∙ append-nil (b ∷ text)
+
+-- the same, by a name that source can cite
+pub text_of : (k : PartKind) (text : List ℕ) → pieces_text (pieces_of k text) ≡ text
+text_of = text-of
+
+pub text-of_parts : (parts : List TextPart) → pieces_text (parts_pieces parts) ≡ parts_text parts
+text-of_parts [] = refl
+text-of_parts (p ∷ parts) =
+    ap pieces_text (flat_map-cons part_pieces p parts)
+    ∙ text-append (part_pieces p) (parts_pieces parts)
+    ∙ (λ i. text-of p.kind p.text.now i ++ text-of_parts parts i)
+    ∙ sym (flat_map-cons (λ (part : TextPart). part.text.now) p parts)
+
+pub text-three : (a b c : List Piece) (x y z : List ℕ) → pieces_text a ≡ x → pieces_text b ≡ y → pieces_text c ≡ z
+    → pieces_text (a ++ (b ++ c)) ≡ x ++ (y ++ z)
+text-three a b c x y z p q r =
+    text-append a (b ++ c) ∙ (λ i. p i ++ (text-append b c ∙ (λ j. q j ++ r j)) i)
+
+text-of_magnitude : (k : PartKind) (s : Symbols) (strategy : GroupingStrategy) (v : Unsigned) (m : ℤ)
+    → pieces_text (magnitude_pieces k s strategy v m) ≡ magnitude_text s strategy v.hi v.number m
+text-of_magnitude k s strategy v m =
+    let before = separator_before s m in
+    let text = digit_text s (digit v.number m) in
+    let after = separator_after s strategy v.hi m in
+    text-three (pieces_of kind.Decimal before) (pieces_of (digit_kind k m) text) (pieces_of kind.Group after) before
+    text after (text-of kind.Decimal before) (text-of (digit_kind k m) text) (text-of kind.Group after)
+
+text-of_first : (k : PartKind) (s : Symbols) (strategy : GroupingStrategy) (v : Unsigned) (n : ℕ)
+    → pieces_text (first_pieces k s strategy v n) ≡ formatted_down s strategy v.hi v.number v.hi n
+unfolding first_pieces formatted_down
+text-of_first k s strategy v zero = refl
+text-of_first k s strategy v (suc n) =
+    let e : n + 1 ≡ suc n = omega arith in
+    text-append (first_pieces k s strategy v n) (magnitude_pieces k s strategy v (v.hi -ℤ pos n))
+    ∙ (λ i. text-of_first k s strategy v n i ++ text-of_magnitude k s strategy v (v.hi -ℤ pos n) i)
+    ∙ sym (one_more s strategy v n)
+    ∙ ap (formatted_down s strategy v.hi v.number v.hi) e
+
+pub text-of_digits : (k : PartKind) (s : Symbols) (strategy : GroupingStrategy) (v : Unsigned)
+    → pieces_text (digit_pieces k s strategy v) ≡ absolute_text s strategy v
+text-of_digits k s strategy v = text-of_first k s strategy v (shown_count v)
+
+text-of_exponent : (f : NumberFormatter) (e : Option Decimal) → pieces_text (exponent_pieces f e) ≡ exponent_text f e
+text-of_exponent f None = refl
+text-of_exponent f (Some e) =
+    let sign = sign_text f.style.symbols e.sign in
+    text-three (pieces_of kind.ExponentSeparator f.separator.text.now) (pieces_of (exponent_kind e.sign) sign)
+    (digit_pieces kind.ExponentInteger f.style.symbols Never e.absolute) f.separator.text.now sign
+    (absolute_text f.style.symbols Never e.absolute) (text-of kind.ExponentSeparator f.separator.text.now)
+    (text-of (exponent_kind e.sign) sign) (text-of_digits kind.ExponentInteger f.style.symbols Never e.absolute)
+
+text-of_number : (n : FormattedNumber)
+    → pieces_text (number_part n.formatter.now n.value.absolute
+    (exponent_of n.formatter.now.options.notation n.exponent))
+    ≡ number_text n
+text-of_number n =
+    let f = n.formatter.now in
+    let e = exponent_of f.options.notation n.exponent in
+    text-append (digit_pieces kind.Integer f.style.symbols f.options.grouping n.value.absolute) (exponent_pieces f e)
+    ∙ (λ i. text-of_digits kind.Integer f.style.symbols f.options.grouping n.value.absolute i ++ text-of_exponent f e i)
+
+text-if : (b : Bool) (ps : List Piece) (text : List ℕ) → pieces_text ps ≡ text
+    → pieces_text (if b then ps else []) ≡ (if b then text else [])
+text-if true ps text e = e
+text-if false ps text e = refl
+
+-- the number between the texts of the parts before and after it is the text
+pub text-of_affixes : (n : FormattedNumber) (shown : NumberAffixes) → AreParts (around_of n) (unit_of n) shown
+    → parts_text shown.prefix ++ (number_text_if n shown.has_number ++ parts_text shown.suffix)
+    ≡ formatted_number_text n
+text-of_affixes n shown is =
+    let a = around_of n in
+    let number =
+    number_part n.formatter.now n.value.absolute (exponent_of n.formatter.now.options.notation n.exponent) in
+    sym (text-three (literal (unit_of n).prefix ++ a.prefix) (if a.has_number then number else [])
+    (a.suffix ++ literal (unit_of n).suffix) (parts_text shown.prefix) (number_text_if n shown.has_number)
+    (parts_text shown.suffix) (ap pieces_text (sym is.prefix) ∙ text-of_parts shown.prefix)
+    (text-if a.has_number number (number_text n) (text-of_number n) ∙ ap (number_text_if n) (sym is.has_number))
+    (ap pieces_text (sym is.suffix) ∙ text-of_parts shown.suffix))
+
+-- what is written around the whole text, before and after what is written around the number
+pub text-of_around : (n : FormattedNumber)
+    → pieces_text (literal (unit_of n).prefix) ++ (around_text n (around_of n)
+    ++ pieces_text (literal (unit_of n).suffix)) ≡ formatted_number_text n
+text-of_around n =
+    let a = around_of n in
+    let p = literal (unit_of n).prefix in
+    let q = literal (unit_of n).suffix in
+    let number =
+    number_part n.formatter.now n.value.absolute (exponent_of n.formatter.now.options.notation n.exponent) in
+    regroup (pieces_text p) (pieces_text a.prefix) (number_text_if n a.has_number) (pieces_text a.suffix)
+    (pieces_text q)
+    ∙ sym (text-three (p ++ a.prefix) (if a.has_number then number else []) (a.suffix ++ q)
+    (pieces_text p ++ pieces_text a.prefix) (number_text_if n a.has_number) (pieces_text a.suffix ++ pieces_text q)
+    (text-append p a.prefix) (text-if a.has_number number (number_text n) (text-of_number n)) (text-append a.suffix q))
+  where
+    regroup : (p q m r s : List ℕ) → p ++ ((q ++ (m ++ r)) ++ s) ≡ (p ++ q) ++ (m ++ (r ++ s))
+    regroup p q m r s = simp append_assoc
+
+-- in another notation than compact that is the pattern alone
+pub text-of_pattern : (n : FormattedNumber)
+    → compact_style n.formatter.now.options.notation n.formatter.now.options.style ≡ None
+    → around_text n (pattern_around n.formatter.now.style n.value.sign) ≡ formatted_number_text n
+text-of_pattern n none =
+    let f = n.formatter.now in
+    sym (append-nil (around_text n (pattern_around f.style n.value.sign)))
+    ∙ ap (λ words. pieces_text (literal (unit_texts f.formats words f.options.style n.whole).prefix) ++ (around_text n
+    (around_by f.style n.value.sign (chosen_pattern words n.choice))
+    ++ pieces_text (literal (unit_texts f.formats words f.options.style n.whole).suffix))) (sym none)
+    ∙ text-of_around n

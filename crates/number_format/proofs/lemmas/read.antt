@@ -1,0 +1,5 @@
+pub mod NamedAffixes
+pub mod AffixedNumbers
+pub mod ReadBack
+pub mod FormatterTexts
+pub mod ShownValues

@@ -1,0 +1,67 @@
+-- The texts of a formatter are texts between affixes.
+use Rattle.std.proofs.Common.{◌≡◌, ℕ, List, [], ◌++◌, refl, sym, ◌∙◌, ap, append-nil}
+use Rattle.std.specs.Prelude.{Some}
+use Rattle.decimal_unsigned.specs.Unsigned.{IsValue}
+use Rattle.fixed_decimal.specs.{Decimal.Decimal, declared.variations.Sign.Sign}
+use Rattle.decimal_format.specs.Formatted.{absolute_text}
+use Rattle.number_format.specs.declared.{format.affixes.StyleTexts.StyleTexts, format.formatter.NumberFormatter.NumberFormatter, options.{NumberOptions.NumberOptions, NumberNotation.NumberNotation}, format.text_part.PartKind.PartKind}
+use Rattle.number_format.specs.{Formatters.{IsFormatter}, AffixedTexts.{by_sign, text_with}, NumberReading.{IsStandard, affixes_for, affixes_of_style, reader_of, CanRead, IsShownAs}, NumberText.{IsNumberText, shown_sign, compact_magnitude, is_one, compact_pattern, compact_style, unit_texts, around_by, pieces_around, exponent_of}, PatternTexts.pattern_around, Scaled.ScaledValue, TextParts.{digit_pieces, pieces_text}}
+use Rattle.number_format.proofs.{lemmas.read.AffixedNumbers.named_texts_are_unique, lemmas.format.PieceTexts.{text-of_digits, text-three}}
+
+some_same : (x y : ScaledValue) → Some x ≡ Some y → x ≡ y
+some_same x y e = cc
+
+by_is : (t : StyleTexts) (s : Sign) → affixes_for t s ≡ by_sign (affixes_of_style t) s
+by_is t Sign.None = refl
+by_is t Sign.Negative = refl
+by_is t Sign.Positive = refl
+
+-- the text of the pieces of a number between what a sign writes around it
+text_around : (f : NumberFormatter) (s : Sign) (x : ScaledValue)
+    → pieces_text ((pattern_around f.style s).prefix
+    ++ ((digit_pieces PartKind.Integer f.style.symbols f.options.grouping x.significand.absolute ++ [])
+    ++ ((pattern_around f.style s).suffix ++ [])))
+    ≡ (affixes_for f.style s).prefix
+    ++ (absolute_text f.style.symbols f.options.grouping x.significand.absolute ++ (affixes_for f.style s).suffix)
+text_around f s x =
+    let digits = digit_pieces PartKind.Integer f.style.symbols f.options.grouping x.significand.absolute in
+    text-three (pattern_around f.style s).prefix (digits ++ []) ((pattern_around f.style s).suffix ++ [])
+    (affixes_for f.style s).prefix (absolute_text f.style.symbols f.options.grouping x.significand.absolute)
+    (affixes_for f.style s).suffix refl
+    (ap pieces_text (append-nil digits)
+    ∙ text-of_digits PartKind.Integer f.style.symbols f.options.grouping x.significand.absolute)
+    (ap pieces_text (append-nil (pattern_around f.style s).suffix))
+
+-- the text of a number is that of the number that is shown
+pub formatter_text : (f : NumberFormatter) (v u : Decimal) (text : List ℕ) → IsStandard f → IsNumberText f v text
+    → IsShownAs f v u → text ≡ text_with (reader_of f) f.options.grouping u
+formatter_text f v u text standard (pieces, is, of_pieces) shown =
+    let number : is.number ≡ shown.number = some_same _ _ (sym is.number_is ∙ shown.number_is) in
+    let s = shown_sign f v shown.number.significand in
+    let affixes = ap (affixes_for f.style) (sym shown.sign) ∙ by_is f.style u.sign in
+    of_pieces
+    ∙ ap pieces_text is.value
+    ∙ (λ i. pieces_text (pieces_around f (number i).significand.absolute
+    (exponent_of (standard i) (number i).exponent)
+    (around_by f.style (shown_sign f v (number i).significand)
+    (compact_pattern f.formats (compact_style (standard i) f.options.style)
+    (compact_magnitude f.notation (number i).significand (number i).exponent) is.category
+    (is_one (number i).significand)))
+    (unit_texts f.formats (compact_style (standard i) f.options.style) f.options.style is.whole)))
+    ∙ text_around f s shown.number
+    ∙ (λ i. (affixes i).prefix
+    ++ (absolute_text f.style.symbols f.options.grouping (sym shown.absolute i) ++ (affixes i).suffix))
+
+-- one text is shown of one number
+pub are_unique : (f : NumberFormatter) (v w x y : Decimal) (text : List ℕ) → CanRead f → IsNumberText f v text
+    → IsNumberText f w text → IsShownAs f v x → IsShownAs f w y → IsValue x.absolute → IsValue y.absolute → x ≡ y
+are_unique f v w x y text can a b p q valid valid' =
+    named_texts_are_unique (reader_of f) can.named can.readable f.options.grouping f.options.grouping x y valid valid'
+    (sym (formatter_text f v x text can.undo.0 a p) ∙ formatter_text f w y text can.undo.0 b q)
+
+-- ---- Standard notation.
+
+-- the notation of the options is that of the formatter
+pub standard : (tag : List ℕ) (o : NumberOptions) (f : NumberFormatter) → IsFormatter tag o f
+    → o.notation ≡ NumberNotation.Standard → IsStandard f
+standard tag o f is e = ap (λ (x : NumberOptions). x.notation) is.made.options ∙ e

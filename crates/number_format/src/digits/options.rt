@@ -1,0 +1,27 @@
+//! The options that decide which digits of a number are shown.
+use crate::digits::precision::Precision;
+use crate::digits::ranges::IntegerDigits;
+use fixed_decimal::SignedRoundingMode;
+
+/// Whether fraction digits are shown if all of them are 0; ECMA-402's `trailingZeroDisplay`.
+#[derive(Clone, Copy, Debug, Default)]
+pub enum TrailingZeros {
+    /// As many as the precision shows: `2.00`.
+    #[default]
+    Auto,
+    /// None: `2`.
+    StripIfInteger,
+}
+
+/// Which digits of a number are shown. Every value is valid.
+#[derive(Clone, Copy, Debug)]
+pub struct DigitOptions {
+    /// The numbers of integer digits.
+    pub integer: IntegerDigits,
+    /// To which digit a number is rounded.
+    pub precision: Precision,
+    /// The mode of the rounding.
+    pub mode: SignedRoundingMode,
+    /// Whether fraction digits that are all 0 are shown.
+    pub trailing_zeros: TrailingZeros,
+}

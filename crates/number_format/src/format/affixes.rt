@@ -1,0 +1,317 @@
+//! What is written before and after the digits of a number.
+ghost use Rattle.std.specs.{Prelude.{◌≡◌, ◌≤◌, ◌&&◌, ◌++◌, length, IfSome, OnOk, true}, Option.option_copied};
+ghost use Rattle.decimal_format.specs.Symbols.{affixes};
+ghost use Rattle.locale_data.specs.Compact.{has_texts, text_of, AreTexts};
+ghost use Rattle.number_format.specs.{PatternTexts.{sign_kind, sign_pieces, pattern_kind, pattern_text, pattern_pieces, pattern_around, space_if, texts_for, AreAffixTexts, AreSignTexts}, NumberText.{currency_if, is_empty, first_sign, last_sign, compact_around, compact_suffix, around_by, AreParts}, TextParts.{part_pieces, parts_text, pieces_text}};
+
+use crate::format::currency::{ShownCurrency, begins_with_currency, ends_with_currency};
+use crate::format::parts::put_part;
+use crate::format::text_part::{PartKind, TextPart};
+use arrayvec::ArrayString;
+use decimal_format::DecimalSymbols;
+use decimal_format::internal::Block;
+use fixed_decimal::{Sign, SinkFault};
+use locale_data::{AffixPair, AffixText, CompactForm, CompactPattern, Pattern, Piece, UnitAffixes};
+
+/// No texts around the whole text.
+pub(crate) const NO_UNIT: UnitAffixes = UnitAffixes {
+    prefix: "",
+    suffix: "",
+};
+
+/// The parts before and after a number.
+#[derive(Clone, Copy)]
+pub(crate) struct NumberAffixes<'f> {
+    pub(crate) prefix: [TextPart<'f>; 7],
+    pub(crate) has_number: bool,
+    pub(crate) suffix: [TextPart<'f>; 6],
+}
+
+/// What is written before and after a number.
+#[derive(Clone, Copy)]
+pub(crate) struct AffixTexts {
+    pub(crate) prefix: ArrayString<23>,
+    pub(crate) suffix: ArrayString<23>,
+}
+
+/// What is written before and after a number that is shown with each sign.
+#[derive(Clone, Copy)]
+pub(crate) struct SignTexts {
+    pub(crate) none: AffixTexts,
+    pub(crate) negative: AffixTexts,
+    pub(crate) positive: AffixTexts,
+}
+
+fn joined(parts: &[TextPart<'_>]) -> Option<ArrayString<23>>
+    ensures { IfSome result (λ text. text.bytes ≡ parts_text parts.now) }
+{
+    let mut text = ArrayString::new();
+    for part in parts {
+        text.try_push_str(part.text).ok()?;
+    }
+    Some(text)
+}
+
+impl SignTexts {
+    #[inline]
+    pub(crate) fn of(&self, sign: Sign) -> &AffixTexts
+        ensures { result.now ≡ texts_for self.now sign }
+    {
+        match sign {
+            Sign::None => &self.none,
+            Sign::Negative => &self.negative,
+            Sign::Positive => &self.positive,
+        }
+    }
+}
+
+/// The pattern of a style in a locale, and the texts of its pieces.
+#[derive(Drop)]
+pub(crate) struct StyleTexts {
+    pub(crate) symbols: DecimalSymbols<'static>,
+    pub(crate) pattern: Pattern,
+    pub(crate) percent: TextPart<'static>,
+    pub(crate) currency: ShownCurrency,
+}
+
+pub(crate) fn space_if(condition: bool) -> TextPart<'static>
+    ensures { part_pieces result ≡ space_if condition }
+{
+    let text = if condition { "\u{a0}" } else { "" };
+    TextPart::new(PartKind::Literal, text)
+}
+
+fn sign_kind(sign: Sign) -> PartKind
+    ensures { result ≡ sign_kind sign }
+{
+    match sign {
+        Sign::Positive => PartKind::PlusSign,
+        _ => PartKind::MinusSign,
+    }
+}
+
+fn pattern_kind(piece: Piece) -> PartKind
+    ensures { result ≡ pattern_kind piece }
+{
+    match piece {
+        Piece::Minus => PartKind::MinusSign,
+        Piece::Plus => PartKind::PlusSign,
+        Piece::Percent => PartKind::PercentSign,
+        Piece::Currency => PartKind::Currency,
+        _ => PartKind::Literal,
+    }
+}
+
+impl StyleTexts {
+    fn sign_part(&self, sign: Sign) -> TextPart<'_>
+        ensures { part_pieces result ≡ sign_pieces self.now.symbols sign }
+    {
+        TextPart::new(sign_kind(sign), self.symbols.affixes(sign).prefix)
+    }
+
+    #[inline]
+    pub(crate) fn pattern_text(&self, piece: Piece) -> &str
+        ensures value { result.now ≡ pattern_text self.now piece }
+        ensures short { length result.now ≤ 255 }
+    {
+        match piece {
+            Piece::Minus => self.symbols.affixes(Sign::Negative).prefix,
+            Piece::Plus => self.symbols.affixes(Sign::Positive).prefix,
+            Piece::Percent => self.percent.text,
+            Piece::Currency => self.currency.text(),
+            _ => piece.text(),
+        }
+    }
+
+    fn pattern_part(&self, piece: Piece) -> TextPart<'_>
+        ensures { part_pieces result ≡ pattern_pieces self.now piece }
+    {
+        TextPart::new(pattern_kind(piece), self.pattern_text(piece))
+    }
+
+    pub(crate) fn currency_if(&self, has_currency: bool) -> TextPart<'_>
+        ensures { part_pieces result ≡ currency_if self.now has_currency }
+    {
+        if has_currency {
+            TextPart::new(PartKind::Currency, self.currency.text())
+        } else {
+            TextPart::new(PartKind::Literal, "")
+        }
+    }
+
+    fn pattern_affixes(&self, sign: Sign, unit: UnitAffixes) -> NumberAffixes<'_>
+        requires prefix { length unit.prefix.now ≤ 255 }
+        requires suffix { length unit.suffix.now ≤ 255 }
+        ensures { AreParts (pattern_around self.now sign) (affixes unit.prefix.now unit.suffix.now) result }
+    {
+        let AffixPair { prefix, suffix } = self.pattern.affixes(sign);
+        NumberAffixes {
+            prefix: [
+                TextPart::new(PartKind::Literal, unit.prefix),
+                self.pattern_part(prefix.first),
+                self.pattern_part(prefix.second),
+                self.pattern_part(prefix.third),
+                self.pattern_part(prefix.fourth),
+                space_if(ends_with_currency(prefix) && self.currency.space_after),
+                TextPart::new(PartKind::Literal, ""),
+            ],
+            has_number: true,
+            suffix: [
+                space_if(begins_with_currency(suffix) && self.currency.space_before),
+                self.pattern_part(suffix.first),
+                self.pattern_part(suffix.second),
+                self.pattern_part(suffix.third),
+                self.pattern_part(suffix.fourth),
+                TextPart::new(PartKind::Literal, unit.suffix),
+            ],
+        }
+    }
+
+    pub(crate) fn first_sign(&self, sign: Sign, form: CompactForm) -> TextPart<'_>
+        ensures { part_pieces result ≡ first_sign self.now sign form }
+    {
+        match form {
+            CompactForm::SignLast => TextPart::new(PartKind::Literal, ""),
+            _ => self.sign_part(sign),
+        }
+    }
+
+    pub(crate) fn last_sign(&self, sign: Sign, form: CompactForm) -> TextPart<'_>
+        ensures { part_pieces result ≡ last_sign self.now sign form }
+    {
+        match form {
+            CompactForm::SignLast => self.sign_part(sign),
+            _ => TextPart::new(PartKind::Literal, ""),
+        }
+    }
+
+    pub(crate) fn space_after(&self, affix: &AffixText) -> bool
+        requires { has_texts affix.now ≡ true }
+        ensures { result ≡ (affix.now.has_currency
+            && (is_empty (text_of affix.now.after) && self.now.currency.space_after)) }
+    {
+        affix.has_currency && affix.after_text().is_empty() && self.currency.space_after
+    }
+
+    pub(crate) fn space_before(&self, affix: &AffixText) -> bool
+        requires { has_texts affix.now ≡ true }
+        ensures { result ≡ (affix.now.has_currency
+            && (is_empty (text_of affix.now.before) && self.now.currency.space_before)) }
+    {
+        affix.has_currency && affix.before_text().is_empty() && self.currency.space_before
+    }
+
+    fn compact_affixes(
+        &self,
+        sign: Sign,
+        pattern: &CompactPattern,
+        unit: UnitAffixes,
+    ) -> NumberAffixes<'_>
+        requires prefix { length unit.prefix.now ≤ 255 }
+        requires suffix { length unit.suffix.now ≤ 255 }
+        requires texts { AreTexts pattern.now }
+        ensures { AreParts (compact_around self.now sign pattern.now)
+            (affixes unit.prefix.now unit.suffix.now) result }
+    {
+        let CompactPattern {
+            form,
+            prefix,
+            suffix,
+            ..
+        } = *pattern;
+        NumberAffixes {
+            prefix: [
+                TextPart::new(PartKind::Literal, unit.prefix),
+                self.first_sign(sign, form),
+                TextPart::new(PartKind::Compact, prefix.before_text()),
+                self.currency_if(prefix.has_currency),
+                TextPart::new(PartKind::Compact, prefix.after_text()),
+                space_if(self.space_after(&prefix)),
+                self.last_sign(sign, form),
+            ],
+            has_number: !matches!(form, CompactForm::Literal),
+            suffix: [
+                space_if(self.space_before(&suffix)),
+                TextPart::new(PartKind::Compact, suffix.before_text()),
+                self.currency_if(suffix.has_currency),
+                TextPart::new(PartKind::Compact, suffix.after_text()),
+                TextPart::new(PartKind::Literal, ""),
+                TextPart::new(PartKind::Literal, unit.suffix),
+            ],
+        }
+    }
+
+    pub(crate) fn affixes(
+        &self,
+        sign: Sign,
+        compact: Option<&CompactPattern>,
+        unit: UnitAffixes,
+    ) -> NumberAffixes<'_>
+        requires prefix { length unit.prefix.now ≤ 255 }
+        requires suffix { length unit.suffix.now ≤ 255 }
+        requires texts { IfSome compact (λ pattern. AreTexts pattern.now) }
+        ensures { AreParts (around_by self.now sign (option_copied compact.entry))
+            (affixes unit.prefix.now unit.suffix.now) result }
+    {
+        match compact {
+            Some(pattern) if !matches!(pattern.form, CompactForm::Plain) => {
+                self.compact_affixes(sign, pattern, unit)
+            }
+            _ => self.pattern_affixes(sign, unit),
+        }
+    }
+
+    fn texts_around(&self, sign: Sign) -> Option<AffixTexts>
+        ensures { IfSome result (AreAffixTexts (pattern_around self.now sign)) }
+    {
+        let affixes = self.affixes(sign, None, NO_UNIT);
+        Some(AffixTexts {
+            prefix: joined(&affixes.prefix)?,
+            suffix: joined(&affixes.suffix)?,
+        })
+    }
+
+    /// Returns the texts around a number for each sign, if each has at most 23 bytes.
+    pub(crate) fn sign_texts(&self) -> Option<SignTexts>
+        ensures { IfSome result (AreSignTexts self.now) }
+    {
+        Some(SignTexts {
+            none: self.texts_around(Sign::None)?,
+            negative: self.texts_around(Sign::Negative)?,
+            positive: self.texts_around(Sign::Positive)?,
+        })
+    }
+
+    pub(crate) fn put_compact_prefix(
+        &self,
+        sign: Sign,
+        pattern: &CompactPattern,
+        block: &mut Block,
+    ) -> Result<(), SinkFault>
+        requires { AreTexts pattern.now }
+        ensures { OnOk result (block.new.0
+            ≡ block.old.0 ++ pieces_text (compact_around self.now sign pattern.now).prefix) }
+    {
+        let affix = &pattern.prefix;
+        put_part(self.first_sign(sign, pattern.form), block)?;
+        put_part(TextPart::new(PartKind::Compact, affix.before_text()), block)?;
+        put_part(self.currency_if(affix.has_currency), block)?;
+        put_part(TextPart::new(PartKind::Compact, affix.after_text()), block)?;
+        put_part(space_if(self.space_after(affix)), block)?;
+        put_part(self.last_sign(sign, pattern.form), block)
+    }
+
+    pub(crate) fn put_compact_suffix(
+        &self,
+        affix: &AffixText,
+        block: &mut Block,
+    ) -> Result<(), SinkFault>
+        requires { has_texts affix.now ≡ true }
+        ensures { OnOk result (block.new.0 ≡ block.old.0 ++ pieces_text (compact_suffix self.now affix.now)) }
+    {
+        put_part(space_if(self.space_before(affix)), block)?;
+        put_part(TextPart::new(PartKind::Compact, affix.before_text()), block)?;
+        put_part(self.currency_if(affix.has_currency), block)?;
+        put_part(TextPart::new(PartKind::Compact, affix.after_text()), block)
+    }
+}

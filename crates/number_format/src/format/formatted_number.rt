@@ -1,0 +1,437 @@
+//! A number as a locale writes it.
+ghost use Rattle.std.specs.{Prelude.{◌≡◌, ◌↔◌, ◌≤◌, ◌++◌, ℕ, length, Some, None, IsTrue, IfSome, IsErrOf, OnOk, OnErr, true}, Option.option_copied, Fmt.WritesStyledOnOk, Io.KnownBytes.Appends};
+ghost use Rattle.decimal_digits.specs.AppendsPrefix.{AppendsPrefix};
+ghost use Rattle.fixed_decimal.specs.Decimal.{Decimal, displayed_sign};
+ghost use Rattle.decimal_format.specs.{Formatted.formatted_absolute, Symbols.affixes, declared.grouping.GroupingStrategy.TheVariants.Never};
+ghost use Rattle.locale_data.specs.Compact.{AreTexts};
+ghost use Rattle.number_format.specs.{FormattedNumbers.{pattern_of, around_of, unit_of, exponent_text, number_text, number_text_if, number_pieces_if, around_text, formatted_number_pieces, formatted_number_text, ChoosesUnit, IsShownNumber}, NumberText.{compact_around, exponent_of, exponent_pieces, shown_number, AreParts, AreNumberPieces, WritingNeedsMemory}, PatternTexts.pattern_around, TextParts.{parts_text, pieces_text, Puts, PutsPrefix}};
+
+use crate::format::affixes::{NO_UNIT, NumberAffixes};
+use crate::format::compact::CompactChoice;
+use crate::format::exponent::{exponent_kind, shown_exponent};
+use crate::format::formatter::NumberFormatter;
+use crate::format::parts::{
+    PartSink, fmt_parts, parts_length, put, put_digits, put_part, put_parts, write_parts,
+};
+use crate::format::text_part::{PartKind, TextPart};
+use crate::notation::scale::ShownNumber;
+use crate::options::{NumberNotation, NumberStyle};
+use decimal_format::internal::{Block, put_to_block};
+use decimal_format::{FormattedAbsolute, GroupingStrategy};
+use fixed_decimal::{
+    Decimal, DecimalStore, RoundError, Sign, SignDisplay, Sink, SinkFault, Writeable,
+};
+use locale_data::{CompactForm, CompactPattern, UnitAffixes};
+use plural_rules::PluralCategory;
+use std::alloc::Global;
+use std::fmt;
+
+fn displayed_sign(display: SignDisplay, is_zero: bool, sign: Sign) -> Sign
+    ensures { (number : ℕ) → (IsTrue is_zero ↔ (number ≡ 0)) → result ≡ displayed_sign display number sign }
+{
+    match (display, sign) {
+        (SignDisplay::Never, _) => Sign::None,
+        (SignDisplay::ExceptZero | SignDisplay::Negative, _) if is_zero => Sign::None,
+        (_, Sign::Negative) => sign,
+        (SignDisplay::Auto | SignDisplay::Negative, _) => Sign::None,
+        (SignDisplay::Always | SignDisplay::ExceptZero, _) => Sign::Positive,
+    }
+}
+
+/// A number as a locale writes it. It borrows the formatter.
+pub struct FormattedNumber<'f> {
+    pub(crate) formatter: &'f NumberFormatter,
+    pub(crate) alloc: Global,
+    /// The significand, with the sign that is shown.
+    pub(crate) value: Decimal,
+    pub(crate) exponent: i32,
+    pub(crate) choice: CompactChoice,
+    /// The plural category of the whole number.
+    pub(crate) whole: PluralCategory,
+}
+
+impl<'f> Drop for FormattedNumber<'f> {
+    fn drop(self) {
+        let FormattedNumber {
+            formatter: _,
+            alloc: _,
+            value,
+            exponent: _,
+            choice: _,
+            whole: _,
+        } = self;
+        drop(value);
+    }
+}
+
+impl<'f> FormattedNumber<'f> {
+    /// Chooses what is written around a significand and its exponent, and sets the sign that is shown.
+    pub(crate) fn choose(&mut self, shown: ShownNumber, whole: PluralCategory)
+        ensures { (v : Decimal) → IsShownNumber self.old.formatter.now v self.old.value shown
+            → ChoosesUnit self.old.formatter.now v whole
+            → AreNumberPieces self.old.formatter.now v (formatted_number_pieces self.new) }
+    {
+        let formatter = self.formatter;
+        let display = formatter.options.sign_display;
+        self.choice = formatter.choice(&self.value, shown.exponent);
+        self.whole = whole;
+        self.exponent = shown.exponent;
+        self.value.sign = displayed_sign(display, shown.is_zero, self.value.sign);
+    }
+
+    // The value becomes the significand in place: a copy has to wait until its digits are stored.
+    #[inline(never)]
+    pub(crate) fn round(&mut self) -> Result<(), RoundError>
+        ensures pieces { OnOk result
+            (AreNumberPieces self.old.formatter.now self.old.value (formatted_number_pieces self.new)) }
+        ensures limit { IsErrOf result RoundError.Limit
+            → shown_number self.old.formatter.now self.old.value ≡ None }
+        ensures memory { IsErrOf result RoundError.Memory
+            → WritingNeedsMemory self.old.formatter.now self.old.value }
+    {
+        let formatter = self.formatter;
+        let whole = formatter.whole_category(&self.value)?;
+        let shown = formatter.shown_number(&mut self.value)?;
+        self.choose(shown, whole);
+        Ok(())
+    }
+
+    fn compact_pattern(&self) -> Option<&'static CompactPattern>
+        ensures value { option_copied result ≡ pattern_of self.now }
+        ensures texts { IfSome result (λ pattern. AreTexts pattern.now) }
+    {
+        let choice = self.choice;
+        match self.formatter.options.compact_style() {
+            Some(_) => choice.patterns.pattern(choice.category, choice.is_one),
+            None => None,
+        }
+    }
+
+    fn unit(&self) -> UnitAffixes
+        ensures value { affixes result.prefix.now result.suffix.now ≡ unit_of self.now }
+        ensures short { (length result.prefix.now ≤ 255) × (length result.suffix.now ≤ 255) }
+    {
+        let formatter = self.formatter;
+        match (formatter.options.compact_style(), formatter.options.style) {
+            (Some(_), NumberStyle::Percent) => formatter.formats.percent_unit(self.whole),
+            (Some(_), NumberStyle::Permille) => UnitAffixes {
+                prefix: "",
+                suffix: "\u{2030}",
+            },
+            _ => NO_UNIT,
+        }
+    }
+
+    #[inline(never)]
+    fn shown_exponent(&self) -> Option<Decimal>
+        ensures { result ≡ exponent_of self.now.formatter.now.options.notation self.now.exponent }
+    {
+        match self.formatter.options.notation {
+            NumberNotation::Scientific(options) | NumberNotation::Engineering(options) => {
+                Some(shown_exponent(self.alloc, options, self.exponent))
+            }
+            _ => None,
+        }
+    }
+
+    fn affixes(&self) -> NumberAffixes<'_>
+        ensures parts { AreParts (around_of self.now) (unit_of self.now) result }
+        ensures text { parts_text result.prefix ++ (number_text_if self.now result.has_number
+            ++ parts_text result.suffix) ≡ formatted_number_text self.now }
+    {
+        self.formatter
+            .style
+            .affixes(self.value.sign, self.compact_pattern(), self.unit())
+    }
+
+    #[inline]
+    fn digits(&self) -> FormattedAbsolute<'_, DecimalStore>
+        ensures { result ≡ formatted_absolute self.now.formatter.now.style.symbols
+            self.now.formatter.now.options.grouping self.now.value.absolute }
+    {
+        let formatter = self.formatter;
+        let grouping = formatter.options.grouping;
+        FormattedAbsolute::new(&formatter.style.symbols, grouping, &self.value.absolute)
+    }
+
+    fn exponent_digits<'g>(&'g self, exponent: &'g Decimal) -> FormattedAbsolute<'g, DecimalStore>
+        ensures { result ≡ formatted_absolute self.now.formatter.now.style.symbols Never exponent.now.absolute }
+    {
+        let symbols = &self.formatter.style.symbols;
+        FormattedAbsolute::new(symbols, GroupingStrategy::Never, &exponent.absolute)
+    }
+
+    fn write_exponent<W: Sink>(&self, exponent: &Decimal, sink: &mut W) -> Result<(), SinkFault>
+        ensures ok { OnOk result (Appends (W.contents sink.old) (W.contents sink.new)
+            (exponent_text self.now.formatter.now (Some exponent.now))) }
+        ensures err { OnErr result (AppendsPrefix (W.contents sink.old) (W.contents sink.new)
+            (exponent_text self.now.formatter.now (Some exponent.now))) }
+        ensures failed { OnErr result (W.has_failed sink.new ≡ true) }
+    {
+        let formatter = self.formatter;
+        sink.put_bytes(formatter.separator.text.as_bytes())?;
+        let sign = formatter.style.symbols.affixes(exponent.sign).prefix;
+        sink.put_bytes(sign.as_bytes())?;
+        self.exponent_digits(exponent).write_to(sink)
+    }
+
+    fn write_number_if<W: Sink>(&self, has_number: bool, sink: &mut W) -> Result<(), SinkFault>
+        ensures ok { OnOk result
+            (Appends (W.contents sink.old) (W.contents sink.new) (number_text_if self.now has_number)) }
+        ensures err { OnErr result
+            (AppendsPrefix (W.contents sink.old) (W.contents sink.new) (number_text_if self.now has_number)) }
+        ensures failed { OnErr result (W.has_failed sink.new ≡ true) }
+    {
+        if !has_number {
+            return Ok(());
+        }
+        self.digits().write_to(sink)?;
+        match &self.shown_exponent() {
+            Some(exponent) => self.write_exponent(exponent, sink),
+            None => Ok(()),
+        }
+    }
+
+    fn fmt_number_if<W: fmt::Write>(
+        &self,
+        has_number: bool,
+        f: &mut fmt::Formatter<W>,
+    ) -> fmt::Result
+        ensures { WritesStyledOnOk W.write_str_gives f.old result (number_text_if self.now has_number) f.new }
+    {
+        if !has_number {
+            return Ok(());
+        }
+        let formatter = self.formatter;
+        fmt::Display::fmt(&self.digits(), f)?;
+        match &self.shown_exponent() {
+            Some(exponent) => {
+                f.write_str(formatter.separator.text)?;
+                f.write_str(formatter.style.symbols.affixes(exponent.sign).prefix)?;
+                fmt::Display::fmt(&self.exponent_digits(exponent), f)
+            }
+            None => Ok(()),
+        }
+    }
+
+    #[inline(never)]
+    fn write_pieces<W: Sink>(&self, sink: &mut W) -> Result<(), SinkFault>
+        ensures ok { OnOk result
+            (Appends (W.contents sink.old) (W.contents sink.new) (formatted_number_text self.now)) }
+        ensures err { OnErr result
+            (AppendsPrefix (W.contents sink.old) (W.contents sink.new) (formatted_number_text self.now)) }
+        ensures failed { OnErr result (W.has_failed sink.new ≡ true) }
+    {
+        let affixes = self.affixes();
+        write_parts(&affixes.prefix, sink)?;
+        self.write_number_if(affixes.has_number, sink)?;
+        write_parts(&affixes.suffix, sink)
+    }
+
+    fn number_length(&self) -> usize
+        ensures value { result ≡ length (number_text self.now) }
+        ensures at_most { result ≤ 17236988 }
+    {
+        let formatter = self.formatter;
+        let digits = self.digits().writeable_length_hint();
+        match &self.shown_exponent() {
+            Some(exponent) => {
+                digits
+                    + formatter.separator.text.len()
+                    + formatter.style.symbols.affixes(exponent.sign).prefix.len()
+                    + self.exponent_digits(exponent).writeable_length_hint()
+            }
+            None => digits,
+        }
+    }
+
+    fn push_exponent(&self, exponent: &Decimal, block: &mut Block) -> Result<(), SinkFault>
+        ensures { OnOk result
+            (block.new.0 ≡ block.old.0 ++ exponent_text self.now.formatter.now (Some exponent.now)) }
+    {
+        let formatter = self.formatter;
+        block.put_bytes(formatter.separator.text.as_bytes())?;
+        let sign = formatter.style.symbols.affixes(exponent.sign).prefix;
+        block.put_bytes(sign.as_bytes())?;
+        put_to_block(&self.exponent_digits(exponent), block)
+    }
+
+    #[inline(always)]
+    fn put_digits(&self, block: &mut Block) -> Result<(), SinkFault>
+        ensures { OnOk result (block.new.0 ≡ block.old.0 ++ number_text self.now) }
+    {
+        put_to_block(&self.digits(), block)?;
+        match self.formatter.options.notation {
+            NumberNotation::Scientific(options) | NumberNotation::Engineering(options) => {
+                let exponent = shown_exponent(self.alloc, options, self.exponent);
+                self.push_exponent(&exponent, block)
+            }
+            _ => Ok(()),
+        }
+    }
+
+    fn put_compact(&self, pattern: &CompactPattern, block: &mut Block) -> Result<(), SinkFault>
+        requires { AreTexts pattern.now }
+        ensures { OnOk result (block.new.0 ≡ block.old.0 ++ around_text self.now
+            (compact_around self.now.formatter.now.style self.now.value.sign pattern.now)) }
+    {
+        let formatter = self.formatter;
+        formatter
+            .style
+            .put_compact_prefix(self.value.sign, pattern, block)?;
+        if !matches!(pattern.form, CompactForm::Literal) {
+            self.put_digits(block)?;
+        }
+        formatter.style.put_compact_suffix(&pattern.suffix, block)
+    }
+
+    #[inline(always)]
+    fn put_pattern(&self, block: &mut Block) -> Result<(), SinkFault>
+        ensures { OnOk result (block.new.0 ≡ block.old.0 ++ around_text self.now
+            (pattern_around self.now.formatter.now.style self.now.value.sign)) }
+    {
+        let Some(texts) = &self.formatter.sign_texts else {
+            return Err(SinkFault);
+        };
+        let texts = texts.of(self.value.sign);
+        block.put_bytes(texts.prefix.as_str().as_bytes())?;
+        self.put_digits(block)?;
+        block.put_bytes(texts.suffix.as_str().as_bytes())
+    }
+
+    #[inline(always)]
+    fn put_around(&self, block: &mut Block) -> Result<(), SinkFault>
+        ensures { OnOk result (block.new.0 ≡ block.old.0 ++ around_text self.now (around_of self.now)) }
+    {
+        match self.compact_pattern() {
+            Some(pattern) if !matches!(pattern.form, CompactForm::Plain) => {
+                self.put_compact(pattern, block)
+            }
+            _ => self.put_pattern(block),
+        }
+    }
+
+    #[inline(always)]
+    fn put_with_unit(&self, block: &mut Block) -> Result<(), SinkFault>
+        ensures { OnOk result (block.new.0 ≡ block.old.0 ++ formatted_number_text self.now) }
+    {
+        let unit = self.unit();
+        put_part(TextPart::new(PartKind::Literal, unit.prefix), block)?;
+        self.put_around(block)?;
+        put_part(TextPart::new(PartKind::Literal, unit.suffix), block)
+    }
+
+    #[inline(always)]
+    fn put_text(&self, block: &mut Block) -> Result<(), SinkFault>
+        ensures { OnOk result (block.new.0 ≡ block.old.0 ++ formatted_number_text self.now) }
+    {
+        match self.formatter.options.compact_style() {
+            None => self.put_pattern(block),
+            Some(_) => self.put_with_unit(block),
+        }
+    }
+
+    fn put_exponent<P: PartSink>(&self, exponent: &Decimal, sink: &mut P) -> Result<(), SinkFault>
+        ensures ok { OnOk result (Puts (P.pieces sink.old) (P.pieces sink.new)
+            (exponent_pieces self.now.formatter.now (Some exponent.now))) }
+        ensures err { OnErr result (PutsPrefix (P.pieces sink.old) (P.pieces sink.new)
+            (exponent_pieces self.now.formatter.now (Some exponent.now))) }
+        ensures failed { OnErr result (P.has_failed sink.new ≡ true) }
+    {
+        let formatter = self.formatter;
+        put(sink, PartKind::ExponentSeparator, formatter.separator.text)?;
+        let sign = formatter.style.symbols.affixes(exponent.sign).prefix;
+        put(sink, exponent_kind(exponent.sign), sign)?;
+        put_digits(
+            &self.exponent_digits(exponent),
+            PartKind::ExponentInteger,
+            sink,
+        )
+    }
+
+    fn put_number_if<P: PartSink>(&self, has_number: bool, sink: &mut P) -> Result<(), SinkFault>
+        ensures ok { OnOk result (Puts (P.pieces sink.old) (P.pieces sink.new) (number_pieces_if self.now has_number)) }
+        ensures err { OnErr result
+            (PutsPrefix (P.pieces sink.old) (P.pieces sink.new) (number_pieces_if self.now has_number)) }
+        ensures failed { OnErr result (P.has_failed sink.new ≡ true) }
+    {
+        if !has_number {
+            return Ok(());
+        }
+        put_digits(&self.digits(), PartKind::Integer, sink)?;
+        match &self.shown_exponent() {
+            Some(exponent) => self.put_exponent(exponent, sink),
+            None => Ok(()),
+        }
+    }
+
+    /// Puts the pieces of the text with their kinds: consecutive pieces of one kind are one part of `formatToParts` of
+    /// ECMA-402. It does not allocate.
+    ///
+    /// # Errors
+    ///
+    /// The sink rejects a piece; those before it were put.
+    pub fn parts<P: PartSink>(&self, sink: &mut P) -> Result<(), SinkFault>
+        ensures pieces { OnOk result
+            (Puts (P.pieces sink.old) (P.pieces sink.new) (formatted_number_pieces self.now)) }
+        ensures text { pieces_text (formatted_number_pieces self.now) ≡ formatted_number_text self.now }
+        ensures prefix { OnErr result
+            (PutsPrefix (P.pieces sink.old) (P.pieces sink.new) (formatted_number_pieces self.now)) }
+        ensures failed { OnErr result (P.has_failed sink.new ≡ true) }
+    {
+        let affixes = self.affixes();
+        put_parts(sink, &affixes.prefix)?;
+        self.put_number_if(affixes.has_number, sink)?;
+        put_parts(sink, &affixes.suffix)
+    }
+}
+
+impl<'f> Writeable for FormattedNumber<'f> {
+    ghost text = { formatted_number_text };
+
+    /// Appends the text.
+    ///
+    /// # Errors
+    ///
+    /// As [`Writeable::write_to`].
+    #[inline]
+    fn write_to<W: Sink>(&self, sink: &mut W) -> Result<(), SinkFault> {
+        if sink.failed() {
+            return Err(SinkFault);
+        }
+        let mut block = Block::new();
+        match self.put_text(&mut block) {
+            Ok(()) => sink.put_bytes(block.as_bytes()),
+            Err(SinkFault) => self.write_pieces(sink),
+        }
+    }
+
+    /// Returns the exact number of bytes of the text.
+    fn writeable_length_hint(&self) -> usize {
+        let affixes = self.affixes();
+        let number = if affixes.has_number {
+            self.number_length()
+        } else {
+            0
+        };
+        parts_length(&affixes.prefix) + number + parts_length(&affixes.suffix)
+    }
+}
+
+impl<'f> fmt::Display for FormattedNumber<'f> {
+    ghost output = { λ v. Some (formatted_number_text v) };
+
+    ghost styled_output = { λ v _. Some (formatted_number_text v) };
+
+    /// Writes the text that `write_to` appends, and ignores the options of the format.
+    ///
+    /// # Errors
+    ///
+    /// The formatter fails.
+    fn fmt<W: fmt::Write>(&self, f: &mut fmt::Formatter<W>) -> fmt::Result {
+        let affixes = self.affixes();
+        fmt_parts(&affixes.prefix, f)?;
+        self.fmt_number_if(affixes.has_number, f)?;
+        fmt_parts(&affixes.suffix, f)
+    }
+}

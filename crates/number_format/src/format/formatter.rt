@@ -1,0 +1,269 @@
+//! The formatter of numbers: made by a locale and options, it rounds a number and chooses what is written around it.
+ghost use Rattle.std.specs.{Prelude.{◌≡◌, ◌↔◌, ◌⊎◌, Some, None, pos, IsTrue, IsSome, IfOk, IfErr, IsErrOf, OnOk, OnErr}, Option.ForSome};
+ghost use Rattle.locale_data.specs.Plurals.{rules_text_at};
+ghost use Rattle.number_format.specs.PatternTexts.{AreSignTexts};
+
+use crate::digits::options::DigitOptions;
+use crate::format::affixes::{SignTexts, StyleTexts};
+use crate::format::compact::{CompactChoice, NO_CHOICE, compact_magnitude, is_one};
+use crate::format::currency::text_or_nothing;
+use crate::format::style::{notation_of, percent_text, style_of, style_sizes, with_separators};
+use crate::format::text_part::{PartKind, TextPart};
+use crate::notation::Notation;
+use crate::notation::scale::ShownNumber;
+use crate::options::{NumberOptions, NumberStyle};
+use decimal_format::DecimalSymbols;
+use fixed_decimal::{Decimal, DecimalStore, RoundError};
+use locale_data::{
+    NumberFormats, PluralRuleType, PluralRulesId, formats_of, locale, locale_in, plural_category_at,
+    plural_rules_id, system_of, unpadded,
+};
+use plural_rules::{PluralCategory, PluralOperands};
+
+/// Why there is no formatter.
+#[derive(Clone, Copy, Debug, PartialEq)]
+pub enum NumberFormatError {
+    /// No tag of the locale is listed, or the numbering system that it names is not.
+    UnknownLocale,
+    /// The locale is known, and the numbering system of the options is not listed.
+    UnknownNumberingSystem,
+}
+
+/// Formats numbers as `Intl.NumberFormat` of ECMA-402 does, with the data of CLDR 48, on decimals of any length.
+#[derive(Drop)]
+pub struct NumberFormatter {
+    pub(crate) style: StyleTexts,
+    /// What is written before an exponent.
+    pub(crate) separator: TextPart<'static>,
+    pub(crate) formats: NumberFormats,
+    pub(crate) rules: PluralRulesId,
+    pub(crate) options: NumberOptions,
+    pub(crate) notation: Notation,
+    pub(crate) digits: Option<DigitOptions>,
+    /// What is written around a number of standard notation, if it is short.
+    pub(crate) sign_texts: Option<SignTexts>,
+    pub ghost rules_listed: { IsSome (rules_text_at rules) },
+    pub ghost sign_texts_are: { ForSome sign_texts (AreSignTexts style) },
+}
+
+impl NumberFormatter {
+    ghost use Rattle.decimal_unsigned.specs.declared.decimal.TheConstants.{INLINE_DIGITS};
+    ghost use Rattle.fixed_decimal.specs.DecimalText.{IsLong};
+    ghost use Rattle.locale_data.specs.Plurals.{HasNoRules, IsCategoryAt};
+    ghost use Rattle.plural_rules.specs.Operands.{plain};
+    ghost use Rattle.number_format.specs.{FormattedNumbers.{ChoosesPattern, ChoosesUnit, IsShownNumber}, Formatters.{IsFormatterIn, IsFormatter, IsFormatterError}, NumberText.{shown_number, rounded_in, rounded_by, whole_number, RoundingNeedsMemory, NeedsMemory, WholeRoundingNeedsMemory, WholeNeedsMemory, FormattingNeedsMemory}, Scaled.scaled_value};
+
+    /// Makes the formatter of a locale and options. It does not allocate.
+    ///
+    /// `tag` is a tag as [`locale`] has it. The rows of the tables are looked up once.
+    ///
+    /// # Errors
+    ///
+    /// - `UnknownLocale`: [`locale`] returns `None`.
+    /// - `UnknownNumberingSystem`: it returns symbols, and no numbering system has the name that the options have.
+    pub fn try_new(tag: &str, options: NumberOptions) -> Result<NumberFormatter, NumberFormatError>
+        ensures ok { IfOk result (λ f. IsFormatter tag.now options f) }
+        ensures err { IfErr result (λ e. IsFormatterError tag.now options.numbering_system e) }
+    {
+        let Some(system) = system_of(tag) else {
+            return Err(NumberFormatError::UnknownLocale);
+        };
+        match &options.numbering_system {
+            None => match locale(tag) {
+                Some(symbols) => Self::in_system(tag, system, symbols, &options),
+                None => Err(NumberFormatError::UnknownLocale),
+            },
+            Some(name) => {
+                let system = text_or_nothing(unpadded(name));
+                match locale_in(tag, system) {
+                    Some(symbols) => Self::in_system(tag, system, symbols, &options),
+                    None => Err(NumberFormatError::UnknownNumberingSystem),
+                }
+            }
+        }
+    }
+
+    fn in_system(
+        tag: &str,
+        system: &str,
+        symbols: DecimalSymbols<'static>,
+        options: &NumberOptions,
+    ) -> Result<NumberFormatter, NumberFormatError>
+        ensures ok { IfOk result (λ f. IsFormatterIn tag.now system.now symbols.entry options.now f) }
+        ensures err { IfErr result (λ e. (e ≡ NumberFormatError.UnknownLocale) × HasNoRules tag.now) }
+    {
+        let Some(rules) = plural_rules_id(tag, PluralRuleType::Cardinal) else {
+            return Err(NumberFormatError::UnknownLocale);
+        };
+        let formats = formats_of(tag, system);
+        let own = symbols.sizes();
+        let (written, currency) = style_of(tag, system, own, &formats, options);
+        let sizes = style_sizes(&written.pattern, options.grouping, own);
+        let symbols = with_separators(symbols, &written).with_sizes(sizes);
+        let signs = formats.signs();
+        let percent = percent_text(options.style, signs);
+        let style = StyleTexts {
+            symbols,
+            pattern: written.pattern,
+            percent: TextPart::new(PartKind::PercentSign, percent),
+            currency,
+        };
+        let sign_texts = style.sign_texts();
+        Ok(NumberFormatter {
+            style,
+            separator: TextPart::new(PartKind::ExponentSeparator, signs.exponent.text()),
+            formats,
+            rules,
+            options: *options,
+            notation: notation_of(options, &formats),
+            digits: options.digits.or_else(|| options.default_digits()),
+            sign_texts,
+        })
+    }
+
+    #[inline(always)]
+    fn rounded(&self, value: &mut Decimal) -> Result<ShownNumber, RoundError>
+        ensures ok { IfOk result (λ s. rounded_in self.now.notation self.now.digits value.old
+            ≡ Some (scaled_value value.new s.exponent)) }
+        ensures zero { IfOk result (λ s. IsTrue s.is_zero
+            ↔ (rounded_by self.now.notation self.now.digits value.old ≡ 0)) }
+        ensures limit { IsErrOf result RoundError.Limit
+            → rounded_in self.now.notation self.now.digits value.old ≡ None }
+        ensures memory { IsErrOf result RoundError.Memory
+            → RoundingNeedsMemory self.now.notation self.now.digits value.old }
+        ensures unchanged { self.now.notation ≡ Notation.Standard → OnErr result (value.new ≡ value.old) }
+    {
+        let Some(digits) = &self.digits else {
+            return Ok(ShownNumber {
+                exponent: 0,
+                is_zero: value.absolute.is_zero(),
+            });
+        };
+        match &self.notation {
+            Notation::Standard => digits.round_in_place(value),
+            notation => notation.scale_in_place(digits, value),
+        }
+    }
+
+    pub(crate) fn shown_number(&self, value: &mut Decimal) -> Result<ShownNumber, RoundError>
+        ensures ok { IfOk result (IsShownNumber self.now value.old value.new) }
+        ensures limit { IsErrOf result RoundError.Limit → shown_number self.now value.old ≡ None }
+        ensures memory { IsErrOf result RoundError.Memory → NeedsMemory self.now value.old }
+        ensures unchanged { self.now.notation ≡ Notation.Standard → self.now.options.scale ≡ pos 0
+            → OnErr result (value.new ≡ value.old) }
+    {
+        if self.options.scale == 0 {
+            // Proof hint: the value satisfies its invariant.
+            let _range = value.absolute.magnitude_range();
+            return self.rounded(value);
+        }
+        self.scaled(value)
+    }
+
+    // Not inlined: most numbers are not scaled.
+    #[inline(never)]
+    fn scaled(&self, value: &mut Decimal) -> Result<ShownNumber, RoundError>
+        ensures ok { IfOk result (IsShownNumber self.now value.old value.new) }
+        ensures limit { IsErrOf result RoundError.Limit → shown_number self.now value.old ≡ None }
+        ensures memory { IsErrOf result RoundError.Memory → NeedsMemory self.now value.old }
+    {
+        if let Err(_) = value.absolute.multiply_pow10(self.options.scale) {
+            return Err(RoundError::Limit);
+        }
+        self.rounded(value)
+    }
+
+    pub(crate) fn shown_number_or_unchanged(
+        &self,
+        value: &mut Decimal,
+    ) -> Result<ShownNumber, RoundError>
+        ensures ok { IfOk result (IsShownNumber self.now value.old value.new) }
+        ensures unchanged { OnErr result (value.new ≡ value.old) }
+        ensures limit { IsErrOf result RoundError.Limit → shown_number self.now value.old ≡ None }
+        ensures memory { IsErrOf result RoundError.Memory → FormattingNeedsMemory self.now value.old }
+    {
+        if matches!(self.notation, Notation::Standard) && self.options.scale == 0 {
+            return self.shown_number(value);
+        }
+        let Ok(kept) = value.clone() else {
+            return Err(RoundError::Memory);
+        };
+        match self.shown_number(value) {
+            Ok(shown) => Ok(shown),
+            Err(error) => {
+                *value = kept;
+                Err(error)
+            }
+        }
+    }
+
+    fn category(&self, number: &PluralOperands<'_, DecimalStore>) -> PluralCategory
+        ensures { IsCategoryAt self.now.rules number.now result }
+    {
+        match plural_category_at(self.rules, number) {
+            Some(category) => category,
+            // The rules of a formatter are listed.
+            None => PluralCategory::Other,
+        }
+    }
+
+    pub(crate) fn choice(&self, significand: &Decimal, exponent: i32) -> CompactChoice
+        ensures { ChoosesPattern self.now significand.now exponent result }
+    {
+        let Some(style) = self.options.compact_style() else {
+            return NO_CHOICE;
+        };
+        let magnitude = compact_magnitude(&self.notation, significand, exponent);
+        let patterns = self.formats.compact_patterns(style, magnitude);
+        if !patterns.needs_category() {
+            return CompactChoice {
+                patterns,
+                ..NO_CHOICE
+            };
+        }
+        let category = self.category(&PluralOperands::of_decimal(significand));
+        CompactChoice {
+            patterns,
+            category,
+            is_one: is_one(significand),
+        }
+    }
+
+    pub(crate) fn whole_category(&self, value: &Decimal) -> Result<PluralCategory, RoundError>
+        ensures ok { IfOk result (ChoosesUnit self.now value.now) }
+        ensures err { IfErr result (λ e. (e ≡ RoundError.Memory) × WholeNeedsMemory self.now value.now) }
+    {
+        match (self.options.compact_style(), self.options.style) {
+            (Some(_), NumberStyle::Percent) => self.undivided_category(value),
+            _ => Ok(PluralCategory::Other),
+        }
+    }
+
+    fn round_whole(&self, value: &mut Decimal) -> Result<(), RoundError>
+        ensures ok { OnOk result (value.new.absolute ≡ whole_number self.now value.old) }
+        ensures err { IfErr result (λ e. (e ≡ RoundError.Memory) × WholeRoundingNeedsMemory self.now value.old) }
+    {
+        let scale = self.options.scale;
+        if let Err(_) = value.absolute.multiply_pow10(scale) {
+            return Ok(());
+        }
+        match &self.digits {
+            Some(digits) => digits.round_whole(value),
+            None => Ok(()),
+        }
+    }
+
+    // Not inlined: only percent in compact notation needs it.
+    #[inline(never)]
+    fn undivided_category(&self, value: &Decimal) -> Result<PluralCategory, RoundError>
+        ensures ok { IfOk result (IsCategoryAt self.now.rules (plain (whole_number self.now value.now))) }
+        ensures err { IfErr result (λ e. (e ≡ RoundError.Memory)
+            × (IsLong INLINE_DIGITS value.now ⊎ WholeRoundingNeedsMemory self.now value.now)) }
+    {
+        let Ok(mut whole) = value.clone() else {
+            return Err(RoundError::Memory);
+        };
+        self.round_whole(&mut whole)?;
+        Ok(self.category(&PluralOperands::of_decimal(&whole)))
+    }
+}

@@ -1,0 +1,150 @@
+//! Texts of parts, one after another, and the destination of pieces.
+ghost use Rattle.std.specs.{Prelude.{◌≡◌, ◌*◌, ◌<◌, ◌≤◌, ◌-ℤ◌, [], ◌∷◌, ◌++◌, length, List, Option, Bool, true, false, pos, OnOk, OnErr}, Fmt.WritesStyledOnOk, Io.KnownBytes.Appends};
+ghost use Rattle.decimal_digits.specs.AppendsPrefix.{AppendsPrefix};
+ghost use Rattle.decimal_format.specs.Formatted.{shown_count};
+ghost use Rattle.number_format.specs.TextParts.{Piece, Puts, PutsPrefix, pieces_of, part_pieces, parts_pieces, parts_text, pieces_text, digit_kind, magnitude_pieces, digit_pieces};
+
+use crate::format::text_part::{PartKind, TextPart};
+use decimal_format::FormattedAbsolute;
+use decimal_format::internal::Block;
+use fixed_decimal::{DecimalStore, Sink, SinkFault};
+use std::fmt;
+
+#[inline(always)]
+#[tactic(auto, using(crate::proofs::lemmas::format::PieceTexts::text_of))]
+pub(crate) fn put_part(part: TextPart<'_>, block: &mut Block) -> Result<(), SinkFault>
+    ensures { OnOk result (block.new.0 ≡ block.old.0 ++ pieces_text (part_pieces part.entry)) }
+{
+    // Most parts are empty: without this test a compact number takes a tenth longer.
+    if part.text.is_empty() {
+        return Ok(());
+    }
+    block.put_bytes(part.text.as_bytes())
+}
+
+pub(crate) fn write_parts<W: Sink>(parts: &[TextPart<'_>], sink: &mut W) -> Result<(), SinkFault>
+    ensures ok { OnOk result (Appends (W.contents sink.old) (W.contents sink.new) (parts_text parts.now)) }
+    ensures err { OnErr result (AppendsPrefix (W.contents sink.old) (W.contents sink.new) (parts_text parts.now)) }
+    ensures failed { OnErr result (W.has_failed sink.new ≡ true) }
+{
+    for part in parts {
+        sink.put_bytes(part.text.as_bytes())?;
+    }
+    Ok(())
+}
+
+pub(crate) fn fmt_parts<W: fmt::Write>(
+    parts: &[TextPart<'_>],
+    f: &mut fmt::Formatter<W>,
+) -> fmt::Result
+    ensures { WritesStyledOnOk W.write_str_gives f.old result (parts_text parts.now) f.new }
+{
+    for part in parts {
+        f.write_str(part.text)?;
+    }
+    Ok(())
+}
+
+pub(crate) fn parts_length(parts: &[TextPart<'_>]) -> usize
+    requires { length parts.now ≤ 16 }
+    ensures value { result ≡ length (parts_text parts.now) }
+    ensures at_most { result ≤ 255 * length parts.now }
+{
+    let mut total = 0;
+    for part in parts {
+        total += part.text.len();
+    }
+    total
+}
+
+/// A destination of the pieces of the text of a number: consecutive pieces of one kind are one part.
+///
+/// Contracts see the pieces that were put, if they are observable.
+pub trait PartSink {
+    /// The pieces that were put, or None for a sink whose pieces are not observable.
+    ghost pieces: { Self → Option (List Piece) };
+
+    /// Whether the last piece was rejected.
+    ghost has_failed: { Self → Bool };
+
+    /// Puts a piece, which is not empty.
+    ///
+    /// # Errors
+    ///
+    /// The sink rejects the piece; the pieces that were put are unchanged.
+    fn put(&mut self, kind: PartKind, text: &str) -> Result<(), SinkFault>
+        ensures puts { OnOk result
+            (Puts (pieces self.old) (pieces self.new) (record { kind = kind; text = text.now } ∷ [])) }
+        ensures has_not_failed { OnOk result (has_failed self.new ≡ false) }
+        ensures keeps { OnErr result (Puts (pieces self.old) (pieces self.new) []) }
+        ensures failed { OnErr result (has_failed self.new ≡ true) };
+}
+
+pub(crate) fn put<P: PartSink>(sink: &mut P, kind: PartKind, text: &str) -> Result<(), SinkFault>
+    ensures ok { OnOk result (Puts (P.pieces sink.old) (P.pieces sink.new) (pieces_of kind text.now)) }
+    ensures err { OnErr result (PutsPrefix (P.pieces sink.old) (P.pieces sink.new) (pieces_of kind text.now)) }
+    ensures failed { OnErr result (P.has_failed sink.new ≡ true) }
+{
+    if text.is_empty() {
+        return Ok(());
+    }
+    sink.put(kind, text)
+}
+
+pub(crate) fn put_parts<P: PartSink>(sink: &mut P, parts: &[TextPart<'_>]) -> Result<(), SinkFault>
+    ensures ok { OnOk result (Puts (P.pieces sink.old) (P.pieces sink.new) (parts_pieces parts.now)) }
+    ensures err { OnErr result (PutsPrefix (P.pieces sink.old) (P.pieces sink.new) (parts_pieces parts.now)) }
+    ensures failed { OnErr result (P.has_failed sink.new ≡ true) }
+{
+    for part in parts {
+        put(sink, part.kind, part.text)?;
+    }
+    Ok(())
+}
+
+fn digit_kind(whole: PartKind, magnitude: i16) -> PartKind
+    ensures { result ≡ digit_kind whole magnitude }
+{
+    if magnitude < 0 {
+        PartKind::Fraction
+    } else {
+        whole
+    }
+}
+
+fn put_magnitude<P: PartSink>(
+    digits: &FormattedAbsolute<'_, DecimalStore>,
+    whole: PartKind,
+    below: u32,
+    sink: &mut P,
+) -> Result<(), SinkFault>
+    requires { below < shown_count digits.now.value }
+    ensures ok { OnOk result (Puts (P.pieces sink.old) (P.pieces sink.new) (magnitude_pieces whole digits.now.symbols
+        digits.now.strategy digits.now.value (digits.now.value.hi -ℤ pos below))) }
+    ensures err { OnErr result (PutsPrefix (P.pieces sink.old) (P.pieces sink.new) (magnitude_pieces whole
+        digits.now.symbols digits.now.strategy digits.now.value (digits.now.value.hi -ℤ pos below))) }
+    ensures failed { OnErr result (P.has_failed sink.new ≡ true) }
+{
+    put(sink, PartKind::Decimal, digits.separator_before(below))?;
+    let mut buffer = [0; 4];
+    let digit = digits.digit(below).encode_utf8(&mut buffer);
+    put(sink, digit_kind(whole, digits.magnitude(below)), digit)?;
+    put(sink, PartKind::Group, digits.separator_after(below))
+}
+
+pub(crate) fn put_digits<P: PartSink>(
+    digits: &FormattedAbsolute<'_, DecimalStore>,
+    whole: PartKind,
+    sink: &mut P,
+) -> Result<(), SinkFault>
+    ensures ok { OnOk result (Puts (P.pieces sink.old) (P.pieces sink.new)
+        (digit_pieces whole digits.now.symbols digits.now.strategy digits.now.value)) }
+    ensures err { OnErr result (PutsPrefix (P.pieces sink.old) (P.pieces sink.new)
+        (digit_pieces whole digits.now.symbols digits.now.strategy digits.now.value)) }
+    ensures failed { OnErr result (P.has_failed sink.new ≡ true) }
+{
+    for below in 0..digits.shown_count() {
+        put_magnitude(digits, whole, below, sink)?;
+    }
+    Ok(())
+}

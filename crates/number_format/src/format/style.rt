@@ -1,0 +1,156 @@
+//! What a locale has for the options: the pattern, separators and currency of the style, and the exponents.
+ghost use Rattle.std.specs.Prelude.{◌≡◌, ◌≤◌, length};
+ghost use Rattle.locale_data.specs.Formats.{AreFormatsOf};
+ghost use Rattle.number_format.specs.{Formatters.{style_sizes, currency_sign, with_separators, IsWithoutCurrency, IsStyle, IsNotationBy, AreExponents}, NumberText.compact_style, NumberStyles.{before, plain_pattern, percent_text}};
+
+use crate::format::currency::ShownCurrency;
+use crate::notation::{CompactExponents, Notation};
+use crate::options::{NumberNotation, NumberOptions, NumberStyle};
+use decimal_format::{DecimalSymbols, GroupingSizes, GroupingStrategy};
+use fixed_decimal::SignDisplay;
+use locale_data::{
+    Affix, AffixPair, CompactStyle, CurrencyPattern, CurrencySign, NumberFormats, NumberSigns,
+    Pattern, Piece, currency_pattern,
+};
+
+const NO_PIECES: Affix = Affix {
+    first: Piece::Empty,
+    second: Piece::Empty,
+    third: Piece::Empty,
+    fourth: Piece::Empty,
+};
+
+fn before(piece: Piece) -> AffixPair
+    ensures { result ≡ before piece }
+{
+    AffixPair {
+        prefix: Affix {
+            first: piece,
+            ..NO_PIECES
+        },
+        suffix: NO_PIECES,
+    }
+}
+
+fn plain_pattern(sizes: GroupingSizes) -> Pattern
+    ensures { result ≡ plain_pattern sizes }
+{
+    Pattern {
+        positive: before(Piece::Empty),
+        negative: before(Piece::Minus),
+        plus: before(Piece::Plus),
+        primary: sizes.primary,
+        secondary: sizes.secondary,
+    }
+}
+
+pub(crate) fn percent_text(style: NumberStyle, signs: NumberSigns) -> &'static str
+    ensures value { result.now ≡ percent_text style signs }
+    ensures short { length result.now ≤ 255 }
+{
+    match style {
+        NumberStyle::Permille => signs.permille.text(),
+        _ => signs.percent.text(),
+    }
+}
+
+pub(crate) fn style_sizes(
+    pattern: &Pattern,
+    strategy: GroupingStrategy,
+    own: GroupingSizes,
+) -> GroupingSizes
+    ensures { result ≡ style_sizes pattern.now strategy own }
+{
+    let primary = match strategy {
+        GroupingStrategy::Always if pattern.primary == 0 => 3,
+        _ => pattern.primary,
+    };
+    GroupingSizes {
+        primary,
+        secondary: pattern.secondary,
+        ..own
+    }
+}
+
+pub(crate) fn with_separators(
+    symbols: DecimalSymbols<'static>,
+    pattern: &CurrencyPattern,
+) -> DecimalSymbols<'static>
+    ensures { result ≡ with_separators symbols.entry pattern.now }
+{
+    let symbols = match pattern.decimal {
+        Some(separator) => symbols.with_decimal_separator(separator.text()),
+        None => symbols,
+    };
+    match pattern.grouping {
+        Some(separator) => symbols.with_grouping_separator(separator.text()),
+        None => symbols,
+    }
+}
+
+// Node differs from ECMA-402: without a sign the pattern of accounts is not used.
+fn currency_sign(display: SignDisplay, sign: CurrencySign) -> CurrencySign
+    ensures { result ≡ currency_sign display sign }
+{
+    match display {
+        SignDisplay::Never => CurrencySign::Standard,
+        _ => sign,
+    }
+}
+
+fn without_currency(pattern: Pattern) -> (CurrencyPattern, ShownCurrency)
+    ensures { IsWithoutCurrency pattern result.0 result.1 }
+{
+    let written = CurrencyPattern {
+        pattern,
+        decimal: None,
+        grouping: None,
+    };
+    (written, ShownCurrency::none())
+}
+
+pub(crate) fn style_of(
+    tag: &str,
+    system: &str,
+    sizes: GroupingSizes,
+    formats: &NumberFormats,
+    options: &NumberOptions,
+) -> (CurrencyPattern, ShownCurrency)
+    requires { AreFormatsOf tag.now system.now formats.now }
+    ensures { IsStyle options.now.style options.now.notation tag.now system.now sizes formats.now
+        options.now.sign_display result.0 result.1 }
+{
+    match (options.style, options.notation) {
+        (NumberStyle::Currency(style), _) => {
+            let sign = currency_sign(options.sign_display, style.sign);
+            let written = currency_pattern(tag, system, style.code, sign);
+            (written, ShownCurrency::of(tag, &style).in_system(system))
+        }
+        (NumberStyle::Decimal, _) | (_, NumberNotation::Compact(_)) => {
+            without_currency(plain_pattern(sizes))
+        }
+        _ => without_currency(*formats.percent()),
+    }
+}
+
+pub(crate) fn notation_of(options: &NumberOptions, formats: &NumberFormats) -> Notation
+    ensures { IsNotationBy formats.now options.now.notation
+        (compact_style options.now.notation options.now.style) result }
+{
+    match (options.notation, options.compact_style()) {
+        (_, Some(style)) => Notation::Compact(compact_exponents(formats, style)),
+        (NumberNotation::Scientific(_), None) => Notation::Scientific,
+        (NumberNotation::Engineering(_), None) => Notation::Engineering,
+        _ => Notation::Standard,
+    }
+}
+
+fn compact_exponents(formats: &NumberFormats, style: CompactStyle) -> CompactExponents
+    ensures { AreExponents formats.now style result.rows }
+{
+    let mut rows = [0; 17];
+    for index in 0..17 {
+        rows[index] = formats.compact_exponent(style, index as i16 + 3);
+    }
+    CompactExponents { rows }
+}

@@ -1,0 +1,227 @@
+//! How a number is written: its style, notation, digits, sign and groups, and the digits that ECMA-402 has by default.
+ghost use Rattle.std.specs.Prelude.{◌≡◌};
+ghost use Rattle.number_format.specs.{DefaultDigits.{shows_all_digits, is_compact, usage_digits, increment, IsDefault, AreDefaultDigits}, NumberText.compact_style};
+
+use crate::digits::options::{DigitOptions, TrailingZeros};
+use crate::digits::ranges::{FractionDigits, Increment};
+use crate::digits::settings::{DigitDefaults, DigitSettings, RoundingPriority};
+use decimal_format::GroupingStrategy;
+use fixed_decimal::{SignDisplay, SignedRoundingMode, UnsignedRoundingMode};
+use locale_data::{
+    CompactStyle, CurrencyCode, CurrencyDigits, CurrencySign, Name, currency_digits,
+};
+
+/// Which symbol of a currency is written.
+#[derive(Clone, Copy, Debug, Default, PartialEq)]
+pub enum CurrencyDisplay {
+    /// The symbol of the locale, as `US$`.
+    #[default]
+    Symbol,
+    /// The narrow symbol, as `$`.
+    Narrow,
+    /// The code, as `USD`.
+    Code,
+    /// None: the digits are those of the currency.
+    Hidden,
+}
+
+/// For which use a currency's digits are chosen.
+#[derive(Clone, Copy, Debug, Default, PartialEq)]
+pub enum CurrencyUsage {
+    /// The usual digits.
+    #[default]
+    Standard,
+    /// Those of cash, with its increment.
+    Cash,
+}
+
+/// How an amount of money is written.
+#[derive(Clone, Copy, Debug)]
+pub struct CurrencyStyle {
+    /// The code of the currency, three letters; of one that is not listed two digits and the code are shown.
+    pub code: CurrencyCode,
+    /// Which symbol is written.
+    pub display: CurrencyDisplay,
+    /// The usual pattern or that of accounts.
+    pub sign: CurrencySign,
+    /// For which use its digits are chosen.
+    pub usage: CurrencyUsage,
+}
+
+/// What a number counts.
+#[derive(Clone, Copy, Debug)]
+pub enum NumberStyle {
+    /// A plain number.
+    Decimal,
+    /// A percentage, `12%` of 12; ECMA-402 has a scale of 2 with it.
+    Percent,
+    /// A number of thousandths, `12‰` of 12.
+    Permille,
+    /// An amount of money.
+    Currency(CurrencyStyle),
+}
+
+/// Which sign an exponent has.
+#[derive(Clone, Copy, Debug, Default, PartialEq)]
+pub enum ExponentSign {
+    /// A minus sign below 0.
+    #[default]
+    Auto,
+    /// A plus sign from 0 on, else a minus sign.
+    Always,
+    /// None.
+    Never,
+}
+
+/// How an exponent is written.
+#[derive(Clone, Copy, Debug)]
+pub struct ExponentOptions {
+    /// The least number of digits: 0 is as 1, and more than 32,767 are as 32,767.
+    pub digits: u16,
+    /// Its sign.
+    pub sign: ExponentSign,
+}
+
+/// How long the words of a number in compact notation are. Of currencies both are short.
+#[derive(Clone, Copy, Debug, Default, PartialEq)]
+pub enum CompactLength {
+    /// `1.2M`
+    #[default]
+    Short,
+    /// `1.2 million`
+    Long,
+}
+
+/// In which notation a number is written.
+#[derive(Clone, Copy, Debug)]
+pub enum NumberNotation {
+    /// As it is.
+    Standard,
+    /// With one integer digit and an exponent.
+    Scientific(ExponentOptions),
+    /// With one to three integer digits and an exponent that is a multiple of 3.
+    Engineering(ExponentOptions),
+    /// In words for powers of ten, as `1.2K`.
+    Compact(CompactLength),
+}
+
+/// How a number is written. Every value is valid.
+#[derive(Clone, Copy, Debug)]
+pub struct NumberOptions {
+    /// What the number counts.
+    pub style: NumberStyle,
+    /// The power of ten by which the number is multiplied first.
+    pub scale: i16,
+    /// Its notation.
+    pub notation: NumberNotation,
+    /// Which digits are shown. `None`: of a plain number in standard notation all digits, of money those of the
+    /// currency, else those of ECMA-402.
+    pub digits: Option<DigitOptions>,
+    /// Which sign is written: that of the rounded number, also if its integer digits are cut off.
+    pub sign_display: SignDisplay,
+    /// Where groups are separated. In compact notation node takes `Auto` for `Min2`, and ECMA-402 does not.
+    pub grouping: GroupingStrategy,
+    /// The numbering system, as `latn`. `None`: that of the locale.
+    pub numbering_system: Option<Name>,
+}
+
+impl CurrencyUsage {
+    /// Returns the number of fraction digits that a currency has for this use, and its increment, 0 if it has none.
+    pub fn digits(self, currency: CurrencyDigits) -> (u8, u8)
+        ensures { result ≡ usage_digits self currency }
+    {
+        match self {
+            CurrencyUsage::Standard => (currency.digits, 0),
+            CurrencyUsage::Cash => (currency.cash_digits, currency.cash_increment),
+        }
+    }
+}
+
+impl NumberOptions {
+    /// Returns whether the notation is compact.
+    pub fn is_compact(&self) -> bool
+        ensures { result ≡ is_compact self.now.notation }
+    {
+        matches!(self.notation, NumberNotation::Compact(_))
+    }
+
+    #[inline(always)]
+    pub(crate) fn compact_style(&self) -> Option<CompactStyle>
+        ensures { result ≡ compact_style self.now.notation self.now.style }
+    {
+        match (self.notation, self.style) {
+            (NumberNotation::Compact(_), NumberStyle::Currency(_)) => Some(CompactStyle::Currency),
+            (NumberNotation::Compact(CompactLength::Short), _) => Some(CompactStyle::Short),
+            (NumberNotation::Compact(CompactLength::Long), _) => Some(CompactStyle::Long),
+            _ => None,
+        }
+    }
+
+    fn shows_all_digits(&self) -> bool
+        ensures { result ≡ shows_all_digits self.now.style self.now.notation }
+    {
+        let kind = (self.style, self.notation);
+        matches!(kind, (NumberStyle::Decimal, NumberNotation::Standard))
+    }
+
+    /// Returns the increment of a rounding that no setting gives: that of a currency's cash, else 1.
+    pub fn default_increment(&self) -> u16
+        ensures { result ≡ increment self.now.style (is_compact self.now.notation) }
+    {
+        match self.style {
+            NumberStyle::Currency(style) if !self.is_compact() => {
+                let (_, increment) = style.usage.digits(currency_digits(style.code));
+                match Increment::new(increment as u16) {
+                    Ok(_) => increment as u16,
+                    Err(_) => 1,
+                }
+            }
+            _ => 1,
+        }
+    }
+
+    /// Returns the numbers of fraction digits that ECMA-402 has for the style and the notation; of money those of the
+    /// currency in each notation, as node, where ECMA-402 has them in standard notation only.
+    pub fn digit_defaults(&self) -> DigitDefaults
+        ensures { IsDefault self.now result }
+    {
+        let (min, max) = match self.style {
+            NumberStyle::Decimal => (0, 3),
+            NumberStyle::Percent | NumberStyle::Permille => (0, 0),
+            NumberStyle::Currency(style) => {
+                let (count, _) = style.usage.digits(currency_digits(style.code));
+                (count, count)
+            }
+        };
+        DigitDefaults {
+            fraction: FractionDigits {
+                min: min as u16,
+                max: max as u16,
+            },
+            is_compact: self.is_compact(),
+        }
+    }
+
+    pub(crate) fn default_digits(&self) -> Option<DigitOptions>
+        ensures { AreDefaultDigits self.now result }
+    {
+        if self.shows_all_digits() {
+            return None;
+        }
+        let settings = DigitSettings {
+            minimum_integer_digits: None,
+            minimum_fraction_digits: None,
+            maximum_fraction_digits: None,
+            minimum_significant_digits: None,
+            maximum_significant_digits: None,
+            rounding_increment: self.default_increment(),
+            rounding_mode: SignedRoundingMode::Unsigned(UnsignedRoundingMode::HalfExpand),
+            rounding_priority: RoundingPriority::Auto,
+            trailing_zeros: TrailingZeros::Auto,
+        };
+        match settings.resolve(&self.digit_defaults()) {
+            Ok(digits) => Some(digits),
+            Err(_) => None,
+        }
+    }
+}

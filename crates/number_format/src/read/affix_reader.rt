@@ -1,0 +1,212 @@
+//! Reading of numbers between affixes.
+ghost use Rattle.std.specs.Prelude.{◌≡◌, ◌≢◌, ℕ, List, ◌++◌, pos, Err, IfOk, MatchOption};
+ghost use Rattle.decimal_format.specs.{Readable.IsReadable, Reading.IsRead};
+ghost use Rattle.number_format.specs.AffixedTexts.{AreNamed, shifted, IsShown, IsShownNumeral, IsBetween, IsReadExactly, IsReadWith, IsReadTyped};
+
+use crate::read::sign_affixes::SignAffixes;
+use decimal_format::DecimalSymbols;
+use decimal_format::internal::{Alternative, begins_with_digit, ends_with_digit, read_alternatives};
+use fixed_decimal::{DigitStore, ParseError, Sign, Signed, UnsignedOver};
+use std::alloc::Global;
+use std::marker::Model;
+
+/// Why numbers between affixes cannot be read.
+#[derive(Clone, Copy, Debug, PartialEq, Eq)]
+pub enum AffixError {
+    /// The symbols are not readable: of two digits, separators or prefixes of signs one begins with the other.
+    Symbols,
+    /// Neither the prefixes nor the suffixes of two signs can be told apart.
+    Affixes,
+}
+
+/// Reads numbers between the affixes of their signs: percentages and amounts of money.
+///
+/// ```
+/// let affixes = SignAffixes::new(
+///     alloc,
+///     Affixes { prefix: "$", suffix: "" },
+///     Affixes { prefix: "($", suffix: ")" },
+///     Affixes { prefix: "+$", suffix: "" },
+/// )?;
+/// let reader = AffixReader::new(DecimalSymbols::ascii(), affixes)?;
+/// reader.read(alloc, b"($1,234.50)")?; // -1234.50
+/// ```
+#[derive(Drop)]
+pub struct AffixReader<'a> {
+    symbols: DecimalSymbols<'a>,
+    affixes: SignAffixes,
+    shift: i16,
+}
+
+impl<'a> Model for AffixReader<'a> {
+    ghost use Rattle.decimal_format.specs.Readable.{IsReadable};
+    ghost use Rattle.number_format.specs.AffixedTexts.{Reader, AreNamed};
+
+    ghost Value = { Reader };
+
+    ghost view = { λ s. record { symbols = s.symbols; affixes = s.affixes; shift = s.shift } };
+
+    ghost invariant = { λ s. IsReadable s.symbols × AreNamed s.symbols s.affixes };
+}
+
+fn cut_affixes<'t>(text: &'t [u8], prefix: &[u8], suffix: &[u8]) -> Option<&'t [u8]>
+    ensures { MatchOption result ((middle : List ℕ) → text.now ≢ prefix.now ++ (middle ++ suffix.now))
+        (λ middle. text.now ≡ prefix.now ++ (middle.now ++ suffix.now)) }
+{
+    text.strip_prefix(prefix)?.strip_suffix(suffix)
+}
+
+fn shifted<D: DigitStore>(
+    read: Result<Signed<UnsignedOver<D>>, ParseError>,
+    shift: i16,
+) -> Result<Signed<UnsignedOver<D>>, ParseError>
+    ensures { result ≡ shifted shift read }
+{
+    let mut value = read?;
+    match value.absolute.multiply_pow10(shift) {
+        Ok(()) => Ok(value),
+        Err(_) => Err(ParseError::Limit),
+    }
+}
+
+impl<'a> AffixReader<'a> {
+    /// Makes a reader of numbers with these symbols between these affixes.
+    ///
+    /// # Errors
+    ///
+    /// - `Symbols`: the symbols are not [readable](DecimalSymbols::is_readable).
+    /// - `Affixes`: they are, and the affixes do not [name the sign](SignAffixes::are_apart).
+    pub fn new(symbols: DecimalSymbols<'a>, affixes: SignAffixes) -> Result<Self, AffixError>
+        ensures ok { IfOk result (λ r. r ≡ record { symbols = symbols.entry; affixes = affixes; shift = pos 0 }) }
+        ensures readable { IfOk result (λ r. IsReadable symbols.entry × AreNamed symbols.entry affixes) }
+        ensures symbols { result ≡ Err AffixError.Symbols → ¬ IsReadable symbols.entry }
+        ensures affixes { result ≡ Err AffixError.Affixes
+            → IsReadable symbols.entry × ¬ AreNamed symbols.entry affixes }
+    {
+        if !symbols.is_readable() {
+            return Err(AffixError::Symbols);
+        }
+        if !affixes.are_apart(&symbols) {
+            return Err(AffixError::Affixes);
+        }
+        Ok(Self::readable(symbols, affixes))
+    }
+
+    pub(crate) fn readable(symbols: DecimalSymbols<'a>, affixes: SignAffixes) -> Self
+        requires readable { IsReadable symbols }
+        requires named { AreNamed symbols affixes }
+        ensures { result ≡ record { symbols = symbols.entry; affixes = affixes; shift = pos 0 } }
+    {
+        AffixReader {
+            symbols,
+            affixes,
+            shift: 0,
+        }
+    }
+
+    /// Returns the reader that multiplies what it reads by 10^shift, and so undoes the scale of a formatter: by -2,
+    /// `12.5%` is 0.125.
+    pub fn with_shift(self, shift: i16) -> Self
+        ensures { result ≡ record self.entry { shift = shift } }
+    {
+        AffixReader { shift, ..self }
+    }
+
+    fn between<'t>(&self, sign: Sign, text: &'t [u8]) -> Option<&'t [u8]>
+        ensures { MatchOption result
+            ((middle : List ℕ) → ¬ IsBetween self.now text.now sign middle)
+            (λ r. IsBetween self.now text.now sign r.now) }
+    {
+        let affixes = self.affixes.of_sign(sign);
+        let middle = cut_affixes(text, affixes.prefix.as_bytes(), affixes.suffix.as_bytes())?;
+        if begins_with_digit(&self.symbols, middle) && ends_with_digit(&self.symbols, middle) {
+            return Some(middle);
+        }
+        None
+    }
+
+    fn split<'t>(&self, text: &'t [u8]) -> Option<(Sign, &'t [u8])>
+        ensures { MatchOption result
+            ((sign : Sign) (middle : List ℕ) → ¬ IsBetween self.now text.now sign middle)
+            (λ r. IsBetween self.now text.now r.0 r.1.now) }
+    {
+        if let Some(middle) = self.between(Sign::None, text) {
+            return Some((Sign::None, middle));
+        }
+        if let Some(middle) = self.between(Sign::Negative, text) {
+            return Some((Sign::Negative, middle));
+        }
+        let middle = self.between(Sign::Positive, text)?;
+        Some((Sign::Positive, middle))
+    }
+
+    fn read_shown<D: DigitStore>(
+        &self,
+        alloc: Global,
+        text: &[u8],
+    ) -> Result<Signed<UnsignedOver<D>>, ParseError>
+        ensures { IsRead D.L (IsShownNumeral self.now text.now) (IsShown self.now text.now) result }
+    {
+        let Some((sign, middle)) = self.split(text) else {
+            return Err(ParseError::Syntax);
+        };
+        match self.symbols.read(alloc, middle) {
+            Ok(value) => Ok(value.with_sign(sign)),
+            Err(error) => Err(error),
+        }
+    }
+
+    /// Reads a number between the affixes of its sign, in exactly one of the forms that a formatter writes.
+    ///
+    /// The number is as [`DecimalSymbols::read`] accepts it: with all grouping separators, or none.
+    ///
+    /// # Errors
+    ///
+    /// - `Syntax`: no decimal has this text, of any number of digits.
+    /// - `Limit`: there are more than 32,768 integer or fraction digits, or the shift leaves these limits.
+    /// - `Memory`: out of memory; possible only with more than `L` digits.
+    pub fn read<D: DigitStore>(
+        &self,
+        alloc: Global,
+        text: &[u8],
+    ) -> Result<Signed<UnsignedOver<D>>, ParseError>
+        ensures { IsReadExactly D.L self.now text.now result }
+    {
+        shifted(self.read_shown(alloc, text), self.shift)
+    }
+
+    fn read_typed<D: DigitStore>(
+        &self,
+        alloc: Global,
+        alternatives: &[Alternative<'_>],
+        text: &str,
+    ) -> Result<Signed<UnsignedOver<D>>, ParseError>
+        ensures { IsReadWith D.L self.now alternatives.now text.now result }
+    {
+        match self.read_shown(alloc, text.as_bytes()) {
+            Ok(value) => Ok(value),
+            Err(ParseError::Syntax) => read_alternatives(&self.symbols, alloc, alternatives, text),
+            Err(ParseError::Limit) => Err(ParseError::Limit),
+            Err(ParseError::Memory) => Err(ParseError::Memory),
+        }
+    }
+
+    /// Reads a number as people type it: between the affixes of its sign, or by the first alternative that
+    /// [reads](read_alternatives) the text.
+    ///
+    /// A text that [`read`](Self::read) accepts has the same value.
+    ///
+    /// # Errors
+    ///
+    /// As for [`read`](Self::read).
+    pub fn read_lenient<D: DigitStore>(
+        &self,
+        alloc: Global,
+        alternatives: &[Alternative<'_>],
+        text: &str,
+    ) -> Result<Signed<UnsignedOver<D>>, ParseError>
+        ensures { IsReadTyped D.L self.now alternatives.now text.now result }
+    {
+        shifted(self.read_typed(alloc, alternatives, text), self.shift)
+    }
+}

@@ -1,0 +1,341 @@
+//! Readers of what formatters write.
+ghost use Rattle.std.specs.Prelude.{◌≡◌, ◌↔◌, ◌≤◌, ◌∷◌, [], ◌++◌, ◌-ℤ◌, pos, length, map, flat_map, IsTrue, IfOk, IfErr, OnOk};
+ghost use Rattle.decimal_format.specs.Readable.{IsReadable};
+ghost use Rattle.number_format.specs.{AffixedTexts.{ArePairApart, AreNamed, IsReadExactly}, TextParts.parts_text, NumberReading.{affixes_for, affixes_of_style, CanRead, CanUndo, CannotRead, names_by, form, form_of, forms_of_name, number_reader_of, typed_forms, IsReadLeniently, IsReadInMode}};
+
+use crate::format::affixes::{NO_UNIT, StyleTexts};
+use crate::format::currency::text_or_nothing;
+use crate::format::formatter::NumberFormatter;
+use crate::format::text_part::TextPart;
+use crate::options::{NumberNotation, NumberStyle};
+use crate::read::affix_reader::AffixReader;
+use crate::read::sign_affixes::{OwnedAffixes, SignAffixes, are_pair_apart};
+use arrayvec::ArrayString;
+use decimal_format::Affixes;
+use decimal_format::internal::Alternative;
+use fixed_decimal::{DigitStore, ParseError, Sign, Signed, UnsignedOver};
+use std::alloc::{AllocError, Global};
+use std::marker::Model;
+use std::str;
+
+/// Why the texts of a formatter cannot be read: the first of these that holds, or out of memory if none does.
+#[derive(Clone, Copy, Debug, PartialEq, Eq)]
+pub enum NumberReaderError {
+    /// The notation is compact, scientific or engineering.
+    Notation,
+    /// The scale is -32768, which no scale undoes.
+    Scale,
+    /// The symbols are not readable: of two digits, separators or prefixes of signs one begins with the other.
+    Symbols,
+    /// Neither the prefixes nor the suffixes of two signs can be told apart.
+    Affixes,
+    /// Out of memory.
+    Memory,
+}
+
+/// How strictly a text is read.
+#[derive(Clone, Copy, Debug, PartialEq)]
+pub enum ParseMode {
+    /// Exactly as numbers are formatted.
+    Strict,
+    /// As people type numbers.
+    Lenient,
+}
+
+/// The texts before and after a number: each of at most seven parts.
+#[derive(Drop)]
+struct PartTexts {
+    prefix: ArrayString<1785>,
+    suffix: ArrayString<1785>,
+}
+
+impl PartTexts {
+    fn texts(&self) -> Affixes<'_>
+        ensures prefix { result.prefix.now ≡ self.now.prefix.bytes }
+        ensures suffix { result.suffix.now ≡ self.now.suffix.bytes }
+    {
+        Affixes {
+            prefix: self.prefix.as_str(),
+            suffix: self.suffix.as_str(),
+        }
+    }
+}
+
+fn joined(parts: &[TextPart<'_>]) -> ArrayString<1785>
+    requires { length parts.now ≤ 7 }
+    ensures { result.bytes ≡ parts_text parts.now }
+{
+    let mut text = ArrayString::new();
+    for part in parts {
+        text.push_str(part.text);
+    }
+    text
+}
+
+/// Texts around a number, and the sign that they show.
+type Form = (OwnedAffixes, Sign);
+
+fn alternative(form: &Form) -> Alternative<'_>
+    ensures { form_of result ≡ form.now }
+{
+    let Affixes { prefix, suffix } = form.0.texts();
+    Alternative {
+        prefix,
+        suffix,
+        sign: form.1,
+    }
+}
+
+fn push_form(
+    forms: &mut Vec<Form>,
+    alloc: Global,
+    prefix: [&str; 3],
+    suffix: [&str; 2],
+    sign: Sign,
+) -> Result<(), AllocError>
+    ensures { OnOk result (forms.new.items ≡ forms.old.items
+        ++ form (flat_map (λ t. t.now) prefix.entry) (flat_map (λ t. t.now) suffix.entry) sign ∷ []) }
+{
+    forms.push((OwnedAffixes::joined(alloc, &prefix, &suffix)?, sign))?;
+    Ok(())
+}
+
+fn push_name(forms: &mut Vec<Form>, alloc: Global, name: &str) -> Result<(), AllocError>
+    ensures { OnOk result (forms.new.items ≡ forms.old.items ++ forms_of_name name.now) }
+{
+    push_form(forms, alloc, ["", name, ""], ["", ""], Sign::None)?;
+    push_form(forms, alloc, ["", name, " "], ["", ""], Sign::None)?;
+    push_form(forms, alloc, ["", "", ""], ["", name], Sign::None)?;
+    push_form(forms, alloc, ["", "", ""], [" ", name], Sign::None)?;
+    push_form(forms, alloc, ["-", name, ""], ["", ""], Sign::Negative)?;
+    push_form(forms, alloc, ["-", name, " "], ["", ""], Sign::Negative)?;
+    push_form(forms, alloc, ["+", name, ""], ["", ""], Sign::Positive)?;
+    push_form(forms, alloc, ["+", name, " "], ["", ""], Sign::Positive)
+}
+
+fn affix_texts(style: &StyleTexts, alloc: Global, sign: Sign) -> Result<OwnedAffixes, AllocError>
+    ensures { IfOk result (λ t. t ≡ affixes_for style.now sign) }
+{
+    let affixes = style.affixes(sign, None, NO_UNIT);
+    OwnedAffixes::joined(alloc, &affixes.prefix, &affixes.suffix)
+}
+
+fn sign_affixes(style: &StyleTexts, alloc: Global) -> Result<SignAffixes, AllocError>
+    ensures { IfOk result (λ t. t ≡ affixes_of_style style.now) }
+{
+    Ok(SignAffixes {
+        none: affix_texts(style, alloc, Sign::None)?,
+        negative: affix_texts(style, alloc, Sign::Negative)?,
+        positive: affix_texts(style, alloc, Sign::Positive)?,
+    })
+}
+
+fn part_texts(style: &StyleTexts, sign: Sign) -> PartTexts
+    ensures prefix { result.prefix.bytes ≡ (affixes_for style.now sign).prefix }
+    ensures suffix { result.suffix.bytes ≡ (affixes_for style.now sign).suffix }
+{
+    let affixes = style.affixes(sign, None, NO_UNIT);
+    PartTexts {
+        prefix: joined(&affixes.prefix),
+        suffix: joined(&affixes.suffix),
+    }
+}
+
+fn is_pair_apart(style: &StyleTexts, first: Sign, second: Sign) -> bool
+    requires { IsReadable style.now.symbols }
+    ensures { IsTrue result
+        ↔ ArePairApart style.now.symbols (affixes_for style.now first) (affixes_for style.now second) }
+{
+    let first = part_texts(style, first);
+    let second = part_texts(style, second);
+    are_pair_apart(&style.symbols, first.texts(), second.texts())
+}
+
+fn are_apart(style: &StyleTexts) -> bool
+    requires { IsReadable style.now.symbols }
+    ensures { IsTrue result ↔ AreNamed style.now.symbols (affixes_of_style style.now) }
+{
+    is_pair_apart(style, Sign::None, Sign::Negative)
+        && is_pair_apart(style, Sign::None, Sign::Positive)
+        && is_pair_apart(style, Sign::Negative, Sign::Positive)
+}
+
+fn names(formatter: &NumberFormatter) -> (&str, &str, &str)
+    ensures { result.0.now ∷ result.1.now ∷ result.2.now ∷ [] ≡ names_by formatter.now formatter.now.options.style }
+{
+    let currency = &formatter.style.currency;
+    let code = text_or_nothing(&currency.code);
+    match formatter.options.style {
+        NumberStyle::Decimal => ("", "", ""),
+        NumberStyle::Percent | NumberStyle::Permille => (formatter.style.percent.text, "", ""),
+        NumberStyle::Currency(_) => (currency.wide, currency.narrow, code),
+    }
+}
+
+fn forms(formatter: &NumberFormatter, alloc: Global) -> Result<Vec<Form>, AllocError>
+    ensures forms { IfOk result (λ forms. forms.items ≡ typed_forms formatter.now) }
+    ensures count { IfOk result (λ forms. length forms.items ≡ 29) }
+{
+    let (symbol, narrow, code) = names(formatter);
+    let style = &formatter.style;
+    let mut forms = Vec::new(alloc);
+    forms.push((affix_texts(style, alloc, Sign::None)?, Sign::None))?;
+    forms.push((affix_texts(style, alloc, Sign::Negative)?, Sign::Negative))?;
+    forms.push((affix_texts(style, alloc, Sign::Positive)?, Sign::Positive))?;
+    push_form(&mut forms, alloc, ["", "", ""], ["", ""], Sign::None)?;
+    push_form(&mut forms, alloc, ["(", "", ""], [")", ""], Sign::Negative)?;
+    push_name(&mut forms, alloc, symbol)?;
+    push_name(&mut forms, alloc, narrow)?;
+    push_name(&mut forms, alloc, code)?;
+    Ok(forms)
+}
+
+fn shift(formatter: &NumberFormatter) -> Result<i16, NumberReaderError>
+    ensures value { IfOk result (λ shift. shift ≡ pos 0 -ℤ formatter.now.options.scale) }
+    ensures ok { OnOk result (CanUndo formatter.now) }
+    ensures err { IfErr result (λ e. CannotRead e formatter.now) }
+{
+    if !matches!(formatter.options.notation, NumberNotation::Standard) {
+        return Err(NumberReaderError::Notation);
+    }
+    let scale = formatter.options.scale;
+    scale.checked_neg().ok_or(NumberReaderError::Scale)
+}
+
+/// Reads the numbers that a [`NumberFormatter`] writes. Making it allocates, reading a short text does not.
+///
+/// ```
+/// let formatter = NumberFormatter::try_new("de", options)?; // EUR
+/// let reader = formatter.into_reader(alloc)?;
+/// reader.read(alloc, "-1.234,50\u{a0}€".as_bytes())?; // -1234.50
+/// ```
+pub struct NumberReader {
+    reader: AffixReader<'static>,
+    forms: Vec<Form>,
+}
+
+// Not derived: a derived drop is proved again wherever a value is dropped.
+impl Drop for NumberReader {
+    fn drop(self) {
+        let NumberReader { reader, forms } = self;
+        drop(reader);
+        drop(forms);
+    }
+}
+
+impl Model for NumberReader {
+    ghost use Rattle.std.specs.Prelude.{◌≡◌, length};
+    ghost use Rattle.number_format.specs.NumberReading.{NumberReader};
+
+    ghost Value = { NumberReader };
+
+    ghost view = { λ s. record { texts = s.reader; forms = s.forms.items } };
+
+    ghost invariant = { λ s. length s.forms.items ≡ 29 };
+}
+
+impl NumberFormatter {
+    /// Makes the reader of what this formatter writes.
+    ///
+    /// # Errors
+    ///
+    /// - `Memory`: out of memory, though the texts of the formatter can be read.
+    /// - Others: the texts of the formatter do not have one meaning each.
+    pub fn into_reader(self, alloc: Global) -> Result<NumberReader, NumberReaderError>
+        ensures ok { IfOk result (λ r. (r ≡ number_reader_of self) × CanRead self) }
+        ensures err { IfErr result (λ e. CannotRead e self) }
+    {
+        let shift = shift(&self)?;
+        if !self.style.symbols.is_readable() {
+            return Err(NumberReaderError::Symbols);
+        }
+        if !are_apart(&self.style) {
+            return Err(NumberReaderError::Affixes);
+        }
+        let Ok(forms) = forms(&self, alloc) else {
+            return Err(NumberReaderError::Memory);
+        };
+        let Ok(affixes) = sign_affixes(&self.style, alloc) else {
+            return Err(NumberReaderError::Memory);
+        };
+        let reader = AffixReader::readable(self.style.symbols, affixes).with_shift(shift);
+        Ok(NumberReader { reader, forms })
+    }
+}
+
+impl NumberReader {
+    fn alternatives(&self) -> [Alternative<'_>; 29]
+        ensures { map form_of result ≡ self.now.forms }
+    {
+        let forms = self.forms.as_slice();
+        let mut alternatives = [alternative(&forms[0]); 29];
+        for index in 0..29 {
+            alternatives[index] = alternative(&forms[index]);
+        }
+        alternatives
+    }
+
+    /// Reads a number in exactly one of the forms that the formatter writes, and undoes its scale: by style `Percent`
+    /// and scale 2 `12.5%` is 0.125.
+    ///
+    /// The number may have all grouping separators, or none. The value is the one that is shown: rounded, and with the
+    /// sign that is written.
+    ///
+    /// # Errors
+    ///
+    /// - `Syntax`: no decimal has this text, of any number of digits.
+    /// - `Limit`: there are more than 32,768 integer or fraction digits, or the scale leaves these limits.
+    /// - `Memory`: out of memory; possible only with more than `L` digits.
+    pub fn read<D: DigitStore>(
+        &self,
+        alloc: Global,
+        text: &[u8],
+    ) -> Result<Signed<UnsignedOver<D>>, ParseError>
+        ensures { IsReadExactly D.L self.now.texts text.now result }
+    {
+        self.reader.read(alloc, text)
+    }
+
+    /// Reads a number as people type it, and undoes the scale.
+    ///
+    /// A text that [`read`](Self::read) accepts has the same value. Else the number is as
+    /// [`DecimalSymbols::read_lenient`](decimal_format::DecimalSymbols::read_lenient) accepts it. Around it may be what
+    /// the formatter writes, nothing, or parentheses for a minus sign; or, on either side and with a space or without,
+    /// the symbol, the narrow symbol or the code of the currency, or the percent sign, also after a sign. Two signs,
+    /// two symbols and another currency are `Syntax`.
+    ///
+    /// # Errors
+    ///
+    /// As for [`read`](Self::read).
+    pub fn read_lenient<D: DigitStore>(
+        &self,
+        alloc: Global,
+        text: &str,
+    ) -> Result<Signed<UnsignedOver<D>>, ParseError>
+        ensures { IsReadLeniently D.L self.now text.now result }
+    {
+        self.reader.read_lenient(alloc, &self.alternatives(), text)
+    }
+
+    /// Reads a number in a mode: by [`read`](Self::read), or by [`read_lenient`](Self::read_lenient).
+    ///
+    /// # Errors
+    ///
+    /// As for these; leniently, a text that is not UTF-8 is `Syntax`.
+    pub fn read_utf8<D: DigitStore>(
+        &self,
+        alloc: Global,
+        mode: ParseMode,
+        text: &[u8],
+    ) -> Result<Signed<UnsignedOver<D>>, ParseError>
+        ensures { IsReadInMode D.L mode self.now text.now result }
+    {
+        match mode {
+            ParseMode::Strict => self.read(alloc, text),
+            ParseMode::Lenient => match str::from_utf8(text) {
+                Ok(text) => self.read_lenient(alloc, text),
+                Err(_) => Err(ParseError::Syntax),
+            },
+        }
+    }
+}
