@@ -2,7 +2,7 @@ use Rattle.std.proofs.{Common.{◌+◌, ◌*◌, ◌≤◌, length, ap, ◌∙�
 use Rattle.std.specs.Int.RustNames.{FitsSigned}
 use Rattle.decimal_digits.proofs.lemmas.{ops.Offsets.offset_is, rounding.{NumberAt.number_at-none, SplitAtPosition.{represents, represents_none, number_up}}}
 use Rattle.decimal_digits.specs.Number.{offset, weight}
-use Rattle.decimal_digits.proofs.rounding.magnitude_after.Goals as goal
+use Rattle.decimal_digits.proofs.rounding.at_position.magnitude_after.Goals as goal
 
 pub returns-then-len-eq0-clause-represents : goal.returns-then-len-eq0-clause-represents
 returns-then-len-eq0-clause-represents g c =

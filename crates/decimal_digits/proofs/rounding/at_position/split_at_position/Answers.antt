@@ -1,6 +1,6 @@
 use Rattle.std.proofs.{Common.arith, lemmas.{Grind.common_steps, Int.{ints, to_z-of_z}, List.Elements.recursion_from_All}}
 use Rattle.decimal_digits.proofs.lemmas.{ops.Offsets.offset_is, rounding.SplitAtPosition.{splits_above, splits_below}}
-use Rattle.decimal_digits.proofs.rounding.split_at_position.Goals as goal
+use Rattle.decimal_digits.proofs.rounding.at_position.split_at_position.Goals as goal
 
 pub returns-in-Some-clause-splits_as : goal.returns-in-Some-clause-splits_as
 returns-in-Some-clause-splits_as g c =

@@ -2,7 +2,7 @@ use Rattle.std.proofs.{Common.{◌≡◌, length, ap, ◌∙◌, arith, rules, w
 use Rattle.std.specs.Int.RustNames.{FitsSigned}
 use Rattle.decimal_digits.proofs.lemmas.{digits.DigitLists.ten_pos, ops.Offsets.offset_is, rounding.{NumberAt.number_of-none, Remainders.unit_pos, RoundingLaws.rounded_number-zero, SplitAtPosition.{rounded_split, represents_none, digit_rounding_fails}}}
 use Rattle.decimal_digits.specs.{Digits.number_of, Number.{offset, weight}, Remainders.leading, Rounding.{step_of, unit_at, rounded_number, DigitRoundingFails}}
-use Rattle.decimal_digits.proofs.rounding.round.Goals as goal
+use Rattle.decimal_digits.proofs.rounding.at_position.round.Goals as goal
 
 pub returns-then-len-eq0-clause-ok : goal.returns-then-len-eq0-clause-ok
 returns-then-len-eq0-clause-ok g c =
