@@ -1,5 +1,5 @@
 -- What a style of numbers writes: its pattern, its percent sign, and its currency.
-use Rattle.std.specs.{Prelude.{◌≡◌, ℕ, Bool, true, false, not, codes, ◌&&◌, if◌then◌else◌, List, [], ◌∷◌, map, Option, Some, None, MatchOption}, Char.to_ascii_uppercase, Option.option_map_or, Str.{is_utf8, bytes_eq}}
+use Rattle.std.specs.{Prelude.{◌≡◌, ℕ, Bool, true, false, not, codes, ◌&&◌, if◌then◌else◌, List, [], map, Option, Some, None, MatchOption}, Char.to_ascii_uppercase, Option.option_map_or, Str.{is_utf8, bytes_eq}}
 use Rattle.decimal_format.specs.declared.grouping.GroupingSizes.{GroupingSizes}
 use Rattle.locale_data.specs.{Currencies.{currency_with, IsSymbolOf}, declared.{currency.{CurrencySymbol.CurrencySymbol, SymbolWidth.SymbolWidth}, tables.rows.patterns.{Affix.Affix, AffixPair.AffixPair, NumberSigns.NumberSigns, Pattern.Pattern, Piece.{Piece, TheVariants.{Empty, Minus, Plus, Currency}}}}}
 use Rattle.locale_data.specs.Patterns as pattern

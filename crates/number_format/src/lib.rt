@@ -46,6 +46,4 @@ pub use options::{
     CompactLength, CurrencyDisplay, CurrencyStyle, CurrencyUsage, ExponentOptions, ExponentSign,
     NumberNotation, NumberOptions, NumberStyle,
 };
-pub use read::affix_reader::{AffixError, AffixReader};
 pub use read::number_reader::{NumberReader, NumberReaderError, ParseMode};
-pub use read::sign_affixes::SignAffixes;

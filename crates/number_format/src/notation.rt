@@ -29,8 +29,7 @@ pub enum Notation {
 }
 
 impl CompactExponents {
-    /// Returns the exponent of a magnitude.
-    pub fn at(&self, magnitude: i16) -> u8
+    fn at(&self, magnitude: i16) -> u8
         ensures { pos result ≡ compact_exponent self.now magnitude }
     {
         if magnitude < 3 {

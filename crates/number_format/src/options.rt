@@ -36,7 +36,7 @@ pub enum CurrencyUsage {
 }
 
 /// How an amount of money is written.
-#[derive(Clone, Copy, Debug)]
+#[derive(Clone, Copy, Debug, PartialEq)]
 pub struct CurrencyStyle {
     /// The code of the currency, three letters; of one that is not listed two digits and the code are shown.
     pub code: CurrencyCode,
@@ -49,7 +49,7 @@ pub struct CurrencyStyle {
 }
 
 /// What a number counts.
-#[derive(Clone, Copy, Debug)]
+#[derive(Clone, Copy, Debug, PartialEq)]
 pub enum NumberStyle {
     /// A plain number.
     Decimal,
@@ -74,7 +74,7 @@ pub enum ExponentSign {
 }
 
 /// How an exponent is written.
-#[derive(Clone, Copy, Debug)]
+#[derive(Clone, Copy, Debug, PartialEq)]
 pub struct ExponentOptions {
     /// The least number of digits: 0 is as 1, and more than 32,767 are as 32,767.
     pub digits: u16,
@@ -93,7 +93,7 @@ pub enum CompactLength {
 }
 
 /// In which notation a number is written.
-#[derive(Clone, Copy, Debug)]
+#[derive(Clone, Copy, Debug, PartialEq)]
 pub enum NumberNotation {
     /// As it is.
     Standard,
@@ -106,7 +106,7 @@ pub enum NumberNotation {
 }
 
 /// How a number is written. Every value is valid.
-#[derive(Clone, Copy, Debug)]
+#[derive(Clone, Copy, Debug, PartialEq)]
 pub struct NumberOptions {
     /// What the number counts.
     pub style: NumberStyle,

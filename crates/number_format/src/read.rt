@@ -1,4 +1,4 @@
 //! Reading of what a formatter writes.
-pub(crate) mod affix_reader;
+mod affix_reader;
 pub(crate) mod number_reader;
-pub(crate) mod sign_affixes;
+mod sign_affixes;

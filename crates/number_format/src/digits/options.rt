@@ -4,7 +4,7 @@ use crate::digits::ranges::IntegerDigits;
 use fixed_decimal::SignedRoundingMode;
 
 /// Whether fraction digits are shown if all of them are 0; ECMA-402's `trailingZeroDisplay`.
-#[derive(Clone, Copy, Debug, Default)]
+#[derive(Clone, Copy, Debug, Default, PartialEq)]
 pub enum TrailingZeros {
     /// As many as the precision shows: `2.00`.
     #[default]
@@ -14,7 +14,7 @@ pub enum TrailingZeros {
 }
 
 /// Which digits of a number are shown. Every value is valid.
-#[derive(Clone, Copy, Debug)]
+#[derive(Clone, Copy, Debug, PartialEq)]
 pub struct DigitOptions {
     /// The numbers of integer digits.
     pub integer: IntegerDigits,

@@ -7,7 +7,7 @@ use crate::digits::ranges::{FractionDigits, FractionMultiples, SignificantDigits
 use fixed_decimal::{RoundError, RoundingIncrement};
 
 /// Which of two least numbers of digits is shown.
-#[derive(Clone, Copy, Debug)]
+#[derive(Clone, Copy, Debug, PartialEq)]
 pub enum Minimum {
     /// That of the rounding that is chosen, as ECMA-402 has it.
     Chosen,
@@ -16,7 +16,7 @@ pub enum Minimum {
 }
 
 /// Fraction digits and significant digits, of which a number has both roundings.
-#[derive(Clone, Copy, Debug)]
+#[derive(Clone, Copy, Debug, PartialEq)]
 pub struct BothDigits {
     /// The numbers of fraction digits.
     pub fraction: FractionDigits,
@@ -27,7 +27,7 @@ pub struct BothDigits {
 }
 
 /// To which digit a number is rounded, and down to which one zeros are shown: the rounding type of ECMA-402.
-#[derive(Clone, Copy, Debug)]
+#[derive(Clone, Copy, Debug, PartialEq)]
 pub enum Precision {
     /// A range of fraction digits: from 1 to 2 of them, `2.345` becomes `2.35`, and `2` becomes `2.0`.
     Fraction(FractionDigits),

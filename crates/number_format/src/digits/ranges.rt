@@ -9,7 +9,7 @@ use fixed_decimal::RoundingIncrement;
 /// The least and the greatest number of integer digits.
 ///
 /// The least is from 1 to 32,767. Digits above the greatest are cut off after the rounding; by 32,768 none is.
-#[derive(Clone, Copy, Debug)]
+#[derive(Clone, Copy, Debug, PartialEq)]
 pub struct IntegerDigits {
     /// The least number of integer digits that is shown.
     pub min: u16,
@@ -24,7 +24,7 @@ pub struct IntegerDigits {
 /// The least and the greatest number of fraction digits.
 ///
 /// The least is at most 32,768. The greatest is at most 65,535, by which no number is rounded in any notation.
-#[derive(Clone, Copy, Debug)]
+#[derive(Clone, Copy, Debug, PartialEq)]
 pub struct FractionDigits {
     /// The least number of fraction digits that is shown.
     pub min: u16,
@@ -35,7 +35,7 @@ pub struct FractionDigits {
 }
 
 /// The least and the greatest number of significant digits, 1 to 65,536.
-#[derive(Clone, Copy, Debug)]
+#[derive(Clone, Copy, Debug, PartialEq)]
 pub struct SignificantDigits {
     /// The least number of significant digits that is shown.
     pub min: u32,
@@ -47,7 +47,7 @@ pub struct SignificantDigits {
 }
 
 /// The increment of a rounding: 1, 2 or 5 with up to three zeros, or 25 with up to two.
-#[derive(Clone, Copy, Debug)]
+#[derive(Clone, Copy, Debug, PartialEq)]
 pub struct Increment {
     /// The increment without its zeros.
     pub base: RoundingIncrement,
@@ -60,7 +60,7 @@ pub struct Increment {
 /// A number of fraction digits, at most 32,768, and an increment in units of the last of them.
 ///
 /// With 2 digits and the increment 5 a number is rounded to a multiple of 0.05.
-#[derive(Clone, Copy, Debug)]
+#[derive(Clone, Copy, Debug, PartialEq)]
 pub struct FractionMultiples {
     /// The number of fraction digits.
     pub digits: u16,

@@ -42,9 +42,8 @@ impl DigitOptions {
         self.apply_counted(value, &mut Steps::new())
     }
 
-    /// Rounds a decimal as [`apply`](Self::apply), with its errors, and counts the digit accesses.
     #[tactic(auto, using(crate::proofs::lemmas::digits::Applied::apply_fails))]
-    pub fn apply_counted<D: DigitStore>(
+    fn apply_counted<D: DigitStore>(
         &self,
         value: &mut Signed<UnsignedOver<D>>,
         steps: &mut Steps,

@@ -1,18 +1,12 @@
 //! The significand and the exponent of a number.
-ghost use Rattle.std.specs.Prelude.{◌≡◌, ◌↔◌, ◌+◌, ◌*◌, ◌/◌, ◌^◌, ◌≤◌, Some, None, IsTrue, IsOk, IfOk, OnOk, OnErr, IfErr, IsErrOf, MatchOption, ◌⊎◌, pos, ◌+ℤ◌, ◌-ℤ◌, ◌≤ℤ◌, ◌<ℤ◌, negsuc, unsigned_abs};
+ghost use Rattle.std.specs.Prelude.{◌≡◌, ◌↔◌, ◌+◌, ◌*◌, ◌/◌, ◌^◌, ◌≤◌, Some, None, IsTrue, IfOk, OnOk, OnErr, IfErr, IsErrOf, pos, ◌+ℤ◌, ◌-ℤ◌, ◌≤ℤ◌, ◌<ℤ◌, negsuc, unsigned_abs};
 ghost use Rattle.std.specs.Int.{int_min};
-ghost use Rattle.decimal_digits.specs.Number.{first, last, size};
-ghost use Rattle.fixed_decimal.specs.Decimal.{integer_decimal};
-ghost use Rattle.fixed_decimal.specs.Scientific.{scientific};
+ghost use Rattle.decimal_digits.specs.Number.{first, last};
 ghost use Rattle.number_format.specs.Scaled.{exponent_from_0, base_exponent, raised, settled, rounded_number, ScalingNeedsMemory, scaled_value, scaled};
 
 use crate::digits::options::DigitOptions;
 use crate::notation::Notation;
-use fixed_decimal::{
-    CompactDecimal, DecimalStore, DigitStore, FixedInteger, INLINE_DIGITS, RoundError,
-    ScientificDecimal, Signed, Steps, UnsignedOver,
-};
-use std::alloc::{AllocError, Global};
+use fixed_decimal::{DigitStore, RoundError, Signed, Steps, UnsignedOver};
 use std::marker::Model;
 
 /// A significand and an exponent: the significand times 10 to the power of the exponent.
@@ -240,32 +234,5 @@ impl<D: DigitStore> Scaled<D> {
             exponent: _,
         } = self;
         significand
-    }
-}
-
-impl Scaled<DecimalStore> {
-    /// Makes the value of the significand and the exponent, which prints `1.2e6`.
-    ///
-    /// # Errors
-    ///
-    /// Out of memory for the exponent, only for more than `INLINE_DIGITS` digits.
-    pub fn into_scientific(self, alloc: Global) -> Result<ScientificDecimal, AllocError>
-        ensures value { IfOk result (λ s. s ≡ scientific self.significand (integer_decimal self.exponent)) }
-        ensures succeeds { size (integer_decimal self.exponent).absolute.number ≤ INLINE_DIGITS → IsOk result }
-    {
-        let exponent = FixedInteger::try_from_i32(alloc, self.exponent())?;
-        Ok(ScientificDecimal::from(self.into_significand(), exponent))
-    }
-
-    /// Makes the value of the significand and the exponent, which prints `1.2c6`, if the exponent is from 0 to 255.
-    pub fn into_compact(self) -> Option<CompactDecimal>
-        ensures { MatchOption result ((self.exponent <ℤ pos 0) ⊎ (pos 255 <ℤ self.exponent))
-            (λ c. (c.significand ≡ self.significand) × (pos c.exponent ≡ self.exponent)) }
-    {
-        let exponent = self.exponent();
-        if exponent < 0 || exponent > 255 {
-            return None;
-        }
-        Some(CompactDecimal::from_significand_and_exponent(self.into_significand(), exponent as u8))
     }
 }

@@ -1,5 +1,5 @@
 //! Reading of numbers between affixes.
-ghost use Rattle.std.specs.Prelude.{◌≡◌, ◌≢◌, ℕ, List, ◌++◌, pos, Err, IfOk, MatchOption};
+ghost use Rattle.std.specs.Prelude.{◌≡◌, ◌≢◌, ℕ, List, ◌++◌, MatchOption};
 ghost use Rattle.decimal_format.specs.{Readable.IsReadable, Reading.IsRead};
 ghost use Rattle.number_format.specs.AffixedTexts.{AreNamed, shifted, IsShown, IsShownNumeral, IsBetween, IsReadExactly, IsReadWith, IsReadTyped};
 
@@ -10,29 +10,9 @@ use fixed_decimal::{DigitStore, ParseError, Sign, Signed, UnsignedOver};
 use std::alloc::Global;
 use std::marker::Model;
 
-/// Why numbers between affixes cannot be read.
-#[derive(Clone, Copy, Debug, PartialEq, Eq)]
-pub enum AffixError {
-    /// The symbols are not readable: of two digits, separators or prefixes of signs one begins with the other.
-    Symbols,
-    /// Neither the prefixes nor the suffixes of two signs can be told apart.
-    Affixes,
-}
-
-/// Reads numbers between the affixes of their signs: percentages and amounts of money.
-///
-/// ```
-/// let affixes = SignAffixes::new(
-///     alloc,
-///     Affixes { prefix: "$", suffix: "" },
-///     Affixes { prefix: "($", suffix: ")" },
-///     Affixes { prefix: "+$", suffix: "" },
-/// )?;
-/// let reader = AffixReader::new(DecimalSymbols::ascii(), affixes)?;
-/// reader.read(alloc, b"($1,234.50)")?; // -1234.50
-/// ```
+/// Reads numbers between the affixes of their signs, and multiplies them by 10^shift: by -2 `12.5%` is 0.125.
 #[derive(Drop)]
-pub struct AffixReader<'a> {
+pub(crate) struct AffixReader<'a> {
     symbols: DecimalSymbols<'a>,
     affixes: SignAffixes,
     shift: i16,
@@ -70,46 +50,16 @@ fn shifted<D: DigitStore>(
 }
 
 impl<'a> AffixReader<'a> {
-    /// Makes a reader of numbers with these symbols between these affixes.
-    ///
-    /// # Errors
-    ///
-    /// - `Symbols`: the symbols are not [readable](DecimalSymbols::is_readable).
-    /// - `Affixes`: they are, and the affixes do not [name the sign](SignAffixes::are_apart).
-    pub fn new(symbols: DecimalSymbols<'a>, affixes: SignAffixes) -> Result<Self, AffixError>
-        ensures ok { IfOk result (λ r. r ≡ record { symbols = symbols.entry; affixes = affixes; shift = pos 0 }) }
-        ensures readable { IfOk result (λ r. IsReadable symbols.entry × AreNamed symbols.entry affixes) }
-        ensures symbols { result ≡ Err AffixError.Symbols → ¬ IsReadable symbols.entry }
-        ensures affixes { result ≡ Err AffixError.Affixes
-            → IsReadable symbols.entry × ¬ AreNamed symbols.entry affixes }
-    {
-        if !symbols.is_readable() {
-            return Err(AffixError::Symbols);
-        }
-        if !affixes.are_apart(&symbols) {
-            return Err(AffixError::Affixes);
-        }
-        Ok(Self::readable(symbols, affixes))
-    }
-
-    pub(crate) fn readable(symbols: DecimalSymbols<'a>, affixes: SignAffixes) -> Self
+    pub(crate) fn new(symbols: DecimalSymbols<'a>, affixes: SignAffixes, shift: i16) -> Self
         requires readable { IsReadable symbols }
         requires named { AreNamed symbols affixes }
-        ensures { result ≡ record { symbols = symbols.entry; affixes = affixes; shift = pos 0 } }
+        ensures { result ≡ record { symbols = symbols.entry; affixes = affixes; shift = shift } }
     {
         AffixReader {
             symbols,
             affixes,
-            shift: 0,
+            shift,
         }
-    }
-
-    /// Returns the reader that multiplies what it reads by 10^shift, and so undoes the scale of a formatter: by -2,
-    /// `12.5%` is 0.125.
-    pub fn with_shift(self, shift: i16) -> Self
-        ensures { result ≡ record self.entry { shift = shift } }
-    {
-        AffixReader { shift, ..self }
     }
 
     fn between<'t>(&self, sign: Sign, text: &'t [u8]) -> Option<&'t [u8]>
@@ -165,7 +115,7 @@ impl<'a> AffixReader<'a> {
     /// - `Syntax`: no decimal has this text, of any number of digits.
     /// - `Limit`: there are more than 32,768 integer or fraction digits, or the shift leaves these limits.
     /// - `Memory`: out of memory; possible only with more than `L` digits.
-    pub fn read<D: DigitStore>(
+    pub(crate) fn read<D: DigitStore>(
         &self,
         alloc: Global,
         text: &[u8],
@@ -199,7 +149,7 @@ impl<'a> AffixReader<'a> {
     /// # Errors
     ///
     /// As for [`read`](Self::read).
-    pub fn read_lenient<D: DigitStore>(
+    pub(crate) fn read_lenient<D: DigitStore>(
         &self,
         alloc: Global,
         alternatives: &[Alternative<'_>],

@@ -258,7 +258,7 @@ impl NumberFormatter {
         let Ok(affixes) = sign_affixes(&self.style, alloc) else {
             return Err(NumberReaderError::Memory);
         };
-        let reader = AffixReader::readable(self.style.symbols, affixes).with_shift(shift);
+        let reader = AffixReader::new(self.style.symbols, affixes, shift);
         Ok(NumberReader { reader, forms })
     }
 }

@@ -1,7 +1,7 @@
 //! The texts around numbers, by sign.
 ghost use Rattle.std.specs.Prelude.{◌≡◌, ◌↔◌, flat_map, IsTrue, IfOk};
 ghost use Rattle.decimal_format.specs.{Readable.IsReadable, Symbols.affixes};
-ghost use Rattle.number_format.specs.AffixedTexts.{by_sign, ArePrefixesApart, AreSuffixesApart, ArePairApart, AreNamed};
+ghost use Rattle.number_format.specs.AffixedTexts.{by_sign, ArePrefixesApart, AreSuffixesApart, ArePairApart};
 
 use crate::format::text_part::TextPart;
 use decimal_format::internal::{begins_with_digit, ends_with_digit};
@@ -61,7 +61,7 @@ impl OwnedAffixes {
 
 /// The texts before and after a number, by its sign.
 #[derive(Drop)]
-pub struct SignAffixes {
+pub(crate) struct SignAffixes {
     pub(crate) none: OwnedAffixes,
     pub(crate) negative: OwnedAffixes,
     pub(crate) positive: OwnedAffixes,
@@ -101,30 +101,7 @@ pub(crate) fn are_pair_apart(
 }
 
 impl SignAffixes {
-    /// Makes the affixes of the three signs: `none` are those of a number without a sign.
-    ///
-    /// # Errors
-    ///
-    /// Out of memory.
-    pub fn new(
-        alloc: Global,
-        none: Affixes<'_>,
-        negative: Affixes<'_>,
-        positive: Affixes<'_>,
-    ) -> Result<Self, AllocError>
-        ensures none { IfOk result (λ t. t.none ≡ affixes none.entry.prefix.now none.entry.suffix.now) }
-        ensures negative { IfOk result (λ t. t.negative ≡ affixes negative.entry.prefix.now negative.entry.suffix.now) }
-        ensures positive { IfOk result (λ t. t.positive ≡ affixes positive.entry.prefix.now positive.entry.suffix.now) }
-    {
-        Ok(SignAffixes {
-            none: OwnedAffixes::joined(alloc, &[none.prefix], &[none.suffix])?,
-            negative: OwnedAffixes::joined(alloc, &[negative.prefix], &[negative.suffix])?,
-            positive: OwnedAffixes::joined(alloc, &[positive.prefix], &[positive.suffix])?,
-        })
-    }
-
-    /// Returns the texts before and after a number with this sign.
-    pub fn of_sign(&self, sign: Sign) -> Affixes<'_>
+    pub(crate) fn of_sign(&self, sign: Sign) -> Affixes<'_>
         ensures prefix { result.prefix.now ≡ (by_sign self.now sign).prefix }
         ensures suffix { result.suffix.now ≡ (by_sign self.now sign).suffix }
     {
@@ -133,25 +110,5 @@ impl SignAffixes {
             Sign::Negative => self.negative.texts(),
             Sign::Positive => self.positive.texts(),
         }
-    }
-
-    fn is_pair_apart(&self, symbols: &DecimalSymbols<'_>, first: Sign, second: Sign) -> bool
-        requires { IsReadable symbols.now }
-        ensures { IsTrue result ↔ ArePairApart symbols.now (by_sign self.now first) (by_sign self.now second) }
-    {
-        are_pair_apart(symbols, self.of_sign(first), self.of_sign(second))
-    }
-
-    /// Returns whether the prefix before a number or the suffix after it names its sign, so that no text is that of
-    /// two decimals.
-    ///
-    /// This holds for percent and all currencies in all locales of CLDR. Requires readable symbols.
-    pub fn are_apart(&self, symbols: &DecimalSymbols<'_>) -> bool
-        requires { IsReadable symbols.now }
-        ensures { IsTrue result ↔ AreNamed symbols.now self.now }
-    {
-        self.is_pair_apart(symbols, Sign::None, Sign::Negative)
-            && self.is_pair_apart(symbols, Sign::None, Sign::Positive)
-            && self.is_pair_apart(symbols, Sign::Negative, Sign::Positive)
     }
 }
