@@ -219,7 +219,7 @@ impl Filter<'_> {
     /// Writes the text of the row that begins at the line with this number, and a line feed. If a field by
     /// name or one of several fails, `failed` becomes that field.
     #[inline(always)]
-    fn print_row<W: Sink>(
+    pub fn print_row<W: Sink>(
         &self,
         alloc: Global,
         number: u64,

@@ -57,3 +57,21 @@ returns-in_err-parse_formatter-in-Err-Memory-clause-err c =
         inr ((all_calls _ none).0, inl (failed.field-0.0, refl, failed.ensures.err)),
       );
     })
+
+pub returns-in-Err-Memory-clause-err : goal.returns-in-Err-Memory-clause-err
+returns-in-Err-Memory-clause-err c =
+    let parsed = c.in_ok-parse_formatter-in-Err-Memory in
+    let none = rw c.in-Err-Memory.field-0-is at c.in-Err-Memory.ensures.err in
+    let (all, some) = all_calls _ none in
+    record {
+      read = _;
+      others = _;
+      calls = _;
+      format = _;
+      first = c.split_read.ensures;
+      last = c.split_format.ensures;
+      holds = inr (
+        (c.in_ok-reader.reader, c.in_ok-reader.ensures.some),
+        inr (all, inr ((parsed.field-0, parsed.ensures.some), some, refl)),
+      );
+    }
