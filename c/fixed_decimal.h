@@ -14,8 +14,8 @@
  *   (FD_NONE will do), and the number is below 2^63.
  * - The buffer overlaps no other argument, and no other thread reads or writes it during the call; nor writes another.
  * - malloc, realloc and free are those of one allocator, and the call is not made in a signal handler, nor in the
- *   forked child of a process with threads. Values of up to 16 digits, in texts of up to 64 bytes and lists of up to
- *   eight calls, need no memory; fd_category allocates for its rules.
+ *   forked child of a process with threads. Values of up to 16 digits and lists of up to eight calls need no memory;
+ *   fd_category allocates for its rules.
  *
  * Texts need not be UTF-8 and do not end in a zero byte: neither those that are passed nor those that are written.
  *

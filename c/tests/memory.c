@@ -94,11 +94,11 @@ static uint32_t column(void) {
 static uint32_t short_run(void) {
     return fd_run(BYTES("-1234567.890123456"), calls + 1, 8, BYTES("5"), buffer, ROOM).status;
 }
-/* A text of 64 bytes. */
-static uint32_t longest_run(void) {
-    static const fd_call pad = {.kind = FD_PAD_END, .position = -62};
+/* A text of 200 bytes. */
+static uint32_t long_run(void) {
+    static const fd_call pad = {.kind = FD_PAD_END, .position = -198};
     fd_result r = fd_run(BYTES("1"), &pad, 1, BYTES(""), buffer, ROOM);
-    return r.count == 64 ? r.status : 97;
+    return r.count == 200 ? r.status : 97;
 }
 static uint32_t short_convert(void) {
     return fd_convert(BYTES("1.234,5"), &german, calls + 1, 8, BYTES("de"), buffer, ROOM).status;
@@ -139,7 +139,7 @@ int main(void) {
                 {"fd_format_number", format_number, 1}, {"fd_read_number", read_number, 1},
                 {"fd_skeleton", skeleton, 1},
                 {"fd_format_number, short", short_format_number, 0},
-                {"fd_run, short", short_run, 0}, {"fd_run, 64 bytes", longest_run, 0},
+                {"fd_run, short", short_run, 0}, {"fd_run, 200 bytes", long_run, 0},
                 {"fd_convert, short", short_convert, 0},
                 {"fd_format_by_skeleton, short", short_format_by_skeleton, 0},
                 {"fd_convert, number", short_numbered, 0},

@@ -140,7 +140,7 @@ static void test_long_texts(void) {
     fd_call trims[2] = {{.kind = FD_TRIM_START}, {.kind = FD_TRIM_END}};
     CHECK(gives(fd_run(big, r.count, trims, 2, FD_NONE(uint8_t), 0, b, 128), b, "1"));
     free(big);
-    for (size_t n = 55; n < 75; n++) { /* around the 64 bytes that need no memory */
+    for (size_t n = 55; n < 75; n++) { /* around the 64 digits that are written at a time */
         char text[81];
         memset(text, '7', n);
         text[n] = 0;

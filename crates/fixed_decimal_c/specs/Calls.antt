@@ -1,5 +1,6 @@
 -- Calls, as C passes them.
-use Rattle.std.specs.Prelude.{◌≡◌, ℕ, ℤ, pos, ◌+◌, ◌≤◌, ◌<◌, ⊤, List, [], ◌∷◌, length, take, drop, slice_get, codes, IsSomeAnd}
+use Rattle.std.specs.Prelude.{◌≡◌, ℕ, ℤ, pos, ◌+◌, ◌≤◌, ◌<◌, ⊤, List, [], ◌∷◌, length, take, drop, slice_get, codes, IsSomeAnd, Option, Some, None}
+use Rattle.std.specs.Global.{Vec}
 use Rattle.decimal_digits.specs.declared.rounding.UnsignedRoundingMode.TheVariants as unsigned
 use Rattle.fixed_decimal.specs.declared.rounding.SignedRoundingMode.{SignedRoundingMode}
 use Rattle.fixed_decimal.specs.declared.rounding.SignedRoundingMode.TheVariants as mode
@@ -68,6 +69,11 @@ abbrev pub AreCalls : List FdCall → List ℕ → List Call → Type 0
 AreCalls [] texts [] = ⊤
 AreCalls (c ∷ cs) texts (call ∷ calls) = IsCall c texts call × AreCalls cs texts calls
 AreCalls _ texts _ = ⊥
+
+-- the calls in memory, or else the others
+abbrev pub calls_in : Option (Vec Call) → List Call → List Call
+calls_in None short = short
+calls_in (Some long) short = long.items
 
 -- the error is that of the first call that C passes and that is none
 abbrev pub IsUnknown : FdError → List FdCall → List ℕ → Type 0

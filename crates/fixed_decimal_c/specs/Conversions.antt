@@ -1,5 +1,5 @@
 -- Conversions, whose text is written to the buffer of a caller.
-use Rattle.std.specs.Prelude.{◌≡◌, ℕ, ◌⊎◌, List, [], ◌++◌, length, Option, Result, Ok, Err}
+use Rattle.std.specs.Prelude.{◌≡◌, ℕ, ◌⊎◌, List, length, Option, None, Result, Ok}
 use Rattle.decimal_unsigned.specs.declared.decimal.TheConstants.{INLINE_DIGITS}
 use Rattle.decimal_unsigned.specs.declared.error.ParseError.{ParseError}
 use Rattle.fixed_decimal.specs.Decimal.{Decimal}
@@ -13,14 +13,13 @@ use Rattle.conversions.specs.declared.reader.LocaleReader.{LocaleReader}
 use Rattle.fixed_decimal_c.specs.declared.calls.FdCall.{FdCall}
 use Rattle.fixed_decimal_c.specs.declared.convert.Forms.{Forms}
 use Rattle.fixed_decimal_c.specs.declared.error.FdError.{FdError}
-use Rattle.fixed_decimal_c.specs.declared.error.FdError.TheVariants.{BufferTooSmall, Memory}
+use Rattle.fixed_decimal_c.specs.declared.forms.Format.TheVariants.{Own}
 use Rattle.fixed_decimal_c.specs.declared.forms.FdForms.{FdForms}
-use Rattle.fixed_decimal_c.specs.Calls.{AreCalls}
+use Rattle.fixed_decimal_c.specs.Calls.{AreCalls, DecodeFails}
 use Rattle.fixed_decimal_c.specs.Errors.{error_of_parsing, error_of_run}
 use Rattle.fixed_decimal_c.specs.Formats.{IsTextBy, FormatFails}
 use Rattle.fixed_decimal_c.specs.Forms.{IsReaderOf, ReaderFails, IsFormatOf, FormatFormFails}
-use Rattle.fixed_decimal_c.specs.Runs.{RunsNothing}
-use Rattle.fixed_decimal_c.specs.Texts.{IsWritten, IsTooLong, IsLongText}
+use Rattle.fixed_decimal_c.specs.Texts.{WritesNothing, WritesTo}
 
 -- the forms that C passes
 pub record AreForms (forms : FdForms) (texts : List ℕ) (f : Forms) : Type 0 where
@@ -53,31 +52,24 @@ ConversionFails f calls text error =
     ((e : ParseError) × (error ≡ error_of_parsing e 0) × ReadingByFails f.reader text e)
     ⊎ ((v : Decimal) × IsReadBy f.reader text (Ok v) × ChangesFail f calls v error)
 
--- P holds of the text that the conversion makes, and `end` after it
-abbrev pub HasText : Forms → List Call → List ℕ → List ℕ → (List ℕ → Type 0) → Type 0
-HasText f calls text end P = (written : List ℕ) × IsConverted f calls text written × P (written ++ end)
-
--- the conversion fails with the error; or it is out of memory for a long text
-abbrev pub ConvertErrs : Forms → List Call → List ℕ → List ℕ → FdError → Type 0
-ConvertErrs f calls text end Memory = ConversionFails f calls text Memory ⊎ HasText f calls text end IsLongText
-ConvertErrs f calls text end error = ConversionFails f calls text error
-
--- the text and `end` are written if they fit; or the conversion fails, and the buffer is as it was
-abbrev pub Converts : Forms → List Call → List ℕ → List ℕ → Result ℕ FdError → List ℕ → List ℕ → Type 0
-Converts f calls text end (Ok count) old new = HasText f calls text end (λ bytes. IsWritten bytes count old new)
-Converts f calls text end (Err (BufferTooSmall needed)) old new =
-    HasText f calls text end (λ bytes. IsTooLong bytes needed old new)
-Converts f calls text end (Err error) old new = ConvertErrs f calls text end error × (new ≡ old)
+-- the text is written if it fits; or the conversion fails
+abbrev pub Converts : Forms → List Call → List ℕ → Result ℕ FdError → List ℕ → List ℕ → Type 0
+Converts f calls text answer old new = WritesTo (IsConverted f calls text) (ConversionFails f calls text) answer old new
 
 -- the text is converted by the forms and the calls that C passes; or these are none
 abbrev pub ConvertsDecoded : Forms → Result ℕ FdError → List ℕ → List FdCall → List ℕ → List ℕ → List ℕ → Type 0
 ConvertsDecoded f answer text calls texts old new =
-    ((list : List Call) × AreCalls calls texts list × Converts f list text [] answer old new)
-    ⊎ RunsNothing answer calls texts old new
+    ((list : List Call) × AreCalls calls texts list × Converts f list text answer old new)
+    ⊎ WritesNothing (λ error. DecodeFails error calls texts) answer old new
 
--- the same by the forms that C passes; or there are no such forms, and the buffer is as it was
+-- the same by the forms that C passes; or there are no such forms
 abbrev pub ConvertsCalls :
     Result ℕ FdError → List ℕ → FdForms → List FdCall → List ℕ → List ℕ → List ℕ → Type 0
 ConvertsCalls answer text forms calls texts old new =
     ((f : Forms) × AreForms forms texts f × ConvertsDecoded f answer text calls texts old new)
-    ⊎ ((error : FdError) × (answer ≡ Err error) × FormsFail error forms texts × (new ≡ old))
+    ⊎ WritesNothing (λ error. FormsFail error forms texts) answer old new
+
+-- the same where the text and the result are a decimal's own
+abbrev pub Runs : Result ℕ FdError → List ℕ → List FdCall → List ℕ → List ℕ → List ℕ → Type 0
+Runs answer start calls texts old new =
+    ConvertsDecoded (record { reader = None; format = Own }) answer start calls texts old new

@@ -5,7 +5,7 @@ use Rattle.fixed_decimal_c.specs.declared.answer.FdResult.{FdResult}
 use Rattle.fixed_decimal_c.specs.declared.answer.FdNumber.{FdNumber}
 use Rattle.fixed_decimal_c.specs.declared.answer.FdUnsigned.{FdUnsigned}
 use Rattle.fixed_decimal_c.specs.declared.answer.FdColumn.{FdColumn}
-use Rattle.fixed_decimal_c.specs.declared.lines.Progress.{Progress}
+use Rattle.fixed_decimal_c.specs.declared.answer.Progress.{Progress}
 use Rattle.fixed_decimal_c.specs.Errors.{status_of, place_of, needed_of}
 
 -- an answer that is a text, with the number of its bytes

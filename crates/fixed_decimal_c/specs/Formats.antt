@@ -1,18 +1,18 @@
 -- Decimals, written to a buffer as a form has them.
-use Rattle.std.specs.Prelude.{◌≡◌, ℕ, ◌⊎◌, List, [], ◌++◌, None, Result, Ok, Err}
+use Rattle.std.specs.Prelude.{◌≡◌, ℕ, ◌⊎◌, List, None, Result, Ok, Err}
 use Rattle.fixed_decimal.specs.Decimal.{Decimal}
 use Rattle.fixed_decimal.specs.DecimalText.{decimal_text, read_decimal}
 use Rattle.decimal_format.specs.Formatted.{formatted}
 use Rattle.number_format.specs.declared.format.formatter.NumberFormatter.{NumberFormatter}
 use Rattle.number_format.specs.NumberText.{shown_number, IsNumberText, FormattingNeedsMemory}
 use Rattle.fixed_decimal_c.specs.declared.error.FdError.{FdError}
-use Rattle.fixed_decimal_c.specs.declared.error.FdError.TheVariants.{Memory, Overflow, BufferTooSmall}
+use Rattle.fixed_decimal_c.specs.declared.error.FdError.TheVariants.{Memory, Overflow}
 use Rattle.fixed_decimal_c.specs.declared.forms.Format.{Format}
 use Rattle.fixed_decimal_c.specs.declared.number_options.FdNumberOptions.{FdNumberOptions}
 use Rattle.fixed_decimal_c.specs.declared.forms.Format.TheVariants.{Own, Symbols, Skeleton}
 use Rattle.fixed_decimal_c.specs.Numbers.{ParsingFails}
 use Rattle.fixed_decimal_c.specs.NumberTexts.{IsMade, IsMadeBySkeleton}
-use Rattle.fixed_decimal_c.specs.Texts.{IsWritten, IsTooLong, IsLongText}
+use Rattle.fixed_decimal_c.specs.Texts.{WritesNothing, WritesTo}
 
 -- the text of a decimal by a formatter, or its own
 abbrev pub IsTextBy : Format → Decimal → List ℕ → Type 0
@@ -20,31 +20,21 @@ IsTextBy Own v text = text ≡ decimal_text v
 IsTextBy (Symbols f) v text = text ≡ formatted f.symbols f.strategy v
 IsTextBy (Skeleton f) v text = IsNumberText f v text
 
--- P holds of that text, and `end` after it
-abbrev pub HasTextBy : Format → Decimal → List ℕ → (List ℕ → Type 0) → Type 0
-HasTextBy format v end P = (text : List ℕ) × IsTextBy format v text × P (text ++ end)
-
 -- formatting a number fails: it is shown beyond the limits, after `at` calls; or out of memory, where it needs it
 abbrev pub FormatFails : Format → Decimal → ℕ → FdError → Type 0
 FormatFails (Skeleton f) v at Memory = FormattingNeedsMemory f v
 FormatFails (Skeleton f) v at (Overflow place) = (place ≡ at) × (shown_number f v ≡ None)
 FormatFails format v at error = ⊥
 
--- that text and `end` are written if they fit; or formatting fails, or out of memory for a long text, and the buffer is
--- as it was
-abbrev pub WritesBy : Format → Decimal → ℕ → List ℕ → Result ℕ FdError → List ℕ → List ℕ → Type 0
-WritesBy format v at end (Ok count) old new = HasTextBy format v end (λ bytes. IsWritten bytes count old new)
-WritesBy format v at end (Err (BufferTooSmall needed)) old new =
-    HasTextBy format v end (λ bytes. IsTooLong bytes needed old new)
-WritesBy format v at end (Err Memory) old new =
-    (FormatFails format v at Memory ⊎ HasTextBy format v end IsLongText) × (new ≡ old)
-WritesBy format v at end (Err error) old new = FormatFails format v at error × (new ≡ old)
+-- that text is written if it fits; or formatting fails
+abbrev pub WritesBy : Format → Decimal → ℕ → Result ℕ FdError → List ℕ → List ℕ → Type 0
+WritesBy format v at answer old new = WritesTo (IsTextBy format v) (FormatFails format v at) answer old new
 
 -- the decimal that a text is is written by a formatter; or it is none, and the buffer is as it was
 abbrev pub FormatsText : NumberFormatter → Result ℕ FdError → List ℕ → List ℕ → List ℕ → Type 0
 FormatsText f answer text old new =
-    ((v : Decimal) × (read_decimal text ≡ Ok v) × WritesBy (Skeleton f) v 0 [] answer old new)
-    ⊎ ((error : FdError) × (answer ≡ Err error) × ParsingFails error text 0 × (new ≡ old))
+    ((v : Decimal) × (read_decimal text ≡ Ok v) × WritesBy (Skeleton f) v 0 answer old new)
+    ⊎ WritesNothing (λ error. ParsingFails error text 0) answer old new
 
 -- the same, if there is a formatter; or its error is the answer, and the buffer is as it was
 abbrev pub FormatsIfMade : Result NumberFormatter FdError → Result ℕ FdError → List ℕ → List ℕ → List ℕ → Type 0

@@ -2,7 +2,6 @@ pub mod Errors
 pub mod Encodings
 pub mod Texts
 pub mod Calls
-pub mod Runs
 pub mod Locales
 pub mod Numbers
 pub mod NumberOptions

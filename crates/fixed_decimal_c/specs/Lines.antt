@@ -6,12 +6,12 @@ use Rattle.fixed_decimal_c.specs.declared.answer.FdColumn.{FdColumn}
 use Rattle.fixed_decimal_c.specs.declared.calls.FdCall.{FdCall}
 use Rattle.fixed_decimal_c.specs.declared.convert.Forms.{Forms}
 use Rattle.fixed_decimal_c.specs.declared.forms.FdForms.{FdForms}
-use Rattle.fixed_decimal_c.specs.declared.lines.Progress.{Progress}
+use Rattle.fixed_decimal_c.specs.declared.answer.Progress.{Progress}
 use Rattle.fixed_decimal_c.specs.declared.error.FdError.{FdError}
 use Rattle.fixed_decimal_c.specs.declared.error.FdError.TheVariants.{BufferTooSmall, Memory}
 use Rattle.fixed_decimal_c.specs.Calls.{AreCalls, DecodeFails}
 use Rattle.fixed_decimal_c.specs.Encodings.{fd_column}
-use Rattle.fixed_decimal_c.specs.Conversions.{IsConverted, ConversionFails, ConvertErrs, AreForms, FormsFail}
+use Rattle.fixed_decimal_c.specs.Conversions.{IsConverted, ConversionFails, AreForms, FormsFail}
 use Rattle.fixed_decimal_c.specs.Texts.{IsWritten}
 
 -- a line has this result: its text; or, where lines that fail are skipped, the error of reading it or of a call
@@ -41,13 +41,17 @@ pub record IsLineWritten
     pub fails : failed ≡ count_by is_err (result ∷ [])
     pub written : IsWritten (output_of_line result) count old new
 
--- a line ends the column with the error: its output does not fit the room that is left; or out of memory for it; or it
--- fails, and such lines are not skipped
-abbrev pub LineStops : Forms → List Call → Bool → List ℕ → List ℕ → FdError → Type 0
-LineStops f calls skip line room (BufferTooSmall needed) =
+-- the output of a line does not fit the room that is left
+abbrev pub IsLineTooLong : Forms → List Call → Bool → List ℕ → List ℕ → Type 0
+IsLineTooLong f calls skip line room =
     (result : Result (List ℕ) FdError) × IsLineResult f calls skip line result
-    × (needed ≡ length (output_of_line result)) × (length room < needed)
-LineStops f calls skip line room Memory = ConvertErrs f calls line (10 ∷ []) Memory
+    × (length room < length (output_of_line result))
+
+-- a line ends the column with the error: its output does not fit; or it fails, and such lines are not skipped, or it is
+-- out of memory
+abbrev pub LineStops : Forms → List Call → Bool → List ℕ → List ℕ → FdError → Type 0
+LineStops f calls skip line room (BufferTooSmall needed) = IsLineTooLong f calls skip line room
+LineStops f calls skip line room Memory = ConversionFails f calls line Memory
 LineStops f calls skip line room error = (skip ≡ false) × ConversionFails f calls line error
 
 -- the first lines of the input were converted, and their output was written

@@ -15,7 +15,7 @@ use Rattle.fixed_decimal_c.specs.declared.number_options.FdNumberOptions.{FdNumb
 use Rattle.fixed_decimal_c.specs.declared.error.FdError.TheVariants.{Memory, UnreadableFormat}
 use Rattle.fixed_decimal_c.specs.Errors.{error_of_parsing}
 use Rattle.fixed_decimal_c.specs.NumberTexts.{IsMade, IsMadeBySkeleton}
-use Rattle.fixed_decimal_c.specs.Texts.{Writes}
+use Rattle.fixed_decimal_c.specs.Texts.{Writes, WritesNothing}
 
 abbrev pub error_of_reader : NumberReaderError → FdError
 error_of_reader made.Memory = Memory
@@ -40,7 +40,7 @@ abbrev pub ReadsText : NumberFormatter → Bool → Result ℕ FdError → List 
 ReadsText f lenient answer text old new =
     ((read : Result Decimal ParseError) × CanRead f
     × IsReadInMode INLINE_DIGITS (parse_mode lenient) (number_reader_of f) text read × WritesRead read answer old new)
-    ⊎ ((error : FdError) × (answer ≡ Err error) × HasNoReader error f × (new ≡ old))
+    ⊎ WritesNothing (λ error. HasNoReader error f) answer old new
 
 -- the same, if there is a formatter; or its error is the answer, and the buffer is as it was
 abbrev pub ReadsIfMade :

@@ -1,5 +1,5 @@
 -- The formatter of a tag and a number skeleton, or of options.
-use Rattle.std.specs.Prelude.{◌≡◌, ℕ, ◌⊎◌, List, Result, Ok, Err}
+use Rattle.std.specs.Prelude.{◌≡◌, ℕ, ◌⊎◌, false, List, Result, Ok, Err}
 use Rattle.std.specs.Str.{IsUtf8, IsValidUpTo}
 use Rattle.decimal_digits.specs.declared.rounding.RoundError.{RoundError}
 use Rattle.decimal_digits.specs.declared.rounding.RoundError.TheVariants as round
@@ -10,11 +10,12 @@ use Rattle.number_format.specs.declared.options.NumberOptions.{NumberOptions}
 use Rattle.number_skeleton.specs.declared.error.SkeletonError.{SkeletonError}
 use Rattle.number_skeleton.specs.declared.error.SkeletonError.TheVariants as read
 use Rattle.number_format.specs.Formatters.{IsFormatter, IsFormatterError}
+use Rattle.number_skeleton.specs.NoStem.{has_no_stem}
 use Rattle.number_skeleton.specs.Meaning.{skeleton_options, options_value, in_capitals}
 use Rattle.fixed_decimal_c.specs.declared.error.FdError.{FdError}
 use Rattle.fixed_decimal_c.specs.declared.number_options.FdNumberOptions.{FdNumberOptions}
 use Rattle.fixed_decimal_c.specs.NumberOptions.{AreNumberOptions, NumberOptionsFail}
-use Rattle.fixed_decimal_c.specs.Texts.{Delivers}
+use Rattle.fixed_decimal_c.specs.Texts.{Writes, WritesNothing}
 use Rattle.fixed_decimal_c.specs.declared.error.FdError.TheVariants.{Memory, Overflow, UnknownLocale, SkeletonSyntax, SkeletonUnsupported, UnknownNumberingSystem, NoSkeleton}
 
 abbrev pub error_of_skeleton : SkeletonError → FdError
@@ -80,16 +81,19 @@ abbrev pub IsMadeBySkeleton : Result NumberFormatter FdError → List ℕ → Li
 IsMadeBySkeleton (Ok f) tag skeleton = IsFormatterFor tag skeleton f
 IsMadeBySkeleton (Err error) tag skeleton = FormatterFails error tag skeleton
 
--- C passes no options, or it is out of memory, or the options have no skeleton
+-- no option is one that no stem of a skeleton names
+abbrev pub HasStems : NumberOptions → Type 0
+HasStems o = has_no_stem (options_value (in_capitals o)) ≡ false
+
+-- C passes no options; or they have no skeleton; or out of memory, where each option has a stem
 abbrev pub SkeletonTextFails : FdError → FdNumberOptions → Type 0
 SkeletonTextFails error c =
     NumberOptionsFail error c
-    ⊎ ((o : NumberOptions) × AreNumberOptions c o × ((error ≡ Memory) ⊎ (error ≡ NoSkeleton)))
+    ⊎ ((o : NumberOptions) × AreNumberOptions c o × ((error ≡ NoSkeleton) ⊎ ((error ≡ Memory) × HasStems o)))
 
--- a skeleton that reads as the options that C passes is written if it fits; or there is none, and the buffer is as it
--- was
+-- a skeleton that reads as the options that C passes is written if it fits; or there is none
 abbrev pub WritesSkeleton : Result ℕ FdError → FdNumberOptions → List ℕ → List ℕ → Type 0
 WritesSkeleton answer c old new =
-    ((o : NumberOptions) × AreNumberOptions c o × (text : List ℕ)
-    × (skeleton_options text ≡ Ok (options_value (in_capitals o))) × Delivers answer text old new)
-    ⊎ ((error : FdError) × (answer ≡ Err error) × SkeletonTextFails error c × (new ≡ old))
+    ((o : NumberOptions) × AreNumberOptions c o × HasStems o × (text : List ℕ)
+    × (skeleton_options text ≡ Ok (options_value (in_capitals o))) × Writes answer text old new)
+    ⊎ WritesNothing (λ error. SkeletonTextFails error c) answer old new

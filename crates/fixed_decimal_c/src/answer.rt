@@ -3,7 +3,27 @@ ghost use Rattle.std.specs.Prelude.{◌≡◌};
 ghost use Rattle.fixed_decimal_c.specs.Encodings.{fd_result, fd_number, fd_unsigned, fd_column};
 
 use crate::error::FdError;
-use crate::lines::Progress;
+
+/// How far a column has come.
+#[derive(Clone, Copy)]
+pub struct Progress {
+    /// The number of lines that were converted.
+    pub lines: usize,
+    /// The number of bytes of these lines, with their line feeds.
+    pub read: usize,
+    /// The number of bytes that were written.
+    pub written: usize,
+    /// The number of lines that have no text.
+    pub failed: usize,
+}
+
+/// No line.
+pub(crate) const NO_LINE: Progress = Progress {
+    lines: 0,
+    read: 0,
+    written: 0,
+    failed: 0,
+};
 
 /// An answer that is a text in a buffer.
 #[repr(C)]

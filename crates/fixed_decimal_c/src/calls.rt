@@ -5,11 +5,9 @@ ghost use Rattle.fixed_decimal.specs.declared.rounding.SignedRoundingMode.{Signe
 ghost use Rattle.decimal_digits.specs.declared.rounding.RoundingIncrement.{RoundingIncrement};
 ghost use Rattle.fixed_decimal.specs.declared.variations.Sign.{Sign};
 ghost use Rattle.fixed_decimal.specs.declared.variations.SignDisplay.{SignDisplay};
-ghost use Rattle.fixed_decimal_c.specs.Calls.{mode_code, increment_code, sign_code, display_code, IsPart, IsCall, AreCalls, IsUnknown, DecodeFails, positioned, optional, fd_call_of};
-ghost use Rattle.fixed_decimal_c.specs.Runs.{Runs};
+ghost use Rattle.fixed_decimal_c.specs.Calls.{mode_code, increment_code, sign_code, display_code, IsPart, IsCall, AreCalls, calls_in, IsUnknown, DecodeFails, positioned, optional, fd_call_of};
 
 use crate::error::FdError;
-use crate::texts::run_into;
 use fixed_decimal::{
     Call, RoundingIncrement, Sign, SignDisplay, SignedRoundingMode, UnsignedRoundingMode,
 };
@@ -251,7 +249,7 @@ pub(crate) fn encode_call(call: Call) -> FdCall
 }
 
 /// Decodes up to eight calls, into the first of a list.
-pub(crate) fn decode_short<'t>(
+fn decode_short<'t>(
     calls: &[FdCall],
     texts: &'t [u8],
     list: &mut [Call<'t>; INLINE_CALLS],
@@ -270,8 +268,8 @@ pub(crate) fn decode_short<'t>(
     Ok(())
 }
 
-/// Decodes calls into a list in memory.
-pub(crate) fn decode_long<'t>(
+/// Decodes more than eight calls.
+fn decode_long<'t>(
     alloc: Global,
     calls: &[FdCall],
     texts: &'t [u8],
@@ -292,25 +290,40 @@ pub(crate) fn decode_long<'t>(
     Ok(list)
 }
 
-/// Makes the calls that C passes on the decimal that a text writes, and writes the text of the result.
-pub(crate) fn run_calls(
+/// Decodes the calls that C passes: up to eight into the first of a list, and more into a list in memory.
+pub(crate) fn decode_calls<'t>(
     alloc: Global,
-    start: &[u8],
     calls: &[FdCall],
-    texts: &[u8],
-    buffer: &mut [u8],
-) -> Result<usize, FdError>
-    ensures { Runs result start.now calls.now texts.now buffer.old buffer.new }
+    texts: &'t [u8],
+    short: &mut [Call<'t>; INLINE_CALLS],
+) -> Result<Option<Vec<Call<'t>>>, FdError>
+    ensures ok { IfOk result
+        (λ long. AreCalls calls.now texts.now (calls_in long (take (length calls.now) short.new))) }
+    ensures room { length short.new ≡ 8 }
+    ensures err { IfErr result (λ error. DecodeFails error calls.now texts.now) }
 {
-    if calls.len() <= INLINE_CALLS {
-        let mut list = [Call::TrimStart; INLINE_CALLS];
-        return match decode_short(calls, texts, &mut list) {
-            Ok(()) => run_into(alloc, start, &list[..calls.len()], buffer),
+    if calls.len() > INLINE_CALLS {
+        return match decode_long(alloc, calls, texts) {
+            Ok(list) => Ok(Some(list)),
             Err(error) => Err(error),
         };
     }
-    match decode_long(alloc, calls, texts) {
-        Ok(list) => run_into(alloc, start, list.as_slice(), buffer),
+    match decode_short(calls, texts, short) {
+        Ok(()) => Ok(None),
         Err(error) => Err(error),
+    }
+}
+
+/// Returns the calls in memory, or else the first of the others.
+pub(crate) fn calls_in<'l, 't>(
+    long: &'l Option<Vec<Call<'t>>>,
+    short: &'l [Call<'t>],
+    count: usize,
+) -> &'l [Call<'t>]
+    ensures { result.now ≡ calls_in long.now (take count short.now) }
+{
+    match long {
+        Some(calls) => calls.as_slice(),
+        None => &short[..count.min(short.len())],
     }
 }

@@ -2,12 +2,12 @@
 ghost use Rattle.std.specs.Prelude.{◌≡◌, Ok, IfOk, IfErr};
 ghost use Rattle.conversions.specs.Conversion.{IsReadBy, ReadingByFails};
 ghost use Rattle.fixed_decimal_c.specs.Formats.{WritesBy};
-ghost use Rattle.fixed_decimal_c.specs.Conversions.{AreForms, FormsFail, Converts, ConvertsDecoded, ConvertsCalls};
+ghost use Rattle.fixed_decimal_c.specs.Conversions.{AreForms, FormsFail, Converts, ConvertsDecoded, ConvertsCalls, Runs};
 
-use crate::calls::{FdCall, INLINE_CALLS, decode_long, decode_short};
+use crate::calls::{FdCall, INLINE_CALLS, calls_in, decode_calls};
 use crate::error::{FdError, error_of_parsing, error_of_run};
 use crate::forms::{FdForms, Format, formatter, reader};
-use crate::number_text::write_number;
+use crate::format::write_number;
 use crate::texts::write_value;
 use conversions::LocaleReader;
 use fixed_decimal::{Call, Decimal, ParseError, RunError, apply_calls};
@@ -53,39 +53,32 @@ impl Forms {
         }
     }
 
-    /// Writes a decimal after `at` calls, and some bytes after it.
+    /// Writes a decimal after `at` calls.
     fn write(
         &self,
         alloc: Global,
         value: Decimal,
         at: usize,
-        end: &[u8],
         buffer: &mut [u8],
     ) -> Result<usize, FdError>
-        ensures { WritesBy self.now.format value at end.now result buffer.old buffer.new }
+        ensures { WritesBy self.now.format value at result buffer.old buffer.new }
     {
         match &self.format {
-            Format::Own => write_value(alloc, &value, end, buffer),
-            Format::Symbols(formatter) => write_value(
-                alloc,
-                &formatter.format(&value),
-                end,
-                buffer,
-            ),
-            Format::Skeleton(formatter) => write_number(alloc, formatter, value, at, end, buffer),
+            Format::Own => write_value(&value, buffer),
+            Format::Symbols(formatter) => write_value(&formatter.format(&value), buffer),
+            Format::Skeleton(formatter) => write_number(alloc, formatter, value, at, buffer),
         }
     }
 
-    /// Converts a text, and writes the result, and some bytes after it.
+    /// Converts a text, and writes the result.
     pub(crate) fn convert(
         &self,
         alloc: Global,
         text: &[u8],
         calls: &[Call<'_>],
-        end: &[u8],
         buffer: &mut [u8],
     ) -> Result<usize, FdError>
-        ensures { Converts self.now calls.now text.now end.now result buffer.old buffer.new }
+        ensures { Converts self.now calls.now text.now result buffer.old buffer.new }
     {
         let mut value = match self.read(alloc, text) {
             Ok(value) => value,
@@ -94,7 +87,7 @@ impl Forms {
         if let Err(error) = apply_calls(alloc, &mut value, calls) {
             return Err(error_of_run(RunError::from(error)));
         }
-        self.write(alloc, value, calls.len(), end, buffer)
+        self.write(alloc, value, calls.len(), buffer)
     }
 
     /// Converts a text, with the calls that C passes.
@@ -108,18 +101,30 @@ impl Forms {
     ) -> Result<usize, FdError>
         ensures { ConvertsDecoded self.now result text.now calls.now texts.now buffer.old buffer.new }
     {
-        if calls.len() <= INLINE_CALLS {
-            let mut list = [Call::TrimStart; INLINE_CALLS];
-            return match decode_short(calls, texts, &mut list) {
-                Ok(()) => self.convert(alloc, text, &list[..calls.len()], &[], buffer),
-                Err(error) => Err(error),
-            };
-        }
-        match decode_long(alloc, calls, texts) {
-            Ok(list) => self.convert(alloc, text, list.as_slice(), &[], buffer),
-            Err(error) => Err(error),
+        let mut short = [Call::TrimStart; INLINE_CALLS];
+        let decoded = decode_calls(alloc, calls, texts, &mut short);
+        match &decoded {
+            Ok(long) => self.convert(alloc, text, calls_in(long, &short, calls.len()), buffer),
+            Err(error) => Err(*error),
         }
     }
+}
+
+/// Makes the calls that C passes on the decimal that a text writes, and writes the text of the result.
+pub(crate) fn run(
+    alloc: Global,
+    start: &[u8],
+    calls: &[FdCall],
+    texts: &[u8],
+    buffer: &mut [u8],
+) -> Result<usize, FdError>
+    ensures { Runs result start.now calls.now texts.now buffer.old buffer.new }
+{
+    let forms = Forms {
+        reader: None,
+        format: Format::Own,
+    };
+    forms.convert_decoded(alloc, start, calls, texts, buffer)
 }
 
 /// Reads a text in one form, makes the calls that C passes, and writes the text of the result in another form.

@@ -11,34 +11,34 @@ ghost use Rattle.fixed_decimal_c.specs.declared.calls.FdCall.{FdCall};
 ghost use Rattle.fixed_decimal_c.specs.declared.words.FdWord.{FdWord};
 
 /// A part of a word is a part of words that are placed one after another: its start counts the bytes before the word.
-#[tactic(auto, using(crate::proofs::JoinedWords::part_of_joined))]
+#[tactic(auto, using(crate::proofs::lemmas::words::JoinedWords::part_of_joined))]
 pub fn part_of_joined_words()
     ensures { (before word after : List ℕ) (start count : ℕ) (t : List ℕ) → IsPart word start count t
         → IsPart (before ++ (word ++ after)) (length before + start) count t }
 {}
 
 /// Over words that are placed one after another, the call of a word decodes to the same call.
-#[tactic(auto, using(crate::proofs::JoinedWords::call_of_joined))]
+#[tactic(auto, using(crate::proofs::lemmas::words::JoinedWords::call_of_joined))]
 pub fn call_of_joined_words()
     ensures { (before word after : List ℕ) (c : FdCall) (call : Call) → IsCall c word call
         → IsCall (moved_call (length before) c) (before ++ (word ++ after)) call }
 {}
 
 /// A word that names a call is received as a call.
-#[tactic(auto, using(crate::proofs::KindsOfWords::call_is_received))]
+#[tactic(auto, using(crate::proofs::lemmas::words::KindsOfWords::call_is_received))]
 pub fn calls_are_received()
     ensures { (word : List ℕ) (w : FdWord) (call : Call) → IsUtf8 word → Names word call → IsWord word w
         → IsCallAnswer word w }
 {}
 
 /// `read:..` is received as `read:..`.
-#[tactic(auto, using(crate::proofs::KindsOfWords::read_is_received))]
+#[tactic(auto, using(crate::proofs::lemmas::words::KindsOfWords::read_is_received))]
 pub fn readers_are_received()
     ensures { (word : List ℕ) (w : FdWord) → IsUtf8 word → IsReadWord word → IsWord word w → IsReadAnswer word w }
 {}
 
 /// `format:..` is received as `format:..`.
-#[tactic(auto, using(crate::proofs::KindsOfWords::format_is_received))]
+#[tactic(auto, using(crate::proofs::lemmas::words::KindsOfWords::format_is_received))]
 pub fn formats_are_received()
     ensures { (word : List ℕ) (w : FdWord) → IsUtf8 word → IsFormatWord word → IsWord word w → IsFormatAnswer word w }
 {}

@@ -6,8 +6,7 @@
 
 ghost use Rattle.std.specs.Prelude.{◌≡◌, nat_lt};
 ghost use Rattle.fixed_decimal_c.specs.Encodings.{Encodes, EncodesNumber, EncodesUnsigned};
-ghost use Rattle.fixed_decimal_c.specs.Runs.{Runs};
-ghost use Rattle.fixed_decimal_c.specs.Conversions.{ConvertsCalls};
+ghost use Rattle.fixed_decimal_c.specs.Conversions.{Runs, ConvertsCalls};
 ghost use Rattle.fixed_decimal_c.specs.Lines.{ConvertsColumn};
 ghost use Rattle.fixed_decimal_c.specs.Numbers.{Compares, Equates, HasSign, HasI64, HasU64};
 ghost use Rattle.fixed_decimal_c.specs.Locales.{IsLocaleNumber, IsRulesNumber, IsNamedRulesNumber};
@@ -18,37 +17,35 @@ ghost use Rattle.fixed_decimal_c.specs.NumberTexts.{WritesSkeleton};
 ghost use Rattle.fixed_decimal_c.specs.Words.{IsWord};
 
 mod answer;
-mod block;
 mod calls;
 mod categories;
 mod convert;
 mod error;
+mod format;
 mod forms;
 pub mod laws;
 mod lines;
 mod locales;
 mod number_options;
-mod number_reading;
-mod number_text;
 mod numbers;
+mod read;
+mod slice_sink;
 mod texts;
 mod words;
 
-pub use answer::{FdColumn, FdNumber, FdResult, FdUnsigned};
+pub use answer::{FdColumn, FdNumber, FdResult, FdUnsigned, Progress};
 use answer::{encode, encode_number, encode_unsigned};
 pub use calls::FdCall;
-use calls::run_calls;
 use categories::{category_by, category_of};
-use convert::convert;
+use convert::{convert, run};
 pub use error::FdError;
+use format::{format_number, formatter_by_options, formatter_by_skeleton, write_skeleton};
 pub use forms::{FdForm, FdForms};
-pub use lines::Progress;
 use lines::convert_column;
 use locales::{number_of_locale, number_of_named_rules, number_of_plural_rules};
 pub use number_options::FdNumberOptions;
-use number_reading::read_number;
-use number_text::{format_number, formatter_by_options, formatter_by_skeleton, write_skeleton};
 use numbers::{compare_texts, equal_texts, sign_of, to_i64, to_u64};
+use read::read_number;
 use std::alloc::Global;
 pub use words::FdWord;
 use words::parse_word;
@@ -72,7 +69,7 @@ pub fn fd_run(
 ) -> FdResult
     ensures { Encodes result (λ answer. Runs answer start.now calls.now texts.now buffer.old buffer.new) }
 {
-    encode(run_calls(alloc, start, calls, texts, buffer))
+    encode(run(alloc, start, calls, texts, buffer))
 }
 
 /// Reads a text in one form, makes calls in order on its decimal, and writes the text of the result in another form.

@@ -1,38 +1,16 @@
 //! A column: each line of a text is converted, in one call.
-ghost use Rattle.std.specs.Prelude.{◌≡◌, ◌<◌, ◌≤◌, [], ◌∷◌, length, take, drop, IfOk, IfErr, OnErr};
+ghost use Rattle.std.specs.Prelude.{◌≡◌, ◌+◌, ◌<◌, ◌≤◌, ◌∷◌, length, take, drop, slice_set, IfOk, IfErr, OnOk, OnErr};
 ghost use Rattle.conversions.specs.Lines.{lines_of};
-ghost use Rattle.fixed_decimal_c.specs.Texts.{IsWritten};
 ghost use Rattle.fixed_decimal_c.specs.Lines.{IsLineWritten, LineStops, ConvertsLines, ConvertsColumnBy, ConvertsColumn};
 
-use crate::answer::{FdColumn, encode_column};
-use crate::calls::{FdCall, INLINE_CALLS, decode_long, decode_short};
+use crate::answer::{FdColumn, NO_LINE, Progress, encode_column};
+use crate::calls::{FdCall, INLINE_CALLS, calls_in, decode_calls};
 use crate::convert::Forms;
 use crate::error::FdError;
 use crate::forms::FdForms;
 use fixed_decimal::Call;
 use memchr::memchr;
 use std::alloc::Global;
-
-/// How far a column has come.
-#[derive(Clone, Copy)]
-pub struct Progress {
-    /// The number of lines that were converted.
-    pub lines: usize,
-    /// The number of bytes of these lines, with their line feeds.
-    pub read: usize,
-    /// The number of bytes that were written.
-    pub written: usize,
-    /// The number of lines that have no text.
-    pub failed: usize,
-}
-
-/// No line.
-const NONE: Progress = Progress {
-    lines: 0,
-    read: 0,
-    written: 0,
-    failed: 0,
-};
 
 /// The first line of some bytes.
 #[derive(Clone, Copy)]
@@ -71,20 +49,22 @@ struct LineOutput {
     failed: usize,
 }
 
-fn skip_line(buffer: &mut [u8]) -> Result<LineOutput, FdError>
-    ensures ok { IfOk result (λ out. IsWritten (10 ∷ []) out.count buffer.old buffer.new) }
-    ensures failed { IfOk result (λ out. out.failed ≡ 1) }
-    ensures err { IfErr result (λ error. error ≡ FdError.BufferTooSmall 1) }
-    ensures full { OnErr result (length buffer.old < 1) }
+/// Writes the line feed after the text of a line, if it fits.
+fn end_line(count: usize, failed: usize, buffer: &mut [u8]) -> Result<LineOutput, FdError>
+    requires { count ≤ length buffer.old }
+    ensures ok { OnOk result ((count < length buffer.old) × (buffer.new ≡ slice_set buffer.old count 10)) }
+    ensures output { IfOk result (λ out. (out.count ≡ count + 1) × (out.failed ≡ failed)) }
+    ensures err { IfErr result (λ error. error ≡ FdError.BufferTooSmall (count + 1)) }
+    ensures full { OnErr result (length buffer.old ≤ count) }
     ensures unchanged { OnErr result (buffer.new ≡ buffer.old) }
 {
-    if buffer.is_empty() {
-        return Err(FdError::BufferTooSmall { needed: 1 });
+    if count >= buffer.len() {
+        return Err(FdError::BufferTooSmall { needed: count + 1 });
     }
-    buffer[0] = b'\n';
+    buffer[count] = b'\n';
     Ok(LineOutput {
-        count: 1,
-        failed: 1,
+        count: count + 1,
+        failed,
     })
 }
 
@@ -104,10 +84,9 @@ impl Forms {
         ensures err { IfErr result (LineStops self.now calls.now skip line.now buffer.old) }
         ensures unchanged { OnErr result (buffer.new ≡ buffer.old) }
     {
-        let error = match self.convert(alloc, line, calls, b"\n", buffer) {
-            Ok(count) => {
-                return Ok(LineOutput { count, failed: 0 });
-            }
+        let room = buffer.len().saturating_sub(1);
+        let error = match self.convert(alloc, line, calls, &mut buffer[..room]) {
+            Ok(count) => return end_line(count, 0, buffer),
             Err(error) => error,
         };
         if !skip {
@@ -116,7 +95,7 @@ impl Forms {
         if !error.is_of_line() {
             return Err(error);
         }
-        skip_line(buffer)
+        end_line(0, 1, buffer)
     }
 
     /// Converts lines up to the one that ends the column.
@@ -130,7 +109,7 @@ impl Forms {
     ) -> (Progress, Result<(), FdError>)
         ensures { ConvertsLines self.now calls.now skip input.now result.0 result.1 buffer.old buffer.new }
     {
-        let mut done = NONE;
+        let mut done = NO_LINE;
         while done.read < input.len() {
             let rest = &input[done.read..];
             let first = first_line(rest);
@@ -161,27 +140,15 @@ impl Forms {
     ) -> FdColumn
         ensures { ConvertsColumnBy self.now result input.now skip calls.now texts.now buffer.old buffer.new }
     {
-        if calls.len() <= INLINE_CALLS {
-            let mut list = [Call::TrimStart; INLINE_CALLS];
-            if let Err(error) = decode_short(calls, texts, &mut list) {
-                return encode_column(NONE, Err(error));
-            }
-            let calls = &list[..calls.len()];
-            let (done, result) = self.convert_lines(alloc, input, calls, skip, buffer);
-            return encode_column(done, result);
-        }
-        match decode_long(alloc, calls, texts) {
-            Ok(list) => {
-                let (done, result) = self.convert_lines(
-                    alloc,
-                    input,
-                    list.as_slice(),
-                    skip,
-                    buffer,
-                );
+        let mut short = [Call::TrimStart; INLINE_CALLS];
+        let decoded = decode_calls(alloc, calls, texts, &mut short);
+        match &decoded {
+            Ok(long) => {
+                let calls = calls_in(long, &short, calls.len());
+                let (done, result) = self.convert_lines(alloc, input, calls, skip, buffer);
                 encode_column(done, result)
             }
-            Err(error) => encode_column(NONE, Err(error)),
+            Err(error) => encode_column(NO_LINE, Err(*error)),
         }
     }
 }
@@ -201,6 +168,6 @@ pub(crate) fn convert_column(
     let decoded = Forms::decode(alloc, forms, texts);
     match &decoded {
         Ok(forms) => forms.convert_column(alloc, input, skip, calls, texts, buffer),
-        Err(error) => encode_column(NONE, Err(*error)),
+        Err(error) => encode_column(NO_LINE, Err(*error)),
     }
 }

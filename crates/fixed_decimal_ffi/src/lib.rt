@@ -3,8 +3,7 @@
 
 ghost use Rattle.std.specs.Prelude.{◌≡◌, nat_lt};
 ghost use Rattle.fixed_decimal_c.specs.Encodings.{Encodes, EncodesNumber, EncodesUnsigned};
-ghost use Rattle.fixed_decimal_c.specs.Runs.{Runs};
-ghost use Rattle.fixed_decimal_c.specs.Conversions.{ConvertsCalls};
+ghost use Rattle.fixed_decimal_c.specs.Conversions.{Runs, ConvertsCalls};
 ghost use Rattle.fixed_decimal_c.specs.Lines.{ConvertsColumn};
 ghost use Rattle.fixed_decimal_c.specs.Numbers.{Compares, Equates, HasSign, HasI64, HasU64};
 ghost use Rattle.fixed_decimal_c.specs.Locales.{IsLocaleNumber, IsRulesNumber, IsNamedRulesNumber};

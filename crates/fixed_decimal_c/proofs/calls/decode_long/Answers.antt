@@ -1,5 +1,5 @@
 use Rattle.std.proofs.Common.{arith}
-use Rattle.fixed_decimal_c.proofs.Decoding.{decodes_more, unknown_at}
+use Rattle.fixed_decimal_c.proofs.lemmas.calls.Decoding.{decodes_more, unknown_at}
 use Rattle.fixed_decimal_c.proofs.calls.decode_long.Goals as goal
 
 pub returns-in_default-decode-clause-err : goal.returns-in_default-decode-clause-err

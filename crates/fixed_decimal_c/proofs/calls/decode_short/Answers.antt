@@ -1,5 +1,5 @@
 use Rattle.std.proofs.Common.{◌<◌, ◌∙◌, length, take, length-set, arith}
-use Rattle.fixed_decimal_c.proofs.Decoding.{decodes_set, unknown_at}
+use Rattle.fixed_decimal_c.proofs.lemmas.calls.Decoding.{decodes_set, unknown_at}
 use Rattle.fixed_decimal_c.proofs.calls.decode_short.Goals as goal
 
 pub loop-at-preserved : goal.loop-at-preserved

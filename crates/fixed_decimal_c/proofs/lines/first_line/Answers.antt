@@ -1,4 +1,4 @@
-use Rattle.fixed_decimal_c.proofs.Columns.{line_found, line_not_found}
+use Rattle.fixed_decimal_c.proofs.lemmas.lines.Columns.{line_found, line_not_found}
 use Rattle.fixed_decimal_c.proofs.lines.first_line.Goals as goal
 
 pub returns-in-Some-clause-line : goal.returns-in-Some-clause-line

@@ -3,7 +3,7 @@ use Rattle.std.specs.Prelude.{IsSomeAnd}
 use Rattle.locale_data.specs.Plurals.{rules_text_at, IsRulesText, HasNoRules}
 use Rattle.fixed_decimal_c.specs.declared.error.FdError.TheVariants.{UnknownLocale}
 use Rattle.fixed_decimal_c.specs.Locales.{IsNamedRulesNumber}
-use Rattle.fixed_decimal_c.proofs.NumberedRules.{named_have_number}
+use Rattle.fixed_decimal_c.proofs.lemmas.locales.NumberedRules.{named_have_number}
 use Rattle.fixed_decimal_c.proofs.locales.number_of_named_rules.Goals as goal
 
 pub returns-in-Some-plural_rules_id : goal.returns-in-Some-plural_rules_id

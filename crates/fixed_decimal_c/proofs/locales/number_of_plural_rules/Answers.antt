@@ -1,7 +1,7 @@
 use Rattle.std.proofs.Common.{◌≡◌, subst, rules}
 use Rattle.std.specs.Prelude.{IsSomeAnd}
 use Rattle.locale_data.specs.Plurals.{rules_text_at, IsRulesText, HasNoRules}
-use Rattle.fixed_decimal_c.proofs.NumberedRules.{rules_have_number}
+use Rattle.fixed_decimal_c.proofs.lemmas.locales.NumberedRules.{rules_have_number}
 use Rattle.fixed_decimal_c.proofs.locales.number_of_plural_rules.Goals as goal
 
 pub returns-in-Some-plural_rules_id : goal.returns-in-Some-plural_rules_id

@@ -2,7 +2,7 @@ use Rattle.std.proofs.Common.{◌≡◌, Some, refl, sym, ap, ◌∙◌}
 use Rattle.std.specs.Option.{option_copied}
 use Rattle.decimal_format.specs.declared.grouping.GroupingStrategy.TheVariants.{Auto}
 use Rattle.conversions.specs.Parameters.{option_of, locale_option}
-use Rattle.fixed_decimal_c.proofs.WordParts.{option_of_word}
+use Rattle.fixed_decimal_c.proofs.lemmas.words.WordParts.{option_of_word}
 use Rattle.fixed_decimal_c.proofs.words.format_form.Goals as goal
 
 pub skeleton_form-requires : goal.skeleton_form-requires

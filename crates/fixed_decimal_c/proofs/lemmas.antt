@@ -1,0 +1,5 @@
+pub mod calls
+pub mod lines
+pub mod locales
+pub mod texts
+pub mod words

@@ -1,0 +1,3 @@
+pub mod WordParts
+pub mod JoinedWords
+pub mod KindsOfWords

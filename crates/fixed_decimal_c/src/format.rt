@@ -1,0 +1,157 @@
+//! Numbers as a locale writes them, by options or a number skeleton.
+ghost use Rattle.std.specs.Prelude.{◌≡◌, IfOk, IfErr};
+ghost use Rattle.fixed_decimal_c.specs.declared.forms.Format.TheVariants.{Skeleton};
+ghost use Rattle.fixed_decimal_c.specs.NumberTexts.{error_of_skeleton, error_of_formatter, error_of_format, AreOptionsOf, SkeletonFails, HasFormatter, OptionsFail, IsFormatterFor, FormatterFails, IsFormatterBy, FormatterByFails, WritesSkeleton};
+ghost use Rattle.fixed_decimal_c.specs.Formats.{WritesBy, FormatsText, FormatsIfMade};
+
+use crate::error::FdError;
+use crate::number_options::FdNumberOptions;
+use crate::numbers::read;
+use crate::texts::{deliver, write_value};
+use fixed_decimal::{Decimal, RoundError};
+use number_format::{NumberFormatError, NumberFormatter, NumberOptions};
+use number_skeleton::SkeletonError;
+use std::alloc::Global;
+use std::str;
+
+fn error_of_skeleton(error: SkeletonError) -> FdError
+    ensures { result ≡ error_of_skeleton error }
+{
+    match error {
+        SkeletonError::Syntax { at } => FdError::SkeletonSyntax { at },
+        SkeletonError::Unsupported { start, .. } => FdError::SkeletonUnsupported { at: start },
+    }
+}
+
+fn error_of_formatter(error: NumberFormatError) -> FdError
+    ensures { result ≡ error_of_formatter error }
+{
+    match error {
+        NumberFormatError::UnknownLocale => FdError::UnknownLocale,
+        NumberFormatError::UnknownNumberingSystem => FdError::UnknownNumberingSystem,
+    }
+}
+
+fn error_of_format(error: RoundError, at: usize) -> FdError
+    ensures { result ≡ error_of_format error at }
+{
+    match error {
+        RoundError::Limit => FdError::Overflow { at },
+        RoundError::Memory => FdError::Memory,
+    }
+}
+
+/// Returns the options of a skeleton.
+fn options(skeleton: &[u8]) -> Result<NumberOptions, FdError>
+    ensures ok { IfOk result (AreOptionsOf skeleton.now) }
+    ensures err { IfErr result (λ error. SkeletonFails error skeleton.now) }
+{
+    let skeleton = match str::from_utf8(skeleton) {
+        Ok(skeleton) => skeleton,
+        Err(error) => {
+            return Err(FdError::SkeletonSyntax {
+                at: error.valid_up_to(),
+            });
+        }
+    };
+    match number_skeleton::parse(skeleton) {
+        Ok(options) => Ok(options),
+        Err(error) => Err(error_of_skeleton(error)),
+    }
+}
+
+/// Returns the formatter of a tag and options.
+fn formatter_of(tag: &[u8], options: NumberOptions) -> Result<NumberFormatter, FdError>
+    ensures ok { IfOk result (HasFormatter tag.now options) }
+    ensures err { IfErr result (λ error. OptionsFail error tag.now options) }
+{
+    let Ok(tag) = str::from_utf8(tag) else {
+        return Err(FdError::UnknownLocale);
+    };
+    match NumberFormatter::try_new(tag, options) {
+        Ok(formatter) => Ok(formatter),
+        Err(error) => Err(error_of_formatter(error)),
+    }
+}
+
+/// Returns the formatter of a tag and a skeleton.
+pub(crate) fn formatter_by_skeleton(tag: &[u8], skeleton: &[u8]) -> Result<NumberFormatter, FdError>
+    ensures ok { IfOk result (IsFormatterFor tag.now skeleton.now) }
+    ensures err { IfErr result (λ error. FormatterFails error tag.now skeleton.now) }
+{
+    formatter_of(tag, options(skeleton)?)
+}
+
+/// Returns the formatter of a tag and the options that C passes.
+pub(crate) fn formatter_by_options(
+    tag: &[u8],
+    options: &FdNumberOptions,
+) -> Result<NumberFormatter, FdError>
+    ensures ok { IfOk result (IsFormatterBy tag.now options.now) }
+    ensures err { IfErr result (λ error. FormatterByFails error tag.now options.now) }
+{
+    match options.decode() {
+        Ok(options) => formatter_of(tag, options),
+        Err(error) => Err(error),
+    }
+}
+
+/// Writes a skeleton of the options that C passes.
+pub(crate) fn write_skeleton(
+    alloc: Global,
+    options: &FdNumberOptions,
+    buffer: &mut [u8],
+) -> Result<usize, FdError>
+    ensures { WritesSkeleton result options.now buffer.old buffer.new }
+{
+    let options = match options.decode() {
+        Ok(options) => options,
+        Err(error) => return Err(error),
+    };
+    match number_skeleton::to_skeleton(&options, alloc) {
+        Ok(Some(text)) => deliver(text.as_bytes(), buffer),
+        Ok(None) => Err(FdError::NoSkeleton),
+        Err(_) => Err(FdError::Memory),
+    }
+}
+
+/// Writes a decimal by a formatter. A number beyond the limits is the overflow of call `at`.
+pub(crate) fn write_number(
+    alloc: Global,
+    formatter: &NumberFormatter,
+    value: Decimal,
+    at: usize,
+    buffer: &mut [u8],
+) -> Result<usize, FdError>
+    ensures { WritesBy (Skeleton formatter.now) value at result buffer.old buffer.new }
+{
+    match formatter.format(alloc, value) {
+        Ok(number) => write_value(&number, buffer),
+        Err(failed) => Err(error_of_format(failed.error, at)),
+    }
+}
+
+/// Reads a decimal, and writes it by a formatter.
+fn format_text(
+    alloc: Global,
+    formatter: &NumberFormatter,
+    text: &[u8],
+    buffer: &mut [u8],
+) -> Result<usize, FdError>
+    ensures { FormatsText formatter.now result text.now buffer.old buffer.new }
+{
+    let value = read(alloc, text, 0)?;
+    write_number(alloc, formatter, value, 0, buffer)
+}
+
+/// Reads a decimal, and writes it by a formatter, if there is one.
+pub(crate) fn format_number(
+    alloc: Global,
+    text: &[u8],
+    formatter: Result<NumberFormatter, FdError>,
+    buffer: &mut [u8],
+) -> Result<usize, FdError>
+    ensures { FormatsIfMade formatter result text.now buffer.old buffer.new }
+{
+    format_text(alloc, &formatter?, text, buffer)
+}
