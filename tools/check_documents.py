@@ -1,6 +1,5 @@
 #!/usr/bin/env python3
 """Checks the documents against the tree: `python3 tools/check_documents.py`. The last line is `N passed, M failed`."""
-import glob
 import os
 import re
 import subprocess
@@ -12,14 +11,13 @@ CRATES = ["decimal_digits", "decimal_unsigned", "fixed_decimal", "decimal_format
 LIBRARIES = [*CRATES[:4], "locale_data", "number_format"]
 # Crates whose proofs cite of the libraries only the lemmas for callers.
 CALLERS = ["uses", "plural_rules", "decimal_format", "locale_data", "number_format", "cli", "fixed_decimal_c"]
-# Words of other programs that are no names in the code.
-FOREIGN = set("FloatPrecision DoublePrecision WithInfinity try_from_f64 ryu LengthHint strtod".split())
 # Modules and functions that are public for the crates of this repository alone.
 INTERNAL = re.compile(r"/src/(?:rounding/|digits/packed/|digits/steps|ops|uint_iterator|block|decimal/parse/|reader/|rows|tag|\w+_table)")
 HIDDEN = {"from_bcd_digits", "from_short_text", "scan_from", "lowest_of", "NO_FORMATS"}
-NAME = re.compile(r"[A-Za-z_][\w:<>&', ]*(\([\w:<>&', ]*\))?")
 OUTSIDE = re.compile(r"\b(?:document|paper|issue|session|request|promise|definition) \d|\b[DTRW]\d{1,2}\b"
                      r"|/(?:work|tmp|root|home)/")
+
+ROWS = "crates/vectors/rows/"
 
 failures, passes = [], 0
 
@@ -46,24 +44,6 @@ DOCUMENTS = ["README.md", "CALLING.md", *(path for path in FILES if re.fullmatch
 
 def quoted(text):
     return re.findall(r"`([^`\n]+)`", text)
-
-
-def check_names():
-    """Each name of code or path in backticks exists, but for what is built."""
-    words = set(FOREIGN)
-    for path, text in CODE.items():
-        words.update(re.findall(r"[A-Za-z_][\w'-]*|[A-Za-z_]\w*", re.sub(r"//.*|(?m:^--.*)", "", text)))
-        words.update(word for name in re.findall(r"[A-Za-z_][\w'-]*", text) for word in name.split("-"))
-    words.update(word for path in FILES if path.endswith((".h", ".c", ".pyi")) for word in re.findall(r"\w+", read(path)))
-    words.update(part.split(".")[0] for path in FILES for part in path.split("/"))
-    for document in DOCUMENTS:
-        for word in quoted(re.sub(r"```.*?```", "", read(document), flags=re.S)):
-            if "/" in word or re.search(r"\.(rt|antt|md|py|sh|txt)$", word):
-                found = any(path.startswith(word) or f"/{word}" in f"/{path}" for path in FILES) or glob.glob(word)
-                check(found or " " in word or "out" in word.split("/"), f"{document}: there is no file `{word}`")
-            elif NAME.fullmatch(word) and not re.match(r"\w+:[^:]|rt |git |cargo ", word):
-                for name in re.findall(r"[A-Za-z_]\w*", word):
-                    check(name in words, f"{document}: `{name}` of `{word}` is nowhere in the code")
 
 
 def check_links():
@@ -148,7 +128,7 @@ def check_code():
     locales are what their script writes."""
     for path in FILES:
         if path != "LICENSE" and not path.startswith("tools/"):
-            rows = path.endswith("vectors/stdin")
+            rows = path.endswith("vectors/stdin") or path.startswith(ROWS)
             found = [line.strip()[:80] for line in read(path).splitlines()
                      if OUTSIDE.search(line) and (line.startswith("#") or "\t" not in line or not rows)]
             check(not found, f"{path}: this cites what is not in the repository: {found}")
@@ -161,6 +141,12 @@ def check_code():
                 check(cited == "Calling", f"{path}: cites {cited}, and callers cite Calling alone")
     made = subprocess.run([sys.executable, "tools/locales/make_tables.py", "--check"], capture_output=True, text=True)
     check(made.returncode == 0, made.stderr.strip())
+
+
+def check_rows():
+    """The input of `vectors` is what is in its files of rows."""
+    rows = "".join(read(path) for path in sorted(FILES) if path.startswith(ROWS))
+    check(read("crates/vectors/stdin") == rows, f"crates/vectors/stdin: run `cat {ROWS}* > crates/vectors/stdin`")
 
 
 def lines_of(paths):
@@ -280,7 +266,7 @@ def check_examples():
                         check(written == wanted, f"{document}: `{command}` writes {written!r}")
 
 
-for part in [check_names, check_links, check_quotes, check_proved, check_public, check_code, check_help, check_versions,
+for part in [check_links, check_quotes, check_proved, check_public, check_code, check_rows, check_help, check_versions,
              check_counts, check_wrong_bodies, check_modules, check_examples]:
     part()
 print("\n".join([*failures, f"{passes} passed, {len(failures)} failed"]))

@@ -139,7 +139,8 @@ function main(mode) {
     }
   } else if (mode === 'vectors') {
     for (const [tag, system, isDefault] of listed) {
-      if (tag === 'root' || hasWords(tag, system)) continue;
+      // `en-US-posix` is another tag of `en-US-u-va-posix`.
+      if (tag === 'root' || tag === 'en-US-posix' || hasWords(tag, system)) continue;
       const named = isDefault ? tag : `${tag}-u-nu-${system}`;
       for (const [strategy, useGrouping] of STRATEGIES) {
         // ICU groups by threes here, where the locale has no groups. ICU4X does not.

@@ -1,12 +1,12 @@
 #!/usr/bin/env python3
 """Writes rows of `vectors` of texts and errors of `Intl.NumberFormat`:
 
-    python3 tools/numbers/make_rows.py TEXTS ERRORS CURRENCIES >> crates/vectors/stdin
+    python3 tools/numbers/make_rows.py TEXTS ERRORS CURRENCIES > crates/vectors/rows/node_numbers.tsv
     python3 tools/numbers/make_rows.py TEXTS
 
 TEXTS has rows of a locale, options as JSON by the names of ECMA-402, a number and its text; ERRORS has a locale, options
 and the class of the error; both are made with node. CURRENCIES has rows of a code and its number of fraction digits.
-`own_rows.txt` has the other rows. Rows of errors are those of each distinct choice of digits. Rows of texts are those of
+Rows of errors are those of each distinct choice of digits. Rows of texts are those of
 `en`, style decimal, not compact; of all others those that are the first with a locale, with a value of an option in a style
 and a notation, with a currency and its display, or with what is written around and between digits, a symbol of a currency
 being any. With TEXTS alone its rows are written, all.
@@ -125,14 +125,14 @@ def ends():
 
 def main(texts_path, errors_path, currencies_path):
     currencies = {row[0]: row[1] for row in rows(currencies_path)}
-    with open(os.path.join(os.path.dirname(__file__), "own_rows.txt"), encoding="utf-8") as file:
-        sys.stdout.write(file.read())
+    print("# Made by `python3 tools/numbers/make_rows.py TEXTS ERRORS CURRENCIES`, of texts of node 20.20.2 with "
+          "CLDR 48, under the license in tools/locales/LICENSE.")
     print("\n# Both ends.\n" + "\n".join(ends()))
     plain = (f"{words(options, SHOWN)}\t{number}\t{text}" for tag, options, number, text in texts(texts_path)
              if is_plain(tag, options))
     print("\n# Texts of node.\n" + "\n".join(plain))
     print("\n# Errors of node.\n" + "\n".join(dict.fromkeys(errors(errors_path, currencies))))
-    print("\n# Texts of node in each style and notation, under the license in tools/locales/LICENSE.\n"
+    print("\n# Texts of node in each style and notation.\n"
           + "\n".join(cover(texts_path)))
 
 

@@ -1,7 +1,7 @@
 #!/usr/bin/env python3
 """Writes rows of `vectors`: skeletons, and the options or the error that ICU has for each.
 
-    python3 tools/numbers/skeleton_rows.py SKELETONS MODEL >> crates/vectors/stdin
+    python3 tools/numbers/skeleton_rows.py SKELETONS MODEL > crates/vectors/rows/icu_skeletons.tsv
 
 SKELETONS has `skeleton_errors.tsv` and `normal.tsv`, which ICU wrote, `readings.tsv`, and `skeleton.py`, a reader that says
 a skeleton in the options of ECMA-402; MODEL has its tables. Of `unit/` and the like the library does not read the names,
@@ -211,7 +211,8 @@ def main(folder, model):
     global skeleton
     import skeleton
     skeleton.use_model(model)
-    print("# The options of skeletons.")
+    print("# Made by `python3 tools/numbers/skeleton_rows.py SKELETONS MODEL`, of what ICU 78.2 says of skeletons.")
+    print("\n# The options of skeletons.")
     seen = set()
 
     def put(text, expected):
@@ -221,18 +222,18 @@ def main(folder, model):
 
     for row in rows(os.path.join(folder, "readings.tsv")):
         put(row[0], words(skeleton.unescape(row[0])))
-    print("# Errors.")
+    print("\n# Errors.")
     for text, error, offset in rows(os.path.join(folder, "skeleton_errors.tsv")):
         plain = skeleton.unescape(text)
         if error == "U_NUMBER_SKELETON_SYNTAX_ERROR" and not re.match(r"(?:measure-)?unit/(?:length-)?foo$", plain):
             put(text, f"syntax {bytes_before(plain, int(offset))}")
         else:
             put(text, words(plain))
-    print("# Hostile texts.")
+    print("\n# Hostile texts.")
     for text in hostile():
         if "unit" not in stems(text):
             put(text, expected(skeleton.unescape(text)))
-    print("# Options are printed as ICU's normal form, which has the options of its skeleton.")
+    print("\n# Options are printed as ICU's normal form, which has the options of its skeleton.")
     for text, normal in rows(os.path.join(folder, "normal.tsv")):
         loses_grouping = re.match("K|compact", text) and "group-auto" in text
         if loses_grouping or "error " in normal or "unit/" in normal:

@@ -22,8 +22,8 @@ pub use digit_limit::{
 };
 pub use failing_writer::{FailingWriter, WriteFailure};
 pub use limited_sink::{LimitedSink, displays, fails_without_room, shows};
-pub use limited_store::{CountingStore, LimitedStore};
+pub use limited_store::{Counting, CountingStore, LimitedStore};
 pub use rounds::{RoundedResult, Rounding, RoundingMethod, Rounds, rounded, rounding_methods};
-pub use rows::{check_rows, named};
+pub use rows::{all_hold, check_rows, named};
 pub use runs::expand_runs;
 pub use value::{Value, has_text, is_outcome, parse_outcome};

@@ -1,7 +1,7 @@
 //! A store of digits that is out of memory beyond a bound, and counts its accesses and allocating calls.
 ghost use Rattle.std.specs.Prelude.{◌≤◌, IsTrue};
 
-use crate::digit_limit::DigitLimit;
+use crate::digit_limit::{DigitLimit, MaxDigits};
 use decimal_digits::digits::DigitStore;
 use std::alloc::{AllocError, Global};
 use std::cell::Cell;
@@ -25,6 +25,9 @@ pub struct LimitedStore<D: DigitStore, M: DigitLimit> {
     is_restarted: Cell<bool>,
     first: PhantomData<M>,
 }
+
+/// A store that counts, with memory for every number.
+pub type Counting<D> = LimitedStore<D, MaxDigits>;
 
 // Not derived, since a derived drop is proved again in each dependent crate.
 impl<D: DigitStore, M: DigitLimit> Drop for LimitedStore<D, M> {

@@ -13,6 +13,19 @@ pub fn named<T: Copy>(table: &[(&str, T)], word: &str) -> Option<T> {
     None
 }
 
+/// Whether all parts of a row hold: `Some(false)` if one does not, otherwise `None` if a call of one failed.
+pub fn all_hold(parts: &[Option<bool>]) -> Option<bool> {
+    let mut all = Some(true);
+    for part in parts {
+        match part {
+            Some(true) => {}
+            Some(false) => return Some(false),
+            None => all = None,
+        }
+    }
+    all
+}
+
 /// Returns the number of rows of a line: none if it is blank, or starts with `#` and has no tab; else that of the first
 /// text of a table that it contains, or 1.
 fn rows_of(line: &str, repeated: &[(&str, u32)]) -> u32 {

@@ -1,13 +1,9 @@
 //! The order of two values, and which are equal.
 use crate::edited::{Edited, has_sign};
-use crate::rows::{Kind, all_hold};
-use fixed_decimal::{
-    Call, CompactDecimal, DigitList, DigitStore, FixedInteger, ScientificDecimal, Signed,
-    UnsignedOver,
-};
+use fixed_decimal::{Call, DigitList, DigitStore, Signed, UnsignedOver};
 use std::alloc::Global;
 use std::cmp::Ordering;
-use test_support::{RoundingMethod, Value, named};
+use test_support::{RoundingMethod, Value, all_hold, named};
 
 /// Whether the values without a sign of two texts over two stores have an order, and the reverse one when exchanged.
 fn have_unsigned_order<D: DigitStore, E: DigitStore>(
@@ -74,8 +70,9 @@ const EQUALITIES: &[(&str, (bool, bool))] = &[
     ("different", (false, false)),
 ];
 
-/// Whether the values of two texts are equal or not.
-fn are_equal<T: Value>(alloc: Global, (left, right): (&str, &str), is_equal: bool) -> Option<bool> {
+/// Whether the values of two texts are equal or different, as a word says.
+pub fn is_pair<T: Value>(alloc: Global, (left, right): (&str, &str), word: &str) -> Option<bool> {
+    let (is_equal, _) = named(EQUALITIES, word)?;
     let (left, right) = (T::read(alloc, left).ok()?, T::read(alloc, right).ok()?);
     Some(left.equals(&right) == is_equal)
 }
@@ -125,15 +122,4 @@ pub fn are_decimals<D: DigitStore>(alloc: Global, texts: (&str, &str), word: &st
         are_signed,
         are_equal_trimmed::<UnsignedOver<D>>(alloc, texts, equality),
     ])
-}
-
-/// Whether the values of a kind of two texts are as equal as a word says.
-pub fn is_pair(alloc: Global, kind: Kind, texts: (&str, &str), word: &str) -> Option<bool> {
-    let (is_same, _) = named(EQUALITIES, word)?;
-    match kind {
-        Kind::IntegerPair => are_equal::<FixedInteger>(alloc, texts, is_same),
-        Kind::ScientificPair => are_equal::<ScientificDecimal>(alloc, texts, is_same),
-        Kind::CompactPair => are_equal::<CompactDecimal>(alloc, texts, is_same),
-        _ => None,
-    }
 }

@@ -1,10 +1,10 @@
 //! The digits of values, and their conversion to integers.
 use crate::edited::has_sign;
 use crate::integers::are_made;
-use crate::rows::all_hold;
 use fixed_decimal::{DigitStore, IntegerError, Signed, UnsignedOver};
 use std::alloc::Global;
 use std::str::FromStr;
+use test_support::all_hold;
 
 /// Whether a number has these digits, downward from a magnitude.
 fn has_each<D: DigitStore>(value: &UnsignedOver<D>, highest: i16, digits: &str) -> bool {

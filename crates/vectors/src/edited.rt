@@ -1,6 +1,5 @@
 //! Calls on values with a sign and without, in place and by value, and the digits that they access.
 use crate::calls::step;
-use crate::rows::all_hold;
 use crate::runs;
 use decimal_digits::digits::DigitStore;
 use decimal_digits::rounding::RoundError;
@@ -10,7 +9,7 @@ use decimal_unsigned::decimal::UnsignedOver;
 use fixed_decimal::{Call, Signed, SignedRoundingMode};
 use std::alloc::{AllocError, Global};
 use test_support::{
-    CountingStore, Counts, LimitedStore, MaxDigits, RoundedResult, RoundingMethod, Value, has_text,
+    Counting, CountingStore, Counts, RoundedResult, RoundingMethod, Value, all_hold, has_text,
     rounded, rounding_methods,
 };
 
@@ -389,9 +388,6 @@ fn needs_sign(start: &str, words: &str) -> bool {
     }
     has_sign(start)
 }
-
-/// A store that counts, with memory for every number.
-pub type Counting<D> = LimitedStore<D, MaxDigits>;
 
 /// A row: the text and the calls, and the text that is wanted and a count.
 type Row<'a> = ((&'a str, &'a str), (&'a str, &'a str));

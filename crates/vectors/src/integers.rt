@@ -1,9 +1,8 @@
 //! Values made of integers.
-use crate::rows::all_hold;
 use fixed_decimal::{DigitStore, FixedInteger, Signed, UnsignedOver};
 use std::alloc::{AllocError, Global};
 use std::str::FromStr;
-use test_support::{Value, has_text};
+use test_support::{Value, all_hold, has_text};
 
 /// Returns the integer of a text, or 0 if the text is none of the type, and whether it is one.
 fn integer_of<I: FromStr + Copy>(text: &str, zero: I) -> (I, bool)

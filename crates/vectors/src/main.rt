@@ -4,6 +4,10 @@
 //! ` | `. Blank lines, and lines that start with `#` and have no tab, are not rows. Each row that fails is printed with
 //! its line number; the last line counts the rows.
 //!
+//! The rows are in `rows/`, in a file for each kind: `.txt` with ` | `, and `.tsv` with tabs. A file that is made by a
+//! script names the command in its first line. The file `stdin` has all of them. To add a row, write it into a file of
+//! `rows/`, run `cat crates/vectors/rows/* > crates/vectors/stdin`, and raise the count in `stdout`.
+//!
 //! ```text
 //! unsigned | TEXT | RESULT                  TEXT is read as a value that prints RESULT, or fails with
 //! unsigned | TEXT | RESULT | MAGNITUDES     `syntax` or `limit`. MAGNITUDES: the highest shown, the first and

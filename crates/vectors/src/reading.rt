@@ -1,6 +1,5 @@
 //! The parser of each kind of value, and the parts of the values.
 use crate::calls::SIGNS;
-use crate::rows::{Kind, all_hold};
 use decimal_unsigned::decimal::lowest_of;
 use fixed_decimal::{
     CompactDecimal, Decimal, DigitStore, FixedInteger, LimitError, ParseError, ScientificDecimal,
@@ -9,7 +8,9 @@ use fixed_decimal::{
 use std::alloc::Global;
 use std::convert::TryFrom;
 use std::fmt::Display;
-use test_support::{EightDigits, LimitedStore, Value, displays, has_text, named, parse_outcome};
+use test_support::{
+    EightDigits, LimitedStore, Value, all_hold, displays, has_text, named, parse_outcome,
+};
 
 /// Whether a value has a text, also for `{}`.
 fn is_shown<T: Value + Display>(value: &T, text: &str) -> bool {
@@ -197,21 +198,26 @@ fn has_scientific_parts(alloc: Global, text: &str, parts: &str) -> Option<bool> 
     Some(is_made & has_parts & has_text(&first, significand) & has_text(&second, exponent))
 }
 
-/// Whether a text is parsed as a value of a kind that prints a text, or fails with a word, and has parts.
-pub fn reads(alloc: Global, kind: Kind, text: &str, (wanted, parts): (&str, &str)) -> Option<bool> {
-    match kind {
-        Kind::Integer => all_hold(&[
-            reads_as::<FixedInteger>(alloc, text, wanted),
-            becomes_integer(alloc, text, wanted),
-        ]),
-        Kind::Scientific => all_hold(&[
-            reads_as::<ScientificDecimal>(alloc, text, wanted),
-            has_scientific_parts(alloc, wanted, parts),
-        ]),
-        Kind::Compact => all_hold(&[
-            reads_as::<CompactDecimal>(alloc, text, wanted),
-            has_compact_parts(alloc, wanted, parts),
-        ]),
-        _ => None,
-    }
+/// Whether a text is parsed as an integer that prints a text, or fails with a word; and so is its decimal.
+pub fn reads_integer(alloc: Global, text: &str, wanted: &str) -> Option<bool> {
+    all_hold(&[
+        reads_as::<FixedInteger>(alloc, text, wanted),
+        becomes_integer(alloc, text, wanted),
+    ])
+}
+
+/// Whether a text is parsed as a scientific value that prints a text, or fails with a word, and has parts.
+pub fn reads_scientific(alloc: Global, text: &str, (wanted, parts): (&str, &str)) -> Option<bool> {
+    all_hold(&[
+        reads_as::<ScientificDecimal>(alloc, text, wanted),
+        has_scientific_parts(alloc, wanted, parts),
+    ])
+}
+
+/// Whether a text is parsed as a compact value that prints a text, or fails with a word, and has parts.
+pub fn reads_compact(alloc: Global, text: &str, (wanted, parts): (&str, &str)) -> Option<bool> {
+    all_hold(&[
+        reads_as::<CompactDecimal>(alloc, text, wanted),
+        has_compact_parts(alloc, wanted, parts),
+    ])
 }

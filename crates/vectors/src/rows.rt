@@ -1,9 +1,10 @@
 //! Rows by their kinds.
-use crate::edited::Counting;
 use crate::{checks, comparing, digits, edited, plural, reading, runs};
-use fixed_decimal::{DigitList, DigitStore, PackedDigits};
+use fixed_decimal::{
+    CompactDecimal, DigitList, DigitStore, FixedInteger, PackedDigits, ScientificDecimal,
+};
 use std::alloc::{AllocError, Global};
-use test_support::{expand_runs, named};
+use test_support::{Counting, all_hold, expand_runs, named};
 
 /// The kind of a row.
 #[derive(Clone, Copy)]
@@ -56,19 +57,6 @@ const KINDS: &[(&str, Kind)] = &[
     ("check", Kind::Check),
 ];
 
-/// Whether all parts of a row hold: `Some(false)` if one does not, otherwise `None` if a call of one failed.
-pub fn all_hold(parts: &[Option<bool>]) -> Option<bool> {
-    let mut all = Some(true);
-    for part in parts {
-        match part {
-            Some(true) => {}
-            Some(false) => return Some(false),
-            None => all = None,
-        }
-    }
-    all
-}
-
 /// Returns the text of a field, which is in parts if it has a star.
 fn text_of(alloc: Global, field: &str) -> Result<String, AllocError> {
     if field.contains('*') {
@@ -117,12 +105,14 @@ fn holds_over<D: DigitStore>(
 fn holds_by_kind(alloc: Global, kind: Kind, row: (&str, &str, &str), count: &str) -> Option<bool> {
     let (first, second, third) = row;
     match kind {
-        Kind::Integer | Kind::Scientific | Kind::Compact => {
-            reading::reads(alloc, kind, first, (second, third))
+        Kind::Integer => reading::reads_integer(alloc, first, second),
+        Kind::Scientific => reading::reads_scientific(alloc, first, (second, third)),
+        Kind::Compact => reading::reads_compact(alloc, first, (second, third)),
+        Kind::IntegerPair => comparing::is_pair::<FixedInteger>(alloc, (first, second), third),
+        Kind::ScientificPair => {
+            comparing::is_pair::<ScientificDecimal>(alloc, (first, second), third)
         }
-        Kind::IntegerPair | Kind::ScientificPair | Kind::CompactPair => {
-            comparing::is_pair(alloc, kind, (first, second), third)
-        }
+        Kind::CompactPair => comparing::is_pair::<CompactDecimal>(alloc, (first, second), third),
         Kind::Plural => plural::take(alloc, first, second, third),
         Kind::Rules => plural::reads(alloc, first, (second, third)),
         Kind::Check => checks::hold(alloc, first),

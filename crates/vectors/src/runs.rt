@@ -1,12 +1,10 @@
 //! Whole runs.
 use crate::calls::calls;
-use crate::edited::Counting;
-use crate::rows::all_hold;
 use fixed_decimal::{Call, DigitStore, ParseError, RunError, Sink, TextBuf, run, run_over};
 use std::alloc::{AllocError, Global};
 use test_support::{
-    DigitLimit, EightDigits, EighteenDigits, LimitedSink, LimitedStore, NineteenDigits,
-    SeventeenDigits, SixteenDigits, TwentyOneDigits,
+    Counting, DigitLimit, EightDigits, EighteenDigits, LimitedSink, LimitedStore, NineteenDigits,
+    SeventeenDigits, SixteenDigits, TwentyOneDigits, all_hold,
 };
 
 /// Returns the word of an error of a text.
