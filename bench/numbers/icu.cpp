@@ -1,7 +1,9 @@
-// Times ICU for bench/numbers.sh: a row `format` or `read`, locale, skeleton, number, nanoseconds of a call.
+// Times ICU for bench/numbers.sh: a row `format`, `read`, `make` or `first`, locale, skeleton, number, nanoseconds of a
+// call.
 //
 // `format` is LocalizedNumberFormatter::formatDecimal of a text, and its text in UTF-8; `read` is unum_parseDecimal of
-// the text in UTF-16. Both are made before the clock starts.
+// the text in UTF-16. Both are made before the clock starts. `make` is UnlocalizedNumberFormatter::locale, and `first`
+// also formats the number.
 #include <unicode/numberformatter.h>
 #include <unicode/unistr.h>
 #include <unicode/unum.h>
@@ -10,9 +12,12 @@
 
 using icu::number::LocalizedNumberFormatter;
 using icu::number::NumberFormatter;
+using icu::number::UnlocalizedNumberFormatter;
 
 static const char* LOCALES[] = {"en", "de", "hi", "ar-EG", "ja"};
 static const char* SKELETONS[] = {"", ".00", "currency/EUR .00", "percent", "K", "KK", "E0"};
+static const struct { const char *locale, *skeleton; } MADE[] = {
+    {"de", ""}, {"en", "currency/EUR .00"}, {"en", "K"}, {"de", "KK"}};
 static const struct { const char* skeleton; UNumberFormatStyle style; } READ[] = {
     {"currency/EUR .00", UNUM_CURRENCY},
     {"%x100 .00", UNUM_PERCENT},
@@ -24,14 +29,26 @@ static LocalizedNumberFormatter formatter_of(const char* locale, const char* ske
         .locale(icu::Locale::forLanguageTag(locale, status));
 }
 
+static size_t length_of(const LocalizedNumberFormatter& formatter, const char* number, UErrorCode& status) {
+    std::string bytes;
+    formatter.formatDecimal(number, status).toString(status).toUTF8String(bytes);
+    return bytes.size();
+}
+
+static void time_making(int batches, const char* locale, const char* skeleton, UErrorCode& status) {
+    UnlocalizedNumberFormatter settings =
+        NumberFormatter::forSkeleton(icu::UnicodeString::fromUTF8(skeleton), status);
+    icu::Locale tag = icu::Locale::forLanguageTag(locale, status);
+    double time = least(batches, [&] { total += settings.locale(tag).copyErrorTo(status); });
+    std::printf("make\t%s\t%s\t\t%.0f\n", locale, skeleton, time);
+    time = least(batches, [&] { total += length_of(settings.locale(tag), NUMBERS[0], status); });
+    std::printf("first\t%s\t%s\t%s\t%.0f\n", locale, skeleton, NUMBERS[0], time);
+}
+
 static void time_formats(int batches, const char* locale, const char* skeleton, UErrorCode& status) {
     LocalizedNumberFormatter formatter = formatter_of(locale, skeleton, status);
     for (const char* number : NUMBERS) {
-        double time = least(batches, [&] {
-            std::string bytes;
-            formatter.formatDecimal(number, status).toString(status).toUTF8String(bytes);
-            total += bytes.size();
-        });
+        double time = least(batches, [&] { total += length_of(formatter, number, status); });
         std::printf("format\t%s\t%s\t%s\t%.0f\n", locale, skeleton, number, time);
     }
 }
@@ -54,6 +71,7 @@ static void time_reads(int batches, const char* locale, const char* skeleton, UN
 int main(int, char** words) {
     int batches = std::atoi(words[1]);
     UErrorCode status = U_ZERO_ERROR;
+    for (auto row : MADE) time_making(batches, row.locale, row.skeleton, status);
     for (const char* locale : LOCALES) {
         for (const char* skeleton : SKELETONS) time_formats(batches, locale, skeleton, status);
         for (auto row : READ) time_reads(batches, locale, row.skeleton, row.style, status);

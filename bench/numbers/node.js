@@ -1,6 +1,9 @@
-// Times node for bench/numbers.sh: a row `format`, locale, skeleton, number, nanoseconds of a call of
-// Intl.NumberFormat.prototype.format by the options that the skeleton has in ECMA-402. Reading is not in ECMA-402.
+// Times node for bench/numbers.sh: a row `format`, `make` or `first`, locale, skeleton, number, nanoseconds of a call,
+// by the options that the skeleton has in ECMA-402. `format` is Intl.NumberFormat.prototype.format, `make` is
+// `new Intl.NumberFormat`, and `first` also formats the number. Reading is not in ECMA-402.
 const CALLS = 20_000;
+const NUMBERS = ["1234.5", "-1234567.891", "0.25"];
+const MADE = [["de", ""], ["en", "currency/EUR .00"], ["en", "K"], ["de", "KK"]];
 const OPTIONS = {
   "": { maximumFractionDigits: 6 },
   ".00": { minimumFractionDigits: 2, maximumFractionDigits: 2 },
@@ -11,20 +14,31 @@ const OPTIONS = {
   E0: { notation: "scientific", maximumFractionDigits: 6 },
 };
 
-function timeOf(format, number) {
+function timeOf(call) {
   const start = process.cpuUsage();
-  for (let call = 0; call < CALLS; call++) format(number);
+  for (let index = 0; index < CALLS; index++) call();
   const { user, system } = process.cpuUsage(start);
   return ((user + system) * 1000) / CALLS;
 }
 
+function printLeast(row, call) {
+  let least = Infinity;
+  for (let batch = 0; batch < process.argv[2]; batch++) least = Math.min(least, timeOf(call));
+  console.log([...row, Math.round(least)].join("\t"));
+}
+
+function formatterOf(locale, skeleton) {
+  return new Intl.NumberFormat(locale, { roundingMode: "halfEven", ...OPTIONS[skeleton] });
+}
+
+for (const [locale, skeleton] of MADE) {
+  const [number] = NUMBERS;
+  printLeast(["make", locale, skeleton, ""], () => formatterOf(locale, skeleton));
+  printLeast(["first", locale, skeleton, number], () => formatterOf(locale, skeleton).format(number));
+}
 for (const locale of ["en", "de", "hi", "ar-EG", "ja"]) {
-  for (const [skeleton, options] of Object.entries(OPTIONS)) {
-    const { format } = new Intl.NumberFormat(locale, { roundingMode: "halfEven", ...options });
-    for (const number of ["1234.5", "-1234567.891", "0.25"]) {
-      let least = Infinity;
-      for (let batch = 0; batch < process.argv[2]; batch++) least = Math.min(least, timeOf(format, number));
-      console.log(["format", locale, skeleton, number, Math.round(least)].join("\t"));
-    }
+  for (const skeleton of Object.keys(OPTIONS)) {
+    const { format } = formatterOf(locale, skeleton);
+    for (const number of NUMBERS) printLeast(["format", locale, skeleton, number], () => format(number));
   }
 }
