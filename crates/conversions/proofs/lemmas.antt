@@ -1,2 +1,2 @@
 pub mod conversion
-pub mod words
+pub mod calls

@@ -2,7 +2,7 @@ use Rattle.std.proofs.Common.{◌≡◌, ◌≢◌, ◌<◌, [], ◌∷◌, leng
 use Rattle.cli.specs.Error.{error_of_rules}
 use Rattle.conversions.specs.NamedRules.{NamesRules, NamesNoRules}
 use Rattle.cli.specs.Plural.{RulesFail}
-use Rattle.conversions.proofs.lemmas.words.Results.{err_with}
+use Rattle.conversions.proofs.lemmas.calls.Results.{err_with}
 use Rattle.cli.proofs.plural.rules_and_texts.Goals as goal
 
 pub returns-in_err-rules-clause-error : goal.returns-in_err-rules-clause-error

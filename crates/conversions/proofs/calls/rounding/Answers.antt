@@ -7,7 +7,7 @@ use Rattle.decimal_digits.specs.declared.rounding.RoundingIncrement.{RoundingInc
 use Rattle.fixed_decimal.specs.declared.runs.Call.TheVariants.{Round}
 use Rattle.conversions.specs.Parameters.{number}
 use Rattle.conversions.specs.Calls.{mode_word, increment_word, Names}
-use Rattle.conversions.proofs.lemmas.words.RoundingWord.{after_position, mode_free}
+use Rattle.conversions.proofs.lemmas.calls.RoundingWord.{after_position, mode_free}
 use Rattle.conversions.proofs.calls.rounding.Goals as goal
 use Rattle.conversions.proofs.calls.rounding.Goals.{In_ok-parts, In_ok-position, In_ok-mode_word}
 

@@ -1,4 +1,4 @@
-use Rattle.conversions.proofs.lemmas.words.UnknownTypes.{no_unknown_type}
+use Rattle.conversions.proofs.lemmas.calls.UnknownTypes.{no_unknown_type}
 use Rattle.conversions.proofs.laws.rules_have_no_unknown_type.Goals as goal
 
 pub returns : goal.returns

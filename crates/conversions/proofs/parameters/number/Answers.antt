@@ -1,7 +1,7 @@
 use Rattle.std.proofs.Common.{◌∙◌, arith}
 use Rattle.std.proofs.lemmas.Str.Pattern.{strip_prefix_char, starts_char}
 use Rattle.std.proofs.lemmas.Bool.{both_ways}
-use Rattle.conversions.proofs.lemmas.words.Numerals.{IsWithoutMinus, without_minus, number-none_if_long, number-none_if_plus, number-some}
+use Rattle.conversions.proofs.lemmas.calls.Numerals.{IsWithoutMinus, without_minus, number-none_if_long, number-none_if_plus, number-some}
 use Rattle.conversions.proofs.parameters.number.Goals as goal
 use Rattle.conversions.proofs.parameters.number.Goals.{After-unwrap_or-digits, then-digits-gt6-via-then-digits-gt6, then-digits-gt6-via-else-digits-gt6+then-starts_with}
 

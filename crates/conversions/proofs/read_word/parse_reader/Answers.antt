@@ -3,7 +3,7 @@ use Rattle.std.specs.Option.{option_copied}
 use Rattle.number_format.specs.declared.read.number_reader.ParseMode.{ParseMode}
 use Rattle.conversions.specs.Parameters.{tag_of, option_of, locale_tag, locale_option}
 use Rattle.conversions.specs.ReadWord.{IsReadOption, IsNumberReader, SkeletonReaderFails, ReaderFails}
-use Rattle.conversions.proofs.lemmas.words.Results.{err_with}
+use Rattle.conversions.proofs.lemmas.calls.Results.{err_with}
 use Rattle.conversions.proofs.read_word.parse_reader.Goals as goal
 
 -- the mode and the skeleton of the same option

@@ -1,6 +1,6 @@
 use Rattle.std.proofs.Common.{inr, refl}
 use Rattle.conversions.specs.ReadWord.{SkeletonReaderFails}
-use Rattle.conversions.proofs.lemmas.words.Results.{err_with}
+use Rattle.conversions.proofs.lemmas.calls.Results.{err_with}
 use Rattle.conversions.proofs.read_word.skeleton_reader.Goals as goal
 
 pub returns-in_err-reader-clause-err : goal.returns-in_err-reader-clause-err

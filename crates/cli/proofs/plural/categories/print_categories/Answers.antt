@@ -1,7 +1,7 @@
 use Rattle.std.proofs.Common.{◌∙◌, Err, ap}
 use Rattle.cli.specs.Categories.{StopsAt}
 use Rattle.cli.proofs.lemmas.program.Printing.{prints_more, stops_here}
-use Rattle.conversions.proofs.lemmas.words.Results.{err_with}
+use Rattle.conversions.proofs.lemmas.calls.Results.{err_with}
 use Rattle.cli.proofs.plural.categories.print_categories.Goals as goal
 
 pub returns-in_err-print_category-clause-stopped : goal.returns-in_err-print_category-clause-stopped

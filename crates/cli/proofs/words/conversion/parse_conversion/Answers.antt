@@ -5,7 +5,7 @@ use Rattle.cli.specs.declared.program.error.WordsError.TheVariants.{Memory}
 use Rattle.cli.specs.Calls.{AreCalls, CallsFail, AreNoCalls}
 use Rattle.cli.specs.Error.{words_error}
 use Rattle.cli.specs.Words.{ConversionFails}
-use Rattle.conversions.proofs.lemmas.words.Results.{err_with}
+use Rattle.conversions.proofs.lemmas.calls.Results.{err_with}
 use Rattle.cli.proofs.words.conversion.parse_conversion.Goals as goal
 
 -- out of memory, each word names a call

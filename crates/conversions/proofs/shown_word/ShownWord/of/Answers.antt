@@ -5,7 +5,7 @@ use Rattle.std.proofs.lemmas.List.{length_push}
 use Rattle.std.proofs.lemmas.Bool.{false≢true}
 use Rattle.std.specs.Str.{chars}
 use Rattle.conversions.specs.ShownWord.{shown_bytes}
-use Rattle.conversions.proofs.lemmas.words.ShownWords.{shown_whole, shown_cut, shown_more}
+use Rattle.conversions.proofs.lemmas.calls.ShownWords.{shown_whole, shown_cut, shown_more}
 use Rattle.conversions.proofs.shown_word.ShownWord.of.Goals as goal
 
 pub returns-in-Err : goal.returns-in-Err

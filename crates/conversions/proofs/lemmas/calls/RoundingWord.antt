@@ -10,7 +10,7 @@ use Rattle.decimal_digits.specs.declared.rounding.RoundingIncrement.{RoundingInc
 use Rattle.fixed_decimal.specs.declared.runs.Call.TheVariants.{Round}
 use Rattle.conversions.specs.Parameters.{number}
 use Rattle.conversions.specs.Calls.{mode_word, increment_word, Names}
-use Rattle.conversions.proofs.lemmas.words.Numerals.{digits-is_numeral_model}
+use Rattle.conversions.proofs.lemmas.calls.Numerals.{digits-is_numeral_model}
 
 digits_after : (w : ℕ) (ws : List ℕ) (p : ℤ) → number (w ∷ ws) ≡ Some p → all_ascii_digits ws ≡ true
 digits_after w ws p e = grind (arith, nat_tests)
