@@ -1,6 +1,7 @@
 #!/usr/bin/env bash
 # All tests: the gate, the built programs as a shell runs them, failing allocations, interrupted writes, the C library,
-# Rust and Dask, setting up, installs, and the documents. The last line is `N passed, M failed`; the status is 0 if M is 0.
+# Rust and Dask, setting up, installs, the documents, and the modules. The last line is `N passed, M failed`; the status
+# is 0 if M is 0.
 set -u
 cd "$(dirname "$0")/.." || exit 1
 log=$(mktemp) || exit 1
@@ -35,6 +36,7 @@ run bash tests/dask.sh
 run bash tests/setting_up.sh
 run bash tests/installs.sh
 run python3 tools/check_documents.py
+run python3 tools/check_modules.py
 
 echo "$passed passed, $failed failed"
 [ "$failed" -eq 0 ]
