@@ -9,7 +9,7 @@ use Rattle.std.proofs.lemmas.Bool.{cond-false}
 use Rattle.std.proofs.lemmas.Grind.{common_steps}
 use Rattle.memchr.specs.Find.{IsFirstByte, is_byte}
 use Rattle.fixed_decimal.specs.declared.runs.Call.{Call}
-use Rattle.cli.specs.Lines.{lines_of}
+use Rattle.conversions.specs.Lines.{lines_of}
 use Rattle.fixed_decimal_c.specs.declared.convert.Forms.{Forms}
 use Rattle.fixed_decimal_c.specs.declared.error.FdError.{FdError}
 use Rattle.fixed_decimal_c.specs.declared.lines.LineOutput.{LineOutput}

@@ -10,7 +10,7 @@ use Rattle.fixed_decimal.specs.Outcome.{after_calls}
 use Rattle.fixed_decimal.specs.declared.runs.Call.{Call}
 use Rattle.fixed_decimal.specs.declared.runs.CallError.{CallError}
 use Rattle.fixed_decimal.specs.declared.runs.CallError.TheVariants as call
-use Rattle.cli.specs.Conversion.{IsReadBy, ReadingByFails}
+use Rattle.conversions.specs.Conversion.{IsReadBy, ReadingByFails}
 use Rattle.fixed_decimal_c.specs.declared.convert.Forms.{Forms}
 use Rattle.fixed_decimal_c.specs.declared.error.FdError.{FdError}
 use Rattle.fixed_decimal_c.specs.declared.error.FdError.TheVariants.{BufferTooSmall, Memory}

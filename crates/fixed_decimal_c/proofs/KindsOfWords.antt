@@ -4,8 +4,9 @@ use Rattle.std.specs.Prelude.{slice_index}
 use Rattle.std.specs.Str.{IsUtf8}
 use Rattle.fixed_decimal.specs.declared.runs.Call.{Call}
 use Rattle.fixed_decimal.specs.declared.runs.Call.TheVariants.{MultiplyPow10, TrimStart, TrimEnd, TrimEndIfInteger, PadStart, PadEnd, SetMaxPosition, Round, SetSign, ApplySignDisplay, Concatenate}
-use Rattle.cli.specs.Calls.{Names}
-use Rattle.cli.specs.Words.{IsReadWord, IsFormatWord}
+use Rattle.conversions.specs.Calls.{Names}
+use Rattle.conversions.specs.FormatWord.{IsFormatWord}
+use Rattle.conversions.specs.ReadWord.{IsReadWord}
 use Rattle.fixed_decimal_c.specs.declared.words.FdWord.{FdWord}
 use Rattle.fixed_decimal_c.specs.Words.{IsReadAnswer, IsFormatAnswer, IsCallAnswer, IsWord}
 

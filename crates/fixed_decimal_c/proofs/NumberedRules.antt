@@ -5,8 +5,8 @@ use Rattle.std.specs.Option.{option_and_then}
 use Rattle.locale_data.specs.Plurals.{rules_text_at, IsRulesText}
 use Rattle.locale_data.specs.declared.plurals.PluralRuleType.{PluralRuleType}
 use Rattle.locale_data.specs.declared.plurals.RulesNumber.{RulesNumber}
-use Rattle.cli.specs.NamedRules.{NamesLocale}
-use Rattle.cli.specs.Parameters.{tag_of}
+use Rattle.conversions.specs.NamedRules.{NamesLocale}
+use Rattle.conversions.specs.Parameters.{tag_of}
 use Rattle.fixed_decimal_c.specs.Locales.{rule_type_code, rules_of, IsRulesNumber, IsNamedRulesNumber}
 
 pub rules_have_number :

@@ -7,8 +7,8 @@ use Rattle.std.proofs.lemmas.List.{take-append-drop, append-nil, length-take, ta
 use Rattle.std.proofs.lemmas.Option.{none-some}
 use Rattle.number_format.specs.declared.number_reader.ParseMode.{ParseMode}
 use Rattle.number_format.specs.declared.number_reader.ParseMode.TheVariants.{Strict, Lenient}
-use Rattle.cli.specs.Parameters.{is_colon, option_of, parameters_of, locale_tag, locale_option}
-use Rattle.cli.specs.ReadWord.{IsReadOption}
+use Rattle.conversions.specs.Parameters.{is_colon, option_of, parameters_of, locale_tag, locale_option}
+use Rattle.conversions.specs.ReadWord.{IsReadOption}
 use Rattle.fixed_decimal_c.specs.Calls.{IsPart}
 use Rattle.fixed_decimal_c.specs.Words.{IsSuffix}
 

@@ -8,8 +8,8 @@ use Rattle.fixed_decimal.specs.Errors.{run_error}
 use Rattle.fixed_decimal.specs.Outcome.{after_calls}
 use Rattle.fixed_decimal.specs.declared.runs.Call.{Call}
 use Rattle.fixed_decimal.specs.declared.runs.CallError.{CallError}
-use Rattle.cli.specs.Conversion.{IsReadBy, ReadingByFails}
-use Rattle.cli.specs.declared.reader.LocaleReader.{LocaleReader}
+use Rattle.conversions.specs.Conversion.{IsReadBy, ReadingByFails}
+use Rattle.conversions.specs.declared.reader.LocaleReader.{LocaleReader}
 use Rattle.fixed_decimal_c.specs.declared.calls.FdCall.{FdCall}
 use Rattle.fixed_decimal_c.specs.declared.convert.Forms.{Forms}
 use Rattle.fixed_decimal_c.specs.declared.error.FdError.{FdError}

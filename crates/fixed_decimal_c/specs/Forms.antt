@@ -3,9 +3,9 @@ use Rattle.std.specs.Prelude.{◌≡◌, ◌≢◌, ℕ, ◌⊎◌, List, Option
 use Rattle.std.specs.Str.{IsUtf8}
 use Rattle.decimal_format.specs.Symbols.{Symbols}
 use Rattle.locale_data.specs.Locales.{IsLocale, IsUnknown}
-use Rattle.cli.specs.declared.reader.LocaleReader.{LocaleReader}
-use Rattle.cli.specs.declared.reader.LocaleReader.TheVariants.{Decimals, Numbers}
-use Rattle.cli.specs.declared.reader.SkeletonReader.{SkeletonReader}
+use Rattle.conversions.specs.declared.reader.LocaleReader.{LocaleReader}
+use Rattle.conversions.specs.declared.reader.LocaleReader.TheVariants.{Decimals, Numbers}
+use Rattle.conversions.specs.declared.reader.SkeletonReader.{SkeletonReader}
 use Rattle.number_format.specs.NumberReading.{CanRead, number_reader_of}
 use Rattle.number_format.specs.declared.number_formatter.NumberFormatter.{NumberFormatter}
 use Rattle.number_format.specs.declared.number_reader.ParseMode.{ParseMode}

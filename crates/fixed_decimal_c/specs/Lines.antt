@@ -1,7 +1,7 @@
 -- Columns: lines in, lines out.
 use Rattle.std.specs.Prelude.{◌≡◌, ◌≢◌, ℕ, ◌<◌, ◌≤◌, ◌⊎◌, Bool, true, false, ⊤, List, [], ◌∷◌, ◌++◌, length, drop, flat_map, count_by, Result, Ok, Err, is_err}
 use Rattle.fixed_decimal.specs.declared.runs.Call.{Call}
-use Rattle.cli.specs.Lines.{lines_of}
+use Rattle.conversions.specs.Lines.{lines_of}
 use Rattle.fixed_decimal_c.specs.declared.answer.FdColumn.{FdColumn}
 use Rattle.fixed_decimal_c.specs.declared.calls.FdCall.{FdCall}
 use Rattle.fixed_decimal_c.specs.declared.convert.Forms.{Forms}

@@ -3,8 +3,8 @@ use Rattle.std.specs.Prelude.{◌≡◌, ℕ, zero, suc, ◌-◌, ◌*◌, ◌/�
 use Rattle.std.specs.Option.{option_and_then}
 use Rattle.std.specs.Str.{IsUtf8}
 use Rattle.decimal_format.specs.Symbols.{Symbols}
-use Rattle.cli.specs.NamedRules.{NamesLocale}
-use Rattle.cli.specs.Parameters.{tag_of}
+use Rattle.conversions.specs.NamedRules.{NamesLocale}
+use Rattle.conversions.specs.Parameters.{tag_of}
 use Rattle.locale_data.specs.Locales.{symbols_at, IsLocale, IsUnknown}
 use Rattle.locale_data.specs.Plurals.{rules_text_at, IsRulesText, HasNoRules}
 use Rattle.locale_data.specs.declared.lookup.LocaleNumbers.{LocaleNumbers}

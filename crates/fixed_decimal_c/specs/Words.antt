@@ -4,11 +4,12 @@ use Rattle.std.specs.Str.{IsUtf8}
 use Rattle.fixed_decimal.specs.declared.runs.Call.{Call}
 use Rattle.decimal_format.specs.declared.grouping.GroupingStrategy.{GroupingStrategy}
 use Rattle.number_format.specs.declared.number_reader.ParseMode.{ParseMode}
-use Rattle.cli.specs.Calls.{Names}
-use Rattle.cli.specs.FormatWord.{IsStrategyOption, IsSkeletonOption}
-use Rattle.cli.specs.Parameters.{locale_tag, locale_option}
-use Rattle.cli.specs.ReadWord.{IsReadOption}
-use Rattle.cli.specs.Words.{IsReadWord, IsFormatWord}
+use Rattle.conversions.specs.Calls.{Names}
+use Rattle.conversions.specs.FormatWord.{IsStrategyOption, IsSkeletonOption}
+use Rattle.conversions.specs.Parameters.{locale_tag, locale_option}
+use Rattle.conversions.specs.ReadWord.{IsReadOption}
+use Rattle.conversions.specs.FormatWord.{IsFormatWord}
+use Rattle.conversions.specs.ReadWord.{IsReadWord}
 use Rattle.fixed_decimal_c.specs.declared.calls.FdCall.{FdCall}
 use Rattle.fixed_decimal_c.specs.declared.error.FdError.{FdError}
 use Rattle.fixed_decimal_c.specs.declared.error.FdError.TheVariants.{UnknownCall, UnknownLocale}

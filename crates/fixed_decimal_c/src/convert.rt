@@ -1,6 +1,6 @@
 //! Conversions: a text is read in one form, changed, and written in another.
 ghost use Rattle.std.specs.Prelude.{◌≡◌, Ok, IfOk, IfErr};
-ghost use Rattle.cli.specs.Conversion.{IsReadBy, ReadingByFails};
+ghost use Rattle.conversions.specs.Conversion.{IsReadBy, ReadingByFails};
 ghost use Rattle.fixed_decimal_c.specs.Formats.{WritesBy};
 ghost use Rattle.fixed_decimal_c.specs.Conversions.{AreForms, FormsFail, Converts, ConvertsDecoded, ConvertsCalls};
 
@@ -9,7 +9,7 @@ use crate::error::{FdError, error_of_parsing, error_of_run};
 use crate::forms::{FdForms, Format, formatter, reader};
 use crate::number_text::write_number;
 use crate::texts::write_value;
-use cli::LocaleReader;
+use conversions::LocaleReader;
 use fixed_decimal::{Call, Decimal, ParseError, RunError, apply_calls};
 use std::alloc::Global;
 

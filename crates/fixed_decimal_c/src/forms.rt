@@ -10,7 +10,7 @@ use crate::locales::symbols_of_number;
 use crate::number_options::grouping;
 use crate::number_reading::number_reader;
 use crate::number_text::formatter_by_skeleton;
-use cli::{DecimalReader, LocaleReader, SkeletonReader};
+use conversions::{DecimalReader, LocaleReader, SkeletonReader};
 use decimal_format::{DecimalFormatter, DecimalSymbols};
 use locale_data::locale;
 use number_format::{NumberFormatter, ParseMode};

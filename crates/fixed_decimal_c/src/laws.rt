@@ -1,8 +1,9 @@
 //! Laws of the words: the contract of each function states a law.
 ghost use Rattle.std.specs.Prelude.{ℕ, ◌+◌, List, ◌++◌, length};
 ghost use Rattle.std.specs.Str.{IsUtf8};
-ghost use Rattle.cli.specs.Calls.{Names};
-ghost use Rattle.cli.specs.Words.{IsReadWord, IsFormatWord};
+ghost use Rattle.conversions.specs.Calls.{Names};
+ghost use Rattle.conversions.specs.FormatWord.{IsFormatWord};
+ghost use Rattle.conversions.specs.ReadWord.{IsReadWord};
 ghost use Rattle.fixed_decimal.specs.declared.runs.Call.{Call};
 ghost use Rattle.fixed_decimal_c.specs.Calls.{IsPart, IsCall};
 ghost use Rattle.fixed_decimal_c.specs.Words.{IsReadAnswer, IsFormatAnswer, IsCallAnswer, IsWord, moved_call};

@@ -1,6 +1,6 @@
 //! A column: each line of a text is converted, in one call.
 ghost use Rattle.std.specs.Prelude.{◌≡◌, ◌<◌, ◌≤◌, [], ◌∷◌, length, take, drop, IfOk, IfErr, OnErr};
-ghost use Rattle.cli.specs.Lines.{lines_of};
+ghost use Rattle.conversions.specs.Lines.{lines_of};
 ghost use Rattle.fixed_decimal_c.specs.Texts.{IsWritten};
 ghost use Rattle.fixed_decimal_c.specs.Lines.{IsLineWritten, LineStops, ConvertsLines, ConvertsColumnBy, ConvertsColumn};
 

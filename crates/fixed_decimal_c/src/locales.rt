@@ -5,7 +5,7 @@ ghost use Rattle.locale_data.specs.declared.plurals.PluralRuleType.{PluralRuleTy
 ghost use Rattle.fixed_decimal_c.specs.Locales.{index_of, rows_of, symbols_of_number, IsLocaleNumber, rule_type_code, rules_of, IsRulesNumber, IsNamedRulesNumber};
 
 use crate::error::FdError;
-use cli::locale_and_type;
+use conversions::locale_and_type;
 use decimal_format::DecimalSymbols;
 use locale_data::{LocaleNumbers, PluralRuleType, RulesNumber};
 use std::str;

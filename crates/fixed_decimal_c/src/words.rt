@@ -7,8 +7,8 @@ ghost use Rattle.fixed_decimal_c.specs.Words.{no_word, form_word, call_word, IsS
 use crate::calls::{FdCall, NO_CALL, encode_call};
 use crate::error::FdError;
 use crate::forms::{FdForm, NO_FORM};
-use cli::parameters::{parameters, split_parameters};
-use cli::{call, parse_strategy, split_mode};
+use conversions::parameters::{parameters, split_parameters};
+use conversions::{call, parse_strategy, split_mode};
 use decimal_format::GroupingStrategy;
 use number_format::ParseMode;
 use std::str;

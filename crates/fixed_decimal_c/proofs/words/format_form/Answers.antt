@@ -1,7 +1,7 @@
 use Rattle.std.proofs.Common.{◌≡◌, Some, refl, sym, ap, ◌∙◌}
 use Rattle.std.specs.Option.{option_copied}
 use Rattle.decimal_format.specs.declared.grouping.GroupingStrategy.TheVariants.{Auto}
-use Rattle.cli.specs.Parameters.{option_of, locale_option}
+use Rattle.conversions.specs.Parameters.{option_of, locale_option}
 use Rattle.fixed_decimal_c.proofs.WordParts.{option_of_word}
 use Rattle.fixed_decimal_c.proofs.words.format_form.Goals as goal
 

@@ -1,7 +1,7 @@
 use Rattle.std.proofs.Common.{◌≡◌, Some, sym, ap, subst, ◌∙◌}
 use Rattle.std.specs.Option.{option_copied}
-use Rattle.cli.specs.Parameters.{option_of, locale_option}
-use Rattle.cli.specs.ReadWord.{IsReadOption}
+use Rattle.conversions.specs.Parameters.{option_of, locale_option}
+use Rattle.conversions.specs.ReadWord.{IsReadOption}
 use Rattle.fixed_decimal_c.proofs.WordParts.{skeleton_of_word}
 use Rattle.fixed_decimal_c.proofs.words.read_form.Goals as goal
 

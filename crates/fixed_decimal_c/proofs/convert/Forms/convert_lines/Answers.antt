@@ -1,6 +1,6 @@
 use Rattle.std.proofs.Common.{◌≡◌, ◌-◌, ◌∷◌, ◌≤◌, length, take, drop, refl, subst, arith}
 use Rattle.std.proofs.lemmas.List.{take_all, length-drop}
-use Rattle.cli.specs.Lines.{lines_of}
+use Rattle.conversions.specs.Lines.{lines_of}
 use Rattle.fixed_decimal_c.specs.Lines.{IsLineWritten, LineStops}
 use Rattle.fixed_decimal_c.proofs.Columns.{converted_none, converted_more, stopped}
 use Rattle.fixed_decimal_c.proofs.convert.Forms.convert_lines.Goals as goal
