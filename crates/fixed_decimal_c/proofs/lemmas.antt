@@ -1,4 +1,5 @@
 pub mod calls
+pub mod convert
 pub mod lines
 pub mod locales
 pub mod texts

@@ -1,19 +1,20 @@
 -- Conversions, whose text is written to the buffer of a caller.
-use Rattle.std.specs.Prelude.{◌≡◌, ℕ, ◌⊎◌, List, length, Option, None, Result, Ok}
+use Rattle.std.specs.Prelude.{◌≡◌, ◌≢◌, ℕ, ◌⊎◌, List, length, Option, Result, Ok}
 use Rattle.decimal_unsigned.specs.declared.decimal.TheConstants.{INLINE_DIGITS}
 use Rattle.decimal_unsigned.specs.declared.error.ParseError.{ParseError}
 use Rattle.fixed_decimal.specs.Decimal.{Decimal}
 use Rattle.fixed_decimal.specs.Calls.{CallsFail}
-use Rattle.fixed_decimal.specs.Errors.{run_error}
-use Rattle.fixed_decimal.specs.Outcome.{after_calls}
+use Rattle.fixed_decimal.specs.Errors.{RunFails, run_error}
+use Rattle.fixed_decimal.specs.Outcome.{after_calls, outcome}
 use Rattle.fixed_decimal.specs.declared.runs.Call.{Call}
 use Rattle.fixed_decimal.specs.declared.runs.CallError.{CallError}
+use Rattle.fixed_decimal.specs.declared.runs.RunError.{RunError}
+use Rattle.fixed_decimal.specs.declared.runs.RunError.TheVariants.{Sink}
 use Rattle.cli.specs.Conversion.{IsReadBy, ReadingByFails}
 use Rattle.cli.specs.declared.reader.LocaleReader.{LocaleReader}
 use Rattle.fixed_decimal_c.specs.declared.calls.FdCall.{FdCall}
 use Rattle.fixed_decimal_c.specs.declared.convert.Forms.{Forms}
 use Rattle.fixed_decimal_c.specs.declared.error.FdError.{FdError}
-use Rattle.fixed_decimal_c.specs.declared.forms.Format.TheVariants.{Own}
 use Rattle.fixed_decimal_c.specs.declared.forms.FdForms.{FdForms}
 use Rattle.fixed_decimal_c.specs.Calls.{AreCalls, DecodeFails}
 use Rattle.fixed_decimal_c.specs.Errors.{error_of_parsing, error_of_run}
@@ -69,7 +70,20 @@ ConvertsCalls answer text forms calls texts old new =
     ((f : Forms) × AreForms forms texts f × ConvertsDecoded f answer text calls texts old new)
     ⊎ WritesNothing (λ error. FormsFail error forms texts) answer old new
 
--- the same where the text and the result are a decimal's own
+-- ---- Runs: conversions without forms.
+
+-- the error is one with which the library's run may fail, its sink apart
+abbrev pub IsErrorOfRun : List ℕ → List Call → FdError → Type 0
+IsErrorOfRun start calls error =
+    (e : RunError) × (e ≢ Sink) × (error ≡ error_of_run e) × RunFails INLINE_DIGITS e start calls
+
+-- the text of the outcome of a run is written if it fits; or the run fails
+abbrev pub RunAnswers : List ℕ → List Call → Result ℕ FdError → List ℕ → List ℕ → Type 0
+RunAnswers start calls answer old new =
+    WritesTo (λ text. outcome start calls ≡ Ok text) (IsErrorOfRun start calls) answer old new
+
+-- the same with the calls that C passes; or these are none
 abbrev pub Runs : Result ℕ FdError → List ℕ → List FdCall → List ℕ → List ℕ → List ℕ → Type 0
 Runs answer start calls texts old new =
-    ConvertsDecoded (record { reader = None; format = Own }) answer start calls texts old new
+    ((list : List Call) × AreCalls calls texts list × RunAnswers start list answer old new)
+    ⊎ WritesNothing (λ error. DecodeFails error calls texts) answer old new
