@@ -6,8 +6,8 @@ ghost use Rattle.fixed_decimal_c.specs.Conversions.{AreForms, FormsFail, Convert
 
 use crate::calls::{FdCall, INLINE_CALLS, calls_in, decode_calls};
 use crate::error::{FdError, error_of_parsing, error_of_run};
-use crate::forms::{FdForms, Format, formatter, reader};
 use crate::format::write_number;
+use crate::forms::{FdForms, Format, formatter, reader};
 use crate::texts::write_value;
 use cli::LocaleReader;
 use fixed_decimal::{Call, Decimal, ParseError, RunError, apply_calls};

@@ -6,10 +6,10 @@ ghost use Rattle.fixed_decimal_c.specs.Forms.{reading_code, IsLocaleAt, HasNoLoc
 
 use crate::calls::part;
 use crate::error::FdError;
+use crate::format::formatter_by_skeleton;
 use crate::locales::symbols_of_number;
 use crate::number_options::grouping;
 use crate::read::number_reader;
-use crate::format::formatter_by_skeleton;
 use cli::{DecimalReader, LocaleReader, SkeletonReader};
 use decimal_format::{DecimalFormatter, DecimalSymbols};
 use locale_data::locale;

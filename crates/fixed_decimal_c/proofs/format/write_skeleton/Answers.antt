@@ -1,4 +1,4 @@
-use Rattle.std.proofs.Common.{◌≡◌, true, false, Ok, inl, inr, refl, rules}
+use Rattle.std.proofs.Common.{◌≡◌, true, Ok, inl, inr, refl, rules}
 use Rattle.number_format.specs.NoSkeletons.{has_no_stem}
 use Rattle.number_format.specs.SkeletonMeaning.{skeleton_options, options_value, in_capitals}
 use Rattle.fixed_decimal_c.specs.declared.error.FdError.TheVariants.{NoSkeleton, Memory}

@@ -2,7 +2,7 @@
 use Rattle.std.proofs.Common.{◌≡◌, ◌≢◌, ℕ, List, None, Result, Ok, inl, inr, sym, ap, ◌∙◌}
 use Rattle.decimal_unsigned.specs.declared.decimal.TheConstants.{INLINE_DIGITS}
 use Rattle.decimal_unsigned.specs.declared.error.ParseError.TheVariants as parse
-use Rattle.fixed_decimal.specs.DecimalText.{decimal_text, read_decimal, and_then}
+use Rattle.fixed_decimal.specs.DecimalText.{decimal_text, and_then}
 use Rattle.fixed_decimal.specs.Errors.{run_error}
 use Rattle.fixed_decimal.specs.Outcome.{started, after_calls, outcome}
 use Rattle.fixed_decimal.specs.declared.runs.Call.{Call}
@@ -35,12 +35,18 @@ module _ (bytes : List ℕ) (calls : List Call) where
       ∙ ap Ok (sym h.is)
 
   error_of_run : (error : FdError) → ConversionFails own_forms calls bytes error → IsErrorOfRun bytes calls error
-  error_of_run error (inl (parse.Syntax, is, fails)) =
-      (run.Start parse.Syntax, (λ s. cc), is,
-        ap (λ r. and_then (started r) (λ v. and_then (after_calls 0 v calls) (λ w. Ok (decimal_text w)))) (sym fails))
-  error_of_run error (inl (parse.Limit, is, fails)) =
-      (run.Start parse.Limit, (λ s. cc), is,
-        ap (λ r. and_then (started r) (λ v. and_then (after_calls 0 v calls) (λ w. Ok (decimal_text w)))) (sym fails))
+  error_of_run error (inl (parse.Syntax, is, fails)) = (
+    run.Start parse.Syntax,
+    (λ s. cc),
+    is,
+    ap (λ r. and_then (started r) (λ v. and_then (after_calls 0 v calls) (λ w. Ok (decimal_text w)))) (sym fails),
+  )
+  error_of_run error (inl (parse.Limit, is, fails)) = (
+    run.Start parse.Limit,
+    (λ s. cc),
+    is,
+    ap (λ r. and_then (started r) (λ v. and_then (after_calls 0 v calls) (λ w. Ok (decimal_text w)))) (sym fails),
+  )
   error_of_run error (inl (parse.Memory, is, fails)) = (run.Start parse.Memory, (λ s. cc), is, fails)
   error_of_run error (inr (v, read, inl (e, is, fails))) =
       (run_error e, never_sink e, is, run_fails INLINE_DIGITS e bytes v calls (sym read) fails)
@@ -50,7 +56,11 @@ pub conversion_is_run :
     (answer : Result ℕ FdError) (bytes : List ℕ) (calls : List FdCall) (texts old new : List ℕ)
     → ConvertsDecoded own_forms answer bytes calls texts old new → Runs answer bytes calls texts old new
 conversion_is_run answer bytes calls texts old new (inl (list, are, h)) =
-    inl (list, are, writes_weaker (IsConverted own_forms list bytes) (λ text. outcome bytes list ≡ Ok text)
-      (ConversionFails own_forms list bytes) (IsErrorOfRun bytes list) answer old new (text_of_run bytes list)
-      (error_of_run bytes list) h)
+    inl (
+      list,
+      are,
+      writes_weaker (IsConverted own_forms list bytes) (λ text. outcome bytes list ≡ Ok text)
+          (ConversionFails own_forms list bytes) (IsErrorOfRun bytes list) answer old new (text_of_run bytes list)
+          (error_of_run bytes list) h,
+    )
 conversion_is_run answer bytes calls texts old new (inr none) = inr none

@@ -4,7 +4,7 @@ use Rattle.std.specs.Prelude.{flat_map, count_by, is_err, IfOk, IfErr, OnOk, OnE
 use Rattle.std.specs.List.{onto_first}
 use Rattle.std.proofs.Math.Seq.{take-append_seam, drop-append_seam}
 use Rattle.std.proofs.Math.ListN.{drop_of_length-le}
-use Rattle.std.proofs.lemmas.List.{flat_map_more, length-take, length-drop, drop-drop, take_all, append-nil, take-append-drop, nil_from_length}
+use Rattle.std.proofs.lemmas.List.{flat_map_more, length-take, length-drop, drop-drop, take_all, append-nil, take-append-drop}
 use Rattle.std.proofs.lemmas.Bool.{cond-false}
 use Rattle.std.proofs.lemmas.Grind.{common_steps}
 use Rattle.memchr.specs.Find.{IsFirstByte, is_byte}
@@ -25,7 +25,7 @@ use Rattle.fixed_decimal_c.specs.Conversions.{IsConverted, Converts, ConversionF
 use Rattle.fixed_decimal_c.specs.Errors.{is_of_line}
 use Rattle.fixed_decimal_c.specs.Formats.{FormatFails}
 use Rattle.fixed_decimal_c.specs.Texts.{IsWritten, Writes}
-use Rattle.fixed_decimal_c.specs.Lines.{IsLineResult, AreLineResults, IsLineTooLong, LineStops, output_of_line, IsLineWritten, AreConverted, ConvertsLines, none}
+use Rattle.fixed_decimal_c.specs.Lines.{IsLineResult, AreLineResults, LineStops, output_of_line, IsLineWritten, AreConverted, ConvertsLines, none}
 
 -- ---- The first line.
 
@@ -147,8 +147,13 @@ module _
   where
     same_length : length buffer ≡ length old
     same_length =
-        omega (arith, ap length written.2, length-append part (drop (length part) old), length-drop (length part) old,
-          written.1)
+        omega (
+          arith,
+          ap length written.2,
+          length-append part (drop (length part) old),
+          length-drop (length part) old,
+          written.1,
+        )
 
     pub ended :
         (r : Result LineOutput FdError) → failed ≡ count_by is_err (result ∷ [])
@@ -171,9 +176,11 @@ module _
         → OnErr r (length buffer ≤ count) → IfErr r (LineStops f calls skip line old)
     not_ended (Ok out) is full = tt
     not_ended (Err e) is full =
-        subst (LineStops f calls skip line old) (sym is)
-        (result, is_result,
-          omega (arith, full, same_length, written.0, ap length output, length-append part (10 ∷ [])))
+        subst (LineStops f calls skip line old) (sym is) (
+          result,
+          is_result,
+          omega (arith, full, same_length, written.0, ap length output, length-append part (10 ∷ [])),
+        )
 
 -- the text of a line and a line feed
 module _

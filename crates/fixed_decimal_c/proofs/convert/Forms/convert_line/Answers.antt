@@ -1,4 +1,4 @@
-use Rattle.std.proofs.Common.{◌≡◌, ◌++◌, [], true, false, Err, drop, refl, inl, inr, rules}
+use Rattle.std.proofs.Common.{◌≡◌, ◌++◌, [], true, false, Err, drop, refl, inl, inr}
 use Rattle.fixed_decimal_c.specs.Errors.{is_of_line}
 use Rattle.fixed_decimal_c.proofs.lemmas.lines.Columns.{stops, result_of_line, nothing_written, ended, not_ended, text_ended, text_not_ended}
 use Rattle.fixed_decimal_c.proofs.convert.Forms.convert_line.Goals as goal
