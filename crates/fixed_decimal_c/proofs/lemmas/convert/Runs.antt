@@ -9,7 +9,7 @@ use Rattle.fixed_decimal.specs.declared.runs.Call.{Call}
 use Rattle.fixed_decimal.specs.declared.runs.CallError.{CallError}
 use Rattle.fixed_decimal.specs.declared.runs.CallError.TheVariants as call
 use Rattle.fixed_decimal.specs.declared.runs.RunError.TheVariants as run
-use Rattle.fixed_decimal.proofs.lemmas.runs.RunInvariant.{run_fails}
+use Rattle.fixed_decimal.proofs.Calling.{run_fails}
 use Rattle.fixed_decimal_c.specs.declared.calls.FdCall.{FdCall}
 use Rattle.fixed_decimal_c.specs.declared.convert.Forms.{Forms}
 use Rattle.fixed_decimal_c.specs.declared.error.FdError.{FdError}
