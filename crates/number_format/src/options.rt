@@ -126,7 +126,8 @@ pub struct NumberOptions {
 }
 
 impl CurrencyUsage {
-    pub(crate) fn digits(self, currency: CurrencyDigits) -> (u8, u8)
+    /// Returns the number of fraction digits that a currency has for this use, and its increment, 0 if it has none.
+    pub fn digits(self, currency: CurrencyDigits) -> (u8, u8)
         ensures { result ≡ usage_digits self currency }
     {
         match self {
@@ -137,7 +138,8 @@ impl CurrencyUsage {
 }
 
 impl NumberOptions {
-    pub(crate) fn is_compact(&self) -> bool
+    /// Returns whether the notation is compact.
+    pub fn is_compact(&self) -> bool
         ensures { result ≡ is_compact self.now.notation }
     {
         matches!(self.notation, NumberNotation::Compact(_))
@@ -170,7 +172,7 @@ impl NumberOptions {
             NumberStyle::Currency(style) if !self.is_compact() => {
                 let (_, increment) = style.usage.digits(currency_digits(style.code));
                 match Increment::new(increment as u16) {
-                    Ok(_) => increment as u16,
+                    Ok(increment) => increment.value(),
                     Err(_) => 1,
                 }
             }
