@@ -172,7 +172,7 @@ impl NumberOptions {
             NumberStyle::Currency(style) if !self.is_compact() => {
                 let (_, increment) = style.usage.digits(currency_digits(style.code));
                 match Increment::new(increment as u16) {
-                    Ok(_) => increment as u16,
+                    Ok(increment) => increment.value(),
                     Err(_) => 1,
                 }
             }

@@ -123,8 +123,6 @@ impl SignificantDigits {
 }
 
 impl Increment {
-    ghost use Rattle.number_format.specs.ShownDigits.{increment_of};
-
     /// Makes the increment of an integer: 1, 2, 5, 10, 20, 25, 50, 100, 200, 250, 500, 1000, 2000, 2500 or 5000.
     ///
     /// # Errors
@@ -155,9 +153,9 @@ impl Increment {
         Ok(Increment { base, zeros })
     }
 
-    /// Returns the integer: 250 of the base 25 and one zero.
-    pub fn value(&self) -> u16
-        ensures value { result ≡ increment_of self.now }
+    /// Returns the increment as an integer.
+    pub fn value(self) -> u16
+        ensures value { result ≡ step_of self.base * 10 ^ self.zeros }
         ensures at_most { result ≤ 5000 }
     {
         let base: u16 = match self.base {

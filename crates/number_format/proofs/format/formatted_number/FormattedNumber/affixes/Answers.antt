@@ -11,7 +11,8 @@ returns-clause-parts c =
     let f = n.formatter.now in
     let shown = c.affixes.result in
     subst (λ pattern. AreParts (around_by f.style n.value.sign pattern) (unit_of n) shown)
-    c.compact_pattern.ensures.value (subst (λ unit. AreParts (around_by f.style n.value.sign (option_copied c.compact_pattern.result)) unit shown)
+    c.compact_pattern.ensures.value
+    (subst (λ unit. AreParts (around_by f.style n.value.sign (option_copied c.compact_pattern.result)) unit shown)
     c.unit.ensures.value c.affixes.ensures)
 
 pub returns-clause-text : goal.returns-clause-text
