@@ -19,10 +19,6 @@ Reports output old had_failed new failed =
     (line : List ℕ) × IsErrorLine output line × AppendsPrefix old new line × (failed ≡ false → Appends old new line)
     × (had_failed ≡ true → Keeps old new × (failed ≡ true))
 
--- one line is written to a writer that has not failed, or a prefix of it
-abbrev pub IsReported : Option (List ℕ) → Option (List ℕ) → Option (List ℕ) → Type 0
-IsReported output old new = (failed : Bool) × Reports output old false new failed
-
 -- whether an error of a writer, if there is one, is that of a closed pipe
 abbrev pub is_closed_pipe : Option ErrorKind → Bool
 is_closed_pipe (Some BrokenPipe) = true

@@ -7,7 +7,6 @@ ghost use Rattle.cli.specs.declared.program.help.Program.TheVariants.{Fixdec};
 ghost use Rattle.cli.specs.Error.{status_of};
 ghost use Rattle.conversions.specs.Conversion.{OperationsFail};
 ghost use Rattle.cli.specs.Fixdec.{HasError, WordsFail, NamesRun, PrintsLine, PrintsLinePrefix, Prints, PrintsPrefix};
-ghost use Rattle.cli.specs.Diagnostics.{IsReported};
 ghost use Rattle.cli.specs.Arguments.{PrintsFor, ArgumentsFail};
 
 use crate::program::arguments::start;
@@ -19,7 +18,6 @@ use conversions::{Conversion, OperationError, convert};
 use fixed_decimal::{Closed, Out, Sink};
 use std::alloc::Global;
 use std::env::Args;
-use std::fmt::Display;
 use std::io::{BufWriter, Write};
 use std::process::ExitCode;
 use std::{env, io};
@@ -77,16 +75,19 @@ fn print<O: Write>(alloc: Global, words: &[String], out: &mut Out<O>) -> Result<
     Ok(())
 }
 
-fn conclude_on<E: Write>(done: Result<(), ProgramError>, err: &mut E) -> u8
+fn conclude_on<D: Diagnostics<ProgramError>>(
+    done: Result<(), ProgramError>,
+    diagnostics: &mut D,
+) -> u8
     ensures at_most { result ≤ 3 }
-    ensures done { OnOk done ((result ≡ 0) × (err.new ≡ err.old)) }
+    ensures done { OnOk done ((result ≡ 0) × (diagnostics.new ≡ diagnostics.old)) }
     ensures reported { IfErr done (λ error. (0 < result) × (result ≡ status_of error)
-        × IsReported (⟦<ProgramError as Display>⟧.output error) (E.contents err.old) (E.contents err.new)) }
+        × D.reports diagnostics.old error diagnostics.new) }
 {
     match done {
         Ok(()) => 0,
         Err(error) => {
-            ErrorLines::new(err).report(&error);
+            diagnostics.report(&error);
             error.status()
         }
     }
@@ -103,65 +104,68 @@ fn conclude_on<E: Write>(done: Result<(), ProgramError>, err: &mut E) -> u8
 ///
 /// # Errors
 ///
-/// The error is a line of `err`, of which a prefix is written where a write fails:
+/// The error is reported, once:
 ///
 /// - Status 1: the run fails with `start: syntax`, `call 7: overlap` and others of [`OperationError`].
 /// - Status 2: no text, a word that names nothing, or `unknown locale`.
 /// - Status 3: `memory`, or `output` where a write or the flush of `out` fails.
-pub fn program<O: Write, E: Write>(
+pub fn program<O: Write, D: Diagnostics<ProgramError>>(
     alloc: Global,
     words: &[String],
     out: &mut Out<O>,
-    err: &mut E,
+    diagnostics: &mut D,
 ) -> u8
     ensures at_most { result ≤ 3 }
     ensures printed { result ≡ 0 → Prints words.now (O.contents out.old.0) (O.contents out.new.0) }
     ensures has_not_failed { result ≡ 0 → out.new.1 ≡ false }
-    ensures silent { result ≡ 0 → err.new ≡ err.old }
+    ensures silent { result ≡ 0 → diagnostics.new ≡ diagnostics.old }
     ensures reported { 0 < result → (error : ProgramError) × (result ≡ status_of error) × HasError words.now error
-        × IsReported (⟦<ProgramError as Display>⟧.output error) (E.contents err.old) (E.contents err.new)
+        × D.reports diagnostics.old error diagnostics.new
         × (error ≢ ProgramError.Output → out.new ≡ out.old)
         × (error ≡ ProgramError.Output → (out.new.1 ≡ true)
         × PrintsPrefix words.now (O.contents out.old.0) (O.contents out.new.0)) }
     ensures unchanged_on_error { 0 < result → result < 3 → out.new ≡ out.old }
 {
-    conclude_on(print(alloc, words, out), err)
+    conclude_on(print(alloc, words, out), diagnostics)
 }
 
 /// Runs `program` on the arguments of the process, with a buffer before `out`, which is returned after its last call.
 /// The only word `--help` or `-h` prints the help and the version.
-pub fn run_arguments<O: Write + Drop, E: Write>(
+pub fn run_arguments<O: Write + Drop, D: Diagnostics<ProgramError>>(
     alloc: Global,
     arguments: io::Result<Args>,
     out: O,
-    err: &mut E,
+    diagnostics: &mut D,
 ) -> (u8, Option<Closed<O>>)
     ensures at_most { result.0 ≤ 3 }
     ensures printed { result.0 ≡ 0 → IsSomeAnd result.1 (λ closed. (closed.1 ≡ false)
         × PrintsFor Fixdec arguments (O.contents out) (O.contents closed.0)
         (λ words. Prints words (O.contents out) (O.contents closed.0))) }
-    ensures silent { result.0 ≡ 0 → err.new ≡ err.old }
+    ensures silent { result.0 ≡ 0 → diagnostics.new ≡ diagnostics.old }
     ensures reported { 0 < result.0 → (error : ProgramError) × (result.0 ≡ status_of error)
         × ArgumentsFail Fixdec O.contents arguments out result.1 (WordsFail O.contents out) error
-        × IsReported (⟦<ProgramError as Display>⟧.output error) (E.contents err.old) (E.contents err.new) }
+        × D.reports diagnostics.old error diagnostics.new }
     ensures unchanged_on_error { 0 < result.0 → result.0 < 3 → IfSome result.1 (λ closed. closed ≡ (out, false)) }
 {
     let (words, out) = match start(alloc, Program::Fixdec, arguments, out) {
         Ok(started) => started,
-        Err((ended, closed)) => return (conclude_on(ended, err), Some(closed)),
+        Err((ended, closed)) => return (conclude_on(ended, diagnostics), Some(closed)),
     };
     let Ok(buffer) = BufWriter::with_capacity(alloc, BUFFER, out) else {
         let no_memory = Err(ProgramError::start(Program::Fixdec, WordsError::Memory));
-        return (conclude_on(no_memory, err), None);
+        return (conclude_on(no_memory, diagnostics), None);
     };
     let mut buffered = Out::new(buffer);
-    let status = program(alloc, words.as_slice(), &mut buffered, err);
+    let status = program(alloc, words.as_slice(), &mut buffered, diagnostics);
     if status != 0 {
         return (status, Some(buffered.abandon()));
     }
     let closed = buffered.close();
     if closed.has_failed() {
-        return (conclude_on(Err(ProgramError::Output), err), Some(closed));
+        return (
+            conclude_on(Err(ProgramError::Output), diagnostics),
+            Some(closed),
+        );
     }
     (0, Some(closed))
 }
@@ -170,6 +174,8 @@ pub fn run_arguments<O: Write + Drop, E: Write>(
 pub fn execute(rt: HostRuntime) -> ExitCode
     ensures at_most { exit_status result ≤ 3 }
 {
-    let (status, _out) = run_arguments(rt.alloc(), env::args(&rt), rt.stdout(), &mut rt.stderr());
+    let mut err = rt.stderr();
+    let mut diagnostics = ErrorLines::new(&mut err);
+    let (status, _out) = run_arguments(rt.alloc(), env::args(&rt), rt.stdout(), &mut diagnostics);
     ExitCode::from(status)
 }

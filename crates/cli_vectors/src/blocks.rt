@@ -1,6 +1,6 @@
 //! The output of the longest number in blocks: how often the writer is called, and when no longer.
 use crate::row::Row;
-use cli::fixdec;
+use cli::{ErrorLines, fixdec};
 use std::alloc::Global;
 use std::io;
 use test_support::{FailingWriter, WriteFailure};
@@ -16,7 +16,9 @@ pub fn are_written(alloc: Global) -> Option<bool> {
     for (room, status, writes) in ROWS {
         let out = FailingWriter::new(b"", *room, WriteFailure::StorageFull).with_width(usize::MAX);
         let arguments = row.arguments(alloc)?;
-        let (found, back) = fixdec::run_arguments(alloc, arguments, out, &mut io::sink());
+        let mut err = io::sink();
+        let mut lines = ErrorLines::new(&mut err);
+        let (found, back) = fixdec::run_arguments(alloc, arguments, out, &mut lines);
         if found != *status || back?.into_writer().writes() != *writes {
             return Some(false);
         }

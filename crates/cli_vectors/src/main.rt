@@ -73,7 +73,9 @@ fn holds_by(
     let out = output.writer(failure).with_width(width);
     let mut err = errors.writer(failure).with_width(width);
     let (status, back) = match row.program {
-        Program::Fixdec => fixdec::run_arguments(alloc, arguments, out, &mut err),
+        Program::Fixdec => {
+            fixdec::run_arguments(alloc, arguments, out, &mut ErrorLines::new(&mut err))
+        }
         Program::FixdecLines => run_lines(alloc, arguments, &mut input, out, &mut err)?,
         Program::Plural => {
             plural::run_arguments(alloc, arguments, out, &mut ErrorLines::new(&mut err))
@@ -104,7 +106,8 @@ fn holds_of_words(
     let words = row.words(alloc)?;
     let mut out = Out::new(output.writer(failure).with_width(width));
     let mut err = errors.writer(failure).with_width(width);
-    let status = fixdec::program(alloc, words.as_slice(), &mut out, &mut err);
+    let mut lines = ErrorLines::new(&mut err);
+    let status = fixdec::program(alloc, words.as_slice(), &mut out, &mut lines);
     Some(status == row.status && output.is_in(&out.into_writer()) && errors.is_in(&err))
 }
 

@@ -5,7 +5,7 @@ ghost use Rattle.cli.specs.Filter.{IsNextRow};
 ghost use Rattle.cli.specs.Input.{bytes_left};
 ghost use Rattle.cli.specs.Lines.{Filters};
 ghost use Rattle.cli.specs.Targets.{have_names};
-ghost use Rattle.cli.specs.NamedFilter.{header_record, is_broken_header, filter_of, ArePlaced, PlacesFail, IsFilter, HeaderFails, FiltersNamed};
+ghost use Rattle.cli.specs.NamedFilter.{is_broken_header, filter_of, ArePlaced, PlacesFail, IsFilter, HeaderFails, FiltersNamed};
 
 use crate::lines::edits::FieldConversion;
 use crate::lines::fields::Field;
