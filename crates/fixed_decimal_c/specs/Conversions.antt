@@ -1,5 +1,5 @@
 -- Conversions, whose text is written to the buffer of a caller.
-use Rattle.std.specs.Prelude.{◌≡◌, ◌≢◌, ℕ, ◌⊎◌, List, length, Option, Result, Ok}
+use Rattle.std.specs.Prelude.{◌≡◌, ◌≢◌, ℕ, ◌⊎◌, List, length, Option, None, Result, Ok}
 use Rattle.decimal_unsigned.specs.declared.decimal.TheConstants.{INLINE_DIGITS}
 use Rattle.decimal_unsigned.specs.declared.error.ParseError.{ParseError}
 use Rattle.fixed_decimal.specs.Decimal.{Decimal}
@@ -16,6 +16,7 @@ use Rattle.fixed_decimal_c.specs.declared.calls.FdCall.{FdCall}
 use Rattle.fixed_decimal_c.specs.declared.convert.Forms.{Forms}
 use Rattle.fixed_decimal_c.specs.declared.error.FdError.{FdError}
 use Rattle.fixed_decimal_c.specs.declared.forms.FdForms.{FdForms}
+use Rattle.fixed_decimal_c.specs.declared.forms.Format.TheVariants.{Own}
 use Rattle.fixed_decimal_c.specs.Calls.{AreCalls, DecodeFails}
 use Rattle.fixed_decimal_c.specs.Errors.{error_of_parsing, error_of_run}
 use Rattle.fixed_decimal_c.specs.Formats.{IsTextBy, FormatFails}
@@ -71,6 +72,10 @@ ConvertsCalls answer text forms calls texts old new =
     ⊎ WritesNothing (λ error. FormsFail error forms texts) answer old new
 
 -- ---- Runs: conversions without forms.
+
+-- a text is read and written as a decimal's own
+abbrev pub own_forms : Forms
+own_forms = record { reader = None; format = Own }
 
 -- the error is one with which the library's run may fail, its sink apart
 abbrev pub IsErrorOfRun : List ℕ → List Call → FdError → Type 0

@@ -291,6 +291,7 @@ fn decode_long<'t>(
 }
 
 /// Decodes the calls that C passes: up to eight into the first of a list, and more into a list in memory.
+#[inline]
 pub(crate) fn decode_calls<'t>(
     alloc: Global,
     calls: &[FdCall],
@@ -315,6 +316,7 @@ pub(crate) fn decode_calls<'t>(
 }
 
 /// Returns the calls in memory, or else the first of the others.
+#[inline]
 pub(crate) fn calls_in<'l, 't>(
     long: &'l Option<Vec<Call<'t>>>,
     short: &'l [Call<'t>],

@@ -1,8 +1,8 @@
 //! Conversions: a text is read in one form, changed, and written in another.
-ghost use Rattle.std.specs.Prelude.{◌≡◌, Ok, IfOk, IfErr};
+ghost use Rattle.std.specs.Prelude.{Ok, None, IfOk, IfErr};
 ghost use Rattle.conversions.specs.Conversion.{IsReadBy, ReadingByFails};
 ghost use Rattle.fixed_decimal_c.specs.Formats.{WritesBy};
-ghost use Rattle.fixed_decimal_c.specs.Conversions.{AreForms, FormsFail, Converts, ConvertsDecoded, ConvertsCalls, Runs};
+ghost use Rattle.fixed_decimal_c.specs.Conversions.{AreForms, FormsFail, Converts, ConvertsDecoded, ConvertsCalls, own_forms, Runs};
 
 use crate::calls::{FdCall, INLINE_CALLS, calls_in, decode_calls};
 use crate::error::{FdError, error_of_parsing, error_of_run};
@@ -12,6 +12,14 @@ use crate::texts::write_value;
 use conversions::LocaleReader;
 use fixed_decimal::{Call, Decimal, ParseError, RunError, apply_calls};
 use std::alloc::Global;
+
+#[inline]
+fn read_own(alloc: Global, text: &[u8]) -> Result<Decimal, ParseError>
+    ensures found { IfOk result (λ v. IsReadBy None text.now (Ok v)) }
+    ensures fails_with { IfErr result (ReadingByFails None text.now) }
+{
+    Decimal::try_from_utf8(alloc, text)
+}
 
 /// How a text is read, `None` as a decimal's own text, and how the result is written.
 pub(crate) struct Forms {
@@ -49,7 +57,7 @@ impl Forms {
     {
         match &self.reader {
             Some(reader) => reader.read(alloc, text),
-            None => Decimal::try_from_utf8(alloc, text),
+            None => read_own(alloc, text),
         }
     }
 
@@ -110,6 +118,47 @@ impl Forms {
     }
 }
 
+/// Makes calls on the decimal that a text writes, and writes the text of the result.
+///
+/// It is [`Forms::convert`] without forms, in less time: a value of `Forms` has more than a thousand bytes.
+#[inline]
+fn convert_own(
+    alloc: Global,
+    text: &[u8],
+    calls: &[Call<'_>],
+    buffer: &mut [u8],
+) -> Result<usize, FdError>
+    ensures { Converts own_forms calls.now text.now result buffer.old buffer.new }
+{
+    let mut value = match read_own(alloc, text) {
+        Ok(value) => value,
+        Err(error) => return Err(error_of_parsing(error, 0)),
+    };
+    if let Err(error) = apply_calls(alloc, &mut value, calls) {
+        return Err(error_of_run(RunError::from(error)));
+    }
+    write_value(&value, buffer)
+}
+
+/// The same, with the calls that C passes.
+#[inline]
+fn convert_own_decoded(
+    alloc: Global,
+    text: &[u8],
+    calls: &[FdCall],
+    texts: &[u8],
+    buffer: &mut [u8],
+) -> Result<usize, FdError>
+    ensures { ConvertsDecoded own_forms result text.now calls.now texts.now buffer.old buffer.new }
+{
+    let mut short = [Call::TrimStart; INLINE_CALLS];
+    let decoded = decode_calls(alloc, calls, texts, &mut short);
+    match &decoded {
+        Ok(long) => convert_own(alloc, text, calls_in(long, &short, calls.len()), buffer),
+        Err(error) => Err(*error),
+    }
+}
+
 /// Makes the calls that C passes on the decimal that a text writes, and writes the text of the result.
 pub(crate) fn run(
     alloc: Global,
@@ -120,11 +169,7 @@ pub(crate) fn run(
 ) -> Result<usize, FdError>
     ensures { Runs result start.now calls.now texts.now buffer.old buffer.new }
 {
-    let forms = Forms {
-        reader: None,
-        format: Format::Own,
-    };
-    forms.convert_decoded(alloc, start, calls, texts, buffer)
+    convert_own_decoded(alloc, start, calls, texts, buffer)
 }
 
 /// Reads a text in one form, makes the calls that C passes, and writes the text of the result in another form.

@@ -7,7 +7,7 @@ ghost use Rattle.fixed_decimal_c.specs.Formats.{WritesBy, FormatsText, FormatsIf
 use crate::error::FdError;
 use crate::number_options::FdNumberOptions;
 use crate::numbers::read;
-use crate::texts::{deliver, write_value};
+use crate::texts::{deliver, write_by_block};
 use fixed_decimal::{Decimal, RoundError};
 use number_format::{NumberFormatError, NumberFormatter, NumberOptions};
 use number_skeleton::SkeletonError;
@@ -126,7 +126,7 @@ pub(crate) fn write_number(
     ensures { WritesBy (Skeleton formatter.now) value at result buffer.old buffer.new }
 {
     match formatter.format(alloc, value) {
-        Ok(number) => write_value(&number, buffer),
+        Ok(number) => write_by_block(&number, buffer),
         Err(failed) => Err(error_of_format(failed.error, at)),
     }
 }

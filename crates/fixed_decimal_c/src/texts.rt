@@ -4,6 +4,7 @@ ghost use Rattle.fixed_decimal_c.specs.Texts.{Writes};
 
 use crate::error::FdError;
 use crate::slice_sink::SliceSink;
+use decimal_format::internal::{Block, put_to_block};
 use fixed_decimal::Writeable;
 
 /// Copies a text to the start of a buffer, if it fits.
@@ -37,4 +38,15 @@ pub(crate) fn write_value<T: Writeable>(value: &T, buffer: &mut [u8]) -> Result<
     }
     fill(value, &mut buffer[..needed]);
     Ok(needed)
+}
+
+/// The same for a value whose length takes more time than its text: a short text is written to a block first.
+pub(crate) fn write_by_block<T: Writeable>(value: &T, buffer: &mut [u8]) -> Result<usize, FdError>
+    ensures { Writes result (T.text value.now) buffer.old buffer.new }
+{
+    let mut block = Block::new();
+    match value.write_to(&mut block) {
+        Ok(()) => deliver(block.as_bytes(), buffer),
+        Err(_) => write_value(value, buffer),
+    }
 }

@@ -1,8 +1,8 @@
 use Rattle.std.proofs.Common.{◌≡◌, true, Ok, inl, inr, refl, rules}
+use Rattle.std.proofs.lemmas.Bool.{false_from_ne_true}
 use Rattle.number_skeleton.specs.NoStem.{has_no_stem}
 use Rattle.number_skeleton.specs.Meaning.{skeleton_options, options_value, in_capitals}
 use Rattle.fixed_decimal_c.specs.declared.error.FdError.TheVariants.{NoSkeleton, Memory}
-use Rattle.fixed_decimal_c.proofs.lemmas.texts.Writing.{false_unless}
 use Rattle.fixed_decimal_c.proofs.format.write_skeleton.Goals as goal
 
 pub returns-in-Err : goal.returns-in-Err
@@ -16,7 +16,7 @@ returns-in-Ok-Some c =
     let some = c.in-Ok-Some.field-0-is in
     absurd (cc) in
     let read : skeleton_options c.as_bytes.result.now ≡ Ok (options_value (in_capitals o)) = search rules in
-    inl (o, c.in-Ok.ensures.ok, false_unless _ ⊥ never (λ x. x), c.as_bytes.result.now, read, c.deliver.ensures)
+    inl (o, c.in-Ok.ensures.ok, false_from_ne_true _ never, c.as_bytes.result.now, read, c.deliver.ensures)
 
 pub returns-in-Ok-None : goal.returns-in-Ok-None
 returns-in-Ok-None c =
@@ -28,4 +28,4 @@ returns-in-Err-to_skeleton c =
     let never : has_no_stem (options_value (in_capitals o)) ≡ true → ⊥ = λ e.
     let none = c.in-Err-to_skeleton.ensures.none e in
     absurd (cc) in
-    inr (Memory, refl, inr (o, c.in-Ok.ensures.ok, inr (refl, false_unless _ ⊥ never (λ x. x))), refl)
+    inr (Memory, refl, inr (o, c.in-Ok.ensures.ok, inr (refl, false_from_ne_true _ never)), refl)

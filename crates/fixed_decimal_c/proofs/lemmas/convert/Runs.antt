@@ -1,25 +1,20 @@
 -- A conversion without forms is a run.
-use Rattle.std.proofs.Common.{◌≡◌, ◌≢◌, ℕ, List, None, Result, Ok, inl, inr, sym, ap, ◌∙◌}
+use Rattle.std.proofs.Common.{◌≡◌, ◌≢◌, ℕ, List, Result, Ok, inl, inr, sym, ap, ◌∙◌, arith}
 use Rattle.decimal_unsigned.specs.declared.decimal.TheConstants.{INLINE_DIGITS}
 use Rattle.decimal_unsigned.specs.declared.error.ParseError.TheVariants as parse
-use Rattle.fixed_decimal.specs.DecimalText.{decimal_text, and_then}
-use Rattle.fixed_decimal.specs.Errors.{run_error}
+use Rattle.fixed_decimal.specs.Calls.{CallsFail}
+use Rattle.fixed_decimal.specs.Decimal.{Decimal}
+use Rattle.fixed_decimal.specs.DecimalText.{decimal_text, read_decimal, and_then}
+use Rattle.fixed_decimal.specs.Errors.{run_error, RunFails}
 use Rattle.fixed_decimal.specs.Outcome.{started, after_calls, outcome}
 use Rattle.fixed_decimal.specs.declared.runs.Call.{Call}
 use Rattle.fixed_decimal.specs.declared.runs.CallError.{CallError}
 use Rattle.fixed_decimal.specs.declared.runs.CallError.TheVariants as call
 use Rattle.fixed_decimal.specs.declared.runs.RunError.TheVariants as run
-use Rattle.fixed_decimal.proofs.Calling.{run_fails}
 use Rattle.fixed_decimal_c.specs.declared.calls.FdCall.{FdCall}
-use Rattle.fixed_decimal_c.specs.declared.convert.Forms.{Forms}
 use Rattle.fixed_decimal_c.specs.declared.error.FdError.{FdError}
-use Rattle.fixed_decimal_c.specs.declared.forms.Format.TheVariants.{Own}
-use Rattle.fixed_decimal_c.specs.Conversions.{IsConverted, ConversionFails, ConvertsDecoded, IsErrorOfRun, Runs}
+use Rattle.fixed_decimal_c.specs.Conversions.{IsConverted, ConversionFails, ConvertsDecoded, IsErrorOfRun, own_forms, Runs}
 use Rattle.fixed_decimal_c.proofs.lemmas.texts.Writing.{writes_weaker}
-
--- no form: a text is read and written as a decimal's own
-abbrev own_forms : Forms
-own_forms = record { reader = None; format = Own }
 
 never_sink : (e : CallError) → run_error e ≢ run.Sink
 never_sink (call.Operand at fault) = λ is. cc
@@ -33,6 +28,11 @@ module _ (bytes : List ℕ) (calls : List Call) where
       ap (λ r. and_then (started r) (λ v. and_then (after_calls 0 v calls) (λ w. Ok (decimal_text w)))) (sym h.is_read)
       ∙ ap (λ r. and_then r (λ w. Ok (decimal_text w))) h.called
       ∙ ap Ok (sym h.is)
+
+  -- the first error of the calls is that of the run
+  calls_fail : (e : CallError) (v : Decimal) → read_decimal bytes ≡ Ok v → CallsFail INLINE_DIGITS e v calls
+      → RunFails INLINE_DIGITS (run_error e) bytes calls
+  calls_fail e v is fails = grind arith
 
   error_of_run : (error : FdError) → ConversionFails own_forms calls bytes error → IsErrorOfRun bytes calls error
   error_of_run error (inl (parse.Syntax, is, fails)) = (
@@ -49,7 +49,7 @@ module _ (bytes : List ℕ) (calls : List Call) where
   )
   error_of_run error (inl (parse.Memory, is, fails)) = (run.Start parse.Memory, (λ s. cc), is, fails)
   error_of_run error (inr (v, read, inl (e, is, fails))) =
-      (run_error e, never_sink e, is, run_fails INLINE_DIGITS e bytes v calls (sym read) fails)
+      (run_error e, never_sink e, is, calls_fail e v (sym read) fails)
   error_of_run error (inr (v, read, inr (w, called, never))) = absurd never
 
 pub conversion_is_run :

@@ -1,5 +1,5 @@
 -- What is in a buffer after a text was written to it.
-use Rattle.std.proofs.Common.{◌≡◌, ℕ, ◌+◌, ◌<◌, ◌≤◌, ◌⊎◌, Bool, true, false, List, [], ◌∷◌, ◌++◌, length, take, drop, set, get_or, Some, Result, Ok, Err, inl, inr, refl, sym, ap, subst, ◌∙◌, arith, append_assoc, length-append}
+use Rattle.std.proofs.Common.{◌≡◌, ℕ, ◌+◌, ◌<◌, ◌≤◌, ◌⊎◌, true, List, [], ◌∷◌, ◌++◌, length, take, drop, set, get_or, Some, Result, Ok, Err, inl, inr, sym, ap, subst, ◌∙◌, arith, append_assoc, length-append}
 use Rattle.std.proofs.Math.Seq.{set-append_seam}
 use Rattle.std.proofs.lemmas.Bool.{ltb-true}
 use Rattle.std.proofs.lemmas.List.{length-take, drop-append-le, drop_more, take_all, take-append-drop, append-nil, nil_from_length}
@@ -88,9 +88,3 @@ line_ended text old new count (is, fits, after) inside =
       ended ∙ sym (append_assoc text (10 ∷ []) rest)
           ∙ ap (λ n. (text ++ (10 ∷ [])) ++ drop n old) (sym long),
     )
-
--- ---- A test.
-
-pub false_unless : (b : Bool) (P : Type 0) → (b ≡ true → P) → (P → ⊥) → b ≡ false
-false_unless true P holds never = absurd (never (holds refl))
-false_unless false P holds never = refl
