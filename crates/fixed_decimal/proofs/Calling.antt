@@ -36,8 +36,6 @@ pub use Rattle.decimal_digits.proofs.lemmas.rounding.Ends.{last_is}
 pub use Rattle.decimal_digits.proofs.lemmas.rounding.Ends.{last_at, last_zero, first_zero}
 -- the first and the last digit of a number above 0: its powers of ten, and the two magnitudes
 pub use Rattle.decimal_unsigned.proofs.lemmas.decimal.FirstLast.{Extent, extent, ordered, first_of, last_of}
--- the first error of the calls of a run is that of the run
-pub use Rattle.fixed_decimal.proofs.lemmas.runs.RunInvariant.{run_fails}
 -- a value is below 10 to the 32768
 pub use Rattle.decimal_unsigned.proofs.lemmas.laws.ValueLaws.{below_limit}
 -- a number that a range up to hi holds has its first digit at hi or below
