@@ -122,11 +122,11 @@ macro_rules! texts {
 }
 """
 COMPACT_HEAD = """use super::rows::TableRange;
-use super::rows::compact::CompactCount::*;
 use super::rows::compact::CompactForm::*;
 use super::rows::compact::{
     AffixText, CompactPattern, CompactRun, CompactSet, PercentUnit, UnitPattern,
 };
+use plural_rules::PluralCategory::*;
 
 macro_rules! sets {
     ($($a:literal $b:literal $c:literal $d:literal $e:literal $f:literal;)*) => {
@@ -141,6 +141,15 @@ macro_rules! sets {
 macro_rules! runs {
     ($($first:literal $exponent:literal $start:literal $end:literal;)*) => {
         [$(CompactRun { first: $first, exponent: $exponent, patterns: TableRange($start, $end) }),*]
+    };
+}
+
+macro_rules! count {
+    (ExactlyOne) => {
+        None
+    };
+    ($category:ident) => {
+        Some($category)
     };
 }
 
@@ -159,7 +168,7 @@ macro_rules! affix {
 macro_rules! patterns {
     ($($count:ident $form:ident [$($prefix:literal)*] [$($suffix:literal)*];)*) => {
         [$(CompactPattern {
-            count: $count,
+            count: count!($count),
             form: $form,
             prefix: affix!($($prefix)*),
             suffix: affix!($($suffix)*),

@@ -4,8 +4,6 @@ use Rattle.std.specs.Option.{option_or, option_map_or}
 use Rattle.plural_rules.specs.declared.rules.PluralCategory.{PluralCategory}
 use Rattle.plural_rules.specs.declared.rules.PluralCategory.TheVariants as category
 use Rattle.locale_data.specs.declared.tables.rows.compact.AffixText.{AffixText}
-use Rattle.locale_data.specs.declared.tables.rows.compact.CompactCount.{CompactCount}
-use Rattle.locale_data.specs.declared.tables.rows.compact.CompactCount.TheVariants.{ExactlyOne, Zero, One, Two, Few, Many, Other}
 use Rattle.locale_data.specs.declared.tables.rows.compact.CompactPattern.{CompactPattern}
 use Rattle.locale_data.specs.declared.compact.CompactPatterns.{CompactPatterns}
 use Rattle.locale_data.specs.declared.tables.rows.compact.CompactRun.{CompactRun}
@@ -21,24 +19,15 @@ use Rattle.locale_data.specs.declared.tables.rows.TableRange.{TableRange}
 use Rattle.locale_data.specs.Rows.{part}
 use Rattle.locale_data.specs.Texts.{is_text}
 
--- the count of a plural category
-abbrev pub count_of : PluralCategory → CompactCount
-count_of category.Zero = Zero
-count_of category.One = One
-count_of category.Two = Two
-count_of category.Few = Few
-count_of category.Many = Many
-count_of category.Other = Other
-
--- a number for each count
-abbrev pub count_code : CompactCount → ℕ
-count_code ExactlyOne = 0
-count_code Zero = 1
-count_code One = 2
-count_code Two = 3
-count_code Few = 4
-count_code Many = 5
-count_code Other = 6
+-- a number for each plural category, and for the number 1 itself
+abbrev pub count_code : Option PluralCategory → ℕ
+count_code None = 0
+count_code (Some category.Zero) = 1
+count_code (Some category.One) = 2
+count_code (Some category.Two) = 3
+count_code (Some category.Few) = 4
+count_code (Some category.Many) = 5
+count_code (Some category.Other) = 6
 
 -- the patterns of a style
 abbrev pub range_of : CompactSet → CompactStyle → TableRange
@@ -51,19 +40,19 @@ abbrev pub run_at : List CompactRun → ℤ → Option CompactRun
 run_at runs magnitude = find (λ r. int_le (pos r.first) magnitude) runs
 
 -- the pattern with a count
-abbrev pub pattern_with : CompactCount → List CompactPattern → Option CompactPattern
+abbrev pub pattern_with : Option PluralCategory → List CompactPattern → Option CompactPattern
 pattern_with count patterns = find (λ p. count_code p.count == count_code count) patterns
 
 -- the pattern of 1 itself, or else of the category, or else of the other numbers
 abbrev pub pattern_for : PluralCategory → Bool → List CompactPattern → Option CompactPattern
-pattern_for category is_one patterns =
-    option_or (option_or (if is_one then pattern_with ExactlyOne patterns else None)
-    (pattern_with (count_of category) patterns)) (pattern_with Other patterns)
+pattern_for own is_one patterns =
+    option_or (option_or (if is_one then pattern_with None patterns else None)
+    (pattern_with (Some own) patterns)) (pattern_with (Some category.Other) patterns)
 
 -- the pattern for a number depends on the number: there is one that is not of `Other`
 abbrev pub needs_category : List CompactPattern → Bool
 needs_category [] = false
-needs_category (p ∷ []) = not (count_code p.count == count_code Other)
+needs_category (p ∷ []) = not (count_code p.count == count_code (Some category.Other))
 needs_category (p ∷ (q ∷ patterns)) = true
 
 -- the text in a range

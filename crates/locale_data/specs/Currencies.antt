@@ -16,7 +16,6 @@ use Rattle.locale_data.specs.declared.tables.currencies.TheConstants.{CURRENCIES
 use Rattle.locale_data.specs.declared.tables.formats.TheConstants.{CURRENCY_OVERRIDES, MONEY_FORMATS, PATTERNS}
 use Rattle.locale_data.specs.declared.number_formats.NumberFormats.{NumberFormats}
 use Rattle.locale_data.specs.declared.tables.rows.patterns.MoneyFormat.{MoneyFormat}
-use Rattle.locale_data.specs.Formats.{AreFormatsOf}
 use Rattle.locale_data.specs.Rows.{part, row_named, IsRowOf}
 use Rattle.locale_data.specs.Tag.{compared}
 
@@ -88,11 +87,10 @@ pattern_by formats money sign None =
     (slice_get PATTERNS (pattern_index formats sign))
 
 -- the pattern of a currency: by its override for the tag, or else by that of the region, or else by the formats
-pub record IsCurrencyPattern (tag system code : List ℕ) (sign : CurrencySign) (p : CurrencyPattern) : Type 0 where
-  pub formats : NumberFormats
+pub record IsCurrencyPattern (tag : List ℕ) (formats : NumberFormats) (code : List ℕ) (sign : CurrencySign)
+    (p : CurrencyPattern) : Type 0 where
   pub money : MoneyFormat
   pub own : Option ℕ
-  pub of_tag : AreFormatsOf tag system formats
   pub of_money : slice_get MONEY_FORMATS formats.money ≡ Some money
   pub of_currency : IsOverride (currency_with code) tag own
   pub value : pattern_by formats money sign (option_or own money.replaced) ≡ Some p

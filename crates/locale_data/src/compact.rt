@@ -4,7 +4,7 @@ ghost use Rattle.std.specs.Option.{option_copied};
 ghost use Rattle.locale_data.specs.declared.tables.compact.TheConstants.{COMPACT_RUNS};
 ghost use Rattle.locale_data.specs.Rows.{part};
 ghost use Rattle.locale_data.specs.Texts.{is_text};
-ghost use Rattle.locale_data.specs.Compact.{count_of, count_code, range_of, run_at, pattern_with, pattern_for, patterns_in, compact_patterns, needs_category, text_of, has_texts, has_unit_texts, AreTexts, IsRun, IsExponent, unit_for, IsUnitText, IsUnit};
+ghost use Rattle.locale_data.specs.Compact.{count_code, range_of, run_at, pattern_with, pattern_for, patterns_in, compact_patterns, needs_category, text_of, has_texts, has_unit_texts, AreTexts, IsRun, IsExponent, unit_for, IsUnitText, IsUnit};
 
 use crate::number_formats::NumberFormats;
 use crate::search::{indexed_row, part};
@@ -13,35 +13,22 @@ use crate::tables::compact::{
 };
 use crate::tables::rows::TableRange;
 use crate::tables::rows::compact::{
-    AffixText, CompactCount, CompactPattern, CompactRun, CompactSet, PercentUnit, UnitPattern,
+    AffixText, CompactPattern, CompactRun, CompactSet, PercentUnit, UnitPattern,
 };
 use crate::texts::text_in;
 use plural_rules::PluralCategory;
 
-fn count_of(category: PluralCategory) -> CompactCount
-    ensures { result ≡ count_of category }
-{
-    match category {
-        PluralCategory::Zero => CompactCount::Zero,
-        PluralCategory::One => CompactCount::One,
-        PluralCategory::Two => CompactCount::Two,
-        PluralCategory::Few => CompactCount::Few,
-        PluralCategory::Many => CompactCount::Many,
-        PluralCategory::Other => CompactCount::Other,
-    }
-}
-
-fn count_code(count: CompactCount) -> u8
+fn count_code(count: Option<PluralCategory>) -> u8
     ensures { result ≡ count_code count }
 {
     match count {
-        CompactCount::ExactlyOne => 0,
-        CompactCount::Zero => 1,
-        CompactCount::One => 2,
-        CompactCount::Two => 3,
-        CompactCount::Few => 4,
-        CompactCount::Many => 5,
-        CompactCount::Other => 6,
+        None => 0,
+        Some(PluralCategory::Zero) => 1,
+        Some(PluralCategory::One) => 2,
+        Some(PluralCategory::Two) => 3,
+        Some(PluralCategory::Few) => 4,
+        Some(PluralCategory::Many) => 5,
+        Some(PluralCategory::Other) => 6,
     }
 }
 
@@ -96,7 +83,10 @@ fn run_at(runs: &[CompactRun], magnitude: i16) -> Option<&CompactRun>
     None
 }
 
-fn pattern_with(patterns: &[CompactPattern], count: CompactCount) -> Option<&CompactPattern>
+fn pattern_with(
+    patterns: &[CompactPattern],
+    count: Option<PluralCategory>,
+) -> Option<&CompactPattern>
     ensures { option_copied result ≡ pattern_with count patterns.now }
 {
     for pattern in patterns {
@@ -115,13 +105,13 @@ fn pattern_for(
     ensures { option_copied result ≡ pattern_for category is_one patterns.now }
 {
     let exact = if is_one {
-        pattern_with(patterns, CompactCount::ExactlyOne)
+        pattern_with(patterns, None)
     } else {
         None
     };
     exact
-        .or(pattern_with(patterns, count_of(category)))
-        .or(pattern_with(patterns, CompactCount::Other))
+        .or(pattern_with(patterns, Some(category)))
+        .or(pattern_with(patterns, Some(PluralCategory::Other)))
 }
 
 fn needs_category(patterns: &[CompactPattern]) -> bool
@@ -129,7 +119,7 @@ fn needs_category(patterns: &[CompactPattern]) -> bool
 {
     match patterns {
         [] => false,
-        [pattern] => count_code(pattern.count) != count_code(CompactCount::Other),
+        [pattern] => count_code(pattern.count) != count_code(Some(PluralCategory::Other)),
         _ => true,
     }
 }

@@ -5,7 +5,6 @@ ghost use Rattle.locale_data.specs.declared.tables.currencies.TheConstants.{CURR
 ghost use Rattle.locale_data.specs.declared.tables.formats.TheConstants.{CURRENCY_OVERRIDES};
 ghost use Rattle.locale_data.specs.Currencies.{currency_with, digits_of, symbol_index, IsSymbol, IsSymbolRow, IsSymbolOf, IsOverrideRow, IsOverride, overridden, pattern_index, IsCurrencyPattern};
 
-use crate::formats::formats_of;
 use crate::number_formats::{NumberFormats, pattern_at};
 use crate::search::{Row, indexed_row, row_in, row_named};
 use crate::tables::currencies::{
@@ -215,29 +214,28 @@ fn pattern_index(formats: &NumberFormats, sign: CurrencySign) -> u8
     }
 }
 
-/// Returns how a currency is written for a tag, as `locale` has it, in a numbering system, as `latn`.
+/// Returns how a currency is written for a tag, as `locale` has it, that has these formats.
 ///
 /// It is the pattern that the tag has for this currency, or else that of the region's currency, which ICU uses for all
-/// currencies there, or else the pattern of `formats_of`. Of a code that is not listed it is that of other currencies.
+/// currencies there, or else the pattern of the formats. Of a code that is not listed it is that of other currencies.
 ///
 /// ```
-/// currency_pattern("de", "latn", *b"EUR", CurrencySign::Standard) // 1,00 €
-/// currency_pattern("en", "latn", *b"USD", CurrencySign::Accounting) // ($1.00)
+/// currency_pattern("de", &formats_of("de", "latn"), *b"EUR", CurrencySign::Standard) // 1,00 €
+/// currency_pattern("en", &formats_of("en", "latn"), *b"USD", CurrencySign::Accounting) // ($1.00)
 /// ```
 pub fn currency_pattern(
     tag: &str,
-    system: &str,
+    formats: &NumberFormats,
     code: CurrencyCode,
     sign: CurrencySign,
 ) -> CurrencyPattern
-    ensures { IsCurrencyPattern tag.now system.now code sign result }
+    ensures { IsCurrencyPattern tag.now formats.now code sign result }
 {
-    let formats = formats_of(tag, system);
     let money = indexed_row(&MONEY_FORMATS, formats.money as usize);
     match override_of(tag.as_bytes(), code).or(money.replaced) {
         Some(index) => overridden(index),
         None => CurrencyPattern {
-            pattern: *pattern_at(pattern_index(&formats, sign)),
+            pattern: *pattern_at(pattern_index(formats, sign)),
             decimal: money.decimal,
             grouping: money.grouping,
         },

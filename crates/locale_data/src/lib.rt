@@ -28,7 +28,7 @@ pub use currency::{
     currency_digits, currency_pattern, currency_symbol,
 };
 pub use formats::formats_of;
-pub use locales::{LocaleId, locale, locale_id, locale_in, symbols_at, system_of};
+pub use locales::{LocaleId, locale, locale_and_system, locale_id, locale_in, symbols_at};
 pub use number_formats::NumberFormats;
 pub use plurals::{
     PluralRuleType, PluralRulesError, PluralRulesId, plural_category_at, plural_rules_at,

@@ -128,7 +128,7 @@ fn in_16_bits(index: Option<usize>) -> Option<u16>
 }
 
 /// Returns the row of a tag in `LOCALES`, and its numbering system in `NUMBERING_SYSTEMS`.
-fn locale_and_system(tag: &[u8]) -> Option<(usize, usize)>
+fn rows_of(tag: &[u8]) -> Option<(usize, usize)>
     ensures found { IfSome result (λ found. AreRowsOf tag.now found.0 found.1) }
     ensures inside { IfSome result (λ found. (found.0 < length LOCALES) × (found.1 < length NUMBERING_SYSTEMS)) }
     ensures unknown { IsNone result ↔ IsUnknown tag.now }
@@ -142,35 +142,17 @@ fn locale_and_system(tag: &[u8]) -> Option<(usize, usize)>
 /// Returns the rows of a tag, from which [`symbols_at`] makes its symbols. Returns `None` where [`locale`] does.
 pub fn locale_id(tag: &str) -> Option<LocaleId>
     ensures found { IfSome result (λ id. IsSomeAnd (symbols_at id) (IsLocale tag.now)) }
+    ensures rows { IfSome result (λ id. AreRowsOf tag.now id.locale id.system) }
     ensures unknown { IsNone result ↔ IsUnknown tag.now }
 {
     let tag = tag.as_bytes();
-    let (locale, system) = locale_and_system(tag)?;
+    let (locale, system) = rows_of(tag)?;
     let own = row_index(own_rows(indexed_row(numbering_systems(), system)), tag);
     Some(LocaleId {
         locale: locale as u16,
         system: system as u16,
         own: in_16_bits(own),
     })
-}
-
-/// Returns the name of the numbering system of a tag, as `latn`, which [`formats_of`](crate::formats_of) takes.
-///
-/// It is the one that `nu` names, or the default one of the locale. Returns `None` where [`locale`] does.
-///
-/// ```
-/// system_of("ar-EG") // arab
-/// system_of("hi-u-nu-deva") // deva
-/// ```
-pub fn system_of(tag: &str) -> Option<&'static str>
-    ensures found { IfSome result (λ name. IsSystemName tag.now name.now) }
-    ensures unknown { IsNone result ↔ IsUnknown tag.now }
-{
-    let (_, system) = locale_and_system(tag.as_bytes())?;
-    match str::from_utf8(unpadded(&indexed_row(numbering_systems(), system).name)) {
-        Ok(name) => Some(name),
-        Err(_) => unreachable!(),
-    }
 }
 
 /// Returns the symbols of a locale from its rows, and `None` if there are no such rows.
@@ -209,6 +191,25 @@ pub fn locale(tag: &str) -> Option<DecimalSymbols<'static>>
     match locale_id(tag) {
         Some(id) => symbols_at(id),
         None => None,
+    }
+}
+
+/// Returns the symbols of a tag and the name of its numbering system, as `latn`. Returns `None` where [`locale`] does.
+///
+/// ```
+/// locale_and_system("hi-u-nu-deva") // the symbols of hi in the digits of Devanagari, and deva
+/// ```
+pub fn locale_and_system(tag: &str) -> Option<(DecimalSymbols<'static>, &'static str)>
+    ensures symbols { IfSome result (λ found. IsLocale tag.now found.0) }
+    ensures system { IfSome result (λ found. IsSystemName tag.now found.1.now) }
+    ensures unknown { IsNone result ↔ IsUnknown tag.now }
+{
+    let id = locale_id(tag)?;
+    let symbols = symbols_at(id)?;
+    let system = indexed_row(numbering_systems(), id.system as usize);
+    match str::from_utf8(unpadded(&system.name)) {
+        Ok(name) => Some((symbols, name)),
+        Err(_) => unreachable!(),
     }
 }
 

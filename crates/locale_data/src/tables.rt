@@ -1,4 +1,5 @@
-//! The rows of CLDR 48 for numbers, as declarations without code. They are public for contracts only.
+//! The tables of CLDR 48 for numbers, and the types of their rows. They have no code. An item that `lib.rt` does not
+//! export is public for contracts only.
 
 pub mod compact;
 pub mod currencies;

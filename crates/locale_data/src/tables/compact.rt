@@ -1,11 +1,11 @@
 //! The compact patterns of locales.
 // Written by tools/locales/make_tables.py from data of CLDR 48; their license is tools/locales/LICENSE. Do not edit.
 use super::rows::TableRange;
-use super::rows::compact::CompactCount::*;
 use super::rows::compact::CompactForm::*;
 use super::rows::compact::{
     AffixText, CompactPattern, CompactRun, CompactSet, PercentUnit, UnitPattern,
 };
+use plural_rules::PluralCategory::*;
 
 macro_rules! sets {
     ($($a:literal $b:literal $c:literal $d:literal $e:literal $f:literal;)*) => {
@@ -20,6 +20,15 @@ macro_rules! sets {
 macro_rules! runs {
     ($($first:literal $exponent:literal $start:literal $end:literal;)*) => {
         [$(CompactRun { first: $first, exponent: $exponent, patterns: TableRange($start, $end) }),*]
+    };
+}
+
+macro_rules! count {
+    (ExactlyOne) => {
+        None
+    };
+    ($category:ident) => {
+        Some($category)
     };
 }
 
@@ -38,7 +47,7 @@ macro_rules! affix {
 macro_rules! patterns {
     ($($count:ident $form:ident [$($prefix:literal)*] [$($suffix:literal)*];)*) => {
         [$(CompactPattern {
-            count: $count,
+            count: count!($count),
             form: $form,
             prefix: affix!($($prefix)*),
             suffix: affix!($($suffix)*),

@@ -7,15 +7,13 @@ use Rattle.std.specs.Option.{option_or, option_map_or}
 use Rattle.std.specs.Str.{is_utf8, chars}
 use Rattle.plural_rules.specs.declared.rules.PluralCategory.{PluralCategory}
 use Rattle.plural_rules.specs.declared.rules.PluralCategory.TheVariants as category
-use Rattle.locale_data.specs.declared.tables.rows.compact.CompactCount.{CompactCount}
-use Rattle.locale_data.specs.declared.tables.rows.compact.CompactCount.TheVariants.{ExactlyOne, Zero, One, Two, Few, Many, Other}
 use Rattle.locale_data.specs.declared.tables.rows.compact.CompactPattern.{CompactPattern}
 use Rattle.locale_data.specs.declared.tables.rows.compact.CompactRun.{CompactRun}
 use Rattle.locale_data.specs.declared.compact.CompactStyle.{CompactStyle}
 use Rattle.locale_data.specs.declared.tables.rows.compact.PercentUnit.{PercentUnit}
 use Rattle.locale_data.specs.declared.tables.compact.TheConstants.{COMPACT_BYTES, COMPACT_RUNS, COMPACT_PATTERNS, PERCENT_UNITS}
 use Rattle.locale_data.specs.declared.number_formats.NumberFormats.{NumberFormats}
-use Rattle.locale_data.specs.Compact.{count_of, count_code, range_of, run_at, pattern_with, pattern_for, needs_category, compact_patterns, unit_for, has_unit_texts, AreTexts, IsRun}
+use Rattle.locale_data.specs.Compact.{count_code, range_of, run_at, pattern_with, pattern_for, needs_category, compact_patterns, unit_for, has_unit_texts, AreTexts, IsRun}
 use Rattle.locale_data.specs.declared.tables.rows.TableRange.{TableRange}
 use Rattle.locale_data.specs.Rows.{part}
 use Rattle.locale_data.proofs.lemmas.tables.EachRow.{passes}
@@ -71,27 +69,27 @@ or-some : {X : Type 0} (a b : Option X) (x : X) → option_or a b ≡ Some x →
 or-some None b x e = inr e
 or-some (Some y) b x e = inl e
 
-with-contains : (count : CompactCount) (patterns : List CompactPattern) (p : CompactPattern)
+with-contains : (count : Option PluralCategory) (patterns : List CompactPattern) (p : CompactPattern)
     → pattern_with count patterns ≡ Some p → Contains patterns p
 with-contains count patterns p e = (find_some (λ q. count_code q.count == count_code count) patterns p e).0
 
-for-contains : (category : PluralCategory) (is_one : Bool) (patterns : List CompactPattern) (p : CompactPattern)
-    → pattern_for category is_one patterns ≡ Some p → Contains patterns p
-for-contains category is_one patterns p e =
-    elim (or-some (option_or (exact is_one) (pattern_with (count_of category) patterns))
-    (pattern_with Other patterns) p e) [
-      | inl f ↦ elim (or-some (exact is_one) (pattern_with (count_of category) patterns) p f) [
+for-contains : (own : PluralCategory) (is_one : Bool) (patterns : List CompactPattern) (p : CompactPattern)
+    → pattern_for own is_one patterns ≡ Some p → Contains patterns p
+for-contains own is_one patterns p e =
+    elim (or-some (option_or (exact is_one) (pattern_with (Some own) patterns))
+    (pattern_with (Some category.Other) patterns) p e) [
+      | inl f ↦ elim (or-some (exact is_one) (pattern_with (Some own) patterns) p f) [
         | inl g ↦ exactly is_one g
-        | inr g ↦ with-contains (count_of category) patterns p g
+        | inr g ↦ with-contains (Some own) patterns p g
       ]
-      | inr f ↦ with-contains Other patterns p f
+      | inr f ↦ with-contains (Some category.Other) patterns p f
     ]
   where
     exact : Bool → Option CompactPattern
-    exact is_one = cond is_one (pattern_with ExactlyOne patterns) None
+    exact is_one = cond is_one (pattern_with None patterns) None
 
     exactly : (is_one : Bool) → exact is_one ≡ Some p → Contains patterns p
-    exactly true e = with-contains ExactlyOne patterns p e
+    exactly true e = with-contains None patterns p e
     exactly false e = cc
 
 pub pattern_has_texts : (range : TableRange) (category : PluralCategory) (is_one : Bool) (p : CompactPattern)
@@ -102,8 +100,9 @@ pattern_has_texts range category is_one p e =
 
 -- ---- A pattern of `Other` alone is for each number.
 
-only_other : (p : CompactPattern) (category : PluralCategory) (is_one : Bool)
-    → pattern_for category is_one (record p { count = Other } ∷ []) ≡ Some (record p { count = Other })
+only_other : (p : CompactPattern) (own : PluralCategory) (is_one : Bool)
+    → pattern_for own is_one (record p { count = Some category.Other } ∷ [])
+    ≡ Some (record p { count = Some category.Other })
 only_other p category.Zero true = refl
 only_other p category.Zero false = refl
 only_other p category.One true = refl
@@ -117,14 +116,15 @@ only_other p category.Many false = refl
 only_other p category.Other true = refl
 only_other p category.Other false = refl
 
-is_other : (count : CompactCount) → not (count_code count == count_code Other) ≡ false → count ≡ Other
-is_other Other e = refl
-is_other ExactlyOne e = absurd (cc)
-is_other Zero e = absurd (cc)
-is_other One e = absurd (cc)
-is_other Two e = absurd (cc)
-is_other Few e = absurd (cc)
-is_other Many e = absurd (cc)
+is_other : (count : Option PluralCategory) → not (count_code count == count_code (Some category.Other)) ≡ false
+    → count ≡ Some category.Other
+is_other (Some category.Other) e = refl
+is_other None e = absurd (cc)
+is_other (Some category.Zero) e = absurd (cc)
+is_other (Some category.One) e = absurd (cc)
+is_other (Some category.Two) e = absurd (cc)
+is_other (Some category.Few) e = absurd (cc)
+is_other (Some category.Many) e = absurd (cc)
 
 none_of : (category : PluralCategory) (is_one : Bool) → pattern_for category is_one [] ≡ None
 none_of category true = refl

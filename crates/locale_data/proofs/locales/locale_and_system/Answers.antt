@@ -1,43 +1,18 @@
-use Rattle.std.proofs.Common.{is_some, ap, subst, sym, inl}
-use Rattle.locale_data.specs.declared.tables.symbols.TheConstants.{LOCALES}
-use Rattle.locale_data.specs.Locales.{IsListed}
-use Rattle.locale_data.proofs.lemmas.tables.EachRow.{locales_are_table, contains_at}
-use Rattle.locale_data.proofs.lemmas.locales.IndexedRows.{rows_found}
-use Rattle.locale_data.proofs.lemmas.locales.Unknown.{unknown_system, rows_are_known}
+use Rattle.std.proofs.Common.{subst, sym}
+use Rattle.std.specs.Str.{IsUtf8}
+use Rattle.std.proofs.lemmas.Option.{slice_get_within}
+use Rattle.locale_data.specs.declared.tables.symbols.TheConstants.{NUMBERING_SYSTEMS}
+use Rattle.locale_data.proofs.lemmas.tables.EachRow.{contains_at, has_text_if_listed}
 use Rattle.locale_data.proofs.locales.locale_and_system.Goals as goal
 
-pub row_index-requires : goal.row_index-requires
-row_index-requires c = rw c.locales-rows.ensures locales_are_table
+pub indexed_row-system-requires : goal.indexed_row-system-requires
+indexed_row-system-requires c =
+    let rows = c.in_ok-id.ensures.rows in
+    rw c.numbering_systems.ensures (slice_get_within NUMBERING_SYSTEMS _ rows.system rows.at_system)
 
-pub system_index-requires : goal.system_index-requires
-system_index-requires c =
-    contains_at LOCALES c.in_ok-locale.locale c.indexed_row.result.now
-    (rw c.locales-rows.ensures at c.indexed_row.ensures)
-
-pub returns-in_err-locale-clause-unknown : goal.returns-in_err-locale-clause-unknown
-returns-in_err-locale-clause-unknown c = (
-  λ _. inl (rw c.locales-rows.ensures at c.in_err-locale.ensures.value),
-  λ _. ap is_some c.from_residual.ensures,
-)
-
-pub returns-in_err-system-clause-unknown : goal.returns-in_err-system-clause-unknown
-returns-in_err-system-clause-unknown c =
-    let at = rw c.locales-rows.ensures at c.indexed_row.ensures in
-    let listed = subst (IsListed LOCALES c.args.tag.now) at
-    (rw c.locales-rows.ensures at c.in_ok-locale.ensures.value) in (
-      λ _. unknown_system c.args.tag.now c.indexed_row.result.now listed (sym c.in_err-system.ensures.value),
-      λ _. ap is_some c.from_residual-in_err-system.ensures,
-    )
-
-pub returns-clause-found : goal.returns-clause-found
-returns-clause-found c =
-    let at = rw c.locales-rows.ensures at c.indexed_row.ensures in
-    rows_found c.args.tag.now c.indexed_row.result.now c.in_ok-locale.locale c.in_ok-system.system at
-    (subst (IsListed LOCALES c.args.tag.now) at (rw c.locales-rows.ensures at c.in_ok-locale.ensures.value))
-    c.in_ok-system.ensures.value c.in_ok-system.ensures.inside
-
-pub returns-clause-unknown : goal.returns-clause-unknown
-returns-clause-unknown c = (
-  λ none. cc,
-  λ u. absurd (rows_are_known c.args.tag.now _ _ (returns-clause-found c) u),
-)
+pub unreachable-requires : goal.unreachable-requires
+unreachable-requires c =
+    let system = c.indexed_row-system.result.now in
+    let at = rw c.numbering_systems.ensures at c.indexed_row-system.ensures in
+    let listed = contains_at NUMBERING_SYSTEMS c.in_ok-id.id.system system at in
+    c.in-Err.ensures.cases.0 (subst IsUtf8 (sym c.unpadded.ensures) (has_text_if_listed system listed))

@@ -1,6 +1,7 @@
 //! Compact patterns.
 
 use super::TableRange;
+use plural_rules::PluralCategory;
 
 /// The compact patterns of a locale, as parts of a table of runs.
 #[derive(Clone, Copy)]
@@ -22,20 +23,6 @@ pub struct CompactRun {
     pub exponent: u8,
     /// The patterns.
     pub patterns: TableRange,
-}
-
-/// The numbers that a pattern is for.
-#[derive(Clone, Copy)]
-pub enum CompactCount {
-    /// The number 1 itself.
-    ExactlyOne,
-    /// A plural category, as the next five.
-    Zero,
-    One,
-    Two,
-    Few,
-    Many,
-    Other,
 }
 
 /// How a pattern is written.
@@ -65,8 +52,8 @@ pub struct AffixText {
 /// A compact pattern.
 #[derive(Clone, Copy)]
 pub struct CompactPattern {
-    /// The numbers that it is for.
-    pub count: CompactCount,
+    /// The plural category that it is for, or `None`: the number 1 itself.
+    pub count: Option<PluralCategory>,
     /// How it is written.
     pub form: CompactForm,
     /// The text before the number.
