@@ -258,7 +258,7 @@ little_memory 'line 2: memory' "$(seq 2000 4000 130000)" 1 $'7\n' $'line 2: star
 help fixdec_lines 'usage: fixdec_lines [OPTION].. [read:LOCALE] [CALL].. [format:LOCALE]'
 lines 0 '1\n' "fixdec_lines $version"$'\n' '' --version
 wrong 'no such word: --version (--help lists all)' --version skip
-sed -n '/static LOCALES:/,/^];/s/.*tag: \*b"\([a-z0-9-]*\) *".*/\1/p' crates/locale_data/src/symbols_table.rt > "$room/tags"
+sed -n '/static LOCALES:/,/^];/s/.*tag: \*b"\([a-z0-9-]*\) *".*/\1/p' crates/locale_data/src/tables/symbols.rt > "$room/tags"
 "$room/fixdec_lines" --locales < /dev/null | cmp -s - "$room/tags" && [ "$(wc -l < "$room/tags")" -gt 300 ]
 judge $? 'fixdec_lines --locales'
 

@@ -37,7 +37,7 @@ abbrev pub IsStyle : NumberStyle → NumberNotation → List ℕ → List ℕ �
     → CurrencyPattern → ShownCurrency → Type 0
 IsStyle NumberStyle.Decimal n tag system sizes formats display p shown = IsWithoutCurrency (plain_pattern sizes) p shown
 IsStyle (NumberStyle.Currency c) n tag system sizes formats display p shown =
-    IsCurrencyPattern tag system c.code (currency_sign display c.sign) p
+    IsCurrencyPattern tag formats c.code (currency_sign display c.sign) p
     × (own : ShownCurrency) × IsShownCurrency tag c own × (shown ≡ in_system system own)
 IsStyle other (NumberNotation.Compact words) tag system sizes formats display p shown =
     IsWithoutCurrency (plain_pattern sizes) p shown

@@ -1,7 +1,7 @@
 //! Formats and reads numbers as `Intl.NumberFormat` of ECMA-402 does, with the data of CLDR, on decimals of any length.
 //!
-//! - [`NumberFormatter`] writes a number in a locale by [`NumberOptions`], which a number skeleton of ICU can name:
-//!   plain numbers, percent, permille and money, in standard, scientific, engineering and compact notation.
+//! - [`NumberFormatter`] writes a number in a locale by [`NumberOptions`]: plain numbers, percent, permille and money,
+//!   in standard, scientific, engineering and compact notation.
 //! - [`NumberReader`] reads what a formatter writes.
 //! - [`DigitOptions`] and [`Notation`] decide which digits are shown, and the exponent:
 //!   `SetNumberFormatDigitOptions`, `FormatNumericToString` and `ComputeExponent` of ECMA-402.

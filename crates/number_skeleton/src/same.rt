@@ -7,47 +7,20 @@ ghost use Rattle.number_skeleton.specs.Meaning.{options_value};
 ghost use Rattle.number_format.specs.declared.digits.precision.Precision.TheVariants.{Multiples, MorePrecision};
 
 use number_format::{
-    BothDigits, DigitOptions, ExponentOptions, FractionDigits, FractionMultiples, Minimum,
-    NumberNotation, NumberOptions, NumberStyle, Precision, SignificantDigits, TrailingZeros,
+    BothDigits, DigitOptions, FractionDigits, FractionMultiples, NumberNotation, NumberOptions,
+    NumberStyle, Precision, SignificantDigits,
 };
 
 fn same_style(first: NumberStyle, second: NumberStyle) -> bool
     ensures { (result ≡ true) ↔ (first ≡ second) }
 {
-    match (first, second) {
-        (NumberStyle::Decimal, NumberStyle::Decimal) => true,
-        (NumberStyle::Percent, NumberStyle::Percent) => true,
-        (NumberStyle::Permille, NumberStyle::Permille) => true,
-        (NumberStyle::Currency(first), NumberStyle::Currency(second)) => {
-            first.code == second.code
-                && first.display == second.display
-                && first.sign == second.sign
-                && first.usage == second.usage
-        }
-        _ => false,
-    }
-}
-
-fn same_exponent(first: ExponentOptions, second: ExponentOptions) -> bool
-    ensures { (result ≡ true) ↔ (first ≡ second) }
-{
-    first.digits == second.digits && first.sign == second.sign
+    first == second
 }
 
 fn same_notation(first: NumberNotation, second: NumberNotation) -> bool
     ensures { (result ≡ true) ↔ (first ≡ second) }
 {
-    match (first, second) {
-        (NumberNotation::Standard, NumberNotation::Standard) => true,
-        (NumberNotation::Scientific(first), NumberNotation::Scientific(second)) => {
-            same_exponent(first, second)
-        }
-        (NumberNotation::Engineering(first), NumberNotation::Engineering(second)) => {
-            same_exponent(first, second)
-        }
-        (NumberNotation::Compact(first), NumberNotation::Compact(second)) => first == second,
-        _ => false,
-    }
+    first == second
 }
 
 fn same_fraction(first: FractionDigits, second: FractionDigits) -> bool
@@ -68,21 +41,12 @@ fn same_multiples(first: FractionMultiples, second: FractionMultiples) -> bool
     first.digits == second.digits && first.increment.value() == second.increment.value()
 }
 
-fn same_minimum(first: Minimum, second: Minimum) -> bool
-    ensures { (result ≡ true) ↔ (first ≡ second) }
-{
-    match (first, second) {
-        (Minimum::Chosen, Minimum::Chosen) | (Minimum::Both, Minimum::Both) => true,
-        _ => false,
-    }
-}
-
 fn same_both(first: BothDigits, second: BothDigits) -> bool
     ensures { (result ≡ true) ↔ (precision_value (MorePrecision first) ≡ precision_value (MorePrecision second)) }
 {
     same_fraction(first.fraction, second.fraction)
         && same_significant(first.significant, second.significant)
-        && same_minimum(first.minimum, second.minimum)
+        && first.minimum == second.minimum
 }
 
 fn same_precision(first: Precision, second: Precision) -> bool
@@ -106,16 +70,6 @@ fn same_precision(first: Precision, second: Precision) -> bool
     }
 }
 
-fn same_trailing_zeros(first: TrailingZeros, second: TrailingZeros) -> bool
-    ensures { (result ≡ true) ↔ (first ≡ second) }
-{
-    match (first, second) {
-        (TrailingZeros::Auto, TrailingZeros::Auto) => true,
-        (TrailingZeros::StripIfInteger, TrailingZeros::StripIfInteger) => true,
-        _ => false,
-    }
-}
-
 fn same_digits(first: DigitOptions, second: DigitOptions) -> bool
     ensures { (result ≡ true) ↔ (digits_value first ≡ digits_value second) }
 {
@@ -123,7 +77,7 @@ fn same_digits(first: DigitOptions, second: DigitOptions) -> bool
         && first.integer.max == second.integer.max
         && same_precision(first.precision, second.precision)
         && first.mode == second.mode
-        && same_trailing_zeros(first.trailing_zeros, second.trailing_zeros)
+        && first.trailing_zeros == second.trailing_zeros
 }
 
 fn same_digit_options(first: Option<DigitOptions>, second: Option<DigitOptions>) -> bool

@@ -15,8 +15,8 @@ use crate::options::{NumberOptions, NumberStyle};
 use decimal_format::DecimalSymbols;
 use fixed_decimal::{Decimal, DecimalStore, RoundError};
 use locale_data::{
-    NumberFormats, PluralRuleType, PluralRulesId, formats_of, locale, locale_in, plural_category_at,
-    plural_rules_id, system_of, unpadded,
+    NumberFormats, PluralRuleType, PluralRulesId, formats_of, locale_and_system, locale_in,
+    plural_category_at, plural_rules_id, unpadded,
 };
 use plural_rules::{PluralCategory, PluralOperands};
 
@@ -55,24 +55,21 @@ impl NumberFormatter {
 
     /// Makes the formatter of a locale and options. It does not allocate.
     ///
-    /// `tag` is a tag as [`locale`] has it. The rows of the tables are looked up once.
+    /// `tag` is a tag as [`locale`](locale_data::locale) has it.
     ///
     /// # Errors
     ///
-    /// - `UnknownLocale`: [`locale`] returns `None`.
+    /// - `UnknownLocale`: `locale` returns `None`.
     /// - `UnknownNumberingSystem`: it returns symbols, and no numbering system has the name that the options have.
     pub fn try_new(tag: &str, options: NumberOptions) -> Result<NumberFormatter, NumberFormatError>
         ensures ok { IfOk result (λ f. IsFormatter tag.now options f) }
         ensures err { IfErr result (λ e. IsFormatterError tag.now options.numbering_system e) }
     {
-        let Some(system) = system_of(tag) else {
+        let Some((symbols, system)) = locale_and_system(tag) else {
             return Err(NumberFormatError::UnknownLocale);
         };
         match &options.numbering_system {
-            None => match locale(tag) {
-                Some(symbols) => Self::in_system(tag, system, symbols, &options),
-                None => Err(NumberFormatError::UnknownLocale),
-            },
+            None => Self::in_system(tag, system, symbols, &options),
             Some(name) => {
                 let system = text_or_nothing(unpadded(name));
                 match locale_in(tag, system) {

@@ -123,7 +123,7 @@ pub(crate) fn style_of(
     match (options.style, options.notation) {
         (NumberStyle::Currency(style), _) => {
             let sign = currency_sign(options.sign_display, style.sign);
-            let written = currency_pattern(tag, system, style.code, sign);
+            let written = currency_pattern(tag, formats, style.code, sign);
             (written, ShownCurrency::of(tag, &style).in_system(system))
         }
         (NumberStyle::Decimal, _) | (_, NumberNotation::Compact(_)) => {

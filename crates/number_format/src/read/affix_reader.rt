@@ -5,7 +5,9 @@ ghost use Rattle.number_format.specs.AffixedTexts.{AreNamed, shifted, IsShown, I
 
 use crate::read::sign_affixes::SignAffixes;
 use decimal_format::DecimalSymbols;
-use decimal_format::internal::{Alternative, begins_with_digit, ends_with_digit, read_alternatives};
+use decimal_format::internal::{
+    Alternative, begins_with_digit, ends_with_digit, read_alternatives,
+};
 use fixed_decimal::{DigitStore, ParseError, Sign, Signed, UnsignedOver};
 use std::alloc::Global;
 use std::marker::Model;

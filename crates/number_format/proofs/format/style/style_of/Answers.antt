@@ -13,7 +13,7 @@ returns-in-Currency-default c =
     let p = c.currency_pattern-written.result in
     subst (λ (s : NumberStyle). IsStyle s o.notation tag system c.args.sizes c.args.formats.now o.sign_display p
     c.in_system.result) (sym c.in-Currency-default.is-0) (
-      subst (λ g. IsCurrencyPattern tag system style.code g p) c.currency_sign-sign.ensures
+      subst (λ g. IsCurrencyPattern tag c.args.formats.now style.code g p) c.currency_sign-sign.ensures
           c.currency_pattern-written.ensures,
       c.of.result,
       c.of.ensures,

@@ -1,12 +1,13 @@
-use Rattle.std.proofs.Common.{◌≡◌, true, false, List, ℕ, subst, sym, ◌∙◌, ap}
+use Rattle.std.proofs.Common.{◌≡◌, true, false, List, ℕ, subst, sym, ◌∙◌, ap, inl, inr}
 use Rattle.std.specs.Prelude.{Option, Result, Ok, Err, IfOk, MatchOption}
 use Rattle.decimal_format.specs.Symbols.{Symbols}
-use Rattle.locale_data.specs.Locales.{IsLocale, IsLocaleIn, IsSystemName, IsUnknown}
+use Rattle.locale_data.specs.Locales.{system_named, IsLocale, IsLocaleIn, IsSystemName, IsUnknown}
 use Rattle.locale_data.specs.Rows.{unpadded}
 use Rattle.number_format.specs.declared.format.formatter.NumberFormatError.{NumberFormatError}
 use Rattle.number_format.specs.declared.format.formatter.NumberFormatter.{NumberFormatter}
 use Rattle.number_format.specs.declared.options.NumberOptions.{NumberOptions}
-use Rattle.number_format.specs.Formatters.{IsFormatterIn, IsFormatter}
+use Rattle.number_format.specs.Formatters.{IsFormatterIn, IsFormatter, IsFormatterError}
+use Rattle.number_format.specs.declared.format.formatter.NumberFormatError.TheVariants.{UnknownNumberingSystem}
 use Rattle.number_format.specs.NumberStyles.{text_or_nothing}
 use Rattle.number_format.proofs.format.formatter.NumberFormatter.try_new.Goals as goal
 
@@ -25,15 +26,27 @@ formatter_by (Ok f) tag system own o known in_system made =
     record { known = known; system = system; own = own; in_system_of = in_system; made = made }
 formatter_by (Err e) tag system own o known in_system made = made
 
-pub returns-in-Some-locale-clause-ok : goal.returns-in-Some-locale-clause-ok
-returns-in-Some-locale-clause-ok c =
+pub returns-in-None-clause-ok : goal.returns-in-None-clause-ok
+returns-in-None-clause-ok c =
     let tag = c.args.tag.now in
     let system = c.in-Some.system.now in
-    let own = c.in-Some-locale.symbols in
+    let own = c.in-Some.symbols in
     formatter_by c.in_system.result tag system own c.args.options (λ u. differ (c.in-Some.ensures.unknown.1 u))
-    (subst (λ n. IsInSystem tag n system own) (sym c.in-None.is)
-    (c.in-Some-locale.ensures.found, c.in-Some.ensures.found))
+    (subst (λ n. IsInSystem tag n system own) (sym c.in-None.is) (c.in-Some.ensures.symbols, c.in-Some.ensures.system))
     c.in_system.ensures.ok
+
+pub returns-in-None-locale_in-clause-err : goal.returns-in-None-locale_in-clause-err
+returns-in-None-locale_in-clause-err c =
+    let tag = c.args.tag.now in
+    let known : ¬ IsUnknown tag = λ u. differ (c.in-Some.ensures.unknown.1 u) in
+    let same = c.text_or_nothing-system.ensures.value ∙ ap text_or_nothing c.unpadded.ensures in
+    subst (λ n. IsFormatterError tag n UnknownNumberingSystem) (sym c.in-Some-numbering_system.is) (
+      known,
+      elim c.in-None-locale_in.ensures.unknown [
+        | inl none ↦ absurd (known (inl none))
+        | inr none ↦ ap system_named (sym same) ∙ none
+      ],
+    )
 
 pub returns-in-Some-locale_in-clause-ok : goal.returns-in-Some-locale_in-clause-ok
 returns-in-Some-locale_in-clause-ok c =
