@@ -213,7 +213,7 @@ def check_wrong_bodies():
                 texts[file] = text.replace(old, rest)
 
 
-def check_modules():
+def check_design():
     """DESIGN's table has each module of each crate, and each file of definitions and of lemmas once, but those that are
     named after a module."""
     table = {crate: ([], [], []) for crate in CRATES}
@@ -264,7 +264,7 @@ def check_examples():
 
 
 for part in [check_links, check_quotes, check_proved, check_public, check_code, check_rows, check_help, check_versions,
-             check_counts, check_wrong_bodies, check_modules, check_examples]:
+             check_counts, check_wrong_bodies, check_design, check_examples]:
     part()
 print("\n".join([*failures, f"{passes} passed, {len(failures)} failed"]))
 sys.exit(1 if failures else 0)
