@@ -4,7 +4,6 @@ use Rattle.std.specs.Prelude.{◌≡◌, ℕ, zero, suc, ◌+◌, ◌/◌, ◌%�
 use Rattle.std.specs.Char.{is_ascii_digit}
 use Rattle.std.specs.List.{prefix_len}
 use Rattle.std.specs.Str.Parse.{digits_value, digits_value_after}
-use Rattle.decimal_unsigned.specs.declared.decimal.parse.fast_path.PlainText.{PlainText}
 use Rattle.decimal_unsigned.specs.Grammar.{Literal}
 use Rattle.decimal_unsigned.specs.Reading.{parts_of}
 
@@ -23,9 +22,9 @@ abbrev pub plain_parts : List ℕ → ℕ → Literal
 plain_parts text whole = record { whole = take whole text; fraction = drop (whole + 1) text; exponent = None }
 
 -- the text is up to 32 digits, with or without a decimal point, and these are their numbers and their number in base 16
-pub record IsPlainText (text : List ℕ) (p : PlainText ℕ) : Type 0 where
-  pub parts : parts_of text ≡ Some (plain_parts text p.whole)
-  pub whole : length (take p.whole text) ≡ p.whole
-  pub fraction : length (drop (p.whole + 1) text) ≡ p.fraction
-  pub few : length (take p.whole text ++ drop (p.whole + 1) text) ≤ 32
-  pub number : p.number ≡ digits_value 16 (take p.whole text ++ drop (p.whole + 1) text)
+pub record IsPlainText (text : List ℕ) (whole fraction number : ℕ) : Type 0 where
+  pub parts : parts_of text ≡ Some (plain_parts text whole)
+  pub integer_digits : length (take whole text) ≡ whole
+  pub fraction_digits : length (drop (whole + 1) text) ≡ fraction
+  pub few : length (take whole text ++ drop (whole + 1) text) ≤ 32
+  pub value : number ≡ digits_value 16 (take whole text ++ drop (whole + 1) text)

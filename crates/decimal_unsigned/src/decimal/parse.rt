@@ -1,11 +1,10 @@
 //! Parsing of a value. `Syntax` and `Limit` are decided before any allocation.
-ghost use Rattle.std.specs.Prelude.{◌≡◌, ◌≢◌, ◌+◌, ◌-◌, ◌<◌, ◌≤◌, ◌++◌, length, take, drop, map, IfSome, IfOk, IfErr, Ok, Err, IsOk, IsOkAnd};
+ghost use Rattle.std.specs.Prelude.{◌≡◌, ◌<◌, ◌≤◌, IfSome, IfOk, IfErr, Ok, IsOk, IsOkAnd};
 ghost use Rattle.std.specs.Char.{digit_value};
 ghost use Rattle.std.specs.Str.Parse.{AllDigits};
 ghost use Rattle.decimal_digits.specs.Number.{size};
-ghost use Rattle.decimal_unsigned.specs.Grammar.{Literal, Grammar};
 ghost use Rattle.decimal_unsigned.specs.Reading.{read};
-ghost use Rattle.decimal_unsigned.specs.ParseResult.{ParseFails, IsParseResult, ResultFollowsGrammar, IsPlain, digit_count};
+ghost use Rattle.decimal_unsigned.specs.ParseResult.{ParseFails, IsParseResult, Parses};
 ghost use Rattle.decimal_unsigned.specs.Parts.{view};
 ghost use Rattle.decimal_unsigned.specs.ScannedDigits.{middle, digits_of};
 
@@ -17,7 +16,7 @@ mod words;
 use super::UnsignedOver;
 use crate::ParseError;
 use decimal_digits::digits::DigitStore;
-use fast_path::{few_digits, wide_bcd_value};
+use fast_path::{plain_text, wide_bcd_value};
 pub use parts::numeral;
 use parts::{Parts, split};
 use plan::{Plan, planned};
@@ -133,13 +132,7 @@ impl<D: DigitStore> UnsignedOver<D> {
     // Inlined always, for the reason that `from_short_text` gives.
     #[inline(always)]
     pub fn try_from_utf8(alloc: Global, text: &[u8]) -> Result<Self, ParseError>
-        // `Memory` is possible only with more digits than fit without an allocation.
-        ensures parses { IsParseResult (λ v. D.L < size v.number) result (read text.now) }
-        // `Syntax`, `Limit` and the value are those of the grammar.
-        ensures grammar { ResultFollowsGrammar text.now result }
-        // Without an exponent only the number of digits can exceed the limit, and up to `L` digits need no allocation.
-        ensures plain { (w : Literal) → Grammar text.now w → IsPlain w → result ≢ Err ParseError.Limit }
-        ensures at_most { (w : Literal) → Grammar text.now w → digit_count w ≤ D.L → result ≢ Err ParseError.Memory }
+        ensures { Parses D.L text.now result }
     {
         if let Some(value) = Self::from_short_text(alloc, text) {
             return Ok(value);
@@ -150,10 +143,7 @@ impl<D: DigitStore> UnsignedOver<D> {
     /// Parses a value, as [`Self::try_from_utf8`] of the bytes.
     #[inline(always)]
     pub fn try_from_str(alloc: Global, text: &str) -> Result<Self, ParseError>
-        ensures parses { IsParseResult (λ v. D.L < size v.number) result (read text.now) }
-        ensures grammar { ResultFollowsGrammar text.now result }
-        ensures plain { (w : Literal) → Grammar text.now w → IsPlain w → result ≢ Err ParseError.Limit }
-        ensures at_most { (w : Literal) → Grammar text.now w → digit_count w ≤ D.L → result ≢ Err ParseError.Memory }
+        ensures { Parses D.L text.now result }
     {
         Self::try_from_utf8(alloc, text.as_bytes())
     }
@@ -169,7 +159,7 @@ impl<D: DigitStore> UnsignedOver<D> {
     pub fn from_short_text(alloc: Global, text: &[u8]) -> Option<Self>
         ensures { IfSome result (λ v. read text.now ≡ Ok v) }
     {
-        let plain = few_digits(text, D::L.min(16))?;
+        let plain = plain_text::<u64>(text, D::L.min(16))?;
         Self::from_bcd_digits(alloc, plain.whole, plain.fraction, plain.number).ok()
     }
 

@@ -180,13 +180,12 @@ module _ (text : List ℕ) (whole number k : ℕ) (most : k ≤ 32) (few : lengt
 
   plain : (fraction n : ℕ) → parts_of text ≡ Some (plain_parts text whole) → length (drop (whole + 1) text) ≡ fraction
       → n ≡ digits_value 16 (take whole text ++ drop (whole + 1) text) % 2 ^ (4 * k)
-      → IsPlainText text (record { whole = whole; fraction = fraction; number = n })
+      → IsPlainText text whole fraction n
   plain fraction n parts size e =
       let all = digits_some text (plain_parts text whole) (sym (ap (option_map saturated_parts) parts)) in
       grind (steps, at_most, long, digits, mod-eq_of_lt, digits_fit)
 
-  pub plain_whole : 0 < whole → drop whole text ≡ []
-      → IsPlainText text (record { whole = whole; fraction = 0; number = number })
+  pub plain_whole : 0 < whole → drop whole text ≡ [] → IsPlainText text whole 0 number
   plain_whole some none =
       let following : drop (whole + 1) text ≡ [] = sym (drop-drop 1 whole text) ∙ ap (drop 1) none in
       plain 0 number (parts_whole text whole digits some none) (ap length following)
@@ -195,7 +194,7 @@ module _ (text : List ℕ) (whole number k : ℕ) (most : k ≤ 32) (few : lengt
   pub plain_point : (rest : List ℕ) (fraction more : ℕ) → whole < length text → get_or text whole 0 ≡ decimal_point
       → rest ≡ drop (whole + 1) text → fraction ≡ prefix_len is_ascii_digit rest → 0 < fraction → length rest ≤ fraction
       → more ≡ digits_value_after 16 number (take fraction rest) % 2 ^ (4 * k)
-      → IsPlainText text (record { whole = whole; fraction = fraction; number = more })
+      → IsPlainText text whole fraction more
   plain_point rest fraction more in_text byte rest_is digits' some all n =
       let following = sym rest_is in
       let size : length rest ≡ fraction = omega (arith, all, digits', prefix_len-le-length is_ascii_digit rest) in
@@ -317,7 +316,7 @@ module _ (whole fraction number : ℕ) (fits : number < 2 ^ 64) (some : 0 < numb
       _ _ refl refl (λ es l few below e. zeros_of_digits es _ _ l few below e)
 
 -- ---- The value of a plain text.
-module _ (text : List ℕ) (p : PlainText ℕ) (plain : IsPlainText text p) where
+module _ (text : List ℕ) (p : PlainText ℕ) (plain : IsPlainText text p.whole p.fraction p.number) where
   abbrev w : Literal
   w = plain_parts text p.whole
 
@@ -331,21 +330,22 @@ module _ (text : List ℕ) (p : PlainText ℕ) (plain : IsPlainText text p) wher
   pub plain_bcd : IsBcd p.number (p.whole + p.fraction) plain_digits
   plain_bcd = search (rules, arith, digits, all_digits, length_digits, digits_value_is)
 
-  pub few_digits : p.whole + p.fraction ≤ 32
-  few_digits = omega (arith, plain.few, plain.whole, plain.fraction, length-append w.whole w.fraction)
+  few_digits : p.whole + p.fraction ≤ 32
+  few_digits = omega (arith, plain.few, plain.integer_digits, plain.fraction_digits, length-append w.whole w.fraction)
 
   pub number_fits : p.number < 2 ^ 128
-  number_fits = rw plain.number (digits_fit 32 (w.whole ++ w.fraction) digits plain.few)
+  number_fits = rw plain.value (digits_fit 32 (w.whole ++ w.fraction) digits plain.few)
 
   -- reading gives their value
   pub plain_read : read text ≡ Ok (value_of_first p.whole plain_digits)
   unfolding scaled
   plain_read =
       read_some text w (sym (ap (option_map saturated_parts) plain.parts))
-      ∙ value_scaled w digits (omega (arith, plain.whole, few_digits)) (omega (arith, plain.fraction, few_digits))
+      ∙ value_scaled w digits (omega (arith, plain.integer_digits, few_digits))
+      (omega (arith, plain.fraction_digits, few_digits))
       ∙ (λ i. Ok (record {
-        number = digits_value_is 10 (w.whole ++ w.fraction) i * 10 ^ (32768 - plain.fraction i);
-        hi = pos (plain.whole i - 1);
-        lo = pos 0 -ℤ pos (plain.fraction i);
+        number = digits_value_is 10 (w.whole ++ w.fraction) i * 10 ^ (32768 - plain.fraction_digits i);
+        hi = pos (plain.integer_digits i - 1);
+        lo = pos 0 -ℤ pos (plain.fraction_digits i);
       }))
       ∙ ap Ok (sym (value_is p.whole p.fraction p.number plain_digits plain_bcd (omega (arith, few_digits))))

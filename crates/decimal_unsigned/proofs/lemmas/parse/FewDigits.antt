@@ -3,8 +3,8 @@ use Rattle.std.proofs.{Common.{◌≡◌, ℕ, suc, ◌+◌, ◌-◌, ◌*◌, �
 use Rattle.std.specs.Str.Parse.{AllDigits, digits_value}
 use Rattle.decimal_digits.proofs.lemmas.{digits.{DigitLists.ten_pos, Rules.steps}, ops.Offsets.gap_is, rounding.Ends.{no_more_zeros, shift_up}}
 use Rattle.decimal_digits.specs.Number.{size, first, last}
-use Rattle.decimal_unsigned.proofs.lemmas.{decimal.FirstLast.{Extent, extent, ordered, top_lt, first_of, last_of}, parse.{Plans.{append_digits, long_whole, long_fraction, all_digits, value_scaled}, ReadingGrammar.{read_grammar, result_limit}}}
-use Rattle.decimal_unsigned.specs.{Edits.{leaves_limits, multiplied, times_power}, Grammar.{Literal, Grammar}, ParseResult.{IsParseResult, IsPlain, digit_count}, Reading.{limit, is_outside, value_of, read, mantissa, ReadError, zeros_trimmed, scaled}, Unsigned.Unsigned, declared.error.ParseError.ParseError, declared.error.ParseError.TheVariants.{Limit, Memory}}
+use Rattle.decimal_unsigned.proofs.lemmas.{decimal.FirstLast.{Extent, extent, ordered, top_lt, first_of, last_of}, parse.{Plans.{append_digits, long_whole, long_fraction, all_digits, value_scaled}, ReadingGrammar.{read_grammar, result_follows_grammar, result_limit}}}
+use Rattle.decimal_unsigned.specs.{Edits.{leaves_limits, multiplied, times_power}, Grammar.{Literal, Grammar}, ParseResult.{IsParseResult, IsPlain, Parses, digit_count}, Reading.{limit, is_outside, value_of, read, mantissa, ReadError, zeros_trimmed, scaled}, Unsigned.Unsigned, declared.error.ParseError.ParseError}
 
 -- ---- Numbers.
 
@@ -121,15 +121,12 @@ few_are_held held text w g few long = go (value_of w) refl (rw (read_grammar tex
     go (Ok v) e l = omega (arith, size_value w v (parts_digits text w g) e, l, few)
     go (Err x) e l = absurd l
 
--- so a parser does not fail with `Limit`
-pub never_limit : (allocates : Unsigned → Type 0) (text : List ℕ) (r : Result Unsigned ParseError)
-    → IsParseResult allocates r (read text) → (w : Literal) → Grammar text w → IsPlain w → r ≡ Err Limit
-    → ⊥
-never_limit allocates text r a w g plain e = plain_is_read text w g plain ((result_limit allocates r (read text) a).0 e)
-
--- nor with `Memory`
-pub never_memory : (held : ℕ) (text : List ℕ) (r : Result Unsigned ParseError)
-    → IsParseResult (λ v. held < size v.number) r (read text) → (w : Literal) → Grammar text w → digit_count w ≤ held
-    → r ≡ Err Memory
-    → ⊥
-never_memory held text r a w g few e = few_are_held held text w g few (rw e at a)
+-- so a parser does not fail with `Limit`, nor with `Memory`
+pub parsed : (held : ℕ) (text : List ℕ) (r : Result Unsigned ParseError)
+    → IsParseResult (λ v. held < size v.number) r (read text) → Parses held text r
+parsed held text r a = record {
+  parses = a;
+  grammar = result_follows_grammar _ text r a;
+  plain = λ w g plain e. plain_is_read text w g plain ((result_limit _ r (read text) a).0 e);
+  at_most = λ w g few e. few_are_held held text w g few (rw e at a);
+}

@@ -1,5 +1,5 @@
 //! Plain texts: up to 32 digits, with or without a decimal point, as one packed BCD number.
-ghost use Rattle.std.specs.Prelude.{◌≡◌, ◌+◌, ◌%◌, ◌^◌, ◌<◌, ◌≤◌, length, take, IfSome};
+ghost use Rattle.std.specs.Prelude.{◌≡◌, ℕ, ◌+◌, ◌*◌, ◌%◌, ◌^◌, ◌<◌, ◌≤◌, length, take, IfSome};
 ghost use Rattle.std.specs.Char.{is_ascii_digit};
 ghost use Rattle.std.specs.List.{prefix_len};
 ghost use Rattle.std.specs.Str.Parse.{digits_value_after};
@@ -11,9 +11,6 @@ ghost use Rattle.decimal_unsigned.specs.ScannedDigits.{IsBcdValue};
 use super::plan::{Bounds, to_bounds};
 use super::words::read_group;
 use decimal_digits::ops::subtract_counts;
-
-/// The length of 32 digits and a decimal point.
-const MAX_PLAIN_LEN: usize = 33;
 
 /// A text of digits, with or without a decimal point: its numbers of integer and of fraction digits, and the number of
 /// all of them in base 16.
@@ -32,19 +29,95 @@ pub struct WideBcdValue {
     pub bounds: Bounds,
 }
 
+/// A word of packed BCD digits: sixteen in a `u64`, 32 in a `u128`.
+pub trait BcdWord: Copy {
+    /// The word as a number.
+    ghost number: { Self → ℕ };
+
+    /// The number of digits of a word.
+    ghost digits: { ℕ };
+
+    /// Returns the word of digits 0.
+    fn zero() -> Self
+        ensures { number result ≡ 0 };
+
+    /// Appends a digit, and loses the first.
+    fn append(self, digit: u64) -> Self
+        ensures { number result ≡ (number self * 16 % 2 ^ (4 * digits) + digit) % 2 ^ (4 * digits) };
+
+    /// Appends groups of digits at the front of a text, and returns how many digits.
+    fn append_groups(self, text: &[u8]) -> (usize, Self)
+        ensures within { result.0 ≤ length text.now }
+        ensures digits { IsReadTo (2 ^ (4 * digits)) (number self) text.now result.0 (number result.1) };
+}
+
+impl BcdWord for u64 {
+    ghost number = { λ n. n };
+
+    ghost digits = { 16 };
+
+    #[inline]
+    fn zero() -> u64 {
+        0
+    }
+
+    #[inline]
+    fn append(self, digit: u64) -> u64 {
+        self.wrapping_mul(16).wrapping_add(digit)
+    }
+
+    /// Appends none: short texts are read faster digit by digit.
+    #[inline]
+    fn append_groups(self, _text: &[u8]) -> (usize, u64) {
+        (0, self)
+    }
+}
+
+impl BcdWord for u128 {
+    ghost number = { λ n. n };
+
+    ghost digits = { 32 };
+
+    #[inline]
+    fn zero() -> u128 {
+        0
+    }
+
+    #[inline]
+    fn append(self, digit: u64) -> u128 {
+        self.wrapping_mul(16).wrapping_add(digit as u128)
+    }
+
+    /// Appends groups of eight.
+    #[inline]
+    fn append_groups(self, text: &[u8]) -> (usize, u128) {
+        let mut number = self;
+        let mut rest = text;
+        while let Some((bytes, others)) = rest.split_first_chunk::<8>() {
+            let Some(group) = read_group(bytes) else {
+                return (text.len() - rest.len(), number);
+            };
+            number = (number << 32).wrapping_add(group as u128);
+            rest = others;
+        }
+        (text.len() - rest.len(), number)
+    }
+}
+
 #[inline]
-fn count_digits(before: u64, text: &[u8]) -> (usize, u64)
+fn count_digits<W: BcdWord>(before: W, text: &[u8]) -> (usize, W)
     ensures count { result.0 ≡ prefix_len is_ascii_digit text.now }
-    ensures number { result.1 ≡ digits_value_after 16 before (take result.0 text.now) % 2 ^ 64 }
+    ensures number { W.number result.1
+        ≡ digits_value_after 16 (W.number before) (take result.0 text.now) % 2 ^ (4 * W.digits) }
 {
-    let mut number = before;
-    for i in 0..text.len() {
+    let (groups, mut number) = before.append_groups(text);
+    for i in groups..text.len() {
         // In 64 bits at once, not first in eight.
         let digit = u64::from(text[i]).wrapping_sub(u64::from(b'0'));
         if digit > 9 {
             return (i, number);
         }
-        number = number.wrapping_mul(16).wrapping_add(digit);
+        number = number.append(digit);
     }
     (text.len(), number)
 }
@@ -52,15 +125,16 @@ fn count_digits(before: u64, text: &[u8]) -> (usize, u64)
 /// Returns the digits of a text of up to `most` digits, with or without a decimal point, or None of any other text.
 // Inlined always: returned from a call, the digits would pass through memory.
 #[inline(always)]
-pub fn few_digits(text: &[u8], most: usize) -> Option<PlainText<u64>>
-    requires { most ≤ 16 }
-    ensures plain { IfSome result (IsPlainText text.now) }
+pub fn plain_text<W: BcdWord>(text: &[u8], most: usize) -> Option<PlainText<W>>
+    requires held { most ≤ W.digits }
+    requires narrow { W.digits ≤ 32 }
+    ensures plain { IfSome result (λ p. IsPlainText text.now p.whole p.fraction (W.number p.number)) }
     ensures few { IfSome result (λ p. p.whole + p.fraction ≤ most) }
 {
     if text.len() > most + 1 {
         return None;
     }
-    let (whole, number) = count_digits(0, text);
+    let (whole, number) = count_digits(W::zero(), text);
     if whole > most {
         return None;
     }
@@ -85,69 +159,6 @@ pub fn few_digits(text: &[u8], most: usize) -> Option<PlainText<u64>>
     }
 }
 
-#[inline]
-fn count_groups(before: u128, text: &[u8]) -> (usize, u128)
-    ensures within { result.0 ≤ length text.now }
-    ensures digits { IsReadTo (2 ^ 128) before text.now result.0 result.1 }
-{
-    let mut number = before;
-    let mut rest = text;
-    while let Some((bytes, others)) = rest.split_first_chunk::<8>() {
-        let Some(group) = read_group(bytes) else {
-            return (text.len() - rest.len(), number);
-        };
-        number = (number << 32).wrapping_add(group as u128);
-        rest = others;
-    }
-    (text.len() - rest.len(), number)
-}
-
-#[inline]
-fn count_wide(before: u128, text: &[u8]) -> (usize, u128)
-    ensures count { result.0 ≡ prefix_len is_ascii_digit text.now }
-    ensures number { result.1 ≡ digits_value_after 16 before (take result.0 text.now) % 2 ^ 128 }
-{
-    let (groups, mut number) = count_groups(before, text);
-    for i in groups..text.len() {
-        let digit = u64::from(text[i]).wrapping_sub(u64::from(b'0'));
-        if digit > 9 {
-            return (i, number);
-        }
-        number = number.wrapping_mul(16).wrapping_add(digit as u128);
-    }
-    (text.len(), number)
-}
-
-#[inline]
-fn plain_text(text: &[u8]) -> Option<PlainText<u128>>
-    requires { length text.now ≤ 33 }
-    ensures { IfSome result (IsPlainText text.now) }
-{
-    let (whole, number) = count_wide(0, text);
-    if whole > 32 {
-        return None;
-    }
-    match &text[whole..] {
-        [] if whole > 0 => Some(PlainText {
-            whole,
-            fraction: 0,
-            number,
-        }),
-        [b'.', rest @ ..] => {
-            let (fraction, number) = count_wide(number, rest);
-            if fraction == 0 || fraction < rest.len() {
-                return None;
-            }
-            Some(PlainText {
-                whole,
-                fraction,
-                number,
-            })
-        }
-        _ => None,
-    }
-}
-
 /// Makes the value of a text of 17 to 32 digits, counted from the first to the last nonzero one, or returns None.
 #[inline]
 pub fn wide_bcd_value(text: &[u8]) -> Option<WideBcdValue>
@@ -155,10 +166,10 @@ pub fn wide_bcd_value(text: &[u8]) -> Option<WideBcdValue>
     ensures value { IfSome result
         (λ b. IsBcdValue (read text.now) (wide_leading_bytes b.number b.len) b.len b.bounds) }
 {
-    if text.len() <= 16 || text.len() > MAX_PLAIN_LEN {
+    if text.len() <= 16 {
         return None;
     }
-    let plain = plain_text(text)?;
+    let plain = plain_text::<u128>(text, 32)?;
     let (whole, fraction, number) = (plain.whole, plain.fraction, plain.number);
     if number == 0 {
         return None;

@@ -2,8 +2,8 @@
 use Rattle.std.proofs.{Common.{◌≡◌, ℕ, ◌<◌, ◌≤◌, length, List, ◌∷◌, ◌++◌, refl, sym, ◌∙◌, ap, subst, arith, Result, Ok, Err, IsOkAnd, ◌↔◌}, lemmas.Bool.Decides.nat_tests}
 use Rattle.decimal_digits.specs.Number.{size}
 use Rattle.decimal_unsigned.proofs.lemmas.{parse.{FewDigits.{plain_is_read, few_are_held}, ReadingGrammar.{syntax_is, limit_is, value_is, result_syntax, result_limit}}, text.ReadBack.read_text}
-use Rattle.decimal_unsigned.specs.{Grammar.Literal, ParseResult.{IsParseResult, IsPlain, digit_count}, Reading.{value_of, syntax, ReadError, parts_of, after_whole, value_or_syntax, read, limit}, Text.text, Unsigned.{Unsigned, IsValue}, declared.error.ParseError.ParseError, declared.error.ParseError.TheVariants.{Limit, Memory}}
-use Rattle.fixed_decimal.specs.{Decimal.Decimal, DecimalText.{sign_text, decimal_text, Grammar, sign_of, after_sign, with_sign, read_decimal, IsLong, ResultFollowsGrammar}, declared.variations.Sign.Sign}
+use Rattle.decimal_unsigned.specs.{Grammar.Literal, ParseResult.IsParseResult, Reading.{value_of, syntax, ReadError, parts_of, after_whole, value_or_syntax, read, limit}, Text.text, Unsigned.{Unsigned, IsValue}, declared.error.ParseError.ParseError}
+use Rattle.fixed_decimal.specs.{Decimal.Decimal, DecimalText.{sign_text, decimal_text, Grammar, sign_of, after_sign, with_sign, read_decimal, IsLong, Parses}, declared.variations.Sign.Sign}
 use Rattle.decimal_unsigned.specs.Grammar as unsigned
 
 -- ---- A text that an unsigned decimal may have begins with no sign.
@@ -81,42 +81,32 @@ decimal_value bytes v e =
     let f = value_is (after_sign bytes) v.absolute k.1 in
     (f.0, subst (λ sign. Grammar bytes sign f.0) k.0 (split_grammar bytes f.0 f.1), f.2)
 
--- a result that follows reading follows the grammar
-pub result_follows_grammar : (allocates : Decimal → Type 0) (bytes : List ℕ) (r : Result Decimal ParseError)
-    → IsParseResult allocates r (read_decimal bytes) → ResultFollowsGrammar bytes r
-result_follows_grammar allocates bytes r a =
-    let s = result_syntax allocates r (read_decimal bytes) a in
-    let l = result_limit allocates r (read_decimal bytes) a in
-    record {
-      syntax = (λ e. (decimal_syntax bytes).0 (s.0 e), λ n. s.1 ((decimal_syntax bytes).1 n));
-      limit = (λ e. (decimal_limit bytes).0 (l.0 e), λ n. l.1 ((decimal_limit bytes).1 n));
-      found = grind (arith, decimal_value);
-    }
-
--- parts without an exponent do not meet the limit
-pub never_limit : (allocates : Decimal → Type 0) (bytes : List ℕ) (r : Result Decimal ParseError)
-    → IsParseResult allocates r (read_decimal bytes) → (sign : Sign) (w : Literal) → Grammar bytes sign w → IsPlain w
-    → r ≡ Err Limit
-    → ⊥
-unfolding read_decimal
-never_limit allocates bytes r a sign w g plain e =
-    let k = with_sign-Err (sign_of bytes) (read (after_sign bytes)) limit in
-    plain_is_read (after_sign bytes) w (grammar_splits bytes sign w g).1 plain
-    (k.0 ((result_limit allocates r (read_decimal bytes) a).0 e))
-
 with_sign-long : (held : ℕ) (sign : Sign) (q : Result Unsigned ReadError) → IsOkAnd (with_sign sign q) (IsLong held)
     → IsOkAnd q (λ v. held < size v.number)
 with_sign-long held sign q long = grind arith
 
--- and a parser does not fail with `Memory` if the store holds the digits without allocation
-pub never_memory : (held : ℕ) (bytes : List ℕ) (r : Result Decimal ParseError)
-    → IsParseResult (IsLong held) r (read_decimal bytes) → (sign : Sign) (w : Literal) → Grammar bytes sign w
-    → digit_count w ≤ held → r ≡ Err Memory
-    → ⊥
+-- a result that follows reading follows the grammar; without an exponent there is no `Limit`, and no `Memory` if the
+-- store holds the digits
+pub parsed : (held : ℕ) (bytes : List ℕ) (r : Result Decimal ParseError)
+    → IsParseResult (IsLong held) r (read_decimal bytes) → Parses held bytes r
 unfolding read_decimal
-never_memory held bytes r a sign w g few e =
-    few_are_held held (after_sign bytes) w (grammar_splits bytes sign w g).1 few
-    (with_sign-long held (sign_of bytes) (read (after_sign bytes)) (rw e at a))
+parsed held bytes r a =
+    let s = result_syntax _ r (read_decimal bytes) a in
+    let l = result_limit _ r (read_decimal bytes) a in
+    let k = with_sign-Err (sign_of bytes) (read (after_sign bytes)) limit in
+    record {
+      parses = a;
+      grammar = record {
+        syntax = (λ e. (decimal_syntax bytes).0 (s.0 e), λ n. s.1 ((decimal_syntax bytes).1 n));
+        limit = (λ e. (decimal_limit bytes).0 (l.0 e), λ n. l.1 ((decimal_limit bytes).1 n));
+        found = grind (arith, decimal_value);
+      };
+      plain = λ sign w g plain e.
+          plain_is_read (after_sign bytes) w (grammar_splits bytes sign w g).1 plain (k.0 (l.0 e));
+      at_most = λ sign w g few e.
+          few_are_held held (after_sign bytes) w (grammar_splits bytes sign w g).1 few
+          (with_sign-long held (sign_of bytes) (read (after_sign bytes)) (rw e at a));
+    }
 
 -- ---- A text that was written.
 module _ (v : Decimal) (valid : IsValue v.absolute) where

@@ -1,6 +1,6 @@
 use Rattle.std.proofs.{Common.{◌≡◌, ◌+◌, ◌-◌, length, take, drop, ap, ◌∙◌, arith}, lemmas.List.drop-drop}
 use Rattle.decimal_unsigned.proofs.lemmas.parse.BcdValues.{read_eight}
-use Rattle.decimal_unsigned.proofs.decimal.parse.fast_path.count_groups.Goals as goal
+use Rattle.decimal_unsigned.proofs.decimal.parse.fast_path.U128BcdWord.append_groups.Goals as goal
 
 pub loop-bytes-preserved : goal.loop-bytes-preserved
 loop-bytes-preserved c =
