@@ -13,7 +13,8 @@ from ._options import number_skeleton
 __all__ = ["Decimal", "DecimalError", "column", "number_skeleton"]
 
 
-def column(texts, *calls, read=None, read_skeleton=None, lenient=False, format=None, skeleton=None, **options):
+def column(texts, *calls, read=None, read_skeleton=None, lenient=False, format=None, skeleton=None, errors="raise",
+           **options):
     """Makes the calls on each text, and returns the texts of the results.
 
     The calls are words of the programs:
@@ -40,7 +41,13 @@ def column(texts, *calls, read=None, read_skeleton=None, lenient=False, format=N
     >>> column([1234, Decimal("5.50")], format="de")
     ['1.234', '5,50']
 
-    Raises `DecimalError` for the first text that fails. Long lists take several threads.
+    Raises `DecimalError` for the first text that fails. If `errors` is "skip", the result of a text that fails is None;
+    if it is "keep", the result is what is in the list:
+
+    >>> column(["250", "x", "7"], "shift:-2", errors="skip")
+    ['2.50', None, '0.07']
+
+    An item of another type, such as a float, is a TypeError all the same. Long lists take several threads.
     """
     texts = texts if type(texts) is list else list(texts)
-    return _column(texts, calls, read, read_skeleton, bool(lenient), format, skeleton, options)
+    return _column(texts, calls, read, read_skeleton, bool(lenient), format, skeleton, errors, options)

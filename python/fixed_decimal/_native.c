@@ -28,15 +28,30 @@ static const char *const reasons[] = {"", "syntax", "limit", "memory", "operand 
 static const char *const modes[] = {"ceil", "floor", "expand", "trunc", "half-ceil", "half-floor", "half-expand",
     "half-trunc", "half-even", NULL};
 static const char *const displays[] = {"auto", "never", "always", "except-zero", "negative", NULL};
+static const char *const signs[] = {"none", "minus", "plus", NULL};
 static const char *const groupings[] = {"auto", "never", "always", "min2", NULL};
 static const char *const categories[] = {"zero", "one", "two", "few", "many", "other"};
 
-/* Raises DecimalError(reason, at), or MemoryError. */
-static PyObject *fail(uint32_t status, size_t at) {
+/* Raises DecimalError(reason, at, text) with the text that fails, or None; or MemoryError. */
+static PyObject *fail_object(uint32_t status, size_t at, PyObject *text) {
     if (status == FD_MEMORY) return PyErr_NoMemory();
-    PyObject *arguments = Py_BuildValue("sn", reasons[status], (Py_ssize_t)at);
+    PyObject *arguments = Py_BuildValue("snO", reasons[status], (Py_ssize_t)at, text);
     if (arguments) PyErr_SetObject(decimal_error, arguments);
     Py_XDECREF(arguments);
+    return NULL;
+}
+
+/* The same where no text fails. */
+static PyObject *fail(uint32_t status, size_t at) {
+    return fail_object(status, at, Py_None);
+}
+
+/* The same with the text in UTF-8, of which no more is decoded than the error shows: its first 40 bytes, and one
+ * character. */
+static PyObject *fail_text(uint32_t status, size_t at, const uint8_t *bytes, size_t count) {
+    PyObject *text = PyUnicode_DecodeUTF8((const char *)bytes, count < 44 ? (Py_ssize_t)count : 44, "ignore");
+    if (text) fail_object(status, at, text);
+    Py_XDECREF(text);
     return NULL;
 }
 
@@ -53,7 +68,7 @@ static const uint8_t *utf8_of(PyObject *text, size_t *count, const char *what, u
     if (bytes) return *count = (size_t)size, (const uint8_t *)bytes;
     if (!PyErr_ExceptionMatches(PyExc_UnicodeEncodeError)) return NULL;
     PyErr_Clear();
-    return fail(status, 0), NULL;
+    return fail_object(status, 0, text), NULL;
 }
 
 /* The index of a word, or -1 with an exception. */
@@ -78,7 +93,8 @@ static Decimal *with_room(size_t count) {
 static PyObject *run(const uint8_t *text, size_t count, const fd_call *calls, size_t call_count) {
     uint8_t buffer[ROOM];
     fd_result answer = fd_run(text, count, calls, call_count, FD_NONE(uint8_t), 0, buffer, ROOM);
-    if (answer.status != FD_OK && answer.status != FD_BUFFER_TOO_SMALL) return fail(answer.status, answer.at);
+    if (answer.status != FD_OK && answer.status != FD_BUFFER_TOO_SMALL)
+        return fail_text(answer.status, answer.at, text, count);
     Decimal *made = with_room(answer.count);
     if (!made) return NULL;
     if (answer.status == FD_OK) {
@@ -88,7 +104,7 @@ static PyObject *run(const uint8_t *text, size_t count, const fd_call *calls, si
     answer = fd_run(text, count, calls, call_count, FD_NONE(uint8_t), 0, (uint8_t *)made->text, answer.count);
     if (answer.status == FD_OK) return (PyObject *)made;
     Py_DECREF(made);
-    return fail(answer.status, answer.at);
+    return fail_text(answer.status, answer.at, text, count);
 }
 
 static PyObject *parse(PyObject *text) {
@@ -147,6 +163,9 @@ static PyObject *text_of_decimal(PyObject *value) {
     return PyObject_CallMethod(python_decimal(), "__format__", "Os", value, "f");
 }
 
+/* Why a float is no number of a Decimal, and what to write. */
+static const char float_advice[] = ", whose digits are not those that were written: write str(x) of a float x";
+
 /* The text of an int or a decimal.Decimal. With an index the value is in a column. NULL with an exception. */
 static PyObject *text_of_number(PyObject *value, Py_ssize_t index) {
     if (PyLong_Check(value)) return text_of_int(value);
@@ -154,7 +173,7 @@ static PyObject *text_of_number(PyObject *value, Py_ssize_t index) {
     int is = type ? PyObject_IsInstance(value, type) : -1;
     if (is < 0) return NULL;
     if (is) return text_of_decimal(value);
-    const char *name = Py_TYPE(value)->tp_name, *advice = PyFloat_Check(value) ? ": write str(x) of a float x" : "";
+    const char *name = Py_TYPE(value)->tp_name, *advice = PyFloat_Check(value) ? float_advice : "";
     return index < 0
         ? PyErr_Format(PyExc_TypeError, "a Decimal is made from a str, an int or a decimal.Decimal, not %.100s%s", name,
                        advice)
@@ -226,7 +245,9 @@ static PyObject *decimal_richcompare(Decimal *self, PyObject *value, int operati
 }
 
 static PyObject *decimal_compare(Decimal *self, PyObject *value) {
-    if (!IS_DECIMAL(value)) return PyErr_Format(PyExc_TypeError, "compare() takes a Decimal");
+    if (!IS_DECIMAL(value))
+        return PyErr_Format(PyExc_TypeError, "compare() takes a Decimal, not %.100s: write Decimal(x)",
+                            Py_TYPE(value)->tp_name);
     fd_number answer = fd_compare(BYTES(self), BYTES((Decimal *)value));
     return answer.status == FD_OK ? PyLong_FromLongLong(answer.value) : fail(answer.status, answer.at);
 }
@@ -318,6 +339,75 @@ static PyObject *decimal_sign(Decimal *self, PyObject *value) {
     return display < 0 ? NULL : run(BYTES(self), &call, 1);
 }
 
+static PyObject *decimal_with_sign(Decimal *self, PyObject *value) {
+    int sign = index_of(signs, value, "sign");
+    fd_call call = {.kind = FD_SIGN, .option = (uint8_t)sign};
+    return sign < 0 ? NULL : run(BYTES(self), &call, 1);
+}
+
+/* As decimal.Decimal: a zero has no minus. */
+static PyObject *decimal_negative(Decimal *self) {
+    fd_number sign = fd_sign(BYTES(self));
+    if (sign.status != FD_OK) return fail(sign.status, sign.at);
+    fd_call calls[2] = {{.kind = FD_SIGN, .option = sign.value < 0 ? FD_NO_SIGN : FD_MINUS},
+                        {.kind = FD_DISPLAY, .option = FD_NEGATIVE}};
+    return run(BYTES(self), calls, 2);
+}
+
+static PyObject *decimal_absolute(Decimal *self) {
+    static const fd_call call = {.kind = FD_SIGN, .option = FD_NO_SIGN};
+    return run(BYTES(self), &call, 1);
+}
+
+static int decimal_bool(Decimal *self) {
+    fd_number order = fd_compare(BYTES(self), (const uint8_t *)"0", 1);
+    return order.status == FD_OK ? order.value != 0 : (fail(order.status, order.at), -1);
+}
+
+static PyObject *decimal_as_decimal(Decimal *self, PyObject *ignored) {
+    (void)ignored;
+    PyObject *type = python_decimal(), *text = type ? decimal_str(self) : NULL;
+    PyObject *made = text ? PyObject_CallOneArg(type, text) : NULL;
+    Py_XDECREF(text);
+    return made;
+}
+
+/* The int of a decimal that is rounded to one. */
+static PyObject *rounded_int(Decimal *self, uint8_t mode) {
+    fd_call call = {.kind = FD_ROUND, .option = mode, .increment = 1};
+    Decimal *whole = (Decimal *)run(BYTES(self), &call, 1);
+    if (!whole) return NULL;
+    fd_number answer = fd_to_i64(BYTES(whole));
+    PyObject *made = NULL;
+    if (answer.status == FD_OK) {
+        made = PyLong_FromLongLong(answer.value);
+    } else if (answer.status == FD_OUT_OF_RANGE) {
+        PyObject *value = decimal_as_decimal(whole, NULL);
+        made = value ? PyNumber_Long(value) : NULL;
+        Py_XDECREF(value);
+    } else {
+        fail(answer.status, answer.at);
+    }
+    Py_DECREF(whole);
+    return made;
+}
+
+static PyObject *decimal_int(Decimal *self) {
+    return rounded_int(self, FD_TRUNC);
+}
+
+/* To a number of decimals; or, without one, to an int. */
+static PyObject *decimal_dunder_round(Decimal *self, PyObject *const *arguments, Py_ssize_t count) {
+    if (count > 1) return PyErr_Format(PyExc_TypeError, "__round__() takes at most 1 argument");
+    if (!count || arguments[0] == Py_None) return rounded_int(self, FD_HALF_EVEN);
+    fd_call call = {.kind = FD_ROUND, .option = FD_HALF_EVEN, .increment = 1};
+    PyObject *position = PyNumber_Index(arguments[0]), *negated = position ? PyNumber_Negative(position) : NULL;
+    int is_bound = negated && position_of(negated, &call.position);
+    Py_XDECREF(negated);
+    Py_XDECREF(position);
+    return is_bound ? run(BYTES(self), &call, 1) : NULL;
+}
+
 /* The number of the locale of a tag; 0 with an exception. The last tag is kept with its number. Only an exact str is
  * kept: releasing an instance of a subclass may run code that calls this function. */
 static uint64_t locale_of(PyObject *tag) {
@@ -328,7 +418,7 @@ static uint64_t locale_of(PyObject *tag) {
     const uint8_t *bytes = utf8_of(tag, &count, "a locale", FD_UNKNOWN_LOCALE);
     if (!bytes) return 0;
     fd_unsigned answer = fd_locale(bytes, count);
-    if (answer.status != FD_OK) return fail(answer.status, answer.at), 0;
+    if (answer.status != FD_OK) return fail_text(answer.status, answer.at, bytes, count), 0;
     if (PyUnicode_CheckExact(tag)) {
         PyObject *before = last;
         last = Py_NewRef(tag);
@@ -363,6 +453,18 @@ static int bind_style(PyObject *tag, PyObject *value, Style *style) {
     if (PyBytes_Check(value)) return options_of(value, &style->options);
     style->skeleton = utf8_of(value, &style->skeleton_count, "a skeleton", FD_SKELETON_SYNTAX);
     return style->skeleton != NULL;
+}
+
+/* Raises the error of a number in a style, with the text that it is about: the tag, the skeleton, or the number. */
+static PyObject *fail_style(const fd_result *answer, const Style *style, const uint8_t *text, size_t count) {
+    switch (answer->status) {
+        case FD_UNKNOWN_LOCALE: return fail_text(answer->status, answer->at, style->tag, style->tag_count);
+        case FD_SKELETON_SYNTAX:
+        case FD_SKELETON_UNSUPPORTED:
+            return fail_text(answer->status, answer->at, style->skeleton, style->skeleton_count);
+    }
+    return answer->status <= FD_OVERFLOW ? fail_text(answer->status, answer->at, text, count)
+                                         : fail(answer->status, answer->at);
 }
 
 /* What a text is formatted by: a style; or without one forms, after a call if there is one. */
@@ -436,7 +538,8 @@ static PyObject *formatted(const Decimal *self, const Format *format) {
             continue;
         }
         if (answer.status == FD_OK) made = PyUnicode_DecodeUTF8((char *)bytes, (Py_ssize_t)answer.count, NULL);
-        else fail(answer.status, answer.at);
+        else if (format->style) fail_style(&answer, format->style, BYTES(self));
+        else fail_text(answer.status, answer.at, BYTES(self));
         if (bytes != buffer) PyMem_Free(bytes);
         return made;
     }
@@ -469,8 +572,10 @@ static PyObject *decimal_format(Decimal *self, PyObject *const *arguments, Py_ss
     PyObject *values[3] = {NULL, NULL, NULL}, *options = NULL, *made = NULL;
     if (!bind("format", names, arguments, count, keywords, values, &options)) return Py_XDECREF(options), NULL;
     PyObject *skeleton = values[2] == Py_None ? NULL : values[2];
-    if (!!values[1] + !!skeleton + !!options > 1) {
-        PyErr_SetString(PyExc_TypeError, "format() takes a grouping, a skeleton or options");
+    if (skeleton && (values[1] || options)) {
+        PyErr_SetString(PyExc_TypeError, "format() takes a skeleton or options, not both: a skeleton has them all");
+    } else if (values[1] && options) {
+        PyErr_SetString(PyExc_TypeError, "format() takes a grouping or options, not both: write use_grouping=");
     } else if (skeleton) {
         made = PyUnicode_Check(skeleton) ? formatted_by_style(self, values[0], skeleton)
                                          : fail_type("a skeleton", skeleton);
@@ -505,14 +610,15 @@ static fd_result read_into(const Number *number, uint8_t *buffer, size_t room) {
 static PyObject *read_number(const Number *number) {
     uint8_t buffer[ROOM];
     fd_result answer = read_into(number, buffer, ROOM);
-    if (answer.status != FD_OK && answer.status != FD_BUFFER_TOO_SMALL) return fail(answer.status, answer.at);
+    if (answer.status != FD_OK && answer.status != FD_BUFFER_TOO_SMALL)
+        return fail_style(&answer, &number->style, number->text, number->count);
     Decimal *made = with_room(answer.count);
     if (!made) return NULL;
     if (answer.status == FD_OK) memcpy(made->text, buffer, answer.count);
     else answer = read_into(number, (uint8_t *)made->text, answer.count);
     if (answer.status == FD_OK) return (PyObject *)made;
     Py_DECREF(made);
-    return fail(answer.status, answer.at);
+    return fail_style(&answer, &number->style, number->text, number->count);
 }
 
 /* The arguments: a text, a locale, and by their names those of fixed_decimal._options.reading. */
@@ -536,9 +642,10 @@ static PyObject *decimal_plural(Decimal *self, PyObject *value) {
     const uint8_t *word = utf8_of(value, &count, "a locale", FD_RULES_SYNTAX);
     if (!word) return NULL;
     fd_unsigned rules = fd_rules(word, count);
-    if (rules.status != FD_OK) return fail(rules.status, rules.at);
+    if (rules.status != FD_OK) return fail_text(rules.status, rules.at, word, count);
     fd_number answer = rules.value ? fd_category_of(rules.value, BYTES(self)) : fd_category(word, count, BYTES(self));
-    return answer.status == FD_OK ? PyUnicode_FromString(categories[answer.value]) : fail(answer.status, answer.at);
+    return answer.status == FD_OK ? PyUnicode_FromString(categories[answer.value])
+                                  : fail_text(answer.status, answer.at, word, count);
 }
 
 /* How a text is padded to a width; with the alignment '=' the fill is between the sign and the digits. */
@@ -622,8 +729,13 @@ typedef struct {
     size_t count, room;
 } Buffer;
 
+/* What a column does at a text that fails: it ends with the error, has None, or has the text itself. */
+static const char *const on_errors[] = {"raise", "skip", "keep", NULL};
+enum on_error { RAISE, SKIP, KEEP };
+
 /* What a column does with each text, and the texts of its forms and calls, one after another. */
 typedef struct {
+    enum on_error on_error;
     fd_forms forms;
     fd_call *calls;
     size_t call_count;
@@ -636,7 +748,7 @@ typedef struct {
     Py_ssize_t first;
     Buffer input, output;
     fd_column answer;
-    size_t converted;
+    size_t converted, read;
     pthread_t thread;
     enum { EMPTY, RUNNING, CONVERTED } state;
 } Block;
@@ -676,11 +788,43 @@ static void set_line(size_t index) {
     }
 }
 
-/* Raises MemoryError, or DecimalError, with the index of the text if the error is one of a text: up to FD_OVERFLOW. */
-static int fail_at(uint32_t status, size_t at, size_t index) {
-    fail(status, at);
-    if (status <= FD_OVERFLOW) set_line(index);
-    return 0;
+/* Whether the tag or the skeleton of a form has an error. */
+static int is_wrong(const Buffer *texts, const fd_form *form, uint32_t status) {
+    const uint8_t *bytes = (const uint8_t *)texts->bytes;
+    uint8_t buffer[1];
+    fd_result answer = {.status = FD_OK};
+    if (status == FD_UNKNOWN_LOCALE) {
+        if (form->count) answer.status = fd_locale(bytes + form->start, form->count).status;
+    } else if (form->skeleton_count) {
+        answer = fd_format_by_skeleton((const uint8_t *)"0", 1, (const uint8_t *)"en", 2, bytes + form->skeleton_start,
+                                       form->skeleton_count, buffer, 0);
+    }
+    return answer.status == status;
+}
+
+/* Raises the error of a form, with the tag or the skeleton if it has the error. */
+static void fail_form(const Work *work, const fd_column *answer) {
+    const fd_form *forms[] = {&work->forms.read, &work->forms.format};
+    for (int i = 0; i < 2; i++) {
+        if (!is_wrong(&work->texts, forms[i], answer->status)) continue;
+        int is_tag = answer->status == FD_UNKNOWN_LOCALE;
+        fail_text(answer->status, answer->at,
+                  (const uint8_t *)work->texts.bytes + (is_tag ? forms[i]->start : forms[i]->skeleton_start),
+                  is_tag ? forms[i]->count : forms[i]->skeleton_count);
+        return;
+    }
+    fail(answer->status, answer->at);
+}
+
+/* Raises the error of a converted block: MemoryError, or DecimalError, with the line and the text if a text fails. */
+static void fail_block(const Block *block) {
+    const fd_column *answer = &block->answer;
+    if (answer->status == FD_MEMORY) return (void)PyErr_NoMemory();
+    if (answer->status > FD_OVERFLOW) return fail_form(block->work, answer);
+    const char *text = block->input.bytes + block->read;
+    size_t count = (size_t)((const char *)memchr(text, '\n', block->input.count - block->read) - text);
+    fail_text(answer->status, answer->at, (const uint8_t *)text, count);
+    set_line((size_t)block->first + block->converted);
 }
 
 /* Appends a line; 0 with an exception. */
@@ -698,7 +842,9 @@ static inline int append_str(Buffer *input, PyObject *text, Py_ssize_t index) {
     if (bytes) return append_line(input, bytes, (size_t)count, index);
     if (!PyErr_ExceptionMatches(PyExc_UnicodeEncodeError)) return 0;
     PyErr_Clear();
-    return fail_at(FD_SYNTAX, 0, (size_t)index);
+    fail_object(FD_SYNTAX, 0, text);
+    set_line((size_t)index);
+    return 0;
 }
 
 /* Appends the line of a number, as Decimal() makes it; 0 with an exception. This may run Python code. */
@@ -724,7 +870,11 @@ static int fill(Block *block, PyObject *list, Py_ssize_t size) {
     for (Py_ssize_t i = block->first; i < end; i++) {
         if (PyList_GET_SIZE(list) != size) return PyErr_SetString(PyExc_RuntimeError, "the list has changed"), 0;
         PyObject *text = PyList_GET_ITEM(list, i);
-        if (!(PyUnicode_Check(text) ? append_str(&block->input, text, i) : append_number(block, text, i))) return 0;
+        if (PyUnicode_Check(text) ? append_str(&block->input, text, i) : append_number(block, text, i)) continue;
+        if (block->work->on_error == RAISE || !PyErr_ExceptionMatches(PyExc_ValueError)) return 0;
+        /* No decimal is the empty line, so it fails. */
+        PyErr_Clear();
+        if (!append(&block->input, "\n", 1)) return 0;
     }
     return 1;
 }
@@ -736,15 +886,14 @@ static void *convert(void *argument) {
     Buffer *output = &block->output;
     const uint8_t *input = block->input.bytes ? (const uint8_t *)block->input.bytes : FD_NONE(uint8_t);
     const uint8_t *texts = work->texts.bytes ? (const uint8_t *)work->texts.bytes : FD_NONE(uint8_t);
-    size_t read = 0;
-    output->count = block->converted = 0;
+    output->count = block->converted = block->read = 0;
     for (size_t more = block->input.count + 64;; more *= 2) {
         block->answer = (fd_column){.status = FD_MEMORY};
         if (!reserve(output, more)) return NULL;
-        block->answer = fd_lines(input + read, block->input.count - read, 0, &work->forms, work->calls,
-                                 work->call_count, texts, work->texts.count,
+        block->answer = fd_lines(input + block->read, block->input.count - block->read, work->on_error != RAISE,
+                                 &work->forms, work->calls, work->call_count, texts, work->texts.count,
                                  (uint8_t *)output->bytes + output->count, output->room - output->count);
-        read += block->answer.read;
+        block->read += block->answer.read;
         output->count += block->answer.written;
         block->converted += block->answer.lines;
         if (block->answer.status != FD_BUFFER_TOO_SMALL) return NULL;
@@ -761,18 +910,27 @@ static void start(Block *block, int is_only) {
     Py_END_ALLOW_THREADS
 }
 
-/* Puts the results of a converted block into a list; 0 with an exception. Only with a format are they not ASCII. */
-static int take_results(const Block *block, PyObject *made) {
-    const fd_column *answer = &block->answer;
-    if (answer->status != FD_OK)
-        return fail_at(answer->status, answer->at, (size_t)block->first + block->converted);
+/* The result of a text that failed: None, or the item of the list. NULL with an exception. */
+static PyObject *failed_result(const Block *block, PyObject *list, Py_ssize_t index) {
+    if (block->work->on_error == SKIP) Py_RETURN_NONE;
+    if (index < PyList_GET_SIZE(list)) return Py_NewRef(PyList_GET_ITEM(list, index));
+    PyErr_SetString(PyExc_RuntimeError, "the list has changed");
+    return NULL;
+}
+
+/* Puts the results of a converted block into a list; 0 with an exception. Only with a format are they not ASCII. The
+ * line of a text that failed is empty. */
+static int take_results(const Block *block, PyObject *list, PyObject *made) {
+    if (block->answer.status != FD_OK) return fail_block(block), 0;
     const char *bytes = block->output.bytes, *end = bytes + block->output.count;
     int is_ascii = block->work->forms.format.count == 0;
     for (Py_ssize_t i = block->first; bytes < end; i++) {
         Py_ssize_t count = (const char *)memchr(bytes, '\n', (size_t)(end - bytes)) - bytes;
-        PyObject *text = is_ascii ? PyUnicode_New(count, 127) : PyUnicode_DecodeUTF8(bytes, count, NULL);
+        PyObject *text = !count     ? failed_result(block, list, i)
+                         : is_ascii ? PyUnicode_New(count, 127)
+                                    : PyUnicode_DecodeUTF8(bytes, count, NULL);
         if (!text) return 0;
-        if (is_ascii) memcpy(PyUnicode_1BYTE_DATA(text), bytes, (size_t)count);
+        if (count && is_ascii) memcpy(PyUnicode_1BYTE_DATA(text), bytes, (size_t)count);
         PyList_SET_ITEM(made, i, text);
         bytes += count + 1;
     }
@@ -780,13 +938,13 @@ static int take_results(const Block *block, PyObject *made) {
 }
 
 /* Waits for a block, and takes its results, if none failed before it. */
-static void finish(Block *block, PyObject **made) {
+static void finish(Block *block, PyObject *list, PyObject **made) {
     if (block->state == RUNNING) {
         Py_BEGIN_ALLOW_THREADS
         pthread_join(block->thread, NULL);
         Py_END_ALLOW_THREADS
     }
-    if (block->state != EMPTY && *made && !take_results(block, *made)) Py_CLEAR(*made);
+    if (block->state != EMPTY && *made && !take_results(block, list, *made)) Py_CLEAR(*made);
     block->state = EMPTY;
 }
 
@@ -797,7 +955,7 @@ static PyObject *convert_list(PyObject *list, Block *blocks, size_t count) {
     size_t turn = 0;
     while (made && !type && (next < size || next == 0)) {
         Block *block = &blocks[turn++ % count];
-        finish(block, &made);
+        finish(block, list, &made);
         if (made && PyErr_CheckSignals() < 0) Py_CLEAR(made);
         if (!made) break;
         block->first = next;
@@ -806,7 +964,7 @@ static PyObject *convert_list(PyObject *list, Block *blocks, size_t count) {
         if (!fill(block, list, size)) PyErr_Fetch(&type, &value, &trace);
         start(block, size <= BLOCK_TEXTS);
     }
-    for (size_t i = 0; i < count; i++) finish(&blocks[turn++ % count], &made);
+    for (size_t i = 0; i < count; i++) finish(&blocks[turn++ % count], list, &made);
     if (made && type) {
         Py_CLEAR(made);
         PyErr_Restore(type, value, trace);
@@ -837,7 +995,10 @@ static int bind_form(Buffer *texts, PyObject *tag, PyObject *skeleton, fd_form *
 static int bind_results(Work *work, PyObject *tag, PyObject *skeleton, PyObject *options) {
     fd_form *form = &work->forms.format;
     if (!PyDict_GET_SIZE(options)) return bind_form(&work->texts, tag, skeleton, form);
-    if (skeleton != Py_None) return PyErr_SetString(PyExc_TypeError, "column() takes a skeleton or options"), 0;
+    if (skeleton != Py_None) {
+        PyErr_SetString(PyExc_TypeError, "column() takes a skeleton or options, not both: a skeleton has them all");
+        return 0;
+    }
     if (is_plain(options)) {
         fd_call *call = work->calls + work->call_count;
         size_t count;
@@ -883,16 +1044,18 @@ static PyObject *convert_by_blocks(PyObject *list, const Work *work) {
     return made;
 }
 
-/* column(list, words of calls, read, read_skeleton, lenient, format, skeleton, options) */
+/* column(list, words of calls, read, read_skeleton, lenient, format, skeleton, errors, options) */
 static PyObject *native_column(PyObject *module, PyObject *arguments) {
-    PyObject *list, *words, *read, *read_skeleton, *format, *skeleton, *options, *made = NULL;
+    PyObject *list, *words, *read, *read_skeleton, *format, *skeleton, *errors, *options, *made = NULL;
     int is_lenient;
     (void)module;
-    if (!PyArg_ParseTuple(arguments, "O!O!OOpOOO!", &PyList_Type, &list, &PyTuple_Type, &words, &read, &read_skeleton,
-                          &is_lenient, &format, &skeleton, &PyDict_Type, &options))
+    if (!PyArg_ParseTuple(arguments, "O!O!OOpOOOO!", &PyList_Type, &list, &PyTuple_Type, &words, &read,
+                          &read_skeleton, &is_lenient, &format, &skeleton, &errors, &PyDict_Type, &options))
         return NULL;
+    int on_error = index_of(on_errors, errors, "handling of errors");
+    if (on_error < 0) return NULL;
     Py_ssize_t count = PyTuple_GET_SIZE(words), at = 0;
-    Work work = {.calls = PyMem_Calloc((size_t)count + 1, sizeof(fd_call))};
+    Work work = {.on_error = on_error, .calls = PyMem_Calloc((size_t)count + 1, sizeof(fd_call))};
     if (!work.calls) return PyErr_NoMemory();
     while (at < count && bind_call(&work, PyTuple_GET_ITEM(words, at))) at++;
     work.forms.read.option = is_lenient ? FD_LENIENT : FD_STRICT;
@@ -916,7 +1079,8 @@ static PyObject *native_skeleton(PyObject *ignored, PyObject *value) {
 }
 
 PyDoc_STRVAR(round_text, "round($self, /, position, mode='half-even', increment=1)\n--\n\n"
-"Rounds to a multiple of increment * 10^position. The increment is 1, 2, 5 or 25.\n\n"
+"Rounds as decimal's quantize does: d.round(-2) keeps two decimals, as d.quantize(decimal.Decimal('0.01')).\n\n"
+"The result is a multiple of increment * 10^position. The increment is 1, 2, 5 or 25.\n\n"
 ">>> Decimal('1234.565').round(-2)\nDecimal('1234.56')\n"
 ">>> Decimal('1234.565').round(-2, 'half-expand')\nDecimal('1234.57')\n"
 ">>> Decimal('113').round(0, increment=25)\nDecimal('125')\n");
@@ -932,6 +1096,17 @@ PyDoc_STRVAR(pad_text, "pad($self, /, start=0, end=0)\n--\n\n"
 PyDoc_STRVAR(sign_text, "sign($self, display, /)\n--\n\n"
 "Sets the sign that a display shows: auto, never, always, except-zero or negative.\n\n"
 ">>> Decimal('5').sign('always')\nDecimal('+5')\n");
+PyDoc_STRVAR(with_sign_text, "with_sign($self, sign, /)\n--\n\n"
+"Sets the sign: none, minus or plus. The method sign sets it by a display.\n\n"
+">>> Decimal('5').with_sign('minus')\nDecimal('-5')\n");
+PyDoc_STRVAR(as_decimal_text, "as_decimal($self, /)\n--\n\n"
+"Returns the decimal.Decimal of the same number, with its trailing zeros.\n\n"
+">>> Decimal('007.50').as_decimal()\nDecimal('7.50')\n"
+">>> type(Decimal('007.50').as_decimal())\n<class 'decimal.Decimal'>\n");
+PyDoc_STRVAR(dunder_round_text, "__round__($self, ndigits=None, /)\n--\n\n"
+"Rounds to a number of decimals, half-even as decimal.Decimal does; without one, to an int.\n\n"
+">>> round(Decimal('2.345'), 2), round(Decimal('5'), 2)\n(Decimal('2.34'), Decimal('5.00'))\n"
+">>> round(Decimal('2.5'))\n2\n");
 PyDoc_STRVAR(compare_text, "compare($self, other, /)\n--\n\n"
 "Returns the order of two numbers: -1, 0 or 1.\n\n"
 ">>> Decimal('1.0').compare(Decimal('1'))\n0\n");
@@ -964,7 +1139,11 @@ PyDoc_STRVAR(dunder_format_text, "__format__($self, specification, /)\n--\n\n"
 PyDoc_STRVAR(class_text, "Decimal(value='0', /)\n--\n\n"
 "An immutable decimal, with its zeros as written. It is made from a str, an int or a decimal.Decimal.\n\n"
 ">>> Decimal('007.50')\nDecimal('007.50')\n"
-">>> Decimal('1.0') == Decimal('1'), Decimal('1.0') <= Decimal('1')\n(False, True)\n");
+">>> Decimal('1.0') == Decimal('1'), Decimal('1.0') <= Decimal('1')\n(False, True)\n\n"
+"As with decimal.Decimal, a zero is false, int() drops the fraction, and -d of a zero has no minus. What quantize\n"
+"does there is round: d.round(-2) keeps two decimals.\n\n"
+">>> bool(Decimal('0.00')), int(Decimal('-7.9')), -Decimal('7.50'), abs(Decimal('-7.50'))\n"
+"(False, -7, Decimal('-7.50'), Decimal('7.50'))\n");
 
 #define FUNCTION(name) ((PyCFunction)(void (*)(void))(name))
 static PyMethodDef decimal_methods[] = {
@@ -973,6 +1152,9 @@ static PyMethodDef decimal_methods[] = {
     {"trim", FUNCTION(decimal_trim), METH_NOARGS, trim_text},
     {"pad", FUNCTION(decimal_pad), METH_VARARGS | METH_KEYWORDS, pad_text},
     {"sign", FUNCTION(decimal_sign), METH_O, sign_text},
+    {"with_sign", FUNCTION(decimal_with_sign), METH_O, with_sign_text},
+    {"as_decimal", FUNCTION(decimal_as_decimal), METH_NOARGS, as_decimal_text},
+    {"__round__", FUNCTION(decimal_dunder_round), METH_FASTCALL, dunder_round_text},
     {"compare", FUNCTION(decimal_compare), METH_O, compare_text},
     {"format", FUNCTION(decimal_format), METH_FASTCALL | METH_KEYWORDS, format_text},
     {"read", FUNCTION(decimal_read), METH_STATIC | METH_VARARGS | METH_KEYWORDS, read_text},
@@ -980,6 +1162,13 @@ static PyMethodDef decimal_methods[] = {
     {"__format__", FUNCTION(decimal_dunder_format), METH_O, dunder_format_text},
     {"__reduce__", FUNCTION(decimal_reduce), METH_NOARGS, NULL},
     {NULL, NULL, 0, NULL}};
+
+static PyNumberMethods decimal_number = {
+    .nb_negative = (unaryfunc)decimal_negative,
+    .nb_absolute = (unaryfunc)decimal_absolute,
+    .nb_bool = (inquiry)decimal_bool,
+    .nb_int = (unaryfunc)decimal_int,
+};
 
 static PyTypeObject DecimalType = {
     PyVarObject_HEAD_INIT(NULL, 0).tp_name = "fixed_decimal.Decimal",
@@ -994,6 +1183,7 @@ static PyTypeObject DecimalType = {
     .tp_repr = (reprfunc)decimal_repr,
     .tp_hash = (hashfunc)decimal_hash,
     .tp_richcompare = (richcmpfunc)decimal_richcompare,
+    .tp_as_number = &decimal_number,
     .tp_methods = decimal_methods,
 };
 

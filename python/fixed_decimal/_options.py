@@ -66,6 +66,8 @@ def number_options(*, style="decimal", currency="", currency_display="symbol", c
                    rounding_mode="half-expand", rounding_priority="auto", trailing_zero_display="auto",
                    numbering_system=""):
     """Returns the bytes of the `fd_number_options` that has the options by their names in ECMA-402."""
+    if style == "currency" and not currency:
+        raise ValueError("style='currency' needs a currency, such as currency='EUR'")
     length = _number("compact_display", compact_display) * (notation == "compact")
     words = (_number("currency_display", currency_display), _number("currency_sign", currency_sign), 0,
              _number("notation", notation) + length, _number("sign_display", sign_display),
@@ -101,7 +103,7 @@ def number_skeleton(**options):
 def reading(*, skeleton=None, lenient=False, **options):
     """Returns the options or the skeleton of `Decimal.read`, and whether it is lenient."""
     if options and skeleton is not None:
-        raise TypeError("read() takes a skeleton or options")
+        raise TypeError("read() takes a skeleton or options, not both: a skeleton has them all")
     if skeleton is not None and not isinstance(skeleton, str):
         raise TypeError(f"a skeleton is a str, not {type(skeleton).__name__}")
     return number_options(**options) if options else skeleton or "", bool(lenient)

@@ -83,6 +83,43 @@ def test_random(cases):
         check(format(ours, specification) == format(theirs, specification), text, specification)
 
 
+def test_as_decimal(cases):
+    """What Python's functions and operators make of a number is what they make of a decimal.Decimal."""
+    rng = random.Random(12)
+    zeros = ["0", "-0", "+0", "0.00", "-0.00", "000", "-0." + "0" * 300]
+    ties = ["2.5", "3.5", "-2.5", "-0.5", "0.5", "1.5", "0.05", "9.995", "99.5", "-99.95"]
+    wide = [str(2**63 - 1), str(2**63), str(-(2**63)), str(-(2**63) - 1), "-" + "9" * 300 + ".5", str(2**63 - 1) + ".5"]
+    for text in zeros + ties + wide + [random_text(rng) for _ in range(cases)]:
+        ours, theirs = Decimal(text), decimal.Decimal(text)
+        places = rng.randint(-6, 6)
+        check(type(ours.as_decimal()) is decimal.Decimal and str(ours.as_decimal()) == str(theirs), text)
+        check(bool(ours) == bool(theirs), "bool", text)
+        check((int(ours), round(ours), type(int(ours))) == (int(theirs), round(theirs), int), "int", text)
+        with decimal.localcontext(CONTEXT):
+            wants = -theirs, abs(theirs)
+            want = round(theirs, places)
+        found = -ours, abs(ours)
+        check([format(it.as_decimal(), "f") for it in found] == [format(it, "f") for it in wants], "-d, abs", text)
+        check(-ours == ours.with_sign("none" if text[0] == "-" or not ours else "minus"), "-d", text)
+        check(abs(ours) == ours.with_sign("none"), "abs", text)
+        found = round(ours, places)
+        check(found == ours.round(-places), "round", text, places, found)
+        check(without_leading_zeros(str(found).lstrip("+")) == format(want, "f"), "round", text, places, found)
+    long = Decimal("-" + "9" * 32768 + ".5")
+    check(int(long) == 1 - 10**32768 and long.with_sign("none") == abs(long), "the greatest int")
+    raises(DecimalError, lambda: round(long), "overflow")
+    check(round(Decimal("2.345"), True) == Decimal("2.3") and round(Decimal("2.5"), None) == 2, "no number of decimals")
+    check([str(Decimal("-5").with_sign(sign)) for sign in ("none", "minus", "plus")] == ["5", "-5", "+5"], "signs")
+    for wrong in (2.0, "2", decimal.Decimal(2)):
+        raises(TypeError, lambda: round(Decimal(1), wrong))
+    for wrong in (32769, -32768, 10**30, -(10**30)):
+        raises(OverflowError, lambda: round(Decimal(1), wrong))
+    for error, wrong in ((ValueError, "plus\0"), (ValueError, "always"), (TypeError, None), (TypeError, -1)):
+        raises(error, lambda: Decimal(1).with_sign(wrong))
+    raises(TypeError, lambda: Decimal(1).__round__(1, 2))
+    raises(TypeError, lambda: Decimal(1) + Decimal(1))
+
+
 def test_other_modes(cases):
     """By their definition: a tie goes up, or down."""
     rng = random.Random(8)
@@ -229,7 +266,9 @@ def test_class():
     ):
         raises(error, call)
     raises(TypeError, lambda: Decimal(1.5),
-           text="a Decimal is made from a str, an int or a decimal.Decimal, not float: write str(x) of a float x")
+           text="a Decimal is made from a str, an int or a decimal.Decimal, not float, whose digits are not those that "
+                "were written: write str(x) of a float x")
+    raises(TypeError, lambda: Decimal("1").compare(1), text="compare() takes a Decimal, not int: write Decimal(x)")
     raises(DecimalError, lambda: Decimal("1").format("tlh", skeleton="percent"), "unknown locale")
     raises(DecimalError, lambda: Decimal("1").format("tlh", skeleton="percent/w"), "skeleton syntax")
     raises(DecimalError, lambda: Decimal("1").format("en", skeleton="measure-unit/length-foot"), "skeleton unsupported")
@@ -261,6 +300,54 @@ def test_class():
     check(Decimal("0.5").format(locale="de", style="percent") == "50\xa0%", "a locale by keyword, and options")
     check(Decimal("0.5").format(locale="de", skeleton="percent") == "0,5\xa0%", "a locale by keyword, and a skeleton")
     check(Decimal("0.5").format("de", skeleton=None, style="percent") == "50\xa0%", "no skeleton, and options")
+
+
+def test_messages():
+    """An error says why, of which text, and in a column of which line."""
+    one = Decimal("1")
+    digits = {"minimum_fraction_digits": 3, "maximum_fraction_digits": 2}
+    for call, message in (
+        (lambda: Decimal("1x"), "syntax: '1x'"), (lambda: Decimal(""), "syntax: ''"),
+        (lambda: Decimal("x" * 40), f"syntax: '{'x' * 40}'"), (lambda: Decimal("x" * 41), f"syntax: '{'x' * 40}..'"),
+        (lambda: Decimal("x" + "é" * 40), f"syntax: 'x{'é' * 19}..'"),
+        (lambda: Decimal("😀" * 11), f"syntax: '{'😀' * 10}..'"),
+        (lambda: Decimal("x" * 39 + "\n"), f"syntax: '{'x' * 39}\\n'"),
+        (lambda: Decimal("\ud800" * 14), "syntax: '" + "\\ud800" * 13 + "..'"),
+        (lambda: Decimal("1e99999"), "limit: '1e99999'"), (lambda: Decimal(1 << 200000), "limit"),
+        (lambda: Decimal(decimal.Decimal("-Infinity")), "syntax: '-Infinity'"),
+        (lambda: Decimal("9" * 50).shift(32767), f"overflow: '{'9' * 40}..'"),
+        (lambda: one.format("tlh"), "unknown locale: 'tlh'"), (lambda: one.plural("n ="), "rules syntax: 'n ='"),
+        (lambda: one.plural("tlh:ordinal"), "unknown locale: 'tlh:ordinal'"),
+        (lambda: one.format("tlh", style="percent"), "unknown locale: 'tlh'"),
+        (lambda: one.format("de", skeleton="percent/w"), "skeleton syntax: 'percent/w'"),
+        (lambda: Decimal.read("1x", "de"), "syntax: '1x'"), (lambda: Decimal.read("1", "tlh"), "unknown locale: 'tlh'"),
+        (lambda: Decimal.read("1", "de", skeleton="measure-unit/length-foot"),
+         "skeleton unsupported: 'measure-unit/length-foot'"),
+        (lambda: Decimal.read("1", "de", skeleton="K"), "unreadable format"),
+        (lambda: one.format("de", numbering_system="roman"), "unknown numbering system"),
+        (lambda: one.format("de", **digits),
+         "digit options: fraction digits are from 0 to 100, and the minimum is at most the maximum"),
+        (lambda: column(["1", "é" * 30]), f"line 1: syntax: '{'é' * 20}..'"),
+        (lambda: column(["1"] * 20000 + ["10", "x"], "shift:32767"), "line 20000: overflow: '10'"),
+        (lambda: column(["1"], read="tlh", format="xx"), "unknown locale: 'tlh'"),
+        (lambda: column(["1"], read="de", format="tlh"), "unknown locale: 'tlh'"),
+        (lambda: column(["1"], skeleton="K"), "unknown locale"),
+        (lambda: column(["1"], read="de", read_skeleton=".00", format="de", skeleton="K0"), "skeleton syntax: 'K0'"),
+        (lambda: column(["1"], read="de", read_skeleton="K0", format="de", skeleton="K"), "skeleton syntax: 'K0'"),
+        (lambda: column(["1"], read="de", read_skeleton="K"), "unreadable format"),
+    ):
+        raises(DecimalError, call, text=message)
+    raises(ValueError, lambda: one.format("de", style="currency"),
+           text="style='currency' needs a currency, such as currency='EUR'")
+    both = "() takes a skeleton or options, not both: a skeleton has them all"
+    raises(TypeError, lambda: one.format("de", skeleton="K", style="percent"), text="format" + both)
+    raises(TypeError, lambda: one.format("de", "auto", skeleton="K"), text="format" + both)
+    raises(TypeError, lambda: Decimal.read("1", "de", skeleton="K", style="percent"), text="read" + both)
+    raises(TypeError, lambda: column(["1"], format="de", skeleton="K", style="percent"), text="column" + both)
+    raises(TypeError, lambda: one.format("de", "auto", style="percent"),
+           text="format() takes a grouping or options, not both: write use_grouping=")
+    for error in (DecimalError("syntax"), DecimalError("syntax", 1), DecimalError("digit options", 5)):
+        check(str(pickle.loads(pickle.dumps(error))) == str(error), error)
 
 
 def test_kept_locale():
@@ -312,7 +399,7 @@ def test_examples():
     for module in (fixed_decimal, fixed_decimal._errors, fixed_decimal._options):
         found = doctest.testmod(module, extraglobs={"column": column})
         check(found.failed == 0 and found.attempted > 0, "examples", module, found)
-    check(doctest.testmod(fixed_decimal).attempted > 25, "the examples of Decimal")
+    check(doctest.testmod(fixed_decimal).attempted > 30, "the examples of Decimal")
 
 
 def test_options():
@@ -441,18 +528,47 @@ def test_column(cases):
             check((error.reason, error.line) == ("syntax", before), error.reason, error.line)
     raises(ValueError, lambda: column(["1"] * 50000 + ["1\n2", "x"]))
     # The error has the number of the text, if it is the text that fails.
-    raises(DecimalError, lambda: column(["1", "2", "x"]), "syntax", "line 2: syntax")
-    raises(DecimalError, lambda: column(["1", "10"], "shift:32767"), "overflow", "line 1: overflow")
-    raises(DecimalError, lambda: column(["1", "\udcff"]), "syntax", "line 1: syntax")
-    raises(DecimalError, lambda: column(["1"], format="tlh"), "unknown locale", "unknown locale")
+    raises(DecimalError, lambda: column(["1", "2", "x"]), "syntax", "line 2: syntax: 'x'")
+    raises(DecimalError, lambda: column(["1", "10"], "shift:32767"), "overflow", "line 1: overflow: '10'")
+    raises(DecimalError, lambda: column(["1", "\udcff"]), "syntax", "line 1: syntax: '\\udcff'")
+    raises(DecimalError, lambda: column(["1"], format="tlh"), "unknown locale", "unknown locale: 'tlh'")
     raises(DecimalError, lambda: column(["1"], format=""), "unknown locale", "unknown locale")
-    raises(DecimalError, lambda: column(["1"], read="\udcff"), "unknown locale", "unknown locale")
-    raises(DecimalError, lambda: Decimal("x"), "syntax", "syntax")
+    raises(DecimalError, lambda: column(["1"], read="\udcff"), "unknown locale", "unknown locale: '\\udcff'")
+    raises(DecimalError, lambda: Decimal("x"), "syntax", "syntax: 'x'")
     try:
         column(["1", "x"])
     except DecimalError as error:
         copy = pickle.loads(pickle.dumps(error))
-        check((copy.reason, copy.at, copy.line, str(copy)) == ("syntax", 0, 1, "line 1: syntax"), "a copy", copy)
+        check((copy.reason, copy.at, copy.line, str(copy)) == ("syntax", 0, 1, "line 1: syntax: 'x'"), "a copy", copy)
+
+
+def test_errors_of_columns(cases):
+    """With errors="skip" a text that fails has the result None, and with "keep" it is its own result."""
+    rng = random.Random(13)
+    wrong = ["x", "", "1\n2", "\n", "\ud800", "1e99999", "9" * 32768, decimal.Decimal("NaN"), 1 << 200000, "é"]
+    is_wrong = [rng.random() < 0.2 for _ in range(cases + 40000)]
+    texts = [rng.choice(wrong) if fails else random_text(rng) for fails in is_wrong]
+    for options, one in (({}, lambda it: str(Decimal(it).shift(1))),
+                         ({"format": "de"}, lambda it: Decimal(it).shift(1).format("de"))):
+        wants = [None if fails else one(text) for fails, text in zip(is_wrong, texts)]
+        check(column(texts, "shift:1", errors="skip", **options) == wants, "skip", options)
+        found = column(texts, "shift:1", errors="keep", **options)
+        wants = [text if want is None else want for text, want in zip(texts, wants)]
+        check(len(found) == len(wants) and all(it is want or it == want for it, want in zip(found, wants)), "keep")
+    check(column(wrong, "shift:1", errors="skip") == [None] * len(wrong), "all fail")
+    check(column(["1.5", "1,5"], read="de", errors="skip") == [None, "1.5"], "a text that is read")
+    check(column(["1"], errors="raise") == ["1"] and column([], errors="skip") == [], "no text fails")
+    for mode in ("skip", "keep"):
+        for error, call in (
+            (TypeError, lambda: column(["1", 1.5], errors=mode)), (TypeError, lambda: column(["1", None], errors=mode)),
+            (TypeError, lambda: column([5], read="de", errors=mode)),
+            (ValueError, lambda: column(["1"], "no", errors=mode)),
+            (DecimalError, lambda: column(["1"], format="tlh", errors=mode)),
+            (DecimalError, lambda: column(["1"], format="de", skeleton="percent/w", errors=mode)),
+        ):
+            raises(error, call)
+    raises(ValueError, lambda: column(["1"], errors="drop"), text="no such handling of errors: drop")
+    raises(TypeError, lambda: column(["1"], errors=None))
 
 
 def test_words():
@@ -488,16 +604,17 @@ def test_column_of_numbers():
     check(column(numbers, format="de") == [Decimal(number).format("de") for number in numbers], "numbers in a locale")
     check(column(range(40000)) == [str(number) for number in range(40000)], "many")
     for texts, options, message in (
-        (["1", 1.5], {}, "text 1 is a str, an int or a Decimal, not float: write str(x) of a float x"),
+        (["1", 1.5], {}, "text 1 is a str, an int or a Decimal, not float, whose digits are not those that were "
+                         "written: write str(x) of a float x"),
         (["1", None], {}, "text 1 is a str, an int or a Decimal, not NoneType"),
         (["1", b"1"], {}, "text 1 is a str, an int or a Decimal, not bytes"),
         (["1,5", 5], {"read": "de"}, "text 1 is read by a locale: it is a str, not int"),
         ([decimal.Decimal(1)], {"read": "de"}, "text 0 is read by a locale: it is a str, not decimal.Decimal"),
     ):
         raises(TypeError, lambda: column(texts, **options), text=message)
-    raises(DecimalError, lambda: column([5, decimal.Decimal("NaN")]), "syntax", "line 1: syntax")
-    raises(DecimalError, lambda: column(["x", 1.5]), "syntax", "line 0: syntax")
-    raises(DecimalError, lambda: column(["1"] * 20000 + ["x"] + [1.5]), "syntax", "line 20000: syntax")
+    raises(DecimalError, lambda: column([5, decimal.Decimal("NaN")]), "syntax", "line 1: syntax: 'NaN'")
+    raises(DecimalError, lambda: column(["x", 1.5]), "syntax", "line 0: syntax: 'x'")
+    raises(DecimalError, lambda: column(["1"] * 20000 + ["x"] + [1.5]), "syntax", "line 20000: syntax: 'x'")
 
 
 def test_signals():
@@ -548,6 +665,12 @@ def test_memory():
         (lambda: column(["250", 5, number], "shift:-2"), ["2.50", "0.05", "0.0150"]),
         (lambda: column(["1", "5"], "concat:0.5", read="en", format="de", **amount), ["1,50\xa0€", "5,50\xa0€"]),
         (lambda: column(many, format="de", use_grouping=False), ["1234,5"] * 40000),
+        (lambda: -one, Decimal("-1234.5")), (lambda: abs(one), one), (lambda: int(one), 1234),
+        (lambda: round(one), 1234), (lambda: round(one, 2), Decimal("1234.50")),
+        (lambda: int(Decimal(long)), int(long)),
+        (lambda: one.as_decimal(), decimal.Decimal("1234.5")), (lambda: one.with_sign("plus"), Decimal("+1234.5")),
+        (lambda: column(["250", "x", "\ud800", 5], "shift:-2", errors="skip"), ["2.50", None, None, "0.05"]),
+        (lambda: column(["250", "x", "\ud800", 5], "shift:-2", errors="keep"), ["2.50", "x", "\ud800", "0.05"]),
         (functools.partial(Decimal, "x"), ("syntax", None)),
         (functools.partial(one.format, "tlh"), ("unknown locale", None)),
         (functools.partial(column, ["1", "x"]), ("syntax", 1)),
@@ -578,10 +701,12 @@ def test_memory():
 if __name__ == "__main__":
     count = int(sys.argv[1]) if len(sys.argv) > 1 else 15000
     test_random(count)
+    test_as_decimal(count // 7)
     test_other_modes(count // 7)
     test_padding(count // 7)
     test_numbers(count // 7)
     test_class()
+    test_messages()
     test_kept_locale()
     test_version()
     test_stub()
@@ -590,6 +715,7 @@ if __name__ == "__main__":
     test_plain_options()
     test_types_of_options()
     test_column(count)
+    test_errors_of_columns(count // 7)
     test_words()
     test_column_of_numbers()
     test_signals()
