@@ -15,12 +15,14 @@ to=${DESTDIR:+$(realpath -ms -- "$DESTDIR")}$prefix
 cd "$(dirname "$0")"
 here=$PWD
 version=$(sed -n 's/^#define FD_VERSION //p' fixed_decimal.h)
-rm -rf out
-python3 ../tools/built.py archive
 kit=$(dirname "$(dirname "$(readlink -f "$(command -v rt)")")")
-mkdir out
-cd out
-cp ../../crates/fixed_decimal_ffi/out/libfixed_decimal_ffi.a libfixed_decimal.a
+# A build that fails leaves no old library. The files of one that succeeds replace those that are there, each at once.
+mkdir -p out
+made=$(mktemp -d out/XXXXXX)
+trap 'rm -rf "$here/out"' EXIT
+python3 ../tools/built.py archive
+cd "$made"
+cp "$here/../crates/fixed_decimal_ffi/out/libfixed_decimal_ffi.a" libfixed_decimal.a
 # The three functions over malloc, realloc and free that the kit's allocator calls.
 mkdir heap
 (cd heap; ar x "$kit/c/liblibc_c.a")
@@ -50,6 +52,10 @@ package() {
 }
 
 package "$here/out" "$here" -Wl,-rpath, >fixed_decimal.pc
+mv -f ./* ..
+cd ..
+rmdir "$here/$made"
+trap - EXIT
 if [ "${1:-}" = install ]; then
   install -d "$to/lib/pkgconfig" "$to/include"
   install -m 644 libfixed_decimal.a libfixed_decimal.so.$version "$to/lib"

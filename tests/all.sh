@@ -1,42 +1,60 @@
 #!/usr/bin/env bash
-# All tests: the gate, the built programs as a shell runs them, failing allocations, interrupted writes, the C library,
-# Rust and Dask, setting up, installs, the documents, and the modules. The last line is `N passed, M failed`; the status
-# is 0 if M is 0.
+# All tests: the gate, and then side by side the built programs as a shell runs them, failing allocations, interrupted
+# writes, the C library, Rust and Dask, setting up, installs, the documents, and the modules. A script that has not ended
+# after half an hour fails, and an interrupt ends all of them. The last line is `N passed, M failed`; the status is 0 if
+# M is 0.
 set -u
 cd "$(dirname "$0")/.." || exit 1
-log=$(mktemp) || exit 1
-trap 'rm -f "$log"' EXIT
+room=$(mktemp -d) || exit 1
 passed=0
 failed=0
 
-# run COMMAND..: runs tests whose last line is `N passed, M failed`, and adds these up.
-run() {
-  "$@" 2>&1 | tee "$log"
-  local status=${PIPESTATUS[0]}
-  if [[ $(tail -n 1 "$log") =~ ^([0-9]+)\ passed,\ ([0-9]+)\ failed$ ]]; then
+# end_all: ends what is still running. Each script has a session of its own.
+end_all() {
+  sessions=$(jobs -rp | paste -sd ,)
+  [ -z "$sessions" ] || pkill -s "$sessions"
+  rm -rf "$room"
+}
+trap end_all EXIT
+trap 'exit 130' HUP INT TERM
+
+# count NAME STATUS LOG: adds up the last line of tests, `N passed, M failed`. Without it, or if the status is another,
+# one more has failed.
+count() {
+  local more=0
+  if [[ $(tail -n 1 "$3") =~ ^([0-9]+)\ passed,\ ([0-9]+)\ failed$ ]]; then
     passed=$((passed + BASH_REMATCH[1]))
     failed=$((failed + BASH_REMATCH[2]))
-    [ "$status" = 0 ] || [ "${BASH_REMATCH[2]}" != 0 ] || failed=$((failed + 1))
+    [ "$2" = 0 ] || more=$((BASH_REMATCH[2] == 0))
   else
-    failed=$((failed + 1))
+    more=1
   fi
+  [ $more = 0 ] || echo "failed: $1 ended with status $2"
+  failed=$((failed + more))
 }
 
 # One job for each check, as many checks as there are processors: two jobs take a third more processor time.
-export RT_JOBS=${RT_JOBS:-$(nproc)}
-run python3 tools/built.py gate
-# The scripts take what `rt ci` has just built, and nothing else.
+export RT_JOBS=${RT_JOBS:-$(nproc)} JOBS=${JOBS:-1}
+python3 tools/built.py gate 2>&1 | tee "$room/log"
+count 'the gate' "${PIPESTATUS[0]}" "$room/log"
+
+# The scripts take what `rt ci` has just built, and nothing else. Those that take longest begin.
 export BUILT_BY_GATE=1
-run bash tests/end_to_end.sh
-run bash tests/allocation_failures.sh
-run bash tests/interrupted_writes.sh
-run bash tests/c.sh
-run bash tests/hosts.sh
-run bash tests/dask.sh
-run bash tests/setting_up.sh
-run bash tests/installs.sh
-run python3 tools/check_documents.py
-run python3 tools/check_modules.py
+scripts=(tests/{c,end_to_end,setting_up,dask,installs,hosts,allocation_failures,interrupted_writes}.sh
+  tools/check_{documents,modules}.py)
+started=()
+for script in "${scripts[@]}"; do
+  while [ "$(jobs -rp | wc -l)" -ge "$(nproc)" ]; do wait -n; done
+  setsid timeout 30m "$script" > "$room/${#started[@]}" 2>&1 &
+  started+=($!)
+done
+for number in "${!scripts[@]}"; do
+  wait "${started[number]}"
+  status=$?
+  echo "== ${scripts[number]}"
+  cat "$room/$number"
+  count "${scripts[number]}" $status "$room/$number"
+done
 
 echo "$passed passed, $failed failed"
 [ "$failed" -eq 0 ]

@@ -11,6 +11,7 @@ What the gate or this script has built of the same sources is taken. The rest is
 for each crate. With BUILT_BY_GATE set nothing but the exports of the archive is proved, and the rest is an error.
 """
 import contextlib
+import fcntl
 import json
 import os
 import shutil
@@ -93,8 +94,9 @@ def note(crates, sources):
         else:
             found[name] = [now[name], rtlib.sum_of(product(crate))]
     os.makedirs(os.path.dirname(NOTE), exist_ok=True)
-    with open(NOTE, "w", encoding="utf-8") as file:
+    with open(f"{NOTE}.new", "w", encoding="utf-8") as file:
         json.dump(found, file)
+    os.replace(f"{NOTE}.new", NOTE)
 
 
 def is_built(crate, sources):
@@ -124,16 +126,27 @@ def run(crate, words):
             sys.exit("\n".join([*log.read().split("\n")[-20:], f"{crate.name} was not built"]))
 
 
-def build(crates, names):
-    """Proves and builds these crates and the libraries below them that are not built, with a line for each."""
+def unbuilt(crates, names):
+    """Which of these crates and of the libraries below them are not built, the lowest first."""
     sources = stamps(crates)
-    todo = [crates[name] for name in names if not crates[name].makes_rlib() and not is_built(crates[name], sources)]
-    libraries = below(crates, [name for name in names if crates[name].makes_rlib() or crates[name] in todo])
-    todo = [crate for crate in libraries if not is_built(crate, sources)] + todo
-    lacking = [crate.name for crate in todo if crate.name != STATIC]
-    if lacking and os.environ.get("BUILT_BY_GATE"):
-        lacking = " ".join(lacking)
-        sys.exit(f"BUILT_BY_GATE is set, and no gate has built {lacking} of these sources: python3 tools/built.py gate")
+    others = [crates[name] for name in names if not crates[name].makes_rlib() and not is_built(crates[name], sources)]
+    libraries = below(crates, [name for name in names if crates[name].makes_rlib() or crates[name] in others])
+    return [crate for crate in libraries if not is_built(crate, sources)] + others
+
+
+def build(crates, names):
+    """Proves and builds what of these crates and the libraries below them is not built, if no other run just did."""
+    if todo := unbuilt(crates, names):
+        lacking = " ".join(crate.name for crate in todo if crate.name != STATIC)
+        if lacking and os.environ.get("BUILT_BY_GATE"):
+            sys.exit(f"BUILT_BY_GATE is set, and no gate has built {lacking} of these sources: python3 tools/built.py gate")
+        with open(__file__, encoding="utf-8") as lock:
+            fcntl.flock(lock, fcntl.LOCK_EX)
+            build_each(crates, unbuilt(crates, names))
+
+
+def build_each(crates, todo):
+    """Proves and builds these crates, with a line for each."""
     if len(todo) > 1:
         print(f"proves and builds {len(todo)} crates; all take about 15 minutes the first time", file=sys.stderr)
     jobs = ["--jobs", os.environ["JOBS"]] if os.environ.get("JOBS") else []
