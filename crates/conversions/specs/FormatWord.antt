@@ -4,8 +4,8 @@ use Rattle.std.specs.Str.{is_utf8}
 use Rattle.decimal_format.specs.declared.grouping.GroupingStrategy.{GroupingStrategy}
 use Rattle.decimal_format.specs.declared.grouping.GroupingStrategy.TheVariants.{Auto, Never, Always, Min2}
 use Rattle.locale_data.specs.Locales.{IsLocale, IsUnknown}
-use Rattle.number_format.specs.declared.format.formatter.NumberFormatError.{NumberFormatError}
-use Rattle.number_format.specs.declared.format.formatter.NumberFormatError.TheVariants as formatter
+use Rattle.number_format.specs.declared.format.ids.NumberFormatError.{NumberFormatError}
+use Rattle.number_format.specs.declared.format.ids.NumberFormatError.TheVariants as formatter
 use Rattle.number_format.specs.declared.format.formatter.NumberFormatter.{NumberFormatter}
 use Rattle.number_format.specs.declared.options.NumberOptions.{NumberOptions}
 use Rattle.number_skeleton.specs.declared.error.SkeletonError.{SkeletonError}

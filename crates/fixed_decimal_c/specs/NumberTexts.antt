@@ -3,8 +3,8 @@ use Rattle.std.specs.Prelude.{◌≡◌, ℕ, ◌⊎◌, false, List, Result, Ok
 use Rattle.std.specs.Str.{IsUtf8, IsValidUpTo}
 use Rattle.decimal_digits.specs.declared.rounding.RoundError.{RoundError}
 use Rattle.decimal_digits.specs.declared.rounding.RoundError.TheVariants as round
-use Rattle.number_format.specs.declared.format.formatter.NumberFormatError.{NumberFormatError}
-use Rattle.number_format.specs.declared.format.formatter.NumberFormatError.TheVariants as made
+use Rattle.number_format.specs.declared.format.ids.NumberFormatError.{NumberFormatError}
+use Rattle.number_format.specs.declared.format.ids.NumberFormatError.TheVariants as made
 use Rattle.number_format.specs.declared.format.formatter.NumberFormatter.{NumberFormatter}
 use Rattle.number_format.specs.declared.options.NumberOptions.{NumberOptions}
 use Rattle.number_skeleton.specs.declared.error.SkeletonError.{SkeletonError}

@@ -1,13 +1,15 @@
 -- The digits, symbols and patterns of currencies.
-use Rattle.std.specs.Prelude.{◌≡◌, ℕ, List, Option, None, Some, slice_get}
+use Rattle.std.specs.Prelude.{◌≡◌, ℕ, ◌⊎◌, List, Option, None, Some, IsSomeAnd, slice_get}
 use Rattle.std.specs.Option.{option_or, option_map, option_and_then}
 use Rattle.locale_data.specs.declared.tables.rows.currencies.Currency.{Currency}
-use Rattle.locale_data.specs.declared.currency.CurrencyDigits.{CurrencyDigits}
+use Rattle.locale_data.specs.declared.local_currency.CurrencyDigits.{CurrencyDigits}
+use Rattle.locale_data.specs.declared.currency.CurrencyId.{CurrencyId}
 use Rattle.locale_data.specs.declared.currency.CurrencyPattern.{CurrencyPattern}
 use Rattle.locale_data.specs.declared.currency.CurrencySign.{CurrencySign}
 use Rattle.locale_data.specs.declared.currency.CurrencySign.TheVariants.{Standard, Accounting}
-use Rattle.locale_data.specs.declared.currency.CurrencySymbol.{CurrencySymbol}
+use Rattle.locale_data.specs.declared.local_currency.CurrencySymbol.{CurrencySymbol}
 use Rattle.locale_data.specs.declared.tables.rows.currencies.CurrencyText.{CurrencyText}
+use Rattle.locale_data.specs.declared.local_currency.LocalCurrency.{LocalCurrency}
 use Rattle.locale_data.specs.declared.tables.rows.currencies.LocaleCurrency.{LocaleCurrency}
 use Rattle.locale_data.specs.declared.tables.rows.currencies.LocaleOverride.{LocaleOverride}
 use Rattle.locale_data.specs.declared.currency.SymbolWidth.{SymbolWidth}
@@ -47,27 +49,51 @@ pub record IsSymbol (text : CurrencyText) (symbol : CurrencySymbol) : Type 0 whe
   pub before : symbol.space_before ≡ text.space_before
   pub after : symbol.space_after ≡ text.space_after
 
--- the symbol of a currency for a tag
-pub record IsSymbolOf (tag code : List ℕ) (width : SymbolWidth) (symbol : CurrencySymbol) : Type 0 where
-  pub currency : Currency
-  pub own : Option LocaleCurrency
-  pub text : CurrencyText
-  pub listed : currency_with code ≡ Some currency
-  pub in_locale : IsSymbolRow currency tag own
-  pub at : slice_get CURRENCY_TEXTS (symbol_index currency own width) ≡ Some text
-  pub value : IsSymbol text symbol
-
--- ---- Patterns.
+-- the symbol with an index, or None
+abbrev pub IsSymbolAt : ℕ → Option CurrencySymbol → Type 0
+IsSymbolAt index None = slice_get CURRENCY_TEXTS index ≡ None
+IsSymbolAt index (Some symbol) = IsSomeAnd (slice_get CURRENCY_TEXTS index) (λ text. IsSymbol text symbol)
 
 -- the override of a currency in the locale with the longest tag that is a prefix of a tag, or None
 abbrev pub IsOverrideRow : Currency → List ℕ → Option LocaleOverride → Type 0
 IsOverrideRow c = IsRowOf (λ l. l.tag) (part OVERRIDES_BY_CURRENCY c.overrides)
 
 -- the index of that override, or None
-abbrev pub IsOverride : Option Currency → List ℕ → Option ℕ → Type 0
-IsOverride None tag index = index ≡ None
-IsOverride (Some c) tag index =
+abbrev pub IsOverride : Currency → List ℕ → Option ℕ → Type 0
+IsOverride c tag index =
     (row : Option LocaleOverride) × IsOverrideRow c tag row × (index ≡ option_map (λ r. r.pattern) row)
+
+-- ---- The rows of a currency.
+
+-- the rows of a listed currency for a tag
+pub record IsCurrencyId (tag code : List ℕ) (id : CurrencyId) : Type 0 where
+  pub currency : Currency
+  pub own : Option LocaleCurrency
+  pub listed : currency_with code ≡ Some currency
+  pub at : slice_get CURRENCIES id.currency ≡ Some currency
+  pub in_locale : IsSymbolRow currency tag own
+  pub wide : id.wide ≡ symbol_index currency own Wide
+  pub narrow : id.narrow ≡ symbol_index currency own Narrow
+  pub pattern : IsOverride currency tag id.pattern
+
+-- what the rows with these indices have
+pub record IsCurrencyAt (id : CurrencyId) (c : LocalCurrency) : Type 0 where
+  pub currency : Currency
+  pub at : slice_get CURRENCIES id.currency ≡ Some currency
+  pub digits : c.digits ≡ digits_of (Some currency)
+  pub wide : IsSymbolAt id.wide (Some c.wide)
+  pub narrow : IsSymbolAt id.narrow (Some c.narrow)
+  pub pattern : c.pattern ≡ id.pattern
+
+-- a table has no row with one of these indices
+abbrev pub LacksCurrency : CurrencyId → Type 0
+LacksCurrency id =
+    (slice_get CURRENCIES id.currency ≡ None)
+    ⊎ ((slice_get CURRENCY_TEXTS id.wide ≡ None)
+    ⊎ ((slice_get CURRENCY_TEXTS id.narrow ≡ None)
+    ⊎ IsSomeAnd id.pattern (λ index. slice_get CURRENCY_OVERRIDES index ≡ None)))
+
+-- ---- Patterns.
 
 -- the pattern and the separators of an override
 abbrev pub overridden : ℕ → Option CurrencyPattern
@@ -86,11 +112,11 @@ pattern_by formats money sign None =
     option_map (λ p. record { pattern = p; decimal = money.decimal; grouping = money.grouping })
     (slice_get PATTERNS (pattern_index formats sign))
 
--- the pattern of a currency: by its override for the tag, or else by that of the region, or else by the formats
-pub record IsCurrencyPattern (tag : List ℕ) (formats : NumberFormats) (code : List ℕ) (sign : CurrencySign)
+-- the pattern of a currency, of which a locale has this: by its override, or else by that of the region, or else by
+-- the formats
+pub record IsCurrencyPattern (formats : NumberFormats) (currency : Option LocalCurrency) (sign : CurrencySign)
     (p : CurrencyPattern) : Type 0 where
   pub money : MoneyFormat
-  pub own : Option ℕ
   pub of_money : slice_get MONEY_FORMATS formats.money ≡ Some money
-  pub of_currency : IsOverride (currency_with code) tag own
-  pub value : pattern_by formats money sign (option_or own money.replaced) ≡ Some p
+  pub value :
+      pattern_by formats money sign (option_or (option_and_then (λ c. c.pattern) currency) money.replaced) ≡ Some p

@@ -1,5 +1,5 @@
 -- The locales and numbering systems of tags.
-use Rattle.std.specs.Prelude.{◌≡◌, ℕ, List, [], length, Option, None, Some, unwrap_or, encode_utf8, slice_get, slice_index, ◌⊎◌}
+use Rattle.std.specs.Prelude.{◌≡◌, ℕ, ◌<◌, List, [], length, Option, None, Some, IfSome, unwrap_or, encode_utf8, slice_get, slice_index, ◌⊎◌}
 use Rattle.std.specs.Option.{option_map, option_and_then}
 use Rattle.decimal_format.specs.declared.grouping.GroupingSizes.{GroupingSizes}
 use Rattle.decimal_format.specs.Symbols.{Symbols, symbols, affixes, HaveWidth}
@@ -8,7 +8,7 @@ use Rattle.locale_data.specs.declared.tables.rows.symbols.LocaleSymbols.{LocaleS
 use Rattle.locale_data.specs.declared.tables.rows.symbols.NumberingSystem.{NumberingSystem}
 use Rattle.locale_data.specs.declared.tables.rows.symbols.SymbolSet.{SymbolSet}
 use Rattle.locale_data.specs.declared.tables.symbols.TheConstants.{LOCALES, LOCALES_BY_SYSTEM, NUMBERING_SYSTEMS}
-use Rattle.locale_data.specs.Rows.{part, unpadded, row_named, IsRowOf}
+use Rattle.locale_data.specs.Rows.{part, unpadded, row_at, row_named, IsRowOf}
 use Rattle.locale_data.specs.Symbol.{symbol_text}
 use Rattle.locale_data.specs.Tag.{compared, requested_system}
 
@@ -89,13 +89,16 @@ pub record AreRowsOf (tag : List ℕ) (locale_index system_index : ℕ) : Type 0
   pub listed : IsListed LOCALES tag (Some locale)
   pub named : system_of tag locale ≡ Some system
 
--- the name is that of the numbering system
-pub record IsSystemName (tag name : List ℕ) : Type 0 where
-  pub locale : LocaleSymbols
+-- the index of the symbols that a tag has of its own in the numbering system with an index, if it has some
+pub record IsOwnIndex (tag : List ℕ) (index : ℕ) (own : Option ℕ) : Type 0 where
   pub system : NumberingSystem
-  pub listed : IsListed LOCALES tag (Some locale)
-  pub named : system_of tag locale ≡ Some system
-  pub value : name ≡ unpadded system.name
+  pub at : slice_get NUMBERING_SYSTEMS index ≡ Some system
+  pub inside : IfSome own (λ i. i < length (own_rows system))
+  pub in_system : IsListed (own_rows system) tag (row_at (own_rows system) own)
+
+-- the name of the numbering system of rows
+abbrev pub system_name_at : LocaleId → Option (List ℕ)
+system_name_at id = option_map (λ s. unpadded s.name) (slice_get NUMBERING_SYSTEMS id.system)
 
 -- the numbering system of the tag is not listed
 pub record HasUnknownSystem (tag : List ℕ) : Type 0 where

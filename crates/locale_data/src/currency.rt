@@ -1,12 +1,13 @@
 //! The symbols, digits and patterns of currencies.
-ghost use Rattle.std.specs.Prelude.{◌≡◌, ◌<◌, ◌≤◌, ◌↔◌, length, Contains, Some, None, IsNone, IfSome};
-ghost use Rattle.std.specs.Option.{option_copied};
+ghost use Rattle.std.specs.Prelude.{◌≡◌, ◌<◌, ◌↔◌, length, Contains, Some, None, IsNone, IfSome, IfNone, IsTrue};
+ghost use Rattle.std.specs.Option.{option_and_then, option_copied};
 ghost use Rattle.locale_data.specs.declared.tables.currencies.TheConstants.{CURRENCIES, CURRENCY_TEXTS};
 ghost use Rattle.locale_data.specs.declared.tables.formats.TheConstants.{CURRENCY_OVERRIDES};
-ghost use Rattle.locale_data.specs.Currencies.{currency_with, digits_of, symbol_index, IsSymbol, IsSymbolRow, IsSymbolOf, IsOverrideRow, IsOverride, overridden, pattern_index, IsCurrencyPattern};
+ghost use Rattle.locale_data.specs.Currencies.{currency_with, digits_of, symbol_index, IsSymbol, IsSymbolAt, IsSymbolRow, IsOverrideRow, IsOverride, IsCurrencyId, IsCurrencyAt, LacksCurrency, overridden, pattern_index, IsCurrencyPattern};
 
+use crate::local_currency::{CurrencyDigits, CurrencySymbol, LocalCurrency};
 use crate::number_formats::{NumberFormats, pattern_at};
-use crate::search::{Row, indexed_row, row_in, row_named};
+use crate::search::{Row, index_named, indexed_row, row_in, row_named};
 use crate::tables::currencies::{
     CURRENCIES, CURRENCY_BYTES, CURRENCY_SYMBOLS, CURRENCY_TEXTS, OVERRIDES_BY_CURRENCY,
 };
@@ -43,25 +44,36 @@ impl Row for LocaleOverride {
     }
 }
 
-/// The numbers of digits of a currency.
-#[derive(Clone, Copy)]
-pub struct CurrencyDigits {
-    /// The number of fraction digits.
-    pub digits: u8,
-    /// The number of fraction digits in cash.
-    pub cash_digits: u8,
-    /// The increment in cash, in units of the last digit; 0 for 1.
-    pub cash_increment: u8,
+fn currencies() -> &'static [Currency]
+    ensures { result.now ≡ CURRENCIES }
+{
+    &CURRENCIES
 }
 
 fn currency_with(code: CurrencyCode) -> Option<&'static Currency>
-    ensures value { option_copied result ≡ currency_with code }
-    ensures listed { IfSome result (λ found. Contains CURRENCIES found.now) }
+    ensures { option_copied result ≡ currency_with code }
 {
-    row_named(&CURRENCIES, &code)
+    row_named(currencies(), &code)
 }
 
-/// Returns the numbers of digits of a currency; of a code that is not listed 2, 2 and 0.
+fn digits_of(currency: &Currency) -> CurrencyDigits
+    ensures { result ≡ digits_of (Some currency.now) }
+{
+    CurrencyDigits {
+        digits: currency.digits,
+        cash_digits: currency.cash_digits,
+        cash_increment: currency.cash_increment,
+    }
+}
+
+/// The numbers of digits of a currency that is not listed: 2, 2 and 0.
+pub const UNLISTED_DIGITS: CurrencyDigits = CurrencyDigits {
+    digits: 2,
+    cash_digits: 2,
+    cash_increment: 0,
+};
+
+/// Returns the numbers of digits of a currency, and `UNLISTED_DIGITS` of a code that is not listed.
 ///
 /// ```
 /// currency_digits(*b"CHF") // 2, in cash 2 and multiples of 5
@@ -70,16 +82,8 @@ pub fn currency_digits(code: CurrencyCode) -> CurrencyDigits
     ensures { result ≡ digits_of (currency_with code) }
 {
     match currency_with(code) {
-        Some(found) => CurrencyDigits {
-            digits: found.digits,
-            cash_digits: found.cash_digits,
-            cash_increment: found.cash_increment,
-        },
-        None => CurrencyDigits {
-            digits: 2,
-            cash_digits: 2,
-            cash_increment: 0,
-        },
+        Some(found) => digits_of(found),
+        None => UNLISTED_DIGITS,
     }
 }
 
@@ -90,17 +94,6 @@ pub enum SymbolWidth {
     Wide,
     /// A shorter symbol: `$`.
     Narrow,
-}
-
-/// A symbol of a currency.
-#[derive(Clone, Copy)]
-pub struct CurrencySymbol {
-    /// Its text, of at most 255 bytes.
-    pub text: &'static str,
-    /// Whether a space separates it from a digit before it, by the rule of CLDR, Currency Spacing.
-    pub space_before: bool,
-    /// Whether a space separates it from a digit after it.
-    pub space_after: bool,
 }
 
 fn own_symbols(currency: &Currency, tag: &[u8]) -> Option<&'static LocaleCurrency>
@@ -123,8 +116,7 @@ fn symbol_index(currency: &Currency, own: Option<&LocaleCurrency>, width: Symbol
 
 fn symbol_of(text: &CurrencyText) -> CurrencySymbol
     requires { Contains CURRENCY_TEXTS text.now }
-    ensures value { IsSymbol text.now result }
-    ensures short { length result.text.now ≤ 255 }
+    ensures { IsSymbol text.now result }
 {
     CurrencySymbol {
         text: text_in(&CURRENCY_BYTES, text.bytes),
@@ -133,24 +125,99 @@ fn symbol_of(text: &CurrencyText) -> CurrencySymbol
     }
 }
 
-/// Returns the symbol of a currency for a tag, as `locale` has it.
+fn symbol_at(index: u16) -> Option<CurrencySymbol>
+    ensures { IsSymbolAt index result }
+{
+    match CURRENCY_TEXTS.get(index as usize) {
+        Some(text) => Some(symbol_of(text)),
+        None => None,
+    }
+}
+
+/// The rows of a currency for a tag. They are the same as long as the tables are.
+#[derive(Clone, Copy)]
+pub struct CurrencyId {
+    /// The currency in `CURRENCIES`.
+    pub currency: u16,
+    /// The symbol in `CURRENCY_TEXTS`.
+    pub wide: u16,
+    /// The narrow symbol in `CURRENCY_TEXTS`.
+    pub narrow: u16,
+    /// The pattern in `CURRENCY_OVERRIDES`, if the locale has one for this currency.
+    pub pattern: Option<u8>,
+}
+
+fn override_row(currency: &Currency, tag: &[u8]) -> Option<&'static LocaleOverride>
+    requires { Contains CURRENCIES currency.now }
+    ensures { IsOverrideRow currency.now tag.now (option_copied result) }
+{
+    row_in(&OVERRIDES_BY_CURRENCY, currency.overrides, tag)
+}
+
+fn override_of(currency: &Currency, tag: &[u8]) -> Option<u8>
+    requires { Contains CURRENCIES currency.now }
+    ensures value { IsOverride currency.now tag.now result }
+    ensures listed { IfSome result (λ index. index < length CURRENCY_OVERRIDES) }
+{
+    match override_row(currency, tag) {
+        Some(row) => Some(row.pattern),
+        None => None,
+    }
+}
+
+/// Returns the rows of a currency for a tag, as `locale` has it, of which [`currency_at`] makes its symbols and digits.
 ///
-/// It is that of the listed locale with the longest tag that is `tag` or has a hyphen after it there, and without one
+/// Each is that of the listed locale with the longest tag that is `tag` or has a hyphen after it there, and without one
 /// that of root. Returns `None` for a code that is not listed, whose symbol is the code.
 ///
 /// ```
-/// currency_symbol("de-AT", *b"USD", SymbolWidth::Wide) // $
-/// currency_symbol("en-AU", *b"USD", SymbolWidth::Wide) // USD
+/// currency_at(currency_id("de-AT", *b"USD")?)?.wide // $
+/// currency_at(currency_id("en-AU", *b"USD")?)?.wide // USD
 /// ```
-pub fn currency_symbol(tag: &str, code: CurrencyCode, width: SymbolWidth) -> Option<CurrencySymbol>
-    ensures found { IfSome result (λ symbol. IsSymbolOf tag.now code width symbol) }
-    ensures short { IfSome result (λ symbol. length symbol.text.now ≤ 255) }
+pub fn currency_id(tag: &str, code: CurrencyCode) -> Option<CurrencyId>
+    ensures found { IfSome result (IsCurrencyId tag.now code) }
+    ensures rows { IfSome result (λ id. ¬ LacksCurrency id) }
     ensures unlisted { IsNone result ↔ (currency_with code ≡ None) }
 {
-    let currency = currency_with(code)?;
-    let own = own_symbols(currency, tag.as_bytes());
-    let index = symbol_index(currency, own, width);
-    Some(symbol_of(indexed_row(&CURRENCY_TEXTS, index as usize)))
+    let rows = currencies();
+    let index = index_named(rows, &code)?;
+    let currency = indexed_row(rows, index);
+    let tag = tag.as_bytes();
+    let own = own_symbols(currency, tag);
+    Some(CurrencyId {
+        currency: index as u16,
+        wide: symbol_index(currency, own, SymbolWidth::Wide),
+        narrow: symbol_index(currency, own, SymbolWidth::Narrow),
+        pattern: override_of(currency, tag),
+    })
+}
+
+fn is_override(pattern: Option<u8>) -> bool
+    ensures { IsTrue result ↔ IfSome pattern (λ index. index < length CURRENCY_OVERRIDES) }
+{
+    match pattern {
+        Some(index) => (index as usize) < CURRENCY_OVERRIDES.len(),
+        None => true,
+    }
+}
+
+/// Returns what a locale has for a currency from its rows, and `None` if there are no such rows.
+pub fn currency_at(id: CurrencyId) -> Option<LocalCurrency>
+    ensures found { IfSome result (IsCurrencyAt id) }
+    ensures lacks { IfNone result (LacksCurrency id) }
+{
+    let currency = currencies().get(id.currency as usize)?;
+    let wide = symbol_at(id.wide)?;
+    let narrow = symbol_at(id.narrow)?;
+    if !is_override(id.pattern) {
+        return None;
+    }
+    Some(LocalCurrency {
+        digits: digits_of(currency),
+        wide,
+        narrow,
+        pattern: id.pattern,
+    })
 }
 
 /// Which pattern of a currency.
@@ -171,26 +238,6 @@ pub struct CurrencyPattern {
     pub decimal: Option<MoneySeparator>,
     /// The grouping separator, if it is not that of other numbers.
     pub grouping: Option<MoneySeparator>,
-}
-
-fn override_row(currency: &Currency, tag: &[u8]) -> Option<&'static LocaleOverride>
-    requires { Contains CURRENCIES currency.now }
-    ensures { IsOverrideRow currency.now tag.now (option_copied result) }
-{
-    row_in(&OVERRIDES_BY_CURRENCY, currency.overrides, tag)
-}
-
-fn override_of(tag: &[u8], code: CurrencyCode) -> Option<u8>
-    ensures value { IsOverride (currency_with code) tag.now result }
-    ensures listed { IfSome result (λ index. index < length CURRENCY_OVERRIDES) }
-{
-    match currency_with(code) {
-        Some(currency) => match override_row(currency, tag) {
-            Some(row) => Some(row.pattern),
-            None => None,
-        },
-        None => None,
-    }
 }
 
 fn overridden(index: u8) -> CurrencyPattern
@@ -214,25 +261,35 @@ fn pattern_index(formats: &NumberFormats, sign: CurrencySign) -> u8
     }
 }
 
-/// Returns how a currency is written for a tag, as `locale` has it, that has these formats.
+fn own_pattern(currency: Option<LocalCurrency>) -> Option<u8>
+    ensures value { result ≡ option_and_then (λ c. c.pattern) currency }
+    ensures listed { IfSome result (λ index. index < length CURRENCY_OVERRIDES) }
+{
+    match currency {
+        Some(currency) => currency.pattern,
+        None => None,
+    }
+}
+
+/// Returns how a currency is written in a locale that has these formats, and this for the currency.
 ///
-/// It is the pattern that the tag has for this currency, or else that of the region's currency, which ICU uses for all
-/// currencies there, or else the pattern of the formats. Of a code that is not listed it is that of other currencies.
+/// It is the pattern that the locale has for this currency, or else that of the region's currency, which ICU uses for
+/// all currencies there, or else the pattern of the formats. Of a code that is not listed it is that of other
+/// currencies.
 ///
 /// ```
-/// currency_pattern("de", &formats_of("de", "latn"), *b"EUR", CurrencySign::Standard) // 1,00 €
-/// currency_pattern("en", &formats_of("en", "latn"), *b"USD", CurrencySign::Accounting) // ($1.00)
+/// currency_pattern(&formats_of("de", "latn"), currency_at(euro), CurrencySign::Standard) // 1,00 €
+/// currency_pattern(&formats_of("en", "latn"), None, CurrencySign::Accounting) // (XXX 1.00)
 /// ```
 pub fn currency_pattern(
-    tag: &str,
     formats: &NumberFormats,
-    code: CurrencyCode,
+    currency: Option<LocalCurrency>,
     sign: CurrencySign,
 ) -> CurrencyPattern
-    ensures { IsCurrencyPattern tag.now formats.now code sign result }
+    ensures { IsCurrencyPattern formats.now currency sign result }
 {
     let money = indexed_row(&MONEY_FORMATS, formats.money as usize);
-    match override_of(tag.as_bytes(), code).or(money.replaced) {
+    match own_pattern(currency).or(money.replaced) {
         Some(index) => overridden(index),
         None => CurrencyPattern {
             pattern: *pattern_at(pattern_index(formats, sign)),

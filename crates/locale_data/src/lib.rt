@@ -12,6 +12,7 @@ mod compact;
 mod currency;
 mod formats;
 pub mod laws;
+mod local_currency;
 mod locales;
 mod number_formats;
 mod plural_rows;
@@ -24,11 +25,12 @@ mod texts;
 
 pub use compact::{CompactPatterns, CompactStyle, UnitAffixes};
 pub use currency::{
-    CurrencyCode, CurrencyDigits, CurrencyPattern, CurrencySign, CurrencySymbol, SymbolWidth,
-    currency_digits, currency_pattern, currency_symbol,
+    CurrencyCode, CurrencyId, CurrencyPattern, CurrencySign, UNLISTED_DIGITS, currency_at,
+    currency_digits, currency_id, currency_pattern,
 };
 pub use formats::formats_of;
-pub use locales::{LocaleId, locale, locale_and_system, locale_id, locale_in, symbols_at};
+pub use local_currency::{CurrencyDigits, CurrencySymbol, LocalCurrency};
+pub use locales::{LocaleId, locale, locale_id, locale_id_in, symbols_at, system_name_at};
 pub use number_formats::NumberFormats;
 pub use plurals::{
     PluralRuleType, PluralRulesError, PluralRulesId, plural_category_at, plural_rules_at,

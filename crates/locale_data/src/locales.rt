@@ -1,11 +1,11 @@
 //! The symbols and the numbering system of a tag.
-ghost use Rattle.std.specs.Prelude.{◌≡◌, ◌↔◌, ◌<◌, ◌^◌, ◌⊎◌, length, None, IsNone, IfNone, IfSome, IsSomeAnd, Contains};
+ghost use Rattle.std.specs.Prelude.{◌≡◌, ◌↔◌, ◌<◌, ◌⊎◌, length, None, IsNone, IfNone, IfSome, IsSomeAnd, Contains};
 ghost use Rattle.std.specs.Option.{option_copied};
-ghost use Rattle.locale_data.specs.Rows.{row_at};
-ghost use Rattle.locale_data.specs.Locales.{system_named, system_of, own_rows, symbols_of, symbols_in, symbols_at, HasOneWidth, IsListed, IsLocale, IsLocaleIn, AreRowsOf, IsSystemName, IsUnknown};
+ghost use Rattle.locale_data.specs.Rows.{row_at, unpadded};
+ghost use Rattle.locale_data.specs.Locales.{system_named, system_of, own_rows, symbols_of, symbols_in, symbols_at, HasOneWidth, IsListed, IsLocale, IsLocaleIn, AreRowsOf, IsOwnIndex, IsUnknown, system_name_at};
 ghost use Rattle.decimal_format.specs.Readable.{IsReadable};
 
-use crate::search::{Row, index_named, indexed_row, part, row_index, row_of, unpadded};
+use crate::search::{Row, index_named, indexed_row, part, row_index, unpadded};
 use crate::tables::rows::Name;
 use crate::tables::rows::symbols::{LocaleSymbols, NumberingSystem, SymbolSet};
 use crate::tables::symbols::{LOCALES, LOCALES_BY_SYSTEM, NUMBERING_SYSTEMS};
@@ -117,16 +117,6 @@ pub struct LocaleId {
     pub own: Option<u16>,
 }
 
-fn in_16_bits(index: Option<usize>) -> Option<u16>
-    requires { IfSome index (λ i. i < 2 ^ 16) }
-    ensures { result ≡ index }
-{
-    match index {
-        Some(index) => Some(index as u16),
-        None => None,
-    }
-}
-
 /// Returns the row of a tag in `LOCALES`, and its numbering system in `NUMBERING_SYSTEMS`.
 fn rows_of(tag: &[u8]) -> Option<(usize, usize)>
     ensures found { IfSome result (λ found. AreRowsOf tag.now found.0 found.1) }
@@ -139,6 +129,17 @@ fn rows_of(tag: &[u8]) -> Option<(usize, usize)>
     Some((locale, system))
 }
 
+/// Returns the row of a tag among those of a numbering system, if it has some for the tag.
+fn own_index(tag: &[u8], system: usize) -> Option<u16>
+    requires { system < length NUMBERING_SYSTEMS }
+    ensures { IsOwnIndex tag.now system result }
+{
+    match row_index(own_rows(indexed_row(numbering_systems(), system)), tag) {
+        Some(index) => Some(index as u16),
+        None => None,
+    }
+}
+
 /// Returns the rows of a tag, from which [`symbols_at`] makes its symbols. Returns `None` where [`locale`] does.
 pub fn locale_id(tag: &str) -> Option<LocaleId>
     ensures found { IfSome result (λ id. IsSomeAnd (symbols_at id) (IsLocale tag.now)) }
@@ -147,11 +148,32 @@ pub fn locale_id(tag: &str) -> Option<LocaleId>
 {
     let tag = tag.as_bytes();
     let (locale, system) = rows_of(tag)?;
-    let own = row_index(own_rows(indexed_row(numbering_systems(), system)), tag);
     Some(LocaleId {
         locale: locale as u16,
         system: system as u16,
-        own: in_16_bits(own),
+        own: own_index(tag, system),
+    })
+}
+
+/// Returns the rows of a tag in a numbering system, as `latn`, whichever the tag names.
+///
+/// They are those of [`locale_id`] for a tag that names this system. Returns `None` if no tag of the locale is listed,
+/// or the numbering system is not.
+///
+/// ```
+/// symbols_at(locale_id_in("ar-EG", "latn")?) // 1,234,567.5
+/// ```
+pub fn locale_id_in(tag: &str, system: &str) -> Option<LocaleId>
+    ensures found { IfSome result (λ id. IsSomeAnd (symbols_at id) (IsLocaleIn tag.now system.now)) }
+    ensures unknown { IfNone result (IsListed LOCALES tag.now None ⊎ (system_named system.now ≡ None)) }
+{
+    let tag = tag.as_bytes();
+    let locale = row_index(locales(), tag)?;
+    let system = system_named(system.as_bytes())?;
+    Some(LocaleId {
+        locale: locale as u16,
+        system: system as u16,
+        own: own_index(tag, system),
     })
 }
 
@@ -194,38 +216,27 @@ pub fn locale(tag: &str) -> Option<DecimalSymbols<'static>>
     }
 }
 
-/// Returns the symbols of a tag and the name of its numbering system, as `latn`. Returns `None` where [`locale`] does.
-///
-/// ```
-/// locale_and_system("hi-u-nu-deva") // the symbols of hi in the digits of Devanagari, and deva
-/// ```
-pub fn locale_and_system(tag: &str) -> Option<(DecimalSymbols<'static>, &'static str)>
-    ensures symbols { IfSome result (λ found. IsLocale tag.now found.0) }
-    ensures system { IfSome result (λ found. IsSystemName tag.now found.1.now) }
-    ensures unknown { IsNone result ↔ IsUnknown tag.now }
+fn name_of(system: &'static NumberingSystem) -> &'static str
+    requires { Contains NUMBERING_SYSTEMS system.now }
+    ensures { result.now ≡ unpadded system.now.name }
 {
-    let id = locale_id(tag)?;
-    let symbols = symbols_at(id)?;
-    let system = indexed_row(numbering_systems(), id.system as usize);
     match str::from_utf8(unpadded(&system.name)) {
-        Ok(name) => Some((symbols, name)),
+        Ok(name) => name,
         Err(_) => unreachable!(),
     }
 }
 
-/// Returns the symbols of a locale in a numbering system, as `latn`, whichever the tag names.
-///
-/// They are those of [`locale`] for a tag that names this system. Returns `None` if no tag of the locale
-/// is listed, or the numbering system is not.
+/// Returns the name of the numbering system of a locale from its rows, as `latn`, and `None` if there is no such row.
 ///
 /// ```
-/// locale_in("ar-EG", "latn") // 1,234,567.5
+/// system_name_at(locale_id("hi-u-nu-deva")?) // deva
 /// ```
-pub fn locale_in(tag: &str, system: &str) -> Option<DecimalSymbols<'static>>
-    ensures found { IfSome result (IsLocaleIn tag.now system.now) }
-    ensures unknown { IfNone result (IsListed LOCALES tag.now None ⊎ (system_named system.now ≡ None)) }
+pub fn system_name_at(id: LocaleId) -> Option<&'static str>
+    ensures value { option_copied result ≡ system_name_at id }
+    ensures none { IfNone result (symbols_at id ≡ None) }
 {
-    let locale = row_of(locales(), tag.as_bytes())?;
-    let system = indexed_row(numbering_systems(), system_named(system.as_bytes())?);
-    Some(symbols_in(system, locale, row_of(own_rows(system), tag.as_bytes())))
+    match numbering_systems().get(id.system as usize) {
+        Some(system) => Some(name_of(system)),
+        None => None,
+    }
 }

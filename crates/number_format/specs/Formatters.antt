@@ -2,9 +2,9 @@
 use Rattle.std.specs.{Prelude.{◌≡◌, ℕ, ◌+◌, ◌<◌, ◌==◌, false, ◌⊎◌, if◌then◌else◌, List, [], slice_get, slice_index, Option, Some, None, unwrap_or, IsSomeAnd, MatchOption, pos, ⊤}, Option.option_map}
 use Rattle.fixed_decimal.specs.declared.variations.SignDisplay.{SignDisplay}
 use Rattle.decimal_format.specs.{Symbols.Symbols, declared.grouping.{GroupingSizes.GroupingSizes, GroupingStrategy.GroupingStrategy}}
-use Rattle.locale_data.specs.declared.{compact.CompactStyle.CompactStyle, currency.{CurrencyPattern.CurrencyPattern, CurrencySign.CurrencySign}, tables.formats.TheConstants.{PATTERNS, NUMBER_SIGNS}, number_formats.NumberFormats.NumberFormats, tables.rows.patterns.{NumberSigns.NumberSigns, Pattern.Pattern}, plurals.PluralRuleType.TheVariants.Cardinal}
-use Rattle.locale_data.specs.{Compact.IsExponent, Currencies.IsCurrencyPattern, Formats.AreFormatsOf, Locales.{IsLocale, IsLocaleIn, IsSystemName, IsUnknown, system_named}, Patterns.{separator_text, exponent_text}, Plurals.{rules_text_at, IsRulesText, HasNoRules}, Rows.unpadded}
-use Rattle.number_format.specs.declared.{notation.Notation.Notation, format.formatter.{NumberFormatError.NumberFormatError, NumberFormatter.NumberFormatter}, options.{NumberNotation.NumberNotation, NumberOptions.NumberOptions, NumberStyle.NumberStyle}, format.currency.ShownCurrency.ShownCurrency}
+use Rattle.locale_data.specs.declared.{compact.CompactStyle.CompactStyle, currency.{CurrencyId.CurrencyId, CurrencyPattern.CurrencyPattern, CurrencySign.CurrencySign}, local_currency.{CurrencyDigits.CurrencyDigits, LocalCurrency.LocalCurrency}, locales.LocaleId.LocaleId, tables.formats.TheConstants.{PATTERNS, NUMBER_SIGNS}, number_formats.NumberFormats.NumberFormats, tables.rows.patterns.{NumberSigns.NumberSigns, Pattern.Pattern}, plurals.PluralRuleType.TheVariants.Cardinal}
+use Rattle.locale_data.specs.{Compact.IsExponent, Currencies.{currency_with, digits_of, IsCurrencyId, IsCurrencyAt, IsCurrencyPattern, LacksCurrency}, Formats.AreFormatsOf, Locales.{symbols_at, system_named, system_name_at, AreRowsOf, IsLocale, IsLocaleIn, IsUnknown}, Patterns.{separator_text, exponent_text}, Plurals.{rules_text_at, IsRulesText, HasNoRules}, Rows.unpadded}
+use Rattle.number_format.specs.declared.{digits.options.DigitOptions.DigitOptions, notation.Notation.Notation, format.{ids.{FormatterIds.FormatterIds, NumberFormatError.NumberFormatError}, formatter.NumberFormatter.NumberFormatter}, options.{NumberNotation.NumberNotation, NumberOptions.NumberOptions, NumberStyle.NumberStyle}, format.currency.ShownCurrency.ShownCurrency}
 use Rattle.number_format.specs.{DefaultDigits.AreDefaultDigits, NumberStyles.{plain_pattern, percent_text, text_or_nothing, in_system, IsShownBy, IsShownCurrency}, NumberText.compact_style}
 
 -- ---- What options say by themselves.
@@ -33,16 +33,27 @@ pub record IsWithoutCurrency (pattern : Pattern) (p : CurrencyPattern) (shown : 
   pub hidden : IsShownBy [] false false shown
 
 -- the pattern, the separators and the currency of a style; percent in compact notation has the pattern of plain numbers
-abbrev pub IsStyle : NumberStyle → NumberNotation → List ℕ → List ℕ → GroupingSizes → NumberFormats → SignDisplay
-    → CurrencyPattern → ShownCurrency → Type 0
-IsStyle NumberStyle.Decimal n tag system sizes formats display p shown = IsWithoutCurrency (plain_pattern sizes) p shown
-IsStyle (NumberStyle.Currency c) n tag system sizes formats display p shown =
-    IsCurrencyPattern tag formats c.code (currency_sign display c.sign) p
-    × (own : ShownCurrency) × IsShownCurrency tag c own × (shown ≡ in_system system own)
-IsStyle other (NumberNotation.Compact words) tag system sizes formats display p shown =
+abbrev pub IsStyle : NumberStyle → NumberNotation → List ℕ → GroupingSizes → NumberFormats → Option LocalCurrency
+    → SignDisplay → CurrencyPattern → ShownCurrency → Type 0
+IsStyle NumberStyle.Decimal n system sizes formats currency display p shown =
     IsWithoutCurrency (plain_pattern sizes) p shown
-IsStyle other n tag system sizes formats display p shown =
+IsStyle (NumberStyle.Currency c) n system sizes formats currency display p shown =
+    IsCurrencyPattern formats currency (currency_sign display c.sign) p
+    × (own : ShownCurrency) × IsShownCurrency currency c own × (shown ≡ in_system system own)
+IsStyle other (NumberNotation.Compact words) system sizes formats currency display p shown =
+    IsWithoutCurrency (plain_pattern sizes) p shown
+IsStyle other n system sizes formats currency display p shown =
     (slice_get PATTERNS formats.percent ≡ Some p.pattern) × IsWithoutCurrency p.pattern p shown
+
+-- the digits of a currency; of one that is not listed those of no currency
+abbrev pub digits_by : Option LocalCurrency → CurrencyDigits
+digits_by None = digits_of None
+digits_by (Some c) = c.digits
+
+-- the digits that the options have, or else the default ones
+abbrev pub AreShownDigits : Option LocalCurrency → NumberOptions → Option DigitOptions → Type 0
+AreShownDigits currency o digits =
+    MatchOption o.digits (AreDefaultDigits (digits_by currency) o digits) (λ given. digits ≡ Some given)
 
 -- ---- The formatter.
 
@@ -57,13 +68,14 @@ IsNotationBy formats (NumberNotation.Engineering o) None Notation.Engineering = 
 IsNotationBy formats NumberNotation.Standard None Notation.Standard = ⊤
 IsNotationBy formats other words n = ⊥
 
-pub record IsFormatterIn (tag system : List ℕ) (own : Symbols) (o : NumberOptions) (f : NumberFormatter) : Type 0 where
+-- the formatter of the symbols and the currency of a locale, and of a numbering system
+pub record IsFormatterBy (own : Symbols) (system : List ℕ) (currency : Option LocalCurrency) (o : NumberOptions)
+    (f : NumberFormatter) : Type 0 where
   pub signs : NumberSigns
   pub written : CurrencyPattern
-  pub formats : AreFormatsOf tag system f.formats
   pub signs_are : slice_get NUMBER_SIGNS f.formats.signs ≡ Some signs
-  pub rules : IsSomeAnd (rules_text_at f.rules) (IsRulesText tag Cardinal)
-  pub style_is : IsStyle o.style o.notation tag system own.sizes f.formats o.sign_display written f.style.currency
+  pub style_is :
+      IsStyle o.style o.notation system own.sizes f.formats currency o.sign_display written f.style.currency
   pub symbols : f.style.symbols
       ≡ record (with_separators own written) { sizes = style_sizes written.pattern o.grouping own.sizes }
   pub pattern : f.style.pattern ≡ written.pattern
@@ -71,16 +83,66 @@ pub record IsFormatterIn (tag system : List ℕ) (own : Symbols) (o : NumberOpti
   pub separator : f.separator.text.now ≡ exponent_text signs.exponent
   pub options : f.options ≡ o
   pub notation_is : IsNotationBy f.formats o.notation (compact_style o.notation o.style) f.notation
-  pub digits : MatchOption o.digits (AreDefaultDigits o f.digits) (λ given. f.digits ≡ Some given)
+  pub digits : AreShownDigits currency o f.digits
 
--- the formatter of a known tag and options, in the numbering system of the options, or else that of the tag
-pub record IsFormatter (tag : List ℕ) (o : NumberOptions) (f : NumberFormatter) : Type 0 where
+-- ---- Rows.
+
+-- the numbering system of a name, or else that of the rows
+abbrev pub system_text : LocaleId → Option (List ℕ) → Option (List ℕ)
+system_text id None = system_name_at id
+system_text id (Some name) = Some (text_or_nothing (unpadded name))
+
+-- what a row has for a currency, if there is one
+abbrev pub IsCurrencyBy : Option CurrencyId → Option LocalCurrency → Type 0
+IsCurrencyBy None currency = currency ≡ None
+IsCurrencyBy (Some id) currency = IsSomeAnd currency (IsCurrencyAt id)
+
+-- the formatter that rows and options make
+pub record IsFormatterAt (ids : FormatterIds) (o : NumberOptions) (f : NumberFormatter) : Type 0 where
+  pub own : Symbols
+  pub system : List ℕ
+  pub currency : Option LocalCurrency
+  pub symbols_are : symbols_at ids.symbols ≡ Some own
+  pub system_is : system_text ids.symbols o.numbering_system ≡ Some system
+  pub currency_is : IsCurrencyBy ids.currency currency
+  pub formats : f.formats ≡ ids.formats
+  pub rules : f.rules ≡ ids.rules
+  pub made : IsFormatterBy own system currency o f
+
+-- a table has no such row
+abbrev pub LacksRows : FormatterIds → Type 0
+LacksRows ids =
+    (symbols_at ids.symbols ≡ None)
+    ⊎ ((rules_text_at ids.rules ≡ None) ⊎ IsSomeAnd ids.currency LacksCurrency)
+
+-- the rows of the symbols of a tag, in the numbering system with a name, or else in that of the tag
+abbrev pub AreSymbolsOf : List ℕ → Option (List ℕ) → LocaleId → Type 0
+AreSymbolsOf tag None id = IsSomeAnd (symbols_at id) (IsLocale tag) × AreRowsOf tag id.locale id.system
+AreSymbolsOf tag (Some name) id = IsSomeAnd (symbols_at id) (IsLocaleIn tag (text_or_nothing (unpadded name)))
+
+-- the rows of the currency of a style, if it is listed
+abbrev pub IsCurrencyRow : List ℕ → NumberStyle → Option CurrencyId → Type 0
+IsCurrencyRow tag (NumberStyle.Currency c) row =
+    MatchOption row (currency_with c.code ≡ None) (IsCurrencyId tag c.code)
+IsCurrencyRow tag other row = row ≡ None
+
+-- the rows of a known tag for options
+pub record AreIdsOf (tag : List ℕ) (o : NumberOptions) (ids : FormatterIds) : Type 0 where
   pub known : ¬ IsUnknown tag
   pub system : List ℕ
-  pub own : Symbols
-  pub in_system_of : MatchOption o.numbering_system (IsLocale tag own × IsSystemName tag system)
-      (λ name. IsLocaleIn tag system own × (system ≡ text_or_nothing (unpadded name)))
-  pub made : IsFormatterIn tag system own o f
+  pub symbols : AreSymbolsOf tag o.numbering_system ids.symbols
+  pub system_is : system_text ids.symbols o.numbering_system ≡ Some system
+  pub formats : AreFormatsOf tag system ids.formats
+  pub rules : IsSomeAnd (rules_text_at ids.rules) (IsRulesText tag Cardinal)
+  pub currency : IsCurrencyRow tag o.style ids.currency
+
+-- ---- The formatter of a tag.
+
+-- the formatter of the rows of a known tag
+pub record IsFormatter (tag : List ℕ) (o : NumberOptions) (f : NumberFormatter) : Type 0 where
+  pub ids : FormatterIds
+  pub ids_are : AreIdsOf tag o ids
+  pub at : IsFormatterAt ids o f
 
 -- the tag is unknown, or has no plural rules, which each listed locale has; or the tag is known, and the numbering
 -- system of the options is not listed

@@ -1,7 +1,7 @@
 -- What a style of numbers writes: its pattern, its percent sign, and its currency.
-use Rattle.std.specs.{Prelude.{◌≡◌, ℕ, Bool, true, false, not, codes, ◌&&◌, if◌then◌else◌, List, [], map, Option, Some, None, MatchOption}, Char.to_ascii_uppercase, Option.option_map_or, Str.{is_utf8, bytes_eq}}
+use Rattle.std.specs.{Prelude.{◌≡◌, ℕ, Bool, true, false, not, codes, ◌&&◌, if◌then◌else◌, List, [], map, Option, Some, None}, Char.to_ascii_uppercase, Option.{option_map, option_map_or}, Str.{is_utf8, bytes_eq}}
 use Rattle.decimal_format.specs.declared.grouping.GroupingSizes.{GroupingSizes}
-use Rattle.locale_data.specs.{Currencies.{currency_with, IsSymbolOf}, declared.{currency.{CurrencySymbol.CurrencySymbol, SymbolWidth.SymbolWidth}, tables.rows.patterns.{Affix.Affix, AffixPair.AffixPair, NumberSigns.NumberSigns, Pattern.Pattern, Piece.{Piece, TheVariants.{Empty, Minus, Plus, Currency}}}}}
+use Rattle.locale_data.specs.{declared.{local_currency.{CurrencySymbol.CurrencySymbol, LocalCurrency.LocalCurrency}, tables.rows.patterns.{Affix.Affix, AffixPair.AffixPair, NumberSigns.NumberSigns, Pattern.Pattern, Piece.{Piece, TheVariants.{Empty, Minus, Plus, Currency}}}}}
 use Rattle.locale_data.specs.Patterns as pattern
 use Rattle.number_format.specs.declared.{options.{CurrencyDisplay.CurrencyDisplay, CurrencyStyle.CurrencyStyle, NumberStyle.NumberStyle}, format.currency.ShownCurrency.ShownCurrency}
 
@@ -73,22 +73,22 @@ IsDisplayed CurrencyDisplay.Narrow wide narrow = IsShownWith narrow
 IsDisplayed CurrencyDisplay.Code wide narrow = IsShownWith None
 IsDisplayed CurrencyDisplay.Hidden wide narrow = IsShownBy [] false false
 
--- the symbol that a tag has for a currency, or None if the currency is not listed
-abbrev pub IsSymbolIn : List ℕ → List ℕ → SymbolWidth → Option CurrencySymbol → Type 0
-IsSymbolIn tag code width symbol = MatchOption symbol (currency_with code ≡ None) (IsSymbolOf tag code width)
-
 abbrev pub symbol_text : Option CurrencySymbol → List ℕ
 symbol_text symbol = option_map_or (λ s. s.text.now) symbol []
 
--- a currency as a style shows it for a tag, with the texts that name it; its code is in capitals
-pub record IsShownCurrency (tag : List ℕ) (style : CurrencyStyle) (shown : ShownCurrency) : Type 0 where
-  pub wide : Option CurrencySymbol
-  pub narrow : Option CurrencySymbol
-  pub wide_is : IsSymbolIn tag style.code SymbolWidth.Wide wide
-  pub narrow_is : IsSymbolIn tag style.code SymbolWidth.Narrow narrow
+abbrev pub wide_symbol : Option LocalCurrency → Option CurrencySymbol
+wide_symbol = option_map (λ c. c.wide)
+
+abbrev pub narrow_symbol : Option LocalCurrency → Option CurrencySymbol
+narrow_symbol = option_map (λ c. c.narrow)
+
+-- a currency, listed or not, as a style shows it, with the texts that name it; its code is in capitals
+pub record IsShownCurrency (currency : Option LocalCurrency) (style : CurrencyStyle) (shown : ShownCurrency)
+    : Type 0 where
   pub code_is : shown.code ≡ map to_ascii_uppercase style.code
-  pub displayed : IsDisplayed style.display wide narrow shown
-  pub named : (shown.wide.now ≡ symbol_text wide) × (shown.narrow.now ≡ symbol_text narrow)
+  pub displayed : IsDisplayed style.display (wide_symbol currency) (narrow_symbol currency) shown
+  pub named :
+      (shown.wide.now ≡ symbol_text (wide_symbol currency)) × (shown.narrow.now ≡ symbol_text (narrow_symbol currency))
 
 -- a digit of `hanidec` is a letter, which no space separates from a currency
 abbrev pub in_system : List ℕ → ShownCurrency → ShownCurrency

@@ -6,6 +6,7 @@ mod exponent;
 pub(crate) mod format_number;
 pub(crate) mod formatted_number;
 pub(crate) mod formatter;
+pub(crate) mod ids;
 pub(crate) mod parts;
 mod style;
 pub(crate) mod text_part;

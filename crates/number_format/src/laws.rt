@@ -3,7 +3,7 @@ ghost use Rattle.std.specs.Prelude.{◌≡◌, ◌≢◌, ◌*◌, ◌^◌, ◌�
 ghost use Rattle.decimal_unsigned.specs.Unsigned.{IsValue};
 ghost use Rattle.fixed_decimal.specs.Decimal.{Decimal, with_sign_display};
 ghost use Rattle.decimal_format.specs.{Formatted.formatted, Readable.IsReadable, Symbols.{Symbols, sign_affixes}};
-ghost use Rattle.number_format.specs.{AffixedTexts.{Reader, AreNamed, text_with, shifted, IsReadExactly}, Formatters.{plain_options, IsFormatterIn, IsFormatter}, NumberReading.{IsStandard, reader_of, CanRead, IsShownAs}, NumberText.IsNumberText, ShownDigits.{rounded_with, applied, IsFractional, KeepsDigits}, Scaled.{KeepsExponent, KeepsValueOf}};
+ghost use Rattle.number_format.specs.{AffixedTexts.{Reader, AreNamed, text_with, shifted, IsReadExactly}, Formatters.{plain_options, IsFormatterBy, IsFormatter}, NumberReading.{IsStandard, reader_of, CanRead, IsShownAs}, NumberText.IsNumberText, ShownDigits.{rounded_with, applied, IsFractional, KeepsDigits}, Scaled.{KeepsExponent, KeepsValueOf}};
 
 use crate::digits::options::DigitOptions;
 use crate::digits::ranges::FractionDigits;
@@ -12,6 +12,7 @@ use crate::notation::Notation;
 use crate::options::{NumberNotation, NumberOptions};
 use decimal_format::GroupingStrategy;
 use fixed_decimal::{ParseError, SignDisplay};
+use locale_data::LocalCurrency;
 
 /// By `Precision::Fraction` a number with no more than the greatest number of fraction digits is kept, and the whole
 /// value if it shows the digits that the options show.
@@ -54,8 +55,9 @@ pub fn the_value_is_the_rounded_number()
 /// By plain options the text is that of `decimal_format` by the symbols of the locale, if these have the minus sign
 /// before the number; by each strategy but `Always`, which may group where the locale does not.
 pub fn plain_texts_are_decimals()
-    ensures { (tag system : List ℕ) (own : Symbols) (g : GroupingStrategy) (name : Option (List ℕ))
-        (f : NumberFormatter) (v : Decimal) (text : List ℕ) → IsFormatterIn tag system own (plain_options g name) f
+    ensures { (system : List ℕ) (own : Symbols) (currency : Option LocalCurrency) (g : GroupingStrategy)
+        (name : Option (List ℕ)) (f : NumberFormatter) (v : Decimal) (text : List ℕ)
+        → IsFormatterBy own system currency (plain_options g name) f
         → g ≢ GroupingStrategy.Always → IsValue v.absolute
         → (sign_affixes own (with_sign_display v SignDisplay.Auto).sign).suffix ≡ []
         → IsNumberText f v text → text ≡ formatted own g (with_sign_display v SignDisplay.Auto) }

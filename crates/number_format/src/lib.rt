@@ -37,7 +37,8 @@ pub use digits::ranges::{
 pub use digits::settings::{DigitDefaults, DigitSettings, RoundingPriority};
 pub use format::format_number::{FormatError, NumberWriteError};
 pub use format::formatted_number::FormattedNumber;
-pub use format::formatter::{NumberFormatError, NumberFormatter};
+pub use format::formatter::NumberFormatter;
+pub use format::ids::{FormatterIds, NumberFormatError};
 pub use format::parts::PartSink;
 pub use format::text_part::{PartKind, TextPart};
 pub use notation::scale::Scaled;

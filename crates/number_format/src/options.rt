@@ -1,6 +1,6 @@
 //! How a number is written: its style, notation, digits, sign and groups, and the digits that ECMA-402 has by default.
 ghost use Rattle.std.specs.Prelude.{◌≡◌};
-ghost use Rattle.number_format.specs.{DefaultDigits.{shows_all_digits, is_compact, usage_digits, increment, IsDefault, AreDefaultDigits}, NumberText.compact_style};
+ghost use Rattle.number_format.specs.{DefaultDigits.{shows_all_digits, is_compact, usage_digits, style_digits, increment_by, increment, IsDefaultBy, IsDefault, AreDefaultDigits}, NumberText.compact_style};
 
 use crate::digits::options::{DigitOptions, TrailingZeros};
 use crate::digits::ranges::{FractionDigits, Increment};
@@ -8,7 +8,8 @@ use crate::digits::settings::{DigitDefaults, DigitSettings, RoundingPriority};
 use decimal_format::GroupingStrategy;
 use fixed_decimal::{SignDisplay, SignedRoundingMode, UnsignedRoundingMode};
 use locale_data::{
-    CompactStyle, CurrencyCode, CurrencyDigits, CurrencySign, Name, currency_digits,
+    CompactStyle, CurrencyCode, CurrencyDigits, CurrencySign, Name, UNLISTED_DIGITS,
+    currency_digits,
 };
 
 /// Which symbol of a currency is written.
@@ -164,13 +165,21 @@ impl NumberOptions {
         matches!(kind, (NumberStyle::Decimal, NumberNotation::Standard))
     }
 
-    /// Returns the increment of a rounding that no setting gives: that of a currency's cash, else 1.
-    pub fn default_increment(&self) -> u16
-        ensures { result ≡ increment self.now.style (is_compact self.now.notation) }
+    fn currency_digits(&self) -> CurrencyDigits
+        ensures { result ≡ style_digits self.now.style }
+    {
+        match self.style {
+            NumberStyle::Currency(style) => currency_digits(style.code),
+            _ => UNLISTED_DIGITS,
+        }
+    }
+
+    fn increment_by(&self, currency: CurrencyDigits) -> u16
+        ensures { result ≡ increment_by currency self.now.style (is_compact self.now.notation) }
     {
         match self.style {
             NumberStyle::Currency(style) if !self.is_compact() => {
-                let (_, increment) = style.usage.digits(currency_digits(style.code));
+                let (_, increment) = style.usage.digits(currency);
                 match Increment::new(increment as u16) {
                     Ok(increment) => increment.value(),
                     Err(_) => 1,
@@ -180,16 +189,14 @@ impl NumberOptions {
         }
     }
 
-    /// Returns the numbers of fraction digits that ECMA-402 has for the style and the notation; of money those of the
-    /// currency in each notation, as node, where ECMA-402 has them in standard notation only.
-    pub fn digit_defaults(&self) -> DigitDefaults
-        ensures { IsDefault self.now result }
+    fn digit_defaults_by(&self, currency: CurrencyDigits) -> DigitDefaults
+        ensures { IsDefaultBy currency self.now result }
     {
         let (min, max) = match self.style {
             NumberStyle::Decimal => (0, 3),
             NumberStyle::Percent | NumberStyle::Permille => (0, 0),
             NumberStyle::Currency(style) => {
-                let (count, _) = style.usage.digits(currency_digits(style.code));
+                let (count, _) = style.usage.digits(currency);
                 (count, count)
             }
         };
@@ -202,8 +209,24 @@ impl NumberOptions {
         }
     }
 
-    pub(crate) fn default_digits(&self) -> Option<DigitOptions>
-        ensures { AreDefaultDigits self.now result }
+    /// Returns the increment of a rounding that no setting gives: that of a currency's cash, else 1.
+    pub fn default_increment(&self) -> u16
+        ensures { result ≡ increment self.now.style (is_compact self.now.notation) }
+    {
+        self.increment_by(self.currency_digits())
+    }
+
+    /// Returns the numbers of fraction digits that ECMA-402 has for the style and the notation; of money those of the
+    /// currency in each notation, as node, where ECMA-402 has them in standard notation only.
+    pub fn digit_defaults(&self) -> DigitDefaults
+        ensures { IsDefault self.now result }
+    {
+        self.digit_defaults_by(self.currency_digits())
+    }
+
+    /// Returns the digits that are shown where the options give none, by those of the currency.
+    pub(crate) fn default_digits(&self, currency: CurrencyDigits) -> Option<DigitOptions>
+        ensures { AreDefaultDigits currency self.now result }
     {
         if self.shows_all_digits() {
             return None;
@@ -214,12 +237,12 @@ impl NumberOptions {
             maximum_fraction_digits: None,
             minimum_significant_digits: None,
             maximum_significant_digits: None,
-            rounding_increment: self.default_increment(),
+            rounding_increment: self.increment_by(currency),
             rounding_mode: SignedRoundingMode::Unsigned(UnsignedRoundingMode::HalfExpand),
             rounding_priority: RoundingPriority::Auto,
             trailing_zeros: TrailingZeros::Auto,
         };
-        match settings.resolve(&self.digit_defaults()) {
+        match settings.resolve(&self.digit_defaults_by(currency)) {
             Ok(digits) => Some(digits),
             Err(_) => None,
         }

@@ -3,7 +3,7 @@ use Rattle.std.specs.Prelude.{ℕ, ◌-◌, ◌*◌, ◌/◌, ◌%◌, ◌==◌,
 use Rattle.std.specs.Ordering.{int_eq}
 use Rattle.fixed_decimal.specs.declared.rounding.{SignedRoundingMode.SignedRoundingMode, SignedRoundingMode.TheVariants.{Unsigned}}
 use Rattle.decimal_digits.specs.declared.rounding.UnsignedRoundingMode.TheVariants.{HalfEven}
-use Rattle.locale_data.specs.declared.currency.CurrencyDigits.{CurrencyDigits}
+use Rattle.locale_data.specs.declared.local_currency.CurrencyDigits.{CurrencyDigits}
 use Rattle.locale_data.specs.Currencies.{currency_with, digits_of as listed_digits}
 use Rattle.number_format.specs.declared.digits.options.{DigitOptions.DigitOptions, TrailingZeros.TrailingZeros, TrailingZeros.TheVariants.{Auto, StripIfInteger}}
 use Rattle.number_format.specs.declared.options.{CurrencyUsage.CurrencyUsage, CurrencyUsage.TheVariants.{Standard}}

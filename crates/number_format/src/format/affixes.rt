@@ -1,8 +1,8 @@
 //! What is written before and after the digits of a number.
-ghost use Rattle.std.specs.{Prelude.{◌≡◌, ◌≤◌, ◌&&◌, ◌++◌, length, IfSome, OnOk, true}, Option.option_copied};
+ghost use Rattle.std.specs.{Prelude.{◌≡◌, ◌≤◌, ◌&&◌, ◌++◌, length, IfSome, OnSome, OnOk, true}, Option.option_copied};
 ghost use Rattle.decimal_format.specs.Symbols.{affixes};
 ghost use Rattle.locale_data.specs.Compact.{has_texts, text_of, AreTexts};
-ghost use Rattle.number_format.specs.{PatternTexts.{sign_kind, sign_pieces, pattern_kind, pattern_text, pattern_pieces, pattern_around, space_if, texts_for, AreAffixTexts, AreSignTexts}, NumberText.{currency_if, is_empty, first_sign, last_sign, compact_around, compact_suffix, around_by, AreParts}, TextParts.{part_pieces, parts_text, pieces_text}};
+ghost use Rattle.number_format.specs.{NumberStyles.{ends_with_currency, begins_with_currency}, PatternTexts.{sign_kind, sign_pieces, pattern_kind, pattern_text, pattern_pieces, affix_pieces, pattern_around, space_if, texts_for, AreAffixTexts, AreSignTexts}, NumberText.{currency_if, is_empty, first_sign, last_sign, compact_around, compact_suffix, around_by, AreParts}, TextParts.{part_pieces, pieces_text}};
 
 use crate::format::currency::{ShownCurrency, begins_with_currency, ends_with_currency};
 use crate::format::parts::put_part;
@@ -11,7 +11,9 @@ use arrayvec::ArrayString;
 use decimal_format::DecimalSymbols;
 use decimal_format::internal::Block;
 use fixed_decimal::{Sign, SinkFault};
-use locale_data::{AffixPair, AffixText, CompactForm, CompactPattern, Pattern, Piece, UnitAffixes};
+use locale_data::{
+    Affix, AffixPair, AffixText, CompactForm, CompactPattern, Pattern, Piece, UnitAffixes,
+};
 
 /// No texts around the whole text.
 pub(crate) const NO_UNIT: UnitAffixes = UnitAffixes {
@@ -42,14 +44,14 @@ pub(crate) struct SignTexts {
     pub(crate) positive: AffixTexts,
 }
 
-fn joined(parts: &[TextPart<'_>]) -> Option<ArrayString<23>>
-    ensures { IfSome result (λ text. text.bytes ≡ parts_text parts.now) }
+fn push_space(text: &mut ArrayString<23>, needed: bool) -> Option<()>
+    ensures { OnSome result (text.new.bytes ≡ text.old.bytes ++ pieces_text (space_if needed)) }
 {
-    let mut text = ArrayString::new();
-    for part in parts {
-        text.try_push_str(part.text).ok()?;
+    if needed {
+        text.try_push_str("\u{a0}").ok()
+    } else {
+        Some(())
     }
-    Some(text)
 }
 
 impl SignTexts {
@@ -261,13 +263,51 @@ impl StyleTexts {
         }
     }
 
+    #[inline]
+    fn push_piece(&self, text: &mut ArrayString<23>, piece: Piece) -> Option<()>
+        ensures { OnSome result (text.new.bytes ≡ text.old.bytes ++ pieces_text (pattern_pieces self.now piece)) }
+    {
+        match piece {
+            Piece::Empty => Some(()),
+            _ => text.try_push_str(self.pattern_text(piece)).ok(),
+        }
+    }
+
+    fn affix_text(&self, spaced: bool, affix: Affix, ends_spaced: bool) -> Option<ArrayString<23>>
+        ensures { IfSome result (λ text. text.bytes ≡ pieces_text (space_if spaced
+            ++ (affix_pieces (pattern_pieces self.now) affix ++ space_if ends_spaced))) }
+    {
+        let mut text = ArrayString::new();
+        push_space(&mut text, spaced)?;
+        self.push_piece(&mut text, affix.first)?;
+        self.push_piece(&mut text, affix.second)?;
+        self.push_piece(&mut text, affix.third)?;
+        self.push_piece(&mut text, affix.fourth)?;
+        push_space(&mut text, ends_spaced)?;
+        Some(text)
+    }
+
+    fn needs_space_after(&self, prefix: Affix) -> bool
+        ensures { result ≡ (ends_with_currency prefix && self.now.currency.space_after) }
+    {
+        ends_with_currency(prefix) && self.currency.space_after
+    }
+
+    fn needs_space_before(&self, suffix: Affix) -> bool
+        ensures { result ≡ (begins_with_currency suffix && self.now.currency.space_before) }
+    {
+        begins_with_currency(suffix) && self.currency.space_before
+    }
+
     fn texts_around(&self, sign: Sign) -> Option<AffixTexts>
         ensures { IfSome result (AreAffixTexts (pattern_around self.now sign)) }
     {
-        let affixes = self.affixes(sign, None, NO_UNIT);
+        let around = self.pattern.affixes(sign);
+        let after = self.needs_space_after(around.prefix);
+        let before = self.needs_space_before(around.suffix);
         Some(AffixTexts {
-            prefix: joined(&affixes.prefix)?,
-            suffix: joined(&affixes.suffix)?,
+            prefix: self.affix_text(false, around.prefix, after)?,
+            suffix: self.affix_text(before, around.suffix, false)?,
         })
     }
 

@@ -1,10 +1,10 @@
 //! A currency as it is shown.
-ghost use Rattle.std.specs.Prelude.{◌≡◌, ◌≤◌, [], false, None, IfSome, length};
-ghost use Rattle.number_format.specs.NumberStyles.{text_or_nothing, symbol_text, currency_text, piece_or, ends_with_currency, begins_with_currency, in_system, IsShownBy, IsShownWith, IsShownCurrency};
+ghost use Rattle.std.specs.Prelude.{◌≡◌, ◌≤◌, [], false, None, length};
+ghost use Rattle.number_format.specs.NumberStyles.{text_or_nothing, symbol_text, wide_symbol, narrow_symbol, currency_text, piece_or, ends_with_currency, begins_with_currency, in_system, IsShownBy, IsShownWith, IsShownCurrency};
 
 use crate::format::text_part::{PartKind, TextPart};
 use crate::options::{CurrencyDisplay, CurrencyStyle};
-use locale_data::{Affix, CurrencyCode, CurrencySymbol, Piece, SymbolWidth, currency_symbol};
+use locale_data::{Affix, CurrencyCode, CurrencySymbol, LocalCurrency, Piece};
 use std::str;
 
 /// A currency as it is shown.
@@ -38,6 +38,24 @@ fn symbol_text(symbol: Option<CurrencySymbol>) -> &'static str
     }
 }
 
+fn wide_symbol(currency: Option<LocalCurrency>) -> Option<CurrencySymbol>
+    ensures { result ≡ wide_symbol currency }
+{
+    match currency {
+        Some(currency) => Some(currency.wide),
+        None => None,
+    }
+}
+
+fn narrow_symbol(currency: Option<LocalCurrency>) -> Option<CurrencySymbol>
+    ensures { result ≡ narrow_symbol currency }
+{
+    match currency {
+        Some(currency) => Some(currency.narrow),
+        None => None,
+    }
+}
+
 impl ShownCurrency {
     pub(crate) fn text(&self) -> &str
         ensures value { result.now ≡ currency_text self.now }
@@ -66,7 +84,6 @@ impl ShownCurrency {
     }
 
     fn with_symbol(self, symbol: Option<CurrencySymbol>) -> Self
-        requires { IfSome symbol (λ s. length s.text.now ≤ 255) }
         ensures shown { IsShownWith symbol result }
         ensures code { result.code ≡ self.code }
         ensures names { (result.wide ≡ self.wide) × (result.narrow ≡ self.narrow) }
@@ -99,11 +116,11 @@ impl ShownCurrency {
         }
     }
 
-    pub(crate) fn of(tag: &str, style: &CurrencyStyle) -> Self
-        ensures { IsShownCurrency tag.now style.now result }
+    pub(crate) fn of(currency: Option<LocalCurrency>, style: &CurrencyStyle) -> Self
+        ensures { IsShownCurrency currency style.now result }
     {
-        let wide = currency_symbol(tag, style.code, SymbolWidth::Wide);
-        let narrow = currency_symbol(tag, style.code, SymbolWidth::Narrow);
+        let wide = wide_symbol(currency);
+        let narrow = narrow_symbol(currency);
         let mut code = style.code;
         code.make_ascii_uppercase();
         let named = ShownCurrency {

@@ -1,33 +1,22 @@
 //! The formatter of numbers: made by a locale and options, it rounds a number and chooses what is written around it.
-ghost use Rattle.std.specs.{Prelude.{◌≡◌, ◌↔◌, ◌⊎◌, Some, None, pos, IsTrue, IsSome, IfOk, IfErr, IsErrOf, OnOk, OnErr}, Option.ForSome};
+ghost use Rattle.std.specs.{Prelude.{◌≡◌, ◌↔◌, ◌⊎◌, Some, None, pos, IsTrue, IsSome, IfSome, IfNone, IfOk, IfErr, IsErrOf, OnOk, OnErr}, Option.ForSome};
 ghost use Rattle.locale_data.specs.Plurals.{rules_text_at};
 ghost use Rattle.number_format.specs.PatternTexts.{AreSignTexts};
 
 use crate::digits::options::DigitOptions;
 use crate::format::affixes::{SignTexts, StyleTexts};
 use crate::format::compact::{CompactChoice, NO_CHOICE, compact_magnitude, is_one};
-use crate::format::currency::text_or_nothing;
-use crate::format::style::{notation_of, percent_text, style_of, style_sizes, with_separators};
+use crate::format::ids::{FormatterIds, NumberFormatError, currency_by, system_text};
+use crate::format::style::{
+    notation_of, percent_text, shown_digits, style_of, style_sizes, with_separators,
+};
 use crate::format::text_part::{PartKind, TextPart};
 use crate::notation::Notation;
 use crate::notation::scale::ShownNumber;
 use crate::options::{NumberOptions, NumberStyle};
-use decimal_format::DecimalSymbols;
 use fixed_decimal::{Decimal, DecimalStore, RoundError};
-use locale_data::{
-    NumberFormats, PluralRuleType, PluralRulesId, formats_of, locale_and_system, locale_in,
-    plural_category_at, plural_rules_id, unpadded,
-};
+use locale_data::{NumberFormats, PluralRulesId, plural_category_at, rules_text_at, symbols_at};
 use plural_rules::{PluralCategory, PluralOperands};
-
-/// Why there is no formatter.
-#[derive(Clone, Copy, Debug, PartialEq)]
-pub enum NumberFormatError {
-    /// No tag of the locale is listed, or the numbering system that it names is not.
-    UnknownLocale,
-    /// The locale is known, and the numbering system of the options is not listed.
-    UnknownNumberingSystem,
-}
 
 /// Formats numbers as `Intl.NumberFormat` of ECMA-402 does, with the data of CLDR 48, on decimals of any length.
 #[derive(Drop)]
@@ -49,9 +38,9 @@ pub struct NumberFormatter {
 impl NumberFormatter {
     ghost use Rattle.decimal_unsigned.specs.declared.decimal.TheConstants.{INLINE_DIGITS};
     ghost use Rattle.fixed_decimal.specs.DecimalText.{IsLong};
-    ghost use Rattle.locale_data.specs.Plurals.{HasNoRules, IsCategoryAt};
+    ghost use Rattle.locale_data.specs.Plurals.{IsCategoryAt};
     ghost use Rattle.plural_rules.specs.Operands.{plain};
-    ghost use Rattle.number_format.specs.{FormattedNumbers.{ChoosesPattern, ChoosesUnit, IsShownNumber}, Formatters.{IsFormatterIn, IsFormatter, IsFormatterError}, NumberText.{shown_number, rounded_in, rounded_by, whole_number, RoundingNeedsMemory, NeedsMemory, WholeRoundingNeedsMemory, WholeNeedsMemory, FormattingNeedsMemory}, Scaled.scaled_value};
+    ghost use Rattle.number_format.specs.{FormattedNumbers.{ChoosesPattern, ChoosesUnit, IsShownNumber}, Formatters.{LacksRows, IsFormatterAt, IsFormatter, IsFormatterError}, NumberText.{shown_number, rounded_in, rounded_by, whole_number, RoundingNeedsMemory, NeedsMemory, WholeRoundingNeedsMemory, WholeNeedsMemory, FormattingNeedsMemory}, Scaled.scaled_value};
 
     /// Makes the formatter of a locale and options. It does not allocate.
     ///
@@ -62,58 +51,67 @@ impl NumberFormatter {
     /// - `UnknownLocale`: `locale` returns `None`.
     /// - `UnknownNumberingSystem`: it returns symbols, and no numbering system has the name that the options have.
     pub fn try_new(tag: &str, options: NumberOptions) -> Result<NumberFormatter, NumberFormatError>
-        ensures ok { IfOk result (λ f. IsFormatter tag.now options f) }
+        ensures ok { IfOk result (IsFormatter tag.now options) }
         ensures err { IfErr result (λ e. IsFormatterError tag.now options.numbering_system e) }
     {
-        let Some((symbols, system)) = locale_and_system(tag) else {
-            return Err(NumberFormatError::UnknownLocale);
-        };
-        match &options.numbering_system {
-            None => Self::in_system(tag, system, symbols, &options),
-            Some(name) => {
-                let system = text_or_nothing(unpadded(name));
-                match locale_in(tag, system) {
-                    Some(symbols) => Self::in_system(tag, system, symbols, &options),
-                    None => Err(NumberFormatError::UnknownNumberingSystem),
-                }
-            }
+        let ids = FormatterIds::of(tag, &options)?;
+        match Self::made(&ids, &options, true) {
+            Some(formatter) => Ok(formatter),
+            None => unreachable!(),
         }
     }
 
-    fn in_system(
-        tag: &str,
-        system: &str,
-        symbols: DecimalSymbols<'static>,
-        options: &NumberOptions,
-    ) -> Result<NumberFormatter, NumberFormatError>
-        ensures ok { IfOk result (λ f. IsFormatterIn tag.now system.now symbols.entry options.now f) }
-        ensures err { IfErr result (λ e. (e ≡ NumberFormatError.UnknownLocale) × HasNoRules tag.now) }
+    /// Makes the formatter of rows of tables and options, without a search. Returns `None` if there are no such rows.
+    ///
+    /// This takes less time than [`try_new`](Self::try_new), but the formatter takes longer to write a number.
+    ///
+    /// ```
+    /// let ids = FormatterIds::of("de", &options)?;
+    /// NumberFormatter::at(&ids, &options) // the formatter of de
+    /// ```
+    pub fn at(ids: &FormatterIds, options: &NumberOptions) -> Option<NumberFormatter>
+        ensures some { IfSome result (IsFormatterAt ids.now options.now) }
+        ensures none { IfNone result (LacksRows ids.now) }
     {
-        let Some(rules) = plural_rules_id(tag, PluralRuleType::Cardinal) else {
-            return Err(NumberFormatError::UnknownLocale);
-        };
-        let formats = formats_of(tag, system);
+        Self::made(ids, options, false)
+    }
+
+    fn made(
+        ids: &FormatterIds,
+        options: &NumberOptions,
+        keeps_texts: bool,
+    ) -> Option<NumberFormatter>
+        ensures some { IfSome result (IsFormatterAt ids.now options.now) }
+        ensures none { IfNone result (LacksRows ids.now) }
+    {
+        let symbols = symbols_at(ids.symbols)?;
+        let system = system_text(ids.symbols, &options.numbering_system)?;
+        let _rules = rules_text_at(ids.rules)?;
+        let currency = currency_by(ids.currency)?;
         let own = symbols.sizes();
-        let (written, currency) = style_of(tag, system, own, &formats, options);
+        let (written, shown) = style_of(system, own, &ids.formats, currency, options);
         let sizes = style_sizes(&written.pattern, options.grouping, own);
-        let symbols = with_separators(symbols, &written).with_sizes(sizes);
-        let signs = formats.signs();
+        let signs = ids.formats.signs();
         let percent = percent_text(options.style, signs);
         let style = StyleTexts {
-            symbols,
+            symbols: with_separators(symbols, &written).with_sizes(sizes),
             pattern: written.pattern,
             percent: TextPart::new(PartKind::PercentSign, percent),
-            currency,
+            currency: shown,
         };
-        let sign_texts = style.sign_texts();
-        Ok(NumberFormatter {
+        let sign_texts = if keeps_texts {
+            style.sign_texts()
+        } else {
+            None
+        };
+        Some(NumberFormatter {
             style,
             separator: TextPart::new(PartKind::ExponentSeparator, signs.exponent.text()),
-            formats,
-            rules,
+            formats: ids.formats,
+            rules: ids.rules,
             options: *options,
-            notation: notation_of(options, &formats),
-            digits: options.digits.or_else(|| options.default_digits()),
+            notation: notation_of(options, &ids.formats),
+            digits: shown_digits(options, currency),
             sign_texts,
         })
     }

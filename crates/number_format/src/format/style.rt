@@ -1,16 +1,16 @@
 //! What a locale has for the options: the pattern, separators and currency of the style, and the exponents.
 ghost use Rattle.std.specs.Prelude.{◌≡◌, ◌≤◌, length};
-ghost use Rattle.locale_data.specs.Formats.{AreFormatsOf};
-ghost use Rattle.number_format.specs.{Formatters.{style_sizes, currency_sign, with_separators, IsWithoutCurrency, IsStyle, IsNotationBy, AreExponents}, NumberText.compact_style, NumberStyles.{before, plain_pattern, percent_text}};
+ghost use Rattle.number_format.specs.{Formatters.{style_sizes, currency_sign, with_separators, IsWithoutCurrency, IsStyle, IsNotationBy, AreExponents, digits_by, AreShownDigits}, NumberText.compact_style, NumberStyles.{before, plain_pattern, percent_text}};
 
+use crate::digits::options::DigitOptions;
 use crate::format::currency::ShownCurrency;
 use crate::notation::{CompactExponents, Notation};
 use crate::options::{NumberNotation, NumberOptions, NumberStyle};
 use decimal_format::{DecimalSymbols, GroupingSizes, GroupingStrategy};
 use fixed_decimal::SignDisplay;
 use locale_data::{
-    Affix, AffixPair, CompactStyle, CurrencyPattern, CurrencySign, NumberFormats, NumberSigns,
-    Pattern, Piece, currency_pattern,
+    Affix, AffixPair, CompactStyle, CurrencyDigits, CurrencyPattern, CurrencySign, LocalCurrency,
+    NumberFormats, NumberSigns, Pattern, Piece, UNLISTED_DIGITS, currency_pattern,
 };
 
 const NO_PIECES: Affix = Affix {
@@ -110,26 +110,50 @@ fn without_currency(pattern: Pattern) -> (CurrencyPattern, ShownCurrency)
 }
 
 pub(crate) fn style_of(
-    tag: &str,
     system: &str,
     sizes: GroupingSizes,
     formats: &NumberFormats,
+    currency: Option<LocalCurrency>,
     options: &NumberOptions,
 ) -> (CurrencyPattern, ShownCurrency)
-    requires { AreFormatsOf tag.now system.now formats.now }
-    ensures { IsStyle options.now.style options.now.notation tag.now system.now sizes formats.now
+    ensures { IsStyle options.now.style options.now.notation system.now sizes formats.now currency
         options.now.sign_display result.0 result.1 }
 {
     match (options.style, options.notation) {
         (NumberStyle::Currency(style), _) => {
             let sign = currency_sign(options.sign_display, style.sign);
-            let written = currency_pattern(tag, formats, style.code, sign);
-            (written, ShownCurrency::of(tag, &style).in_system(system))
+            let written = currency_pattern(formats, currency, sign);
+            (
+                written,
+                ShownCurrency::of(currency, &style).in_system(system),
+            )
         }
         (NumberStyle::Decimal, _) | (_, NumberNotation::Compact(_)) => {
             without_currency(plain_pattern(sizes))
         }
         _ => without_currency(*formats.percent()),
+    }
+}
+
+fn digits_by(currency: Option<LocalCurrency>) -> CurrencyDigits
+    ensures { result ≡ digits_by currency }
+{
+    match currency {
+        Some(currency) => currency.digits,
+        None => UNLISTED_DIGITS,
+    }
+}
+
+/// Returns the digits that the options have, or else the default ones.
+pub(crate) fn shown_digits(
+    options: &NumberOptions,
+    currency: Option<LocalCurrency>,
+) -> Option<DigitOptions>
+    ensures { AreShownDigits currency options.now result }
+{
+    match options.digits {
+        Some(digits) => Some(digits),
+        None => options.default_digits(digits_by(currency)),
     }
 }
 

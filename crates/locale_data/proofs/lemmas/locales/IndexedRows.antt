@@ -10,7 +10,7 @@ use Rattle.locale_data.specs.declared.tables.rows.symbols.LocaleSymbols.{LocaleS
 use Rattle.locale_data.specs.declared.tables.rows.symbols.NumberingSystem.{NumberingSystem}
 use Rattle.locale_data.specs.declared.tables.symbols.TheConstants.{LOCALES, NUMBERING_SYSTEMS}
 use Rattle.locale_data.specs.Rows.{row_at}
-use Rattle.locale_data.specs.Locales.{system_of, own_rows, symbols_in, own_symbols_at, symbols_at, IsListed, IsLocale, AreRowsOf}
+use Rattle.locale_data.specs.Locales.{system_named, system_of, own_rows, symbols_in, own_symbols_at, symbols_at, IsListed, IsLocale, IsLocaleIn, AreRowsOf}
 use Rattle.locale_data.proofs.lemmas.tables.EachRow.{not_past}
 
 own_symbols : (system : NumberingSystem) (locale : LocaleSymbols) (own : Option ℕ)
@@ -56,6 +56,14 @@ module _ (id : LocaleId) where
         (slice_get NUMBERING_SYSTEMS id.system))) at_locale
         ∙ ap (option_and_then (λ system. own_symbols_at system locale id.own)) at_system
 
+-- no numbering system, and so no symbols
+pub without_system : (id : LocaleId) → slice_get NUMBERING_SYSTEMS id.system ≡ None → symbols_at id ≡ None
+without_system id none = by (slice_get LOCALES id.locale) refl
+  where
+    by : (o : Option LocaleSymbols) → slice_get LOCALES id.locale ≡ o → symbols_at id ≡ None
+    by None at = no_locale id at
+    by (Some locale) at = no_system id locale at none
+
 -- the rows of a locale and of a numbering system are those of a tag
 pub rows_found : (tag : List ℕ) (locale : LocaleSymbols) (i j : ℕ) → slice_get LOCALES i ≡ Some locale
     → IsListed LOCALES tag (Some locale) → slice_get NUMBERING_SYSTEMS j ≡ system_of tag locale
@@ -93,3 +101,26 @@ symbols_found tag id system rows at_system inside own =
       in_system = own;
       value = refl;
     })
+
+-- and the rows of a tag and of a numbering system with a name
+pub symbols_found_in : (tag name : List ℕ) (id : LocaleId) (system : NumberingSystem) → id.locale < length LOCALES
+    → IsListed LOCALES tag (slice_get LOCALES id.locale) → slice_get NUMBERING_SYSTEMS id.system ≡ Some system
+    → system_named name ≡ Some system → IfSome id.own (λ i. i < length (own_rows system))
+    → IsListed (own_rows system) tag (row_at (own_rows system) id.own) → IsSomeAnd (symbols_at id) (IsLocaleIn tag name)
+symbols_found_in tag name id system below listed at_system named inside own =
+    by (slice_get LOCALES id.locale) refl listed
+  where
+    by : (o : Option LocaleSymbols) → slice_get LOCALES id.locale ≡ o → IsListed LOCALES tag o
+        → IsSomeAnd (symbols_at id) (IsLocaleIn tag name)
+    by None none listed = absurd (not_past LOCALES id.locale below none)
+    by (Some locale) at listed =
+        let found = with_system id locale at system at_system ∙ own_symbols system locale id.own inside in
+        subst (λ o. IsSomeAnd o (IsLocaleIn tag name)) (sym found) (record {
+          locale = locale;
+          system = system;
+          own = row_at (own_rows system) id.own;
+          listed = listed;
+          named = named;
+          in_system = own;
+          value = refl;
+        })

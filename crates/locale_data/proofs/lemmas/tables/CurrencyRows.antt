@@ -1,11 +1,11 @@
 -- The tables of currencies are sorted, and their indices are those of rows, by computation.
-use Rattle.std.proofs.Common.{◌≡◌, ℕ, ◌<◌, ◌&&◌, nat_lt, Bool, true, List, length, Option, Some, None, refl, sym}
+use Rattle.std.proofs.Common.{◌≡◌, ℕ, ◌<◌, ◌&&◌, nat_lt, Bool, true, List, length, Option, Some, None, refl, sym, ◌∙◌, inl, inr}
 use Rattle.std.proofs.lemmas.Bool.{and_parts}
-use Rattle.std.specs.Prelude.{IfSome, slice_get}
-use Rattle.std.specs.Borrow.{Bor}
+use Rattle.std.proofs.lemmas.Option.{none-some}
+use Rattle.std.specs.Prelude.{IfSome, IsSomeAnd, slice_get}
 use Rattle.std.specs.List.{list_all, Contains}
-use Rattle.std.specs.Option.{option_copied}
-use Rattle.std.specs.Str.{bytes_eq, is_utf8, chars}
+use Rattle.std.specs.Str.{is_utf8, chars}
+use Rattle.locale_data.specs.declared.currency.CurrencyId.{CurrencyId}
 use Rattle.locale_data.specs.declared.tables.rows.currencies.Currency.{Currency}
 use Rattle.locale_data.specs.declared.tables.rows.currencies.CurrencyText.{CurrencyText}
 use Rattle.locale_data.specs.declared.tables.rows.currencies.LocaleCurrency.{LocaleCurrency}
@@ -15,13 +15,11 @@ use Rattle.locale_data.specs.declared.currency.SymbolWidth.TheVariants.{Wide, Na
 use Rattle.locale_data.specs.declared.tables.currencies.TheConstants.{CURRENCIES, CURRENCY_BYTES, CURRENCY_SYMBOLS, CURRENCY_TEXTS, OVERRIDES_BY_CURRENCY}
 use Rattle.locale_data.specs.declared.tables.formats.TheConstants.{CURRENCY_OVERRIDES, PATTERNS}
 use Rattle.locale_data.specs.declared.tables.rows.patterns.CurrencyOverride.{CurrencyOverride}
-use Rattle.locale_data.specs.Currencies.{currency_with, symbol_index, IsSymbolRow, IsOverrideRow}
-use Rattle.locale_data.specs.Rows.{part, unpadded}
+use Rattle.locale_data.specs.Currencies.{symbol_index, IsSymbolRow, IsOverrideRow, LacksCurrency}
+use Rattle.locale_data.specs.Rows.{part}
 use Rattle.locale_data.specs.SortedRows.{key, is_table}
-use Rattle.locale_data.specs.Tag.{compared}
 use Rattle.locale_data.specs.Texts.{is_text}
-use Rattle.locale_data.proofs.lemmas.tables.EachRow.{passes, below}
-use Rattle.locale_data.proofs.lemmas.search.SortedRows.{find_some}
+use Rattle.locale_data.proofs.lemmas.tables.EachRow.{passes, below, contains_at, not_past}
 use Rattle.locale_data.proofs.lemmas.tables.TableTexts.{passes_at, rests, table_rests, is_text_by, text-by}
 
 -- ---- The tables are sorted.
@@ -29,12 +27,6 @@ use Rattle.locale_data.proofs.lemmas.tables.TableTexts.{passes_at, rests, table_
 pub currencies_are_table : is_table (λ c. c.code) CURRENCIES ≡ true
 unfolding key
 currencies_are_table = refl
-
-pub listed_currency : (code : List ℕ) (found : Option (Bor Currency)) → option_copied found ≡ currency_with code
-    → IfSome found (λ c. Contains CURRENCIES c.now)
-listed_currency code None e = tt
-listed_currency code (Some c) e =
-    (find_some (λ c. bytes_eq (unpadded c.code) (compared code)) CURRENCIES c.now (sym e)).0
 
 abbrev has_symbols : Currency → Bool
 has_symbols c = is_table (λ (l : LocaleCurrency). l.tag) (part CURRENCY_SYMBOLS c.symbols)
@@ -126,3 +118,26 @@ pub overridden-below : (i : ℕ) (o : CurrencyOverride) → slice_get CURRENCY_O
 overridden-below i o at =
     below o.pattern (length PATTERNS)
     (passes_at (λ (o : CurrencyOverride). nat_lt o.pattern (length PATTERNS)) CURRENCY_OVERRIDES i o patterns_fit at)
+
+-- the rows that are found exist
+pub has_rows : (c : Currency) (tag : List ℕ) (own : Option LocaleCurrency) (id : CurrencyId)
+    → slice_get CURRENCIES id.currency ≡ Some c → IsSymbolRow c tag own → id.wide ≡ symbol_index c own Wide
+    → id.narrow ≡ symbol_index c own Narrow → IfSome id.pattern (λ i. i < length CURRENCY_OVERRIDES)
+    → LacksCurrency id → ⊥
+has_rows c tag own id at is wide narrow inside lacks =
+    let listed = contains_at CURRENCIES id.currency c at in
+    elim lacks [
+      | inl none ↦ none-some c (sym none ∙ at)
+      | inr rest ↦ elim rest [
+        | inl none ↦ not_past CURRENCY_TEXTS id.wide (rw wide (symbol-below c tag own Wide listed is)) none
+        | inr rest ↦ elim rest [
+          | inl none ↦ not_past CURRENCY_TEXTS id.narrow (rw narrow (symbol-below c tag own Narrow listed is)) none
+          | inr none ↦ no_override id.pattern inside none
+        ]
+      ]
+    ]
+  where
+    no_override : (o : Option ℕ) → IfSome o (λ i. i < length CURRENCY_OVERRIDES)
+        → IsSomeAnd o (λ i. slice_get CURRENCY_OVERRIDES i ≡ None) → ⊥
+    no_override None inside none = none
+    no_override (Some i) inside none = not_past CURRENCY_OVERRIDES i inside none

@@ -4,18 +4,18 @@ use Rattle.std.specs.Prelude.{Option, Some, None, pos, option_and_then}
 use Rattle.decimal_unsigned.specs.{Edits.multiplied_pow10, Unsigned.{Unsigned, IsValue}}
 use Rattle.fixed_decimal.specs.{Decimal.{Decimal, with_absolute, with_sign_display, negative_or, displayed_sign}, declared.variations.{Sign.Sign, SignDisplay.SignDisplay}}
 use Rattle.decimal_format.specs.{Formatted.{absolute_text, formatted}, Symbols.{Symbols, sign_affixes}, declared.grouping.GroupingStrategy.{GroupingStrategy, TheVariants.{Auto, Never, Always, Min2}}}
-use Rattle.locale_data.specs.declared.{currency.CurrencyPattern.CurrencyPattern, tables.rows.patterns.Pattern.Pattern}
+use Rattle.locale_data.specs.declared.{currency.CurrencyPattern.CurrencyPattern, local_currency.{CurrencyDigits.CurrencyDigits, LocalCurrency.LocalCurrency}, tables.rows.patterns.Pattern.Pattern}
 use Rattle.number_format.specs.declared.{digits.options.DigitOptions.DigitOptions, format.formatter.NumberFormatter.NumberFormatter, format.text_part.PartKind.PartKind}
-use Rattle.number_format.specs.{DefaultDigits.AreDefaultDigits, Formatters.{IsFormatterIn, plain_options, style_sizes, with_separators}, NumberStyles.plain_pattern, NumberText.{IsNumberText, rounded_in, number_before_cut, shown_number, exponent_of, compact_magnitude, is_one, compact_pattern, compact_style, unit_texts, around_by, pieces_around}, PatternTexts.{literal, pattern_around}, Scaled.{ScaledValue, scaled_value}, TextParts.{Piece, pieces_text, pieces_of, digit_pieces}}
+use Rattle.number_format.specs.{DefaultDigits.AreDefaultDigits, Formatters.{IsFormatterBy, digits_by, plain_options, style_sizes, with_separators}, NumberStyles.plain_pattern, NumberText.{IsNumberText, rounded_in, number_before_cut, shown_number, exponent_of, compact_magnitude, is_one, compact_pattern, compact_style, unit_texts, around_by, pieces_around}, PatternTexts.{literal, pattern_around}, Scaled.{ScaledValue, scaled_value}, TextParts.{Piece, pieces_text, pieces_of, digit_pieces}}
 use Rattle.number_format.proofs.{lemmas.format.PieceTexts.{text-append, text-of, text-of_digits}, lemmas.read.ReadBack.unshifted}
 
 some_same : (x y : ScaledValue) → Some x ≡ Some y → x ≡ y
 some_same x y e = cc
 
-no_digits : (g : GroupingStrategy) (name : Option (List ℕ)) (d : Option DigitOptions)
-    → AreDefaultDigits (plain_options g name) d → d ≡ None
-no_digits g name None h = refl
-no_digits g name (Some digits) h = absurd (let t : true ≡ false = h.0 in cc)
+no_digits : (money : CurrencyDigits) (g : GroupingStrategy) (name : Option (List ℕ)) (d : Option DigitOptions)
+    → AreDefaultDigits money (plain_options g name) d → d ≡ None
+no_digits money g name None h = refl
+no_digits money g name (Some digits) h = absurd (let t : true ≡ false = h.0 in cc)
 
 own_sizes : (own : Symbols) (g : GroupingStrategy) → g ≢ Always
     → style_sizes (plain_pattern own.sizes) g own.sizes ≡ own.sizes
@@ -31,9 +31,10 @@ record IsPlain (f : NumberFormatter) (own : Symbols) (g : GroupingStrategy) (nam
   pub options : f.options ≡ plain_options g name
   pub digits : f.digits ≡ None
 
-is_plain : (tag system : List ℕ) (own : Symbols) (g : GroupingStrategy) (name : Option (List ℕ))
-    (f : NumberFormatter) → IsFormatterIn tag system own (plain_options g name) f → g ≢ Always → IsPlain f own g name
-is_plain tag system own g name f made not_always =
+is_plain : (system : List ℕ) (own : Symbols) (currency : Option LocalCurrency) (g : GroupingStrategy)
+    (name : Option (List ℕ)) (f : NumberFormatter) → IsFormatterBy own system currency (plain_options g name) f
+    → g ≢ Always → IsPlain f own g name
+is_plain system own currency g name f made not_always =
     let written = made.style_is.written in
     record {
       symbols =
@@ -42,7 +43,7 @@ is_plain tag system own g name f made not_always =
           ∙ (λ i. record own { sizes = own_sizes own g not_always i });
       pattern = made.pattern ∙ ap (λ (p : CurrencyPattern). p.pattern) written;
       options = made.options;
-      digits = no_digits g name f.digits made.digits;
+      digits = no_digits (digits_by currency) g name f.digits made.digits;
     }
 
 -- the digits between what a pattern writes
@@ -102,9 +103,10 @@ of_plain f own g name v text plain valid no_suffix (pieces, is, of_pieces) =
     ∙ (λ i. pieces_for f (plain.symbols i) (plain.pattern i) (plain.options i).grouping v.absolute s))
     ∙ around_is f own g v.absolute v.sign no_suffix
 
-pub plain_text : (tag system : List ℕ) (own : Symbols) (g : GroupingStrategy) (name : Option (List ℕ))
-    (f : NumberFormatter) (v : Decimal) (text : List ℕ) → IsFormatterIn tag system own (plain_options g name) f
-    → g ≢ Always → IsValue v.absolute → (sign_affixes own (with_sign_display v SignDisplay.Auto).sign).suffix ≡ []
+pub plain_text : (system : List ℕ) (own : Symbols) (currency : Option LocalCurrency) (g : GroupingStrategy)
+    (name : Option (List ℕ)) (f : NumberFormatter) (v : Decimal) (text : List ℕ)
+    → IsFormatterBy own system currency (plain_options g name) f → g ≢ Always → IsValue v.absolute
+    → (sign_affixes own (with_sign_display v SignDisplay.Auto).sign).suffix ≡ []
     → IsNumberText f v text → text ≡ formatted own g (with_sign_display v SignDisplay.Auto)
-plain_text tag system own g name f v text made not_always valid no_suffix is =
-    of_plain f own g name v text (is_plain tag system own g name f made not_always) valid no_suffix is
+plain_text system own currency g name f v text made not_always valid no_suffix is =
+    of_plain f own g name v text (is_plain system own currency g name f made not_always) valid no_suffix is

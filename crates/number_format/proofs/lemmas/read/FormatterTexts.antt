@@ -64,4 +64,4 @@ are_unique f v w x y text can a b p q valid valid' =
 -- the notation of the options is that of the formatter
 pub standard : (tag : List ℕ) (o : NumberOptions) (f : NumberFormatter) → IsFormatter tag o f
     → o.notation ≡ NumberNotation.Standard → IsStandard f
-standard tag o f is e = ap (λ (x : NumberOptions). x.notation) is.made.options ∙ e
+standard tag o f is e = ap (λ (x : NumberOptions). x.notation) is.at.made.options ∙ e

@@ -7,13 +7,12 @@ use Rattle.number_format.proofs.format.style.style_of.Goals as goal
 pub returns-in-Currency-default : goal.returns-in-Currency-default
 returns-in-Currency-default c =
     let o = c.args.options.now in
-    let tag = c.args.tag.now in
-    let system = c.args.system.now in
-    let style = c.in-Currency-default.style in
+    let formats = c.args.formats.now in
+    let currency = c.args.currency in
     let p = c.currency_pattern-written.result in
-    subst (λ (s : NumberStyle). IsStyle s o.notation tag system c.args.sizes c.args.formats.now o.sign_display p
+    subst (λ (s : NumberStyle). IsStyle s o.notation c.args.system.now c.args.sizes formats currency o.sign_display p
     c.in_system.result) (sym c.in-Currency-default.is-0) (
-      subst (λ g. IsCurrencyPattern tag c.args.formats.now style.code g p) c.currency_sign-sign.ensures
+      subst (λ g. IsCurrencyPattern formats currency g p) c.currency_sign-sign.ensures
           c.currency_pattern-written.ensures,
       c.of.result,
       c.of.ensures,

@@ -1,16 +1,28 @@
-use Rattle.std.proofs.Common.{◌∙◌, ap, sym, append-nil}
-use Rattle.number_format.specs.PatternTexts.{pattern_around}
+use Rattle.std.proofs.Common.{◌∙◌, ◌++◌, ◌&&◌, [], ap, append-nil}
+use Rattle.locale_data.specs.declared.tables.rows.patterns.AffixPair.{AffixPair}
+use Rattle.locale_data.specs.Patterns.{affixes_of}
+use Rattle.number_format.specs.NumberStyles.{ends_with_currency, begins_with_currency}
+use Rattle.number_format.specs.PatternTexts.{affix_pieces, pattern_pieces, space_if}
 use Rattle.number_format.specs.TextParts.{pieces_text}
-use Rattle.number_format.proofs.lemmas.format.PieceTexts.{text-of_parts}
 use Rattle.number_format.proofs.format.affixes.StyleTexts.texts_around.Goals as goal
 
 pub returns : goal.returns
 returns c =
-    let shown = c.affixes-affixes.result in
-    let parts = c.affixes-affixes.ensures in
+    let style = c.args.self.now in
+    let pieces = affix_pieces (pattern_pieces style) in
+    let shown = c.affixes-around.result in
+    let around = c.affixes-around.ensures in
     record {
-      prefix = c.in_ok-joined.ensures ∙ sym (text-of_parts shown.prefix) ∙ ap pieces_text parts.prefix;
+      prefix =
+          c.in_ok-affix_text.ensures
+          ∙ ap (λ b. pieces_text (pieces shown.prefix ++ space_if b)) c.needs_space_after-after.ensures
+          ∙ ap (λ (a : AffixPair). pieces_text (pieces a.prefix
+          ++ space_if (ends_with_currency a.prefix && style.currency.space_after))) around;
       suffix =
-          c.in_ok-joined-2.ensures ∙ sym (text-of_parts shown.suffix)
-          ∙ ap pieces_text (parts.suffix ∙ append-nil (pattern_around c.args.self.now c.args.sign).suffix);
+          c.in_ok-affix_text-2.ensures
+          ∙ ap (λ b. pieces_text (space_if b ++ (pieces shown.suffix ++ []))) c.needs_space_before-before.ensures
+          ∙ ap (λ (a : AffixPair). pieces_text (space_if (begins_with_currency a.suffix && style.currency.space_before)
+          ++ (pieces a.suffix ++ []))) around
+          ∙ ap (λ l. pieces_text (space_if (begins_with_currency (affixes_of style.pattern c.args.sign).suffix
+          && style.currency.space_before) ++ l)) (append-nil (pieces (affixes_of style.pattern c.args.sign).suffix));
     }
