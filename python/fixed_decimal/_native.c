@@ -55,6 +55,14 @@ static PyObject *fail_text(uint32_t status, size_t at, const uint8_t *bytes, siz
     return NULL;
 }
 
+/* The same with a str, which may be of a subclass. */
+static PyObject *fail_str(uint32_t status, size_t at, PyObject *text) {
+    PyObject *start = PyUnicode_Substring(text, 0, 41);
+    if (start) fail_object(status, at, start);
+    Py_XDECREF(start);
+    return NULL;
+}
+
 /* Raises TypeError for a value that is no str. */
 static void *fail_type(const char *what, PyObject *value) {
     return PyErr_Format(PyExc_TypeError, "%s is a str, not %.100s", what, Py_TYPE(value)->tp_name);
@@ -68,7 +76,7 @@ static const uint8_t *utf8_of(PyObject *text, size_t *count, const char *what, u
     if (bytes) return *count = (size_t)size, (const uint8_t *)bytes;
     if (!PyErr_ExceptionMatches(PyExc_UnicodeEncodeError)) return NULL;
     PyErr_Clear();
-    return fail_object(status, 0, text), NULL;
+    return fail_str(status, 0, text), NULL;
 }
 
 /* The index of a word, or -1 with an exception. */
@@ -159,8 +167,11 @@ static PyObject *text_of_decimal(PyObject *value) {
     if (magnitude == -1 && PyErr_Occurred()) return NULL;
     int is_beyond = magnitude < INT16_MIN || (magnitude > INT16_MAX && !is_zero(value));
     if (PyErr_Occurred()) return NULL;
-    if (is_beyond) return fail(FD_LIMIT, 0);
-    return PyObject_CallMethod(python_decimal(), "__format__", "Os", value, "f");
+    if (!is_beyond) return PyObject_CallMethod(python_decimal(), "__format__", "Os", value, "f");
+    PyObject *text = PyObject_CallMethod(python_decimal(), "__str__", "O", value);
+    if (text) fail_str(FD_LIMIT, 0, text);
+    Py_XDECREF(text);
+    return NULL;
 }
 
 /* Why a float is no number of a Decimal, and what to write. */
@@ -842,7 +853,7 @@ static inline int append_str(Buffer *input, PyObject *text, Py_ssize_t index) {
     if (bytes) return append_line(input, bytes, (size_t)count, index);
     if (!PyErr_ExceptionMatches(PyExc_UnicodeEncodeError)) return 0;
     PyErr_Clear();
-    fail_object(FD_SYNTAX, 0, text);
+    fail_str(FD_SYNTAX, 0, text);
     set_line((size_t)index);
     return 0;
 }

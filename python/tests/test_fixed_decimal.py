@@ -304,6 +304,16 @@ def test_class():
 
 def test_messages():
     """An error says why, of which text, and in a column of which line."""
+
+    class Hostile(str):
+        """A str that speaks of another one."""
+
+        def __iter__(self):
+            raise KeyError
+
+        def __getitem__(self, at):
+            return 5
+
     one = Decimal("1")
     digits = {"minimum_fraction_digits": 3, "maximum_fraction_digits": 2}
     for call, message in (
@@ -315,6 +325,9 @@ def test_messages():
         (lambda: Decimal("\ud800" * 14), "syntax: '" + "\\ud800" * 13 + "..'"),
         (lambda: Decimal("1e99999"), "limit: '1e99999'"), (lambda: Decimal(1 << 200000), "limit"),
         (lambda: Decimal(decimal.Decimal("-Infinity")), "syntax: '-Infinity'"),
+        (lambda: Decimal(decimal.Decimal("-1E+99999")), "limit: '-1E+99999'"),
+        (lambda: Decimal(Hostile("\ud800")), "syntax: '\\ud800'"), (lambda: Decimal(Hostile("x")), "syntax: 'x'"),
+        (lambda: column([Hostile("\ud800")]), "line 0: syntax: '\\ud800'"),
         (lambda: Decimal("9" * 50).shift(32767), f"overflow: '{'9' * 40}..'"),
         (lambda: one.format("tlh"), "unknown locale: 'tlh'"), (lambda: one.plural("n ="), "rules syntax: 'n ='"),
         (lambda: one.plural("tlh:ordinal"), "unknown locale: 'tlh:ordinal'"),
@@ -567,6 +580,18 @@ def test_errors_of_columns(cases):
             (DecimalError, lambda: column(["1"], format="de", skeleton="percent/w", errors=mode)),
         ):
             raises(error, call)
+
+    class Clears:
+        """No number; being asked for its class it clears the list."""
+
+        @property
+        def __class__(self):
+            texts.clear()
+            return int
+
+    for mode in ("raise", "skip", "keep"):
+        texts = ["1", "x", Clears(), "1"]
+        raises((RuntimeError, TypeError, DecimalError), lambda: column(texts, errors=mode))
     raises(ValueError, lambda: column(["1"], errors="drop"), text="no such handling of errors: drop")
     raises(TypeError, lambda: column(["1"], errors=None))
 
