@@ -4,7 +4,8 @@
 # gate just did. `judge $? NAME` counts the status of the last command, `missing NAME` says what is not run, and fails
 # under ALL=1, and `finish` prints the last line.
 room=$(mktemp -d) || exit 1
-trap 'rm -rf "$room"' EXIT
+# `timeout` repeats a signal that ends a script, and would end `rm` too.
+trap 'trap "" TERM; rm -rf "$room"' EXIT
 passed=0
 failed=0
 
