@@ -1,8 +1,8 @@
 -- The calls that words name, and the error of a word that names none.
-use Rattle.std.specs.Prelude.{◌≡◌, ◌≢◌, ◌⊎◌, ℕ, ◌<◌, ⊤, List, [], ◌∷◌, take, slice_get, String, string_bytes, Some}
+use Rattle.std.specs.Prelude.{◌≡◌, ◌≢◌, ◌⊎◌, ℕ, ◌<◌, ⊤, List, [], ◌∷◌, take, slice_get, String, string_bytes, Some, None}
 use Rattle.std.specs.declared.alloc.Global.{Global}
 use Rattle.fixed_decimal.specs.declared.runs.Call.{Call}
-use Rattle.conversions.specs.Calls.{Names}
+use Rattle.conversions.specs.Calls.{call_of, Names}
 use Rattle.conversions.specs.FormatWord.{IsFormatWord}
 use Rattle.conversions.specs.ReadWord.{IsReadWord}
 use Rattle.conversions.specs.ShownWord.{IsShown}
@@ -22,7 +22,7 @@ AreCalls words = (calls : List Call) × NameAll words calls
 
 -- the word names no call
 abbrev pub IsUnknown : String Global → Type 0
-IsUnknown word = (call : Call) → Names (string_bytes word) call → ⊥
+IsUnknown word = call_of (string_bytes word) ≡ None
 
 -- this word, at this index, is the first that names no call
 abbrev pub IsFirstUnknown : List (String Global) → ℕ → String Global → Type 0
@@ -36,9 +36,9 @@ StandsFirst word = IsOption word ⊎ IsReadWord word
 
 -- a word that names no call, after this number of calls, has this error
 abbrev pub IsErrorOfWord : ℕ → List ℕ → WordsError → Type 0
-IsErrorOfWord calls word (NoSuchWord it) = ¬ StandsFirst word × ¬ IsFormatWord word × IsShown word it
-IsErrorOfWord calls word (AfterCall it) = StandsFirst word × ¬ IsFormatWord word × (0 < calls) × IsShown word it
-IsErrorOfWord calls word (Misplaced it) = (IsFormatWord word ⊎ (StandsFirst word × (calls ≡ 0))) × IsShown word it
+IsErrorOfWord calls word (NoSuchWord text) = ¬ StandsFirst word × ¬ IsFormatWord word × IsShown word text
+IsErrorOfWord calls word (AfterCall text) = StandsFirst word × ¬ IsFormatWord word × (0 < calls) × IsShown word text
+IsErrorOfWord calls word (Misplaced text) = (IsFormatWord word ⊎ (StandsFirst word × (calls ≡ 0))) × IsShown word text
 IsErrorOfWord calls word _ = ⊥
 
 -- the first word that names no call has this error

@@ -42,6 +42,6 @@ is_name (Name name) = true
 
 -- an error names the field so
 abbrev pub IsLabel : Column → FieldLabel → Type 0
-IsLabel (Index index) it = it ≡ label.Index index
-IsLabel (Name name) (label.Name it) = IsShown name.now it
+IsLabel (Index index) field = field ≡ label.Index index
+IsLabel (Name name) (label.Name text) = IsShown name.now text
 IsLabel (Name name) (label.Index index) = ⊥

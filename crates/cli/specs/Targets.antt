@@ -51,24 +51,25 @@ HasGroup words P =
 
 -- whether one of these fields is this
 abbrev pub has_column : List NamedField → Column → Bool
-has_column fields column = list_any (λ it. is_same it.column column) fields
+has_column fields column = list_any (λ named. is_same named.column column) fields
 
 -- this is the field, with the conversion of the words
 abbrev pub IsNamed : Column → List (String Global) → NamedField → Type 0
-IsNamed column own it = (it.column ≡ column) × IsLabel column it.label × NamesConversion own it.conversion
+IsNamed column own named = (named.column ≡ column) × IsLabel column named.label × NamesConversion own named.conversion
 
 -- the field is new, and is added to these with the conversion of the words
 abbrev pub AddsNamed : Column → List (String Global) → List NamedField → List NamedField → Type 0
 AddsNamed column own before after =
-    (it : NamedField) × (has_column before column ≡ false) × IsNamed column own it × (after ≡ before ++ (it ∷ []))
+    (named : NamedField) × (has_column before column ≡ false) × IsNamed column own named
+    × (after ≡ before ++ (named ∷ []))
 
 -- after these fields the words name these, none of them twice: field:.. [read:..] [CALL].. [format:..] of each
 abbrev pub NameMore : List NamedField → List (String Global) → List NamedField → Type 0
 NameMore before words [] = words ≡ []
-NameMore before words (it ∷ more) =
+NameMore before words (named ∷ more) =
     HasGroup words
-    (λ word column own others. (has_column before column ≡ false) × IsNamed column own it
-    × NameMore (before ++ (it ∷ [])) others more)
+    (λ word column own others. (has_column before column ≡ false) × IsNamed column own named
+    × NameMore (before ++ (named ∷ [])) others more)
 
 -- with the words the fields are these
 abbrev pub HasMore : List (String Global) → List NamedField → List NamedField → Type 0
@@ -76,9 +77,9 @@ HasMore words before after = (more : List NamedField) × NameMore before words m
 
 -- the field is named again, or its words name no conversion, or the list of the fields is out of memory
 abbrev pub GroupFails : List NamedField → WordsError → List ℕ → Column → List (String Global) → Type 0
-GroupFails before (Misplaced it) word column own =
-    ((has_column before column ≡ true) × IsShown word it)
-    ⊎ ((has_column before column ≡ false) × ConversionFails own (Misplaced it))
+GroupFails before (Misplaced text) word column own =
+    ((has_column before column ≡ true) × IsShown word text)
+    ⊎ ((has_column before column ≡ false) × ConversionFails own (Misplaced text))
 GroupFails before Memory word column own =
     (has_column before column ≡ false)
     × (ConversionFails own Memory ⊎ ((conversion : Conversion) × NamesConversion own conversion))
@@ -87,10 +88,10 @@ GroupFails before error word column own = (has_column before column ≡ false) �
 -- after these fields the words name these, and then no field, for this error
 abbrev pub FailAfter : List NamedField → List (String Global) → List NamedField → WordsError → Type 0
 FailAfter before words [] error = HasGroup words (λ word column own others. GroupFails before error word column own)
-FailAfter before words (it ∷ more) error =
+FailAfter before words (named ∷ more) error =
     HasGroup words
-    (λ word column own others. (has_column before column ≡ false) × IsNamed column own it
-    × FailAfter (before ++ (it ∷ [])) others more error)
+    (λ word column own others. (has_column before column ≡ false) × IsNamed column own named
+    × FailAfter (before ++ (named ∷ [])) others more error)
 
 -- the words fail, for this error
 abbrev pub MoreFail : List (String Global) → List NamedField → WordsError → Type 0
@@ -113,16 +114,16 @@ AreSeveral column others = (others ≢ []) ⊎ (is_name column ≡ true)
 
 -- the words name this, where the options name this, in lines whose first field is this
 abbrev pub NamesTarget : Option (Column × Field) → List (String Global) → NamedTarget → Type 0
-NamesTarget None words (One it conversion) = (it ≡ None) × NamesConversion words conversion
+NamesTarget None words (One place conversion) = (place ≡ None) × NamesConversion words conversion
 NamesTarget None words (Fields base fields) = ⊥
-NamesTarget (Some (column, field)) words (One it conversion) =
+NamesTarget (Some (column, field)) words (One place conversion) =
     HasSplit words
-    (λ own others. ((index : ℕ) × IsOnlyIndex column others index × (it ≡ Some (at_index field index)))
+    (λ own others. ((index : ℕ) × IsOnlyIndex column others index × (place ≡ Some (at_index field index)))
     × NamesConversion own conversion)
 NamesTarget (Some (column, field)) words (Fields base fields) =
     HasSplit words
     (λ own others. AreSeveral column others × (base ≡ field)
-    × ((it : NamedField) × IsNamed column own it × HasMore others (it ∷ []) fields.items))
+    × ((named : NamedField) × IsNamed column own named × HasMore others (named ∷ []) fields.items))
 
 -- the words name nothing, for this error: the words of the first field fail; or those of the others
 abbrev pub NameNoTarget : Option (Column × Field) → List (String Global) → WordsError → Type 0
@@ -131,11 +132,11 @@ NameNoTarget (Some (column, field)) words error =
     HasSplit words
     (λ own others. ConversionFails own error
     ⊎ (AreSeveral column others
-    × ((it : NamedField) × IsNamed column own it × ((error ≡ Memory) ⊎ MoreFail others (it ∷ []) error))))
+    × ((named : NamedField) × IsNamed column own named × ((error ≡ Memory) ⊎ MoreFail others (named ∷ []) error))))
 
 -- whether a field has a name
 abbrev pub any_name : List NamedField → Bool
-any_name fields = list_any (λ it. is_name it.column) fields
+any_name fields = list_any (λ named. is_name named.column) fields
 
 abbrev pub have_names : NamedTarget → Bool
 have_names (One field conversion) = false

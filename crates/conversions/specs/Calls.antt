@@ -1,5 +1,7 @@
 -- The call that each word names, by its bytes.
-use Rattle.std.specs.Prelude.{◌≡◌, ℕ, List, ◌++◌, codes, Some}
+use Rattle.std.specs.Prelude.{◌≡◌, ℕ, if◌then◌else◌, List, [], ◌∷◌, codes, Option, Some, None}
+use Rattle.std.specs.Option.{option_map, option_and_then, option_zip}
+use Rattle.std.specs.Str.{bytes_eq}
 use Rattle.decimal_digits.specs.declared.rounding.UnsignedRoundingMode.TheVariants as unsigned
 use Rattle.fixed_decimal.specs.declared.rounding.SignedRoundingMode.{SignedRoundingMode}
 use Rattle.fixed_decimal.specs.declared.rounding.SignedRoundingMode.TheVariants as mode
@@ -11,63 +13,103 @@ use Rattle.fixed_decimal.specs.declared.variations.SignDisplay.{SignDisplay}
 use Rattle.fixed_decimal.specs.declared.variations.SignDisplay.TheVariants as display
 use Rattle.fixed_decimal.specs.declared.runs.Call.{Call}
 use Rattle.fixed_decimal.specs.declared.runs.Call.TheVariants.{MultiplyPow10, TrimStart, TrimEnd, TrimEndIfInteger, PadStart, PadEnd, SetMaxPosition, Round, SetSign, ApplySignDisplay, Concatenate}
-use Rattle.conversions.specs.Parameters.{number, HasNumber}
+use Rattle.conversions.specs.Parameters.{tag_of, option_of, lookup, number}
 
 -- ---- Parameters.
 
--- the word of a mode
-abbrev pub mode_word : SignedRoundingMode → List ℕ
-mode_word mode.Ceil = codes "ceil"
-mode_word mode.Floor = codes "floor"
-mode_word (mode.Unsigned unsigned.Expand) = codes "expand"
-mode_word (mode.Unsigned unsigned.Trunc) = codes "trunc"
-mode_word mode.HalfCeil = codes "half-ceil"
-mode_word mode.HalfFloor = codes "half-floor"
-mode_word (mode.Unsigned unsigned.HalfExpand) = codes "half-expand"
-mode_word (mode.Unsigned unsigned.HalfTrunc) = codes "half-trunc"
-mode_word (mode.Unsigned unsigned.HalfEven) = codes "half-even"
+-- the modes and their words
+abbrev pub modes : List (List ℕ × SignedRoundingMode)
+modes =
+    (codes "ceil", mode.Ceil)
+    ∷ (codes "floor", mode.Floor)
+    ∷ (codes "expand", mode.Unsigned unsigned.Expand)
+    ∷ (codes "trunc", mode.Unsigned unsigned.Trunc)
+    ∷ (codes "half-ceil", mode.HalfCeil)
+    ∷ (codes "half-floor", mode.HalfFloor)
+    ∷ (codes "half-expand", mode.Unsigned unsigned.HalfExpand)
+    ∷ (codes "half-trunc", mode.Unsigned unsigned.HalfTrunc)
+    ∷ (codes "half-even", mode.Unsigned unsigned.HalfEven)
+    ∷ []
 
--- the word of an increment
-abbrev pub increment_word : RoundingIncrement → List ℕ
-increment_word MultiplesOf1 = codes "1"
-increment_word MultiplesOf2 = codes "2"
-increment_word MultiplesOf5 = codes "5"
-increment_word MultiplesOf25 = codes "25"
+-- the increments and their words
+abbrev pub increments : List (List ℕ × RoundingIncrement)
+increments =
+    (codes "1", MultiplesOf1)
+    ∷ (codes "2", MultiplesOf2)
+    ∷ (codes "5", MultiplesOf5)
+    ∷ (codes "25", MultiplesOf25)
+    ∷ []
 
--- the word of a sign
-abbrev pub sign_word : Sign → List ℕ
-sign_word sign.None = codes "none"
-sign_word sign.Negative = codes "minus"
-sign_word sign.Positive = codes "plus"
+-- the signs and their words
+abbrev pub signs : List (List ℕ × Sign)
+signs = (codes "none", sign.None) ∷ (codes "minus", sign.Negative) ∷ (codes "plus", sign.Positive) ∷ []
 
--- the word of a sign display
-abbrev pub display_word : SignDisplay → List ℕ
-display_word display.Auto = codes "auto"
-display_word display.Never = codes "never"
-display_word display.Always = codes "always"
-display_word display.ExceptZero = codes "except-zero"
-display_word display.Negative = codes "negative"
+-- the sign displays and their words
+abbrev pub displays : List (List ℕ × SignDisplay)
+displays =
+    (codes "auto", display.Auto)
+    ∷ (codes "never", display.Never)
+    ∷ (codes "always", display.Always)
+    ∷ (codes "except-zero", display.ExceptZero)
+    ∷ (codes "negative", display.Negative)
+    ∷ []
+
+-- `MODE:INCREMENT`
+abbrev pub mode_and_increment : List ℕ → Option (SignedRoundingMode × RoundingIncrement)
+mode_and_increment text =
+    option_zip (lookup modes (tag_of text)) (option_and_then (lookup increments) (option_of text))
+
+-- `POSITION:MODE:INCREMENT`
+abbrev pub rounding : List ℕ → Option Call
+rounding text =
+    option_map (λ x. Round x.0 x.1.0 x.1.1)
+    (option_zip (number (tag_of text)) (option_and_then mode_and_increment (option_of text)))
+
+-- a call that concatenates these bytes, wherever they are
+abbrev pub concatenation : List ℕ → Call
+concatenation bytes = Concatenate (record { ref_ptr = (0, 0); now = bytes })
 
 -- ---- Words.
 
--- the word names this call; the text of `concat` is all that follows the first colon
-abbrev pub Names : List ℕ → Call → Type 0
-Names word (MultiplyPow10 delta) = HasNumber (codes "shift:") word delta
-Names word TrimStart = word ≡ codes "trim-start"
-Names word TrimEnd = word ≡ codes "trim-end"
-Names word TrimEndIfInteger = word ≡ codes "trim-end-if-integer"
-Names word (PadStart position) = HasNumber (codes "pad-start:") word position
-Names word (PadEnd position) = HasNumber (codes "pad-end:") word position
-Names word (SetMaxPosition position) = HasNumber (codes "max:") word position
-Names word (Round position mode increment) =
-    (digits : List ℕ)
-    × (word ≡ codes "round:" ++ (digits ++ (codes ":" ++ (mode_word mode ++ (codes ":" ++ increment_word increment)))))
-    × (number digits ≡ Some position)
-Names word (SetSign sign) = word ≡ codes "sign:" ++ sign_word sign
-Names word (ApplySignDisplay display) = word ≡ codes "display:" ++ display_word display
-Names word (Concatenate text) = word ≡ codes "concat:" ++ text.now
+-- the calls without a parameter
+abbrev pub plain_calls : List (List ℕ × Call)
+plain_calls =
+    (codes "trim-start", TrimStart)
+    ∷ (codes "trim-end", TrimEnd)
+    ∷ (codes "trim-end-if-integer", TrimEndIfInteger)
+    ∷ []
 
--- two calls are the same; texts to concatenate are compared by their bytes
-abbrev pub IsSame : Call → Call → Type 0
-IsSame (Concatenate first) (Concatenate second) = first.now ≡ second.now
-IsSame first second = first ≡ second
+-- the calls with a parameter, but the one that concatenates
+abbrev pub calls_with : List (List ℕ × (List ℕ → Option Call))
+calls_with =
+    (codes "shift", λ text. option_map MultiplyPow10 (number text))
+    ∷ (codes "pad-start", λ text. option_map PadStart (number text))
+    ∷ (codes "pad-end", λ text. option_map PadEnd (number text))
+    ∷ (codes "max", λ text. option_map SetMaxPosition (number text))
+    ∷ (codes "round", rounding)
+    ∷ (codes "sign", λ text. option_map SetSign (lookup signs text))
+    ∷ (codes "display", λ text. option_map ApplySignDisplay (lookup displays text))
+    ∷ []
+
+-- the call with this name and this parameter
+abbrev pub call_with : List ℕ → List ℕ → Option Call
+call_with name parameter = option_and_then (λ call. call parameter) (lookup calls_with name)
+
+-- the call with this name, which may have a parameter
+abbrev pub named_call : List ℕ → Option (List ℕ) → Option Call
+named_call name None = lookup plain_calls name
+named_call name (Some parameter) =
+    if bytes_eq name (codes "concat") then Some (concatenation parameter) else call_with name parameter
+
+-- the call that a word names: the parameter is all that follows the first colon
+abbrev pub call_of : List ℕ → Option Call
+call_of word = named_call (tag_of word) (option_of word)
+
+-- the call, wherever its text is
+abbrev pub copied : Call → Call
+copied (Concatenate text) = concatenation text.now
+copied call = call
+
+-- the word names this call
+abbrev pub Names : List ℕ → Call → Type 0
+Names word call = call_of word ≡ Some (copied call)

@@ -1,5 +1,5 @@
 -- The outcome of a conversion on a text, and its errors.
-use Rattle.std.specs.Prelude.{◌≡◌, ◌⊎◌, ◌&&◌, Bool, List, ℕ, Option, Some, None, is_none, MatchBool, Result, Ok, Err, IsOkAnd}
+use Rattle.std.specs.Prelude.{◌≡◌, ◌⊎◌, List, ℕ, Option, Some, None, Result, Ok, Err, IsOkAnd}
 use Rattle.decimal_unsigned.specs.Reading.{ReadError, syntax, limit}
 use Rattle.decimal_unsigned.specs.declared.decimal.TheConstants.{INLINE_DIGITS}
 use Rattle.decimal_unsigned.specs.declared.error.ParseError.{ParseError}
@@ -8,16 +8,14 @@ use Rattle.fixed_decimal.specs.Decimal.{Decimal}
 use Rattle.fixed_decimal.specs.DecimalText.{decimal_text, read_decimal, IsLong, and_then}
 use Rattle.fixed_decimal.specs.Outcome.{OutcomeError, started, after_calls, outcome, start, operand, overlap, limit_exceeded}
 use Rattle.fixed_decimal.specs.Calls.{CallsFail}
-use Rattle.fixed_decimal.specs.Errors.{RunFails, run_error}
+use Rattle.fixed_decimal.specs.Errors.{run_error}
 use Rattle.fixed_decimal.specs.declared.runs.Call.{Call}
 use Rattle.fixed_decimal.specs.declared.runs.CallError.{CallError}
-use Rattle.fixed_decimal.specs.declared.runs.RunError.{RunError}
-use Rattle.decimal_format.specs.Formatted.{Formatter, formatted}
+use Rattle.decimal_format.specs.Formatted.{formatted}
 use Rattle.number_format.specs.NumberText.{IsNumberText, WritingNeedsMemory, shown_number}
 use Rattle.conversions.specs.declared.conversion.Conversion.{Conversion}
 use Rattle.conversions.specs.declared.locale_formatter.LocaleFormatter.{LocaleFormatter}
 use Rattle.conversions.specs.declared.locale_formatter.LocaleFormatter.TheVariants.{AllDigits, Skeleton}
-use Rattle.conversions.specs.declared.reader.DecimalReader.{DecimalReader}
 use Rattle.conversions.specs.declared.reader.LocaleReader.{LocaleReader}
 use Rattle.conversions.specs.declared.reader.LocaleReader.TheVariants.{Decimals, Numbers}
 use Rattle.conversions.specs.declared.error.Reason.TheVariants as reason
@@ -29,32 +27,18 @@ use Rattle.conversions.specs.Reader.{IsReadIn, NeedsMemoryIn, IsNumberRead, Numb
 -- ---- Reading.
 
 -- the text is read as this by a reader, and without one as a decimal's own text
-abbrev pub IsReadAs : Option DecimalReader → List ℕ → Result Decimal ReadError → Type 0
-IsReadAs None text result = result ≡ read_decimal text
-IsReadAs (Some reader) text result = IsReadIn reader.mode reader.symbols text result
+abbrev pub IsReadBy : Option LocaleReader → List ℕ → Result Decimal ReadError → Type 0
+IsReadBy None text result = result ≡ read_decimal text
+IsReadBy (Some (Decimals reader)) text result = IsReadIn reader.mode reader.symbols text result
+IsReadBy (Some (Numbers reader mode)) text result = IsNumberRead mode reader text result
 
 -- reading may need memory
-abbrev pub ReadingNeedsMemory : Option DecimalReader → List ℕ → Type 0
-ReadingNeedsMemory None text = IsOkAnd (read_decimal text) (IsLong INLINE_DIGITS)
-ReadingNeedsMemory (Some reader) text = NeedsMemoryIn reader.mode reader.symbols text
+abbrev pub ReadingByNeedsMemory : Option LocaleReader → List ℕ → Type 0
+ReadingByNeedsMemory None text = IsOkAnd (read_decimal text) (IsLong INLINE_DIGITS)
+ReadingByNeedsMemory (Some (Decimals reader)) text = NeedsMemoryIn reader.mode reader.symbols text
+ReadingByNeedsMemory (Some (Numbers reader mode)) text = NumberReadingFails mode reader text parse.Memory
 
 -- reading may fail with this error
-abbrev pub ReadingFails : Option DecimalReader → List ℕ → ParseError → Type 0
-ReadingFails reader text parse.Syntax = IsReadAs reader text (Err syntax)
-ReadingFails reader text parse.Limit = IsReadAs reader text (Err limit)
-ReadingFails reader text parse.Memory = ReadingNeedsMemory reader text
-
--- the same by a reader of decimals, or of numbers by a skeleton
-abbrev pub IsReadBy : Option LocaleReader → List ℕ → Result Decimal ReadError → Type 0
-IsReadBy None text result = IsReadAs None text result
-IsReadBy (Some (Decimals reader)) text result = IsReadAs (Some reader) text result
-IsReadBy (Some (Numbers reader)) text result = IsNumberRead reader.mode reader.reader text result
-
-abbrev pub ReadingByNeedsMemory : Option LocaleReader → List ℕ → Type 0
-ReadingByNeedsMemory None text = ReadingNeedsMemory None text
-ReadingByNeedsMemory (Some (Decimals reader)) text = ReadingNeedsMemory (Some reader) text
-ReadingByNeedsMemory (Some (Numbers reader)) text = NumberReadingFails reader.mode reader.reader text parse.Memory
-
 abbrev pub ReadingByFails : Option LocaleReader → List ℕ → ParseError → Type 0
 ReadingByFails reader text parse.Syntax = IsReadBy reader text (Err syntax)
 ReadingByFails reader text parse.Limit = IsReadBy reader text (Err limit)
@@ -62,20 +46,16 @@ ReadingByFails reader text parse.Memory = ReadingByNeedsMemory reader text
 
 -- ---- The text of a decimal.
 
--- the text of a decimal by a formatter of all digits, and without one its own
-abbrev pub text_by : Option Formatter → Decimal → List ℕ
-text_by None v = decimal_text v
-text_by (Some f) v = formatted f.symbols f.strategy v
-
 -- why a conversion has no text: the error of the run; or the number to be formatted is beyond the limits
 pub data ConversionError : Type 0 where
   of_run : OutcomeError → ConversionError
   format_overflow : ConversionError
 
--- the text of a decimal by a formatter, or the error; by a skeleton it is scaled, rounded and written as a number
+-- the text of a decimal by a formatter, and without one its own; or the error. By a skeleton it is scaled, rounded and
+-- written as a number
 abbrev pub IsTextBy : Option LocaleFormatter → Decimal → Result (List ℕ) ConversionError → Type 0
-IsTextBy None v result = result ≡ Ok (text_by None v)
-IsTextBy (Some (AllDigits f)) v result = result ≡ Ok (text_by (Some f) v)
+IsTextBy None v result = result ≡ Ok (decimal_text v)
+IsTextBy (Some (AllDigits f)) v result = result ≡ Ok (formatted f.symbols f.strategy v)
 IsTextBy (Some (Skeleton f)) v (Ok text) = IsNumberText f v text
 IsTextBy (Some (Skeleton f)) v (Err format_overflow) = shown_number f v ≡ None
 IsTextBy (Some (Skeleton f)) v (Err (of_run why)) = ⊥
@@ -102,42 +82,24 @@ WritingFails error formatter v = ⊥
 abbrev pub last_decimal : List Call → Result Decimal ReadError → Result Decimal OutcomeError
 last_decimal calls read = and_then (started read) (λ v. after_calls 0 v calls)
 
--- the text of a decimal by a formatter of all digits, or the error
-abbrev pub formatted_by : Option Formatter → Result Decimal OutcomeError → Result (List ℕ) OutcomeError
-formatted_by formatter last = and_then last (λ w. Ok (text_by formatter w))
+-- the own text of a decimal, or the error before
+abbrev pub own_text : Result Decimal OutcomeError → Result (List ℕ) OutcomeError
+own_text last = and_then last (λ w. Ok (decimal_text w))
 
 -- the text of a decimal by a formatter, or the error before
 abbrev pub IsFormatted : Option LocaleFormatter → Result Decimal OutcomeError → Result (List ℕ) ConversionError → Type 0
 IsFormatted formatter (Ok v) result = IsTextBy formatter v result
 IsFormatted formatter (Err why) result = result ≡ Err (of_run why)
 
--- the outcome of a text by a reader and a formatter
-pub record IsOutcomeByForms (c : Conversion) (text : List ℕ) (result : Result (List ℕ) ConversionError) : Type 0 where
+-- the outcome of a text
+pub record IsOutcome (c : Conversion) (text : List ℕ) (result : Result (List ℕ) ConversionError) : Type 0 where
   pub read : Result Decimal ReadError
   pub is_read : IsReadBy c.reader text read
   pub is : IsFormatted c.formatter (last_decimal c.calls.items read) result
 
--- there is no reader and no formatter
-abbrev pub is_plain : Conversion → Bool
-is_plain c = is_none c.reader && is_none c.formatter
-
--- the result of a run
-abbrev pub run_result : Result (List ℕ) OutcomeError → Result (List ℕ) ConversionError
-run_result (Ok text) = Ok text
-run_result (Err why) = Err (of_run why)
-
--- the outcome of a text: without a reader and a formatter that of the run
-abbrev pub IsOutcome : Conversion → List ℕ → Result (List ℕ) ConversionError → Type 0
-IsOutcome c text result =
-    MatchBool (is_plain c) (result ≡ run_result (outcome text c.calls.items)) (IsOutcomeByForms c text result)
-
 -- P holds of the text that the conversion makes of a text
 abbrev pub HasOutcome : Conversion → List ℕ → (List ℕ → Type 0) → Type 0
 HasOutcome c text P = (written : List ℕ) × IsOutcome c text (Ok written) × P written
-
--- the same by the reader and the formatter
-abbrev pub HasOutcomeByForms : Conversion → List ℕ → (List ℕ → Type 0) → Type 0
-HasOutcomeByForms c text P = (written : List ℕ) × IsOutcomeByForms c text (Ok written) × P written
 
 -- ---- Errors.
 
@@ -164,26 +126,17 @@ WorkNeedsMemory v calls formatter =
 
 -- the error is that of the outcome; or out of memory, where reading or the work may need it; or a failed output of a
 -- text
-abbrev pub FailsByForms : OperationError → Conversion → List ℕ → Type 0
-FailsByForms Memory c text =
+abbrev pub OperationsFail : OperationError → Conversion → List ℕ → Type 0
+OperationsFail Memory c text =
     ReadingByNeedsMemory c.reader text
     ⊎ ((v : Decimal) × IsReadBy c.reader text (Ok v) × WorkNeedsMemory v c.calls.items c.formatter)
-FailsByForms Output c text = (written : List ℕ) × IsOutcomeByForms c text (Ok written)
-FailsByForms error c text = (why : ConversionError) × (error ≡ error_of why) × IsOutcomeByForms c text (Err why)
-
--- the run fails with this error
-abbrev pub IsErrorOfRun : OperationError → List ℕ → List Call → Type 0
-IsErrorOfRun error text calls =
-    (why : RunError) × (error ≡ error_of_run why) × RunFails INLINE_DIGITS why text calls
-
--- the conversion of a text fails with this error: without a reader and a formatter that of the run
-abbrev pub OperationsFail : OperationError → Conversion → List ℕ → Type 0
-OperationsFail error c text = MatchBool (is_plain c) (IsErrorOfRun error text c.calls.items) (FailsByForms error c text)
+OperationsFail Output c text = (written : List ℕ) × IsOutcome c text (Ok written)
+OperationsFail error c text = (why : ConversionError) × (error ≡ error_of why) × IsOutcome c text (Err why)
 
 -- ---- The law.
 
 -- without a reader: the run writes the last decimal by its own text, and the conversion by the formatter
 abbrev pub IsRunFormatted : Conversion → List ℕ → Result (List ℕ) ConversionError → Type 0
 IsRunFormatted c text result =
-    (outcome text c.calls.items ≡ formatted_by None (last_decimal c.calls.items (read_decimal text)))
+    (outcome text c.calls.items ≡ own_text (last_decimal c.calls.items (read_decimal text)))
     × IsFormatted c.formatter (last_decimal c.calls.items (read_decimal text)) result

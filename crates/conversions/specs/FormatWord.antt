@@ -1,5 +1,5 @@
 -- The formatter that `format:LOCALE[:GROUPING|:SKELETON]` names.
-use Rattle.std.specs.Prelude.{◌≡◌, ◌≢◌, ◌⊎◌, ℕ, ◌-◌, ⊤, if◌then◌else◌, List, [], ◌++◌, take, drop, codes, Option, Some, None, Ok, Err}
+use Rattle.std.specs.Prelude.{◌≡◌, ◌≢◌, ◌⊎◌, ℕ, ◌-◌, ⊤, if◌then◌else◌, List, [], ◌∷◌, ◌++◌, take, drop, codes, Option, Some, None, IsSome, Ok, Err}
 use Rattle.std.specs.Str.{is_utf8}
 use Rattle.decimal_format.specs.declared.grouping.GroupingStrategy.{GroupingStrategy}
 use Rattle.decimal_format.specs.declared.grouping.GroupingStrategy.TheVariants.{Auto, Never, Always, Min2}
@@ -16,7 +16,7 @@ use Rattle.conversions.specs.declared.error.FormError.{FormError}
 use Rattle.conversions.specs.declared.error.FormError.TheVariants.{NoSuchWord, UnknownLocale, SkeletonSyntax, SkeletonUnsupported}
 use Rattle.conversions.specs.declared.locale_formatter.LocaleFormatter.{LocaleFormatter}
 use Rattle.conversions.specs.declared.locale_formatter.LocaleFormatter.TheVariants.{AllDigits, Skeleton}
-use Rattle.conversions.specs.Parameters.{locale_tag, locale_option}
+use Rattle.conversions.specs.Parameters.{lookup, locale_tag, locale_option}
 use Rattle.conversions.specs.ShownWord.{IsShown}
 
 -- the word is `format:` and a text
@@ -25,22 +25,19 @@ IsFormatWord word = (text : List ℕ) × (word ≡ codes "format:" ++ text)
 
 -- ---- Options.
 
--- the word of a grouping strategy
-abbrev pub strategy_word : GroupingStrategy → List ℕ
-strategy_word Auto = codes "auto"
-strategy_word Never = codes "never"
-strategy_word Always = codes "always"
-strategy_word Min2 = codes "min2"
+-- the grouping strategies and their words
+abbrev pub strategies : List (List ℕ × GroupingStrategy)
+strategies =
+    (codes "auto", Auto) ∷ (codes "never", Never) ∷ (codes "always", Always) ∷ (codes "min2", Min2) ∷ []
 
--- the option is the word of the strategy; none is `Auto`
-abbrev pub IsStrategyOption : Option (List ℕ) → GroupingStrategy → Type 0
-IsStrategyOption None strategy = strategy ≡ Auto
-IsStrategyOption (Some option) strategy = option ≡ strategy_word strategy
+-- the strategy that an option names; no option is `Auto`
+abbrev pub strategy_of : Option (List ℕ) → Option GroupingStrategy
+strategy_of None = Some Auto
+strategy_of (Some option) = lookup strategies option
 
 -- the option is a skeleton: any other text, but the empty one
 abbrev pub IsSkeletonOption : Option (List ℕ) → List ℕ → Type 0
-IsSkeletonOption option text =
-    (option ≡ Some text) × (text ≢ []) × ((strategy : GroupingStrategy) → ¬ IsStrategyOption option strategy)
+IsSkeletonOption option text = (option ≡ Some text) × (text ≢ []) × (strategy_of option ≡ None)
 
 -- ---- Formatters by a skeleton.
 
@@ -81,7 +78,7 @@ NumberFormatterFails tag text error =
 abbrev pub NamesFormatter : Option (List ℕ) → Option LocaleFormatter → Type 0
 NamesFormatter None None = ⊤
 NamesFormatter (Some format) (Some (AllDigits f)) =
-    IsStrategyOption (locale_option format) f.strategy × IsLocale (locale_tag format) f.symbols
+    (strategy_of (locale_option format) ≡ Some f.strategy) × IsLocale (locale_tag format) f.symbols
 NamesFormatter (Some format) (Some (Skeleton f)) =
     (text : List ℕ) × IsSkeletonOption (locale_option format) text × IsNumberFormatter (locale_tag format) text f
 NamesFormatter _ _ = ⊥
@@ -102,7 +99,6 @@ abbrev pub FormatterFails : Option (List ℕ) → FormError → Type 0
 FormatterFails None error = ⊥
 FormatterFails (Some format) error =
     IsEmptyOption format error
-    ⊎ ((((strategy : GroupingStrategy) × IsStrategyOption (locale_option format) strategy)
-    × IsUnknownLocale (locale_tag format) error)
+    ⊎ ((IsSome (strategy_of (locale_option format)) × IsUnknownLocale (locale_tag format) error)
     ⊎ ((text : List ℕ) × IsSkeletonOption (locale_option format) text
     × NumberFormatterFails (locale_tag format) text error))

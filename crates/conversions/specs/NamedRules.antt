@@ -1,5 +1,5 @@
 -- The plural rules that a word names: those of a locale, or those that it is the text of.
-use Rattle.std.specs.Prelude.{◌≡◌, ◌≢◌, ℕ, ◌==◌, ◌&&◌, ◌||◌, Bool, true, false, List, [], ◌∷◌, codes, Option, Some, None, Err}
+use Rattle.std.specs.Prelude.{◌≡◌, ◌≢◌, ℕ, ◌==◌, ◌&&◌, ◌||◌, Bool, true, false, if◌then◌else◌, List, [], ◌∷◌, codes, Option, Some, None, IsSome, Err}
 use Rattle.std.specs.Char.{is_ascii_alphabetic, is_ascii_alphanumeric}
 use Rattle.std.specs.List.{list_all}
 use Rattle.plural_rules.specs.declared.parse.RulesError.TheVariants as rules
@@ -12,7 +12,7 @@ use Rattle.locale_data.specs.Plurals.{IsRulesText, HasNoRules}
 use Rattle.conversions.specs.declared.named_rules.NamedRulesError.{NamedRulesError}
 use Rattle.conversions.specs.declared.named_rules.NamedRulesError.TheVariants.{UnknownLocale, UnknownType, Rules}
 use Rattle.conversions.specs.ShownWord.{IsShown}
-use Rattle.conversions.specs.Parameters.{tag_of, option_of}
+use Rattle.conversions.specs.Parameters.{tag_of, option_of, lookup}
 
 -- a letter, a digit, or one of - _ . @
 abbrev pub is_tag_byte : ℕ → Bool
@@ -23,32 +23,33 @@ abbrev pub is_tag : List ℕ → Bool
 is_tag [] = false
 is_tag (first ∷ rest) = is_ascii_alphabetic first && list_all is_tag_byte rest
 
--- the word of a type
-abbrev pub type_word : PluralRuleType → List ℕ
-type_word Cardinal = codes "cardinal"
-type_word Ordinal = codes "ordinal"
+-- the types of rules and their words
+abbrev pub types : List (List ℕ × PluralRuleType)
+types = (codes "cardinal", Cardinal) ∷ (codes "ordinal", Ordinal) ∷ []
 
--- the option is the word of the type; none is `Cardinal`
-abbrev pub IsTypeOption : Option (List ℕ) → PluralRuleType → Type 0
-IsTypeOption None rule_type = rule_type ≡ Cardinal
-IsTypeOption (Some option) rule_type = option ≡ type_word rule_type
+-- the type that an option names; no option is `Cardinal`
+abbrev pub type_of : Option (List ℕ) → Option PluralRuleType
+type_of None = Some Cardinal
+type_of (Some option) = lookup types option
 
--- the word is a tag, or a tag, a colon and the word of a type: `ru`, `en:ordinal`
+-- the type of a word that is a tag, or a tag, a colon and the word of a type: `ru`, `en:ordinal`
+abbrev pub named_type : List ℕ → Option PluralRuleType
+named_type word = if is_tag (tag_of word) then type_of (option_of word) else None
+
+-- the word names a locale, and this type
 abbrev pub NamesLocale : List ℕ → PluralRuleType → Type 0
-NamesLocale word rule_type = (is_tag (tag_of word) ≡ true) × IsTypeOption (option_of word) rule_type
+NamesLocale word rule_type = named_type word ≡ Some rule_type
 
 -- the word is a tag, a colon and letters that are the word of no type: `en:ordnial`. No text of rules has this form,
 -- since each condition has a relation
 abbrev pub HasUnknownType : List ℕ → List ℕ → Type 0
 HasUnknownType word letters =
     (is_tag (tag_of word) ≡ true) × (option_of word ≡ Some letters) × (letters ≢ [])
-    × (list_all is_ascii_alphabetic letters ≡ true) × ((rule_type : PluralRuleType) → letters ≢ type_word rule_type)
+    × (list_all is_ascii_alphabetic letters ≡ true) × (lookup types letters ≡ None)
 
 -- the word has neither form: it is the text of rules, or rejected as such
 abbrev pub IsOther : List ℕ → Type 0
-IsOther word =
-    ((rule_type : PluralRuleType) → ¬ NamesLocale word rule_type)
-    × ((letters : List ℕ) → ¬ HasUnknownType word letters)
+IsOther word = (named_type word ≡ None) × ((letters : List ℕ) → ¬ HasUnknownType word letters)
 
 -- the text of the rules that a word names: that of its locale; or the word itself, which has no form of a locale
 pub data IsTextOfRules (word text : List ℕ) : Type 0 where
@@ -64,7 +65,7 @@ NamesRules word rules = (text : List ℕ) × IsTextOfRules word text × Grammar 
 -- text of rules
 abbrev pub NamesNoRules : List ℕ → NamedRulesError → Type 0
 NamesNoRules word (UnknownLocale tag) =
-    ((rule_type : PluralRuleType) × NamesLocale word rule_type) × HasNoRules (tag_of word) × IsShown (tag_of word) tag
+    IsSome (named_type word) × HasNoRules (tag_of word) × IsShown (tag_of word) tag
 NamesNoRules word (UnknownType shown) =
     (letters : List ℕ) × HasUnknownType word letters × IsShown letters shown
 NamesNoRules word (Rules rules.Memory) =

@@ -1,7 +1,7 @@
 -- The parameters of a word, after its first colon: the tag of a locale, and an option after a colon; or a number.
-use Rattle.std.specs.Prelude.{◌≡◌, ℕ, ℤ, pos, neg_ℤ, ◌==◌, ◌&&◌, Bool, nat_le, nat_lt, if◌then◌else◌, List, [], ◌++◌, length, drop, slice_index, Option, Some, None, option_map, unwrap_or}
+use Rattle.std.specs.Prelude.{◌∷◌, ◌≡◌, ℕ, ℤ, pos, neg_ℤ, ◌==◌, ◌&&◌, Bool, nat_le, nat_lt, if◌then◌else◌, List, [], ◌++◌, length, drop, slice_index, Option, Some, None, option_map, unwrap_or}
 use Rattle.std.specs.List.{list_any, before_first, after_first}
-use Rattle.std.specs.Str.{all_ascii_digits}
+use Rattle.std.specs.Str.{all_ascii_digits, bytes_eq}
 use Rattle.std.specs.Str.Parse.{digits_value}
 use Rattle.decimal_digits.specs.Ascii.{minus_sign}
 
@@ -26,6 +26,13 @@ locale_tag word = tag_of (parameters_of word)
 
 abbrev pub locale_option : List ℕ → Option (List ℕ)
 locale_option word = option_of (parameters_of word)
+
+-- ---- Tables.
+
+-- what a table has for a word
+abbrev pub lookup : {X : Type 0} → List (List ℕ × X) → List ℕ → Option X
+lookup [] word = None
+lookup (row ∷ rows) word = if bytes_eq word row.0 then Some row.1 else lookup rows word
 
 -- ---- Numbers.
 

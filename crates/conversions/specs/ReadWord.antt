@@ -1,5 +1,6 @@
 -- The reader that `read:LOCALE[:lenient][:SKELETON]` names.
-use Rattle.std.specs.Prelude.{◌≡◌, ◌≢◌, ◌⊎◌, ℕ, ⊤, List, [], ◌++◌, codes, Option, Some, None}
+use Rattle.std.specs.Prelude.{◌≡◌, ◌≢◌, ◌⊎◌, ℕ, ⊤, if◌then◌else◌, List, [], ◌++◌, codes, Option, Some, None}
+use Rattle.std.specs.Str.{bytes_eq}
 use Rattle.locale_data.specs.Locales.{IsLocale}
 use Rattle.number_format.specs.declared.format.formatter.NumberFormatter.{NumberFormatter}
 use Rattle.number_format.specs.declared.read.number_reader.ParseMode.{ParseMode}
@@ -17,11 +18,11 @@ use Rattle.conversions.specs.ShownWord.{IsShown}
 abbrev pub IsReadWord : List ℕ → Type 0
 IsReadWord word = (text : List ℕ) × (word ≡ codes "read:" ++ text)
 
--- the option has this mode and this skeleton: `lenient`, `lenient:SKELETON`, or `SKELETON`
-abbrev pub IsReadOption : Option (List ℕ) → ParseMode → Option (List ℕ) → Type 0
-IsReadOption None mode skeleton = (mode ≡ Strict) × (skeleton ≡ None)
-IsReadOption (Some option) Lenient skeleton = (tag_of option ≡ codes "lenient") × (skeleton ≡ option_of option)
-IsReadOption (Some option) Strict skeleton = (tag_of option ≢ codes "lenient") × (skeleton ≡ Some option)
+-- the mode and the skeleton of an option: `lenient`, `lenient:SKELETON`, or `SKELETON`
+abbrev pub read_option : Option (List ℕ) → ParseMode × Option (List ℕ)
+read_option None = (Strict, None)
+read_option (Some option) =
+    if bytes_eq (tag_of option) (codes "lenient") then (Lenient, option_of option) else (Strict, Some option)
 
 -- the texts of the formatter by the tag and the skeleton are read, and this is its reader
 abbrev pub IsNumberReader : List ℕ → List ℕ → NumberReader → Type 0
@@ -32,10 +33,10 @@ IsNumberReader tag text r =
 abbrev pub NamesReader : Option (List ℕ) → Option LocaleReader → Type 0
 NamesReader None None = ⊤
 NamesReader (Some read) (Some (Decimals r)) =
-    IsReadOption (locale_option read) r.mode None × IsLocale (locale_tag read) r.symbols
-NamesReader (Some read) (Some (Numbers r)) =
-    (text : List ℕ) × IsReadOption (locale_option read) r.mode (Some text) × (text ≢ [])
-    × IsNumberReader (locale_tag read) text r.reader
+    (read_option (locale_option read) ≡ (r.mode, None)) × IsLocale (locale_tag read) r.symbols
+NamesReader (Some read) (Some (Numbers r mode)) =
+    (text : List ℕ) × (read_option (locale_option read) ≡ (mode, Some text)) × (text ≢ [])
+    × IsNumberReader (locale_tag read) text r
 NamesReader _ _ = ⊥
 
 -- ---- Errors.
@@ -66,6 +67,4 @@ SkeletonFails read (Some text) error =
 -- `read:..` names no reader
 abbrev pub ReaderFails : Option (List ℕ) → FormError → Type 0
 ReaderFails None error = ⊥
-ReaderFails (Some read) error =
-    (mode : ParseMode) × (skeleton : Option (List ℕ)) × IsReadOption (locale_option read) mode skeleton
-    × SkeletonFails read skeleton error
+ReaderFails (Some read) error = SkeletonFails read (read_option (locale_option read)).1 error

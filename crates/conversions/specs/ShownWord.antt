@@ -25,4 +25,4 @@ shown word = fitting 40 (chars word)
 
 -- this is shown of the word
 abbrev pub IsShown : List ℕ → ShownWord → Type 0
-IsShown word it = it.text.bytes ≡ shown word
+IsShown word part = part.text.bytes ≡ shown word

@@ -1,19 +1,16 @@
 //! The call that a word names.
-ghost use Rattle.std.specs.Prelude.{◌≡◌, ℤ, IfSome, IfNone, Some};
-ghost use Rattle.fixed_decimal.specs.declared.rounding.SignedRoundingMode.{SignedRoundingMode};
-ghost use Rattle.decimal_digits.specs.declared.rounding.RoundingIncrement.{RoundingIncrement};
-ghost use Rattle.fixed_decimal.specs.declared.runs.Call.{Call};
-ghost use Rattle.fixed_decimal.specs.declared.runs.Call.TheVariants.{Round};
-ghost use Rattle.conversions.specs.Calls.{mode_word, increment_word, Names, IsSame};
+ghost use Rattle.std.specs.Prelude.{◌≡◌};
+ghost use Rattle.std.specs.Option.{option_map};
+ghost use Rattle.conversions.specs.Parameters.{lookup};
+ghost use Rattle.conversions.specs.Calls.{modes, increments, signs, displays, mode_and_increment, rounding, plain_calls, call_with, call_of, copied};
 
-use crate::parameters::{number, number_after};
+use crate::parameters::{number, split_parameters};
 use fixed_decimal::{
     Call, RoundingIncrement, Sign, SignDisplay, SignedRoundingMode, UnsignedRoundingMode,
 };
 
 fn mode(word: &str) -> Option<SignedRoundingMode>
-    ensures some { IfSome result (λ m. word.now ≡ mode_word m) }
-    ensures only { (m : SignedRoundingMode) → word.now ≡ mode_word m → result ≡ Some m }
+    ensures { result ≡ lookup modes word.now }
 {
     match word {
         "ceil" => Some(SignedRoundingMode::Ceil),
@@ -30,8 +27,7 @@ fn mode(word: &str) -> Option<SignedRoundingMode>
 }
 
 fn increment(word: &str) -> Option<RoundingIncrement>
-    ensures some { IfSome result (λ i. word.now ≡ increment_word i) }
-    ensures only { (i : RoundingIncrement) → word.now ≡ increment_word i → result ≡ Some i }
+    ensures { result ≡ lookup increments word.now }
 {
     match word {
         "1" => Some(RoundingIncrement::MultiplesOf1),
@@ -42,55 +38,84 @@ fn increment(word: &str) -> Option<RoundingIncrement>
     }
 }
 
-fn rounding(word: &str) -> Option<(i16, SignedRoundingMode, RoundingIncrement)>
-    ensures some { IfSome result (λ x. Names word.now (Round x.0 x.1 x.2)) }
-    ensures only { (p : ℤ) (m : SignedRoundingMode) (i : RoundingIncrement) → Names word.now (Round p m i)
-        → result ≡ Some (p, m, i) }
+fn sign(word: &str) -> Option<Sign>
+    ensures { result ≡ lookup signs word.now }
 {
-    let parts = word.strip_prefix("round:")?;
-    let (position, words) = parts.split_once(':')?;
-    let (mode_word, increment_word) = words.split_once(':')?;
-    Some((
-        number(position)?,
-        mode(mode_word)?,
-        increment(increment_word)?,
-    ))
+    match word {
+        "none" => Some(Sign::None),
+        "minus" => Some(Sign::Negative),
+        "plus" => Some(Sign::Positive),
+        _ => None,
+    }
+}
+
+fn display(word: &str) -> Option<SignDisplay>
+    ensures { result ≡ lookup displays word.now }
+{
+    match word {
+        "auto" => Some(SignDisplay::Auto),
+        "never" => Some(SignDisplay::Never),
+        "always" => Some(SignDisplay::Always),
+        "except-zero" => Some(SignDisplay::ExceptZero),
+        "negative" => Some(SignDisplay::Negative),
+        _ => None,
+    }
+}
+
+/// Parses `MODE:INCREMENT`.
+fn mode_and_increment(text: &str) -> Option<(SignedRoundingMode, RoundingIncrement)>
+    ensures { result ≡ mode_and_increment text.now }
+{
+    let (mode_word, increment_word) = split_parameters(text);
+    Some((mode(mode_word)?, increment(increment_word?)?))
+}
+
+/// Parses `POSITION:MODE:INCREMENT`.
+fn rounding(text: &str) -> Option<Call<'static>>
+    ensures { option_map copied result ≡ rounding text.now }
+{
+    let (position, words) = split_parameters(text);
+    let position = number(position)?;
+    let (mode, increment) = mode_and_increment(words?)?;
+    Some(Call::Round(position, mode, increment))
+}
+
+fn plain_call(name: &str) -> Option<Call<'static>>
+    ensures { option_map copied result ≡ lookup plain_calls name.now }
+{
+    match name {
+        "trim-start" => Some(Call::TrimStart),
+        "trim-end" => Some(Call::TrimEnd),
+        "trim-end-if-integer" => Some(Call::TrimEndIfInteger),
+        _ => None,
+    }
+}
+
+fn call_with(name: &str, parameter: &str) -> Option<Call<'static>>
+    ensures { option_map copied result ≡ call_with name.now parameter.now }
+{
+    match name {
+        "shift" => Some(Call::MultiplyPow10(number(parameter)?)),
+        "pad-start" => Some(Call::PadStart(number(parameter)?)),
+        "pad-end" => Some(Call::PadEnd(number(parameter)?)),
+        "max" => Some(Call::SetMaxPosition(number(parameter)?)),
+        "round" => rounding(parameter),
+        "sign" => Some(Call::SetSign(sign(parameter)?)),
+        "display" => Some(Call::ApplySignDisplay(display(parameter)?)),
+        _ => None,
+    }
 }
 
 /// Parses a word as a call.
 pub fn call(word: &str) -> Option<Call<'_>>
-    ensures some { IfSome result (Names word.now) }
-    ensures none { IfNone result ((call : Call) → ¬ Names word.now call) }
-    ensures unique { (first second : Call) → Names word.now first → Names word.now second → IsSame first second }
+    ensures { option_map copied result ≡ call_of word.now }
 {
-    match word {
-        "trim-start" => Some(Call::TrimStart),
-        "trim-end" => Some(Call::TrimEnd),
-        "trim-end-if-integer" => Some(Call::TrimEndIfInteger),
-        "sign:none" => Some(Call::SetSign(Sign::None)),
-        "sign:minus" => Some(Call::SetSign(Sign::Negative)),
-        "sign:plus" => Some(Call::SetSign(Sign::Positive)),
-        "display:auto" => Some(Call::ApplySignDisplay(SignDisplay::Auto)),
-        "display:never" => Some(Call::ApplySignDisplay(SignDisplay::Never)),
-        "display:always" => Some(Call::ApplySignDisplay(SignDisplay::Always)),
-        "display:except-zero" => Some(Call::ApplySignDisplay(SignDisplay::ExceptZero)),
-        "display:negative" => Some(Call::ApplySignDisplay(SignDisplay::Negative)),
-        _ => {
-            if let Some(distance) = number_after("shift:", word) {
-                Some(Call::MultiplyPow10(distance))
-            } else if let Some(position) = number_after("pad-start:", word) {
-                Some(Call::PadStart(position))
-            } else if let Some(position) = number_after("pad-end:", word) {
-                Some(Call::PadEnd(position))
-            } else if let Some(position) = number_after("max:", word) {
-                Some(Call::SetMaxPosition(position))
-            } else if let Some(text) = word.strip_prefix("concat:") {
-                Some(Call::Concatenate(text.as_bytes()))
-            } else if let Some((position, mode, increment)) = rounding(word) {
-                Some(Call::Round(position, mode, increment))
-            } else {
-                None
-            }
-        }
+    let (name, parameter) = split_parameters(word);
+    let Some(parameter) = parameter else {
+        return plain_call(name);
+    };
+    if name == "concat" {
+        return Some(Call::Concatenate(parameter.as_bytes()));
     }
+    call_with(name, parameter)
 }

@@ -1,9 +1,9 @@
 //! The formatter that `format:LOCALE[:GROUPING|:SKELETON]` names.
-ghost use Rattle.std.specs.Prelude.{◌≡◌, IfOk, IfErr, IfSome, IfNone, true, false};
+ghost use Rattle.std.specs.Prelude.{◌≡◌, IfOk, IfErr, true, false};
 ghost use Rattle.std.specs.Option.{option_copied};
 ghost use Rattle.decimal_format.specs.declared.grouping.GroupingStrategy.{GroupingStrategy};
 ghost use Rattle.locale_data.specs.Locales.{IsLocale};
-ghost use Rattle.conversions.specs.FormatWord.{IsStrategyOption, stem_bytes, IsErrorOfSkeleton, IsErrorOfFormatter};
+ghost use Rattle.conversions.specs.FormatWord.{strategy_of, stem_bytes, IsErrorOfSkeleton, IsErrorOfFormatter};
 ghost use Rattle.conversions.specs.FormatWord.{IsNumberFormatter, NumberFormatterFails, IsUnknownLocale};
 ghost use Rattle.conversions.specs.FormatWord.{IsFormatWord, NamesFormatter, FormatterFails};
 ghost use Rattle.conversions.specs.ShownWord.{IsShown};
@@ -28,9 +28,7 @@ pub fn is_format_word(word: &str) -> bool
 
 /// Parses the option of `format:` as a grouping strategy.
 pub fn parse_strategy(option: Option<&str>) -> Option<GroupingStrategy>
-    ensures some { IfSome result (IsStrategyOption (option_copied option.entry)) }
-    ensures none { IfNone result
-        ((strategy : GroupingStrategy) → ¬ IsStrategyOption (option_copied option.entry) strategy) }
+    ensures { result ≡ strategy_of (option_copied option.entry) }
 {
     match option {
         None | Some("auto") => Some(GroupingStrategy::Auto),

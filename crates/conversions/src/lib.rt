@@ -23,5 +23,5 @@ pub use format_word::{is_format_word, parse_formatter, parse_strategy};
 pub use locale_formatter::LocaleFormatter;
 pub use named_rules::{NamedRulesError, locale_and_type, parse_rules};
 pub use read_word::{is_read_word, parse_reader, split_mode};
-pub use reader::{DecimalReader, LocaleReader, SkeletonReader};
+pub use reader::{DecimalReader, LocaleReader};
 pub use shown_word::ShownWord;

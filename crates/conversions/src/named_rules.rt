@@ -1,11 +1,10 @@
 //! The plural rules that a word names: those of a locale, or those that the word is the text of.
 ghost use Rattle.std.specs.Prelude.{◌≡◌, ℕ, List, IfOk, IfErr, IfSome, IfNone};
-ghost use Rattle.std.specs.Option.{option_copied};
+ghost use Rattle.std.specs.Option.{option_copied, option_map};
 ghost use Rattle.std.specs.List.{list_all};
 ghost use Rattle.std.specs.Char.{is_ascii_alphabetic};
-ghost use Rattle.locale_data.specs.declared.plurals.PluralRuleType.{PluralRuleType};
 ghost use Rattle.conversions.specs.Parameters.{tag_of};
-ghost use Rattle.conversions.specs.NamedRules.{is_tag_byte, is_tag, IsTypeOption, NamesLocale, HasUnknownType, NamesRules, NamesNoRules};
+ghost use Rattle.conversions.specs.NamedRules.{is_tag_byte, is_tag, type_of, named_type, HasUnknownType, NamesRules, NamesNoRules};
 
 use crate::parameters::split_parameters;
 use crate::shown_word::ShownWord;
@@ -46,9 +45,7 @@ fn is_tag(text: &str) -> bool
 }
 
 fn parse_type(option: Option<&str>) -> Option<PluralRuleType>
-    ensures some { IfSome result (IsTypeOption (option_copied option.entry)) }
-    ensures none { IfNone result
-        ((rule_type : PluralRuleType) → ¬ IsTypeOption (option_copied option.entry) rule_type) }
+    ensures { result ≡ type_of (option_copied option.entry) }
 {
     match option {
         None | Some("cardinal") => Some(PluralRuleType::Cardinal),
@@ -59,8 +56,8 @@ fn parse_type(option: Option<&str>) -> Option<PluralRuleType>
 
 /// Splits `LOCALE`, `LOCALE:cardinal` or `LOCALE:ordinal`. Returns `None` for other words.
 pub fn locale_and_type(word: &str) -> Option<(&str, PluralRuleType)>
-    ensures some { IfSome result (λ found. (found.0.now ≡ tag_of word.now) × NamesLocale word.now found.1) }
-    ensures none { IfNone result ((rule_type : PluralRuleType) → ¬ NamesLocale word.now rule_type) }
+    ensures tag { IfSome result (λ found. found.0.now ≡ tag_of word.now) }
+    ensures rule_type { option_map (λ found. found.1) result ≡ named_type word.now }
 {
     let (tag, option) = split_parameters(word);
     if !is_tag(tag) {

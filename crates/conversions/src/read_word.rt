@@ -4,13 +4,13 @@ ghost use Rattle.std.specs.Option.{option_copied};
 ghost use Rattle.locale_data.specs.Locales.{IsLocale};
 ghost use Rattle.number_format.specs.NumberReading.{CanRead, number_reader_of};
 ghost use Rattle.conversions.specs.FormatWord.{IsUnknownLocale};
-ghost use Rattle.conversions.specs.ReadWord.{IsReadOption, IsErrorOfReader, IsNumberReader, SkeletonReaderFails};
+ghost use Rattle.conversions.specs.ReadWord.{read_option, IsErrorOfReader, IsNumberReader, SkeletonReaderFails};
 ghost use Rattle.conversions.specs.ReadWord.{IsReadWord, NamesReader, ReaderFails};
 
 use crate::error::FormError;
 use crate::format_word::number_formatter;
 use crate::parameters::{parameters, split_parameters};
-use crate::reader::{DecimalReader, LocaleReader, SkeletonReader};
+use crate::reader::{DecimalReader, LocaleReader};
 use crate::shown_word::ShownWord;
 use locale_data::locale;
 use number_format::{NumberFormatter, NumberReader, NumberReaderError, ParseMode};
@@ -26,7 +26,7 @@ pub fn is_read_word(word: &str) -> bool
 
 /// Splits the option of `read:` into the mode and the skeleton.
 pub fn split_mode(option: Option<&str>) -> (ParseMode, Option<&str>)
-    ensures { IsReadOption (option_copied option.entry) result.0 (option_copied result.1) }
+    ensures { (result.0, option_copied result.1) ≡ read_option (option_copied option.entry) }
 {
     let Some(text) = option else {
         return (ParseMode::Strict, None);
@@ -50,18 +50,12 @@ fn number_reader(alloc: Global, formatter: NumberFormatter) -> Result<NumberRead
     }
 }
 
-fn skeleton_reader(
-    alloc: Global,
-    tag: &str,
-    skeleton: &str,
-    mode: ParseMode,
-) -> Result<SkeletonReader, FormError>
-    ensures ok { IfOk result (λ r. (r.mode ≡ mode) × IsNumberReader tag.now skeleton.now r.reader) }
+fn skeleton_reader(alloc: Global, tag: &str, skeleton: &str) -> Result<NumberReader, FormError>
+    ensures ok { IfOk result (IsNumberReader tag.now skeleton.now) }
     ensures err { IfErr result (SkeletonReaderFails tag.now skeleton.now) }
 {
     let formatter = number_formatter(tag, skeleton)?;
-    let reader = number_reader(alloc, formatter)?;
-    Ok(SkeletonReader { reader, mode })
+    number_reader(alloc, formatter)
 }
 
 fn decimal_reader(tag: &str, mode: ParseMode) -> Result<DecimalReader<'static>, FormError>
@@ -102,6 +96,6 @@ pub fn parse_reader(
     if skeleton.is_empty() {
         return Err(FormError::NoSuchWord(ShownWord::of(word)));
     }
-    let reader = skeleton_reader(alloc, tag, skeleton, mode)?;
-    Ok(Some(LocaleReader::Numbers(reader)))
+    let reader = skeleton_reader(alloc, tag, skeleton)?;
+    Ok(Some(LocaleReader::Numbers(reader, mode)))
 }

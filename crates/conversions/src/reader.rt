@@ -43,39 +43,12 @@ impl<'a> DecimalReader<'a> {
     }
 }
 
-/// Reads numbers as a formatter writes them, with their unit.
-#[derive(Drop)]
-pub struct SkeletonReader {
-    /// The reader of the formatter.
-    pub reader: NumberReader,
-    /// How strictly a text is read.
-    pub mode: ParseMode,
-}
-
-impl SkeletonReader {
-    ghost use Rattle.conversions.specs.Reader.{IsNumberRead, NumberReadingFails};
-
-    /// Reads a number.
-    ///
-    /// # Errors
-    ///
-    /// - `Syntax`: no decimal, of any number of digits, has this text in this mode.
-    /// - `Limit`: there are more than 32,768 integer or fraction digits, or the scale leaves these limits.
-    /// - `Memory`: out of memory; possible only with more than 16 digits.
-    pub fn read(&self, alloc: Global, text: &[u8]) -> Result<Decimal, ParseError>
-        ensures found { IfOk result (λ v. IsNumberRead self.now.mode self.now.reader text.now (Ok v)) }
-        ensures fails_with { IfErr result (NumberReadingFails self.now.mode self.now.reader text.now) }
-    {
-        self.reader.read_utf8(alloc, self.mode, text)
-    }
-}
-
 /// Reads decimals in the form of a locale.
 pub enum LocaleReader<'a> {
     /// With all digits.
     Decimals(DecimalReader<'a>),
-    /// As a number skeleton has them.
-    Numbers(SkeletonReader),
+    /// As a formatter of numbers writes them, with their unit.
+    Numbers(NumberReader, ParseMode),
 }
 
 // Not derived: a derived drop is proved again wherever a value is dropped.
@@ -83,7 +56,7 @@ impl<'a> Drop for LocaleReader<'a> {
     fn drop(self) {
         match self {
             LocaleReader::Decimals(_) => {}
-            LocaleReader::Numbers(reader) => drop(reader),
+            LocaleReader::Numbers(reader, _) => drop(reader),
         }
     }
 }
@@ -96,7 +69,9 @@ impl<'a> LocaleReader<'a> {
     ///
     /// # Errors
     ///
-    /// As [`DecimalReader::read`], [`SkeletonReader::read`].
+    /// - `Syntax`: no decimal, of any number of digits, has this text in this mode.
+    /// - `Limit`: there are more than 32,768 integer or fraction digits, or a scale leaves these limits.
+    /// - `Memory`: out of memory; possible only with more than 16 digits.
     #[inline]
     pub fn read(&self, alloc: Global, text: &[u8]) -> Result<Decimal, ParseError>
         ensures found { IfOk result (λ v. IsReadBy (Some self.now) text.now (Ok v)) }
@@ -104,7 +79,7 @@ impl<'a> LocaleReader<'a> {
     {
         match self {
             LocaleReader::Decimals(reader) => reader.read(alloc, text),
-            LocaleReader::Numbers(reader) => reader.read(alloc, text),
+            LocaleReader::Numbers(reader, mode) => reader.read_utf8(alloc, *mode, text),
         }
     }
 }

@@ -5,8 +5,7 @@ use Rattle.decimal_format.specs.Symbols.{Symbols}
 use Rattle.locale_data.specs.Locales.{IsLocale, IsUnknown}
 use Rattle.conversions.specs.declared.reader.LocaleReader.{LocaleReader}
 use Rattle.conversions.specs.declared.reader.LocaleReader.TheVariants.{Decimals, Numbers}
-use Rattle.conversions.specs.declared.reader.SkeletonReader.{SkeletonReader}
-use Rattle.number_format.specs.NumberReading.{CanRead, number_reader_of}
+use Rattle.number_format.specs.NumberReading.{CanRead, NumberReader, number_reader_of}
 use Rattle.number_format.specs.declared.format.formatter.NumberFormatter.{NumberFormatter}
 use Rattle.number_format.specs.declared.read.number_reader.ParseMode.{ParseMode}
 use Rattle.number_format.specs.declared.read.number_reader.ParseMode.TheVariants.{Strict, Lenient}
@@ -76,11 +75,11 @@ SkeletonFormFails error form texts =
     ⊎ ((skeleton : List ℕ) × IsPart texts form.skeleton_start form.skeleton_count skeleton
     × TagFails error form texts skeleton)
 
--- the reader of that formatter, in the mode of a form
-abbrev pub IsSkeletonReader : FdForm → List ℕ → SkeletonReader → Type 0
-IsSkeletonReader form texts r =
-    ((f : NumberFormatter) × IsSkeletonFormatter form texts f × CanRead f × (r.reader ≡ number_reader_of f))
-    × (form.option ≡ reading_code r.mode)
+-- the reader of that formatter, and the mode of a form
+abbrev pub IsSkeletonReader : FdForm → List ℕ → NumberReader → ParseMode → Type 0
+IsSkeletonReader form texts r mode =
+    ((f : NumberFormatter) × IsSkeletonFormatter form texts f × CanRead f × (r ≡ number_reader_of f))
+    × (form.option ≡ reading_code mode)
 
 -- no mode has the code of a form, or one has and the formatter has no reader
 abbrev pub ModeOrReaderFails : FdError → FdForm → NumberFormatter → Type 0
@@ -99,7 +98,7 @@ abbrev pub IsReaderOf : FdForm → List ℕ → Option LocaleReader → Type 0
 IsReaderOf form texts None = (form.skeleton_count ≡ 0) × AreSymbolsOf form texts None
 IsReaderOf form texts (Some (Decimals r)) =
     (form.skeleton_count ≡ 0) × AreSymbolsOf form texts (Some r.symbols) × (form.option ≡ reading_code r.mode)
-IsReaderOf form texts (Some (Numbers r)) = (form.skeleton_count ≢ 0) × IsSkeletonReader form texts r
+IsReaderOf form texts (Some (Numbers r mode)) = (form.skeleton_count ≢ 0) × IsSkeletonReader form texts r mode
 
 -- there is no such reader
 abbrev pub ReaderFails : FdError → FdForm → List ℕ → Type 0

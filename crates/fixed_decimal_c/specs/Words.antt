@@ -1,13 +1,12 @@
 -- The words of the programs, as C receives them.
-use Rattle.std.specs.Prelude.{◌≡◌, ◌≢◌, ◌⊎◌, ℕ, ◌+◌, List, [], ◌++◌, Option, Some, None, Result, Ok, Err}
+use Rattle.std.specs.Prelude.{◌≡◌, ◌≢◌, ◌⊎◌, ℕ, ◌+◌, List, [], ◌++◌, Option, Some, None, IsSome, IsSomeAnd, Result, Ok, Err}
 use Rattle.std.specs.Str.{IsUtf8}
 use Rattle.fixed_decimal.specs.declared.runs.Call.{Call}
-use Rattle.decimal_format.specs.declared.grouping.GroupingStrategy.{GroupingStrategy}
 use Rattle.number_format.specs.declared.read.number_reader.ParseMode.{ParseMode}
-use Rattle.conversions.specs.Calls.{Names}
-use Rattle.conversions.specs.FormatWord.{IsStrategyOption, IsSkeletonOption}
+use Rattle.conversions.specs.Calls.{call_of, Names}
+use Rattle.conversions.specs.FormatWord.{strategy_of, IsSkeletonOption}
 use Rattle.conversions.specs.Parameters.{locale_tag, locale_option}
-use Rattle.conversions.specs.ReadWord.{IsReadOption}
+use Rattle.conversions.specs.ReadWord.{read_option}
 use Rattle.conversions.specs.FormatWord.{IsFormatWord}
 use Rattle.conversions.specs.ReadWord.{IsReadWord}
 use Rattle.fixed_decimal_c.specs.declared.calls.FdCall.{FdCall}
@@ -72,29 +71,24 @@ IsFormIn word mode (Some skeleton) form = IsSkeletonForm word skeleton (reading_
 -- `read:..` has this form
 abbrev pub IsReadForm : List ℕ → FdForm → Type 0
 IsReadForm word form =
-    (mode : ParseMode) × (skeleton : Option (List ℕ)) × IsReadOption (locale_option word) mode skeleton
-    × IsFormIn word mode skeleton form
+    IsFormIn word (read_option (locale_option word)).0 (read_option (locale_option word)).1 form
 
 -- `read:..` has no form: the skeleton is empty; or there is none, and the tag is empty
 abbrev pub ReadFormFails : FdError → List ℕ → Type 0
-ReadFormFails (UnknownCall at) word =
-    (at ≡ 0) × ((mode : ParseMode) × IsReadOption (locale_option word) mode (Some []))
-ReadFormFails UnknownLocale word =
-    HasNoTag word × ((mode : ParseMode) × IsReadOption (locale_option word) mode None)
+ReadFormFails (UnknownCall at) word = (at ≡ 0) × ((read_option (locale_option word)).1 ≡ Some [])
+ReadFormFails UnknownLocale word = HasNoTag word × ((read_option (locale_option word)).1 ≡ None)
 ReadFormFails error word = ⊥
 
 -- `format:..` has this form, by a grouping strategy or by a skeleton
 abbrev pub IsFormatForm : List ℕ → FdForm → Type 0
 IsFormatForm word form =
-    ((strategy : GroupingStrategy) × IsStrategyOption (locale_option word) strategy
-    × IsTagForm word (grouping_code strategy) form)
+    IsSomeAnd (strategy_of (locale_option word)) (λ strategy. IsTagForm word (grouping_code strategy) form)
     ⊎ ((skeleton : List ℕ) × IsSkeletonOption (locale_option word) skeleton × IsSkeletonForm word skeleton 0 form)
 
 -- `format:..` has no form: the option is empty; or it is that of a strategy, and the tag is empty
 abbrev pub FormatFormFails : FdError → List ℕ → Type 0
 FormatFormFails (UnknownCall at) word = (at ≡ 0) × (locale_option word ≡ Some [])
-FormatFormFails UnknownLocale word =
-    HasNoTag word × ((strategy : GroupingStrategy) × IsStrategyOption (locale_option word) strategy)
+FormatFormFails UnknownLocale word = HasNoTag word × IsSome (strategy_of (locale_option word))
 FormatFormFails error word = ⊥
 
 -- ---- Words.
@@ -127,7 +121,7 @@ IsCallAnswer word answer =
 abbrev pub IsNoWord : List ℕ → Type 0
 IsNoWord word =
     (IsUtf8 word → ⊥)
-    ⊎ ((IsReadWord word → ⊥) × (IsFormatWord word → ⊥) × ((call : Call) → Names word call → ⊥))
+    ⊎ ((IsReadWord word → ⊥) × (IsFormatWord word → ⊥) × (call_of word ≡ None))
 
 -- what C receives for these bytes
 abbrev pub IsWord : List ℕ → FdWord → Type 0

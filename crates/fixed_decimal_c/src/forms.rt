@@ -10,10 +10,10 @@ use crate::format::formatter_by_skeleton;
 use crate::locales::symbols_of_number;
 use crate::number_options::grouping;
 use crate::read::number_reader;
-use conversions::{DecimalReader, LocaleReader, SkeletonReader};
+use conversions::{DecimalReader, LocaleReader};
 use decimal_format::{DecimalFormatter, DecimalSymbols};
 use locale_data::locale;
-use number_format::{NumberFormatter, ParseMode};
+use number_format::{NumberFormatter, NumberReader, ParseMode};
 use std::alloc::Global;
 use std::str;
 
@@ -122,8 +122,12 @@ fn symbols(form: &FdForm, texts: &[u8]) -> Result<Option<DecimalSymbols<'static>
     }
 }
 
-fn skeleton_reader(alloc: Global, form: &FdForm, texts: &[u8]) -> Result<SkeletonReader, FdError>
-    ensures ok { IfOk result (IsSkeletonReader form.now texts.now) }
+fn skeleton_reader(
+    alloc: Global,
+    form: &FdForm,
+    texts: &[u8],
+) -> Result<(NumberReader, ParseMode), FdError>
+    ensures ok { IfOk result (λ found. IsSkeletonReader form.now texts.now found.0 found.1) }
     ensures err { IfErr result (λ error. SkeletonReaderFails error form.now texts.now) }
 {
     let formatter = skeleton_formatter(form, texts)?;
@@ -131,7 +135,7 @@ fn skeleton_reader(alloc: Global, form: &FdForm, texts: &[u8]) -> Result<Skeleto
         return Err(FdError::UnknownOption);
     };
     match number_reader(alloc, formatter) {
-        Ok(reader) => Ok(SkeletonReader { reader, mode }),
+        Ok(reader) => Ok((reader, mode)),
         Err(error) => Err(error),
     }
 }
@@ -147,7 +151,7 @@ pub(crate) fn reader(
 {
     if form.skeleton_count > 0 {
         return match skeleton_reader(alloc, form, texts) {
-            Ok(reader) => Ok(Some(LocaleReader::Numbers(reader))),
+            Ok((reader, mode)) => Ok(Some(LocaleReader::Numbers(reader, mode))),
             Err(error) => Err(error),
         };
     }

@@ -92,13 +92,13 @@ fn split_fields(words: &[String]) -> (&[String], &[String])
 fn any_name(fields: &[NamedField<'_>]) -> bool
     ensures { result ≡ any_name fields.now }
 {
-    fields.iter().any(|it| it.column.is_name())
+    fields.iter().any(|field| field.column.is_name())
 }
 
 fn has_column(fields: &[NamedField<'_>], column: Column<'_>) -> bool
     ensures { result ≡ has_column fields.now column.entry }
 {
-    fields.iter().any(|it| it.column.is_same(column))
+    fields.iter().any(|field| field.column.is_same(column))
 }
 
 /// Returns the index of a field by its number, if no other field follows.
@@ -115,7 +115,8 @@ fn only_index(column: Column<'_>, others: &[String]) -> Option<usize>
 /// Splits off the words of the first field. None: there are no words.
 fn first_group(words: &[String]) -> Option<Group<'_>>
     requires { BeginsWithField words.now }
-    ensures some { IfSome result (λ it. IsGroup words.now it.word.now it.column it.own.now it.others.now) }
+    ensures some { IfSome result
+        (λ group. IsGroup words.now group.word.now group.column group.own.now group.others.now) }
     ensures none { result ≡ None → words.now ≡ [] }
 {
     let (first, rest) = words.split_first()?;

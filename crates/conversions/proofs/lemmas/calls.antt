@@ -1,5 +1,6 @@
+pub mod Concatenations
+pub mod Lookups
 pub mod Numerals
 pub mod Results
-pub mod RoundingWord
 pub mod ShownWords
 pub mod UnknownTypes

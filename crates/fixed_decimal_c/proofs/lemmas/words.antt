@@ -1,3 +1,4 @@
+pub mod CallWords
 pub mod WordParts
 pub mod JoinedWords
 pub mod KindsOfWords

@@ -1,6 +1,7 @@
-use Rattle.std.proofs.Common.{◌≡◌, ◌∙◌, [], Some, inl, refl, sym, ap, arith}
+use Rattle.std.proofs.Common.{◌≡◌, ◌∙◌, [], Some, inl, sym, ap, arith}
 use Rattle.std.specs.Option.{option_copied}
 use Rattle.std.proofs.lemmas.List.{nil_from_length}
+use Rattle.std.proofs.lemmas.Option.{none-some}
 use Rattle.decimal_format.specs.declared.grouping.GroupingStrategy.TheVariants.{Auto}
 use Rattle.conversions.specs.Parameters.{option_of, locale_option}
 use Rattle.conversions.proofs.format_word.parse_formatter.Goals.{in_default-option-via-in-Some-option+else-not-is_empty, in_default-option-via-in_default-option}
@@ -18,5 +19,5 @@ returns-in_default-option-clause-err c =
           option ∙ ap option_copied w.in-Some-option.is ∙ ap Some empty in
           rw c.in-Some.is (inl (given, c.of.ensures))
       | in_default-option-via-in_default-option w ↦
-          absurd ((rw w.in_default-option.is at c.in_default-parse_strategy.ensures.none) Auto refl)
+          absurd (none-some Auto (rw w.in_default-option.is at c.in_default-parse_strategy.ensures))
     ]

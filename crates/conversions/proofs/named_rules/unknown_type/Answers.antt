@@ -1,8 +1,8 @@
-use Rattle.std.proofs.Common.{◌≡◌, ◌≢◌, [], Some, true, sym, ap, subst, ◌∙◌, arith}
+use Rattle.std.proofs.Common.{◌≡◌, ◌≢◌, [], Some, true, sym, ap, ◌∙◌, arith}
 use Rattle.std.specs.Option.{option_copied}
 use Rattle.std.specs.List.{list_all}
 use Rattle.std.specs.Char.{is_ascii_alphabetic}
-use Rattle.conversions.specs.NamedRules.{is_tag, IsTypeOption}
+use Rattle.conversions.specs.NamedRules.{is_tag, type_of}
 use Rattle.conversions.specs.Parameters.{tag_of}
 use Rattle.conversions.proofs.named_rules.unknown_type.Goals as goal
 
@@ -19,6 +19,5 @@ returns-in-None-clause-some c =
       sym c.split_parameters.ensures.option ∙ copied,
       some,
       all,
-      λ rule_type same.
-          c.in-None.ensures.none rule_type (subst (λ o. IsTypeOption o rule_type) (sym copied) same),
+      sym (c.in-None.ensures ∙ ap type_of copied),
     )

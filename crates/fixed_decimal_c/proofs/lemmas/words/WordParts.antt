@@ -1,14 +1,15 @@
 -- The parts of a word: its tag, its option and its skeleton.
-use Rattle.std.proofs.Common.{◌≡◌, ℕ, ◌+◌, ◌-◌, ◌≤◌, true, false, List, [], ◌++◌, length, take, drop, Option, Some, None, refl, sym, subst, ap, ◌∙◌, append_assoc, arith, length-append}
+use Rattle.std.proofs.Common.{◌≡◌, ℕ, ◌+◌, ◌-◌, ◌<◌, ◌≤◌, Bool, true, false, codes, List, [], ◌++◌, length, take, drop, Option, Some, None, refl, sym, subst, ap, ◌∙◌, append_assoc, arith, length-append}
 use Rattle.std.specs.Prelude.{if◌then◌else◌, unwrap_or}
 use Rattle.std.specs.List.{list_any, after_first, position_or_len}
+use Rattle.std.specs.Str.{bytes_eq}
 use Rattle.std.proofs.Math.Seq.{drop-append_seam, take-length}
 use Rattle.std.proofs.lemmas.List.{take-append-drop, append-nil, length-take, take_min}
-use Rattle.std.proofs.lemmas.Option.{none-some}
+use Rattle.std.proofs.lemmas.Option.{none-some, same_Some}
 use Rattle.number_format.specs.declared.read.number_reader.ParseMode.{ParseMode}
 use Rattle.number_format.specs.declared.read.number_reader.ParseMode.TheVariants.{Strict, Lenient}
-use Rattle.conversions.specs.Parameters.{is_colon, option_of, parameters_of, locale_tag, locale_option}
-use Rattle.conversions.specs.ReadWord.{IsReadOption}
+use Rattle.conversions.specs.Parameters.{is_colon, tag_of, option_of, parameters_of, locale_tag, locale_option}
+use Rattle.conversions.specs.ReadWord.{read_option}
 use Rattle.fixed_decimal_c.specs.Calls.{IsPart}
 use Rattle.fixed_decimal_c.specs.Words.{IsSuffix}
 
@@ -77,17 +78,21 @@ option_of_word word option e =
 
 -- the skeleton of an option of `read:`
 skeleton_of_option :
-    (text skeleton : List ℕ) (option : Option (List ℕ)) (mode : ParseMode) → option_of text ≡ option
-    → IsReadOption option mode (Some skeleton) → IsSuffix skeleton text
-skeleton_of_option text skeleton None mode e (_, none) = absurd (none-some skeleton (sym none))
-skeleton_of_option text skeleton (Some option) Lenient e (_, is) =
-    suffix_of_suffix skeleton option text (option_suffix option skeleton (sym is)) (option_suffix text option e)
-skeleton_of_option text skeleton (Some option) Strict e (_, is) =
-    option_suffix text skeleton (e ∙ sym is)
+    (text skeleton : List ℕ) (option : Option (List ℕ)) → option_of text ≡ option
+    → (read_option option).1 ≡ Some skeleton → IsSuffix skeleton text
+skeleton_of_option text skeleton None e is = absurd (none-some skeleton is)
+skeleton_of_option text skeleton (Some option) e is =
+    suffix_of_suffix skeleton option text (by (bytes_eq (tag_of option) (codes "lenient")) is)
+    (option_suffix text option e)
+  where
+    by : (b : Bool)
+        → (if◌then◌else◌ {A = ParseMode × Option (List ℕ)} b (Lenient, option_of option) (Strict, Some option)).1
+        ≡ Some skeleton → IsSuffix skeleton option
+    by true is = option_suffix option skeleton is
+    by false is = ([], same_Some _ _ is)
 
 pub skeleton_of_word :
-    (word skeleton : List ℕ) (mode : ParseMode) → IsReadOption (locale_option word) mode (Some skeleton)
-    → IsSuffix skeleton word
-skeleton_of_word word skeleton mode h =
+    (word skeleton : List ℕ) → (read_option (locale_option word)).1 ≡ Some skeleton → IsSuffix skeleton word
+skeleton_of_word word skeleton is =
     suffix_of_suffix skeleton (parameters_of word) word
-    (skeleton_of_option (parameters_of word) skeleton (locale_option word) mode refl h) (parameters_suffix word)
+    (skeleton_of_option (parameters_of word) skeleton (locale_option word) refl is) (parameters_suffix word)

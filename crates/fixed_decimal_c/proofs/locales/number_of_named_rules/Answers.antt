@@ -1,4 +1,4 @@
-use Rattle.std.proofs.Common.{◌≡◌, Ok, Err, subst, rules}
+use Rattle.std.proofs.Common.{◌≡◌, Ok, Err, sym, subst, rules}
 use Rattle.std.specs.Prelude.{IsSomeAnd}
 use Rattle.locale_data.specs.Plurals.{rules_text_at, IsRulesText, HasNoRules}
 use Rattle.fixed_decimal_c.specs.declared.error.FdError.TheVariants.{UnknownLocale}
@@ -8,7 +8,8 @@ use Rattle.fixed_decimal_c.proofs.locales.number_of_named_rules.Goals as goal
 
 pub returns-in-Some-plural_rules_id : goal.returns-in-Some-plural_rules_id
 returns-in-Some-plural_rules_id c =
-    let (is, names) = c.in-Some.ensures.some in
+    let is = c.in-Some.ensures.tag in
+    let names = sym c.in-Some.ensures.rule_type in
     let rule_type = c.in-Some.rule_type in
     let found = c.in-Some-plural_rules_id.rules in
     let same : c.in-Ok.word.now ≡ c.args.word.now = search rules in
@@ -19,7 +20,8 @@ returns-in-Some-plural_rules_id c =
 
 pub returns-in-None : goal.returns-in-None
 returns-in-None c =
-    let (is, names) = c.in-Some.ensures.some in
+    let is = c.in-Some.ensures.tag in
+    let names = sym c.in-Some.ensures.rule_type in
     let same : c.in-Ok.word.now ≡ c.args.word.now = search rules in
     subst (IsNamedRulesNumber (Err UnknownLocale)) same
     (c.in-Some.rule_type, names, subst HasNoRules is c.in-None.ensures.unknown)

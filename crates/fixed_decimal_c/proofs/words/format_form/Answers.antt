@@ -1,5 +1,6 @@
-use Rattle.std.proofs.Common.{◌≡◌, Some, refl, sym, ap, ◌∙◌}
+use Rattle.std.proofs.Common.{◌≡◌, Some, sym, ap, ◌∙◌}
 use Rattle.std.specs.Option.{option_copied}
+use Rattle.std.proofs.lemmas.Option.{none-some}
 use Rattle.decimal_format.specs.declared.grouping.GroupingStrategy.TheVariants.{Auto}
 use Rattle.conversions.specs.Parameters.{option_of, locale_option}
 use Rattle.fixed_decimal_c.proofs.lemmas.words.WordParts.{option_of_word}
@@ -16,5 +17,4 @@ skeleton_form-requires c =
 
 pub returns-in-None-clause-err : goal.returns-in-None-clause-err
 returns-in-None-clause-err c =
-    let none = rw c.in-None.is at c.in_default.ensures.none in
-    absurd (none Auto refl)
+    absurd (none-some Auto (rw c.in-None.is at c.in_default.ensures))

@@ -1,4 +1,4 @@
-use Rattle.std.proofs.Common.{[], ◌∷◌, ◌++◌, length, refl, string_bytes}
+use Rattle.std.proofs.Common.{[], ◌∷◌, ◌++◌, length, refl, sym, string_bytes}
 use Rattle.std.proofs.lemmas.Option.{slice_get_read}
 use Rattle.conversions.specs.Calls.{Names}
 use Rattle.cli.specs.Calls.{IsUnknown}
@@ -8,7 +8,7 @@ use Rattle.cli.proofs.words.calls.first_error.Goals as goal
 pub returns-in_default-clause-some : goal.returns-in_default-clause-some
 returns-in_default-clause-some c =
     let word = c.index-words-index.result in
-    let unknown : IsUnknown word = rw (← c.as_str.ensures.value) c.in_default.ensures.none in
+    let unknown : IsUnknown word = sym (rw c.as_str.ensures.value at c.in_default.ensures) in
     let is = slice_get_read c.args.words.now (length c.args.words.now) c.loop-index.index word refl
     c.loop-index-test.true c.index-words-index.is in (
       c.loop-index.index,
@@ -21,7 +21,7 @@ pub loop-index-preserved : goal.loop-index-preserved
 loop-index-preserved c =
     let word = c.index-words-index.result in
     let (calls, names) = c.loop-index.invariant in
-    let named : Names (string_bytes word) c.in-Some.field-0 = rw c.as_str.ensures.value at c.in-Some.ensures.some in (
+    let named : Names (string_bytes word) c.in-Some.field-0 = sym (rw c.as_str.ensures.value at c.in-Some.ensures) in (
       calls ++ (c.in-Some.field-0 ∷ []),
       rw (taken c.args.words.now c.loop-index.index word c.loop-index-test.true c.index-words-index.is)
           (names_more _ calls word c.in-Some.field-0 names named),

@@ -1,4 +1,4 @@
-use Rattle.std.proofs.Common.{length, refl, inl, string_bytes, arith}
+use Rattle.std.proofs.Common.{length, refl, sym, inl, string_bytes, arith}
 use Rattle.std.proofs.lemmas.Option.{slice_get_read}
 use Rattle.conversions.specs.Calls.{Names}
 use Rattle.cli.specs.Calls.{IsUnknown}
@@ -8,7 +8,7 @@ use Rattle.cli.proofs.words.calls.parse_calls.Goals as goal
 pub returns-in_default-call-clause-err : goal.returns-in_default-call-clause-err
 returns-in_default-call-clause-err c =
     let word = c.index-words-index.result in
-    let unknown : IsUnknown word = rw (← c.as_str.ensures.value) c.in_default-call.ensures.none in
+    let unknown : IsUnknown word = sym (rw c.as_str.ensures.value at c.in_default-call.ensures) in
     let is = slice_get_read c.args.words.now (length c.args.words.now) c.loop-index.index word refl
     c.loop-index-test.true c.index-words-index.is in
     inl (
@@ -22,7 +22,8 @@ pub loop-index-preserved : goal.loop-index-preserved
 loop-index-preserved c =
     let w = c.index-words-index.result in
     let t = taken c.args.words.now c.loop-index.index w c.loop-index-test.true c.index-words-index.is in
-    let named : Names (string_bytes w) c.in-Some-call.call = rw c.as_str.ensures.value at c.in-Some-call.ensures.some in
+    let named : Names (string_bytes w) c.in-Some-call.call =
+    sym (rw c.as_str.ensures.value at c.in-Some-call.ensures) in
     let capacity = c.push_reserved.ensures.capacity in
     record {
       names = rw (t, c.push_reserved.ensures.items)

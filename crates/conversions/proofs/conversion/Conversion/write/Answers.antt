@@ -1,11 +1,13 @@
 use Rattle.std.proofs.Common.{◌≡◌, List, ℕ, Some, None, Option, Result, IfErr, refl, rules}
 use Rattle.decimal_digits.specs.AppendsPrefix.{AppendsPrefix}
 use Rattle.fixed_decimal.specs.Decimal.{Decimal}
+use Rattle.fixed_decimal.specs.DecimalText.{decimal_text}
+use Rattle.decimal_format.specs.Formatted.{formatted}
 use Rattle.conversions.specs.declared.error.OperationError.{OperationError}
 use Rattle.conversions.specs.declared.error.OperationError.TheVariants.{Output}
 use Rattle.conversions.specs.declared.locale_formatter.LocaleFormatter.{LocaleFormatter}
 use Rattle.conversions.specs.declared.locale_formatter.LocaleFormatter.TheVariants.{AllDigits, Skeleton}
-use Rattle.conversions.specs.Conversion.{HasTextBy, text_by}
+use Rattle.conversions.specs.Conversion.{HasTextBy}
 use Rattle.conversions.proofs.lemmas.conversion.Conversions.{text_fails, text_begun}
 use Rattle.conversions.proofs.conversion.Conversion.write.Goals as goal
 
@@ -24,14 +26,14 @@ returns-in-Some-Skeleton-clause-prefix g c =
 pub returns-in-Some-AllDigits-clause-fails_with : goal.returns-in-Some-AllDigits-clause-fails_with
 returns-in-Some-AllDigits-clause-fails_with g c =
     let is : c.args.self.now.formatter ≡ Some (AllDigits c.in-Some-AllDigits.formatter) = search rules in
-    let text = text_by (Some c.in-Some-AllDigits.formatter) c.args.value in
-    rw is (text_fails (Some (AllDigits c.in-Some-AllDigits.formatter)) c.args.value text refl c.write_text.result
-    c.write_text.ensures.fails_with)
+    let f = c.in-Some-AllDigits.formatter in
+    rw is (text_fails (Some (AllDigits f)) c.args.value (formatted f.symbols f.strategy c.args.value) refl
+    c.write_text.result c.write_text.ensures.fails_with)
 
 pub returns-in-None-clause-fails_with : goal.returns-in-None-clause-fails_with
 returns-in-None-clause-fails_with g c =
     let is : c.args.self.now.formatter ≡ None = search rules in
-    rw is (text_fails None c.args.value (text_by None c.args.value) refl c.write_text-in-None.result
+    rw is (text_fails None c.args.value (decimal_text c.args.value) refl c.write_text-in-None.result
     c.write_text-in-None.ensures.fails_with)
 
 pub returns-in-None-clause-prefix : goal.returns-in-None-clause-prefix
@@ -39,7 +41,7 @@ returns-in-None-clause-prefix g c =
     let is : c.args.self.now.formatter ≡ None = search rules in
     let contents = g.W.Sink.contents in
     begun_by _ _ c.args.value c.write_text-in-None.result _ is
-    (text_begun None c.args.value (text_by None c.args.value) refl c.write_text-in-None.result
+    (text_begun None c.args.value (decimal_text c.args.value) refl c.write_text-in-None.result
     (AppendsPrefix (contents c.args.sink.now) (contents c.write_text-in-None.new.sink))
     c.write_text-in-None.ensures.prefix)
 
@@ -49,6 +51,6 @@ returns-in-Some-AllDigits-clause-prefix g c =
     let is : c.args.self.now.formatter ≡ Some (AllDigits f) = search rules in
     let contents = g.W.Sink.contents in
     begun_by _ _ c.args.value c.write_text.result _ is
-    (text_begun (Some (AllDigits f)) c.args.value (text_by (Some f) c.args.value) refl c.write_text.result
+    (text_begun (Some (AllDigits f)) c.args.value (formatted f.symbols f.strategy c.args.value) refl c.write_text.result
     (AppendsPrefix (contents c.args.sink.now) (contents c.write_text.new.sink))
     (search (rules, c.write_text.ensures.prefix)))
