@@ -4,14 +4,10 @@ use Rattle.decimal_unsigned.specs.{Edits.multiplied_pow10, declared.error.ParseE
 use Rattle.fixed_decimal.specs.{Decimal.{Decimal, with_absolute}, declared.variations.Sign.Sign}
 use Rattle.decimal_format.specs.{Alternatives.{IsNumeralOfFirst, IsWrittenOfFirst}, Formatted.absolute_text, Lenient.normalized, Readable.{BeginsWithDigit, EndsWithDigit}, Reading.{Numeral, AreDigits, IsRead, absolute_numeral_text, separated_by}, Symbols.{Symbols, Affixes}}
 use Rattle.decimal_format.specs.declared.{grouping.GroupingStrategy.GroupingStrategy, reader.alternatives.Alternative.Alternative}
-use Rattle.number_format.specs.declared.read.sign_affixes.SignAffixes.{SignAffixes}
+use Rattle.number_format.specs.declared.format.by_sign.BySign.{BySign}
+use Rattle.number_format.specs.PatternTexts.{by_sign}
 
 -- ---- Affixes.
-
-abbrev pub by_sign : SignAffixes → Sign → Affixes
-by_sign t Sign.None = t.none
-by_sign t Sign.Negative = t.negative
-by_sign t Sign.Positive = t.positive
 
 -- no text is both prefixes, each before a text that begins with a digit
 abbrev pub ArePrefixesApart : Symbols → List ℕ → List ℕ → Type 0
@@ -28,7 +24,7 @@ abbrev pub ArePairApart : Symbols → Affixes → Affixes → Type 0
 ArePairApart s a b = ArePrefixesApart s a.prefix b.prefix ⊎ AreSuffixesApart s a.suffix b.suffix
 
 -- the affixes around a number name its sign: those of each two signs are apart
-pub record AreNamed (s : Symbols) (t : SignAffixes) : Type 0 where
+pub record AreNamed (s : Symbols) (t : BySign Affixes) : Type 0 where
   pub pair : (x y : Sign) → x ≢ y → ArePairApart s (by_sign t x) (by_sign t y)
 
 -- ---- Texts.
@@ -36,7 +32,7 @@ pub record AreNamed (s : Symbols) (t : SignAffixes) : Type 0 where
 -- what texts are read with: symbols, affixes, and the power of ten by which the number shown is multiplied
 pub record Reader : Type 0 where
   pub symbols : Symbols
-  pub affixes : SignAffixes
+  pub affixes : BySign Affixes
   pub shift : ℤ
 
 -- a text between the affixes of a sign

@@ -3,24 +3,14 @@ use Rattle.std.specs.{Prelude.{◌≡◌, ◌≢◌, ℕ, ◌⊎◌, List, [], �
 use Rattle.decimal_unsigned.specs.declared.error.ParseError.{ParseError, TheVariants.Syntax}
 use Rattle.fixed_decimal.specs.{Decimal.Decimal, declared.variations.Sign.Sign}
 use Rattle.decimal_format.specs.{Readable.IsReadable, Symbols.{Affixes, affixes}, declared.reader.alternatives.Alternative.Alternative}
-use Rattle.number_format.specs.declared.{read.sign_affixes.SignAffixes.SignAffixes, format.affixes.StyleTexts.StyleTexts, format.formatter.NumberFormatter.NumberFormatter, options.{NumberNotation.NumberNotation, NumberStyle.NumberStyle}, read.number_reader.{NumberReaderError.NumberReaderError, ParseMode.{ParseMode, TheVariants.{Strict, Lenient}}}}
-use Rattle.number_format.specs.{AffixedTexts.{AreNamed, Reader, IsReadExactly, IsReadTyped}, NumberStyles.text_or_nothing, NumberText.{shown_number, shown_sign}, PatternTexts.pattern_around, Scaled.ScaledValue, TextParts.pieces_text}
+use Rattle.number_format.specs.declared.{format.affixes.StyleTexts.StyleTexts, format.formatter.NumberFormatter.NumberFormatter, options.{NumberNotation.NumberNotation, NumberStyle.NumberStyle}, read.number_reader.{NumberReaderError.NumberReaderError, ParseMode.{ParseMode, TheVariants.{Strict, Lenient}}}}
+use Rattle.number_format.specs.{AffixedTexts.{AreNamed, Reader, IsReadExactly, IsReadTyped}, NumberStyles.text_or_nothing, NumberText.{shown_number, shown_sign}, PatternTexts.{affixes_for, affixes_of_style}, Scaled.ScaledValue}
 
 -- ---- Exactly.
 
 -- the notation is `Standard`: no words and no exponent
 abbrev pub IsStandard : NumberFormatter → Type 0
 IsStandard f = f.options.notation ≡ NumberNotation.Standard
-
--- what is written around a number that is shown with a sign
-abbrev pub affixes_for : StyleTexts → Sign → Affixes
-affixes_for t s =
-    affixes (pieces_text (pattern_around t s).prefix) (pieces_text (pattern_around t s).suffix)
-
-abbrev pub affixes_of_style : StyleTexts → SignAffixes
-affixes_of_style t =
-    let by = affixes_for t in
-    record { none = by Sign.None; negative = by Sign.Negative; positive = by Sign.Positive }
 
 -- the reader of its texts, which undoes its scale
 abbrev pub reader_of : NumberFormatter → Reader

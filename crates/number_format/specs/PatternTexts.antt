@@ -1,9 +1,9 @@
 -- What a pattern writes before and after a number.
 use Rattle.std.specs.Prelude.{◌≡◌, ℕ, Bool, true, ◌&&◌, if◌then◌else◌, List, [], ◌∷◌, ◌++◌}
 use Rattle.fixed_decimal.specs.declared.variations.Sign.{Sign}
-use Rattle.decimal_format.specs.Symbols.{Symbols, sign_affixes}
+use Rattle.decimal_format.specs.Symbols.{Symbols, Affixes, affixes, sign_affixes}
 use Rattle.locale_data.specs.{Patterns.{literal_text, affixes_of}, declared.tables.rows.patterns.{Affix.Affix, Piece.Piece}}
-use Rattle.number_format.specs.{NumberStyles.{currency_text, ends_with_currency, begins_with_currency}, TextParts.{pieces_text, pieces_of}, declared.{format.affixes.{AffixTexts.AffixTexts, SignTexts.SignTexts, StyleTexts.StyleTexts}, format.text_part.PartKind.PartKind}}
+use Rattle.number_format.specs.{NumberStyles.{currency_text, ends_with_currency, begins_with_currency}, TextParts.{pieces_text, pieces_of}, declared.{format.affixes.StyleTexts.StyleTexts, format.by_sign.BySign.BySign, format.text_part.PartKind.PartKind}}
 use Rattle.number_format.specs.TextParts as parts
 
 pub record Around : Type 0 where
@@ -63,16 +63,18 @@ pattern_around t s =
     around (affix_pieces pieces prefix ++ space_if (ends_with_currency prefix && t.currency.space_after)) true
     (space_if (begins_with_currency suffix && t.currency.space_before) ++ affix_pieces pieces suffix)
 
--- the texts of the pieces around a number
-pub record AreAffixTexts (a : Around) (t : AffixTexts) : Type 0 where
-  pub prefix : t.prefix.bytes ≡ pieces_text a.prefix
-  pub suffix : t.suffix.bytes ≡ pieces_text a.suffix
+-- what is written around a number that is shown with a sign
+abbrev pub affixes_for : StyleTexts → Sign → Affixes
+affixes_for t s =
+    affixes (pieces_text (pattern_around t s).prefix) (pieces_text (pattern_around t s).suffix)
 
-abbrev pub texts_for : SignTexts → Sign → AffixTexts
-texts_for t Sign.None = t.none
-texts_for t Sign.Negative = t.negative
-texts_for t Sign.Positive = t.positive
+abbrev pub affixes_of_style : StyleTexts → BySign Affixes
+affixes_of_style t =
+    let by = affixes_for t in
+    record { none = by Sign.None; negative = by Sign.Negative; positive = by Sign.Positive }
 
--- those of each sign
-abbrev pub AreSignTexts : StyleTexts → SignTexts → Type 0
-AreSignTexts style t = (s : Sign) → AreAffixTexts (pattern_around style s) (texts_for t s)
+-- the value of a sign
+abbrev pub by_sign : {T : Type 0} → BySign T → Sign → T
+by_sign t Sign.None = t.none
+by_sign t Sign.Negative = t.negative
+by_sign t Sign.Positive = t.positive

@@ -1,5 +1,6 @@
 //! The text of a number in a locale.
 pub(crate) mod affixes;
+pub(crate) mod by_sign;
 mod compact;
 pub(crate) mod currency;
 mod exponent;
@@ -8,5 +9,6 @@ pub(crate) mod formatted_number;
 pub(crate) mod formatter;
 pub(crate) mod ids;
 pub(crate) mod parts;
+pub(crate) mod short_affixes;
 mod style;
 pub(crate) mod text_part;

@@ -1,4 +1,5 @@
 //! Reading of what a formatter writes.
 mod affix_reader;
+mod apart;
 pub(crate) mod number_reader;
-mod sign_affixes;
+mod owned_affixes;

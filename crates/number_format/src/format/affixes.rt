@@ -1,11 +1,13 @@
 //! What is written before and after the digits of a number.
-ghost use Rattle.std.specs.{Prelude.{◌≡◌, ◌≤◌, ◌&&◌, ◌++◌, length, IfSome, OnSome, OnOk, true}, Option.option_copied};
+ghost use Rattle.std.specs.{Prelude.{◌≡◌, ◌≤◌, ◌&&◌, ◌++◌, length, IsSome, IfSome, OnSome, OnOk, true}, Option.option_copied};
 ghost use Rattle.decimal_format.specs.Symbols.{affixes};
 ghost use Rattle.locale_data.specs.Compact.{has_texts, text_of, AreTexts};
-ghost use Rattle.number_format.specs.{NumberStyles.{ends_with_currency, begins_with_currency}, PatternTexts.{sign_kind, sign_pieces, pattern_kind, pattern_text, pattern_pieces, affix_pieces, pattern_around, space_if, texts_for, AreAffixTexts, AreSignTexts}, NumberText.{currency_if, is_empty, first_sign, last_sign, compact_around, compact_suffix, around_by, AreParts}, TextParts.{part_pieces, pieces_text}};
+ghost use Rattle.number_format.specs.{NumberStyles.{ends_with_currency, begins_with_currency}, PatternTexts.{sign_kind, sign_pieces, pattern_kind, pattern_text, pattern_pieces, affix_pieces, pattern_around, space_if, affixes_for, affixes_of_style}, NumberText.{currency_if, is_empty, first_sign, last_sign, compact_around, compact_suffix, around_by, AreParts}, TextParts.{part_pieces, pieces_text}};
 
+use crate::format::by_sign::BySign;
 use crate::format::currency::{ShownCurrency, begins_with_currency, ends_with_currency};
 use crate::format::parts::put_part;
+use crate::format::short_affixes::ShortAffixes;
 use crate::format::text_part::{PartKind, TextPart};
 use arrayvec::ArrayString;
 use decimal_format::DecimalSymbols;
@@ -29,21 +31,6 @@ pub(crate) struct NumberAffixes<'f> {
     pub(crate) suffix: [TextPart<'f>; 6],
 }
 
-/// What is written before and after a number.
-#[derive(Clone, Copy)]
-pub(crate) struct AffixTexts {
-    pub(crate) prefix: ArrayString<23>,
-    pub(crate) suffix: ArrayString<23>,
-}
-
-/// What is written before and after a number that is shown with each sign.
-#[derive(Clone, Copy)]
-pub(crate) struct SignTexts {
-    pub(crate) none: AffixTexts,
-    pub(crate) negative: AffixTexts,
-    pub(crate) positive: AffixTexts,
-}
-
 fn push_space(text: &mut ArrayString<23>, needed: bool) -> Option<()>
     ensures { OnSome result (text.new.bytes ≡ text.old.bytes ++ pieces_text (space_if needed)) }
 {
@@ -51,19 +38,6 @@ fn push_space(text: &mut ArrayString<23>, needed: bool) -> Option<()>
         text.try_push_str("\u{a0}").ok()
     } else {
         Some(())
-    }
-}
-
-impl SignTexts {
-    #[inline]
-    pub(crate) fn of(&self, sign: Sign) -> &AffixTexts
-        ensures { result.now ≡ texts_for self.now sign }
-    {
-        match sign {
-            Sign::None => &self.none,
-            Sign::Negative => &self.negative,
-            Sign::Positive => &self.positive,
-        }
     }
 }
 
@@ -299,26 +273,47 @@ impl StyleTexts {
         begins_with_currency(suffix) && self.currency.space_before
     }
 
-    fn texts_around(&self, sign: Sign) -> Option<AffixTexts>
-        ensures { IfSome result (AreAffixTexts (pattern_around self.now sign)) }
+    fn short_texts(&self, sign: Sign) -> Option<ShortAffixes<23>>
+        ensures { IfSome result (λ t. t ≡ affixes_for self.now sign) }
     {
         let around = self.pattern.affixes(sign);
         let after = self.needs_space_after(around.prefix);
         let before = self.needs_space_before(around.suffix);
-        Some(AffixTexts {
+        Some(ShortAffixes {
             prefix: self.affix_text(false, around.prefix, after)?,
             suffix: self.affix_text(before, around.suffix, false)?,
         })
     }
 
-    /// Returns the texts around a number for each sign, if each has at most 23 bytes.
-    pub(crate) fn sign_texts(&self) -> Option<SignTexts>
-        ensures { IfSome result (AreSignTexts self.now) }
+    /// Returns the texts around a number for each sign, if each is short. It takes no array of parts, since it takes
+    /// most of the time in which a formatter is made.
+    pub(crate) fn short_sign_texts(&self) -> Option<BySign<ShortAffixes<23>>>
+        ensures { IfSome result (λ t. t ≡ affixes_of_style self.now) }
     {
-        Some(SignTexts {
-            none: self.texts_around(Sign::None)?,
-            negative: self.texts_around(Sign::Negative)?,
-            positive: self.texts_around(Sign::Positive)?,
+        Some(BySign {
+            none: self.short_texts(Sign::None)?,
+            negative: self.short_texts(Sign::Negative)?,
+            positive: self.short_texts(Sign::Positive)?,
+        })
+    }
+
+    fn affix_texts<const CAP: usize>(&self, sign: Sign) -> Option<ShortAffixes<CAP>>
+        ensures value { IfSome result (λ t. t ≡ affixes_for self.now sign) }
+        ensures some { 1785 ≤ CAP → IsSome result }
+    {
+        let affixes = self.affixes(sign, None, NO_UNIT);
+        ShortAffixes::joined(&affixes.prefix, &affixes.suffix)
+    }
+
+    /// Returns the texts around a number for each sign, if each has at most `CAP` bytes.
+    pub(crate) fn sign_texts<const CAP: usize>(&self) -> Option<BySign<ShortAffixes<CAP>>>
+        ensures value { IfSome result (λ t. t ≡ affixes_of_style self.now) }
+        ensures some { 1785 ≤ CAP → IsSome result }
+    {
+        Some(BySign {
+            none: self.affix_texts(Sign::None)?,
+            negative: self.affix_texts(Sign::Negative)?,
+            positive: self.affix_texts(Sign::Positive)?,
         })
     }
 

@@ -286,6 +286,7 @@ impl<'f> FormattedNumber<'f> {
     }
 
     #[inline(always)]
+    #[tactic(auto, using(crate::proofs::lemmas::format::PieceTexts::by_sign_is))]
     fn put_pattern(&self, block: &mut Block) -> Result<(), SinkFault>
         ensures { OnOk result (block.new.0 ≡ block.old.0 ++ around_text self.now
             (pattern_around self.now.formatter.now.style self.now.value.sign)) }
@@ -293,10 +294,10 @@ impl<'f> FormattedNumber<'f> {
         let Some(texts) = &self.formatter.sign_texts else {
             return Err(SinkFault);
         };
-        let texts = texts.of(self.value.sign);
-        block.put_bytes(texts.prefix.as_str().as_bytes())?;
+        let texts = texts.of(self.value.sign).texts();
+        block.put_bytes(texts.prefix.as_bytes())?;
         self.put_digits(block)?;
-        block.put_bytes(texts.suffix.as_str().as_bytes())
+        block.put_bytes(texts.suffix.as_bytes())
     }
 
     #[inline(always)]

@@ -1,12 +1,14 @@
 //! The formatter of numbers: made by a locale and options, it rounds a number and chooses what is written around it.
 ghost use Rattle.std.specs.{Prelude.{◌≡◌, ◌↔◌, ◌⊎◌, Some, None, pos, IsTrue, IsSome, IfSome, IfNone, IfOk, IfErr, IsErrOf, OnOk, OnErr}, Option.ForSome};
 ghost use Rattle.locale_data.specs.Plurals.{rules_text_at};
-ghost use Rattle.number_format.specs.PatternTexts.{AreSignTexts};
+ghost use Rattle.number_format.specs.PatternTexts.{affixes_of_style};
 
 use crate::digits::options::DigitOptions;
-use crate::format::affixes::{SignTexts, StyleTexts};
+use crate::format::affixes::StyleTexts;
+use crate::format::by_sign::BySign;
 use crate::format::compact::{CompactChoice, NO_CHOICE, compact_magnitude, is_one};
 use crate::format::ids::{FormatterIds, NumberFormatError, currency_by, system_text};
+use crate::format::short_affixes::ShortAffixes;
 use crate::format::style::{
     notation_of, percent_text, shown_digits, style_of, style_sizes, with_separators,
 };
@@ -30,9 +32,9 @@ pub struct NumberFormatter {
     pub(crate) notation: Notation,
     pub(crate) digits: Option<DigitOptions>,
     /// What is written around a number of standard notation, if it is short.
-    pub(crate) sign_texts: Option<SignTexts>,
+    pub(crate) sign_texts: Option<BySign<ShortAffixes<23>>>,
     pub ghost rules_listed: { IsSome (rules_text_at rules) },
-    pub ghost sign_texts_are: { ForSome sign_texts (AreSignTexts style) },
+    pub ghost sign_texts_are: { ForSome sign_texts (λ t. t ≡ affixes_of_style style) },
 }
 
 impl NumberFormatter {
@@ -100,7 +102,7 @@ impl NumberFormatter {
             currency: shown,
         };
         let sign_texts = if keeps_texts {
-            style.sign_texts()
+            style.short_sign_texts()
         } else {
             None
         };

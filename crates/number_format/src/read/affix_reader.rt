@@ -3,7 +3,8 @@ ghost use Rattle.std.specs.Prelude.{◌≡◌, ◌≢◌, ℕ, List, ◌++◌, M
 ghost use Rattle.decimal_format.specs.{Readable.IsReadable, Reading.IsRead};
 ghost use Rattle.number_format.specs.AffixedTexts.{AreNamed, shifted, IsShown, IsShownNumeral, IsBetween, IsReadExactly, IsReadWith, IsReadTyped};
 
-use crate::read::sign_affixes::SignAffixes;
+use crate::format::by_sign::BySign;
+use crate::read::owned_affixes::OwnedAffixes;
 use decimal_format::DecimalSymbols;
 use decimal_format::internal::{
     Alternative, begins_with_digit, ends_with_digit, read_alternatives,
@@ -16,7 +17,7 @@ use std::marker::Model;
 #[derive(Drop)]
 pub(crate) struct AffixReader<'a> {
     symbols: DecimalSymbols<'a>,
-    affixes: SignAffixes,
+    affixes: BySign<OwnedAffixes>,
     shift: i16,
 }
 
@@ -52,7 +53,11 @@ fn shifted<D: DigitStore>(
 }
 
 impl<'a> AffixReader<'a> {
-    pub(crate) fn new(symbols: DecimalSymbols<'a>, affixes: SignAffixes, shift: i16) -> Self
+    pub(crate) fn new(
+        symbols: DecimalSymbols<'a>,
+        affixes: BySign<OwnedAffixes>,
+        shift: i16,
+    ) -> Self
         requires readable { IsReadable symbols }
         requires named { AreNamed symbols affixes }
         ensures { result ≡ record { symbols = symbols.entry; affixes = affixes; shift = shift } }
@@ -69,7 +74,7 @@ impl<'a> AffixReader<'a> {
             ((middle : List ℕ) → ¬ IsBetween self.now text.now sign middle)
             (λ r. IsBetween self.now text.now sign r.now) }
     {
-        let affixes = self.affixes.of_sign(sign);
+        let affixes = self.affixes.of(sign).texts();
         let middle = cut_affixes(text, affixes.prefix.as_bytes(), affixes.suffix.as_bytes())?;
         if begins_with_digit(&self.symbols, middle) && ends_with_digit(&self.symbols, middle) {
             return Some(middle);

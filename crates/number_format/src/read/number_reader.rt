@@ -1,16 +1,15 @@
 //! Readers of what formatters write.
-ghost use Rattle.std.specs.Prelude.{◌≡◌, ◌↔◌, ◌≤◌, ◌∷◌, [], ◌++◌, ◌-ℤ◌, pos, length, map, flat_map, IsTrue, IfOk, IfErr, OnOk};
-ghost use Rattle.decimal_format.specs.Readable.{IsReadable};
-ghost use Rattle.number_format.specs.{AffixedTexts.{ArePairApart, AreNamed, IsReadExactly}, TextParts.parts_text, NumberReading.{affixes_for, affixes_of_style, CanRead, CanUndo, CannotRead, names_by, form, form_of, forms_of_name, number_reader_of, typed_forms, IsReadLeniently, IsReadInMode}};
+ghost use Rattle.std.specs.Prelude.{◌≡◌, ◌∷◌, [], ◌++◌, ◌-ℤ◌, pos, length, map, flat_map, IfOk, IfErr, OnOk};
+ghost use Rattle.number_format.specs.{AffixedTexts.IsReadExactly, PatternTexts.affixes_of_style, NumberReading.{CanRead, CanUndo, CannotRead, names_by, form, form_of, forms_of_name, number_reader_of, typed_forms, IsReadLeniently, IsReadInMode}};
 
-use crate::format::affixes::{NO_UNIT, StyleTexts};
+use crate::format::by_sign::BySign;
 use crate::format::currency::text_or_nothing;
 use crate::format::formatter::NumberFormatter;
-use crate::format::text_part::TextPart;
+use crate::format::short_affixes::ShortAffixes;
 use crate::options::{NumberNotation, NumberStyle};
 use crate::read::affix_reader::AffixReader;
-use crate::read::sign_affixes::{OwnedAffixes, SignAffixes, are_pair_apart};
-use arrayvec::ArrayString;
+use crate::read::apart::are_apart;
+use crate::read::owned_affixes::OwnedAffixes;
 use decimal_format::Affixes;
 use decimal_format::internal::Alternative;
 use fixed_decimal::{DigitStore, ParseError, Sign, Signed, UnsignedOver};
@@ -42,36 +41,6 @@ pub enum ParseMode {
     Lenient,
 }
 
-/// The texts before and after a number: each of at most seven parts.
-#[derive(Drop)]
-struct PartTexts {
-    prefix: ArrayString<1785>,
-    suffix: ArrayString<1785>,
-}
-
-impl PartTexts {
-    fn texts(&self) -> Affixes<'_>
-        ensures prefix { result.prefix.now ≡ self.now.prefix.bytes }
-        ensures suffix { result.suffix.now ≡ self.now.suffix.bytes }
-    {
-        Affixes {
-            prefix: self.prefix.as_str(),
-            suffix: self.suffix.as_str(),
-        }
-    }
-}
-
-fn joined(parts: &[TextPart<'_>]) -> ArrayString<1785>
-    requires { length parts.now ≤ 7 }
-    ensures { result.bytes ≡ parts_text parts.now }
-{
-    let mut text = ArrayString::new();
-    for part in parts {
-        text.push_str(part.text);
-    }
-    text
-}
-
 /// Texts around a number, and the sign that they show.
 type Form = (OwnedAffixes, Sign);
 
@@ -89,75 +58,41 @@ fn alternative(form: &Form) -> Alternative<'_>
 fn push_form(
     forms: &mut Vec<Form>,
     alloc: Global,
-    prefix: [&str; 3],
-    suffix: [&str; 2],
+    prefix: &[&str],
+    suffix: &[&str],
     sign: Sign,
 ) -> Result<(), AllocError>
     ensures { OnOk result (forms.new.items ≡ forms.old.items
-        ++ form (flat_map (λ t. t.now) prefix.entry) (flat_map (λ t. t.now) suffix.entry) sign ∷ []) }
+        ++ form (flat_map (λ t. t.now) prefix.now) (flat_map (λ t. t.now) suffix.now) sign ∷ []) }
 {
-    forms.push((OwnedAffixes::joined(alloc, &prefix, &suffix)?, sign))?;
+    forms.push((OwnedAffixes::joined(alloc, prefix, suffix)?, sign))?;
     Ok(())
 }
 
 fn push_name(forms: &mut Vec<Form>, alloc: Global, name: &str) -> Result<(), AllocError>
     ensures { OnOk result (forms.new.items ≡ forms.old.items ++ forms_of_name name.now) }
 {
-    push_form(forms, alloc, ["", name, ""], ["", ""], Sign::None)?;
-    push_form(forms, alloc, ["", name, " "], ["", ""], Sign::None)?;
-    push_form(forms, alloc, ["", "", ""], ["", name], Sign::None)?;
-    push_form(forms, alloc, ["", "", ""], [" ", name], Sign::None)?;
-    push_form(forms, alloc, ["-", name, ""], ["", ""], Sign::Negative)?;
-    push_form(forms, alloc, ["-", name, " "], ["", ""], Sign::Negative)?;
-    push_form(forms, alloc, ["+", name, ""], ["", ""], Sign::Positive)?;
-    push_form(forms, alloc, ["+", name, " "], ["", ""], Sign::Positive)
+    push_form(forms, alloc, &[name], &[], Sign::None)?;
+    push_form(forms, alloc, &[name, " "], &[], Sign::None)?;
+    push_form(forms, alloc, &[], &[name], Sign::None)?;
+    push_form(forms, alloc, &[], &[" ", name], Sign::None)?;
+    push_form(forms, alloc, &["-", name], &[], Sign::Negative)?;
+    push_form(forms, alloc, &["-", name, " "], &[], Sign::Negative)?;
+    push_form(forms, alloc, &["+", name], &[], Sign::Positive)?;
+    push_form(forms, alloc, &["+", name, " "], &[], Sign::Positive)
 }
 
-fn affix_texts(style: &StyleTexts, alloc: Global, sign: Sign) -> Result<OwnedAffixes, AllocError>
-    ensures { IfOk result (λ t. t ≡ affixes_for style.now sign) }
+fn owned(
+    texts: &BySign<ShortAffixes<1785>>,
+    alloc: Global,
+) -> Result<BySign<OwnedAffixes>, AllocError>
+    ensures { IfOk result (λ t. t ≡ texts.now) }
 {
-    let affixes = style.affixes(sign, None, NO_UNIT);
-    OwnedAffixes::joined(alloc, &affixes.prefix, &affixes.suffix)
-}
-
-fn sign_affixes(style: &StyleTexts, alloc: Global) -> Result<SignAffixes, AllocError>
-    ensures { IfOk result (λ t. t ≡ affixes_of_style style.now) }
-{
-    Ok(SignAffixes {
-        none: affix_texts(style, alloc, Sign::None)?,
-        negative: affix_texts(style, alloc, Sign::Negative)?,
-        positive: affix_texts(style, alloc, Sign::Positive)?,
+    Ok(BySign {
+        none: OwnedAffixes::copied(alloc, texts.none.texts())?,
+        negative: OwnedAffixes::copied(alloc, texts.negative.texts())?,
+        positive: OwnedAffixes::copied(alloc, texts.positive.texts())?,
     })
-}
-
-fn part_texts(style: &StyleTexts, sign: Sign) -> PartTexts
-    ensures prefix { result.prefix.bytes ≡ (affixes_for style.now sign).prefix }
-    ensures suffix { result.suffix.bytes ≡ (affixes_for style.now sign).suffix }
-{
-    let affixes = style.affixes(sign, None, NO_UNIT);
-    PartTexts {
-        prefix: joined(&affixes.prefix),
-        suffix: joined(&affixes.suffix),
-    }
-}
-
-fn is_pair_apart(style: &StyleTexts, first: Sign, second: Sign) -> bool
-    requires { IsReadable style.now.symbols }
-    ensures { IsTrue result
-        ↔ ArePairApart style.now.symbols (affixes_for style.now first) (affixes_for style.now second) }
-{
-    let first = part_texts(style, first);
-    let second = part_texts(style, second);
-    are_pair_apart(&style.symbols, first.texts(), second.texts())
-}
-
-fn are_apart(style: &StyleTexts) -> bool
-    requires { IsReadable style.now.symbols }
-    ensures { IsTrue result ↔ AreNamed style.now.symbols (affixes_of_style style.now) }
-{
-    is_pair_apart(style, Sign::None, Sign::Negative)
-        && is_pair_apart(style, Sign::None, Sign::Positive)
-        && is_pair_apart(style, Sign::Negative, Sign::Positive)
 }
 
 fn names(formatter: &NumberFormatter) -> (&str, &str, &str)
@@ -172,18 +107,25 @@ fn names(formatter: &NumberFormatter) -> (&str, &str, &str)
     }
 }
 
-fn forms(formatter: &NumberFormatter, alloc: Global) -> Result<Vec<Form>, AllocError>
+fn forms(
+    formatter: &NumberFormatter,
+    texts: &BySign<ShortAffixes<1785>>,
+    alloc: Global,
+) -> Result<Vec<Form>, AllocError>
+    requires { texts.now ≡ affixes_of_style formatter.now.style }
     ensures forms { IfOk result (λ forms. forms.items ≡ typed_forms formatter.now) }
     ensures count { IfOk result (λ forms. length forms.items ≡ 29) }
 {
     let (symbol, narrow, code) = names(formatter);
-    let style = &formatter.style;
     let mut forms = Vec::new(alloc);
-    forms.push((affix_texts(style, alloc, Sign::None)?, Sign::None))?;
-    forms.push((affix_texts(style, alloc, Sign::Negative)?, Sign::Negative))?;
-    forms.push((affix_texts(style, alloc, Sign::Positive)?, Sign::Positive))?;
-    push_form(&mut forms, alloc, ["", "", ""], ["", ""], Sign::None)?;
-    push_form(&mut forms, alloc, ["(", "", ""], [")", ""], Sign::Negative)?;
+    let Affixes { prefix, suffix } = texts.none.texts();
+    push_form(&mut forms, alloc, &[prefix], &[suffix], Sign::None)?;
+    let Affixes { prefix, suffix } = texts.negative.texts();
+    push_form(&mut forms, alloc, &[prefix], &[suffix], Sign::Negative)?;
+    let Affixes { prefix, suffix } = texts.positive.texts();
+    push_form(&mut forms, alloc, &[prefix], &[suffix], Sign::Positive)?;
+    push_form(&mut forms, alloc, &[], &[], Sign::None)?;
+    push_form(&mut forms, alloc, &["("], &[")"], Sign::Negative)?;
     push_name(&mut forms, alloc, symbol)?;
     push_name(&mut forms, alloc, narrow)?;
     push_name(&mut forms, alloc, code)?;
@@ -249,13 +191,14 @@ impl NumberFormatter {
         if !self.style.symbols.is_readable() {
             return Err(NumberReaderError::Symbols);
         }
-        if !are_apart(&self.style) {
+        let texts = self.style.sign_texts().unwrap();
+        if !are_apart(&self.style.symbols, &texts) {
             return Err(NumberReaderError::Affixes);
         }
-        let Ok(forms) = forms(&self, alloc) else {
+        let Ok(forms) = forms(&self, &texts, alloc) else {
             return Err(NumberReaderError::Memory);
         };
-        let Ok(affixes) = sign_affixes(&self.style, alloc) else {
+        let Ok(affixes) = owned(&texts, alloc) else {
             return Err(NumberReaderError::Memory);
         };
         let reader = AffixReader::new(self.style.symbols, affixes, shift);

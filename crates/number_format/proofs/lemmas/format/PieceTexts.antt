@@ -6,6 +6,7 @@ use Rattle.std.proofs.lemmas.List.Concat.{flat_map-cons}
 use Rattle.std.proofs.lemmas.Grind.{flat_map-append}
 use Rattle.decimal_unsigned.specs.Unsigned.{Unsigned}
 use Rattle.fixed_decimal.specs.Decimal.{Decimal}
+use Rattle.fixed_decimal.specs.declared.variations.Sign.{Sign}
 use Rattle.decimal_format.specs.declared.grouping.GroupingStrategy.{GroupingStrategy}
 use Rattle.decimal_digits.specs.Number.{digit}
 use Rattle.decimal_format.specs.declared.grouping.GroupingStrategy.TheVariants.{Never}
@@ -13,7 +14,7 @@ use Rattle.decimal_format.specs.Formatted.{separator_before, separator_after, ma
 use Rattle.decimal_format.specs.Symbols.{Symbols, digit_text}
 use Rattle.decimal_format.proofs.lemmas.formatter.Magnitudes.{one_more}
 use Rattle.number_format.specs.declared.format.formatted_number.FormattedNumber.{FormattedNumber}
-use Rattle.number_format.specs.declared.format.affixes.NumberAffixes.{NumberAffixes}
+use Rattle.number_format.specs.declared.format.affixes.{NumberAffixes.{NumberAffixes}, StyleTexts.{StyleTexts}}
 use Rattle.number_format.specs.declared.format.formatter.NumberFormatter.{NumberFormatter}
 use Rattle.number_format.specs.declared.format.text_part.PartKind.{PartKind}
 use Rattle.number_format.specs.declared.format.text_part.PartKind.TheVariants as kind
@@ -21,7 +22,7 @@ use Rattle.number_format.specs.declared.format.text_part.TextPart.{TextPart}
 use Rattle.number_format.specs.TextParts.{Piece, Puts, PutsPrefix, part_pieces, parts_text, pieces_text, pieces_of, parts_pieces, digit_kind, magnitude_pieces, first_pieces, digit_pieces}
 use Rattle.number_format.specs.FormattedNumbers.{chosen_pattern, around_of, unit_of, exponent_text, number_text, number_text_if, around_text, formatted_number_text}
 use Rattle.number_format.specs.NumberText.{compact_style, unit_texts, around_by, exponent_kind, exponent_pieces, exponent_of, number_part, AreParts}
-use Rattle.number_format.specs.PatternTexts.{literal, pattern_around, sign_text}
+use Rattle.number_format.specs.PatternTexts.{literal, pattern_around, sign_text, affixes_for, affixes_of_style, by_sign}
 
 pub puts_nil : (a : Option (List Piece)) → Puts a a []
 puts_nil None = tt
@@ -239,3 +240,9 @@ text-of_pattern n none =
     (around_by f.style n.value.sign (chosen_pattern words n.choice))
     ++ pieces_text (literal (unit_texts f.formats words f.options.style n.whole).suffix))) (sym none)
     ∙ text-of_around n
+
+-- what a style writes around a number that is shown with a sign
+pub by_sign_is : (t : StyleTexts) (s : Sign) → by_sign (affixes_of_style t) s ≡ affixes_for t s
+by_sign_is t Sign.None = refl
+by_sign_is t Sign.Negative = refl
+by_sign_is t Sign.Positive = refl

@@ -5,16 +5,11 @@ use Rattle.decimal_unsigned.specs.Unsigned.{IsValue}
 use Rattle.fixed_decimal.specs.{Decimal.Decimal, declared.variations.Sign.Sign}
 use Rattle.decimal_format.specs.Formatted.{absolute_text}
 use Rattle.number_format.specs.declared.{format.affixes.StyleTexts.StyleTexts, format.formatter.NumberFormatter.NumberFormatter, options.{NumberOptions.NumberOptions, NumberNotation.NumberNotation}, format.text_part.PartKind.PartKind}
-use Rattle.number_format.specs.{Formatters.{IsFormatter}, AffixedTexts.{by_sign, text_with}, NumberReading.{IsStandard, affixes_for, affixes_of_style, reader_of, CanRead, IsShownAs}, NumberText.{IsNumberText, shown_sign, compact_magnitude, is_one, compact_pattern, compact_style, unit_texts, around_by, pieces_around, exponent_of}, PatternTexts.pattern_around, Scaled.ScaledValue, TextParts.{digit_pieces, pieces_text}}
-use Rattle.number_format.proofs.{lemmas.read.AffixedNumbers.named_texts_are_unique, lemmas.format.PieceTexts.{text-of_digits, text-three}}
+use Rattle.number_format.specs.{Formatters.{IsFormatter}, AffixedTexts.{text_with}, NumberReading.{IsStandard, reader_of, CanRead, IsShownAs}, NumberText.{IsNumberText, shown_sign, compact_magnitude, is_one, compact_pattern, compact_style, unit_texts, around_by, pieces_around, exponent_of}, PatternTexts.{pattern_around, affixes_for, by_sign, affixes_of_style}, Scaled.ScaledValue, TextParts.{digit_pieces, pieces_text}}
+use Rattle.number_format.proofs.{lemmas.read.AffixedNumbers.named_texts_are_unique, lemmas.format.PieceTexts.{by_sign_is, text-of_digits, text-three}}
 
 some_same : (x y : ScaledValue) → Some x ≡ Some y → x ≡ y
 some_same x y e = cc
-
-by_is : (t : StyleTexts) (s : Sign) → affixes_for t s ≡ by_sign (affixes_of_style t) s
-by_is t Sign.None = refl
-by_is t Sign.Negative = refl
-by_is t Sign.Positive = refl
 
 -- the text of the pieces of a number between what a sign writes around it
 text_around : (f : NumberFormatter) (s : Sign) (x : ScaledValue)
@@ -38,7 +33,7 @@ pub formatter_text : (f : NumberFormatter) (v u : Decimal) (text : List ℕ) →
 formatter_text f v u text standard (pieces, is, of_pieces) shown =
     let number : is.number ≡ shown.number = some_same _ _ (sym is.number_is ∙ shown.number_is) in
     let s = shown_sign f v shown.number.significand in
-    let affixes = ap (affixes_for f.style) (sym shown.sign) ∙ by_is f.style u.sign in
+    let affixes = ap (affixes_for f.style) (sym shown.sign) ∙ sym (by_sign_is f.style u.sign) in
     of_pieces
     ∙ ap pieces_text is.value
     ∙ (λ i. pieces_text (pieces_around f (number i).significand.absolute

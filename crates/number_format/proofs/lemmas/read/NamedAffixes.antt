@@ -2,10 +2,10 @@
 use Rattle.std.proofs.{Common.{◌≡◌, ◌≢◌, ℕ, Bool, true, false, ◌%◌, suc, ◌+◌, ◌<◌, ◌≤◌, inl, inr, List, [], ◌∷◌, ◌++◌, length, get_or, refl, sym, ◌∙◌, ap, subst, arith, append_assoc, append-nil, length-append, Bor}, Math.Utf8.encode, lemmas.{Str.{encode_same, IsCharBoundary-at_seam}, Bool.Decides.nat_tests, List.{append_cancel_left, append_cancel_right}}}
 use Rattle.std.specs.{Prelude.{◌↔◌, not, nat_eq, IsTrue, Option, Some, None, MatchOption, encode_utf8, slice_index}, Option.option_or, Str.IsUtf8}
 use Rattle.fixed_decimal.specs.declared.variations.Sign.{Sign}
-use Rattle.decimal_format.specs.{Readable.{BeginsWithDigit, EndsWithDigit}, Symbols.{Symbols, Affixes, affixes, digit_text}}
+use Rattle.decimal_format.specs.{Readable.{BeginsWithDigit, EndsWithDigit}, Symbols.{Symbols, Affixes, digit_text}}
 use Rattle.decimal_format.proofs.lemmas.reader.{Codes.meet, Scans.begins-append}
-use Rattle.number_format.specs.declared.read.sign_affixes.SignAffixes.{SignAffixes}
-use Rattle.number_format.specs.AffixedTexts.{by_sign, ArePrefixesApart, AreSuffixesApart, ArePairApart, AreNamed}
+use Rattle.number_format.specs.declared.format.by_sign.BySign.{BySign}
+use Rattle.number_format.specs.{AffixedTexts.{ArePrefixesApart, AreSuffixesApart, ArePairApart, AreNamed}, PatternTexts.by_sign}
 
 -- ---- Characters.
 
@@ -186,7 +186,7 @@ module _ (s : Symbols) where
   pair_swapped a b (inl h) = inl (prefixes_swapped a.prefix b.prefix h)
   pair_swapped a b (inr h) = inr (suffixes_swapped a.suffix b.suffix h)
 
-  pub named_if : (t : SignAffixes) → ArePairApart s t.none t.negative → ArePairApart s t.none t.positive
+  pub named_if : (t : BySign Affixes) → ArePairApart s t.none t.negative → ArePairApart s t.none t.positive
       → ArePairApart s t.negative t.positive → AreNamed s t
   named_if t a b c = record { pair = go }
     where
@@ -200,10 +200,3 @@ module _ (s : Symbols) where
       go Sign.Positive Sign.None other = pair_swapped _ _ b
       go Sign.Positive Sign.Negative other = pair_swapped _ _ c
       go Sign.Positive Sign.Positive other = absurd (other refl)
-
-  pub pair_moved : (x y : Affixes) (a b c d : List ℕ) (result : Bool) → a ≡ x.prefix → b ≡ x.suffix → c ≡ y.prefix
-      → d ≡ y.suffix → IsTrue result ↔ ArePairApart s (affixes a b) (affixes c d)
-      → IsTrue result ↔ ArePairApart s x y
-  pair_moved x y a b c d result e f g h is =
-      subst (λ p. IsTrue result ↔ ArePairApart s x p) (λ i. affixes (g i) (h i))
-      (subst (λ p. IsTrue result ↔ ArePairApart s p (affixes c d)) (λ i. affixes (e i) (f i)) is)

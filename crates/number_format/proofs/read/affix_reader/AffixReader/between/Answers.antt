@@ -1,9 +1,10 @@
-use Rattle.std.proofs.Common.{◌≡◌, ◌++◌, List, ℕ, sym, ◌∙◌, subst}
+use Rattle.std.proofs.Common.{◌≡◌, ◌++◌, List, ℕ, sym, ◌∙◌, ap, subst}
 use Rattle.std.specs.Prelude.{IsTrue}
 use Rattle.std.proofs.lemmas.List.{append_cancel_left, append_cancel_right}
 use Rattle.fixed_decimal.specs.declared.variations.Sign.{Sign}
 use Rattle.decimal_format.specs.Readable.{BeginsWithDigit, EndsWithDigit}
-use Rattle.number_format.specs.AffixedTexts.{Reader, by_sign, IsBetween}
+use Rattle.decimal_format.specs.Symbols.{Affixes}
+use Rattle.number_format.specs.{AffixedTexts.{Reader, IsBetween}, PatternTexts.by_sign}
 use Rattle.number_format.proofs.read.affix_reader.AffixReader.between.Goals.{else-begins_with_digit-via-then-begins_with_digit+else-ends_with_digit, else-begins_with_digit-via-else-begins_with_digit}
 use Rattle.number_format.proofs.read.affix_reader.AffixReader.between.Goals as goal
 
@@ -32,8 +33,9 @@ returns c = λ middle b.
     let self = c.self.inside in
     let inside : Reader = record { symbols = self.symbols; affixes = self.affixes; shift = self.shift } in
     let both = digits c.args.self.now inside c.args.text.now c.args.sign _ _ c.in_ok-middle.middle.now (cc)
-    (c.as_bytes.ensures.value ∙ c.of_sign-affixes.ensures.prefix)
-    (c.as_bytes-2.ensures.value ∙ c.of_sign-affixes.ensures.suffix) c.in_ok-middle.ensures middle b in
+    (c.as_bytes.ensures.value ∙ c.texts-affixes.ensures.prefix ∙ ap (λ (a : Affixes). a.prefix) c.of.ensures)
+    (c.as_bytes-2.ensures.value ∙ c.texts-affixes.ensures.suffix ∙ ap (λ (a : Affixes). a.suffix) c.of.ensures)
+    c.in_ok-middle.ensures middle b in
     elim c.else-begins_with_digit.branch [
       | else-begins_with_digit-via-then-begins_with_digit+else-ends_with_digit w ↦
           let t : IsTrue w.ends_with_digit.result = w.ends_with_digit.ensures.1 both.1 in

@@ -3,7 +3,7 @@ use Rattle.std.specs.Prelude.{◌↔◌, IsTrue}
 use Rattle.decimal_format.specs.Readable.{EndsWithDigit}
 use Rattle.number_format.specs.AffixedTexts.{AreSuffixesApart}
 use Rattle.number_format.proofs.lemmas.read.NamedAffixes.{Decides, apart_by_digit, none_is, suffixes_by_rest}
-use Rattle.number_format.proofs.read.sign_affixes.are_suffixes_apart.Goals as goal
+use Rattle.number_format.proofs.read.apart.are_suffixes_apart.Goals as goal
 
 pub returns-in-None : goal.returns-in-None
 returns-in-None c =
