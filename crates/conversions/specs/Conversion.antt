@@ -1,5 +1,5 @@
 -- The outcome of a conversion on a text, and its errors.
-use Rattle.std.specs.Prelude.{◌≡◌, ◌⊎◌, List, ℕ, Option, Some, None, Result, Ok, Err, IsOkAnd}
+use Rattle.std.specs.Prelude.{◌≡◌, ◌⊎◌, ◌&&◌, List, ℕ, Bool, Option, Some, None, is_none, Result, Ok, Err, IsOkAnd}
 use Rattle.decimal_unsigned.specs.Reading.{ReadError, syntax, limit}
 use Rattle.decimal_unsigned.specs.declared.decimal.TheConstants.{INLINE_DIGITS}
 use Rattle.decimal_unsigned.specs.declared.error.ParseError.{ParseError}
@@ -100,6 +100,10 @@ pub record IsOutcome (c : Conversion) (text : List ℕ) (result : Result (List �
 -- P holds of the text that the conversion makes of a text
 abbrev pub HasOutcome : Conversion → List ℕ → (List ℕ → Type 0) → Type 0
 HasOutcome c text P = (written : List ℕ) × IsOutcome c text (Ok written) × P written
+
+-- there is no reader and no formatter
+abbrev pub is_plain : Conversion → Bool
+is_plain c = is_none c.reader && is_none c.formatter
 
 -- ---- Errors.
 

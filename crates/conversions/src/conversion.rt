@@ -2,12 +2,12 @@
 ghost use Rattle.std.specs.Prelude.{◌≡◌, ◌≢◌, Ok, Err, true, IfOk, IfErr, OnOk, OnErr};
 ghost use Rattle.std.specs.Io.KnownBytes.{Appends};
 ghost use Rattle.decimal_digits.specs.AppendsPrefix.{AppendsPrefix};
-ghost use Rattle.conversions.specs.Conversion.{IsReadBy, ReadingByFails, HasTextBy, WritingFails, HasOutcome, OperationsFail};
+ghost use Rattle.conversions.specs.Conversion.{IsReadBy, ReadingByFails, HasTextBy, WritingFails, HasOutcome, OperationsFail, is_plain};
 
 use crate::error::OperationError;
 use crate::locale_formatter::{LocaleFormatter, write_number, write_text};
 use crate::reader::LocaleReader;
-use fixed_decimal::{Call, Decimal, ParseError, RunError, Sink, apply_calls};
+use fixed_decimal::{Call, Decimal, ParseError, RunError, Sink, apply_calls, run};
 use std::alloc::Global;
 
 /// How a text is read, what is done to its decimal, and how the result is written.
@@ -34,6 +34,13 @@ impl<'a> Drop for Conversion<'a> {
 }
 
 impl Conversion<'_> {
+    #[inline]
+    fn is_plain(&self) -> bool
+        ensures { result ≡ is_plain self.now }
+    {
+        self.reader.is_none() && self.formatter.is_none()
+    }
+
     #[inline]
     fn read(&self, alloc: Global, text: &[u8]) -> Result<Decimal, ParseError>
         ensures found { IfOk result (λ v. IsReadBy self.now.reader text.now (Ok v)) }
@@ -70,10 +77,34 @@ impl Conversion<'_> {
             None => write_text(&value, sink),
         }
     }
+
+    fn convert_by_forms<W: Sink>(
+        &self,
+        alloc: Global,
+        text: &[u8],
+        sink: &mut W,
+    ) -> Result<(), OperationError>
+        ensures written { OnOk result (HasOutcome self.now text.now
+            (Appends (W.contents sink.old) (W.contents sink.new))) }
+        ensures fails_with { IfErr result (λ error. OperationsFail error self.now text.now) }
+        ensures unchanged_on_error { IfErr result (λ error. error ≢ OperationError.Output → sink.new ≡ sink.old) }
+        ensures failed { result ≡ Err OperationError.Output → W.has_failed sink.new ≡ true }
+        ensures prefix { result ≡ Err OperationError.Output → HasOutcome self.now text.now
+            (AppendsPrefix (W.contents sink.old) (W.contents sink.new)) }
+    {
+        let mut value = match self.read(alloc, text) {
+            Ok(value) => value,
+            Err(error) => return Err(OperationError::from(RunError::Start(error))),
+        };
+        if let Err(error) = apply_calls(alloc, &mut value, self.calls.as_slice()) {
+            return Err(OperationError::from(RunError::from(error)));
+        }
+        self.write(alloc, value, sink)
+    }
 }
 
-/// Converts a text, and appends the text of the result to a sink. Without a reader and a formatter it does
-/// what [`fixed_decimal::run`] does.
+/// Converts a text, and appends the text of the result to a sink. Without a reader and a formatter this is
+/// [`fixed_decimal::run`].
 ///
 /// With a reader of `de` in mode `Strict`, the call `Round(-2, HalfEven, MultiplesOf1)` and a formatter of `en-IN` with
 /// `Auto`, `1.234,565` appends `1,234.56`.
@@ -101,12 +132,11 @@ pub fn convert<W: Sink>(
     ensures prefix { result ≡ Err OperationError.Output → HasOutcome conversion.now text.now
         (AppendsPrefix (W.contents sink.old) (W.contents sink.new)) }
 {
-    let mut value = match conversion.read(alloc, text) {
-        Ok(value) => value,
-        Err(error) => return Err(OperationError::from(RunError::Start(error))),
-    };
-    if let Err(error) = apply_calls(alloc, &mut value, conversion.calls.as_slice()) {
-        return Err(OperationError::from(RunError::from(error)));
+    if !conversion.is_plain() {
+        return conversion.convert_by_forms(alloc, text, sink);
     }
-    conversion.write(alloc, value, sink)
+    match run(alloc, text, conversion.calls.as_slice(), sink) {
+        Ok(()) => Ok(()),
+        Err(error) => Err(OperationError::from(error)),
+    }
 }

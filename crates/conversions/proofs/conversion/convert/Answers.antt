@@ -1,52 +1,22 @@
-use Rattle.std.proofs.Common.{◌≡◌, Ok, refl}
-use Rattle.std.specs.Io.KnownBytes.{Appends}
-use Rattle.std.proofs.lemmas.Result.{on_ok_weaker, IfErr-weaker, IfErr-at_err}
-use Rattle.decimal_digits.specs.AppendsPrefix.{AppendsPrefix}
-use Rattle.fixed_decimal.specs.Outcome.{after_calls}
-use Rattle.conversions.specs.declared.error.OperationError.{OperationError}
-use Rattle.conversions.specs.declared.error.OperationError.TheVariants.{Output}
-use Rattle.conversions.specs.Conversion.{HasTextBy}
-use Rattle.conversions.proofs.lemmas.conversion.Conversions.{reading_fails, calls_fail, writing_fails, written_outcome}
+use Rattle.std.proofs.Common.{◌≡◌, Err, ap, ◌∙◌, rules}
+use Rattle.fixed_decimal.specs.declared.runs.RunError.TheVariants.{Sink}
+use Rattle.conversions.proofs.lemmas.conversion.Conversions.{output_is_sink, run_outcome, run_fails}
 use Rattle.conversions.proofs.conversion.convert.Goals as goal
+
+pub returns-in-Err-clause-prefix : goal.returns-in-Err-clause-prefix
+returns-in-Err-clause-prefix g c = λ failed.
+    let sink : c.in-Err.error ≡ Sink = output_is_sink c.in-Err.error (search rules) in
+    let run : c.run.result ≡ Err Sink = c.in-Err.is ∙ ap Err sink in
+    run_outcome c.args.conversion.now c.args.text.now (search rules) _
+    (rw c.as_slice.ensures.value at c.run.ensures.prefix run)
+
+pub returns-in-Ok-clause-written : goal.returns-in-Ok-clause-written
+returns-in-Ok-clause-written g c =
+    run_outcome c.args.conversion.now c.args.text.now (search rules) _
+    (rw (c.as_slice.ensures.value, c.in-Ok.is) at c.run.ensures.written)
 
 pub returns-in-Err-clause-fails_with : goal.returns-in-Err-clause-fails_with
 returns-in-Err-clause-fails_with g c =
     rw c.from.ensures
-    (reading_fails c.args.conversion.now c.args.text.now c.in-Err.error c.in-Err.ensures.fails_with)
-
-pub returns-in-Err-apply_calls-clause-fails_with : goal.returns-in-Err-apply_calls-clause-fails_with
-returns-in-Err-apply_calls-clause-fails_with g c =
-    rw (c.from-in-Err-apply_calls-2.ensures, c.from-in-Err-apply_calls.ensures)
-    (calls_fail c.args.conversion.now c.args.text.now c.in-Ok.value c.in-Ok.ensures.found c.in-Err-apply_calls.error
-    (rw c.as_slice.ensures.value at c.in-Err-apply_calls.ensures.fails_with))
-
-pub returns-clause-written : goal.returns-clause-written
-returns-clause-written g c =
-    let v = c.in-Ok.value in
-    let contents = g.W.Sink.contents in
-    let last : after_calls 0 v c.args.conversion.now.calls.items ≡ Ok c.apply_calls.new.value =
-    rw c.as_slice.ensures.value at c.in_default.ensures.ok in
-    on_ok_weaker c.write.result
-    (written_outcome c.args.conversion.now c.args.text.now v c.in-Ok.ensures.found c.apply_calls.new.value last
-    (Appends (contents c.args.sink.now) (contents c.write.new.sink)))
-    c.write.ensures.written
-
-pub returns-clause-fails_with : goal.returns-clause-fails_with
-returns-clause-fails_with g c =
-    let v = c.in-Ok.value in
-    let last : after_calls 0 v c.args.conversion.now.calls.items ≡ Ok c.apply_calls.new.value =
-    rw c.as_slice.ensures.value at c.in_default.ensures.ok in
-    IfErr-weaker c.write.result _ _
-    (writing_fails c.args.conversion.now c.args.text.now v c.in-Ok.ensures.found c.apply_calls.new.value last)
-    c.write.ensures.fails_with
-
-pub returns-clause-prefix : goal.returns-clause-prefix
-returns-clause-prefix g c = λ failed.
-    let v = c.in-Ok.value in
-    let contents = g.W.Sink.contents in
-    let begun = AppendsPrefix (contents c.args.sink.now) (contents c.write.new.sink) in
-    let last : after_calls 0 v c.args.conversion.now.calls.items ≡ Ok c.apply_calls.new.value =
-    rw c.as_slice.ensures.value at c.in_default.ensures.ok in
-    written_outcome c.args.conversion.now c.args.text.now v c.in-Ok.ensures.found c.apply_calls.new.value last begun
-    (IfErr-at_err (λ (error : OperationError). error ≡ Output →
-    HasTextBy c.args.conversion.now.formatter c.apply_calls.new.value begun) failed c.write.ensures.prefix refl)
+    (run_fails c.args.conversion.now c.args.text.now (search rules) c.in-Err.error
+    (rw (c.as_slice.ensures.value, c.in-Err.is) at c.run.ensures.fails_with))

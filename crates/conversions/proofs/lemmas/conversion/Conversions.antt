@@ -1,6 +1,8 @@
 -- The outcome of a conversion, and its errors.
-use Rattle.std.proofs.Common.{◌≡◌, ℕ, List, Option, None, Result, Ok, Err, inl, inr, refl, sym, subst, arith}
-use Rattle.std.specs.Prelude.{IfErr, OnErr}
+use Rattle.std.proofs.Common.{◌≡◌, ◌&&◌, ℕ, List, Option, Some, None, Result, Ok, Err, true, inl, inr, refl, sym, ap, ◌∙◌, subst, arith}
+use Rattle.std.proofs.lemmas.Bool.{false≢true}
+use Rattle.std.specs.Prelude.{IfErr, OnErr, IsOk, IsOkAnd}
+use Rattle.std.specs.Option.{is_none}
 use Rattle.std.proofs.lemmas.Result.{IfErr-weaker}
 use Rattle.decimal_unsigned.specs.declared.error.ParseError.{ParseError}
 use Rattle.decimal_unsigned.specs.declared.error.ParseError.TheVariants as parse
@@ -9,18 +11,20 @@ use Rattle.decimal_unsigned.specs.declared.decimal.TheConstants.{INLINE_DIGITS}
 use Rattle.fixed_decimal.specs.Decimal.{Decimal}
 use Rattle.fixed_decimal.specs.DecimalText.{read_decimal}
 use Rattle.fixed_decimal.specs.Calls.{CallsFail}
-use Rattle.fixed_decimal.specs.Errors.{run_error}
+use Rattle.fixed_decimal.specs.Errors.{RunFails, run_error}
 use Rattle.fixed_decimal.specs.Outcome.{OutcomeError, after_calls, outcome, start}
 use Rattle.fixed_decimal.specs.declared.runs.Call.{Call}
 use Rattle.fixed_decimal.specs.declared.runs.CallError.{CallError}
 use Rattle.fixed_decimal.specs.declared.runs.CallError.TheVariants as call
-use Rattle.fixed_decimal.specs.declared.runs.RunError.TheVariants.{Start}
+use Rattle.fixed_decimal.specs.declared.runs.RunError.{RunError}
+use Rattle.fixed_decimal.specs.declared.runs.RunError.TheVariants.{Start, Operand, Memory, Sink}
 use Rattle.conversions.specs.declared.conversion.Conversion.{Conversion}
 use Rattle.conversions.specs.declared.locale_formatter.LocaleFormatter.{LocaleFormatter}
+use Rattle.conversions.specs.declared.reader.LocaleReader.{LocaleReader}
 use Rattle.conversions.specs.declared.error.OperationError.TheVariants as operation
 use Rattle.conversions.specs.declared.error.OperationError.{OperationError}
 use Rattle.conversions.specs.Error.{error_of_run, status_of_operation}
-use Rattle.conversions.specs.Conversion.{IsReadBy, ReadingByFails, ConversionError, of_run, format_overflow, IsOutcome, HasOutcome, OperationsFail, IsRunFormatted, error_of, own_text, last_decimal, IsFormatted, WritingFails, HasTextBy, IsTextBy}
+use Rattle.conversions.specs.Conversion.{IsReadBy, ReadingByFails, ReadingByNeedsMemory, ConversionError, of_run, format_overflow, IsOutcome, HasOutcome, OperationsFail, IsRunFormatted, error_of, own_text, last_decimal, IsFormatted, WritingFails, HasTextBy, IsTextBy, is_plain}
 
 module _ (c : Conversion) (text : List ℕ) where
   -- ---- The errors of the parts.
@@ -102,3 +106,71 @@ pub conversion_is_run_formatted :
 conversion_is_run_formatted c text result none h =
     let read : h.read ≡ read_decimal text = rw none at h.is_read in
     (run_is_formatted c.calls.items text (read_decimal text) refl, rw read at h.is)
+
+-- ---- A run.
+
+-- only a failed sink is a failed output
+pub output_is_sink : (why : RunError) → error_of_run why ≡ operation.Output → why ≡ Sink
+output_is_sink why is = grind arith
+
+-- the outcome of a run as that of a conversion
+abbrev run_result : Result (List ℕ) OutcomeError → Result (List ℕ) ConversionError
+run_result (Ok text) = Ok text
+run_result (Err why) = Err (of_run why)
+
+own_formatted : (last : Result Decimal OutcomeError) (o : Result (List ℕ) OutcomeError) → own_text last ≡ o
+    → IsFormatted None last (run_result o)
+own_formatted (Ok v) o e = sym (ap run_result e)
+own_formatted (Err why) o e = sym (ap run_result e)
+
+no_forms : (r : Option LocaleReader) (f : Option LocaleFormatter) → (is_none r && is_none f) ≡ true
+    → (r ≡ None) × (f ≡ None)
+no_forms None None e = (refl, refl)
+no_forms None (Some f) e = absurd (false≢true e)
+no_forms (Some r) f e = absurd (false≢true e)
+
+module _ (c : Conversion) (text : List ℕ) (plain : is_plain c ≡ true) where
+  plain_outcome :
+      (o : Result (List ℕ) OutcomeError) → outcome text c.calls.items ≡ o → IsOutcome c text (run_result o)
+  plain_outcome o e =
+      let (reader, formatter) = no_forms c.reader c.formatter plain in
+      let last = last_decimal c.calls.items (read_decimal text) in
+      let own : own_text last ≡ o = sym (run_is_formatted c.calls.items text (read_decimal text) refl) ∙ e in
+      record {
+        read = read_decimal text;
+        is_read = subst (λ r. IsReadBy r text (read_decimal text)) (sym reader) refl;
+        is = subst (λ f. IsFormatted f last (run_result o)) (sym formatter) (own_formatted last o own);
+      }
+
+  outcome_of : (P : List ℕ → Type 0) (o : Result (List ℕ) OutcomeError) → outcome text c.calls.items ≡ o → IsOkAnd o P
+      → HasOutcome c text P
+  outcome_of P (Ok written) e p = (written, plain_outcome (Ok written) e, p)
+  outcome_of P (Err why) e p = absurd p
+
+  -- what holds of the text of a run
+  pub run_outcome : (P : List ℕ → Type 0) → IsOkAnd (outcome text c.calls.items) P → HasOutcome c text P
+  run_outcome P h = outcome_of P (outcome text c.calls.items) refl h
+
+  memory_fails : (why : CallError) → error_of_run (run_error why) ≡ operation.Memory
+      → (r : Result Decimal ReadError) → read_decimal text ≡ r
+      → IsOkAnd r (λ first. CallsFail INLINE_DIGITS why first c.calls.items) → OperationsFail operation.Memory c text
+  memory_fails why same (Ok v) e h =
+      let (reader, formatter) = no_forms c.reader c.formatter plain in
+      inr (v, subst (λ r. IsReadBy r text (Ok v)) (sym reader) (sym e), inl (why, h, same))
+  memory_fails why same (Err fault) e h = absurd h
+
+  output_of : (o : Result (List ℕ) OutcomeError) → outcome text c.calls.items ≡ o → IsOk o
+      → OperationsFail operation.Output c text
+  output_of (Ok written) e h = (written, plain_outcome (Ok written) e)
+  output_of (Err why) e h = absurd (false≢true h)
+
+  -- an error of a run
+  pub run_fails :
+      (why : RunError) → RunFails INLINE_DIGITS why text c.calls.items → OperationsFail (error_of_run why) c text
+  run_fails (Start parse.Memory) h =
+      let (reader, formatter) = no_forms c.reader c.formatter plain in
+      inl (subst (λ r. ReadingByNeedsMemory r text) (sym reader) h)
+  run_fails (Operand at parse.Memory) h = memory_fails (call.Operand at parse.Memory) refl (read_decimal text) refl h
+  run_fails (Memory at) h = memory_fails (call.Memory at) refl (read_decimal text) refl h
+  run_fails Sink h = output_of (outcome text c.calls.items) refl h
+  run_fails why h = (_, refl, plain_outcome (Err _) h)
