@@ -1,4 +1,4 @@
--- The arguments of a process, the words that they have, and how a program ends before its work.
+-- The arguments of a process, the words that they have, and how a program ends on them.
 use Rattle.std.specs.Prelude.{◌≡◌, ◌≢◌, ◌⊎◌, ⊤, ℕ, Bool, true, false, List, [], ◌∷◌, drop, codes, String, string_bytes, Option, Result, Ok, Err, IsSomeAnd}
 use Rattle.std.specs.Io.KnownBytes.{Appends}
 use Rattle.std.specs.Vec.Iter.{into_iter_items}
@@ -10,7 +10,7 @@ use Rattle.std.specs.declared.io.ErrorKind.TheVariants.{OutOfMemory}
 use Rattle.cli.specs.declared.program.error.WordsError.{WordsError}
 use Rattle.cli.specs.declared.program.error.WordsError.TheVariants.{NotText, Memory, Output}
 use Rattle.cli.specs.declared.program.error.ProgramError.{ProgramError}
-use Rattle.cli.specs.declared.program.error.ProgramError.TheVariants.{Start}
+use Rattle.cli.specs.declared.program.error.ProgramError.TheVariants.{Setup}
 use Rattle.cli.specs.declared.program.help.Program.{Program}
 use Rattle.cli.specs.declared.program.help.Program.TheVariants.{Fixdec, FixdecLines}
 use Rattle.cli.specs.declared.program.help.Request.{Request}
@@ -62,33 +62,29 @@ abbrev pub Answers : Program → List (String Global) → Option (List ℕ) → 
 Answers program words old new =
     (request : Request) × Asks program words request × Appends old new (answer_of program request)
 
--- ---- A program ends before its work.
+-- ---- How a program ends: whether each of its texts has a result, or with an error; and its writer.
 
--- a program ends before its work: its words cannot be read, or the output of its help or version failed
-abbrev pub StartFails : {O : Type 0} → Program → Arguments → O → O × Bool → WordsError → Type 0
-StartFails program arguments out closed Output = HaveWords arguments (IsRequest program) × (closed.1 ≡ true)
-StartFails program arguments out closed why = AreUnreadable arguments why × (closed ≡ (out, false))
+-- the words cannot be read, and the writer is not called; or the output of what they ask for failed
+abbrev pub SetupFails : {O : Type 0} → Program → Arguments → O → WordsError → O × Bool → Type 0
+SetupFails program arguments out Output closed = HaveWords arguments (IsRequest program) × (closed.1 ≡ true)
+SetupFails program arguments out why closed = AreUnreadable arguments why × (closed ≡ (out, false))
 
--- a program ends before its work: it has printed its help or version, or with this error
+-- before its work: it has printed what its only word asks for, or with this error
+abbrev pub EndsBeforeWork :
+    {O : Type 0} → Program → (O → Option (List ℕ)) → Arguments → O → Result Bool ProgramError → Option (O × Bool)
+    → Type 0
+EndsBeforeWork program contents arguments out (Ok texts) back =
+    IsSomeAnd back (λ closed. (texts ≡ true) × (closed.1 ≡ false)
+    × HaveWords arguments (λ words. Answers program words (contents out) (contents closed.0)))
+EndsBeforeWork program contents arguments out (Err (Setup error)) back =
+    (error.program ≡ program) × IsSomeAnd back (SetupFails program arguments out error.why)
+EndsBeforeWork program contents arguments out (Err error) back = ⊥
+
+-- before its work, or as P says of its words
 abbrev pub Ends :
-    {O : Type 0} → Program → (O → Option (List ℕ)) → Arguments → O → O × Bool → Result Unit ProgramError → Type 0
-Ends program contents arguments out closed (Ok done) =
-    HaveWords arguments (λ words. Answers program words (contents out) (contents closed.0)) × (closed.1 ≡ false)
-Ends program contents arguments out closed (Err (Start error)) =
-    (error.program ≡ program) × StartFails program arguments out closed error.why
-Ends program contents arguments out closed (Err error) = ⊥
-
--- what a program prints: its help or version if it is asked for, and else what P says of the words
-abbrev pub PrintsFor :
-    Program → Arguments → Option (List ℕ) → Option (List ℕ) → (List (String Global) → Type 0) → Type 0
-PrintsFor program arguments old new P =
-    HaveWords arguments (λ words. Answers program words old new ⊎ (¬ IsRequest program words × P words))
-
--- a program ends with an error: before its work; or P holds of the words and of the writer that is returned, which is
--- none where the block before it cannot be allocated
-abbrev pub ArgumentsFail :
-    {O : Type 0} → Program → (O → Option (List ℕ)) → Arguments → O → Option (O × Bool)
-    → (List (String Global) → Option (O × Bool) → ProgramError → Type 0) → ProgramError → Type 0
-ArgumentsFail program contents arguments out back P error =
-    IsSomeAnd back (λ closed. Ends program contents arguments out closed (Err error))
-    ⊎ HaveWords arguments (λ words. ¬ IsRequest program words × P words back error)
+    {O : Type 0} → Program → (O → Option (List ℕ)) → Arguments → O
+    → (List (String Global) → Result Bool ProgramError → Option (O × Bool) → Type 0)
+    → Result Bool ProgramError → Option (O × Bool) → Type 0
+Ends program contents arguments out P done back =
+    EndsBeforeWork program contents arguments out done back
+    ⊎ HaveWords arguments (λ words. ¬ IsRequest program words × P words done back)

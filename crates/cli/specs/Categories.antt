@@ -14,7 +14,7 @@ use Rattle.std.specs.Io.KnownBytes.{Appends}
 use Rattle.std.specs.declared.alloc.Global.{Global}
 use Rattle.decimal_digits.specs.AppendsPrefix.{AppendsPrefix}
 use Rattle.cli.specs.declared.program.error.ProgramError.{ProgramError}
-use Rattle.cli.specs.declared.program.error.ProgramError.TheVariants.{Start, Text, Output}
+use Rattle.cli.specs.declared.program.error.ProgramError.TheVariants.{Setup, Text, Output}
 use Rattle.cli.specs.declared.program.error.WordsError.TheVariants.{Memory}
 use Rattle.cli.specs.declared.program.help.Program.TheVariants.{Plural}
 use Rattle.conversions.specs.Error.{read_error_of}
@@ -49,7 +49,7 @@ PrintsAll rules texts old new = (lines : List ℕ) × HaveLines rules texts line
 
 -- the text of a number has no line: it is rejected, or the program is out of memory for its digits
 abbrev pub TextFails : List RuleValue → List ℕ → ℕ → ProgramError → Type 0
-TextFails rules bytes number (Start error) =
+TextFails rules bytes number (Setup error) =
     (error ≡ record { program = Plural; why = Memory }) × IsLongText bytes
 TextFails rules bytes number (Text at reason) =
     (at ≡ number) × (read_category rules bytes ≡ Err (read_error_of reason))

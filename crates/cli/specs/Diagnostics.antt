@@ -1,12 +1,12 @@
 -- What a report of an error writes.
-use Rattle.std.specs.Prelude.{◌≡◌, ℕ, ◌&&◌, List, [], ◌∷◌, ◌++◌, Option, Some, None, is_some, Bool, true, false, IfSome, MatchBool, MatchOption}
+use Rattle.std.specs.Prelude.{◌≡◌, ℕ, ◌&&◌, List, [], ◌∷◌, ◌++◌, Option, Some, None, Result, Ok, Err, is_some, Bool, true, false, IfSome, MatchBool, MatchOption}
 use Rattle.std.specs.Fmt.Cut.{IsTextOrCut}
 use Rattle.std.specs.Io.KnownBytes.{Keeps, Appends}
 use Rattle.std.specs.declared.io.ErrorKind.{ErrorKind}
 use Rattle.std.specs.declared.io.ErrorKind.TheVariants.{BrokenPipe}
 use Rattle.decimal_digits.specs.AppendsPrefix.{AppendsPrefix}
 use Rattle.cli.specs.declared.program.error.ProgramError.{ProgramError}
-use Rattle.cli.specs.Error.{is_output}
+use Rattle.cli.specs.Error.{is_output, status_of}
 
 -- a line is a text and a line feed: the text that the error's `Display` states, cut after 120 bytes, if it states one
 abbrev pub IsErrorLine : Option (List ℕ) → List ℕ → Type 0
@@ -28,10 +28,19 @@ is_closed_pipe _ = false
 abbrev pub IsFailure : {O : Type 0} → Option (O × Bool) → Option ErrorKind → Type 0
 IsFailure back kind = MatchOption back (kind ≡ None) (λ closed. is_some kind ≡ closed.1)
 
--- the error of a program was reported, after which this writer is returned; but a failed output to a closed pipe was
--- not
+-- a program concludes with this status: 0 where each of its texts has a result, and 1 where some have none; an error
+-- has its own and is reported, but a failed output to a closed pipe is not
 abbrev pub Concludes :
-    {O D : Type 0} → (D → ProgramError → D → Type 0) → Option (O × Bool) → ProgramError → D → D → Type 0
-Concludes reports back error old new =
-    (kind : Option ErrorKind) × IsFailure back kind
-    × MatchBool (is_closed_pipe kind && is_output error) (new ≡ old) (reports old error new)
+    {D : Type 0} → (D → ProgramError → D → Type 0) → Result Bool ProgramError → Option ErrorKind → ℕ → D → D → Type 0
+Concludes reports (Ok true) failure status old new = (status ≡ 0) × (new ≡ old)
+Concludes reports (Ok false) failure status old new = (status ≡ 1) × (new ≡ old)
+Concludes reports (Err error) failure status old new =
+    (status ≡ status_of error)
+    × MatchBool (is_closed_pipe failure && is_output error) (new ≡ old) (reports old error new)
+
+-- the same with the failure of the writer that is returned
+abbrev pub ConcludesWith :
+    {O D : Type 0} → (D → ProgramError → D → Type 0) → Result Bool ProgramError → Option (O × Bool) → ℕ → D → D
+    → Type 0
+ConcludesWith reports done back status old new =
+    (failure : Option ErrorKind) × IsFailure back failure × Concludes reports done failure status old new

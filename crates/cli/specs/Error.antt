@@ -55,7 +55,7 @@ status_of_header _ = 1
 
 -- the status of an error of a program
 abbrev pub status_of : ProgramError → ℕ
-status_of (program.Start error) = status_of_words error.why
+status_of (program.Setup error) = status_of_words error.why
 status_of (program.Operation error) = status_of_operation error
 status_of (program.Line line error) = status_of_operation error.error
 status_of (program.Header error) = status_of_header error
@@ -68,12 +68,12 @@ status_of program.Output = 3
 -- whether the output failed
 abbrev pub is_output : ProgramError → Bool
 is_output program.Output = true
-is_output (program.Start error) = is_output_of_words error.why
+is_output (program.Setup error) = is_output_of_words error.why
 is_output _ = false
 
 -- an error before the work of a program
-abbrev pub start_error : Program → WordsError → ProgramError
-start_error by why = program.Start (record { program = by; why = why })
+abbrev pub setup_error : Program → WordsError → ProgramError
+setup_error by why = program.Setup (record { program = by; why = why })
 
 -- an error of the one conversion of a program
 abbrev pub conversion_error : OperationError → ProgramError
@@ -82,8 +82,8 @@ conversion_error error = program.Operation error
 
 -- the error of a word that names no rules
 abbrev pub error_of_rules : NamedRulesError → ProgramError
-error_of_rules (UnknownLocale tag) = start_error Plural (words.UnknownLocale tag)
-error_of_rules (UnknownType letters) = start_error Plural (words.UnknownType letters)
+error_of_rules (UnknownLocale tag) = setup_error Plural (words.UnknownLocale tag)
+error_of_rules (UnknownType letters) = setup_error Plural (words.UnknownType letters)
 error_of_rules (Rules (rules.Syntax at)) = program.Rules at Syntax
 error_of_rules (Rules (rules.Limit at)) = program.Rules at Limit
-error_of_rules (Rules rules.Memory) = start_error Plural words.Memory
+error_of_rules (Rules rules.Memory) = setup_error Plural words.Memory

@@ -1,6 +1,6 @@
 -- The run that the words of `fixdec` name, and its result.
 use Rattle.std.specs.Prelude.{◌≡◌, ◌≢◌, ℕ, Bool, true, false, List, [], ◌∷◌, ◌++◌, String, string_bytes}
-use Rattle.std.specs.Prelude.{Option, MatchOption}
+use Rattle.std.specs.Prelude.{Option, Result, Ok, Err, IsSomeAnd, MatchOption}
 use Rattle.std.specs.Io.KnownBytes.{Appends, append_known}
 use Rattle.std.specs.declared.alloc.Global.{Global}
 use Rattle.decimal_digits.specs.AppendsPrefix.{AppendsPrefix}
@@ -9,10 +9,10 @@ use Rattle.cli.specs.declared.program.error.WordsError.{WordsError}
 use Rattle.cli.specs.declared.program.error.WordsError.TheVariants.{NoText, Memory}
 use Rattle.conversions.specs.declared.conversion.Conversion.{Conversion}
 use Rattle.cli.specs.declared.program.error.ProgramError.{ProgramError}
-use Rattle.cli.specs.declared.program.error.ProgramError.TheVariants.{Start, Operation, Output}
+use Rattle.cli.specs.declared.program.error.ProgramError.TheVariants.{Setup, Operation, Output}
 use Rattle.conversions.specs.declared.error.OperationError.TheVariants as operation
 use Rattle.conversions.specs.Conversion.{HasOutcome, OperationsFail}
-use Rattle.cli.specs.Error.{start_error}
+use Rattle.cli.specs.Error.{setup_error}
 use Rattle.cli.specs.declared.program.help.Program.TheVariants.{Fixdec}
 
 -- the words are TEXT [read:..] [CALL].. [format:..], with this conversion and this text
@@ -51,17 +51,21 @@ PrintsPrefix words old new = HasRun words (PrintsLinePrefix old new)
 
 -- the error of the words, or of the conversion
 abbrev pub HasError : List (String Global) → ProgramError → Type 0
-HasError words (Start error) = (error.program ≡ Fixdec) × RunFails words error.why
+HasError words (Setup error) = (error.program ≡ Fixdec) × RunFails words error.why
 HasError words (Operation error) = HasRun words (OperationsFail error)
 HasError words Output = HasRun words (OperationsFail operation.Output)
 HasError words _ = ⊥
 
--- the block before the writer cannot be allocated; or the words have the error: the writer is not called, but at
--- `Output`, where it failed after a prefix of the text and a line feed, of which the block still holds a part
-abbrev pub WordsFail :
-    {O : Type 0} → (O → Option (List ℕ)) → O → List (String Global) → Option (O × Bool) → ProgramError → Type 0
-WordsFail contents out words back error =
-    MatchOption back (error ≡ start_error Fixdec Memory) (λ closed. HasError words error
+-- the work of `fixdec`: its conversion is printed; or it has an error: the block before the writer cannot be allocated;
+-- or the words have the error, and the writer is not called, but at `Output`, where it failed after a prefix of the
+-- text and a line feed, of which the block still holds a part
+abbrev pub Converts :
+    {O : Type 0} → (O → Option (List ℕ)) → O → List (String Global) → Result Bool ProgramError → Option (O × Bool)
+    → Type 0
+Converts contents out words (Ok texts) back =
+    IsSomeAnd back (λ closed. (texts ≡ true) × (closed.1 ≡ false) × Prints words (contents out) (contents closed.0))
+Converts contents out words (Err error) back =
+    MatchOption back (error ≡ setup_error Fixdec Memory) (λ closed. HasError words error
     × (error ≢ Output → closed ≡ (out, false))
     × (error ≡ Output → (closed.1 ≡ true)
     × ((unwritten : List ℕ) × PrintsPrefix words (contents out) (append_known (contents closed.0) unwritten))))

@@ -1,5 +1,5 @@
 -- The filter that the words of `fixdec_lines` name, and its result on an input.
-use Rattle.std.specs.Prelude.{◌≡◌, ◌⊎◌, ℕ, ◌&&◌, not, ⊤, Bool, true, false, List, String, Option, MatchBool, MatchOption, Result, Err, IsErrAnd}
+use Rattle.std.specs.Prelude.{◌≡◌, ◌⊎◌, ℕ, ◌&&◌, not, ⊤, Bool, true, false, List, String, Option, Some, None, MatchBool, Result, Err, OnOk, IfErr, IsErrAnd}
 use Rattle.std.specs.declared.alloc.Global.{Global}
 use Rattle.std.specs.declared.io.ErrorKind.{ErrorKind}
 use Rattle.cli.specs.Targets.{NamesTarget, NameNoTarget, have_names}
@@ -9,9 +9,9 @@ use Rattle.cli.specs.declared.lines.fields.Field.{Field}
 use Rattle.cli.specs.declared.program.error.WordsError.{WordsError}
 use Rattle.cli.specs.declared.program.error.WordsError.TheVariants.{Memory, NoCsv, NoHeader}
 use Rattle.cli.specs.declared.program.help.Program.TheVariants.{FixdecLines}
-use Rattle.cli.specs.Error.{start_error}
+use Rattle.cli.specs.Error.{setup_error}
 use Rattle.cli.specs.declared.program.error.ProgramError.{ProgramError}
-use Rattle.cli.specs.declared.program.error.ProgramError.TheVariants.{Start, Output}
+use Rattle.cli.specs.declared.program.error.ProgramError.TheVariants.{Setup, Output}
 use Rattle.cli.specs.declared.words.columns.Column.{Column}
 use Rattle.cli.specs.declared.lines.named_filter.NamedFilter.{NamedFilter}
 use Rattle.cli.specs.declared.words.targets.NamedTarget.{NamedTarget}
@@ -43,22 +43,22 @@ NamesFilter words filter =
 abbrev pub OthersFail : Options → List (String Global) → ProgramError → Type 0
 OthersFail options others error =
     (((field : Option (Column × Field)) → ¬ HasField options field)
-    × (error ≡ start_error FixdecLines (field_error options)))
+    × (error ≡ setup_error FixdecLines (field_error options)))
     ⊎ ((field : Option (Column × Field)) × HasField options field
-    × (((why : WordsError) × (error ≡ start_error FixdecLines why) × NameNoTarget field others why)
+    × (((why : WordsError) × (error ≡ setup_error FixdecLines why) × NameNoTarget field others why)
     ⊎ ((target : NamedTarget) × NamesTarget field others target × (lacks_header options target ≡ true)
-    × (error ≡ start_error FixdecLines NoHeader))))
+    × (error ≡ setup_error FixdecLines NoHeader))))
 
 -- they are not, for this error: `records` has no `csv`; or it has, and the other words fail
 abbrev pub FilterFails : List (String Global) → ProgramError → Type 0
 FilterFails words error =
     HasWords words
-    (λ options others. MatchBool (lacks_csv options) (error ≡ start_error FixdecLines NoCsv)
+    (λ options others. MatchBool (lacks_csv options) (error ≡ setup_error FixdecLines NoCsv)
     (OthersFail options others error))
 
 -- the error comes before the first line
 abbrev pub IsEarly : ProgramError → Type 0
-IsEarly (Start error) = ⊤
+IsEarly (Setup error) = ⊤
 IsEarly _ = ⊥
 
 -- what is left of the input, and the kind of the first error of the reader, if it has failed; the writer, and how its
@@ -88,12 +88,13 @@ module _ {D : Type 0} (reports : D → ProgramError → D → Type 0) where
       ⊎ IsErrAnd returned (λ error. FilterFails words error
       × (effects.diagnostics.after ≡ effects.diagnostics.before))
 
-  -- the block before the writer cannot be allocated, and nothing is reported before this error; or the filter fails
-  -- with it, at `Output` because the writer failed, and at an early error the writer is not called
-  abbrev pub LinesFail :
-      {O : Type 0} → Process O D → List (String Global) → Option (O × Bool) → ProgramError → Type 0
-  LinesFail process words back error =
-      MatchOption back
-      ((error ≡ start_error FixdecLines Memory) × (process.diagnostics.after ≡ process.diagnostics.before))
-      (λ closed. WordsFilter words (effects process closed.0) (Err error)
-      × (error ≡ Output → closed.1 ≡ true) × (IsEarly error → closed ≡ (process.writer, false)))
+  -- the work of `fixdec_lines`: the block before the writer cannot be allocated; or the words filter with this result,
+  -- and the writer has failed only with an error, and at `Output`; at an early one it is not called
+  abbrev pub LinesEnd :
+      {O : Type 0} → Process O D → List (String Global) → Result Bool ProgramError → Option (O × Bool) → Type 0
+  LinesEnd process words returned None = returned ≡ Err (setup_error FixdecLines Memory)
+  LinesEnd process words returned (Some closed) =
+      WordsFilter words (effects process closed.0) returned
+      × OnOk returned (closed.1 ≡ false)
+      × IfErr returned
+      (λ error. (error ≡ Output → closed.1 ≡ true) × (IsEarly error → closed ≡ (process.writer, false)))

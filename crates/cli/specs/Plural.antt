@@ -1,5 +1,5 @@
 -- The rules and the texts that the words of `plural` name, and its result.
-use Rattle.std.specs.Prelude.{◌≡◌, ◌≢◌, ℕ, ◌<◌, ◌⊎◌, Bool, true, false, List, [], ◌∷◌, length, String, string_bytes, Option, MatchOption}
+use Rattle.std.specs.Prelude.{◌≡◌, ◌≢◌, ℕ, ◌<◌, ◌⊎◌, Bool, true, false, List, [], ◌∷◌, length, String, string_bytes, Option, Result, Ok, Err, IsSomeAnd, MatchOption}
 use Rattle.std.specs.Io.KnownBytes.{append_known}
 use Rattle.std.specs.declared.alloc.Global.{Global}
 use Rattle.plural_rules.specs.Rules.{RuleValue}
@@ -7,7 +7,7 @@ use Rattle.cli.specs.declared.program.error.ProgramError.{ProgramError}
 use Rattle.cli.specs.declared.program.error.ProgramError.TheVariants.{Output}
 use Rattle.cli.specs.declared.program.error.WordsError.TheVariants.{NoText, Memory}
 use Rattle.cli.specs.declared.program.help.Program.TheVariants.{Plural}
-use Rattle.cli.specs.Error.{start_error, error_of_rules}
+use Rattle.cli.specs.Error.{setup_error, error_of_rules}
 use Rattle.cli.specs.Categories.{PrintsAll, StopsAt}
 use Rattle.conversions.specs.declared.named_rules.NamedRulesError.{NamedRulesError}
 use Rattle.conversions.specs.NamedRules.{NamesRules, NamesNoRules}
@@ -26,20 +26,23 @@ HasRules words P =
 -- the error before a text is read: there are no rules or no texts, or the first word names no rules
 abbrev pub RulesFail : List (String Global) → ProgramError → Type 0
 RulesFail words error =
-    ((length words < 2) × (error ≡ start_error Plural NoText))
+    ((length words < 2) × (error ≡ setup_error Plural NoText))
     ⊎ HasTexts words (λ bytes _. (why : NamedRulesError) × (error ≡ error_of_rules why) × NamesNoRules bytes why)
 
 -- the categories of all texts are printed
 abbrev pub Prints : List (String Global) → Option (List ℕ) → Option (List ℕ) → Type 0
 Prints words old new = HasRules words (λ rules texts. PrintsAll rules texts old new)
 
--- the block before the writer cannot be allocated; or the error comes before a text is read, and the writer is not
--- called; or it comes after the lines of some texts, of which bytes are unwritten only where the writer failed, as it
--- did at `Output`
-abbrev pub PluralFails :
-    {O : Type 0} → (O → Option (List ℕ)) → O → List (String Global) → Option (O × Bool) → ProgramError → Type 0
-PluralFails contents out words back error =
-    MatchOption back (error ≡ start_error Plural Memory) (λ closed. (RulesFail words error × (closed ≡ (out, false)))
+-- the work of `plural`: the categories of all texts are printed; or it has an error: the block before the writer cannot
+-- be allocated; or the error comes before a text is read, and the writer is not called; or it comes after the lines of
+-- some texts, of which bytes are unwritten only where the writer failed, as it did at `Output`
+abbrev pub Categorizes :
+    {O : Type 0} → (O → Option (List ℕ)) → O → List (String Global) → Result Bool ProgramError → Option (O × Bool)
+    → Type 0
+Categorizes contents out words (Ok texts) back =
+    IsSomeAnd back (λ closed. (texts ≡ true) × (closed.1 ≡ false) × Prints words (contents out) (contents closed.0))
+Categorizes contents out words (Err error) back =
+    MatchOption back (error ≡ setup_error Plural Memory) (λ closed. (RulesFail words error × (closed ≡ (out, false)))
     ⊎ ((unwritten : List ℕ) × (closed.1 ≡ false → unwritten ≡ []) × (error ≡ Output → closed.1 ≡ true)
     × HasRules words (λ rules texts. StopsAt rules texts (contents out) (append_known (contents closed.0) unwritten)
     error)))

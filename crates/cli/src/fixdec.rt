@@ -1,16 +1,17 @@
 //! `fixdec TEXT [read:LOCALE] [CALL].. [format:LOCALE]`: reads a decimal, makes the calls in order, and prints the text
 //! of the result.
-ghost use Rattle.std.specs.Prelude.{◌≡◌, ◌≢◌, ◌≤◌, ◌<◌, true, false, Err, IfOk, IfErr, IfSome, OnOk, IsSomeAnd};
+ghost use Rattle.std.specs.Prelude.{◌≡◌, ◌≢◌, ◌≤◌, ◌<◌, Bool, true, false, None, Result, Err, IfOk, IfErr, IfSome, OnOk};
 ghost use Rattle.std.specs.Process.{exit_status};
 ghost use Rattle.cli.specs.declared.program.error.ProgramError.{ProgramError};
 ghost use Rattle.cli.specs.declared.program.help.Program.TheVariants.{Fixdec};
 ghost use Rattle.cli.specs.Error.{status_of};
 ghost use Rattle.conversions.specs.Conversion.{OperationsFail};
-ghost use Rattle.cli.specs.Fixdec.{HasError, WordsFail, NamesRun, PrintsLine, PrintsLinePrefix, Prints, PrintsPrefix};
-ghost use Rattle.cli.specs.Arguments.{PrintsFor, ArgumentsFail};
+ghost use Rattle.cli.specs.Fixdec.{HasError, Converts, NamesRun, PrintsLine, PrintsLinePrefix, Prints, PrintsPrefix};
+ghost use Rattle.cli.specs.Arguments.{Ends};
+ghost use Rattle.cli.specs.Diagnostics.{Concludes};
 
 use crate::program::arguments::start;
-use crate::program::diagnostics::{Diagnostics, ErrorLines};
+use crate::program::diagnostics::{Diagnostics, ErrorLines, conclude};
 use crate::program::error::{ProgramError, WordsError};
 use crate::program::help::Program;
 use crate::words::conversion::parse_conversion;
@@ -52,16 +53,17 @@ fn parse_words(alloc: Global, words: &[String]) -> Result<(&[u8], Conversion<'_>
     ensures no_output { IfErr result (λ error. error ≢ ProgramError.Output) }
 {
     match words.split_first() {
-        None => Err(ProgramError::start(Program::Fixdec, WordsError::NoText)),
+        None => Err(ProgramError::setup(Program::Fixdec, WordsError::NoText)),
         Some((text, words)) => match parse_conversion(alloc, words) {
             Ok(conversion) => Ok((text.as_bytes(), conversion)),
-            Err(why) => Err(ProgramError::start(Program::Fixdec, why)),
+            Err(why) => Err(ProgramError::setup(Program::Fixdec, why)),
         },
     }
 }
 
-fn print<O: Write>(alloc: Global, words: &[String], out: &mut Out<O>) -> Result<(), ProgramError>
-    ensures printed { OnOk result (Prints words.now (O.contents out.old.0) (O.contents out.new.0)) }
+fn print<O: Write>(alloc: Global, words: &[String], out: &mut Out<O>) -> Result<bool, ProgramError>
+    ensures printed { IfOk result (λ texts. (texts ≡ true)
+        × Prints words.now (O.contents out.old.0) (O.contents out.new.0)) }
     ensures has_not_failed { OnOk result (out.new.1 ≡ false) }
     ensures error { IfErr result (HasError words.now) }
     ensures unchanged_on_error { IfErr result (λ error. error ≢ ProgramError.Output → out.new ≡ out.old) }
@@ -72,35 +74,13 @@ fn print<O: Write>(alloc: Global, words: &[String], out: &mut Out<O>) -> Result<
     let (text, conversion) = parse_words(alloc, words)?;
     print_line(alloc, &conversion, text, out)?;
     out.flush()?;
-    Ok(())
-}
-
-fn conclude_on<D: Diagnostics<ProgramError>>(
-    done: Result<(), ProgramError>,
-    diagnostics: &mut D,
-) -> u8
-    ensures at_most { result ≤ 3 }
-    ensures done { OnOk done ((result ≡ 0) × (diagnostics.new ≡ diagnostics.old)) }
-    ensures reported { IfErr done (λ error. (0 < result) × (result ≡ status_of error)
-        × D.reports diagnostics.old error diagnostics.new) }
-{
-    match done {
-        Ok(()) => 0,
-        Err(error) => {
-            diagnostics.report(&error);
-            error.status()
-        }
-    }
+    Ok(true)
 }
 
 /// Runs the program on the words after its name, and returns the exit status.
 ///
-/// The first word is the text, whatever it holds. A second word `read:LOCALE` or `read:LOCALE:lenient` reads it in the
-/// form of the locale, and `read:LOCALE:SKELETON` or `read:LOCALE:lenient:SKELETON` in that of a number skeleton. A
-/// last word `format:LOCALE`, `format:LOCALE:GROUPING` or `format:LOCALE:SKELETON` writes the result so. Each other
-/// word is a call: `shift:D`, `trim-start`, `trim-end`, `trim-end-if-integer`, `pad-start:P`, `pad-end:P`, `max:P`,
-/// `round:P:MODE:INC`, `sign:SIGN`, `display:DISPLAY` or `concat:TEXT`, whose text is all that follows the colon. D and
-/// P are an optional minus and one to six digits, from -32768 to 32767. The words `250` and `shift:-2` print `2.50`.
+/// The first word is the text, whatever it holds. The others are a `read:`, calls and a `format:`, as the text of
+/// `--help` has them. The words `250` and `shift:-2` print `2.50`.
 ///
 /// # Errors
 ///
@@ -126,7 +106,7 @@ pub fn program<O: Write, D: Diagnostics<ProgramError>>(
         × PrintsPrefix words.now (O.contents out.old.0) (O.contents out.new.0)) }
     ensures unchanged_on_error { 0 < result → result < 3 → out.new ≡ out.old }
 {
-    conclude_on(print(alloc, words, out), diagnostics)
+    conclude(print(alloc, words, out), None, diagnostics)
 }
 
 /// Runs `program` on the arguments of the process, with a buffer before `out`, which is returned after its last call.
@@ -138,22 +118,19 @@ pub fn run_arguments<O: Write + Drop, D: Diagnostics<ProgramError>>(
     diagnostics: &mut D,
 ) -> (u8, Option<Closed<O>>)
     ensures at_most { result.0 ≤ 3 }
-    ensures printed { result.0 ≡ 0 → IsSomeAnd result.1 (λ closed. (closed.1 ≡ false)
-        × PrintsFor Fixdec arguments (O.contents out) (O.contents closed.0)
-        (λ words. Prints words (O.contents out) (O.contents closed.0))) }
     ensures silent { result.0 ≡ 0 → diagnostics.new ≡ diagnostics.old }
-    ensures reported { 0 < result.0 → (error : ProgramError) × (result.0 ≡ status_of error)
-        × ArgumentsFail Fixdec O.contents arguments out result.1 (WordsFail O.contents out) error
-        × D.reports diagnostics.old error diagnostics.new }
+    ensures ends { (done : Result Bool ProgramError)
+        × Ends Fixdec O.contents arguments out (Converts O.contents out) done result.1
+        × Concludes D.reports done None result.0 diagnostics.old diagnostics.new }
     ensures unchanged_on_error { 0 < result.0 → result.0 < 3 → IfSome result.1 (λ closed. closed ≡ (out, false)) }
 {
     let (words, out) = match start(alloc, Program::Fixdec, arguments, out) {
         Ok(started) => started,
-        Err((ended, closed)) => return (conclude_on(ended, diagnostics), Some(closed)),
+        Err((ended, back)) => return (conclude(ended, None, diagnostics), back),
     };
     let Ok(buffer) = BufWriter::with_capacity(alloc, BUFFER, out) else {
-        let no_memory = Err(ProgramError::start(Program::Fixdec, WordsError::Memory));
-        return (conclude_on(no_memory, diagnostics), None);
+        let no_memory = ProgramError::setup(Program::Fixdec, WordsError::Memory);
+        return (conclude(Err(no_memory), None, diagnostics), None);
     };
     let mut buffered = Out::new(buffer);
     let status = program(alloc, words.as_slice(), &mut buffered, diagnostics);
@@ -162,10 +139,8 @@ pub fn run_arguments<O: Write + Drop, D: Diagnostics<ProgramError>>(
     }
     let closed = buffered.close();
     if closed.has_failed() {
-        return (
-            conclude_on(Err(ProgramError::Output), diagnostics),
-            Some(closed),
-        );
+        let failed = Err(ProgramError::Output);
+        return (conclude(failed, None, diagnostics), Some(closed));
     }
     (0, Some(closed))
 }

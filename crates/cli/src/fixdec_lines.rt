@@ -1,20 +1,18 @@
 //! `fixdec_lines [OPTION].. [read:LOCALE] [CALL].. [format:LOCALE]`: makes the same calls on each line of its input, or
 //! on a field of it, and writes a line for each.
-ghost use Rattle.std.specs.Prelude.{◌≡◌, ◌≤◌, ◌<◌, ◌⊎◌, Ok, Err, true, false, IfOk, IfErr, IfSome, OnOk, IsSomeAnd};
+ghost use Rattle.std.specs.Prelude.{◌≡◌, ◌≤◌, Bool, true, false, Result, Ok, IfOk, IfErr, IfSome};
 ghost use Rattle.std.specs.Process.{exit_status};
-ghost use Rattle.decimal_digits.specs.Buffered.{buffered_contents};
 ghost use Rattle.cli.specs.declared.program.error.ProgramError.{ProgramError};
-ghost use Rattle.cli.specs.Arguments.{HaveWords, IsRequest, PrintsFor, ArgumentsFail};
+ghost use Rattle.cli.specs.Arguments.{HaveWords, IsRequest, Ends};
 ghost use Rattle.cli.specs.declared.program.help.Program.TheVariants.{FixdecLines};
-ghost use Rattle.cli.specs.Diagnostics.{Concludes};
-ghost use Rattle.cli.specs.Error.{status_of};
-ghost use Rattle.cli.specs.FixdecLines.{NamesFilter, FilterFails, IsEarly, Process, effects, WordsFilter, LinesFail};
+ghost use Rattle.cli.specs.Diagnostics.{ConcludesWith};
+ghost use Rattle.cli.specs.FixdecLines.{NamesFilter, FilterFails, IsEarly, Process, LinesEnd};
 ghost use Rattle.cli.specs.Input.{bytes_left};
 
 use crate::lines::input::LineReader;
 use crate::lines::named_filter::{NamedFilter, filter_input};
 use crate::program::arguments::start;
-use crate::program::diagnostics::{Diagnostics, ErrorLines, conclude};
+use crate::program::diagnostics::{Diagnostics, Ended, ErrorLines, conclude, conclude_ended};
 use crate::program::error::{ProgramError, WordsError};
 use crate::program::help::Program;
 use crate::words::options::split_options;
@@ -22,7 +20,7 @@ use crate::words::targets::parse_target;
 use fixed_decimal::{BufferedOut, Closed};
 use std::alloc::Global;
 use std::env::Args;
-use std::io::{Read, Stdout, Write};
+use std::io::{Read, Write};
 use std::process::ExitCode;
 use std::{env, io};
 
@@ -32,52 +30,54 @@ fn parse_filter(alloc: Global, words: &[String]) -> Result<NamedFilter<'_>, Prog
 {
     let (options, words) = split_options(words);
     if options.lacks_csv() {
-        return Err(ProgramError::start(Program::FixdecLines, WordsError::NoCsv));
+        return Err(ProgramError::setup(Program::FixdecLines, WordsError::NoCsv));
     }
     let Some(field) = options.field() else {
-        return Err(ProgramError::start(Program::FixdecLines, options.field_error()));
+        return Err(ProgramError::setup(Program::FixdecLines, options.field_error()));
     };
     let target = match parse_target(alloc, field, words) {
         Ok(target) => target,
-        Err(why) => return Err(ProgramError::start(Program::FixdecLines, why)),
+        Err(why) => return Err(ProgramError::setup(Program::FixdecLines, why)),
     };
     if target.has_names() && !options.has_header {
-        return Err(ProgramError::start(Program::FixdecLines, WordsError::NoHeader));
+        return Err(ProgramError::setup(Program::FixdecLines, WordsError::NoHeader));
     }
     Ok(NamedFilter { options, target })
 }
 
-/// Runs the filter that the words name with a block before the writer, and returns the writer after its last call.
+/// Runs the filter that the words name, with a block before the writer.
 fn filter_words<R: Read, O: Write + Drop, D: Diagnostics<ProgramError>>(
     alloc: Global,
     words: &[String],
     input: &mut LineReader<R>,
-    mut buffered: BufferedOut<O>,
+    out: O,
     diagnostics: &mut D,
-) -> (Result<bool, ProgramError>, Closed<O>)
-    ensures filtered { WordsFilter D.reports words.now (record {
+) -> Ended<O>
+    ensures filtered { LinesEnd D.reports (record {
       input = record { before = bytes_left R.remaining input.old; after = bytes_left R.remaining input.new };
       failure = input.new.1;
-      output = record { before = buffered_contents O.contents buffered; after = O.contents result.1.0 };
+      writer = out;
+      contents = O.contents;
       diagnostics = record { before = diagnostics.old; after = diagnostics.new };
-    }) result.0 }
+    }) words.now result.0 result.1 }
     ensures silent { result.0 ≡ Ok true → diagnostics.new ≡ diagnostics.old }
-    ensures has_not_failed { OnOk result.0 (result.1.1 ≡ false) }
-    ensures failed { result.0 ≡ Err ProgramError.Output → result.1.1 ≡ true }
     ensures unchanged_on_error { IfErr result.0 (λ error. IsEarly error
-        → (result.1 ≡ (buffered.writer, buffered.has_failed)) × (input.new ≡ input.old)
-        × (diagnostics.new ≡ diagnostics.old)) }
+        → (input.new ≡ input.old) × (diagnostics.new ≡ diagnostics.old)) }
 {
+    let Ok(mut buffered) = BufferedOut::open(alloc, out) else {
+        let no_memory = ProgramError::setup(Program::FixdecLines, WordsError::Memory);
+        return (Err(no_memory), None);
+    };
     let filter = match parse_filter(alloc, words) {
         Ok(filter) => filter,
-        Err(error) => return (Err(error), buffered.abandon()),
+        Err(error) => return (Err(error), Some(buffered.abandon())),
     };
     let filtered = filter_input(alloc, &filter, input, &mut buffered, diagnostics);
     let closed = buffered.close();
     if closed.has_failed() {
-        return (Err(ProgramError::Output), closed);
+        return (Err(ProgramError::Output), Some(closed));
     }
-    (filtered, closed)
+    (filtered, Some(closed))
 }
 
 /// Runs the program on the arguments of the process, over any diagnostics, with a block before `out`, which is returned
@@ -98,55 +98,28 @@ pub fn run_arguments<R: Read, O: Write + Drop, D: Diagnostics<ProgramError>>(
     diagnostics: &mut D,
 ) -> (u8, Option<Closed<O>>)
     ensures at_most { result.0 ≤ 3 }
-    ensures printed { let process : Process O D = record {
-      input = record { before = bytes_left R.remaining input.old; after = bytes_left R.remaining input.new };
-      failure = input.new.1;
-      writer = out;
-      contents = O.contents;
-      diagnostics = record { before = diagnostics.old; after = diagnostics.new };
-    } in
-        result.0 ≡ 0 → IsSomeAnd result.1 (λ closed. (closed.1 ≡ false)
-        × PrintsFor FixdecLines arguments (O.contents out) (O.contents closed.0)
-        (λ words. WordsFilter D.reports words (effects process closed.0) (Ok true))) }
     ensures silent { result.0 ≡ 0 → diagnostics.new ≡ diagnostics.old }
-    ensures reported { let process : (last : D) → Process O D = λ last. record {
+    ensures ends { let process : D → Process O D = λ last. record {
       input = record { before = bytes_left R.remaining input.old; after = bytes_left R.remaining input.new };
       failure = input.new.1;
       writer = out;
       contents = O.contents;
       diagnostics = record { before = diagnostics.old; after = last };
     } in
-        0 < result.0 →
-        ((result.0 ≡ 1) × HaveWords arguments (λ words. ¬ IsRequest FixdecLines words × IsSomeAnd result.1 (λ closed.
-        WordsFilter D.reports words (effects (process diagnostics.new) closed.0) (Ok false) × (closed.1 ≡ false))))
-        ⊎ ((error : ProgramError) × (before : D) × (result.0 ≡ status_of error)
-        × ArgumentsFail FixdecLines O.contents arguments out result.1
-        (LinesFail D.reports (process before)) error
-        × Concludes D.reports result.1 error before diagnostics.new
-        × (IsEarly error → (before ≡ diagnostics.old) × (input.new ≡ input.old))) }
+        (done : Result Bool ProgramError) × (last : D)
+        × Ends FixdecLines O.contents arguments out (LinesEnd D.reports (process last)) done result.1
+        × IfErr done (λ error. IsEarly error → (input.new ≡ input.old) × (last ≡ diagnostics.old))
+        × ConcludesWith D.reports done result.1 result.0 last diagnostics.new }
     ensures unread_for_request { HaveWords arguments (IsRequest FixdecLines) → input.new ≡ input.old }
     ensures unchanged_on_error { result.0 ≡ 2 → (input.new ≡ input.old)
         × IfSome result.1 (λ closed. closed ≡ (out, false)) }
 {
-    let (words, out) = match start(alloc, Program::FixdecLines, arguments, out) {
-        Ok(started) => started,
-        Err((ended, closed)) => {
-            let back = Some(closed);
-            return (conclude(ended, &back, diagnostics), back);
+    match start(alloc, Program::FixdecLines, arguments, out) {
+        Ok((words, out)) => {
+            let ended = filter_words(alloc, words.as_slice(), input, out, diagnostics);
+            conclude_ended(ended, diagnostics)
         }
-    };
-    let Ok(buffered) = BufferedOut::open(alloc, out) else {
-        let no_memory = Err(ProgramError::start(Program::FixdecLines, WordsError::Memory));
-        return (conclude(no_memory, &None::<Closed<O>>, diagnostics), None);
-    };
-    let (filtered, closed) = filter_words(alloc, words.as_slice(), input, buffered, diagnostics);
-    match filtered {
-        Ok(true) => (0, Some(closed)),
-        Ok(false) => (1, Some(closed)),
-        Err(error) => {
-            let back = Some(closed);
-            (conclude(Err(error), &back, diagnostics), back)
-        }
+        Err(ended) => conclude_ended(ended, diagnostics),
     }
 }
 
@@ -157,8 +130,8 @@ pub fn execute(rt: HostRuntime) -> ExitCode
     let mut err = rt.stderr();
     let mut diagnostics = ErrorLines::new(&mut err);
     let Ok(mut input) = LineReader::open(rt.alloc(), rt.stdin()) else {
-        let no_memory = Err(ProgramError::start(Program::FixdecLines, WordsError::Memory));
-        return ExitCode::from(conclude(no_memory, &None::<Closed<Stdout>>, &mut diagnostics));
+        let no_memory = ProgramError::setup(Program::FixdecLines, WordsError::Memory);
+        return ExitCode::from(conclude(Err(no_memory), None, &mut diagnostics));
     };
     let arguments = env::args(&rt);
     let (status, _out) = run_arguments(

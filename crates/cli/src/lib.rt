@@ -18,7 +18,7 @@ pub use lines::input::LineReader;
 pub use lines::rows::filter_lines;
 pub use program::diagnostics::{Diagnostics, ErrorLines};
 pub use program::error::{
-    FieldLabel, HeaderError, LineError, ProgramError, StartError, WordsError,
+    FieldLabel, HeaderError, LineError, ProgramError, SetupError, WordsError,
 };
 pub use program::help::Program;
 pub use words::calls::parse_calls;

@@ -1,18 +1,17 @@
 //! `plural LOCALE[:TYPE] TEXT..` and `plural RULES TEXT..`: prints the plural category of each text on a line.
-ghost use Rattle.std.specs.Prelude.{◌≡◌, ◌<◌, ◌≤◌, IfOk, IfErr, OnOk, IsSomeAnd, false};
+ghost use Rattle.std.specs.Prelude.{◌≡◌, ◌≤◌, Bool, Result, IfOk, IfErr};
 ghost use Rattle.std.specs.Process.{exit_status};
 ghost use Rattle.cli.specs.declared.program.error.ProgramError.{ProgramError};
 ghost use Rattle.cli.specs.declared.program.help.Program.TheVariants.{Plural};
-ghost use Rattle.cli.specs.Diagnostics.{Concludes};
-ghost use Rattle.cli.specs.Error.{status_of};
-ghost use Rattle.cli.specs.Plural.{HasRules, RulesFail, Prints, PluralFails};
-ghost use Rattle.cli.specs.Arguments.{PrintsFor, ArgumentsFail};
+ghost use Rattle.cli.specs.Arguments.{Ends};
+ghost use Rattle.cli.specs.Diagnostics.{ConcludesWith};
+ghost use Rattle.cli.specs.Plural.{HasRules, RulesFail, Categorizes};
 
 mod categories;
 
 use crate::plural::categories::print_categories;
 use crate::program::arguments::start;
-use crate::program::diagnostics::{Diagnostics, ErrorLines, conclude};
+use crate::program::diagnostics::{Diagnostics, Ended, ErrorLines, conclude_ended};
 use crate::program::error::{ProgramError, WordsError};
 use crate::program::help::Program;
 use conversions::parse_rules;
@@ -33,41 +32,33 @@ fn rules_and_texts(
     ensures error { IfErr result (RulesFail words.now) }
 {
     let Some((rules, texts)) = words.split_first() else {
-        return Err(ProgramError::start(Program::Plural, WordsError::NoText));
+        return Err(ProgramError::setup(Program::Plural, WordsError::NoText));
     };
     if texts.is_empty() {
-        return Err(ProgramError::start(Program::Plural, WordsError::NoText));
+        return Err(ProgramError::setup(Program::Plural, WordsError::NoText));
     }
     let rules = parse_rules(alloc, rules.as_str())?;
     Ok((rules, texts))
 }
 
-/// Prints the categories of the texts after the rules through a block, and returns the writer after its last call.
-fn print<O: Write + Drop>(
-    alloc: Global,
-    words: &[String],
-    out: O,
-) -> (Result<(), ProgramError>, Option<Closed<O>>)
-    ensures printed { OnOk result.0 (IsSomeAnd result.1 (λ closed.
-        Prints words.now (O.contents out) (O.contents closed.0) × (closed.1 ≡ false))) }
-    ensures error { IfErr result.0 (PluralFails O.contents out words.now result.1) }
+/// Prints the categories of the texts after the rules through a block.
+fn print<O: Write + Drop>(alloc: Global, words: &[String], out: O) -> Ended<O>
+    ensures { Categorizes O.contents out words.now result.0 result.1 }
 {
     let (rules, texts) = match rules_and_texts(alloc, words) {
         Ok(found) => found,
         Err(error) => return (Err(error), Some(Closed::new(out, None))),
     };
     let Ok(mut buffered) = BufferedOut::open(alloc, out) else {
-        return (
-            Err(ProgramError::start(Program::Plural, WordsError::Memory)),
-            None,
-        );
+        let no_memory = ProgramError::setup(Program::Plural, WordsError::Memory);
+        return (Err(no_memory), None);
     };
     let printed = print_categories(alloc, &rules, texts, &mut buffered);
     let closed = buffered.close();
     if closed.has_failed() {
         return (Err(ProgramError::Output), Some(closed));
     }
-    (printed, Some(closed))
+    (printed.and(Ok(true)), Some(closed))
 }
 
 /// Runs the program on the arguments of the process, over any diagnostics, with a block before `out`, which is returned
@@ -92,24 +83,15 @@ pub fn run_arguments<O: Write + Drop, D: Diagnostics<ProgramError>>(
     diagnostics: &mut D,
 ) -> (u8, Option<Closed<O>>)
     ensures at_most { result.0 ≤ 3 }
-    ensures printed { result.0 ≡ 0 → IsSomeAnd result.1 (λ closed. (closed.1 ≡ false)
-        × PrintsFor Plural arguments (O.contents out) (O.contents closed.0)
-        (λ words. Prints words (O.contents out) (O.contents closed.0))) }
     ensures silent { result.0 ≡ 0 → diagnostics.new ≡ diagnostics.old }
-    ensures reported { 0 < result.0 → (error : ProgramError) × (result.0 ≡ status_of error)
-        × ArgumentsFail Plural O.contents arguments out result.1 (PluralFails O.contents out) error
-        × Concludes D.reports result.1 error diagnostics.old diagnostics.new }
+    ensures ends { (done : Result Bool ProgramError)
+        × Ends Plural O.contents arguments out (Categorizes O.contents out) done result.1
+        × ConcludesWith D.reports done result.1 result.0 diagnostics.old diagnostics.new }
 {
-    let (words, out) = match start(alloc, Program::Plural, arguments, out) {
-        Ok(started) => started,
-        Err((ended, closed)) => {
-            let back = Some(closed);
-            return (conclude(ended, &back, diagnostics), back);
-        }
-    };
-    let (printed, back) = print(alloc, words.as_slice(), out);
-    let status = conclude(printed, &back, diagnostics);
-    (status, back)
+    match start(alloc, Program::Plural, arguments, out) {
+        Ok((words, out)) => conclude_ended(print(alloc, words.as_slice(), out), diagnostics),
+        Err(ended) => conclude_ended(ended, diagnostics),
+    }
 }
 
 /// Runs the process: `run_arguments` on its arguments, standard output and standard error.

@@ -31,7 +31,7 @@ fn shown_word() -> ShownWord {
 pub fn are_reported() -> bool {
     let lines = [
         (
-            ProgramError::start(Program::FixdecLines, WordsError::Misplaced(shown_word())),
+            ProgramError::setup(Program::FixdecLines, WordsError::Misplaced(shown_word())),
             "fixdec_lines: 0123456789?123456789?123456789?123456789 is not in its place (--help lists all)\n",
         ),
         (

@@ -63,7 +63,7 @@ fn print_category<W: Sink>(
 {
     match category(alloc, rules, text) {
         Ok(category) => Ok(write_category_line(category, sink)?),
-        Err(ParseError::Memory) => Err(ProgramError::start(Program::Plural, WordsError::Memory)),
+        Err(ParseError::Memory) => Err(ProgramError::setup(Program::Plural, WordsError::Memory)),
         Err(ParseError::Syntax) => Err(ProgramError::Text {
             number,
             reason: Reason::Syntax,

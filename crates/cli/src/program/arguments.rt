@@ -1,7 +1,8 @@
 //! The words of a command line.
 ghost use Rattle.std.specs.Prelude.{◌≡◌, IfOk, IfErr, IfSome, IfNone};
-ghost use Rattle.cli.specs.Arguments.{HaveWords, AreUnreadable, Asks, IsRequest, Ends};
+ghost use Rattle.cli.specs.Arguments.{HaveWords, AreUnreadable, Asks, IsRequest, EndsBeforeWork};
 
+use crate::program::diagnostics::Ended;
 use crate::program::error::{ProgramError, WordsError};
 use crate::program::help::{Program, Request};
 use fixed_decimal::Closed;
@@ -44,34 +45,33 @@ fn request(program: Program, words: &[String]) -> Option<Request>
 ///
 /// # Errors
 ///
-/// The program has ended: its help or version was printed, or there is an error. The writer is returned after its last
-/// call.
+/// The program has ended before its work: what its only word asks for was printed, or there is an error.
 pub fn start<O: Write>(
     alloc: Global,
     program: Program,
     arguments: io::Result<Args>,
     mut out: O,
-) -> Result<(Vec<String>, O), (Result<(), ProgramError>, Closed<O>)>
+) -> Result<(Vec<String>, O), Ended<O>>
     ensures words { IfOk result (λ started. HaveWords arguments
         (λ all. (started.0.items ≡ all) × ¬ IsRequest program started.0.items)) }
     ensures out { IfOk result (λ started. started.1 ≡ out) }
-    ensures ended { IfErr result (λ ended. Ends program O.contents arguments out ended.1 ended.0) }
+    ensures ended { IfErr result (λ ended. EndsBeforeWork program O.contents arguments out ended.0 ended.1) }
 {
     let words = match words(alloc, arguments) {
         Ok(words) => words,
         Err(why) => return Err((
-            Err(ProgramError::start(program, why)),
-            Closed::new(out, None),
+            Err(ProgramError::setup(program, why)),
+            Some(Closed::new(out, None)),
         )),
     };
     let Some(request) = request(program, words.as_slice()) else {
         return Ok((words, out));
     };
     match program.print(request, &mut out) {
-        Ok(()) => Err((Ok(()), Closed::new(out, None))),
+        Ok(()) => Err((Ok(true), Some(Closed::new(out, None)))),
         Err(error) => Err((
-            Err(ProgramError::start(program, WordsError::Output)),
-            Closed::new(out, Some(error)),
+            Err(ProgramError::setup(program, WordsError::Output)),
+            Some(Closed::new(out, Some(error))),
         )),
     }
 }

@@ -1,7 +1,6 @@
 //! Reports of errors.
-ghost use Rattle.std.specs.Prelude.{◌≡◌, ◌<◌, ◌≤◌, None, is_some, IfErr, OnOk};
-ghost use Rattle.cli.specs.Diagnostics.{IsErrorLine, Reports, is_closed_pipe, IsFailure, Concludes};
-ghost use Rattle.cli.specs.Error.{status_of};
+ghost use Rattle.std.specs.Prelude.{◌≡◌, ◌≤◌, None, Ok, true, is_some};
+ghost use Rattle.cli.specs.Diagnostics.{IsErrorLine, Reports, is_closed_pipe, IsFailure, Concludes, ConcludesWith};
 
 use crate::program::error::ProgramError;
 use arrayvec::ArrayString;
@@ -11,6 +10,10 @@ use std::io::{ErrorKind, Write};
 
 /// A line of at most 120 bytes and its line feed. The longest text of an error has 104 bytes.
 type Line = ArrayString<121>;
+
+/// How a program ends: whether each of its texts has a result, or with an error; and its writer after the last call,
+/// which is none where the block before it cannot be allocated. The errors of texts without a result are reported.
+pub type Ended<O> = (Result<bool, ProgramError>, Option<Closed<O>>);
 
 /// Takes reports of errors.
 ///
@@ -84,24 +87,40 @@ fn failure<O>(back: &Option<Closed<O>>) -> Option<ErrorKind>
     }
 }
 
-/// Reports the error, if there is one, and returns the exit status. A failed output of the writer that is returned is
-/// not reported where its pipe is closed.
-pub fn conclude<O, D: Diagnostics<ProgramError>>(
-    done: Result<(), ProgramError>,
-    back: &Option<Closed<O>>,
+/// Reports the error, if there is one, and returns the exit status. A failed output is not reported if its failure is
+/// that of a closed pipe.
+pub fn conclude<D: Diagnostics<ProgramError>>(
+    done: Result<bool, ProgramError>,
+    failure: Option<ErrorKind>,
     diagnostics: &mut D,
 ) -> u8
     ensures at_most { result ≤ 3 }
-    ensures done { OnOk done ((result ≡ 0) × (diagnostics.new ≡ diagnostics.old)) }
-    ensures reported { IfErr done (λ error. (0 < result) × (result ≡ status_of error)
-        × Concludes D.reports back.now error diagnostics.old diagnostics.new) }
+    ensures silent { result ≡ 0 → (done ≡ Ok true) × (diagnostics.new ≡ diagnostics.old) }
+    ensures concludes { Concludes D.reports done failure result diagnostics.old diagnostics.new }
 {
-    let Err(error) = done else {
-        return 0;
-    };
-    let is_silent = is_closed_pipe(failure(back)) && error.is_output();
-    if !is_silent {
-        diagnostics.report(&error);
+    match done {
+        Ok(true) => 0,
+        Ok(false) => 1,
+        Err(error) => {
+            let is_silent = is_closed_pipe(failure) && error.is_output();
+            if !is_silent {
+                diagnostics.report(&error);
+            }
+            error.status()
+        }
     }
-    error.status()
+}
+
+/// Concludes with the failure of the writer that is returned, if it failed.
+pub fn conclude_ended<O, D: Diagnostics<ProgramError>>(
+    ended: Ended<O>,
+    diagnostics: &mut D,
+) -> (u8, Option<Closed<O>>)
+    ensures at_most { result.0 ≤ 3 }
+    ensures silent { result.0 ≡ 0 → (ended.0 ≡ Ok true) × (diagnostics.new ≡ diagnostics.old) }
+    ensures back { result.1 ≡ ended.1 }
+    ensures concludes { ConcludesWith D.reports ended.0 ended.1 result.0 diagnostics.old diagnostics.new }
+{
+    let (done, back) = ended;
+    (conclude(done, failure(&back), diagnostics), back)
 }

@@ -1,6 +1,6 @@
 //! The errors of the programs: a line on standard error and an exit status each.
 ghost use Rattle.std.specs.Prelude.{◌≡◌, ◌<◌, ◌≤◌};
-ghost use Rattle.cli.specs.Error.{status_of_words, status_of_header, status_of, is_output, start_error};
+ghost use Rattle.cli.specs.Error.{status_of_words, status_of_header, status_of, is_output, setup_error};
 
 use crate::program::help::Program;
 use conversions::{FormError, NamedRulesError, OperationError, Reason, ShownWord};
@@ -65,12 +65,12 @@ impl From<FormError> for WordsError {
 
 /// The error of a program before its work.
 #[derive(Clone, Copy, Debug)]
-pub struct StartError {
+pub struct SetupError {
     pub program: Program,
     pub why: WordsError,
 }
 
-impl fmt::Display for StartError {
+impl fmt::Display for SetupError {
     fn fmt<W: fmt::Write>(&self, f: &mut fmt::Formatter<W>) -> fmt::Result {
         let name = self.program.name();
         match self.why {
@@ -99,7 +99,7 @@ impl fmt::Display for StartError {
     }
 }
 
-impl error::Error for StartError {}
+impl error::Error for SetupError {}
 
 impl WordsError {
     fn status(&self) -> u8
@@ -204,7 +204,7 @@ impl HeaderError {
 pub enum ProgramError {
     /// The program ends before its work.
     #[error(transparent)]
-    Start(StartError),
+    Setup(SetupError),
     /// The conversion of the text fails.
     #[error(transparent)]
     Operation(OperationError),
@@ -233,10 +233,10 @@ pub enum ProgramError {
 
 impl ProgramError {
     /// Returns the error of a program before its work.
-    pub fn start(program: Program, why: WordsError) -> Self
-        ensures { result ≡ start_error program why }
+    pub fn setup(program: Program, why: WordsError) -> Self
+        ensures { result ≡ setup_error program why }
     {
-        ProgramError::Start(StartError { program, why })
+        ProgramError::Setup(SetupError { program, why })
     }
 
     /// Returns whether a write or the flush of the output failed.
@@ -245,7 +245,7 @@ impl ProgramError {
     {
         match self {
             ProgramError::Output => true,
-            ProgramError::Start(error) => matches!(error.why, WordsError::Output),
+            ProgramError::Setup(error) => matches!(error.why, WordsError::Output),
             _ => false,
         }
     }
@@ -257,7 +257,7 @@ impl ProgramError {
         ensures at_most { result ≤ 3 }
     {
         match self {
-            ProgramError::Start(error) => error.why.status(),
+            ProgramError::Setup(error) => error.why.status(),
             ProgramError::Operation(error) => error.status(),
             ProgramError::Line { error, .. } => error.error.status(),
             ProgramError::Header(error) => error.status(),
@@ -290,13 +290,13 @@ impl From<NamedRulesError> for ProgramError {
             NamedRulesError::Rules(RulesError::Syntax { at }) => (at, Reason::Syntax),
             NamedRulesError::Rules(RulesError::Limit { at }) => (at, Reason::Limit),
             NamedRulesError::Rules(RulesError::Memory) => {
-                return ProgramError::start(Program::Plural, WordsError::Memory);
+                return ProgramError::setup(Program::Plural, WordsError::Memory);
             }
             NamedRulesError::UnknownLocale(tag) => {
-                return ProgramError::start(Program::Plural, WordsError::UnknownLocale(tag));
+                return ProgramError::setup(Program::Plural, WordsError::UnknownLocale(tag));
             }
             NamedRulesError::UnknownType(letters) => {
-                return ProgramError::start(Program::Plural, WordsError::UnknownType(letters));
+                return ProgramError::setup(Program::Plural, WordsError::UnknownType(letters));
             }
         };
         ProgramError::Rules { at, reason }

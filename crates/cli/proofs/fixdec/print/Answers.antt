@@ -1,4 +1,4 @@
-use Rattle.std.proofs.Common.{◌≡◌, Err, ap, ◌∙◌}
+use Rattle.std.proofs.Common.{◌≡◌, Err, refl, ap, ◌∙◌}
 use Rattle.std.proofs.lemmas.Result.{err_from_is_err_and}
 use Rattle.cli.specs.declared.program.error.ProgramError.TheVariants as program
 use Rattle.cli.specs.Error.{conversion_error}
@@ -56,6 +56,8 @@ returns-in_err-flush-clause-prefix g c = λ _.
 
 pub returns-clause-printed : goal.returns-clause-printed
 returns-clause-printed g c =
-    let run = c.in_ok-text in
-    run_of run.conversion run.text.now run.ensures.some
-    (line_kept run.conversion run.text.now _ _ _ c.in_ok-print_line.ensures.printed c.flush.ensures.keeps)
+    let run = c.in_ok-text in (
+      refl,
+      run_of run.conversion run.text.now run.ensures.some
+          (line_kept run.conversion run.text.now _ _ _ c.in_ok-print_line.ensures.printed c.flush.ensures.keeps),
+    )

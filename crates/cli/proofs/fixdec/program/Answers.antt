@@ -1,12 +1,23 @@
 use Rattle.std.proofs.Common.{Err, ap, ◌∙◌}
-use Rattle.cli.proofs.lemmas.program.Programs.{some_error}
+use Rattle.cli.proofs.lemmas.program.Programs.{concludes_error}
 use Rattle.cli.proofs.fixdec.program.Goals as goal
+
+pub returns-clause-printed : goal.returns-clause-printed
+returns-clause-printed g c = λ zero.
+    let (is, same) = c.conclude.ensures.silent zero in
+    let (all, printed) = rw is at c.print.ensures.printed in
+    printed
+
+pub returns-clause-has_not_failed : goal.returns-clause-has_not_failed
+returns-clause-has_not_failed g c = λ zero.
+    let (is, same) = c.conclude.ensures.silent zero in
+    rw is at c.print.ensures.has_not_failed
 
 pub returns-clause-reported : goal.returns-clause-reported
 returns-clause-reported g c = λ some.
-    let concluded = c.conclude_on.ensures in
-    let (error, is, (positive, status, reported)) =
-    some_error _ _ c.print.result c.conclude_on.result concluded.done concluded.reported some in (
+    let (error, is, status, reported) =
+    concludes_error _ g.D.Diagnostics.reports c.print.result c.conclude.result _ _ c.print.ensures.printed
+    c.conclude.ensures.concludes some in (
       error,
       status,
       rw is at c.print.ensures.error,

@@ -1,17 +1,29 @@
-use Rattle.std.proofs.Common.{◌≡◌, ◌≢◌, ◌∙◌, ℕ, List, inr, refl, true, false, rules}
+use Rattle.std.proofs.Common.{◌≡◌, ◌≢◌, ◌<◌, ◌∙◌, ℕ, List, Ok, Err, inl, inr, refl, true, false, rules}
 use Rattle.std.specs.Io.Buffered.{writer_contents, writer_inner, writer_buffer}
 use Rattle.std.specs.Io.KnownBytes.{append_known}
 use Rattle.cli.specs.Fixdec.{PrintsPrefix}
 use Rattle.cli.specs.declared.program.error.ProgramError.TheVariants.{Output}
+use Rattle.cli.specs.declared.program.error.WordsError.TheVariants.{Memory}
 use Rattle.cli.specs.declared.program.help.Program.TheVariants.{Fixdec}
-use Rattle.cli.specs.Error.{status_of}
+use Rattle.cli.specs.Error.{setup_error}
 use Rattle.cli.proofs.lemmas.program.Buffers.{new_writer}
 use Rattle.cli.proofs.lemmas.program.Programs.{prints_kept, unwritten_fails}
-use Rattle.cli.proofs.lemmas.program.Starting.{have_words, prints_for}
+use Rattle.cli.proofs.lemmas.program.Starting.{have_words}
 use Rattle.cli.proofs.fixdec.run_arguments.Goals as goal
 
-pub returns-then-has_failed-clause-reported : goal.returns-then-has_failed-clause-reported
-returns-then-has_failed-clause-reported g c = λ _.
+pub returns-in-Err-clause-ends : goal.returns-in-Err-clause-ends
+returns-in-Err-clause-ends g c = (c.in-Err.ended, inl c.in-Err.ensures.ended, c.conclude.ensures.concludes)
+
+pub returns-in_default-clause-ends : goal.returns-in_default-clause-ends
+returns-in_default-clause-ends g c =
+    let words = c.in-Ok.started.0.items in (
+      Err (setup_error Fixdec Memory),
+      inr (have_words Fixdec c.args.arguments words _ c.in-Ok.ensures.words refl),
+      rw c.setup-no_memory.ensures at c.conclude-in_default.ensures.concludes,
+    )
+
+pub returns-then-has_failed-clause-ends : goal.returns-then-has_failed-clause-ends
+returns-then-has_failed-clause-ends g c =
     let words = c.in-Ok.started.0.items in
     let buffer = c.in-Ok-with_capacity in
     let zero : c.program-status.result ≡ 0 = search rules in
@@ -21,19 +33,15 @@ returns-then-has_failed-clause-reported g c = λ _.
     rw (c.new-buffered.ensures, empty, c.as_slice.ensures.value) at (c.program-status.ensures.printed zero) in
     let (unwritten, keeps) = c.close-closed.ensures.prefix in
     let (fails, prefix) = unwritten_fails words _ _ _ printed keeps in
-    let failed : c.close-closed.result.1 ≡ true = search rules in
-    let (some, status, reported) =
-    rw (c.program-status.ensures.silent zero) at c.conclude_on-then-has_failed.ensures.reported in
-    let is : c.conclude_on-then-has_failed.result ≡ status_of Output = search rules in (
-      Output,
-      is,
+    let failed : c.close-closed.result.1 ≡ true = search rules in (
+      Err Output,
       inr (have_words Fixdec c.args.arguments words _ c.in-Ok.ensures.words
           (fails, (λ other. absurd (other refl)), λ _. (failed, (unwritten, prefix)))),
-      reported,
+      rw (c.program-status.ensures.silent zero) at c.conclude-then-has_failed.ensures.concludes,
     )
 
-pub returns-clause-printed : goal.returns-clause-printed
-returns-clause-printed g c = λ _.
+pub returns-clause-ends : goal.returns-clause-ends
+returns-clause-ends g c =
     let words = c.in-Ok.started.0.items in
     let buffer = c.in-Ok-with_capacity in
     let zero : c.program-status.result ≡ 0 = search rules in
@@ -42,11 +50,14 @@ returns-clause-printed g c = λ _.
     let printed =
     rw (c.new-buffered.ensures, empty, c.as_slice.ensures.value) at (c.program-status.ensures.printed zero) in
     let written : c.close-closed.result.1 ≡ false = search rules in
-    let kept = prints_kept words _ _ _ printed (c.close-closed.ensures.written written) in
-    (written, prints_for Fixdec c.args.arguments words _ c.in-Ok.ensures.words kept _ _)
+    let kept = prints_kept words _ _ _ printed (c.close-closed.ensures.written written) in (
+      Ok true,
+      inr (have_words Fixdec c.args.arguments words _ c.in-Ok.ensures.words (refl, written, kept)),
+      (refl, c.program-status.ensures.silent zero),
+    )
 
-pub returns-then-status-ne0-clause-reported : goal.returns-then-status-ne0-clause-reported
-returns-then-status-ne0-clause-reported g c = λ some.
+pub returns-then-status-ne0-clause-ends : goal.returns-then-status-ne0-clause-ends
+returns-then-status-ne0-clause-ends g c =
     let words = c.in-Ok.started.0.items in
     let buffer = c.in-Ok-with_capacity in
     let contents = g.O.Write.contents in
@@ -54,6 +65,7 @@ returns-then-status-ne0-clause-reported g c = λ some.
     let empty : writer_contents contents buffer.buffer ≡ contents c.args.out =
     new_writer contents buffer.buffer c.args.out inner buffer.ensures.empty in
     let out = c.program-status.new.out in
+    let some : 0 < c.program-status.result = search rules in
     let (error, status, has, reported, same, output) =
     rw c.as_slice.ensures.value at (c.program-status.ensures.reported some) in
     let closed : error ≢ Output → (writer_inner out.0, out.1) ≡ (c.args.out, false) = λ other.
@@ -63,9 +75,8 @@ returns-then-status-ne0-clause-reported g c = λ some.
     × PrintsPrefix words (contents c.args.out) (append_known (contents (writer_inner out.0)) unwritten)) = λ is.
     let (failed, begun) = output is in
     (failed, (writer_buffer out.0, rw (c.new-buffered.ensures, empty) at begun)) in (
-      error,
-      status,
+      Err error,
       inr (have_words Fixdec c.args.arguments words _ c.in-Ok.ensures.words
           (has, rw c.abandon.ensures closed, rw c.abandon.ensures prefix)),
-      reported,
+      (status, reported),
     )

@@ -1,16 +1,23 @@
-use Rattle.std.proofs.Common.{ℕ, List, [], Option, Some, Result, Ok, Err, IfErr, OnOk, Bool, inl, inr, refl, rules}
+use Rattle.std.proofs.Common.{◌≡◌, ◌∙◌, ℕ, List, [], String, Option, Some, Result, Ok, Err, IfErr, OnOk, Bool, true, false, inl, inr, refl, ap, subst}
+use Rattle.std.specs.Prelude.{MatchBool}
+use Rattle.std.specs.declared.alloc.Global.{Global}
 use Rattle.std.specs.Io.KnownBytes.{Keeps, append_known}
 use Rattle.std.proofs.KnownBytes.{Appends-kept}
 use Rattle.decimal_digits.specs.AppendsPrefix.{AppendsPrefix}
 use Rattle.cli.specs.declared.program.error.ProgramError.{ProgramError}
-use Rattle.cli.specs.declared.program.error.ProgramError.TheVariants.{Start, Output}
+use Rattle.cli.specs.declared.program.error.ProgramError.TheVariants.{Setup, Output}
 use Rattle.cli.specs.declared.lines.filter.Filter.{Filter}
 use Rattle.cli.specs.Filter.{Effects, FilteredLine}
 use Rattle.cli.specs.declared.lines.named_filter.NamedFilter.{NamedFilter}
 use Rattle.cli.specs.Lines.{AreFirst, number_after, Returns, Filters, AppendsUnwritten}
 use Rattle.cli.specs.NamedFilter.{EndsAtHeader, FiltersNamed}
-use Rattle.cli.specs.FixdecLines.{IsEarly}
+use Rattle.cli.specs.declared.program.error.WordsError.TheVariants.{NoCsv}
+use Rattle.cli.specs.declared.program.help.Program.TheVariants.{FixdecLines}
+use Rattle.cli.specs.Error.{setup_error}
+use Rattle.cli.specs.Options.{lacks_csv}
+use Rattle.cli.specs.FixdecLines.{IsEarly, FilterFails, OthersFail}
 use Rattle.cli.proofs.lemmas.program.Buffers.{append_known-nil}
+use Rattle.cli.proofs.lemmas.program.Programs.{err_map}
 use Rattle.cli.proofs.fixdec_lines.filter_words.Goals as goal
 
 unwritten :
@@ -108,41 +115,64 @@ not_early :
     {e : Effects D} (filter : NamedFilter) (Q : Type 0) (r : Result Bool ProgramError)
     → FiltersNamed reports P filter e r → IfErr r (λ error. IsEarly error → Q)
 not_early filter Q (Ok texts) h = tt
-not_early filter Q (Err (Start error)) (inl (header, run, has, is, filters)) = λ _. absurd filters.returns.1
-not_early filter Q (Err (Start error)) (inr (ends, nothing, silent)) = λ _. absurd ends.1
+not_early filter Q (Err (Setup error)) (inl (header, run, has, is, filters)) = λ _. absurd filters.returns.1
+not_early filter Q (Err (Setup error)) (inr (ends, nothing, silent)) = λ _. absurd ends.1
 not_early filter Q (Err error) h = λ never. absurd never
 
 on_ok : {X E : Type 0} {P : Type 0} (r : Result X E) → P → OnOk r P
 on_ok (Ok x) h = h
 on_ok (Err e) h = tt
 
-pub returns-clause-has_not_failed : goal.returns-clause-has_not_failed
-returns-clause-has_not_failed g c =
-    on_ok c.filter_input-filtered.result (cc (c.has_failed.ensures, c.if-has_failed.false))
+-- words that name no filter have an early error
+early : (words : List (String Global)) (error : ProgramError) → FilterFails words error → IsEarly error
+early words error h = by_csv (lacks_csv h.options) h.holds
+  where
+    by_csv :
+        (lacks : Bool)
+        → MatchBool lacks (error ≡ setup_error FixdecLines NoCsv) (OthersFail h.options h.others error)
+        → IsEarly error
+    by_csv true is = rw is tt
+    by_csv false (inl (none, is)) = rw is tt
+    by_csv false (inr (field, has, inl (why, is, names))) = rw is tt
+    by_csv false (inr (field, has, inr (target, names, lacks, is))) = rw is tt
 
-pub returns-clause-unchanged_on_error : goal.returns-clause-unchanged_on_error
-returns-clause-unchanged_on_error g c =
-    not_early c.in-Ok.filter _ c.filter_input-filtered.result c.filter_input-filtered.ensures.filtered
-
-pub returns-clause-filtered : goal.returns-clause-filtered
-returns-clause-filtered g c =
-    let run = c.filter_input-filtered in
-    inl (
-      c.in-Ok.filter,
-      c.in-Ok.ensures.some,
-      named_kept g.D.Diagnostics.reports _ (g.O.Write.contents c.close-closed.result.0) run.result
-          (c.close-closed.ensures.written (search rules)) c.in-Ok.filter run.ensures.filtered,
+pub returns-in-Err-clause-filtered : goal.returns-in-Err-clause-filtered
+returns-in-Err-clause-filtered g c =
+    let words = c.args.words.now in
+    let error = c.in-Err.error in
+    let closed : c.abandon.result ≡ (c.args.out, false) = rw c.in-Ok.ensures.opened at c.abandon.ensures in (
+      inr (c.in-Err.ensures.err, refl),
+      tt,
+      ((λ is. absurd (subst IsEarly is (early words error c.in-Err.ensures.err))), λ _. closed),
     )
 
 pub returns-then-has_failed-clause-filtered : goal.returns-then-has_failed-clause-filtered
 returns-then-has_failed-clause-filtered g c =
     let run = c.filter_input-filtered in
-    inl (
-      c.in-Ok.filter,
-      c.in-Ok.ensures.some,
-      named_missing g.D.Diagnostics.reports _ (g.O.Write.contents c.close-closed.result.0) run.result
-          c.close-closed.ensures.prefix.0 c.close-closed.ensures.prefix.1 c.in-Ok.filter run.ensures.filtered,
+    let filter = c.in-Ok-parse_filter.filter in
+    let (missing, kept) = c.close-closed.ensures.prefix in
+    let filtered =
+    rw c.in-Ok.ensures.contents at (named_missing g.D.Diagnostics.reports _
+    (g.O.Write.contents c.close-closed.result.0) run.result missing kept filter run.ensures.filtered) in
+    let failed : c.close-closed.result.1 ≡ true = cc (c.has_failed.ensures, c.if-has_failed.true) in
+    (inl (filter, c.in-Ok-parse_filter.ensures.some, filtered), tt, ((λ _. failed), λ never. absurd never))
+
+pub returns-clause-filtered : goal.returns-clause-filtered
+returns-clause-filtered g c =
+    let run = c.filter_input-filtered in
+    let filter = c.in-Ok-parse_filter.filter in
+    let closed = c.close-closed.ensures in
+    let has_not_failed : c.close-closed.result.1 ≡ false = cc (c.has_failed.ensures, c.if-has_failed.false) in
+    let filtered =
+    rw c.in-Ok.ensures.contents at (named_kept g.D.Diagnostics.reports _ (g.O.Write.contents c.close-closed.result.0)
+    run.result (closed.written has_not_failed) filter run.ensures.filtered) in (
+      inl (filter, c.in-Ok-parse_filter.ensures.some, filtered),
+      on_ok run.result has_not_failed,
+      err_map run.result
+          (λ error is untouched. ((λ e. closed.stays_failed (run.ensures.failed (is ∙ ap Err e))), untouched))
+          (not_early filter _ run.result run.ensures.filtered),
     )
 
-pub returns-in-Err-clause-filtered : goal.returns-in-Err-clause-filtered
-returns-in-Err-clause-filtered g c = inr (c.in-Err.ensures.err, refl)
+pub returns-clause-unchanged_on_error : goal.returns-clause-unchanged_on_error
+returns-clause-unchanged_on_error g c =
+    not_early c.in-Ok-parse_filter.filter _ c.filter_input-filtered.result c.filter_input-filtered.ensures.filtered

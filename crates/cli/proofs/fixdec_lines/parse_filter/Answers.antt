@@ -20,7 +20,7 @@ returns-then-not-options-clause-err c =
               c.in-Ok.target,
               c.in-Ok.ensures.ok,
               lacks,
-              c.start-then-not-options.ensures,
+              c.setup-then-not-options.ensures,
             ),
           ));
     }

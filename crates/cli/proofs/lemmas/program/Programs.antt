@@ -1,6 +1,8 @@
 -- The run that the words of a command line name, and its result.
-use Rattle.std.proofs.Common.{◌≡◌, ℕ, ◌<◌, List, [], ◌∷◌, ◌++◌, String, Option, Result, Ok, Err, IfErr, refl, arith}
+use Rattle.std.proofs.Common.{◌≡◌, ℕ, ◌<◌, List, [], ◌∷◌, ◌++◌, String, Option, None, Bool, true, false, Result, Ok, Err, IfOk, IfErr, refl, arith}
 use Rattle.std.specs.Prelude.{OnOk}
+use Rattle.std.specs.Result.{result_and}
+use Rattle.std.proofs.lemmas.Bool.{false≢true}
 use Rattle.std.specs.declared.alloc.Global.{Global}
 use Rattle.std.specs.Io.KnownBytes.{Keeps}
 use Rattle.std.proofs.lemmas.List.{append-nil}
@@ -8,11 +10,13 @@ use Rattle.std.proofs.KnownBytes.{Appends-kept}
 use Rattle.decimal_digits.specs.AppendsPrefix.{AppendsPrefix}
 use Rattle.fixed_decimal.proofs.Calling.{prefix_more}
 use Rattle.conversions.specs.declared.conversion.Conversion.{Conversion}
+use Rattle.cli.specs.declared.program.error.ProgramError.{ProgramError}
 use Rattle.cli.specs.declared.program.error.ProgramError.TheVariants as program
 use Rattle.conversions.specs.declared.error.OperationError.{OperationError}
 use Rattle.conversions.specs.Conversion.{HasOutcome, OperationsFail}
 use Rattle.conversions.proofs.lemmas.conversion.Conversions.{output_fails}
-use Rattle.cli.specs.Error.{conversion_error}
+use Rattle.cli.specs.Diagnostics.{Concludes}
+use Rattle.cli.specs.Error.{conversion_error, status_of}
 use Rattle.conversions.specs.declared.error.OperationError.TheVariants.{Output}
 use Rattle.cli.specs.Fixdec.{HasRun, NamesRun, HasError, PrintsLine, PrintsLinePrefix, Prints, PrintsPrefix}
 
@@ -24,18 +28,29 @@ pub err_map :
 err_map (Ok x) f h = tt
 err_map (Err e) f h = f e refl h
 
--- a property of Ok holds if there is no error
-pub at_ok :
-    {X E : Type 0} {P : Type 0} (r : Result X E) (status : ℕ) → IfErr r (λ _. 0 < status) → status ≡ 0 → OnOk r P → P
-at_ok (Ok x) status h zero p = p
-at_ok (Err e) status some zero p = absurd (omega (arith, some, zero))
+-- a property that all errors have
+pub err_all : {X E : Type 0} {P : E → Type 0} (r : Result X E) → ((e : E) → P e) → IfErr r P
+err_all (Ok x) h = tt
+err_all (Err e) h = h e
 
--- a status that is not 0 is that of an error
-pub some_error :
-    {X E : Type 0} (P : Type 0) (Q : E → Type 0) (r : Result X E) (status : ℕ) → OnOk r ((status ≡ 0) × P) → IfErr r Q
-    → 0 < status → (e : E) × (r ≡ Err e) × Q e
-some_error P Q (Ok x) status (zero, p) q some = absurd (omega (arith, zero, some))
-some_error P Q (Err e) status p q some = (e, refl, q)
+-- a property of an error, or of what follows Ok
+pub result_and-cases :
+    {X Y E : Type 0} (P : Result Y E → Type 0) (r : Result X E) (next : Result Y E) → OnOk r (P next)
+    → IfErr r (λ e. P (Err e)) → P (result_and r next)
+result_and-cases P (Ok x) next ok err = ok
+result_and-cases P (Err e) next ok err = err
+
+-- ---- The status.
+
+-- a status that is not 0 is that of an error, which was reported
+pub concludes_error :
+    {D : Type 0} (P : Type 0) (reports : D → ProgramError → D → Type 0) (done : Result Bool ProgramError) (status : ℕ)
+    (old new : D)
+    → IfOk done (λ texts. (texts ≡ true) × P) → Concludes reports done None status old new → 0 < status
+    → (error : ProgramError) × (done ≡ Err error) × (status ≡ status_of error) × reports old error new
+concludes_error P reports (Ok true) status old new ok (zero, same) some = absurd (omega (arith, zero, some))
+concludes_error P reports (Ok false) status old new ok concluded some = absurd (false≢true ok.0)
+concludes_error P reports (Err error) status old new ok (is, reported) some = (error, refl, is, reported)
 
 -- ---- What was printed.
 

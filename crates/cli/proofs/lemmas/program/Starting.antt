@@ -1,8 +1,8 @@
 -- The words of a program that does not end before its work.
-use Rattle.std.proofs.Common.{◌≡◌, ℕ, List, String, Option, Ok, Err, inr, sym, subst}
+use Rattle.std.proofs.Common.{◌≡◌, List, String, Ok, Err, sym, subst}
 use Rattle.std.specs.declared.alloc.Global.{Global}
 use Rattle.cli.specs.declared.program.help.Program.{Program}
-use Rattle.cli.specs.Arguments.{Arguments, HaveWords, IsRequest, PrintsFor}
+use Rattle.cli.specs.Arguments.{Arguments, HaveWords, IsRequest}
 
 map_words :
     (arguments : Arguments) {P Q : List (String Global) → Type 0} → HaveWords arguments P
@@ -19,13 +19,9 @@ no_request program (Ok arguments) words (e, none) asked = none (subst (IsRequest
 no_request program (Err error) words is asked = asked
 
 -- the words are these, and are no request
-module _
+pub have_words :
     (program : Program) (arguments : Arguments) (words : List (String Global)) (P : List (String Global) → Type 0)
-    (is : HaveWords arguments (λ all. (words ≡ all) × ¬ IsRequest program words)) (holds : P words)
-  where
-    pub have_words : HaveWords arguments (λ all. ¬ IsRequest program all × P all)
-    have_words =
-        map_words arguments is (λ all (e, none). subst (λ w. ¬ IsRequest program w × P w) e (none, holds))
-
-    pub prints_for : (old new : Option (List ℕ)) → PrintsFor program arguments old new P
-    prints_for old new = map_words arguments have_words (λ all h. inr h)
+    → HaveWords arguments (λ all. (words ≡ all) × ¬ IsRequest program words) → P words
+    → HaveWords arguments (λ all. ¬ IsRequest program all × P all)
+have_words program arguments words P is holds =
+    map_words arguments is (λ all (e, none). subst (λ w. ¬ IsRequest program w × P w) e (none, holds))

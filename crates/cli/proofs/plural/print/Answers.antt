@@ -1,13 +1,14 @@
-use Rattle.std.proofs.Common.{◌≡◌, Err, inr, sym, ap, true, false, ◌∙◌}
+use Rattle.std.proofs.Common.{◌≡◌, Some, Ok, Err, inr, refl, sym, ap, true, false, ◌∙◌}
 use Rattle.std.proofs.lemmas.Bool.{false≢true}
 use Rattle.std.proofs.lemmas.Result.{on_ok_weaker}
+use Rattle.cli.specs.Plural.{Categorizes}
 use Rattle.cli.proofs.lemmas.program.Buffers.{closed_contents}
-use Rattle.cli.proofs.lemmas.program.Programs.{err_map}
+use Rattle.cli.proofs.lemmas.program.Programs.{err_map, result_and-cases}
 use Rattle.cli.proofs.lemmas.program.Printing.{all_kept, stop_kept, begun, has_rules}
 use Rattle.cli.proofs.plural.print.Goals as goal
 
-pub returns-then-has_failed-clause-error : goal.returns-then-has_failed-clause-error
-returns-then-has_failed-clause-error g c =
+pub returns-then-has_failed : goal.returns-then-has_failed
+returns-then-has_failed g c =
     let (rules, texts) = c.in-Ok.found in
     let taken = c.in-Ok-open.ensures.contents in
     let printed = c.print_categories-printed in
@@ -22,30 +23,32 @@ returns-then-has_failed-clause-error g c =
           (rw taken at printed.ensures.stopped)),
     )
 
-pub returns-clause-printed : goal.returns-clause-printed
-returns-clause-printed g c =
+pub returns : goal.returns
+returns g c =
     let (rules, texts) = c.in-Ok.found in
-    let has_not_failed : c.close-closed.result.1 ≡ false = search in
-    on_ok_weaker c.print_categories-printed.result
-    (λ all. (
-      has_rules c.args.words.now rules texts.now _ c.in-Ok.ensures.found
-          (all_kept rules texts.now _ _ _ (c.close-closed.ensures.written has_not_failed)
-          (rw c.in-Ok-open.ensures.contents at all)),
-      has_not_failed,
-    ))
-    c.print_categories-printed.ensures.printed
-
-pub returns-clause-error : goal.returns-clause-error
-returns-clause-error g c =
-    let (rules, texts) = c.in-Ok.found in
+    let printed = c.print_categories-printed in
     let closed = c.close-closed.ensures in
+    let has_not_failed : c.close-closed.result.1 ≡ false = search in
     let (unwritten, all, keeps) = closed_contents _ _ c.close-closed.result.1 closed.written closed.prefix in
-    err_map c.print_categories-printed.result
+    rw c.and.ensures
+    (result_and-cases
+    (λ done. Categorizes g.O.Write.contents c.args.out c.args.words.now done (Some c.close-closed.result))
+    printed.result (Ok true)
+    (on_ok_weaker printed.result
+    (λ lines. (
+      refl,
+      has_not_failed,
+      has_rules c.args.words.now rules texts.now _ c.in-Ok.ensures.found
+          (all_kept rules texts.now _ _ _ (closed.written has_not_failed)
+          (rw c.in-Ok-open.ensures.contents at lines)),
+    ))
+    printed.ensures.printed)
+    (err_map printed.result
     (λ error is stops. inr (
       unwritten,
       all,
-      (λ e. closed.stays_failed (c.print_categories-printed.ensures.failed (is ∙ ap Err e))),
+      (λ e. closed.stays_failed (printed.ensures.failed (is ∙ ap Err e))),
       has_rules c.args.words.now rules texts.now _ c.in-Ok.ensures.found
           (stop_kept rules texts.now _ _ _ keeps error (rw c.in-Ok-open.ensures.contents at stops)),
     ))
-    c.print_categories-printed.ensures.stopped
+    printed.ensures.stopped))
