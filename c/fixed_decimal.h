@@ -89,6 +89,19 @@ typedef struct fd_unsigned {
     uint64_t value;
 } fd_unsigned;
 
+/* The number of a decimal in units of 10^-18: high * 2^64 + low. */
+typedef struct fd_key {
+    int64_t high;
+    uint64_t low;
+} fd_key;
+
+/* An answer that is a key; its halves are 0 if status is not FD_OK. */
+typedef struct fd_keyed {
+    uint32_t status;
+    size_t at;
+    fd_key key;
+} fd_keyed;
+
 /* An answer that is a column. */
 typedef struct fd_column {
     uint32_t status; /* FD_OK: all lines are converted; else why the next line is not */
@@ -315,6 +328,14 @@ fd_column fd_lines(const uint8_t *lines, size_t count, uint32_t skip, const fd_f
 
 /* The order of two numbers: -1, 0 or 1. 1.0 and 1 are 0. Errors: FD_SYNTAX, FD_LIMIT, FD_MEMORY. */
 fd_number fd_compare(const uint8_t *left, size_t left_count, const uint8_t *right, size_t right_count);
+
+/* The key of the number of a decimal, so that its text is not read each time that it is compared.
+ * Errors: as fd_compare; FD_NOT_WHOLE: the number has more than 18 fraction digits; FD_OUT_OF_RANGE: it has no key of
+ * 128 bits, or the text shows nearly 32768 integer digits. */
+fd_keyed fd_key_of(const uint8_t *text, size_t count);
+
+/* The order of the numbers of two keys: -1, 0 or 1, as fd_compare of two texts with these keys. There is no error. */
+fd_number fd_compare_keys(const fd_key *left, const fd_key *right);
 
 /* 1 if two texts write the same value, with its sign and its zeros, else 0. Errors as fd_compare. */
 fd_number fd_equal(const uint8_t *left, size_t left_count, const uint8_t *right, size_t right_count);

@@ -293,6 +293,19 @@ static void test_lines(void) {
 
 static void test_numbers(void) {
     CHECK(fd_compare(B("1.0"), B("1")).value == 0 && fd_compare(B("-2"), B("1")).value == -1);
+    static const char *const ordered[] = {"-170141183460469231731.687303715884105728", "-1e2", "-0.000000000000000001",
+                                          "-0.00", "0.10", "1", "1.50000000000000000000", "1e20"};
+    for (size_t i = 0; i < 8; i++)
+        for (size_t j = 0; j < 8; j++) {
+            fd_keyed left = fd_key_of((const uint8_t *)ordered[i], strlen(ordered[i]));
+            fd_keyed right = fd_key_of((const uint8_t *)ordered[j], strlen(ordered[j]));
+            CHECK(left.status == FD_OK && right.status == FD_OK);
+            CHECK(fd_compare_keys(&left.key, &right.key).value == (i > j) - (i < j));
+        }
+    fd_keyed key = fd_key_of(B("+1.000"));
+    CHECK(key.key.high == 0 && key.key.low == 1000000000000000000u);
+    CHECK(fd_key_of(B("0.0000000000000000001")).status == FD_NOT_WHOLE && fd_key_of(B("x")).status == FD_SYNTAX);
+    CHECK(fd_key_of(B("170141183460469231731.687303715884105728")).status == FD_OUT_OF_RANGE);
     CHECK(fd_compare(B("3"), B("1")).value == 1 && fd_compare(B("x"), B("1")).at == 0);
     CHECK(fd_compare(B("1"), B("x")).status == FD_SYNTAX && fd_compare(B("1"), B("x")).at == 1);
     CHECK(fd_equal(B("1.0"), B("1")).value == 0 && fd_equal(B("-0"), B("0")).value == 0);

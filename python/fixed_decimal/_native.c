@@ -6,9 +6,11 @@
 #include <unistd.h>
 #include <fixed_decimal.h>
 
-/* An immutable decimal: its text. */
+/* An immutable decimal: its text. Its key is read when it is first compared; not each number has one. */
 typedef struct {
     PyObject_VAR_HEAD
+    fd_key key;
+    enum { UNREAD, HAS_KEY, HAS_NONE } state;
     char text[];
 } Decimal;
 
@@ -94,6 +96,7 @@ static int index_of(const char *const *words, PyObject *word, const char *what) 
 
 static Decimal *with_room(size_t count) {
     Decimal *made = PyObject_NewVar(Decimal, &DecimalType, (Py_ssize_t)count);
+    if (made) made->state = UNREAD;
     return made;
 }
 
@@ -243,6 +246,21 @@ static Py_hash_t decimal_hash(Decimal *self) {
     return hash;
 }
 
+/* Reads the key, if it is not read; returns whether there is one. */
+static int has_key(Decimal *self) {
+    if (self->state == UNREAD) {
+        fd_keyed answer = fd_key_of(BYTES(self));
+        self->key = answer.key;
+        self->state = answer.status == FD_OK ? HAS_KEY : HAS_NONE;
+    }
+    return self->state == HAS_KEY;
+}
+
+static fd_number order_of(Decimal *left, Decimal *right) {
+    return has_key(left) && has_key(right) ? fd_compare_keys(&left->key, &right->key)
+                                           : fd_compare(BYTES(left), BYTES(right));
+}
+
 static PyObject *decimal_richcompare(Decimal *self, PyObject *value, int operation) {
     if (!IS_DECIMAL(value)) Py_RETURN_NOTIMPLEMENTED;
     Decimal *other = (Decimal *)value;
@@ -250,7 +268,7 @@ static PyObject *decimal_richcompare(Decimal *self, PyObject *value, int operati
         int same = Py_SIZE(self) == Py_SIZE(other) && memcmp(self->text, other->text, (size_t)Py_SIZE(self)) == 0;
         return PyBool_FromLong(same == (operation == Py_EQ));
     }
-    fd_number answer = fd_compare(BYTES(self), BYTES(other));
+    fd_number answer = order_of(self, other);
     if (answer.status != FD_OK) return fail(answer.status, answer.at);
     Py_RETURN_RICHCOMPARE(answer.value, 0, operation);
 }
@@ -259,7 +277,7 @@ static PyObject *decimal_compare(Decimal *self, PyObject *value) {
     if (!IS_DECIMAL(value))
         return PyErr_Format(PyExc_TypeError, "compare() takes a Decimal, not %.100s: write Decimal(x)",
                             Py_TYPE(value)->tp_name);
-    fd_number answer = fd_compare(BYTES(self), BYTES((Decimal *)value));
+    fd_number answer = order_of(self, (Decimal *)value);
     return answer.status == FD_OK ? PyLong_FromLongLong(answer.value) : fail(answer.status, answer.at);
 }
 

@@ -1,5 +1,6 @@
 pub mod calls
 pub mod convert
+pub mod keys
 pub mod lines
 pub mod locales
 pub mod texts

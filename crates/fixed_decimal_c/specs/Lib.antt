@@ -10,6 +10,7 @@ pub mod Forms
 pub mod Formats
 pub mod NumberReadings
 pub mod Conversions
+pub mod Keys
 pub mod Lines
 pub mod Categories
 pub mod Words

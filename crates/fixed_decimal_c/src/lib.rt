@@ -14,6 +14,7 @@ ghost use Rattle.fixed_decimal_c.specs.Categories.{HasCategory, HasCategoryOf};
 ghost use Rattle.fixed_decimal_c.specs.Formats.{FormatsNumber, FormatsBySkeleton};
 ghost use Rattle.fixed_decimal_c.specs.NumberReadings.{ReadsNumber, ReadsBySkeleton};
 ghost use Rattle.fixed_decimal_c.specs.NumberTexts.{WritesSkeleton};
+ghost use Rattle.fixed_decimal_c.specs.Keys.{EncodesKey, HasKey, ComparesKeys};
 ghost use Rattle.fixed_decimal_c.specs.Words.{IsWord};
 
 mod answer;
@@ -23,6 +24,7 @@ mod convert;
 mod error;
 mod format;
 mod forms;
+mod keys;
 pub mod laws;
 mod lines;
 mod locales;
@@ -41,6 +43,8 @@ use convert::{convert, run};
 pub use error::FdError;
 use format::{format_number, formatter_by_options, formatter_by_skeleton, write_skeleton};
 pub use forms::{FdForm, FdForms};
+use keys::{compare_keys, encode_key, key_of};
+pub use keys::{FdKey, FdKeyed};
 use lines::convert_column;
 use locales::{number_of_locale, number_of_named_rules, number_of_plural_rules};
 pub use number_options::FdNumberOptions;
@@ -193,6 +197,23 @@ pub fn fd_compare(alloc: Global, left: &[u8], right: &[u8]) -> FdNumber
     ensures { EncodesNumber result (λ answer. Compares answer left.now right.now) }
 {
     encode_number(compare_texts(alloc, left, right))
+}
+
+/// Returns the key of the number of a decimal: the number in units of 10^-18.
+///
+/// The errors: of the text; `NotWhole`, if the number has more than 18 fraction digits; `OutOfRange`, if it has more
+/// than 128 bits in these units, or the decimal shows so many leading zeros that it cannot be shifted by 18.
+pub fn fd_key_of(alloc: Global, text: &[u8]) -> FdKeyed
+    ensures { EncodesKey result (λ answer. HasKey answer text.now) }
+{
+    encode_key(key_of(alloc, text))
+}
+
+/// Compares the numbers of two keys: -1, 0 or 1. There is no error.
+pub fn fd_compare_keys(left: &FdKey, right: &FdKey) -> FdNumber
+    ensures { EncodesNumber result (λ answer. ComparesKeys answer left.now right.now) }
+{
+    encode_number(Ok(compare_keys(left, right)))
 }
 
 /// Returns 1 if two decimals are the same value, with the same sign and range, and else 0.

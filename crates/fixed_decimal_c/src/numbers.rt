@@ -20,7 +20,7 @@ pub(crate) fn read(alloc: Global, text: &[u8], at: usize) -> Result<Decimal, FdE
 }
 
 /// Returns the number of an order.
-fn order_number(order: Ordering) -> i64
+pub(crate) fn order_number(order: Ordering) -> i64
     ensures { result ≡ order_code order }
 {
     match order {
@@ -61,7 +61,7 @@ pub(crate) fn sign_of(alloc: Global, text: &[u8]) -> Result<i64, FdError>
 }
 
 /// Returns the error of a conversion to an integer.
-fn error_of_integer(error: IntegerError) -> FdError
+pub(crate) fn error_of_integer(error: IntegerError) -> FdError
     ensures { result ≡ error_of_integer error }
 {
     match error {

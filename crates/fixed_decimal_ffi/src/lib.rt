@@ -11,10 +11,12 @@ ghost use Rattle.fixed_decimal_c.specs.Categories.{HasCategory, HasCategoryOf};
 ghost use Rattle.fixed_decimal_c.specs.Formats.{FormatsNumber, FormatsBySkeleton};
 ghost use Rattle.fixed_decimal_c.specs.NumberReadings.{ReadsNumber, ReadsBySkeleton};
 ghost use Rattle.fixed_decimal_c.specs.NumberTexts.{WritesSkeleton};
+ghost use Rattle.fixed_decimal_c.specs.Keys.{EncodesKey, HasKey, ComparesKeys};
 ghost use Rattle.fixed_decimal_c.specs.Words.{IsWord};
 
 use fixed_decimal_c::{
-    FdCall, FdColumn, FdForms, FdNumber, FdNumberOptions, FdResult, FdUnsigned, FdWord,
+    FdCall, FdColumn, FdForms, FdKey, FdKeyed, FdNumber, FdNumberOptions, FdResult, FdUnsigned,
+    FdWord,
 };
 use std::alloc::Global;
 
@@ -142,6 +144,20 @@ pub extern "C" fn fd_compare(alloc: Global, left: &[u8], right: &[u8]) -> FdNumb
     ensures { EncodesNumber result (λ answer. Compares answer left.now right.now) }
 {
     fixed_decimal_c::fd_compare(alloc, left, right)
+}
+
+#[unsafe(no_mangle)]
+pub extern "C" fn fd_key_of(alloc: Global, text: &[u8]) -> FdKeyed
+    ensures { EncodesKey result (λ answer. HasKey answer text.now) }
+{
+    fixed_decimal_c::fd_key_of(alloc, text)
+}
+
+#[unsafe(no_mangle)]
+pub extern "C" fn fd_compare_keys(left: &FdKey, right: &FdKey) -> FdNumber
+    ensures { EncodesNumber result (λ answer. ComparesKeys answer left.now right.now) }
+{
+    fixed_decimal_c::fd_compare_keys(left, right)
 }
 
 #[unsafe(no_mangle)]
