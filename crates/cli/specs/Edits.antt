@@ -1,49 +1,50 @@
 -- The fields of a line that are replaced by their conversions.
-use Rattle.std.specs.Prelude.{◌≡◌, ◌⊎◌, ℕ, ◌<◌, Bool, List, [], ◌∷◌, ◌++◌, length, All, Contains, Some, Result, Ok, Err, MatchResult}
+use Rattle.std.specs.Prelude.{◌≡◌, ◌⊎◌, ℕ, ◌<◌, Bool, List, [], ◌∷◌, ◌++◌, length, All, Contains, Option, Some, None, Result, Ok, Err, MatchResult, nat_le, if◌then◌else◌}
 use Rattle.cli.specs.declared.lines.edits.FieldConversion.{FieldConversion}
+use Rattle.cli.specs.declared.lines.edits.FieldError.{FieldError}
 use Rattle.cli.specs.declared.program.error.LineError.{LineError}
 use Rattle.conversions.specs.declared.error.OperationError.{OperationError}
 use Rattle.conversions.specs.declared.error.OperationError.TheVariants.{Memory}
 use Rattle.cli.specs.declared.lines.fields.Field.{Field}
 use Rattle.cli.specs.FieldConversion.{IsFieldResult}
-use Rattle.cli.specs.Fields.{at_index, located, within, bytes_of}
+use Rattle.cli.specs.Fields.{located, within, bytes_of}
 
 -- the fields of a line with the delimiter and the quotes of this one
 module _ (trims : Bool) (base : Field) (line : List ℕ) where
   -- the field is between these bounds, and its conversion is this text
   abbrev pub IsEdit : FieldConversion → ℕ × ℕ → List ℕ → Type 0
-  IsEdit it bounds text =
-      (located (at_index base it.index) line ≡ Ok bounds)
-      × IsFieldResult trims base it.conversion.now (within line bounds) (Ok text)
+  IsEdit field bounds text =
+      (located base line field.index ≡ Ok bounds)
+      × IsFieldResult trims base field.conversion.now (within line bounds) (Ok text)
 
   -- the field has a conversion
   abbrev pub HasEdit : FieldConversion → Type 0
-  HasEdit it = (bounds : ℕ × ℕ) × (text : List ℕ) × IsEdit it bounds text
+  HasEdit field = (bounds : ℕ × ℕ) × (text : List ℕ) × IsEdit field bounds text
 
   -- it has none, for this error: it is not in the line, or its conversion fails
   abbrev pub HasNoEdit : FieldConversion → OperationError → Type 0
-  HasNoEdit it error =
-      MatchResult (located (at_index base it.index) line)
-      (λ bounds. IsFieldResult trims base it.conversion.now (within line bounds) (Err error)) (λ why. error ≡ why)
+  HasNoEdit field error =
+      MatchResult (located base line field.index)
+      (λ bounds. IsFieldResult trims base field.conversion.now (within line bounds) (Err error)) (λ why. error ≡ why)
 
   -- its conversion fails with this error: it has none; or out of memory, where the field is in the line
   abbrev pub EditFails : FieldConversion → OperationError → Type 0
-  EditFails it error =
-      HasNoEdit it error
-      ⊎ ((error ≡ Memory) × ((bounds : ℕ × ℕ) × (located (at_index base it.index) line ≡ Ok bounds)))
+  EditFails field error =
+      HasNoEdit field error
+      ⊎ ((error ≡ Memory) × ((bounds : ℕ × ℕ) × (located base line field.index ≡ Ok bounds)))
 
   -- the bytes of the line that follow a start, with the conversion of each of these fields instead of it
   abbrev pub AreEdited : List FieldConversion → ℕ → List ℕ → Type 0
   AreEdited [] start bytes = bytes ≡ within line (start, length line)
-  AreEdited (it ∷ fields) start bytes =
-      (bounds : ℕ × ℕ) × (text : List ℕ) × (rest : List ℕ) × IsEdit it bounds text × AreEdited fields bounds.1 rest
+  AreEdited (field ∷ fields) start bytes =
+      (bounds : ℕ × ℕ) × (text : List ℕ) × (rest : List ℕ) × IsEdit field bounds text × AreEdited fields bounds.1 rest
       × (bytes ≡ within line (start, bounds.0) ++ (bytes_of base text ++ rest))
 
   -- this is the error of the first field, in the order of words, that fails: the others before it have a conversion
   abbrev pub IsFirstError : (FieldConversion → OperationError → Type 0) → List FieldConversion → LineError → Type 0
   IsFirstError Fails fields error =
-      (it : FieldConversion) × Contains fields it × Fails it error.error × (error.field ≡ Some it.label)
-      × All (λ other. other.rank < it.rank → HasEdit other) fields
+      (field : FieldConversion) × Contains fields field × Fails field error.error × (error.field ≡ field.label)
+      × All (λ other. other.rank < field.rank → HasEdit other) fields
 
   -- the result of the line: each of these fields, in the order of the line, is replaced by its conversion; or an error
   abbrev pub IsEditedLine : List FieldConversion → Result (List ℕ) LineError → Type 0
@@ -59,3 +60,10 @@ module _ (trims : Bool) (base : Field) (line : List ℕ) where
   abbrev pub EditingFails : List FieldConversion → LineError → Type 0
   EditingFails fields error =
       IsFirstError EditFails fields error ⊎ ((error.error ≡ Memory) × All HasEdit fields)
+
+-- ---- The first of two errors.
+
+-- the error of the field that words name first, of one that was found before and this one
+abbrev pub first_error : Option FieldError → FieldError → FieldError
+first_error None error = error
+first_error (Some found) error = if nat_le found.rank error.rank then found else error

@@ -1,11 +1,11 @@
--- The result of a line: its conversion, or that of one of its fields.
-use Rattle.std.specs.Prelude.{◌≡◌, ◌⊎◌, ℕ, ◌&&◌, not, Bool, true, List, Option, Some, None, Result, Ok, Err, MatchResult}
+-- The conversion of a line, and of a field.
+use Rattle.std.specs.Prelude.{◌≡◌, ◌⊎◌, ℕ, ◌&&◌, not, Bool, true, List, Result, Ok, Err}
 use Rattle.conversions.specs.declared.conversion.Conversion.{Conversion}
 use Rattle.conversions.specs.declared.error.OperationError.{OperationError}
 use Rattle.conversions.specs.declared.error.OperationError.TheVariants.{Memory, Output, Quote}
 use Rattle.cli.specs.declared.lines.fields.Field.{Field}
 use Rattle.conversions.specs.Conversion.{ConversionError, IsOutcome, OperationsFail, error_of}
-use Rattle.cli.specs.Fields.{is_quoted, Holds, located, within, replaced, bytes_of}
+use Rattle.cli.specs.Fields.{is_quoted, Holds}
 use Rattle.cli.specs.Trim.{text_of, with_text_of}
 
 -- an outcome as a result of the programs
@@ -45,32 +45,16 @@ abbrev pub HasFieldText : Bool → Field → Conversion → List ℕ → (List �
 HasFieldText trims field conversion bytes P =
     (text : List ℕ) × IsFieldResult trims field conversion bytes (Ok text) × P text
 
--- a line with the bytes of a new text between these bounds
-abbrev pub with_text : Field → List ℕ → ℕ × ℕ → List ℕ → List ℕ
-with_text field line bounds text = replaced line bounds (bytes_of field text)
-
--- the result of a line: the conversion of its text; or the line with the conversion of a field instead of the field
-abbrev pub IsLineResult : Bool → Option Field → Conversion → List ℕ → Result (List ℕ) OperationError → Type 0
-IsLineResult trims None conversion line result = IsTextResult conversion (text_of trims line) result
-IsLineResult trims (Some field) conversion line result =
-    MatchResult (located field line)
-    (λ bounds. (converted : Result (List ℕ) OperationError)
-    × IsFieldResult trims field conversion (within line bounds) converted
-    × (result ≡ map_text (with_text field line bounds) converted))
-    (λ error. result ≡ Err error)
+-- the result of a line: the conversion of its text
+abbrev pub IsLineResult : Bool → Conversion → List ℕ → Result (List ℕ) OperationError → Type 0
+IsLineResult trims conversion line result = IsTextResult conversion (text_of trims line) result
 
 -- P holds of the text of a line
-abbrev pub HasLineText : Bool → Option Field → Conversion → List ℕ → (List ℕ → Type 0) → Type 0
-HasLineText trims field conversion line P =
-    (text : List ℕ) × IsLineResult trims field conversion line (Ok text) × P text
+abbrev pub HasLineText : Bool → Conversion → List ℕ → (List ℕ → Type 0) → Type 0
+HasLineText trims conversion line P = (text : List ℕ) × IsLineResult trims conversion line (Ok text) × P text
 
--- a line fails with this error: that of its result; or out of memory, which each field and with `trim` each text needs;
--- or a failed output of its text
-abbrev pub LineFails : Bool → Option Field → Conversion → List ℕ → OperationError → Type 0
-LineFails true None conversion line Memory =
+-- the conversion of a line fails with this error; with `trim` each text needs memory
+abbrev pub LineFails : Bool → Conversion → List ℕ → OperationError → Type 0
+LineFails true conversion line Memory =
     OperationsFail Memory conversion (text_of true line) ⊎ OperationsFail Output conversion (text_of true line)
-LineFails trims None conversion line error = OperationsFail error conversion (text_of trims line)
-LineFails trims (Some field) conversion line Memory = (bounds : ℕ × ℕ) × (located field line ≡ Ok bounds)
-LineFails trims (Some field) conversion line Output =
-    (text : List ℕ) × IsLineResult trims (Some field) conversion line (Ok text)
-LineFails trims (Some field) conversion line error = IsLineResult trims (Some field) conversion line (Err error)
+LineFails trims conversion line error = OperationsFail error conversion (text_of trims line)

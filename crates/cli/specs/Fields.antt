@@ -1,8 +1,7 @@
 -- The fields of a line.
-use Rattle.std.specs.Prelude.{◌≡◌, ◌⊎◌, ℕ, nat_le, ◌+◌, ◌-◌, ◌≤◌, ◌%◌, ◌==◌, ◌||◌, ◌&&◌, if◌then◌else◌, Bool, true, false, not, List, [], ◌∷◌, ◌++◌, length, take, drop, count_by, filter, flat_map, slice_get, Option, Some, None, is_some, Result, Ok, Err}
-use Rattle.std.specs.List.{list_any}
+use Rattle.std.specs.Prelude.{◌≡◌, ◌⊎◌, ℕ, zero, suc, nat_eq, ◌+◌, ◌-◌, ◌%◌, ◌==◌, ◌||◌, ◌&&◌, if◌then◌else◌, Bool, true, false, not, List, [], ◌∷◌, ◌++◌, length, take, drop, slice_index, count_by, flat_map, Option, Some, None, is_some, unwrap_or, option_map, Result, Ok, Err}
+use Rattle.std.specs.List.{list_any, starts_with}
 use Rattle.std.specs.Io.BufRead.{strip_last}
-use Rattle.memchr.specs.Find.{matches, first_of}
 use Rattle.conversions.specs.declared.error.OperationError.{OperationError}
 use Rattle.conversions.specs.declared.error.OperationError.TheVariants as operation
 use Rattle.cli.specs.declared.lines.fields.Cursor.{Cursor}
@@ -25,46 +24,54 @@ is_quote byte = byte == quote
 abbrev pub are_closed : List ℕ → Bool
 are_closed bytes = count_by is_quote bytes % 2 == 0
 
--- whether what follows these bytes of a line is outside of quotes, which only CSV has
+-- whether what follows these bytes of a field is outside of quotes, which only CSV has
 abbrev pub is_outside : Field → List ℕ → Bool
 is_outside field before = not field.is_csv || are_closed before
 
--- the index of each separator that follows a start: of each delimiter outside of quotes
-abbrev pub separators : Field → List ℕ → ℕ → List ℕ
-separators field line start = filter (λ at. is_outside field (take at line)) (matches line field.delimiter.now start)
+-- the bytes of a line from a start up to an end, and the line with other bytes instead
+abbrev pub within : List ℕ → ℕ × ℕ → List ℕ
+within line bounds = take (bounds.1 - bounds.0) (drop bounds.0 line)
 
--- the start and the end of each field of a line, the first of which starts here: a field ends at a separator or at the
--- end of the line, and the next starts after the delimiter
-abbrev pub bounds_from : Field → List ℕ → ℕ → List ℕ → List (ℕ × ℕ)
-bounds_from field line start [] = (start, length line) ∷ []
-bounds_from field line start (at ∷ separators) =
-    (start, at) ∷ bounds_from field line (at + length field.delimiter.now) separators
+abbrev pub replaced : List ℕ → ℕ × ℕ → List ℕ → List ℕ
+replaced line bounds bytes = take bounds.0 line ++ (bytes ++ drop bounds.1 line)
 
--- the start and the end of the field, unless the line has fewer fields
-abbrev pub bounds : Field → List ℕ → Option (ℕ × ℕ)
-bounds field line = slice_get (bounds_from field line 0 (separators field line 0)) field.index
+-- whether this delimiter is at this index of a line; one of no bytes is nowhere
+abbrev pub is_at : List ℕ → List ℕ → ℕ → Bool
+is_at [] line index = false
+is_at (first ∷ rest) line index = slice_index line index == first && starts_with nat_eq (drop (index + 1) line) rest
 
--- the start and the end of the field that starts here, which no delimiter overlaps, and of those that follow it; there
--- are none after the end of the line
-abbrev pub bounds_after : Field → List ℕ → ℕ → List (ℕ × ℕ)
-bounds_after field line start =
-    if nat_le start (length line) then bounds_from field line start (separators field line start) else []
+-- whether the field that starts here ends at this index: at a delimiter outside of its quotes
+abbrev pub ends_at : Field → List ℕ → ℕ → ℕ → Bool
+ends_at field line start index =
+    is_outside field (within line (start, index)) && is_at field.delimiter.now line index
 
--- a field starts here: at the start of the line, or after a separator that one byte is
-abbrev pub IsStart : Field → List ℕ → ℕ → Type 0
-IsStart field line start = (start ≡ 0) ⊎ (start ≤ length line → is_outside field (take (start - 1) line) ≡ true)
+-- the first one of a number of indices at which a property holds; the first of them is given
+abbrev pub first_index : (ℕ → Bool) → ℕ → ℕ → Option ℕ
+first_index p index zero = None
+first_index p index (suc count) = if p index then Some index else first_index p (index + 1) count
 
--- of these fields the first one was found, and the others follow it; or there are none
-abbrev pub IsNext : Field → List ℕ → Option (ℕ × ℕ) → List (ℕ × ℕ) → Type 0
-IsNext field line None fields = fields ≡ []
-IsNext field line (Some found) fields =
-    (fields ≡ found ∷ bounds_after field line (found.1 + 1)) × IsStart field line (found.1 + 1)
+-- the index of the delimiter after the field that starts here, unless it is the last one of the line
+abbrev pub delimiter_after : Field → List ℕ → ℕ → Option ℕ
+delimiter_after field line start = first_index (ends_at field line start) start (length line - start)
 
--- the fields that start at the cursor or later are those of the line without as many as its index is
-abbrev pub IsCursor : Field → List ℕ → Cursor → Type 0
-IsCursor field line cursor =
-    (drop cursor.index (bounds_after field line 0) ≡ bounds_after field line cursor.start)
-    × IsStart field line cursor.start
+-- the start of the field that follows the one with this start
+abbrev pub next_start : Field → List ℕ → Option ℕ → Option ℕ
+next_start field line None = None
+next_start field line (Some start) =
+    option_map (λ index. index + length field.delimiter.now) (delimiter_after field line start)
+
+-- the start of the field with this 0-based index, unless the line has fewer fields
+abbrev pub start_of : Field → List ℕ → ℕ → Option ℕ
+start_of field line zero = Some 0
+start_of field line (suc index) = next_start field line (start_of field line index)
+
+-- the start and the end of the field that starts here: it ends at a delimiter or at the end of the line
+abbrev pub bounds_from : Field → List ℕ → ℕ → ℕ × ℕ
+bounds_from field line start = (start, unwrap_or (delimiter_after field line start) (length line))
+
+-- the start and the end of the field with this index, unless the line has fewer fields
+abbrev pub bounds : Field → List ℕ → ℕ → Option (ℕ × ℕ)
+bounds field line index = option_map (bounds_from field line) (start_of field line index)
 
 -- the bytes of a line that its fields are in: in CSV a carriage return ends the line
 abbrev pub record_of : Field → List ℕ → List ℕ
@@ -79,18 +86,23 @@ bounds_or_error None = Err operation.Field
 abbrev pub has_open_quote : Field → List ℕ → Bool
 has_open_quote field line = field.is_csv && not (are_closed line)
 
--- the start and the end of the field in a line; or the error: a quote is left open, or the line has fewer fields
-abbrev pub located : Field → List ℕ → Result (ℕ × ℕ) OperationError
-located field line =
+-- the start and the end of the field with this index in a line; or the error: a quote is left open, or the line has
+-- fewer fields
+abbrev pub located : Field → List ℕ → ℕ → Result (ℕ × ℕ) OperationError
+located field line index =
     if has_open_quote field line then Err operation.Quote
-    else bounds_or_error (bounds field (record_of field line))
+    else bounds_or_error (bounds field (record_of field line) index)
 
--- the bytes of a line from a start up to an end, and the line with other bytes instead
-abbrev pub within : List ℕ → ℕ × ℕ → List ℕ
-within line bounds = take (bounds.1 - bounds.0) (drop bounds.0 line)
+-- the cursor is at a field of these bytes: this is its start, and the index of the delimiter after it
+abbrev pub IsAt : Field → List ℕ → Cursor → Type 0
+IsAt field line cursor =
+    (start_of field line cursor.index ≡ Some cursor.start)
+    × (cursor.delimiter ≡ delimiter_after field line cursor.start)
 
-abbrev pub replaced : List ℕ → ℕ × ℕ → List ℕ → List ℕ
-replaced line bounds bytes = take bounds.0 line ++ (bytes ++ drop bounds.1 line)
+-- the cursor is at a field of a line, and knows whether a quote is left open
+abbrev pub IsCursor : Field → List ℕ → Cursor → Type 0
+IsCursor field line cursor =
+    (cursor.is_open ≡ has_open_quote field line) × IsAt field (record_of field line) cursor
 
 -- ---- The text of a field.
 
@@ -123,10 +135,9 @@ is_quoted field bytes = field.is_csv && list_any is_quote bytes
 abbrev pub is_special : ℕ → Bool
 is_special byte = is_quote byte || byte == 13 || byte == 10
 
--- whether a text needs quotes around it: in CSV if it has the delimiter or such a byte
+-- whether a text needs quotes around it: in CSV if a field with it ends at a delimiter, or it has such a byte
 abbrev pub needs_quotes : Field → List ℕ → Bool
-needs_quotes field text =
-    field.is_csv && (is_some (first_of (matches text field.delimiter.now 0)) || list_any is_special text)
+needs_quotes field text = field.is_csv && (is_some (delimiter_after field text 0) || list_any is_special text)
 
 -- the bytes of a field that hold a text, in quotes only if it needs them
 abbrev pub bytes_of : Field → List ℕ → List ℕ

@@ -14,8 +14,8 @@ use Rattle.cli.specs.declared.lines.rows.FilteredRow.{FilteredRow}
 use Rattle.cli.specs.declared.words.options.OnError.{OnError}
 use Rattle.cli.specs.declared.words.options.OnError.TheVariants.{Stop, Keep}
 use Rattle.cli.specs.declared.program.error.LineError.{LineError}
-use Rattle.cli.specs.declared.words.targets.Target.{Target}
-use Rattle.cli.specs.declared.words.targets.Target.TheVariants.{One, Fields}
+use Rattle.cli.specs.declared.lines.filter.Target.{Target}
+use Rattle.cli.specs.declared.lines.filter.Target.TheVariants as target
 use Rattle.cli.specs.Edits.{IsEditedLine, EditingFails}
 use Rattle.conversions.specs.Error.{status_of_operation}
 use Rattle.cli.specs.Error.{error_of_line}
@@ -42,10 +42,11 @@ result_of_line (Err error) = Err (error_of_line error)
 
 -- the result of converting these bytes of a line
 abbrev pub IsTargetResult : Bool → Target → List ℕ → Result (List ℕ) LineError → Type 0
-IsTargetResult trims (One field conversion) bytes result =
-    (found : Result (List ℕ) OperationError) × IsLineResult trims field conversion.now bytes found
+IsTargetResult trims (target.Line conversion) bytes result =
+    (found : Result (List ℕ) OperationError) × IsLineResult trims conversion.now bytes found
     × (result ≡ result_of_line found)
-IsTargetResult trims (Fields base fields) bytes result = IsEditedLine trims base bytes fields.items result
+IsTargetResult trims (target.Field base field) bytes result = IsEditedLine trims base bytes (field ∷ []) result
+IsTargetResult trims (target.Fields base fields) bytes result = IsEditedLine trims base bytes fields.items result
 
 -- the result of converting the line with this number: what is around these bytes is copied
 abbrev pub IsConvertedLine : Filter → ℕ → List ℕ → Result (List ℕ) LineError → Type 0
@@ -70,9 +71,10 @@ HasText filter number line P = (text : List ℕ) × IsTextOrError filter number 
 
 -- converting these bytes of a line fails with this error
 abbrev pub TargetFails : Bool → Target → List ℕ → LineError → Type 0
-TargetFails trims (One field conversion) bytes error =
-    (error.field ≡ None) × LineFails trims field conversion.now bytes error.error
-TargetFails trims (Fields base fields) bytes error = EditingFails trims base bytes fields.items error
+TargetFails trims (target.Line conversion) bytes error =
+    (error.field ≡ None) × LineFails trims conversion.now bytes error.error
+TargetFails trims (target.Field base field) bytes error = EditingFails trims base bytes (field ∷ []) error
+TargetFails trims (target.Fields base fields) bytes error = EditingFails trims base bytes fields.items error
 
 -- converting the line with this number fails with this error
 abbrev pub ConvertingFails : Filter → ℕ → List ℕ → LineError → Type 0

@@ -11,7 +11,7 @@ use Rattle.cli.specs.declared.lines.fields.Field.{Field}
 use Rattle.cli.specs.declared.lines.headers.Header.{Header}
 use Rattle.cli.specs.declared.words.targets.NamedField.{NamedField}
 use Rattle.cli.specs.FieldConversion.{is_trimmed}
-use Rattle.cli.specs.Fields.{at_index, bounds, within, Holds}
+use Rattle.cli.specs.Fields.{bounds, within, Holds}
 use Rattle.conversions.specs.ShownWord.{IsShown}
 use Rattle.cli.specs.Trim.{text_of}
 
@@ -26,8 +26,9 @@ has_index fields index = list_any (λ it. it.index == index) fields
 
 -- the field with this index, which words name after as many others as its rank is, and the conversion of its words
 abbrev pub IsPlaced : ℕ → ℕ → NamedField → FieldConversion → Type 0
-IsPlaced index rank it placed =
-    (placed.index ≡ index) × (placed.rank ≡ rank) × (placed.label ≡ it.label) × (placed.conversion.now ≡ it.conversion)
+IsPlaced index rank named placed =
+    (placed.index ≡ index) × (placed.rank ≡ rank) × (placed.label ≡ Some named.label)
+    × (placed.conversion.now ≡ named.conversion)
 
 -- the number of these fields that precede the one with this index in a line
 abbrev pub count_before : List FieldConversion → ℕ → ℕ
@@ -42,7 +43,7 @@ module _ (trims : Bool) (field : Field) (header : List ℕ) where
   -- the field with this index has this name
   abbrev pub HasName : List ℕ → ℕ → Type 0
   HasName name index =
-      (found : ℕ × ℕ) × (bounds (at_index field index) header ≡ Some found)
+      (found : ℕ × ℕ) × (bounds field header index ≡ Some found)
       × HoldsName trims field (within header found) name
 
   -- no field from this index up to the other one has this name
@@ -97,4 +98,4 @@ IsHeaderOf trims field bytes header =
 -- its bounds are those of the fields
 abbrev pub HasBounds : Header → Type 0
 HasBounds header =
-    (index : ℕ) → bounds (at_index header.field index) header.bytes.now ≡ slice_get header.bounds.items index
+    (index : ℕ) → bounds header.field header.bytes.now index ≡ slice_get header.bounds.items index

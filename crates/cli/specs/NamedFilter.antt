@@ -1,6 +1,7 @@
 -- The filter that words name, and its run on an input whose header has the names of fields.
-use Rattle.std.specs.Prelude.{◌≡◌, ◌≢◌, ◌⊎◌, ℕ, ◌||◌, ◌&&◌, Bool, true, false, List, [], ◌∷◌, Option, Result, Ok, Err, IfSome, IsSomeAnd, MatchBool, ⊤}
+use Rattle.std.specs.Prelude.{◌≡◌, ◌≢◌, ◌⊎◌, ℕ, ◌||◌, ◌&&◌, Bool, true, false, List, [], ◌∷◌, Option, Some, None, Result, Ok, Err, IfSome, IsSomeAnd, MatchBool, ⊤}
 use Rattle.std.specs.Io.KnownBytes.{Appends}
+use Rattle.conversions.specs.declared.conversion.Conversion.{Conversion}
 use Rattle.cli.specs.declared.lines.edits.FieldConversion.{FieldConversion}
 use Rattle.cli.specs.declared.program.error.HeaderError.{HeaderError}
 use Rattle.cli.specs.declared.program.error.HeaderError.TheVariants.{Quote, Memory}
@@ -13,8 +14,8 @@ use Rattle.cli.specs.declared.words.options.Options.{Options}
 use Rattle.cli.specs.declared.words.targets.NamedField.{NamedField}
 use Rattle.cli.specs.declared.words.targets.NamedTarget.{NamedTarget}
 use Rattle.cli.specs.declared.words.targets.NamedTarget.TheVariants as named
-use Rattle.cli.specs.declared.words.targets.Target.{Target}
-use Rattle.cli.specs.declared.words.targets.Target.TheVariants.{One, Fields}
+use Rattle.cli.specs.declared.lines.filter.Target.{Target}
+use Rattle.cli.specs.declared.lines.filter.Target.TheVariants as target
 use Rattle.cli.specs.Fields.{has_open_quote, record_of, within}
 use Rattle.cli.specs.Filter.{Change, Effects, IsErrorOfReading}
 use Rattle.cli.specs.Headers.{AreFields, FieldsFail}
@@ -50,25 +51,32 @@ PlacesFail options field named header error =
 
 -- the filter with these options
 abbrev pub filter_of : Options → Target → Filter
-filter_of options target = record {
+filter_of options converted = record {
   on_error = options.on_error;
-  target = target;
+  target = converted;
   has_header = options.has_header;
   has_records = options.has_records;
   trims = options.trims;
 }
 
+-- the conversion is that of the only field that words name, by its number: errors do not name it
+abbrev pub IsOnly : Field → Conversion → FieldConversion → Type 0
+IsOnly field conversion only =
+    (only.index ≡ field.index) × (only.rank ≡ 0) × (only.label ≡ None) × (only.conversion.now ≡ conversion)
+
 -- with a header what words name is this
 abbrev pub IsTarget : Options → NamedTarget → List ℕ → Target → Type 0
-IsTarget options (named.One field conversion) header (One found by) = (found ≡ field) × (by.now ≡ conversion)
-IsTarget options (named.Fields field named) header (Fields base fields) =
+IsTarget options (named.One None conversion) header (target.Line by) = by.now ≡ conversion
+IsTarget options (named.One (Some field) conversion) header (target.Field base only) =
+    (base ≡ field) × IsOnly field conversion only
+IsTarget options (named.Fields field named) header (target.Fields base fields) =
     (base ≡ field) × ArePlaced options field named.items header fields.items
-IsTarget options it header target = ⊥
+IsTarget options words header found = ⊥
 
 -- with a header the filter is this
 abbrev pub IsFilter : NamedFilter → List ℕ → Filter → Type 0
 IsFilter it header filter =
-    (target : Target) × IsTarget it.options it.target header target × (filter ≡ filter_of it.options target)
+    (found : Target) × IsTarget it.options it.target header found × (filter ≡ filter_of it.options found)
 
 -- or the header does not have its fields, for this error
 abbrev pub TargetFails : Options → NamedTarget → List ℕ → HeaderError → Type 0

@@ -13,7 +13,7 @@ mod words;
 pub use conversions::{Conversion, OperationError, Reason, ShownWord, convert};
 pub use lines::edits::FieldConversion;
 pub use lines::fields::Field;
-pub use lines::filter::Filter;
+pub use lines::filter::{Filter, Target};
 pub use lines::input::LineReader;
 pub use lines::rows::filter_lines;
 pub use program::diagnostics::{Diagnostics, ErrorLines};
@@ -23,4 +23,3 @@ pub use program::error::{
 pub use program::help::Program;
 pub use words::calls::parse_calls;
 pub use words::options::OnError;
-pub use words::targets::Target;

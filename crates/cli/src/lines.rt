@@ -5,7 +5,6 @@ pub mod fields;
 pub mod filter;
 pub mod headers;
 pub mod input;
-mod line_feed;
 pub mod named_filter;
 pub mod records;
 pub mod rejection;

@@ -1,10 +1,10 @@
 //! The fields of a line that are replaced by their conversions.
-ghost use Rattle.std.specs.Prelude.{◌≡◌, ◌≢◌, ◌<◌, ◌≤◌, true, false, Ok, IfOk, IfErr, IfSome, IsSomeAnd, OnOk};
-ghost use Rattle.cli.specs.Edits.{HasEdit, EditFails, IsEditedLine, EditingFails};
+ghost use Rattle.std.specs.Prelude.{◌≡◌, ◌≢◌, ◌<◌, ◌++◌, List, ℕ, true, false, Ok, None, IfOk, IfErr};
+ghost use Rattle.cli.specs.Edits.{IsEdit, EditFails, IsEditedLine, EditingFails, first_error};
 ghost use Rattle.cli.specs.Error.{line_error};
-ghost use Rattle.cli.specs.Fields.{within};
+ghost use Rattle.cli.specs.Fields.{within, bytes_of, IsCursor};
 
-use crate::lines::field_conversion::{append_converted, converted};
+use crate::lines::field_conversion::append_converted;
 use crate::lines::fields::{Cursor, Field};
 use crate::program::error::FieldLabel;
 use conversions::{Conversion, OperationError};
@@ -18,29 +18,29 @@ pub struct FieldConversion<'a> {
     pub index: usize,
     /// The number of fields that words name before it.
     pub rank: usize,
-    /// How an error names it.
-    pub label: FieldLabel,
+    /// How an error names it. None: it names no field.
+    pub label: Option<FieldLabel>,
     /// Its conversion.
     pub conversion: &'a Conversion<'a>,
 }
 
-impl FieldConversion<'_> {
-    /// Fails if the field is not in a line, or its conversion fails.
-    fn check(
-        &self,
-        alloc: Global,
-        trims: bool,
-        base: &Field<'_>,
-        line: &[u8],
-    ) -> Result<(), OperationError>
-        ensures ok { OnOk result (HasEdit trims base.now line.now self.now) }
-        ensures err { IfErr result (EditFails trims base.now line.now self.now) }
-        ensures no_output { IfErr result (λ error. error ≢ OperationError.Output) }
-    {
-        let bounds = base.at(self.index).locate(line)?;
-        let bytes = &line[bounds.0..bounds.1];
-        let _text = converted(alloc, trims, self.conversion, base, bytes)?;
-        Ok(())
+/// The error of a field.
+#[derive(Clone, Copy)]
+struct FieldError {
+    /// The number of fields that words name before it.
+    rank: usize,
+    /// How the error names it.
+    label: Option<FieldLabel>,
+    error: OperationError,
+}
+
+/// Returns the error of the field that words name first.
+fn first_error(found: Option<FieldError>, error: FieldError) -> FieldError
+    ensures { result ≡ first_error found error }
+{
+    match found {
+        Some(found) if found.rank <= error.rank => found,
+        _ => error,
     }
 }
 
@@ -54,7 +54,39 @@ pub fn within(bytes: &[u8], bounds: (usize, usize)) -> &[u8]
     &rest[..len.min(rest.len())]
 }
 
-/// Returns a line with the conversion of each of these fields instead of it. It fails if one of them does.
+impl FieldConversion<'_> {
+    /// Appends the bytes of a line from `copied` up to the field, and its conversion. Returns the end of the field.
+    #[inline(always)]
+    fn append(
+        &self,
+        alloc: Global,
+        trims: bool,
+        line: &[u8],
+        copied: usize,
+        base: &Field<'_>,
+        cursor: &mut Cursor,
+        text: &mut TextBuf,
+    ) -> Result<usize, OperationError>
+        requires { IsCursor base.now line.now cursor.now }
+        ensures ok { IfOk result (λ end. (start : ℕ) × (bytes : List ℕ)
+            × IsEdit trims base.now line.now self.now (start, end) bytes
+            × (text.new.0 ≡ (text.old.0 ++ within line.now (copied, start)) ++ bytes_of base.now bytes)) }
+        ensures err { IfErr result (EditFails trims base.now line.now self.now) }
+        ensures no_output { IfErr result (λ error. error ≢ OperationError.Output) }
+        ensures cursor { IsCursor base.now line.now cursor.new }
+    {
+        let bounds = base.locate(self.index, line, cursor)?;
+        if let Err(_) = text.put_bytes(within(line, (copied, bounds.0))) {
+            return Err(OperationError::Memory);
+        }
+        let bytes = &line[bounds.0..bounds.1];
+        append_converted(alloc, trims, self.conversion, base, bytes, text)?;
+        Ok(bounds.1)
+    }
+}
+
+/// Returns a line with the conversion of each of these fields instead of it. If some fail, it returns the error of the
+/// one that words name first, and `failed` becomes its label.
 #[inline(always)]
 pub fn edited(
     alloc: Global,
@@ -62,66 +94,38 @@ pub fn edited(
     base: &Field<'_>,
     fields: &[FieldConversion<'_>],
     line: &[u8],
-) -> Result<TextBuf, OperationError>
-    ensures { IfOk result (λ text. IsEditedLine trims base.now line.now fields.now (Ok text.0)) }
-{
-    let is_open = base.has_open_quote(line);
-    let record = base.record(line);
-    let mut cursor = Cursor { index: 0, start: 0 };
-    let mut copied = 0;
-    let mut text = TextBuf::new(alloc);
-    for it in fields {
-        if is_open {
-            return Err(OperationError::Quote);
-        }
-        let Some(bounds) = base.next_bounds(it.index, record, &mut cursor) else {
-            return Err(OperationError::Field);
-        };
-        text.put_bytes(within(line, (copied, bounds.0)))?;
-        let bytes = &line[bounds.0..bounds.1];
-        append_converted(alloc, trims, it.conversion, base, bytes, &mut text)?;
-        copied = bounds.1;
-    }
-    text.put_bytes(within(line, (copied, line.len())))?;
-    Ok(text)
-}
-
-/// Returns whether a rank is greater than another one, if there is one.
-fn is_after(rank: usize, other: Option<usize>) -> bool
-    ensures yes { result ≡ true → IsSomeAnd other (λ it. it < rank) }
-    ensures no { result ≡ false → IfSome other (λ it. rank ≤ it) }
-{
-    match other {
-        Some(other) => other < rank,
-        None => false,
-    }
-}
-
-/// Returns the error of the first of these fields, in the order of words, that fails, and names it in `failed`.
-/// `Memory`: out of memory for that field, or none fails.
-#[inline(never)]
-pub fn first_error(
-    alloc: Global,
-    trims: bool,
-    base: &Field<'_>,
-    fields: &[FieldConversion<'_>],
-    line: &[u8],
     failed: &mut Option<FieldLabel>,
-) -> OperationError
-    ensures error { EditingFails trims base.now line.now fields.now (line_error failed.new result) }
-    ensures no_output { result ≢ OperationError.Output }
+) -> Result<TextBuf, OperationError>
+    ensures ok { IfOk result (λ text. IsEditedLine trims base.now line.now fields.now (Ok text.0)) }
+    ensures err { IfErr result (λ error. EditingFails trims base.now line.now fields.now
+        (line_error failed.new error)) }
+    ensures no_output { IfErr result (λ error. error ≢ OperationError.Output) }
 {
-    let mut first = OperationError::Memory;
-    let mut first_rank = None;
-    for it in fields {
-        if is_after(it.rank, first_rank) {
-            continue;
-        }
-        if let Err(error) = it.check(alloc, trims, base, line) {
-            first = error;
-            first_rank = Some(it.rank);
-            *failed = Some(it.label);
+    let mut cursor = base.first(line);
+    let mut text = TextBuf::new(alloc);
+    let mut copied = 0;
+    let mut found = None;
+    for field in fields {
+        match field.append(alloc, trims, line, copied, base, &mut cursor, &mut text) {
+            Ok(end) => copied = end,
+            Err(error) => {
+                found = Some(first_error(
+                    found,
+                    FieldError {
+                        rank: field.rank,
+                        label: field.label,
+                        error,
+                    },
+                ));
+            }
         }
     }
-    first
+    if let Some(first) = found {
+        *failed = first.label;
+        return Err(first.error);
+    }
+    match text.put_bytes(within(line, (copied, line.len()))) {
+        Ok(()) => Ok(text),
+        Err(_) => Err(OperationError::Memory),
+    }
 }

@@ -1,9 +1,9 @@
-//! The conversion of a field of a line, and of a whole line that is trimmed.
-ghost use Rattle.std.specs.Prelude.{◌≡◌, ◌≢◌, ◌≤◌, ◌++◌, length, Ok, Err, Some, None, true, IfOk, IfErr, OnOk, OnErr};
+//! The conversion of a field, and of a whole line that is trimmed.
+ghost use Rattle.std.specs.Prelude.{◌≡◌, ◌≢◌, ◌≤◌, ◌++◌, length, Ok, Err, true, IfOk, IfErr, OnOk, OnErr};
 ghost use Rattle.std.specs.Io.KnownBytes.{Appends};
 ghost use Rattle.decimal_digits.specs.AppendsPrefix.{AppendsPrefix};
 ghost use Rattle.cli.specs.Fields.{within, replaced, bytes_of};
-ghost use Rattle.cli.specs.FieldConversion.{IsTextResult, is_trimmed, IsFieldResult, HasFieldText, with_text, HasLineText, LineFails};
+ghost use Rattle.cli.specs.FieldConversion.{IsTextResult, is_trimmed, IsFieldResult, HasFieldText, HasLineText, LineFails};
 ghost use Rattle.cli.specs.Trim.{with_text_of};
 
 use crate::lines::fields::Field;
@@ -87,7 +87,7 @@ fn is_trimmed(trims: bool, field: &Field<'_>, bytes: &[u8]) -> bool
 
 /// Converts the text of a field.
 #[inline(always)]
-pub fn converted(
+fn converted(
     alloc: Global,
     trims: bool,
     conversion: &Conversion<'_>,
@@ -122,36 +122,23 @@ pub fn append_converted(
     bytes: &[u8],
     line: &mut TextBuf,
 ) -> Result<(), OperationError>
-    ensures { OnOk result (HasFieldText trims field.now conversion.now bytes.now
+    ensures ok { OnOk result (HasFieldText trims field.now conversion.now bytes.now
         (λ text. line.new.0 ≡ line.old.0 ++ bytes_of field.now text)) }
+    ensures err { IfErr result (λ error. error ≢ OperationError.Memory →
+        IsFieldResult trims field.now conversion.now bytes.now (Err error)) }
+    ensures no_output { IfErr result (λ error. error ≢ OperationError.Output) }
 {
     if !trims && !field.is_csv {
-        return convert(alloc, conversion, bytes, line);
+        return match convert(alloc, conversion, bytes, line) {
+            Ok(()) => Ok(()),
+            Err(error) => Err(error_in_memory(error)),
+        };
     }
     let text = converted(alloc, trims, conversion, field, bytes)?;
-    field.write(text.as_bytes(), line)?;
-    Ok(())
-}
-
-/// Writes a line with a text as the field between these bounds.
-pub fn write_field<W: Sink>(
-    field: &Field<'_>,
-    line: &[u8],
-    bounds: (usize, usize),
-    text: &[u8],
-    sink: &mut W,
-) -> Result<(), SinkFault>
-    requires ordered { bounds.0 ≤ bounds.1 }
-    requires inside { bounds.1 ≤ length line.now }
-    ensures ok { OnOk result (Appends (W.contents sink.old) (W.contents sink.new)
-        (with_text field.now line.now bounds text.now)) }
-    ensures err { OnErr result (AppendsPrefix (W.contents sink.old) (W.contents sink.new)
-        (with_text field.now line.now bounds text.now)) }
-    ensures failed { OnErr result (W.has_failed sink.new ≡ true) }
-{
-    sink.put_bytes(&line[..bounds.0])?;
-    field.write(text, sink)?;
-    sink.put_bytes(&line[bounds.1..])
+    match field.write(text.as_bytes(), line) {
+        Ok(()) => Ok(()),
+        Err(_) => Err(OperationError::Memory),
+    }
 }
 
 /// Converts what a line has between these bounds, without the blanks and tabs around it, and writes the line with the
@@ -166,13 +153,13 @@ pub fn convert_trimmed<W: Sink>(
 ) -> Result<(), OperationError>
     requires ordered { body.0 ≤ body.1 }
     requires inside { body.1 ≤ length line.now }
-    ensures printed { OnOk result (HasLineText true None conversion.now (within line.now body)
+    ensures printed { OnOk result (HasLineText true conversion.now (within line.now body)
         (λ text. Appends (W.contents sink.old) (W.contents sink.new) (replaced line.now body text))) }
     ensures fails_with { IfErr result (λ error. error ≢ OperationError.Output
-        → LineFails true None conversion.now (within line.now body) error) }
+        → LineFails true conversion.now (within line.now body) error) }
     ensures unchanged_on_error { IfErr result (λ error. error ≢ OperationError.Output → sink.new ≡ sink.old) }
     ensures failed { result ≡ Err OperationError.Output → W.has_failed sink.new ≡ true }
-    ensures prefix { result ≡ Err OperationError.Output → HasLineText true None conversion.now (within line.now body)
+    ensures prefix { result ≡ Err OperationError.Output → HasLineText true conversion.now (within line.now body)
         (λ text. AppendsPrefix (W.contents sink.old) (W.contents sink.new) (replaced line.now body text)) }
 {
     let mut text = TextBuf::new(alloc);

@@ -1,16 +1,15 @@
 //! The fields of a line.
-ghost use Rattle.std.specs.Prelude.{◌≡◌, ◌≢◌, ◌≤◌, ◌∷◌, ◌++◌, ℕ, List, [], length, take, drop, slice_get, IfSome, IfOk, Ok, None, OnOk, OnErr, true};
+ghost use Rattle.std.specs.Prelude.{◌≡◌, ◌≢◌, ◌≤◌, ◌<◌, ◌+◌, ◌++◌, ℕ, List, [], length, slice_get, IfSome, IfOk, Ok, None, OnOk, OnErr, true};
 ghost use Rattle.std.specs.List.{list_any};
 ghost use Rattle.std.specs.Cow.{cow_slice_items};
 ghost use Rattle.std.specs.Io.KnownBytes.{Appends};
 ghost use Rattle.decimal_digits.specs.AppendsPrefix.{AppendsPrefix};
-ghost use Rattle.cli.specs.Fields.{is_quote, are_closed, is_outside, at_index, bounds, has_open_quote, bounds_after, IsStart, IsNext, IsCursor, double, doubled, between_quotes, quoted, Holds};
+ghost use Rattle.cli.specs.Fields.{is_quote, are_closed, is_outside, at_index, delimiter_after, start_of, bounds, has_open_quote, IsAt, IsCursor, double, doubled, between_quotes, quoted, Holds};
 ghost use Rattle.cli.specs.Fields.{is_quoted, is_special, needs_quotes, bytes_of, record_of, located};
 
 use crate::lines::trim::without_return;
 use conversions::OperationError;
 use decimal_digits::sink::{Sink, SinkFault};
-use memchr::memmem;
 use std::alloc::{AllocError, Global};
 use std::borrow::CowSlice;
 
@@ -25,13 +24,17 @@ pub struct Field<'a> {
     pub is_csv: bool,
 }
 
-/// Where a search for fields goes on in a line whose fields one byte separates.
+/// A field of a line, from which the search for later ones goes on.
 #[derive(Clone, Copy)]
 pub struct Cursor {
-    /// The index of the field that starts there.
-    pub index: usize,
-    /// The start of that field: after the end of the line there is none.
-    pub start: usize,
+    /// Whether a quote of the line is left open.
+    is_open: bool,
+    /// The index of the field.
+    index: usize,
+    /// Its start.
+    start: usize,
+    /// The index of the delimiter after it. None: it is the last one.
+    delimiter: Option<usize>,
 }
 
 /// Returns whether each quote that opens is closed.
@@ -124,84 +127,20 @@ impl Field<'_> {
         !self.is_csv || outside == are_closed(bytes)
     }
 
-    /// Returns whether the field that starts here is outside of quotes.
+    /// Returns the index of the delimiter after the field that starts here. None: it is the last one.
     #[inline(always)]
-    fn starts_outside(&self, line: &[u8], start: usize) -> bool
-        requires start { IsStart self.now line.now start }
-        requires inside { start ≤ length line.now }
-        ensures { result ≡ is_outside self.now (take start line.now) }
+    fn delimiter_after(&self, line: &[u8], start: usize) -> Option<usize>
+        ensures { result ≡ delimiter_after self.now line.now start }
     {
-        self.is_outside_after(true, &line[start.saturating_sub(1)..start])
-    }
-
-    /// Returns the start and the end of a field in a line whose fields one byte separates: from the field that starts
-    /// at `first`, the one that `left` others precede. None: there are fewer.
-    #[inline(always)]
-    fn bounds_by_byte(
-        &self,
-        delimiter: u8,
-        line: &[u8],
-        first: usize,
-        left: usize,
-    ) -> Option<(usize, usize)>
-        requires delimiter { self.now.delimiter.now ≡ delimiter ∷ [] }
-        requires start { IsStart self.now line.now first }
-        ensures next { IsNext self.now line.now result (drop left (bounds_after self.now line.now first)) }
-        ensures ordered { IfSome result (λ bounds. bounds.0 ≤ bounds.1) }
-        ensures inside { IfSome result (λ bounds. bounds.1 ≤ length line.now) }
-    {
-        if first > line.len() {
-            return None;
-        }
-        let mut start = first;
-        let mut left = left;
-        let mut outside = self.starts_outside(line, first);
-        for at in first..line.len() {
-            let separates = outside & (line[at] == delimiter);
-            outside = self.is_outside_after(outside, &line[at..at + 1]);
-            if !separates {
-                continue;
-            }
-            if left == 0 {
-                return Some((start, at));
-            }
-            left -= 1;
-            start = at + 1;
-        }
-        if left > 0 {
-            return None;
-        }
-        Some((start, line.len()))
-    }
-
-    #[inline(always)]
-    fn bounds(&self, line: &[u8]) -> Option<(usize, usize)>
-        ensures value { result ≡ bounds self.now line.now }
-        ensures ordered { IfSome result (λ bounds. bounds.0 ≤ bounds.1) }
-        ensures inside { IfSome result (λ bounds. bounds.1 ≤ length line.now) }
-    {
-        if let [delimiter] = self.delimiter {
-            return self.bounds_by_byte(*delimiter, line, 0, self.index);
-        }
-        let mut start = 0;
-        let mut left = self.index;
+        let (first, rest) = self.delimiter.split_first()?;
         let mut outside = true;
-        let mut counted = 0;
-        for at in memmem::find_iter(line, self.delimiter) {
-            outside = self.is_outside_after(outside, &line[counted..at]);
-            counted = at;
-            if outside {
-                if left == 0 {
-                    return Some((start, at));
-                }
-                left -= 1;
-                start = at + self.delimiter.len();
+        for index in start..line.len() {
+            if outside && line[index] == *first && line[index + 1..].starts_with(rest) {
+                return Some(index);
             }
+            outside = self.is_outside_after(outside, &line[index..index + 1]);
         }
-        if left > 0 {
-            return None;
-        }
-        Some((start, line.len()))
+        None
     }
 
     /// Returns the field with an index.
@@ -211,60 +150,60 @@ impl Field<'_> {
         Field { index, ..self }
     }
 
-    #[inline(never)]
-    fn bounds_at(&self, index: usize, line: &[u8]) -> Option<(usize, usize)>
-        ensures value { result ≡ bounds (at_index self.now index) line.now }
-        ensures ordered { IfSome result (λ bounds. bounds.0 ≤ bounds.1) }
-        ensures inside { IfSome result (λ bounds. bounds.1 ≤ length line.now) }
+    /// Returns a cursor at the first field of a line.
+    #[inline(always)]
+    pub fn first(&self, line: &[u8]) -> Cursor
+        ensures { IsCursor self.now line.now result }
     {
-        self.at(index).bounds(line)
+        Cursor {
+            is_open: self.has_open_quote(line),
+            index: 0,
+            start: 0,
+            delimiter: self.delimiter_after(self.record(line), 0),
+        }
     }
 
-    /// Returns the start and the end of the field with an index, and moves the cursor after it.
+    /// Returns the start and the end of the field with an index, to which the cursor moves.
     #[inline(always)]
-    pub fn next_bounds(
-        &self,
-        index: usize,
-        line: &[u8],
-        cursor: &mut Cursor,
-    ) -> Option<(usize, usize)>
-        requires { IsCursor self.now line.now cursor.now }
-        ensures value { result ≡ bounds (at_index self.now index) line.now }
+    fn seek(&self, index: usize, line: &[u8], cursor: &mut Cursor) -> Option<(usize, usize)>
+        requires { IsAt self.now line.now cursor.now }
+        ensures value { result ≡ bounds self.now line.now index }
         ensures ordered { IfSome result (λ bounds. bounds.0 ≤ bounds.1) }
         ensures inside { IfSome result (λ bounds. bounds.1 ≤ length line.now) }
-        ensures cursor { IsCursor self.now line.now cursor.new }
+        ensures cursor { IsAt self.now line.now cursor.new }
+        ensures is_open { cursor.new.is_open ≡ cursor.old.is_open }
     {
-        let ([delimiter], Some(left), Some(next)) = (
-            self.delimiter,
-            index.checked_sub(cursor.index),
-            index.checked_add(1),
-        ) else {
-            return self.bounds_at(index, line);
-        };
-        let found = self.bounds_by_byte(*delimiter, line, cursor.start, left)?;
-        *cursor = Cursor {
-            index: next,
-            start: found.1 + 1,
-        };
-        Some(found)
+        let mut found = *cursor;
+        if index < found.index {
+            found = Cursor {
+                index: 0,
+                start: 0,
+                delimiter: self.delimiter_after(line, 0),
+                ..found
+            };
+        }
+        while found.index < index {
+            let start = found.delimiter? + self.delimiter.len();
+            found = Cursor {
+                index: found.index + 1,
+                start,
+                delimiter: self.delimiter_after(line, start),
+                ..found
+            };
+        }
+        *cursor = found;
+        Some((found.start, found.delimiter.unwrap_or(line.len())))
     }
 
     /// Returns the start and the end of each field of a line.
     pub fn all_bounds(&self, alloc: Global, line: &[u8]) -> Result<Vec<(usize, usize)>, AllocError>
-        ensures { IfOk result (λ all. (index : ℕ)
-            → bounds (at_index self.now index) line.now ≡ slice_get all.items index) }
+        ensures { IfOk result (λ all. (index : ℕ) → bounds self.now line.now index ≡ slice_get all.items index) }
     {
         let mut all = Vec::new(alloc);
         let mut start = 0;
-        let mut outside = true;
-        let mut counted = 0;
-        for at in memmem::find_iter(line, self.delimiter) {
-            outside = self.is_outside_after(outside, &line[counted..at]);
-            counted = at;
-            if outside {
-                all.push((start, at))?;
-                start = at + self.delimiter.len();
-            }
+        while let Some(end) = self.delimiter_after(line, start) {
+            all.push((start, end))?;
+            start = end + self.delimiter.len();
         }
         all.push((start, line.len()))?;
         Ok(all)
@@ -289,22 +228,29 @@ impl Field<'_> {
         }
     }
 
-    /// Returns the start and the end of the field in a line.
+    /// Returns the start and the end of the field with an index in a line, to which the cursor moves.
     ///
     /// # Errors
     ///
     /// - `Quote`: in CSV a quote is left open.
     /// - `Field`: the line has fewer fields.
     #[inline(always)]
-    pub fn locate(&self, line: &[u8]) -> Result<(usize, usize), OperationError>
-        ensures value { result ≡ located self.now line.now }
+    pub fn locate(
+        &self,
+        index: usize,
+        line: &[u8],
+        cursor: &mut Cursor,
+    ) -> Result<(usize, usize), OperationError>
+        requires { IsCursor self.now line.now cursor.now }
+        ensures value { result ≡ located self.now line.now index }
         ensures ordered { IfOk result (λ bounds. bounds.0 ≤ bounds.1) }
         ensures inside { IfOk result (λ bounds. bounds.1 ≤ length line.now) }
+        ensures cursor { IsCursor self.now line.now cursor.new }
     {
-        if self.has_open_quote(line) {
+        if cursor.is_open {
             return Err(OperationError::Quote);
         }
-        match self.bounds(self.record(line)) {
+        match self.seek(index, self.record(line), cursor) {
             Some(bounds) => Ok(bounds),
             None => Err(OperationError::Field),
         }
@@ -346,7 +292,7 @@ impl Field<'_> {
     fn needs_quotes(&self, text: &[u8]) -> bool
         ensures { result ≡ needs_quotes self.now text.now }
     {
-        self.is_csv && (memmem::find(text, self.delimiter).is_some() || has_special(text))
+        self.is_csv && (self.delimiter_after(text, 0).is_some() || has_special(text))
     }
 
     /// Writes a text as the field.

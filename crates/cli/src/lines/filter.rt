@@ -10,18 +10,29 @@ ghost use Rattle.cli.specs.Fields.{replaced};
 ghost use Rattle.cli.specs.Trim.{body_bounds};
 ghost use Rattle.cli.specs.Filter.{IsHeader, body_of, replacement, HasConvertedLine, ConvertingFails, HasText, ConversionFails, HasRowText, RowFails, lines_of_row};
 
-use crate::lines::edits::{FieldConversion, edited, first_error};
-use crate::lines::field_conversion::{convert_trimmed, converted, write_field, write_replaced};
+use crate::lines::edits::{FieldConversion, edited};
+use crate::lines::field_conversion::{convert_trimmed, write_replaced};
 use crate::lines::fields::Field;
-use crate::lines::line_feed::find_line_feed;
 use crate::lines::records::{is_broken, lines_in};
 use crate::lines::trim::body_bounds;
 use crate::program::error::FieldLabel;
 use crate::words::options::OnError;
-use crate::words::targets::Target;
 use conversions::{Conversion, OperationError, convert};
 use fixed_decimal::{Sink, SinkFault};
+use memchr::memchr;
 use std::alloc::Global;
+use std::slice;
+
+/// What is converted of each line, and how.
+#[derive(Drop)]
+pub enum Target<'a> {
+    /// The line.
+    Line(&'a Conversion<'a>),
+    /// One field, whose delimiter and quotes are those of this one.
+    Field(Field<'a>, FieldConversion<'a>),
+    /// Fields, in the order of a line. Each has the delimiter and the quotes of this one.
+    Fields(Field<'a>, Vec<FieldConversion<'a>>),
+}
 
 /// What a filter does to each line of an input.
 #[derive(Drop)]
@@ -58,73 +69,36 @@ impl Filter<'_> {
         self.has_header && number == 1
     }
 
-    #[inline(never)]
-    fn convert_field<W: Sink>(
-        &self,
-        alloc: Global,
-        field: &Field<'_>,
-        conversion: &Conversion<'_>,
-        number: u64,
-        line: &[u8],
-        sink: &mut W,
-    ) -> Result<(), OperationError>
-        ensures printed { OnOk result
-            (HasLineText self.now.trims (Some field.now) conversion.now (body_of self.now number line.now)
-            (λ text. Appends (W.contents sink.old) (W.contents sink.new)
-            (replaced line.now (body_bounds self.now.trims number line.now) text))) }
-        ensures fails_with { IfErr result
-            (LineFails self.now.trims (Some field.now) conversion.now (body_of self.now number line.now)) }
-        ensures unchanged_on_error { IfErr result (λ error. error ≢ OperationError.Output → sink.new ≡ sink.old) }
-        ensures failed { result ≡ Err OperationError.Output → W.has_failed sink.new ≡ true }
-        ensures prefix { result ≡ Err OperationError.Output →
-            HasLineText self.now.trims (Some field.now) conversion.now (body_of self.now number line.now)
-            (λ text. AppendsPrefix (W.contents sink.old) (W.contents sink.new)
-            (replaced line.now (body_bounds self.now.trims number line.now) text)) }
-    {
-        let body = body_bounds(self.trims, number, line);
-        let bytes = &line[body.0..body.1];
-        let bounds = field.locate(bytes)?;
-        let bytes = &bytes[bounds.0..bounds.1];
-        let text = converted(alloc, self.trims, conversion, field, bytes)?;
-        let bounds = (body.0 + bounds.0, body.0 + bounds.1);
-        write_field(field, line, bounds, text.as_bytes(), sink)?;
-        Ok(())
-    }
-
     #[inline(always)]
-    fn convert_one<W: Sink>(
+    fn convert_line<W: Sink>(
         &self,
         alloc: Global,
-        field: &Option<Field<'_>>,
         conversion: &Conversion<'_>,
         number: u64,
         line: &[u8],
         sink: &mut W,
     ) -> Result<(), OperationError>
         ensures printed { OnOk result
-            (HasLineText self.now.trims field.now conversion.now (body_of self.now number line.now)
+            (HasLineText self.now.trims conversion.now (body_of self.now number line.now)
             (λ text. Appends (W.contents sink.old) (W.contents sink.new)
             (replaced line.now (body_bounds self.now.trims number line.now) text))) }
         ensures fails_with { IfErr result (λ error. error ≢ OperationError.Output →
-            LineFails self.now.trims field.now conversion.now (body_of self.now number line.now) error) }
+            LineFails self.now.trims conversion.now (body_of self.now number line.now) error) }
         ensures unchanged_on_error { IfErr result (λ error. error ≢ OperationError.Output → sink.new ≡ sink.old) }
         ensures failed { result ≡ Err OperationError.Output → W.has_failed sink.new ≡ true }
         ensures prefix { result ≡ Err OperationError.Output →
-            HasLineText self.now.trims field.now conversion.now (body_of self.now number line.now)
+            HasLineText self.now.trims conversion.now (body_of self.now number line.now)
             (λ text. AppendsPrefix (W.contents sink.old) (W.contents sink.new)
             (replaced line.now (body_bounds self.now.trims number line.now) text)) }
     {
-        match field {
-            Some(field) => self.convert_field(alloc, field, conversion, number, line, sink),
-            None if self.trims => {
-                let body = body_bounds(true, number, line);
-                convert_trimmed(alloc, conversion, line, body, sink)
-            }
-            None => convert(alloc, conversion, line, sink),
+        if !self.trims {
+            return convert(alloc, conversion, line, sink);
         }
+        let body = body_bounds(true, number, line);
+        convert_trimmed(alloc, conversion, line, body, sink)
     }
 
-    /// Converts several fields. `failed` becomes the field that fails.
+    /// Converts fields. `failed` becomes the field that fails.
     #[inline(never)]
     fn convert_fields<W: Sink>(
         &self,
@@ -152,9 +126,7 @@ impl Filter<'_> {
     {
         let body = body_bounds(self.trims, number, line);
         let bytes = &line[body.0..body.1];
-        let Ok(text) = edited(alloc, self.trims, base, fields, bytes) else {
-            return Err(first_error(alloc, self.trims, base, fields, bytes, failed));
-        };
+        let text = edited(alloc, self.trims, base, fields, bytes, failed)?;
         write_replaced(line, body, text.as_bytes(), sink)?;
         Ok(())
     }
@@ -179,8 +151,10 @@ impl Filter<'_> {
             (AppendsPrefix (W.contents sink.old) (W.contents sink.new)) }
     {
         match &self.target {
-            Target::One(field, conversion) => {
-                self.convert_one(alloc, field, conversion, number, line, sink)
+            Target::Line(conversion) => self.convert_line(alloc, conversion, number, line, sink),
+            Target::Field(base, field) => {
+                let fields = slice::from_ref(field);
+                self.convert_fields(alloc, base, fields, number, line, sink, failed)
             }
             Target::Fields(base, fields) => {
                 self.convert_fields(alloc, base, fields.as_slice(), number, line, sink, failed)
@@ -216,8 +190,8 @@ impl Filter<'_> {
         Ok(())
     }
 
-    /// Writes the text of the row that begins at the line with this number, and a line feed. If a field by
-    /// name or one of several fails, `failed` becomes that field.
+    /// Writes the text of the row that begins at the line with this number, and a line feed. If a field fails, `failed`
+    /// becomes its label.
     #[inline(always)]
     pub fn print_row<W: Sink>(
         &self,
@@ -246,13 +220,13 @@ impl Filter<'_> {
     /// Returns where the first line of a block ends. None: it is not whole in it, or it may be a part of a record.
     #[inline(always)]
     pub fn end_in_block(&self, block: &[u8]) -> Option<usize>
-        ensures end { IfSome result (λ end. IsFirstByte (is_byte 10) block.now (Some end)) }
+        ensures end { self.now.has_records ≡ false → IsFirstByte (is_byte 10) block.now result }
         ensures is_line { IsSome result → self.now.has_records ≡ false }
     {
         if self.has_records {
             return None;
         }
-        find_line_feed(block)
+        memchr(b'\n', block)
     }
 
     /// Returns the number of lines of a row.

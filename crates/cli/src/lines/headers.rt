@@ -29,18 +29,18 @@ pub struct Header<'a> {
 fn has_index(fields: &[FieldConversion<'_>], index: usize) -> bool
     ensures { result ≡ has_index fields.now index }
 {
-    fields.iter().any(|it| it.index == index)
+    fields.iter().any(|field| field.index == index)
 }
 
 /// Returns the field with an index, with the conversion of its words.
-fn placed<'a>(index: usize, rank: usize, it: &'a NamedField<'a>) -> FieldConversion<'a>
-    ensures { IsPlaced index rank it.now result }
+fn placed<'a>(index: usize, rank: usize, named: &'a NamedField<'a>) -> FieldConversion<'a>
+    ensures { IsPlaced index rank named.now result }
 {
     FieldConversion {
         index,
         rank,
-        label: it.label,
-        conversion: &it.conversion,
+        label: Some(named.label),
+        conversion: &named.conversion,
     }
 }
 
@@ -48,7 +48,7 @@ fn count_before(fields: &[FieldConversion<'_>], index: usize) -> usize
     ensures value { result ≡ count_before fields.now index }
     ensures inside { result ≤ length fields.now }
 {
-    fields.iter().filter(|it| it.index < index).count()
+    fields.iter().filter(|field| field.index < index).count()
 }
 
 impl<'a> Header<'a> {
@@ -139,21 +139,21 @@ impl<'a> Header<'a> {
     fn push_named(
         &self,
         alloc: Global,
-        it: &'a NamedField<'a>,
+        named: &'a NamedField<'a>,
         fields: &mut Vec<FieldConversion<'a>>,
     ) -> Result<(), HeaderError>
         requires { HasBounds self.now }
-        ensures ok { OnOk result (AddsField self.now.trims self.now.field self.now.bytes.now it.now
+        ensures ok { OnOk result (AddsField self.now.trims self.now.field self.now.bytes.now named.now
             fields.old.items fields.new.items) }
         ensures err { IfErr result (λ error. error ≢ HeaderError.Memory → FieldFails self.now.trims self.now.field
-            self.now.bytes.now fields.old.items it.now error) }
+            self.now.bytes.now fields.old.items named.now error) }
     {
-        let index = self.index_of(alloc, it.column)?;
+        let index = self.index_of(alloc, named.column)?;
         if has_index(fields.as_slice(), index) {
             return Err(HeaderError::SameField(FieldLabel::Index(index)));
         }
         let before = count_before(fields.as_slice(), index);
-        let placed = placed(index, fields.len(), it);
+        let placed = placed(index, fields.len(), named);
         if let Err(_) = fields.insert(before, placed) {
             return Err(HeaderError::Memory);
         }
@@ -173,8 +173,8 @@ impl<'a> Header<'a> {
             self.now.bytes.now [] named.now error) }
     {
         let mut fields = Vec::new(alloc);
-        for it in named {
-            self.push_named(alloc, it, &mut fields)?;
+        for field in named {
+            self.push_named(alloc, field, &mut fields)?;
         }
         Ok(fields)
     }

@@ -9,7 +9,7 @@ ghost use Rattle.cli.specs.NamedFilter.{is_broken_header, filter_of, ArePlaced, 
 
 use crate::lines::edits::FieldConversion;
 use crate::lines::fields::Field;
-use crate::lines::filter::Filter;
+use crate::lines::filter::{Filter, Target};
 use crate::lines::headers::Header;
 use crate::lines::input::LineReader;
 use crate::lines::records::is_broken;
@@ -19,7 +19,7 @@ use crate::lines::trim::body_bounds;
 use crate::program::diagnostics::Diagnostics;
 use crate::program::error::{HeaderError, ProgramError};
 use crate::words::options::Options;
-use crate::words::targets::{NamedField, NamedTarget, Target};
+use crate::words::targets::{NamedField, NamedTarget};
 use fixed_decimal::Sink;
 use std::alloc::Global;
 use std::io::Read;
@@ -85,8 +85,17 @@ impl<'a> NamedFilter<'a> {
         ensures err { IfErr result (HeaderFails self.now header.now) }
     {
         match &self.target {
-            NamedTarget::One(field, conversion) => {
-                Ok(self.options.filter(Target::One(*field, conversion)))
+            NamedTarget::One(None, conversion) => {
+                Ok(self.options.filter(Target::Line(conversion)))
+            }
+            NamedTarget::One(Some(field), conversion) => {
+                let only = FieldConversion {
+                    index: field.index,
+                    rank: 0,
+                    label: None,
+                    conversion,
+                };
+                Ok(self.options.filter(Target::Field(*field, only)))
             }
             NamedTarget::Fields(field, named) => {
                 let fields = self

@@ -2,22 +2,12 @@
 ghost use Rattle.std.specs.Prelude.{◌≡◌, [], None, IfSome, IfOk, IfErr, OnOk};
 ghost use Rattle.cli.specs.Targets.{BeginsWithField, IsSplit, IsGroup, any_name, has_column, have_names, IsOnlyIndex, AreSeveral, AddsNamed, GroupFails, HasMore, MoreFail, NamesTarget, NameNoTarget};
 
-use crate::lines::edits::FieldConversion;
 use crate::lines::fields::Field;
 use crate::program::error::{FieldLabel, WordsError};
 use crate::words::columns::Column;
 use crate::words::conversion::parse_conversion;
 use conversions::{Conversion, ShownWord};
 use std::alloc::Global;
-
-/// What is converted of each line, and how.
-#[derive(Drop)]
-pub enum Target<'a> {
-    /// The line, or one field of it by its number.
-    One(Option<Field<'a>>, &'a Conversion<'a>),
-    /// Several fields, or fields by name, in the order of a line. Each has the delimiter and the quotes of this one.
-    Fields(Field<'a>, Vec<FieldConversion<'a>>),
-}
 
 /// A field that words name, and its conversion.
 #[derive(Drop)]

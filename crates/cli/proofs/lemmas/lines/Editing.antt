@@ -1,19 +1,28 @@
 -- The fields of a line that are replaced by their conversions.
-use Rattle.std.proofs.Common.{◌≡◌, ◌≢◌, ℕ, suc, ◌+◌, ◌<◌, ◌≤◌, inl, inr, refl, sym, ap, subst, ◌∙◌, arith, add-one, Some, None, Ok, Err, Option, Bool, false, List, ◌∷◌, ◌++◌, length, take, drop, get_or, append_assoc, take_all, drop-cons}
-use Rattle.std.specs.Prelude.{All, Contains, IfSome, IsSomeAnd}
+use Rattle.std.proofs.Common.{◌≡◌, ◌≢◌, ℕ, suc, ◌+◌, ◌<◌, ◌≤◌, inl, inr, refl, sym, ap, subst, ◌∙◌, arith, add-one, Some, None, Ok, Err, Option, Bool, nat_le, List, ◌∷◌, ◌++◌, length, take, drop, get_or, append_assoc, take_all, drop-cons, ⊎_elim}
+use Rattle.std.specs.Prelude.{All, Contains, IfSome}
+use Rattle.std.proofs.lemmas.Bool.{cond_both, cond-true, cond-false}
+use Rattle.std.proofs.lemmas.Bool.Decides.{leb_tells}
 use Rattle.std.proofs.lemmas.List.Elements.{All-push, All-weaker}
-use Rattle.cli.specs.declared.program.error.FieldLabel.{FieldLabel}
 use Rattle.cli.specs.declared.lines.edits.FieldConversion.{FieldConversion}
+use Rattle.cli.specs.declared.lines.edits.FieldError.{FieldError}
 use Rattle.cli.specs.declared.program.error.LineError.{LineError}
 use Rattle.conversions.specs.declared.error.OperationError.{OperationError}
 use Rattle.conversions.specs.declared.error.OperationError.TheVariants.{Memory}
 use Rattle.cli.specs.declared.lines.fields.Field.{Field}
-use Rattle.cli.specs.Edits.{HasEdit, EditFails, AreEdited, HasEditedText, IsEditedLine, EditingFails}
+use Rattle.cli.specs.Edits.{IsEdit, HasEdit, EditFails, AreEdited, HasEditedText, IsEditedLine, EditingFails, first_error}
 use Rattle.cli.specs.Error.{line_error}
 use Rattle.cli.specs.FieldConversion.{IsFieldResult}
-use Rattle.cli.specs.Fields.{at_index, has_open_quote, bounds, located, record_of, within, replaced, bytes_of}
+use Rattle.cli.specs.Fields.{located, within, replaced, bytes_of}
 use Rattle.cli.specs.Trim.{body_bounds}
 use Rattle.cli.proofs.lemmas.words.CallWords.{taken}
+
+-- what holds of two errors holds of the first one
+pub first_other :
+    (P : FieldError → Type 0) (found : Option FieldError) (error : FieldError) → IfSome found P → P error
+    → P (first_error found error)
+first_other P None error h p = p
+first_other P (Some found) error h p = cond_both (nat_le found.rank error.rank) found error P (λ _. h) (λ _. p)
 
 module _ (trims : Bool) (base : Field) (line : List ℕ) where
   -- ---- The line with the conversions.
@@ -28,120 +37,117 @@ module _ (trims : Bool) (base : Field) (line : List ℕ) where
   -- one more field
   module _
       (fields : List FieldConversion) (written : List ℕ) (copied i : ℕ) (h : Continues fields written copied i)
-      (it : FieldConversion) (inside : i < length fields) (is : it ≡ get_or fields i it)
+      (one : FieldConversion) (inside : i < length fields) (is : one ≡ get_or fields i one)
     where
-      first : drop i fields ≡ it ∷ drop (i + 1) fields
-      first = rw add-one (drop-cons fields i it inside ∙ ap (λ x. x ∷ drop (suc i) fields) (sym is))
+      first : drop i fields ≡ one ∷ drop (i + 1) fields
+      first = rw add-one (drop-cons fields i one inside ∙ ap (λ x. x ∷ drop (suc i) fields) (sym is))
 
       pub continues_more :
-          (bounds : ℕ × ℕ) (text before after : List ℕ) → located (at_index base it.index) line ≡ Ok bounds
-          → before ≡ written ++ within line (copied, bounds.0)
-          → IsFieldResult trims base it.conversion.now (within line bounds) (Ok text)
-          → after ≡ before ++ bytes_of base text → Continues fields after bounds.1 (i + 1)
-      continues_more bounds text before after found copy result put rest are =
+          (bounds : ℕ × ℕ) (text after : List ℕ) → IsEdit trims base line one bounds text
+          → after ≡ (written ++ within line (copied, bounds.0)) ++ bytes_of base text
+          → Continues fields after bounds.1 (i + 1)
+      continues_more bounds text after edit put rest are =
           let part = within line (copied, bounds.0) in
           let bytes = bytes_of base text in
           subst (AreEdited trims base line fields 0)
           (sym (append_assoc written part (bytes ++ rest))
-          ∙ ap (λ t. t ++ (bytes ++ rest)) (sym copy)
-          ∙ sym (append_assoc before bytes rest)
+          ∙ sym (append_assoc (written ++ part) bytes rest)
           ∙ ap (λ t. t ++ rest) (sym put))
           (h (part ++ (bytes ++ rest))
-          (rw first (bounds, text, rest, (found, result), are, refl)))
-
-  -- a field that is in the record
-  pub located_in :
-      (index : ℕ) (found : ℕ × ℕ) → has_open_quote base line ≡ false
-      → bounds (at_index base index) (record_of base line) ≡ Some found → located (at_index base index) line ≡ Ok found
-  located_in index found closed is = rw (closed, is) refl
+          (rw first (bounds, text, rest, edit, are, refl)))
 
   -- ---- The first error.
 
   -- a field that is in the line fails
   pub edit_fails :
-      (it : FieldConversion) (found : ℕ × ℕ) (error : OperationError)
-      → located (at_index base it.index) line ≡ Ok found
-      → (error ≢ Memory → IsFieldResult trims base it.conversion.now (within line found) (Err error))
-      → EditFails trims base line it error
-  edit_fails it found Memory at is = inr (refl, (found, at))
-  edit_fails it found error at is = inl (rw at (is (λ memory. cc)))
+      (field : FieldConversion) (found : ℕ × ℕ) (error : OperationError)
+      → located base line field.index ≡ Ok found
+      → (error ≢ Memory → IsFieldResult trims base field.conversion.now (within line found) (Err error))
+      → EditFails trims base line field error
+  edit_fails field found Memory at is = inr (refl, (found, at))
+  edit_fails field found error at is = inl (rw at (is (λ memory. cc)))
 
-  -- this field, of this rank, has this error
-  abbrev pub Fails : List FieldConversion → ℕ → OperationError → Option FieldLabel → Type 0
-  Fails fields rank error failed =
-      (it : FieldConversion) × Contains fields it × EditFails trims base line it error × (failed ≡ Some it.label)
-      × (it.rank ≡ rank)
+  -- one of the fields has this error
+  abbrev pub Fails : List FieldConversion → FieldError → Type 0
+  Fails fields error =
+      (field : FieldConversion) × Contains fields field × EditFails trims base line field error.error
+      × (error.label ≡ field.label) × (field.rank ≡ error.rank)
 
   -- of the first fields each one of a lower rank has a conversion
   abbrev pub Convert : List FieldConversion → ℕ → ℕ → Type 0
-  Convert fields i rank = All (λ it. it.rank < rank → HasEdit trims base line it) (take i fields)
+  Convert fields i rank = All (λ field. field.rank < rank → HasEdit trims base line field) (take i fields)
 
-  -- of the first fields the one of this rank fails first, with this error; or each one has a conversion
-  abbrev pub Found : List FieldConversion → ℕ → Option ℕ → OperationError → Option FieldLabel → Type 0
-  Found fields i (Some rank) error failed = Convert fields i rank × Fails fields rank error failed
-  Found fields i None error failed = (error ≡ Memory) × All (HasEdit trims base line) (take i fields)
+  -- of the first fields each one has a conversion; or this is the error of the one that words name first
+  abbrev pub Found : List FieldConversion → ℕ → Option FieldError → Type 0
+  Found fields i None = All (HasEdit trims base line) (take i fields)
+  Found fields i (Some error) = Convert fields i error.rank × Fails fields error
 
   -- one more field
   module _
       (fields : List FieldConversion) (i : ℕ) (one : FieldConversion) (inside : i < length fields)
       (is : one ≡ get_or fields i one)
     where
-      convert_more :
-          (rank : ℕ) → Convert fields i rank → (one.rank < rank → HasEdit trims base line one)
-          → Convert fields (i + 1) rank
-      convert_more rank all has =
-          subst (All (λ it. it.rank < rank → HasEdit trims base line it))
-          (sym (taken fields i one inside is))
-          (All-push (λ it. it.rank < rank → HasEdit trims base line it) (take i fields) one all has)
-
-      -- it comes later
-      pub found_after :
-          (rank : Option ℕ) (error : OperationError) (failed : Option FieldLabel) → Found fields i rank error failed
-          → IsSomeAnd rank (λ it. it < one.rank) → Found fields (i + 1) rank error failed
-      found_after (Some rank) error failed (all, fails) after =
-          (convert_more rank all (λ below. absurd (omega (arith, below, after))), fails)
-      found_after None error failed found after = absurd after
+      more : (P : FieldConversion → Type 0) → All P (take i fields) → P one → All P (take (i + 1) fields)
+      more P all has = subst (All P) (sym (taken fields i one inside is)) (All-push P (take i fields) one all has)
 
       -- it has a conversion
-      pub found_more :
-          (rank : Option ℕ) (error : OperationError) (failed : Option FieldLabel) → Found fields i rank error failed
-          → HasEdit trims base line one → Found fields (i + 1) rank error failed
-      found_more (Some rank) error failed (all, fails) has = (convert_more rank all (λ _. has), fails)
-      found_more None error failed (memory, all) has = (
-        memory,
-        subst (All (HasEdit trims base line)) (sym (taken fields i one inside is))
-            (All-push (HasEdit trims base line) (take i fields) one all has),
-      )
+      pub found_more : (found : Option FieldError) → Found fields i found → HasEdit trims base line one
+          → Found fields (i + 1) found
+      found_more None all has = more (HasEdit trims base line) all has
+      found_more (Some error) (all, fails) has =
+          (more (λ field. field.rank < error.rank → HasEdit trims base line field) all (λ _. has), fails)
 
-      -- each one of a lower rank has a conversion
+      -- of the fields before it each one of a lower rank has a conversion
       convert_lower :
-          (rank : Option ℕ) (error : OperationError) (failed : Option FieldLabel) → Found fields i rank error failed
-          → IfSome rank (λ it. one.rank ≤ it) → Convert fields i one.rank
-      convert_lower (Some rank) error failed (all, fails) lower =
-          All-weaker (λ it. it.rank < rank → HasEdit trims base line it)
-          (λ it. it.rank < one.rank → HasEdit trims base line it)
-          (λ it has below. has (omega (arith, lower, below))) (take i fields) all
-      convert_lower None error failed (memory, all) lower =
-          All-weaker (HasEdit trims base line) (λ it. it.rank < one.rank → HasEdit trims base line it)
-          (λ it has below. has) (take i fields) all
+          (rank : ℕ) → Convert fields i rank → one.rank ≤ rank → Convert fields (i + 1) one.rank
+      convert_lower rank all lower =
+          more (λ field. field.rank < one.rank → HasEdit trims base line field)
+          (All-weaker (λ field. field.rank < rank → HasEdit trims base line field)
+          (λ field. field.rank < one.rank → HasEdit trims base line field)
+          (λ field has below. has (omega (arith, lower, below))) (take i fields) all)
+          (λ below. absurd (omega (arith, below)))
 
-      -- it fails, and comes first
-      pub found_first :
-          (rank : Option ℕ) (before : OperationError) (failed : Option FieldLabel)
-          → Found fields i rank before failed → IfSome rank (λ it. one.rank ≤ it) → (error : OperationError)
-          → EditFails trims base line one error → Found fields (i + 1) (Some one.rank) error (Some one.label)
-      found_first rank before failed found lower error fails = (
-        convert_more one.rank (convert_lower rank before failed found lower) (λ below. absurd (omega (arith, below))),
-        (one, (i, inside, sym is), fails, refl, refl),
-      )
+      -- it has an error
+      module _ (why : OperationError) (fails : EditFails trims base line one why) where
+        abbrev error : FieldError
+        error = record { rank = one.rank; label = one.label; error = why }
 
-  pub found_all :
-      (fields : List FieldConversion) (i : ℕ) (rank : Option ℕ) (error : OperationError) (failed : Option FieldLabel)
-      → length fields ≤ i → Found fields i rank error failed
-      → EditingFails trims base line fields (line_error failed error)
-  found_all fields i (Some rank) error failed end (all, (it, contains, fails, named, same)) =
-      inl (it, contains, fails, named, rw (take_all i fields end, sym same) at all)
-  found_all fields i None error failed end (memory, all) = inr (memory, rw (take_all i fields end) at all)
+        pub found_error :
+            (found : Option FieldError) → Found fields i found → Found fields (i + 1) (Some (first_error found error))
+        found_error None all = (
+          more (λ field. field.rank < one.rank → HasEdit trims base line field)
+              (All-weaker (HasEdit trims base line) (λ field. field.rank < one.rank → HasEdit trims base line field)
+              (λ field has below. has) (take i fields) all)
+              (λ below. absurd (omega (arith, below))),
+          (one, (i, inside, sym is), fails, refl, refl),
+        )
+        found_error (Some found) (all, other) =
+            ⊎_elim
+            (λ before. subst (λ e. Found fields (i + 1) (Some e))
+            (sym (cond-true (nat_le found.rank one.rank) found error before.0)) (
+              more (λ field. field.rank < found.rank → HasEdit trims base line field) all
+                  (λ below. absurd (omega (arith, below, before.1))),
+              other,
+            ))
+            (λ after. subst (λ e. Found fields (i + 1) (Some e))
+            (sym (cond-false (nat_le found.rank one.rank) found error after.0)) (
+              convert_lower found.rank all (omega (arith, after.1)),
+              (one, (i, inside, sym is), fails, refl, refl),
+            ))
+            (leb_tells found.rank one.rank)
+
+  -- this is the error of the line
+  pub found_first :
+      (fields : List FieldConversion) (i : ℕ) (error : FieldError) → length fields ≤ i → Found fields i (Some error)
+      → EditingFails trims base line fields (line_error error.label error.error)
+  found_first fields i error end (all, (field, contains, fails, named, same)) =
+      inl (field, contains, fails, named, rw (take_all i fields end, sym same) at all)
+
+  -- or each field has a conversion
+  pub found_none :
+      (fields : List FieldConversion) (i : ℕ) → length fields ≤ i → Found fields i None
+      → All (HasEdit trims base line) fields
+  found_none fields i end all = rw (take_all i fields end) at all
 
 -- ---- The result of a line.
 

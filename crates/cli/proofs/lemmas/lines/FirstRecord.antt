@@ -8,7 +8,7 @@ use Rattle.std.proofs.lemmas.Grind.{common_steps}
 use Rattle.std.proofs.lemmas.List.{append-nil}
 use Rattle.std.proofs.lemmas.List.Sums.{sum_by-append}
 use Rattle.std.proofs.lemmas.Bool.Decides.{nat_tests}
-use Rattle.cli.proofs.lemmas.lines.FieldLines.{all_after}
+use Rattle.cli.proofs.lemmas.lines.Separators.{all_after}
 use Rattle.cli.specs.Fields.{is_quote, are_closed}
 use Rattle.cli.specs.Input.{IsAppended}
 use Rattle.cli.specs.Records.{longest_record, ends_record, records_after, records_of}

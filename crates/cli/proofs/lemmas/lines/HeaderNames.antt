@@ -1,5 +1,5 @@
 -- The fields of a header, and their names.
-use Rattle.std.proofs.Common.{◌≡◌, ℕ, zero, suc, ◌+◌, ◌<◌, ◌≤◌, Bool, true, false, List, [], ◌∷◌, ◌++◌, length, take, slice_get, get_or, Option, Some, refl, sym, ap, subst, ◌∙◌, arith, add-one, drop, drop-cons, ◌-◌, inl, inr, ◌⊎◌, ◌&&◌, ⊎_elim}
+use Rattle.std.proofs.Common.{◌≡◌, ℕ, suc, ◌+◌, ◌<◌, ◌≤◌, Bool, true, false, List, [], ◌∷◌, length, slice_get, get_or, Some, refl, sym, ap, subst, ◌∙◌, arith, add-one, drop, drop-cons, inl, inr, ◌&&◌, ⊎_elim}
 use Rattle.std.proofs.Math.Nat.{eq-or-lt_of_le}
 use Rattle.std.proofs.lemmas.Bool.{and_parts, false≢true}
 use Rattle.std.proofs.lemmas.Grind.{common_steps}
@@ -13,133 +13,10 @@ use Rattle.cli.specs.declared.program.error.HeaderError.{HeaderError}
 use Rattle.cli.specs.declared.words.targets.NamedField.{NamedField}
 use Rattle.cli.specs.FieldConversion.{is_trimmed}
 use Rattle.cli.specs.declared.lines.headers.Header.{Header}
-use Rattle.cli.specs.Fields.{at_index, bounds, within, is_outside, is_quote, is_quoted, quoted}
+use Rattle.cli.specs.Fields.{within, is_quote, is_quoted, quoted}
 use Rattle.cli.specs.Headers.{HasBounds, HoldsName, HasName, NoneHas, count_before, with_field, AddsField, FieldFails, AreFields, FieldsFail}
 use Rattle.cli.specs.Trim.{text_of}
-use Rattle.cli.proofs.lemmas.lines.Separators.{Spaced, Scanned, scanned_start, scanned_end, scanned_separator, scanned_quoted, scanned_all, scanned_none}
-use Rattle.memchr.specs.Find.{matches}
-
-pub le_or_lt : (m n : ℕ) → (m ≤ n) ⊎ (n < m)
-le_or_lt zero n = inl (omega arith)
-le_or_lt (suc m) zero = inr (omega arith)
-le_or_lt (suc m) (suc n) =
-    ⊎_elim (λ less. inl (omega (arith, less))) (λ more. inr (omega (arith, more))) (le_or_lt m n)
-
--- ---- The bounds of all fields.
-
-get_before :
-    {X : Type 0} (xs ys : List X) (k : ℕ) → k < length xs → slice_get (xs ++ ys) k ≡ slice_get xs k
-get_before [] ys k inside = absurd (omega (arith, inside))
-get_before (x ∷ xs) ys zero inside = refl
-get_before (x ∷ xs) ys (suc k) inside = get_before xs ys k (omega (arith, inside))
-
-get_last : {X : Type 0} (xs : List X) (x : X) → slice_get (xs ++ (x ∷ [])) (length xs) ≡ Some x
-get_last [] x = refl
-get_last (y ∷ xs) x = get_last xs x
-
-length_more : {X : Type 0} (xs : List X) (x : X) → length (xs ++ (x ∷ [])) ≡ length xs + 1
-length_more [] x = refl
-length_more (y ∷ xs) x = omega (arith, length_more xs x)
-
--- what a list has, with one more element
-get_more :
-    {X : Type 0} (f : ℕ → Option X) (all : List X) (x : X)
-    → ((k : ℕ) → k < length all → f k ≡ slice_get all k) → f (length all) ≡ Some x → (k : ℕ) → k ≤ length all
-    → f k ≡ slice_get (all ++ (x ∷ [])) k
-get_more f all x done last k inside =
-    ⊎_elim (λ same. ap f same ∙ last ∙ sym (get_last all x) ∙ ap (slice_get (all ++ (x ∷ []))) (sym same))
-    (λ less. done k less ∙ sym (get_before all (x ∷ []) k less)) (eq-or-lt_of_le inside)
-
--- the fields before `start` have these bounds, and each other field is one of those from it on
-pub record Split
-    (field : Field) (line : List ℕ) (start : ℕ) (outside : Bool) (counted : ℕ) (all : List (ℕ × ℕ))
-    (delimiters : List ℕ)
-    : Type 0
-  where
-    pub done : (index : ℕ) → index < length all → bounds (at_index field index) line ≡ slice_get all index
-    pub left :
-        (index i : ℕ) → index ≡ length all + i
-        → Scanned (at_index field index) line start i outside counted delimiters
-    pub spaced_start : Spaced (length field.delimiter.now) (length line) start delimiters
-    pub spaced_counted : Spaced (length field.delimiter.now) (length line) counted delimiters
-    pub start_inside : start ≤ length line
-    pub counted_inside : counted ≤ length line
-
--- what is known of the delimiters that are left does not depend on the field
-split_of :
-    {field : Field} {line : List ℕ} {start counted : ℕ} {outside : Bool} {all : List (ℕ × ℕ)} {delimiters : List ℕ}
-    → ((index : ℕ) → index < length all → bounds (at_index field index) line ≡ slice_get all index)
-    → ((index i : ℕ) → index ≡ length all + i
-    → Scanned (at_index field index) line start i outside counted delimiters)
-    → Split field line start outside counted all delimiters
-split_of {all = all} done left =
-    let first = left (length all) 0 (omega arith) in
-    record {
-      done = done;
-      left = left;
-      spaced_start = first.spaced_start;
-      spaced_counted = first.spaced_counted;
-      start_inside = first.start_inside;
-      counted_inside = first.counted_inside;
-    }
-
-module _ (field : Field) (line : List ℕ) where
-  abbrev found : ℕ → Option (ℕ × ℕ)
-  found index = bounds (at_index field index) line
-
-  pub split_start : Split field line 0 true 0 [] (matches line field.delimiter.now 0)
-  split_start =
-      split_of (λ index inside. absurd (omega (arith, inside)))
-      (λ index i is.
-      let same : index ≡ i = omega arith in
-      subst (λ n. Scanned (at_index field index) line 0 n true 0 (matches line field.delimiter.now 0)) same
-      (scanned_start (at_index field index) line))
-
-  -- one more delimiter was scanned
-  module _
-      {start counted at : ℕ} {before now : Bool} {all : List (ℕ × ℕ)} {indices : List ℕ}
-      (h : Split field line start before counted all (at ∷ indices))
-      (is : before ≡ is_outside field (take counted line)
-      → now ≡ is_outside field (take counted line ++ take (at - counted) (drop counted line)))
-    where
-      -- a field ends at it
-      pub split_separator :
-          now ≡ true
-          → Split field line (at + length field.delimiter.now) now at (all ++ ((start, at) ∷ [])) indices
-      split_separator out =
-          let long = length_more all (start, at) in
-          let zeroth : length all ≡ length all + 0 = omega arith in
-          let last : found (length all) ≡ Some (start, at) =
-          scanned_end (at_index field (length all)) line (h.left (length all) 0 zeroth) is out refl in
-          split_of (λ index inside. get_more found all (start, at) h.done last index (omega (arith, inside, long)))
-          (λ index i same.
-          let next : index ≡ length all + suc i = omega (arith, same, long) in
-          let some : suc i - 1 ≡ i = omega arith in
-          subst (λ n. Scanned (at_index field index) line (at + length field.delimiter.now) n now at indices) some
-          (scanned_separator (at_index field index) line (h.left index (suc i) next) is out (λ e. cc)))
-
-      -- it is between quotes
-      pub split_quoted : now ≡ false → Split field line start now at all indices
-      split_quoted inner =
-          split_of h.done
-          (λ index i same. scanned_quoted (at_index field index) line (h.left index i same) is inner)
-
-  -- no delimiter is left: the last field ends at the end of the line
-  pub split_end :
-      {start counted : ℕ} {before : Bool} {all : List (ℕ × ℕ)} → Split field line start before counted all []
-      → (index : ℕ) → found index ≡ slice_get (all ++ ((start, length line) ∷ [])) index
-  split_end {start} {counted} {before} {all} h index =
-      let zeroth : length all ≡ length all + 0 = omega arith in
-      let last : found (length all) ≡ Some (start, length line) =
-      scanned_all (at_index field (length all)) line (h.left (length all) 0 zeroth) refl in
-      let long = length_more all (start, length line) in
-      ⊎_elim (λ inside. get_more found all (start, length line) h.done last index inside)
-      (λ past.
-      let more : index ≡ length all + (index - length all) = omega (arith, past) in
-      let some : 0 < index - length all = omega (arith, past) in
-      scanned_none (at_index field index) line (h.left index (index - length all) more) some
-      ∙ sym (slice_get_past (all ++ ((start, length line) ∷ [])) index (omega (arith, long, past))))
-      (le_or_lt index (length all))
+use Rattle.cli.proofs.lemmas.lines.Separators.{le_or_lt}
 
 -- ---- The name of a field.
 

@@ -15,30 +15,38 @@ use Rattle.cli.specs.declared.lines.fields.Field.{Field}
 use Rattle.cli.specs.declared.lines.filter.Filter.{Filter}
 use Rattle.cli.specs.declared.words.targets.NamedField.{NamedField}
 use Rattle.cli.specs.declared.words.targets.NamedTarget.TheVariants as named
-use Rattle.cli.specs.declared.words.targets.Target.TheVariants.{One, Fields}
+use Rattle.cli.specs.declared.lines.filter.Target.TheVariants as target
 use Rattle.cli.specs.declared.lines.named_filter.NamedFilter.{NamedFilter}
 use Rattle.cli.specs.Filter.{Effects, IsErrorOfReading}
 use Rattle.cli.specs.Input.{IsRowRead}
 use Rattle.cli.specs.Lines.{rows_of}
-use Rattle.cli.specs.NamedFilter.{filter_of, ArePlaced, HasHeader, HeaderFails, IsFilter, EndsAtHeader, FiltersNamed}
+use Rattle.cli.specs.NamedFilter.{filter_of, IsOnly, ArePlaced, HasHeader, HeaderFails, IsFilter, EndsAtHeader, FiltersNamed}
 use Rattle.cli.specs.Targets.{have_names}
 use Rattle.cli.proofs.lemmas.lines.Filtering.{row_first, whole}
 
--- the filter of a line or a field by its number
-pub one_filter :
-    (it : NamedFilter) (header : List ℕ) (field : Option Field) (conversion : Bor Conversion) (filter : Filter)
-    → filter ≡ filter_of it.options (One field conversion) → it.target ≡ named.One field conversion.now
+-- the filter of a line
+pub line_filter :
+    (it : NamedFilter) (header : List ℕ) (conversion : Bor Conversion) (filter : Filter)
+    → filter ≡ filter_of it.options (target.Line conversion) → it.target ≡ named.One None conversion.now
     → IsFilter it header filter
-one_filter it header field conversion filter is target = (One field conversion, rw target (refl, refl), is)
+line_filter it header conversion filter is words = (target.Line conversion, rw words refl, is)
+
+-- of a field by its number
+pub field_filter :
+    (it : NamedFilter) (header : List ℕ) (field : Field) (conversion : Conversion) (only : FieldConversion)
+    (filter : Filter) → filter ≡ filter_of it.options (target.Field field only)
+    → it.target ≡ named.One (Some field) conversion → IsOnly field conversion only → IsFilter it header filter
+field_filter it header field conversion only filter is words same =
+    (target.Field field only, rw words (refl, same), is)
 
 -- and of fields in a header
 pub fields_filter :
     (it : NamedFilter) (header : List ℕ) (field : Field) (list : Vec NamedField Global)
-    (fields : Vec FieldConversion Global) (filter : Filter) → filter ≡ filter_of it.options (Fields field fields)
+    (fields : Vec FieldConversion Global) (filter : Filter) → filter ≡ filter_of it.options (target.Fields field fields)
     → it.target ≡ named.Fields field list → ArePlaced it.options field list.items header fields.items
     → IsFilter it header filter
-fields_filter it header field list fields filter is target places =
-    (Fields field fields, rw target (refl, places), is)
+fields_filter it header field list fields filter is words places =
+    (target.Fields field fields, rw words (refl, places), is)
 
 -- a row was read
 some_rows :

@@ -1,22 +1,58 @@
-use Rattle.std.proofs.Common.{◌≡◌, ◌++◌, sym, rules}
-use Rattle.cli.specs.Fields.{within}
-use Rattle.cli.proofs.lemmas.lines.Editing.{continues_more, located_in}
+use Rattle.std.proofs.Common.{◌≡◌, ◌≢◌, None, sym, ◌∙◌, inr, refl, rules}
+use Rattle.conversions.specs.declared.error.OperationError.TheVariants.{Output}
+use Rattle.cli.proofs.lemmas.lines.Editing.{continues_more, first_other, found_more, found_error, found_first, found_none}
 use Rattle.cli.proofs.lines.edits.edited.Goals as goal
+use Rattle.cli.proofs.lines.edits.edited.Goals.{in-Ok, in-Err}
 
-pub loop-it-preserved : goal.loop-it-preserved
-loop-it-preserved c =
+pub loop-field-preserved : goal.loop-field-preserved
+loop-field-preserved c =
+    let trims = c.args.trims in
+    let base = c.args.base.now in
     let line = c.args.line.now in
-    let before = c.put_bytes.new.self.0 in
-    let (text, result, put) = c.in_ok-append_converted.ensures in
-    let copy : before ≡ c.loop-it.text.0 ++ within line (c.loop-it.copied, c.in-Some.bounds.0) =
-    search (rules, c.in_ok-put_bytes.ensures.appends, c.within.ensures) in
-    record {
-      cursor = c.next_bounds.ensures.cursor;
-      continues =
-          continues_more c.args.trims c.args.base.now line c.args.fields.now c.loop-it.text.0 c.loop-it.copied
-          c.loop-it.it-index c.loop-it.invariant.continues c.it-item.result c.loop-it-test.true c.it-item.is
-          c.in-Some.bounds text before
-          c.append_converted.new.line.0
-          (located_in c.args.trims c.args.base.now line _ c.in-Some.bounds (search rules)
-          (sym (rw c.record-record.ensures at c.in-Some.ensures.value))) copy result put;
-    }
+    let fields = c.args.fields.now in
+    let i = c.loop-field.field-index in
+    let one = c.field-item.result in
+    let found = c.loop-field.found in
+    elim c.match-append.branch [
+      | in-Ok w ↦
+          let (start, bytes, edit, put) = w.in-Ok.ensures.ok in
+          record {
+            cursor = c.append.ensures.cursor;
+            found =
+                rw w.found-is
+                (found_more trims base line fields i one c.loop-field-test.true c.field-item.is found
+                c.loop-field.invariant.found ((start, w.in-Ok.end), bytes, edit));
+            continues = λ none.
+                rw w.copied-is
+                (continues_more trims base line fields c.loop-field.text.0 c.loop-field.copied i
+                (c.loop-field.invariant.continues (sym w.found-is ∙ none)) one c.loop-field-test.true c.field-item.is
+                (start, w.in-Ok.end) bytes c.append.new.text.0 edit put);
+            other = rw w.found-is c.loop-field.invariant.other;
+          }
+      | in-Err w ↦ record {
+        cursor = c.append.ensures.cursor;
+        found =
+            rw (w.found-is, w.first_error.ensures)
+            (found_error trims base line fields i one c.loop-field-test.true c.field-item.is w.in-Err.error
+            w.in-Err.ensures.err found c.loop-field.invariant.found);
+        continues = λ none. let some = sym w.found-is ∙ none in cc;
+        other =
+            rw (w.found-is, w.first_error.ensures)
+            (first_other (λ error. error.error ≢ Output) found _ c.loop-field.invariant.other
+            w.in-Err.ensures.no_output);
+      }
+    ]
+
+pub returns-in-Some-clause-err : goal.returns-in-Some-clause-err
+returns-in-Some-clause-err c =
+    found_first c.args.trims c.args.base.now c.args.line.now c.args.fields.now c.loop-field.field-index
+    c.in-Some.first c.loop-field-test.false (rw c.in-Some.is at c.loop-field.invariant.found)
+
+pub returns-in-Err-put_bytes-clause-err : goal.returns-in-Err-put_bytes-clause-err
+returns-in-Err-put_bytes-clause-err c =
+    let none : c.loop-field.found ≡ None = search rules in
+    inr (
+      refl,
+      found_none c.args.trims c.args.base.now c.args.line.now c.args.fields.now c.loop-field.field-index
+          c.loop-field-test.false (rw none at c.loop-field.invariant.found),
+    )

@@ -1,4 +1,4 @@
-use Rattle.std.proofs.Common.{◌≡◌, ◌≢◌, List, ℕ, None, true, inl, inr, refl, rules}
+use Rattle.std.proofs.Common.{◌≡◌, ◌≢◌, List, ℕ, true, inl, inr, refl, rules}
 use Rattle.conversions.specs.declared.conversion.Conversion.{Conversion}
 use Rattle.conversions.specs.declared.error.OperationError.{OperationError}
 use Rattle.conversions.specs.declared.error.OperationError.TheVariants.{Memory, Output}
@@ -12,7 +12,7 @@ use Rattle.cli.proofs.lines.field_conversion.convert_trimmed.Goals as goal
 trimmed_fails :
     (conversion : Conversion) (line text : List ℕ) (error result : OperationError) → text ≡ text_of true line
     → OperationsFail error conversion text → (error ≡ Output → result ≡ Memory) → (error ≢ Output → result ≡ error)
-    → LineFails true None conversion line result
+    → LineFails true conversion line result
 trimmed_fails conversion line text Memory result same fails output other =
     rw (other (λ is. cc)) (inl (rw same at fails))
 trimmed_fails conversion line text Output result same fails output other = rw (output refl) (inr (rw same at fails))

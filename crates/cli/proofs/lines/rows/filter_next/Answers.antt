@@ -14,7 +14,7 @@ returns-clause-filtered g c =
     let block = c.block-2.result.now in
     let found =
     subst (λ block. IsFirstByte (is_byte 10) block (Some c.in-Some.end)) (c.block.ensures ∙ sym c.block-2.ensures)
-    c.in-Some.ensures.end in
+    (c.in-Some.ensures.end lines) in
     let read =
     next_in_block g.R.Read.remaining c.args.input.now.0 (reader_remaining g.R.Read.remaining c.consume.new.self.0) block
     c.in-Some.end c.block-2.ensures found c.consume.ensures.bytes in
@@ -26,7 +26,7 @@ returns-in_err-filtered-clause-filtered g c =
     let block = c.block-2.result.now in
     let found =
     subst (λ block. IsFirstByte (is_byte 10) block (Some c.in-Some.end)) (c.block.ensures ∙ sym c.block-2.ensures)
-    c.in-Some.ensures.end in
+    (c.in-Some.ensures.end lines) in
     let read =
     next_in_block g.R.Read.remaining c.args.input.now.0 (reader_remaining g.R.Read.remaining c.consume.new.self.0) block
     c.in-Some.end c.block-2.ensures found c.consume.ensures.bytes in
