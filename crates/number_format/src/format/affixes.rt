@@ -285,8 +285,8 @@ impl StyleTexts {
         })
     }
 
-    /// Returns the texts around a number for each sign, if each is short. It takes no array of parts, since it takes
-    /// most of the time in which a formatter is made.
+    /// Returns the texts around a number for each sign, if each is short. Without arrays of parts a formatter is made
+    /// in less time.
     pub(crate) fn short_sign_texts(&self) -> Option<BySign<ShortAffixes<23>>>
         ensures { IfSome result (λ t. t ≡ affixes_of_style self.now) }
     {
