@@ -1,13 +1,15 @@
 #!/usr/bin/env bash
-# Prints the tables of hosts: the Rust crate beside the C library, the Python module beside decimal, Babel and the
-# program, and a column on the workers of Dask beside one program and beside a Dask map of decimal.Decimal:
+# Prints the tables of hosts: fd_format of the C library beside NumberFormatter::write in Rattle and beside ICU, the Rust
+# crate beside the C library, SQLite beside its own printf, the Python module beside decimal, Babel and the program, and
+# a column on the workers of Dask beside one program and beside a Dask map of decimal.Decimal:
 #
 #   bench/hosts.sh [LINES]        by default 5000000
 #
-# It proves what the gate has not built of the same sources. It needs cargo, python3-distributed and python3-babel, and
-# four idle processors.
+# It proves what the gate has not built of the same sources; WORK, a folder outside the project, takes what is built in
+# Rattle. It needs cargo, libicu-dev, pkg-config, python3-distributed and python3-babel, and four idle processors.
 set -euo pipefail
-cd "$(dirname "$0")/.."
+. "$(dirname "$0")/../diff/build.sh"
+cd "$project"
 lines=${1:-5000000}
 room=$(mktemp -d)
 others=()
@@ -15,8 +17,59 @@ trap 'kill "${others[@]}" 2> /dev/null || true; wait; rm -rf "$room"' EXIT
 program=$PWD/crates/fixdec_lines/out/fixdec_lines
 python3 tools/built.py programs fixdec_lines
 bash c/build.sh
+
+# 1234.5 by a formatter that is kept: the least of three runs in turns. `write` is NumberFormatter::write in Rattle.
+build write_times src/main.rt "$here/hosts/" std anyhow decimal_digits decimal_unsigned fixed_decimal \
+  decimal_format plural_rules locale_data number_format number_skeleton
+gcc -std=gnu11 -O2 bench/hosts/formats.c c/out/libfixed_decimal.a $(pkg-config --cflags --libs icu-i18n icu-uc) \
+  -o "$room/formats"
+for _ in 1 2 3; do
+  "$room/formats"
+  "$work/write_times/write_times"
+done > "$room/times"
+echo '|1234.5|fd_format, ns|write, ns|ratio|unumf_formatDecimal, ns|ratio|fd_format_by_skeleton, ns|'
+echo '|---|---|---|---|---|---|---|'
+awk -F '\t' '
+  $4 == "1234.5" && (!(($1, $2, $3) in least) || $5 < least[$1, $2, $3]) {
+    if ($1 == "fd_format" && !(($1, $2, $3) in least)) rows[n++] = $2 SUBSEP $3
+    least[$1, $2, $3] = $5
+  }
+  END {
+    for (row = 0; row < n; row++) {
+      split(rows[row], name, SUBSEP)
+      own = least["fd_format", name[1], name[2]]
+      rattle = least["write", name[1], name[2]]
+      icu = least["unumf_formatDecimal", name[1], name[2]]
+      printf "|%s, `%s`|%d|%d|%.2f|%d|%.2f|%d|\n", name[1], name[2], own, rattle, own / rattle, icu, own / icu,
+        least["fd_format_by_skeleton", name[1], name[2]]
+    }
+  }' "$room/times"
+echo
 FIXED_DECIMAL_LIB=$PWD/c/out/libfixed_decimal.a CARGO_TARGET_DIR=$room/target \
   cargo run --quiet --release --offline --manifest-path bench/hosts/Cargo.toml
+
+# A scan of 1,000,000 amounts, beside SQLite's own printf of them as REAL: the least processor's time of seven in turns.
+gcc -shared -fPIC -O2 -Ic examples/sqlite/fixdec.c c/out/libfixed_decimal.a -o "$room/fixdec.so"
+sqlite3 "$room/amounts.db" "CREATE TABLE amounts (text TEXT, number REAL, currency TEXT);
+  WITH RECURSIVE n (i) AS (SELECT 0 UNION ALL SELECT i + 1 FROM n WHERE i < 999999)
+  INSERT INTO amounts SELECT printf('%d.%02d', i * 7919 % 100000, i % 100), i * 7919 % 100000 + i % 100 / 100.0,
+    CASE i % 3 WHEN 0 THEN 'EUR' WHEN 1 THEN 'USD' ELSE 'JPY' END FROM n;"
+scans=("printf('%.2f', number)" "printf('%.2f', text)" "format_number('en', '.00', text)"
+  "format_number('de', 'currency/EUR', text)" "format_number('de', 'style', 'currency', 'currency', 'EUR', text)"
+  "format_number('de', 'currency/' || currency, text)" "fixdec(text, 'round:-2:half-even:1', 'format:de')")
+printf '\n|SQLite, 1,000,000 rows|processor, ms|of printf|\n|---|---|---|\n'
+for _ in 1 2 3 4 5 6 7; do
+  for scan in "${!scans[@]}"; do
+    printf '.timer on\nSELECT sum(length(%s)) FROM amounts;\n' "${scans[scan]}" |
+      sqlite3 -cmd ".load $room/fixdec" "$room/amounts.db" |
+      awk -v scan="$scan" '/^Run Time/ { print scan, ($6 + $8) * 1000 }'
+  done
+done > "$room/times"
+for scan in "${!scans[@]}"; do
+  awk -v scan="$scan" -v name="${scans[scan]}" '
+    !($1 in least) || $2 < least[$1] { least[$1] = $2 }
+    END { printf "|`%s`|%d|%.2f|\n", name, least[scan], least[scan] / least[0] }' "$room/times"
+done
 
 for python in python3 /usr/bin/python3; do
   ! "$python" -c 'import distributed' 2> /dev/null || break

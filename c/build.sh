@@ -5,9 +5,9 @@
 #     PREFIX=/usr/local bash c/build.sh install
 #
 # `install` copies them and the header to PREFIX, by default /usr/local, or, if DESTDIR is set, to DESTDIR/PREFIX; a
-# relative one is in the current folder. A program that is compiled by c/out/fixed_decimal.pc finds the shared library in
-# c/out. Needs `rt` and gcc. What the gate has built of the same sources is not proved again; with BUILT_BY_GATE=1 only
-# the exports are.
+# relative one is in the current folder, and `tools/install.sh --uninstall PREFIX` removes them. A program that is
+# compiled by c/out/fixed_decimal.pc finds the shared library in c/out. Needs `rt` and gcc. What the gate has built of
+# the same sources is not proved again; with BUILT_BY_GATE=1 only the exports are.
 set -eu
 [ $# = 0 ] || { [ $# = 1 ] && [ "$1" = install ]; } || { echo "usage: c/build.sh [install]" >&2; exit 2; }
 prefix=$(realpath -ms -- "${PREFIX:-/usr/local}")
@@ -57,11 +57,13 @@ cd ..
 rmdir "$here/$made"
 trap - EXIT
 if [ "${1:-}" = install ]; then
-  install -d "$to/lib/pkgconfig" "$to/include"
-  install -m 644 libfixed_decimal.a libfixed_decimal.so.$version "$to/lib"
-  ln -sf libfixed_decimal.so.$version "$to/lib/libfixed_decimal.so"
-  package "$prefix/lib" "$prefix/include" >"$to/lib/pkgconfig/fixed_decimal.pc"
-  chmod 644 "$to/lib/pkgconfig/fixed_decimal.pc"
-  install -m 644 "$here/fixed_decimal.h" "$to/include"
+  stage=$(mktemp -d)
+  trap 'rm -rf "$stage"' EXIT
+  mkdir -p "$stage/lib/pkgconfig" "$stage/include"
+  cp -P libfixed_decimal.a libfixed_decimal.so libfixed_decimal.so.$version "$stage/lib"
+  chmod -x "$stage/lib"/*.so.*
+  package "$prefix/lib" "$prefix/include" >"$stage/lib/pkgconfig/fixed_decimal.pc"
+  cp "$here/fixed_decimal.h" "$stage/include"
+  python3 ../../tools/installed.py install "$stage" "$to"
   echo "installed libfixed_decimal $version in $to"
 fi

@@ -4,8 +4,9 @@
  * of a value and writes the text of another one into a buffer of the caller. Nothing is kept between calls: there is no
  * handle, nothing to free and no global state, and each function may be called in any thread at any time.
  *
- * The number of a locale or of plural rules names rows of constant tables. It is the same in all threads, and valid in
- * this process only, since another version of the library may have other rows: do not store it.
+ * The number of a locale or of plural rules names rows of constant tables, and an fd_formatter has such numbers. They
+ * are the same in all threads, and valid in this process only, since another version of the library may have other
+ * rows: do not store them.
  *
  * Each function is proved to return; none panics, aborts, waits, prints or calls back. docs/C.md says what is proved.
  *
@@ -35,7 +36,7 @@ extern "C" {
 #endif
 
 /* The version of this interface: it grows when a number, a struct or a meaning changes. */
-#define FD_VERSION 5
+#define FD_VERSION 6
 
 /* The version of the library, to be compared with FD_VERSION. */
 uint32_t fd_version(void);
@@ -65,7 +66,9 @@ typedef enum fd_status {
     FD_UNREADABLE_FORMAT = 19, /* the numbers of the options are not read: they have an exponent or words, or two have
                                   the same text */
     FD_DIGIT_OPTIONS = 20,     /* the numbers of digits are those of no format, by the fd_digit_reason at */
-    FD_NO_SKELETON = 21        /* no skeleton has these options */
+    FD_NO_SKELETON = 21,       /* no skeleton has these options */
+    FD_FORMATTER = 22,         /* the bytes are no fd_formatter */
+    FD_PARTS_TOO_SMALL = 23    /* the text fits the buffer, and its parts do not fit the array */
 } fd_status;
 
 /* An answer that is a text: status is an fd_status. */
@@ -211,7 +214,8 @@ enum fd_trailing_zeros { FD_SHOW_ZEROS = 0, FD_STRIP_IF_INTEGER = 1 };
 typedef struct fd_number_options {
     uint8_t style;
     uint8_t currency[3]; /* FD_CURRENCY: its code, three letters; one that is unknown has two fraction digits */
-    uint8_t numbering_system[16]; /* its name padded with spaces, as "arab            "; zeros: that of the locale */
+    uint8_t numbering_system[16]; /* its name padded with spaces, as "arab            "; zeros: that of the locale;
+                                     other bytes are FD_UNKNOWN_OPTION */
     uint8_t currency_display;
     uint8_t currency_sign;
     uint8_t currency_usage; /* FD_CASH: the digits, and the increment that is not given, are those of cash */
@@ -245,6 +249,126 @@ enum fd_digit_reason {
     FD_INCREMENT_PRECISION = 4, /* an increment with significant digits, a priority, or compact notation by default */
     FD_INCREMENT_DIGITS = 5     /* an increment with two numbers of fraction digits */
 };
+
+/* Which numbers of digits of an fd_format_options are used. */
+enum fd_precision {
+    FD_ALL_DIGITS = 0,     /* none: all digits are shown */
+    FD_BY_FRACTION = 1,    /* those of fraction digits */
+    FD_BY_INCREMENT = 2,   /* the maximum of fraction digits, and the increment in units of the last of them */
+    FD_BY_SIGNIFICANT = 3, /* those of significant digits */
+    FD_BY_MORE = 4,        /* both: of the two roundings the one that keeps a lower digit */
+    FD_BY_LESS = 5         /* both: the other one */
+};
+
+/* Which zeros are shown by FD_BY_MORE and FD_BY_LESS: those of the rounding that is chosen, or of both. */
+enum fd_zeros { FD_ZEROS_OF_CHOSEN = 0, FD_ZEROS_OF_BOTH = 1 };
+
+/* Which sign an exponent has: a minus below 0; also a plus from 0 on; none. */
+enum fd_exponent_sign { FD_EXPONENT_AUTO = 0, FD_EXPONENT_ALWAYS = 1, FD_EXPONENT_NEVER = 2 };
+
+/* All options of a formatter, also those that a skeleton has beyond fd_number_options, with the digits that are shown.
+ * The words are those of fd_number_options, or what is said beside them. Numbers that `precision` does not use are
+ * ignored, and so are the fields of a currency without FD_CURRENCY, and the digits of an exponent without one. */
+typedef struct fd_format_options {
+    uint32_t minimum_significant_digits; /* 1 to 65536 */
+    uint32_t maximum_significant_digits; /* the minimum to 65536, which is no maximum */
+    int16_t scale;                       /* times 10^scale, first */
+    uint16_t exponent_digits;            /* the least number of digits of an exponent */
+    uint16_t minimum_integer_digits;     /* 1 to 32767 */
+    uint16_t maximum_integer_digits;     /* the minimum to 32768, which is no maximum */
+    uint16_t minimum_fraction_digits;    /* 0 to 32768 */
+    uint16_t maximum_fraction_digits;    /* the minimum to 65535, which is no maximum; FD_BY_INCREMENT: at most 32768 */
+    uint16_t rounding_increment;         /* as in fd_number_options; 1 without FD_BY_INCREMENT */
+    uint8_t style;
+    uint8_t currency[3];
+    uint8_t numbering_system[16]; /* its name padded with spaces */
+    uint8_t currency_display;
+    uint8_t currency_sign;
+    uint8_t currency_usage;
+    uint8_t notation;
+    uint8_t exponent_sign; /* an fd_exponent_sign */
+    uint8_t sign_display;
+    uint8_t grouping;
+    uint8_t precision; /* an fd_precision */
+    uint8_t zeros;     /* an fd_zeros */
+    uint8_t rounding_mode;
+    uint8_t trailing_zeros;
+    uint8_t has_numbering_system; /* 1; 0: it is that of the locale, and the name is ignored */
+    uint8_t reserved[34];         /* 0 */
+} fd_format_options;
+
+/* Rows of the library's tables, for a locale and a currency. */
+typedef struct fd_format_rows {
+    uint64_t locale;       /* as fd_locale has it */
+    uint32_t plural_rules; /* as fd_plural_rules has it */
+    uint32_t currency;     /* 0: none, and the next three are ignored */
+    uint16_t symbol;
+    uint16_t narrow_symbol;
+    uint16_t currency_pattern; /* 0: none */
+    uint8_t percent;
+    uint8_t standard;
+    uint8_t accounting;
+    uint8_t signs;
+    uint8_t compact;
+    uint8_t percent_unit;
+    uint8_t money;
+    uint8_t reserved[3]; /* 0 */
+} fd_format_rows;
+
+/* A formatter of numbers: plain data of 120 bytes without a pointer, to be copied and shared between threads. Make it
+ * by fd_formatter_by_options or fd_formatter_by_skeleton. Any bytes are allowed in it: those that name no row or no
+ * option, or are not 0 where they are reserved, are FD_FORMATTER. All zeros are no formatter. */
+typedef struct fd_formatter {
+    fd_format_rows rows;
+    fd_format_options options;
+} fd_formatter;
+
+/* An answer that is a formatter; its bytes are 0 if status is not FD_OK. */
+typedef struct fd_made {
+    uint32_t status;
+    size_t at;
+    fd_formatter formatter;
+} fd_made;
+
+/* An answer that is the options of a formatter: FD_OK or FD_FORMATTER. Its bytes are 0 if status is not FD_OK. */
+typedef struct fd_resolution {
+    uint32_t status;
+    fd_format_options options;
+} fd_resolution;
+
+/* What a part of a text is, as formatToParts of Intl.NumberFormat names it. */
+enum fd_part_kind {
+    FD_PART_INTEGER = 0,
+    FD_PART_GROUP = 1,
+    FD_PART_DECIMAL = 2,
+    FD_PART_FRACTION = 3,
+    FD_PART_MINUS_SIGN = 4,
+    FD_PART_PLUS_SIGN = 5,
+    FD_PART_PERCENT_SIGN = 6, /* also the permille sign */
+    FD_PART_CURRENCY = 7,
+    FD_PART_LITERAL = 8,
+    FD_PART_COMPACT = 9,
+    FD_PART_EXPONENT_SEPARATOR = 10,
+    FD_PART_EXPONENT_MINUS_SIGN = 11,
+    FD_PART_EXPONENT_PLUS_SIGN = 12,
+    FD_PART_EXPONENT_INTEGER = 13
+};
+
+/* A part of a text: the bytes from start to end - 1. */
+typedef struct fd_part {
+    uint32_t kind;   /* an fd_part_kind */
+    uint32_t source; /* 0: it is kept for ranges of numbers */
+    size_t start;
+    size_t end;
+} fd_part;
+
+/* An answer that is a text and its parts. */
+typedef struct fd_parted {
+    uint32_t status;
+    size_t at;
+    size_t count; /* FD_OK: bytes written; FD_BUFFER_TOO_SMALL, FD_PARTS_TOO_SMALL: bytes needed; else 0 */
+    size_t parts; /* the same for parts */
+} fd_parted;
 
 /* Types of plural rules: for numbers of things (2 days), and for places in an order (2nd day). */
 enum fd_rule_type { FD_CARDINAL = 0, FD_ORDINAL = 1 };
@@ -311,6 +435,44 @@ fd_result fd_read_by_skeleton(const uint8_t *text, size_t count, const uint8_t *
                               const uint8_t *skeleton, size_t skeleton_count, uint32_t lenient, uint8_t *buffer,
                               size_t capacity);
 
+/* Makes a formatter of the locale of a tag and options, or a number skeleton of ICU, so that they are looked up once.
+ * Errors: as fd_format_number, or fd_format_by_skeleton, of the options and the tag. */
+fd_made fd_formatter_by_options(const uint8_t *tag, size_t tag_count, const fd_number_options *options);
+fd_made fd_formatter_by_skeleton(const uint8_t *tag, size_t tag_count, const uint8_t *skeleton,
+                                 size_t skeleton_count);
+
+/* Formats a decimal by a formatter: the text that fd_format_number writes by the same tag and options, or
+ * fd_format_by_skeleton by the same skeleton.
+ *
+ * The buffer is as after fd_run.
+ * Errors, the first that holds: FD_FORMATTER; FD_SYNTAX, FD_LIMIT, FD_MEMORY of the text; FD_OVERFLOW, FD_MEMORY of the
+ * format; FD_BUFFER_TOO_SMALL. */
+fd_result fd_format(const fd_formatter *formatter, const uint8_t *text, size_t count, uint8_t *buffer,
+                    size_t capacity);
+
+/* Formats each line, as fd_lines does by a form: with skip, a line that fails is an empty line.
+ * Errors: FD_FORMATTER, with no line; else as fd_format of the next line. */
+fd_column fd_format_column(const fd_formatter *formatter, const uint8_t *lines, size_t count, uint32_t skip,
+                           uint8_t *buffer, size_t capacity);
+
+/* Formats a decimal as fd_format does, and writes the parts of the text to the start of an array: consecutive bytes of
+ * one kind are one part, so the parts have all bytes of the text in order.
+ *
+ * FD_OK: the first count bytes of the buffer are the text, the first `parts` parts of the array are its parts, and all
+ * others are as they were. Else the buffer and the array are as they were. With capacity 0 it only returns the numbers.
+ * Errors: as fd_format, and then FD_PARTS_TOO_SMALL. */
+fd_parted fd_format_parts(const fd_formatter *formatter, const uint8_t *text, size_t count, uint8_t *buffer,
+                          size_t capacity, fd_part *parts, size_t part_capacity);
+
+/* Reads a number as fd_format writes it, as fd_read_number does. It allocates.
+ * Errors, the first that holds: FD_FORMATTER; FD_UNREADABLE_FORMAT; FD_SYNTAX, FD_LIMIT, FD_MEMORY of the text;
+ * FD_BUFFER_TOO_SMALL. */
+fd_result fd_read(const fd_formatter *formatter, const uint8_t *text, size_t count, uint32_t lenient, uint8_t *buffer,
+                  size_t capacity);
+
+/* The options of a formatter with their defaults, and the name of its numbering system. */
+fd_resolution fd_resolved(const fd_formatter *formatter);
+
 /* Writes a skeleton that reads as these options, for an fd_form, in the words of ICU's normal form: FD_DECIMAL with
  * FD_COMPACT_SHORT is "compact-short rounding-mode-half-up". It allocates; the buffer is as after fd_run.
  * Errors, the first that holds: FD_UNKNOWN_OPTION; FD_DIGIT_OPTIONS; FD_MEMORY; FD_NO_SKELETON; FD_BUFFER_TOO_SMALL. */
@@ -325,6 +487,12 @@ fd_result fd_skeleton(const fd_number_options *options, uint8_t *buffer, size_t 
  * bytes after `written` are as they were. */
 fd_column fd_lines(const uint8_t *lines, size_t count, uint32_t skip, const fd_forms *forms, const fd_call *calls,
                    size_t call_count, const uint8_t *texts, size_t texts_count, uint8_t *buffer, size_t capacity);
+
+/* Writes the line of an error, as the programs print it: "call 1: overflow" of FD_OVERFLOW at 1. `calls` is the number
+ * of calls that were passed, and 0 for a function without calls: FD_OVERFLOW at this number is "format: overflow". The
+ * text of FD_OK is empty. The buffer is as after fd_run; 80 bytes are enough.
+ * Errors: FD_UNKNOWN_OPTION if no fd_status has the number; FD_BUFFER_TOO_SMALL. */
+fd_result fd_status_text(uint32_t status, size_t at, size_t calls, uint8_t *buffer, size_t capacity);
 
 /* The order of two numbers: -1, 0 or 1. 1.0 and 1 are 0. Errors: FD_SYNTAX, FD_LIMIT, FD_MEMORY. */
 fd_number fd_compare(const uint8_t *left, size_t left_count, const uint8_t *right, size_t right_count);

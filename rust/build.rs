@@ -1,5 +1,5 @@
 //! Links the library that `FIXED_DECIMAL_LIB` names, a static or a shared one, or else the static one that `c/build.sh`
-//! has made. Nothing is proved here: if there is no library, the build stops.
+//! has made, or that is beside the sources in a release. Nothing is proved here: if there is no library, the build stops.
 use std::path::{Path, PathBuf};
 use std::process::exit;
 
@@ -7,7 +7,9 @@ fn main() {
     println!("cargo:rerun-if-env-changed=FIXED_DECIMAL_LIB");
     let project = Path::new(env!("CARGO_MANIFEST_DIR")).with_file_name("");
     let named = std::env::var_os("FIXED_DECIMAL_LIB").map(PathBuf::from);
-    let library = named.clone().unwrap_or_else(|| project.join("c/out/libfixed_decimal.a"));
+    let released = project.join("lib/libfixed_decimal.a");
+    let beside = if released.is_file() { released } else { project.join("c/out/libfixed_decimal.a") };
+    let library = named.clone().unwrap_or(beside);
     println!("cargo:rerun-if-changed={}", library.display());
     if !library.is_file() {
         match named {

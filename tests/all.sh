@@ -1,8 +1,8 @@
 #!/usr/bin/env bash
 # All tests: the gate, and then side by side the built programs as a shell runs them, failing allocations, interrupted
-# writes, the C library, Rust and Dask, setting up, installs, the documents, and the modules. A script that has not ended
-# after half an hour fails, and an interrupt ends all of them. The last line is `N passed, M failed`; the status is 0 if
-# M is 0.
+# writes, the C library, Rust and Dask, setting up, the guide, installs, releases, manual pages, the documents, and the
+# modules. A script that has not ended after half an hour fails, and an interrupt ends all of them. The last lines are
+# `not run: ..` for each thing that is missing here, and `N passed, M failed`; the status is 0 if M is 0.
 set -u
 cd "$(dirname "$0")/.." || exit 1
 room=$(mktemp -d) || exit 1
@@ -40,7 +40,8 @@ count 'the gate' "${PIPESTATUS[0]}" "$room/log"
 
 # The scripts take what `rt ci` has just built, and nothing else. Those that take longest begin.
 export BUILT_BY_GATE=1
-scripts=(tests/{c,end_to_end,setting_up,dask,installs,hosts,allocation_failures,interrupted_writes}.sh
+scripts=(tests/{c,postgresql,end_to_end,installs,setting_up,guide,releases,dask,hosts,manuals,allocation_failures}.sh
+  tests/interrupted_writes.sh
   tools/check_{documents,modules}.py)
 started=()
 for script in "${scripts[@]}"; do
@@ -56,5 +57,6 @@ for number in "${!scripts[@]}"; do
   count "${scripts[number]}" $status "$room/$number"
 done
 
+cat "$room"/[0-9]* | grep '^not run: ' | sort -u
 echo "$passed passed, $failed failed"
 [ "$failed" -eq 0 ]

@@ -32,8 +32,17 @@ try 'the tests compile' compile test test_plain -O1
 try 'each export, at each capacity' "$room/test_plain"
 try 'the same with sanitizers' compile test test_asan -O1 -fsanitize=address,undefined -fno-sanitize-recover=all
 try 'sanitizers' "$room/test_asan"
+try 'the test of formatters compiles' compile formatter formatter_plain -O1
+try 'formatters that are kept, and any bytes as one' "$room/formatter_plain"
+try 'the same with sanitizers' compile formatter formatter_asan -O1 -fsanitize=address,undefined -fno-sanitize-recover=all
+try 'formatters, sanitizers' "$room/formatter_asan"
+try 'the texts of node compile' compile format_vectors format_vectors -O1 -fsanitize=address,undefined -fno-sanitize-recover=all
+awk -F '\t' 'NF == 4' crates/vectors/rows/node_numbers.tsv > "$room/texts"
+"$room/format_vectors" < "$room/texts" > "$room/log" 2>&1
+judge $? "node's texts, by one formatter a locale and options: $(tail -n 1 "$room/log")"
 if command -v valgrind > /dev/null; then
   try 'valgrind' valgrind -q --error-exitcode=9 --leak-check=full --show-leak-kinds=all "$room/test_plain"
+  try 'formatters, valgrind' valgrind -q --error-exitcode=9 --leak-check=full --show-leak-kinds=all "$room/formatter_plain"
 else
   missing valgrind
 fi
@@ -45,10 +54,18 @@ try 'the example' gcc -std=c99 -Wall -Wextra -Werror c/example.c "-I$room/prefix
   -lfixed_decimal -o "$room/example"
 [ "$("$room/example")" = 1.234,56 ]
 judge $? 'the example writes 1.234,56'
+block docs/C.md invoice.c > "$room/invoice.c"
+try 'the program of docs/C.md' gcc -std=c99 -Wall -Wextra -Werror "$room/invoice.c" "-I$room/prefix/include" \
+  "-L$room/prefix/lib" -lfixed_decimal -o "$room/invoice"
+writes docs/C.md ./invoice "$room/invoice"
+sed -n 's/^[a-z].*\b\(fd_[a-z0-9_]*\)(.*/\1/p; /enum fd_status {/,/}/s/^ *\(FD_[A-Z_]*\) = .*/\1/p' c/fixed_decimal.h |
+  while read -r name; do grep -q "\`$name\`" docs/C.md || echo "$name"; done > "$room/unnamed"
+[ ! -s "$room/unnamed" ]
+judge $? "docs/C.md names each function and each status: $(tr '\n' ' ' < "$room/unnamed")"
 nm -D --defined-only c/out/libfixed_decimal.so | awk '{ print $3 }' | grep -v '^fd_' > "$room/others"
 [ ! -s "$room/others" ]
 judge $? 'the shared library exports no other names'
-readelf -d c/out/libfixed_decimal.so | grep -q 'SONAME.*libfixed_decimal.so.5'
+readelf -d c/out/libfixed_decimal.so | grep -q 'SONAME.*libfixed_decimal.so.6'
 judge $? 'the shared library has a soname'
 
 # ---- Python
@@ -60,6 +77,8 @@ if python3 -c 'import sysconfig, os; assert os.path.exists(sysconfig.get_path("i
   found=$(PYTHONPATH=$room/python python3 -c "from fixed_decimal import Decimal; print($example)")
   [ "$found" = 1.234,56 ]
   judge $? "README's example in Python: $found"
+  block docs/PYTHON.md prices.py > "$room/prices.py"
+  PYTHONPATH=$room/python writes docs/PYTHON.md 'python3 prices.py' python3 "$room/prices.py"
 else
   missing "Python's headers and pip"
 fi
@@ -68,6 +87,8 @@ fi
 if command -v sqlite3 > /dev/null && echo '#include <sqlite3ext.h>' | gcc -E -x c - > /dev/null 2>&1; then
   try 'the extension' gcc -shared -fPIC -O2 -Wall -Wextra -Werror -Ic examples/sqlite/fixdec.c c/out/libfixed_decimal.a \
     -o "$room/fixdec.so"
+  block docs/SQL.md prices-sqlite.sql > "$room/prices-sqlite.sql"
+  writes docs/SQL.md 'sqlite3 :memory: < prices-sqlite.sql' bash -c 'cd "$0" && sqlite3 :memory: < prices-sqlite.sql' "$room"
   # row SQL RESULT [COMMAND..]: the result, after these commands
   row() {
     found=$(sqlite3 "${@:3}" -cmd ".load $room/fixdec" :memory: "$1" 2>&1)
@@ -100,16 +121,16 @@ if command -v sqlite3 > /dev/null && echo '#include <sqlite3ext.h>' | gcc -E -x 
   row "SELECT fixdec('EUR 1.234,5', 'read:de:lenient:currency/EUR', 'format:en:currency/EUR .00')" '€1,234.50'
   row "SELECT group_concat(x, ' ') FROM (SELECT column1 AS x FROM (VALUES ('b'), ('10'), ('9.50'), ('a'), ('-1e2'), ('9.5')) ORDER BY x COLLATE decimal_compare, x)" \
     '-1e2 9.5 9.50 10 a b'
-  row "SELECT format_number('de', 1234.5, 'style', 'currency', 'currency', 'EUR'), format_number('en', '1234.5678')" \
+  row "SELECT format_number('de', 'style', 'currency', 'currency', 'EUR', 1234.5), format_number('en', '1234.5678')" \
     $'1.234,50\u00a0€|1,234.568'
-  row "SELECT format_number('fr', '0.125', 'style', 'percent', 'maximumFractionDigits', 1), format_number('de', 5, NULL, 1)" \
+  row "SELECT format_number('fr', 'style', 'percent', 'maximumFractionDigits', 1, '0.125'), format_number('de', NULL, 1, 5)" \
     $'12,5\u00a0%|'
-  row "SELECT format_number('es', 1234567, 'notation', 'compact', 'compactDisplay', 'long', 'numberingSystem', 'arab')" '١٫٢ millones'
-  row "SELECT read_number('de', '-1.234,57' || char(160) || '€', 'style', 'currency', 'currency', 'EUR')" -1234.57
-  row "SELECT length(format_number('en', printf('%.*c', 300, '7'), 'useGrouping', 'always'))" 399
+  row "SELECT format_number('es', 'notation', 'compact', 'compactDisplay', 'long', 'numberingSystem', 'arab', 1234567)" '١٫٢ millones'
+  row "SELECT read_number('de', 'style', 'currency', 'currency', 'EUR', '-1.234,57' || char(160) || '€')" -1234.57
+  row "SELECT length(format_number('en', 'useGrouping', 'always', printf('%.*c', 300, '7')))" 399
   row "SELECT read_number('de', 'currency/EUR', '-1.234,57' || char(160) || '€'), read_number('en', NULL, '1') IS NULL" \
     '-1234.57|1'
-  row "SELECT format_number('en', 5, 'minimumFractionDigits', '2'), format_number('en', 5, 'minimumFractionDigits', 2)" \
+  row "SELECT format_number('en', 'minimumFractionDigits', '2', 5), format_number('en', 'minimumFractionDigits', 2, 5)" \
     '5.00|5.00'
   row "SELECT fixdec(x'312e35', x'73686966743a31'), fixdec(x'31', 'concat:0.' || printf('%.*c', 3, '7'))" '15|1.777'
   row "SELECT length(fixdec('1', 'concat:0.' || printf('%.*c', 2100, '7')))" 2102
@@ -118,7 +139,7 @@ if command -v sqlite3 > /dev/null && echo '#include <sqlite3ext.h>' | gcc -E -x 
     '1|1|1.5'
   row "SELECT try_fixdec('12', 'concat:25') IS NULL, try_fixdec('1', 'format:de:K'), try_fixdec(printf('%.*c', 32769, '1')) IS NULL" \
     '1|1|1'
-  row "SELECT try_read_number('de', 'x', 'useGrouping', 'auto') IS NULL, try_read_number('de', 'currency/EUR', '1,50' || char(160) || '€')" \
+  row "SELECT try_read_number('de', 'useGrouping', 'auto', 'x') IS NULL, try_read_number('de', 'currency/EUR', '1,50' || char(160) || '€')" \
     '1|1.50'
   row "SELECT try_read_number('de', 'currency/EUR', '1 USD') IS NULL, try_read_number('de', '', '1.234,5')" '1|1234.5'
   for encoding in 8 16le 16be; do
@@ -145,24 +166,49 @@ if command -v sqlite3 > /dev/null && echo '#include <sqlite3ext.h>' | gcc -E -x 
     "'1', 'concat:x'|call 0: syntax" "'1', x'636f6e6361743a313200'|call 0: syntax"
   rejects try_fixdec "'1', 'trimm'|no such call" "'x', 'format:tlh'|unknown locale" "'1', 'concat:x'|call 0: syntax" \
     "'x', 'format:de:percent/w'|skeleton: syntax at 7"
-  rejects try_read_number "'tlh', '', 'x'|unknown locale" "'en', 'x', 'style', 'unit'|no such option" \
-    "'en', 'K', 'x'|skeleton: no reader" "'en', 'x', 'notation', 'compact'|no reader of such numbers"
+  rejects try_read_number "'tlh', '', 'x'|unknown locale" "'en', 'style', 'unit', 'x'|no such option" \
+    "'en', 'K', 'x'|skeleton: no reader" "'en', 'notation', 'compact', 'x'|no reader of such numbers"
   rejects plural "'one: n =', '1'|rules: syntax at 8" "'xx', '1'|unknown locale" "'en:nominal', '1'|rules: syntax at 0" \
     "'en', '1x'|start: syntax"
   rejects format_number "'tlh', 'percent/w', 'x'|skeleton: syntax at 7" "'en', '.00 measure-unit/length-meter', '1'|skeleton: unsupported at 4" \
     "'tlh', 'percent', 'x'|unknown locale" "'en', 'percent', '1x'|start: syntax" "'en', 'scale/100', '1e32767'|format: overflow" \
-    "'en'|a locale, a text" "'en', 1, 'style'|skeleton: syntax at 0" "'en', 1, 'style', 'unit'|no such option" \
-    "'en', 1, 'style', 'currency'|unknown option" "'en', 1, 'minimumIntegerDigits', 22|no such numbers of digits" \
-    "'en', 1, 'minimumIntegerDigits', -1|no such option" "'tlh', 1, 'notation', 'compact'|unknown locale"
+    "'en'|a locale, names with values, and a number" "|a locale, names with values, and a number" \
+    "'en', 'style', 'percent', 'notation', 5|a locale, names with values, and a number" \
+    "'en', 'style', 1|skeleton: syntax at 0" "'en', 'style', 'unit', 1|no such option" \
+    "'en', 'style', 'currency', 1|unknown option" "'en', 'minimumIntegerDigits', 22, 1|no such numbers of digits" \
+    "'en', 'minimumIntegerDigits', -1, 1|no such option" "'tlh', 'notation', 'compact', 1|unknown locale" \
+    "'en', 1, 'style', 'percent'|no such option"
   for digits in "'abc'" "''" 4294967298 65535 2.9 2.0 "x'32'" "'+2'" "' 2'" "CAST(x'3200' AS TEXT)"; do
-    rejects format_number "'en', 5, 'minimumFractionDigits', $digits|no such option"
+    rejects format_number "'en', 'minimumFractionDigits', $digits, 5|no such option"
   done
-  rejects format_number "'en', 5, CAST(x'7374796c6500' AS TEXT), 'percent'|no such option" "'en', 5, 'style', x'70657263656e74'|no such option" \
-    "'en', 5, 'style', CAST(x'70657263656e7400' AS TEXT)|no such option" "'en', 5, 'useGrouping', 0|no such option" \
-    "'en', 5, 'numberingSystem', 'arab '|no such option" "'en', 5, 'numberingSystem', CAST(x'00' AS TEXT)|no such option" \
-    "'en', 5, 'numberingSystem', ''|unknown numbering system"
-  rejects read_number "'en', '1', 'notation', 'compact'|no reader of such numbers" "'en', '1x', 'notation', 'standard'|start: syntax" \
-    "'en', 'K', '1'|skeleton: no reader" "'en', 'percent/w', 'x'|skeleton: syntax at 7" "'en', '1', 'style'|skeleton: syntax at 0"
+  rejects format_number "'en', CAST(x'7374796c6500' AS TEXT), 'percent', 5|no such option" "'en', 'style', x'70657263656e74', 5|no such option" \
+    "'en', 'style', CAST(x'70657263656e7400' AS TEXT), 5|no such option" "'en', 'useGrouping', 0, 5|no such option" \
+    "'en', 'numberingSystem', 'arab ', 5|no such option" "'en', 'numberingSystem', CAST(x'00' AS TEXT), 5|no such option" \
+    "'en', 'numberingSystem', '', 5|unknown option"
+  rejects read_number "'en', 'notation', 'compact', '1'|no reader of such numbers" "'en', 'notation', 'standard', '1x'|start: syntax" \
+    "'en', 'K', '1'|skeleton: no reader" "'en', 'percent/w', 'x'|skeleton: syntax at 7" "'en', 'style', '1'|skeleton: syntax at 0"
+  # A formatter is kept for the rows with the same arguments before the number, and for no others.
+  space=$'\u00a0'
+  for amounts in "format_number('de', 'style', 'currency', 'currency', column1, column2)" "format_number('de', 'currency/' || column1, column2)"; do
+    row "SELECT group_concat($amounts, ' ') FROM (VALUES ('EUR', 1), ('EUR', 2), ('USD', 3), ('JPY', 4), ('EUR', 5), (NULL, 6), ('USD', 7))" \
+      "1,00$space€ 2,00$space€ 3,00$space$ 4$space¥ 5,00$space€ 7,00$space$"
+  done
+  row "SELECT group_concat(format_number(column1, 'style', 'percent', column2), ' ') FROM (VALUES ('en', 1), ('de', 2), ('en', 3), ('en', 4.5))" \
+    "100% 200$space% 300% 450%"
+  row "SELECT group_concat(format_number('en', 'minimumFractionDigits', column1, column2), ' ') FROM (VALUES (1, 1), ('1', 2), (2, 3), (NULL, 4), (1, 5))" \
+    '1.0 2.0 3.00 5.0'
+  row "SELECT group_concat(format_number('en', column1, column2, 5), ' ') FROM (VALUES ('style', 'percent'), ('minimumFractionDigits', 2), ('style', 'percent'))" \
+    '500% 5.00 500%'
+  row "SELECT group_concat(read_number('de', 'currency/' || column1, column2), ' ') FROM (VALUES ('EUR', '1,50' || char(160) || '€'), ('USD', '2,50' || char(160) || '$'), ('EUR', '3,50' || char(160) || '€'))" \
+    '1.50 2.50 3.50'
+  row "SELECT count(try_read_number('de', 'currency/' || column1, '1,50' || char(160) || '€')) FROM (VALUES ('EUR'), ('USD'), ('EUR'))" 2
+  row "SELECT group_concat(format_number('en', a.column1, b.column1), ' ') || format_number('de', 'percent', 5) FROM (VALUES ('percent'), ('.00')) a, (VALUES (1), (2)) b" \
+    "1% 2% 1.00 2.005$space%"
+  found=$(sqlite3 -cmd ".load $room/fixdec" :memory: "SELECT format_number('en', 'style', column1, 5) FROM (VALUES ('percent'), (x'70657263656e74'))" 2>&1)
+  [[ $found == *'no such option'* && $found == *500%* ]]
+  judge $? "a BLOB after a text of the same bytes: $found"
+  row "CREATE TABLE t (c, x, y AS (format_number('de', 'currency/' || c, x)) STORED); CREATE INDEX i ON t (format_number('en', 'currency/' || c, x)); INSERT INTO t VALUES ('EUR', 1), ('USD', 2); SELECT group_concat(y, ' ') FROM t; SELECT count(*) FROM t WHERE format_number('en', 'currency/' || c, x) = '\$2.00'" \
+    "1,00$space€ 2,00$space$"$'\n'1
   for value in 'zeroblob(50000000)' 'CAST(zeroblob(50000000) AS TEXT)'; do
     found=$(sqlite3 -cmd ".load $room/fixdec" -cmd 'PRAGMA hard_heap_limit=10000000' :memory: "SELECT fixdec($value)" 2>&1)
     [[ $found == *'out of memory'* ]]

@@ -7,6 +7,7 @@ cd "$(dirname "$0")/.." || exit 1
 . tests/programs.sh
 copy_programs fixdec_lines
 program=$room/fixdec_lines
+top=$PWD
 convert=$PWD/examples/dask/convert.py
 modules=$PWD/tests/stand_ins
 cd "$room" || exit 1
@@ -45,7 +46,8 @@ END
   chmod +x $how
 done
 # Programs that append to a file, remove it, or wait, before they convert anything.
-for how in 'appends echo 1 >>' 'removes rm -f' 'waits touch started; sleep 3; :'; do
+for how in 'appends echo 1 >>' 'removes rm -f' 'waits touch started; sleep 3; :' 'removes_parts rm -rf parts' \
+  'leaves [ ! -d parts ] || touch parts/.part-00000.left'; do
   printf '#!/usr/bin/env bash\n%s changing\nexec "%s" "$@"\n' "${how#* }" "$program" > "${how%% *}"
   chmod +x "${how%% *}"
 done
@@ -58,7 +60,18 @@ run() {
   PYTHONPATH=$modules timeout 300 "$python" "$convert" "$@"
 }
 
+# parts NAME STATUS COUNT WORD..: with `--out parts` nothing is written but parts, which are together the file `expected`,
+# and the file `lines` on standard error. COUNT is the number of parts, or `some`.
+parts() {
+  rm -rf parts
+  run --out parts "${@:4}" > found 2> log
+  [ $? = "$2" ] && [ ! -s found ] && cmp -s log lines && cat parts/part-* 2> /dev/null | cmp -s - expected &&
+    ! ls -A parts 2> /dev/null | grep -qvx 'part-[0-9]\{5\}' && { [ "$3" = some ] || [ "$(ls parts | wc -l)" = "$3" ]; }
+  judge $? "$dask, $1, in parts: $(ls -A parts 2> /dev/null | wc -l) files, $(tail -n 1 log)"
+}
+
 # row NAME BLOCK FILE.. -- WORD..: the bytes and the status of fixdec_lines for each file; of a header only the first.
+# Over the stand-in the same in parts.
 row() {
   local name=$1 block=$2 files=() skipped=0 status=0 found
   shift 2
@@ -77,6 +90,7 @@ row() {
   ended=$?
   [ $ended = "$status" ] && cmp -s found expected && cmp -s log lines
   judge $? "$dask, $name: status $ended, $(tail -n 1 log)"
+  [ "$dask" = Dask ] || parts "$name" "$status" some --program "$program" --block "$block" "${files[@]}" -- "$@"
 }
 
 # fails STATUS LINE WORD..: convert.py writes this one line on standard error and has this status.
@@ -90,8 +104,9 @@ fails() {
 ends() {
   "$program" "${@:4}" < numbers | head -n $((first - 1)) > expected
   run --program "$room/$2" --block 20000 numbers -- "${@:4}" > found 2> log
-  [ $? = 3 ] && cmp -s found expected && printf '%s\n' "$3" | cmp -s - log
+  [ $? = 3 ] && cmp -s found expected && printf '%s\n' "$3" | tee lines | cmp -s - log
   judge $? "$dask, $1: $(tail -n 1 log)"
+  parts "$1" 3 $((start / 20000)) --program "$room/$2" --block 20000 numbers -- "${@:4}"
 }
 
 rows() {
@@ -124,6 +139,8 @@ rows() {
   run --program "$room/killed_once" --block 20000 numbers -- $half_even > found 2> log && [ -d was_killed ] &&
     cmp -s found expected
   judge $? "$dask, a block that is killed once: $(tail -n 1 log)"
+
+  in_parts
 
   fails 3 "$room/nothing: No such file or directory" --program ./fixdec_lines numbers nothing -- $half_even
   fails 3 "$room: Is a directory" --program ./fixdec_lines "$room" -- $half_even
@@ -161,8 +178,57 @@ rows() {
   judge $? "$dask, a closed output: $(tail -n 1 log)"
 }
 
+# in_parts: how many parts there are, which folders are refused, and what ends a run that has written parts.
+in_parts() {
+  local half_even=round:-2:half-even:1 size folder
+  : > lines
+  size=$(tail -n +2 table.csv | wc -c)
+  "$program" header csv field:2 shift:1 < table.csv > expected
+  parts 'a header' 0 $((size / 30000 + 1)) --program "$program" --block 30000 table.csv -- header csv field:2 shift:1
+  [ "$(grep -l ^name, parts/*)" = parts/part-00000 ]
+  judge $? "$dask: the header is in the first part: $(grep -l ^name, parts/*)"
+  head -n 1 numbers > expected
+  echo "$room/numbers: the block from line 2 on: $room/killed: killed by signal 9" > lines
+  parts 'a first block that is killed' 3 1 --program "$room/killed" numbers -- header $half_even
+  : > expected
+  : > lines
+  parts 'an empty file' 0 1 --program "$program" empty -- $half_even
+  "$program" $half_even < wrong > expected 2> lines
+  sed -i "s|^|$room/wrong: |" lines
+  size=$(head -n 19999 wrong | wc -c)
+  parts 'parts after a block that fails' 1 $((size / 3000 + 1)) --program "$program" --block 3000 wrong -- $half_even
+
+  mkdir -p full && touch full/file
+  for folder in full numbers ''; do
+    fails 2 "convert.py: argument --out: not an empty folder: $folder" --out "$folder" --program ./fixdec_lines numbers -- trim
+  done
+  fails 3 "$room/numbers/parts: Not a directory" --out numbers/parts --program ./fixdec_lines numbers -- trim
+  mkdir -p empty_folder
+  run --out empty_folder --program ./fixdec_lines numbers -- trim >&- 2> log && [ ! -s log ] &&
+    "$program" trim < numbers | cmp -s - empty_folder/part-00000
+  judge $? "$dask, a folder that is there, and a closed output: $(tail -n 1 log)"
+  rm -rf parts empty_folder
+  run --out parts --program ./removes_parts numbers -- trim > found 2> log
+  [ $? = 3 ] && [ "$(head -n 1 log)" = "$room/numbers: the block from line 1 on: $room/parts/part-00000: No such file or directory" ]
+  judge $? "$dask, a folder that is removed: $(head -n 1 log)"
+  # What a worker leaves that ends while it writes.
+  "$program" trim < numbers > expected
+  : > lines
+  parts 'a part that is not whole' 0 1 --program ./leaves numbers -- trim
+}
+
 python=python3 dask="a stand-in for Dask"
 rows
+# Each block runs twice.
+cp -r "$modules" twice && sed -i 's/return self.threads.submit(function, \*arguments)/self.threads.submit(function, *arguments); &/' \
+  twice/dask/distributed.py
+./fixdec_lines shift:1 < numbers > expected
+modules=$room/twice parts 'each block twice' 0 some --program ./fixdec_lines --block 3000 numbers -- shift:1
+# More digits.
+found=$(PYTHONPATH=$modules:${convert%/*} "$python" -B -c 'from convert import Parts
+print(*(Parts("parts", count).path(7) for count in (1, 100000, 100001)))')
+[ "$found" = 'parts/part-00007 parts/part-00007 parts/part-000007' ]
+judge $? "the names of parts: $found"
 # A client that is never closed.
 cp -r "$modules" never && sed -i 's/self.threads.shutdown.*/__import__("time").sleep(1000)/' never/dask/distributed.py
 ./fixdec_lines shift:1 < numbers > expected
@@ -200,17 +266,48 @@ if [ -n "$python" ]; then
     others+=($!)
   done
   ./fixdec_lines round:-2:half-even:1 < many > expected
-  run --program "$program" --scheduler "tcp://127.0.0.1:$port" --block 20000 many -- round:-2:half-even:1 \
-    > found 2> log &
-  converted=$!
-  for _ in $(seq 100); do [ -s found ] && break; sleep 0.1; done
-  disown "${others[4]}"
-  kill -9 "${others[4]}"
-  wait $converted && cmp -s found expected
+  # ends_midway FILE WORD..: the last worker ends when this file has bytes, and all lines are converted all the same.
+  ends_midway() {
+    run --program "$program" --scheduler "tcp://127.0.0.1:$port" --block 20000 "${@:2}" many -- round:-2:half-even:1 \
+      > found 2> log &
+    converted=$!
+    for _ in $(seq 1000); do [ -s "$1" ] && break; sleep 0.01; done
+    disown "${others[-1]}"
+    kill -9 "${others[-1]}"
+    unset 'others[-1]'
+    wait $converted
+  }
+  rm -f found
+  ends_midway found && cmp -s found expected
   judge $? "Dask, a worker that ends: $(tail -n 1 log)"
-  disown "${others[@]:0:4}"
-  kill -9 "${others[@]:0:4}" 2> /dev/null
+  rm -rf parts
+  ends_midway parts/part-00003 --out parts && [ ! -s found ] && [ ! -s log ] && cat parts/* | cmp -s - expected &&
+    [ "$(ls -A parts)" = "$(seq -f 'part-%05g' 0 $(($(wc -c < many) / 20000)))" ]
+  judge $? "Dask, a worker that ends, in parts: $(tail -n 1 log)"
+  disown "${others[@]}"
+  kill -9 "${others[@]}" 2> /dev/null
 else
   missing 'python3-distributed'
+fi
+
+# ---- Data frames: the example of README.md, over the Python module.
+for python in python3 /usr/bin/python3 ''; do
+  ! "${python:-false}" -c 'import dask.dataframe, pandas' 2> /dev/null || break
+done
+if [ -z "$python" ]; then
+  missing 'python3-dask and python3-pandas'
+elif "$python" -m pip --version > /dev/null 2>&1 && [ -e "$("$python" -c 'import sysconfig; print(sysconfig.get_path("include"))')/Python.h" ]; then
+  (cd "$top" && bash c/build.sh && "$python" -m pip install --no-index --quiet --target "$room/module" ./python) > log 2>&1
+  judge $? "the Python module: $(tail -n 3 log)"
+  printf 'name,price\ntea,1234.5\nmilk,7\n' > prices-1.csv
+  printf 'name,price\nbread,-2.345\n' > prices-2.csv
+  sed -n '/^```python$/,/^```$/p' "$top/examples/dask/README.md" | sed '/^```/d' > frame.py
+  # CLDR's pattern of an amount in German has a no-break space before the symbol.
+  printf '%s\n' name,price,shown $'tea,1234.5,"1.234,50\xc2\xa0€"' $'milk,7,"7,00\xc2\xa0€"' \
+    $'bread,-2.345,"-2,34\xc2\xa0€"' > expected
+  PYTHONPATH=$room/module "$python" frame.py > found 2> log && cmp -s found expected
+  judge $? "a data frame: $(tail -n 1 log), $(tail -n 1 found)"
+else
+  missing 'python3-dev and python3-pip for data frames'
 fi
 finish

@@ -35,9 +35,20 @@ if command -v cargo > /dev/null; then
   judge $? 'cargo test over a static library of another name'
   # README's example, in a new package with one line in its Cargo.toml.
   (cd "$room" && cargo new --quiet --offline example) && echo "fixed_decimal_proved = { path = \"$PWD/rust\" }" >> "$room/example/Cargo.toml" &&
-    awk '/^```rust$/ && ++blocks == 2 { shown = 1; next } /^```$/ { shown = 0 } shown' README.md > "$room/example/src/main.rs" &&
+    awk '/^For Rust/ { here = 1 } here && /^```rust$/ { shown = 1; next } shown && /^```$/ { exit } shown' README.md \
+      > "$room/example/src/main.rs" &&
     found=$(cd "$room/example" && cargo run --quiet --offline 2> "$room/log") && [ "$found" = 1.234,56 ]
   judge $? "README's example: it writes '${found:-}', $(tail -n 1 "$room/log")"
+  # The program of docs/RUST.md, and then its other examples, which are run with each error returned.
+  block docs/RUST.md src/main.rs > "$room/example/src/main.rs"
+  writes docs/RUST.md 'cargo run' bash -c 'cd "$0" && cargo run --quiet --offline' "$room/example"
+  { echo 'fn main() -> Result<(), Box<dyn std::error::Error>> {'
+    awk '/^## / { here = $2 == "Functions" } here && /^```rust$/ { shown = 1; print "{"; next }
+      shown && /^```$/ { shown = 0; print "}"; next } shown' docs/RUST.md
+    echo 'Ok(()) }'; } > "$room/example/src/main.rs"
+  grep -q NumberFormat "$room/example/src/main.rs" && (cd "$room/example" && cargo run --quiet --offline) > "$room/log" 2>&1 ||
+    { tail -n 30 "$room/log"; false; }
+  judge $? 'the examples of docs/RUST.md'
 else
   missing 'cargo'
 fi

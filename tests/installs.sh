@@ -1,8 +1,8 @@
 #!/usr/bin/env bash
 # Tries what is installed and packed, in a copy of the repository: PREFIX and DESTDIR; the commands of docs/C.md;
-# releases; and that no old program or library is taken for a new one, where a source changes or does not compile. With
-# BUILT_BY_GATE set only the exports of the C library are proved, and one program over libraries of the gate. Needs git
-# and gcc; without pkg-config the commands are a line `not run: ..`, and a failure under ALL=1. The last line is
+# uninstalling; and that no old program or library is taken for a new one, where a source changes or does not compile.
+# With BUILT_BY_GATE set only the exports of the C library are proved, and one program over libraries of the gate. Needs
+# git and gcc; without pkg-config the commands are a line `not run: ..`, and a failure under ALL=1. The last line is
 # `N passed, M failed`; the status is 0 if M is 0.
 set -u
 cd "$(dirname "$0")/.." || exit 1
@@ -10,30 +10,8 @@ cd "$(dirname "$0")/.." || exit 1
 copy_programs fixdec fixdec_lines plural
 python3 tools/built.py archive || { echo "0 passed, 1 failed"; exit 1; }
 copy=$room/copy
-mkdir "$copy" "$room/here"
-# The files as they are, with what is built of them. Of libraries these are second names: `rt` does not write into them.
-git ls-files -z | tar cf - --null --ignore-failed-read -T - 2> "$room/log" | tar xf - -C "$copy"
-for out in crates/*/out; do
-  mkdir -p "$copy/$out"
-  [ ! -d "$out/rlib" ] || cp -rl "$out/rlib" "$copy/$out/" 2> "$room/log" || cp -r "$out/rlib" "$copy/$out/"
-  for part in built.json libfixed_decimal_ffi.a "$(basename "$(dirname "$out")")"; do
-    [ ! -e "$out/$part" ] || cp "$out/$part" "$copy/$out/"
-  done
-done
-cd "$room/here" || exit 1
-
-# try NAME COMMAND..: the command succeeds; its output is in $room/out.
-try() {
-  "${@:2}" > "$room/out" 2> "$room/log"
-  judge $? "$1: $(tail -n 1 "$room/log")"
-}
-
-# fails LINE COMMAND..: the command fails, and the last line on its standard error is this one.
-fails() {
-  "${@:2}" > "$room/out" 2> "$room/log"
-  [ $? != 0 ] && [[ $(tail -n 1 "$room/log") == $1 ]]
-  judge $? "${*:2}: $(tail -n 1 "$room/log")"
-}
+copy_repository "$copy" rlib
+mkdir "$room/here" && cd "$room/here" || exit 1
 
 # ---- Folders
 export BUILT_BY_GATE=1
@@ -54,22 +32,22 @@ for script in install.sh release.sh; do
   done
 done
 
-PREFIX='a b' try 'c/build.sh with a relative PREFIX with a blank' bash "$copy/c/build.sh" install
+PREFIX='ä b' try 'c/build.sh with a relative PREFIX with a blank and an umlaut' bash "$copy/c/build.sh" install
 version=$(sed -n 's/^#define FD_VERSION //p' "$copy/c/fixed_decimal.h")
-readelf -d 'a b/lib/libfixed_decimal.so' | grep -q "SONAME.*\[libfixed_decimal\.so\.$version\]"
+readelf -d 'ä b/lib/libfixed_decimal.so' | grep -q "SONAME.*\[libfixed_decimal\.so\.$version\]"
 judge $? "the soname has the version of the interface, $version"
 DESTDIR=stage PREFIX=/usr try 'c/build.sh with DESTDIR' bash "$copy/c/build.sh" install
 [ -f stage/usr/lib/libfixed_decimal.a ] && [ -f stage/usr/include/fixed_decimal.h ] &&
   grep -qx 'Libs: -L/usr/lib -lfixed_decimal' stage/usr/lib/pkgconfig/fixed_decimal.pc
 judge $? 'the files below DESTDIR'
-[ -z "$(find "$copy" -name prefix -o -name stage -o -name 'a b')" ]
+[ -z "$(find "$copy" -name prefix -o -name stage -o -name 'ä b')" ]
 judge $? 'nothing is installed below the repository'
 
 if command -v pkg-config > /dev/null; then
   # The words of pkg-config are quoted for a shell.
-  words=$(PKG_CONFIG_PATH='a b/lib/pkgconfig' pkg-config --cflags --libs fixed_decimal)
+  words=$(PKG_CONFIG_PATH='ä b/lib/pkgconfig' pkg-config --cflags --libs fixed_decimal)
   try 'the example by the installed library' eval "gcc '$copy/c/example.c' $words -o example"
-  [ "$(LD_LIBRARY_PATH="$PWD/a b/lib" ./example)" = 1.234,56 ]
+  [ "$(LD_LIBRARY_PATH="$PWD/ä b/lib" ./example)" = 1.234,56 ]
   judge $? 'the example writes 1.234,56'
 
   # The first commands of docs/C.md, with another PREFIX: the program starts.
@@ -84,51 +62,78 @@ else
   missing pkg-config
 fi
 
-# ---- Releases
-not_a_version='no version of CHANGELOG.md is checked out'
-machine=x86_64-linux
-# commit NAME: commits all files of the copy, and prints the commit.
-commit() {
-  git -C "$copy" -c user.name=x -c user.email=x@x commit -qam "$1" && git -C "$copy" rev-parse --short=8 HEAD
+# ---- Uninstalling
+# tree FOLDER: each file and folder below it, with its sum or its target.
+tree() {
+  (cd "$1" && find . -type f -exec sha256sum {} + && find . -type l -printf '%p -> %l\n' && find . -type d) | sort
 }
-# heading NAME: makes this the newest heading of CHANGELOG.md.
-heading() {
-  awk -v name="$1" '!done && /^## \[/ { done = 1; print "## [" name "]\n"; if (/Unreleased/) next } 1' \
-    "$copy/CHANGELOG.md" > changes && cp changes "$copy/CHANGELOG.md"
+uninstall() { bash "$copy/tools/install.sh" --uninstall "$@"; }
+# is_as_before NAME: PREFIX has what it had before, and nothing else.
+is_as_before() {
+  tree 'č d' > after
+  cmp -s before after
+  judge $? "$1: $(diff before after | head -n 3 | tr '\n' ' ')"
 }
-release() { bash "$copy/tools/release.sh" "$@"; }
-mkdir packed
-fails 'release.sh: no such folder: nothing' release nothing
-newest=$(sed -n 's/^## \[\([0-9][^]]*\)\].*/\1/p' "$copy/CHANGELOG.md" | head -n 1)
-try 'release.sh without a commit' release packed
-[ -f "packed/fixed_decimal-$newest+unknown-changed-$machine.tar.gz" ]
-judge $? "the version without a commit: $(ls packed)"
-git -C "$copy" init -q && git -C "$copy" add . && commit all > "$room/out"
-heading 9.9.9+9 && [ "$(grep -c '^## \[9.9.9+9\]' "$copy/CHANGELOG.md")" = 1 ] && head=$(commit version)
-judge $? 'a version is committed'
-try 'release.sh at a version' release --release packed
-tar -C packed -xzf packed/fixed_decimal-9.9.9+9-$machine.tar.gz && cd packed/fixed_decimal-9.9.9+9-$machine &&
-  sha256sum --check --quiet SHA256SUMS && [ "$(bin/plural en 1)" = one ]
-judge $? 'the packed files'
-cd "$room/here" || exit 1
-(umask 077 && release packed) > "$room/log" 2>&1 &&
-  ! tar -tvzf "packed/fixed_decimal-9.9.9+9-$machine.tar.gz" | grep -v '^[-d]rw[-x]r-[-x]r-[-x]'
-judge $? "release.sh under a umask: all read the files: $(tail -n 1 "$room/log")"
-mkdir broken partly && printf '#!/bin/sh\nhead -c 100\nexit 1\n' > broken/gzip && chmod +x broken/gzip
-! PATH=$PWD/broken:$PATH release partly > "$room/log" 2>&1 && [ -z "$(ls partly)" ]
-judge $? "release.sh leaves no part of a release: $(tail -n 1 "$room/log")"
-echo >> "$copy/README.md"
-fails "release.sh: $not_a_version, but 9.9.9+9+$head-changed" release --release packed
-head=$(commit more)
-fails "release.sh: $not_a_version, but 9.9.9+9+$head" release --release packed
-git clone -q --depth 1 "file://$copy" shallow
-fails "release.sh: $not_a_version, but 9.9.9+9+$head" bash shallow/tools/release.sh --release packed
-try 'release.sh after a version' release packed
-[ -f "packed/fixed_decimal-9.9.9+9+$head-$machine.tar.gz" ] &&
-  grep -qx "$not_a_version: packs 9.9.9+9+$head" "$room/out"
-judge $? "the version after a version: $(head -n 1 "$room/out")"
-heading Unreleased && head=$(commit unreleased)
-fails "release.sh: $not_a_version, but 9.9.9+9+$head" release --release packed
+mkdir -p 'č d/bin' 'č d/lib'
+echo mine > 'č d/bin/mine' && ln -s mine 'č d/bin/link'
+tree 'č d' > before
+(umask 077 && bash "$copy/tools/install.sh" 'č d') > "$room/log" 2>&1
+PREFIX='č d' try 'c/build.sh to the same PREFIX' bash "$copy/c/build.sh" install
+(cd 'č d' && sha256sum --check --quiet share/fixed_decimal/manifest) > "$room/log" 2>&1 &&
+  [ -z "$(find 'č d/bin' 'č d/share' 'č d/include' -not -type l -not -perm -444)" ] &&
+  [ -f 'č d/share/man/man3/fd_run.3' ] && [ -f 'č d/share/fish/vendor_completions.d/fixdec.fish' ]
+judge $? "the manifest, and all read the files under a umask: $(head -n 1 "$room/log")"
+PATH=/usr/bin:/bin try 'install.sh --uninstall without the kit' uninstall 'č d'
+is_as_before 'what was installed is removed, and nothing else'
+fails "$PWD/č d/share/fixed_decimal/manifest is missing: nothing is removed" uninstall 'č d'
+
+# What has changed since stays, with its folder and the manifest, until it is as it was installed.
+bash "$copy/tools/install.sh" 'č d' > "$room/log" 2>&1
+cp 'č d/bin/fixdec' fixdec && echo >> 'č d/bin/fixdec' && ln -sf "$PWD/fixdec" 'č d/bin/plural' && echo > 'č d/share/man/mine'
+fails "$PWD/č d/bin/plural is not what was installed: it stays" uninstall 'č d'
+[ "$(grep -c 'it stays' "$room/log")" = 2 ] && cmp -s fixdec "$copy/crates/fixdec/out/fixdec"
+judge $? "what is linked stays as it was: $(cat "$room/log")"
+[ "$(find 'č d' -type f -o -type l | sort | tr '\n' '|')" = \
+  'č d/bin/fixdec|č d/bin/link|č d/bin/mine|č d/bin/plural|č d/share/fixed_decimal/manifest|č d/share/man/mine|' ]
+judge $? "all else is removed: $(find 'č d' -type f -o -type l | tr '\n' '|')"
+rm 'č d/bin/plural' && cp fixdec 'č d/bin/fixdec'
+try 'install.sh --uninstall of the rest' uninstall 'č d'
+rm 'č d/share/man/mine' && rmdir 'č d/share/man' 'č d/share'
+is_as_before 'the rest is removed'
+
+# A copy that a full disk ends is removed too, and the manifest of another version counts.
+mkdir -p staged/bin && echo small > staged/bin/fixdec && head -c 200000 /dev/zero > staged/bin/plural
+(ulimit -f 64; python3 "$copy/tools/installed.py" install staged 'č d') > "$room/out" 2> "$room/log"
+[ $? = 1 ] && grep -q 'File too large$' "$room/log" && [ -f 'č d/bin/fixdec' ] && [ ! -e 'č d/bin/plural' ]
+judge $? "a copy that a limit ends: $(tail -n 1 "$room/log")"
+try 'install.sh --uninstall after it' uninstall 'č d'
+is_as_before 'what was copied in part is removed'
+# Several at once: what one of them installs, that one or another removes.
+for number in 1 2 3 4; do
+  for _ in {1..10}; do
+    python3 "$copy/tools/installed.py" install staged 'č d' && python3 "$copy/tools/installed.py" uninstall 'č d'
+  done > "log.$number" 2>&1 &
+  others[number]=$!
+done
+wait "${others[@]}"
+! grep -vh 'manifest is missing: nothing is removed$' log.[1-4] > "$room/log"
+judge $? "installs at once: $(head -n 1 "$room/log")"
+is_as_before 'what was installed at once is removed'
+bash "$copy/tools/install.sh" 'č d' > "$room/log" 2>&1
+echo old > 'č d/lib/libfixed_decimal.so.4'
+(cd 'č d' && sha256sum lib/libfixed_decimal.so.4 >> share/fixed_decimal/manifest)
+try 'install.sh over another version' bash "$copy/tools/install.sh" 'č d'
+cp 'č d/share/fixed_decimal/manifest' manifest
+for line in 'x  bin/fixdec' "$(printf '%064d  ../before' 0)" "# folder /etc"; do
+  echo "$line" >> 'č d/share/fixed_decimal/manifest'
+  fails "$PWD/č d/share/fixed_decimal/manifest: line * is not one of a manifest" uninstall 'č d'
+  cp manifest 'č d/share/fixed_decimal/manifest'
+done
+try 'install.sh --uninstall of two versions' uninstall 'č d'
+is_as_before 'files of another version are removed'
+mkdir 'č d/bin/fixdec_lines' && tree 'č d' > before
+fails "$PWD/č d/bin/fixdec_lines is a folder: nothing is installed" bash "$copy/tools/install.sh" 'č d'
+is_as_before 'a folder in the place of a file'
 
 # ---- Sources that change
 # Libraries of the same sources are taken, and those above a source that changes are not.

@@ -1,9 +1,9 @@
 #!/usr/bin/env bash
 # Sets the project up as README says: makes a clone of the last commit, without built files, and runs README's first
-# command in it, which proves nothing and takes half a minute; installs the built programs, runs README's other commands
-# with them, and packs them; and runs PROGRAMS' command of GNU parallel, if that is there. tools/built.py proves and
-# builds the programs first, but where the gate just did. The last line is `N passed, M failed`; the status is 0 if M is
-# 0.
+# command in it, which proves nothing and takes half a minute; installs the built programs, and runs README's other
+# commands with them; and runs PROGRAMS' commands of GNU parallel, without which there is a line `not run: ..`, and a
+# failure under ALL=1. tools/built.py proves and builds the programs first, but where the gate just did. The last line is
+# `N passed, M failed`; the status is 0 if M is 0.
 set -u
 cd "$(dirname "$0")/.." || exit 1
 . tests/programs.sh
@@ -13,7 +13,7 @@ export BUILT_BY_GATE=1
 command=$(sed -n 's/^\$ (\(cd crates.*\))$/\1/p' README.md | head -n 1)
 [ -n "$command" ]
 judge $? 'README has a first command'
-git clone -q --local . "$room/clone" && found=$(cd "$room/clone" && eval "$command" 2> "$room/err") && [ "$found" = 2.50 ]
+git clone -q . "$room/clone" && found=$(cd "$room/clone" && eval "$command" 2> "$room/err") && [ "$found" = 2.50 ]
 judge $? "$command: it writes '${found:-}', $(tail -n 1 "$room/err")"
 
 bash tools/install.sh "$room/prefix" > "$room/log" 2>&1 && [ "$("$room/prefix/bin/fixdec" 250 shift:-2)" = 2.50 ]
@@ -24,18 +24,20 @@ mkdir "$room/table" &&
   (cd "$room/table" && PATH=$room/prefix/bin:$PATH bash -e ../commands) > "$room/out" 2>&1 &&
   cmp -s "$room/out" <(grep -v '^\$ ' "$room/transcript")
 judge $? "README's commands by the installed programs: $(tail -n 1 "$room/out")"
-bash tools/release.sh "$room" > "$room/log" 2>&1 && tar -C "$room" -xzf "$room"/fixed_decimal-*.tar.gz &&
-  (cd "$room"/fixed_decimal-*/ && sha256sum --check --quiet SHA256SUMS && bin/plural 'one: n = 1' 1) > "$room/out" 2>&1 &&
-  [ "$(cat "$room/out")" = one ]
-judge $? "tools/release.sh: $(tail -n 1 "$room/log"), $(cat "$room/out")"
-
+# PROGRAMS' commands of GNU parallel, with small blocks: the first is for a file without a header, the second with one.
+words="round:-2:half-even:1 'format:de:currency/EUR .00'"
+sed -n "s/64M/40k/; /parallel -q/s| \.\.| $words|p" docs/PROGRAMS.md > "$room/commands"
+[ "$(wc -l < "$room/commands")" = 2 ]
+judge $? 'PROGRAMS has two commands of GNU parallel'
 if command -v parallel > /dev/null; then
-  { echo price; seq -f '%.3f' 1 0.125 20000; } > "$room/prices"
-  (cd "$room" && ./fixdec_lines header round:-2:half-even:1 < prices > one &&
-    { head -n 1 prices; tail -n +2 prices | parallel --pipe --block 40k -k ./fixdec_lines round:-2:half-even:1; } > many 2> log &&
-    cmp one many)
-  judge $? "parallel: $(tail -n 1 "$room/log")"
+  mkdir "$room/blocks" && cd "$room/blocks" && seq -f '%.3f' 1 0.125 20000 > FILE || exit 1
+  for header in '' header; do
+    [ -z "$header" ] || sed -i '1i price' FILE
+    head -n 1 ../commands > command && sed -i 1d ../commands
+    eval "../fixdec_lines $header $words" < FILE > one && PATH=$room:$PATH bash -e command > many 2> log && cmp one many
+    judge $? "parallel${header:+ with a header}: $(tail -n 1 log)"
+  done
 else
-  echo 'not run: parallel'
+  missing parallel
 fi
 finish

@@ -1,5 +1,6 @@
 #!/usr/bin/env python3
 """Checks the documents against the tree: `python3 tools/check_documents.py`. The last line is `N passed, M failed`."""
+import functools
 import os
 import re
 import subprocess
@@ -7,13 +8,14 @@ import sys
 import tempfile
 
 CRATES = ["decimal_digits", "decimal_unsigned", "fixed_decimal", "decimal_format", "plural_rules", "locale_data",
-          "number_format", "number_skeleton", "conversions", "cli", "fixed_decimal_c"]
-LIBRARIES = [*CRATES[:4], "locale_data", "number_format", "number_skeleton"]
+          "locale_names", "number_format", "number_skeleton", "conversions", "cli", "fixed_decimal_c"]
+LIBRARIES = [*CRATES[:4], "locale_data", "locale_names", "number_format", "number_skeleton"]
 # Crates whose proofs cite of the libraries only the lemmas for callers.
-CALLERS = ["uses", "plural_rules", "decimal_format", "locale_data", "number_format", "number_skeleton", "conversions",
-           "cli", "fixed_decimal_c"]
+CALLERS = ["uses", "plural_rules", "decimal_format", "locale_data", "locale_names", "number_format", "number_skeleton",
+           "conversions", "cli", "fixed_decimal_c"]
 # Modules and functions that are public for the crates of this repository alone.
-INTERNAL = re.compile(r"/src/(?:rounding/|digits/packed/|digits/steps|ops|uint_iterator|block|decimal/parse/|reader/|search|tag|tables/)")
+INTERNAL = re.compile(r"/src/(?:rounding/|digits/packed/|digits/steps|ops|uint_iterator|block|decimal/parse/|reader/|search"
+                      r"|tag|tables/)")
 HIDDEN = {"from_bcd_digits", "from_short_text", "scan_from", "lowest_of"}
 OUTSIDE = re.compile(r"\b(?:document|paper|issue|session|request|promise|definition) \d|\b[DTRW]\d{1,2}\b"
                      r"|/(?:work|tmp|root|home)/")
@@ -40,34 +42,57 @@ def read(path):
 LISTED = subprocess.run(["git", "ls-files"], capture_output=True, text=True, check=True).stdout
 FILES = [path for path in LISTED.split("\n") if os.path.isfile(path)]
 CODE = {path: read(path) for path in FILES if path.endswith((".rt", ".antt"))}
-DOCUMENTS = ["README.md", "CALLING.md", *(path for path in FILES if re.fullmatch(r"docs/\w+\.md", path))]
+DOCUMENTS = [path for path in FILES if path.endswith(".md")]
+# The pages of which README has a link to each.
+PAGES = [path for path in DOCUMENTS if re.fullmatch(r"(?:docs/)?[A-Z]+\.md", path)
+         and path not in ("README.md", "docs/MODULES.md")]
 
 
 def quoted(text):
     return re.findall(r"`([^`\n]+)`", text)
 
 
+def blocks(document):
+    """The blocks of code of a page: the language, and the text."""
+    return re.findall(r"^```([^\n`]*)\n(.*?)^```$", read(document), re.M | re.S)
+
+
+def check_scripts():
+    """A file that begins with the name of its interpreter can be executed."""
+    for path in FILES:
+        with open(path, "rb") as file:
+            if file.read(2) == b"#!":
+                check(os.access(path, os.X_OK), f"{path}: it begins with #! and is not executable")
+
+
+@functools.cache
+def anchors_of(path):
+    """The anchors of the headings of a page."""
+    heads = re.findall(r"^#+ (.*)", read(path), re.M)
+    return {re.sub(r"[^\w -]", "", head).lower().replace(" ", "-") for head in heads}
+
+
 def check_links():
+    """A link leads to a file, and to one of its headings; and README has a link to each page."""
     for document in DOCUMENTS:
-        text = read(document)
-        for target, heading in re.findall(r"\]\(([^)#:]*)(?:#([^)]*))?\)", text):
+        for target, heading in re.findall(r"\]\(([^)#:]*)(?:#([^)]*))?\)", read(document)):
             path = os.path.normpath(os.path.join(os.path.dirname(document), target)) if target else document
-            good = os.path.exists(path)
-            heads = re.findall(r"^#+ (.*)", read(path), re.M) if good and heading else []
-            anchors = [re.sub(r"[^\w -]", "", head).lower().replace(" ", "-") for head in heads]
-            good = good and (not heading or heading in anchors)
+            good = os.path.exists(path) and (not heading or heading in anchors_of(path))
             check(good, f"{document}: the link {target}#{heading} leads nowhere")
+    for path in PAGES:
+        check(f"]({path})" in read("README.md"), f"README.md: there is no link to {path}")
 
 
 def check_quotes():
-    """Quoted clauses and definitions are lines of the code, and a block after the name of a program is the program."""
+    """Quoted clauses and definitions are lines of the code, and a block after the name of a program is the program. The
+    pages of the reference are compared as a whole with what their script makes of the code."""
     lines = {line.strip() for text in CODE.values() for line in text.splitlines()}
-    for document in DOCUMENTS:
-        for path, block in re.findall(r"`([\w/]+/main\.rt)`[^\n]*:\n\n```rust\n(.*?)```", read(document), re.S):
-            check(block == CODE.get(path), f"{document}: the block after `{path}` is not that file")
-        for kind, block in re.findall(r"```(rust|antt)\n(.*?)```", read(document), re.S):
-            for line in block.splitlines():
-                if line.strip() and (kind == "antt" or line.strip().startswith("ensures")):
+    for document in [path for path in DOCUMENTS if not path.startswith("docs/reference/")]:
+        for path, block in re.findall(r"`(crates/[\w/]+/main\.rt)`:\n\n```rust\n(.*?)```", read(document), re.S):
+            check(block == CODE.get(path, block), f"{document}: the block after `{path}` is not that file")
+        for language, block in blocks(document):
+            for line in block.splitlines() if language in ("rust", "antt") else []:
+                if line.strip() and (language == "antt" or line.strip().startswith("ensures")):
                     check(line.strip() in lines, f"{document}: this line is not in the code: {line.strip()}")
 
 
@@ -106,8 +131,9 @@ def check_proved():
 
 
 def check_public():
-    """CALLING names each public type and function of the libraries, but for those of `INTERNAL`; PROVED names each law."""
-    text = read("CALLING.md")
+    """The reference names each public type and function of the libraries, but for those of `INTERNAL`, and PROVED each
+    law."""
+    text = "\n".join(read(path) for path in DOCUMENTS if path == "CALLING.md" or path.startswith("docs/reference/"))
     named = set(re.findall(r"\w+", " ".join(quoted(text) + re.findall(r"```.*?```", text, re.S))))
     laws = set(quoted(read("docs/PROVED.md")))
     for path, text in CODE.items():
@@ -117,12 +143,38 @@ def check_public():
         elif path.split("/")[1] in LIBRARIES and "/src/" in path and not INTERNAL.search(path):
             names = re.findall(r"^pub (?:struct|enum|trait|type|const) (\w+)", text, re.M)
             for name in [*names, *(it[1] for it in functions(path) if it[0])]:
-                check(name in named | HIDDEN, f"CALLING.md: {name} is missing ({path})")
+                check(name in named | HIDDEN, f"the reference: {name} is missing ({path})")
+
+
+def parts_of(names):
+    """The parts of a list between its commas, outside of inner lists."""
+    depth, parts = 0, [""]
+    for char in names:
+        depth += (char == "{") - (char == "}")
+        if char == "," and depth == 0:
+            parts.append("")
+        else:
+            parts[-1] += char
+    return [part.strip() for part in parts]
+
+
+def names_in(path):
+    """The names in an import, each with its path: `a.{B.{c, d}, E.f}` has a.B.c, a.B.d and a.E.f."""
+    start, _, names = path.partition("{")
+    if not names:
+        return [path]
+    return [start + name for part in parts_of(names.rpartition("}")[0]) for name in names_in(part)]
+
+
+def imports_of(text):
+    """The names that a text imports for proofs, each with its path."""
+    uses = re.findall(r"^(?:pub )?(?:ghost )?use Rattle\.([^;\n]+)", text, re.M)
+    return [name for use in uses for name in names_in(use)]
 
 
 def check_code():
-    """Lines have their width, callers cite Calling alone, nothing cites what is not in the repository, and the tables of
-    locales are what their script writes."""
+    """Lines have their width, callers cite Calling alone, nothing cites what is not in the repository, and each file
+    that a script makes is what the script writes: the tables of locales, the pictures, the reference."""
     for path in FILES:
         if path != "LICENSE" and not path.startswith("tools/"):
             rows = path.endswith("vectors/stdin") or path.startswith(ROWS)
@@ -134,10 +186,15 @@ def check_code():
                 if len(it) > 120 and not re.match(r"\s*(?:pub )?(?:ghost )?use ", it)]
         check(not long, f"{path}: lines of more than 120 columns: {long}")
         if path.split("/")[1] in CALLERS:
-            for cited in re.findall(r"^(?:pub )?use Rattle\.(?:decimal_digits|decimal_unsigned|fixed_decimal)\.proofs\.(\w+)", text, re.M):
-                check(cited == "Calling", f"{path}: cites {cited}, and callers cite Calling alone")
-    made = subprocess.run([sys.executable, "tools/locales/make_tables.py", "--check"], capture_output=True, text=True)
-    check(made.returncode == 0, made.stderr.strip())
+            for name in imports_of(text):
+                if cited := re.match(r"(?:decimal_digits|decimal_unsigned|fixed_decimal)\.proofs\.(\w+)", name):
+                    check(cited[1] == "Calling", f"{path}: cites {cited[1]}, and callers cite Calling alone")
+    scripts = [path for path in FILES if re.fullmatch(r"tools/.*\.py", path)]
+    scripts = [path for path in scripts if "--check" in read(path).split('"""')[1]]
+    check(len(scripts) >= 3, f"tools: only these scripts take --check: {scripts}")
+    for script in scripts:
+        made = subprocess.run([sys.executable, script, "--check"], capture_output=True, text=True)
+        check(made.returncode == 0, made.stderr.strip())
 
 
 def check_rows():
@@ -155,32 +212,35 @@ def specs_of_run():
     """The files of definitions that the contract of `run` cites, and those that these cite."""
     text = CODE["crates/fixed_decimal/src/runs.rt"]
     contract = re.search(r"^pub fn run<.*?^\{", text, re.M | re.S)[0]
-    imports = re.findall(r"^ghost use Rattle\.([\w.]+)\.\{(.*)\};", text, re.M)
-    left = [it for it, names in imports if set(re.findall(r"\w+", names)) & set(re.findall(r"\w+", contract))]
+    words = set(re.findall(r"\w+", contract))
+    left = [name for name in imports_of(text) if name.rpartition(".")[2] in words]
     found = set()
     while left:
         path = re.sub(r"^(\w+)\.specs\.(\w+).*", r"crates/\1/specs/\2.antt", left.pop())
         if path in CODE and path not in found:
             found.add(path)
-            left += re.findall(r"^(?:pub )?use Rattle\.([\w.]+)\.\{", CODE[path], re.M)
+            left += imports_of(CODE[path])
     return found
 
 
 def check_help():
     """PROGRAMS and `--help` say the same of each call."""
     calls = re.search(r'const CALLS: &str = "\n(.*?)\n\n', CODE["crates/cli/src/program/help.rt"], re.S)[1]
-    table = re.search(r"## Calls\n(.*?)\n\nP is", read("docs/PROGRAMS.md"), re.S)[1]
+    table = re.search(r"^\| Call \| .*\n((?:\|.*\n)+)", read("docs/PROGRAMS.md"), re.M)[1]
     rows = re.findall(r"^\| `(.*?)` \| (.*?) \|", table, re.M)
     check(rows == re.findall(r"^(\S+) +(.*)", calls, re.M), f"PROGRAMS: the calls are not those of --help: {rows}")
 
 
 def check_versions():
-    """C names the version of the interface, and PROGRAMS that of the programs."""
+    """The pages name the version of the interface of C, and PROGRAMS that of the programs."""
     interface = re.search(r"^#define FD_VERSION (\d+)$", read("c/fixed_decimal.h"), re.M)[1]
-    for text in [f"libfixed_decimal.so.{interface},", f"it is {interface}, as `FD_VERSION`"]:
+    for text in [f"libfixed_decimal.so.{interface}", f"it is {interface}, as `FD_VERSION`"]:
         check(text in read("docs/C.md"), f"docs/C.md: {text}")
+    for document in set(DOCUMENTS) - {"CHANGELOG.md"}:
+        for found in re.findall(r"\blibfixed_decimal\.so\.(\d+)", read(document)):
+            check(found == interface, f"{document}: libfixed_decimal.so.{found}, but the version is {interface}")
     version = re.search(r'const VERSION: &str = "(.*)";', CODE["crates/cli/src/program/help.rt"])[1]
-    check(f"`plural {version}`" in read("docs/PROGRAMS.md"), f"docs/PROGRAMS.md: `plural {version}`")
+    check(f"plural {version}" in read("docs/PROGRAMS.md"), f"docs/PROGRAMS.md: plural {version}")
 
 
 def check_counts():
@@ -214,44 +274,23 @@ def check_wrong_bodies():
 
 
 def check_design():
-    """DESIGN's table has each module of each crate, and each file of definitions and of lemmas once, but those that are
-    named after a module."""
-    table = {crate: ([], [], []) for crate in CRATES}
-    for line in read("docs/DESIGN.md").splitlines():
-        cells = line.strip("|").split("|")
-        crate = (quoted(cells[0]) or [""])[0].split("::")[0]
-        if line.startswith("|") and len(cells) == 4 and crate in table:
-            first, *others = quoted(cells[0])
-            folder = first.replace("::", "/src/", 1).replace("::", "/")
-            modules = [os.path.basename(folder), *others]
-            for name in modules:
-                path = f"crates/{os.path.dirname(folder)}/{name}.rt"
-                check(path in FILES, f"DESIGN: there is no module {path}")
-            for names, more in zip(table[crate], [modules + quoted(cells[1]), *(re.findall(r"\w+", it) for it in cells[2:])]):
-                names += more
-            for name in set(re.findall(r"\w+", cells[3])) - {"Calling"}:
-                path = f"crates/{crate}/proofs/lemmas/{modules[0]}/{name}.antt"
-                check(path in FILES, f"DESIGN: there is no file {path}")
-    for crate, (modules, *cited) in table.items():
-        stems = lambda kind: [os.path.basename(path).rsplit(".", 1)[0] for path in FILES
-                              if path.startswith(f"crates/{crate}/{kind}/") and path.endswith((".rt", ".antt"))]
-        for name in stems("src"):
-            check(name in modules + ["lib"], f"DESIGN: the module {name} of {crate} is missing")
-        plain = {"".join(word.capitalize() for word in name.split("_")) for name in stems("src")}
-        for kind, names in zip(["specs", "proofs"], cited):
-            found = sorted({it for it in stems(kind) if it[0].isupper()} - {"Lib", "Answers", "Invariants", "Proof"} - plain)
-            check(sorted(names) == found, f"DESIGN: {kind} of {crate}: missing {sorted(set(found) - set(names))}, not there "
-                  f"{sorted(set(names) - set(found))}, twice {sorted({it for it in names if names.count(it) > 1})}")
+    """Each file that DESIGN names is there, and each module says in its first comment what it holds."""
+    for name in set(re.findall(r"`([\w./]+\.(?:rt|antt|pyi?|h|c|rs|sh|tsv|txt))`", read("docs/DESIGN.md"))):
+        check(any(f"/{path}".endswith(f"/{name}") for path in FILES), f"DESIGN: there is no file {name}")
+    for path in FILES:
+        if re.fullmatch(r"crates/\w+/README\.md", path):
+            bare = re.findall(r"^\| (`.*?`) \| *\|", read(path), re.M)
+            check(not bare, f"{path}: no comment says what {bare} hold")
 
 
 def check_examples():
-    """Each `$ ..` of README and PROGRAMS writes what follows it, if its program is built. `cat FILE` shows an input, and
-    `tests/setting_up.sh` runs the command with `rt`."""
+    """Each `$ ..` of README and PROGRAMS writes what follows it, if its program is built. `cat FILE` shows an input.
+    `tests/setting_up.sh` runs the command with `rt`, and `tests/guide.sh` the commands of the guide."""
     folders = {name: os.path.abspath(f"crates/{name}/out") for name in ["fixdec", "fixdec_lines", "plural"]}
     unbuilt = {name for name, folder in folders.items() if not os.access(f"{folder}/{name}", os.X_OK)}
     for document in ["README.md", "docs/PROGRAMS.md"]:
         with tempfile.TemporaryDirectory() as room:
-            for block in re.findall(r"```\n(\$ .*?)```", read(document), re.S):
+            for block in [text for _, text in blocks(document) if text.startswith("$ ")]:
                 for command, wanted in re.findall(r"^\$ (.*)\n((?:(?!\$ ).*\n)*)", block, re.M):
                     if command.startswith("cat "):
                         with open(f"{room}/{command[4:]}", "w", encoding="utf-8") as file:
@@ -263,8 +302,8 @@ def check_examples():
                         check(written == wanted, f"{document}: `{command}` writes {written!r}")
 
 
-for part in [check_links, check_quotes, check_proved, check_public, check_code, check_rows, check_help, check_versions,
-             check_counts, check_wrong_bodies, check_design, check_examples]:
+for part in [check_scripts, check_links, check_quotes, check_proved, check_public, check_code, check_rows, check_help,
+             check_versions, check_counts, check_wrong_bodies, check_design, check_examples]:
     part()
 print("\n".join([*failures, f"{passes} passed, {len(failures)} failed"]))
 sys.exit(1 if failures else 0)

@@ -1,7 +1,7 @@
 #!/usr/bin/env python3
-"""Checks that the modules of each crate use each other without a cycle: `python3 tools/check_modules.py`. The last
-line is `N passed, M failed`. With names of crates it prints their graphs: the modules that each one uses, and by which
-names.
+"""Checks that the modules of each crate use each other without a cycle, and that the reference is what
+tools/make_reference.py makes of them: `python3 tools/check_modules.py`. The last line is `N passed, M failed`. With names
+of crates it prints their graphs: the modules that each one uses, and by which names.
 
 A module uses the modules that define the names in its code, whether a name is reached by `crate::`, `super::`, `self::`
 or a re-export. It also uses a module whose `impl` has a method that it calls, if no other module has a method of that
@@ -177,7 +177,12 @@ def main(names):
             more = " ".join(["; with it:", *sorted(map(text, others - set(cycle)))]) if others - set(cycle) else ""
             print(f"{crate}: a cycle of modules: {' -> '.join(map(text, cycle))}{more}")
         failed += bool(found)
-    print(f"{len(names or crates) - failed} passed, {failed} failed")
+    if not names:
+        from make_reference import check  # It imports this module.
+        found = check()
+        print("\n".join(found), end="\n" * bool(found))
+        failed += bool(found)
+    print(f"{len(names or [*crates, 'the reference']) - failed} passed, {failed} failed")
     return 1 if failed else 0
 
 

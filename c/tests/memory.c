@@ -74,6 +74,53 @@ static uint32_t convert_read(void) {
 static uint32_t read_by_skeleton(void) {
     return fd_read_by_skeleton(BYTES(digits), BYTES("de"), BYTES("currency/EUR"), 1, buffer, ROOM).status;
 }
+/* Kept formatters; parts that do not change on an error. */
+static fd_formatter kept(void) {
+    fd_made made = fd_formatter_by_skeleton(BYTES("de"), BYTES("currency/EUR precision-increment/25"));
+    return made.formatter;
+}
+static uint32_t format_kept(void) {
+    const fd_formatter f = kept();
+    return fd_format(&f, BYTES(digits), buffer, ROOM).status;
+}
+static uint32_t short_format_kept(void) {
+    const fd_formatter f = kept();
+    fd_resolution options = fd_resolved(&f);
+    if (options.status != FD_OK || fd_status_text(FD_OVERFLOW, 1, 2, buffer, 0).count != 16) return 96;
+    return fd_format(&f, BYTES("-1234567.890123456"), buffer, ROOM).status;
+}
+static uint32_t parts_of(const char *number) {
+    static fd_part parts[256], old[256];
+    const fd_formatter f = kept();
+    memset(parts, 0x3C, sizeof parts);
+    memset(old, 0x3C, sizeof old);
+    fd_parted r = fd_format_parts(&f, BYTES(number), buffer, ROOM, parts, 256);
+    if (r.status != FD_OK && memcmp(parts, old, sizeof parts) != 0) return 95;
+    return r.status;
+}
+static uint32_t parts_kept(void) {
+    return parts_of(digits);
+}
+static uint32_t short_parts_kept(void) {
+    return parts_of("-1234567.890123456");
+}
+static uint32_t read_kept(void) {
+    const fd_formatter f = kept();
+    return fd_read(&f, BYTES(digits), 1, buffer, ROOM).status;
+}
+static uint32_t column_kept(void) {
+    const fd_formatter f = kept();
+    fd_column c = fd_format_column(&f, BYTES(lines), 1, buffer, ROOM);
+    if (c.failed) return 94;
+    memset(buffer, 0xC3, c.written);
+    return c.status;
+}
+static uint32_t short_column_kept(void) {
+    const fd_formatter f = kept();
+    fd_column c = fd_format_column(&f, BYTES("1\n22.5\nx\n"), 1, buffer, ROOM);
+    memset(buffer, 0xC3, c.written);
+    return c.status;
+}
 static uint32_t compare(void) {
     return fd_compare(BYTES(digits), (const uint8_t *)digits, 199).status;
 }
@@ -137,7 +184,10 @@ int main(void) {
                 {"fd_format_by_skeleton", format_by_skeleton, 1}, {"fd_convert, skeleton", convert_number, 1},
                 {"fd_read_by_skeleton", read_by_skeleton, 1}, {"fd_convert, read", convert_read, 1},
                 {"fd_format_number", format_number, 1}, {"fd_read_number", read_number, 1},
-                {"fd_skeleton", skeleton, 1},
+                {"fd_skeleton", skeleton, 1}, {"fd_format", format_kept, 1}, {"fd_format_parts", parts_kept, 1},
+                {"fd_read", read_kept, 1}, {"fd_format_column", column_kept, 1},
+                {"fd_format, short", short_format_kept, 0}, {"fd_format_parts, short", short_parts_kept, 0},
+                {"fd_format_column, short", short_column_kept, 0},
                 {"fd_format_number, short", short_format_number, 0},
                 {"fd_run, short", short_run, 0}, {"fd_run, 200 bytes", long_run, 0},
                 {"fd_convert, short", short_convert, 0},

@@ -32,9 +32,17 @@ static const struct { const char *sql, *result; } rows[] = {
     {"SELECT try_fixdec('x', 'shift:1') IS NULL, try_fixdec('1', 'shift:1')", "1|10"},
     {"SELECT try_fixdec(zeroblob(100)) IS NULL", "1"},
     {"SELECT format_number('de', 'currency/EUR', 1234.5)", "1.234,50\u00a0€"},
-    {"SELECT format_number('de', 1234.5, 'minimumFractionDigits', 2, 'useGrouping', 'false')", "1234,50"},
-    {"SELECT read_number('de', '1.234,50', 'useGrouping', 'auto'), read_number('en', 'currency/EUR', '€5.00')",
+    {"SELECT format_number('de', 'minimumFractionDigits', 2, 'useGrouping', 'false', 1234.5)", "1234,50"},
+    {"SELECT read_number('de', 'useGrouping', 'auto', '1.234,50'), read_number('en', 'currency/EUR', '€5.00')",
      "1234.50|5.00"},
+    {"SELECT group_concat(format_number('de', 'currency/' || column1, column2), ' ') "
+     "FROM (VALUES ('EUR', 1), ('EUR', 2), ('USD', 3), ('EUR', 4))",
+     "1,00\u00a0€ 2,00\u00a0€ 3,00\u00a0$ 4,00\u00a0€"},
+    {"SELECT group_concat(format_number('en', 'style', 'currency', 'currency', column1, column2), ' ') || "
+     "format_number('en', printf('%.*c', 300, ' '), 5) FROM (VALUES ('EUR', 1), ('EUR', 2), ('JPY', 3))",
+     "€1.00 €2.00 ¥35"},
+    {"SELECT count(try_read_number('de', 'currency/' || column1, '1,50' || char(160) || '€')) "
+     "FROM (VALUES ('EUR'), ('USD'), ('EUR'))", "2"},
     {"SELECT plural('en:ordinal', 22), plural('one: i = 1', '1')", "two|one"},
     {"SELECT group_concat(x, ' ') FROM (SELECT column1 AS x FROM (VALUES ('10'), ('b'), ('9.50'), ('-1e2'), "
      "('12345678901234567890.5'), ('12345678901234567890.25'), ('a')) ORDER BY column1 COLLATE decimal_compare)",

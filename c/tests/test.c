@@ -1,31 +1,5 @@
 /* Each export at each status, and at each capacity from 0 to 8 beyond each text, in exact blocks of the heap. */
-#include "../fixed_decimal.h"
-#include <stdio.h>
-#include <stdlib.h>
-#include <string.h>
-
-static int failures, checks;
-#define CHECK(condition)                                                  \
-    do {                                                                  \
-        checks++;                                                         \
-        if (!(condition)) {                                               \
-            failures++;                                                   \
-            fprintf(stderr, "line %d: %s\n", __LINE__, #condition);       \
-        }                                                                 \
-    } while (0)
-#define B(s) (const uint8_t *)(s), sizeof(s) - 1
-#define BYTES(s) (const uint8_t *)(s), strlen(s)
-
-static int gives(fd_result r, const uint8_t *buffer, const char *text) {
-    size_t n = strlen(text);
-    return r.status == FD_OK && r.at == 0 && r.count == n && memcmp(buffer, text, n) == 0;
-}
-
-static int all(const uint8_t *p, size_t n, uint8_t b) {
-    for (size_t i = 0; i < n; i++)
-        if (p[i] != b) return 0;
-    return 1;
-}
+#include "check.h"
 
 /* A text is written to the start of a buffer of 0xA5 with this room, if it fits. */
 static void check_text(fd_result r, const uint8_t *buffer, size_t size, size_t room, const char *text) {
@@ -433,6 +407,9 @@ static void test_option_errors(void) {
         {OPTIONS(.rounding_mode = 9), FD_UNKNOWN_OPTION, 0},
         {OPTIONS(.rounding_priority = 3), FD_UNKNOWN_OPTION, 0},
         {OPTIONS(.trailing_zeros = 2), FD_UNKNOWN_OPTION, 0},
+        {OPTIONS(.numbering_system = "la              "), FD_UNKNOWN_OPTION, 0},
+        {OPTIONS(.numbering_system = "arab-x          "), FD_UNKNOWN_OPTION, 0},
+        {OPTIONS(.numbering_system = "arab"), FD_UNKNOWN_OPTION, 0},
         {OPTIONS(.minimum_integer_digits = 22, .rounding_increment = 3), FD_DIGIT_OPTIONS, FD_INTEGER_DIGITS},
         {OPTIONS(.minimum_integer_digits = 0), FD_DIGIT_OPTIONS, FD_INTEGER_DIGITS},
         {OPTIONS(.rounding_increment = 3), FD_DIGIT_OPTIONS, FD_INCREMENT},
@@ -719,6 +696,5 @@ int main(void) {
     test_read_by_skeleton();
     test_skeleton_forms();
     test_read_forms();
-    printf("%d checks, %d failures\n", checks, failures);
-    return failures != 0;
+    return report();
 }

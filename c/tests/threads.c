@@ -4,6 +4,8 @@
 #include <stdio.h>
 #include <string.h>
 
+static fd_formatter german;
+
 static void *work(void *arg) {
     size_t bad = 0;
     long seed = (long)(size_t)arg;
@@ -18,6 +20,8 @@ static void *work(void *arg) {
         fd_result r = fd_convert((uint8_t *)text, (size_t)n, i % 2 ? &by_tag : &by_number, &pad, 1,
                                  (const uint8_t *)"de", 2, out, 40);
         bad += r.status != 0 || r.count != (size_t)m || memcmp(out, want, (size_t)m) != 0;
+        r = fd_format(&german, (uint8_t *)text, (size_t)n, out, 40);
+        bad += r.status != 0 || r.count != (size_t)m - 2 || memcmp(out, want, (size_t)m - 2) != 0;
         bad += fd_category_of(rules, (uint8_t *)text, (size_t)n).value != FD_OTHER;
     }
     return (void *)bad;
@@ -26,12 +30,13 @@ static void *work(void *arg) {
 int main(void) {
     pthread_t threads[4];
     size_t bad = 0;
+    german = fd_formatter_by_skeleton((const uint8_t *)"de", 2, (const uint8_t *)".000", 4).formatter;
     for (size_t i = 0; i < 4; i++) pthread_create(&threads[i], 0, work, (void *)(i + 1));
     for (int i = 0; i < 4; i++) {
         void *found;
         pthread_join(threads[i], &found);
         bad += (size_t)found;
     }
-    printf("200000 conversions in 4 threads, %zu wrong\n", bad);
+    printf("400000 texts in 4 threads, %zu wrong\n", bad);
     return bad != 0;
 }

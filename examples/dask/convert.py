@@ -1,7 +1,7 @@
 #!/usr/bin/env python3
 """Converts a column of tables that one machine does not hold: `fixdec_lines` over blocks of lines, by Dask.
 
-    convert.py [--scheduler ADDRESS] [--block BYTES] [--program PROGRAM] FILE.. -- WORD..
+    convert.py [--scheduler ADDRESS] [--block BYTES] [--program PROGRAM] [--out FOLDER] FILE.. -- WORD..
 
 The words are those of `fixdec_lines`, and the output is what it writes for each file; with `header` the header is
 written once, and has to be the same in all files. Without a scheduler the blocks are converted on the processors of
@@ -9,11 +9,17 @@ this machine; else the workers read the files by the same paths, and PROGRAM, by
 An error line begins with its file, and the number of the line is that in the file. `records` is refused, since a block
 ends at a line feed.
 
+With `--out` the workers write the output: each block is a file of FOLDER, part-00000 and so on, and `cat part-*` is the
+output. FOLDER is missing or empty at the start. A worker renames a part when it is whole. If a block ends the run, the
+parts after it are removed.
+
 Statuses are those of `fixdec_lines`. If the program does not convert a block, as when it is killed twice, nothing of
 the block is written: a line names the file and the first line of the block, and the status is 3. A block that cannot be
-read, or whose file has another size than at the start, is reported in the same way.
+read or written, or whose file has another size than at the start, is reported in the same way.
 """
 import argparse
+import contextlib
+import functools
 import logging
 import os
 import re
@@ -21,6 +27,7 @@ import signal
 import subprocess
 import sys
 import threading
+import uuid
 from collections import deque
 from itertools import islice
 
@@ -44,12 +51,28 @@ def reason(error):
     return " ".join(text.split())
 
 
+def in_memory():
+    """A new file in memory."""
+    return open(os.memfd_create("lines"), "w+b")
+
+
 def run(program, words, lines):
-    """Runs the program on lines. One that is killed by a signal is run once more."""
-    done = subprocess.run([program, *words], input=lines, capture_output=True)
-    if done.returncode < 0:
-        done = subprocess.run([program, *words], input=lines, capture_output=True)
-    return done
+    """Runs the program on lines: its output, status and errors. One that is killed by a signal is run once more."""
+    # Through pipes `subprocess` would write 4 KiB of the lines at a time, and read 32 KiB of the output.
+    with in_memory() as file, in_memory() as output:
+        file.write(lines)
+        for _ in range(2):
+            file.seek(0)
+            output.seek(0)
+            output.truncate()
+            try:
+                done = subprocess.run([program, *words], stdin=file, stdout=output, stderr=subprocess.PIPE)
+            except OSError as error:
+                raise OSError(f"{program}: {reason(error)}") from None
+            if done.returncode >= 0:
+                break
+        output.seek(0)
+        return output.read(), done.returncode, done.stderr
 
 
 def has_mark(file):
@@ -83,20 +106,33 @@ def lines_of(path, size, start, end, has_header):
     return lines
 
 
-def convert(program, words, header, copied, path, size, start, end):
-    """Converts a block: its output, status and errors, and the number of its lines."""
+def write_part(path, output):
+    """Writes a part, under another name until it is whole."""
+    folder, name = os.path.split(path)
+    unfinished = f"{folder}/.{name}.{uuid.uuid4().hex}"
+    try:
+        with open(unfinished, "xb") as file:
+            file.write(output)
+        os.replace(unfinished, path)
+    except OSError as error:
+        with contextlib.suppress(OSError):
+            os.remove(unfinished)
+        raise OSError(f"{path}: {reason(error)}") from None
+
+
+def convert(program, words, header, copied, part, path, size, start, end):
+    """Converts a block: its output, status and errors, and the number of its lines. A part has the output, if given."""
+    output, status, errors = b"", 0, b""
     try:
         lines = lines_of(path, size, start, end, bool(header))
+        if lines:
+            output, status, errors = run(program, words, header + lines)
+        if part and status in (0, 1):
+            write_part(part, output[copied:])
     except OSError as error:
         return b"", reason(error), b"", 0
-    if not lines:
-        return b"", 0, b"", 0
-    try:
-        done = run(program, words, header + lines)
-    except OSError as error:
-        return b"", f"{program}: {reason(error)}", b"", 0
-    count = lines.count(b"\n") + (not lines.endswith(b"\n"))
-    return done.stdout[copied:], done.returncode, done.stderr, count
+    count = lines.count(b"\n") + (lines[-1:] not in (b"\n", b""))
+    return b"" if part else output[copied:], status, errors, count
 
 
 def blocks(files, count, header):
@@ -106,9 +142,8 @@ def blocks(files, count, header):
             yield path, size, start, min(start + count, size)
 
 
-def in_order(client, window, tasks):
+def in_order(client, under_way, window, tasks):
     """The results of tasks in order, of which at most `window` are under way."""
-    tasks, under_way = iter(tasks), deque()
     while True:
         for place, work in islice(tasks, window - len(under_way)):
             # A block may be converted again, on another worker, if its worker ends.
@@ -121,6 +156,33 @@ def in_order(client, window, tasks):
         except Exception as error:
             result = b"", f"{type(error).__name__}: {reason(error)}", b"", 0
         yield place, result
+
+
+class Parts:
+    """The parts of the output in a folder, one for each block."""
+
+    def __init__(self, folder, count):
+        self.folder, self.digits = folder, max(5, len(str(count - 1)))
+
+    def path(self, number):
+        return f"{self.folder}/part-{number:0{self.digits}}"
+
+    def keep(self, count, late, header):
+        """Keeps the first `count` parts: removes `late` parts after them, and what is not whole.
+
+        If there is no part, one has the header. On a shared file system a list of the folder may lack new names.
+        """
+        try:
+            for number in range(count, count + late):
+                with contextlib.suppress(FileNotFoundError):
+                    os.remove(self.path(number))
+            for name in os.listdir(self.folder):
+                if name.startswith(".part-"):
+                    os.remove(f"{self.folder}/{name}")
+            if not count:
+                write_part(self.path(0), header)
+        except OSError as error:
+            raise Failure(f"{self.folder}: {reason(error)}")
 
 
 def write(output):
@@ -141,6 +203,10 @@ def tell(lines):
         pass
 
 
+def tell_line(line):
+    tell(os.fsencode(line) + b"\n")
+
+
 def report(path, before, errors):
     """Writes error lines, which end at line feeds alone, with their file and their numbers in it."""
     for line in errors.removesuffix(b"\n").split(b"\n") if errors else ():
@@ -155,27 +221,44 @@ def ending(program, status):
     return f"{program}: " + (f"killed by signal {-status}" if status < 0 else f"ended with status {status}")
 
 
-def convert_all(client, options, header, copied):
-    """Writes the blocks in order, up to the first that fails without `skip` or `keep`, and returns the status."""
-    window = 4 * max(sum(client.nthreads().values()), 1)
-    tasks = (
-        (block[0], (convert, options.program, options.words, header, copied, *block))
-        for block in blocks(options.sizes, options.block, header)
-    )
-    status, path, before = 0, None, 0
-    for block_path, (output, block_status, errors, count) in in_order(client, window, tasks):
+def write_all(results, options, header):
+    """Writes results in order, up to the first that fails without `skip` or `keep`: the status, and how many."""
+    status, path, before, number = 0, None, 0, 0
+    for number, (block_path, (output, block_status, errors, count)) in enumerate(results, 1):
         if block_path != path:
             path, before = block_path, 0
         if block_status not in (0, 1):
             report(path, before, errors)
             first = before + 1 + bool(header)
-            raise Failure(f"{path}: the block from line {first} on: {ending(options.program, block_status)}")
+            tell_line(f"{path}: the block from line {first} on: {ending(options.program, block_status)}")
+            return SYSTEM, number - 1
         write(output)
         report(path, before, errors)
         status = max(status, block_status)
         if block_status and not {"skip", "keep"} & set(options.words):
             break
         before += count
+    return status, number
+
+
+def convert_all(client, options, header, written):
+    """Converts the blocks, and returns the status. Of the header `written` is the output."""
+    found = functools.partial(blocks, options.sizes, options.block, header)
+    parts = options.out and Parts(options.out, sum(1 for _ in found()))
+    work = convert, options.program, options.words, header
+    tasks = (
+        # The first part begins with the header.
+        (block[0], (*work, len(written) if number or not parts else 0, parts and parts.path(number), *block))
+        for number, block in enumerate(found())
+    )
+    window, under_way = 4 * max(sum(client.nthreads().values()), 1), deque()
+    status, count = write_all(in_order(client, under_way, window, tasks), options, header)
+    if parts:
+        # Blocks after one that fails may still write their parts, and so may that one if it was lost.
+        for _, future in under_way:
+            with contextlib.suppress(Exception):
+                future.result()
+        parts.keep(count, 1 + len(under_way), written)
     return status
 
 
@@ -193,11 +276,25 @@ def block_size(text):
     return int(text)
 
 
+def empty_folder(text):
+    """The path of a folder that is missing or empty."""
+    path = os.path.abspath(text)
+    try:
+        if text and not (os.path.lexists(path) and os.listdir(path)):
+            return path
+    except NotADirectoryError:
+        pass
+    except OSError as error:
+        raise Failure(f"{path}: {reason(error)}")
+    raise argparse.ArgumentTypeError(f"not an empty folder: {text}")
+
+
 def options_of(arguments):
     options = Options(prog="convert.py", description=__doc__.partition("\n")[0], allow_abbrev=False)
     options.add_argument("--scheduler", help="the address of a Dask scheduler, as tcp://host:8786")
     options.add_argument("--block", type=block_size, default=16 << 20, help="bytes of a block, by default 16 MiB")
     options.add_argument("--program", default="fixdec_lines")
+    options.add_argument("--out", type=empty_folder, metavar="FOLDER", help="the workers write parts of the output there")
     options.add_argument("files", nargs="+", metavar="FILE")
     split = arguments.index("--") if "--" in arguments else len(arguments)
     found = options.parse_args(arguments[:split])
@@ -232,6 +329,13 @@ def header_of(options):
     return headers[0][1] if headers else b""
 
 
+def make_folder(path):
+    try:
+        os.makedirs(path, exist_ok=True)
+    except OSError as error:
+        raise Failure(f"{path}: {reason(error)}")
+
+
 def connected(scheduler):
     try:
         if scheduler:
@@ -251,27 +355,30 @@ def close(client):
 
 
 def convert_files(arguments):
-    if not sys.stdout:
-        raise Failure("output: standard output is closed")
     options = options_of(arguments)
+    if not options.out and not sys.stdout:
+        raise Failure("output: standard output is closed")
     header = header_of(options)
     # The header alone: what is written of it, and errors of words.
     try:
-        first = run(options.program, options.words, header)
+        written, status, errors = run(options.program, options.words, header)
     except OSError as error:
-        raise Failure(f"{options.program}: {reason(error)}")
-    write(first.stdout)
-    if first.returncode == 1 and header:
-        report(next(path for path, size in options.sizes if size), 0, first.stderr)
+        raise Failure(reason(error))
+    if not options.out:
+        write(written)
+    if status == 1 and header:
+        report(next(path for path, size in options.sizes if size), 0, errors)
     else:
-        tell(first.stderr)
-    if first.returncode not in (0, 1, 2):
-        raise Failure(ending(options.program, first.returncode))
-    if first.returncode:
-        return first.returncode
+        tell(errors)
+    if status not in (0, 1, 2):
+        raise Failure(ending(options.program, status))
+    if status:
+        return status
+    if options.out:
+        make_folder(options.out)
     client = connected(options.scheduler)
     try:
-        return convert_all(client, options, header, len(first.stdout))
+        return convert_all(client, options, header, written)
     finally:
         close(client)
 
@@ -285,7 +392,7 @@ def main():
     try:
         return convert_files(sys.argv[1:])
     except Failure as failure:
-        tell(os.fsencode(failure.line) + b"\n")
+        tell_line(failure.line)
         return failure.status
 
 

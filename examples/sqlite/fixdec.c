@@ -1,10 +1,10 @@
 /* Decimals in SQLite: fixdec(text, word, ..) with the words of the programs; format_number and read_number with
- * (locale, skeleton, text), or with (locale, text, name, value, ..) by options of Intl.NumberFormat; plural(locale or
- * rules, text); and the collation decimal_compare. NULL in, NULL out; an error is an SQL error. try_fixdec and
+ * (locale, skeleton, number), or with (locale, name, value, .., number) by options of Intl.NumberFormat; plural(locale
+ * or rules, number); and the collation decimal_compare. NULL in, NULL out; an error is an SQL error. try_fixdec and
  * try_read_number are NULL where only this text is wrong, or a call cannot be made on it.
  *   gcc -shared -fPIC -I ../../c fixdec.c ../../c/out/libfixed_decimal.a -o fixdec.so
  *   SELECT fixdec('1234.565', 'round:-2:half-even:1', 'format:de');  -- 1.234,56
- *   SELECT format_number('de', 1234.5, 'style', 'currency', 'currency', 'EUR');  -- 1.234,50 € */
+ *   SELECT format_number('de', 'style', 'currency', 'currency', 'EUR', 1234.5);  -- 1.234,50 € */
 #include <fixed_decimal.h>
 #include <sqlite3ext.h>
 #include <stddef.h>
@@ -46,20 +46,13 @@ static int has(bytes text, int byte) {
     return memchr(text.start, byte, text.count) != NULL;
 }
 
-/* The line of each status. */
-static const char *const reasons[] = {"", "start: syntax", "start: limit", "", "call %d: syntax",
-    "call %d: limit", "call %d: overlap", "call %d: overflow", "", "no such call: %d", "unknown locale",
-    "unknown option", "", "", "rules: syntax at %d", "rules: limit at %d", "skeleton: syntax at %d",
-    "skeleton: unsupported at %d", "unknown numbering system", "skeleton: no reader", "no such numbers of digits"};
-
-/* Returns a text, or an error after this number of calls. */
-static void finish(sqlite3_context *context, uint32_t status, size_t at, size_t calls, const char *text, size_t count) {
-    int formats = status == FD_OVERFLOW && at == calls;
-    char line[64];
-    if (status == FD_OK) return sqlite3_result_text64(context, text, count, SQLITE_TRANSIENT, SQLITE_UTF8);
-    if (status == FD_MEMORY) return sqlite3_result_error_nomem(context);
-    sqlite3_snprintf(sizeof line, line, formats ? "format: overflow" : reasons[status], (int)at);
-    fail(context, line);
+/* Makes the SQL error of a status after this number of calls, and returns 0. */
+static int fail_status(sqlite3_context *context, uint32_t status, size_t at, size_t calls) {
+    uint8_t line[80];
+    fd_result answer = fd_status_text(status, at, calls, line, sizeof line);
+    if (status == FD_MEMORY) sqlite3_result_error_nomem(context);
+    else sqlite3_result_error(context, (char *)line, (int)answer.count);
+    return 0;
 }
 
 /* ---- Words. */
@@ -70,7 +63,7 @@ typedef struct { fd_call *calls; size_t count; fd_forms forms; uint8_t *texts; s
 /* Adds a word: `read:..` is the first one, and `format:..` the last one. An SQL error: 0. */
 static int add_word(sqlite3_context *context, job *j, bytes text, int is_first, int is_last) {
     fd_word word = fd_parse_word(BYTES(text));
-    if (word.status == FD_UNKNOWN_LOCALE) return fail(context, reasons[FD_UNKNOWN_LOCALE]);
+    if (word.status == FD_UNKNOWN_LOCALE) return fail_status(context, word.status, 0, 0);
     if (word.status != FD_OK) return fail(context, "no such call");
     if ((word.kind == FD_READ_WORD && !is_first) || (word.kind == FD_FORMAT_WORD && !is_last))
         return fail(context, "no such call");
@@ -155,17 +148,93 @@ static int set_option(named *o, bytes name, bytes value) {
     return 0;
 }
 
-/* Parses names of options with their values. An SQL error: 0. */
-static int parse_options(sqlite3_context *context, named *o, int count, sqlite3_value **values) {
+/* Parses names of options, each with its value after it. An SQL error: 0. */
+static int parse_options(sqlite3_context *context, fd_number_options *number, int count, sqlite3_value **values) {
+    named o = {*number, 0};
     bytes name, value;
-    if (count < 0 || count % 2) return fail(context, "a locale, a text, and names with values");
+    if (count < 0 || count % 2) return fail(context, "a locale, names with values, and a number");
     for (int i = 0; i < count; i += 2) {
         if (!get(context, values[i], &name) || !get(context, values[i + 1], &value)) return 0;
-        if (sqlite3_value_type(values[i + 1]) == SQLITE_BLOB || !set_option(o, name, value))
+        if (sqlite3_value_type(values[i + 1]) == SQLITE_BLOB || !set_option(&o, name, value))
             return fail(context, "no such option");
     }
-    if (o->number.style == FD_PERCENT) o->number.scale = 2;
-    if (o->number.notation == FD_COMPACT_SHORT) o->number.notation += o->is_long;
+    *number = o.number;
+    if (number->style == FD_PERCENT) number->scale = 2;
+    if (number->notation == FD_COMPACT_SHORT) number->notation += o.is_long;
+    return 1;
+}
+
+/* ---- Formatters. */
+
+/* A formatter, and the arguments before the number that it was made of, one after another: twice the number of bytes of
+ * each, and 1 more if it is a BLOB; then its bytes. */
+typedef struct { fd_formatter formatter; size_t count; uint8_t arguments[]; } kept;
+
+static uint64_t head_of(bytes argument, sqlite3_value *value) {
+    return 2 * (uint64_t)argument.count + (sqlite3_value_type(value) == SQLITE_BLOB);
+}
+
+/* Compares arguments with those of a kept formatter: 1 if they are the same, 0 if not, -1 with an SQL error. */
+static int is_made_of(sqlite3_context *context, const kept *k, int count, sqlite3_value **values) {
+    size_t at = 0;
+    for (int i = 0; i < count; i++) {
+        bytes argument;
+        if (!get(context, values[i], &argument)) return -1;
+        uint64_t head = head_of(argument, values[i]);
+        if (k->count - at < sizeof head || memcmp(k->arguments + at, &head, sizeof head) != 0) return 0;
+        at += sizeof head;
+        if (memcmp(k->arguments + at, argument.start, argument.count) != 0) return 0;
+        at += argument.count;
+    }
+    return at == k->count;
+}
+
+/* Keeps a formatter for the next row. If memory is out, or SQLite drops it, the next row makes another one. */
+static void keep(sqlite3_context *context, const fd_formatter *formatter, int count, sqlite3_value **values) {
+    bytes argument;
+    size_t size = 0;
+    for (int i = 0; i < count; i++) {
+        if (!get(context, values[i], &argument)) return;
+        size += sizeof(uint64_t) + argument.count;
+    }
+    kept *k = sqlite3_malloc64(sizeof *k + size);
+    if (!k) return;
+    k->formatter = *formatter, k->count = 0;
+    for (int i = 0; i < count && get(context, values[i], &argument); i++) {
+        uint64_t head = head_of(argument, values[i]);
+        memcpy(k->arguments + k->count, &head, sizeof head);
+        if (argument.count) memcpy(k->arguments + k->count + sizeof head, argument.start, argument.count);
+        k->count += sizeof head + argument.count;
+    }
+    sqlite3_set_auxdata(context, 0, k, sqlite3_free);
+}
+
+/* Makes a formatter of a locale and a skeleton, or of a locale and options. An SQL error: 0. */
+static int make_formatter(sqlite3_context *context, int has_skeleton, int count, sqlite3_value **values,
+                          fd_formatter *formatter) {
+    fd_number_options options = FD_NUMBER_OPTIONS;
+    bytes locale, skeleton;
+    fd_made made;
+    if (has_skeleton) {
+        if (!get(context, values[0], &locale) || !get(context, values[1], &skeleton)) return 0;
+        made = fd_formatter_by_skeleton(BYTES(locale), BYTES(skeleton));
+    } else {
+        if (!parse_options(context, &options, count - 1, values + 1) || !get(context, values[0], &locale)) return 0;
+        made = fd_formatter_by_options(BYTES(locale), &options);
+    }
+    *formatter = made.formatter;
+    return made.status == FD_OK || fail_status(context, made.status, made.at, 0);
+}
+
+/* Gets the formatter of the arguments before the number: that of the row before, or another one. An SQL error: 0. */
+static int get_formatter(sqlite3_context *context, int has_skeleton, int count, sqlite3_value **values,
+                         fd_formatter *formatter) {
+    const kept *k = sqlite3_get_auxdata(context, 0);
+    int is_kept = k ? is_made_of(context, k, count, values) : 0;
+    if (is_kept > 0) *formatter = k->formatter;
+    if (is_kept) return is_kept > 0;
+    if (!make_formatter(context, has_skeleton, count, values, formatter)) return 0;
+    keep(context, formatter, count, values);
     return 1;
 }
 
@@ -175,41 +244,35 @@ static int parse_options(sqlite3_context *context, named *o, int count, sqlite3_
 typedef struct {
     const char *name;
     int count;
-    enum { WORDS, FORMAT_SKELETON, READ_SKELETON, FORMAT_OPTIONS, READ_OPTIONS } kind;
-    int tries;
+    enum { WORDS, FORMAT, READ } kind;
+    int has_skeleton, tries;
 } function;
 static const function functions[] = {
-    {"fixdec", -1, WORDS, 0}, {"try_fixdec", -1, WORDS, 1},
-    {"format_number", 3, FORMAT_SKELETON, 0}, {"format_number", -1, FORMAT_OPTIONS, 0},
-    {"read_number", 3, READ_SKELETON, 0}, {"read_number", -1, READ_OPTIONS, 0},
-    {"try_read_number", 3, READ_SKELETON, 1}, {"try_read_number", -1, READ_OPTIONS, 1}};
+    {"fixdec", -1, WORDS, 0, 0}, {"try_fixdec", -1, WORDS, 0, 1},
+    {"format_number", 3, FORMAT, 1, 0}, {"format_number", -1, FORMAT, 0, 0},
+    {"read_number", 3, READ, 1, 0}, {"read_number", -1, READ, 0, 0},
+    {"try_read_number", 3, READ, 1, 1}, {"try_read_number", -1, READ, 0, 1}};
 
 /* What a function converts. */
-typedef struct { bytes text, locale, skeleton; job j; named o; } input;
+typedef struct { bytes text; job j; fd_formatter formatter; } input;
 
 /* Gets the arguments. An SQL error: 0. */
-static int get_input(sqlite3_context *context, int kind, input *in, int count, sqlite3_value **values) {
-    if (kind == WORDS)
+static int get_input(sqlite3_context *context, const function *called, input *in, int count, sqlite3_value **values) {
+    if (called->kind == WORDS)
         return get(context, values[0], &in->text) && parse_words(context, &in->j, count - 1, values + 1);
-    if (kind >= FORMAT_OPTIONS)
-        return parse_options(context, &in->o, count - 2, values + 2) && get(context, values[0], &in->locale)
-               && get(context, values[1], &in->text);
-    return get(context, values[0], &in->locale) && get(context, values[1], &in->skeleton)
-           && get(context, values[2], &in->text);
+    if (count < 2) return fail(context, "a locale, names with values, and a number");
+    return get_formatter(context, called->has_skeleton, count - 1, values, &in->formatter)
+           && get(context, values[count - 1], &in->text);
 }
 
 static fd_result run(int kind, const input *in, uint8_t *out, size_t room) {
     switch (kind) {
     case WORDS:
         return fd_convert(BYTES(in->text), &in->j.forms, in->j.calls, in->j.count, in->j.texts, in->j.used, out, room);
-    case FORMAT_SKELETON:
-        return fd_format_by_skeleton(BYTES(in->text), BYTES(in->locale), BYTES(in->skeleton), out, room);
-    case READ_SKELETON:
-        return fd_read_by_skeleton(BYTES(in->text), BYTES(in->locale), BYTES(in->skeleton), 0, out, room);
-    case FORMAT_OPTIONS:
-        return fd_format_number(BYTES(in->text), BYTES(in->locale), &in->o.number, out, room);
+    case FORMAT:
+        return fd_format(&in->formatter, BYTES(in->text), out, room);
     default:
-        return fd_read_number(BYTES(in->text), BYTES(in->locale), &in->o.number, 0, out, room);
+        return fd_read(&in->formatter, BYTES(in->text), 0, out, room);
     }
 }
 
@@ -221,19 +284,21 @@ static int is_of_text(uint32_t status) {
 static void convert(sqlite3_context *context, int count, sqlite3_value **values) {
     const function *called = sqlite3_user_data(context);
     int kind = called->kind;
-    input in = {.o = {FD_NUMBER_OPTIONS, 0}};
+    input in = {.text = {NULL, 0}};
     uint8_t buffer[128], *out = buffer;
     fd_result answer = {.status = FD_BUFFER_TOO_SMALL, .count = sizeof buffer};
     if ((kind == WORDS && count == 0) || is_any_null(count, values)) return;
-    if (get_input(context, kind, &in, count, values)) {
+    if (get_input(context, called, &in, count, values)) {
         answer = run(kind, &in, buffer, sizeof buffer);
         if (answer.status == FD_BUFFER_TOO_SMALL && (out = sqlite3_malloc64(answer.count)))
             answer = run(kind, &in, out, answer.count);
         if (!out) sqlite3_result_error_nomem(context);
-        else if (kind == READ_OPTIONS && answer.status == FD_UNREADABLE_FORMAT)
+        else if (answer.status == FD_OK)
+            sqlite3_result_text64(context, (char *)out, answer.count, SQLITE_TRANSIENT, SQLITE_UTF8);
+        else if (answer.status == FD_UNREADABLE_FORMAT && kind == READ && !called->has_skeleton)
             fail(context, "no reader of such numbers");
         else if (!called->tries || !is_of_text(answer.status))
-            finish(context, answer.status, answer.at, in.j.count, (char *)out, answer.count);
+            fail_status(context, answer.status, answer.at, in.j.count);
     }
     if (out != buffer) sqlite3_free(out);
     sqlite3_free(in.j.calls);
@@ -246,7 +311,8 @@ static void plural(sqlite3_context *context, int count, sqlite3_value **values) 
     fd_unsigned number = fd_rules(BYTES(rules)); /* an unknown locale has the number 0: fd_category_of says so too */
     fd_number answer = number.value || number.status ? fd_category_of(number.value, BYTES(text))
                                                      : fd_category(BYTES(rules), BYTES(text));
-    finish(context, answer.status, answer.at, 0, names[answer.value], strlen(names[answer.value]));
+    if (answer.status == FD_OK) sqlite3_result_text(context, names[answer.value], -1, SQLITE_STATIC);
+    else fail_status(context, answer.status, answer.at, 0);
 }
 
 /* By value; texts that are no decimals are after all decimals, by bytes. Out of memory, it interrupts the statement: a

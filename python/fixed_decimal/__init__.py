@@ -4,13 +4,15 @@
 '1.234,56'
 >>> column(["250", "5"], "shift:-2", format="de")
 ['2,50', '0,05']
+>>> NumberFormat("de", style="currency", currency="EUR").format("1234.5")
+'1.234,50\xa0€'
 """
 from ._errors import DecimalError
-from ._native import Decimal, __version__
+from ._native import Decimal, NumberFormat, __version__
 from ._native import column as _column
 from ._options import number_skeleton
 
-__all__ = ["Decimal", "DecimalError", "column", "number_skeleton"]
+__all__ = ["Decimal", "DecimalError", "NumberFormat", "column", "number_skeleton"]
 
 
 def column(texts, *calls, read=None, read_skeleton=None, lenient=False, format=None, skeleton=None, errors="raise",
@@ -23,12 +25,15 @@ def column(texts, *calls, read=None, read_skeleton=None, lenient=False, format=N
     ['+1234.56', '+7.00']
 
     With `read` the texts are as a locale writes them, also by a number skeleton, or leniently as people type them; and
-    with `format` the results, by a number skeleton or by options as `Decimal.format` takes them:
+    with `format` the results: by a `NumberFormat`, or by a locale, and a number skeleton or options as `Decimal.format`
+    takes them:
 
     >>> column(["1.234,50 €"], read="de", read_skeleton="currency/EUR", lenient=True, format="en-IN")
     ['1,234.50']
     >>> column(["5", "1234.5"], format="de", style="currency", currency="EUR")
     ['5,00\xa0€', '1.234,50\xa0€']
+    >>> column(["5", "1234567"], format=NumberFormat("en", notation="compact"))
+    ['5', '1.2M']
 
     As in `Decimal.format`, options round to three fraction digits by default (ECMA-402). With no options but
     `use_grouping` and `sign_display` all digits and zeros stay:

@@ -1,6 +1,6 @@
 import decimal
 from collections.abc import Iterable
-from typing import Literal, TypedDict, TypeVar, Unpack, final, overload
+from typing import Any, Literal, TypedDict, TypeVar, Unpack, final, overload
 
 _Mode = Literal["ceil", "floor", "expand", "trunc", "half-ceil", "half-floor", "half-expand", "half-trunc", "half-even"]
 _Display = Literal["auto", "never", "always", "except-zero", "negative"]
@@ -55,10 +55,10 @@ class Decimal:
     def format(self, locale: str, *, skeleton: None = None, **options: Unpack[_Options]) -> str: ...
     @overload
     @staticmethod
-    def read(text: str, locale: str, /, *, skeleton: str | None = None, lenient: bool = False) -> Decimal: ...
+    def read(text: str, locale: str, *, skeleton: str | None = None, lenient: bool = False) -> Decimal: ...
     @overload
     @staticmethod
-    def read(text: str, locale: str, /, *, lenient: bool = False, **options: Unpack[_Options]) -> Decimal: ...
+    def read(text: str, locale: str, *, lenient: bool = False, **options: Unpack[_Options]) -> Decimal: ...
     def plural(self, locale_or_rules: str, /) -> _Category: ...
     @overload
     def __round__(self, ndigits: None = None, /) -> int: ...
@@ -76,24 +76,44 @@ class Decimal:
     def __gt__(self, other: Decimal, /) -> bool: ...
     def __ge__(self, other: Decimal, /) -> bool: ...
 
+class _Part(TypedDict):
+    type: Literal[
+        "integer", "group", "decimal", "fraction", "minusSign", "plusSign", "percentSign", "currency", "literal",
+        "compact", "exponentSeparator", "exponentMinusSign", "exponentPlusSign", "exponentInteger",
+    ]
+    value: str
+
+@final
+class NumberFormat:
+    @overload
+    def __new__(cls, locale: str, *, skeleton: str | None = None) -> NumberFormat: ...
+    @overload
+    def __new__(cls, locale: str, *, skeleton: None = None, **options: Unpack[_Options]) -> NumberFormat: ...
+    def format(self, number: str | int | decimal.Decimal | Decimal, /) -> str: ...
+    def format_to_parts(self, number: str | int | decimal.Decimal | Decimal, /) -> list[_Part]: ...
+    def read(self, text: str, lenient: bool = False) -> Decimal: ...
+    def resolved_options(self) -> dict[str, Any]: ...
+    def __eq__(self, other: object, /) -> bool: ...
+    def __hash__(self) -> int: ...
+
 _Number = TypeVar("_Number", str, int, decimal.Decimal, Decimal)
 
 @overload
 def column(
     texts: Iterable[str | int | decimal.Decimal | Decimal], *calls: str, read: str | None = None,
-    read_skeleton: str | None = None, lenient: bool = False, format: str | None = None, skeleton: str | None = None,
-    errors: Literal["raise"] = "raise", **options: Unpack[_Options],
+    read_skeleton: str | None = None, lenient: bool = False, format: str | NumberFormat | None = None,
+    skeleton: str | None = None, errors: Literal["raise"] = "raise", **options: Unpack[_Options],
 ) -> list[str]: ...
 @overload
 def column(
     texts: Iterable[str | int | decimal.Decimal | Decimal], *calls: str, read: str | None = None,
-    read_skeleton: str | None = None, lenient: bool = False, format: str | None = None, skeleton: str | None = None,
-    errors: Literal["skip"], **options: Unpack[_Options],
+    read_skeleton: str | None = None, lenient: bool = False, format: str | NumberFormat | None = None,
+    skeleton: str | None = None, errors: Literal["skip"], **options: Unpack[_Options],
 ) -> list[str | None]: ...
 @overload
 def column(
     texts: Iterable[_Number], *calls: str, read: str | None = None, read_skeleton: str | None = None,
-    lenient: bool = False, format: str | None = None, skeleton: str | None = None, errors: Literal["keep"],
-    **options: Unpack[_Options],
+    lenient: bool = False, format: str | NumberFormat | None = None, skeleton: str | None = None,
+    errors: Literal["keep"], **options: Unpack[_Options],
 ) -> list[str | _Number]: ...
 def number_skeleton(**options: Unpack[_Options]) -> str: ...

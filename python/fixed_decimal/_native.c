@@ -1,10 +1,20 @@
-/* The class Decimal and columns, over fixed_decimal.h: an extension module of CPython. */
+/* The classes Decimal and NumberFormat, and columns, over fixed_decimal.h: an extension module of CPython. */
 #define PY_SSIZE_T_CLEAN
 #include <Python.h>
 #include <pthread.h>
+#include <stdlib.h>
 #include <string.h>
 #include <unistd.h>
 #include <fixed_decimal.h>
+
+/* With Py_LIMITED_API one extension is for several versions of Python. It has functions instead of these macros. */
+#ifdef Py_LIMITED_API
+#define PyList_GET_ITEM PyList_GetItem
+#define PyList_GET_SIZE PyList_Size
+#define PyList_SET_ITEM PyList_SetItem
+#define PyMem_RawRealloc realloc
+#define PyMem_RawFree free
+#endif
 
 /* An immutable decimal: its text. Its key is read when it is first compared; not each number has one. */
 typedef struct {
@@ -14,10 +24,19 @@ typedef struct {
     char text[];
 } Decimal;
 
-static PyTypeObject DecimalType;
+/* How a locale writes numbers: immutable. It has a skeleton, or else the bytes of its options. They and the locale are
+ * of str and bytes exactly, so it is in no cycle, and releasing it runs no code of others. */
+typedef struct {
+    PyObject_HEAD
+    fd_formatter formatter;
+    PyObject *locale, *skeleton, *options;
+} NumberFormat;
+
+static PyTypeObject *decimal_type, *number_format_type;
 static PyObject *decimal_error;
 
-#define IS_DECIMAL(object) Py_IS_TYPE(object, &DecimalType)
+#define IS_DECIMAL(object) Py_IS_TYPE(object, decimal_type)
+#define IS_NUMBER_FORMAT(object) Py_IS_TYPE(object, number_format_type)
 #define BYTES(decimal) ((const uint8_t *)(decimal)->text), ((size_t)Py_SIZE(decimal))
 #define ROOM 128
 /* The number of bits of 10^32768: an int of more has more digits than a Decimal. */
@@ -26,7 +45,7 @@ static PyObject *decimal_error;
 static const char *const reasons[] = {"", "syntax", "limit", "memory", "operand syntax", "operand limit", "overlap",
     "overflow", "", "unknown call", "unknown locale", "unknown option", "not whole", "out of range", "rules syntax",
     "rules limit", "skeleton syntax", "skeleton unsupported", "unknown numbering system", "unreadable format",
-    "digit options", "no skeleton"};
+    "digit options", "no skeleton", "formatter", ""};
 static const char *const modes[] = {"ceil", "floor", "expand", "trunc", "half-ceil", "half-floor", "half-expand",
     "half-trunc", "half-even", NULL};
 static const char *const displays[] = {"auto", "never", "always", "except-zero", "negative", NULL};
@@ -65,9 +84,39 @@ static PyObject *fail_str(uint32_t status, size_t at, PyObject *text) {
     return NULL;
 }
 
+/* Raises TypeError: what is expected, and the type of the value. */
+static void *fail_kind(const char *expected, PyObject *value, const char *advice) {
+#ifdef Py_LIMITED_API
+    PyObject *type = (PyObject *)Py_TYPE(value), *name = PyObject_GetAttrString(type, "__qualname__");
+    PyObject *module = name ? PyObject_GetAttrString(type, "__module__") : NULL;
+    if (module && PyUnicode_Check(module) && PyUnicode_CompareWithASCIIString(module, "builtins"))
+        PyErr_Format(PyExc_TypeError, "%s, not %U.%S%s", expected, module, name, advice);
+    else if (module)
+        PyErr_Format(PyExc_TypeError, "%s, not %S%s", expected, name, advice);
+    Py_XDECREF(module);
+    Py_XDECREF(name);
+    return NULL;
+#else
+    return PyErr_Format(PyExc_TypeError, "%s, not %.100s%s", expected, Py_TYPE(value)->tp_name, advice);
+#endif
+}
+
 /* Raises TypeError for a value that is no str. */
 static void *fail_type(const char *what, PyObject *value) {
-    return PyErr_Format(PyExc_TypeError, "%s is a str, not %.100s", what, Py_TYPE(value)->tp_name);
+    char expected[64];
+    snprintf(expected, sizeof expected, "%s is a str", what);
+    return fail_kind(expected, value, "");
+}
+
+/* The str of ASCII bytes. */
+static inline PyObject *ascii_str(const char *bytes, Py_ssize_t count) {
+#ifdef Py_LIMITED_API
+    return PyUnicode_DecodeASCII(bytes, count, NULL);
+#else
+    PyObject *made = PyUnicode_New(count, 127);
+    if (made) memcpy(PyUnicode_1BYTE_DATA(made), bytes, (size_t)count);
+    return made;
+#endif
 }
 
 /* The UTF-8 bytes of a str. One with a lone surrogate has none: DecimalError by the status. NULL with an exception. */
@@ -94,8 +143,15 @@ static int index_of(const char *const *words, PyObject *word, const char *what) 
     return -1;
 }
 
+/* Frees an object, which has a reference to its type. */
+static void dealloc(PyObject *self) {
+    PyTypeObject *type = Py_TYPE(self);
+    PyObject_Free(self);
+    Py_DECREF(type);
+}
+
 static Decimal *with_room(size_t count) {
-    Decimal *made = PyObject_NewVar(Decimal, &DecimalType, (Py_ssize_t)count);
+    Decimal *made = PyObject_NewVar(Decimal, decimal_type, (Py_ssize_t)count);
     if (made) made->state = UNREAD;
     return made;
 }
@@ -118,12 +174,6 @@ static PyObject *run(const uint8_t *text, size_t count, const fd_call *calls, si
     return fail_text(answer.status, answer.at, text, count);
 }
 
-static PyObject *parse(PyObject *text) {
-    size_t count;
-    const uint8_t *bytes = utf8_of(text, &count, "a text", FD_SYNTAX);
-    return bytes ? run(bytes, count, FD_NONE(fd_call), 0) : NULL;
-}
-
 /* The digits of an int. An int with more bits than 10^32768 is rejected before its digits are made. */
 static PyObject *text_of_int(PyObject *value) {
     int is_long;
@@ -139,16 +189,22 @@ static PyObject *text_of_int(PyObject *value) {
     return PyNumber_ToBase(value, 10);
 }
 
-/* decimal.Decimal, which is imported at first use: a borrowed reference. */
+/* What a module has by a name, imported at first use and kept: a borrowed reference. */
+static PyObject *imported(PyObject **kept, const char *module_name, const char *name) {
+    if (!*kept) {
+        PyObject *module = PyImport_ImportModule(module_name);
+        PyObject *found = module ? PyObject_GetAttrString(module, name) : NULL;
+        Py_XDECREF(module);
+        /* The import may have called this function. */
+        Py_XDECREF(*kept);
+        *kept = found;
+    }
+    return *kept;
+}
+
 static PyObject *python_decimal(void) {
     static PyObject *type;
-    if (!type) {
-        PyObject *module = PyImport_ImportModule("decimal");
-        PyObject *found = module ? PyObject_GetAttrString(module, "Decimal") : NULL;
-        Py_XDECREF(module);
-        if (found) Py_XSETREF(type, found);
-    }
-    return type;
+    return imported(&type, "decimal", "Decimal");
 }
 
 /* Whether a decimal.Decimal is 0; -1 with an exception. */
@@ -178,44 +234,68 @@ static PyObject *text_of_decimal(PyObject *value) {
 }
 
 /* Why a float is no number of a Decimal, and what to write. */
-static const char float_advice[] = ", whose digits are not those that were written: write str(x) of a float x";
+static const char *advice(PyObject *value) {
+    return PyFloat_Check(value) ? ", whose digits are not those that were written: write str(x) of a float x" : "";
+}
 
-/* The text of an int or a decimal.Decimal. With an index the value is in a column. NULL with an exception. */
-static PyObject *text_of_number(PyObject *value, Py_ssize_t index) {
+/* The text of an int or a decimal.Decimal. NULL with an exception, or without one of a value of another type. */
+static PyObject *text_of_number(PyObject *value) {
     if (PyLong_Check(value)) return text_of_int(value);
     PyObject *type = python_decimal();
     int is = type ? PyObject_IsInstance(value, type) : -1;
-    if (is < 0) return NULL;
-    if (is) return text_of_decimal(value);
-    const char *name = Py_TYPE(value)->tp_name, *advice = PyFloat_Check(value) ? float_advice : "";
-    return index < 0
-        ? PyErr_Format(PyExc_TypeError, "a Decimal is made from a str, an int or a decimal.Decimal, not %.100s%s", name,
-                       advice)
-        : PyErr_Format(PyExc_TypeError, "text %zd is a str, an int or a Decimal, not %.100s%s", index, name, advice);
+    return is > 0 ? text_of_decimal(value) : NULL;
 }
 
-/* The decimal of an int or a decimal.Decimal. */
+/* The text of a number, and what has to be released after its use. */
+typedef struct {
+    const uint8_t *bytes;
+    size_t count;
+    PyObject *made;
+} Number;
+
+/* Reads a number: a Decimal, a str, an int or a decimal.Decimal. 0 with an exception: a TypeError begins with what is
+ * expected. */
+static int number_of(PyObject *value, const char *expected, Number *number) {
+    number->made = NULL;
+    if (IS_DECIMAL(value)) {
+        number->bytes = (const uint8_t *)((Decimal *)value)->text;
+        number->count = (size_t)Py_SIZE(value);
+        return 1;
+    }
+    if (!PyUnicode_Check(value)) {
+        number->made = text_of_number(value);
+        if (!number->made && !PyErr_Occurred())
+            fail_kind(expected, value, advice(value));
+        if (!number->made) return 0;
+        value = number->made;
+    }
+    number->bytes = utf8_of(value, &number->count, "a text", FD_SYNTAX);
+    if (!number->bytes) Py_CLEAR(number->made);
+    return number->bytes != NULL;
+}
+
 static PyObject *parse_number(PyObject *value) {
-    PyObject *text = text_of_number(value, -1);
-    PyObject *made = text ? parse(text) : NULL;
-    Py_XDECREF(text);
+    Number number;
+    if (!number_of(value, "a Decimal is made from a str, an int or a decimal.Decimal", &number)) return NULL;
+    PyObject *made = run(number.bytes, number.count, FD_NONE(fd_call), 0);
+    Py_XDECREF(number.made);
     return made;
 }
 
 static PyObject *decimal_new(PyTypeObject *type, PyObject *arguments, PyObject *keywords) {
     PyObject *value = NULL;
     (void)type;
-    if (keywords && PyDict_GET_SIZE(keywords)) return PyErr_Format(PyExc_TypeError, "Decimal() takes no keywords");
+    if (keywords && PyDict_Size(keywords)) return PyErr_Format(PyExc_TypeError, "Decimal() takes no keywords");
     if (!PyArg_UnpackTuple(arguments, "Decimal", 0, 1, &value)) return NULL;
     if (!value) return run((const uint8_t *)"0", 1, FD_NONE(fd_call), 0);
-    if (PyUnicode_Check(value)) return parse(value);
     if (IS_DECIMAL(value)) return Py_NewRef(value);
     return parse_number(value);
 }
 
+#ifndef Py_LIMITED_API
 static PyObject *decimal_vectorcall(PyObject *type, PyObject *const *arguments, size_t flags, PyObject *keywords) {
     Py_ssize_t count = PyVectorcall_NARGS(flags);
-    if (count == 1 && !keywords && PyUnicode_Check(arguments[0])) return parse(arguments[0]);
+    if (count == 1 && !keywords && PyUnicode_Check(arguments[0])) return parse_number(arguments[0]);
     PyObject *tuple = PyTuple_New(count);
     if (!tuple) return NULL;
     for (Py_ssize_t i = 0; i < count; i++) PyTuple_SET_ITEM(tuple, i, Py_NewRef(arguments[i]));
@@ -225,11 +305,10 @@ static PyObject *decimal_vectorcall(PyObject *type, PyObject *const *arguments, 
     Py_DECREF(tuple);
     return made;
 }
+#endif
 
 static PyObject *decimal_str(Decimal *self) {
-    PyObject *made = PyUnicode_New(Py_SIZE(self), 127);
-    if (made) memcpy(PyUnicode_1BYTE_DATA(made), self->text, (size_t)Py_SIZE(self));
-    return made;
+    return ascii_str(self->text, Py_SIZE(self));
 }
 
 static PyObject *decimal_repr(Decimal *self) {
@@ -274,9 +353,7 @@ static PyObject *decimal_richcompare(Decimal *self, PyObject *value, int operati
 }
 
 static PyObject *decimal_compare(Decimal *self, PyObject *value) {
-    if (!IS_DECIMAL(value))
-        return PyErr_Format(PyExc_TypeError, "compare() takes a Decimal, not %.100s: write Decimal(x)",
-                            Py_TYPE(value)->tp_name);
+    if (!IS_DECIMAL(value)) return fail_kind("compare() takes a Decimal", value, ": write Decimal(x)");
     fd_number answer = order_of(self, (Decimal *)value);
     return answer.status == FD_OK ? PyLong_FromLongLong(answer.value) : fail(answer.status, answer.at);
 }
@@ -293,34 +370,46 @@ static int position_of(PyObject *value, int16_t *position) {
     return 1;
 }
 
+/* The names of the arguments of a method: the first are required, and the first may be passed by position. */
+typedef struct {
+    const char *method;
+    Py_ssize_t required, by_position;
+    const char *names[5];
+} Signature;
+
 /* The arguments of a method by their names, and in a new dictionary the others, if it takes others. 0 with an
  * exception. */
-static int bind(const char *method, const char *const *names, PyObject *const *arguments, Py_ssize_t count,
-                PyObject *keywords, PyObject **values, PyObject **others) {
-    Py_ssize_t most = 0;
-    while (names[most]) most++;
-    if (count > most) return PyErr_Format(PyExc_TypeError, "%s() takes at most %zd arguments", method, most), 0;
+static int bind(const Signature *signature, PyObject *const *arguments, Py_ssize_t count, PyObject *keywords,
+                PyObject **values, PyObject **others) {
+    const char *method = signature->method, *const *names = signature->names;
+    if (count > signature->by_position)
+        return PyErr_Format(PyExc_TypeError, "%s() takes at most %zd arguments by position", method,
+                            signature->by_position), 0;
     for (Py_ssize_t i = 0; i < count; i++) values[i] = arguments[i];
-    for (Py_ssize_t i = 0; keywords && i < PyTuple_GET_SIZE(keywords); i++) {
-        PyObject *name = PyTuple_GET_ITEM(keywords, i);
+    Py_ssize_t keyword_count = keywords ? PyTuple_Size(keywords) : 0;
+    for (Py_ssize_t i = 0; i < keyword_count; i++) {
+        PyObject *name = PyTuple_GetItem(keywords, i);
         Py_ssize_t at = 0;
-        while (at < most && PyUnicode_CompareWithASCIIString(name, names[at])) at++;
-        if (at == most && others) {
+        while (names[at] && PyUnicode_CompareWithASCIIString(name, names[at])) at++;
+        if (!names[at] && others) {
             if (!*others && !(*others = PyDict_New())) return 0;
             if (PyDict_SetItem(*others, name, arguments[count + i]) < 0) return 0;
             continue;
         }
-        if (at == most || values[at]) return PyErr_Format(PyExc_TypeError, "%s() has no such argument", method), 0;
+        if (!names[at] || values[at])
+            return PyErr_Format(PyExc_TypeError, "%s() has no such argument: %U", method, name), 0;
         values[at] = arguments[count + i];
     }
-    if (!values[0]) return PyErr_Format(PyExc_TypeError, "%s() takes a %s", method, names[0]), 0;
+    for (Py_ssize_t i = 0; i < signature->required; i++)
+        if (!values[i]) return PyErr_Format(PyExc_TypeError, "%s() takes a %s", method, names[i]), 0;
     return 1;
 }
 
 static PyObject *decimal_round(Decimal *self, PyObject *const *arguments, Py_ssize_t count, PyObject *keywords) {
-    static const char *const names[] = {"position", "mode", "increment", NULL};
+    static const Signature signature = {"round", 1, 3, {"position", "mode", "increment", NULL}};
     PyObject *values[3] = {NULL, NULL, NULL};
-    if (!bind("round", names, arguments, count, keywords, values, NULL)) return NULL;
+    if (count == 1 && !keywords) values[0] = arguments[0];
+    else if (!bind(&signature, arguments, count, keywords, values, NULL)) return NULL;
     fd_call call = {.kind = FD_ROUND, .option = FD_HALF_EVEN, .increment = 1};
     if (!position_of(values[0], &call.position)) return NULL;
     if (values[1]) {
@@ -396,7 +485,7 @@ static int decimal_bool(Decimal *self) {
 static PyObject *decimal_as_decimal(Decimal *self, PyObject *ignored) {
     (void)ignored;
     PyObject *type = python_decimal(), *text = type ? decimal_str(self) : NULL;
-    PyObject *made = text ? PyObject_CallOneArg(type, text) : NULL;
+    PyObject *made = text ? PyObject_CallFunctionObjArgs(type, text, NULL) : NULL;
     Py_XDECREF(text);
     return made;
 }
@@ -457,13 +546,6 @@ static uint64_t locale_of(PyObject *tag) {
     return answer.value;
 }
 
-/* How a number is written: a tag, and a skeleton or, without one, options. */
-typedef struct {
-    const uint8_t *tag, *skeleton;
-    size_t tag_count, skeleton_count;
-    fd_number_options options;
-} Style;
-
 /* Reads options from their bytes. 0 with an exception. */
 static int options_of(PyObject *value, fd_number_options *options) {
     char *bytes;
@@ -474,55 +556,40 @@ static int options_of(PyObject *value, fd_number_options *options) {
     return 1;
 }
 
-/* Reads a style from a tag, and a skeleton or the bytes of options. 0 with an exception. */
-static int bind_style(PyObject *tag, PyObject *value, Style *style) {
-    style->tag = utf8_of(tag, &style->tag_count, "a locale", FD_UNKNOWN_LOCALE);
-    style->skeleton = NULL;
-    if (!style->tag) return 0;
-    if (PyBytes_Check(value)) return options_of(value, &style->options);
-    style->skeleton = utf8_of(value, &style->skeleton_count, "a skeleton", FD_SKELETON_SYNTAX);
-    return style->skeleton != NULL;
+/* Whether all values are of types whose equality no other code decides: what was made of such values may be taken for
+ * others that are equal and of these types. */
+static int have_own_equality(PyObject *values) {
+    Py_ssize_t at = 0;
+    PyObject *name, *value;
+    while (PyDict_Next(values, &at, &name, &value))
+        if (!PyUnicode_CheckExact(value) && !PyLong_CheckExact(value) && !PyBool_Check(value) && value != Py_None)
+            return 0;
+    return 1;
 }
 
-/* Raises the error of a number in a style, with the text that it is about: the tag, the skeleton, or the number. */
-static PyObject *fail_style(const fd_result *answer, const Style *style, const uint8_t *text, size_t count) {
-    switch (answer->status) {
-        case FD_UNKNOWN_LOCALE: return fail_text(answer->status, answer->at, style->tag, style->tag_count);
-        case FD_SKELETON_SYNTAX:
-        case FD_SKELETON_UNSUPPORTED:
-            return fail_text(answer->status, answer->at, style->skeleton, style->skeleton_count);
-    }
-    return answer->status <= FD_OVERFLOW ? fail_text(answer->status, answer->at, text, count)
-                                         : fail(answer->status, answer->at);
+/* Calls a function with arguments up to one that is NULL, and keywords or NULL. */
+static PyObject *call(PyObject *function, PyObject *first, PyObject *second, PyObject *keywords) {
+    PyObject *arguments = PyTuple_New((first != NULL) + (second != NULL));
+    if (arguments && first) PyTuple_SetItem(arguments, 0, Py_NewRef(first));
+    if (arguments && second) PyTuple_SetItem(arguments, 1, Py_NewRef(second));
+    PyObject *found = arguments ? PyObject_Call(function, arguments, keywords) : NULL;
+    Py_XDECREF(arguments);
+    return found;
 }
 
-/* What a text is formatted by: a style; or without one forms, after a call if there is one. */
-typedef struct {
-    const Style *style;
-    fd_forms forms;
-    fd_call call;
-    size_t call_count;
-} Format;
-
-static fd_result format_into(const Decimal *self, const Format *format, uint8_t *buffer, size_t room) {
-    const Style *style = format->style;
-    if (!style)
-        return fd_convert(BYTES(self), &format->forms, &format->call, format->call_count, FD_NONE(uint8_t), 0, buffer,
-                          room);
-    return style->skeleton
-        ? fd_format_by_skeleton(BYTES(self), style->tag, style->tag_count, style->skeleton, style->skeleton_count,
-                                buffer, room)
-        : fd_format_number(BYTES(self), style->tag, style->tag_count, &style->options, buffer, room);
-}
-
-/* The result of a function of fixed_decimal._options, by keywords. */
-static PyObject *option_function(const char *name, PyObject *keywords) {
-    PyObject *module = PyImport_ImportModule("fixed_decimal._options");
-    PyObject *function = module ? PyObject_GetAttrString(module, name) : NULL;
-    PyObject *made = function ? PyObject_VectorcallDict(function, NULL, 0, keywords) : NULL;
-    Py_XDECREF(function);
-    Py_XDECREF(module);
-    return made;
+/* Reads options by their names, or none. With `own`, that gets those that are not the defaults, as a tuple of pairs. 0
+ * with an exception. */
+static int bind_options(PyObject *names, fd_number_options *options, PyObject **own) {
+    static PyObject *kept, *made;
+    PyObject *bytes, *pairs;
+    PyObject *function = names && have_own_equality(names)
+        ? imported(&kept, "fixed_decimal._options", "kept_number_options")
+        : imported(&made, "fixed_decimal._options", "number_options");
+    PyObject *found = function ? call(function, NULL, NULL, names) : NULL;
+    int is_bound = found && PyArg_ParseTuple(found, "OO!", &bytes, &PyTuple_Type, &pairs) && options_of(bytes, options);
+    if (is_bound && own) *own = Py_NewRef(pairs);
+    Py_XDECREF(found);
+    return is_bound;
 }
 
 /* Whether options name only the grouping and the sign, so that nothing is rounded. */
@@ -539,10 +606,7 @@ static int is_plain(PyObject *options) {
 /* Reads options that round nothing: the grouping, and a call if they name the sign. 0 with an exception. */
 static int bind_plain(PyObject *options, uint8_t *grouping, fd_call *call, size_t *call_count) {
     fd_number_options found;
-    PyObject *bytes = option_function("number_options", options);
-    int is_bound = bytes && options_of(bytes, &found);
-    Py_XDECREF(bytes);
-    if (!is_bound) return 0;
+    if (!bind_options(options, &found, NULL)) return 0;
     PyObject *sign = PyUnicode_FromString("sign_display");
     int has_sign = sign ? PyDict_Contains(options, sign) : -1;
     Py_XDECREF(sign);
@@ -553,65 +617,322 @@ static int bind_plain(PyObject *options, uint8_t *grouping, fd_call *call, size_
     return 1;
 }
 
-/* The text, as format_into writes it. */
-static PyObject *formatted(const Decimal *self, const Format *format) {
-    uint8_t buffer[ROOM], *bytes = buffer;
-    size_t room = ROOM;
-    for (;;) {
-        fd_result answer = format_into(self, format, bytes, room);
-        PyObject *made = NULL;
-        if (answer.status == FD_BUFFER_TOO_SMALL && bytes == buffer) {
-            room = answer.count;
-            bytes = PyMem_Malloc(room);
-            if (!bytes) return PyErr_NoMemory();
-            continue;
-        }
-        if (answer.status == FD_OK) made = PyUnicode_DecodeUTF8((char *)bytes, (Py_ssize_t)answer.count, NULL);
-        else if (format->style) fail_style(&answer, format->style, BYTES(self));
-        else fail_text(answer.status, answer.at, BYTES(self));
-        if (bytes != buffer) PyMem_Free(bytes);
-        return made;
-    }
+/* ---- Formats. */
+
+/* The str with the text of a str, which may be of a subclass. */
+static PyObject *exact_str(PyObject *text, const char *what) {
+    return PyUnicode_Check(text) ? PyUnicode_FromObject(text) : fail_type(what, text);
 }
 
-/* The text by a locale, and a skeleton or the bytes of options. */
-static PyObject *formatted_by_style(const Decimal *self, PyObject *locale, PyObject *value) {
-    Style style;
-    Format format = {.style = &style};
-    return bind_style(locale, value, &style) ? formatted(self, &format) : NULL;
+/* Makes the formatter of a format by a skeleton, or, if it is NULL, by options. 0 with an exception: of a locale or a
+ * skeleton with its text. */
+static int make_formatter(NumberFormat *format, const fd_number_options *options) {
+    size_t tag_count, count = 0;
+    const uint8_t *tag = utf8_of(format->locale, &tag_count, "a locale", FD_UNKNOWN_LOCALE), *skeleton = NULL;
+    if (!tag) return 0;
+    if (format->skeleton && !(skeleton = utf8_of(format->skeleton, &count, "a skeleton", FD_SKELETON_SYNTAX))) return 0;
+    fd_made made = skeleton ? fd_formatter_by_skeleton(tag, tag_count, skeleton, count)
+                            : fd_formatter_by_options(tag, tag_count, options);
+    format->formatter = made.formatter;
+    switch (made.status) {
+        case FD_OK: return 1;
+        case FD_UNKNOWN_LOCALE: return fail_text(made.status, made.at, tag, tag_count), 0;
+        case FD_SKELETON_SYNTAX:
+        case FD_SKELETON_UNSUPPORTED: return fail_text(made.status, made.at, skeleton, count), 0;
+    }
+    return fail(made.status, made.at), 0;
+}
+
+/* The format of a locale, and a skeleton or, if it is NULL, options by their names, or none. */
+static PyObject *make_format(PyObject *locale, PyObject *skeleton, PyObject *options) {
+    fd_number_options found;
+    NumberFormat *made = PyObject_New(NumberFormat, number_format_type);
+    if (!made) return NULL;
+    made->skeleton = made->options = NULL;
+    made->locale = exact_str(locale, "a locale");
+    int is_bound = made->locale && (skeleton ? (made->skeleton = exact_str(skeleton, "a skeleton")) != NULL
+                                             : bind_options(options, &found, &made->options));
+    if (is_bound && make_formatter(made, &found)) return (PyObject *)made;
+    Py_DECREF(made);
+    return NULL;
+}
+
+/* The same, taken from the last formats that were made. */
+static PyObject *kept_format(PyObject *locale, PyObject *skeleton, PyObject *options) {
+    static PyObject *kept;
+    int can_be_kept = skeleton ? PyUnicode_CheckExact(skeleton) : !options || have_own_equality(options);
+    if (!can_be_kept || !PyUnicode_CheckExact(locale)) return make_format(locale, skeleton, options);
+    PyObject *function = imported(&kept, "fixed_decimal._options", "kept_number_format");
+    if (!function) return NULL;
+    PyObject *found = call(function, locale, skeleton, skeleton ? NULL : options);
+    if (!found || IS_NUMBER_FORMAT(found)) return found;
+    Py_DECREF(found);
+    PyErr_BadInternalCall();
+    return NULL;
+}
+
+/* Raises TypeError for a skeleton beside options. */
+static PyObject *fail_both(const char *method) {
+    return PyErr_Format(PyExc_TypeError, "%s() takes a skeleton or options, not both: a skeleton has them all", method);
+}
+
+/* Takes a name out of keywords. NULL with an exception, or without one if it is not there. */
+static PyObject *taken(PyObject *keywords, const char *name) {
+    PyObject *key = PyUnicode_FromString(name), *value = key ? PyDict_GetItemWithError(keywords, key) : NULL;
+    Py_XINCREF(value);
+    if (value && PyDict_DelItem(keywords, key) < 0) Py_CLEAR(value);
+    Py_XDECREF(key);
+    return value;
+}
+
+static PyObject *number_format_new(PyTypeObject *type, PyObject *arguments, PyObject *keywords) {
+    (void)type;
+    PyObject *locale = NULL, *made = NULL, *skeleton = NULL;
+    PyObject *options = keywords ? PyDict_Copy(keywords) : PyDict_New();
+    if (!options) return NULL;
+    if (!PyArg_UnpackTuple(arguments, "NumberFormat", 0, 1, &locale)) return Py_DECREF(options), NULL;
+    Py_XINCREF(locale);
+    if (!locale) locale = taken(options, "locale");
+    if (!PyErr_Occurred()) skeleton = taken(options, "skeleton");
+    if (skeleton == Py_None) Py_CLEAR(skeleton);
+    if (!locale && !PyErr_Occurred()) PyErr_SetString(PyExc_TypeError, "NumberFormat() takes a locale");
+    else if (skeleton && PyDict_Size(options)) fail_both("NumberFormat");
+    if (!PyErr_Occurred()) made = make_format(locale, skeleton, options);
+    Py_XDECREF(skeleton);
+    Py_XDECREF(locale);
+    Py_DECREF(options);
+    return made;
+}
+
+static void number_format_dealloc(NumberFormat *self) {
+    Py_XDECREF(self->locale);
+    Py_XDECREF(self->skeleton);
+    Py_XDECREF(self->options);
+    dealloc((PyObject *)self);
+}
+
+/* What writes a text into a buffer. */
+typedef fd_result (*Writer)(const void *job, uint8_t *buffer, size_t room);
+
+/* The str of what is written of a text; an error is one of the text. */
+static PyObject *written(Writer write, const void *job, const uint8_t *text, size_t count) {
+    uint8_t buffer[ROOM], *bytes = buffer;
+    PyObject *made = NULL;
+    fd_result answer = write(job, buffer, ROOM);
+    if (answer.status == FD_BUFFER_TOO_SMALL) {
+        size_t room = answer.count;
+        bytes = PyMem_Malloc(room);
+        if (!bytes) return PyErr_NoMemory();
+        answer = write(job, bytes, room);
+    }
+    if (answer.status == FD_OK) made = PyUnicode_DecodeUTF8((char *)bytes, (Py_ssize_t)answer.count, NULL);
+    else fail_text(answer.status, answer.at, text, count);
+    if (bytes != buffer) PyMem_Free(bytes);
+    return made;
+}
+
+/* A text, and what it is formatted by. */
+typedef struct {
+    const NumberFormat *format;
+    const uint8_t *text;
+    size_t count;
+} Formatting;
+
+static fd_result write_formatted(const void *job, uint8_t *buffer, size_t room) {
+    const Formatting *it = job;
+    return fd_format(&it->format->formatter, it->text, it->count, buffer, room);
+}
+
+static PyObject *formatted(const NumberFormat *format, const uint8_t *text, size_t count) {
+    Formatting job = {format, text, count};
+    return written(write_formatted, &job, text, count);
+}
+
+static const char number_expected[] = "a number is a str, an int or a Decimal";
+
+static PyObject *number_format_format(NumberFormat *self, PyObject *value) {
+    Number number;
+    if (!number_of(value, number_expected, &number)) return NULL;
+    PyObject *made = formatted(self, number.bytes, number.count);
+    Py_XDECREF(number.made);
+    return made;
+}
+
+static const char *const part_kinds[] = {"integer", "group", "decimal", "fraction", "minusSign", "plusSign",
+    "percentSign", "currency", "literal", "compact", "exponentSeparator", "exponentMinusSign", "exponentPlusSign",
+    "exponentInteger"};
+
+/* The parts of a text, as formatToParts of Intl.NumberFormat has them. */
+static PyObject *list_of_parts(const uint8_t *text, const fd_part *parts, size_t count) {
+    PyObject *made = PyList_New((Py_ssize_t)count);
+    for (size_t i = 0; made && i < count; i++) {
+        PyObject *part = Py_BuildValue("{s:s,s:s#}", "type", part_kinds[parts[i].kind], "value",
+                                       (const char *)text + parts[i].start,
+                                       (Py_ssize_t)(parts[i].end - parts[i].start));
+        if (part) PyList_SET_ITEM(made, (Py_ssize_t)i, part);
+        else Py_CLEAR(made);
+    }
+    return made;
+}
+
+static PyObject *parted(const NumberFormat *format, const uint8_t *text, size_t count) {
+    uint8_t buffer[ROOM], *bytes = buffer;
+    fd_part array[ROOM / 4], *parts = array;
+    PyObject *made = NULL;
+    fd_parted answer = fd_format_parts(&format->formatter, text, count, buffer, ROOM, array, ROOM / 4);
+    if (answer.status == FD_BUFFER_TOO_SMALL || answer.status == FD_PARTS_TOO_SMALL) {
+        parts = PyMem_Malloc(answer.parts * sizeof *parts + answer.count);
+        if (!parts) return PyErr_NoMemory();
+        bytes = (uint8_t *)(parts + answer.parts);
+        answer = fd_format_parts(&format->formatter, text, count, bytes, answer.count, parts, answer.parts);
+    }
+    if (answer.status == FD_OK) made = list_of_parts(bytes, parts, answer.parts);
+    else fail_text(answer.status, answer.at, text, count);
+    if (parts != array) PyMem_Free(parts);
+    return made;
+}
+
+static PyObject *number_format_format_to_parts(NumberFormat *self, PyObject *value) {
+    Number number;
+    if (!number_of(value, number_expected, &number)) return NULL;
+    PyObject *made = parted(self, number.bytes, number.count);
+    Py_XDECREF(number.made);
+    return made;
+}
+
+/* The Decimal of a text that a format has written. */
+static PyObject *read_number(const NumberFormat *format, PyObject *text, int is_lenient) {
+    uint8_t buffer[ROOM];
+    size_t count;
+    const uint8_t *bytes = utf8_of(text, &count, "a text", FD_SYNTAX);
+    if (!bytes) return NULL;
+    Decimal *made = NULL;
+    uint32_t lenient = (uint32_t)is_lenient;
+    fd_result answer = fd_read(&format->formatter, bytes, count, lenient, buffer, ROOM);
+    if (answer.status == FD_OK || answer.status == FD_BUFFER_TOO_SMALL) {
+        made = with_room(answer.count);
+        if (!made) return NULL;
+        if (answer.status == FD_OK) memcpy(made->text, buffer, answer.count);
+        else answer = fd_read(&format->formatter, bytes, count, lenient, (uint8_t *)made->text, answer.count);
+    }
+    if (answer.status == FD_OK) return (PyObject *)made;
+    Py_XDECREF(made);
+    return answer.status == FD_UNREADABLE_FORMAT ? fail(answer.status, answer.at)
+                                                 : fail_text(answer.status, answer.at, bytes, count);
+}
+
+static PyObject *number_format_read(NumberFormat *self, PyObject *const *arguments, Py_ssize_t count,
+                                    PyObject *keywords) {
+    static const Signature signature = {"read", 1, 2, {"text", "lenient", NULL}};
+    PyObject *values[2] = {NULL, NULL};
+    if (!bind(&signature, arguments, count, keywords, values, NULL)) return NULL;
+    int is_lenient = values[1] ? PyObject_IsTrue(values[1]) : 0;
+    return is_lenient < 0 ? NULL : read_number(self, values[0], is_lenient);
+}
+
+static PyObject *number_format_resolved_options(NumberFormat *self, PyObject *ignored) {
+    static PyObject *kept;
+    (void)ignored;
+    fd_resolution answer = fd_resolved(&self->formatter);
+    if (answer.status != FD_OK) return fail(answer.status, 0);
+    PyObject *function = imported(&kept, "fixed_decimal._options", "resolved_options");
+    return function ? PyObject_CallFunction(function, "Oy#", self->locale, (const char *)&answer.options,
+                                            (Py_ssize_t)sizeof answer.options) : NULL;
+}
+
+/* A new dictionary of the keywords by which the format is made. */
+static PyObject *keywords_of(const NumberFormat *self) {
+    return self->skeleton ? Py_BuildValue("{s:O}", "skeleton", self->skeleton)
+                          : PyObject_CallFunctionObjArgs((PyObject *)&PyDict_Type, self->options, NULL);
+}
+
+/* By its options' names, so that another version of the module reads it. */
+static PyObject *number_format_reduce(NumberFormat *self, PyObject *ignored) {
+    static PyObject *kept;
+    (void)ignored;
+    PyObject *function = imported(&kept, "copyreg", "__newobj_ex__");
+    return function ? Py_BuildValue("O(O(O)N)", function, number_format_type, self->locale, keywords_of(self)) : NULL;
+}
+
+static PyObject *number_format_repr(NumberFormat *self) {
+    Py_ssize_t at = 0;
+    PyObject *name, *value, *keywords = keywords_of(self);
+    PyObject *made = keywords ? PyUnicode_FromFormat("NumberFormat(%R", self->locale) : NULL;
+    while (made && PyDict_Next(keywords, &at, &name, &value)) {
+        PyObject *before = made;
+        made = PyUnicode_FromFormat("%U, %U=%R", before, name, value);
+        Py_DECREF(before);
+    }
+    PyObject *closed = made ? PyUnicode_FromFormat("%U)", made) : NULL;
+    Py_XDECREF(made);
+    Py_XDECREF(keywords);
+    return closed;
+}
+
+/* What two equal formats have the same: the locale, and the skeleton or the options. */
+static PyObject *key_of(const NumberFormat *self) {
+    return PyTuple_Pack(2, self->locale, self->skeleton ? self->skeleton : self->options);
+}
+
+static Py_hash_t number_format_hash(NumberFormat *self) {
+    PyObject *key = key_of(self);
+    Py_hash_t hash = key ? PyObject_Hash(key) : -1;
+    Py_XDECREF(key);
+    return hash;
+}
+
+static PyObject *number_format_richcompare(NumberFormat *self, PyObject *value, int operation) {
+    if (!IS_NUMBER_FORMAT(value) || (operation != Py_EQ && operation != Py_NE)) Py_RETURN_NOTIMPLEMENTED;
+    PyObject *key = key_of(self), *other = key ? key_of((NumberFormat *)value) : NULL;
+    PyObject *made = other ? PyObject_RichCompare(key, other, operation) : NULL;
+    Py_XDECREF(other);
+    Py_XDECREF(key);
+    return made;
+}
+
+/* ---- Decimals in a format. */
+
+/* A decimal, and the forms that it is formatted by, after a call if there is one. */
+typedef struct {
+    const Decimal *decimal;
+    fd_forms forms;
+    fd_call call;
+    size_t call_count;
+} Plain;
+
+static fd_result write_plainly(const void *job, uint8_t *buffer, size_t room) {
+    const Plain *it = job;
+    return fd_convert(BYTES(it->decimal), &it->forms, &it->call, it->call_count, FD_NONE(uint8_t), 0, buffer, room);
 }
 
 /* The text by a locale, and a grouping or options that round nothing, or neither. */
 static PyObject *formatted_plainly(const Decimal *self, PyObject *locale, PyObject *grouping, PyObject *options) {
-    Format format = {.forms.format.option = FD_GROUP_AUTO};
-    fd_form *form = &format.forms.format;
+    Plain job = {.decimal = self};
+    fd_form *form = &job.forms.format;
     if (grouping) {
         int found = index_of(groupings, grouping, "grouping");
         if (found < 0) return NULL;
         form->option = (uint8_t)found;
     }
-    if (options && !bind_plain(options, &form->option, &format.call, &format.call_count)) return NULL;
+    if (options && !bind_plain(options, &form->option, &job.call, &job.call_count)) return NULL;
     form->locale = locale_of(locale);
-    return form->locale ? formatted(self, &format) : NULL;
+    return form->locale ? written(write_plainly, &job, BYTES(self)) : NULL;
 }
 
 /* The arguments: a locale, and a grouping, a skeleton, or options by their names in ECMA-402. */
 static PyObject *decimal_format(Decimal *self, PyObject *const *arguments, Py_ssize_t count, PyObject *keywords) {
-    static const char *const names[] = {"locale", "grouping", "skeleton", NULL};
+    static const Signature signature = {"format", 1, 2, {"locale", "grouping", "skeleton", NULL}};
     PyObject *values[3] = {NULL, NULL, NULL}, *options = NULL, *made = NULL;
-    if (!bind("format", names, arguments, count, keywords, values, &options)) return Py_XDECREF(options), NULL;
+    if (!bind(&signature, arguments, count, keywords, values, &options)) return Py_XDECREF(options), NULL;
     PyObject *skeleton = values[2] == Py_None ? NULL : values[2];
     if (skeleton && (values[1] || options)) {
-        PyErr_SetString(PyExc_TypeError, "format() takes a skeleton or options, not both: a skeleton has them all");
+        fail_both("format");
     } else if (values[1] && options) {
         PyErr_SetString(PyExc_TypeError, "format() takes a grouping or options, not both: write use_grouping=");
-    } else if (skeleton) {
-        made = PyUnicode_Check(skeleton) ? formatted_by_style(self, values[0], skeleton)
-                                         : fail_type("a skeleton", skeleton);
-    } else if (options && !is_plain(options)) {
-        PyObject *bytes = option_function("number_options", options);
-        if (bytes) made = formatted_by_style(self, values[0], bytes);
-        Py_XDECREF(bytes);
+    } else if (skeleton || (options && !is_plain(options))) {
+        PyObject *format = kept_format(values[0], skeleton, options);
+        if (format) made = formatted((NumberFormat *)format, BYTES(self));
+        Py_XDECREF(format);
     } else {
         made = formatted_plainly(self, values[0], values[1], options);
     }
@@ -619,49 +940,21 @@ static PyObject *decimal_format(Decimal *self, PyObject *const *arguments, Py_ss
     return made;
 }
 
-/* A text to be read. */
-typedef struct {
-    const uint8_t *text;
-    size_t count;
-    Style style;
-    int lenient;
-} Number;
-
-static fd_result read_into(const Number *number, uint8_t *buffer, size_t room) {
-    const Style *style = &number->style;
-    return style->skeleton
-        ? fd_read_by_skeleton(number->text, number->count, style->tag, style->tag_count, style->skeleton,
-                              style->skeleton_count, (uint32_t)number->lenient, buffer, room)
-        : fd_read_number(number->text, number->count, style->tag, style->tag_count, &style->options,
-                         (uint32_t)number->lenient, buffer, room);
-}
-
-static PyObject *read_number(const Number *number) {
-    uint8_t buffer[ROOM];
-    fd_result answer = read_into(number, buffer, ROOM);
-    if (answer.status != FD_OK && answer.status != FD_BUFFER_TOO_SMALL)
-        return fail_style(&answer, &number->style, number->text, number->count);
-    Decimal *made = with_room(answer.count);
-    if (!made) return NULL;
-    if (answer.status == FD_OK) memcpy(made->text, buffer, answer.count);
-    else answer = read_into(number, (uint8_t *)made->text, answer.count);
-    if (answer.status == FD_OK) return (PyObject *)made;
-    Py_DECREF(made);
-    return fail_style(&answer, &number->style, number->text, number->count);
-}
-
-/* The arguments: a text, a locale, and by their names those of fixed_decimal._options.reading. */
-static PyObject *decimal_read(PyObject *ignored, PyObject *arguments, PyObject *keywords) {
-    Number number;
-    PyObject *text, *tag, *style, *made = NULL;
+/* The arguments: a text and a locale; a skeleton or options, or neither, which is the empty skeleton; and `lenient`. */
+static PyObject *decimal_read(PyObject *ignored, PyObject *const *arguments, Py_ssize_t count, PyObject *keywords) {
+    static const Signature signature = {"read", 2, 2, {"text", "locale", "skeleton", "lenient", NULL}};
+    PyObject *values[4] = {NULL, NULL, NULL, NULL}, *options = NULL, *format = NULL, *made = NULL, *empty = NULL;
     (void)ignored;
-    if (!PyArg_ParseTuple(arguments, "OO:read", &text, &tag)) return NULL;
-    number.text = utf8_of(text, &number.count, "a text", FD_SYNTAX);
-    if (!number.text) return NULL;
-    PyObject *reading = option_function("reading", keywords);
-    if (reading && PyArg_ParseTuple(reading, "Op", &style, &number.lenient) && bind_style(tag, style, &number.style))
-        made = read_number(&number);
-    Py_XDECREF(reading);
+    if (!bind(&signature, arguments, count, keywords, values, &options)) return Py_XDECREF(options), NULL;
+    PyObject *skeleton = values[2] == Py_None ? NULL : values[2];
+    int is_lenient = values[3] ? PyObject_IsTrue(values[3]) : 0;
+    if (skeleton && options) fail_both("read");
+    else if (!skeleton && !options) skeleton = empty = PyUnicode_FromString("");
+    if (is_lenient >= 0 && !PyErr_Occurred()) format = kept_format(values[1], skeleton, options);
+    if (format) made = read_number((NumberFormat *)format, values[0], is_lenient);
+    Py_XDECREF(format);
+    Py_XDECREF(empty);
+    Py_XDECREF(options);
     return made;
 }
 
@@ -684,7 +977,7 @@ typedef struct {
 } Padding;
 
 static int is_alignment(PyObject *text, Py_ssize_t at) {
-    Py_UCS4 found = at < PyUnicode_GET_LENGTH(text) ? PyUnicode_READ_CHAR(text, at) : 0;
+    Py_UCS4 found = at < PyUnicode_GetLength(text) ? PyUnicode_ReadChar(text, at) : 0;
     return found == '<' || found == '>' || found == '=' || found == '^';
 }
 
@@ -692,21 +985,21 @@ static int is_alignment(PyObject *text, Py_ssize_t at) {
  * for any other specification. */
 static int padding_of(PyObject *specification, Padding *padding) {
     *padding = (Padding){.fill = ' ', .alignment = '>'};
-    Py_ssize_t size = PyUnicode_GET_LENGTH(specification), at = 0;
+    Py_ssize_t size = PyUnicode_GetLength(specification), at = 0;
     if (is_alignment(specification, 1)) {
-        padding->fill = PyUnicode_READ_CHAR(specification, 0);
-        padding->alignment = PyUnicode_READ_CHAR(specification, 1);
+        padding->fill = PyUnicode_ReadChar(specification, 0);
+        padding->alignment = PyUnicode_ReadChar(specification, 1);
         at = 2;
     } else if (is_alignment(specification, 0)) {
-        padding->alignment = PyUnicode_READ_CHAR(specification, 0);
+        padding->alignment = PyUnicode_ReadChar(specification, 0);
         at = 1;
-    } else if (size && PyUnicode_READ_CHAR(specification, 0) == '0') {
+    } else if (size && PyUnicode_ReadChar(specification, 0) == '0') {
         padding->fill = '0', padding->alignment = '=';
         at = 1;
     }
-    if (at < size && PyUnicode_READ_CHAR(specification, at) == '0') return 0;
+    if (at < size && PyUnicode_ReadChar(specification, at) == '0') return 0;
     for (; at < size; at++) {
-        Py_UCS4 digit = PyUnicode_READ_CHAR(specification, at) - '0';
+        Py_UCS4 digit = PyUnicode_ReadChar(specification, at) - '0';
         if (digit > 9 || padding->width > (PY_SSIZE_T_MAX - 9) / 10) return 0;
         padding->width = 10 * padding->width + (Py_ssize_t)digit;
     }
@@ -719,13 +1012,15 @@ static PyObject *padded(Decimal *self, const Padding *padding) {
     Py_ssize_t sign = padding->alignment == '=' && (self->text[0] == '-' || self->text[0] == '+');
     if (padding->alignment == '<') before = 0;
     if (padding->alignment == '^') before = more / 2;
-    PyObject *made = PyUnicode_New(padding->width, padding->fill > 127 ? padding->fill : 127);
-    if (!made) return NULL;
-    for (Py_ssize_t at = 0; at < count; at++)
-        PyUnicode_WRITE(PyUnicode_KIND(made), PyUnicode_DATA(made), at < sign ? at : before + at, self->text[at]);
-    if (PyUnicode_Fill(made, sign, before, padding->fill) < 0 ||
-        PyUnicode_Fill(made, before + count, more - before, padding->fill) < 0)
-        Py_CLEAR(made);
+    PyObject *fill = PyUnicode_FromOrdinal((int)padding->fill), *text = fill ? decimal_str(self) : NULL, *made = NULL;
+    PyObject *parts[] = {text ? PySequence_Repeat(fill, before) : NULL, text ? PyUnicode_Substring(text, 0, sign) : NULL,
+                         text ? PyUnicode_Substring(text, sign, count) : NULL,
+                         text ? PySequence_Repeat(fill, more - before) : NULL};
+    if (parts[0] && parts[1] && parts[2] && parts[3])
+        made = PyUnicode_FromFormat("%U%U%U%U", parts[sign ? 1 : 0], parts[sign ? 0 : 1], parts[2], parts[3]);
+    for (int i = 0; i < 4; i++) Py_XDECREF(parts[i]);
+    Py_XDECREF(text);
+    Py_XDECREF(fill);
     return made;
 }
 
@@ -745,7 +1040,7 @@ static PyObject *decimal_dunder_format(Decimal *self, PyObject *specification) {
 
 static PyObject *decimal_reduce(Decimal *self, PyObject *ignored) {
     (void)ignored;
-    return Py_BuildValue("O(N)", &DecimalType, decimal_str(self));
+    return Py_BuildValue("O(N)", decimal_type, decimal_str(self));
 }
 
 /* The number of texts of a block, and the greatest number of blocks at a time. */
@@ -762,22 +1057,24 @@ typedef struct {
 static const char *const on_errors[] = {"raise", "skip", "keep", NULL};
 enum on_error { RAISE, SKIP, KEEP };
 
-/* What a column does with each text, and the texts of its forms and calls, one after another. */
+/* What a column does with each text, and the texts of its forms and calls, one after another. With a format, which is
+ * a NumberFormat, that is used after the calls, and there is no form of the results. */
 typedef struct {
     enum on_error on_error;
     fd_forms forms;
     fd_call *calls;
     size_t call_count;
     Buffer texts;
+    PyObject *format;
 } Work;
 
-/* Texts of a column from an index on, as lines, and the lines of their results. */
+/* Texts of a column from an index on, as lines, the lines after the calls where a format follows, and the lines of the
+ * results. */
 typedef struct {
     const Work *work;
     Py_ssize_t first;
-    Buffer input, output;
+    Buffer input, called, output;
     fd_column answer;
-    size_t converted, read;
     pthread_t thread;
     enum { EMPTY, RUNNING, CONVERTED } state;
 } Block;
@@ -850,10 +1147,11 @@ static void fail_block(const Block *block) {
     const fd_column *answer = &block->answer;
     if (answer->status == FD_MEMORY) return (void)PyErr_NoMemory();
     if (answer->status > FD_OVERFLOW) return fail_form(block->work, answer);
-    const char *text = block->input.bytes + block->read;
-    size_t count = (size_t)((const char *)memchr(text, '\n', block->input.count - block->read) - text);
+    const char *text = block->input.bytes, *end = text + block->input.count;
+    for (size_t i = 0; i < answer->lines; i++) text = (const char *)memchr(text, '\n', (size_t)(end - text)) + 1;
+    size_t count = (size_t)((const char *)memchr(text, '\n', (size_t)(end - text)) - text);
     fail_text(answer->status, answer->at, (const uint8_t *)text, count);
-    set_line((size_t)block->first + block->converted);
+    set_line((size_t)block->first + answer->lines);
 }
 
 /* Appends a line; 0 with an exception. */
@@ -876,15 +1174,23 @@ static inline int append_str(Buffer *input, PyObject *text, Py_ssize_t index) {
     return 0;
 }
 
+/* Raises TypeError for the item of a list at an index. */
+static void *fail_item(const char *expected, Py_ssize_t index, PyObject *value, const char *advice) {
+    char line[80];
+    snprintf(line, sizeof line, expected, index);
+    return fail_kind(line, value, advice);
+}
+
 /* Appends the line of a number, as Decimal() makes it; 0 with an exception. This may run Python code. */
 static int append_number(Block *block, PyObject *value, Py_ssize_t index) {
     Buffer *input = &block->input;
     if (block->work->forms.read.count)
-        return PyErr_Format(PyExc_TypeError, "text %zd is read by a locale: it is a str, not %.100s", index,
-                            Py_TYPE(value)->tp_name), 0;
+        return fail_item("text %zd is read by a locale: it is a str", index, value, ""), 0;
     if (IS_DECIMAL(value)) return append_line(input, ((Decimal *)value)->text, (size_t)Py_SIZE(value), index);
     Py_INCREF(value);
-    PyObject *text = text_of_number(value, index);
+    PyObject *text = text_of_number(value);
+    if (!text && !PyErr_Occurred())
+        fail_item("text %zd is a str, an int or a Decimal", index, value, advice(value));
     Py_DECREF(value);
     int is_appended = text && append_str(input, text, index);
     Py_XDECREF(text);
@@ -908,25 +1214,44 @@ static int fill(Block *block, PyObject *list, Py_ssize_t size) {
     return 1;
 }
 
-/* Converts the lines of a block. It does not use Python. */
+static const uint8_t *bytes_of(const Buffer *buffer) {
+    return buffer->bytes ? (const uint8_t *)buffer->bytes : FD_NONE(uint8_t);
+}
+
+/* Converts lines into a buffer that grows: by a formatter, or else by the forms and the calls. */
+static fd_column convert_lines(const Work *work, const fd_formatter *formatter, const Buffer *from, Buffer *to) {
+    fd_column all = {.status = FD_BUFFER_TOO_SMALL}, answer;
+    uint32_t skips = work->on_error != RAISE;
+    to->count = 0;
+    for (size_t more = from->count + 64; all.status == FD_BUFFER_TOO_SMALL; more *= 2) {
+        if (!reserve(to, more)) return (fd_column){.status = FD_MEMORY};
+        const uint8_t *lines = bytes_of(from) + all.read;
+        uint8_t *buffer = (uint8_t *)to->bytes + to->count;
+        size_t count = from->count - all.read, room = to->room - to->count;
+        answer = formatter ? fd_format_column(formatter, lines, count, skips, buffer, room)
+                           : fd_lines(lines, count, skips, &work->forms, work->calls, work->call_count,
+                                      bytes_of(&work->texts), work->texts.count, buffer, room);
+        to->count += answer.written;
+        all.status = answer.status, all.at = answer.at;
+        all.lines += answer.lines, all.read += answer.read;
+    }
+    return all;
+}
+
+/* Converts the lines of a block. It does not use Python. The first line that fails may do so in the calls or in the
+ * format: what comes before it in the calls is formatted first. */
 static void *convert(void *argument) {
     Block *block = argument;
     const Work *work = block->work;
-    Buffer *output = &block->output;
-    const uint8_t *input = block->input.bytes ? (const uint8_t *)block->input.bytes : FD_NONE(uint8_t);
-    const uint8_t *texts = work->texts.bytes ? (const uint8_t *)work->texts.bytes : FD_NONE(uint8_t);
-    output->count = block->converted = block->read = 0;
-    for (size_t more = block->input.count + 64;; more *= 2) {
-        block->answer = (fd_column){.status = FD_MEMORY};
-        if (!reserve(output, more)) return NULL;
-        block->answer = fd_lines(input + block->read, block->input.count - block->read, work->on_error != RAISE,
-                                 &work->forms, work->calls, work->call_count, texts, work->texts.count,
-                                 (uint8_t *)output->bytes + output->count, output->room - output->count);
-        block->read += block->answer.read;
-        output->count += block->answer.written;
-        block->converted += block->answer.lines;
-        if (block->answer.status != FD_BUFFER_TOO_SMALL) return NULL;
-    }
+    const fd_formatter *formatter = work->format ? &((NumberFormat *)work->format)->formatter : NULL;
+    int has_calls = work->call_count || work->forms.read.count;
+    if (!formatter || has_calls)
+        block->answer = convert_lines(work, NULL, &block->input, formatter ? &block->called : &block->output);
+    if (!formatter || (has_calls && block->answer.status == FD_MEMORY)) return NULL;
+    fd_column answer = convert_lines(work, formatter, has_calls ? &block->called : &block->input, &block->output);
+    if (answer.status == FD_OVERFLOW) answer.at = work->call_count;
+    if (!has_calls || answer.status != FD_OK) block->answer = answer;
+    return NULL;
 }
 
 /* Begins to convert a block, in another thread unless it is the only one. */
@@ -952,14 +1277,13 @@ static PyObject *failed_result(const Block *block, PyObject *list, Py_ssize_t in
 static int take_results(const Block *block, PyObject *list, PyObject *made) {
     if (block->answer.status != FD_OK) return fail_block(block), 0;
     const char *bytes = block->output.bytes, *end = bytes + block->output.count;
-    int is_ascii = block->work->forms.format.count == 0;
+    int is_ascii = !block->work->forms.format.count && !block->work->format;
     for (Py_ssize_t i = block->first; bytes < end; i++) {
         Py_ssize_t count = (const char *)memchr(bytes, '\n', (size_t)(end - bytes)) - bytes;
         PyObject *text = !count     ? failed_result(block, list, i)
-                         : is_ascii ? PyUnicode_New(count, 127)
+                         : is_ascii ? ascii_str(bytes, count)
                                     : PyUnicode_DecodeUTF8(bytes, count, NULL);
         if (!text) return 0;
-        if (count && is_ascii) memcpy(PyUnicode_1BYTE_DATA(text), bytes, (size_t)count);
         PyList_SET_ITEM(made, i, text);
         bytes += count + 1;
     }
@@ -1020,25 +1344,29 @@ static int bind_form(Buffer *texts, PyObject *tag, PyObject *skeleton, fd_form *
     return append(texts, bytes, form->skeleton_count);
 }
 
-/* Reads the form of the results: a tag or None, and a skeleton or None, or options. 0 with an exception. */
-static int bind_results(Work *work, PyObject *tag, PyObject *skeleton, PyObject *options) {
-    fd_form *form = &work->forms.format;
-    if (!PyDict_GET_SIZE(options)) return bind_form(&work->texts, tag, skeleton, form);
-    if (skeleton != Py_None) {
-        PyErr_SetString(PyExc_TypeError, "column() takes a skeleton or options, not both: a skeleton has them all");
+/* Reads the form of the results: a NumberFormat; or a tag or None, and a skeleton or None, or options. 0 with an
+ * exception. */
+static int bind_results(Work *work, PyObject *format, PyObject *skeleton, PyObject *options) {
+    int has_skeleton = skeleton != Py_None, has_options = PyDict_Size(options) > 0;
+    if (has_skeleton && has_options) return fail_both("column"), 0;
+    if (IS_NUMBER_FORMAT(format)) {
+        if (!has_skeleton && !has_options) return work->format = Py_NewRef(format), 1;
+        PyErr_SetString(PyExc_TypeError,
+                        "column() takes a NumberFormat, or a skeleton or options, not both: a NumberFormat has them");
         return 0;
     }
-    if (is_plain(options)) {
-        fd_call *call = work->calls + work->call_count;
-        size_t count;
-        if (!bind_plain(options, &form->option, call, &count)) return 0;
-        work->call_count += count;
-        return tag == Py_None ? (fail(FD_UNKNOWN_LOCALE, 0), 0) : bind_form(&work->texts, tag, Py_None, form);
+    if (has_skeleton && !PyUnicode_Check(skeleton)) return fail_type("a skeleton", skeleton), 0;
+    if (format == Py_None) return has_skeleton || has_options ? (fail(FD_UNKNOWN_LOCALE, 0), 0) : 1;
+    if (has_skeleton || !is_plain(options)) {
+        work->format = kept_format(format, has_skeleton ? skeleton : NULL, options);
+        return work->format != NULL;
     }
-    PyObject *found = option_function("number_skeleton", options);
-    int is_bound = found && bind_form(&work->texts, tag, found, form);
-    Py_XDECREF(found);
-    return is_bound;
+    fd_form *form = &work->forms.format;
+    fd_call *call = work->calls + work->call_count;
+    size_t count = 0;
+    if (has_options && !bind_plain(options, &form->option, call, &count)) return 0;
+    work->call_count += count;
+    return bind_form(&work->texts, format, Py_None, form);
 }
 
 /* Reads the word of a call, as the programs do; 0 with an exception. */
@@ -1067,6 +1395,7 @@ static PyObject *convert_by_blocks(PyObject *list, const Work *work) {
     PyObject *made = convert_list(list, blocks, count);
     for (size_t i = 0; i < MOST_BLOCKS; i++) {
         PyMem_RawFree(blocks[i].input.bytes);
+        PyMem_RawFree(blocks[i].called.bytes);
         PyMem_RawFree(blocks[i].output.bytes);
     }
     PyMem_Free(blocks);
@@ -1083,14 +1412,15 @@ static PyObject *native_column(PyObject *module, PyObject *arguments) {
         return NULL;
     int on_error = index_of(on_errors, errors, "handling of errors");
     if (on_error < 0) return NULL;
-    Py_ssize_t count = PyTuple_GET_SIZE(words), at = 0;
+    Py_ssize_t count = PyTuple_Size(words), at = 0;
     Work work = {.on_error = on_error, .calls = PyMem_Calloc((size_t)count + 1, sizeof(fd_call))};
     if (!work.calls) return PyErr_NoMemory();
-    while (at < count && bind_call(&work, PyTuple_GET_ITEM(words, at))) at++;
+    while (at < count && bind_call(&work, PyTuple_GetItem(words, at))) at++;
     work.forms.read.option = is_lenient ? FD_LENIENT : FD_STRICT;
     if (at == count && bind_form(&work.texts, read, read_skeleton, &work.forms.read) &&
         bind_results(&work, format, skeleton, options))
         made = convert_by_blocks(list, &work);
+    Py_XDECREF(work.format);
     PyMem_RawFree(work.texts.bytes);
     PyMem_Free(work.calls);
     return made;
@@ -1146,12 +1476,12 @@ PyDoc_STRVAR(format_text, "format($self, /, locale, grouping='auto', skeleton=No
 "A skeleton is a number skeleton of ICU:\n\n"
 ">>> Decimal('-1234.5').format('es', skeleton='KK')\n'-1,2 mil'\n\n"
 "Options have the names, the words and the defaults of Intl.NumberFormat (ECMA-402), so at most three fraction\n"
-"digits are shown:\n\n"
+"digits are shown. The NumberFormat that they make is kept for the next calls:\n\n"
 ">>> Decimal('0.12345').format('de', style='decimal')\n'0,123'\n"
 ">>> Decimal('0.12345').format('de', maximum_fraction_digits=4)\n'0,1235'\n\n"
 "With no options but use_grouping and sign_display all digits and zeros stay, as without options:\n\n"
 ">>> Decimal('1234.56780').format('de', use_grouping=False, sign_display='always')\n'+1234,56780'\n");
-PyDoc_STRVAR(read_text, "read(text, locale, /, *, skeleton=None, lenient=False, **options)\n--\n\n"
+PyDoc_STRVAR(read_text, "read(text, locale, *, skeleton=None, lenient=False, **options)\n--\n\n"
 "Reads a number as format() writes it by these arguments; or, if lenient, as people type it.\n\n"
 ">>> Decimal.read('1.234,50', 'de')\nDecimal('1234.50')\n"
 ">>> Decimal.read('EUR 1.234,5', 'de', style='currency', currency='EUR', lenient=True)\nDecimal('1234.5')\n");
@@ -1186,50 +1516,104 @@ static PyMethodDef decimal_methods[] = {
     {"__round__", FUNCTION(decimal_dunder_round), METH_FASTCALL, dunder_round_text},
     {"compare", FUNCTION(decimal_compare), METH_O, compare_text},
     {"format", FUNCTION(decimal_format), METH_FASTCALL | METH_KEYWORDS, format_text},
-    {"read", FUNCTION(decimal_read), METH_STATIC | METH_VARARGS | METH_KEYWORDS, read_text},
+    {"read", FUNCTION(decimal_read), METH_STATIC | METH_FASTCALL | METH_KEYWORDS, read_text},
     {"plural", FUNCTION(decimal_plural), METH_O, plural_text},
     {"__format__", FUNCTION(decimal_dunder_format), METH_O, dunder_format_text},
     {"__reduce__", FUNCTION(decimal_reduce), METH_NOARGS, NULL},
     {NULL, NULL, 0, NULL}};
 
-static PyNumberMethods decimal_number = {
-    .nb_negative = (unaryfunc)decimal_negative,
-    .nb_absolute = (unaryfunc)decimal_absolute,
-    .nb_bool = (inquiry)decimal_bool,
-    .nb_int = (unaryfunc)decimal_int,
-};
+static PyType_Slot decimal_slots[] = {
+    {Py_tp_doc, (void *)class_text},
+    {Py_tp_new, decimal_new},
+    {Py_tp_dealloc, dealloc},
+    {Py_tp_str, decimal_str},
+    {Py_tp_repr, decimal_repr},
+    {Py_tp_hash, decimal_hash},
+    {Py_tp_richcompare, decimal_richcompare},
+    {Py_tp_methods, decimal_methods},
+    {Py_nb_negative, decimal_negative},
+    {Py_nb_absolute, decimal_absolute},
+    {Py_nb_bool, decimal_bool},
+    {Py_nb_int, decimal_int},
+    {0, NULL}};
+static PyType_Spec decimal_spec = {.name = "fixed_decimal.Decimal", .basicsize = sizeof(Decimal), .itemsize = 1,
+                                   .flags = Py_TPFLAGS_DEFAULT | Py_TPFLAGS_IMMUTABLETYPE, .slots = decimal_slots};
 
-static PyTypeObject DecimalType = {
-    PyVarObject_HEAD_INIT(NULL, 0).tp_name = "fixed_decimal.Decimal",
-    .tp_doc = class_text,
-    .tp_basicsize = sizeof(Decimal),
-    .tp_itemsize = 1,
-    .tp_flags = Py_TPFLAGS_DEFAULT,
-    .tp_new = decimal_new,
-    .tp_vectorcall = decimal_vectorcall,
-    .tp_dealloc = (destructor)PyObject_Free,
-    .tp_str = (reprfunc)decimal_str,
-    .tp_repr = (reprfunc)decimal_repr,
-    .tp_hash = (hashfunc)decimal_hash,
-    .tp_richcompare = (richcmpfunc)decimal_richcompare,
-    .tp_as_number = &decimal_number,
-    .tp_methods = decimal_methods,
-};
+PyDoc_STRVAR(number_format_text, "NumberFormat(locale, *, skeleton=None, **options)\n--\n\n"
+"How a locale writes numbers, as Intl.NumberFormat of ECMA-402: made once, and used for many numbers.\n\n"
+">>> euros = NumberFormat('de', style='currency', currency='EUR')\n"
+">>> euros.format('1234.5'), euros.format(Decimal('-0.005'))\n('1.234,50\\xa0€', '-0,01\\xa0€')\n\n"
+"Options have the names, the words and the defaults of ECMA-402: without any, at most three fraction digits are\n"
+"shown. A skeleton is a number skeleton of ICU, and has all options:\n\n"
+">>> NumberFormat('en').format('1234.5678'), NumberFormat('es', skeleton='KK').format(-1234)\n"
+"('1,234.568', '-1,2 mil')\n\n"
+"It is immutable. Two are equal if their locales are, and their skeletons, or their options with the defaults:\n\n"
+">>> NumberFormat('en', sign_display='auto') == NumberFormat('en')\nTrue\n");
+PyDoc_STRVAR(number_format_format_text, "format($self, number, /)\n--\n\n"
+"Returns the text of a number: a str, an int, a Decimal or a decimal.Decimal.\n\n"
+">>> NumberFormat('en', notation='compact').format(1234567)\n'1.2M'\n");
+PyDoc_STRVAR(number_format_parts_text, "format_to_parts($self, number, /)\n--\n\n"
+"Returns the parts of the text in order, with the types of formatToParts in ECMA-402.\n\n"
+">>> [part['type'] for part in NumberFormat('en', style='percent').format_to_parts('-0.5')]\n"
+"['minusSign', 'integer', 'percentSign']\n"
+">>> NumberFormat('en').format_to_parts(12)\n[{'type': 'integer', 'value': '12'}]\n");
+PyDoc_STRVAR(number_format_read_text, "read($self, /, text, lenient=False)\n--\n\n"
+"Reads a number as format() writes it; or, if lenient, as people type it.\n\n"
+">>> euros = NumberFormat('de', style='currency', currency='EUR')\n"
+">>> euros.read('-1.234,50\\xa0€'), euros.read('EUR 1.234,5', lenient=True)\n"
+"(Decimal('-1234.50'), Decimal('1234.5'))\n");
+PyDoc_STRVAR(number_format_options_text, "resolved_options($self, /)\n--\n\n"
+"Returns a dictionary of the locale as it was passed, and of all options with their defaults. Options that only a\n"
+"skeleton has are in it if they are not the default.\n\n"
+">>> found = NumberFormat('hi-u-nu-deva', style='currency', currency='JPY').resolved_options()\n"
+">>> found['numbering_system'], found['maximum_fraction_digits'], found['rounding_mode']\n"
+"('deva', 0, 'half-expand')\n");
+
+static PyMethodDef number_format_methods[] = {
+    {"format", FUNCTION(number_format_format), METH_O, number_format_format_text},
+    {"format_to_parts", FUNCTION(number_format_format_to_parts), METH_O, number_format_parts_text},
+    {"read", FUNCTION(number_format_read), METH_FASTCALL | METH_KEYWORDS, number_format_read_text},
+    {"resolved_options", FUNCTION(number_format_resolved_options), METH_NOARGS, number_format_options_text},
+    {"__reduce__", FUNCTION(number_format_reduce), METH_NOARGS, NULL},
+    {NULL, NULL, 0, NULL}};
+
+static PyType_Slot number_format_slots[] = {
+    {Py_tp_doc, (void *)number_format_text},
+    {Py_tp_new, number_format_new},
+    {Py_tp_dealloc, number_format_dealloc},
+    {Py_tp_repr, number_format_repr},
+    {Py_tp_hash, number_format_hash},
+    {Py_tp_richcompare, number_format_richcompare},
+    {Py_tp_methods, number_format_methods},
+    {0, NULL}};
+static PyType_Spec number_format_spec = {.name = "fixed_decimal.NumberFormat", .basicsize = sizeof(NumberFormat),
+                                         .flags = Py_TPFLAGS_DEFAULT | Py_TPFLAGS_IMMUTABLETYPE,
+                                         .slots = number_format_slots};
 
 static PyMethodDef functions[] = {{"column", native_column, METH_VARARGS, NULL},
                                   {"skeleton", native_skeleton, METH_O, NULL}, {NULL, NULL, 0, NULL}};
-static PyModuleDef definition = {PyModuleDef_HEAD_INIT, "fixed_decimal._native", NULL, -1, functions,
-                                 NULL, NULL, NULL, NULL};
+/* The module has one state for the process, so it is for the main interpreter alone. */
+static int execute(PyObject *module) {
+    if (fd_version() != FD_VERSION) return PyErr_SetString(PyExc_ImportError, "the library has another version"), -1;
+    if (PyInterpreterState_GetID(PyInterpreterState_Get()) != 0)
+        return PyErr_SetString(PyExc_ImportError, "fixed_decimal is not for subinterpreters"), -1;
+    PyObject *error = NULL, *before = decimal_error;
+    if (!imported(&error, "fixed_decimal._errors", "DecimalError")) return -1;
+    decimal_error = error;
+    Py_XDECREF(before);
+    if (!decimal_type && !(decimal_type = (PyTypeObject *)PyType_FromSpec(&decimal_spec))) return -1;
+    if (!number_format_type && !(number_format_type = (PyTypeObject *)PyType_FromSpec(&number_format_spec))) return -1;
+#ifndef Py_LIMITED_API
+    decimal_type->tp_vectorcall = decimal_vectorcall;
+#endif
+    if (PyModule_AddType(module, decimal_type) < 0 || PyModule_AddType(module, number_format_type) < 0) return -1;
+    return PyModule_AddStringConstant(module, "__version__", FIXED_DECIMAL_VERSION);
+}
+
+static PyModuleDef_Slot slots[] = {{Py_mod_exec, execute}, {0, NULL}};
+static PyModuleDef definition = {PyModuleDef_HEAD_INIT, .m_name = "fixed_decimal._native", .m_methods = functions,
+                                 .m_slots = slots};
 
 PyMODINIT_FUNC PyInit__native(void) {
-    if (fd_version() != FD_VERSION) return PyErr_Format(PyExc_ImportError, "the library has another version");
-    PyObject *errors = PyImport_ImportModule("fixed_decimal._errors");
-    decimal_error = errors ? PyObject_GetAttrString(errors, "DecimalError") : NULL;
-    Py_XDECREF(errors);
-    if (!decimal_error || PyType_Ready(&DecimalType) < 0) return NULL;
-    PyObject *module = PyModule_Create(&definition);
-    if (module && (PyModule_AddObjectRef(module, "Decimal", (PyObject *)&DecimalType) < 0 ||
-                   PyModule_AddStringConstant(module, "__version__", FIXED_DECIMAL_VERSION) < 0))
-        Py_CLEAR(module);
-    return module;
+    return PyModuleDef_Init(&definition);
 }

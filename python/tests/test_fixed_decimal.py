@@ -3,6 +3,7 @@
 A test that this python cannot run is a line `not run: ..`.
 """
 import ast
+import copy
 import decimal
 import doctest
 import functools
@@ -14,10 +15,12 @@ import random
 import re
 import signal
 import sys
+import threading
 import time
+import tracemalloc
 
 import fixed_decimal
-from fixed_decimal import Decimal, DecimalError, column, number_skeleton
+from fixed_decimal import Decimal, DecimalError, NumberFormat, column, number_skeleton
 
 MODES = {  # those that decimal has
     "ceil": decimal.ROUND_CEILING, "floor": decimal.ROUND_FLOOR, "expand": decimal.ROUND_UP,
@@ -392,7 +395,8 @@ def test_stub():
     with open(os.path.join(os.path.dirname(fixed_decimal.__file__), "__init__.pyi"), encoding="utf-8") as file:
         tree = ast.parse(file.read())
     classes = {node.name: node.body for node in tree.body if isinstance(node, ast.ClassDef)}
-    for home, body in ((fixed_decimal, tree.body), (Decimal, classes["Decimal"])):
+    homes = (fixed_decimal, tree.body), (Decimal, classes["Decimal"]), (NumberFormat, classes["NumberFormat"])
+    for home, body in homes:
         stubs = {}
         for node in body:
             if isinstance(node, ast.FunctionDef) and not node.name.startswith("__"):
@@ -408,11 +412,17 @@ def test_stub():
 
 
 def test_examples():
-    """Those of the docstrings."""
+    """Those of the docstrings, and those of docs/PYTHON.md."""
     for module in (fixed_decimal, fixed_decimal._errors, fixed_decimal._options):
         found = doctest.testmod(module, extraglobs={"column": column})
         check(found.failed == 0 and found.attempted > 0, "examples", module, found)
-    check(doctest.testmod(fixed_decimal).attempted > 30, "the examples of Decimal")
+    check(doctest.testmod(fixed_decimal).attempted > 40, "the examples of Decimal and NumberFormat")
+    page = os.path.join(os.path.dirname(os.path.abspath(__file__)), "../../docs/PYTHON.md")
+    with open(page, encoding="utf-8") as file:
+        blocks = re.findall("^```pycon\n(.*?)^```$", file.read(), re.M | re.S)
+    found = doctest.DocTestParser().get_doctest("\n".join(blocks), {}, "PYTHON.md", page, 0)
+    found = doctest.DocTestRunner().run(found)
+    check(found.failed == 0 and found.attempted > 20, "examples of docs/PYTHON.md", found)
 
 
 def test_options():
@@ -431,6 +441,10 @@ def test_options():
             options[re.sub("[A-Z]", lambda capital: "_" + capital[0].lower(), name)] = value
         found = Decimal(number).format(locale, **{"style": "decimal", **options})
         check(found == text, locale, words, number, found, text)
+        made = NumberFormat(locale, **options)
+        parts = "".join(part["value"] for part in made.format_to_parts(number))
+        check(made.format(number) == parts == text, locale, words, number, made, parts, text)
+        check(NumberFormat(**made.resolved_options()).format(number) == text, made, made.resolved_options(), number)
         # Without rounding it is the same if nothing is rounded, and no zeros are dropped.
         has_own_digits = re.fullmatch(r"-?(0|[1-9]\d*)(\.\d{0,2}[1-9])?", number)
         if has_own_digits and options.keys() <= {"use_grouping", "sign_display"}:
@@ -462,6 +476,293 @@ def test_options():
     for wrong in ({"unit": "meter"}, {"style": "percent", "skeleton": "K"}, {"style": None}, {"style": []},
                   {"currency": b"EUR"}, {"maximum_fraction_digits": "2"}):
         raises(TypeError, lambda: Decimal("1").format("de", **wrong))
+
+
+EUROS = {"style": "currency", "currency": "EUR"}
+# The parts of `formatToParts` in node 20 (CLDR 48), as types and texts.
+PARTS = [
+    ("de", EUROS, "-1234567.5", "minusSign - integer 1 group . integer 234 group . integer 567 decimal , fraction 50 "
+     "literal \xa0 currency €"),
+    ("en", {"style": "currency", "currency": "USD", "currency_sign": "accounting"}, "-5",
+     "literal ( currency $ integer 5 decimal . fraction 00 literal )"),
+    ("fr", {"style": "percent", "maximum_fraction_digits": 1}, "0.125",
+     "integer 12 decimal , fraction 5 literal \xa0 percentSign %"),
+    ("en", {"notation": "scientific"}, "0.00012345",
+     "integer 1 decimal . fraction 235 exponentSeparator E exponentMinusSign - exponentInteger 4"),
+    ("en", {"sign_display": "always"}, "5", "plusSign + integer 5"),
+    ("hi-u-nu-deva", {}, "1234567.891", "integer १२ group , integer ३४ group , integer ५६७ decimal . fraction ८९१"),
+    ("en", {"notation": "compact"}, "1234", "integer 1 decimal . fraction 2 compact K"),
+]
+# `resolvedOptions` of node 20, with Python's words; the locale is the one that is passed.
+RESOLVED = [
+    ("de-CH", {"style": "currency", "currency": "CHF"},
+     {"locale": "de-CH", "numbering_system": "latn", "style": "currency", "currency": "CHF",
+      "currency_display": "symbol", "currency_sign": "standard", "minimum_integer_digits": 1,
+      "minimum_fraction_digits": 2, "maximum_fraction_digits": 2, "use_grouping": "auto", "notation": "standard",
+      "sign_display": "auto", "rounding_increment": 1, "rounding_mode": "half-expand", "rounding_priority": "auto",
+      "trailing_zero_display": "auto"}),
+    ("en", {"notation": "compact"},
+     {"locale": "en", "numbering_system": "latn", "style": "decimal", "minimum_integer_digits": 1,
+      "minimum_fraction_digits": 0, "maximum_fraction_digits": 0, "minimum_significant_digits": 1,
+      "maximum_significant_digits": 2, "use_grouping": "min2", "notation": "compact", "compact_display": "short",
+      "sign_display": "auto", "rounding_increment": 1, "rounding_mode": "half-expand",
+      "rounding_priority": "more-precision", "trailing_zero_display": "auto"}),
+    ("en", {"style": "percent", "maximum_significant_digits": 3, "rounding_priority": "lessPrecision"},
+     {"locale": "en", "numbering_system": "latn", "style": "percent", "minimum_integer_digits": 1,
+      "minimum_fraction_digits": 0, "maximum_fraction_digits": 0, "minimum_significant_digits": 1,
+      "maximum_significant_digits": 3, "use_grouping": "auto", "notation": "standard", "sign_display": "auto",
+      "rounding_increment": 1, "rounding_mode": "half-expand", "rounding_priority": "less-precision",
+      "trailing_zero_display": "auto"}),
+    ("ar-EG", {"rounding_increment": 50, "minimum_fraction_digits": 2, "maximum_fraction_digits": 2,
+               "rounding_mode": "floor", "trailing_zero_display": "stripIfInteger", "use_grouping": False,
+               "sign_display": "negative"},
+     {"locale": "ar-EG", "numbering_system": "arab", "style": "decimal", "minimum_integer_digits": 1,
+      "minimum_fraction_digits": 2, "maximum_fraction_digits": 2, "use_grouping": False, "notation": "standard",
+      "sign_display": "negative", "rounding_increment": 50, "rounding_mode": "floor", "rounding_priority": "auto",
+      "trailing_zero_display": "strip-if-integer"}),
+    ("en", {"maximum_significant_digits": 4, "notation": "engineering"},
+     {"locale": "en", "numbering_system": "latn", "style": "decimal", "minimum_integer_digits": 1,
+      "minimum_significant_digits": 1, "maximum_significant_digits": 4, "use_grouping": "auto",
+      "notation": "engineering", "sign_display": "auto", "rounding_increment": 1, "rounding_mode": "half-expand",
+      "rounding_priority": "auto", "trailing_zero_display": "auto"}),
+]
+
+
+# `NumberFormat("de", currency="EUR", style="currency")` in the protocols 2 and 4.
+PICKLES = [
+    "80026366756e63746f6f6c730a7061727469616c0a7100635f5f6275696c74696e5f5f0a676574617474720a710163666978"
+    "65645f646563696d616c0a4e756d626572466f726d61740a710258070000005f5f6e65775f5f710386710452710585710652"
+    "710728680568025802000000646571088671097d710a28580800000063757272656e6379710b5803000000455552710c5805"
+    "0000007374796c65710d680b754e74710e622952710f2e",
+    "8004954a000000000000008c0d66697865645f646563696d616c948c0c4e756d626572466f726d61749493948c0264659485"
+    "947d94288c0863757272656e6379948c03455552948c057374796c659468067592942e",
+]
+
+
+def test_number_format():
+    """A format is made once, by a locale and a skeleton or options, and takes each kind of number."""
+    euros = NumberFormat("de", **EUROS)
+    for number, want in (
+        ("1234.5", "1.234,50"), ("1e3", "1.000,00"), (Decimal("-0.005"), "-0,01"), (5, "5,00"), (True, "1,00"),
+        (-(2**63), "-9.223.372.036.854.775.808,00"), (10**20, "100" + ".000" * 6 + ",00"),
+        (decimal.Decimal("1E+3"), "1.000,00"), ("7" * 300, ".".join(["777"] * 100) + ",00"),
+    ):
+        check(euros.format(number) == want + "\xa0€", number, euros.format(number))
+        check("".join(part["value"] for part in euros.format_to_parts(number)) == euros.format(number), "parts", number)
+        check(euros.read(euros.format(number)).format("de", **EUROS) == euros.format(number), "read", number)
+    check(NumberFormat("es", skeleton="KK").format("-1234.5") == "-1,2 mil", "a skeleton")
+    check(NumberFormat("en", skeleton="").format("0.1234565") == "0.123456", "the empty skeleton is ICU's default")
+    check(NumberFormat("en").format("0.12345") == "0.123", "no options")
+    check(NumberFormat("en", skeleton=None).format("0.12345") == "0.123", "no skeleton")
+    check(NumberFormat(locale="de_CH.UTF-8").format(1234) == "1'234", "a locale by its name")
+    check(euros.read(text="EUR 1.234,5", lenient=True) == euros.read("EUR 1.234,5", 1) == Decimal("1234.5"), "lenient")
+    for locale, options, number, want in PARTS:
+        words = iter(want.split(" "))
+        want = [{"type": name, "value": next(words)} for name in words]
+        found = NumberFormat(locale, **options).format_to_parts(number)
+        check(found == want, locale, options, number, found, want)
+    for locale, options, want in RESOLVED:
+        found = NumberFormat(locale, **options).resolved_options()
+        check(found == want, locale, options, found, want)
+        check(NumberFormat(**want).resolved_options() == want, "the resolved options as options", want)
+    more = NumberFormat("en", skeleton="permille scale/100 sign-never integer-width/##0").resolved_options()
+    found = [more.get(name) for name in ("style", "scale", "sign_display", "maximum_integer_digits")]
+    check(found == ["permille", 2, "never", 3], "more options", more)
+    more = NumberFormat("en", skeleton="@@+").resolved_options()
+    check(more.get("maximum_significant_digits", 0) is None, "no maximum", more)
+
+
+def test_errors_of_number_formats():
+    euros = NumberFormat("de", **EUROS)
+    for call, message in (
+        (lambda: euros.format("1x"), "syntax: '1x'"), (lambda: euros.format("\ud800"), "syntax: '\\ud800'"),
+        (lambda: euros.format(decimal.Decimal("NaN")), "syntax: 'NaN'"), (lambda: euros.format(1 << 200000), "limit"),
+        (lambda: euros.format_to_parts("1e99999"), "limit: '1e99999'"),
+        (lambda: NumberFormat("de", skeleton="scale/100").format("1e32767"), "overflow: '1e32767'"),
+        (lambda: NumberFormat("de", skeleton="scale/100").format_to_parts("1e32767"), "overflow: '1e32767'"),
+        (lambda: euros.read("5 USD"), "syntax: '5 USD'"), (lambda: euros.read("\ud800"), "syntax: '\\ud800'"),
+        (lambda: NumberFormat("de", notation="compact").read("1"), "unreadable format"),
+        (lambda: NumberFormat("tlh"), "unknown locale: 'tlh'"), (lambda: NumberFormat(""), "unknown locale: ''"),
+        (lambda: NumberFormat("\udcff"), "unknown locale: '\\udcff'"),
+        (lambda: NumberFormat("tlh", skeleton="percent/w"), "skeleton syntax: 'percent/w'"),
+        (lambda: NumberFormat("de", skeleton="\ud800"), "skeleton syntax: '\\ud800'"),
+        (lambda: NumberFormat("de", skeleton="measure-unit/length-foot"),
+         "skeleton unsupported: 'measure-unit/length-foot'"),
+        (lambda: NumberFormat("de", numbering_system="roman"), "unknown numbering system"),
+        (lambda: NumberFormat("de", minimum_integer_digits=22), "digit options: integer digits are from 1 to 21"),
+    ):
+        raises(DecimalError, call, text=message)
+    both = "NumberFormat() takes a skeleton or options, not both: a skeleton has them all"
+    for call, message in (
+        (lambda: NumberFormat("de", skeleton="K", style="percent"), both),
+        (lambda: NumberFormat("de", skeleton="K", currency=None), both),
+        (lambda: NumberFormat(), "NumberFormat() takes a locale"),
+        (lambda: NumberFormat(skeleton="K"), "NumberFormat() takes a locale"),
+        (lambda: NumberFormat("de", "K"), "NumberFormat expected at most 1 argument, got 2"),
+        (lambda: NumberFormat("de", locale="de"), "no such option: locale"),
+        (lambda: NumberFormat(b"de"), "a locale is a str, not bytes"),
+        (lambda: NumberFormat("de", skeleton=5), "a skeleton is a str, not int"),
+        (lambda: NumberFormat("de", unit="meter"), "no such option: unit"),
+        (lambda: NumberFormat("de", style=5), "style is a str, not int"),
+        (lambda: euros.format(1.5), "a number is a str, an int or a Decimal, not float, whose digits are not those "
+                                    "that were written: write str(x) of a float x"),
+        (lambda: euros.format_to_parts(None), "a number is a str, an int or a Decimal, not NoneType"),
+        (lambda: euros.read(Decimal(1)), "a text is a str, not fixed_decimal.Decimal"),
+        (lambda: euros.read(), "read() takes a text"),
+        (lambda: euros.read("1", strict=True), "read() has no such argument: strict"),
+        (lambda: column(["1"], format=euros, skeleton="K"),
+         "column() takes a NumberFormat, or a skeleton or options, not both: a NumberFormat has them"),
+        (lambda: column(["1"], format=euros, style="percent"),
+         "column() takes a NumberFormat, or a skeleton or options, not both: a NumberFormat has them"),
+    ):
+        raises(TypeError, call, text=message)
+    for wrong in ({"style": "unit"}, {"style": "permille"}, {"currency_display": "hidden"}, {"style": "currency"}):
+        raises(ValueError, lambda: NumberFormat("de", **wrong))
+
+
+def test_values_of_number_formats():
+    """Two are equal if their options are. They do not change, and are pickled by their options' names."""
+    euros, plain = NumberFormat("de", **EUROS), NumberFormat("de")
+    check(euros == NumberFormat("de", currency="EUR", style="currency", rounding_mode="halfExpand"), "the defaults")
+    check(plain == NumberFormat("de", use_grouping="auto", minimum_fraction_digits=None), "the defaults")
+    check(NumberFormat("de", use_grouping=True) == NumberFormat("de", use_grouping="always"), "one meaning")
+    different = [euros, plain, NumberFormat("en"), NumberFormat("de", skeleton=""), NumberFormat("de", skeleton="K"),
+                 NumberFormat("de", notation="compact"), NumberFormat("de", minimum_fraction_digits=0),
+                 NumberFormat("de", use_grouping=False), NumberFormat("de", minimum_integer_digits=1)]
+    for at, one in enumerate(different):
+        check([one == other for other in different] == [at == i for i in range(len(different))], one)
+        check([one != other for other in different] == [at != i for i in range(len(different))], one)
+    check(len(set(different + [NumberFormat("de", **EUROS)])) == len(different), "hashes")
+    check(euros != "de" and euros.__eq__("de") is NotImplemented and euros.__lt__(euros) is NotImplemented, "others")
+    check(repr(euros) == "NumberFormat('de', currency='EUR', style='currency')", repr(euros))
+    for one in different:
+        check(eval(repr(one)) == one, "repr", one)
+        copies = [pickle.loads(pickle.dumps(one, protocol)) for protocol in range(pickle.HIGHEST_PROTOCOL + 1)]
+        for made in (*copies, copy.copy(one), copy.deepcopy(one)):
+            check(made == one and made.format("1234.5678") == one.format("1234.5678"), "a copy", one)
+    # A pickle has names, and no bytes of a struct: each version reads these, which the first one has written.
+    for text in PICKLES:
+        check(pickle.loads(bytes.fromhex(text)) == euros, "an older pickle", text)
+    bytes_of_pickle = pickle.dumps(euros)
+    check(b"EUR" in bytes_of_pickle and len(bytes_of_pickle) < 150, "the bytes of a pickle", bytes_of_pickle)
+    for change in (lambda: setattr(euros, "locale", "en"), lambda: setattr(euros, "format", None),
+                   lambda: delattr(euros, "format"), lambda: setattr(NumberFormat, "format", None),
+                   lambda: type("Other", (NumberFormat,), {}), lambda: object.__new__(NumberFormat),
+                   lambda: NumberFormat.__new__(NumberFormat), lambda: euros < euros):
+        raises((AttributeError, TypeError), change)
+    euros.__init__("en")
+    check(euros.format(5) == "5,00\xa0€", "it is as it was")
+
+
+def test_kept_formats():
+    """`Decimal.format` keeps formats by arguments that are equal only to themselves, also if the end of one formats."""
+
+    class Word(str):
+        """A str that is equal to each other one, and formats at its end."""
+
+        def __eq__(self, other):
+            return True
+
+        def __hash__(self):
+            return 1
+
+        def __del__(self):
+            Decimal("1").format("fr", style="percent")
+
+    class Two(int):
+        def __eq__(self, other):
+            return True
+
+        def __hash__(self):
+            return 2
+
+    one = Decimal("0.5")
+    for _ in range(3):
+        for call, want in (
+            (lambda: one.format("en", style=Word("percent")), "50%"),
+            (lambda: one.format("en", style=Word("decimal")), "0.5"),
+            (lambda: one.format(Word("de"), style="percent"), "50\xa0%"),
+            (lambda: one.format(Word("en"), style="percent"), "50%"),
+            (lambda: one.format("en", skeleton=Word("percent")), "0.5%"),
+            (lambda: one.format("en", skeleton=Word(".00")), "0.50"),
+            (lambda: one.format("en", minimum_fraction_digits=Two(2)), "0.50"),
+            (lambda: one.format("en", minimum_fraction_digits=Two(1)), "0.5"),
+            (lambda: one.format("en", use_grouping=Word("min2")), "0.5"),
+            (lambda: one.format("en", minimum_fraction_digits=True), "0.5"),
+            (lambda: one.format("en", minimum_fraction_digits=1), "0.5"),
+            (lambda: one.format("en", use_grouping=True, style="decimal"), "0.5"),
+            (lambda: column(["0.5"], format=Word("de"), style=Word("percent")), ["50\xa0%"]),
+            (lambda: column(["0.5"], format=Word("en"), style=Word("decimal")), ["0.5"]),
+        ):
+            check(call() == want, "kept", want, call())
+        raises(TypeError, lambda: one.format("en", use_grouping=1, style="decimal"))
+    for count in range(1, 200):
+        least = count % 90 + 1
+        found = one.format("en", minimum_fraction_digits=least, maximum_fraction_digits=91)
+        check(found == "0.5" + "0" * (least - 1), "more formats than are kept", least)
+
+
+def test_threads():
+    """One format in eight threads, and eight formats in turn in each."""
+    formats = [NumberFormat(locale, **EUROS) for locale in ("de", "en", "fr", "hi", "ja", "ar-EG", "de-CH", "es")]
+    wants = {(i, n): formats[i].format(n) for i in range(8) for n in range(200)}
+    wrong = []
+
+    def work():
+        for n in range(200):
+            for i, one in enumerate(formats):
+                found = one.format(n), Decimal(n).format(one.resolved_options()["locale"], **EUROS)
+                if found != (wants[i, n],) * 2:
+                    wrong.append((i, n, found))
+        if column(range(40000), format=formats[1]) != [f"€{n:,}.00" for n in range(40000)]:
+            wrong.append("a column")
+
+    before = sys.getswitchinterval()
+    sys.setswitchinterval(1e-5)
+    threads = [threading.Thread(target=work) for _ in range(8)]
+    for thread in threads:
+        thread.start()
+    for thread in threads:
+        thread.join()
+    sys.setswitchinterval(before)
+    check(not wrong, "threads", *wrong[:3])
+
+
+def test_leaks():
+    """What a call takes is released, also after an error: many calls take no more memory than a few."""
+    euros, one = NumberFormat("de", **EUROS), Decimal("1234.5")
+
+    def fails(call):
+        try:
+            call()
+        except (ValueError, TypeError):
+            return
+        check(False, "no error")
+
+    calls = [
+        lambda: NumberFormat("de", **EUROS), lambda: NumberFormat("de", skeleton="KK"), lambda: euros.format(one),
+        lambda: euros.format("7" * 300), lambda: euros.format(12345), lambda: euros.format(decimal.Decimal("1.5")),
+        lambda: euros.format_to_parts(one), lambda: euros.format_to_parts("7" * 300), lambda: euros.read("5,00\xa0€"),
+        lambda: euros.resolved_options(), lambda: repr(euros), lambda: hash(euros), lambda: euros == NumberFormat("en"),
+        lambda: pickle.dumps(euros), lambda: one.format("de", **EUROS), lambda: one.format("de", skeleton="percent"),
+        lambda: one.format("de", use_grouping=False), lambda: Decimal.read("5,00\xa0€", "de", **EUROS),
+        lambda: column(["5", "x"], "shift:1", format=euros, errors="skip"), lambda: fails(lambda: euros.format("x")),
+        lambda: fails(lambda: euros.format(1.5)), lambda: fails(lambda: NumberFormat("tlh")),
+        lambda: fails(lambda: NumberFormat("de", skeleton="K0")), lambda: fails(lambda: NumberFormat("de", style="x")),
+        lambda: fails(lambda: NumberFormat("de", skeleton="K", style="x")), lambda: fails(lambda: euros.read("x")),
+        lambda: fails(lambda: column(["x"], format=euros)),
+        lambda: fails(lambda: column(["1"], format=euros, style="x")),
+        lambda: fails(lambda: one.format("de", minimum_integer_digits=30)),
+    ]
+    tracemalloc.start()
+    for call in calls:
+        sizes = []
+        for _ in range(4):
+            for _ in range(150):
+                call()
+            sizes.append(tracemalloc.get_traced_memory()[0])
+        check(sizes[3] - sizes[1] < 8000, "a leak", inspect.getsource(call), sizes)
+    tracemalloc.stop()
 
 
 def test_plain_options():
@@ -511,6 +812,13 @@ def test_column(cases):
     check(column(["250", "5"], "shift:-2", "display:always", format="de") == ["+2,50", "+0,05"], "calls")
     check(column(["1234.5", "7"], format="es", skeleton="KK") == ["1,2 mil", "7"], "skeleton")
     check(column(["-1234.5"], format="en", skeleton="") == ["-1,234.5"], "the empty skeleton")
+    for made in (NumberFormat("de", **EUROS), NumberFormat("es", notation="compact"), NumberFormat("hi-u-nu-deva")):
+        check(column(texts, format=made) == [made.format(text) for text in texts], "a format", made)
+        wants = [made.format(Decimal(text).round(-1, "ceil")) for text in texts]
+        check(column(texts, "round:-1:ceil:1", format=made) == wants, "calls, and a format", made)
+        check(column(["1.234,5"], read="de", format=made) == [made.format("1234.5")], "read, and a format", made)
+    unsigned = {"style": "currency", "currency": "USD", "currency_sign": "accounting", "sign_display": "never"}
+    check(column(["-5"], format="en", **unsigned) == ["$5.00"], "options that no skeleton has")
     check(column(["1.234,5", "7"], read="de", format="en-IN") == ["1,234.5", "7"], "read")
     check(column(["1.234,5\xa0€"], "shift:2", read="de", read_skeleton="currency/EUR") == ["123450"], "read amounts")
     check(column(["EUR 5", "7"], read="de", read_skeleton="currency/EUR", lenient=True) == ["5", "7"], "read leniently")
@@ -532,6 +840,24 @@ def test_column(cases):
     raises(DecimalError, lambda: column([], format="de", skeleton="percent/w"), "skeleton syntax")
     raises(DecimalError, lambda: column([], skeleton="percent"), "unknown locale")
     raises(DecimalError, lambda: column([], read="de", read_skeleton="K"), "unreadable format")
+    # The first text that fails, in the calls or in the format, and its number.
+    scaled = NumberFormat("en", skeleton="scale/100")
+    for texts, calls, line in (
+        (["1", "1e32767", "x"], ["trim-end"], 1), (["1", "x", "1e32767"], ["trim-end"], 1),
+        (["1", "1e32767", "x"], [], 1), (["1", "x", "1e32767"], [], 1), (["1", "1e32766", "1e32767"], ["shift:1"], 1),
+        (["1"] * 40000 + ["1e32767", "x"], ["trim-end"], 40000),
+        (["1"] * 40000 + ["x", "1e32767"], ["trim-end"], 40000),
+    ):
+        reason = "syntax" if texts[line] == "x" else "overflow"
+        message = f"line {line}: {reason}: '{texts[line]}'"
+        raises(DecimalError, lambda: column(texts, *calls, format=scaled), reason, message)
+        found = column(texts, *calls, format=scaled, errors="skip")
+        wants = [scaled.format(column([text], *calls)[0]) for text in texts[:line]] + [None] * len(texts[line:])
+        check(found == wants, "skip", found[line:])
+    try:
+        column(["1e32766"], "shift:1", "trim-end", format=scaled)
+    except DecimalError as error:
+        check((error.reason, error.at) == ("overflow", 2), "the number of calls", error.at)
     # The first text that fails, in the same block or in one before.
     for before, after in ((2, ["y"]), (2, ["1\n2"]), (50000, ["y"]), (50000, ["2"] * 50000 + ["1\n2"])):
         try:
@@ -561,8 +887,10 @@ def test_errors_of_columns(cases):
     wrong = ["x", "", "1\n2", "\n", "\ud800", "1e99999", "9" * 32768, decimal.Decimal("NaN"), 1 << 200000, "é"]
     is_wrong = [rng.random() < 0.2 for _ in range(cases + 40000)]
     texts = [rng.choice(wrong) if fails else random_text(rng) for fails in is_wrong]
+    euros = NumberFormat("de", **EUROS)
     for options, one in (({}, lambda it: str(Decimal(it).shift(1))),
-                         ({"format": "de"}, lambda it: Decimal(it).shift(1).format("de"))):
+                         ({"format": "de"}, lambda it: Decimal(it).shift(1).format("de")),
+                         ({"format": euros}, lambda it: euros.format(Decimal(it).shift(1)))):
         wants = [None if fails else one(text) for fails, text in zip(is_wrong, texts)]
         check(column(texts, "shift:1", errors="skip", **options) == wants, "skip", options)
         found = column(texts, "shift:1", errors="keep", **options)
@@ -672,8 +1000,24 @@ def test_memory():
         return print("not run: _testcapi is missing")
     many, number, big = ["1234.5"] * 40000, decimal.Decimal("1.50"), 1 << 400
     one, padded, long = Decimal("1234.5"), Decimal("1").pad(end=-300), "7" * 300
-    amount = {"style": "currency", "currency": "EUR"}
+    amount, euros = EUROS, NumberFormat("de", **EUROS)
     rows = [
+        (lambda: NumberFormat("de", **amount), euros), (lambda: NumberFormat("de", skeleton="K").format(one), "1234"),
+        (lambda: euros.format(one), "1.234,50\xa0€"), (lambda: euros.format("0" + long), euros.format(long)),
+        (lambda: euros.format(5), "5,00\xa0€"), (lambda: euros.format(number), "1,50\xa0€"),
+        (lambda: len(euros.format_to_parts(one)), 7), (lambda: len(euros.format_to_parts(long)), 203),
+        (lambda: euros.read("1.234,50\xa0€"), Decimal("1234.50")),
+        (lambda: euros.read("EUR 5", lenient=True), Decimal("5")),
+        (lambda: euros.resolved_options()["currency"], "EUR"), (lambda: hash(euros), hash(euros)),
+        (lambda: repr(euros), "NumberFormat('de', currency='EUR', style='currency')"),
+        (lambda: euros == NumberFormat("en"), False), (lambda: pickle.loads(pickle.dumps(euros)), euros),
+        (lambda: column(["250", 5, number], "shift:-2", format=euros), ["2,50\xa0€", "0,05\xa0€", "0,02\xa0€"]),
+        (lambda: column(many[:17000], format=euros), ["1.234,50\xa0€"] * 17000),
+        (lambda: column(["1", "x"], format=euros, errors="skip"), ["1,00\xa0€", None]),
+        (functools.partial(NumberFormat, "tlh"), ("unknown locale", None)),
+        (functools.partial(NumberFormat, "de", skeleton="K0"), ("skeleton syntax", None)),
+        (functools.partial(euros.format, "x"), ("syntax", None)),
+        (functools.partial(column, ["1", "x"], format=euros), ("syntax", 1)),
         (lambda: Decimal("1.50"), Decimal("1.50")), (lambda: Decimal(long), Decimal(long)),
         (lambda: Decimal(number), Decimal("1.50")), (lambda: Decimal(big), Decimal(str(big))),
         (lambda: str(one), "1234.5"), (lambda: repr(one), "Decimal('1234.5')"), (lambda: hash(one), hash(one)),
@@ -737,6 +1081,12 @@ if __name__ == "__main__":
     test_stub()
     test_examples()
     test_options()
+    test_number_format()
+    test_errors_of_number_formats()
+    test_values_of_number_formats()
+    test_kept_formats()
+    test_threads()
+    test_leaks()
     test_plain_options()
     test_types_of_options()
     test_column(count)

@@ -4,9 +4,10 @@ use crate::error::{
     RulesError, UnknownLocale,
 };
 use crate::ffi::{self, FdCall, FdForm, FdForms, Text};
+use crate::number_format::NumberFormat;
 use crate::options::{PluralCategory, RoundingIncrement, Sign, SignDisplay, SignedRoundingMode, UnsignedRoundingMode};
 use std::cmp::Ordering;
-use std::fmt;
+use std::fmt::{self, Write};
 use std::ops::RangeInclusive;
 use std::str::FromStr;
 
@@ -62,17 +63,6 @@ fn parse_error(failure: Failure) -> ParseError {
     }
 }
 
-fn number_format_error(failure: Failure) -> NumberFormatError {
-    match failure.status {
-        7 => NumberFormatError::Limit,
-        10 => NumberFormatError::UnknownLocale,
-        16 => NumberFormatError::SkeletonSyntax(failure.at),
-        17 => NumberFormatError::SkeletonUnsupported(failure.at),
-        18 => NumberFormatError::UnknownNumberingSystem,
-        _ => failure.never(),
-    }
-}
-
 /// # Texts
 impl Decimal {
     /// Reads a decimal: digits with an optional point, sign and exponent. All zeros are kept.
@@ -99,6 +89,11 @@ impl Decimal {
     pub fn try_from_utf8(text: &[u8]) -> Result<Self, ParseError> {
         let text = Text::new(text).map_err(parse_error)?;
         Ok(Decimal { text })
+    }
+
+    /// The decimal of a text that the library has written.
+    pub(crate) fn of_text(text: String) -> Self {
+        Decimal { text: Text::Long(text) }
     }
 
     /// The text.
@@ -131,7 +126,8 @@ impl Decimal {
         })
     }
 
-    /// The number as `Intl.NumberFormat` writes it in a locale, by a number skeleton of ICU.
+    /// The number as `Intl.NumberFormat` writes it in a locale, by a number skeleton of ICU. For many numbers make a
+    /// [`NumberFormat`] once.
     ///
     /// # Errors
     ///
@@ -145,7 +141,7 @@ impl Decimal {
     /// # Ok::<(), NumberFormatError>(())
     /// ```
     pub fn format_number(&self, locale: &str, skeleton: &str) -> Result<String, NumberFormatError> {
-        ffi::format_number(&self.text, locale, skeleton).map_err(number_format_error)
+        Ok(NumberFormat::by_skeleton(locale, skeleton)?.format(self)?.as_str().to_owned())
     }
 
     /// Reads a text that [`format_number`](Decimal::format_number) writes by this locale and this skeleton, with its
@@ -163,7 +159,7 @@ impl Decimal {
     /// # Ok::<(), NumberReadError>(())
     /// ```
     pub fn read_number(locale: &str, skeleton: &str, text: &str) -> Result<Self, NumberReadError> {
-        Self::read_number_by(locale, skeleton, text, false)
+        NumberFormat::by_skeleton(locale, skeleton).map_err(NumberReadError::Format)?.read(text)
     }
 
     /// Reads a number as people type it: as [`read_lenient`](Decimal::read_lenient), with the symbol or the code of the
@@ -179,18 +175,7 @@ impl Decimal {
     /// # Ok::<(), NumberReadError>(())
     /// ```
     pub fn read_number_lenient(locale: &str, skeleton: &str, text: &str) -> Result<Self, NumberReadError> {
-        Self::read_number_by(locale, skeleton, text, true)
-    }
-
-    fn read_number_by(locale: &str, skeleton: &str, text: &str, lenient: bool) -> Result<Self, NumberReadError> {
-        match ffi::read_number(text, locale, skeleton, lenient) {
-            Ok(text) => Ok(Decimal { text: Text::Long(text) }),
-            Err(failure) => Err(match failure.status {
-                1 | 2 => NumberReadError::Text(parse_error(failure)),
-                19 => NumberReadError::Unreadable,
-                _ => NumberReadError::Format(number_format_error(failure)),
-            }),
-        }
+        NumberFormat::by_skeleton(locale, skeleton).map_err(NumberReadError::Format)?.read_lenient(text)
     }
 
     /// Reads a text that [`format`](Decimal::format) writes, with its groups or without any.
@@ -760,18 +745,26 @@ fn write_number(f: &mut fmt::Formatter<'_>, text: &str) -> fmt::Result {
         "" if f.sign_plus() => "+",
         sign => sign,
     };
-    let missing = f.width().unwrap_or(0).saturating_sub(sign.len() + digits.len());
     if f.sign_aware_zero_pad() {
+        let missing = f.width().unwrap_or(0).saturating_sub(sign.len() + digits.len());
         return write!(f, "{sign}{}{digits}", "0".repeat(missing));
     }
+    pad(f, sign, digits)
+}
+
+/// Writes a sign and a text with the width, the fill and the alignment of the format, to the right by default.
+pub(crate) fn pad(f: &mut fmt::Formatter<'_>, sign: &str, text: &str) -> fmt::Result {
+    let missing = f.width().map_or(0, |width| width.saturating_sub(sign.len() + text.chars().count()));
     let before = match f.align() {
         Some(fmt::Alignment::Left) => 0,
         Some(fmt::Alignment::Center) => missing / 2,
         Some(fmt::Alignment::Right) | None => missing,
     };
-    let fill = |count| f.fill().to_string().repeat(count);
-    let (before, after) = (fill(before), fill(missing - before));
-    write!(f, "{before}{sign}{digits}{after}")
+    let fill = f.fill();
+    (0..before).try_for_each(|_| f.write_char(fill))?;
+    f.write_str(sign)?;
+    f.write_str(text)?;
+    (before..missing).try_for_each(|_| f.write_char(fill))
 }
 
 impl fmt::Debug for Decimal {

@@ -18,6 +18,18 @@ impl Failure {
         Failure { status, at }
     }
 
+    /// Of an `fd_digit_reason`.
+    pub(crate) fn digit_options_error(&self) -> DigitOptionsError {
+        match self.at {
+            0 => DigitOptionsError::IntegerDigits,
+            1 => DigitOptionsError::Increment,
+            2 => DigitOptionsError::SignificantDigits,
+            3 => DigitOptionsError::FractionDigits,
+            4 => DigitOptionsError::IncrementPrecision,
+            _ => DigitOptionsError::IncrementDigits,
+        }
+    }
+
     /// What this crate never passes to the library.
     pub(crate) fn never(&self) -> ! {
         unreachable!("status {} at {}", self.status, self.at)
@@ -63,16 +75,39 @@ pub enum ReadError {
 #[derive(Clone, Copy, Debug, PartialEq, Eq)]
 pub struct UnknownLocale;
 
-/// Why a number is not formatted by a locale and a skeleton.
+/// A text is no code of a currency, or no name of a numbering system.
+#[derive(Clone, Copy, Debug, PartialEq, Eq)]
+pub struct NameError;
+
+/// Why numbers of digits are those of no format, the first that holds.
+#[derive(Clone, Copy, Debug, PartialEq, Eq)]
+pub enum DigitOptionsError {
+    /// Not 1 to 21 integer digits.
+    IntegerDigits,
+    /// There is no such increment.
+    Increment,
+    /// Not 1 to 21 significant digits, or the minimum is above the maximum.
+    SignificantDigits,
+    /// More than 100 fraction digits, or the minimum is above the maximum.
+    FractionDigits,
+    /// An increment with significant digits, a priority, or compact notation by default.
+    IncrementPrecision,
+    /// An increment with two numbers of fraction digits.
+    IncrementDigits,
+}
+
+/// Why there is no format of a locale and options or a skeleton, or a number is not formatted.
 #[derive(Clone, Copy, Debug, PartialEq, Eq)]
 pub enum NumberFormatError {
+    /// The numbers of digits are those of no format.
+    Digits(DigitOptionsError),
     /// The text is no number skeleton from this byte on.
     SkeletonSyntax(usize),
     /// The library has no such option as the stem at this byte of the skeleton.
     SkeletonUnsupported(usize),
     /// The locale, or its numbering system, is unknown.
     UnknownLocale,
-    /// The numbering system of the skeleton is unknown.
+    /// The numbering system of the options or of the skeleton is unknown.
     UnknownNumberingSystem,
     /// The number that is shown would pass magnitude -32768 or 32767.
     Limit,
@@ -81,9 +116,9 @@ pub enum NumberFormatError {
 /// Why a text is not read by a locale and a skeleton.
 #[derive(Clone, Copy, Debug, PartialEq, Eq)]
 pub enum NumberReadError {
-    /// There is no such skeleton or locale.
+    /// There is no such format.
     Format(NumberFormatError),
-    /// The numbers of the skeleton are not read: they have an exponent or words, or two have the same text.
+    /// The numbers of the format are not read: they have an exponent or words, or two have the same text.
     Unreadable,
     /// The text is not a number in this form.
     Text(ParseError),
@@ -143,9 +178,35 @@ impl fmt::Display for UnknownLocale {
     }
 }
 
+impl fmt::Display for DigitOptionsError {
+    fn fmt(&self, f: &mut fmt::Formatter<'_>) -> fmt::Result {
+        f.write_str(match self {
+            DigitOptionsError::IntegerDigits => "integer digits are from 1 to 21",
+            DigitOptionsError::Increment => "there is no such rounding increment",
+            DigitOptionsError::SignificantDigits => "significant digits are from 1 to 21, in order",
+            DigitOptionsError::FractionDigits => "fraction digits are from 0 to 100, in order",
+            DigitOptionsError::IncrementPrecision => "an increment is used with fraction digits alone",
+            DigitOptionsError::IncrementDigits => "an increment is used with one number of fraction digits",
+        })
+    }
+}
+
+impl fmt::Display for NameError {
+    fn fmt(&self, f: &mut fmt::Formatter<'_>) -> fmt::Result {
+        f.write_str("no code of a currency, or no name of a numbering system")
+    }
+}
+
+impl From<LimitError> for NumberFormatError {
+    fn from(_: LimitError) -> Self {
+        NumberFormatError::Limit
+    }
+}
+
 impl fmt::Display for NumberFormatError {
     fn fmt(&self, f: &mut fmt::Formatter<'_>) -> fmt::Result {
         match self {
+            NumberFormatError::Digits(error) => error.fmt(f),
             NumberFormatError::SkeletonSyntax(at) => write!(f, "not a number skeleton at byte {at}"),
             NumberFormatError::SkeletonUnsupported(at) => write!(f, "unsupported stem at byte {at}"),
             NumberFormatError::UnknownLocale => UnknownLocale.fmt(f),
@@ -159,7 +220,7 @@ impl fmt::Display for NumberReadError {
     fn fmt(&self, f: &mut fmt::Formatter<'_>) -> fmt::Result {
         match self {
             NumberReadError::Format(error) => error.fmt(f),
-            NumberReadError::Unreadable => f.write_str("the numbers of the skeleton are not read"),
+            NumberReadError::Unreadable => f.write_str("the numbers of the format are not read"),
             NumberReadError::Text(error) => error.fmt(f),
         }
     }
@@ -180,6 +241,8 @@ impl Error for OverlapError {}
 impl Error for IntegerError {}
 impl Error for ReadError {}
 impl Error for UnknownLocale {}
+impl Error for NameError {}
+impl Error for DigitOptionsError {}
 impl Error for NumberFormatError {}
 impl Error for NumberReadError {}
 impl Error for RulesError {}

@@ -1,12 +1,14 @@
 //! The functions of `c/fixed_decimal.h` that the crate calls, behind safe ones. This is the only module with `unsafe`.
 #![allow(unsafe_code)]
 use crate::error::Failure;
+use crate::number_options::Options;
 use std::hash::{Hash, Hasher};
 use std::mem;
 use std::ops::Deref;
 
 const OK: u32 = 0;
 const BUFFER_TOO_SMALL: u32 = 8;
+const PARTS_TOO_SMALL: u32 = 23;
 
 /// How many bytes more than its operands most results have at most.
 const ROOM: usize = 24;
@@ -61,6 +63,35 @@ pub(crate) struct FdForms {
     pub(crate) format: FdForm,
 }
 
+/// A formatter, of 120 bytes that only the library reads.
+#[repr(C)]
+#[derive(Clone, Copy)]
+pub(crate) struct FdFormatter([u64; 15]);
+
+#[repr(C)]
+struct FdMade {
+    status: u32,
+    at: usize,
+    formatter: FdFormatter,
+}
+
+#[repr(C)]
+#[derive(Clone, Copy, Debug)]
+pub(crate) struct FdPart {
+    pub(crate) kind: u32,
+    source: u32,
+    pub(crate) start: usize,
+    pub(crate) end: usize,
+}
+
+#[repr(C)]
+struct FdParted {
+    status: u32,
+    at: usize,
+    count: usize,
+    parts: usize,
+}
+
 extern "C" {
     #[cfg(test)]
     fn fd_version() -> u32;
@@ -74,15 +105,24 @@ extern "C" {
         text: *const u8, count: usize, forms: *const FdForms, calls: *const FdCall, call_count: usize,
         texts: *const u8, texts_count: usize, buffer: *mut u8, capacity: usize,
     ) -> FdResult;
+    fn fd_formatter_by_options(tag: *const u8, tag_count: usize, options: *const Options) -> FdMade;
     #[rustfmt::skip]
-    fn fd_format_by_skeleton(
-        text: *const u8, count: usize, tag: *const u8, tag_count: usize,
-        skeleton: *const u8, skeleton_count: usize, buffer: *mut u8, capacity: usize,
+    fn fd_formatter_by_skeleton(
+        tag: *const u8, tag_count: usize, skeleton: *const u8, skeleton_count: usize,
+    ) -> FdMade;
+    #[rustfmt::skip]
+    fn fd_format(
+        formatter: *const FdFormatter, text: *const u8, count: usize, buffer: *mut u8, capacity: usize,
     ) -> FdResult;
     #[rustfmt::skip]
-    fn fd_read_by_skeleton(
-        text: *const u8, count: usize, tag: *const u8, tag_count: usize,
-        skeleton: *const u8, skeleton_count: usize, lenient: u32, buffer: *mut u8, capacity: usize,
+    fn fd_format_parts(
+        formatter: *const FdFormatter, text: *const u8, count: usize,
+        buffer: *mut u8, capacity: usize, parts: *mut FdPart, part_capacity: usize,
+    ) -> FdParted;
+    #[rustfmt::skip]
+    fn fd_read(
+        formatter: *const FdFormatter, text: *const u8, count: usize, lenient: u32,
+        buffer: *mut u8, capacity: usize,
     ) -> FdResult;
     fn fd_compare(left: *const u8, left_count: usize, right: *const u8, right_count: usize) -> FdNumber;
     fn fd_category(rules: *const u8, rules_count: usize, text: *const u8, count: usize) -> FdNumber;
@@ -188,27 +228,104 @@ pub(crate) fn convert(start: &[u8], forms: &FdForms, texts: &[u8]) -> Result<Str
     })
 }
 
-/// Formats a decimal by a locale and a number skeleton.
-pub(crate) fn format_number(start: &str, locale: &str, skeleton: &str) -> Result<String, Failure> {
-    text(4 * start.len() + ROOM, |buffer, capacity| {
-        let (tag, tag_count) = (locale.as_ptr(), locale.len());
-        let (skeleton, skeleton_count) = (skeleton.as_ptr(), skeleton.len());
-        let (start, count) = (start.as_ptr(), start.len());
-        // SAFETY: as in `Text::set`.
-        unsafe { fd_format_by_skeleton(start, count, tag, tag_count, skeleton, skeleton_count, buffer, capacity) }
-    })
+/// Makes a formatter of a locale and options.
+pub(crate) fn formatter_by_options(locale: &str, options: &Options) -> Result<FdFormatter, Failure> {
+    // SAFETY: the pointers are those of a slice of the length beside it, and of a struct as the library has it.
+    formatter(unsafe { fd_formatter_by_options(locale.as_ptr(), locale.len(), options) })
 }
 
-/// Reads a number as a locale writes it by a number skeleton.
-pub(crate) fn read_number(written: &str, locale: &str, skeleton: &str, lenient: bool) -> Result<String, Failure> {
-    text(written.len() + ROOM, |buffer, capacity| {
-        let (tag, tag_count) = (locale.as_ptr(), locale.len());
-        let (skeleton, skeleton_count) = (skeleton.as_ptr(), skeleton.len());
-        let (start, count, lenient) = (written.as_ptr(), written.len(), u32::from(lenient));
-        // SAFETY: as in `Text::set`.
-        unsafe {
-            fd_read_by_skeleton(start, count, tag, tag_count, skeleton, skeleton_count, lenient, buffer, capacity)
+/// Makes a formatter of a locale and a number skeleton.
+pub(crate) fn formatter_by_skeleton(locale: &str, skeleton: &str) -> Result<FdFormatter, Failure> {
+    // SAFETY: each pointer is that of a slice of the length beside it.
+    let made =
+        unsafe { fd_formatter_by_skeleton(locale.as_ptr(), locale.len(), skeleton.as_ptr(), skeleton.len()) };
+    formatter(made)
+}
+
+fn formatter(made: FdMade) -> Result<FdFormatter, Failure> {
+    match made.status {
+        OK => Ok(made.formatter),
+        status => Err(Failure::new(status, made.at)),
+    }
+}
+
+/// How many bytes of a formatted text are kept in place.
+const FORMATTED_IN_PLACE: usize = 126;
+
+/// The text of a formatted number, in place if it is short.
+#[derive(Clone)]
+pub(crate) enum Formatted {
+    InPlace { count: u8, bytes: [u8; FORMATTED_IN_PLACE] },
+    Allocated(String),
+}
+
+impl Deref for Formatted {
+    type Target = str;
+
+    fn deref(&self) -> &str {
+        match self {
+            // SAFETY: `format` alone makes it, of the UTF-8 that `fd_format` writes.
+            Formatted::InPlace { count, bytes } => unsafe {
+                std::str::from_utf8_unchecked(&bytes[..usize::from(*count)])
+            },
+            Formatted::Allocated(text) => text,
         }
+    }
+}
+
+/// Formats a decimal.
+pub(crate) fn format(formatter: &FdFormatter, start: &str) -> Result<Formatted, Failure> {
+    let write = |buffer: *mut u8, capacity| {
+        // SAFETY: as in `Text::set`; the formatter is borrowed.
+        unsafe { fd_format(formatter, start.as_ptr(), start.len(), buffer, capacity) }
+    };
+    let mut bytes = [0; FORMATTED_IN_PLACE];
+    let answer = write(bytes.as_mut_ptr(), FORMATTED_IN_PLACE);
+    match answer.status {
+        OK => Ok(Formatted::InPlace { count: answer.count as u8, bytes }),
+        BUFFER_TOO_SMALL => Ok(Formatted::Allocated(text(answer.count, write)?)),
+        status => Err(Failure::new(status, answer.at)),
+    }
+}
+
+/// Formats a decimal, with the parts of its text.
+pub(crate) fn format_parts(formatter: &FdFormatter, start: &str) -> Result<(String, Vec<FdPart>), Failure> {
+    let mut parts: Vec<FdPart> = Vec::new();
+    let mut buffer: Vec<u8> = Vec::new();
+    let mut write = |count, part_count| {
+        buffer.reserve(count);
+        parts.reserve(part_count);
+        // SAFETY: as in `format`; the parts have the capacity beside them.
+        let answer = unsafe {
+            let (start, count) = (start.as_ptr(), start.len());
+            let (bytes, capacity) = (buffer.as_mut_ptr(), buffer.capacity());
+            fd_format_parts(formatter, start, count, bytes, capacity, parts.as_mut_ptr(), parts.capacity())
+        };
+        if answer.status == OK {
+            // SAFETY: the function has written the first `count` bytes and the first `parts` parts.
+            unsafe {
+                buffer.set_len(answer.count);
+                parts.set_len(answer.parts);
+            }
+        }
+        answer
+    };
+    let mut answer = write(4 * start.len() + ROOM, start.len() + ROOM);
+    if answer.status == BUFFER_TOO_SMALL || answer.status == PARTS_TOO_SMALL {
+        answer = write(answer.count, answer.parts);
+    }
+    match answer.status {
+        OK => Ok((String::from_utf8(buffer).expect("a text of the library is UTF-8"), parts)),
+        status => Err(Failure::new(status, answer.at)),
+    }
+}
+
+/// Reads a number that `format` has written, or as people type it.
+pub(crate) fn read(formatter: &FdFormatter, written: &str, lenient: bool) -> Result<String, Failure> {
+    text(written.len() + ROOM, |buffer, capacity| {
+        let (start, count, lenient) = (written.as_ptr(), written.len(), u32::from(lenient));
+        // SAFETY: as in `format`.
+        unsafe { fd_read(formatter, start, count, lenient, buffer, capacity) }
     })
 }
 
@@ -266,6 +383,6 @@ mod tests {
     #[test]
     fn structs_are_those_of_the_library() {
         // SAFETY: the function takes nothing.
-        assert_eq!(unsafe { super::fd_version() }, 5);
+        assert_eq!(unsafe { super::fd_version() }, 6);
     }
 }

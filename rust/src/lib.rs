@@ -11,11 +11,18 @@
 mod decimal;
 mod error;
 mod ffi;
+mod number_format;
+mod number_options;
 mod options;
 
 pub use decimal::Decimal;
 pub use error::{
-    IntegerError, LimitError, NumberFormatError, NumberReadError, OverlapError, ParseError, ReadError, RulesError,
-    UnknownLocale,
+    DigitOptionsError, IntegerError, LimitError, NameError, NumberFormatError, NumberReadError, OverlapError,
+    ParseError, ReadError, RulesError, UnknownLocale,
+};
+pub use number_format::{FormattedNumber, NumberFormat, NumberParts, PartKind};
+pub use number_options::{
+    CompactLength, CurrencyCode, CurrencyDisplay, CurrencySign, CurrencyUsage, GroupingStrategy, NumberingSystem,
+    Options, RoundingPriority, TrailingZeroDisplay,
 };
 pub use options::{PluralCategory, RoundingIncrement, Sign, SignDisplay, SignedRoundingMode, UnsignedRoundingMode};

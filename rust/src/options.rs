@@ -73,6 +73,7 @@ pub enum Sign {
 }
 
 /// Which signs are shown.
+#[repr(u8)]
 #[derive(Clone, Copy, Debug, Default, PartialEq, Eq, Hash)]
 pub enum SignDisplay {
     /// A minus.

@@ -1,9 +1,12 @@
-//! Worked rows of the original's documentation and tests, each error, the limits, and threads.
+//! Worked rows of the original's documentation and tests, texts of node and ICU, each error, the limits, and threads.
 use fixed_decimal_proved::SignedRoundingMode::{Ceil, Floor, HalfCeil, HalfFloor};
 use fixed_decimal_proved::UnsignedRoundingMode::{Expand, HalfEven, HalfExpand, HalfTrunc, Trunc};
 use fixed_decimal_proved::{
-    Decimal, IntegerError, LimitError, NumberFormatError, NumberReadError, OverlapError, ParseError, PluralCategory,
-    ReadError, RoundingIncrement, RulesError, Sign, SignDisplay, SignedRoundingMode, UnknownLocale,
+    CompactLength, CurrencyCode, CurrencyDisplay, CurrencySign, CurrencyUsage, Decimal, DigitOptionsError,
+    FormattedNumber, GroupingStrategy, IntegerError, LimitError, NameError, NumberFormat, NumberFormatError,
+    NumberParts, NumberReadError, NumberingSystem, Options, OverlapError, ParseError, PartKind, PluralCategory,
+    ReadError, RoundingIncrement, RoundingPriority, RulesError, Sign, SignDisplay, SignedRoundingMode,
+    TrailingZeroDisplay, UnknownLocale,
 };
 use std::cmp::Ordering;
 use std::error::Error;
@@ -271,6 +274,170 @@ fn numbers_are_read() {
     ] {
         assert_eq!(Decimal::read_number(locale, skeleton, text), Err(error), "{locale} {skeleton}");
     }
+}
+
+fn currency(code: &str) -> Options {
+    Options::currency(code.parse().unwrap())
+}
+
+/// Texts of `Intl.NumberFormat` in node 20 (CLDR 48), and of ICU where the option is its own.
+#[test]
+fn number_formats() {
+    let deva: NumberingSystem = "deva".parse().unwrap();
+    let plain = Options::default();
+    for (locale, options, text, written) in [
+        ("en", plain, "-1234.5678", "-1,234.568"),
+        ("de", currency("EUR"), "1234567.5", "1.234.567,50\u{a0}€"),
+        ("en", currency("USD").with_currency_sign(CurrencySign::Accounting), "-5", "($5.00)"),
+        ("en-CA", currency("USD").with_currency_display(CurrencyDisplay::Narrow), "5", "$5.00"),
+        ("en", currency("USD").with_currency_display(CurrencyDisplay::Code), "5", "USD\u{a0}5.00"),
+        ("en", currency("USD").with_currency_display(CurrencyDisplay::Hidden), "12.345", "12.35"),
+        ("en", currency("CHF").with_currency_usage(CurrencyUsage::Cash), "1.03", "CHF\u{a0}1.05"),
+        ("de", currency("EUR").with_maximum_fraction_digits(0), "1234567.5", "1.234.568\u{a0}€"),
+        ("fr", Options::percent().with_maximum_fraction_digits(1), "0.125", "12,5\u{a0}%"),
+        ("en", Options::permille(), "1234567", "1,234,567‰"),
+        ("en", Options::compact(CompactLength::Long), "1234567", "1.2 million"),
+        ("en", Options::compact(CompactLength::Short), "12345", "12K"),
+        ("en", currency("USD").with_compact_notation(CompactLength::Short), "1234567", "$1.2M"),
+        ("en", Options::scientific(), "1500", "1.5E3"),
+        ("en", Options::engineering(), "15000", "15E3"),
+        ("hi", plain.with_numbering_system(deva), "1234567.891", "१२,३४,५६७.८९१"),
+        ("en", plain.with_sign_display(SignDisplay::ExceptZero), "-0.0001", "0"),
+        ("en", plain.with_sign_display(SignDisplay::Always), "5", "+5"),
+        ("de", plain.with_grouping(GroupingStrategy::Never), "1234567", "1234567"),
+        ("es", plain.with_grouping(GroupingStrategy::Always), "1234", "1.234"),
+        ("en", plain.with_rounding_mode(Floor).with_maximum_fraction_digits(0), "-1.5", "-2"),
+        ("en", plain.with_minimum_integer_digits(3), "5", "005"),
+        ("en", plain.with_minimum_significant_digits(3), "5", "5.00"),
+        ("en", plain.with_maximum_significant_digits(2), "12345", "12,000"),
+        ("en", plain.with_scale(2), "5", "500"),
+    ] {
+        let format = NumberFormat::new(locale, &options).unwrap();
+        assert_eq!(format.format(&decimal(text)).unwrap().as_str(), written, "{locale} {options:?}");
+        assert_eq!(format.parts(&decimal(text)).unwrap().as_str(), written, "{locale} {options:?}");
+    }
+    let two = plain.with_minimum_fraction_digits(2);
+    let quarters = two.with_maximum_fraction_digits(2).with_rounding_increment(25);
+    let both = plain.with_maximum_significant_digits(2).with_maximum_fraction_digits(1);
+    for (options, text, written) in [
+        (quarters, "1.13", "1.25"),
+        (two.with_trailing_zeros(TrailingZeroDisplay::StripIfInteger), "5.00", "5"),
+        (both.with_rounding_priority(RoundingPriority::MorePrecision), "123.456", "123.5"),
+        (both.with_rounding_priority(RoundingPriority::LessPrecision), "123.456", "120"),
+    ] {
+        let format = NumberFormat::new("en", &options).unwrap();
+        assert_eq!(format.format(&decimal(text)).unwrap().to_string(), written, "{options:?}");
+    }
+}
+
+#[test]
+fn texts_of_number_formats() {
+    let euros = NumberFormat::new("de", &currency("EUR")).unwrap();
+    let text = euros.format(&decimal("5")).unwrap();
+    assert_eq!(
+        format!("{text}|{text:7}|{text:<7}|{text:^8}|{text:*>7.1}"),
+        "5,00\u{a0}€| 5,00\u{a0}€|5,00\u{a0}€ | 5,00\u{a0}€ |*5,00\u{a0}€"
+    );
+    assert_eq!(format!("{text:?}"), "FormattedNumber(5,00\u{a0}€)");
+    for count in [100, 119, 120, 121, 122, 126, 127, 200, 32768] {
+        let digits = "7".repeat(count);
+        let plain = NumberFormat::new("de", &Options::default().with_grouping(GroupingStrategy::Never)).unwrap();
+        assert_eq!(plain.format(&decimal(&digits)).unwrap().as_str(), digits);
+        let grouped = euros.format(&decimal(&digits)).unwrap();
+        assert_eq!(euros.parts(&decimal(&digits)).unwrap().as_str(), grouped.as_str());
+        assert_eq!(euros.read(grouped.as_str()).unwrap().compare(&decimal(&digits)), Ordering::Equal);
+    }
+}
+
+/// The parts of `formatToParts` in node 20.
+#[test]
+fn parts() {
+    use PartKind::{Currency, Decimal, Fraction, Group, Integer, Literal, MinusSign};
+    let euros = NumberFormat::new("de", &currency("EUR")).unwrap();
+    let parts = euros.parts(&decimal("-1234567.5")).unwrap();
+    let found: Vec<_> = parts.iter().collect();
+    let expected = [
+        (MinusSign, "-"),
+        (Integer, "1"),
+        (Group, "."),
+        (Integer, "234"),
+        (Group, "."),
+        (Integer, "567"),
+        (Decimal, ","),
+        (Fraction, "50"),
+        (Literal, "\u{a0}"),
+        (Currency, "€"),
+    ];
+    assert_eq!(found, expected);
+    let scientific = NumberFormat::new("en", &Options::scientific()).unwrap();
+    let parts = scientific.parts(&decimal("0.00012345")).unwrap();
+    let kinds: Vec<_> = parts.iter().map(|(kind, _)| kind).collect();
+    let exponent = [PartKind::ExponentSeparator, PartKind::ExponentMinusSign, PartKind::ExponentInteger];
+    assert_eq!(kinds, [&[Integer, Decimal, Fraction], &exponent[..]].concat());
+}
+
+#[test]
+fn errors_of_number_formats() {
+    use DigitOptionsError::{
+        FractionDigits, Increment, IncrementDigits, IncrementPrecision, IntegerDigits, SignificantDigits,
+    };
+    let plain = Options::default();
+    for (options, error) in [
+        (plain.with_minimum_integer_digits(22), IntegerDigits),
+        (plain.with_minimum_integer_digits(65535), IntegerDigits),
+        (plain.with_rounding_increment(3), Increment),
+        (plain.with_maximum_significant_digits(22), SignificantDigits),
+        (plain.with_minimum_fraction_digits(3).with_maximum_fraction_digits(2), FractionDigits),
+        (plain.with_rounding_increment(5).with_maximum_significant_digits(2), IncrementPrecision),
+        (plain.with_rounding_increment(5).with_maximum_fraction_digits(2), IncrementDigits),
+    ] {
+        let found = NumberFormat::new("tlh", &options).unwrap_err();
+        assert_eq!(found, NumberFormatError::Digits(error), "{options:?}");
+    }
+    let roman = plain.with_numbering_system("roman".parse().unwrap());
+    for (locale, options, error) in [
+        ("tlh", roman, NumberFormatError::UnknownLocale),
+        ("", plain, NumberFormatError::UnknownLocale),
+        ("en", roman, NumberFormatError::UnknownNumberingSystem),
+    ] {
+        assert_eq!(NumberFormat::new(locale, &options).unwrap_err(), error);
+    }
+    let scaled = NumberFormat::new("en", &Options::percent()).unwrap();
+    assert_eq!(scaled.format(&decimal("1e32767")).unwrap_err(), LimitError);
+    assert_eq!(scaled.parts(&decimal("1e32767")).unwrap_err(), LimitError);
+    let compact = NumberFormat::new("en", &Options::compact(CompactLength::Short)).unwrap();
+    assert_eq!(compact.read("x"), Err(NumberReadError::Unreadable));
+    assert_eq!(scaled.read("5"), Err(NumberReadError::Text(ParseError::Syntax)));
+    assert_eq!(scaled.read_lenient("5"), Ok(decimal("0.05")));
+    assert_eq!(scaled.read(&format!("{}%", "1".repeat(32769))), Err(NumberReadError::Text(ParseError::Limit)));
+    for code in ["", "EU", "EURO", "E1R", "é!"] {
+        assert_eq!(CurrencyCode::try_from_str(code), Err(NameError), "{code}");
+    }
+    for name in ["", "la", "latinlatin", "la n", "Latn", "latn\0", "lätn"] {
+        assert_eq!(NumberingSystem::try_from_str(name), Err(NameError), "{name}");
+    }
+    assert_ne!(plain.with_numbering_system("arab".parse().unwrap()), plain);
+}
+
+/// One format in four threads; each type is `Send` and `Sync`.
+#[test]
+fn shared_number_format() {
+    fn is_shared<T: Send + Sync + 'static>() {}
+    is_shared::<NumberFormat>();
+    is_shared::<Options>();
+    is_shared::<FormattedNumber>();
+    is_shared::<NumberParts>();
+    let euros = NumberFormat::new("en", &currency("EUR")).unwrap();
+    std::thread::scope(|scope| {
+        for _ in 0..4 {
+            scope.spawn(|| {
+                for integer in 0..1000 {
+                    let text = euros.format(&Decimal::from(integer)).unwrap();
+                    assert_eq!(text.as_str(), format!("€{integer}.00"));
+                }
+            });
+        }
+    });
 }
 
 #[test]

@@ -19,7 +19,7 @@ def words(text):
 def table(text, name):
     """The rows of a table, as lists of words."""
     body = re.search(rf"static {name}: .*?[\[{{]\n(.*?)\n[\]}}];", text, re.S)[1]
-    separator = ";" if ";" in body else "},\n"
+    separator = next(it for it in (";", "},\n", "],\n") if it in body)
     return [words(row) for row in body.split(separator) if row.strip()]
 
 
@@ -64,6 +64,7 @@ class Tables:
         self.texts = [(texts[int(row[0]):int(row[1])].decode(), row[2], row[3]) for row in table(currency, "CURRENCY_TEXTS")]
         self.bytes = pool(compact, "COMPACT_BYTES")
         self.sets = [[int(it) for it in row] for row in table(compact, "COMPACT_SETS")]
+        self.exponents = [[int(it) for it in row if it.isdigit()] for row in table(compact, "COMPACT_EXPONENTS")]
         self.runs = [[int(it) for it in row] for row in table(compact, "COMPACT_RUNS")]
         self.compact = [self.compact_of(row) for row in table(compact, "COMPACT_PATTERNS")]
         self.units = [[self.text(*map(int, row[at:at + 2])) for at in range(0, 8, 2)] for row in table(compact, "PERCENT_UNITS")]
@@ -121,9 +122,15 @@ class Tables:
                      next((rows_of[it] for it in path(tag) if it in rows_of), (listed[3], listed[4])))
 
     def block(self, index, style):
-        start, end = self.sets[index][2 * style:2 * style + 2]
-        return {first: (exponent, tuple(self.compact[first_pattern:last]))
-                for first, exponent, first_pattern, last in self.runs[start:end]}
+        """The patterns of each magnitude from 3 to 19 with its exponent, without repetition."""
+        row, start, end = self.sets[index][3 * style:3 * style + 3]
+        found, last = {}, (0, ())
+        for magnitude, exponent in enumerate(self.exponents[row], 3):
+            patterns = next((range(*run[1:]) for run in self.runs[start:end] if run[0] <= magnitude), ())
+            if (exponent, patterns) != last:
+                found[magnitude] = exponent, tuple(self.compact[it] for it in patterns)
+            last = exponent, patterns
+        return found
 
 
 # ---- The files.

@@ -13,6 +13,7 @@ import unicodedata
 
 from compare_tables import compare
 from number_tables import number_tables
+from range_tables import plural_range_tables, range_tables
 from table_text import SKIP, SOURCES, Lists, Texts, array, listed_tags, rows
 
 SYMBOLS = {
@@ -38,7 +39,7 @@ HEAD = '''//! The numbering systems, and the locales with their symbols.
 // Written by tools/locales/make_tables.py from data of CLDR 48; their license is tools/locales/LICENSE. Do not edit.
 use super::rows::TableRange;
 use super::rows::symbols::Symbol::*;
-use super::rows::symbols::{LocaleSymbols, NumberingSystem, SymbolSet};
+use super::rows::symbols::{DecimalSystem, LocaleSymbols, SymbolSet};
 use decimal_format::GroupingSizes;
 '''
 PLURALS_HEAD = """//! The plural rules of languages.
@@ -72,7 +73,7 @@ def system_text(name, digits, own, rows):
     lines = [", ".join(listed)] if len(", ".join(listed)) <= 100 else [", ".join(listed[:5]), ", ".join(listed[5:])]
     shown = "".join(f"            {line},\n" for line in lines)
     own = f"Some({own})" if own else "None"
-    return (f'    NumberingSystem {{\n        name: *b"{name:16}",\n        digits: [\n{shown}        ],\n'
+    return (f'    DecimalSystem {{\n        name: *b"{name:16}",\n        digits: [\n{shown}        ],\n'
             f"        symbols: {own},\n        rows: TableRange({rows[0]}, {rows[1]}),\n    }},\n")
 
 
@@ -113,7 +114,7 @@ def symbol_tables():
         others += [(tag, (system, *data)) for tag, data in found]
     systems = [system_text(name, digits, own.get(name) and set_name(own[name], name), ranges.get(name, (0, 0)))
                for name, digits in rows("systems.tsv")]
-    lists = [array("The decimal numbering systems.", "NUMBERING_SYSTEMS", "NumberingSystem", systems),
+    lists = [array("The decimal numbering systems.", "NUMBERING_SYSTEMS", "DecimalSystem", systems),
              array("The locales, each with its default numbering system.", "LOCALES", "LocaleSymbols",
                    [row_text(tag, *data) for tag, data in locales]),
              array("The locales that have symbols of their own in a numbering system.", "LOCALES_BY_SYSTEM", "LocaleSymbols",
@@ -169,7 +170,8 @@ def plural_tables():
 def tables():
     """The text of each file."""
     tags = {row[0].lower() for row in rows("symbols.tsv")} - {"root"}
-    return {"symbols.rt": symbol_tables(), "plurals.rt": plural_tables(), **number_tables(tags)}
+    return {"symbols.rt": symbol_tables(), "plurals.rt": plural_tables(), "plural_ranges.rt": plural_range_tables(),
+            "ranges.rt": range_tables(), **number_tables(tags)}
 
 
 def main(words):

@@ -124,23 +124,23 @@ macro_rules! texts {
 COMPACT_HEAD = """use super::rows::TableRange;
 use super::rows::compact::CompactForm::*;
 use super::rows::compact::{
-    AffixText, CompactPattern, CompactRun, CompactSet, PercentUnit, UnitPattern,
+    AffixText, CompactPattern, CompactRows, CompactRun, CompactSet, PercentUnit, UnitPattern,
 };
 use plural_rules::PluralCategory::*;
 
 macro_rules! sets {
-    ($($a:literal $b:literal $c:literal $d:literal $e:literal $f:literal;)*) => {
+    ($($a:literal $b:literal $c:literal $d:literal $e:literal $f:literal $g:literal $h:literal $i:literal;)*) => {
         [$(CompactSet {
-            short: TableRange($a, $b),
-            long: TableRange($c, $d),
-            currency: TableRange($e, $f),
+            short: CompactRows { exponents: $a, runs: TableRange($b, $c) },
+            long: CompactRows { exponents: $d, runs: TableRange($e, $f) },
+            currency: CompactRows { exponents: $g, runs: TableRange($h, $i) },
         }),*]
     };
 }
 
 macro_rules! runs {
-    ($($first:literal $exponent:literal $start:literal $end:literal;)*) => {
-        [$(CompactRun { first: $first, exponent: $exponent, patterns: TableRange($start, $end) }),*]
+    ($($first:literal $start:literal $end:literal;)*) => {
+        [$(CompactRun { first: $first, patterns: TableRange($start, $end) }),*]
     };
 }
 
@@ -452,20 +452,27 @@ def compact_table(formats):
     def affix(text):
         return " ".join(pool.numbers(part) for part in text.split("\u00a4")) if text else ""
 
-    ranges, patterns, runs, block_ranges = {}, [], [], {}
+    def exponents_of(block):
+        """The exponents of the magnitudes 3 to 19: that of the last pattern that begins at or below it, or 0."""
+        return tuple(([exponent for first, exponent, _ in block if first <= magnitude] or [0])[-1]
+                     for magnitude in range(3, 20))
+
+    ranges, patterns, runs, block_rows, exponents = {}, [], [], {}, Indices()
     for it in pattern_lists:
         shown = [f"{COUNTS[count]} {form(kind, last)} [{affix(prefix)}] [{affix(suffix)}]"
                  for count, kind, prefix, suffix, last in it]
         ranges[it] = f"{len(patterns)} {len(patterns) + len(shown)}"
         patterns += shown
     for block in blocks:
-        block_ranges[block] = f"{len(runs)} {len(runs) + len(block)}"
-        runs += [f"{first} {exponent} {ranges[it]}" for first, exponent, it in reversed(block)]
+        block_rows[block] = f"{exponents.of(exponents_of(block))} {len(runs)} {len(runs) + len(block)}"
+        runs += [f"{first} {ranges[it]}" for first, _, it in reversed(block)]
     units = [" ".join(pool.numbers(part) for pattern in unit for part in pattern.split("{0}")) for unit in formats.units.all]
     return "\n".join([
         head("The compact patterns of locales.", COMPACT_HEAD),
-        called("The compact patterns of locales, as parts of the next table.", "COMPACT_SETS", "CompactSet", "sets",
-               [" ".join(block_ranges[block] for block in it) for it in formats.compact.all]),
+        called("The compact patterns of locales, as rows of the next two tables.", "COMPACT_SETS", "CompactSet", "sets",
+               [" ".join(block_rows[block] for block in it) for it in formats.compact.all]),
+        array("The powers of ten by which numbers are divided, for the magnitudes 3 to 19.", "COMPACT_EXPONENTS",
+              "[u8; 17]", [f"    [{', '.join(map(str, it))}],\n" for it in exponents.all]),
         called("The magnitudes that have the same patterns, from the highest down.", "COMPACT_RUNS", "CompactRun", "runs",
                runs),
         called("The patterns of these magnitudes.", "COMPACT_PATTERNS", "CompactPattern", "patterns", patterns),

@@ -63,6 +63,8 @@ def unsupported(text, reading, said):
         return "decimal-always"
     if any(re.fullmatch(width, stem) for stem in tokens):
         return first(text, width)
+    if not re.fullmatch("[A-Za-z]{3}", said.options.get("currency", "XXX")):
+        return "currency"
     if "unit text" in kinds:
         return first(text, r"%|percent|permille|%x100")
     if "scale" in kinds or not -32768 <= said.scale <= 32767:

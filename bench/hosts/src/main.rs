@@ -1,5 +1,6 @@
-//! Times a rounding by the Rust crate beside the call of the C library that it makes: nanoseconds, and their ratio.
-use fixed_decimal_proved::Decimal;
+//! Times calls of the Rust crate beside those of the C library that they make: nanoseconds, and their ratio.
+use fixed_decimal_proved::{CompactLength, Decimal, NumberFormat, Options};
+use std::fmt::Write;
 use std::hint::black_box;
 use std::time::Instant;
 
@@ -20,7 +21,19 @@ struct FdCall {
     text_count: usize,
 }
 
+#[repr(C)]
+struct FdMade {
+    status: u32,
+    at: usize,
+    formatter: [u64; 15],
+}
+
 extern "C" {
+    fn fd_formatter_by_options(tag: *const u8, tag_count: usize, options: *const Options) -> FdMade;
+    #[rustfmt::skip]
+    fn fd_format(
+        formatter: *const [u64; 15], text: *const u8, count: usize, buffer: *mut u8, capacity: usize,
+    ) -> FdResult;
     #[rustfmt::skip]
     fn fd_run(
         start: *const u8, start_count: usize, calls: *const FdCall, call_count: usize,
@@ -41,8 +54,40 @@ fn least<T>(values: impl Fn() -> Vec<T>, mut call: impl FnMut(&mut T)) -> f64 {
     (0..300).map(|_| batch()).fold(f64::MAX, f64::min)
 }
 
+/// The time of a format, also into a `fmt::Write`, beside that of `fd_format` into a buffer.
+fn format_row(name: &str, locale: &str, options: &Options) {
+    let value: Decimal = "1234.5".parse().expect("a decimal");
+    // SAFETY: the pointers are those of a slice of the length beside it, and of a struct as the library has it.
+    let made = unsafe { fd_formatter_by_options(locale.as_ptr(), locale.len(), options) };
+    assert_eq!((made.status, made.at), (0, 0));
+    let mut buffer = [0u8; 126];
+    let there = least(|| vec![value.clone(); 1000], |value| {
+        let text = value.as_str();
+        // SAFETY: as above, and the buffer has the capacity.
+        let answer =
+            unsafe { fd_format(&made.formatter, text.as_ptr(), text.len(), buffer.as_mut_ptr(), buffer.len()) };
+        black_box((answer.status, answer.at, answer.count));
+    });
+    let format = NumberFormat::new(locale, options).expect("a format");
+    let here = least(|| vec![value.clone(); 1000], |value| {
+        black_box(format.format(value).expect("within the limits"));
+    });
+    let mut line = String::new();
+    let written = least(|| vec![value.clone(); 1000], |value| {
+        line.clear();
+        write!(line, "{}", format.format(value).expect("within the limits")).expect("a String takes it");
+    });
+    println!("|{name}, {locale}|{here:.0}|{written:.0}|{there:.0}|{:.2}|", here / there);
+}
+
 fn main() {
-    println!("|Round|crate, ns|fd_run, ns|ratio|\n|---|---|---|---|");
+    println!("|`NumberFormat::format` of 1234.5|crate, ns|and `write!`, ns|fd_format, ns|ratio|\n|---|---|---|---|---|");
+    for locale in ["en", "de", "hi", "ar-EG", "ja"] {
+        format_row("currency", locale, &Options::currency("EUR".parse().expect("a code")));
+        format_row("percent", locale, &Options::percent());
+        format_row("compact", locale, &Options::compact(CompactLength::Short));
+    }
+    println!("\n|Round|crate, ns|fd_run, ns|ratio|\n|---|---|---|---|");
     for text in ["1234.5678", "1234567890123.456789", &format!("{0}.{0}", "1234567890".repeat(5))] {
         let value: Decimal = text.parse().expect("a decimal");
         let mut buffer = [0u8; 256];

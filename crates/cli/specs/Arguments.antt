@@ -1,21 +1,6 @@
 -- The arguments of a process, the words that they have, and how a program ends on them.
-use Rattle.std.specs.Prelude.{◌≡◌, ◌≢◌, ◌⊎◌, ⊤, ℕ, Bool, true, false, List, [], ◌∷◌, drop, codes, String, string_bytes, Option, Result, Ok, Err, IsSomeAnd}
-use Rattle.std.specs.Io.KnownBytes.{Appends}
-use Rattle.std.specs.Vec.Iter.{into_iter_items}
-use Rattle.std.specs.IoError.{error_kind}
-use Rattle.std.specs.declared.alloc.Global.{Global}
-use Rattle.std.specs.declared.vec.IntoIter.{IntoIter}
-use Rattle.std.specs.declared.io.Error.{Error}
-use Rattle.std.specs.declared.io.ErrorKind.TheVariants.{OutOfMemory}
-use Rattle.cli.specs.declared.program.error.WordsError.{WordsError}
-use Rattle.cli.specs.declared.program.error.WordsError.TheVariants.{NotText, Memory, Output}
-use Rattle.cli.specs.declared.program.error.ProgramError.{ProgramError}
-use Rattle.cli.specs.declared.program.error.ProgramError.TheVariants.{Setup}
-use Rattle.cli.specs.declared.program.help.Program.{Program}
-use Rattle.cli.specs.declared.program.help.Program.TheVariants.{Fixdec, FixdecLines}
-use Rattle.cli.specs.declared.program.help.Request.{Request}
-use Rattle.cli.specs.declared.program.help.Request.TheVariants.{Help, Version, Locales}
-use Rattle.cli.specs.Help.{answer_of}
+use Rattle.std.specs.{Prelude.{◌≡◌, ◌≢◌, ◌⊎◌, ⊤, ℕ, Bool, true, false, List, [], ◌∷◌, drop, codes, String, string_bytes, Option, Result, Ok, Err, IsSomeAnd}, Io.KnownBytes.Appends, Vec.Iter.into_iter_items, IoError.error_kind, declared.{alloc.Global.Global, vec.IntoIter.IntoIter, io.{Error.Error, ErrorKind.TheVariants.OutOfMemory}}}
+use Rattle.cli.specs.{declared.program.{error.{WordsError.{WordsError, TheVariants.{NotText, Memory, Output}}, ProgramError.{ProgramError, TheVariants.Setup}}, help.{Program.{Program, TheVariants.{Fixdec, FixdecLines}}, Request.{Request, TheVariants.{Help, Version, Locales}}}}, Help.answer_of}
 
 -- the arguments, or the error of reading them
 abbrev pub Arguments : Type 0

@@ -1,14 +1,8 @@
 -- The calls that words name, and the error of a word that names none.
-use Rattle.std.specs.Prelude.{◌≡◌, ◌≢◌, ◌⊎◌, ℕ, ◌<◌, ⊤, List, [], ◌∷◌, take, slice_get, String, string_bytes, Some, None}
-use Rattle.std.specs.declared.alloc.Global.{Global}
+use Rattle.std.specs.{Prelude.{◌≡◌, ◌≢◌, ◌⊎◌, ℕ, ◌<◌, ⊤, List, [], ◌∷◌, take, slice_get, String, string_bytes, Some, None}, declared.alloc.Global.Global}
 use Rattle.fixed_decimal.specs.declared.runs.Call.{Call}
-use Rattle.conversions.specs.Calls.{call_of, Names}
-use Rattle.conversions.specs.FormatWord.{IsFormatWord}
-use Rattle.conversions.specs.ReadWord.{IsReadWord}
-use Rattle.conversions.specs.ShownWord.{IsShown}
-use Rattle.cli.specs.declared.program.error.WordsError.{WordsError}
-use Rattle.cli.specs.declared.program.error.WordsError.TheVariants.{NoSuchWord, AfterCall, Misplaced, Memory}
-use Rattle.cli.specs.Options.{IsOption}
+use Rattle.conversions.specs.{Calls.{call_of, Names}, FormatWord.IsFormatWord, ReadWord.IsReadWord, ShownWord.IsShown}
+use Rattle.cli.specs.{declared.program.error.WordsError.{WordsError, TheVariants.{NoSuchWord, AfterCall, Misplaced, Memory}}, Options.IsOption}
 
 -- the words name these calls, one by one
 abbrev pub NameAll : List (String Global) → List Call → Type 0

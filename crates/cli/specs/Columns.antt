@@ -1,14 +1,7 @@
 -- The fields that words name.
-use Rattle.std.specs.Prelude.{◌≡◌, ◌≢◌, ◌⊎◌, ℕ, ◌+◌, ◌==◌, Bool, true, false, pos, List, ◌∷◌, ◌++◌, codes, String, string_bytes}
-use Rattle.std.specs.Char.{is_ascii_digit}
-use Rattle.std.specs.List.{list_all}
-use Rattle.std.specs.Str.{bytes_eq}
-use Rattle.std.specs.declared.alloc.Global.{Global}
-use Rattle.conversions.specs.Parameters.{HasNumber}
-use Rattle.conversions.specs.ShownWord.{IsShown}
-use Rattle.cli.specs.declared.words.columns.Column.{Column}
-use Rattle.cli.specs.declared.words.columns.Column.TheVariants.{Index, Name}
-use Rattle.cli.specs.declared.program.error.FieldLabel.{FieldLabel}
+use Rattle.std.specs.{Prelude.{◌≡◌, ◌≢◌, ◌⊎◌, ℕ, ◌+◌, ◌==◌, Bool, true, false, pos, List, ◌∷◌, ◌++◌, codes, String, string_bytes}, Char.is_ascii_digit, List.list_all, Str.bytes_eq, declared.alloc.Global.Global}
+use Rattle.conversions.specs.{Parameters.HasNumber, ShownWord.IsShown}
+use Rattle.cli.specs.declared.{words.columns.Column.{Column, TheVariants.{Index, Name}}, program.error.FieldLabel.FieldLabel}
 use Rattle.cli.specs.declared.program.error.FieldLabel.TheVariants as label
 
 -- the word is `field:` and this 1-based number of a field

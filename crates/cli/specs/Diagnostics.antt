@@ -1,12 +1,7 @@
 -- What a report of an error writes.
-use Rattle.std.specs.Prelude.{◌≡◌, ℕ, ◌&&◌, List, [], ◌∷◌, ◌++◌, Option, Some, None, Result, Ok, Err, is_some, Bool, true, false, IfSome, MatchBool, MatchOption}
-use Rattle.std.specs.Fmt.Cut.{IsTextOrCut}
-use Rattle.std.specs.Io.KnownBytes.{Keeps, Appends}
-use Rattle.std.specs.declared.io.ErrorKind.{ErrorKind}
-use Rattle.std.specs.declared.io.ErrorKind.TheVariants.{BrokenPipe}
+use Rattle.std.specs.{Prelude.{◌≡◌, ℕ, ◌&&◌, List, [], ◌∷◌, ◌++◌, Option, Some, None, Result, Ok, Err, is_some, Bool, true, false, IfSome, MatchBool, MatchOption}, Fmt.Cut.IsTextOrCut, Io.KnownBytes.{Keeps, Appends}, declared.io.ErrorKind.{ErrorKind, TheVariants.BrokenPipe}}
 use Rattle.decimal_digits.specs.AppendsPrefix.{AppendsPrefix}
-use Rattle.cli.specs.declared.program.error.ProgramError.{ProgramError}
-use Rattle.cli.specs.Error.{is_output, status_of}
+use Rattle.cli.specs.{declared.program.error.ProgramError.ProgramError, Error.{is_output, status_of}}
 
 -- a line is a text and a line feed: the text that the error's `Display` states, cut after 120 bytes, if it states one
 abbrev pub IsErrorLine : Option (List ℕ) → List ℕ → Type 0

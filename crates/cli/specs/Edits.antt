@@ -1,13 +1,7 @@
 -- The fields of a line that are replaced by their conversions.
 use Rattle.std.specs.Prelude.{◌≡◌, ◌⊎◌, ℕ, ◌<◌, Bool, List, [], ◌∷◌, ◌++◌, length, All, Contains, Option, Some, None, Result, Ok, Err, MatchResult, nat_le, if◌then◌else◌}
-use Rattle.cli.specs.declared.lines.edits.FieldConversion.{FieldConversion}
-use Rattle.cli.specs.declared.lines.edits.FieldError.{FieldError}
-use Rattle.cli.specs.declared.program.error.LineError.{LineError}
-use Rattle.conversions.specs.declared.error.OperationError.{OperationError}
-use Rattle.conversions.specs.declared.error.OperationError.TheVariants.{Memory}
-use Rattle.cli.specs.declared.lines.fields.Field.{Field}
-use Rattle.cli.specs.FieldConversion.{IsFieldResult}
-use Rattle.cli.specs.Fields.{located, within, bytes_of}
+use Rattle.cli.specs.{declared.{lines.{edits.{FieldConversion.FieldConversion, FieldError.FieldError}, fields.Field.Field}, program.error.LineError.LineError}, FieldConversion.IsFieldResult, Fields.{located, within, bytes_of}}
+use Rattle.conversions.specs.declared.error.OperationError.{OperationError, TheVariants.Memory}
 
 -- the fields of a line with the delimiter and the quotes of this one
 module _ (trims : Bool) (base : Field) (line : List ℕ) where

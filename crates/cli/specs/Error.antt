@@ -1,24 +1,12 @@
 -- The errors of the programs, and the exit status that goes with each.
 use Rattle.std.specs.Prelude.{ℕ, Bool, true, false, Option, None}
 use Rattle.plural_rules.specs.declared.parse.RulesError.TheVariants as rules
-use Rattle.conversions.specs.declared.error.FormError.{FormError}
+use Rattle.conversions.specs.{declared.{error.{FormError.FormError, OperationError.{OperationError, TheVariants.Output}, Reason.TheVariants.{Syntax, Limit}}, named_rules.NamedRulesError.{NamedRulesError, TheVariants.{UnknownLocale, UnknownType, Rules}}}, Error.status_of_operation}
 use Rattle.conversions.specs.declared.error.FormError.TheVariants as form
-use Rattle.conversions.specs.declared.error.OperationError.{OperationError}
-use Rattle.conversions.specs.declared.error.OperationError.TheVariants.{Output}
-use Rattle.conversions.specs.declared.error.Reason.TheVariants.{Syntax, Limit}
-use Rattle.conversions.specs.declared.named_rules.NamedRulesError.{NamedRulesError}
-use Rattle.conversions.specs.declared.named_rules.NamedRulesError.TheVariants.{UnknownLocale, UnknownType, Rules}
-use Rattle.conversions.specs.Error.{status_of_operation}
-use Rattle.cli.specs.declared.program.error.FieldLabel.{FieldLabel}
-use Rattle.cli.specs.declared.program.error.HeaderError.{HeaderError}
+use Rattle.cli.specs.declared.program.{error.{FieldLabel.FieldLabel, HeaderError.HeaderError, LineError.LineError, ProgramError.ProgramError, WordsError.WordsError}, help.Program.{Program, TheVariants.Plural}}
 use Rattle.cli.specs.declared.program.error.HeaderError.TheVariants as header
-use Rattle.cli.specs.declared.program.error.LineError.{LineError}
-use Rattle.cli.specs.declared.program.error.ProgramError.{ProgramError}
 use Rattle.cli.specs.declared.program.error.ProgramError.TheVariants as program
-use Rattle.cli.specs.declared.program.error.WordsError.{WordsError}
 use Rattle.cli.specs.declared.program.error.WordsError.TheVariants as words
-use Rattle.cli.specs.declared.program.help.Program.{Program}
-use Rattle.cli.specs.declared.program.help.Program.TheVariants.{Plural}
 
 -- an error of a line, of this field if it is that of one
 abbrev pub line_error : Option FieldLabel → OperationError → LineError

@@ -1,12 +1,7 @@
 -- The conversion of a line, and of a field.
 use Rattle.std.specs.Prelude.{◌≡◌, ◌⊎◌, ℕ, ◌&&◌, not, Bool, true, List, Result, Ok, Err}
-use Rattle.conversions.specs.declared.conversion.Conversion.{Conversion}
-use Rattle.conversions.specs.declared.error.OperationError.{OperationError}
-use Rattle.conversions.specs.declared.error.OperationError.TheVariants.{Memory, Output, Quote}
-use Rattle.cli.specs.declared.lines.fields.Field.{Field}
-use Rattle.conversions.specs.Conversion.{ConversionError, IsOutcome, OperationsFail, error_of}
-use Rattle.cli.specs.Fields.{is_quoted, Holds}
-use Rattle.cli.specs.Trim.{text_of, with_text_of}
+use Rattle.conversions.specs.{declared.{conversion.Conversion.Conversion, error.OperationError.{OperationError, TheVariants.{Memory, Output, Quote}}}, Conversion.{ConversionError, IsOutcome, OperationsFail, error_of}}
+use Rattle.cli.specs.{declared.lines.fields.Field.Field, Fields.{is_quoted, Holds}, Trim.{text_of, with_text_of}}
 
 -- an outcome as a result of the programs
 abbrev pub result_of : Result (List ℕ) ConversionError → Result (List ℕ) OperationError

@@ -1,11 +1,8 @@
 -- The fields of a line.
-use Rattle.std.specs.Prelude.{◌≡◌, ◌⊎◌, ℕ, zero, suc, nat_eq, ◌+◌, ◌-◌, ◌%◌, ◌==◌, ◌||◌, ◌&&◌, if◌then◌else◌, Bool, true, false, not, List, [], ◌∷◌, ◌++◌, length, take, drop, slice_index, count_by, flat_map, Option, Some, None, is_some, unwrap_or, option_map, Result, Ok, Err}
-use Rattle.std.specs.List.{list_any, starts_with}
-use Rattle.std.specs.Io.BufRead.{strip_last}
+use Rattle.std.specs.{Prelude.{◌≡◌, ◌⊎◌, ℕ, zero, suc, nat_eq, ◌+◌, ◌-◌, ◌%◌, ◌==◌, ◌||◌, ◌&&◌, if◌then◌else◌, Bool, true, false, not, List, [], ◌∷◌, ◌++◌, length, take, drop, slice_index, count_by, flat_map, Option, Some, None, is_some, unwrap_or, option_map, Result, Ok, Err}, List.{list_any, starts_with}, Io.BufRead.strip_last}
 use Rattle.conversions.specs.declared.error.OperationError.{OperationError}
 use Rattle.conversions.specs.declared.error.OperationError.TheVariants as operation
-use Rattle.cli.specs.declared.lines.fields.Cursor.{Cursor}
-use Rattle.cli.specs.declared.lines.fields.Field.{Field}
+use Rattle.cli.specs.declared.lines.fields.{Cursor.Cursor, Field.Field}
 
 -- ---- Where a field is.
 

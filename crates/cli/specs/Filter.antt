@@ -1,29 +1,10 @@
 -- One line: its result, how it is read, and its errors.
-use Rattle.std.specs.Prelude.{◌≡◌, ◌≢◌, ◌⊎◌, ℕ, Bool, true, false, List, [], ◌∷◌, ◌++◌, Option, Some, None, Result, Ok, Err, is_ok, IfSome, IsSomeAnd, MatchBool, ◌&&◌, if◌then◌else◌}
-use Rattle.std.specs.List.{FoldsTo}
-use Rattle.std.specs.Io.KnownBytes.{Appends}
-use Rattle.std.specs.declared.io.ErrorKind.{ErrorKind}
-use Rattle.std.specs.declared.io.ErrorKind.TheVariants.{OutOfMemory}
+use Rattle.std.specs.{Prelude.{◌≡◌, ◌≢◌, ◌⊎◌, ℕ, Bool, true, false, List, [], ◌∷◌, ◌++◌, Option, Some, None, Result, Ok, Err, is_ok, IfSome, IsSomeAnd, MatchBool, ◌&&◌, if◌then◌else◌}, List.FoldsTo, Io.KnownBytes.Appends, declared.io.ErrorKind.{ErrorKind, TheVariants.OutOfMemory}}
 use Rattle.decimal_digits.specs.AppendsPrefix.{AppendsPrefix}
-use Rattle.conversions.specs.declared.error.OperationError.{OperationError}
+use Rattle.conversions.specs.{declared.error.OperationError.OperationError, Error.status_of_operation}
 use Rattle.conversions.specs.declared.error.OperationError.TheVariants as operation
-use Rattle.cli.specs.declared.program.error.ProgramError.{ProgramError}
-use Rattle.cli.specs.declared.program.error.ProgramError.TheVariants.{Line, LongLine, Input, Output}
-use Rattle.cli.specs.declared.lines.filter.Filter.{Filter}
-use Rattle.cli.specs.declared.lines.rows.FilteredRow.{FilteredRow}
-use Rattle.cli.specs.declared.words.options.OnError.{OnError}
-use Rattle.cli.specs.declared.words.options.OnError.TheVariants.{Stop, Keep}
-use Rattle.cli.specs.declared.program.error.LineError.{LineError}
-use Rattle.cli.specs.declared.lines.filter.Target.{Target}
+use Rattle.cli.specs.{declared.{program.error.{ProgramError.{ProgramError, TheVariants.{Line, LongLine, Input, Output}}, LineError.LineError}, lines.{filter.{Filter.Filter, Target.Target}, rows.FilteredRow.FilteredRow}, words.options.OnError.{OnError, TheVariants.{Stop, Keep}}}, Edits.{IsEditedLine, EditingFails}, Error.error_of_line, FieldConversion.{IsLineResult, LineFails, map_text}, Fields.{within, replaced}, Trim.body_bounds, Input.IsRowRead, Records.{is_broken, lines_in}}
 use Rattle.cli.specs.declared.lines.filter.Target.TheVariants as target
-use Rattle.cli.specs.Edits.{IsEditedLine, EditingFails}
-use Rattle.conversions.specs.Error.{status_of_operation}
-use Rattle.cli.specs.Error.{error_of_line}
-use Rattle.cli.specs.FieldConversion.{IsLineResult, LineFails, map_text}
-use Rattle.cli.specs.Fields.{within, replaced}
-use Rattle.cli.specs.Trim.{body_bounds}
-use Rattle.cli.specs.Input.{IsRowRead}
-use Rattle.cli.specs.Records.{is_broken, lines_in}
 
 -- ---- The result of a line.
 

@@ -1,19 +1,9 @@
 -- The run that the words of `fixdec` name, and its result.
-use Rattle.std.specs.Prelude.{◌≡◌, ◌≢◌, ℕ, Bool, true, false, List, [], ◌∷◌, ◌++◌, String, string_bytes}
-use Rattle.std.specs.Prelude.{Option, Result, Ok, Err, IsSomeAnd, MatchOption}
-use Rattle.std.specs.Io.KnownBytes.{Appends, append_known}
-use Rattle.std.specs.declared.alloc.Global.{Global}
+use Rattle.std.specs.{Prelude.{◌≡◌, ◌≢◌, ℕ, Bool, true, false, List, [], ◌∷◌, ◌++◌, String, string_bytes, Option, Result, Ok, Err, IsSomeAnd, MatchOption}, Io.KnownBytes.{Appends, append_known}, declared.alloc.Global.Global}
 use Rattle.decimal_digits.specs.AppendsPrefix.{AppendsPrefix}
-use Rattle.cli.specs.Words.{NamesConversion, ConversionFails}
-use Rattle.cli.specs.declared.program.error.WordsError.{WordsError}
-use Rattle.cli.specs.declared.program.error.WordsError.TheVariants.{NoText, Memory}
-use Rattle.conversions.specs.declared.conversion.Conversion.{Conversion}
-use Rattle.cli.specs.declared.program.error.ProgramError.{ProgramError}
-use Rattle.cli.specs.declared.program.error.ProgramError.TheVariants.{Setup, Operation, Output}
+use Rattle.cli.specs.{Words.{NamesConversion, ConversionFails}, declared.program.{error.{WordsError.{WordsError, TheVariants.{NoText, Memory}}, ProgramError.{ProgramError, TheVariants.{Setup, Operation, Output}}}, help.Program.TheVariants.Fixdec}, Error.setup_error}
+use Rattle.conversions.specs.{declared.conversion.Conversion.Conversion, Conversion.{HasOutcome, OperationsFail}}
 use Rattle.conversions.specs.declared.error.OperationError.TheVariants as operation
-use Rattle.conversions.specs.Conversion.{HasOutcome, OperationsFail}
-use Rattle.cli.specs.Error.{setup_error}
-use Rattle.cli.specs.declared.program.help.Program.TheVariants.{Fixdec}
 
 -- the words are TEXT [read:..] [CALL].. [format:..], with this conversion and this text
 abbrev pub NamesRun : List (String Global) → Conversion → List ℕ → Type 0

@@ -1,23 +1,6 @@
 -- The filter that the words of `fixdec_lines` name, and its result on an input.
-use Rattle.std.specs.Prelude.{◌≡◌, ◌⊎◌, ℕ, ◌&&◌, not, ⊤, Bool, true, false, List, String, Option, Some, None, MatchBool, Result, Err, OnOk, IfErr, IsErrAnd}
-use Rattle.std.specs.declared.alloc.Global.{Global}
-use Rattle.std.specs.declared.io.ErrorKind.{ErrorKind}
-use Rattle.cli.specs.Targets.{NamesTarget, NameNoTarget, have_names}
-use Rattle.cli.specs.Options.{none, AreOptions, HasField, lacks_csv, field_error}
-use Rattle.cli.specs.declared.words.options.Options.{Options}
-use Rattle.cli.specs.declared.lines.fields.Field.{Field}
-use Rattle.cli.specs.declared.program.error.WordsError.{WordsError}
-use Rattle.cli.specs.declared.program.error.WordsError.TheVariants.{Memory, NoCsv, NoHeader}
-use Rattle.cli.specs.declared.program.help.Program.TheVariants.{FixdecLines}
-use Rattle.cli.specs.Error.{setup_error}
-use Rattle.cli.specs.declared.program.error.ProgramError.{ProgramError}
-use Rattle.cli.specs.declared.program.error.ProgramError.TheVariants.{Setup, Output}
-use Rattle.cli.specs.declared.words.columns.Column.{Column}
-use Rattle.cli.specs.declared.lines.named_filter.NamedFilter.{NamedFilter}
-use Rattle.cli.specs.declared.words.targets.NamedTarget.{NamedTarget}
-use Rattle.cli.specs.NamedFilter.{FiltersNamed}
-use Rattle.cli.specs.Filter.{Change, Effects}
-use Rattle.cli.specs.Lines.{AppendsUnwritten}
+use Rattle.std.specs.{Prelude.{◌≡◌, ◌⊎◌, ℕ, ◌&&◌, not, ⊤, Bool, true, false, List, String, Option, Some, None, MatchBool, Result, Err, OnOk, IfErr, IsErrAnd}, declared.{alloc.Global.Global, io.ErrorKind.ErrorKind}}
+use Rattle.cli.specs.{Targets.{NamesTarget, NameNoTarget, have_names}, Options.{none, AreOptions, HasField, lacks_csv, field_error}, declared.{words.{options.Options.Options, columns.Column.Column, targets.NamedTarget.NamedTarget}, lines.{fields.Field.Field, named_filter.NamedFilter.NamedFilter}, program.{error.{WordsError.{WordsError, TheVariants.{Memory, NoCsv, NoHeader}}, ProgramError.{ProgramError, TheVariants.{Setup, Output}}}, help.Program.TheVariants.FixdecLines}}, Error.setup_error, NamedFilter.FiltersNamed, Filter.{Change, Effects}, Lines.AppendsUnwritten}
 
 -- the words are [OPTION].. .., and P holds of the options and of the words after them
 pub record HasWords (words : List (String Global)) (P : Options → List (String Global) → Type 0) : Type 0 where

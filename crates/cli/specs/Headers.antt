@@ -1,19 +1,8 @@
 -- The fields that words name, in a header.
-use Rattle.std.specs.Prelude.{◌≡◌, ◌≢◌, ◌⊎◌, ℕ, nat_lt, ◌<◌, ◌≤◌, ◌==◌, Bool, true, false, List, [], ◌∷◌, length, insert, count_by, slice_get, Some}
-use Rattle.std.specs.List.{list_any}
-use Rattle.cli.specs.declared.words.columns.Column.{Column}
-use Rattle.cli.specs.declared.words.columns.Column.TheVariants.{Index, Name}
+use Rattle.std.specs.{Prelude.{◌≡◌, ◌≢◌, ◌⊎◌, ℕ, nat_lt, ◌<◌, ◌≤◌, ◌==◌, Bool, true, false, List, [], ◌∷◌, length, insert, count_by, slice_get, Some}, List.list_any}
+use Rattle.cli.specs.{declared.{words.{columns.Column.{Column, TheVariants.{Index, Name}}, targets.NamedField.NamedField}, lines.{edits.FieldConversion.FieldConversion, fields.Field.Field, headers.Header.Header}, program.error.HeaderError.{HeaderError, TheVariants.{NoField, TwoFields, SameField}}}, FieldConversion.is_trimmed, Fields.{bounds, within, Holds}, Trim.text_of}
 use Rattle.cli.specs.declared.program.error.FieldLabel.TheVariants as label
-use Rattle.cli.specs.declared.lines.edits.FieldConversion.{FieldConversion}
-use Rattle.cli.specs.declared.program.error.HeaderError.{HeaderError}
-use Rattle.cli.specs.declared.program.error.HeaderError.TheVariants.{NoField, TwoFields, SameField}
-use Rattle.cli.specs.declared.lines.fields.Field.{Field}
-use Rattle.cli.specs.declared.lines.headers.Header.{Header}
-use Rattle.cli.specs.declared.words.targets.NamedField.{NamedField}
-use Rattle.cli.specs.FieldConversion.{is_trimmed}
-use Rattle.cli.specs.Fields.{bounds, within, Holds}
 use Rattle.conversions.specs.ShownWord.{IsShown}
-use Rattle.cli.specs.Trim.{text_of}
 
 -- the bytes of a field hold this name, with `trim` between blanks and tabs
 abbrev pub HoldsName : Bool → Field → List ℕ → List ℕ → Type 0

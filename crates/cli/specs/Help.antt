@@ -1,11 +1,6 @@
 -- The texts of `--help` and `--version`.
 use Rattle.std.specs.Prelude.{ℕ, List, [], ◌∷◌, ◌++◌, codes}
-use Rattle.cli.specs.declared.program.help.Program.{Program}
-use Rattle.cli.specs.declared.program.help.Program.TheVariants.{Fixdec, FixdecLines, Plural}
-use Rattle.cli.specs.declared.program.help.Request.{Request}
-use Rattle.cli.specs.declared.program.help.Request.TheVariants.{Help, Version, Locales}
-use Rattle.cli.specs.LocaleList.{locales_text}
-use Rattle.cli.specs.declared.program.help.TheConstants.{VERSION, FIXDEC, FIXDEC_LINES, PLURAL, TEXT, OPTIONS, RULES, CALLS, SKELETONS, OPERANDS}
+use Rattle.cli.specs.{declared.program.help.{Program.{Program, TheVariants.{Fixdec, FixdecLines, Plural}}, Request.{Request, TheVariants.{Help, Version, Locales}}, TheConstants.{VERSION, FIXDEC, FIXDEC_LINES, PLURAL, TEXT, OPTIONS, RULES, CALLS, SKELETONS, OPERANDS}}, LocaleList.locales_text}
 
 unfoldable pub name_of : Program → List ℕ
 name_of Fixdec = codes "fixdec"

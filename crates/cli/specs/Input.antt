@@ -1,11 +1,6 @@
 -- What a reader of lines reads.
-use Rattle.std.specs.Prelude.{◌≡◌, ◌≢◌, ℕ, Bool, true, false, List, [], ◌∷◌, ◌++◌, Option, Some, IsSomeAnd}
-use Rattle.std.specs.Io.Buffered.{reader_remaining}
-use Rattle.std.specs.Io.BufRead.{first_piece, take_through, drop_through}
+use Rattle.std.specs.{Prelude.{◌≡◌, ◌≢◌, ℕ, Bool, true, false, List, [], ◌∷◌, ◌++◌, Option, Some, IsSomeAnd}, Io.{Buffered.reader_remaining, BufRead.{first_piece, take_through, drop_through}}, declared.{alloc.Global.Global, io.{ErrorKind.ErrorKind, buffered.BufReader.BufReader}}}
 use Rattle.cli.specs.Records.{records_of}
-use Rattle.std.specs.declared.alloc.Global.{Global}
-use Rattle.std.specs.declared.io.ErrorKind.{ErrorKind}
-use Rattle.std.specs.declared.io.buffered.BufReader.{BufReader}
 
 -- what is left of the input of a reader of lines, which is a buffer before a reader, and the kind of its first error
 abbrev pub bytes_left : {R : Type 0} → (R → Option (List ℕ)) → BufReader R Global × Option ErrorKind → Option (List ℕ)

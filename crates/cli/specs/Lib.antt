@@ -1,5 +1,6 @@
 pub mod Arguments
 pub mod Calls
+pub mod TextCategory
 pub mod Categories
 pub mod Columns
 pub mod Diagnostics

@@ -1,15 +1,7 @@
 -- What is written and what is reported for the lines of an input.
-use Rattle.std.specs.Prelude.{◌≡◌, ◌≢◌, ◌⊎◌, ℕ, ◌+◌, ◌≤◌, ◌^◌, List, [], ◌∷◌, ◌++◌, flat_map, Bool, true, false, ⊤, Option, Some, Result, Ok, Err, is_ok, IfSome, IsSomeAnd}
-use Rattle.std.specs.List.{FoldsTo, list_all}
-use Rattle.std.specs.Io.KnownBytes.{Appends, append_known}
-use Rattle.std.specs.declared.io.ErrorKind.{ErrorKind}
+use Rattle.std.specs.{Prelude.{◌≡◌, ◌≢◌, ◌⊎◌, ℕ, ◌+◌, ◌≤◌, ◌^◌, List, [], ◌∷◌, ◌++◌, flat_map, Bool, true, false, ⊤, Option, Some, Result, Ok, Err, is_ok, IfSome, IsSomeAnd}, List.{FoldsTo, list_all}, Io.KnownBytes.{Appends, append_known}, declared.io.ErrorKind.ErrorKind}
 use Rattle.decimal_digits.specs.AppendsPrefix.{AppendsPrefix}
-use Rattle.cli.specs.declared.program.error.ProgramError.{ProgramError}
-use Rattle.cli.specs.declared.program.error.ProgramError.TheVariants.{Line, LongLine, Input, Output}
-use Rattle.cli.specs.declared.lines.filter.Filter.{Filter}
-use Rattle.cli.specs.declared.words.options.OnError.TheVariants.{Stop}
-use Rattle.cli.specs.Filter.{Change, Effects, FilteredLine, lines_of_row, IsResultOfRow, output_of_line, errors_of_line, IsErrorOfReading, IsErrorOfLine}
-use Rattle.cli.specs.Records.{records_of}
+use Rattle.cli.specs.{declared.{program.error.ProgramError.{ProgramError, TheVariants.{Line, LongLine, Input, Output}}, lines.filter.Filter.Filter, words.options.OnError.TheVariants.Stop}, Filter.{Change, Effects, FilteredLine, lines_of_row, IsResultOfRow, output_of_line, errors_of_line, IsErrorOfReading, IsErrorOfLine}, Records.records_of}
 use Rattle.conversions.specs.Lines.{lines_of}
 
 -- ---- The lines of an input.

@@ -1,8 +1,6 @@
 -- The text of `--locales`.
 use Rattle.std.specs.Prelude.{ℕ, List, [], ◌∷◌, ◌++◌}
-use Rattle.locale_data.specs.declared.tables.rows.symbols.LocaleSymbols.{LocaleSymbols}
-use Rattle.locale_data.specs.declared.tables.symbols.TheConstants.{LOCALES}
-use Rattle.locale_data.specs.Rows.{unpadded}
+use Rattle.locale_data.specs.{declared.tables.{rows.symbols.LocaleSymbols.LocaleSymbols, symbols.TheConstants.LOCALES}, Rows.unpadded}
 
 -- the tag of a locale, and a line feed
 abbrev pub tag_line : LocaleSymbols → List ℕ

@@ -1,28 +1,9 @@
 -- The filter that words name, and its run on an input whose header has the names of fields.
-use Rattle.std.specs.Prelude.{◌≡◌, ◌≢◌, ◌⊎◌, ℕ, ◌||◌, ◌&&◌, Bool, true, false, List, [], ◌∷◌, Option, Some, None, Result, Ok, Err, IfSome, IsSomeAnd, MatchBool, ⊤}
-use Rattle.std.specs.Io.KnownBytes.{Appends}
+use Rattle.std.specs.{Prelude.{◌≡◌, ◌≢◌, ◌⊎◌, ℕ, ◌||◌, ◌&&◌, Bool, true, false, List, [], ◌∷◌, Option, Some, None, Result, Ok, Err, IfSome, IsSomeAnd, MatchBool, ⊤}, Io.KnownBytes.Appends}
 use Rattle.conversions.specs.declared.conversion.Conversion.{Conversion}
-use Rattle.cli.specs.declared.lines.edits.FieldConversion.{FieldConversion}
-use Rattle.cli.specs.declared.program.error.HeaderError.{HeaderError}
-use Rattle.cli.specs.declared.program.error.HeaderError.TheVariants.{Quote, Memory}
-use Rattle.cli.specs.declared.program.error.ProgramError.{ProgramError}
-use Rattle.cli.specs.declared.program.error.ProgramError.TheVariants.{Header, Output}
-use Rattle.cli.specs.declared.lines.fields.Field.{Field}
-use Rattle.cli.specs.declared.lines.filter.Filter.{Filter}
-use Rattle.cli.specs.declared.lines.named_filter.NamedFilter.{NamedFilter}
-use Rattle.cli.specs.declared.words.options.Options.{Options}
-use Rattle.cli.specs.declared.words.targets.NamedField.{NamedField}
-use Rattle.cli.specs.declared.words.targets.NamedTarget.{NamedTarget}
+use Rattle.cli.specs.{declared.{lines.{edits.FieldConversion.FieldConversion, fields.Field.Field, filter.{Filter.Filter, Target.Target}, named_filter.NamedFilter.NamedFilter}, program.error.{HeaderError.{HeaderError, TheVariants.{Quote, Memory}}, ProgramError.{ProgramError, TheVariants.{Header, Output}}}, words.{options.Options.Options, targets.{NamedField.NamedField, NamedTarget.NamedTarget}}}, Fields.{has_open_quote, record_of, within}, Filter.{Change, Effects, IsErrorOfReading}, Headers.{AreFields, FieldsFail}, Lines.{rows_of, Filters}, Records.is_broken, Targets.have_names, Trim.body_bounds}
 use Rattle.cli.specs.declared.words.targets.NamedTarget.TheVariants as named
-use Rattle.cli.specs.declared.lines.filter.Target.{Target}
 use Rattle.cli.specs.declared.lines.filter.Target.TheVariants as target
-use Rattle.cli.specs.Fields.{has_open_quote, record_of, within}
-use Rattle.cli.specs.Filter.{Change, Effects, IsErrorOfReading}
-use Rattle.cli.specs.Headers.{AreFields, FieldsFail}
-use Rattle.cli.specs.Lines.{rows_of, Filters}
-use Rattle.cli.specs.Records.{is_broken}
-use Rattle.cli.specs.Targets.{have_names}
-use Rattle.cli.specs.Trim.{body_bounds}
 
 -- ---- The filter, with a header.
 

@@ -1,16 +1,6 @@
 -- The options that the first words of `fixdec_lines` name.
-use Rattle.std.specs.Prelude.{◌≡◌, ◌≢◌, ◌⊎◌, ℕ, ◌&&◌, not, if◌then◌else◌, Bool, true, false, List, [], ◌∷◌, ◌++◌, length, codes, String, string_bytes, Option, Some, None, is_some}
-use Rattle.std.specs.Borrow.{Bor}
-use Rattle.std.specs.Str.{chars}
-use Rattle.std.specs.declared.alloc.Global.{Global}
-use Rattle.cli.specs.Columns.{IsColumn}
-use Rattle.cli.specs.declared.words.columns.Column.{Column}
-use Rattle.cli.specs.declared.lines.fields.Field.{Field}
-use Rattle.cli.specs.Fields.{quote}
-use Rattle.cli.specs.declared.words.options.OnError.TheVariants.{Stop, Skip, Keep}
-use Rattle.cli.specs.declared.words.options.Options.{Options}
-use Rattle.cli.specs.declared.program.error.WordsError.{WordsError}
-use Rattle.cli.specs.declared.program.error.WordsError.TheVariants.{NoField, QuoteDelimiter}
+use Rattle.std.specs.{Prelude.{◌≡◌, ◌≢◌, ◌⊎◌, ℕ, ◌&&◌, not, if◌then◌else◌, Bool, true, false, List, [], ◌∷◌, ◌++◌, length, codes, String, string_bytes, Option, Some, None, is_some}, Borrow.Bor, Str.chars, declared.alloc.Global.Global}
+use Rattle.cli.specs.{Columns.IsColumn, declared.{words.{columns.Column.Column, options.{OnError.TheVariants.{Stop, Skip, Keep}, Options.Options}}, lines.fields.Field.Field, program.error.WordsError.{WordsError, TheVariants.{NoField, QuoteDelimiter}}}, Fields.quote}
 
 -- the options of no words
 abbrev pub none : Options

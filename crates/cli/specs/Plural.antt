@@ -1,16 +1,8 @@
 -- The rules and the texts that the words of `plural` name, and its result.
-use Rattle.std.specs.Prelude.{◌≡◌, ◌≢◌, ℕ, ◌<◌, ◌⊎◌, Bool, true, false, List, [], ◌∷◌, length, String, string_bytes, Option, Result, Ok, Err, IsSomeAnd, MatchOption}
-use Rattle.std.specs.Io.KnownBytes.{append_known}
-use Rattle.std.specs.declared.alloc.Global.{Global}
+use Rattle.std.specs.{Prelude.{◌≡◌, ◌≢◌, ℕ, ◌<◌, ◌⊎◌, Bool, true, false, List, [], ◌∷◌, length, String, string_bytes, Option, Result, Ok, Err, IsSomeAnd, MatchOption}, Io.KnownBytes.append_known, Option.option_map, declared.alloc.Global.Global}
 use Rattle.plural_rules.specs.Rules.{RuleValue}
-use Rattle.cli.specs.declared.program.error.ProgramError.{ProgramError}
-use Rattle.cli.specs.declared.program.error.ProgramError.TheVariants.{Output}
-use Rattle.cli.specs.declared.program.error.WordsError.TheVariants.{NoText, Memory}
-use Rattle.cli.specs.declared.program.help.Program.TheVariants.{Plural}
-use Rattle.cli.specs.Error.{setup_error, error_of_rules}
-use Rattle.cli.specs.Categories.{PrintsAll, StopsAt}
-use Rattle.conversions.specs.declared.named_rules.NamedRulesError.{NamedRulesError}
-use Rattle.conversions.specs.NamedRules.{NamesRules, NamesNoRules}
+use Rattle.cli.specs.{declared.program.{error.{ProgramError.{ProgramError, TheVariants.Output}, WordsError.TheVariants.{NoText, Memory}}, help.Program.TheVariants.Plural}, Error.{setup_error, error_of_rules}, TextCategory.{TextRulesValue, text_rules}, Categories.{PrintsAll, StopsAt}}
+use Rattle.conversions.specs.{declared.named_rules.NamedRulesError.NamedRulesError, NamedRules.{named_type, NamesRules, NamesNoRules}, Parameters.tag_of}
 
 -- the first word is followed by others, and P holds of its bytes and of these
 abbrev pub HasTexts : List (String Global) → (List ℕ → List (String Global) → Type 0) → Type 0
@@ -18,10 +10,16 @@ HasTexts words P =
     (first : String Global) × (texts : List (String Global)) × (words ≡ first ∷ texts) × (texts ≢ [])
     × P (string_bytes first) texts
 
--- the first word names rules, and P holds of these and of the other words, of which there is one at least
-abbrev pub HasRules : List (String Global) → (List RuleValue → List (String Global) → Type 0) → Type 0
+-- the tag of the locale that a word names, if it names one
+abbrev pub named_tag : List ℕ → Option (List ℕ)
+named_tag word = option_map (λ _. tag_of word) (named_type word)
+
+-- the first word names rules, perhaps by a locale, and P holds of these and of the other words, of which there is one
+-- at least
+abbrev pub HasRules : List (String Global) → (TextRulesValue → List (String Global) → Type 0) → Type 0
 HasRules words P =
-    HasTexts words (λ bytes texts. (rules : List RuleValue) × NamesRules bytes rules × P rules texts)
+    HasTexts words
+    (λ bytes texts. (rules : List RuleValue) × NamesRules bytes rules × P (text_rules rules (named_tag bytes)) texts)
 
 -- the error before a text is read: there are no rules or no texts, or the first word names no rules
 abbrev pub RulesFail : List (String Global) → ProgramError → Type 0

@@ -1,6 +1,5 @@
 -- The records of an input of CSV: lines that go on while a quote is open.
-use Rattle.std.specs.Prelude.{ℕ, ◌+◌, ◌==◌, ◌||◌, ◌&&◌, if◌then◌else◌, nat_lt, nat_le, Bool, not, List, [], ◌∷◌, ◌++◌, length, count_by}
-use Rattle.std.specs.Io.BufRead.{strip_last}
+use Rattle.std.specs.{Prelude.{ℕ, ◌+◌, ◌==◌, ◌||◌, ◌&&◌, if◌then◌else◌, nat_lt, nat_le, Bool, not, List, [], ◌∷◌, ◌++◌, length, count_by}, Io.BufRead.strip_last}
 use Rattle.cli.specs.Fields.{are_closed}
 
 -- the number of bytes of the longest record: 1 MiB

@@ -1,20 +1,7 @@
 -- What the words after the options name: the conversion of each line, or of fields of it.
-use Rattle.std.specs.Prelude.{◌≡◌, ◌≢◌, ◌⊎◌, ℕ, ⊤, Bool, true, false, List, [], ◌∷◌, ◌++◌, All, String, string_bytes, Option, Some, None}
-use Rattle.std.specs.List.{list_any}
-use Rattle.std.specs.declared.alloc.Global.{Global}
-use Rattle.cli.specs.Columns.{IsColumn, IsFieldWord, is_same, is_name, IsLabel}
-use Rattle.cli.specs.declared.words.columns.Column.{Column}
-use Rattle.cli.specs.declared.words.columns.Column.TheVariants.{Index}
-use Rattle.conversions.specs.declared.conversion.Conversion.{Conversion}
-use Rattle.cli.specs.declared.program.error.WordsError.{WordsError}
-use Rattle.cli.specs.declared.program.error.WordsError.TheVariants.{Misplaced, Memory}
-use Rattle.cli.specs.declared.lines.fields.Field.{Field}
-use Rattle.cli.specs.declared.words.targets.NamedField.{NamedField}
-use Rattle.cli.specs.declared.words.targets.NamedTarget.{NamedTarget}
-use Rattle.cli.specs.declared.words.targets.NamedTarget.TheVariants.{One, Fields}
-use Rattle.cli.specs.Fields.{at_index}
-use Rattle.conversions.specs.ShownWord.{IsShown}
-use Rattle.cli.specs.Words.{NamesConversion, ConversionFails}
+use Rattle.std.specs.{Prelude.{◌≡◌, ◌≢◌, ◌⊎◌, ℕ, ⊤, Bool, true, false, List, [], ◌∷◌, ◌++◌, All, String, string_bytes, Option, Some, None}, List.list_any, declared.alloc.Global.Global}
+use Rattle.cli.specs.{Columns.{IsColumn, IsFieldWord, is_same, is_name, IsLabel}, declared.{words.{columns.Column.{Column, TheVariants.Index}, targets.{NamedField.NamedField, NamedTarget.{NamedTarget, TheVariants.{One, Fields}}}}, program.error.WordsError.{WordsError, TheVariants.{Misplaced, Memory}}, lines.fields.Field.Field}, Fields.at_index, Words.{NamesConversion, ConversionFails}}
+use Rattle.conversions.specs.{declared.conversion.Conversion.Conversion, ShownWord.IsShown}
 
 -- ---- Words of fields.
 

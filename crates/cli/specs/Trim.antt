@@ -1,7 +1,5 @@
 -- What `trim` leaves out of a conversion.
-use Rattle.std.specs.Prelude.{ℕ, ◌+◌, ◌-◌, ◌==◌, ◌||◌, ◌&&◌, nat_eq, if◌then◌else◌, Bool, List, [], ◌∷◌, length, drop}
-use Rattle.std.specs.List.{prefix_len, suffix_len, starts_with}
-use Rattle.std.specs.Io.BufRead.{strip_last}
+use Rattle.std.specs.{Prelude.{ℕ, ◌+◌, ◌-◌, ◌==◌, ◌||◌, ◌&&◌, nat_eq, if◌then◌else◌, Bool, List, [], ◌∷◌, length, drop}, List.{prefix_len, suffix_len, starts_with}, Io.BufRead.strip_last}
 use Rattle.cli.specs.Fields.{within, replaced}
 
 -- ---- Blanks and tabs around a text.

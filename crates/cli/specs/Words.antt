@@ -1,16 +1,7 @@
 -- The conversion that words name: [read:LOCALE[:lenient][:SKELETON]] [CALL].. [format:LOCALE[:GROUPING|:SKELETON]].
-use Rattle.std.specs.Prelude.{◌≡◌, ◌≢◌, ◌⊎◌, ℕ, List, [], ◌∷◌, ◌++◌, String, string_bytes, Option, Some, None}
-use Rattle.std.specs.declared.alloc.Global.{Global}
-use Rattle.conversions.specs.declared.conversion.Conversion.{Conversion}
-use Rattle.conversions.specs.declared.error.FormError.{FormError}
-use Rattle.conversions.specs.declared.locale_formatter.LocaleFormatter.{LocaleFormatter}
-use Rattle.conversions.specs.declared.reader.LocaleReader.{LocaleReader}
-use Rattle.conversions.specs.FormatWord.{IsFormatWord, NamesFormatter, FormatterFails}
-use Rattle.conversions.specs.ReadWord.{IsReadWord, NamesReader, ReaderFails}
-use Rattle.cli.specs.declared.program.error.WordsError.{WordsError}
-use Rattle.cli.specs.declared.program.error.WordsError.TheVariants.{Memory}
-use Rattle.cli.specs.Calls.{NameAll, AreCalls, CallsFail}
-use Rattle.cli.specs.Error.{words_error}
+use Rattle.std.specs.{Prelude.{◌≡◌, ◌≢◌, ◌⊎◌, ℕ, List, [], ◌∷◌, ◌++◌, String, string_bytes, Option, Some, None}, declared.alloc.Global.Global}
+use Rattle.conversions.specs.{declared.{conversion.Conversion.Conversion, error.FormError.FormError, locale_formatter.LocaleFormatter.LocaleFormatter, reader.LocaleReader.LocaleReader}, FormatWord.{IsFormatWord, NamesFormatter, FormatterFails}, ReadWord.{IsReadWord, NamesReader, ReaderFails}}
+use Rattle.cli.specs.{declared.program.error.WordsError.{WordsError, TheVariants.Memory}, Calls.{NameAll, AreCalls, CallsFail}, Error.words_error}
 
 -- ---- The first and the last word.
 

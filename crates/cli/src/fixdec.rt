@@ -1,14 +1,8 @@
 //! `fixdec TEXT [read:LOCALE] [CALL].. [format:LOCALE]`: reads a decimal, makes the calls in order, and prints the text
 //! of the result.
-ghost use Rattle.std.specs.Prelude.{◌≡◌, ◌≢◌, ◌≤◌, ◌<◌, Bool, true, false, None, Result, Err, IfOk, IfErr, IfSome, OnOk};
-ghost use Rattle.std.specs.Process.{exit_status};
-ghost use Rattle.cli.specs.declared.program.error.ProgramError.{ProgramError};
-ghost use Rattle.cli.specs.declared.program.help.Program.TheVariants.{Fixdec};
-ghost use Rattle.cli.specs.Error.{status_of};
+ghost use Rattle.std.specs.{Prelude.{◌≡◌, ◌≢◌, ◌≤◌, ◌<◌, Bool, true, false, None, Result, Err, IfOk, IfErr, IfSome, OnOk}, Process.exit_status};
+ghost use Rattle.cli.specs.{declared.program.{error.ProgramError.ProgramError, help.Program.TheVariants.Fixdec}, Error.status_of, Fixdec.{HasError, Converts, NamesRun, PrintsLine, PrintsLinePrefix, Prints, PrintsPrefix}, Arguments.Ends, Diagnostics.Concludes};
 ghost use Rattle.conversions.specs.Conversion.{OperationsFail};
-ghost use Rattle.cli.specs.Fixdec.{HasError, Converts, NamesRun, PrintsLine, PrintsLinePrefix, Prints, PrintsPrefix};
-ghost use Rattle.cli.specs.Arguments.{Ends};
-ghost use Rattle.cli.specs.Diagnostics.{Concludes};
 
 use crate::program::arguments::start;
 use crate::program::diagnostics::{Diagnostics, ErrorLines, conclude};

@@ -1,13 +1,7 @@
 //! `fixdec_lines [OPTION].. [read:LOCALE] [CALL].. [format:LOCALE]`: makes the same calls on each line of its input, or
 //! on a field of it, and writes a line for each.
-ghost use Rattle.std.specs.Prelude.{◌≡◌, ◌≤◌, Bool, true, false, Result, Ok, IfOk, IfErr, IfSome};
-ghost use Rattle.std.specs.Process.{exit_status};
-ghost use Rattle.cli.specs.declared.program.error.ProgramError.{ProgramError};
-ghost use Rattle.cli.specs.Arguments.{HaveWords, IsRequest, Ends};
-ghost use Rattle.cli.specs.declared.program.help.Program.TheVariants.{FixdecLines};
-ghost use Rattle.cli.specs.Diagnostics.{ConcludesWith};
-ghost use Rattle.cli.specs.FixdecLines.{NamesFilter, FilterFails, IsEarly, Process, LinesEnd};
-ghost use Rattle.cli.specs.Input.{bytes_left};
+ghost use Rattle.std.specs.{Prelude.{◌≡◌, ◌≤◌, Bool, true, false, Result, Ok, IfOk, IfErr, IfSome}, Process.exit_status};
+ghost use Rattle.cli.specs.{declared.program.{error.ProgramError.ProgramError, help.Program.TheVariants.FixdecLines}, Arguments.{HaveWords, IsRequest, Ends}, Diagnostics.ConcludesWith, FixdecLines.{NamesFilter, FilterFails, IsEarly, Process, LinesEnd}, Input.bytes_left};
 
 use crate::lines::input::LineReader;
 use crate::lines::named_filter::{NamedFilter, filter_input};

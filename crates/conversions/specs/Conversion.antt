@@ -1,28 +1,12 @@
 -- The outcome of a conversion on a text, and its errors.
 use Rattle.std.specs.Prelude.{◌≡◌, ◌⊎◌, ◌&&◌, List, ℕ, Bool, Option, Some, None, is_none, Result, Ok, Err, IsOkAnd}
-use Rattle.decimal_unsigned.specs.Reading.{ReadError, syntax, limit}
-use Rattle.decimal_unsigned.specs.declared.decimal.TheConstants.{INLINE_DIGITS}
-use Rattle.decimal_unsigned.specs.declared.error.ParseError.{ParseError}
+use Rattle.decimal_unsigned.specs.{Reading.{ReadError, syntax, limit}, declared.{decimal.TheConstants.INLINE_DIGITS, error.ParseError.ParseError}}
 use Rattle.decimal_unsigned.specs.declared.error.ParseError.TheVariants as parse
-use Rattle.fixed_decimal.specs.Decimal.{Decimal}
-use Rattle.fixed_decimal.specs.DecimalText.{decimal_text, read_decimal, IsLong, and_then}
-use Rattle.fixed_decimal.specs.Outcome.{OutcomeError, started, after_calls, outcome, start, operand, overlap, limit_exceeded}
-use Rattle.fixed_decimal.specs.Calls.{CallsFail}
-use Rattle.fixed_decimal.specs.Errors.{run_error}
-use Rattle.fixed_decimal.specs.declared.runs.Call.{Call}
-use Rattle.fixed_decimal.specs.declared.runs.CallError.{CallError}
+use Rattle.fixed_decimal.specs.{Decimal.Decimal, DecimalText.{decimal_text, read_decimal, IsLong, and_then}, Outcome.{OutcomeError, started, after_calls, outcome, start, operand, overlap, limit_exceeded}, Calls.CallsFail, Errors.run_error, declared.runs.{Call.Call, CallError.CallError}}
 use Rattle.decimal_format.specs.Formatted.{formatted}
 use Rattle.number_format.specs.NumberText.{IsNumberText, WritingNeedsMemory, shown_number}
-use Rattle.conversions.specs.declared.conversion.Conversion.{Conversion}
-use Rattle.conversions.specs.declared.locale_formatter.LocaleFormatter.{LocaleFormatter}
-use Rattle.conversions.specs.declared.locale_formatter.LocaleFormatter.TheVariants.{AllDigits, Skeleton}
-use Rattle.conversions.specs.declared.reader.LocaleReader.{LocaleReader}
-use Rattle.conversions.specs.declared.reader.LocaleReader.TheVariants.{Decimals, Numbers}
+use Rattle.conversions.specs.{declared.{conversion.Conversion.Conversion, locale_formatter.LocaleFormatter.{LocaleFormatter, TheVariants.{AllDigits, Skeleton}}, reader.LocaleReader.{LocaleReader, TheVariants.{Decimals, Numbers}}, error.OperationError.{OperationError, TheVariants.{Start, Operand, Overlap, Overflow, FormatOverflow, Memory, Output}}}, Error.error_of_run, Reader.{IsReadIn, NeedsMemoryIn, IsNumberRead, NumberReadingFails}}
 use Rattle.conversions.specs.declared.error.Reason.TheVariants as reason
-use Rattle.conversions.specs.declared.error.OperationError.{OperationError}
-use Rattle.conversions.specs.declared.error.OperationError.TheVariants.{Start, Operand, Overlap, Overflow, FormatOverflow, Memory, Output}
-use Rattle.conversions.specs.Error.{error_of_run}
-use Rattle.conversions.specs.Reader.{IsReadIn, NeedsMemoryIn, IsNumberRead, NumberReadingFails}
 
 -- ---- Reading.
 

@@ -4,10 +4,7 @@ use Rattle.decimal_unsigned.specs.declared.error.ParseError.TheVariants as parse
 use Rattle.decimal_unsigned.specs.Reading.{ReadError, syntax, limit}
 use Rattle.fixed_decimal.specs.declared.runs.RunError.{RunError}
 use Rattle.fixed_decimal.specs.declared.runs.RunError.TheVariants as run
-use Rattle.conversions.specs.declared.error.Reason.{Reason}
-use Rattle.conversions.specs.declared.error.Reason.TheVariants.{Syntax, Limit}
-use Rattle.conversions.specs.declared.error.OperationError.{OperationError}
-use Rattle.conversions.specs.declared.error.OperationError.TheVariants.{Field, Quote, Start, Operand, Overlap, Overflow, FormatOverflow, Memory, Output}
+use Rattle.conversions.specs.declared.error.{Reason.{Reason, TheVariants.{Syntax, Limit}}, OperationError.{OperationError, TheVariants.{Field, Quote, Start, Operand, Overlap, Overflow, FormatOverflow, Memory, Output}}}
 
 -- an error of a run as an error of a conversion
 abbrev pub error_of_run : RunError → OperationError

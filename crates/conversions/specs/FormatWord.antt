@@ -1,23 +1,12 @@
 -- The formatter that `format:LOCALE[:GROUPING|:SKELETON]` names.
-use Rattle.std.specs.Prelude.{◌≡◌, ◌≢◌, ◌⊎◌, ℕ, ◌-◌, ⊤, if◌then◌else◌, List, [], ◌∷◌, ◌++◌, take, drop, codes, Option, Some, None, IsSome, Ok, Err}
-use Rattle.std.specs.Str.{is_utf8}
-use Rattle.decimal_format.specs.declared.grouping.GroupingStrategy.{GroupingStrategy}
-use Rattle.decimal_format.specs.declared.grouping.GroupingStrategy.TheVariants.{Auto, Never, Always, Min2}
+use Rattle.std.specs.{Prelude.{◌≡◌, ◌≢◌, ◌⊎◌, ℕ, ◌-◌, ⊤, if◌then◌else◌, List, [], ◌∷◌, ◌++◌, take, drop, codes, Option, Some, None, IsSome, Ok, Err}, Str.is_utf8}
+use Rattle.decimal_format.specs.declared.grouping.GroupingStrategy.{GroupingStrategy, TheVariants.{Auto, Never, Always, Min2}}
 use Rattle.locale_data.specs.Locales.{IsLocale, IsUnknown}
-use Rattle.number_format.specs.declared.format.ids.NumberFormatError.{NumberFormatError}
+use Rattle.number_format.specs.{declared.{format.{ids.NumberFormatError.NumberFormatError, formatter.NumberFormatter.NumberFormatter}, options.NumberOptions.NumberOptions}, Formatters.{IsFormatter, IsFormatterError}}
 use Rattle.number_format.specs.declared.format.ids.NumberFormatError.TheVariants as formatter
-use Rattle.number_format.specs.declared.format.formatter.NumberFormatter.{NumberFormatter}
-use Rattle.number_format.specs.declared.options.NumberOptions.{NumberOptions}
-use Rattle.number_skeleton.specs.declared.error.SkeletonError.{SkeletonError}
+use Rattle.number_skeleton.specs.{declared.error.SkeletonError.SkeletonError, Meaning.{skeleton_options, options_value}}
 use Rattle.number_skeleton.specs.declared.error.SkeletonError.TheVariants as skeleton
-use Rattle.number_format.specs.Formatters.{IsFormatter, IsFormatterError}
-use Rattle.number_skeleton.specs.Meaning.{skeleton_options, options_value}
-use Rattle.conversions.specs.declared.error.FormError.{FormError}
-use Rattle.conversions.specs.declared.error.FormError.TheVariants.{NoSuchWord, UnknownLocale, SkeletonSyntax, SkeletonUnsupported}
-use Rattle.conversions.specs.declared.locale_formatter.LocaleFormatter.{LocaleFormatter}
-use Rattle.conversions.specs.declared.locale_formatter.LocaleFormatter.TheVariants.{AllDigits, Skeleton}
-use Rattle.conversions.specs.Parameters.{lookup, locale_tag, locale_option}
-use Rattle.conversions.specs.ShownWord.{IsShown}
+use Rattle.conversions.specs.{declared.{error.FormError.{FormError, TheVariants.{NoSuchWord, UnknownLocale, SkeletonSyntax, SkeletonUnsupported}}, locale_formatter.LocaleFormatter.{LocaleFormatter, TheVariants.{AllDigits, Skeleton}}}, Parameters.{lookup, locale_tag, locale_option}, ShownWord.IsShown}
 
 -- the word is `format:` and a text
 abbrev pub IsFormatWord : List ℕ → Type 0

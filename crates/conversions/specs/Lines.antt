@@ -1,6 +1,5 @@
 -- The lines of a text.
-use Rattle.std.specs.Prelude.{ℕ, ◌==◌, if◌then◌else◌, List, [], ◌∷◌}
-use Rattle.std.specs.List.{onto_first}
+use Rattle.std.specs.{Prelude.{ℕ, ◌==◌, if◌then◌else◌, List, [], ◌∷◌}, List.onto_first}
 
 -- the bytes before each line feed, and those after the last one if there are any
 abbrev pub lines_of : List ℕ → List (List ℕ)

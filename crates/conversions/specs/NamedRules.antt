@@ -1,18 +1,9 @@
 -- The plural rules that a word names: those of a locale, or those that it is the text of.
-use Rattle.std.specs.Prelude.{◌≡◌, ◌≢◌, ℕ, ◌==◌, ◌&&◌, ◌||◌, Bool, true, false, if◌then◌else◌, List, [], ◌∷◌, codes, Option, Some, None, IsSome, Err}
-use Rattle.std.specs.Char.{is_ascii_alphabetic, is_ascii_alphanumeric}
-use Rattle.std.specs.List.{list_all}
+use Rattle.std.specs.{Prelude.{◌≡◌, ◌≢◌, ℕ, ◌==◌, ◌&&◌, ◌||◌, Bool, true, false, if◌then◌else◌, List, [], ◌∷◌, codes, Option, Some, None, IsSome, Err}, Char.{is_ascii_alphabetic, is_ascii_alphanumeric}, List.list_all}
 use Rattle.plural_rules.specs.declared.parse.RulesError.TheVariants as rules
-use Rattle.plural_rules.specs.Rules.{RuleValue}
-use Rattle.plural_rules.specs.RulesGrammar.{Grammar}
-use Rattle.plural_rules.specs.RulesParseResult.{IsParseResult}
-use Rattle.locale_data.specs.declared.plurals.PluralRuleType.{PluralRuleType}
-use Rattle.locale_data.specs.declared.plurals.PluralRuleType.TheVariants.{Cardinal, Ordinal}
-use Rattle.locale_data.specs.Plurals.{IsRulesText, HasNoRules}
-use Rattle.conversions.specs.declared.named_rules.NamedRulesError.{NamedRulesError}
-use Rattle.conversions.specs.declared.named_rules.NamedRulesError.TheVariants.{UnknownLocale, UnknownType, Rules}
-use Rattle.conversions.specs.ShownWord.{IsShown}
-use Rattle.conversions.specs.Parameters.{tag_of, option_of, lookup}
+use Rattle.plural_rules.specs.{Rules.RuleValue, RulesGrammar.Grammar, RulesParseResult.IsParseResult}
+use Rattle.locale_data.specs.{declared.plurals.PluralRuleType.{PluralRuleType, TheVariants.{Cardinal, Ordinal}}, Plurals.{IsRulesText, HasNoRules}}
+use Rattle.conversions.specs.{declared.named_rules.NamedRulesError.{NamedRulesError, TheVariants.{UnknownLocale, UnknownType, Rules}}, ShownWord.IsShown, Parameters.{tag_of, option_of, lookup}}
 
 -- a letter, a digit, or one of - _ . @
 abbrev pub is_tag_byte : ℕ → Bool

@@ -1,8 +1,5 @@
 -- The parameters of a word, after its first colon: the tag of a locale, and an option after a colon; or a number.
-use Rattle.std.specs.Prelude.{◌∷◌, ◌≡◌, ℕ, ℤ, pos, neg_ℤ, ◌==◌, ◌&&◌, Bool, nat_le, nat_lt, if◌then◌else◌, List, [], ◌++◌, length, drop, slice_index, Option, Some, None, option_map, unwrap_or}
-use Rattle.std.specs.List.{list_any, before_first, after_first}
-use Rattle.std.specs.Str.{all_ascii_digits, bytes_eq}
-use Rattle.std.specs.Str.Parse.{digits_value}
+use Rattle.std.specs.{Prelude.{◌∷◌, ◌≡◌, ℕ, ℤ, pos, neg_ℤ, ◌==◌, ◌&&◌, Bool, nat_le, nat_lt, if◌then◌else◌, List, [], ◌++◌, length, drop, slice_index, Option, Some, None, option_map, unwrap_or}, List.{list_any, before_first, after_first}, Str.{all_ascii_digits, bytes_eq, Parse.digits_value}}
 use Rattle.decimal_digits.specs.Ascii.{minus_sign}
 
 abbrev pub is_colon : ℕ → Bool

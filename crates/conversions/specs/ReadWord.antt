@@ -1,18 +1,8 @@
 -- The reader that `read:LOCALE[:lenient][:SKELETON]` names.
-use Rattle.std.specs.Prelude.{◌≡◌, ◌≢◌, ◌⊎◌, ℕ, ⊤, if◌then◌else◌, List, [], ◌++◌, codes, Option, Some, None}
-use Rattle.std.specs.Str.{bytes_eq}
+use Rattle.std.specs.{Prelude.{◌≡◌, ◌≢◌, ◌⊎◌, ℕ, ⊤, if◌then◌else◌, List, [], ◌++◌, codes, Option, Some, None}, Str.bytes_eq}
 use Rattle.locale_data.specs.Locales.{IsLocale}
-use Rattle.number_format.specs.declared.format.formatter.NumberFormatter.{NumberFormatter}
-use Rattle.number_format.specs.declared.read.number_reader.ParseMode.{ParseMode}
-use Rattle.number_format.specs.declared.read.number_reader.ParseMode.TheVariants.{Strict, Lenient}
-use Rattle.number_format.specs.NumberReading.{CanRead, NumberReader, number_reader_of}
-use Rattle.conversions.specs.declared.error.FormError.{FormError}
-use Rattle.conversions.specs.declared.error.FormError.TheVariants.{NoSuchWord, NoReader, Memory}
-use Rattle.conversions.specs.declared.reader.LocaleReader.{LocaleReader}
-use Rattle.conversions.specs.declared.reader.LocaleReader.TheVariants.{Decimals, Numbers}
-use Rattle.conversions.specs.FormatWord.{IsNumberFormatter, NumberFormatterFails, IsUnknownLocale}
-use Rattle.conversions.specs.Parameters.{tag_of, option_of, locale_tag, locale_option}
-use Rattle.conversions.specs.ShownWord.{IsShown}
+use Rattle.number_format.specs.{declared.{format.formatter.NumberFormatter.NumberFormatter, read.number_reader.ParseMode.{ParseMode, TheVariants.{Strict, Lenient}}}, NumberReading.{CanRead, NumberReader, number_reader_of}}
+use Rattle.conversions.specs.{declared.{error.FormError.{FormError, TheVariants.{NoSuchWord, NoReader, Memory}}, reader.LocaleReader.{LocaleReader, TheVariants.{Decimals, Numbers}}}, FormatWord.{IsNumberFormatter, NumberFormatterFails, IsUnknownLocale}, Parameters.{tag_of, option_of, locale_tag, locale_option}, ShownWord.IsShown}
 
 -- the word is `read:` and a text
 abbrev pub IsReadWord : List ℕ → Type 0

@@ -1,18 +1,10 @@
 -- The texts that a reader reads.
-use Rattle.std.specs.Prelude.{List, ℕ, Result, Ok, Err}
-use Rattle.std.specs.Str.{IsUtf8}
-use Rattle.decimal_unsigned.specs.Reading.{ReadError, syntax, limit}
-use Rattle.decimal_unsigned.specs.Unsigned.{IsValue}
-use Rattle.decimal_unsigned.specs.declared.decimal.TheConstants.{INLINE_DIGITS}
-use Rattle.decimal_unsigned.specs.declared.error.ParseError.{ParseError}
+use Rattle.std.specs.{Prelude.{List, ℕ, Result, Ok, Err}, Str.IsUtf8}
+use Rattle.decimal_unsigned.specs.{Reading.{ReadError, syntax, limit}, Unsigned.IsValue, declared.{decimal.TheConstants.INLINE_DIGITS, error.ParseError.ParseError}}
 use Rattle.decimal_unsigned.specs.declared.error.ParseError.TheVariants as parse
 use Rattle.fixed_decimal.specs.Decimal.{Decimal}
-use Rattle.decimal_format.specs.Symbols.{Symbols}
-use Rattle.decimal_format.specs.Reading.{Numeral, IsNumeral, IsBeyondLimits, IsWritten, NeedsMemory}
-use Rattle.decimal_format.specs.Lenient.{IsTyped, IsTypedNumeral}
-use Rattle.number_format.specs.NumberReading.{NumberReader, IsReadInMode}
-use Rattle.number_format.specs.declared.read.number_reader.ParseMode.{ParseMode}
-use Rattle.number_format.specs.declared.read.number_reader.ParseMode.TheVariants.{Strict, Lenient}
+use Rattle.decimal_format.specs.{Symbols.Symbols, Reading.{Numeral, IsNumeral, IsBeyondLimits, IsWritten, NeedsMemory}, Lenient.{IsTyped, IsTypedNumeral}}
+use Rattle.number_format.specs.{NumberReading.{NumberReader, IsReadInMode}, declared.read.number_reader.ParseMode.{ParseMode, TheVariants.{Strict, Lenient}}}
 
 -- ---- By the symbols of a locale.
 

@@ -1,7 +1,5 @@
 -- How an error line shows a word.
-use Rattle.std.specs.Prelude.{◌≡◌, ℕ, ◌-◌, nat_le, if◌then◌else◌, List, [], ◌∷◌, ◌++◌, length, encode_utf8}
-use Rattle.std.specs.Char.{is_control}
-use Rattle.std.specs.Str.{chars}
+use Rattle.std.specs.{Prelude.{◌≡◌, ℕ, ◌-◌, nat_le, if◌then◌else◌, List, [], ◌∷◌, ◌++◌, length, encode_utf8}, Char.is_control, Str.chars}
 use Rattle.conversions.specs.declared.shown_word.ShownWord.{ShownWord}
 
 -- a character, and a question mark for a control

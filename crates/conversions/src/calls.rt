@@ -1,8 +1,6 @@
 //! The call that a word names.
-ghost use Rattle.std.specs.Prelude.{◌≡◌};
-ghost use Rattle.std.specs.Option.{option_map};
-ghost use Rattle.conversions.specs.Parameters.{lookup};
-ghost use Rattle.conversions.specs.Calls.{modes, increments, signs, displays, mode_and_increment, rounding, plain_calls, call_with, call_of, copied};
+ghost use Rattle.std.specs.{Prelude.◌≡◌, Option.option_map};
+ghost use Rattle.conversions.specs.{Parameters.lookup, Calls.{modes, increments, signs, displays, mode_and_increment, rounding, plain_calls, call_with, call_of, copied}};
 
 use crate::parameters::{number, split_parameters};
 use fixed_decimal::{

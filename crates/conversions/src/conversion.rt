@@ -1,6 +1,5 @@
 //! Conversions: a text is read, calls are made on its decimal, and the text of the result is written.
-ghost use Rattle.std.specs.Prelude.{◌≡◌, ◌≢◌, Ok, Err, true, IfOk, IfErr, OnOk, OnErr};
-ghost use Rattle.std.specs.Io.KnownBytes.{Appends};
+ghost use Rattle.std.specs.{Prelude.{◌≡◌, ◌≢◌, Ok, Err, true, IfOk, IfErr, OnOk, OnErr}, Io.KnownBytes.Appends};
 ghost use Rattle.decimal_digits.specs.AppendsPrefix.{AppendsPrefix};
 ghost use Rattle.conversions.specs.Conversion.{IsReadBy, ReadingByFails, HasTextBy, WritingFails, HasOutcome, OperationsFail, is_plain};
 

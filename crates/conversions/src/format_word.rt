@@ -1,12 +1,8 @@
 //! The formatter that `format:LOCALE[:GROUPING|:SKELETON]` names.
-ghost use Rattle.std.specs.Prelude.{◌≡◌, IfOk, IfErr, true, false};
-ghost use Rattle.std.specs.Option.{option_copied};
+ghost use Rattle.std.specs.{Prelude.{◌≡◌, IfOk, IfErr, true, false}, Option.option_copied};
 ghost use Rattle.decimal_format.specs.declared.grouping.GroupingStrategy.{GroupingStrategy};
 ghost use Rattle.locale_data.specs.Locales.{IsLocale};
-ghost use Rattle.conversions.specs.FormatWord.{strategy_of, stem_bytes, IsErrorOfSkeleton, IsErrorOfFormatter};
-ghost use Rattle.conversions.specs.FormatWord.{IsNumberFormatter, NumberFormatterFails, IsUnknownLocale};
-ghost use Rattle.conversions.specs.FormatWord.{IsFormatWord, NamesFormatter, FormatterFails};
-ghost use Rattle.conversions.specs.ShownWord.{IsShown};
+ghost use Rattle.conversions.specs.{FormatWord.{strategy_of, stem_bytes, IsErrorOfSkeleton, IsErrorOfFormatter, IsNumberFormatter, NumberFormatterFails, IsUnknownLocale, IsFormatWord, NamesFormatter, FormatterFails}, ShownWord.IsShown};
 
 use crate::error::FormError;
 use crate::locale_formatter::LocaleFormatter;

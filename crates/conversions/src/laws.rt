@@ -1,10 +1,7 @@
 //! Laws of conversions: the contract of each function states a law.
 ghost use Rattle.std.specs.Prelude.{◌≡◌, ℕ, List, Result, None};
-ghost use Rattle.conversions.specs.Conversion.{ConversionError, IsOutcome, IsRunFormatted};
-ghost use Rattle.conversions.specs.declared.conversion.Conversion.{Conversion};
-ghost use Rattle.conversions.specs.NamedRules.{HasUnknownType};
-ghost use Rattle.plural_rules.specs.Rules.{RuleValue};
-ghost use Rattle.plural_rules.specs.RulesGrammar.{Grammar};
+ghost use Rattle.conversions.specs.{Conversion.{ConversionError, IsOutcome, IsRunFormatted}, declared.conversion.Conversion.Conversion, NamedRules.HasUnknownType};
+ghost use Rattle.plural_rules.specs.{Rules.RuleValue, RulesGrammar.Grammar};
 
 /// A conversion without a reader is the run of its calls, formatted: both write the same last decimal.
 #[tactic(auto, using(crate::proofs::lemmas::conversion::Conversions::conversion_is_run_formatted))]

@@ -1,9 +1,7 @@
 //! Writing of decimals in the form of a locale.
-ghost use Rattle.std.specs.Prelude.{◌≡◌, ◌≢◌, Some, Err, true, IfErr, OnOk, OnErr};
-ghost use Rattle.std.specs.Io.KnownBytes.{Appends};
+ghost use Rattle.std.specs.{Prelude.{◌≡◌, ◌≢◌, Some, Err, true, IfErr, OnOk, OnErr}, Io.KnownBytes.Appends};
 ghost use Rattle.decimal_digits.specs.AppendsPrefix.{AppendsPrefix};
-ghost use Rattle.conversions.specs.Conversion.{HasTextBy, WritingFails};
-ghost use Rattle.conversions.specs.declared.locale_formatter.LocaleFormatter.TheVariants.{Skeleton};
+ghost use Rattle.conversions.specs.{Conversion.{HasTextBy, WritingFails}, declared.locale_formatter.LocaleFormatter.TheVariants.Skeleton};
 
 use crate::error::OperationError;
 use decimal_format::DecimalFormatter;

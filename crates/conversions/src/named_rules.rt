@@ -1,10 +1,6 @@
 //! The plural rules that a word names: those of a locale, or those that the word is the text of.
-ghost use Rattle.std.specs.Prelude.{◌≡◌, ℕ, List, IfOk, IfErr, IfSome, IfNone};
-ghost use Rattle.std.specs.Option.{option_copied, option_map};
-ghost use Rattle.std.specs.List.{list_all};
-ghost use Rattle.std.specs.Char.{is_ascii_alphabetic};
-ghost use Rattle.conversions.specs.Parameters.{tag_of};
-ghost use Rattle.conversions.specs.NamedRules.{is_tag_byte, is_tag, type_of, named_type, HasUnknownType, NamesRules, NamesNoRules};
+ghost use Rattle.std.specs.{Prelude.{◌≡◌, ℕ, List, IfOk, IfErr, IfSome, IfNone}, Option.{option_copied, option_map}, List.list_all, Char.is_ascii_alphabetic};
+ghost use Rattle.conversions.specs.{Parameters.tag_of, NamedRules.{is_tag_byte, is_tag, type_of, named_type, HasUnknownType, NamesRules, NamesNoRules}};
 
 use crate::parameters::split_parameters;
 use crate::shown_word::ShownWord;

@@ -1,6 +1,5 @@
 //! The parameters of a word, after its first colon, and numbers.
-ghost use Rattle.std.specs.Prelude.{◌≡◌, ℤ, IfSome, Some};
-ghost use Rattle.std.specs.Option.{option_copied};
+ghost use Rattle.std.specs.{Prelude.{◌≡◌, ℤ, IfSome, Some}, Option.option_copied};
 ghost use Rattle.conversions.specs.Parameters.{tag_of, option_of, parameters_of, number, HasNumber};
 
 /// Splits a text at its first colon.

@@ -1,11 +1,8 @@
 //! The reader that `read:LOCALE[:lenient][:SKELETON]` names.
-ghost use Rattle.std.specs.Prelude.{◌≡◌, IfOk, IfErr, true, false};
-ghost use Rattle.std.specs.Option.{option_copied};
+ghost use Rattle.std.specs.{Prelude.{◌≡◌, IfOk, IfErr, true, false}, Option.option_copied};
 ghost use Rattle.locale_data.specs.Locales.{IsLocale};
 ghost use Rattle.number_format.specs.NumberReading.{CanRead, number_reader_of};
-ghost use Rattle.conversions.specs.FormatWord.{IsUnknownLocale};
-ghost use Rattle.conversions.specs.ReadWord.{read_option, IsErrorOfReader, IsNumberReader, SkeletonReaderFails};
-ghost use Rattle.conversions.specs.ReadWord.{IsReadWord, NamesReader, ReaderFails};
+ghost use Rattle.conversions.specs.{FormatWord.IsUnknownLocale, ReadWord.{read_option, IsErrorOfReader, IsNumberReader, SkeletonReaderFails, IsReadWord, NamesReader, ReaderFails}};
 
 use crate::error::FormError;
 use crate::format_word::number_formatter;
@@ -43,7 +40,7 @@ fn number_reader(alloc: Global, formatter: NumberFormatter) -> Result<NumberRead
     ensures ok { IfOk result (λ r. (r ≡ number_reader_of formatter) × CanRead formatter) }
     ensures err { IfErr result (IsErrorOfReader formatter) }
 {
-    match formatter.into_reader(alloc) {
+    match formatter.reader(alloc) {
         Ok(reader) => Ok(reader),
         Err(NumberReaderError::Memory) => Err(FormError::Memory),
         Err(_) => Err(FormError::NoReader),

@@ -1,12 +1,7 @@
 -- Numbers as people type them, between affixes.
 use Rattle.std.specs.Prelude.{◌≡◌, ◌≢◌, ℕ, ◌⊎◌, List, [], ◌∷◌, ◌++◌}
-use Rattle.fixed_decimal.specs.Decimal.{Decimal}
-use Rattle.fixed_decimal.specs.declared.variations.Sign.{Sign}
-use Rattle.fixed_decimal.specs.declared.variations.Sign.TheVariants.{None}
-use Rattle.decimal_format.specs.Symbols.{Symbols}
-use Rattle.decimal_format.specs.Reading.{Numeral}
-use Rattle.decimal_format.specs.Lenient.{normalized, IsLenientNumeral, IsLenientlyWritten}
-use Rattle.decimal_format.specs.declared.reader.alternatives.Alternative.{Alternative}
+use Rattle.fixed_decimal.specs.{Decimal.Decimal, declared.variations.Sign.{Sign, TheVariants.None}}
+use Rattle.decimal_format.specs.{Symbols.Symbols, Reading.Numeral, Lenient.{normalized, IsLenientNumeral, IsLenientlyWritten}, declared.reader.alternatives.Alternative.Alternative}
 
 -- the text, in normal form, is this one between the normal forms of the affixes
 abbrev pub IsAround : Symbols → Alternative → List ℕ → List ℕ → Type 0

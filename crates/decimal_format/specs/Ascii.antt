@@ -1,7 +1,6 @@
 -- The symbols of a decimal's own text.
 use Rattle.std.specs.Prelude.{ℕ, List, [], ◌∷◌}
-use Rattle.decimal_format.specs.declared.grouping.GroupingSizes.{GroupingSizes}
-use Rattle.decimal_format.specs.Symbols.{Symbols, symbols, affixes}
+use Rattle.decimal_format.specs.{declared.grouping.GroupingSizes.GroupingSizes, Symbols.{Symbols, symbols, affixes}}
 
 -- the characters 0 to 9
 abbrev pub ascii_digits : List ℕ

@@ -1,8 +1,6 @@
 -- The magnitudes after which there is a grouping separator.
 use Rattle.std.specs.Prelude.{ℕ, ◌+◌, ◌-◌, ◌%◌, ◌==◌, nat_le, nat_lt, max, Bool, ◌&&◌, false, if◌then◌else◌, ℤ, pos, negsuc, ◌+ℤ◌, int_le}
-use Rattle.decimal_format.specs.declared.grouping.GroupingSizes.{GroupingSizes}
-use Rattle.decimal_format.specs.declared.grouping.GroupingStrategy.{GroupingStrategy}
-use Rattle.decimal_format.specs.declared.grouping.GroupingStrategy.TheVariants.{Auto, Never, Always, Min2}
+use Rattle.decimal_format.specs.declared.grouping.{GroupingSizes.GroupingSizes, GroupingStrategy.{GroupingStrategy, TheVariants.{Auto, Never, Always, Min2}}}
 
 -- of the hi + 1 integer digits, at least `least` are before the last group
 abbrev pub reaches : GroupingSizes → ℕ → ℤ → Bool

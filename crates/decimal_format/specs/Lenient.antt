@@ -1,14 +1,7 @@
 -- Numbers as people type them.
-use Rattle.std.specs.Prelude.{◌≡◌, ℕ, ◌-◌, ◌^◌, ◌==◌, ◌⊎◌, Bool, false, ◌&&◌, ◌||◌, if◌then◌else◌, List, [], ◌∷◌, take, encode_utf8}
-use Rattle.std.specs.Char.{is_ascii_digit}
-use Rattle.std.specs.List.{flat_map, list_any}
-use Rattle.std.specs.Str.{chars}
+use Rattle.std.specs.{Prelude.{◌≡◌, ℕ, ◌-◌, ◌^◌, ◌==◌, ◌⊎◌, Bool, false, ◌&&◌, ◌||◌, if◌then◌else◌, List, [], ◌∷◌, take, encode_utf8}, Char.is_ascii_digit, List.{flat_map, list_any}, Str.chars}
 use Rattle.fixed_decimal.specs.Decimal.{Decimal}
-use Rattle.decimal_format.specs.declared.grouping.GroupingStrategy.TheVariants.{Never}
-use Rattle.decimal_format.specs.Symbols.{Symbols, digit_text}
-use Rattle.decimal_format.specs.Grouping.{ends_group}
-use Rattle.decimal_format.specs.Formatted.{formatted}
-use Rattle.decimal_format.specs.Reading.{Numeral, AreDigits, numeral_text, IsNumeral, IsWritten}
+use Rattle.decimal_format.specs.{declared.grouping.GroupingStrategy.TheVariants.Never, Symbols.{Symbols, digit_text}, Grouping.ends_group, Formatted.formatted, Reading.{Numeral, AreDigits, numeral_text, IsNumeral, IsWritten}}
 
 -- ---- Classes of characters: those of CLDR 48's parseLenients, without the minus signs U+2013, U+207B, U+208B and
 -- U+2796, the plus signs U+207A, U+208A, U+2795, U+FB29 and U+FE62, and the apostrophes U+02BC, U+055A, U+1FBD, U+1FBF

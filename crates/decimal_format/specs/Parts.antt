@@ -2,11 +2,7 @@
 -- Parts of the text: digits without a separator between them.
 use Rattle.std.specs.Prelude.{◌≡◌, ℕ, zero, suc, if◌then◌else◌, ◌+◌, ◌-◌, ◌<◌, ◌≤◌, Bool, false, List, [], ◌++◌, length, slice_index, EachIndex, flat_map, ℤ, pos, negsuc, ◌-ℤ◌}
 use Rattle.decimal_digits.specs.Number.{digit}
-use Rattle.decimal_format.specs.declared.grouping.GroupingSizes.{GroupingSizes}
-use Rattle.decimal_format.specs.declared.grouping.GroupingStrategy.{GroupingStrategy}
-use Rattle.decimal_format.specs.Grouping.{ends_group, separates}
-use Rattle.decimal_format.specs.Symbols.{Symbols, digit_text}
-use Rattle.decimal_format.specs.Formatted.{FormattedAbsolute, formatted_down, separator_before, separator_after}
+use Rattle.decimal_format.specs.{declared.grouping.{GroupingSizes.GroupingSizes, GroupingStrategy.GroupingStrategy}, Grouping.{ends_group, separates}, Symbols.{Symbols, digit_text}, Formatted.{FormattedAbsolute, formatted_down, separator_before, separator_after}}
 
 -- the magnitude that is the given number below the highest
 abbrev pub magnitude_of : FormattedAbsolute → ℕ → ℤ

@@ -1,16 +1,9 @@
 -- The texts that are read.
-use Rattle.std.specs.Prelude.{◌≡◌, ℕ, ◌-◌, ◌<◌, ◌⊎◌, ◌↔◌, Bool, false, if◌then◌else◌, List, [], ◌∷◌, ◌++◌, length, pos, Result, Err, IfOk, MatchResult}
-use Rattle.std.specs.Int.Digits.{AllBelowBase}
+use Rattle.std.specs.{Prelude.{◌≡◌, ℕ, ◌-◌, ◌<◌, ◌⊎◌, ◌↔◌, Bool, false, if◌then◌else◌, List, [], ◌∷◌, ◌++◌, length, pos, Result, Err, IfOk, MatchResult}, Int.Digits.AllBelowBase}
 use Rattle.decimal_digits.specs.Number.{size}
-use Rattle.decimal_unsigned.specs.Unsigned.{Unsigned, IsValue}
-use Rattle.decimal_unsigned.specs.declared.error.ParseError.{ParseError}
-use Rattle.decimal_unsigned.specs.declared.error.ParseError.TheVariants.{Limit, Syntax, Memory}
-use Rattle.fixed_decimal.specs.Decimal.{Decimal}
-use Rattle.fixed_decimal.specs.declared.variations.Sign.{Sign}
-use Rattle.decimal_format.specs.declared.grouping.GroupingStrategy.{GroupingStrategy}
-use Rattle.decimal_format.specs.Symbols.{Symbols, digit_text, sign_affixes}
-use Rattle.decimal_format.specs.Grouping.{separates}
-use Rattle.decimal_format.specs.Formatted.{formatted}
+use Rattle.decimal_unsigned.specs.{Unsigned.{Unsigned, IsValue}, declared.error.ParseError.{ParseError, TheVariants.{Limit, Syntax, Memory}}}
+use Rattle.fixed_decimal.specs.{Decimal.Decimal, declared.variations.Sign.Sign}
+use Rattle.decimal_format.specs.{declared.grouping.GroupingStrategy.GroupingStrategy, Symbols.{Symbols, digit_text, sign_affixes}, Grouping.separates, Formatted.formatted}
 
 -- the text is that of a decimal by some strategy
 abbrev pub IsWritten : Symbols → Decimal → List ℕ → Type 0

@@ -1,19 +1,10 @@
 -- Private: used only in the contracts of private functions.
 -- What the steps of a scan find.
-use Rattle.std.specs.Prelude.{◌≡◌, ◌≢◌, ℕ, ◌%◌, ◌^◌, ◌<◌, ◌≤◌, ◌↔◌, Bool, true, false, ◌&&◌, List, [], ◌++◌, if◌then◌else◌, length, take, drop, Result, Err, IfOk}
-use Rattle.std.specs.Int.Digits.{AllBelowBase, number_from_digits}
+use Rattle.std.specs.{Prelude.{◌≡◌, ◌≢◌, ℕ, ◌%◌, ◌^◌, ◌<◌, ◌≤◌, ◌↔◌, Bool, true, false, ◌&&◌, List, [], ◌++◌, if◌then◌else◌, length, take, drop, Result, Err, IfOk}, Int.Digits.{AllBelowBase, number_from_digits}}
 use Rattle.decimal_digits.specs.Number.{size}
-use Rattle.decimal_unsigned.specs.DigitValues.{value_of_first}
-use Rattle.decimal_unsigned.specs.Unsigned.{Unsigned}
-use Rattle.decimal_unsigned.specs.declared.error.ParseError.{ParseError}
-use Rattle.decimal_unsigned.specs.declared.error.ParseError.TheVariants.{Limit, Syntax, Memory}
+use Rattle.decimal_unsigned.specs.{DigitValues.value_of_first, Unsigned.Unsigned, declared.error.ParseError.{ParseError, TheVariants.{Limit, Syntax, Memory}}}
 use Rattle.fixed_decimal.specs.Decimal.{Decimal}
-use Rattle.decimal_format.specs.declared.reader.Part.{Part}
-use Rattle.decimal_format.specs.declared.reader.Scanned.{Scanned}
-use Rattle.decimal_format.specs.declared.reader.lenient.Normalized.{Normalized}
-use Rattle.decimal_format.specs.Symbols.{Symbols, digit_text}
-use Rattle.decimal_format.specs.Reading.{Numeral, IsNumeral, IsBeyondLimits, IsWritten, digits_text}
-use Rattle.decimal_format.specs.Lenient.{replaced, IsLenientNumeral, IsLenientlyWritten}
+use Rattle.decimal_format.specs.{declared.reader.{Part.Part, Scanned.Scanned, lenient.Normalized.Normalized}, Symbols.{Symbols, digit_text}, Reading.{Numeral, IsNumeral, IsBeyondLimits, IsWritten, digits_text}, Lenient.{replaced, IsLenientNumeral, IsLenientlyWritten}}
 
 -- ---- Groups.
 

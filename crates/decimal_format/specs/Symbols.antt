@@ -1,10 +1,7 @@
 -- The symbols of a locale.
 use Rattle.std.specs.Prelude.{◌≡◌, ℕ, ◌<◌, ◌≤◌, List, [], length, encode_utf8, slice_index}
-use Rattle.fixed_decimal.specs.declared.variations.Sign.{Sign}
-use Rattle.fixed_decimal.specs.declared.variations.Sign.TheVariants.{None, Negative, Positive}
-use Rattle.decimal_format.specs.declared.error.SymbolsError.{SymbolsError}
-use Rattle.decimal_format.specs.declared.error.SymbolsError.TheVariants.{DigitWidths, DecimalTooLong, GroupingTooLong, MinusPrefixTooLong, MinusSuffixTooLong, PlusPrefixTooLong, PlusSuffixTooLong}
-use Rattle.decimal_format.specs.declared.grouping.GroupingSizes.{GroupingSizes}
+use Rattle.fixed_decimal.specs.declared.variations.Sign.{Sign, TheVariants.{None, Negative, Positive}}
+use Rattle.decimal_format.specs.declared.{error.SymbolsError.{SymbolsError, TheVariants.{DigitWidths, DecimalTooLong, GroupingTooLong, MinusPrefixTooLong, MinusSuffixTooLong, PlusPrefixTooLong, PlusSuffixTooLong}}, grouping.GroupingSizes.GroupingSizes}
 
 -- the bytes before a number and after it
 pub record Affixes : Type 0 where

@@ -2,9 +2,7 @@
 ghost use Rattle.std.specs.Prelude.{◌≡◌, ◌<◌, ◌≤◌, ◌-ℤ◌, pos, [], if◌then◌else◌, encode_utf8, length};
 ghost use Rattle.decimal_digits.specs.Number.{digit};
 ghost use Rattle.decimal_unsigned.specs.Unsigned.{IsValue};
-ghost use Rattle.decimal_format.specs.Symbols.{digit_text, sign_affixes};
-ghost use Rattle.decimal_format.specs.Formatted.{formatter, formatted_by, formatted_absolute, shown_count, separator_before, separator_after};
-ghost use Rattle.decimal_format.specs.Scanning.{separator_if};
+ghost use Rattle.decimal_format.specs.{Symbols.{digit_text, sign_affixes}, Formatted.{formatter, formatted_by, formatted_absolute, shown_count, separator_before, separator_after}, Scanning.separator_if};
 
 mod display;
 mod short;
@@ -96,6 +94,9 @@ impl<'a> DecimalFormatter<'a> {
     }
 
     /// Formats a decimal over any store of digits. It does not allocate.
+    ///
+    /// It shows the decimal as it is, so it borrows it. A formatter that rounds, as `NumberFormatter` of
+    /// `number_format`, takes the number instead, since it changes it.
     #[inline]
     pub fn format<'f, D: DigitStore>(
         &'f self,

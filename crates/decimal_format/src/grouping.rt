@@ -1,8 +1,6 @@
 //! The groups of the integer digits.
-ghost use Rattle.std.specs.Prelude.{◌≡◌, ℕ, ◌+◌, ◌-◌, ◌%◌, ◌^◌, ◌<◌, ◌≤◌, ◌≤ℤ◌, ◌&&◌, pos, false};
-ghost use Rattle.std.specs.Int.{int_gap};
-ghost use Rattle.decimal_format.specs.Grouping.{reaches, is_grouped, secondary_size, ends_group, separates};
-ghost use Rattle.decimal_format.specs.Parts.{ends_group_at, separators_below};
+ghost use Rattle.std.specs.{Prelude.{◌≡◌, ℕ, ◌+◌, ◌-◌, ◌%◌, ◌^◌, ◌<◌, ◌≤◌, ◌≤ℤ◌, ◌&&◌, pos, false}, Int.int_gap};
+ghost use Rattle.decimal_format.specs.{Grouping.{reaches, is_grouped, secondary_size, ends_group, separates}, Parts.{ends_group_at, separators_below}};
 
 /// When the integer digits are grouped.
 ///

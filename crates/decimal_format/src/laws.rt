@@ -1,16 +1,8 @@
 //! Laws of formatted texts: the contract of each function states a law.
 ghost use Rattle.std.specs.Prelude.{◌≡◌, ℕ, List};
 ghost use Rattle.decimal_unsigned.specs.Unsigned.{IsValue};
-ghost use Rattle.fixed_decimal.specs.Decimal.{Decimal};
-ghost use Rattle.fixed_decimal.specs.DecimalText.{decimal_text};
-ghost use Rattle.decimal_format.specs.Ascii.{ascii_with};
-ghost use Rattle.decimal_format.specs.Formatted.{formatted};
-ghost use Rattle.decimal_format.specs.Lenient.{IsTyped};
-ghost use Rattle.decimal_format.specs.Readable.{IsReadable};
-ghost use Rattle.decimal_format.specs.Symbols.{Symbols, without_grouping};
-ghost use Rattle.decimal_format.specs.declared.grouping.GroupingSizes.{GroupingSizes};
-ghost use Rattle.decimal_format.specs.declared.grouping.GroupingStrategy.{GroupingStrategy};
-ghost use Rattle.decimal_format.specs.declared.grouping.GroupingStrategy.TheVariants.{Never};
+ghost use Rattle.fixed_decimal.specs.{Decimal.Decimal, DecimalText.decimal_text};
+ghost use Rattle.decimal_format.specs.{Ascii.ascii_with, Formatted.formatted, Lenient.IsTyped, Readable.IsReadable, Symbols.{Symbols, without_grouping}, declared.grouping.{GroupingSizes.GroupingSizes, GroupingStrategy.{GroupingStrategy, TheVariants.Never}}};
 
 /// With the ASCII symbols and `Never`, the text of a decimal is its own.
 #[tactic(auto, using(crate::proofs::lemmas::formatter::FormattedLaws::ascii_is_plain))]

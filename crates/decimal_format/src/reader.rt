@@ -1,11 +1,6 @@
 //! Reading of formatted decimals.
-ghost use Rattle.std.specs.Prelude.{◌≡◌, ◌≢◌, ℕ, List, ◌++◌, length, Bool, IfSome, IfNone};
-ghost use Rattle.std.specs.Int.Digits.{AllBelowBase};
-ghost use Rattle.decimal_format.specs.Grouping.{ends_group};
-ghost use Rattle.decimal_format.specs.Readable.{IsReadable};
-ghost use Rattle.decimal_format.specs.Reading.{Numeral, digits_text, fraction_text, IsNumeral, IsWritten, IsRead};
-ghost use Rattle.decimal_format.specs.Lenient.{IsLenientNumeral};
-ghost use Rattle.decimal_format.specs.Scanning.{separated_if, SkipsSeparator, IsSpelled, ReadsSpelled, ReadsDigits, HasPart, IsScan, IsNumeralBy, IsWrittenBy};
+ghost use Rattle.std.specs.{Prelude.{◌≡◌, ◌≢◌, ℕ, List, ◌++◌, length, Bool, IfSome, IfNone}, Int.Digits.AllBelowBase};
+ghost use Rattle.decimal_format.specs.{Grouping.ends_group, Readable.IsReadable, Reading.{Numeral, digits_text, fraction_text, IsNumeral, IsWritten, IsRead}, Lenient.IsLenientNumeral, Scanning.{separated_if, SkipsSeparator, IsSpelled, ReadsSpelled, ReadsDigits, HasPart, IsScan, IsNumeralBy, IsWrittenBy}};
 
 pub(crate) mod alternatives;
 pub(crate) mod codes;

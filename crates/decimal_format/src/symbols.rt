@@ -37,8 +37,7 @@ pub struct DecimalSymbols<'a> {
 
 impl<'a> Model for DecimalSymbols<'a> {
     ghost use Rattle.std.specs.Prelude.{◌≡◌, true};
-    ghost use Rattle.decimal_format.specs.Ascii.{ascii_digits};
-    ghost use Rattle.decimal_format.specs.Symbols.{Symbols, symbols, affixes, AreValid};
+    ghost use Rattle.decimal_format.specs.{Ascii.ascii_digits, Symbols.{Symbols, symbols, affixes, AreValid}};
 
     ghost Value = { Symbols };
 
@@ -74,11 +73,8 @@ fn check_length(text: &str, error: SymbolsError) -> Result<(), SymbolsError>
 }
 
 impl<'a> DecimalSymbols<'a> {
-    ghost use Rattle.fixed_decimal.specs.Decimal.{Decimal};
-    ghost use Rattle.fixed_decimal.specs.DecimalText.{decimal_text};
-    ghost use Rattle.decimal_format.specs.Symbols.{symbols, affixes, digit_text, sign_affixes, AreValid, Rejects, IsFirst};
-    ghost use Rattle.decimal_format.specs.Ascii.{ascii_digits, ascii_symbols};
-    ghost use Rattle.decimal_format.specs.Readable.{IsReadable};
+    ghost use Rattle.fixed_decimal.specs.{Decimal.Decimal, DecimalText.decimal_text};
+    ghost use Rattle.decimal_format.specs.{Symbols.{symbols, affixes, digit_text, sign_affixes, AreValid, Rejects, IsFirst}, Ascii.{ascii_digits, ascii_symbols}, Readable.IsReadable};
 
     /// Makes the symbols of a locale.
     ///
@@ -115,6 +111,7 @@ impl<'a> DecimalSymbols<'a> {
     }
 
     /// Makes the symbols of a locale from digits and texts for which [`new`](Self::new) has no error.
+    #[inline(always)]
     pub fn of_valid(
         digits: [char; 10],
         decimal: &'a str,
@@ -169,7 +166,15 @@ impl<'a> DecimalSymbols<'a> {
         }
     }
 
+    /// Returns these symbols once more; both borrow the same texts.
+    pub fn copied(&self) -> Self
+        ensures { result ≡ self.now }
+    {
+        DecimalSymbols { ..*self }
+    }
+
     /// Returns the symbols with other sizes of groups.
+    #[inline(always)]
     pub fn with_sizes(self, sizes: GroupingSizes) -> Self
         ensures { result ≡ record self.entry { sizes = sizes } }
     {
@@ -177,6 +182,7 @@ impl<'a> DecimalSymbols<'a> {
     }
 
     /// Returns the symbols with another decimal separator. Requires one of at most 255 bytes.
+    #[inline(always)]
     pub fn with_decimal_separator(self, decimal: &'a str) -> Self
         requires { length decimal.now ≤ 255 }
         ensures { result ≡ record self.entry { decimal = decimal.entry.now } }
@@ -185,6 +191,7 @@ impl<'a> DecimalSymbols<'a> {
     }
 
     /// Returns the symbols with another separator of groups. Requires one of at most 255 bytes.
+    #[inline(always)]
     pub fn with_grouping_separator(self, grouping: &'a str) -> Self
         requires { length grouping.now ≤ 255 }
         ensures { result ≡ record self.entry { grouping = grouping.entry.now } }

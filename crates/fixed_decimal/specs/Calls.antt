@@ -2,12 +2,7 @@
 use Rattle.std.specs.Prelude.{◌≡◌, ℕ, List, Err}
 use Rattle.decimal_unsigned.specs.Reading.{syntax, limit}
 use Rattle.decimal_unsigned.specs.declared.error.ParseError.TheVariants as parse
-use Rattle.fixed_decimal.specs.Decimal.{Decimal}
-use Rattle.fixed_decimal.specs.declared.runs.Call.{Call}
-use Rattle.fixed_decimal.specs.declared.runs.CallError.{CallError}
-use Rattle.fixed_decimal.specs.declared.runs.CallError.TheVariants.{Operand, Overlap, Limit, Memory}
-use Rattle.fixed_decimal.specs.Outcome.{operand, overlap, limit_exceeded, step, after_calls}
-use Rattle.fixed_decimal.specs.Errors.{Reaches, HasLongOperand, CallNeedsMemory}
+use Rattle.fixed_decimal.specs.{Decimal.Decimal, declared.runs.{Call.Call, CallError.{CallError, TheVariants.{Operand, Overlap, Limit, Memory}}}, Outcome.{operand, overlap, limit_exceeded, step, after_calls}, Errors.{Reaches, HasLongOperand, CallNeedsMemory}}
 
 -- the number of the call that failed
 abbrev pub call_number : CallError → ℕ

@@ -1,14 +1,8 @@
 -- Compact notation: a decimal times 10 to the power of an exponent, as `1.20c6`.
-use Rattle.std.specs.Prelude.{◌≡◌, ℕ, ◌==◌, nat_lt, if◌then◌else◌, true, false, List, [], ◌∷◌, ◌++◌}
-use Rattle.std.specs.Prelude.{Option, Some, None, Result, Ok, Err}
-use Rattle.std.specs.Fmt.{decimal}
-use Rattle.std.specs.List.{list_any}
+use Rattle.std.specs.{Prelude.{◌≡◌, ℕ, ◌==◌, nat_lt, if◌then◌else◌, true, false, List, [], ◌∷◌, ◌++◌, Option, Some, None, Result, Ok, Err}, Fmt.decimal, List.list_any}
 use Rattle.decimal_digits.specs.Ascii.{digit_zero, lowercase_c}
 use Rattle.decimal_unsigned.specs.Reading.{ReadError, syntax, limit, is_letter, numeral_of}
-use Rattle.fixed_decimal.specs.Letters.{is_c}
-use Rattle.fixed_decimal.specs.Decimal.{Decimal}
-use Rattle.fixed_decimal.specs.Split.{split_once}
-use Rattle.fixed_decimal.specs.DecimalText.{decimal_text, read_decimal, IsLong, and_then}
+use Rattle.fixed_decimal.specs.{Letters.is_c, Decimal.Decimal, Split.split_once, DecimalText.{decimal_text, read_decimal, IsLong, and_then}}
 
 -- a significand, and an exponent, which is at most 255
 pub record Compact : Type 0 where

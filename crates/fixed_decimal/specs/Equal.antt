@@ -1,8 +1,5 @@
 -- Equality of values by their texts.
-use Rattle.std.specs.Prelude.{ℕ, Bool, List}
-use Rattle.std.specs.Str.{bytes_eq}
-use Rattle.std.specs.Cmp.{IsPartialEquivalence, on_per, partial_equiv_from_equiv}
-use Rattle.std.specs.Cmp.Lexicographic.{nat_list_eq_equiv}
+use Rattle.std.specs.{Prelude.{ℕ, Bool, List}, Str.bytes_eq, Cmp.{IsPartialEquivalence, on_per, partial_equiv_from_equiv, Lexicographic.nat_list_eq_equiv}}
 
 -- whether two values have the same text
 abbrev pub same_text : {V : Type 0} → (V → List ℕ) → V → V → Bool

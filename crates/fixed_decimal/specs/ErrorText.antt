@@ -1,10 +1,8 @@
 -- The texts of errors.
-use Rattle.std.specs.Prelude.{ℕ, List, ◌++◌, codes}
-use Rattle.std.specs.Fmt.{decimal}
+use Rattle.std.specs.{Prelude.{ℕ, List, ◌++◌, codes}, Fmt.decimal}
 use Rattle.decimal_digits.specs.ErrorText.{limit_text, memory_text, sink_text}
 use Rattle.decimal_unsigned.specs.ErrorText.{error_text, overlap_text}
-use Rattle.fixed_decimal.specs.declared.runs.RunError.{RunError}
-use Rattle.fixed_decimal.specs.declared.runs.RunError.TheVariants.{Start, Operand, Overlap, Limit, Memory, Sink}
+use Rattle.fixed_decimal.specs.declared.runs.RunError.{RunError, TheVariants.{Start, Operand, Overlap, Limit, Memory, Sink}}
 
 -- the text of an error of the call with this number, 0-based: `Call 0: The numbers overlap`
 abbrev pub call_text : ℕ → List ℕ → List ℕ

@@ -1,20 +1,10 @@
 -- The errors that a run may return. A store holds `held` digits without an allocation.
 use Rattle.std.specs.Prelude.{◌≡◌, ℕ, ◌<◌, List, take, slice_get, Some, Ok, Err, IsOk, IsOkAnd}
 use Rattle.decimal_digits.specs.Number.{size}
-use Rattle.decimal_unsigned.specs.Concatenation.{ConcatenationNeedsMemory}
-use Rattle.decimal_unsigned.specs.Rounded.{rounding}
-use Rattle.decimal_unsigned.specs.Reading.{syntax, limit, read}
+use Rattle.decimal_unsigned.specs.{Concatenation.ConcatenationNeedsMemory, Rounded.rounding, Reading.{syntax, limit, read}}
 use Rattle.decimal_unsigned.specs.declared.error.ParseError.TheVariants as parse
-use Rattle.fixed_decimal.specs.Decimal.{Decimal}
-use Rattle.fixed_decimal.specs.SignedRounding.{RoundingNeedsMemory}
-use Rattle.fixed_decimal.specs.DecimalText.{read_decimal, IsLong}
-use Rattle.fixed_decimal.specs.declared.runs.Call.{Call}
-use Rattle.fixed_decimal.specs.declared.runs.Call.TheVariants.{Round, Concatenate}
-use Rattle.fixed_decimal.specs.declared.runs.CallError.{CallError}
+use Rattle.fixed_decimal.specs.{Decimal.Decimal, SignedRounding.RoundingNeedsMemory, DecimalText.{read_decimal, IsLong}, declared.runs.{Call.{Call, TheVariants.{Round, Concatenate}}, CallError.CallError, RunError.{RunError, TheVariants.{Start, Operand, Overlap, Limit, Memory, Sink}}}, Outcome.{start, operand, overlap, limit_exceeded, after_calls, outcome}}
 use Rattle.fixed_decimal.specs.declared.runs.CallError.TheVariants as call
-use Rattle.fixed_decimal.specs.declared.runs.RunError.{RunError}
-use Rattle.fixed_decimal.specs.declared.runs.RunError.TheVariants.{Start, Operand, Overlap, Limit, Memory, Sink}
-use Rattle.fixed_decimal.specs.Outcome.{start, operand, overlap, limit_exceeded, after_calls, outcome}
 
 -- the calls before the number `at`, in order, make v of the first value, and `call` has that number
 pub record IsReached (first : Decimal) (calls : List Call) (at : ℕ) (v : Decimal) (call : Call) : Type 0 where

@@ -1,11 +1,7 @@
 -- Integers: decimals without fraction digits.
 use Rattle.std.specs.Prelude.{◌≡◌, ℕ, if◌then◌else◌, List, Result, Ok, Err, MatchResult, pos, int_lt, ◌<ℤ◌}
-use Rattle.decimal_unsigned.specs.Grammar.{Literal}
-use Rattle.decimal_unsigned.specs.Reading.{ReadError, syntax, limit, value_of}
-use Rattle.decimal_unsigned.specs.declared.error.LimitError.{LimitError}
-use Rattle.fixed_decimal.specs.declared.variations.Sign.{Sign}
-use Rattle.fixed_decimal.specs.Decimal.{Decimal}
-use Rattle.fixed_decimal.specs.DecimalText.{Grammar, read_decimal, with_sign, and_then}
+use Rattle.decimal_unsigned.specs.{Grammar.Literal, Reading.{ReadError, syntax, limit, value_of}, declared.error.LimitError.LimitError}
+use Rattle.fixed_decimal.specs.{declared.variations.Sign.Sign, Decimal.Decimal, DecimalText.{Grammar, read_decimal, with_sign, and_then}}
 
 -- a decimal without fraction digits; `limit` for any other, as for `5.0`
 abbrev pub integer_or_limit : Decimal → Result Decimal ReadError

@@ -1,18 +1,7 @@
 -- The outcome of a run: a text or an error, by whole numbers alone, without allocations and sinks.
 use Rattle.std.specs.Prelude.{ℕ, ◌+◌, if◌then◌else◌, List, [], ◌∷◌, Option, Some, None, Result, Ok, Err}
-use Rattle.decimal_unsigned.specs.Unsigned.{Unsigned}
-use Rattle.decimal_unsigned.specs.Edits.{multiplied_pow10, trimmed_start, trimmed_end, trimmed_end_if_integer}
-use Rattle.decimal_unsigned.specs.Edits.{padded_start, padded_end, with_max_position}
-use Rattle.decimal_unsigned.specs.Rounded.{rounding}
-use Rattle.decimal_unsigned.specs.Concatenation.{overlaps, concatenated_end}
-use Rattle.decimal_unsigned.specs.Reading.{ReadError, read}
-use Rattle.fixed_decimal.specs.Decimal.{Decimal, with_sign_display, with_absolute}
-use Rattle.fixed_decimal.specs.SignedRounding.{rounded}
-use Rattle.fixed_decimal.specs.DecimalText.{decimal_text, read_decimal, and_then}
-use Rattle.fixed_decimal.specs.declared.runs.Call.{Call}
-use Rattle.fixed_decimal.specs.declared.runs.Call.TheVariants.{MultiplyPow10, TrimStart, TrimEnd, TrimEndIfInteger}
-use Rattle.fixed_decimal.specs.declared.runs.Call.TheVariants.{PadStart, PadEnd, SetMaxPosition, Round}
-use Rattle.fixed_decimal.specs.declared.runs.Call.TheVariants.{SetSign, ApplySignDisplay, Concatenate}
+use Rattle.decimal_unsigned.specs.{Unsigned.Unsigned, Edits.{multiplied_pow10, trimmed_start, trimmed_end, trimmed_end_if_integer, padded_start, padded_end, with_max_position}, Rounded.rounding, Concatenation.{overlaps, concatenated_end}, Reading.{ReadError, read}}
+use Rattle.fixed_decimal.specs.{Decimal.{Decimal, with_sign_display, with_absolute}, SignedRounding.rounded, DecimalText.{decimal_text, read_decimal, and_then}, declared.runs.Call.{Call, TheVariants.{MultiplyPow10, TrimStart, TrimEnd, TrimEndIfInteger, PadStart, PadEnd, SetMaxPosition, Round, SetSign, ApplySignDisplay, Concatenate}}}
 
 -- why a run has no text: the start is rejected; or, of the call with this number, the operand is rejected, the numbers
 -- to concatenate overlap, or the result is beyond the limits

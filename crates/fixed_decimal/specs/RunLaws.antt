@@ -1,20 +1,9 @@
 -- Laws of runs.
-use Rattle.std.specs.Prelude.{ℕ, List, [], ◌∷◌, map, Option, Some, None, Result, Ok, Err, IsSome, ⊤, ℤ}
-use Rattle.std.specs.List.{All, fold}
-use Rattle.std.specs.Int.{int_max}
-use Rattle.decimal_digits.specs.declared.rounding.RoundingIncrement.TheVariants.{MultiplesOf1}
-use Rattle.fixed_decimal.specs.declared.rounding.SignedRoundingMode.TheVariants.{Unsigned}
-use Rattle.decimal_digits.specs.declared.rounding.UnsignedRoundingMode.{UnsignedRoundingMode}
-use Rattle.decimal_unsigned.specs.Unsigned.{IsValue}
-use Rattle.decimal_unsigned.specs.Rounded.{rounding_by_1}
+use Rattle.std.specs.{Prelude.{ℕ, List, [], ◌∷◌, map, Option, Some, None, Result, Ok, Err, IsSome, ⊤, ℤ}, List.{All, fold}, Int.int_max}
+use Rattle.decimal_digits.specs.declared.rounding.{RoundingIncrement.TheVariants.MultiplesOf1, UnsignedRoundingMode.UnsignedRoundingMode}
+use Rattle.fixed_decimal.specs.{declared.{rounding.SignedRoundingMode.TheVariants.Unsigned, runs.{Call.{Call, TheVariants.Round}, RunError.{RunError, TheVariants.{Start, Operand, Memory, Sink}}}}, Decimal.Decimal, SignedRounding.{rounded, IsPosition, HasNumberOf}, Outcome.{OutcomeError, limit_exceeded, after_calls}}
+use Rattle.decimal_unsigned.specs.{Unsigned.IsValue, Rounded.rounding_by_1}
 use Rattle.decimal_unsigned.specs.declared.error.ParseError.TheVariants as parse
-use Rattle.fixed_decimal.specs.Decimal.{Decimal}
-use Rattle.fixed_decimal.specs.SignedRounding.{rounded, IsPosition, HasNumberOf}
-use Rattle.fixed_decimal.specs.declared.runs.Call.{Call}
-use Rattle.fixed_decimal.specs.declared.runs.Call.TheVariants.{Round}
-use Rattle.fixed_decimal.specs.declared.runs.RunError.{RunError}
-use Rattle.fixed_decimal.specs.declared.runs.RunError.TheVariants.{Start, Operand, Memory, Sink}
-use Rattle.fixed_decimal.specs.Outcome.{OutcomeError, limit_exceeded, after_calls}
 
 -- ---- Runs over two stores.
 

@@ -1,12 +1,8 @@
 -- Scientific notation: a decimal times 10 to the power of an integer, as `1.20e-03`.
-use Rattle.std.specs.Prelude.{◌≡◌, ℕ, ◌⊎◌, if◌then◌else◌, false, List, ◌∷◌, ◌++◌, Option, Some, None, Result, Ok, Err}
-use Rattle.std.specs.List.{list_any}
+use Rattle.std.specs.{Prelude.{◌≡◌, ℕ, ◌⊎◌, if◌then◌else◌, false, List, ◌∷◌, ◌++◌, Option, Some, None, Result, Ok, Err}, List.list_any}
 use Rattle.decimal_digits.specs.Ascii.{lowercase_e}
 use Rattle.decimal_unsigned.specs.Reading.{ReadError, syntax, is_letter}
-use Rattle.fixed_decimal.specs.Decimal.{Decimal}
-use Rattle.fixed_decimal.specs.DecimalText.{decimal_text, read_decimal, IsLong, and_then}
-use Rattle.fixed_decimal.specs.Integer.{read_integer}
-use Rattle.fixed_decimal.specs.Split.{split_once}
+use Rattle.fixed_decimal.specs.{Decimal.Decimal, DecimalText.{decimal_text, read_decimal, IsLong, and_then}, Integer.read_integer, Split.split_once}
 
 -- a significand, and an exponent, which has no fraction digits
 pub record Scientific : Type 0 where

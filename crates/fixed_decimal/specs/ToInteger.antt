@@ -1,8 +1,6 @@
 -- Conversion of decimals to integers.
 use Rattle.std.specs.Prelude.{ℕ, nat_lt, if◌then◌else◌, Result, Ok, Err, ℤ, pos, negsuc}
-use Rattle.decimal_unsigned.specs.declared.error.IntegerError.{IntegerError}
-use Rattle.decimal_unsigned.specs.declared.error.IntegerError.TheVariants.{OutOfRange}
-use Rattle.decimal_unsigned.specs.ToInteger.{when_whole}
+use Rattle.decimal_unsigned.specs.{declared.error.IntegerError.{IntegerError, TheVariants.OutOfRange}, ToInteger.when_whole}
 use Rattle.fixed_decimal.specs.Decimal.{Decimal, signed}
 
 -- an integer that is at least 0 and below a bound; `OutOfRange` for any other

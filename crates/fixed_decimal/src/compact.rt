@@ -1,14 +1,8 @@
 //! Decimals in compact notation: `1.20c6`.
-ghost use Rattle.std.specs.Prelude.{◌≡◌, ◌≤◌, ◌↔◌, length, take, true, false, Ok, IsTrue, IsOk, IfOk, OnOk, OnErr, MatchResult};
-ghost use Rattle.std.specs.Option.{option_copied};
-ghost use Rattle.std.specs.Io.KnownBytes.{Keeps, Appends};
-ghost use Rattle.decimal_digits.specs.Number.{size};
-ghost use Rattle.decimal_digits.specs.AppendsPrefix.{AppendsPrefix};
-ghost use Rattle.decimal_unsigned.specs.Unsigned.{IsValue};
-ghost use Rattle.decimal_unsigned.specs.ParseResult.{ParseFails, IsParseResult};
-ghost use Rattle.fixed_decimal.specs.Equal.{same_text, same_text_laws};
-ghost use Rattle.fixed_decimal.specs.Compact.{compact, exponent_text, compact_text, exponent_number_of, split_at_c, read_exponent};
-ghost use Rattle.fixed_decimal.specs.Compact.{read_compact, ReadsCompact, HasLongSignificand};
+ghost use Rattle.std.specs.{Prelude.{◌≡◌, ◌≤◌, ◌↔◌, length, take, true, false, Ok, IsTrue, IsOk, IfOk, OnOk, OnErr, MatchResult}, Option.option_copied, Io.KnownBytes.{Keeps, Appends}};
+ghost use Rattle.decimal_digits.specs.{Number.size, AppendsPrefix.AppendsPrefix};
+ghost use Rattle.decimal_unsigned.specs.{Unsigned.IsValue, ParseResult.{ParseFails, IsParseResult}};
+ghost use Rattle.fixed_decimal.specs.{Equal.{same_text, same_text_laws}, Compact.{compact, exponent_text, compact_text, exponent_number_of, split_at_c, read_exponent, read_compact, ReadsCompact, HasLongSignificand}};
 
 use crate::signed_decimal::{Decimal, scan_decimal};
 use crate::split::{has_letter, split_once};

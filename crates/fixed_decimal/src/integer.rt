@@ -1,14 +1,8 @@
 //! Decimals without fraction digits.
-ghost use Rattle.std.specs.Prelude.{◌≡◌, ◌<◌, ◌≤◌, ◌↔◌, length, pos, ◌≤ℤ◌, true, false, IsTrue, Ok, OnOk, OnErr, IfOk, IfErr, IsOk};
-ghost use Rattle.std.specs.Io.KnownBytes.{Keeps, Appends};
-ghost use Rattle.decimal_digits.specs.Number.{size};
-ghost use Rattle.decimal_digits.specs.AppendsPrefix.{AppendsPrefix};
-ghost use Rattle.decimal_unsigned.specs.Unsigned.{IsValue};
-ghost use Rattle.decimal_unsigned.specs.ParseResult.{ParseFails, IsParseResult};
-ghost use Rattle.fixed_decimal.specs.Equal.{same_text, same_text_laws};
-ghost use Rattle.fixed_decimal.specs.Decimal.{zero_decimal};
-ghost use Rattle.fixed_decimal.specs.DecimalText.{decimal_text, IsLong};
-ghost use Rattle.fixed_decimal.specs.Integer.{read_integer, ReadsInteger, IsConverted};
+ghost use Rattle.std.specs.{Prelude.{◌≡◌, ◌<◌, ◌≤◌, ◌↔◌, length, pos, ◌≤ℤ◌, true, false, IsTrue, Ok, OnOk, OnErr, IfOk, IfErr, IsOk}, Io.KnownBytes.{Keeps, Appends}};
+ghost use Rattle.decimal_digits.specs.{Number.size, AppendsPrefix.AppendsPrefix};
+ghost use Rattle.decimal_unsigned.specs.{Unsigned.IsValue, ParseResult.{ParseFails, IsParseResult}};
+ghost use Rattle.fixed_decimal.specs.{Equal.{same_text, same_text_laws}, Decimal.zero_decimal, DecimalText.{decimal_text, IsLong}, Integer.{read_integer, ReadsInteger, IsConverted}};
 
 mod from_integer;
 

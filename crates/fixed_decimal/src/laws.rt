@@ -1,19 +1,10 @@
 //! Laws of decimals and of runs: the contract of each function states a law.
 //!
 //! Those of absolute values are here too: of reading, trims and concatenation, and in [`unsigned`] of rounding.
-ghost use Rattle.std.specs.Prelude.{◌≡◌, ℤ};
-ghost use Rattle.std.specs.Io.KnownBytes.{Appends};
-ghost use Rattle.std.specs.Ordering.{nat_cmp};
+ghost use Rattle.std.specs.{Prelude.{◌≡◌, ℤ}, Io.KnownBytes.Appends, Ordering.nat_cmp};
 ghost use Rattle.decimal_digits.specs.declared.rounding.UnsignedRoundingMode.TheVariants.{Expand, Trunc};
-ghost use Rattle.decimal_unsigned.specs.Unsigned.{IsValue};
-ghost use Rattle.decimal_unsigned.specs.Rounded.{Rounding};
-ghost use Rattle.fixed_decimal.specs.Decimal.{Decimal};
-ghost use Rattle.fixed_decimal.specs.Orders.{signed_rank};
-ghost use Rattle.fixed_decimal.specs.Outcome.{outcome};
-ghost use Rattle.fixed_decimal.specs.RunLaws.{IsDecided, text_or_none, RoundsOnce, NeverExceedsLimit};
-ghost use Rattle.fixed_decimal.specs.SignedRounding.{RoundingCommutesWithNegation, RoundingIsMonotone};
-ghost use Rattle.fixed_decimal.specs.SignedRounding.{IsPosition, TruncationsCompose, ExpansionsCompose};
-ghost use Rattle.fixed_decimal.specs.declared.rounding.SignedRoundingMode.{SignedRoundingMode};
+ghost use Rattle.decimal_unsigned.specs.{Unsigned.IsValue, Rounded.Rounding};
+ghost use Rattle.fixed_decimal.specs.{Decimal.Decimal, Orders.signed_rank, Outcome.outcome, RunLaws.{IsDecided, text_or_none, RoundsOnce, NeverExceedsLimit}, SignedRounding.{RoundingCommutesWithNegation, RoundingIsMonotone, IsPosition, TruncationsCompose, ExpansionsCompose}, declared.rounding.SignedRoundingMode.SignedRoundingMode};
 
 use crate::rounding::SignedRoundingMode as Mode;
 use crate::runs::{Call, RunError, run_over};

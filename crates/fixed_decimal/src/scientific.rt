@@ -1,13 +1,8 @@
 //! Decimals in scientific notation: `1.20e-03`.
-ghost use Rattle.std.specs.Prelude.{◌≡◌, ◌≤◌, ◌↔◌, length, true, false, Ok, IsTrue, IsOk, IfOk, OnOk, OnErr, MatchResult};
-ghost use Rattle.std.specs.Io.KnownBytes.{Keeps, Appends};
-ghost use Rattle.decimal_digits.specs.Number.{size};
-ghost use Rattle.decimal_digits.specs.AppendsPrefix.{AppendsPrefix};
-ghost use Rattle.decimal_unsigned.specs.Unsigned.{IsValue};
-ghost use Rattle.decimal_unsigned.specs.ParseResult.{ParseFails, IsParseResult};
-ghost use Rattle.fixed_decimal.specs.Equal.{same_text, same_text_laws};
-ghost use Rattle.fixed_decimal.specs.Scientific.{scientific, scientific_text, split_at_e, read_scientific};
-ghost use Rattle.fixed_decimal.specs.Scientific.{ReadsScientific, HasLongField};
+ghost use Rattle.std.specs.{Prelude.{◌≡◌, ◌≤◌, ◌↔◌, length, true, false, Ok, IsTrue, IsOk, IfOk, OnOk, OnErr, MatchResult}, Io.KnownBytes.{Keeps, Appends}};
+ghost use Rattle.decimal_digits.specs.{Number.size, AppendsPrefix.AppendsPrefix};
+ghost use Rattle.decimal_unsigned.specs.{Unsigned.IsValue, ParseResult.{ParseFails, IsParseResult}};
+ghost use Rattle.fixed_decimal.specs.{Equal.{same_text, same_text_laws}, Scientific.{scientific, scientific_text, split_at_e, read_scientific, ReadsScientific, HasLongField}};
 
 use crate::integer::{FixedInteger, scan_integer};
 use crate::signed_decimal::{Decimal, scan_decimal};

@@ -1,6 +1,5 @@
 //! Texts split at a letter.
-ghost use Rattle.std.specs.Prelude.{◌≡◌, Some, None, MatchOption};
-ghost use Rattle.std.specs.List.{list_any};
+ghost use Rattle.std.specs.{Prelude.{◌≡◌, Some, None, MatchOption}, List.list_any};
 ghost use Rattle.decimal_unsigned.specs.Reading.{is_letter};
 ghost use Rattle.fixed_decimal.specs.Split.{split_once};
 

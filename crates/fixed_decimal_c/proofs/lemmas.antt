@@ -1,7 +1,10 @@
 pub mod calls
 pub mod convert
+pub mod format_options
+pub mod formatter
 pub mod keys
 pub mod lines
 pub mod locales
+pub mod parts
 pub mod texts
 pub mod words

@@ -1,18 +1,10 @@
 -- Plural categories.
 use Rattle.std.specs.Prelude.{◌≡◌, ℕ, ℤ, pos, ◌⊎◌, List, Some, None, Result, Ok, Err, IsOkAnd, IsSome}
 use Rattle.fixed_decimal.specs.DecimalText.{read_decimal}
-use Rattle.plural_rules.specs.declared.rules.PluralCategory.{PluralCategory}
+use Rattle.plural_rules.specs.{declared.rules.PluralCategory.PluralCategory, Operands.plain, Rules.{RuleValue, category_of}, RulesGrammar.Grammar, RulesParseResult.{IsSyntaxErrorAt, IsLimitErrorAt}}
 use Rattle.plural_rules.specs.declared.rules.PluralCategory.TheVariants as category
-use Rattle.plural_rules.specs.Operands.{plain}
-use Rattle.plural_rules.specs.Rules.{RuleValue, category_of}
-use Rattle.plural_rules.specs.RulesGrammar.{Grammar}
-use Rattle.plural_rules.specs.RulesParseResult.{IsSyntaxErrorAt, IsLimitErrorAt}
-use Rattle.locale_data.specs.declared.plurals.PluralRulesId.{PluralRulesId}
-use Rattle.locale_data.specs.Plurals.{rules_text_at, IsCategoryAt}
-use Rattle.fixed_decimal_c.specs.declared.error.FdError.{FdError}
-use Rattle.fixed_decimal_c.specs.declared.error.FdError.TheVariants.{Memory, UnknownLocale, RulesSyntax, RulesLimit}
-use Rattle.fixed_decimal_c.specs.Locales.{rules_of, rules_of_number}
-use Rattle.fixed_decimal_c.specs.Numbers.{ParsingFails}
+use Rattle.locale_data.specs.{declared.plurals.PluralRulesId.PluralRulesId, Plurals.{rules_text_at, IsCategoryAt}}
+use Rattle.fixed_decimal_c.specs.{declared.error.FdError.{FdError, TheVariants.{Memory, UnknownLocale, RulesSyntax, RulesLimit}}, Locales.{rules_of, rules_of_number}, Numbers.ParsingFails}
 
 abbrev pub category_code : PluralCategory → ℤ
 category_code category.Zero = pos 0

@@ -1,27 +1,9 @@
 -- Conversions, whose text is written to the buffer of a caller.
 use Rattle.std.specs.Prelude.{◌≡◌, ◌≢◌, ℕ, ◌⊎◌, List, length, Option, None, Result, Ok}
-use Rattle.decimal_unsigned.specs.declared.decimal.TheConstants.{INLINE_DIGITS}
-use Rattle.decimal_unsigned.specs.declared.error.ParseError.{ParseError}
-use Rattle.fixed_decimal.specs.Decimal.{Decimal}
-use Rattle.fixed_decimal.specs.Calls.{CallsFail}
-use Rattle.fixed_decimal.specs.Errors.{RunFails, run_error}
-use Rattle.fixed_decimal.specs.Outcome.{after_calls, outcome}
-use Rattle.fixed_decimal.specs.declared.runs.Call.{Call}
-use Rattle.fixed_decimal.specs.declared.runs.CallError.{CallError}
-use Rattle.fixed_decimal.specs.declared.runs.RunError.{RunError}
-use Rattle.fixed_decimal.specs.declared.runs.RunError.TheVariants.{Sink}
-use Rattle.conversions.specs.Conversion.{IsReadBy, ReadingByFails}
-use Rattle.conversions.specs.declared.reader.LocaleReader.{LocaleReader}
-use Rattle.fixed_decimal_c.specs.declared.calls.FdCall.{FdCall}
-use Rattle.fixed_decimal_c.specs.declared.convert.Forms.{Forms}
-use Rattle.fixed_decimal_c.specs.declared.error.FdError.{FdError}
-use Rattle.fixed_decimal_c.specs.declared.forms.FdForms.{FdForms}
-use Rattle.fixed_decimal_c.specs.declared.forms.Format.TheVariants.{Own}
-use Rattle.fixed_decimal_c.specs.Calls.{AreCalls, DecodeFails}
-use Rattle.fixed_decimal_c.specs.Errors.{error_of_parsing, error_of_run}
-use Rattle.fixed_decimal_c.specs.Formats.{IsTextBy, FormatFails}
-use Rattle.fixed_decimal_c.specs.Forms.{IsReaderOf, ReaderFails, IsFormatOf, FormatFormFails}
-use Rattle.fixed_decimal_c.specs.Texts.{WritesNothing, WritesTo}
+use Rattle.decimal_unsigned.specs.declared.{decimal.TheConstants.INLINE_DIGITS, error.ParseError.ParseError}
+use Rattle.fixed_decimal.specs.{Decimal.Decimal, Calls.CallsFail, Errors.{RunFails, run_error}, Outcome.{after_calls, outcome}, declared.runs.{Call.Call, CallError.CallError, RunError.{RunError, TheVariants.Sink}}}
+use Rattle.conversions.specs.{Conversion.{IsReadBy, ReadingByFails}, declared.reader.LocaleReader.LocaleReader}
+use Rattle.fixed_decimal_c.specs.{declared.{calls.FdCall.FdCall, convert.Forms.Forms, error.FdError.FdError, forms.{FdForms.FdForms, Format.TheVariants.Own}}, Calls.{AreCalls, DecodeFails}, Errors.{error_of_parsing, error_of_run}, Formats.{IsTextBy, FormatFails}, Forms.{IsReaderOf, ReaderFails, IsFormatOf, FormatFormFails}, Texts.{WritesNothing, WritesTo}}
 
 -- the forms that C passes
 pub record AreForms (forms : FdForms) (texts : List ℕ) (f : Forms) : Type 0 where

@@ -1,12 +1,6 @@
 -- Answers, as C receives them.
 use Rattle.std.specs.Prelude.{◌≡◌, ℕ, ℤ, pos, Result, Ok, Err}
-use Rattle.fixed_decimal_c.specs.declared.error.FdError.{FdError}
-use Rattle.fixed_decimal_c.specs.declared.answer.FdResult.{FdResult}
-use Rattle.fixed_decimal_c.specs.declared.answer.FdNumber.{FdNumber}
-use Rattle.fixed_decimal_c.specs.declared.answer.FdUnsigned.{FdUnsigned}
-use Rattle.fixed_decimal_c.specs.declared.answer.FdColumn.{FdColumn}
-use Rattle.fixed_decimal_c.specs.declared.answer.Progress.{Progress}
-use Rattle.fixed_decimal_c.specs.Errors.{status_of, place_of, needed_of}
+use Rattle.fixed_decimal_c.specs.{declared.{error.FdError.FdError, answer.{FdResult.FdResult, FdNumber.FdNumber, FdUnsigned.FdUnsigned, FdColumn.FdColumn, Progress.Progress}}, Errors.{status_of, place_of, needed_of}}
 
 -- an answer that is a text, with the number of its bytes
 abbrev pub fd_result : Result ℕ FdError → FdResult

@@ -4,8 +4,7 @@ use Rattle.decimal_unsigned.specs.declared.error.ParseError.{ParseError}
 use Rattle.decimal_unsigned.specs.declared.error.ParseError.TheVariants as parse
 use Rattle.fixed_decimal.specs.declared.runs.RunError.{RunError}
 use Rattle.fixed_decimal.specs.declared.runs.RunError.TheVariants as run
-use Rattle.fixed_decimal_c.specs.declared.error.FdError.{FdError}
-use Rattle.fixed_decimal_c.specs.declared.error.FdError.TheVariants.{Syntax, Limit, Memory, OperandSyntax, OperandLimit, Overlap, Overflow, BufferTooSmall, UnknownCall, UnknownLocale, UnknownOption, NotWhole, OutOfRange, RulesSyntax, RulesLimit, SkeletonSyntax, SkeletonUnsupported, UnknownNumberingSystem, UnreadableFormat, DigitOptions, NoSkeleton}
+use Rattle.fixed_decimal_c.specs.declared.error.FdError.{FdError, TheVariants.{Syntax, Limit, Memory, OperandSyntax, OperandLimit, Overlap, Overflow, BufferTooSmall, UnknownCall, UnknownLocale, UnknownOption, NotWhole, OutOfRange, RulesSyntax, RulesLimit, SkeletonSyntax, SkeletonUnsupported, UnknownNumberingSystem, UnreadableFormat, DigitOptions, NoSkeleton, Formatter, PartsTooSmall}}
 
 -- the status of an error
 abbrev pub status_of : FdError → ℕ
@@ -30,6 +29,8 @@ status_of UnknownNumberingSystem = 18
 status_of UnreadableFormat = 19
 status_of (DigitOptions at) = 20
 status_of NoSkeleton = 21
+status_of Formatter = 22
+status_of PartsTooSmall = 23
 
 -- where an error is: the number of a text, a call or a reason, or a byte of rules or of a skeleton
 abbrev pub place_of : FdError → ℕ

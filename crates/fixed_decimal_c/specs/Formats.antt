@@ -1,18 +1,9 @@
 -- Decimals, written to a buffer as a form has them.
 use Rattle.std.specs.Prelude.{◌≡◌, ℕ, ◌⊎◌, List, None, Result, Ok, Err}
-use Rattle.fixed_decimal.specs.Decimal.{Decimal}
-use Rattle.fixed_decimal.specs.DecimalText.{decimal_text, read_decimal}
+use Rattle.fixed_decimal.specs.{Decimal.Decimal, DecimalText.{decimal_text, read_decimal}}
 use Rattle.decimal_format.specs.Formatted.{formatted}
-use Rattle.number_format.specs.declared.format.formatter.NumberFormatter.{NumberFormatter}
-use Rattle.number_format.specs.NumberText.{shown_number, IsNumberText, FormattingNeedsMemory}
-use Rattle.fixed_decimal_c.specs.declared.error.FdError.{FdError}
-use Rattle.fixed_decimal_c.specs.declared.error.FdError.TheVariants.{Memory, Overflow}
-use Rattle.fixed_decimal_c.specs.declared.forms.Format.{Format}
-use Rattle.fixed_decimal_c.specs.declared.number_options.FdNumberOptions.{FdNumberOptions}
-use Rattle.fixed_decimal_c.specs.declared.forms.Format.TheVariants.{Own, Symbols, Skeleton}
-use Rattle.fixed_decimal_c.specs.Numbers.{ParsingFails}
-use Rattle.fixed_decimal_c.specs.NumberTexts.{IsMade, IsMadeBySkeleton}
-use Rattle.fixed_decimal_c.specs.Texts.{WritesNothing, WritesTo}
+use Rattle.number_format.specs.{declared.format.formatter.NumberFormatter.NumberFormatter, NumberText.{shown_number, IsNumberText, FormattingNeedsMemory}}
+use Rattle.fixed_decimal_c.specs.{declared.{error.FdError.{FdError, TheVariants.{Memory, Overflow}}, forms.Format.{Format, TheVariants.{Own, Symbols, Skeleton}}, number_options.FdNumberOptions.FdNumberOptions}, Numbers.ParsingFails, NumberTexts.{IsMade, IsMadeBySkeleton}, Texts.{WritesNothing, WritesTo}}
 
 -- the text of a decimal by a formatter, or its own
 abbrev pub IsTextBy : Format → Decimal → List ℕ → Type 0

@@ -1,24 +1,11 @@
 -- The forms in which a text is read and written.
-use Rattle.std.specs.Prelude.{◌≡◌, ◌≢◌, ℕ, ◌⊎◌, List, Option, Some, None}
-use Rattle.std.specs.Str.{IsUtf8}
+use Rattle.std.specs.{Prelude.{◌≡◌, ◌≢◌, ℕ, ◌⊎◌, List, Option, Some, None}, Str.IsUtf8}
 use Rattle.decimal_format.specs.Symbols.{Symbols}
 use Rattle.locale_data.specs.Locales.{IsLocale, IsUnknown}
-use Rattle.conversions.specs.declared.reader.LocaleReader.{LocaleReader}
-use Rattle.conversions.specs.declared.reader.LocaleReader.TheVariants.{Decimals, Numbers}
-use Rattle.number_format.specs.NumberReading.{CanRead, NumberReader, number_reader_of}
-use Rattle.number_format.specs.declared.format.formatter.NumberFormatter.{NumberFormatter}
-use Rattle.number_format.specs.declared.read.number_reader.ParseMode.{ParseMode}
-use Rattle.number_format.specs.declared.read.number_reader.ParseMode.TheVariants.{Strict, Lenient}
-use Rattle.fixed_decimal_c.specs.declared.error.FdError.{FdError}
-use Rattle.fixed_decimal_c.specs.declared.error.FdError.TheVariants.{UnknownLocale, UnknownOption, SkeletonSyntax}
-use Rattle.fixed_decimal_c.specs.declared.forms.FdForm.{FdForm}
-use Rattle.fixed_decimal_c.specs.declared.forms.Format.{Format}
+use Rattle.conversions.specs.declared.reader.LocaleReader.{LocaleReader, TheVariants.{Decimals, Numbers}}
+use Rattle.number_format.specs.{NumberReading.{CanRead, NumberReader, number_reader_of}, declared.{format.formatter.NumberFormatter.NumberFormatter, read.number_reader.ParseMode.{ParseMode, TheVariants.{Strict, Lenient}}}}
+use Rattle.fixed_decimal_c.specs.{declared.{error.FdError.{FdError, TheVariants.{UnknownLocale, UnknownOption, SkeletonSyntax}}, forms.{FdForm.FdForm, Format.Format}}, Calls.IsPart, Locales.symbols_of_number, NumberOptions.grouping_code, NumberReadings.HasNoReader, NumberTexts.{IsFormatterFor, FormatterFails}}
 use Rattle.fixed_decimal_c.specs.declared.forms.Format.TheVariants as by
-use Rattle.fixed_decimal_c.specs.Calls.{IsPart}
-use Rattle.fixed_decimal_c.specs.Locales.{symbols_of_number}
-use Rattle.fixed_decimal_c.specs.NumberOptions.{grouping_code}
-use Rattle.fixed_decimal_c.specs.NumberReadings.{HasNoReader}
-use Rattle.fixed_decimal_c.specs.NumberTexts.{IsFormatterFor, FormatterFails}
 
 abbrev pub reading_code : ParseMode → ℕ
 reading_code Strict = 0

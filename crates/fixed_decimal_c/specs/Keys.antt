@@ -1,18 +1,9 @@
 -- Numbers of decimals as integers.
-use Rattle.std.specs.Prelude.{◌≡◌, ℕ, ◌^◌, ℤ, pos, negsuc, ◌+ℤ◌, ◌*ℤ◌, List, ◌⊎◌, Result, Ok, Err, IsOkAnd, Option, Some, None}
-use Rattle.std.specs.Ordering.{int_cmp}
+use Rattle.std.specs.{Prelude.{◌≡◌, ℕ, ◌^◌, ℤ, pos, negsuc, ◌+ℤ◌, ◌*ℤ◌, List, ◌⊎◌, Result, Ok, Err, IsOkAnd, Option, Some, None}, Ordering.int_cmp}
 use Rattle.decimal_digits.specs.Number.{weight}
-use Rattle.decimal_unsigned.specs.Edits.{multiplied_pow10}
-use Rattle.decimal_unsigned.specs.declared.error.IntegerError.{IntegerError}
-use Rattle.decimal_unsigned.specs.declared.error.IntegerError.TheVariants.{OutOfRange}
-use Rattle.fixed_decimal.specs.Decimal.{Decimal, signed_number, with_absolute}
-use Rattle.fixed_decimal.specs.DecimalText.{read_decimal}
-use Rattle.fixed_decimal.specs.ToInteger.{as_signed}
-use Rattle.fixed_decimal_c.specs.declared.error.FdError.{FdError}
-use Rattle.fixed_decimal_c.specs.declared.keys.FdKey.{FdKey}
-use Rattle.fixed_decimal_c.specs.declared.keys.FdKeyed.{FdKeyed}
-use Rattle.fixed_decimal_c.specs.Errors.{status_of, place_of}
-use Rattle.fixed_decimal_c.specs.Numbers.{ConversionFails, ParsingFails, order_code}
+use Rattle.decimal_unsigned.specs.{Edits.multiplied_pow10, declared.error.IntegerError.{IntegerError, TheVariants.OutOfRange}}
+use Rattle.fixed_decimal.specs.{Decimal.{Decimal, signed_number, with_absolute}, DecimalText.read_decimal, ToInteger.as_signed}
+use Rattle.fixed_decimal_c.specs.{declared.{error.FdError.FdError, keys.{FdKey.FdKey, FdKeyed.FdKeyed}}, Errors.{status_of, place_of}, Numbers.{ConversionFails, ParsingFails, order_code}}
 
 -- the number of a key, in units of 10 ^ -18
 abbrev pub key_units : FdKey → ℤ

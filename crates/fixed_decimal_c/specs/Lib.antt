@@ -6,11 +6,16 @@ pub mod Locales
 pub mod Numbers
 pub mod NumberOptions
 pub mod NumberTexts
+pub mod FormatOptions
+pub mod FormatRows
 pub mod Forms
 pub mod Formats
 pub mod NumberReadings
 pub mod Conversions
 pub mod Keys
 pub mod Lines
+pub mod KeptFormatters
+pub mod StatusTexts
+pub mod Parts
 pub mod Categories
 pub mod Words

@@ -1,18 +1,9 @@
 -- Columns: lines in, lines out.
-use Rattle.std.specs.Prelude.{◌≡◌, ◌≢◌, ℕ, ◌<◌, ◌≤◌, ◌⊎◌, Bool, true, false, ⊤, List, [], ◌∷◌, ◌++◌, length, drop, flat_map, count_by, Result, Ok, Err, is_err}
+use Rattle.std.specs.Prelude.{◌≡◌, ◌≢◌, ℕ, ◌<◌, ◌≤◌, ◌⊎◌, Bool, true, false, ⊤, List, [], ◌∷◌, ◌++◌, length, drop, flat_map, count_by, None, Result, Ok, Err, is_err}
 use Rattle.fixed_decimal.specs.declared.runs.Call.{Call}
 use Rattle.conversions.specs.Lines.{lines_of}
-use Rattle.fixed_decimal_c.specs.declared.answer.FdColumn.{FdColumn}
-use Rattle.fixed_decimal_c.specs.declared.calls.FdCall.{FdCall}
-use Rattle.fixed_decimal_c.specs.declared.convert.Forms.{Forms}
-use Rattle.fixed_decimal_c.specs.declared.forms.FdForms.{FdForms}
-use Rattle.fixed_decimal_c.specs.declared.answer.Progress.{Progress}
-use Rattle.fixed_decimal_c.specs.declared.error.FdError.{FdError}
-use Rattle.fixed_decimal_c.specs.declared.error.FdError.TheVariants.{BufferTooSmall, Memory}
-use Rattle.fixed_decimal_c.specs.Calls.{AreCalls, DecodeFails}
-use Rattle.fixed_decimal_c.specs.Encodings.{fd_column}
-use Rattle.fixed_decimal_c.specs.Conversions.{IsConverted, ConversionFails, AreForms, FormsFail}
-use Rattle.fixed_decimal_c.specs.Texts.{IsWritten}
+use Rattle.number_format.specs.declared.format.formatter.NumberFormatter.{NumberFormatter}
+use Rattle.fixed_decimal_c.specs.{declared.{answer.{FdColumn.FdColumn, Progress.Progress}, calls.FdCall.FdCall, convert.Forms.Forms, forms.{FdForms.FdForms, Format.TheVariants.Skeleton}, error.FdError.{FdError, TheVariants.{BufferTooSmall, Memory}}}, Calls.{AreCalls, DecodeFails}, Encodings.fd_column, Conversions.{IsConverted, ConversionFails, AreForms, FormsFail}, Texts.IsWritten}
 
 -- a line has this result: its text; or, where lines that fail are skipped, the error of reading it or of a call
 abbrev pub IsLineResult : Forms → List Call → Bool → List ℕ → Result (List ℕ) FdError → Type 0
@@ -100,3 +91,18 @@ abbrev pub ConvertsColumn :
 ConvertsColumn answer input skip forms calls texts old new =
     ((f : Forms) × AreForms forms texts f × ConvertsColumnBy f answer input skip calls texts old new)
     ⊎ ((error : FdError) × (answer ≡ fd_column none (Err error)) × FormsFail error forms texts × (new ≡ old))
+
+-- ---- Columns of numbers that a formatter writes.
+
+-- a decimal's own text is read, and the decimal is written by the formatter
+abbrev pub formatting_forms : NumberFormatter → Forms
+formatting_forms f = record { reader = None; format = Skeleton f }
+
+-- the column is formatted up to its end, or to the line that ends it; or there is no formatter, and the buffer is as it
+-- was
+abbrev pub FormatsColumnIfMade :
+    Result NumberFormatter FdError → FdColumn → List ℕ → Bool → List ℕ → List ℕ → Type 0
+FormatsColumnIfMade (Ok f) answer input skip old new =
+    (done : Progress) × (result : Result Unit FdError) × (answer ≡ fd_column done result)
+    × ConvertsLines (formatting_forms f) [] skip input done result old new
+FormatsColumnIfMade (Err error) answer input skip old new = (answer ≡ fd_column none (Err error)) × (new ≡ old)

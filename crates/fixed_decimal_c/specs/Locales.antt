@@ -1,18 +1,9 @@
 -- The numbers of locales and of plural rules, as C keeps them.
-use Rattle.std.specs.Prelude.{◌≡◌, ℕ, zero, suc, ◌-◌, ◌*◌, ◌/◌, ◌%◌, ◌^◌, ◌==◌, ◌||◌, nat_lt, if◌then◌else◌, List, Option, Some, None, Result, Ok, Err}
-use Rattle.std.specs.Option.{option_and_then}
-use Rattle.std.specs.Str.{IsUtf8}
+use Rattle.std.specs.{Prelude.{◌≡◌, ℕ, zero, suc, ◌-◌, ◌*◌, ◌/◌, ◌%◌, ◌^◌, ◌==◌, ◌||◌, nat_lt, if◌then◌else◌, List, Option, Some, None, Result, Ok, Err}, Option.option_and_then, Str.IsUtf8}
 use Rattle.decimal_format.specs.Symbols.{Symbols}
-use Rattle.conversions.specs.NamedRules.{NamesLocale}
-use Rattle.conversions.specs.Parameters.{tag_of}
-use Rattle.locale_data.specs.Locales.{symbols_at, IsLocale, IsUnknown}
-use Rattle.locale_data.specs.Plurals.{rules_text_at, IsRulesText, HasNoRules}
-use Rattle.locale_data.specs.declared.locales.LocaleId.{LocaleId}
-use Rattle.locale_data.specs.declared.plurals.PluralRuleType.{PluralRuleType}
-use Rattle.locale_data.specs.declared.plurals.PluralRuleType.TheVariants.{Cardinal, Ordinal}
-use Rattle.locale_data.specs.declared.plurals.PluralRulesId.{PluralRulesId}
-use Rattle.fixed_decimal_c.specs.declared.error.FdError.{FdError}
-use Rattle.fixed_decimal_c.specs.declared.error.FdError.TheVariants.{UnknownLocale, UnknownOption}
+use Rattle.conversions.specs.{NamedRules.NamesLocale, Parameters.tag_of}
+use Rattle.locale_data.specs.{Locales.{symbols_at, IsLocale, IsUnknown}, Plurals.{rules_text_at, IsRulesText, HasNoRules}, declared.{locales.LocaleId.LocaleId, plurals.{PluralRuleType.{PluralRuleType, TheVariants.{Cardinal, Ordinal}}, PluralRulesId.PluralRulesId}}}
+use Rattle.fixed_decimal_c.specs.declared.error.FdError.{FdError, TheVariants.{UnknownLocale, UnknownOption}}
 
 -- an index that is one less, or none for 0
 abbrev pub index_of : ℕ → Option ℕ

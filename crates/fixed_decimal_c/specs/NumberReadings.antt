@@ -1,21 +1,10 @@
 -- Numbers as a locale writes them by options or a number skeleton, read.
 use Rattle.std.specs.Prelude.{◌≡◌, ℕ, ◌⊎◌, List, Bool, true, false, Result, Ok, Err}
-use Rattle.decimal_unsigned.specs.declared.decimal.TheConstants.{INLINE_DIGITS}
-use Rattle.decimal_unsigned.specs.declared.error.ParseError.{ParseError}
-use Rattle.fixed_decimal.specs.Decimal.{Decimal}
-use Rattle.fixed_decimal.specs.DecimalText.{decimal_text}
-use Rattle.number_format.specs.NumberReading.{CanRead, CannotRead, number_reader_of, IsReadInMode}
-use Rattle.number_format.specs.declared.format.formatter.NumberFormatter.{NumberFormatter}
-use Rattle.number_format.specs.declared.read.number_reader.NumberReaderError.{NumberReaderError}
+use Rattle.decimal_unsigned.specs.declared.{decimal.TheConstants.INLINE_DIGITS, error.ParseError.ParseError}
+use Rattle.fixed_decimal.specs.{Decimal.Decimal, DecimalText.decimal_text}
+use Rattle.number_format.specs.{NumberReading.{CanRead, CannotRead, number_reader_of, IsReadInMode}, declared.{format.formatter.NumberFormatter.NumberFormatter, read.number_reader.{NumberReaderError.NumberReaderError, ParseMode.{ParseMode, TheVariants.{Strict, Lenient}}}}}
 use Rattle.number_format.specs.declared.read.number_reader.NumberReaderError.TheVariants as made
-use Rattle.number_format.specs.declared.read.number_reader.ParseMode.{ParseMode}
-use Rattle.number_format.specs.declared.read.number_reader.ParseMode.TheVariants.{Strict, Lenient}
-use Rattle.fixed_decimal_c.specs.declared.error.FdError.{FdError}
-use Rattle.fixed_decimal_c.specs.declared.number_options.FdNumberOptions.{FdNumberOptions}
-use Rattle.fixed_decimal_c.specs.declared.error.FdError.TheVariants.{Memory, UnreadableFormat}
-use Rattle.fixed_decimal_c.specs.Errors.{error_of_parsing}
-use Rattle.fixed_decimal_c.specs.NumberTexts.{IsMade, IsMadeBySkeleton}
-use Rattle.fixed_decimal_c.specs.Texts.{Writes, WritesNothing}
+use Rattle.fixed_decimal_c.specs.{declared.{error.FdError.{FdError, TheVariants.{Memory, UnreadableFormat}}, number_options.FdNumberOptions.FdNumberOptions}, Errors.error_of_parsing, NumberTexts.{IsMade, IsMadeBySkeleton}, Texts.{Writes, WritesNothing}}
 
 abbrev pub error_of_reader : NumberReaderError → FdError
 error_of_reader made.Memory = Memory

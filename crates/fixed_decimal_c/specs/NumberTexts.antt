@@ -1,22 +1,12 @@
 -- The formatter of a tag and a number skeleton, or of options.
-use Rattle.std.specs.Prelude.{◌≡◌, ℕ, ◌⊎◌, false, List, Result, Ok, Err}
-use Rattle.std.specs.Str.{IsUtf8, IsValidUpTo}
+use Rattle.std.specs.{Prelude.{◌≡◌, ℕ, ◌⊎◌, false, List, Result, Ok, Err}, Str.{IsUtf8, IsValidUpTo}}
 use Rattle.decimal_digits.specs.declared.rounding.RoundError.{RoundError}
 use Rattle.decimal_digits.specs.declared.rounding.RoundError.TheVariants as round
-use Rattle.number_format.specs.declared.format.ids.NumberFormatError.{NumberFormatError}
+use Rattle.number_format.specs.{declared.{format.{ids.NumberFormatError.NumberFormatError, formatter.NumberFormatter.NumberFormatter}, options.NumberOptions.NumberOptions}, Formatters.{IsFormatter, IsFormatterError}}
 use Rattle.number_format.specs.declared.format.ids.NumberFormatError.TheVariants as made
-use Rattle.number_format.specs.declared.format.formatter.NumberFormatter.{NumberFormatter}
-use Rattle.number_format.specs.declared.options.NumberOptions.{NumberOptions}
-use Rattle.number_skeleton.specs.declared.error.SkeletonError.{SkeletonError}
+use Rattle.number_skeleton.specs.{declared.error.SkeletonError.SkeletonError, NoStem.has_no_stem, Meaning.{skeleton_options, options_value}}
 use Rattle.number_skeleton.specs.declared.error.SkeletonError.TheVariants as read
-use Rattle.number_format.specs.Formatters.{IsFormatter, IsFormatterError}
-use Rattle.number_skeleton.specs.NoStem.{has_no_stem}
-use Rattle.number_skeleton.specs.Meaning.{skeleton_options, options_value, in_capitals}
-use Rattle.fixed_decimal_c.specs.declared.error.FdError.{FdError}
-use Rattle.fixed_decimal_c.specs.declared.number_options.FdNumberOptions.{FdNumberOptions}
-use Rattle.fixed_decimal_c.specs.NumberOptions.{AreNumberOptions, NumberOptionsFail}
-use Rattle.fixed_decimal_c.specs.Texts.{Writes, WritesNothing}
-use Rattle.fixed_decimal_c.specs.declared.error.FdError.TheVariants.{Memory, Overflow, UnknownLocale, SkeletonSyntax, SkeletonUnsupported, UnknownNumberingSystem, NoSkeleton}
+use Rattle.fixed_decimal_c.specs.{declared.{error.FdError.{FdError, TheVariants.{Memory, Overflow, UnknownLocale, SkeletonSyntax, SkeletonUnsupported, UnknownNumberingSystem, NoSkeleton}}, number_options.FdNumberOptions.FdNumberOptions}, NumberOptions.{AreNumberOptions, NumberOptionsFail}, Texts.{Writes, WritesNothing}}
 
 abbrev pub error_of_skeleton : SkeletonError → FdError
 error_of_skeleton (read.Syntax at) = SkeletonSyntax at
@@ -83,7 +73,7 @@ IsMadeBySkeleton (Err error) tag skeleton = FormatterFails error tag skeleton
 
 -- no option is one that no stem of a skeleton names
 abbrev pub HasStems : NumberOptions → Type 0
-HasStems o = has_no_stem (options_value (in_capitals o)) ≡ false
+HasStems o = has_no_stem (options_value o) ≡ false
 
 -- C passes no options; or they have no skeleton; or out of memory, where each option has a stem
 abbrev pub SkeletonTextFails : FdError → FdNumberOptions → Type 0
@@ -95,5 +85,5 @@ SkeletonTextFails error c =
 abbrev pub WritesSkeleton : Result ℕ FdError → FdNumberOptions → List ℕ → List ℕ → Type 0
 WritesSkeleton answer c old new =
     ((o : NumberOptions) × AreNumberOptions c o × HasStems o × (text : List ℕ)
-    × (skeleton_options text ≡ Ok (options_value (in_capitals o))) × Writes answer text old new)
+    × (skeleton_options text ≡ Ok (options_value o)) × Writes answer text old new)
     ⊎ WritesNothing (λ error. SkeletonTextFails error c) answer old new

@@ -1,21 +1,10 @@
 -- What one learns of a decimal as a number.
-use Rattle.std.specs.Prelude.{◌≡◌, ℕ, ◌^◌, ℤ, pos, negsuc, ◌⊎◌, ◌↔◌, List, Bool, true, false, IsTrue, Result, Ok, Err, IsOkAnd}
-use Rattle.std.specs.Ordering.{int_cmp}
-use Rattle.std.specs.declared.cmp.Ordering.{Ordering}
-use Rattle.std.specs.declared.cmp.Ordering.TheVariants.{Less, Equal, Greater}
-use Rattle.decimal_unsigned.specs.declared.decimal.TheConstants.{INLINE_DIGITS}
-use Rattle.decimal_unsigned.specs.declared.error.ParseError.{ParseError}
-use Rattle.decimal_unsigned.specs.declared.error.IntegerError.{IntegerError}
+use Rattle.std.specs.{Prelude.{◌≡◌, ℕ, ◌^◌, ℤ, pos, negsuc, ◌⊎◌, ◌↔◌, List, Bool, true, false, IsTrue, Result, Ok, Err, IsOkAnd}, Ordering.int_cmp, declared.cmp.Ordering.{Ordering, TheVariants.{Less, Equal, Greater}}}
+use Rattle.decimal_unsigned.specs.{declared.{decimal.TheConstants.INLINE_DIGITS, error.{ParseError.ParseError, IntegerError.IntegerError}}, ParseResult.ParseFails}
 use Rattle.decimal_unsigned.specs.declared.error.IntegerError.TheVariants as integer
-use Rattle.decimal_unsigned.specs.ParseResult.{ParseFails}
-use Rattle.fixed_decimal.specs.declared.variations.Sign.{Sign}
+use Rattle.fixed_decimal.specs.{declared.variations.Sign.Sign, Decimal.{Decimal, signed_number}, DecimalText.{read_decimal, IsLong}, ToInteger.{as_signed, as_unsigned}}
 use Rattle.fixed_decimal.specs.declared.variations.Sign.TheVariants as sign
-use Rattle.fixed_decimal.specs.Decimal.{Decimal, signed_number}
-use Rattle.fixed_decimal.specs.DecimalText.{read_decimal, IsLong}
-use Rattle.fixed_decimal.specs.ToInteger.{as_signed, as_unsigned}
-use Rattle.fixed_decimal_c.specs.declared.error.FdError.{FdError}
-use Rattle.fixed_decimal_c.specs.declared.error.FdError.TheVariants.{NotWhole, OutOfRange}
-use Rattle.fixed_decimal_c.specs.Errors.{error_of_parsing}
+use Rattle.fixed_decimal_c.specs.{declared.error.FdError.{FdError, TheVariants.{NotWhole, OutOfRange}}, Errors.error_of_parsing}
 
 -- parsing the text with this number fails
 abbrev pub ParsingFails : FdError → List ℕ → ℕ → Type 0

@@ -1,7 +1,6 @@
 -- Texts in the buffer of a caller.
 use Rattle.std.specs.Prelude.{◌≡◌, ℕ, ◌<◌, ◌≤◌, ◌⊎◌, List, ◌++◌, length, drop, Result, Ok, Err}
-use Rattle.fixed_decimal_c.specs.declared.error.FdError.{FdError}
-use Rattle.fixed_decimal_c.specs.declared.error.FdError.TheVariants.{BufferTooSmall}
+use Rattle.fixed_decimal_c.specs.declared.error.FdError.{FdError, TheVariants.BufferTooSmall}
 
 -- the text is at the start of the buffer, which is otherwise as it was; it has `count` bytes
 abbrev pub IsWritten : List ℕ → ℕ → List ℕ → List ℕ → Type 0

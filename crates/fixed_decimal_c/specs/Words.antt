@@ -1,23 +1,9 @@
 -- The words of the programs, as C receives them.
-use Rattle.std.specs.Prelude.{◌≡◌, ◌≢◌, ◌⊎◌, ℕ, ◌+◌, List, [], ◌++◌, Option, Some, None, IsSome, IsSomeAnd, Result, Ok, Err}
-use Rattle.std.specs.Str.{IsUtf8}
+use Rattle.std.specs.{Prelude.{◌≡◌, ◌≢◌, ◌⊎◌, ℕ, ◌+◌, List, [], ◌++◌, Option, Some, None, IsSome, IsSomeAnd, Result, Ok, Err}, Str.IsUtf8}
 use Rattle.fixed_decimal.specs.declared.runs.Call.{Call}
 use Rattle.number_format.specs.declared.read.number_reader.ParseMode.{ParseMode}
-use Rattle.conversions.specs.Calls.{call_of, Names}
-use Rattle.conversions.specs.FormatWord.{strategy_of, IsSkeletonOption}
-use Rattle.conversions.specs.Parameters.{locale_tag, locale_option}
-use Rattle.conversions.specs.ReadWord.{read_option}
-use Rattle.conversions.specs.FormatWord.{IsFormatWord}
-use Rattle.conversions.specs.ReadWord.{IsReadWord}
-use Rattle.fixed_decimal_c.specs.declared.calls.FdCall.{FdCall}
-use Rattle.fixed_decimal_c.specs.declared.error.FdError.{FdError}
-use Rattle.fixed_decimal_c.specs.declared.error.FdError.TheVariants.{UnknownCall, UnknownLocale}
-use Rattle.fixed_decimal_c.specs.declared.forms.FdForm.{FdForm}
-use Rattle.fixed_decimal_c.specs.declared.words.FdWord.{FdWord}
-use Rattle.fixed_decimal_c.specs.Calls.{IsPart, IsCall, no_call, fd_call_of}
-use Rattle.fixed_decimal_c.specs.Errors.{status_of}
-use Rattle.fixed_decimal_c.specs.Forms.{reading_code}
-use Rattle.fixed_decimal_c.specs.NumberOptions.{grouping_code}
+use Rattle.conversions.specs.{Calls.{call_of, Names}, FormatWord.{strategy_of, IsSkeletonOption, IsFormatWord}, Parameters.{locale_tag, locale_option}, ReadWord.{read_option, IsReadWord}}
+use Rattle.fixed_decimal_c.specs.{declared.{calls.FdCall.FdCall, error.FdError.{FdError, TheVariants.{UnknownCall, UnknownLocale}}, forms.FdForm.FdForm, words.FdWord.FdWord}, Calls.{IsPart, IsCall, no_call, fd_call_of}, Errors.status_of, Forms.reading_code, NumberOptions.grouping_code}
 
 -- ---- What C receives.
 

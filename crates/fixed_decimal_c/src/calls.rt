@@ -1,10 +1,7 @@
 //! Calls, as C passes them.
 ghost use Rattle.std.specs.Prelude.{◌≡◌, List, ℕ, ◌≤◌, ◌<◌, length, take, IfSome, IfNone, IfOk, IfErr, OnOk};
-ghost use Rattle.fixed_decimal.specs.declared.runs.Call.{Call};
-ghost use Rattle.fixed_decimal.specs.declared.rounding.SignedRoundingMode.{SignedRoundingMode};
+ghost use Rattle.fixed_decimal.specs.declared.{runs.Call.Call, rounding.SignedRoundingMode.SignedRoundingMode, variations.{Sign.Sign, SignDisplay.SignDisplay}};
 ghost use Rattle.decimal_digits.specs.declared.rounding.RoundingIncrement.{RoundingIncrement};
-ghost use Rattle.fixed_decimal.specs.declared.variations.Sign.{Sign};
-ghost use Rattle.fixed_decimal.specs.declared.variations.SignDisplay.{SignDisplay};
 ghost use Rattle.fixed_decimal_c.specs.Calls.{mode_code, increment_code, sign_code, display_code, IsPart, IsCall, AreCalls, calls_in, IsUnknown, DecodeFails, positioned, optional, fd_call_of};
 
 use crate::error::FdError;
@@ -149,7 +146,7 @@ fn decode<'t>(call: &FdCall, texts: &'t [u8]) -> Option<Call<'t>>
     }
 }
 
-fn mode_code(mode: SignedRoundingMode) -> u8
+pub(crate) fn mode_code(mode: SignedRoundingMode) -> u8
     ensures { result ≡ mode_code mode }
 {
     match mode {
@@ -179,23 +176,13 @@ fn increment_code(increment: RoundingIncrement) -> u8
 fn sign_code(sign: Sign) -> u8
     ensures { result ≡ sign_code sign }
 {
-    match sign {
-        Sign::None => 0,
-        Sign::Negative => 1,
-        Sign::Positive => 2,
-    }
+    sign as u8
 }
 
-fn display_code(display: SignDisplay) -> u8
+pub(crate) fn display_code(display: SignDisplay) -> u8
     ensures { result ≡ display_code display }
 {
-    match display {
-        SignDisplay::Auto => 0,
-        SignDisplay::Never => 1,
-        SignDisplay::Always => 2,
-        SignDisplay::ExceptZero => 3,
-        SignDisplay::Negative => 4,
-    }
+    display as u8
 }
 
 fn positioned(kind: u8, position: i16) -> FdCall

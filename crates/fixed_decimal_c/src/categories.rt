@@ -13,14 +13,7 @@ use std::alloc::Global;
 fn category_number(category: PluralCategory) -> i64
     ensures { result ≡ category_code category }
 {
-    match category {
-        PluralCategory::Zero => 0,
-        PluralCategory::One => 1,
-        PluralCategory::Two => 2,
-        PluralCategory::Few => 3,
-        PluralCategory::Many => 4,
-        PluralCategory::Other => 5,
-    }
+    category as i64
 }
 
 /// Returns the number of the plural category of a decimal by rules.

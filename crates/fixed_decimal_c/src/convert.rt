@@ -1,8 +1,7 @@
 //! Conversions: a text is read in one form, changed, and written in another.
 ghost use Rattle.std.specs.Prelude.{Ok, None, IfOk, IfErr};
 ghost use Rattle.conversions.specs.Conversion.{IsReadBy, ReadingByFails};
-ghost use Rattle.fixed_decimal_c.specs.Formats.{WritesBy};
-ghost use Rattle.fixed_decimal_c.specs.Conversions.{AreForms, FormsFail, Converts, ConvertsDecoded, ConvertsCalls, own_forms, Runs};
+ghost use Rattle.fixed_decimal_c.specs.{Formats.WritesBy, Conversions.{AreForms, FormsFail, Converts, ConvertsDecoded, ConvertsCalls, own_forms, Runs}};
 
 use crate::calls::{FdCall, INLINE_CALLS, calls_in, decode_calls};
 use crate::error::{FdError, error_of_parsing, error_of_run};

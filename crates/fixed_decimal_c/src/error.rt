@@ -50,6 +50,10 @@ pub enum FdError {
     DigitOptions { at: usize },
     /// No number skeleton has these options.
     NoSkeleton,
+    /// The bytes are no formatter.
+    Formatter,
+    /// The parts of the text do not fit their array.
+    PartsTooSmall,
 }
 
 impl FdError {
@@ -78,6 +82,8 @@ impl FdError {
             FdError::UnreadableFormat => 19,
             FdError::DigitOptions { .. } => 20,
             FdError::NoSkeleton => 21,
+            FdError::Formatter => 22,
+            FdError::PartsTooSmall => 23,
         }
     }
 

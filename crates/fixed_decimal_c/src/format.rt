@@ -1,8 +1,6 @@
 //! Numbers as a locale writes them, by options or a number skeleton.
 ghost use Rattle.std.specs.Prelude.{◌≡◌, IfOk, IfErr};
-ghost use Rattle.fixed_decimal_c.specs.declared.forms.Format.TheVariants.{Skeleton};
-ghost use Rattle.fixed_decimal_c.specs.NumberTexts.{error_of_skeleton, error_of_formatter, error_of_format, AreOptionsOf, SkeletonFails, HasFormatter, OptionsFail, IsFormatterFor, FormatterFails, IsFormatterBy, FormatterByFails, WritesSkeleton};
-ghost use Rattle.fixed_decimal_c.specs.Formats.{WritesBy, FormatsText, FormatsIfMade};
+ghost use Rattle.fixed_decimal_c.specs.{declared.forms.Format.TheVariants.Skeleton, NumberTexts.{error_of_skeleton, error_of_formatter, error_of_format, AreOptionsOf, SkeletonFails, WritesSkeleton}, Formats.{WritesBy, FormatsText}};
 
 use crate::error::FdError;
 use crate::number_options::FdNumberOptions;
@@ -23,7 +21,7 @@ fn error_of_skeleton(error: SkeletonError) -> FdError
     }
 }
 
-fn error_of_formatter(error: NumberFormatError) -> FdError
+pub(crate) fn error_of_formatter(error: NumberFormatError) -> FdError
     ensures { result ≡ error_of_formatter error }
 {
     match error {
@@ -32,7 +30,7 @@ fn error_of_formatter(error: NumberFormatError) -> FdError
     }
 }
 
-fn error_of_format(error: RoundError, at: usize) -> FdError
+pub(crate) fn error_of_format(error: RoundError, at: usize) -> FdError
     ensures { result ≡ error_of_format error at }
 {
     match error {
@@ -42,7 +40,7 @@ fn error_of_format(error: RoundError, at: usize) -> FdError
 }
 
 /// Returns the options of a skeleton.
-fn options(skeleton: &[u8]) -> Result<NumberOptions, FdError>
+pub(crate) fn options(skeleton: &[u8]) -> Result<NumberOptions, FdError>
     ensures ok { IfOk result (AreOptionsOf skeleton.now) }
     ensures err { IfErr result (λ error. SkeletonFails error skeleton.now) }
 {
@@ -57,42 +55,6 @@ fn options(skeleton: &[u8]) -> Result<NumberOptions, FdError>
     match number_skeleton::parse(skeleton) {
         Ok(options) => Ok(options),
         Err(error) => Err(error_of_skeleton(error)),
-    }
-}
-
-/// Returns the formatter of a tag and options.
-fn formatter_of(tag: &[u8], options: NumberOptions) -> Result<NumberFormatter, FdError>
-    ensures ok { IfOk result (HasFormatter tag.now options) }
-    ensures err { IfErr result (λ error. OptionsFail error tag.now options) }
-{
-    let Ok(tag) = str::from_utf8(tag) else {
-        return Err(FdError::UnknownLocale);
-    };
-    match NumberFormatter::try_new(tag, options) {
-        Ok(formatter) => Ok(formatter),
-        Err(error) => Err(error_of_formatter(error)),
-    }
-}
-
-/// Returns the formatter of a tag and a skeleton.
-pub(crate) fn formatter_by_skeleton(tag: &[u8], skeleton: &[u8]) -> Result<NumberFormatter, FdError>
-    ensures ok { IfOk result (IsFormatterFor tag.now skeleton.now) }
-    ensures err { IfErr result (λ error. FormatterFails error tag.now skeleton.now) }
-{
-    formatter_of(tag, options(skeleton)?)
-}
-
-/// Returns the formatter of a tag and the options that C passes.
-pub(crate) fn formatter_by_options(
-    tag: &[u8],
-    options: &FdNumberOptions,
-) -> Result<NumberFormatter, FdError>
-    ensures ok { IfOk result (IsFormatterBy tag.now options.now) }
-    ensures err { IfErr result (λ error. FormatterByFails error tag.now options.now) }
-{
-    match options.decode() {
-        Ok(options) => formatter_of(tag, options),
-        Err(error) => Err(error),
     }
 }
 
@@ -132,7 +94,7 @@ pub(crate) fn write_number(
 }
 
 /// Reads a decimal, and writes it by a formatter.
-fn format_text(
+pub(crate) fn format_text(
     alloc: Global,
     formatter: &NumberFormatter,
     text: &[u8],
@@ -142,16 +104,4 @@ fn format_text(
 {
     let value = read(alloc, text, 0)?;
     write_number(alloc, formatter, value, 0, buffer)
-}
-
-/// Reads a decimal, and writes it by a formatter, if there is one.
-pub(crate) fn format_number(
-    alloc: Global,
-    text: &[u8],
-    formatter: Result<NumberFormatter, FdError>,
-    buffer: &mut [u8],
-) -> Result<usize, FdError>
-    ensures { FormatsIfMade formatter result text.now buffer.old buffer.new }
-{
-    format_text(alloc, &formatter?, text, buffer)
 }

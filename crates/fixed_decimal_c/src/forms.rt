@@ -6,7 +6,7 @@ ghost use Rattle.fixed_decimal_c.specs.Forms.{reading_code, IsLocaleAt, HasNoLoc
 
 use crate::calls::part;
 use crate::error::FdError;
-use crate::format::formatter_by_skeleton;
+use crate::formatter::formatter_by_skeleton;
 use crate::locales::symbols_of_number;
 use crate::number_options::grouping;
 use crate::read::number_reader;
@@ -134,7 +134,7 @@ fn skeleton_reader(
     let Some(mode) = reading(form.option) else {
         return Err(FdError::UnknownOption);
     };
-    match number_reader(alloc, formatter) {
+    match number_reader(alloc, &formatter) {
         Ok(reader) => Ok((reader, mode)),
         Err(error) => Err(error),
     }

@@ -1,6 +1,5 @@
 //! Numbers of decimals as integers, which are compared without their texts.
-ghost use Rattle.std.specs.Prelude.{◌≡◌, IfOk, IfErr, Ok, Err};
-ghost use Rattle.std.specs.Ordering.{int_cmp};
+ghost use Rattle.std.specs.{Prelude.{◌≡◌, IfOk, IfErr, Ok, Err}, Ordering.int_cmp};
 ghost use Rattle.fixed_decimal.specs.Decimal.{Decimal, signed_number};
 ghost use Rattle.fixed_decimal_c.specs.Keys.{key_units, HasUnits, units_result, HasKey, ComparesKeys, fd_keyed};
 

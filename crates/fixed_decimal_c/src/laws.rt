@@ -1,14 +1,8 @@
-//! Laws of the words: the contract of each function states a law.
-ghost use Rattle.std.specs.Prelude.{ℕ, ◌+◌, List, ◌++◌, length};
-ghost use Rattle.std.specs.Str.{IsUtf8};
-ghost use Rattle.conversions.specs.Calls.{Names};
-ghost use Rattle.conversions.specs.FormatWord.{IsFormatWord};
-ghost use Rattle.conversions.specs.ReadWord.{IsReadWord};
+//! Laws of words and of formatters that C keeps: the contract of each function states a law.
+ghost use Rattle.std.specs.{Prelude.{ℕ, ◌+◌, Bool, List, ◌++◌, length, Ok, Result}, Str.IsUtf8};
+ghost use Rattle.conversions.specs.{Calls.Names, FormatWord.IsFormatWord, ReadWord.IsReadWord};
 ghost use Rattle.fixed_decimal.specs.declared.runs.Call.{Call};
-ghost use Rattle.fixed_decimal_c.specs.Calls.{IsPart, IsCall};
-ghost use Rattle.fixed_decimal_c.specs.Words.{IsReadAnswer, IsFormatAnswer, IsCallAnswer, IsWord, moved_call};
-ghost use Rattle.fixed_decimal_c.specs.declared.calls.FdCall.{FdCall};
-ghost use Rattle.fixed_decimal_c.specs.declared.words.FdWord.{FdWord};
+ghost use Rattle.fixed_decimal_c.specs.{Calls.{IsPart, IsCall}, Formats.{FormatsNumber, FormatsBySkeleton}, KeptFormatters.{FormatsKept, MakesByOptions, MakesBySkeleton, ReadsKept}, NumberReadings.{ReadsNumber, ReadsBySkeleton}, Words.{IsReadAnswer, IsFormatAnswer, IsCallAnswer, IsWord, moved_call}, declared.{calls.FdCall.FdCall, error.FdError.FdError, formatter.FdFormatter.FdFormatter, number_options.FdNumberOptions.FdNumberOptions, words.FdWord.FdWord}};
 
 /// A part of a word is a part of words that are placed one after another: its start counts the bytes before the word.
 #[tactic(auto, using(crate::proofs::lemmas::words::JoinedWords::part_of_joined))]
@@ -41,4 +35,32 @@ pub fn readers_are_received()
 #[tactic(auto, using(crate::proofs::lemmas::words::KindsOfWords::format_is_received))]
 pub fn formats_are_received()
     ensures { (word : List ℕ) (w : FdWord) → IsUtf8 word → IsFormatWord word → IsWord word w → IsFormatAnswer word w }
+{}
+
+/// `fd_format` by the formatter of a tag and options writes what `fd_format_number` writes by them.
+pub fn kept_options_format()
+    ensures { (tag : List ℕ) (options : FdNumberOptions) (c : FdFormatter) (answer : Result ℕ FdError)
+        (text old new : List ℕ) → MakesByOptions (Ok c) tag options → FormatsKept answer c text old new
+        → FormatsNumber answer text tag options old new }
+{}
+
+/// `fd_format` by the formatter of a tag and a skeleton writes what `fd_format_by_skeleton` writes by them.
+pub fn kept_skeletons_format()
+    ensures { (tag skeleton : List ℕ) (c : FdFormatter) (answer : Result ℕ FdError) (text old new : List ℕ)
+        → MakesBySkeleton (Ok c) tag skeleton → FormatsKept answer c text old new
+        → FormatsBySkeleton answer text tag skeleton old new }
+{}
+
+/// `fd_read` by the formatter of a tag and options reads what `fd_read_number` reads by them.
+pub fn kept_options_read()
+    ensures { (tag : List ℕ) (options : FdNumberOptions) (c : FdFormatter) (answer : Result ℕ FdError) (text : List ℕ)
+        (lenient : Bool) (old new : List ℕ) → MakesByOptions (Ok c) tag options
+        → ReadsKept answer c text lenient old new → ReadsNumber answer text tag options lenient old new }
+{}
+
+/// `fd_read` by the formatter of a tag and a skeleton reads what `fd_read_by_skeleton` reads by them.
+pub fn kept_skeletons_read()
+    ensures { (tag skeleton : List ℕ) (c : FdFormatter) (answer : Result ℕ FdError) (text : List ℕ) (lenient : Bool)
+        (old new : List ℕ) → MakesBySkeleton (Ok c) tag skeleton → ReadsKept answer c text lenient old new
+        → ReadsBySkeleton answer text tag skeleton lenient old new }
 {}

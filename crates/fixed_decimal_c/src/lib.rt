@@ -5,17 +5,7 @@
 #![tactic(auto)]
 
 ghost use Rattle.std.specs.Prelude.{◌≡◌, nat_lt};
-ghost use Rattle.fixed_decimal_c.specs.Encodings.{Encodes, EncodesNumber, EncodesUnsigned};
-ghost use Rattle.fixed_decimal_c.specs.Conversions.{Runs, ConvertsCalls};
-ghost use Rattle.fixed_decimal_c.specs.Lines.{ConvertsColumn};
-ghost use Rattle.fixed_decimal_c.specs.Numbers.{Compares, Equates, HasSign, HasI64, HasU64};
-ghost use Rattle.fixed_decimal_c.specs.Locales.{IsLocaleNumber, IsRulesNumber, IsNamedRulesNumber};
-ghost use Rattle.fixed_decimal_c.specs.Categories.{HasCategory, HasCategoryOf};
-ghost use Rattle.fixed_decimal_c.specs.Formats.{FormatsNumber, FormatsBySkeleton};
-ghost use Rattle.fixed_decimal_c.specs.NumberReadings.{ReadsNumber, ReadsBySkeleton};
-ghost use Rattle.fixed_decimal_c.specs.NumberTexts.{WritesSkeleton};
-ghost use Rattle.fixed_decimal_c.specs.Keys.{EncodesKey, HasKey, ComparesKeys};
-ghost use Rattle.fixed_decimal_c.specs.Words.{IsWord};
+ghost use Rattle.fixed_decimal_c.specs.{Encodings.{Encodes, EncodesNumber, EncodesUnsigned}, Conversions.{Runs, ConvertsCalls}, Lines.ConvertsColumn, Numbers.{Compares, Equates, HasSign, HasI64, HasU64}, Locales.{IsLocaleNumber, IsRulesNumber, IsNamedRulesNumber}, Categories.{HasCategory, HasCategoryOf}, Formats.{FormatsNumber, FormatsBySkeleton}, NumberReadings.{ReadsNumber, ReadsBySkeleton}, NumberTexts.WritesSkeleton, KeptFormatters.{EncodesMade, MakesByOptions, MakesBySkeleton, FormatsKept, FormatsColumn, ReadsKept, EncodesResolution, IsResolved}, Parts.FormatsPartsKept, StatusTexts.{WritesLine, status_line}, Keys.{EncodesKey, HasKey, ComparesKeys}, Words.IsWord};
 
 mod answer;
 mod calls;
@@ -23,6 +13,9 @@ mod categories;
 mod convert;
 mod error;
 mod format;
+mod format_options;
+mod format_rows;
+mod formatter;
 mod forms;
 mod keys;
 pub mod laws;
@@ -30,8 +23,10 @@ mod lines;
 mod locales;
 mod number_options;
 mod numbers;
+mod parts;
 mod read;
 mod slice_sink;
+mod status_text;
 mod texts;
 mod words;
 
@@ -41,24 +36,31 @@ pub use calls::FdCall;
 use categories::{category_by, category_of};
 use convert::{convert, run};
 pub use error::FdError;
-use format::{format_number, formatter_by_options, formatter_by_skeleton, write_skeleton};
+use format::write_skeleton;
+pub use format_options::FdFormatOptions;
+pub use format_rows::FdFormatRows;
+pub use formatter::{FdFormatter, FdMade, FdResolution};
+use formatter::{encode_made, encode_resolution};
 pub use forms::{FdForm, FdForms};
 use keys::{compare_keys, encode_key, key_of};
 pub use keys::{FdKey, FdKeyed};
-use lines::convert_column;
+use lines::{convert_column, format_column};
 use locales::{number_of_locale, number_of_named_rules, number_of_plural_rules};
 pub use number_options::FdNumberOptions;
 use numbers::{compare_texts, equal_texts, sign_of, to_i64, to_u64};
+use parts::format_parts;
+pub use parts::{FdPart, FdParted, PartCounts};
 use read::read_number;
+use status_text::write_status;
 use std::alloc::Global;
 pub use words::FdWord;
 use words::parse_word;
 
 /// Returns the version of the interface. It grows when a number, a struct or a meaning changes.
 pub fn fd_version() -> u32
-    ensures { result ≡ 5 }
+    ensures { result ≡ 6 }
 {
-    5
+    6
 }
 
 /// Makes calls in order on the decimal that `start` writes, and writes the text of the result.
@@ -126,7 +128,10 @@ pub fn fd_format_number(
     ensures { Encodes result
         (λ answer. FormatsNumber answer text.now locale.now options.now buffer.old buffer.new) }
 {
-    encode(format_number(alloc, text, formatter_by_options(locale, options), buffer))
+    match FdFormatter::by_options(locale, options) {
+        Ok(formatter) => fd_format(alloc, &formatter, text, buffer),
+        Err(error) => encode(Err(error)),
+    }
 }
 
 /// Reads a number that [`fd_format_number`] writes by this tag and these options, and writes the own text of the value
@@ -145,8 +150,10 @@ pub fn fd_read_number(
     ensures { Encodes result
         (λ answer. ReadsNumber answer text.now locale.now options.now (nat_lt 0 lenient) buffer.old buffer.new) }
 {
-    let formatter = formatter_by_options(locale, options);
-    encode(read_number(alloc, text, formatter, lenient > 0, buffer))
+    match FdFormatter::by_options(locale, options) {
+        Ok(formatter) => fd_read(alloc, &formatter, text, lenient, buffer),
+        Err(error) => encode(Err(error)),
+    }
 }
 
 /// As [`fd_format_number`], by a number skeleton of ICU.
@@ -162,7 +169,10 @@ pub fn fd_format_by_skeleton(
     ensures { Encodes result
         (λ answer. FormatsBySkeleton answer text.now locale.now skeleton.now buffer.old buffer.new) }
 {
-    encode(format_number(alloc, text, formatter_by_skeleton(locale, skeleton), buffer))
+    match FdFormatter::by_skeleton(locale, skeleton) {
+        Ok(formatter) => fd_format(alloc, &formatter, text, buffer),
+        Err(error) => encode(Err(error)),
+    }
 }
 
 /// As [`fd_read_number`], by a number skeleton of ICU.
@@ -179,11 +189,110 @@ pub fn fd_read_by_skeleton(
     ensures { Encodes result
         (λ answer. ReadsBySkeleton answer text.now locale.now skeleton.now (nat_lt 0 lenient) buffer.old buffer.new) }
 {
-    let formatter = formatter_by_skeleton(locale, skeleton);
-    encode(read_number(alloc, text, formatter, lenient > 0, buffer))
+    match FdFormatter::by_skeleton(locale, skeleton) {
+        Ok(formatter) => fd_read(alloc, &formatter, text, lenient, buffer),
+        Err(error) => encode(Err(error)),
+    }
 }
 
-/// Writes a number skeleton that reads as the options of a number, with the code of a currency in capitals.
+/// Makes the formatter of a tag and options, so that they are looked up once.
+///
+/// The errors: as `fd_format_number` of the options and the locale.
+pub fn fd_formatter_by_options(locale: &[u8], options: &FdNumberOptions) -> FdMade
+    ensures { EncodesMade result (λ answer. MakesByOptions answer locale.now options.now) }
+{
+    encode_made(FdFormatter::by_options(locale, options))
+}
+
+/// As [`fd_formatter_by_options`], by a number skeleton of ICU.
+///
+/// The errors: as `fd_format_by_skeleton` of the skeleton and the locale.
+pub fn fd_formatter_by_skeleton(locale: &[u8], skeleton: &[u8]) -> FdMade
+    ensures { EncodesMade result (λ answer. MakesBySkeleton answer locale.now skeleton.now) }
+{
+    encode_made(FdFormatter::by_skeleton(locale, skeleton))
+}
+
+/// Formats a decimal by a formatter. Any bytes are allowed in it.
+///
+/// The errors, the first that holds: `Formatter`, if the bytes are none; of the text; `Overflow`, if the number that is
+/// shown is beyond the limits; `BufferTooSmall`.
+pub fn fd_format(alloc: Global, formatter: &FdFormatter, text: &[u8], buffer: &mut [u8]) -> FdResult
+    ensures { Encodes result (λ answer. FormatsKept answer formatter.now text.now buffer.old buffer.new) }
+{
+    encode(formatter.format(alloc, text, buffer))
+}
+
+/// Formats each line as [`fd_format`] does, and writes the text of each with a line feed.
+///
+/// A line that fails ends the column; with `skip` it is an empty line, except when out of memory. A line whose output
+/// does not fit the buffer ends it too: the next call begins at `read`.
+pub fn fd_format_column(
+    alloc: Global,
+    formatter: &FdFormatter,
+    lines: &[u8],
+    skip: u32,
+    buffer: &mut [u8],
+) -> FdColumn
+    ensures { FormatsColumn result formatter.now lines.now (nat_lt 0 skip) buffer.old buffer.new }
+{
+    format_column(alloc, formatter, lines, skip > 0, buffer)
+}
+
+/// Formats a decimal as [`fd_format`] does, and writes the parts of the text to an array: consecutive bytes of one kind
+/// are one part.
+///
+/// The errors: as there, and then `PartsTooSmall`. On an error the buffer and the array are as they were.
+pub fn fd_format_parts(
+    alloc: Global,
+    formatter: &FdFormatter,
+    text: &[u8],
+    buffer: &mut [u8],
+    parts: &mut [FdPart],
+) -> FdParted
+    ensures { FormatsPartsKept result formatter.now text.now buffer.old buffer.new parts.old parts.new }
+{
+    format_parts(alloc, formatter, text, buffer, parts)
+}
+
+/// Reads a number that [`fd_format`] writes, and writes the own text of the value that is shown. With `lenient` the
+/// number may be as people type it.
+///
+/// The errors, the first that holds: `Formatter`; `UnreadableFormat`, if the formatter has no reader; of the text;
+/// `BufferTooSmall`.
+pub fn fd_read(
+    alloc: Global,
+    formatter: &FdFormatter,
+    text: &[u8],
+    lenient: u32,
+    buffer: &mut [u8],
+) -> FdResult
+    ensures { Encodes result
+        (λ answer. ReadsKept answer formatter.now text.now (nat_lt 0 lenient) buffer.old buffer.new) }
+{
+    encode(read_number(alloc, formatter, text, lenient > 0, buffer))
+}
+
+/// Returns the options of a formatter with their defaults, and the name of its numbering system.
+///
+/// The error is `Formatter`.
+pub fn fd_resolved(formatter: &FdFormatter) -> FdResolution
+    ensures { EncodesResolution result (λ answer. IsResolved answer formatter.now) }
+{
+    encode_resolution(formatter.resolved())
+}
+
+/// Writes the line of a status, as the programs print it. An overflow at the number of calls, which is 0 for a function
+/// without calls, is that of the format.
+///
+/// The errors: `UnknownOption`, if there is no such status; `BufferTooSmall`.
+pub fn fd_status_text(status: u32, at: usize, calls: usize, buffer: &mut [u8]) -> FdResult
+    ensures { Encodes result (λ answer. WritesLine (status_line status at calls) answer buffer.old buffer.new) }
+{
+    encode(write_status(status, at, calls, buffer))
+}
+
+/// Writes a number skeleton that reads as the options of a number.
 ///
 /// The errors, the first that holds: `UnknownOption`; `DigitOptions`; `NoSkeleton`; `BufferTooSmall`.
 pub fn fd_skeleton(alloc: Global, options: &FdNumberOptions, buffer: &mut [u8]) -> FdResult

@@ -1,13 +1,14 @@
 //! A column: each line of a text is converted, in one call.
 ghost use Rattle.std.specs.Prelude.{◌≡◌, ◌+◌, ◌<◌, ◌≤◌, ◌∷◌, length, take, drop, slice_set, IfOk, IfErr, OnOk, OnErr};
 ghost use Rattle.conversions.specs.Lines.{lines_of};
-ghost use Rattle.fixed_decimal_c.specs.Lines.{IsLineWritten, LineStops, ConvertsLines, ConvertsColumnBy, ConvertsColumn};
+ghost use Rattle.fixed_decimal_c.specs.{KeptFormatters.FormatsColumn, Lines.{IsLineWritten, LineStops, ConvertsLines, ConvertsColumnBy, ConvertsColumn}};
 
 use crate::answer::{FdColumn, NO_LINE, Progress, encode_column};
 use crate::calls::{FdCall, INLINE_CALLS, calls_in, decode_calls};
 use crate::convert::Forms;
 use crate::error::FdError;
-use crate::forms::FdForms;
+use crate::formatter::FdFormatter;
+use crate::forms::{FdForms, Format};
 use fixed_decimal::Call;
 use memchr::memchr;
 use std::alloc::Global;
@@ -150,6 +151,29 @@ impl Forms {
             }
             Err(error) => encode_column(NO_LINE, Err(*error)),
         }
+    }
+}
+
+/// Formats each line by the formatter that C keeps.
+pub(crate) fn format_column(
+    alloc: Global,
+    kept: &FdFormatter,
+    input: &[u8],
+    skip: bool,
+    buffer: &mut [u8],
+) -> FdColumn
+    ensures { FormatsColumn result kept.now input.now skip buffer.old buffer.new }
+{
+    match kept.decode() {
+        Some(formatter) => {
+            let forms = Forms {
+                reader: None,
+                format: Format::Skeleton(formatter),
+            };
+            let (done, result) = forms.convert_lines(alloc, input, &[], skip, buffer);
+            encode_column(done, result)
+        }
+        None => encode_column(NO_LINE, Err(FdError::Formatter)),
     }
 }
 

@@ -36,7 +36,7 @@ fn index_of_number(number: u64) -> Option<u16>
 }
 
 /// Returns the number of rows.
-fn number_of_rows(rows: LocaleId) -> u64
+pub(crate) fn number_of_rows(rows: LocaleId) -> u64
     ensures { rows_of result ≡ Some rows }
 {
     let own = number_of_index(rows.own);
@@ -44,7 +44,7 @@ fn number_of_rows(rows: LocaleId) -> u64
 }
 
 /// Returns the rows with a number.
-fn rows_of_number(number: u64) -> Option<LocaleId>
+pub(crate) fn rows_of_number(number: u64) -> Option<LocaleId>
     ensures { result ≡ rows_of number }
 {
     if number == 0 || number > (SIZE + 1) * SIZE * SIZE {
@@ -95,8 +95,9 @@ fn rule_type(code: u32) -> Option<PluralRuleType>
 }
 
 /// Returns the number of plural rules.
-fn number_of_rules(rules: PluralRulesId) -> u64
-    ensures { rules_of result ≡ Some rules }
+pub(crate) fn number_of_rules(rules: PluralRulesId) -> u64
+    ensures value { rules_of result ≡ Some rules }
+    ensures at_most { result ≤ 2 ^ 18 }
 {
     let rule_type = match rules.rule_type {
         PluralRuleType::Cardinal => 0,

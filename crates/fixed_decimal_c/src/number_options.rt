@@ -1,14 +1,14 @@
 //! The options of a number, as C passes them.
 ghost use Rattle.std.specs.Prelude.{◌≡◌, slice_get, IfOk, IfErr, IfSome, IfNone};
 ghost use Rattle.decimal_format.specs.declared.grouping.GroupingStrategy.{GroupingStrategy};
-ghost use Rattle.number_format.specs.declared.options.NumberOptions.{NumberOptions};
-ghost use Rattle.number_format.specs.declared.digits.settings.DigitSettings.{DigitSettings};
-ghost use Rattle.fixed_decimal_c.specs.NumberOptions.{grouping_code, grouping_in, system_of, given, are_letters, currency_of, style_of, error_of_digits, AreChoices, AreSettings, AreNumberOptions, NumberOptionsFail};
+ghost use Rattle.number_format.specs.declared.{options.NumberOptions.NumberOptions, digits.settings.DigitSettings.DigitSettings};
+ghost use Rattle.locale_data.specs.Codes.{code_of};
+ghost use Rattle.fixed_decimal_c.specs.NumberOptions.{grouping_code, grouping_in, system_of, given, notations, displays, signs, usages, amounts, currency_of, style_of, error_of_digits, AreChoices, AreSettings, AreNumberOptions, NumberOptionsFail};
 
 use crate::calls::{display, mode};
 use crate::error::FdError;
 use decimal_format::GroupingStrategy;
-use locale_data::{CurrencyCode, CurrencySign, Name};
+use locale_data::{CurrencyCode, CurrencySign, NumberingSystem, unpadded};
 use number_format::{
     CompactLength, CurrencyDisplay, CurrencyStyle, CurrencyUsage, DigitOptionsError, DigitSettings,
     ExponentOptions, ExponentSign, NumberNotation, NumberOptions, NumberStyle, RoundingPriority,
@@ -26,7 +26,7 @@ pub struct FdNumberOptions {
     /// The code of the currency, three letters.
     pub currency: [u8; 3],
     /// The name of the numbering system, padded with spaces; if it begins with 0, that of the locale.
-    pub numbering_system: Name,
+    pub numbering_system: [u8; 16],
     /// Which symbol of the currency is written: 0 that of the locale, 1 the narrow one, 2 the code, 3 none.
     pub currency_display: u8,
     /// The pattern of an amount: 0 the usual one, 1 that of accounts.
@@ -66,15 +66,7 @@ const PLAIN: ExponentOptions = ExponentOptions {
     sign: ExponentSign::Auto,
 };
 
-const NOTATIONS: [NumberNotation; 5] = [
-    NumberNotation::Standard,
-    NumberNotation::Scientific(PLAIN),
-    NumberNotation::Engineering(PLAIN),
-    NumberNotation::Compact(CompactLength::Short),
-    NumberNotation::Compact(CompactLength::Long),
-];
-
-const UNITS: [NumberStyle; 3] = [
+pub(crate) const UNITS: [NumberStyle; 3] = [
     NumberStyle::Decimal,
     NumberStyle::Percent,
     NumberStyle::Permille,
@@ -97,10 +89,13 @@ const PRIORITIES: [RoundingPriority; 3] = [
     RoundingPriority::LessPrecision,
 ];
 
-const TRAILING_ZEROS: [TrailingZeros; 2] = [TrailingZeros::Auto, TrailingZeros::StripIfInteger];
+pub(crate) const TRAILING_ZEROS: [TrailingZeros; 2] = [
+    TrailingZeros::Auto,
+    TrailingZeros::StripIfInteger,
+];
 
 /// Returns the choice with this number.
-fn choice<T: Copy>(choices: &[T], code: u8) -> Option<T>
+pub(crate) fn choice<T: Copy>(choices: &[T], code: u8) -> Option<T>
     ensures { result ≡ slice_get choices.now code }
 {
     match choices.get(code as usize) {
@@ -122,19 +117,39 @@ pub(crate) fn grouping(code: u8) -> Option<GroupingStrategy>
     }
 }
 
+/// Returns the notation with this number.
+pub(crate) fn notation(code: u8, exponent: ExponentOptions) -> Option<NumberNotation>
+    ensures { result ≡ slice_get (notations exponent) code }
+{
+    let notations = [
+        NumberNotation::Standard,
+        NumberNotation::Scientific(exponent),
+        NumberNotation::Engineering(exponent),
+        NumberNotation::Compact(CompactLength::Short),
+        NumberNotation::Compact(CompactLength::Long),
+    ];
+    choice(&notations, code)
+}
+
 fn grouping_in(notation: NumberNotation, grouping: GroupingStrategy) -> GroupingStrategy
     ensures { result ≡ grouping_in notation grouping }
 {
-    match (notation, grouping) {
-        (NumberNotation::Compact(_), GroupingStrategy::Auto) => GroupingStrategy::Min2,
+    match grouping {
+        GroupingStrategy::Auto => notation.default_grouping(),
         _ => grouping,
     }
 }
 
-fn system(name: Name) -> Option<Name>
-    ensures { result ≡ system_of name }
+fn system(bytes: [u8; 16]) -> Option<Option<NumberingSystem>>
+    ensures { result ≡ system_of bytes }
 {
-    if name[0] == 0 { None } else { Some(name) }
+    if bytes[0] == 0 {
+        return Some(None);
+    }
+    match NumberingSystem::try_from_utf8(unpadded(&bytes)) {
+        Ok(system) => Some(Some(system)),
+        Err(_) => None,
+    }
 }
 
 fn given(count: u16) -> Option<u16>
@@ -146,25 +161,28 @@ fn given(count: u16) -> Option<u16>
     }
 }
 
-fn are_letters(code: CurrencyCode) -> bool
-    ensures { result ≡ are_letters code }
+/// Returns the style of a currency with these bytes of a code and these words.
+pub(crate) fn amounts(code: &[u8], display: u8, sign: u8, usage: u8) -> Option<NumberStyle>
+    ensures { result ≡ amounts (code_of code.now) (slice_get displays display) (slice_get signs sign)
+        (slice_get usages usage) }
 {
-    code[0].is_ascii_alphabetic() && code[1].is_ascii_alphabetic() && code[2].is_ascii_alphabetic()
+    let Ok(code) = CurrencyCode::try_from_utf8(code) else {
+        return None;
+    };
+    Some(NumberStyle::Currency(CurrencyStyle {
+        code,
+        display: choice(&DISPLAYS, display)?,
+        sign: choice(&SIGNS, sign)?,
+        usage: choice(&USAGES, usage)?,
+    }))
 }
 
 impl FdNumberOptions {
     fn currency(&self) -> Option<NumberStyle>
         ensures { result ≡ currency_of self.now }
     {
-        if !are_letters(self.currency) {
-            return None;
-        }
-        Some(NumberStyle::Currency(CurrencyStyle {
-            code: self.currency,
-            display: choice(&DISPLAYS, self.currency_display)?,
-            sign: choice(&SIGNS, self.currency_sign)?,
-            usage: choice(&USAGES, self.currency_usage)?,
-        }))
+        let (display, sign) = (self.currency_display, self.currency_sign);
+        amounts(&self.currency, display, sign, self.currency_usage)
     }
 
     fn style(&self) -> Option<NumberStyle>
@@ -181,7 +199,7 @@ impl FdNumberOptions {
         ensures some { IfSome result (AreChoices self.now) }
         ensures none { IfNone result ((o : NumberOptions) → AreChoices self.now o → ⊥) }
     {
-        let notation = choice(&NOTATIONS, self.notation)?;
+        let notation = notation(self.notation, PLAIN)?;
         Some(NumberOptions {
             style: self.style()?,
             scale: self.scale,
@@ -189,7 +207,7 @@ impl FdNumberOptions {
             digits: None,
             sign_display: display(self.sign_display)?,
             grouping: grouping_in(notation, grouping(self.grouping)?),
-            numbering_system: system(self.numbering_system),
+            numbering_system: system(self.numbering_system)?,
         })
     }
 
@@ -224,11 +242,8 @@ impl FdNumberOptions {
         let Some(settings) = self.settings(&options) else {
             return Err(FdError::UnknownOption);
         };
-        match settings.resolve(&options.digit_defaults()) {
-            Ok(digits) => Ok(NumberOptions {
-                digits: Some(digits),
-                ..options
-            }),
+        match options.with_digit_settings(&settings) {
+            Ok(options) => Ok(options),
             Err(error) => Err(error_of_digits(error)),
         }
     }

@@ -20,7 +20,7 @@ pub(crate) fn deliver(text: &[u8], buffer: &mut [u8]) -> Result<usize, FdError>
 }
 
 /// Writes the text of a value to a buffer of its length.
-fn fill<T: Writeable>(value: &T, buffer: &mut [u8])
+pub(crate) fn fill<T: Writeable>(value: &T, buffer: &mut [u8])
     requires { length buffer.old ≡ length (T.text value.now) }
     ensures { buffer.new ≡ T.text value.now }
 {

@@ -1,8 +1,6 @@
 //! The words of the programs, as C receives them.
 ghost use Rattle.std.specs.Prelude.{◌≡◌, [], IfOk, IfErr};
-ghost use Rattle.fixed_decimal_c.specs.Forms.{reading_code};
-ghost use Rattle.fixed_decimal_c.specs.NumberOptions.{grouping_code};
-ghost use Rattle.fixed_decimal_c.specs.Words.{no_word, form_word, call_word, IsSuffix, IsTagForm, IsSkeletonForm, HasNoTag, IsReadForm, ReadFormFails, IsFormatForm, FormatFormFails, IsWord};
+ghost use Rattle.fixed_decimal_c.specs.{Forms.reading_code, NumberOptions.grouping_code, Words.{no_word, form_word, call_word, IsSuffix, IsTagForm, IsSkeletonForm, HasNoTag, IsReadForm, ReadFormFails, IsFormatForm, FormatFormFails, IsWord}};
 
 use crate::calls::{FdCall, NO_CALL, encode_call};
 use crate::error::FdError;

@@ -2,27 +2,17 @@
 #![tactic(auto)]
 
 ghost use Rattle.std.specs.Prelude.{◌≡◌, nat_lt};
-ghost use Rattle.fixed_decimal_c.specs.Encodings.{Encodes, EncodesNumber, EncodesUnsigned};
-ghost use Rattle.fixed_decimal_c.specs.Conversions.{Runs, ConvertsCalls};
-ghost use Rattle.fixed_decimal_c.specs.Lines.{ConvertsColumn};
-ghost use Rattle.fixed_decimal_c.specs.Numbers.{Compares, Equates, HasSign, HasI64, HasU64};
-ghost use Rattle.fixed_decimal_c.specs.Locales.{IsLocaleNumber, IsRulesNumber, IsNamedRulesNumber};
-ghost use Rattle.fixed_decimal_c.specs.Categories.{HasCategory, HasCategoryOf};
-ghost use Rattle.fixed_decimal_c.specs.Formats.{FormatsNumber, FormatsBySkeleton};
-ghost use Rattle.fixed_decimal_c.specs.NumberReadings.{ReadsNumber, ReadsBySkeleton};
-ghost use Rattle.fixed_decimal_c.specs.NumberTexts.{WritesSkeleton};
-ghost use Rattle.fixed_decimal_c.specs.Keys.{EncodesKey, HasKey, ComparesKeys};
-ghost use Rattle.fixed_decimal_c.specs.Words.{IsWord};
+ghost use Rattle.fixed_decimal_c.specs.{Encodings.{Encodes, EncodesNumber, EncodesUnsigned}, Conversions.{Runs, ConvertsCalls}, Lines.ConvertsColumn, Numbers.{Compares, Equates, HasSign, HasI64, HasU64}, Locales.{IsLocaleNumber, IsRulesNumber, IsNamedRulesNumber}, Categories.{HasCategory, HasCategoryOf}, Formats.{FormatsNumber, FormatsBySkeleton}, NumberReadings.{ReadsNumber, ReadsBySkeleton}, NumberTexts.WritesSkeleton, KeptFormatters.{EncodesMade, MakesByOptions, MakesBySkeleton, FormatsKept, FormatsColumn, ReadsKept, EncodesResolution, IsResolved}, Parts.FormatsPartsKept, StatusTexts.{WritesLine, status_line}, Keys.{EncodesKey, HasKey, ComparesKeys}, Words.IsWord};
 
 use fixed_decimal_c::{
-    FdCall, FdColumn, FdForms, FdKey, FdKeyed, FdNumber, FdNumberOptions, FdResult, FdUnsigned,
-    FdWord,
+    FdCall, FdColumn, FdFormatter, FdForms, FdKey, FdKeyed, FdMade, FdNumber, FdNumberOptions,
+    FdPart, FdParted, FdResolution, FdResult, FdUnsigned, FdWord,
 };
 use std::alloc::Global;
 
 #[unsafe(no_mangle)]
 pub extern "C" fn fd_version() -> u32
-    ensures { result ≡ 5 }
+    ensures { result ≡ 6 }
 {
     fixed_decimal_c::fd_version()
 }
@@ -126,6 +116,91 @@ pub extern "C" fn fd_read_by_skeleton(
         (λ answer. ReadsBySkeleton answer text.now locale.now skeleton.now (nat_lt 0 lenient) buffer.old buffer.new) }
 {
     fixed_decimal_c::fd_read_by_skeleton(alloc, text, locale, skeleton, lenient, buffer)
+}
+
+#[unsafe(no_mangle)]
+pub extern "C" fn fd_formatter_by_options(locale: &[u8], options: &FdNumberOptions) -> FdMade
+    ensures { EncodesMade result (λ answer. MakesByOptions answer locale.now options.now) }
+{
+    fixed_decimal_c::fd_formatter_by_options(locale, options)
+}
+
+#[unsafe(no_mangle)]
+pub extern "C" fn fd_formatter_by_skeleton(locale: &[u8], skeleton: &[u8]) -> FdMade
+    ensures { EncodesMade result (λ answer. MakesBySkeleton answer locale.now skeleton.now) }
+{
+    fixed_decimal_c::fd_formatter_by_skeleton(locale, skeleton)
+}
+
+#[unsafe(no_mangle)]
+pub extern "C" fn fd_format(
+    alloc: Global,
+    formatter: &FdFormatter,
+    text: &[u8],
+    buffer: &mut [u8],
+) -> FdResult
+    ensures { Encodes result (λ answer. FormatsKept answer formatter.now text.now buffer.old buffer.new) }
+{
+    fixed_decimal_c::fd_format(alloc, formatter, text, buffer)
+}
+
+#[unsafe(no_mangle)]
+pub extern "C" fn fd_format_column(
+    alloc: Global,
+    formatter: &FdFormatter,
+    lines: &[u8],
+    skip: u32,
+    buffer: &mut [u8],
+) -> FdColumn
+    ensures { FormatsColumn result formatter.now lines.now (nat_lt 0 skip) buffer.old buffer.new }
+{
+    fixed_decimal_c::fd_format_column(alloc, formatter, lines, skip, buffer)
+}
+
+#[unsafe(no_mangle)]
+pub extern "C" fn fd_format_parts(
+    alloc: Global,
+    formatter: &FdFormatter,
+    text: &[u8],
+    buffer: &mut [u8],
+    parts: &mut [FdPart],
+) -> FdParted
+    ensures { FormatsPartsKept result formatter.now text.now buffer.old buffer.new parts.old parts.new }
+{
+    fixed_decimal_c::fd_format_parts(alloc, formatter, text, buffer, parts)
+}
+
+#[unsafe(no_mangle)]
+pub extern "C" fn fd_read(
+    alloc: Global,
+    formatter: &FdFormatter,
+    text: &[u8],
+    lenient: u32,
+    buffer: &mut [u8],
+) -> FdResult
+    ensures { Encodes result
+        (λ answer. ReadsKept answer formatter.now text.now (nat_lt 0 lenient) buffer.old buffer.new) }
+{
+    fixed_decimal_c::fd_read(alloc, formatter, text, lenient, buffer)
+}
+
+#[unsafe(no_mangle)]
+pub extern "C" fn fd_resolved(formatter: &FdFormatter) -> FdResolution
+    ensures { EncodesResolution result (λ answer. IsResolved answer formatter.now) }
+{
+    fixed_decimal_c::fd_resolved(formatter)
+}
+
+#[unsafe(no_mangle)]
+pub extern "C" fn fd_status_text(
+    status: u32,
+    at: usize,
+    calls: usize,
+    buffer: &mut [u8],
+) -> FdResult
+    ensures { Encodes result (λ answer. WritesLine (status_line status at calls) answer buffer.old buffer.new) }
+{
+    fixed_decimal_c::fd_status_text(status, at, calls, buffer)
 }
 
 #[unsafe(no_mangle)]

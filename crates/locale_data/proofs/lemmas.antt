@@ -1,3 +1,4 @@
 pub mod search
+pub mod currency_code
 pub mod tables
 pub mod locales

@@ -1,23 +1,8 @@
 -- The compact patterns of locales.
-use Rattle.std.specs.Prelude.{◌≡◌, ◌==◌, ◌&&◌, ℕ, ℤ, pos, int_le, Bool, true, false, not, if◌then◌else◌, List, [], ◌∷◌, find, Option, None, Some, option_and_then, slice_get}
-use Rattle.std.specs.Option.{option_or, option_map_or}
+use Rattle.std.specs.{Prelude.{◌≡◌, ◌==◌, ◌&&◌, ℕ, ℤ, pos, int_le, Bool, true, false, not, if◌then◌else◌, List, [], ◌∷◌, find, Option, None, Some, option_and_then, slice_get}, Option.{option_or, option_map_or}}
 use Rattle.plural_rules.specs.declared.rules.PluralCategory.{PluralCategory}
 use Rattle.plural_rules.specs.declared.rules.PluralCategory.TheVariants as category
-use Rattle.locale_data.specs.declared.tables.rows.compact.AffixText.{AffixText}
-use Rattle.locale_data.specs.declared.tables.rows.compact.CompactPattern.{CompactPattern}
-use Rattle.locale_data.specs.declared.compact.CompactPatterns.{CompactPatterns}
-use Rattle.locale_data.specs.declared.tables.rows.compact.CompactRun.{CompactRun}
-use Rattle.locale_data.specs.declared.tables.rows.compact.CompactSet.{CompactSet}
-use Rattle.locale_data.specs.declared.compact.CompactStyle.{CompactStyle}
-use Rattle.locale_data.specs.declared.compact.CompactStyle.TheVariants.{Short, Long, Currency}
-use Rattle.locale_data.specs.declared.tables.rows.compact.PercentUnit.{PercentUnit}
-use Rattle.locale_data.specs.declared.compact.UnitAffixes.{UnitAffixes}
-use Rattle.locale_data.specs.declared.tables.rows.compact.UnitPattern.{UnitPattern}
-use Rattle.locale_data.specs.declared.tables.compact.TheConstants.{COMPACT_SETS, COMPACT_RUNS, COMPACT_PATTERNS, COMPACT_BYTES, PERCENT_UNITS}
-use Rattle.locale_data.specs.declared.number_formats.NumberFormats.{NumberFormats}
-use Rattle.locale_data.specs.declared.tables.rows.TableRange.{TableRange}
-use Rattle.locale_data.specs.Rows.{part}
-use Rattle.locale_data.specs.Texts.{is_text}
+use Rattle.locale_data.specs.{declared.{tables.{rows.{compact.{AffixText.AffixText, CompactPattern.CompactPattern, CompactRows.CompactRows, CompactRun.CompactRun, CompactSet.CompactSet, PercentUnit.PercentUnit, UnitPattern.UnitPattern}, TableRange.TableRange}, compact.TheConstants.{COMPACT_SETS, COMPACT_EXPONENTS, COMPACT_RUNS, COMPACT_PATTERNS, COMPACT_BYTES, PERCENT_UNITS}}, compact.{CompactPatterns.CompactPatterns, CompactStyle.{CompactStyle, TheVariants.{Short, Long, Currency}}, UnitAffixes.UnitAffixes}, number_formats.NumberFormats.NumberFormats}, Rows.part, Texts.is_text}
 
 -- a number for each plural category, and for the number 1 itself
 abbrev pub count_code : Option PluralCategory → ℕ
@@ -29,11 +14,11 @@ count_code (Some category.Few) = 4
 count_code (Some category.Many) = 5
 count_code (Some category.Other) = 6
 
--- the patterns of a style
-abbrev pub range_of : CompactSet → CompactStyle → TableRange
-range_of set Short = set.short
-range_of set Long = set.long
-range_of set Currency = set.currency
+-- the rows of a style
+abbrev pub rows_of : CompactSet → CompactStyle → CompactRows
+rows_of set Short = set.short
+rows_of set Long = set.long
+rows_of set Currency = set.currency
 
 -- the run of a magnitude: the first that begins at or below it, and runs are from the highest down
 abbrev pub run_at : List CompactRun → ℤ → Option CompactRun
@@ -71,13 +56,13 @@ pub record AreTexts (pattern : CompactPattern) : Type 0 where
 pub record IsRun (f : NumberFormats) (style : CompactStyle) (magnitude : ℤ) (run : Option CompactRun) : Type 0 where
   pub set : CompactSet
   pub listed : slice_get COMPACT_SETS f.compact ≡ Some set
-  pub value : run ≡ run_at (part COMPACT_RUNS (range_of set style)) magnitude
+  pub value : run ≡ run_at (part COMPACT_RUNS (rows_of set style).runs) magnitude
 
--- the exponent of that run; 0 if the magnitude has none
-pub record IsExponent (f : NumberFormats) (style : CompactStyle) (magnitude : ℤ) (exponent : ℕ) : Type 0 where
-  pub run : Option CompactRun
-  pub of_magnitude : IsRun f style magnitude run
-  pub value : exponent ≡ option_map_or (λ r. r.exponent) run 0
+-- the exponents of the compact patterns of a style, for the magnitudes 3 to 19
+pub record AreExponents (f : NumberFormats) (style : CompactStyle) (exponents : List ℕ) : Type 0 where
+  pub set : CompactSet
+  pub listed : slice_get COMPACT_SETS f.compact ≡ Some set
+  pub value : slice_get COMPACT_EXPONENTS (rows_of set style).exponents ≡ Some exponents
 
 -- the patterns of a part of the table
 abbrev pub patterns_in : CompactPatterns → List CompactPattern
@@ -87,7 +72,7 @@ patterns_in patterns = part COMPACT_PATTERNS patterns.0
 abbrev pub compact_patterns : NumberFormats → CompactStyle → ℤ → List CompactPattern
 compact_patterns f style magnitude =
     option_map_or (λ run. part COMPACT_PATTERNS run.patterns)
-    (option_and_then (λ set. run_at (part COMPACT_RUNS (range_of set style)) magnitude)
+    (option_and_then (λ set. run_at (part COMPACT_RUNS (rows_of set style).runs) magnitude)
     (slice_get COMPACT_SETS f.compact)) []
 
 -- ---- Percent.

@@ -1,25 +1,6 @@
 -- The digits, symbols and patterns of currencies.
-use Rattle.std.specs.Prelude.{◌≡◌, ℕ, ◌⊎◌, List, Option, None, Some, IsSomeAnd, slice_get}
-use Rattle.std.specs.Option.{option_or, option_map, option_and_then}
-use Rattle.locale_data.specs.declared.tables.rows.currencies.Currency.{Currency}
-use Rattle.locale_data.specs.declared.local_currency.CurrencyDigits.{CurrencyDigits}
-use Rattle.locale_data.specs.declared.currency.CurrencyId.{CurrencyId}
-use Rattle.locale_data.specs.declared.currency.CurrencyPattern.{CurrencyPattern}
-use Rattle.locale_data.specs.declared.currency.CurrencySign.{CurrencySign}
-use Rattle.locale_data.specs.declared.currency.CurrencySign.TheVariants.{Standard, Accounting}
-use Rattle.locale_data.specs.declared.local_currency.CurrencySymbol.{CurrencySymbol}
-use Rattle.locale_data.specs.declared.tables.rows.currencies.CurrencyText.{CurrencyText}
-use Rattle.locale_data.specs.declared.local_currency.LocalCurrency.{LocalCurrency}
-use Rattle.locale_data.specs.declared.tables.rows.currencies.LocaleCurrency.{LocaleCurrency}
-use Rattle.locale_data.specs.declared.tables.rows.currencies.LocaleOverride.{LocaleOverride}
-use Rattle.locale_data.specs.declared.currency.SymbolWidth.{SymbolWidth}
-use Rattle.locale_data.specs.declared.currency.SymbolWidth.TheVariants.{Wide, Narrow}
-use Rattle.locale_data.specs.declared.tables.currencies.TheConstants.{CURRENCIES, CURRENCY_BYTES, CURRENCY_SYMBOLS, CURRENCY_TEXTS, OVERRIDES_BY_CURRENCY}
-use Rattle.locale_data.specs.declared.tables.formats.TheConstants.{CURRENCY_OVERRIDES, MONEY_FORMATS, PATTERNS}
-use Rattle.locale_data.specs.declared.number_formats.NumberFormats.{NumberFormats}
-use Rattle.locale_data.specs.declared.tables.rows.patterns.MoneyFormat.{MoneyFormat}
-use Rattle.locale_data.specs.Rows.{part, row_named, IsRowOf}
-use Rattle.locale_data.specs.Tag.{compared}
+use Rattle.std.specs.{Prelude.{◌≡◌, ℕ, ◌⊎◌, List, Option, None, Some, IsSomeAnd, slice_get}, Option.{option_or, option_map, option_and_then}}
+use Rattle.locale_data.specs.{declared.{tables.{rows.{currencies.{Currency.Currency, CurrencyText.CurrencyText, LocaleCurrency.LocaleCurrency, LocaleOverride.LocaleOverride}, patterns.MoneyFormat.MoneyFormat}, currencies.TheConstants.{CURRENCIES, CURRENCY_BYTES, CURRENCY_SYMBOLS, CURRENCY_TEXTS, OVERRIDES_BY_CURRENCY}, formats.TheConstants.{CURRENCY_OVERRIDES, MONEY_FORMATS, PATTERNS}}, local_currency.{CurrencyDigits.CurrencyDigits, CurrencySymbol.CurrencySymbol, LocalCurrency.LocalCurrency}, currency.{CurrencyId.CurrencyId, CurrencyPattern.CurrencyPattern, CurrencySign.{CurrencySign, TheVariants.{Standard, Accounting}}, SymbolWidth.{SymbolWidth, TheVariants.{Wide, Narrow}}}, number_formats.NumberFormats.NumberFormats}, Rows.{part, row_named, IsRowOf}, Tag.compared}
 
 -- the currency with a code
 abbrev pub currency_with : List ℕ → Option Currency

@@ -1,13 +1,6 @@
 -- The formats of numbers in a locale and a numbering system.
-use Rattle.std.specs.Prelude.{◌≡◌, ℕ, List, replicate, Option, None, Some, unwrap_or}
-use Rattle.std.specs.Option.{option_or}
-use Rattle.locale_data.specs.declared.tables.rows.formats.FormatSystem.{FormatSystem}
-use Rattle.locale_data.specs.declared.tables.rows.formats.LocaleFormats.{LocaleFormats}
-use Rattle.locale_data.specs.declared.number_formats.NumberFormats.{NumberFormats}
-use Rattle.locale_data.specs.declared.tables.rows.formats.SystemFormats.{SystemFormats}
-use Rattle.locale_data.specs.declared.tables.formats.TheConstants.{FORMATS_BY_SYSTEM, FORMAT_SYSTEMS, LOCALE_FORMATS, ROOT_FORMATS}
-use Rattle.locale_data.specs.Rows.{part, row_named, IsRowOf}
-use Rattle.locale_data.specs.Tag.{compared}
+use Rattle.std.specs.{Prelude.{◌≡◌, ℕ, Bool, ◌&&◌, nat_lt, List, length, replicate, Option, None, Some, unwrap_or}, Option.option_or}
+use Rattle.locale_data.specs.{declared.{tables.{rows.formats.{FormatSystem.FormatSystem, LocaleFormats.LocaleFormats, SystemFormats.SystemFormats}, compact.TheConstants.{COMPACT_SETS, PERCENT_UNITS}, formats.TheConstants.{FORMATS_BY_SYSTEM, FORMAT_SYSTEMS, LOCALE_FORMATS, MONEY_FORMATS, NUMBER_SIGNS, PATTERNS, ROOT_FORMATS}}, format_rows.FormatRows.FormatRows, number_formats.NumberFormats.NumberFormats}, Rows.{part, row_named, IsRowOf}, Tag.compared}
 
 -- what a table has for a tag: the row with the longest name that is a prefix of it, or else the usual row
 pub record IsRowElse {R : Type 0} (name_of : R → List ℕ) (rows : List R) (usual : R) (tag : List ℕ)
@@ -60,3 +53,25 @@ pub record AreFormatsOf (tag system : List ℕ) (f : NumberFormats) : Type 0 whe
   pub compact : f.compact ≡ chosen own.compact root.compact latin.compact
   pub unit : f.unit ≡ latin.unit
   pub money : f.money ≡ latin.money
+
+-- ---- Rows as integers.
+abbrev pub format_rows : NumberFormats → FormatRows
+format_rows f = record {
+  percent = f.percent;
+  standard = f.standard;
+  accounting = f.accounting;
+  signs = f.signs;
+  compact = f.compact;
+  unit = f.unit;
+  money = f.money;
+}
+
+-- each table has the row
+abbrev pub are_listed : FormatRows → Bool
+are_listed rows =
+    nat_lt rows.percent (length PATTERNS)
+    && (nat_lt rows.standard (length PATTERNS)
+    && (nat_lt rows.accounting (length PATTERNS)
+    && (nat_lt rows.signs (length NUMBER_SIGNS)
+    && (nat_lt rows.compact (length COMPACT_SETS)
+    && (nat_lt rows.unit (length PERCENT_UNITS) && nat_lt rows.money (length MONEY_FORMATS))))))

@@ -1,10 +1,13 @@
 pub mod Tag
 pub mod Rows
+pub mod Codes
 pub mod SortedRows
 pub mod Symbol
 pub mod Locales
 pub mod PluralRows
 pub mod Plurals
+pub mod PluralRanges
+pub mod RangeFormats
 pub mod Patterns
 pub mod Formats
 pub mod Currencies

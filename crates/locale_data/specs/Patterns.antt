@@ -2,18 +2,11 @@
 use Rattle.std.specs.Prelude.{ℕ, List, [], ◌∷◌}
 use Rattle.fixed_decimal.specs.declared.variations.Sign.{Sign}
 use Rattle.fixed_decimal.specs.declared.variations.Sign.TheVariants as sign
-use Rattle.locale_data.specs.declared.tables.rows.patterns.AffixPair.{AffixPair}
-use Rattle.locale_data.specs.declared.tables.rows.patterns.ExponentSeparator.{ExponentSeparator}
+use Rattle.locale_data.specs.declared.tables.rows.patterns.{AffixPair.AffixPair, ExponentSeparator.ExponentSeparator, MoneySeparator.MoneySeparator, Pattern.Pattern, PercentSign.PercentSign, PermilleSign.PermilleSign, Piece.{Piece, TheVariants.{OpenParenthesis, CloseParenthesis, NoBreakSpace, NarrowNoBreakSpace, ArabicMark, LeftMark, RightMark}}}
 use Rattle.locale_data.specs.declared.tables.rows.patterns.ExponentSeparator.TheVariants as exponent
-use Rattle.locale_data.specs.declared.tables.rows.patterns.MoneySeparator.{MoneySeparator}
 use Rattle.locale_data.specs.declared.tables.rows.patterns.MoneySeparator.TheVariants as separator
-use Rattle.locale_data.specs.declared.tables.rows.patterns.Pattern.{Pattern}
-use Rattle.locale_data.specs.declared.tables.rows.patterns.PercentSign.{PercentSign}
 use Rattle.locale_data.specs.declared.tables.rows.patterns.PercentSign.TheVariants as percent
-use Rattle.locale_data.specs.declared.tables.rows.patterns.PermilleSign.{PermilleSign}
 use Rattle.locale_data.specs.declared.tables.rows.patterns.PermilleSign.TheVariants as permille
-use Rattle.locale_data.specs.declared.tables.rows.patterns.Piece.{Piece}
-use Rattle.locale_data.specs.declared.tables.rows.patterns.Piece.TheVariants.{OpenParenthesis, CloseParenthesis, NoBreakSpace, NarrowNoBreakSpace, ArabicMark, LeftMark, RightMark}
 
 -- the bytes of a piece in UTF-8; 216 ∷ 156 is U+061C, 226 ∷ 128 ∷ 142 and 143 are U+200E and U+200F
 abbrev pub literal_text : Piece → List ℕ

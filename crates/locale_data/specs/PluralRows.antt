@@ -1,11 +1,7 @@
 -- The plural rules that rows of tables make. Only private contracts cite this file.
 use Rattle.std.specs.Prelude.{List, map}
 use Rattle.plural_rules.specs.Rules.{RelationValue, relation, modulus_of, RuleValue, rule}
-use Rattle.locale_data.specs.declared.tables.rows.plurals.RelationRow.{RelationRow}
-use Rattle.locale_data.specs.declared.tables.rows.plurals.RuleRow.{RuleRow}
-use Rattle.locale_data.specs.declared.tables.plurals.TheConstants.{PLURAL_ALTERNATIVES, PLURAL_RANGES, PLURAL_RELATIONS, PLURAL_RULE_ROWS}
-use Rattle.locale_data.specs.declared.tables.rows.TableRange.{TableRange}
-use Rattle.locale_data.specs.Rows.{part}
+use Rattle.locale_data.specs.{declared.tables.{rows.{plurals.{RelationRow.RelationRow, RuleRow.RuleRow}, TableRange.TableRange}, plurals.TheConstants.{PLURAL_ALTERNATIVES, PLURAL_RANGES, PLURAL_RELATIONS, PLURAL_RULE_ROWS}}, Rows.part}
 
 abbrev pub relation_of : RelationRow → RelationValue
 relation_of row = relation row.operand (modulus_of row.modulus) row.is_equal (part PLURAL_RANGES row.ranges)

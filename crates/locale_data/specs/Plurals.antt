@@ -1,23 +1,8 @@
 -- The plural rules of tags.
-use Rattle.std.specs.Prelude.{◌≡◌, ℕ, List, Option, None, Some, Result, Ok, Err, IsSomeAnd, codes, slice_get}
-use Rattle.std.specs.Option.{option_map}
-use Rattle.plural_rules.specs.Operands.{Operands}
-use Rattle.plural_rules.specs.Rules.{RuleValue}
-use Rattle.plural_rules.specs.RulesGrammar.{Grammar, IsCategoryByText}
-use Rattle.plural_rules.specs.RulesParseResult.{IsParseResult}
+use Rattle.std.specs.{Prelude.{◌≡◌, ℕ, List, Option, None, Some, Result, Ok, Err, IsSomeAnd, codes, slice_get}, Option.option_map}
+use Rattle.plural_rules.specs.{Operands.Operands, Rules.RuleValue, RulesGrammar.{Grammar, IsCategoryByText}, RulesParseResult.IsParseResult, declared.rules.PluralCategory.PluralCategory}
 use Rattle.plural_rules.specs.declared.parse.RulesError.TheVariants as rules
-use Rattle.plural_rules.specs.declared.rules.PluralCategory.{PluralCategory}
-use Rattle.locale_data.specs.declared.plurals.PluralRulesError.{PluralRulesError}
-use Rattle.locale_data.specs.declared.plurals.PluralRulesError.TheVariants.{UnknownLocale, Memory}
-use Rattle.locale_data.specs.declared.plurals.PluralRuleType.{PluralRuleType}
-use Rattle.locale_data.specs.declared.plurals.PluralRuleType.TheVariants.{Cardinal, Ordinal}
-use Rattle.locale_data.specs.declared.tables.rows.plurals.LanguageRules.{LanguageRules}
-use Rattle.locale_data.specs.declared.tables.rows.plurals.RuleSet.{RuleSet}
-use Rattle.locale_data.specs.declared.plurals.PluralRulesId.{PluralRulesId}
-use Rattle.locale_data.specs.declared.tables.plurals.TheConstants.{OTHER, PLURAL_RULES, PLURAL_RULES_TEXTS}
-use Rattle.locale_data.specs.declared.tables.rows.symbols.LocaleSymbols.{LocaleSymbols}
-use Rattle.locale_data.specs.declared.tables.symbols.TheConstants.{LOCALES}
-use Rattle.locale_data.specs.Rows.{part, IsRowOf}
+use Rattle.locale_data.specs.{declared.{plurals.{PluralRulesError.{PluralRulesError, TheVariants.{UnknownLocale, Memory}}, PluralRuleType.{PluralRuleType, TheVariants.{Cardinal, Ordinal}}, PluralRulesId.PluralRulesId}, tables.{rows.{plurals.{LanguageRules.LanguageRules, RuleSet.RuleSet}, symbols.LocaleSymbols.LocaleSymbols}, plurals.TheConstants.{OTHER, PLURAL_RULES, PLURAL_RULES_TEXTS}, symbols.TheConstants.LOCALES}}, Rows.{part, IsRowOf}}
 
 -- the rules of a language for numbers of things or for places in an order
 abbrev pub set_of : LanguageRules → PluralRuleType → RuleSet

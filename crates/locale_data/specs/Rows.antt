@@ -1,10 +1,6 @@
 -- Tables whose rows are sorted by name.
-use Rattle.std.specs.Prelude.{◌≡◌, ◌≤◌, ℕ, ◌==◌, Bool, true, false, List, length, slice_range, find, slice_get, All, Contains, Option, None, Some}
-use Rattle.std.specs.List.{before_first}
-use Rattle.std.specs.Option.{option_and_then}
-use Rattle.std.specs.Str.{bytes_eq}
-use Rattle.locale_data.specs.declared.tables.rows.TableRange.{TableRange}
-use Rattle.locale_data.specs.Tag.{is_tag_prefix}
+use Rattle.std.specs.{Prelude.{◌≡◌, ◌≤◌, ℕ, ◌==◌, Bool, true, false, List, length, slice_range, find, slice_get, All, Contains, Option, None, Some}, List.before_first, Option.option_and_then, Str.bytes_eq}
+use Rattle.locale_data.specs.{declared.tables.rows.TableRange.TableRange, Tag.is_tag_prefix}
 
 -- the part of a table in a range, as far as the table goes
 abbrev pub part : {T : Type 0} → List T → TableRange → List T

@@ -1,9 +1,6 @@
 -- How rows are sorted, so that a name is found by a binary search.
-use Rattle.std.specs.Prelude.{◌≡◌, ℕ, zero, suc, ◌+◌, ◌-◌, ◌*◌, ◌%◌, ◌^◌, ◌<◌, ◌≤◌, ◌==◌, ◌||◌, ◌&&◌, if◌then◌else◌, Bool, true, nat_lt, List, [], ◌∷◌, length, map, slice_index, slice_index_or, All}
-use Rattle.std.specs.Int.{from_be_bytes, w128}
-use Rattle.std.specs.List.{list_all}
-use Rattle.locale_data.specs.Tag.{tag_byte}
-use Rattle.locale_data.specs.Rows.{unpadded, is_candidate}
+use Rattle.std.specs.{Prelude.{◌≡◌, ℕ, zero, suc, ◌+◌, ◌-◌, ◌*◌, ◌%◌, ◌^◌, ◌<◌, ◌≤◌, ◌==◌, ◌||◌, ◌&&◌, if◌then◌else◌, Bool, true, nat_lt, List, [], ◌∷◌, length, map, slice_index, slice_index_or, All}, Int.{from_be_bytes, w128}, List.list_all}
+use Rattle.locale_data.specs.{Tag.tag_byte, Rows.{unpadded, is_candidate}}
 
 -- a byte of a text with spaces after it
 abbrev pub padded_byte : List ℕ → ℕ → ℕ

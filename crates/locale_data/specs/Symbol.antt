@@ -1,7 +1,6 @@
 -- The texts of symbols.
 use Rattle.std.specs.Prelude.{ℕ, List, [], ◌∷◌}
-use Rattle.locale_data.specs.declared.tables.rows.symbols.Symbol.{Symbol}
-use Rattle.locale_data.specs.declared.tables.rows.symbols.Symbol.TheVariants.{Period, Comma, NoBreakSpace, NarrowNoBreakSpace, RightQuote, Apostrophe, ArabicComma, ReversedComma, ArabicDecimal, ArabicThousands, Hyphen, Minus, Plus, ArabicHyphen, ArabicMinus, ArabicPlus, LeftHyphen, LeftMinus, LeftPlus, RightHyphen, RightPlus, EnclosedHyphen, EnclosedMinus, EnclosedPlus, PlusLeft}
+use Rattle.locale_data.specs.declared.tables.rows.symbols.Symbol.{Symbol, TheVariants.{Period, Comma, NoBreakSpace, NarrowNoBreakSpace, RightQuote, Apostrophe, ArabicComma, ReversedComma, ArabicDecimal, ArabicThousands, Hyphen, Minus, Plus, ArabicHyphen, ArabicMinus, ArabicPlus, LeftHyphen, LeftMinus, LeftPlus, RightHyphen, RightPlus, EnclosedHyphen, EnclosedMinus, EnclosedPlus, PlusLeft}}
 
 -- the bytes of a symbol in UTF-8; 216 ∷ 156 is U+061C, 226 ∷ 128 ∷ 142 and 143 are U+200E and U+200F
 abbrev pub symbol_text : Symbol → List ℕ

@@ -1,9 +1,5 @@
 -- Tags of locales.
-use Rattle.std.specs.Prelude.{ℕ, List, [], ◌∷◌, ◌++◌, map, drop, nat_eq, ◌==◌, ◌||◌, Bool, if◌then◌else◌, Option, None, Some, codes}
-use Rattle.std.specs.Borrow.{Bor}
-use Rattle.std.specs.Option.{option_map, option_and_then}
-use Rattle.std.specs.List.{starts_with, before_first}
-use Rattle.std.specs.Char.{to_ascii_lowercase}
+use Rattle.std.specs.{Prelude.{ℕ, List, [], ◌∷◌, ◌++◌, map, drop, nat_eq, ◌==◌, ◌||◌, Bool, if◌then◌else◌, Option, None, Some, codes}, Borrow.Bor, Option.{option_map, option_and_then}, List.{starts_with, before_first}, Char.to_ascii_lowercase}
 
 -- a reference to a text
 abbrev pub Text : Type 0

@@ -1,8 +1,6 @@
 -- Texts as ranges of a table of bytes.
-use Rattle.std.specs.Prelude.{ℕ, ◌&&◌, nat_le, Bool, List, length}
-use Rattle.std.specs.Str.{is_utf8}
-use Rattle.locale_data.specs.declared.tables.rows.TableRange.{TableRange}
-use Rattle.locale_data.specs.Rows.{part}
+use Rattle.std.specs.{Prelude.{ℕ, ◌&&◌, nat_le, Bool, List, length}, Str.is_utf8}
+use Rattle.locale_data.specs.{declared.tables.rows.TableRange.TableRange, Rows.part}
 
 -- bytes are a text of at most 255 bytes
 abbrev pub is_short_text : List ℕ → Bool

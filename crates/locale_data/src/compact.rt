@@ -1,19 +1,15 @@
 //! The compact patterns of locales.
-ghost use Rattle.std.specs.Prelude.{◌≡◌, ◌≤◌, length, IfSome, true};
-ghost use Rattle.std.specs.Option.{option_copied};
-ghost use Rattle.locale_data.specs.declared.tables.compact.TheConstants.{COMPACT_RUNS};
-ghost use Rattle.locale_data.specs.Rows.{part};
-ghost use Rattle.locale_data.specs.Texts.{is_text};
-ghost use Rattle.locale_data.specs.Compact.{count_code, range_of, run_at, pattern_with, pattern_for, patterns_in, compact_patterns, needs_category, text_of, has_texts, has_unit_texts, AreTexts, IsRun, IsExponent, unit_for, IsUnitText, IsUnit};
+ghost use Rattle.std.specs.{Prelude.{◌≡◌, ◌≤◌, length, slice_get, Some, IfSome, true}, Option.option_copied};
+ghost use Rattle.locale_data.specs.{declared.tables.compact.TheConstants.{COMPACT_RUNS, COMPACT_SETS}, Rows.part, Texts.is_text, Compact.{count_code, rows_of, run_at, pattern_with, pattern_for, patterns_in, compact_patterns, needs_category, text_of, has_texts, has_unit_texts, AreTexts, IsRun, AreExponents, unit_for, IsUnitText, IsUnit}};
 
 use crate::number_formats::NumberFormats;
 use crate::search::{indexed_row, part};
 use crate::tables::compact::{
-    COMPACT_BYTES, COMPACT_PATTERNS, COMPACT_RUNS, COMPACT_SETS, PERCENT_UNITS,
+    COMPACT_BYTES, COMPACT_EXPONENTS, COMPACT_PATTERNS, COMPACT_RUNS, COMPACT_SETS, PERCENT_UNITS,
 };
 use crate::tables::rows::TableRange;
 use crate::tables::rows::compact::{
-    AffixText, CompactPattern, CompactRun, CompactSet, PercentUnit, UnitPattern,
+    AffixText, CompactPattern, CompactRows, CompactRun, CompactSet, PercentUnit, UnitPattern,
 };
 use crate::texts::text_in;
 use plural_rules::PluralCategory;
@@ -56,8 +52,8 @@ pub struct UnitAffixes {
     pub suffix: &'static str,
 }
 
-fn range_of(set: &CompactSet, style: CompactStyle) -> TableRange
-    ensures { result ≡ range_of set.now style }
+fn rows_of(set: &CompactSet, style: CompactStyle) -> CompactRows
+    ensures { result ≡ rows_of set.now style }
 {
     match style {
         CompactStyle::Short => set.short,
@@ -67,9 +63,9 @@ fn range_of(set: &CompactSet, style: CompactStyle) -> TableRange
 }
 
 fn runs_of(set: &CompactSet, style: CompactStyle) -> &'static [CompactRun]
-    ensures { result.now ≡ part COMPACT_RUNS (range_of set.now style) }
+    ensures { result.now ≡ part COMPACT_RUNS (rows_of set.now style).runs }
 {
-    part(&COMPACT_RUNS, range_of(set, style))
+    part(&COMPACT_RUNS, rows_of(set, style).runs)
 }
 
 fn run_at(runs: &[CompactRun], magnitude: i16) -> Option<&CompactRun>
@@ -207,27 +203,31 @@ fn unit_for(unit: &PercentUnit, category: PluralCategory) -> &UnitPattern
 }
 
 impl NumberFormats {
+    fn compact_set(&self) -> &'static CompactSet
+        ensures { slice_get COMPACT_SETS self.now.compact ≡ Some result.now }
+    {
+        indexed_row(&COMPACT_SETS, self.compact as usize)
+    }
+
     fn run(&self, style: CompactStyle, magnitude: i16) -> Option<&'static CompactRun>
         ensures { IsRun self.now style magnitude (option_copied result) }
     {
-        let set = indexed_row(&COMPACT_SETS, self.compact as usize);
-        run_at(runs_of(set, style), magnitude)
+        run_at(runs_of(self.compact_set(), style), magnitude)
     }
 
-    /// Returns the power of ten by which a number whose first digit is at a magnitude is divided in compact notation.
+    /// Returns the powers of ten by which numbers are divided in compact notation, for the magnitudes 3 to 19 of their
+    /// first digit. That of a magnitude without patterns is 0.
     ///
     /// `ComputeExponentForMagnitude` of ECMA-402.
     ///
     /// ```
-    /// formats_of("en", "latn").compact_exponent(CompactStyle::Short, 4) // 3: 12K
+    /// formats_of("en", "latn").compact_exponents(CompactStyle::Short)[1] // 3: 12K
     /// ```
-    pub fn compact_exponent(&self, style: CompactStyle, magnitude: i16) -> u8
-        ensures { IsExponent self.now style magnitude result }
+    pub fn compact_exponents(&self, style: CompactStyle) -> [u8; 17]
+        ensures { AreExponents self.now style result }
     {
-        match self.run(style, magnitude) {
-            Some(run) => run.exponent,
-            None => 0,
-        }
+        let rows = rows_of(self.compact_set(), style);
+        *indexed_row(&COMPACT_EXPONENTS, rows.exponents as usize)
     }
 
     /// Returns the compact patterns of a number whose first digit is at a magnitude before it is divided.

@@ -1,10 +1,8 @@
 //! The symbols, digits and patterns of currencies.
-ghost use Rattle.std.specs.Prelude.{◌≡◌, ◌<◌, ◌↔◌, length, Contains, Some, None, IsNone, IfSome, IfNone, IsTrue};
-ghost use Rattle.std.specs.Option.{option_and_then, option_copied};
-ghost use Rattle.locale_data.specs.declared.tables.currencies.TheConstants.{CURRENCIES, CURRENCY_TEXTS};
-ghost use Rattle.locale_data.specs.declared.tables.formats.TheConstants.{CURRENCY_OVERRIDES};
-ghost use Rattle.locale_data.specs.Currencies.{currency_with, digits_of, symbol_index, IsSymbol, IsSymbolAt, IsSymbolRow, IsOverrideRow, IsOverride, IsCurrencyId, IsCurrencyAt, LacksCurrency, overridden, pattern_index, IsCurrencyPattern};
+ghost use Rattle.std.specs.{Prelude.{◌≡◌, ◌<◌, ◌↔◌, length, Contains, Some, None, IsNone, IfSome, IfNone, IsTrue}, Option.{option_and_then, option_copied}};
+ghost use Rattle.locale_data.specs.{declared.tables.{currencies.TheConstants.{CURRENCIES, CURRENCY_TEXTS}, formats.TheConstants.CURRENCY_OVERRIDES}, Currencies.{currency_with, digits_of, symbol_index, IsSymbol, IsSymbolAt, IsSymbolRow, IsOverrideRow, IsOverride, IsCurrencyId, IsCurrencyAt, LacksCurrency, overridden, pattern_index, IsCurrencyPattern}};
 
+use crate::currency_code::CurrencyCode;
 use crate::local_currency::{CurrencyDigits, CurrencySymbol, LocalCurrency};
 use crate::number_formats::{NumberFormats, pattern_at};
 use crate::search::{Row, index_named, indexed_row, row_in, row_named};
@@ -16,9 +14,6 @@ use crate::tables::rows::Name;
 use crate::tables::rows::currencies::{Currency, CurrencyText, LocaleCurrency, LocaleOverride};
 use crate::tables::rows::patterns::{MoneySeparator, Pattern};
 use crate::texts::text_in;
-
-/// A code of ISO 4217, as `*b"USD"`. Letters may be of either case.
-pub type CurrencyCode = [u8; 3];
 
 impl Row for Currency {
     ghost name = { λ currency. currency.code };
@@ -53,7 +48,7 @@ fn currencies() -> &'static [Currency]
 fn currency_with(code: CurrencyCode) -> Option<&'static Currency>
     ensures { option_copied result ≡ currency_with code }
 {
-    row_named(currencies(), &code)
+    row_named(currencies(), code.as_str().as_bytes())
 }
 
 fn digits_of(currency: &Currency) -> CurrencyDigits
@@ -76,7 +71,7 @@ pub const UNLISTED_DIGITS: CurrencyDigits = CurrencyDigits {
 /// Returns the numbers of digits of a currency, and `UNLISTED_DIGITS` of a code that is not listed.
 ///
 /// ```
-/// currency_digits(*b"CHF") // 2, in cash 2 and multiples of 5
+/// currency_digits(CurrencyCode::try_from_str("CHF")?) // 2, in cash 2 and multiples of 5
 /// ```
 pub fn currency_digits(code: CurrencyCode) -> CurrencyDigits
     ensures { result ≡ digits_of (currency_with code) }
@@ -114,6 +109,7 @@ fn symbol_index(currency: &Currency, own: Option<&LocaleCurrency>, width: Symbol
     }
 }
 
+#[inline(always)]
 fn symbol_of(text: &CurrencyText) -> CurrencySymbol
     requires { Contains CURRENCY_TEXTS text.now }
     ensures { IsSymbol text.now result }
@@ -125,6 +121,7 @@ fn symbol_of(text: &CurrencyText) -> CurrencySymbol
     }
 }
 
+#[inline(always)]
 fn symbol_at(index: u16) -> Option<CurrencySymbol>
     ensures { IsSymbolAt index result }
 {
@@ -171,8 +168,9 @@ fn override_of(currency: &Currency, tag: &[u8]) -> Option<u8>
 /// that of root. Returns `None` for a code that is not listed, whose symbol is the code.
 ///
 /// ```
-/// currency_at(currency_id("de-AT", *b"USD")?)?.wide // $
-/// currency_at(currency_id("en-AU", *b"USD")?)?.wide // USD
+/// let dollar = CurrencyCode::try_from_str("USD")?;
+/// currency_at(currency_id("de-AT", dollar)?)?.wide // $
+/// currency_at(currency_id("en-AU", dollar)?)?.wide // USD
 /// ```
 pub fn currency_id(tag: &str, code: CurrencyCode) -> Option<CurrencyId>
     ensures found { IfSome result (IsCurrencyId tag.now code) }
@@ -180,7 +178,7 @@ pub fn currency_id(tag: &str, code: CurrencyCode) -> Option<CurrencyId>
     ensures unlisted { IsNone result ↔ (currency_with code ≡ None) }
 {
     let rows = currencies();
-    let index = index_named(rows, &code)?;
+    let index = index_named(rows, code.as_str().as_bytes())?;
     let currency = indexed_row(rows, index);
     let tag = tag.as_bytes();
     let own = own_symbols(currency, tag);
@@ -202,6 +200,7 @@ fn is_override(pattern: Option<u8>) -> bool
 }
 
 /// Returns what a locale has for a currency from its rows, and `None` if there are no such rows.
+#[inline(always)]
 pub fn currency_at(id: CurrencyId) -> Option<LocalCurrency>
     ensures found { IfSome result (IsCurrencyAt id) }
     ensures lacks { IfNone result (LacksCurrency id) }
@@ -240,6 +239,7 @@ pub struct CurrencyPattern {
     pub grouping: Option<MoneySeparator>,
 }
 
+#[inline(always)]
 fn overridden(index: u8) -> CurrencyPattern
     requires { index < length CURRENCY_OVERRIDES }
     ensures { overridden index ≡ Some result }
@@ -261,6 +261,7 @@ fn pattern_index(formats: &NumberFormats, sign: CurrencySign) -> u8
     }
 }
 
+#[inline(always)]
 fn own_pattern(currency: Option<LocalCurrency>) -> Option<u8>
     ensures value { result ≡ option_and_then (λ c. c.pattern) currency }
     ensures listed { IfSome result (λ index. index < length CURRENCY_OVERRIDES) }
@@ -281,6 +282,7 @@ fn own_pattern(currency: Option<LocalCurrency>) -> Option<u8>
 /// currency_pattern(&formats_of("de", "latn"), currency_at(euro), CurrencySign::Standard) // 1,00 €
 /// currency_pattern(&formats_of("en", "latn"), None, CurrencySign::Accounting) // (XXX 1.00)
 /// ```
+#[inline(always)]
 pub fn currency_pattern(
     formats: &NumberFormats,
     currency: Option<LocalCurrency>,

@@ -1,7 +1,6 @@
 //! The formats of numbers in a locale and a numbering system.
 ghost use Rattle.std.specs.Prelude.{◌≡◌, Contains};
-ghost use Rattle.locale_data.specs.declared.tables.formats.TheConstants.{FORMAT_SYSTEMS};
-ghost use Rattle.locale_data.specs.Formats.{chosen, format_system, IsOwnFormats, IsLatinFormats, AreOfSystem, AreFormatsOf};
+ghost use Rattle.locale_data.specs.{declared.tables.formats.TheConstants.FORMAT_SYSTEMS, Formats.{chosen, format_system, IsOwnFormats, IsLatinFormats, AreOfSystem, AreFormatsOf}};
 
 use crate::number_formats::NumberFormats;
 use crate::search::{Row, row_in, row_named, row_of};

@@ -1,19 +1,17 @@
 //! The symbols and the numbering system of a tag.
-ghost use Rattle.std.specs.Prelude.{◌≡◌, ◌↔◌, ◌<◌, ◌⊎◌, length, None, IsNone, IfNone, IfSome, IsSomeAnd, Contains};
-ghost use Rattle.std.specs.Option.{option_copied};
-ghost use Rattle.locale_data.specs.Rows.{row_at, unpadded};
-ghost use Rattle.locale_data.specs.Locales.{system_named, system_of, own_rows, symbols_of, symbols_in, symbols_at, HasOneWidth, IsListed, IsLocale, IsLocaleIn, AreRowsOf, IsOwnIndex, IsUnknown, system_name_at};
+ghost use Rattle.std.specs.{Prelude.{◌≡◌, ◌↔◌, ◌<◌, ◌⊎◌, length, None, IsNone, IfNone, IfSome, IsSomeAnd, Contains}, Option.option_copied};
+ghost use Rattle.locale_data.specs.{Rows.{row_at, unpadded}, Locales.{system_named, system_of, own_rows, symbols_of, symbols_in, symbols_at, HasOneWidth, IsListed, IsLocale, IsLocaleIn, AreRowsOf, IsOwnIndex, IsUnknown, system_name_at}};
 ghost use Rattle.decimal_format.specs.Readable.{IsReadable};
 
 use crate::search::{Row, index_named, indexed_row, part, row_index, unpadded};
 use crate::tables::rows::Name;
-use crate::tables::rows::symbols::{LocaleSymbols, NumberingSystem, SymbolSet};
+use crate::tables::rows::symbols::{DecimalSystem, LocaleSymbols, SymbolSet};
 use crate::tables::symbols::{LOCALES, LOCALES_BY_SYSTEM, NUMBERING_SYSTEMS};
 use crate::tag::requested_system;
 use decimal_format::{Affixes, DecimalSymbols, GroupingSizes};
 use std::str;
 
-impl Row for NumberingSystem {
+impl Row for DecimalSystem {
     ghost name = { λ system. system.name };
 
     fn name(&self) -> Name {
@@ -37,7 +35,7 @@ pub(crate) fn locales() -> &'static [LocaleSymbols]
     &LOCALES
 }
 
-fn numbering_systems() -> &'static [NumberingSystem]
+fn numbering_systems() -> &'static [DecimalSystem]
     ensures { result.now ≡ NUMBERING_SYSTEMS }
 {
     &NUMBERING_SYSTEMS
@@ -62,14 +60,15 @@ fn system_index(tag: &[u8], locale: &LocaleSymbols) -> Option<usize>
     }
 }
 
-fn own_rows(system: &NumberingSystem) -> &'static [LocaleSymbols]
+fn own_rows(system: &DecimalSystem) -> &'static [LocaleSymbols]
     ensures { result.now ≡ own_rows system.now }
 {
     part(&LOCALES_BY_SYSTEM, system.rows)
 }
 
+#[inline(always)]
 fn symbols_of(
-    system: &NumberingSystem,
+    system: &DecimalSystem,
     set: SymbolSet,
     sizes: GroupingSizes,
 ) -> DecimalSymbols<'static>
@@ -88,8 +87,9 @@ fn symbols_of(
     DecimalSymbols::of_valid(system.digits, decimal, grouping, minus, plus, sizes)
 }
 
+#[inline(always)]
 fn symbols_in(
-    system: &NumberingSystem,
+    system: &DecimalSystem,
     locale: &LocaleSymbols,
     own: Option<&LocaleSymbols>,
 ) -> DecimalSymbols<'static>
@@ -178,6 +178,7 @@ pub fn locale_id_in(tag: &str, system: &str) -> Option<LocaleId>
 }
 
 /// Returns the symbols of a locale from its rows, and `None` if there are no such rows.
+#[inline(always)]
 pub fn symbols_at(id: LocaleId) -> Option<DecimalSymbols<'static>>
     ensures value { result ≡ symbols_at id }
     ensures readable { IfSome result (λ s. IsReadable s) }
@@ -216,7 +217,7 @@ pub fn locale(tag: &str) -> Option<DecimalSymbols<'static>>
     }
 }
 
-fn name_of(system: &'static NumberingSystem) -> &'static str
+fn name_of(system: &'static DecimalSystem) -> &'static str
     requires { Contains NUMBERING_SYSTEMS system.now }
     ensures { result.now ≡ unpadded system.now.name }
 {

@@ -1,8 +1,6 @@
 //! What a locale and a numbering system have, as indices of tables.
 ghost use Rattle.std.specs.Prelude.{◌≡◌, ◌<◌, length, slice_get, Some};
-ghost use Rattle.locale_data.specs.declared.tables.compact.TheConstants.{COMPACT_SETS, PERCENT_UNITS};
-ghost use Rattle.locale_data.specs.declared.tables.formats.TheConstants.{PATTERNS, NUMBER_SIGNS, MONEY_FORMATS};
-ghost use Rattle.locale_data.specs.Patterns.{affixes_of};
+ghost use Rattle.locale_data.specs.{declared.tables.{compact.TheConstants.{COMPACT_SETS, PERCENT_UNITS}, formats.TheConstants.{PATTERNS, NUMBER_SIGNS, MONEY_FORMATS}}, Patterns.affixes_of};
 
 use crate::search::indexed_row;
 use crate::tables::formats::{NUMBER_SIGNS, PATTERNS};

@@ -1,6 +1,5 @@
 //! Plural categories by the rows of plural rules.
-ghost use Rattle.std.specs.Prelude.{◌≡◌, List};
-ghost use Rattle.std.specs.List.{list_all};
+ghost use Rattle.std.specs.{Prelude.{◌≡◌, List}, List.list_all};
 ghost use Rattle.plural_rules.specs.Rules.{holds, is_met, category_of};
 ghost use Rattle.locale_data.specs.PluralRows.{relation_of, relations_in, rule_of, rules_in};
 

@@ -1,6 +1,5 @@
 //! The plural rules of a tag.
-ghost use Rattle.std.specs.Prelude.{◌≡◌, None, IfSome, IfNone, IsSomeAnd};
-ghost use Rattle.std.specs.Option.{option_copied};
+ghost use Rattle.std.specs.{Prelude.{◌≡◌, None, IfSome, IfNone, IsSomeAnd}, Option.option_copied};
 ghost use Rattle.locale_data.specs.Plurals.{set_of, set_at, rules_text_at, IsRulesText, HasNoRules, IsRulesAt, IsCategoryAt, IsRulesOf};
 
 use crate::locales::locales;

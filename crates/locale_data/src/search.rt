@@ -1,10 +1,6 @@
 //! Searches in tables whose rows are sorted by name.
-ghost use Rattle.std.specs.Prelude.{◌≡◌, ◌≤◌, ◌<◌, ℕ, List, length, take, set, slice_get, Some, true, false, IfSome};
-ghost use Rattle.std.specs.Option.{option_copied};
-ghost use Rattle.std.specs.Str.{bytes_eq};
-ghost use Rattle.locale_data.specs.Tag.{compared};
-ghost use Rattle.locale_data.specs.Rows.{part, unpadded, row_at, row_named, IsRowOf};
-ghost use Rattle.locale_data.specs.SortedRows.{key, IsPadded, is_table, ends_at, IsFar, HasNoLonger};
+ghost use Rattle.std.specs.{Prelude.{◌≡◌, ◌≤◌, ◌<◌, ℕ, List, length, take, set, slice_get, Some, true, false, IfSome}, Option.option_copied, Str.bytes_eq};
+ghost use Rattle.locale_data.specs.{Tag.compared, Rows.{part, unpadded, row_at, row_named, IsRowOf}, SortedRows.{key, IsPadded, is_table, ends_at, IsFar, HasNoLonger}};
 
 use crate::tables::rows::{Name, TableRange};
 use crate::tag::tag_byte;

@@ -1,7 +1,6 @@
 //! The texts of symbols, separators and signs.
 ghost use Rattle.std.specs.Prelude.{◌≡◌};
-ghost use Rattle.locale_data.specs.Symbol.{symbol_text};
-ghost use Rattle.locale_data.specs.Patterns.{literal_text, separator_text, exponent_text, percent_text, permille_text};
+ghost use Rattle.locale_data.specs.{Symbol.symbol_text, Patterns.{literal_text, separator_text, exponent_text, percent_text, permille_text}};
 
 use crate::tables::rows::patterns::{
     ExponentSeparator, MoneySeparator, PercentSign, PermilleSign, Piece,

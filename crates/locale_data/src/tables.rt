@@ -4,6 +4,8 @@
 pub mod compact;
 pub mod currencies;
 pub mod formats;
+pub mod plural_ranges;
 pub mod plurals;
+pub mod ranges;
 pub mod rows;
 pub mod symbols;

@@ -1,7 +1,5 @@
 //! Tags of locales.
-ghost use Rattle.std.specs.Prelude.{◌≡◌, ◌≤◌, length, nat_eq, IfSome, IsTrue};
-ghost use Rattle.std.specs.Option.{option_copied};
-ghost use Rattle.std.specs.List.{starts_with};
+ghost use Rattle.std.specs.{Prelude.{◌≡◌, ◌≤◌, length, nat_eq, IfSome, IsTrue}, Option.option_copied, List.starts_with};
 ghost use Rattle.locale_data.specs.Tag.{tag_byte, compared, from_first, without_private_use, first_subtag, requested_system};
 
 /// Returns how a byte is compared: letters in lower case, `_`, `.` and `@` as hyphens.
@@ -49,7 +47,8 @@ fn without_private_use(tag: &[u8]) -> &[u8]
     tag
 }
 
-fn first_subtag(tag: &[u8]) -> &[u8]
+/// Returns what is before the first hyphen of a tag: the language `ru` of `ru-RU`.
+pub fn first_subtag(tag: &[u8]) -> &[u8]
     ensures { result.now ≡ first_subtag tag.now }
 {
     for (index, byte) in tag.iter().enumerate() {

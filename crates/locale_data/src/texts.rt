@@ -1,7 +1,6 @@
 //! Texts as ranges of a table of bytes.
 ghost use Rattle.std.specs.Prelude.{◌≡◌, ◌≤◌, length, true};
-ghost use Rattle.locale_data.specs.Rows.{part};
-ghost use Rattle.locale_data.specs.Texts.{is_text};
+ghost use Rattle.locale_data.specs.{Rows.part, Texts.is_text};
 
 use crate::search::part;
 use crate::tables::rows::TableRange;

@@ -3,8 +3,7 @@ use Rattle.std.specs.Prelude.{◌≡◌, ℕ, Bool, true, false, if◌then◌els
 use Rattle.decimal_digits.specs.declared.rounding.UnsignedRoundingMode.TheVariants.{HalfExpand}
 use Rattle.fixed_decimal.specs.declared.rounding.SignedRoundingMode.TheVariants.{Unsigned}
 use Rattle.locale_data.specs.{Currencies.{currency_with, digits_of}, declared.local_currency.CurrencyDigits.CurrencyDigits}
-use Rattle.number_format.specs.declared.{digits.options.{DigitOptions.DigitOptions, TrailingZeros.TrailingZeros}, options.{CurrencyUsage.CurrencyUsage, NumberNotation.NumberNotation, NumberOptions.NumberOptions, NumberStyle.NumberStyle}, digits.settings.{DigitDefaults.DigitDefaults, DigitSettings.DigitSettings, RoundingPriority.RoundingPriority}}
-use Rattle.number_format.specs.{Increments.is_increment, Resolved.{IsResolved, counts}}
+use Rattle.number_format.specs.{declared.{digits.{options.{DigitOptions.DigitOptions, TrailingZeros.TrailingZeros}, precision.Precision.Precision, settings.{DigitDefaults.DigitDefaults, DigitSettings.DigitSettings, RoundingPriority.RoundingPriority}}, options.{CurrencyUsage.CurrencyUsage, NumberNotation.NumberNotation, NumberOptions.NumberOptions, NumberStyle.NumberStyle}}, Increments.is_increment, Resolved.{IsNamed, IsResolved, counts, fraction_of, needs_fraction, needs_significant, significant_of}}
 
 abbrev pub is_compact : NumberNotation → Bool
 is_compact (NumberNotation.Compact length) = true
@@ -76,3 +75,12 @@ AreDefaultDigits currency o (Some digits) =
     let settings = no_settings (increment_by currency o.style (is_compact o.notation)) in
     (shows_all_digits o.style o.notation ≡ false)
     × ((d : DigitDefaults) × IsDefaultBy currency o d × IsResolved settings d digits)
+
+-- ---- Private: used only in the contracts of private functions.
+
+-- the precision of no settings, of an increment and defaults
+abbrev pub IsDefaultPrecision : ℕ → DigitDefaults → Precision → Type 0
+IsDefaultPrecision increment d =
+    let s = no_settings increment in
+    IsNamed (fraction_of s d) (significant_of s) increment RoundingPriority.Auto (needs_significant s)
+    (needs_fraction s d)

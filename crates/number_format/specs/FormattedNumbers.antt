@@ -5,8 +5,7 @@ use Rattle.decimal_format.specs.{Formatted.absolute_text, Symbols.Affixes, decla
 use Rattle.locale_data.specs.{Compact.{pattern_for, patterns_in}, Plurals.IsCategoryAt, declared.{compact.CompactStyle.CompactStyle, tables.rows.compact.CompactPattern.CompactPattern}}
 use Rattle.plural_rules.specs.Operands as operands
 use Rattle.plural_rules.specs.declared.rules.PluralCategory.{PluralCategory}
-use Rattle.number_format.specs.declared.{notation.scale.ShownNumber.ShownNumber, format.compact.CompactChoice.CompactChoice, format.formatted_number.FormattedNumber.FormattedNumber, format.formatter.NumberFormatter.NumberFormatter}
-use Rattle.number_format.specs.{NumberText.{around_by, compact_style, compact_pattern, compact_magnitude, is_one, number_before_cut, shown_number, unit_by, whole_number, exponent_of, number_part, pieces_around}, PatternTexts.{Around, sign_text}, Scaled.scaled_value, TextParts.{Piece, pieces_text}}
+use Rattle.number_format.specs.{declared.{notation.scale.ShownNumber.ShownNumber, format.{compact.CompactChoice.CompactChoice, formatted_number.FormattedNumber.FormattedNumber, formatter.NumberFormatter.NumberFormatter}}, NumberText.{around_by, compact_style, compact_pattern, compact_magnitude, is_one, number_before_cut, shown_number, unit_by, whole_number, exponent_of, number_part, pieces_around}, PatternTexts.{Around, sign_text}, Scaled.scaled_value, TextParts.{Piece, pieces_text}}
 
 -- the compact pattern that is chosen, in compact notation
 abbrev pub chosen_pattern : Option CompactStyle → CompactChoice → Option CompactPattern

@@ -1,11 +1,9 @@
 -- The formatter that a tag and options name.
-use Rattle.std.specs.{Prelude.{◌≡◌, ℕ, ◌+◌, ◌<◌, ◌==◌, false, ◌⊎◌, if◌then◌else◌, List, [], slice_get, slice_index, Option, Some, None, unwrap_or, IsSomeAnd, MatchOption, pos, ⊤}, Option.option_map}
+use Rattle.std.specs.{Prelude.{◌≡◌, ℕ, ◌==◌, false, ◌⊎◌, if◌then◌else◌, List, [], slice_get, Option, Some, None, unwrap_or, IsSomeAnd, MatchOption, pos, ⊤}, Option.option_map}
 use Rattle.fixed_decimal.specs.declared.variations.SignDisplay.{SignDisplay}
 use Rattle.decimal_format.specs.{Symbols.Symbols, declared.grouping.{GroupingSizes.GroupingSizes, GroupingStrategy.GroupingStrategy}}
-use Rattle.locale_data.specs.declared.{compact.CompactStyle.CompactStyle, currency.{CurrencyId.CurrencyId, CurrencyPattern.CurrencyPattern, CurrencySign.CurrencySign}, local_currency.{CurrencyDigits.CurrencyDigits, LocalCurrency.LocalCurrency}, locales.LocaleId.LocaleId, tables.formats.TheConstants.{PATTERNS, NUMBER_SIGNS}, number_formats.NumberFormats.NumberFormats, tables.rows.patterns.{NumberSigns.NumberSigns, Pattern.Pattern}, plurals.PluralRuleType.TheVariants.Cardinal}
-use Rattle.locale_data.specs.{Compact.IsExponent, Currencies.{currency_with, digits_of, IsCurrencyId, IsCurrencyAt, IsCurrencyPattern, LacksCurrency}, Formats.AreFormatsOf, Locales.{symbols_at, system_named, system_name_at, AreRowsOf, IsLocale, IsLocaleIn, IsUnknown}, Patterns.{separator_text, exponent_text}, Plurals.{rules_text_at, IsRulesText, HasNoRules}, Rows.unpadded}
-use Rattle.number_format.specs.declared.{digits.options.DigitOptions.DigitOptions, notation.Notation.Notation, format.{ids.{FormatterIds.FormatterIds, NumberFormatError.NumberFormatError}, formatter.NumberFormatter.NumberFormatter}, options.{NumberNotation.NumberNotation, NumberOptions.NumberOptions, NumberStyle.NumberStyle}, format.currency.ShownCurrency.ShownCurrency}
-use Rattle.number_format.specs.{DefaultDigits.AreDefaultDigits, NumberStyles.{plain_pattern, percent_text, text_or_nothing, in_system, IsShownBy, IsShownCurrency}, NumberText.compact_style}
+use Rattle.locale_data.specs.{declared.{compact.CompactStyle.CompactStyle, currency.{CurrencyId.CurrencyId, CurrencyPattern.CurrencyPattern, CurrencySign.CurrencySign}, local_currency.{CurrencyDigits.CurrencyDigits, LocalCurrency.LocalCurrency}, locales.LocaleId.LocaleId, tables.{formats.TheConstants.{PATTERNS, NUMBER_SIGNS}, rows.patterns.{NumberSigns.NumberSigns, Pattern.Pattern}}, number_formats.NumberFormats.NumberFormats, plurals.PluralRuleType.TheVariants.Cardinal}, Compact.AreExponents, Currencies.{currency_with, digits_of, IsCurrencyId, IsCurrencyAt, IsCurrencyPattern, LacksCurrency}, Formats.AreFormatsOf, Locales.{symbols_at, system_named, system_name_at, AreRowsOf, IsLocale, IsLocaleIn, IsUnknown}, Patterns.{separator_text, exponent_text}, Plurals.{rules_text_at, IsRulesText, HasNoRules}}
+use Rattle.number_format.specs.{declared.{digits.options.DigitOptions.DigitOptions, notation.Notation.Notation, format.{ids.{FormatterIds.FormatterIds, NumberFormatError.NumberFormatError}, formatter.NumberFormatter.NumberFormatter, currency.ShownCurrency.ShownCurrency}, options.{NumberNotation.NumberNotation, NumberOptions.NumberOptions, NumberStyle.NumberStyle}}, DefaultDigits.AreDefaultDigits, NumberStyles.{plain_pattern, percent_text, in_system, IsShownBy, IsShownCurrency}, NumberText.compact_style}
 
 -- ---- What options say by themselves.
 
@@ -57,10 +55,7 @@ AreShownDigits currency o digits =
 
 -- ---- The formatter.
 
--- the exponents of compact patterns
-abbrev pub AreExponents : NumberFormats → CompactStyle → List ℕ → Type 0
-AreExponents formats words rows = (k : ℕ) → k < 17 → IsExponent formats words (pos (k + 3)) (slice_index rows k)
-
+-- the notation of options; the exponents of compact notation are those of the locale's patterns
 abbrev pub IsNotationBy : NumberFormats → NumberNotation → Option CompactStyle → Notation → Type 0
 IsNotationBy formats other (Some words) (Notation.Compact table) = AreExponents formats words table.rows
 IsNotationBy formats (NumberNotation.Scientific o) None Notation.Scientific = ⊤
@@ -90,7 +85,7 @@ pub record IsFormatterBy (own : Symbols) (system : List ℕ) (currency : Option 
 -- the numbering system of a name, or else that of the rows
 abbrev pub system_text : LocaleId → Option (List ℕ) → Option (List ℕ)
 system_text id None = system_name_at id
-system_text id (Some name) = Some (text_or_nothing (unpadded name))
+system_text id (Some name) = Some name
 
 -- what a row has for a currency, if there is one
 abbrev pub IsCurrencyBy : Option CurrencyId → Option LocalCurrency → Type 0
@@ -118,7 +113,7 @@ LacksRows ids =
 -- the rows of the symbols of a tag, in the numbering system with a name, or else in that of the tag
 abbrev pub AreSymbolsOf : List ℕ → Option (List ℕ) → LocaleId → Type 0
 AreSymbolsOf tag None id = IsSomeAnd (symbols_at id) (IsLocale tag) × AreRowsOf tag id.locale id.system
-AreSymbolsOf tag (Some name) id = IsSomeAnd (symbols_at id) (IsLocaleIn tag (text_or_nothing (unpadded name)))
+AreSymbolsOf tag (Some name) id = IsSomeAnd (symbols_at id) (IsLocaleIn tag name)
 
 -- the rows of the currency of a style, if it is listed
 abbrev pub IsCurrencyRow : List ℕ → NumberStyle → Option CurrencyId → Type 0
@@ -150,7 +145,7 @@ abbrev pub IsFormatterError : List ℕ → Option (List ℕ) → NumberFormatErr
 IsFormatterError tag name NumberFormatError.UnknownLocale = IsUnknown tag ⊎ HasNoRules tag
 IsFormatterError tag None NumberFormatError.UnknownNumberingSystem = ⊥
 IsFormatterError tag (Some name) NumberFormatError.UnknownNumberingSystem =
-    (¬ IsUnknown tag) × (system_named (text_or_nothing (unpadded name)) ≡ None)
+    (¬ IsUnknown tag) × (system_named name ≡ None)
 
 -- a decimal in standard notation, without digits, a scale or a sign of their own
 abbrev pub plain_options : GroupingStrategy → Option (List ℕ) → NumberOptions
@@ -163,3 +158,10 @@ plain_options grouping system = record {
   grouping = grouping;
   numbering_system = system;
 }
+
+-- ---- Private: used only in the contracts of private functions.
+
+-- a text is the numbering system of a currency; no other style depends on it
+abbrev pub IsSystemOf : NumberStyle → Option (List ℕ) → List ℕ → Type 0
+IsSystemOf (NumberStyle.Currency c) system text = system ≡ Some text
+IsSystemOf other system text = ⊤

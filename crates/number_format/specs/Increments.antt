@@ -1,5 +1,4 @@
-use Rattle.std.specs.Prelude.{ℕ, ◌==◌, Bool, [], ◌∷◌}
-use Rattle.std.specs.List.{list_any}
+use Rattle.std.specs.{Prelude.{ℕ, ◌==◌, Bool, [], ◌∷◌}, List.list_any}
 
 -- the number is one of the increments of ECMA-402
 abbrev pub is_increment : ℕ → Bool

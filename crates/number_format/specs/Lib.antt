@@ -5,6 +5,7 @@ pub mod Scaled
 pub mod AffixedTexts
 pub mod TextParts
 pub mod DefaultDigits
+pub mod DefaultOptions
 pub mod NumberStyles
 pub mod PatternTexts
 pub mod FormattedNumbers

@@ -3,8 +3,7 @@ use Rattle.std.specs.{Prelude.{◌≡◌, ◌≢◌, ℕ, ◌⊎◌, List, [], �
 use Rattle.decimal_unsigned.specs.declared.error.ParseError.{ParseError, TheVariants.Syntax}
 use Rattle.fixed_decimal.specs.{Decimal.Decimal, declared.variations.Sign.Sign}
 use Rattle.decimal_format.specs.{Readable.IsReadable, Symbols.{Affixes, affixes}, declared.reader.alternatives.Alternative.Alternative}
-use Rattle.number_format.specs.declared.{format.affixes.StyleTexts.StyleTexts, format.formatter.NumberFormatter.NumberFormatter, options.{NumberNotation.NumberNotation, NumberStyle.NumberStyle}, read.number_reader.{NumberReaderError.NumberReaderError, ParseMode.{ParseMode, TheVariants.{Strict, Lenient}}}}
-use Rattle.number_format.specs.{AffixedTexts.{AreNamed, Reader, IsReadExactly, IsReadTyped}, NumberStyles.text_or_nothing, NumberText.{shown_number, shown_sign}, PatternTexts.{affixes_for, affixes_of_style}, Scaled.ScaledValue}
+use Rattle.number_format.specs.{declared.{format.{affixes.StyleTexts.StyleTexts, formatter.NumberFormatter.NumberFormatter}, options.{NumberNotation.NumberNotation, NumberStyle.NumberStyle}, read.number_reader.{NumberReaderError.NumberReaderError, ParseMode.{ParseMode, TheVariants.{Strict, Lenient}}}}, AffixedTexts.{AreNamed, Reader, IsReadExactly, IsReadTyped}, NumberText.{shown_number, shown_sign}, PatternTexts.{affixes_for, affixes_of_style}, Scaled.ScaledValue}
 
 -- ---- Exactly.
 
@@ -47,7 +46,7 @@ pub record IsShownAs (f : NumberFormatter) (v u : Decimal) : Type 0 where
 -- the names of a number: the symbol, the narrow symbol and the code of the currency, or the percent sign
 abbrev pub names_by : NumberFormatter → NumberStyle → List (List ℕ)
 names_by f (NumberStyle.Currency c) =
-    f.style.currency.wide.now ∷ f.style.currency.narrow.now ∷ text_or_nothing f.style.currency.code ∷ []
+    f.style.currency.wide.now ∷ f.style.currency.narrow.now ∷ f.style.currency.code ∷ []
 names_by f NumberStyle.Decimal = [] ∷ [] ∷ [] ∷ []
 names_by f other = f.style.percent.text.now ∷ [] ∷ [] ∷ []
 

@@ -1,5 +1,5 @@
 -- What a style of numbers writes: its pattern, its percent sign, and its currency.
-use Rattle.std.specs.{Prelude.{◌≡◌, ℕ, Bool, true, false, not, codes, ◌&&◌, if◌then◌else◌, List, [], map, Option, Some, None}, Char.to_ascii_uppercase, Option.{option_map, option_map_or}, Str.{is_utf8, bytes_eq}}
+use Rattle.std.specs.{Prelude.{◌≡◌, ℕ, Bool, true, false, not, codes, ◌&&◌, if◌then◌else◌, List, [], Option, Some, None}, Option.{option_map, option_map_or}, Str.bytes_eq}
 use Rattle.decimal_format.specs.declared.grouping.GroupingSizes.{GroupingSizes}
 use Rattle.locale_data.specs.{declared.{local_currency.{CurrencySymbol.CurrencySymbol, LocalCurrency.LocalCurrency}, tables.rows.patterns.{Affix.Affix, AffixPair.AffixPair, NumberSigns.NumberSigns, Pattern.Pattern, Piece.{Piece, TheVariants.{Empty, Minus, Plus, Currency}}}}}
 use Rattle.locale_data.specs.Patterns as pattern
@@ -48,13 +48,9 @@ percent_text other signs = pattern.percent_text signs.percent
 
 -- ---- Currencies.
 
--- bytes, if they are a text
-abbrev pub text_or_nothing : List ℕ → List ℕ
-text_or_nothing bytes = if is_utf8 bytes then bytes else []
-
 -- the symbol of a currency, or its code
 abbrev pub currency_text : ShownCurrency → List ℕ
-currency_text c = if c.shows_code then text_or_nothing c.code else c.symbol.text.now
+currency_text c = if c.shows_code then c.code else c.symbol.text.now
 
 -- a currency has this text, and spaces separate it or not from a digit before it and from one after it
 abbrev pub IsShownBy : List ℕ → Bool → Bool → ShownCurrency → Type 0
@@ -64,7 +60,7 @@ IsShownBy text before after shown =
 -- its symbol, or else its code between spaces
 abbrev pub IsShownWith : Option CurrencySymbol → ShownCurrency → Type 0
 IsShownWith (Some symbol) shown = IsShownBy symbol.text.now symbol.space_before symbol.space_after shown
-IsShownWith None shown = IsShownBy (text_or_nothing shown.code) true true shown
+IsShownWith None shown = IsShownBy shown.code true true shown
 
 -- by its symbol or its narrow symbol
 abbrev pub IsDisplayed : CurrencyDisplay → Option CurrencySymbol → Option CurrencySymbol → ShownCurrency → Type 0
@@ -82,10 +78,10 @@ wide_symbol = option_map (λ c. c.wide)
 abbrev pub narrow_symbol : Option LocalCurrency → Option CurrencySymbol
 narrow_symbol = option_map (λ c. c.narrow)
 
--- a currency, listed or not, as a style shows it, with the texts that name it; its code is in capitals
+-- a currency, listed or not, as a style shows it, with the texts that name it
 pub record IsShownCurrency (currency : Option LocalCurrency) (style : CurrencyStyle) (shown : ShownCurrency)
     : Type 0 where
-  pub code_is : shown.code ≡ map to_ascii_uppercase style.code
+  pub code_is : shown.code ≡ style.code
   pub displayed : IsDisplayed style.display (wide_symbol currency) (narrow_symbol currency) shown
   pub named :
       (shown.wide.now ≡ symbol_text (wide_symbol currency)) × (shown.narrow.now ≡ symbol_text (narrow_symbol currency))

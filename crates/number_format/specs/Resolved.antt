@@ -1,18 +1,7 @@
 -- ECMA-402's SetNumberFormatDigitOptions: the options that the given numbers of digits name, or the error.
 use Rattle.std.specs.Prelude.{◌≡◌, ◌≢◌, ℕ, ◌==◌, min, max, nat_le, Bool, true, false, ◌||◌, ◌&&◌, not, if◌then◌else◌, Option, Some, None, unwrap_or, is_some, List, [], ◌∷◌}
-use Rattle.number_format.specs.declared.digits.options.DigitOptions.{DigitOptions}
-use Rattle.number_format.specs.declared.digits.error.DigitOptionsError.{DigitOptionsError}
+use Rattle.number_format.specs.{declared.digits.{options.DigitOptions.DigitOptions, error.DigitOptionsError.DigitOptionsError, precision.{BothDigits.BothDigits, Minimum.TheVariants.Chosen, Precision.{Precision, TheVariants.{Fraction, Multiples, Significant, MorePrecision as Finer, LessPrecision as Coarser}}}, settings.{DigitSettings.DigitSettings, DigitDefaults.DigitDefaults, RoundingPriority.{RoundingPriority, TheVariants.{Auto, MorePrecision, LessPrecision}}}}, Increments.is_increment, ShownDigits.increment_of}
 use Rattle.number_format.specs.declared.digits.error.DigitOptionsError.TheVariants as error
-use Rattle.number_format.specs.declared.digits.precision.BothDigits.{BothDigits}
-use Rattle.number_format.specs.declared.digits.precision.Minimum.TheVariants.{Chosen}
-use Rattle.number_format.specs.declared.digits.precision.Precision.{Precision}
-use Rattle.number_format.specs.declared.digits.precision.Precision.TheVariants.{Fraction, Multiples, Significant, MorePrecision as Finer, LessPrecision as Coarser}
-use Rattle.number_format.specs.declared.digits.settings.DigitSettings.{DigitSettings}
-use Rattle.number_format.specs.declared.digits.settings.DigitDefaults.{DigitDefaults}
-use Rattle.number_format.specs.declared.digits.settings.RoundingPriority.{RoundingPriority}
-use Rattle.number_format.specs.declared.digits.settings.RoundingPriority.TheVariants.{Auto, MorePrecision, LessPrecision}
-use Rattle.number_format.specs.Increments.{is_increment}
-use Rattle.number_format.specs.ShownDigits.{increment_of}
 
 abbrev pub is_auto : RoundingPriority → Bool
 is_auto Auto = true

@@ -1,17 +1,8 @@
 -- The significand and the exponent that a notation writes for a number.
-use Rattle.std.specs.Prelude.{◌≡◌, ℕ, ◌+◌, ◌*◌, ◌/◌, ◌^◌, ◌<◌, ◌⊎◌, nat_lt, if◌then◌else◌, slice_index, Option, Some, None, option_map, option_and_then, unsigned_abs, ℤ, pos, ◌+ℤ◌, ◌-ℤ◌, ◌≤ℤ◌, int_lt}
-use Rattle.std.specs.Int.{int_max, int_min, int_rem_euclid}
-use Rattle.std.specs.Option.{option_map_or}
+use Rattle.std.specs.{Prelude.{◌≡◌, ℕ, ◌+◌, ◌*◌, ◌/◌, ◌^◌, ◌<◌, ◌⊎◌, nat_lt, if◌then◌else◌, slice_index, Option, Some, None, option_map, option_and_then, unsigned_abs, ℤ, pos, ◌+ℤ◌, ◌-ℤ◌, ◌≤ℤ◌, int_lt}, Int.{int_max, int_min, int_rem_euclid}, Option.option_map_or}
 use Rattle.decimal_digits.specs.Number.{number_limit, weight, first, last, lowest_magnitude}
-use Rattle.fixed_decimal.specs.Decimal.{Decimal}
-use Rattle.fixed_decimal.specs.declared.variations.Sign.{Sign}
-use Rattle.number_format.specs.declared.digits.options.DigitOptions.{DigitOptions}
-use Rattle.number_format.specs.declared.notation.CompactExponents.{CompactExponents}
-use Rattle.number_format.specs.declared.notation.Notation.{Notation}
-use Rattle.number_format.specs.declared.notation.Notation.TheVariants.{Standard, Scientific, Engineering, Compact}
-use Rattle.number_format.specs.declared.digits.precision.Precision.{Precision}
-use Rattle.number_format.specs.declared.digits.precision.Precision.TheVariants.{Multiples}
-use Rattle.number_format.specs.ShownDigits.{Rounded, rounded_at, shown, rounded_within, NeedsMemory}
+use Rattle.fixed_decimal.specs.{Decimal.Decimal, declared.variations.Sign.Sign}
+use Rattle.number_format.specs.{declared.{digits.{options.DigitOptions.DigitOptions, precision.Precision.{Precision, TheVariants.Multiples}}, notation.{CompactExponents.CompactExponents, Notation.{Notation, TheVariants.{Standard, Scientific, Engineering, Compact}}}}, ShownDigits.{Rounded, rounded_at, shown, rounded_within, NeedsMemory}}
 
 -- ---- The exponent of a number whose first digit is at a magnitude.
 -- the exponent of a compact pattern, from the rows of the magnitudes 3 to 19: 0 below 3, and above 19 that of 19

@@ -1,32 +1,11 @@
 -- The digits that ECMA-402's FormatNumericToString shows of a number that is written with an exponent: of its quotient
 -- by 10^exponent. Numbers are in units of 10^-32768; magnitudes are those of the quotient. The weight of a magnitude
 -- below -32768 is 1 unit: at such a position nothing is rounded.
-use Rattle.std.specs.Prelude.{◌≡◌, ℕ, ◌*◌, ◌%◌, ◌^◌, ◌<◌, Bool, true, false, not, ◌||◌, if◌then◌else◌, Option, Some, None, ℤ, pos, ◌+ℤ◌, ◌-ℤ◌, ◌≤ℤ◌, int_lt, int_le}
-use Rattle.std.specs.Int.{int_max, int_min}
-use Rattle.std.specs.Option.{option_map_or}
-use Rattle.decimal_digits.specs.Number.{number_limit, weight, first, last, size, lowest_magnitude, highest_magnitude}
-use Rattle.decimal_digits.specs.Rounding.{step_of, unit_at, rounded_number, DigitRoundingNeedsMemory}
-use Rattle.decimal_digits.specs.declared.rounding.RoundError.{RoundError}
-use Rattle.decimal_digits.specs.declared.rounding.RoundError.TheVariants.{Limit, Memory}
-use Rattle.decimal_digits.specs.declared.rounding.RoundingIncrement.{RoundingIncrement}
-use Rattle.decimal_digits.specs.declared.rounding.RoundingIncrement.TheVariants.{MultiplesOf1}
-use Rattle.decimal_digits.specs.declared.rounding.UnsignedRoundingMode.{UnsignedRoundingMode}
-use Rattle.decimal_unsigned.specs.Unsigned.{Unsigned}
-use Rattle.decimal_unsigned.specs.Edits.{trimmed_end_if_integer}
-use Rattle.decimal_unsigned.specs.Rounded.{reaches_limit}
-use Rattle.fixed_decimal.specs.Decimal.{Decimal, signed_number}
-use Rattle.fixed_decimal.specs.SignedRounding.{mode_at, NamedSigned}
-use Rattle.fixed_decimal.specs.declared.variations.Sign.{Sign}
-use Rattle.number_format.specs.declared.digits.options.DigitOptions.{DigitOptions}
-use Rattle.number_format.specs.declared.digits.options.TrailingZeros.{TrailingZeros}
-use Rattle.number_format.specs.declared.digits.options.TrailingZeros.TheVariants.{Auto, StripIfInteger}
-use Rattle.number_format.specs.declared.digits.ranges.FractionDigits.{FractionDigits}
-use Rattle.number_format.specs.declared.digits.ranges.Increment.{Increment}
-use Rattle.number_format.specs.declared.digits.precision.BothDigits.{BothDigits}
-use Rattle.number_format.specs.declared.digits.precision.Minimum.{Minimum}
-use Rattle.number_format.specs.declared.digits.precision.Minimum.TheVariants.{Chosen, Both}
-use Rattle.number_format.specs.declared.digits.precision.Precision.{Precision}
-use Rattle.number_format.specs.declared.digits.precision.Precision.TheVariants.{Fraction, Multiples, Significant, MorePrecision, LessPrecision}
+use Rattle.std.specs.{Prelude.{◌≡◌, ℕ, ◌*◌, ◌%◌, ◌^◌, ◌<◌, Bool, true, false, not, ◌||◌, if◌then◌else◌, Option, Some, None, ℤ, pos, ◌+ℤ◌, ◌-ℤ◌, ◌≤ℤ◌, int_lt, int_le}, Int.{int_max, int_min}, Option.option_map_or}
+use Rattle.decimal_digits.specs.{Number.{number_limit, weight, first, last, size, lowest_magnitude, highest_magnitude}, Rounding.{step_of, unit_at, rounded_number, DigitRoundingNeedsMemory}, declared.rounding.{RoundError.{RoundError, TheVariants.{Limit, Memory}}, RoundingIncrement.{RoundingIncrement, TheVariants.MultiplesOf1}, UnsignedRoundingMode.UnsignedRoundingMode}}
+use Rattle.decimal_unsigned.specs.{Unsigned.Unsigned, Edits.trimmed_end_if_integer, Rounded.reaches_limit}
+use Rattle.fixed_decimal.specs.{Decimal.{Decimal, signed_number}, SignedRounding.{mode_at, NamedSigned}, declared.variations.Sign.Sign}
+use Rattle.number_format.specs.declared.digits.{options.{DigitOptions.DigitOptions, TrailingZeros.{TrailingZeros, TheVariants.{Auto, StripIfInteger}}}, ranges.{FractionDigits.FractionDigits, Increment.Increment}, precision.{BothDigits.BothDigits, Minimum.{Minimum, TheVariants.{Chosen, Both}}, Precision.{Precision, TheVariants.{Fraction, Multiples, Significant, MorePrecision, LessPrecision}}}}
 
 -- the magnitude of the last of the given number of digits, from a first one down
 abbrev pub last_at : ℕ → ℤ → ℤ

@@ -1,5 +1,5 @@
 -- The text of parts.
-use Rattle.std.specs.Prelude.{ℕ, zero, suc, ◌≡◌, List, [], ◌∷◌, ◌++◌, flat_map, Option, Some, None, ⊤, ℤ, pos, negsuc, ◌-ℤ◌}
+use Rattle.std.specs.Prelude.{ℕ, zero, suc, ◌≡◌, List, [], ◌∷◌, ◌++◌, flat_map, ℤ, pos, negsuc, ◌-ℤ◌}
 use Rattle.decimal_digits.specs.Number.{digit}
 use Rattle.decimal_unsigned.specs.Unsigned.{Unsigned}
 use Rattle.decimal_format.specs.{Formatted.{separator_before, separator_after, shown_count}, Symbols.{Symbols, digit_text}, declared.grouping.GroupingStrategy.GroupingStrategy}
@@ -17,14 +17,12 @@ pub record Piece : Type 0 where
 abbrev pub pieces_text : List Piece → List ℕ
 pieces_text = flat_map (λ p. p.text)
 
--- known pieces grow by others
-abbrev pub Puts : Option (List Piece) → Option (List Piece) → List Piece → Type 0
-Puts None new more = ⊤
-Puts (Some pieces) None more = ⊥
-Puts (Some pieces) (Some others) more = others ≡ pieces ++ more
+-- pieces that were put grow by others
+pub record Puts (old new : List Piece → Type 0) (more : List Piece) : Type 0 where
+  pub grown : (pieces : List Piece) → old pieces → new (pieces ++ more)
 
--- known pieces grow by a prefix of others
-abbrev pub PutsPrefix : Option (List Piece) → Option (List Piece) → List Piece → Type 0
+-- pieces that were put grow by a prefix of others
+abbrev pub PutsPrefix : (List Piece → Type 0) → (List Piece → Type 0) → List Piece → Type 0
 PutsPrefix old new more = (part rest : List Piece) × (part ++ rest ≡ more) × Puts old new part
 
 -- a text as a piece; an empty text is none

@@ -48,3 +48,13 @@ pub use options::{
     NumberNotation, NumberOptions, NumberStyle,
 };
 pub use read::number_reader::{NumberReader, NumberReaderError, ParseMode};
+
+// What the options and the functions above mention, so that a caller needs no other crate.
+pub use decimal_format::GroupingStrategy;
+pub use fixed_decimal::{
+    Decimal, ParseError, RoundError, RoundingIncrement, SignDisplay, SignedRoundingMode,
+    UnsignedRoundingMode,
+};
+pub use locale_data::{
+    CurrencyCode, CurrencyCodeError, CurrencySign, NumberingSystem, NumberingSystemError,
+};

@@ -1,6 +1,5 @@
 //! The exponent that a notation writes for a magnitude.
-ghost use Rattle.std.specs.Prelude.{◌≡◌, pos, ◌≤ℤ◌, ◌-ℤ◌};
-ghost use Rattle.std.specs.Int.{int_max, int_min};
+ghost use Rattle.std.specs.{Prelude.{◌≡◌, pos, ◌≤ℤ◌, ◌-ℤ◌}, Int.{int_max, int_min}};
 ghost use Rattle.number_format.specs.Scaled.{compact_exponent, exponent_at};
 
 pub(crate) mod scale;

@@ -1,14 +1,16 @@
 //! How a number is written: its style, notation, digits, sign and groups, and the digits that ECMA-402 has by default.
 ghost use Rattle.std.specs.Prelude.{◌≡◌};
-ghost use Rattle.number_format.specs.{DefaultDigits.{shows_all_digits, is_compact, usage_digits, style_digits, increment_by, increment, IsDefaultBy, IsDefault, AreDefaultDigits}, NumberText.compact_style};
+ghost use Rattle.number_format.specs.{DefaultDigits.{shows_all_digits, is_compact, usage_digits, style_digits, increment_by, increment, IsDefaultBy, IsDefault}, NumberText.compact_style};
 
-use crate::digits::options::{DigitOptions, TrailingZeros};
+mod constructors;
+
+use crate::digits::options::DigitOptions;
 use crate::digits::ranges::{FractionDigits, Increment};
-use crate::digits::settings::{DigitDefaults, DigitSettings, RoundingPriority};
+use crate::digits::settings::DigitDefaults;
 use decimal_format::GroupingStrategy;
-use fixed_decimal::{SignDisplay, SignedRoundingMode, UnsignedRoundingMode};
+use fixed_decimal::SignDisplay;
 use locale_data::{
-    CompactStyle, CurrencyCode, CurrencyDigits, CurrencySign, Name, UNLISTED_DIGITS,
+    CompactStyle, CurrencyCode, CurrencyDigits, CurrencySign, NumberingSystem, UNLISTED_DIGITS,
     currency_digits,
 };
 
@@ -39,7 +41,7 @@ pub enum CurrencyUsage {
 /// How an amount of money is written.
 #[derive(Clone, Copy, Debug, PartialEq)]
 pub struct CurrencyStyle {
-    /// The code of the currency, three letters; of one that is not listed two digits and the code are shown.
+    /// The code of the currency; of one that is not listed two digits and the code are shown.
     pub code: CurrencyCode,
     /// Which symbol is written.
     pub display: CurrencyDisplay,
@@ -54,7 +56,7 @@ pub struct CurrencyStyle {
 pub enum NumberStyle {
     /// A plain number.
     Decimal,
-    /// A percentage, `12%` of 12; ECMA-402 has a scale of 2 with it.
+    /// A percentage, `12%` of 12; ECMA-402 has a scale of 2 with it, as [`NumberOptions::percent`].
     Percent,
     /// A number of thousandths, `12‰` of 12.
     Permille,
@@ -111,7 +113,7 @@ pub enum NumberNotation {
 pub struct NumberOptions {
     /// What the number counts.
     pub style: NumberStyle,
-    /// The power of ten by which the number is multiplied first.
+    /// The power of ten by which the number is multiplied first: by 2 and the style `Percent` 0.5 is `50%`.
     pub scale: i16,
     /// Its notation.
     pub notation: NumberNotation,
@@ -120,10 +122,11 @@ pub struct NumberOptions {
     pub digits: Option<DigitOptions>,
     /// Which sign is written: that of the rounded number, also if its integer digits are cut off.
     pub sign_display: SignDisplay,
-    /// Where groups are separated. In compact notation node takes `Auto` for `Min2`, and ECMA-402 does not.
+    /// Where groups are separated: by default as [`NumberNotation::default_grouping`] has it. In compact notation node
+    /// takes `Auto` for `Min2`, and ECMA-402 does not.
     pub grouping: GroupingStrategy,
-    /// The numbering system, as `latn`. `None`: that of the locale.
-    pub numbering_system: Option<Name>,
+    /// The numbering system. `None`: that of the locale.
+    pub numbering_system: Option<NumberingSystem>,
 }
 
 impl CurrencyUsage {
@@ -158,7 +161,7 @@ impl NumberOptions {
         }
     }
 
-    fn shows_all_digits(&self) -> bool
+    pub(crate) fn shows_all_digits(&self) -> bool
         ensures { result ≡ shows_all_digits self.now.style self.now.notation }
     {
         let kind = (self.style, self.notation);
@@ -174,7 +177,7 @@ impl NumberOptions {
         }
     }
 
-    fn increment_by(&self, currency: CurrencyDigits) -> u16
+    pub(crate) fn increment_by(&self, currency: CurrencyDigits) -> u16
         ensures { result ≡ increment_by currency self.now.style (is_compact self.now.notation) }
     {
         match self.style {
@@ -189,7 +192,7 @@ impl NumberOptions {
         }
     }
 
-    fn digit_defaults_by(&self, currency: CurrencyDigits) -> DigitDefaults
+    pub(crate) fn digit_defaults_by(&self, currency: CurrencyDigits) -> DigitDefaults
         ensures { IsDefaultBy currency self.now result }
     {
         let (min, max) = match self.style {
@@ -222,29 +225,5 @@ impl NumberOptions {
         ensures { IsDefault self.now result }
     {
         self.digit_defaults_by(self.currency_digits())
-    }
-
-    /// Returns the digits that are shown where the options give none, by those of the currency.
-    pub(crate) fn default_digits(&self, currency: CurrencyDigits) -> Option<DigitOptions>
-        ensures { AreDefaultDigits currency self.now result }
-    {
-        if self.shows_all_digits() {
-            return None;
-        }
-        let settings = DigitSettings {
-            minimum_integer_digits: None,
-            minimum_fraction_digits: None,
-            maximum_fraction_digits: None,
-            minimum_significant_digits: None,
-            maximum_significant_digits: None,
-            rounding_increment: self.increment_by(currency),
-            rounding_mode: SignedRoundingMode::Unsigned(UnsignedRoundingMode::HalfExpand),
-            rounding_priority: RoundingPriority::Auto,
-            trailing_zeros: TrailingZeros::Auto,
-        };
-        match settings.resolve(&self.digit_defaults_by(currency)) {
-            Ok(digits) => Some(digits),
-            Err(_) => None,
-        }
     }
 }

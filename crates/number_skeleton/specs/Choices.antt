@@ -1,8 +1,7 @@
 -- What the stems of a skeleton choose, by groups.
 use Rattle.std.specs.Prelude.{Bool, true, false, ◌||◌, is_some, Some, None}
-use Rattle.number_skeleton.specs.declared.choices.{Span.Span, Choice.Choice, Choice.TheVariants.{Nothing, Notation, Unit, PercentTimes100, UnitPerUnit, PerUnit, Usage, Precision, StripIfInteger, Mode, Grouping, Integer, System, Width, Sign, IsDecimalAlways, Scale}, Choices.Choices}
+use Rattle.number_skeleton.specs.{declared.choices.{Span.Span, Choice.{Choice, TheVariants.{Nothing, Notation, Unit, PercentTimes100, UnitPerUnit, PerUnit, Usage, Precision, StripIfInteger, Mode, Grouping, Integer, System, Width, Sign, IsDecimalAlways, Scale}}, Choices.Choices}, Decimal.hundred}
 use Rattle.number_skeleton.specs.declared.choices.ChosenUnit.TheVariants as unit
-use Rattle.number_skeleton.specs.Decimal.{hundred}
 
 abbrev pub no_choices : Choices
 no_choices = record {

@@ -1,6 +1,5 @@
 -- Runs of bytes in the stems of skeletons, and the numbers of digits that they are.
-use Rattle.std.specs.Prelude.{ℕ, ◌+◌, ◌==◌, nat_lt, Bool, ◌||◌, ◌&&◌, if◌then◌else◌, List, length, drop, slice_index, Option, Some, None}
-use Rattle.std.specs.List.{position_or_len}
+use Rattle.std.specs.{Prelude.{ℕ, ◌+◌, ◌==◌, nat_lt, Bool, ◌||◌, ◌&&◌, if◌then◌else◌, List, length, drop, slice_index, Option, Some, None}, List.position_or_len}
 use Rattle.number_skeleton.specs.declared.counts.Counts.{Counts}
 
 abbrev pub is_outside : ℕ → ℕ → ℕ → Bool

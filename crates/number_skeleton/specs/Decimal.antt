@@ -1,8 +1,6 @@
 -- The decimals of `scale/` and `precision-increment/`.
-use Rattle.std.specs.Prelude.{ℕ, ◌+◌, ◌-◌, ◌*◌, ◌==◌, nat_lt, min, Bool, false, ◌||◌, ◌&&◌, not, if◌then◌else◌, ℤ, pos, neg_ℤ, ◌+ℤ◌, ◌-ℤ◌, List, length, take, drop, slice_index, fold, Option, Some, None}
-use Rattle.std.specs.Option.{option_map}
-use Rattle.number_skeleton.specs.declared.decimal.{Significand.Significand, Decimal.Decimal}
-use Rattle.number_skeleton.specs.Counts.{run}
+use Rattle.std.specs.{Prelude.{ℕ, ◌+◌, ◌-◌, ◌*◌, ◌==◌, nat_lt, min, Bool, false, ◌||◌, ◌&&◌, not, if◌then◌else◌, ℤ, pos, neg_ℤ, ◌+ℤ◌, ◌-ℤ◌, List, length, take, drop, slice_index, fold, Option, Some, None}, Option.option_map}
+use Rattle.number_skeleton.specs.{declared.decimal.{Significand.Significand, Decimal.Decimal}, Counts.run}
 
 -- ---- The significant digits, of which two are kept, and the zeros after them.
 abbrev pub no_digits : Significand

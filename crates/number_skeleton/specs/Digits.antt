@@ -1,24 +1,12 @@
 -- The digits that the choices of a skeleton show, by ICU's defaults. An error names the stem that this library has not.
-use Rattle.std.specs.Prelude.{ℕ, ◌-◌, ◌*◌, ◌/◌, ◌%◌, ◌==◌, nat_lt, min, Bool, true, false, ◌||◌, ◌&&◌, not, if◌then◌else◌, ℤ, pos, negsuc, ◌+ℤ◌, int_lt, nat_abs, Option, Some, None, unwrap_or, Result, Ok, Err}
-use Rattle.std.specs.Ordering.{int_eq}
+use Rattle.std.specs.{Prelude.{ℕ, ◌-◌, ◌*◌, ◌/◌, ◌%◌, ◌==◌, nat_lt, min, Bool, true, false, ◌||◌, ◌&&◌, not, if◌then◌else◌, ℤ, pos, negsuc, ◌+ℤ◌, int_lt, nat_abs, List, Option, Some, None, unwrap_or, Result, Ok, Err}, Option.option_and_then, Ordering.int_eq}
 use Rattle.fixed_decimal.specs.declared.rounding.{SignedRoundingMode.SignedRoundingMode, SignedRoundingMode.TheVariants.{Unsigned}}
 use Rattle.decimal_digits.specs.declared.rounding.UnsignedRoundingMode.TheVariants.{HalfEven}
-use Rattle.locale_data.specs.declared.local_currency.CurrencyDigits.{CurrencyDigits}
-use Rattle.locale_data.specs.Currencies.{currency_with, digits_of as listed_digits}
-use Rattle.number_format.specs.declared.digits.options.{DigitOptions.DigitOptions, TrailingZeros.TrailingZeros, TrailingZeros.TheVariants.{Auto, StripIfInteger}}
-use Rattle.number_format.specs.declared.options.{CurrencyUsage.CurrencyUsage, CurrencyUsage.TheVariants.{Standard}}
-use Rattle.number_format.specs.declared.digits.precision.{Minimum.Minimum, Minimum.TheVariants.{Chosen}, Precision.Precision}
+use Rattle.locale_data.specs.{declared.local_currency.CurrencyDigits.CurrencyDigits, Codes.code_of, Currencies.{currency_with, digits_of as listed_digits}}
+use Rattle.number_format.specs.{declared.{digits.{options.{DigitOptions.DigitOptions, TrailingZeros.{TrailingZeros, TheVariants.{Auto, StripIfInteger}}}, precision.{Minimum.{Minimum, TheVariants.Chosen}, Precision.Precision}, settings.RoundingPriority.{RoundingPriority, TheVariants.LessPrecision}}, options.CurrencyUsage.{CurrencyUsage, TheVariants.Standard}}, DefaultDigits.usage_digits, Increments.is_increment, ShownDigits.increment_of}
 use Rattle.number_format.specs.declared.digits.precision.Precision.TheVariants as precision
-use Rattle.number_format.specs.declared.digits.settings.{RoundingPriority.RoundingPriority, RoundingPriority.TheVariants.{LessPrecision}}
-use Rattle.number_skeleton.specs.declared.error.{SkeletonError.SkeletonError, SkeletonError.TheVariants.{Unsupported}}
-use Rattle.number_skeleton.specs.declared.choices.{Choices.Choices, ChosenNotation.ChosenNotation, ChosenNotation.TheVariants.{Compact}, ChosenPrecision.ChosenPrecision, Span.Span, TwoCounts.TwoCounts, ChosenUnit.ChosenUnit, ChosenUnit.TheVariants.{Currency}}
+use Rattle.number_skeleton.specs.{declared.{error.SkeletonError.{SkeletonError, TheVariants.Unsupported}, choices.{Choices.Choices, ChosenNotation.{ChosenNotation, TheVariants.Compact}, ChosenPrecision.ChosenPrecision, Span.Span, TwoCounts.TwoCounts, ChosenUnit.{ChosenUnit, TheVariants.Currency}}, counts.Counts.Counts, decimal.Decimal.Decimal}, Reading.and_then}
 use Rattle.number_skeleton.specs.declared.choices.ChosenPrecision.TheVariants as chosen
-use Rattle.number_skeleton.specs.declared.counts.Counts.{Counts}
-use Rattle.number_skeleton.specs.declared.decimal.Decimal.{Decimal}
-use Rattle.number_format.specs.DefaultDigits.{usage_digits}
-use Rattle.number_format.specs.Increments.{is_increment}
-use Rattle.number_format.specs.ShownDigits.{increment_of}
-use Rattle.number_skeleton.specs.Reading.{and_then}
 
 abbrev pub unsupported : Span → SkeletonError
 unsupported stem = Unsupported stem.start stem.end
@@ -98,9 +86,12 @@ money_precision m stem =
     then and_then (λ n. Ok (Multiples n)) (multiples_of (m.0 - 1) (m.1 / 10) stem)
     else and_then (λ n. Ok (Multiples n)) (multiples_of m.0 m.1 stem)
 
--- the digits of the currency, or without one those of one that is not listed
+-- the digits of a currency, if bytes are its code, or else those of one that is not listed
+abbrev pub digits_of_code : List ℕ → CurrencyDigits
+digits_of_code bytes = listed_digits (option_and_then currency_with (code_of bytes))
+
 abbrev pub currency_digits_of : Option (ChosenUnit × Span) → CurrencyDigits
-currency_digits_of (Some (Currency code, stem)) = listed_digits (currency_with code)
+currency_digits_of (Some (Currency bytes, stem)) = digits_of_code bytes
 currency_digits_of unit = listed_digits None
 
 abbrev pub currency_of : Option (ChosenUnit × Span) → CurrencyUsage → Span → Result PrecisionValue SkeletonError

@@ -1,25 +1,18 @@
 -- The options that a skeleton names, by ICU's defaults. An error names the stem that this library has not.
-use Rattle.std.specs.Prelude.{ℕ, ◌==◌, nat_lt, Bool, true, false, ◌||◌, not, if◌then◌else◌, ℤ, pos, negsuc, int_lt, List, map, Option, Some, None, unwrap_or, Result, Ok, Err}
-use Rattle.std.specs.Char.{to_ascii_uppercase}
-use Rattle.std.specs.Option.{option_map}
+use Rattle.std.specs.{Prelude.{ℕ, ◌==◌, nat_lt, Bool, true, false, ◌||◌, not, if◌then◌else◌, ℤ, pos, negsuc, int_lt, List, Option, Some, None, unwrap_or, Result, Ok, Err}, Option.option_map}
 use Rattle.decimal_format.specs.declared.grouping.GroupingStrategy.{GroupingStrategy}
-use Rattle.decimal_format.specs.declared.grouping.GroupingStrategy.TheVariants as grouping
 use Rattle.fixed_decimal.specs.declared.variations.SignDisplay.{SignDisplay}
 use Rattle.fixed_decimal.specs.declared.variations.SignDisplay.TheVariants as sign
-use Rattle.locale_data.specs.declared.currency.CurrencySign.{CurrencySign}
+use Rattle.locale_data.specs.{declared.currency.CurrencySign.CurrencySign, Codes.{code_of, system_name}, Rows.unpadded}
 use Rattle.locale_data.specs.declared.currency.CurrencySign.TheVariants as currency_sign
-use Rattle.number_format.specs.declared.options.{CurrencyDisplay.CurrencyDisplay, CurrencyUsage.CurrencyUsage, NumberNotation.NumberNotation, NumberNotation.TheVariants.{Standard, Scientific, Engineering, Compact}, NumberOptions.NumberOptions, NumberStyle.NumberStyle}
+use Rattle.number_format.specs.{declared.options.{CurrencyDisplay.CurrencyDisplay, CurrencyUsage.CurrencyUsage, NumberNotation.NumberNotation, NumberNotation.TheVariants.{Standard, Scientific, Engineering, Compact}, NumberOptions.NumberOptions, NumberStyle.NumberStyle}, DefaultOptions.default_grouping}
 use Rattle.number_format.specs.declared.options.CurrencyDisplay.TheVariants as display
 use Rattle.number_format.specs.declared.options.CurrencyUsage.TheVariants as usage
 use Rattle.number_format.specs.declared.options.NumberStyle.TheVariants as style
-use Rattle.number_skeleton.specs.declared.error.SkeletonError.{SkeletonError}
-use Rattle.number_skeleton.specs.declared.choices.{Choices.Choices, ChosenNotation.ChosenNotation, ChosenPrecision.ChosenPrecision, Exponent.Exponent, Span.Span, ChosenUnit.ChosenUnit}
+use Rattle.number_skeleton.specs.{declared.{error.SkeletonError.SkeletonError, choices.{Choices.Choices, ChosenNotation.ChosenNotation, ChosenPrecision.ChosenPrecision, Exponent.Exponent, Span.Span, ChosenUnit.ChosenUnit}, decimal.Decimal.Decimal}, Digits.{unsupported, is_compact, DigitsValue, digits_value, digits_of}, Reading.{and_then, choices_of}}
 use Rattle.number_skeleton.specs.declared.choices.ChosenNotation.TheVariants as chosen
 use Rattle.number_skeleton.specs.declared.choices.ChosenPrecision.TheVariants as precision
 use Rattle.number_skeleton.specs.declared.choices.ChosenUnit.TheVariants as unit
-use Rattle.number_skeleton.specs.declared.decimal.Decimal.{Decimal}
-use Rattle.number_skeleton.specs.Digits.{unsupported, is_compact, DigitsValue, digits_value, digits_of}
-use Rattle.number_skeleton.specs.Reading.{and_then, choices_of}
 
 -- ---- Notations.
 -- at least one digit, and at most 65,535
@@ -56,17 +49,22 @@ percent_style false width stem = Ok style.Percent
 percent_style true display.Symbol stem = Ok style.Percent
 percent_style true width stem = Err (unsupported stem)
 
-abbrev pub style_by : Option (ChosenUnit × Span) → Choices → CurrencyDisplay → Result NumberStyle SkeletonError
-style_by (Some (unit.Percent, stem)) c width = percent_style (is_compact c.notation) width stem
-style_by (Some (unit.Permille, stem)) c width =
-    if is_compact c.notation then Err (unsupported stem) else Ok style.Permille
-style_by (Some (unit.Currency code, stem)) c width =
+-- a currency by its code, if its bytes are one: ICU has currencies of other bytes, and this library has not
+abbrev pub currency_style : Choices → CurrencyDisplay → Span → Option (List ℕ) → Result NumberStyle SkeletonError
+currency_style c width stem (Some code) =
     Ok (style.Currency (record {
       code = code;
       display = width;
       sign = currency_sign_of c.sign;
       usage = usage_of c.precision;
     }))
+currency_style c width stem None = Err (unsupported stem)
+
+abbrev pub style_by : Option (ChosenUnit × Span) → Choices → CurrencyDisplay → Result NumberStyle SkeletonError
+style_by (Some (unit.Percent, stem)) c width = percent_style (is_compact c.notation) width stem
+style_by (Some (unit.Permille, stem)) c width =
+    if is_compact c.notation then Err (unsupported stem) else Ok style.Permille
+style_by (Some (unit.Currency bytes, stem)) c width = currency_style c width stem (code_of bytes)
 style_by (Some (unit.Other, stem)) c width = Err (unsupported stem)
 style_by u c width = Ok style.Decimal
 
@@ -84,14 +82,19 @@ abbrev pub scale_of : Option (Decimal × Span) → Result ℤ SkeletonError
 scale_of (Some (d, stem)) = scale_power d stem
 scale_of None = Ok (pos 0)
 
-abbrev pub grouping_of : Bool → Option (Option GroupingStrategy × Span) → Result GroupingStrategy SkeletonError
-grouping_of compact (Some (Some g, stem)) = Ok g
-grouping_of compact (Some (None, stem)) = Err (unsupported stem)
-grouping_of true None = Ok grouping.Min2
-grouping_of false None = Ok grouping.Auto
+abbrev pub grouping_of :
+    NumberNotation → Option (Option GroupingStrategy × Span) → Result GroupingStrategy SkeletonError
+grouping_of notation (Some (Some g, stem)) = Ok g
+grouping_of notation (Some (None, stem)) = Err (unsupported stem)
+grouping_of notation None = Ok (default_grouping notation)
 
+abbrev pub system_by : Span → Option (List ℕ) → Result (Option (List ℕ)) SkeletonError
+system_by stem (Some name) = Ok (Some name)
+system_by stem None = Err (unsupported stem)
+
+-- the numbering system with a name that is padded with spaces
 abbrev pub system_of : Option (Option (List ℕ) × Span) → Result (Option (List ℕ)) SkeletonError
-system_of (Some (Some name, stem)) = Ok (Some name)
+system_of (Some (Some bytes, stem)) = system_by stem (system_name (unpadded bytes))
 system_of (Some (None, stem)) = Err (unsupported stem)
 system_of None = Ok None
 
@@ -126,14 +129,6 @@ options_value o = record {
   numbering_system = o.numbering_system;
 }
 
--- the code of a currency in capitals, as skeletons have it
-abbrev pub style_in_capitals : NumberStyle → NumberStyle
-style_in_capitals (style.Currency c) = style.Currency (record c { code = map to_ascii_uppercase c.code })
-style_in_capitals style = style
-
-abbrev pub in_capitals : NumberOptions → NumberOptions
-in_capitals o = record o { style = style_in_capitals o.style }
-
 -- the options that choices are, or the error of the first choice that is none
 unfoldable pub options_of : Choices → Result OptionsValue SkeletonError
 options_of c =
@@ -146,7 +141,7 @@ options_of c =
       sign_display = sign_display_of c.sign;
       grouping = grouping;
       numbering_system = system;
-    })) (system_of c.system)) (grouping_of (is_compact c.notation) c.grouping)) (digits_of c))
+    })) (system_of c.system)) (grouping_of notation c.grouping)) (digits_of c))
     (notation_of c.notation)) (scale_of c.scale)) (style_of c)) (others_of c)
 
 -- the options that a text names, or its error

@@ -1,19 +1,9 @@
 -- The options that no skeleton names.
-use Rattle.std.specs.Prelude.{ℕ, ◌==◌, Bool, true, false, ◌||◌, ◌&&◌, not, List, Option, Some, None, Result, Ok, Err}
-use Rattle.std.specs.List.{list_any}
-use Rattle.std.specs.Str.{bytes_eq}
-use Rattle.fixed_decimal.specs.declared.variations.SignDisplay.{SignDisplay}
-use Rattle.fixed_decimal.specs.declared.variations.SignDisplay.TheVariants.{Never}
-use Rattle.locale_data.specs.declared.currency.CurrencySign.{CurrencySign}
-use Rattle.locale_data.specs.declared.currency.CurrencySign.TheVariants.{Accounting}
-use Rattle.locale_data.specs.declared.tables.symbols.TheConstants.{NUMBERING_SYSTEMS}
-use Rattle.number_format.specs.declared.options.{CurrencyUsage.CurrencyUsage, CurrencyUsage.TheVariants.{Cash}, NumberNotation.NumberNotation, NumberNotation.TheVariants.{Scientific, Engineering}, NumberStyle.NumberStyle, NumberStyle.TheVariants.{Permille, Currency}}
-use Rattle.number_format.specs.declared.digits.precision.Minimum.TheVariants.{Both}
-use Rattle.number_skeleton.specs.declared.error.SkeletonError.{SkeletonError}
-use Rattle.number_format.specs.DefaultDigits.{is_compact, currency_digits}
-use Rattle.number_skeleton.specs.Digits.{PrecisionValue, Fraction, Multiples, More, Less, DigitsValue, money_precision}
-use Rattle.number_skeleton.specs.Meaning.{OptionsValue}
-use Rattle.number_skeleton.specs.Options.{is_code_byte}
+use Rattle.std.specs.{Prelude.{ℕ, ◌==◌, Bool, true, false, ◌||◌, ◌&&◌, not, List, Option, Some, None, Result, Ok, Err}, List.list_any, Str.bytes_eq}
+use Rattle.fixed_decimal.specs.declared.variations.SignDisplay.{SignDisplay, TheVariants.Never}
+use Rattle.locale_data.specs.{declared.{currency.CurrencySign.{CurrencySign, TheVariants.Accounting}, tables.symbols.TheConstants.NUMBERING_SYSTEMS}, Rows.unpadded}
+use Rattle.number_format.specs.{declared.{options.{CurrencyUsage.{CurrencyUsage, TheVariants.Cash}, NumberNotation.{NumberNotation, TheVariants.{Scientific, Engineering}}, NumberStyle.{NumberStyle, TheVariants.{Permille, Currency}}}, digits.precision.Minimum.TheVariants.Both}, DefaultDigits.{is_compact, currency_digits}}
+use Rattle.number_skeleton.specs.{declared.error.SkeletonError.SkeletonError, Digits.{PrecisionValue, Fraction, Multiples, More, Less, DigitsValue, money_precision}, Meaning.OptionsValue}
 
 -- an exponent of no digit
 abbrev pub is_unnamed_notation : NumberNotation → Bool
@@ -25,14 +15,10 @@ abbrev pub hides_accounting : CurrencySign → SignDisplay → Bool
 hides_accounting Accounting Never = true
 hides_accounting sign display = false
 
--- a code with bytes that codes have not
-abbrev pub is_unnamed_code : List ℕ → Bool
-is_unnamed_code code = list_any (λ b. not (is_code_byte b)) code
-
--- permille in compact notation, such a code, and signs of accounting that are never shown
+-- permille in compact notation, and signs of accounting that are never shown
 abbrev pub is_unnamed_style : Bool → SignDisplay → NumberStyle → Bool
 is_unnamed_style compact display Permille = compact
-is_unnamed_style compact display (Currency c) = is_unnamed_code c.code || hides_accounting c.sign display
+is_unnamed_style compact display (Currency c) = hides_accounting c.sign display
 is_unnamed_style compact display style = false
 
 -- `.00/@@@*` and `.00/@##` show both minima, and that of the significant digits is 1
@@ -68,7 +54,7 @@ are_unnamed_digits style None = true
 are_unnamed_digits style (Some d) = has_other_minimum d.precision || has_other_cash style d.precision
 
 abbrev pub is_listed : List ℕ → Bool
-is_listed name = list_any (λ s. bytes_eq s.name name) NUMBERING_SYSTEMS
+is_listed name = list_any (λ s. bytes_eq (unpadded s.name) name) NUMBERING_SYSTEMS
 
 -- a numbering system that is not in the table
 abbrev pub is_unnamed_system : Option (List ℕ) → Bool

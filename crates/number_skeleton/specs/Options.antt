@@ -1,26 +1,16 @@
 -- The options of the stems of skeletons.
-use Rattle.std.specs.Prelude.{ℕ, ◌+◌, ◌==◌, nat_lt, nat_le, Bool, ◌||◌, ◌&&◌, not, if◌then◌else◌, List, [], ◌∷◌, length, drop, slice_index, find, is_none, Option, Some, None}
-use Rattle.std.specs.Char.{to_ascii_uppercase}
-use Rattle.std.specs.Option.{option_map, option_and_then}
+use Rattle.std.specs.{Prelude.{ℕ, ◌+◌, ◌==◌, nat_lt, nat_le, Bool, ◌||◌, ◌&&◌, not, if◌then◌else◌, List, [], ◌∷◌, length, drop, slice_index, find, is_none, Option, Some, None}, Option.{option_map, option_and_then}}
 use Rattle.fixed_decimal.specs.declared.variations.SignDisplay.TheVariants as display
-use Rattle.locale_data.specs.declared.currency.CurrencySign.TheVariants.{Standard}
-use Rattle.locale_data.specs.declared.tables.symbols.TheConstants.{NUMBERING_SYSTEMS}
-use Rattle.number_format.specs.declared.options.ExponentSign.{ExponentSign}
+use Rattle.locale_data.specs.declared.{currency.CurrencySign.TheVariants.Standard, tables.symbols.TheConstants.NUMBERING_SYSTEMS}
+use Rattle.number_format.specs.declared.{options.ExponentSign.ExponentSign, digits.{precision.Minimum.Minimum, settings.RoundingPriority.{RoundingPriority, TheVariants.{MorePrecision, LessPrecision}}}}
 use Rattle.number_format.specs.declared.options.ExponentSign.TheVariants as sign
-use Rattle.number_format.specs.declared.digits.precision.Minimum.{Minimum}
 use Rattle.number_format.specs.declared.digits.precision.Minimum.TheVariants as minimum
-use Rattle.number_format.specs.declared.digits.settings.{RoundingPriority.RoundingPriority, RoundingPriority.TheVariants.{MorePrecision, LessPrecision}}
-use Rattle.number_skeleton.specs.declared.choices.{Choice.Choice, Exponent.Exponent}
+use Rattle.number_skeleton.specs.{declared.{choices.{Choice.Choice, Exponent.Exponent}, counts.Counts.Counts, meaning.{Expected.Expected, Meaning.Meaning}}, Counts.{run, is_byte, is_wild}, Decimal.decimal, Words.{is_name, named, is_algorithmic}}
 use Rattle.number_skeleton.specs.declared.choices.Choice.TheVariants as choice
 use Rattle.number_skeleton.specs.declared.choices.ChosenNotation.TheVariants as notation
 use Rattle.number_skeleton.specs.declared.choices.ChosenPrecision.TheVariants as precision
 use Rattle.number_skeleton.specs.declared.choices.ChosenUnit.TheVariants as unit
-use Rattle.number_skeleton.specs.declared.counts.Counts.{Counts}
-use Rattle.number_skeleton.specs.declared.meaning.{Expected.Expected, Meaning.Meaning}
 use Rattle.number_skeleton.specs.declared.meaning.Expected.TheVariants as expected
-use Rattle.number_skeleton.specs.Counts.{run, is_byte, is_wild}
-use Rattle.number_skeleton.specs.Decimal.{decimal}
-use Rattle.number_skeleton.specs.Words.{is_name, named, is_algorithmic}
 
 -- an option that none may follow
 abbrev pub last : Choice → Option Meaning
@@ -63,8 +53,7 @@ currency_option text =
     let second = slice_index text 1 in
     let third = slice_index text 2 in
     if (length text == 3) && is_code_byte first && is_code_byte second && is_code_byte third
-    then last (choice.Unit (unit.Currency
-    (to_ascii_uppercase first ∷ to_ascii_uppercase second ∷ to_ascii_uppercase third ∷ [])))
+    then last (choice.Unit (unit.Currency (first ∷ second ∷ third ∷ [])))
     else None
 
 -- ---- Integer digits: `*00` is at least two, `##00` two to four.

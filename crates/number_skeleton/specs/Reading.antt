@@ -1,14 +1,7 @@
 -- Skeletons: pieces between slashes and white space, of which each is a stem or an option of the last stem.
-use Rattle.std.specs.Prelude.{ℕ, ◌+◌, ◌-◌, ◌==◌, nat_lt, nat_le, Bool, true, false, ◌||◌, ◌&&◌, not, if◌then◌else◌, List, [], ◌∷◌, ◌++◌, length, take, slice_index, Option, Some, None, Result, Ok, Err}
-use Rattle.std.specs.Option.{option_and_then, option_map}
-use Rattle.number_skeleton.specs.declared.error.{SkeletonError.SkeletonError, SkeletonError.TheVariants.{Syntax}}
-use Rattle.number_skeleton.specs.declared.choices.{Choices.Choices, Span.Span}
-use Rattle.number_skeleton.specs.declared.reading.Reading.{Reading}
-use Rattle.number_skeleton.specs.declared.meaning.Expected.{Expected}
+use Rattle.std.specs.{Prelude.{ℕ, ◌+◌, ◌-◌, ◌==◌, nat_lt, nat_le, Bool, true, false, ◌||◌, ◌&&◌, not, if◌then◌else◌, List, [], ◌∷◌, ◌++◌, length, take, slice_index, Option, Some, None, Result, Ok, Err}, Option.{option_and_then, option_map}}
+use Rattle.number_skeleton.specs.{declared.{error.SkeletonError.{SkeletonError, TheVariants.Syntax}, choices.{Choices.Choices, Span.Span}, reading.Reading.Reading, meaning.Expected.Expected}, Choices.{no_choices, has, with}, Options.option, Stems.stem}
 use Rattle.number_skeleton.specs.declared.meaning.Expected.TheVariants as expected
-use Rattle.number_skeleton.specs.Choices.{no_choices, has, with}
-use Rattle.number_skeleton.specs.Options.{option}
-use Rattle.number_skeleton.specs.Stems.{stem}
 
 -- ---- Pieces.
 -- a piece of a text: its first offset, its bytes, and whether a slash ends it

@@ -1,16 +1,11 @@
 -- The stems of skeletons: words, and those that are numbers of digits.
-use Rattle.std.specs.Prelude.{ℕ, ◌==◌, nat_lt, Bool, ◌||◌, ◌&&◌, if◌then◌else◌, List, length, drop, slice_index, is_none, is_some, Option, Some, None, unwrap_or}
-use Rattle.std.specs.Option.{option_map}
+use Rattle.std.specs.{Prelude.{ℕ, ◌==◌, nat_lt, Bool, ◌||◌, ◌&&◌, if◌then◌else◌, List, length, drop, slice_index, is_none, is_some, Option, Some, None, unwrap_or}, Option.option_map}
 use Rattle.number_format.specs.declared.options.ExponentSign.{ExponentSign}
 use Rattle.number_format.specs.declared.options.ExponentSign.TheVariants as sign
 use Rattle.number_skeleton.specs.declared.choices.Choice.TheVariants as choice
 use Rattle.number_skeleton.specs.declared.choices.ChosenNotation.TheVariants as notation
-use Rattle.number_skeleton.specs.declared.choices.{ChosenPrecision.ChosenPrecision, ChosenPrecision.TheVariants.{Unlimited, Fraction, Significant}}
-use Rattle.number_skeleton.specs.declared.counts.Counts.{Counts}
+use Rattle.number_skeleton.specs.{declared.{choices.ChosenPrecision.{ChosenPrecision, TheVariants.{Unlimited, Fraction, Significant}}, counts.Counts.Counts, meaning.Meaning.Meaning}, Counts.{run, counts}, Words.named}
 use Rattle.number_skeleton.specs.declared.meaning.Expected.TheVariants as expected
-use Rattle.number_skeleton.specs.declared.meaning.Meaning.{Meaning}
-use Rattle.number_skeleton.specs.Counts.{run, counts}
-use Rattle.number_skeleton.specs.Words.{named}
 
 -- `.*` is any number of fraction digits, but none beside significant digits
 abbrev pub is_any : Counts → Bool

@@ -1,7 +1,5 @@
 -- The words of skeletons, as ICU has them.
-use Rattle.std.specs.Prelude.{ℕ, ◌-◌, ◌==◌, nat_eq, Bool, true, false, ◌&&◌, List, [], ◌∷◌, ◌++◌, map, length, replicate, slice_index, find, codes, Option, Some, None, pos}
-use Rattle.std.specs.List.{list_any, starts_with}
-use Rattle.std.specs.Option.{option_map}
+use Rattle.std.specs.{Prelude.{ℕ, ◌-◌, ◌==◌, nat_eq, Bool, true, false, ◌&&◌, List, [], ◌∷◌, ◌++◌, map, length, replicate, slice_index, find, codes, Option, Some, None, pos}, List.{list_any, starts_with}, Option.option_map}
 use Rattle.decimal_digits.specs.declared.rounding.UnsignedRoundingMode.TheVariants as absolute
 use Rattle.decimal_format.specs.declared.grouping.GroupingStrategy.TheVariants as grouping
 use Rattle.fixed_decimal.specs.declared.rounding.SignedRoundingMode.TheVariants as mode
@@ -11,17 +9,12 @@ use Rattle.number_format.specs.declared.options.CompactLength.TheVariants as com
 use Rattle.number_format.specs.declared.options.CurrencyDisplay.TheVariants as display
 use Rattle.number_format.specs.declared.options.CurrencyUsage.TheVariants as usage
 use Rattle.number_format.specs.declared.options.ExponentSign.TheVariants as exponent_sign
-use Rattle.number_skeleton.specs.declared.choices.Choice.{Choice}
+use Rattle.number_skeleton.specs.declared.{choices.{Choice.Choice, Exponent.Exponent}, counts.Counts.Counts, decimal.Decimal.Decimal, meaning.{Expected.Expected, Meaning.Meaning}, words.StemWord.StemWord}
 use Rattle.number_skeleton.specs.declared.choices.Choice.TheVariants as choice
 use Rattle.number_skeleton.specs.declared.choices.ChosenNotation.TheVariants as notation
 use Rattle.number_skeleton.specs.declared.choices.ChosenPrecision.TheVariants as precision
 use Rattle.number_skeleton.specs.declared.choices.ChosenUnit.TheVariants as unit
-use Rattle.number_skeleton.specs.declared.choices.Exponent.{Exponent}
-use Rattle.number_skeleton.specs.declared.counts.Counts.{Counts}
-use Rattle.number_skeleton.specs.declared.decimal.Decimal.{Decimal}
-use Rattle.number_skeleton.specs.declared.meaning.{Expected.Expected, Meaning.Meaning}
 use Rattle.number_skeleton.specs.declared.meaning.Expected.TheVariants as expected
-use Rattle.number_skeleton.specs.declared.words.StemWord.{StemWord}
 
 -- bytes and then spaces
 abbrev pub padded : ℕ → List ℕ → List ℕ

@@ -1,14 +1,13 @@
 //! What the stems of a skeleton choose.
 ghost use Rattle.std.specs.Prelude.{◌≡◌};
-ghost use Rattle.number_skeleton.specs.Choices.{has, with};
-ghost use Rattle.number_skeleton.specs.Digits.{unsupported, is_compact};
+ghost use Rattle.number_skeleton.specs.{Choices.{has, with}, Digits.{unsupported, is_compact}};
 
 use crate::counts::Counts;
 use crate::decimal::Decimal;
 use crate::error::SkeletonError;
 use decimal_format::GroupingStrategy;
 use fixed_decimal::{SignDisplay, SignedRoundingMode};
-use locale_data::{CurrencyCode, CurrencySign, Name};
+use locale_data::{CurrencySign, Name};
 use number_format::{
     CompactLength, CurrencyDisplay, CurrencyUsage, ExponentSign, Minimum, RoundingPriority,
 };
@@ -51,7 +50,8 @@ pub(crate) enum ChosenUnit {
     Base,
     Percent,
     Permille,
-    Currency(CurrencyCode),
+    /// The bytes of a code, which need not be letters.
+    Currency([u8; 3]),
     Other,
 }
 

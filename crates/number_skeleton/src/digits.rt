@@ -1,18 +1,27 @@
 //! The digits that the choices of a skeleton show, by ICU's defaults.
 ghost use Rattle.std.specs.Prelude.{◌≡◌, ◌≤◌, pos, negsuc, ◌≤ℤ◌, Ok, Err, MatchResult};
 ghost use Rattle.number_format.specs.ShownDigits.{increment_of};
-ghost use Rattle.number_skeleton.specs.Digits.{fraction_of, significant_of, fraction_digits, unit_of, multiples_of, increment_of_decimal, money_precision, both_of, currency_of, chosen_precision, precision_of, precision_value, integer_of, mode_of, digits_of, digits_value};
+ghost use Rattle.number_skeleton.specs.Digits.{digits_of_code, currency_digits_of, fraction_of, significant_of, fraction_digits, unit_of, multiples_of, increment_of_decimal, money_precision, both_of, currency_of, chosen_precision, precision_of, precision_value, integer_of, mode_of, digits_of, digits_value};
 
 use crate::choices::{Choices, ChosenPrecision, ChosenUnit, Span, TwoCounts};
 use crate::counts::Counts;
 use crate::decimal::Decimal;
 use crate::error::SkeletonError;
 use fixed_decimal::{SignedRoundingMode, UnsignedRoundingMode};
-use locale_data::{CurrencyDigits, currency_digits};
+use locale_data::{CurrencyCode, CurrencyDigits, UNLISTED_DIGITS, currency_digits};
 use number_format::{
     BothDigits, CurrencyUsage, DigitOptions, FractionDigits, FractionMultiples, Increment,
     IntegerDigits, Minimum, Precision, RoundingPriority, SignificantDigits, TrailingZeros,
 };
+
+fn digits_of_code(bytes: [u8; 3]) -> CurrencyDigits
+    ensures { result ≡ digits_of_code bytes }
+{
+    match CurrencyCode::try_from_utf8(&bytes) {
+        Ok(code) => currency_digits(code),
+        Err(_) => UNLISTED_DIGITS,
+    }
+}
 
 fn fraction(counts: Counts, stem: Span) -> Result<FractionDigits, SkeletonError>
     ensures { MatchResult result (λ f. fraction_of counts stem ≡ Ok (f.min, f.max))
@@ -152,6 +161,15 @@ impl Choices {
         }
     }
 
+    fn currency_digits(&self) -> CurrencyDigits
+        ensures { result ≡ currency_digits_of self.now.unit }
+    {
+        match self.unit {
+            Some((ChosenUnit::Currency(bytes), _)) => digits_of_code(bytes),
+            _ => UNLISTED_DIGITS,
+        }
+    }
+
     fn currency_precision(
         &self,
         usage: CurrencyUsage,
@@ -160,15 +178,7 @@ impl Choices {
         ensures { MatchResult result (λ p. currency_of self.now.unit usage stem ≡ Ok (precision_value p))
             (λ e. currency_of self.now.unit usage stem ≡ Err e) }
     {
-        if let Some((ChosenUnit::Currency(code), _)) = self.unit {
-            return money_precision(usage.digits(currency_digits(code)), stem);
-        }
-        let digits = CurrencyDigits {
-            digits: 2,
-            cash_digits: 2,
-            cash_increment: 0,
-        };
-        money_precision(usage.digits(digits), stem)
+        money_precision(usage.digits(self.currency_digits()), stem)
     }
 
     fn chosen_precision(

@@ -1,15 +1,13 @@
 //! The options that no skeleton names.
-ghost use Rattle.std.specs.Prelude.{◌≡◌};
-ghost use Rattle.std.specs.Option.{option_map};
-ghost use Rattle.number_skeleton.specs.NoStem.{is_unnamed_notation, hides_accounting, is_unnamed_code, is_unnamed_style, has_other_minimum, is_same_money, is_cash_of, has_other_cash, are_unnamed_digits, is_listed, is_unnamed_system, has_no_stem};
-ghost use Rattle.number_skeleton.specs.Digits.{precision_value, digits_value};
-ghost use Rattle.number_skeleton.specs.Meaning.{options_value};
+ghost use Rattle.std.specs.{Prelude.◌≡◌, Option.option_map};
+ghost use Rattle.number_skeleton.specs.{NoStem.{is_unnamed_notation, hides_accounting, is_unnamed_style, has_other_minimum, is_same_money, is_cash_of, has_other_cash, are_unnamed_digits, is_listed, is_unnamed_system, has_no_stem}, Digits.{precision_value, digits_value}, Meaning.options_value};
 
 use crate::choices::Span;
 use crate::digits::money_precision;
-use crate::options::is_code_byte;
 use fixed_decimal::SignDisplay;
-use locale_data::{CurrencyCode, CurrencySign, NUMBERING_SYSTEMS, Name, currency_digits};
+use locale_data::{
+    CurrencyCode, CurrencySign, NUMBERING_SYSTEMS, NumberingSystem, currency_digits, unpadded,
+};
 use number_format::{
     CurrencyUsage, DigitOptions, Minimum, NumberNotation, NumberOptions, NumberStyle, Precision,
 };
@@ -34,20 +32,12 @@ fn hides_accounting(sign: CurrencySign, display: SignDisplay) -> bool
     }
 }
 
-fn is_unnamed_code(code: CurrencyCode) -> bool
-    ensures { result ≡ is_unnamed_code code }
-{
-    code.iter().any(|byte| !is_code_byte(*byte))
-}
-
 fn is_unnamed_style(is_compact: bool, display: SignDisplay, style: NumberStyle) -> bool
     ensures { result ≡ is_unnamed_style is_compact display style }
 {
     match style {
         NumberStyle::Permille => is_compact,
-        NumberStyle::Currency(currency) => {
-            is_unnamed_code(currency.code) || hides_accounting(currency.sign, display)
-        }
+        NumberStyle::Currency(currency) => hides_accounting(currency.sign, display),
         _ => false,
     }
 }
@@ -116,15 +106,15 @@ fn is_listed(name: &[u8]) -> bool
 {
     NUMBERING_SYSTEMS
         .iter()
-        .any(|system| system.name.as_slice() == name)
+        .any(|system| unpadded(&system.name) == name)
 }
 
-fn is_unnamed_system(system: Option<Name>) -> bool
+fn is_unnamed_system(system: Option<NumberingSystem>) -> bool
     ensures { result ≡ is_unnamed_system system }
 {
     match system {
         None => false,
-        Some(name) => !is_listed(&name),
+        Some(name) => !is_listed(name.as_str().as_bytes()),
     }
 }
 

@@ -63,7 +63,7 @@ fn exponent_option(exponent: Exponent, text: &[u8]) -> Option<Meaning>
     })
 }
 
-pub(crate) fn is_code_byte(byte: u8) -> bool
+fn is_code_byte(byte: u8) -> bool
     ensures { result ≡ is_code_byte byte }
 {
     match byte {
@@ -79,11 +79,7 @@ fn currency_option(text: &[u8]) -> Option<Meaning>
     if text.len() != 3 || !is_code_byte(first) || !is_code_byte(second) || !is_code_byte(third) {
         return None;
     }
-    last(Choice::Unit(ChosenUnit::Currency([
-        first.to_ascii_uppercase(),
-        second.to_ascii_uppercase(),
-        third.to_ascii_uppercase(),
-    ])))
+    last(Choice::Unit(ChosenUnit::Currency([first, second, third])))
 }
 
 fn integer_option(text: &[u8]) -> Option<Meaning>

@@ -1,13 +1,13 @@
 //! The options that the choices of a skeleton are, by ICU's defaults.
 ghost use Rattle.std.specs.Prelude.{◌≡◌, Ok, Err, MatchResult};
-ghost use Rattle.number_skeleton.specs.Digits.{is_compact};
-ghost use Rattle.number_skeleton.specs.Meaning.{notation_of, width_of, percent_style, usage_of, style_of, scale_of, grouping_of, system_of, others_of, options_of, options_value};
+ghost use Rattle.locale_data.specs.{Codes.{code_of, system_name}, Rows.unpadded};
+ghost use Rattle.number_skeleton.specs.{Digits.is_compact, Meaning.{notation_of, width_of, percent_style, usage_of, currency_style, style_of, scale_of, grouping_of, system_by, system_of, others_of, options_of, options_value}};
 
 use crate::choices::{Choices, ChosenNotation, ChosenPrecision, ChosenUnit, Span};
 use crate::error::SkeletonError;
 use decimal_format::GroupingStrategy;
 use fixed_decimal::SignDisplay;
-use locale_data::{CurrencySign, Name};
+use locale_data::{CurrencyCode, CurrencySign, NumberingSystem, unpadded};
 use number_format::{
     CurrencyDisplay, CurrencyStyle, CurrencyUsage, ExponentOptions, NumberNotation, NumberOptions,
     NumberStyle,
@@ -25,6 +25,15 @@ fn percent_style(
     match (is_compact, display) {
         (false, _) | (true, CurrencyDisplay::Symbol) => Ok(NumberStyle::Percent),
         _ => Err(stem.unsupported()),
+    }
+}
+
+fn system_by(name: [u8; 16], stem: Span) -> Result<Option<NumberingSystem>, SkeletonError>
+    ensures { result ≡ system_by stem (system_name (unpadded name)) }
+{
+    match NumberingSystem::try_from_utf8(unpadded(&name)) {
+        Ok(system) => Ok(Some(system)),
+        Err(_) => Err(stem.unsupported()),
     }
 }
 
@@ -70,6 +79,25 @@ impl Choices {
         }
     }
 
+    fn currency_style(
+        &self,
+        code: [u8; 3],
+        display: CurrencyDisplay,
+        stem: Span,
+    ) -> Result<NumberStyle, SkeletonError>
+        ensures { result ≡ currency_style self.now display stem (code_of code) }
+    {
+        match CurrencyCode::try_from_utf8(&code) {
+            Ok(code) => Ok(NumberStyle::Currency(CurrencyStyle {
+                code,
+                display,
+                sign: self.sign.unwrap_or(STANDARD_SIGN).1,
+                usage: self.currency_usage(),
+            })),
+            Err(_) => Err(stem.unsupported()),
+        }
+    }
+
     #[tactic(auto, unfolding(crate::specs::Meaning::style_of))]
     fn style(&self) -> Result<NumberStyle, SkeletonError>
         ensures { result ≡ style_of self.now }
@@ -80,12 +108,7 @@ impl Choices {
             Some((ChosenUnit::Percent, stem)) => percent_style(self.is_compact(), display, stem),
             Some((ChosenUnit::Permille, stem)) if self.is_compact() => Err(stem.unsupported()),
             Some((ChosenUnit::Permille, _)) => Ok(NumberStyle::Permille),
-            Some((ChosenUnit::Currency(code), _)) => Ok(NumberStyle::Currency(CurrencyStyle {
-                code,
-                display,
-                sign: self.sign.unwrap_or(STANDARD_SIGN).1,
-                usage: self.currency_usage(),
-            })),
+            Some((ChosenUnit::Currency(code), stem)) => self.currency_style(code, display, stem),
             Some((ChosenUnit::Other, stem)) => Err(stem.unsupported()),
         }
     }
@@ -102,22 +125,21 @@ impl Choices {
         Ok(scale.power as i16)
     }
 
-    fn grouping_strategy(&self) -> Result<GroupingStrategy, SkeletonError>
-        ensures { result ≡ grouping_of (is_compact self.now.notation) self.now.grouping }
+    fn grouping_strategy(&self, notation: NumberNotation) -> Result<GroupingStrategy, SkeletonError>
+        ensures { result ≡ grouping_of notation self.now.grouping }
     {
         match self.grouping {
             Some((Some(grouping), _)) => Ok(grouping),
             Some((None, stem)) => Err(stem.unsupported()),
-            None if self.is_compact() => Ok(GroupingStrategy::Min2),
-            None => Ok(GroupingStrategy::Auto),
+            None => Ok(notation.default_grouping()),
         }
     }
 
-    fn numbering_system(&self) -> Result<Option<Name>, SkeletonError>
+    fn numbering_system(&self) -> Result<Option<NumberingSystem>, SkeletonError>
         ensures { result ≡ system_of self.now.system }
     {
         match self.system {
-            Some((Some(system), _)) => Ok(Some(system)),
+            Some((Some(name), stem)) => system_by(name, stem),
             Some((None, stem)) => Err(stem.unsupported()),
             None => Ok(None),
         }
@@ -142,13 +164,16 @@ impl Choices {
             (λ e. options_of self.now ≡ Err e) }
     {
         self.others()?;
+        let style = self.style()?;
+        let scale = self.power_of_ten()?;
+        let notation = self.number_notation()?;
         Ok(NumberOptions {
-            style: self.style()?,
-            scale: self.power_of_ten()?,
-            notation: self.number_notation()?,
+            style,
+            scale,
+            notation,
             digits: Some(self.digit_options()?),
             sign_display: self.sign.unwrap_or(STANDARD_SIGN).0,
-            grouping: self.grouping_strategy()?,
+            grouping: self.grouping_strategy(notation)?,
             numbering_system: self.numbering_system()?,
         })
     }

@@ -1,14 +1,11 @@
 //! Whether two options are the same.
-ghost use Rattle.std.specs.Prelude.{◌≡◌, ◌↔◌, true};
-ghost use Rattle.std.specs.Option.{option_map};
-ghost use Rattle.number_format.specs.Resolved.{counts};
-ghost use Rattle.number_skeleton.specs.Digits.{precision_value, digits_value};
-ghost use Rattle.number_skeleton.specs.Meaning.{options_value};
-ghost use Rattle.number_format.specs.declared.digits.precision.Precision.TheVariants.{Multiples, MorePrecision};
+ghost use Rattle.std.specs.{Prelude.{◌≡◌, ◌↔◌, true}, Option.option_map};
+ghost use Rattle.number_format.specs.{Resolved.counts, declared.digits.precision.Precision.TheVariants.{Multiples, MorePrecision}};
+ghost use Rattle.number_skeleton.specs.{Digits.{precision_value, digits_value}, Meaning.options_value};
 
 use number_format::{
     BothDigits, DigitOptions, FractionDigits, FractionMultiples, NumberNotation, NumberOptions,
-    NumberStyle, Precision, SignificantDigits,
+    NumberStyle, NumberingSystem, Precision, SignificantDigits,
 };
 
 fn same_style(first: NumberStyle, second: NumberStyle) -> bool
@@ -90,6 +87,16 @@ fn same_digit_options(first: Option<DigitOptions>, second: Option<DigitOptions>)
     }
 }
 
+fn same_system(first: Option<NumberingSystem>, second: Option<NumberingSystem>) -> bool
+    ensures { (result ≡ true) ↔ (first ≡ second) }
+{
+    match (first, second) {
+        (None, None) => true,
+        (Some(first), Some(second)) => first.as_str() == second.as_str(),
+        _ => false,
+    }
+}
+
 /// Returns whether two options are the same.
 pub(crate) fn same_options(first: &NumberOptions, second: &NumberOptions) -> bool
     ensures { (result ≡ true) ↔ (options_value first.now ≡ options_value second.now) }
@@ -100,5 +107,5 @@ pub(crate) fn same_options(first: &NumberOptions, second: &NumberOptions) -> boo
         && same_digit_options(first.digits, second.digits)
         && first.sign_display == second.sign_display
         && first.grouping == second.grouping
-        && first.numbering_system == second.numbering_system
+        && same_system(first.numbering_system, second.numbering_system)
 }

@@ -6,12 +6,12 @@ mod precision;
 
 use decimal_format::GroupingStrategy;
 use fixed_decimal::{SignDisplay, SignedRoundingMode, UnsignedRoundingMode};
-use locale_data::{CurrencyCode, CurrencySign, Name};
+use locale_data::{CurrencyCode, CurrencySign, NumberingSystem};
 use number_format::{
     CompactLength, CurrencyDisplay, ExponentOptions, ExponentSign, IntegerDigits, NumberNotation,
     NumberOptions, NumberStyle,
 };
-use numbers::{push_name, push_number, push_power, push_run};
+use numbers::{push_number, push_power, push_run};
 use precision::push_shown_precision;
 use std::alloc::AllocError;
 
@@ -45,7 +45,7 @@ fn push_notation(text: &mut String, notation: NumberNotation) -> Result<(), Allo
 
 fn push_currency(text: &mut String, code: CurrencyCode) -> Result<(), AllocError> {
     text.push_str("currency/")?;
-    push_name(text, &code)?;
+    text.push_str(code.as_str())?;
     text.push(' ')
 }
 
@@ -99,15 +99,15 @@ fn push_integer(text: &mut String, integer: IntegerDigits) -> Result<(), AllocEr
     text.push(' ')
 }
 
-fn push_system(text: &mut String, system: Option<Name>) -> Result<(), AllocError> {
+fn push_system(text: &mut String, system: Option<NumberingSystem>) -> Result<(), AllocError> {
     let Some(name) = system else {
         return Ok(());
     };
-    if name == *b"latn            " {
+    if name.as_str() == "latn" {
         return text.push_str("latin ");
     }
     text.push_str("numbering-system/")?;
-    push_name(text, &name)?;
+    text.push_str(name.as_str())?;
     text.push(' ')
 }
 

@@ -1,11 +1,7 @@
 -- The plural operands of a formatted number.
-use Rattle.std.specs.Prelude.{◌≡◌, ℕ, ◌/◌, ◌%◌, ◌^◌, ◌≤◌, length, Option, MatchOption, pos}
-use Rattle.std.specs.Str.Parse.{digits_value}
-use Rattle.std.specs.Int.{int_gap}
+use Rattle.std.specs.{Prelude.{◌≡◌, ℕ, ◌/◌, ◌%◌, ◌^◌, ◌≤◌, length, Option, MatchOption, pos}, Str.Parse.digits_value, Int.int_gap}
 use Rattle.decimal_digits.specs.Number.{weight}
-use Rattle.decimal_unsigned.specs.Unsigned.{Unsigned}
-use Rattle.decimal_unsigned.specs.Edits.{multiplied, trimmed_end}
-use Rattle.decimal_unsigned.specs.Grammar.{Literal}
+use Rattle.decimal_unsigned.specs.{Unsigned.Unsigned, Edits.{multiplied, trimmed_end}, Grammar.Literal}
 
 -- a value multiplied by 10^exponent, and the exponent of the compact decimal: of 1.2c6 they are 1200000 and 6
 pub record Operands : Type 0 where

@@ -1,14 +1,7 @@
 -- Plural rules and their semantics.
-use Rattle.std.specs.Prelude.{ℕ, ◌%◌, ◌^◌, ◌==◌, nat_lt, nat_le, Bool, true, ◌&&◌, not, if◌then◌else◌, List, codes, Option, Some, None, find}
-use Rattle.std.specs.List.{list_any, list_all}
-use Rattle.std.specs.Option.{option_map_or}
-use Rattle.plural_rules.specs.declared.rules.PluralCategory.{PluralCategory}
-use Rattle.plural_rules.specs.declared.rules.PluralCategory.TheVariants.{Zero, One, Two, Few, Many, Other}
-use Rattle.plural_rules.specs.declared.rules.Operand.{Operand}
-use Rattle.plural_rules.specs.declared.rules.Operand.TheVariants.{N, I, V, W, F, T, C}
-use Rattle.plural_rules.specs.declared.rules.Range.{Range}
+use Rattle.std.specs.{Prelude.{ℕ, ◌%◌, ◌^◌, ◌==◌, nat_lt, nat_le, Bool, true, ◌&&◌, not, if◌then◌else◌, List, codes, Option, Some, None, find}, List.{list_any, list_all}, Option.option_map_or}
+use Rattle.plural_rules.specs.{declared.rules.{PluralCategory.{PluralCategory, TheVariants.{Zero, One, Two, Few, Many, Other}}, Operand.{Operand, TheVariants.{N, I, V, W, F, T, C}}, Range.Range}, Operands.Operands}
 use Rattle.plural_rules.specs.Operands as of
-use Rattle.plural_rules.specs.Operands.{Operands}
 
 -- ---- Rules.
 

@@ -1,10 +1,7 @@
 -- The state of the builder as the rules so far. Only private contracts cite this file.
 use Rattle.std.specs.Prelude.{◌≡◌, ℕ, Bool, ◌+◌, ◌*◌, ◌^◌, ◌<◌, ◌≤◌, true, map}
-use Rattle.plural_rules.specs.declared.parse.state.Event.{Event}
+use Rattle.plural_rules.specs.{declared.parse.{state.{Event.Event, Categories.Categories}, builder.Builder.Builder}, RulesReader.Partial}
 use Rattle.plural_rules.specs.declared.parse.state.Event.TheVariants as event
-use Rattle.plural_rules.specs.declared.parse.state.Categories.{Categories}
-use Rattle.plural_rules.specs.declared.parse.builder.Builder.{Builder}
-use Rattle.plural_rules.specs.RulesReader.{Partial}
 
 abbrev pub partial : Categories → Builder → Partial
 partial seen b = record {

@@ -1,17 +1,7 @@
 -- The grammar of rules, with their meaning. Each form is a relation between a text, the meaning of a prefix of it, and
 -- the rest of the text after that prefix. Blanks may follow each token, and precede the first.
-use Rattle.std.specs.Prelude.{◌≡◌, ◌≢◌, ℕ, ◌<◌, ◌==◌, Bool, true, false, ◌||◌, List, [], ◌∷◌, ◌++◌, length, Option, Some, None, codes}
-use Rattle.std.specs.Char.{is_ascii_digit}
-use Rattle.std.specs.List.{AllByRecursion}
-use Rattle.std.specs.Str.{all_ascii_digits}
-use Rattle.std.specs.Str.Parse.{digits_value}
-use Rattle.plural_rules.specs.declared.rules.PluralCategory.{PluralCategory}
-use Rattle.plural_rules.specs.declared.rules.PluralCategory.TheVariants.{Other}
-use Rattle.plural_rules.specs.declared.rules.Operand.{Operand}
-use Rattle.plural_rules.specs.declared.rules.Operand.TheVariants.{N, I, V, W, F, T, C}
-use Rattle.plural_rules.specs.declared.rules.Range.{Range}
-use Rattle.plural_rules.specs.Operands.{Operands}
-use Rattle.plural_rules.specs.Rules.{name_of, RelationValue, relation, RuleValue, rule, category_of}
+use Rattle.std.specs.{Prelude.{◌≡◌, ◌≢◌, ℕ, ◌<◌, ◌==◌, Bool, true, false, ◌||◌, List, [], ◌∷◌, ◌++◌, length, Option, Some, None, codes}, Char.is_ascii_digit, List.AllByRecursion, Str.{all_ascii_digits, Parse.digits_value}}
+use Rattle.plural_rules.specs.{declared.rules.{PluralCategory.{PluralCategory, TheVariants.Other}, Operand.{Operand, TheVariants.{N, I, V, W, F, T, C}}, Range.Range}, Operands.Operands, Rules.{name_of, RelationValue, relation, RuleValue, rule, category_of}}
 
 -- ---- Tokens.
 

@@ -1,12 +1,6 @@
 -- The result of the parser: the rules, or the reason for which the text is rejected.
-use Rattle.std.specs.Prelude.{◌≡◌, ℕ, ◌+◌, ◌-◌, ◌^◌, ◌<◌, ◌≤◌, true, false, List, ◌++◌, length, take, get_or, IfSome, Result, Ok, Err}
-use Rattle.std.specs.Char.{is_ascii_digit}
-use Rattle.std.specs.List.{AllByRecursion}
-use Rattle.plural_rules.specs.declared.parse.RulesError.{RulesError}
-use Rattle.plural_rules.specs.declared.parse.RulesError.TheVariants.{Syntax, Limit, Memory}
-use Rattle.plural_rules.specs.declared.rules.Range.{Range}
-use Rattle.plural_rules.specs.Rules.{RelationValue, RuleValue}
-use Rattle.plural_rules.specs.RulesGrammar.{Grammar}
+use Rattle.std.specs.{Prelude.{◌≡◌, ℕ, ◌+◌, ◌-◌, ◌^◌, ◌<◌, ◌≤◌, true, false, List, ◌++◌, length, take, get_or, IfSome, Result, Ok, Err}, Char.is_ascii_digit, List.AllByRecursion}
+use Rattle.plural_rules.specs.{declared.{parse.RulesError.{RulesError, TheVariants.{Syntax, Limit, Memory}}, rules.Range.Range}, Rules.{RelationValue, RuleValue}, RulesGrammar.Grammar}
 
 -- the bytes are a prefix of some rules
 abbrev pub IsViablePrefix : List ℕ → Type 0

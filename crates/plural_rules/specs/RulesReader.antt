@@ -1,21 +1,9 @@
 -- The parser as a state machine: the transition on each byte at each state, and the rules so far.
 -- Only private contracts cite this file.
-use Rattle.std.specs.Prelude.{ℕ, ◌+◌, ◌-◌, ◌*◌, ◌^◌, ◌==◌, nat_lt, nat_le, Bool, true, false, ◌||◌, ◌&&◌, if◌then◌else◌, List, [], ◌∷◌, ◌++◌, length, get_or, Option, Some, None}
-use Rattle.std.specs.Char.{is_ascii_digit}
-use Rattle.plural_rules.specs.declared.rules.PluralCategory.{PluralCategory}
-use Rattle.plural_rules.specs.declared.rules.PluralCategory.TheVariants.{Zero, One as CategoryOne, Two, Few, Many, Other}
-use Rattle.plural_rules.specs.declared.rules.Operand.{Operand}
-use Rattle.plural_rules.specs.declared.rules.Operand.TheVariants.{N, I, V, W, F, T, C}
-use Rattle.plural_rules.specs.declared.rules.Range.{Range}
-use Rattle.plural_rules.specs.declared.parse.state.State.{State}
+use Rattle.std.specs.{Prelude.{ℕ, ◌+◌, ◌-◌, ◌*◌, ◌^◌, ◌==◌, nat_lt, nat_le, Bool, true, false, ◌||◌, ◌&&◌, if◌then◌else◌, List, [], ◌∷◌, ◌++◌, length, get_or, Option, Some, None}, Char.is_ascii_digit}
+use Rattle.plural_rules.specs.{declared.{rules.{PluralCategory.{PluralCategory, TheVariants.{Zero, One as CategoryOne, Two, Few, Many, Other}}, Operand.{Operand, TheVariants.{N, I, V, W, F, T, C}}, Range.Range}, parse.{state.{State.State, Event.Event, Categories.Categories}, numbers.Numbers.{Numbers, TheVariants.{Fit, TooLarge}}}}, Rules.{name_of, RelationValue, relation, RuleValue, rule}, RulesGrammar.is_blank}
 use Rattle.plural_rules.specs.declared.parse.state.State.TheVariants as state
-use Rattle.plural_rules.specs.declared.parse.state.Event.{Event}
 use Rattle.plural_rules.specs.declared.parse.state.Event.TheVariants as event
-use Rattle.plural_rules.specs.declared.parse.state.Categories.{Categories}
-use Rattle.plural_rules.specs.declared.parse.numbers.Numbers.{Numbers}
-use Rattle.plural_rules.specs.declared.parse.numbers.Numbers.TheVariants.{Fit, TooLarge}
-use Rattle.plural_rules.specs.Rules.{name_of, RelationValue, relation, RuleValue, rule}
-use Rattle.plural_rules.specs.RulesGrammar.{is_blank}
 
 -- ---- The categories so far.
 

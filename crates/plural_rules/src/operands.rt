@@ -1,11 +1,7 @@
 //! The plural operands of a decimal, at any length.
-ghost use Rattle.std.specs.Prelude.{◌≡◌, ◌+◌, ◌%◌, ◌^◌, ◌<◌, ◌≤◌, ◌+ℤ◌, ◌≤ℤ◌, None, pos, negsuc};
-ghost use Rattle.std.specs.Int.{int_gap, int_max, int_min};
-ghost use Rattle.decimal_unsigned.specs.Grammar.{Literal, Grammar};
-ghost use Rattle.decimal_unsigned.specs.Text.{text};
-ghost use Rattle.decimal_unsigned.specs.Unsigned.{Unsigned};
-ghost use Rattle.plural_rules.specs.Operands.{plain, compact, i, v, w, f, t, MatchesDigits, IsIn64Bits};
-ghost use Rattle.plural_rules.specs.DigitSlice.{IsUpTo};
+ghost use Rattle.std.specs.{Prelude.{◌≡◌, ◌+◌, ◌%◌, ◌^◌, ◌<◌, ◌≤◌, ◌+ℤ◌, ◌≤ℤ◌, None, pos, negsuc}, Int.{int_gap, int_max, int_min}};
+ghost use Rattle.decimal_unsigned.specs.{Grammar.{Literal, Grammar}, Text.text, Unsigned.Unsigned};
+ghost use Rattle.plural_rules.specs.{Operands.{plain, compact, i, v, w, f, t, MatchesDigits, IsIn64Bits}, DigitSlice.IsUpTo};
 
 mod digits;
 

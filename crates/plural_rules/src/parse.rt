@@ -1,8 +1,6 @@
 //! The parser of rules.
 ghost use Rattle.std.specs.Prelude.{◌≡◌, List};
-ghost use Rattle.plural_rules.specs.Rules.{RuleValue};
-ghost use Rattle.plural_rules.specs.RulesGrammar.{Grammar};
-ghost use Rattle.plural_rules.specs.RulesParseResult.{IsParseResult};
+ghost use Rattle.plural_rules.specs.{Rules.RuleValue, RulesGrammar.Grammar, RulesParseResult.IsParseResult};
 
 mod builder;
 mod numbers;

@@ -1,11 +1,8 @@
 -- The parts of a bill.
 use Rattle.std.specs.Prelude.{◌≡◌, ℕ, zero, suc, ◌+◌, ◌*◌, ◌/◌, ◌%◌, ◌^◌, ◌<◌, ◌≤◌, ◌⊎◌, nat_lt, IsTrue, IsFalse, if◌then◌else◌, List, [], ◌∷◌, ◌++◌, sum_by, negsuc, pos}
 use Rattle.decimal_digits.specs.Number.{weight, size}
-use Rattle.decimal_unsigned.specs.Unsigned.{Unsigned, integer_value}
-use Rattle.decimal_unsigned.specs.Edits.{leaves_limits, multiplied}
-use Rattle.decimal_unsigned.specs.declared.decimal.TheConstants.{INLINE_DIGITS}
-use Rattle.uses.specs.declared.bill.BillError.{BillError}
-use Rattle.uses.specs.declared.bill.BillError.TheVariants.{NoPart, PartOfACent, TooGreat, Memory}
+use Rattle.decimal_unsigned.specs.{Unsigned.{Unsigned, integer_value}, Edits.{leaves_limits, multiplied}, declared.decimal.TheConstants.INLINE_DIGITS}
+use Rattle.uses.specs.declared.bill.BillError.{BillError, TheVariants.{NoPart, PartOfACent, TooGreat, Memory}}
 
 -- the weight of a cent; negsuc 1 is -2
 abbrev pub cent : ℕ

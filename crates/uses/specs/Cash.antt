@@ -1,11 +1,7 @@
 -- An amount payable in coins.
-use Rattle.std.specs.Prelude.{◌≡◌, ℕ, ◌*◌, negsuc}
-use Rattle.std.specs.Int.{int_max}
-use Rattle.decimal_digits.specs.Number.{weight, first}
-use Rattle.decimal_digits.specs.Rounding.{Named}
-use Rattle.decimal_digits.specs.declared.rounding.UnsignedRoundingMode.TheVariants.{HalfEven}
-use Rattle.decimal_unsigned.specs.Unsigned.{Unsigned, integer_value}
-use Rattle.decimal_unsigned.specs.Edits.{multiplied}
+use Rattle.std.specs.{Prelude.{◌≡◌, ℕ, ◌*◌, negsuc}, Int.int_max}
+use Rattle.decimal_digits.specs.{Number.{weight, first}, Rounding.Named, declared.rounding.UnsignedRoundingMode.TheVariants.HalfEven}
+use Rattle.decimal_unsigned.specs.{Unsigned.{Unsigned, integer_value}, Edits.multiplied}
 
 -- the value is the multiple of five cents nearest to the hundredths of cents, ties to the even factor; it has two
 -- fraction digits, and the integer digits of the exact amount, or more if its own first digit is higher; negsuc 1 is

@@ -1,18 +1,9 @@
 -- A column of amounts in normal form.
-use Rattle.std.specs.Prelude.{◌≡◌, ℕ, ◌<◌, ◌↔◌, List, [], ◌∷◌, ◌++◌, Option, Result, Ok, IsOkAnd}
-use Rattle.std.specs.Borrow.{Bor}
-use Rattle.std.specs.Io.KnownBytes.{Appends}
-use Rattle.decimal_digits.specs.AppendsPrefix.{AppendsPrefix}
-use Rattle.decimal_unsigned.specs.Unsigned.{Unsigned, IsValue}
-use Rattle.decimal_unsigned.specs.Text.{text}
-use Rattle.decimal_unsigned.specs.ValueLaws.{trimmed}
-use Rattle.decimal_unsigned.specs.Reading.{ReadError, read}
-use Rattle.decimal_unsigned.specs.ParseResult.{ParseFails}
-use Rattle.decimal_unsigned.specs.declared.decimal.TheConstants.{INLINE_DIGITS}
-use Rattle.decimal_digits.specs.Number.{size}
+use Rattle.std.specs.{Prelude.{◌≡◌, ℕ, ◌<◌, ◌↔◌, List, [], ◌∷◌, ◌++◌, Option, Result, Ok, IsOkAnd}, Borrow.Bor, Io.KnownBytes.Appends}
+use Rattle.decimal_digits.specs.{AppendsPrefix.AppendsPrefix, Number.size}
+use Rattle.decimal_unsigned.specs.{Unsigned.{Unsigned, IsValue}, Text.text, ValueLaws.trimmed, Reading.{ReadError, read}, ParseResult.ParseFails, declared.decimal.TheConstants.INLINE_DIGITS}
 use Rattle.fixed_decimal.specs.DecimalText.{and_then}
-use Rattle.uses.specs.declared.column.ColumnError.{ColumnError}
-use Rattle.uses.specs.declared.column.ColumnError.TheVariants.{Amount, Sink}
+use Rattle.uses.specs.declared.column.ColumnError.{ColumnError, TheVariants.{Amount, Sink}}
 
 -- the text of a value without leading zeros and trailing zeros of the fraction
 abbrev pub normal_text : Unsigned → List ℕ

@@ -1,12 +1,8 @@
 -- A measured value with a limited number of fraction digits.
-use Rattle.std.specs.Prelude.{◌≡◌, ◌*◌, ◌≤◌, if◌then◌else◌, Option, Some, ℤ, int_lt, ◌≤ℤ◌}
-use Rattle.std.specs.Int.{abs_diff}
-use Rattle.decimal_digits.specs.Number.{weight}
-use Rattle.decimal_digits.specs.declared.rounding.UnsignedRoundingMode.TheVariants.{HalfEven}
+use Rattle.std.specs.{Prelude.{◌≡◌, ◌*◌, ◌≤◌, if◌then◌else◌, Option, Some, ℤ, int_lt, ◌≤ℤ◌}, Int.abs_diff}
+use Rattle.decimal_digits.specs.{Number.weight, declared.rounding.UnsignedRoundingMode.TheVariants.HalfEven}
 use Rattle.decimal_unsigned.specs.Rounded.{rounding_by_1}
-use Rattle.fixed_decimal.specs.Decimal.{Decimal}
-use Rattle.fixed_decimal.specs.SignedRounding.{rounded}
-use Rattle.fixed_decimal.specs.declared.rounding.SignedRoundingMode.TheVariants.{Unsigned}
+use Rattle.fixed_decimal.specs.{Decimal.Decimal, SignedRounding.rounded, declared.rounding.SignedRoundingMode.TheVariants.Unsigned}
 
 -- rounded half-even at a position if digits are shown below it, and unchanged otherwise
 abbrev pub shortened : Decimal → ℤ → Option Decimal

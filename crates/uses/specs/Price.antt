@@ -1,9 +1,7 @@
 -- The printed price.
 use Rattle.std.specs.Prelude.{ℕ, ◌*◌, Option, option_and_then, negsuc}
 use Rattle.decimal_digits.specs.declared.rounding.UnsignedRoundingMode.TheVariants.{HalfEven}
-use Rattle.decimal_unsigned.specs.Unsigned.{Unsigned, integer_value}
-use Rattle.decimal_unsigned.specs.Edits.{multiplied_pow10}
-use Rattle.decimal_unsigned.specs.Rounded.{rounding_by_1, rounded}
+use Rattle.decimal_unsigned.specs.{Unsigned.{Unsigned, integer_value}, Edits.multiplied_pow10, Rounded.{rounding_by_1, rounded}}
 
 -- a percentage of a number of cents, in units of money: the product over 10^4; negsuc 3 is -4
 abbrev pub exact_price : ℕ → ℕ → Option Unsigned

@@ -1,12 +1,7 @@
 -- What is written for a run.
 use Rattle.std.specs.Prelude.{◌≡◌, ◌≢◌, ℕ, ◌⊎◌, List, Ok}
 use Rattle.decimal_unsigned.specs.declared.decimal.TheConstants.{INLINE_DIGITS}
-use Rattle.fixed_decimal.specs.Outcome.{outcome}
-use Rattle.fixed_decimal.specs.Errors.{RunFails}
-use Rattle.fixed_decimal.specs.ErrorText.{run_error_text}
-use Rattle.fixed_decimal.specs.declared.runs.Call.{Call}
-use Rattle.fixed_decimal.specs.declared.runs.RunError.{RunError}
-use Rattle.fixed_decimal.specs.declared.runs.RunError.TheVariants.{Sink}
+use Rattle.fixed_decimal.specs.{Outcome.outcome, Errors.RunFails, ErrorText.run_error_text, declared.runs.{Call.Call, RunError.{RunError, TheVariants.Sink}}}
 
 -- the run may return an error other than that of the sink
 abbrev pub MayFail : List ℕ → List Call → Type 0

@@ -1,7 +1,6 @@
 //! Changes of the absolute value of a decimal, through `DerefMut`.
 ghost use Rattle.std.specs.Prelude.{◌≡◌, negsuc, None, Some, option_map, IfOk, IfErr};
-ghost use Rattle.decimal_unsigned.specs.Edits.{multiplied_pow10, trimmed_end};
-ghost use Rattle.decimal_unsigned.specs.Rounded.{UpdatesInPlace};
+ghost use Rattle.decimal_unsigned.specs.{Edits.{multiplied_pow10, trimmed_end}, Rounded.UpdatesInPlace};
 ghost use Rattle.fixed_decimal.specs.Decimal.{with_absolute};
 
 use fixed_decimal::{Decimal, DigitStore, LimitError, Sign, Signed, UnsignedDecimal, UnsignedOver};

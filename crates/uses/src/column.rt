@@ -1,6 +1,5 @@
 //! A column of amounts, parsed and written in normal form.
-ghost use Rattle.std.specs.Prelude.{◌≡◌, Err, OnOk, IfErr, IsOkAnd, true};
-ghost use Rattle.std.specs.Io.KnownBytes.{Appends};
+ghost use Rattle.std.specs.{Prelude.{◌≡◌, Err, OnOk, IfErr, IsOkAnd, true}, Io.KnownBytes.Appends};
 ghost use Rattle.decimal_digits.specs.AppendsPrefix.{AppendsPrefix};
 ghost use Rattle.decimal_unsigned.specs.Reading.{read};
 ghost use Rattle.uses.specs.Column.{normal_form, column_text, HasUniqueForm, AmountFails, Stops};

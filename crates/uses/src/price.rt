@@ -1,10 +1,7 @@
 //! A percentage of an amount, printed.
-ghost use Rattle.std.specs.Prelude.{◌≡◌, ◌<◌, ◌*◌, Err, OnOk, OnErr, IsSomeAnd, codes, true};
-ghost use Rattle.std.specs.Io.KnownBytes.{Appends};
-ghost use Rattle.decimal_digits.specs.Number.{size};
-ghost use Rattle.decimal_digits.specs.AppendsPrefix.{AppendsPrefix};
-ghost use Rattle.decimal_unsigned.specs.Text.{text};
-ghost use Rattle.decimal_unsigned.specs.Unsigned.{integer_value};
+ghost use Rattle.std.specs.{Prelude.{◌≡◌, ◌<◌, ◌*◌, Err, OnOk, OnErr, IsSomeAnd, codes, true}, Io.KnownBytes.Appends};
+ghost use Rattle.decimal_digits.specs.{Number.size, AppendsPrefix.AppendsPrefix};
+ghost use Rattle.decimal_unsigned.specs.{Text.text, Unsigned.integer_value};
 ghost use Rattle.uses.specs.Price.{price};
 
 use fixed_decimal::{INLINE_DIGITS, Sink, SinkFault, UnsignedDecimal, Writeable};

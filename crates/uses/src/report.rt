@@ -1,6 +1,5 @@
 //! A run of calls that reports its first error in words.
-ghost use Rattle.std.specs.Prelude.{◌≡◌, ℕ, List, Err, OnOk, true};
-ghost use Rattle.std.specs.Io.KnownBytes.{Appends};
+ghost use Rattle.std.specs.{Prelude.{◌≡◌, ℕ, List, Err, OnOk, true}, Io.KnownBytes.Appends};
 ghost use Rattle.decimal_digits.specs.AppendsPrefix.{AppendsPrefix};
 ghost use Rattle.fixed_decimal.specs.ErrorText.{run_error_text};
 ghost use Rattle.uses.specs.Report.{MayFail, IsTextOrReport};

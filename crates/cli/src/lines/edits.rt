@@ -1,8 +1,6 @@
 //! The fields of a line that are replaced by their conversions.
 ghost use Rattle.std.specs.Prelude.{◌≡◌, ◌≢◌, ◌<◌, ◌++◌, List, ℕ, true, false, Ok, None, IfOk, IfErr};
-ghost use Rattle.cli.specs.Edits.{IsEdit, EditFails, IsEditedLine, EditingFails, first_error};
-ghost use Rattle.cli.specs.Error.{line_error};
-ghost use Rattle.cli.specs.Fields.{within, bytes_of, IsCursor};
+ghost use Rattle.cli.specs.{Edits.{IsEdit, EditFails, IsEditedLine, EditingFails, first_error}, Error.line_error, Fields.{within, bytes_of, IsCursor}};
 
 use crate::lines::field_conversion::append_converted;
 use crate::lines::fields::{Cursor, Field};

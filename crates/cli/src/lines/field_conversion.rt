@@ -1,10 +1,7 @@
 //! The conversion of a field, and of a whole line that is trimmed.
-ghost use Rattle.std.specs.Prelude.{◌≡◌, ◌≢◌, ◌≤◌, ◌++◌, length, Ok, Err, true, IfOk, IfErr, OnOk, OnErr};
-ghost use Rattle.std.specs.Io.KnownBytes.{Appends};
+ghost use Rattle.std.specs.{Prelude.{◌≡◌, ◌≢◌, ◌≤◌, ◌++◌, length, Ok, Err, true, IfOk, IfErr, OnOk, OnErr}, Io.KnownBytes.Appends};
 ghost use Rattle.decimal_digits.specs.AppendsPrefix.{AppendsPrefix};
-ghost use Rattle.cli.specs.Fields.{within, replaced, bytes_of};
-ghost use Rattle.cli.specs.FieldConversion.{IsTextResult, is_trimmed, IsFieldResult, HasFieldText, HasLineText, LineFails};
-ghost use Rattle.cli.specs.Trim.{with_text_of};
+ghost use Rattle.cli.specs.{Fields.{within, replaced, bytes_of}, FieldConversion.{IsTextResult, is_trimmed, IsFieldResult, HasFieldText, HasLineText, LineFails}, Trim.with_text_of};
 
 use crate::lines::fields::Field;
 use crate::lines::trim::{text_of, trimmed_bounds};

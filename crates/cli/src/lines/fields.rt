@@ -1,11 +1,7 @@
 //! The fields of a line.
-ghost use Rattle.std.specs.Prelude.{◌≡◌, ◌≢◌, ◌≤◌, ◌<◌, ◌+◌, ◌++◌, ℕ, List, [], length, slice_get, IfSome, IfOk, Ok, None, OnOk, OnErr, true};
-ghost use Rattle.std.specs.List.{list_any};
-ghost use Rattle.std.specs.Cow.{cow_slice_items};
-ghost use Rattle.std.specs.Io.KnownBytes.{Appends};
+ghost use Rattle.std.specs.{Prelude.{◌≡◌, ◌≢◌, ◌≤◌, ◌<◌, ◌+◌, ◌++◌, ℕ, List, [], length, slice_get, IfSome, IfOk, Ok, None, OnOk, OnErr, true}, List.list_any, Cow.cow_slice_items, Io.KnownBytes.Appends};
 ghost use Rattle.decimal_digits.specs.AppendsPrefix.{AppendsPrefix};
-ghost use Rattle.cli.specs.Fields.{is_quote, are_closed, is_outside, at_index, delimiter_after, start_of, bounds, has_open_quote, IsAt, IsCursor, double, doubled, between_quotes, quoted, Holds};
-ghost use Rattle.cli.specs.Fields.{is_quoted, is_special, needs_quotes, bytes_of, record_of, located};
+ghost use Rattle.cli.specs.Fields.{is_quote, are_closed, is_outside, at_index, delimiter_after, start_of, bounds, has_open_quote, IsAt, IsCursor, double, doubled, between_quotes, quoted, Holds, is_quoted, is_special, needs_quotes, bytes_of, record_of, located};
 
 use crate::lines::trim::without_return;
 use conversions::OperationError;

@@ -1,14 +1,8 @@
 //! What a filter writes for a row of an input: a line, or a record of CSV.
-ghost use Rattle.std.specs.Prelude.{◌≡◌, ◌≢◌, ◌<◌, ◌∷◌, ◌++◌, [], Err, Some, None, true, false, IsSome, IfErr, IfSome, OnOk, OnErr};
-ghost use Rattle.cli.specs.Edits.{HasEditedText, EditingFails};
-ghost use Rattle.cli.specs.Error.{line_error};
-ghost use Rattle.std.specs.Io.KnownBytes.{Appends};
+ghost use Rattle.std.specs.{Prelude.{◌≡◌, ◌≢◌, ◌<◌, ◌∷◌, ◌++◌, [], Err, Some, None, true, false, IsSome, IfErr, IfSome, OnOk, OnErr}, Io.KnownBytes.Appends};
+ghost use Rattle.cli.specs.{Edits.{HasEditedText, EditingFails}, Error.line_error, FieldConversion.{HasLineText, LineFails}, Fields.replaced, Trim.body_bounds, Filter.{IsHeader, body_of, replacement, HasConvertedLine, ConvertingFails, HasText, ConversionFails, HasRowText, RowFails, lines_of_row}};
 ghost use Rattle.decimal_digits.specs.AppendsPrefix.{AppendsPrefix};
 ghost use Rattle.memchr.specs.Find.{IsFirstByte, is_byte};
-ghost use Rattle.cli.specs.FieldConversion.{HasLineText, LineFails};
-ghost use Rattle.cli.specs.Fields.{replaced};
-ghost use Rattle.cli.specs.Trim.{body_bounds};
-ghost use Rattle.cli.specs.Filter.{IsHeader, body_of, replacement, HasConvertedLine, ConvertingFails, HasText, ConversionFails, HasRowText, RowFails, lines_of_row};
 
 use crate::lines::edits::{FieldConversion, edited};
 use crate::lines::field_conversion::{convert_trimmed, write_replaced};

@@ -1,7 +1,6 @@
 //! The fields that words name, in a header.
 ghost use Rattle.std.specs.Prelude.{◌≡◌, ◌≢◌, ◌<◌, ◌≤◌, ℕ, None, true, false, [], length, vec_len, IfSome, IfOk, IfErr, OnOk};
-ghost use Rattle.cli.specs.Fields.{within, quoted};
-ghost use Rattle.cli.specs.Headers.{HoldsName, HasName, NoneHas, IsHeaderOf, HasBounds, IsIndexOf, HasNoIndex, has_index, count_before, IsPlaced, AddsField, FieldFails, AreFields, FieldsFail};
+ghost use Rattle.cli.specs.{Fields.{within, quoted}, Headers.{HoldsName, HasName, NoneHas, IsHeaderOf, HasBounds, IsIndexOf, HasNoIndex, has_index, count_before, IsPlaced, AddsField, FieldFails, AreFields, FieldsFail}};
 
 use crate::lines::edits::{FieldConversion, within};
 use crate::lines::fields::{Field, write_quoted};

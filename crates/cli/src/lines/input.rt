@@ -1,8 +1,5 @@
 //! Input in blocks.
-ghost use Rattle.std.specs.Prelude.{◌≡◌, ◌<◌, [], length, Ok, Some, None, true, false, OnOk, IfOk, IfErr, IfSome};
-ghost use Rattle.std.specs.Io.{StartsWith};
-ghost use Rattle.std.specs.Io.BufRead.{DropsConsumable, strip_last};
-ghost use Rattle.std.specs.Io.Buffered.{reader_buffer, reader_inner};
+ghost use Rattle.std.specs.{Prelude.{◌≡◌, ◌<◌, [], length, Ok, Some, None, true, false, OnOk, IfOk, IfErr, IfSome}, Io.{StartsWith, BufRead.{DropsConsumable, strip_last}, Buffered.{reader_buffer, reader_inner}}};
 ghost use Rattle.cli.specs.Input.{bytes_left, IsRead, IsAppended, IsRecordRead, IsRowRead};
 
 use crate::lines::fields::are_closed;
@@ -24,10 +21,7 @@ pub struct LineReader<R: Read> {
 }
 
 impl<R: Read> Model for LineReader<R> {
-    ghost use Rattle.std.specs.Prelude.{Option};
-    ghost use Rattle.std.specs.declared.alloc.Global.{Global};
-    ghost use Rattle.std.specs.declared.io.ErrorKind.{ErrorKind};
-    ghost use Rattle.std.specs.declared.io.buffered.BufReader.{BufReader};
+    ghost use Rattle.std.specs.{Prelude.Option, declared.{alloc.Global.Global, io.{ErrorKind.ErrorKind, buffered.BufReader.BufReader}}};
 
     ghost Value = { BufReader R Global × Option ErrorKind };
 

@@ -1,11 +1,7 @@
 //! The filter that words name, and its run on an input whose header has the names of fields.
 ghost use Rattle.std.specs.Prelude.{◌≡◌, ℕ, List, Option, Ok, Err, true, false, IfOk, IfErr};
 ghost use Rattle.decimal_digits.specs.AppendsPrefix.{AppendsPrefix};
-ghost use Rattle.cli.specs.Filter.{IsNextRow};
-ghost use Rattle.cli.specs.Input.{bytes_left};
-ghost use Rattle.cli.specs.Lines.{Filters};
-ghost use Rattle.cli.specs.Targets.{have_names};
-ghost use Rattle.cli.specs.NamedFilter.{is_broken_header, filter_of, ArePlaced, PlacesFail, IsFilter, HeaderFails, FiltersNamed};
+ghost use Rattle.cli.specs.{Filter.IsNextRow, Input.bytes_left, Lines.Filters, Targets.have_names, NamedFilter.{is_broken_header, filter_of, ArePlaced, PlacesFail, IsFilter, HeaderFails, FiltersNamed}};
 
 use crate::lines::edits::FieldConversion;
 use crate::lines::fields::Field;

@@ -1,10 +1,7 @@
 //! The filter of all rows of an input.
-ghost use Rattle.std.specs.Prelude.{◌≡◌, ◌<◌, Ok, Err, Some, true, IfErr, IfOk, IfSome, OnOk};
-ghost use Rattle.std.specs.Io.KnownBytes.{IsAtEnd};
+ghost use Rattle.std.specs.{Prelude.{◌≡◌, ◌<◌, Ok, Err, Some, true, IfErr, IfOk, IfSome, OnOk}, Io.KnownBytes.IsAtEnd};
 ghost use Rattle.decimal_digits.specs.AppendsPrefix.{AppendsPrefix};
-ghost use Rattle.cli.specs.Filter.{IsErrorOfReading, with_error, FiltersNext};
-ghost use Rattle.cli.specs.Input.{bytes_left};
-ghost use Rattle.cli.specs.Lines.{Filters, IsConsumed};
+ghost use Rattle.cli.specs.{Filter.{IsErrorOfReading, with_error, FiltersNext}, Input.bytes_left, Lines.{Filters, IsConsumed}};
 
 use crate::lines::filter::Filter;
 use crate::lines::input::LineReader;

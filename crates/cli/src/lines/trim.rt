@@ -1,7 +1,5 @@
 //! What `trim` leaves out of a conversion: blanks and tabs around a text, and what is around the bytes of a line.
-ghost use Rattle.std.specs.Prelude.{◌≡◌, ◌-◌, ◌≤◌, length};
-ghost use Rattle.std.specs.List.{prefix_len, suffix_len};
-ghost use Rattle.std.specs.Io.BufRead.{strip_last};
+ghost use Rattle.std.specs.{Prelude.{◌≡◌, ◌-◌, ◌≤◌, length}, List.{prefix_len, suffix_len}, Io.BufRead.strip_last};
 ghost use Rattle.cli.specs.Trim.{is_blank, trimmed_bounds, text_of, body_bounds};
 
 /// U+FEFF in UTF-8.

@@ -1,40 +1,15 @@
 //! The plural categories of texts, printed one a line.
-ghost use Rattle.std.specs.Prelude.{◌≡◌, ◌≢◌, Ok, Err, IfOk, IfErr, OnOk, OnErr, IsOkAnd, true};
-ghost use Rattle.std.specs.Io.KnownBytes.{Appends};
+ghost use Rattle.std.specs.{Prelude.{◌≡◌, ◌≢◌, Err, IfErr, OnOk, OnErr, IsOkAnd, true}, Io.KnownBytes.Appends};
 ghost use Rattle.decimal_digits.specs.AppendsPrefix.{AppendsPrefix};
-ghost use Rattle.decimal_unsigned.specs.ParseResult.{ParseFails};
-ghost use Rattle.std.specs.List.{list_any};
-ghost use Rattle.fixed_decimal.specs.Letters.{is_c};
-ghost use Rattle.cli.specs.Categories.{IsLongText, read_category, category_line};
-ghost use Rattle.cli.specs.Categories.{TextFails, PrintsAll, StopsAt};
-ghost use Rattle.cli.specs.declared.program.error.ProgramError.{ProgramError};
+ghost use Rattle.cli.specs.{TextCategory.read_category, Categories.{category_line, TextFails, PrintsAll, StopsAt}, declared.program.error.ProgramError.ProgramError};
 
+use crate::plural::text_rules::{TextRules, category};
 use crate::program::error::{ProgramError, WordsError};
 use crate::program::help::Program;
 use conversions::Reason;
-use fixed_decimal::{CompactDecimal, Decimal, ParseError, Sink, SinkFault};
-use plural_rules::{PluralCategory, PluralOperands, PluralRules};
+use fixed_decimal::{ParseError, Sink, SinkFault};
+use plural_rules::PluralCategory;
 use std::alloc::Global;
-
-fn has_c(text: &str) -> bool
-    ensures { result ≡ list_any is_c text.now }
-{
-    text.as_bytes().iter().any(|byte| *byte == b'c')
-}
-
-/// Returns the category of a text by rules; a text with a `c` is a compact decimal, and any other a decimal.
-fn category(alloc: Global, rules: &PluralRules, text: &str) -> Result<PluralCategory, ParseError>
-    ensures found { IfOk result (λ category. read_category rules.now text.now ≡ Ok category) }
-    ensures fails_with { IfErr result
-        (λ error. ParseFails (IsLongText text.now) error (read_category rules.now text.now)) }
-{
-    if has_c(text) {
-        let number = CompactDecimal::try_from_str(alloc, text)?;
-        return Ok(rules.category(&PluralOperands::of_compact(&number)));
-    }
-    let number = Decimal::try_from_str(alloc, text)?;
-    Ok(rules.category(&PluralOperands::of_decimal(&number)))
-}
 
 fn write_category_line<W: Sink>(category: PluralCategory, sink: &mut W) -> Result<(), SinkFault>
     ensures ok { OnOk result (Appends (W.contents sink.old) (W.contents sink.new) (category_line category)) }
@@ -48,7 +23,7 @@ fn write_category_line<W: Sink>(category: PluralCategory, sink: &mut W) -> Resul
 /// Prints the category of the text with this 1-based number.
 fn print_category<W: Sink>(
     alloc: Global,
-    rules: &PluralRules,
+    rules: &TextRules<'_>,
     text: &str,
     number: usize,
     sink: &mut W,
@@ -79,7 +54,7 @@ fn print_category<W: Sink>(
 /// or the sink failed.
 pub fn print_categories<W: Sink>(
     alloc: Global,
-    rules: &PluralRules,
+    rules: &TextRules<'_>,
     texts: &[String],
     sink: &mut W,
 ) -> Result<(), ProgramError>

@@ -1,6 +1,5 @@
 //! The texts of `--help` and `--version`.
-ghost use Rattle.std.specs.Prelude.{◌≡◌, ◌++◌, OnOk};
-ghost use Rattle.std.specs.Io.KnownBytes.{Appends};
+ghost use Rattle.std.specs.{Prelude.{◌≡◌, ◌++◌, OnOk}, Io.KnownBytes.Appends};
 ghost use Rattle.cli.specs.Help.{name_of, usage_of, words_of, table_of, skeletons_of, version_of, help_of, answer_of};
 
 use crate::program::locale_list::print_locales;
@@ -82,14 +81,16 @@ const RULES: &str = "
 Writes the plural category of each TEXT to standard output: zero, one, two, few, many or other.
 
 plural ru 1 2 5                           one, few, many
+plural ru 1..5                            many
 plural en:ordinal 22                      two
 plural 'one: i = 1 and v = 0' 1 1.0       one, other
 
 Status 0: each TEXT has a category. 1: RULES or a TEXT is rejected. 2: a word is wrong. 3: out of memory, or
 the output fails. Errors are lines of standard error; text 1 is the first TEXT.
 
-LOCALE is a tag as pt-PT, or a name as pt_PT.UTF-8, and its rules are those of CLDR. RULES are rules between
-semicolons, as 'one: i = 1 and v = 0; many: e != 0..5', with the operands
+LOCALE is a tag as pt-PT, or a name as pt_PT.UTF-8, and its rules are those of CLDR. After a LOCALE a TEXT may be
+a range, as 1..5: its category is the one that the language has for the categories of its two ends. RULES are
+rules between semicolons, as 'one: i = 1 and v = 0; many: e != 0..5', with the operands
 ";
 
 const CALLS: &str = "

@@ -1,6 +1,5 @@
 //! The list of `--locales`.
-ghost use Rattle.std.specs.Prelude.{◌≡◌, OnOk};
-ghost use Rattle.std.specs.Io.KnownBytes.{Appends};
+ghost use Rattle.std.specs.{Prelude.{◌≡◌, OnOk}, Io.KnownBytes.Appends};
 ghost use Rattle.cli.specs.LocaleList.{tag_line, tag_lines, locales_text};
 
 use fixed_decimal::{WriteError, write_whole};

@@ -1,7 +1,5 @@
 //! The fields that words name: by a number, or by a name in the header.
-ghost use Rattle.std.specs.Prelude.{◌≡◌, ℕ, List, None, Some, IfSome};
-ghost use Rattle.std.specs.Char.{is_ascii_digit};
-ghost use Rattle.std.specs.List.{list_all};
+ghost use Rattle.std.specs.{Prelude.{◌≡◌, ℕ, List, None, Some, IfSome}, Char.is_ascii_digit, List.list_all};
 ghost use Rattle.cli.specs.Columns.{IsField, IsName};
 
 use crate::program::error::FieldLabel;

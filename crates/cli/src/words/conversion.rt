@@ -1,6 +1,5 @@
 //! The conversion that words name: `[read:LOCALE[:lenient][:SKELETON]] [CALL].. [format:LOCALE[:GROUPING|:SKELETON]]`.
-ghost use Rattle.std.specs.Prelude.{IfOk, IfErr, Some, None};
-ghost use Rattle.std.specs.Option.{option_copied};
+ghost use Rattle.std.specs.{Prelude.{IfOk, IfErr, Some, None}, Option.option_copied};
 ghost use Rattle.cli.specs.Words.{IsReadSplit, IsFormatSplit, NamesConversion, ConversionFails};
 
 use crate::program::error::WordsError;

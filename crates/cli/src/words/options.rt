@@ -1,10 +1,6 @@
 //! The options that the first words of `fixdec_lines` name.
 ghost use Rattle.std.specs.Prelude.{◌≡◌, ◌≢◌, ℕ, List, Option, Some, None, IfSome, true, false};
-ghost use Rattle.cli.specs.declared.words.columns.Column.{Column};
-ghost use Rattle.cli.specs.declared.lines.fields.Field.{Field};
-ghost use Rattle.cli.specs.declared.words.options.OnError.TheVariants.{Stop};
-ghost use Rattle.cli.specs.declared.words.options.Options.{Options};
-ghost use Rattle.cli.specs.Options.{IsDelimiter, none, Adds, AddsParameter, IsOption, AreOptions, HasField, lacks_csv, field_error};
+ghost use Rattle.cli.specs.{declared.{words.{columns.Column.Column, options.{OnError.TheVariants.Stop, Options.Options}}, lines.fields.Field.Field}, Options.{IsDelimiter, none, Adds, AddsParameter, IsOption, AreOptions, HasField, lacks_csv, field_error}};
 
 use crate::lines::fields::Field;
 use crate::program::error::WordsError;

@@ -1,6 +1,5 @@
 //! Formatting of a formatted decimal by `{}`.
-ghost use Rattle.std.specs.Prelude.{◌<◌, Some};
-ghost use Rattle.std.specs.Fmt.{WritesStyledOnOk};
+ghost use Rattle.std.specs.{Prelude.{◌<◌, Some}, Fmt.WritesStyledOnOk};
 ghost use Rattle.decimal_format.specs.Formatted.{shown_count, nth_text, formatted_absolute_text, formatted_text};
 
 use super::{FormattedAbsolute, FormattedDecimal};

@@ -1,8 +1,6 @@
 //! The text of a few digits, by short separators.
 ghost use Rattle.std.specs.Prelude.{◌≡◌, ◌+◌, ◌≤◌, ◌<◌, ◌++◌, length, true};
-ghost use Rattle.decimal_format.specs.Formatted.{shown_count, absolute_text};
-ghost use Rattle.decimal_format.specs.Parts.{HasShortSeparators};
-ghost use Rattle.decimal_format.specs.Symbols.{digit_text};
+ghost use Rattle.decimal_format.specs.{Formatted.{shown_count, absolute_text}, Parts.HasShortSeparators, Symbols.digit_text};
 
 use super::FormattedAbsolute;
 use crate::block::Block;

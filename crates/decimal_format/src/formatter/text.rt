@@ -1,12 +1,8 @@
 //! The text of a formatted decimal.
-ghost use Rattle.std.specs.Prelude.{◌≡◌, ◌+◌, ◌*◌, ◌<◌, ◌≤◌, ◌<ℤ◌, ◌≤ℤ◌, ◌-◌, pos, [], ◌++◌, length, slice_index, EachIndex, OnOk, OnErr, true, false};
-ghost use Rattle.std.specs.Int.{int_gap};
-ghost use Rattle.std.specs.Io.KnownBytes.{Keeps, Appends};
+ghost use Rattle.std.specs.{Prelude.{◌≡◌, ◌+◌, ◌*◌, ◌<◌, ◌≤◌, ◌<ℤ◌, ◌≤ℤ◌, ◌-◌, pos, [], ◌++◌, length, slice_index, EachIndex, OnOk, OnErr, true, false}, Int.int_gap, Io.KnownBytes.{Keeps, Appends}};
 ghost use Rattle.decimal_digits.specs.AppendsPrefix.{AppendsPrefix};
 ghost use Rattle.decimal_unsigned.specs.Unsigned.{IsValue};
-ghost use Rattle.decimal_format.specs.Blocks.{Fills, DoesNotFit};
-ghost use Rattle.decimal_format.specs.Formatted.{shown_count, separator_before, separator_after, absolute_text, formatted_absolute_text, formatted_text};
-ghost use Rattle.decimal_format.specs.Parts.{magnitude_of, part_text, AreDigits, IsRun, digits_text, run_text, separators_below};
+ghost use Rattle.decimal_format.specs.{Blocks.{Fills, DoesNotFit}, Formatted.{shown_count, separator_before, separator_after, absolute_text, formatted_absolute_text, formatted_text}, Parts.{magnitude_of, part_text, AreDigits, IsRun, digits_text, run_text, separators_below}};
 
 use super::short::{SHORT, SHORT_ROOM};
 use super::{FormattedAbsolute, FormattedDecimal, grouping_if};

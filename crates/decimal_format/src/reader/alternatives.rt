@@ -1,9 +1,6 @@
 //! Reading of numbers between affixes as people type them.
 ghost use Rattle.std.specs.Prelude.{◌≡◌, ◌≢◌, ℕ, List, ◌++◌, MatchOption};
-ghost use Rattle.decimal_format.specs.Alternatives.{IsAround, IsNumeralAround, IsWrittenAround, IsNumeralOfFirst, IsWrittenOfFirst};
-ghost use Rattle.decimal_format.specs.Lenient.{normalized};
-ghost use Rattle.decimal_format.specs.Readable.{IsReadable};
-ghost use Rattle.decimal_format.specs.Reading.{IsRead};
+ghost use Rattle.decimal_format.specs.{Alternatives.{IsAround, IsNumeralAround, IsWrittenAround, IsNumeralOfFirst, IsWrittenOfFirst}, Lenient.normalized, Readable.IsReadable, Reading.IsRead};
 
 use crate::reader::codes::cut_byte;
 use crate::reader::input::{Input, count, skip};

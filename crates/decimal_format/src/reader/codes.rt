@@ -1,8 +1,6 @@
 //! The codes that a text consists of: digits, separators and the prefixes of signs.
 ghost use Rattle.std.specs.Prelude.{◌≡◌, ◌≢◌, ℕ, ◌+◌, ◌<◌, ◌≤◌, List, ◌∷◌, ◌++◌, ◌↔◌, IfSome, IsSomeAnd, MatchOption, IsTrue, true};
-ghost use Rattle.decimal_format.specs.Symbols.{digit_text, sign_affixes};
-ghost use Rattle.decimal_format.specs.Readable.{code, BeginsWith, IsOther, IsApart, IsReadable, BeginsWithDigit, EndsWithDigit};
-ghost use Rattle.decimal_format.specs.Scanning.{ReadsRun};
+ghost use Rattle.decimal_format.specs.{Symbols.{digit_text, sign_affixes}, Readable.{code, BeginsWith, IsOther, IsApart, IsReadable, BeginsWithDigit, EndsWithDigit}, Scanning.ReadsRun};
 
 use crate::reader::input::{Input, count, skip};
 use crate::symbols::DecimalSymbols;

@@ -1,11 +1,6 @@
 //! Reading of numbers as people type them.
-ghost use Rattle.std.specs.Prelude.{◌≡◌, ◌≤◌, ℕ, [], ◌∷◌, length, IfSome, MatchOption};
-ghost use Rattle.std.specs.List.{list_any};
-ghost use Rattle.std.specs.Str.{IsUtf8, chars};
-ghost use Rattle.decimal_format.specs.Lenient.{is_mark, is_minus, is_plus, is_space, is_apostrophe, is_separator, replacement, replaced, normalized, IsTyped, IsTypedNumeral};
-ghost use Rattle.decimal_format.specs.Readable.{IsReadable};
-ghost use Rattle.decimal_format.specs.Reading.{IsRead};
-ghost use Rattle.decimal_format.specs.Scanning.{left_of};
+ghost use Rattle.std.specs.{Prelude.{◌≡◌, ◌≤◌, ℕ, [], ◌∷◌, length, IfSome, MatchOption}, List.list_any, Str.{IsUtf8, chars}};
+ghost use Rattle.decimal_format.specs.{Lenient.{is_mark, is_minus, is_plus, is_space, is_apostrophe, is_separator, replacement, replaced, normalized, IsTyped, IsTypedNumeral}, Readable.IsReadable, Reading.IsRead, Scanning.left_of};
 
 use crate::block::Block;
 use crate::reader::input::Input;

@@ -2,9 +2,7 @@
 ghost use Rattle.std.specs.Prelude.{◌≡◌, ℕ, ◌+◌, ◌<◌, ◌≤◌, List, [], ◌++◌, pos, ◌-ℤ◌, OnOk, OnErr, IfOk};
 ghost use Rattle.decimal_digits.specs.Number.{size};
 ghost use Rattle.decimal_unsigned.specs.DigitValues.{IsBcd, value_of_first};
-ghost use Rattle.decimal_format.specs.Readable.{IsReadable};
-ghost use Rattle.decimal_format.specs.Reading.{Numeral};
-ghost use Rattle.decimal_format.specs.Scanning.{HoldsDigits, HasPart, IsScan, IsValueOf};
+ghost use Rattle.decimal_format.specs.{Readable.IsReadable, Reading.Numeral, Scanning.{HoldsDigits, HasPart, IsScan, IsValueOf}};
 
 use super::input::Input;
 use super::{Part, Scanned};

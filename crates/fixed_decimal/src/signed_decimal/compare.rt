@@ -1,6 +1,5 @@
 //! Comparison of decimals by their numbers.
-ghost use Rattle.std.specs.Prelude.{◌≡◌};
-ghost use Rattle.std.specs.Ordering.{int_cmp};
+ghost use Rattle.std.specs.{Prelude.◌≡◌, Ordering.int_cmp};
 ghost use Rattle.decimal_unsigned.specs.Unsigned.{IsValue};
 ghost use Rattle.fixed_decimal.specs.Decimal.{signed_number};
 

@@ -5,3 +5,4 @@ pub mod FormatRows
 pub mod CurrencyRows
 pub mod CompactRows
 pub mod RulesTexts
+pub mod RangeRows

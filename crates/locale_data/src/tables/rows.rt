@@ -5,6 +5,7 @@ pub mod currencies;
 pub mod formats;
 pub mod patterns;
 pub mod plurals;
+pub mod ranges;
 pub mod symbols;
 
 /// A name in lower case, or the tag of a locale, padded with spaces: `de-ch`.

@@ -2,7 +2,7 @@
 // Written by tools/locales/make_tables.py from data of CLDR 48; their license is tools/locales/LICENSE. Do not edit.
 use super::rows::TableRange;
 use super::rows::symbols::Symbol::*;
-use super::rows::symbols::{LocaleSymbols, NumberingSystem, SymbolSet};
+use super::rows::symbols::{DecimalSystem, LocaleSymbols, SymbolSet};
 use decimal_format::GroupingSizes;
 
 #[rattlefmt::skip]
@@ -200,8 +200,8 @@ const ZH_HANT_ARABEXT: SymbolSet = SymbolSet {
 
 /// The decimal numbering systems.
 #[rattlefmt::skip]
-pub static NUMBERING_SYSTEMS: [NumberingSystem; 78] = [
-    NumberingSystem {
+pub static NUMBERING_SYSTEMS: [DecimalSystem; 78] = [
+    DecimalSystem {
         name: *b"adlm            ",
         digits: [
             '\u{1e950}', '\u{1e951}', '\u{1e952}', '\u{1e953}', '\u{1e954}',
@@ -210,7 +210,7 @@ pub static NUMBERING_SYSTEMS: [NumberingSystem; 78] = [
         symbols: None,
         rows: TableRange(0, 1),
     },
-    NumberingSystem {
+    DecimalSystem {
         name: *b"ahom            ",
         digits: [
             '𑜰', '𑜱', '𑜲', '𑜳', '𑜴', '𑜵', '𑜶', '𑜷', '𑜸', '𑜹',
@@ -218,7 +218,7 @@ pub static NUMBERING_SYSTEMS: [NumberingSystem; 78] = [
         symbols: None,
         rows: TableRange(0, 0),
     },
-    NumberingSystem {
+    DecimalSystem {
         name: *b"arab            ",
         digits: [
             '\u{660}', '\u{661}', '\u{662}', '\u{663}', '\u{664}',
@@ -227,7 +227,7 @@ pub static NUMBERING_SYSTEMS: [NumberingSystem; 78] = [
         symbols: Some(ARAB),
         rows: TableRange(1, 27),
     },
-    NumberingSystem {
+    DecimalSystem {
         name: *b"arabext         ",
         digits: [
             '۰', '۱', '۲', '۳', '۴', '۵', '۶', '۷', '۸', '۹',
@@ -235,7 +235,7 @@ pub static NUMBERING_SYSTEMS: [NumberingSystem; 78] = [
         symbols: Some(ARABEXT),
         rows: TableRange(27, 50),
     },
-    NumberingSystem {
+    DecimalSystem {
         name: *b"bali            ",
         digits: [
             '᭐', '᭑', '᭒', '᭓', '᭔', '᭕', '᭖', '᭗', '᭘', '᭙',
@@ -243,7 +243,7 @@ pub static NUMBERING_SYSTEMS: [NumberingSystem; 78] = [
         symbols: None,
         rows: TableRange(50, 51),
     },
-    NumberingSystem {
+    DecimalSystem {
         name: *b"beng            ",
         digits: [
             '০', '১', '২', '৩', '৪', '৫', '৬', '৭', '৮', '৯',
@@ -251,7 +251,7 @@ pub static NUMBERING_SYSTEMS: [NumberingSystem; 78] = [
         symbols: None,
         rows: TableRange(51, 52),
     },
-    NumberingSystem {
+    DecimalSystem {
         name: *b"bhks            ",
         digits: [
             '𑱐', '𑱑', '𑱒', '𑱓', '𑱔', '𑱕', '𑱖', '𑱗', '𑱘', '𑱙',
@@ -259,7 +259,7 @@ pub static NUMBERING_SYSTEMS: [NumberingSystem; 78] = [
         symbols: None,
         rows: TableRange(0, 0),
     },
-    NumberingSystem {
+    DecimalSystem {
         name: *b"brah            ",
         digits: [
             '𑁦', '𑁧', '𑁨', '𑁩', '𑁪', '𑁫', '𑁬', '𑁭', '𑁮', '𑁯',
@@ -267,7 +267,7 @@ pub static NUMBERING_SYSTEMS: [NumberingSystem; 78] = [
         symbols: None,
         rows: TableRange(52, 53),
     },
-    NumberingSystem {
+    DecimalSystem {
         name: *b"cakm            ",
         digits: [
             '𑄶', '𑄷', '𑄸', '𑄹', '𑄺', '𑄻', '𑄼', '𑄽', '𑄾', '𑄿',
@@ -275,7 +275,7 @@ pub static NUMBERING_SYSTEMS: [NumberingSystem; 78] = [
         symbols: None,
         rows: TableRange(53, 54),
     },
-    NumberingSystem {
+    DecimalSystem {
         name: *b"cham            ",
         digits: [
             '꩐', '꩑', '꩒', '꩓', '꩔', '꩕', '꩖', '꩗', '꩘', '꩙',
@@ -283,7 +283,7 @@ pub static NUMBERING_SYSTEMS: [NumberingSystem; 78] = [
         symbols: None,
         rows: TableRange(54, 55),
     },
-    NumberingSystem {
+    DecimalSystem {
         name: *b"deva            ",
         digits: [
             '०', '१', '२', '३', '४', '५', '६', '७', '८', '९',
@@ -291,7 +291,7 @@ pub static NUMBERING_SYSTEMS: [NumberingSystem; 78] = [
         symbols: None,
         rows: TableRange(55, 59),
     },
-    NumberingSystem {
+    DecimalSystem {
         name: *b"diak            ",
         digits: [
             '𑥐', '𑥑', '𑥒', '𑥓', '𑥔', '𑥕', '𑥖', '𑥗', '𑥘', '𑥙',
@@ -299,7 +299,7 @@ pub static NUMBERING_SYSTEMS: [NumberingSystem; 78] = [
         symbols: None,
         rows: TableRange(0, 0),
     },
-    NumberingSystem {
+    DecimalSystem {
         name: *b"fullwide        ",
         digits: [
             '０', '１', '２', '３', '４', '５', '６', '７', '８', '９',
@@ -307,7 +307,7 @@ pub static NUMBERING_SYSTEMS: [NumberingSystem; 78] = [
         symbols: None,
         rows: TableRange(59, 60),
     },
-    NumberingSystem {
+    DecimalSystem {
         name: *b"gara            ",
         digits: [
             '𐵀', '𐵁', '𐵂', '𐵃', '𐵄', '𐵅', '𐵆', '𐵇', '𐵈', '𐵉',
@@ -315,7 +315,7 @@ pub static NUMBERING_SYSTEMS: [NumberingSystem; 78] = [
         symbols: None,
         rows: TableRange(0, 0),
     },
-    NumberingSystem {
+    DecimalSystem {
         name: *b"gong            ",
         digits: [
             '𑶠', '𑶡', '𑶢', '𑶣', '𑶤', '𑶥', '𑶦', '𑶧', '𑶨', '𑶩',
@@ -323,7 +323,7 @@ pub static NUMBERING_SYSTEMS: [NumberingSystem; 78] = [
         symbols: None,
         rows: TableRange(60, 61),
     },
-    NumberingSystem {
+    DecimalSystem {
         name: *b"gonm            ",
         digits: [
             '𑵐', '𑵑', '𑵒', '𑵓', '𑵔', '𑵕', '𑵖', '𑵗', '𑵘', '𑵙',
@@ -331,7 +331,7 @@ pub static NUMBERING_SYSTEMS: [NumberingSystem; 78] = [
         symbols: None,
         rows: TableRange(61, 62),
     },
-    NumberingSystem {
+    DecimalSystem {
         name: *b"gujr            ",
         digits: [
             '૦', '૧', '૨', '૩', '૪', '૫', '૬', '૭', '૮', '૯',
@@ -339,7 +339,7 @@ pub static NUMBERING_SYSTEMS: [NumberingSystem; 78] = [
         symbols: None,
         rows: TableRange(62, 63),
     },
-    NumberingSystem {
+    DecimalSystem {
         name: *b"gukh            ",
         digits: [
             '𖄰', '𖄱', '𖄲', '𖄳', '𖄴', '𖄵', '𖄶', '𖄷', '𖄸', '𖄹',
@@ -347,7 +347,7 @@ pub static NUMBERING_SYSTEMS: [NumberingSystem; 78] = [
         symbols: None,
         rows: TableRange(0, 0),
     },
-    NumberingSystem {
+    DecimalSystem {
         name: *b"guru            ",
         digits: [
             '੦', '੧', '੨', '੩', '੪', '੫', '੬', '੭', '੮', '੯',
@@ -355,7 +355,7 @@ pub static NUMBERING_SYSTEMS: [NumberingSystem; 78] = [
         symbols: None,
         rows: TableRange(63, 64),
     },
-    NumberingSystem {
+    DecimalSystem {
         name: *b"hanidec         ",
         digits: [
             '〇', '一', '二', '三', '四', '五', '六', '七', '八', '九',
@@ -363,7 +363,7 @@ pub static NUMBERING_SYSTEMS: [NumberingSystem; 78] = [
         symbols: None,
         rows: TableRange(64, 65),
     },
-    NumberingSystem {
+    DecimalSystem {
         name: *b"hmng            ",
         digits: [
             '𖭐', '𖭑', '𖭒', '𖭓', '𖭔', '𖭕', '𖭖', '𖭗', '𖭘', '𖭙',
@@ -371,7 +371,7 @@ pub static NUMBERING_SYSTEMS: [NumberingSystem; 78] = [
         symbols: None,
         rows: TableRange(0, 0),
     },
-    NumberingSystem {
+    DecimalSystem {
         name: *b"hmnp            ",
         digits: [
             '𞅀', '𞅁', '𞅂', '𞅃', '𞅄', '𞅅', '𞅆', '𞅇', '𞅈', '𞅉',
@@ -379,7 +379,7 @@ pub static NUMBERING_SYSTEMS: [NumberingSystem; 78] = [
         symbols: None,
         rows: TableRange(65, 66),
     },
-    NumberingSystem {
+    DecimalSystem {
         name: *b"java            ",
         digits: [
             '꧐', '꧑', '꧒', '꧓', '꧔', '꧕', '꧖', '꧗', '꧘', '꧙',
@@ -387,7 +387,7 @@ pub static NUMBERING_SYSTEMS: [NumberingSystem; 78] = [
         symbols: None,
         rows: TableRange(66, 67),
     },
-    NumberingSystem {
+    DecimalSystem {
         name: *b"kali            ",
         digits: [
             '꤀', '꤁', '꤂', '꤃', '꤄', '꤅', '꤆', '꤇', '꤈', '꤉',
@@ -395,7 +395,7 @@ pub static NUMBERING_SYSTEMS: [NumberingSystem; 78] = [
         symbols: None,
         rows: TableRange(67, 68),
     },
-    NumberingSystem {
+    DecimalSystem {
         name: *b"kawi            ",
         digits: [
             '𑽐', '𑽑', '𑽒', '𑽓', '𑽔', '𑽕', '𑽖', '𑽗', '𑽘', '𑽙',
@@ -403,7 +403,7 @@ pub static NUMBERING_SYSTEMS: [NumberingSystem; 78] = [
         symbols: None,
         rows: TableRange(0, 0),
     },
-    NumberingSystem {
+    DecimalSystem {
         name: *b"khmr            ",
         digits: [
             '០', '១', '២', '៣', '៤', '៥', '៦', '៧', '៨', '៩',
@@ -411,7 +411,7 @@ pub static NUMBERING_SYSTEMS: [NumberingSystem; 78] = [
         symbols: None,
         rows: TableRange(68, 70),
     },
-    NumberingSystem {
+    DecimalSystem {
         name: *b"knda            ",
         digits: [
             '೦', '೧', '೨', '೩', '೪', '೫', '೬', '೭', '೮', '೯',
@@ -419,7 +419,7 @@ pub static NUMBERING_SYSTEMS: [NumberingSystem; 78] = [
         symbols: None,
         rows: TableRange(70, 71),
     },
-    NumberingSystem {
+    DecimalSystem {
         name: *b"krai            ",
         digits: [
             '𖵰', '𖵱', '𖵲', '𖵳', '𖵴', '𖵵', '𖵶', '𖵷', '𖵸', '𖵹',
@@ -427,7 +427,7 @@ pub static NUMBERING_SYSTEMS: [NumberingSystem; 78] = [
         symbols: None,
         rows: TableRange(0, 0),
     },
-    NumberingSystem {
+    DecimalSystem {
         name: *b"lana            ",
         digits: [
             '᪀', '᪁', '᪂', '᪃', '᪄', '᪅', '᪆', '᪇', '᪈', '᪉',
@@ -435,7 +435,7 @@ pub static NUMBERING_SYSTEMS: [NumberingSystem; 78] = [
         symbols: None,
         rows: TableRange(71, 72),
     },
-    NumberingSystem {
+    DecimalSystem {
         name: *b"lanatham        ",
         digits: [
             '᪐', '᪑', '᪒', '᪓', '᪔', '᪕', '᪖', '᪗', '᪘', '᪙',
@@ -443,7 +443,7 @@ pub static NUMBERING_SYSTEMS: [NumberingSystem; 78] = [
         symbols: None,
         rows: TableRange(72, 73),
     },
-    NumberingSystem {
+    DecimalSystem {
         name: *b"laoo            ",
         digits: [
             '໐', '໑', '໒', '໓', '໔', '໕', '໖', '໗', '໘', '໙',
@@ -451,7 +451,7 @@ pub static NUMBERING_SYSTEMS: [NumberingSystem; 78] = [
         symbols: None,
         rows: TableRange(73, 74),
     },
-    NumberingSystem {
+    DecimalSystem {
         name: *b"latn            ",
         digits: [
             '0', '1', '2', '3', '4', '5', '6', '7', '8', '9',
@@ -459,7 +459,7 @@ pub static NUMBERING_SYSTEMS: [NumberingSystem; 78] = [
         symbols: None,
         rows: TableRange(0, 0),
     },
-    NumberingSystem {
+    DecimalSystem {
         name: *b"lepc            ",
         digits: [
             '᱀', '᱁', '᱂', '᱃', '᱄', '᱅', '᱆', '᱇', '᱈', '᱉',
@@ -467,7 +467,7 @@ pub static NUMBERING_SYSTEMS: [NumberingSystem; 78] = [
         symbols: None,
         rows: TableRange(74, 75),
     },
-    NumberingSystem {
+    DecimalSystem {
         name: *b"limb            ",
         digits: [
             '᥆', '᥇', '᥈', '᥉', '᥊', '᥋', '᥌', '᥍', '᥎', '᥏',
@@ -475,7 +475,7 @@ pub static NUMBERING_SYSTEMS: [NumberingSystem; 78] = [
         symbols: None,
         rows: TableRange(75, 76),
     },
-    NumberingSystem {
+    DecimalSystem {
         name: *b"mathbold        ",
         digits: [
             '𝟎', '𝟏', '𝟐', '𝟑', '𝟒', '𝟓', '𝟔', '𝟕', '𝟖', '𝟗',
@@ -483,7 +483,7 @@ pub static NUMBERING_SYSTEMS: [NumberingSystem; 78] = [
         symbols: None,
         rows: TableRange(0, 0),
     },
-    NumberingSystem {
+    DecimalSystem {
         name: *b"mathdbl         ",
         digits: [
             '𝟘', '𝟙', '𝟚', '𝟛', '𝟜', '𝟝', '𝟞', '𝟟', '𝟠', '𝟡',
@@ -491,7 +491,7 @@ pub static NUMBERING_SYSTEMS: [NumberingSystem; 78] = [
         symbols: None,
         rows: TableRange(0, 0),
     },
-    NumberingSystem {
+    DecimalSystem {
         name: *b"mathmono        ",
         digits: [
             '𝟶', '𝟷', '𝟸', '𝟹', '𝟺', '𝟻', '𝟼', '𝟽', '𝟾', '𝟿',
@@ -499,7 +499,7 @@ pub static NUMBERING_SYSTEMS: [NumberingSystem; 78] = [
         symbols: None,
         rows: TableRange(0, 0),
     },
-    NumberingSystem {
+    DecimalSystem {
         name: *b"mathsanb        ",
         digits: [
             '𝟬', '𝟭', '𝟮', '𝟯', '𝟰', '𝟱', '𝟲', '𝟳', '𝟴', '𝟵',
@@ -507,7 +507,7 @@ pub static NUMBERING_SYSTEMS: [NumberingSystem; 78] = [
         symbols: None,
         rows: TableRange(0, 0),
     },
-    NumberingSystem {
+    DecimalSystem {
         name: *b"mathsans        ",
         digits: [
             '𝟢', '𝟣', '𝟤', '𝟥', '𝟦', '𝟧', '𝟨', '𝟩', '𝟪', '𝟫',
@@ -515,7 +515,7 @@ pub static NUMBERING_SYSTEMS: [NumberingSystem; 78] = [
         symbols: None,
         rows: TableRange(0, 0),
     },
-    NumberingSystem {
+    DecimalSystem {
         name: *b"mlym            ",
         digits: [
             '൦', '൧', '൨', '൩', '൪', '൫', '൬', '൭', '൮', '൯',
@@ -523,7 +523,7 @@ pub static NUMBERING_SYSTEMS: [NumberingSystem; 78] = [
         symbols: None,
         rows: TableRange(76, 77),
     },
-    NumberingSystem {
+    DecimalSystem {
         name: *b"modi            ",
         digits: [
             '𑙐', '𑙑', '𑙒', '𑙓', '𑙔', '𑙕', '𑙖', '𑙗', '𑙘', '𑙙',
@@ -531,7 +531,7 @@ pub static NUMBERING_SYSTEMS: [NumberingSystem; 78] = [
         symbols: None,
         rows: TableRange(0, 0),
     },
-    NumberingSystem {
+    DecimalSystem {
         name: *b"mong            ",
         digits: [
             '᠐', '᠑', '᠒', '᠓', '᠔', '᠕', '᠖', '᠗', '᠘', '᠙',
@@ -539,7 +539,7 @@ pub static NUMBERING_SYSTEMS: [NumberingSystem; 78] = [
         symbols: None,
         rows: TableRange(77, 79),
     },
-    NumberingSystem {
+    DecimalSystem {
         name: *b"mroo            ",
         digits: [
             '𖩠', '𖩡', '𖩢', '𖩣', '𖩤', '𖩥', '𖩦', '𖩧', '𖩨', '𖩩',
@@ -547,7 +547,7 @@ pub static NUMBERING_SYSTEMS: [NumberingSystem; 78] = [
         symbols: None,
         rows: TableRange(0, 0),
     },
-    NumberingSystem {
+    DecimalSystem {
         name: *b"mtei            ",
         digits: [
             '꯰', '꯱', '꯲', '꯳', '꯴', '꯵', '꯶', '꯷', '꯸', '꯹',
@@ -555,7 +555,7 @@ pub static NUMBERING_SYSTEMS: [NumberingSystem; 78] = [
         symbols: None,
         rows: TableRange(79, 80),
     },
-    NumberingSystem {
+    DecimalSystem {
         name: *b"mymr            ",
         digits: [
             '၀', '၁', '၂', '၃', '၄', '၅', '၆', '၇', '၈', '၉',
@@ -563,7 +563,7 @@ pub static NUMBERING_SYSTEMS: [NumberingSystem; 78] = [
         symbols: None,
         rows: TableRange(80, 81),
     },
-    NumberingSystem {
+    DecimalSystem {
         name: *b"mymrepka        ",
         digits: [
             '𑛚', '𑛛', '𑛜', '𑛝', '𑛞', '𑛟', '𑛠', '𑛡', '𑛢', '𑛣',
@@ -571,7 +571,7 @@ pub static NUMBERING_SYSTEMS: [NumberingSystem; 78] = [
         symbols: None,
         rows: TableRange(0, 0),
     },
-    NumberingSystem {
+    DecimalSystem {
         name: *b"mymrpao         ",
         digits: [
             '𑛐', '𑛑', '𑛒', '𑛓', '𑛔', '𑛕', '𑛖', '𑛗', '𑛘', '𑛙',
@@ -579,7 +579,7 @@ pub static NUMBERING_SYSTEMS: [NumberingSystem; 78] = [
         symbols: None,
         rows: TableRange(0, 0),
     },
-    NumberingSystem {
+    DecimalSystem {
         name: *b"mymrshan        ",
         digits: [
             '႐', '႑', '႒', '႓', '႔', '႕', '႖', '႗', '႘', '႙',
@@ -587,7 +587,7 @@ pub static NUMBERING_SYSTEMS: [NumberingSystem; 78] = [
         symbols: None,
         rows: TableRange(81, 82),
     },
-    NumberingSystem {
+    DecimalSystem {
         name: *b"mymrtlng        ",
         digits: [
             '꧰', '꧱', '꧲', '꧳', '꧴', '꧵', '꧶', '꧷', '꧸', '꧹',
@@ -595,7 +595,7 @@ pub static NUMBERING_SYSTEMS: [NumberingSystem; 78] = [
         symbols: None,
         rows: TableRange(0, 0),
     },
-    NumberingSystem {
+    DecimalSystem {
         name: *b"nagm            ",
         digits: [
             '𞓰', '𞓱', '𞓲', '𞓳', '𞓴', '𞓵', '𞓶', '𞓷', '𞓸', '𞓹',
@@ -603,7 +603,7 @@ pub static NUMBERING_SYSTEMS: [NumberingSystem; 78] = [
         symbols: None,
         rows: TableRange(0, 0),
     },
-    NumberingSystem {
+    DecimalSystem {
         name: *b"newa            ",
         digits: [
             '𑑐', '𑑑', '𑑒', '𑑓', '𑑔', '𑑕', '𑑖', '𑑗', '𑑘', '𑑙',
@@ -611,7 +611,7 @@ pub static NUMBERING_SYSTEMS: [NumberingSystem; 78] = [
         symbols: None,
         rows: TableRange(0, 0),
     },
-    NumberingSystem {
+    DecimalSystem {
         name: *b"nkoo            ",
         digits: [
             '\u{7c0}', '\u{7c1}', '\u{7c2}', '\u{7c3}', '\u{7c4}',
@@ -620,7 +620,7 @@ pub static NUMBERING_SYSTEMS: [NumberingSystem; 78] = [
         symbols: None,
         rows: TableRange(82, 83),
     },
-    NumberingSystem {
+    DecimalSystem {
         name: *b"olck            ",
         digits: [
             '᱐', '᱑', '᱒', '᱓', '᱔', '᱕', '᱖', '᱗', '᱘', '᱙',
@@ -628,7 +628,7 @@ pub static NUMBERING_SYSTEMS: [NumberingSystem; 78] = [
         symbols: None,
         rows: TableRange(83, 84),
     },
-    NumberingSystem {
+    DecimalSystem {
         name: *b"onao            ",
         digits: [
             '𞗱', '𞗲', '𞗳', '𞗴', '𞗵', '𞗶', '𞗷', '𞗸', '𞗹', '𞗺',
@@ -636,7 +636,7 @@ pub static NUMBERING_SYSTEMS: [NumberingSystem; 78] = [
         symbols: None,
         rows: TableRange(0, 0),
     },
-    NumberingSystem {
+    DecimalSystem {
         name: *b"orya            ",
         digits: [
             '୦', '୧', '୨', '୩', '୪', '୫', '୬', '୭', '୮', '୯',
@@ -644,7 +644,7 @@ pub static NUMBERING_SYSTEMS: [NumberingSystem; 78] = [
         symbols: None,
         rows: TableRange(84, 85),
     },
-    NumberingSystem {
+    DecimalSystem {
         name: *b"osma            ",
         digits: [
             '𐒠', '𐒡', '𐒢', '𐒣', '𐒤', '𐒥', '𐒦', '𐒧', '𐒨', '𐒩',
@@ -652,7 +652,7 @@ pub static NUMBERING_SYSTEMS: [NumberingSystem; 78] = [
         symbols: None,
         rows: TableRange(85, 86),
     },
-    NumberingSystem {
+    DecimalSystem {
         name: *b"outlined        ",
         digits: [
             '𜳰', '𜳱', '𜳲', '𜳳', '𜳴', '𜳵', '𜳶', '𜳷', '𜳸', '𜳹',
@@ -660,7 +660,7 @@ pub static NUMBERING_SYSTEMS: [NumberingSystem; 78] = [
         symbols: None,
         rows: TableRange(0, 0),
     },
-    NumberingSystem {
+    DecimalSystem {
         name: *b"rohg            ",
         digits: [
             '\u{10d30}', '\u{10d31}', '\u{10d32}', '\u{10d33}', '\u{10d34}',
@@ -669,7 +669,7 @@ pub static NUMBERING_SYSTEMS: [NumberingSystem; 78] = [
         symbols: None,
         rows: TableRange(86, 87),
     },
-    NumberingSystem {
+    DecimalSystem {
         name: *b"saur            ",
         digits: [
             '꣐', '꣑', '꣒', '꣓', '꣔', '꣕', '꣖', '꣗', '꣘', '꣙',
@@ -677,7 +677,7 @@ pub static NUMBERING_SYSTEMS: [NumberingSystem; 78] = [
         symbols: None,
         rows: TableRange(87, 88),
     },
-    NumberingSystem {
+    DecimalSystem {
         name: *b"segment         ",
         digits: [
             '🯰', '🯱', '🯲', '🯳', '🯴', '🯵', '🯶', '🯷', '🯸', '🯹',
@@ -685,7 +685,7 @@ pub static NUMBERING_SYSTEMS: [NumberingSystem; 78] = [
         symbols: None,
         rows: TableRange(0, 0),
     },
-    NumberingSystem {
+    DecimalSystem {
         name: *b"shrd            ",
         digits: [
             '𑇐', '𑇑', '𑇒', '𑇓', '𑇔', '𑇕', '𑇖', '𑇗', '𑇘', '𑇙',
@@ -693,7 +693,7 @@ pub static NUMBERING_SYSTEMS: [NumberingSystem; 78] = [
         symbols: None,
         rows: TableRange(88, 89),
     },
-    NumberingSystem {
+    DecimalSystem {
         name: *b"sind            ",
         digits: [
             '𑋰', '𑋱', '𑋲', '𑋳', '𑋴', '𑋵', '𑋶', '𑋷', '𑋸', '𑋹',
@@ -701,7 +701,7 @@ pub static NUMBERING_SYSTEMS: [NumberingSystem; 78] = [
         symbols: None,
         rows: TableRange(0, 0),
     },
-    NumberingSystem {
+    DecimalSystem {
         name: *b"sinh            ",
         digits: [
             '෦', '෧', '෨', '෩', '෪', '෫', '෬', '෭', '෮', '෯',
@@ -709,7 +709,7 @@ pub static NUMBERING_SYSTEMS: [NumberingSystem; 78] = [
         symbols: None,
         rows: TableRange(0, 0),
     },
-    NumberingSystem {
+    DecimalSystem {
         name: *b"sora            ",
         digits: [
             '𑃰', '𑃱', '𑃲', '𑃳', '𑃴', '𑃵', '𑃶', '𑃷', '𑃸', '𑃹',
@@ -717,7 +717,7 @@ pub static NUMBERING_SYSTEMS: [NumberingSystem; 78] = [
         symbols: None,
         rows: TableRange(89, 90),
     },
-    NumberingSystem {
+    DecimalSystem {
         name: *b"sund            ",
         digits: [
             '᮰', '᮱', '᮲', '᮳', '᮴', '᮵', '᮶', '᮷', '᮸', '᮹',
@@ -725,7 +725,7 @@ pub static NUMBERING_SYSTEMS: [NumberingSystem; 78] = [
         symbols: None,
         rows: TableRange(90, 91),
     },
-    NumberingSystem {
+    DecimalSystem {
         name: *b"sunu            ",
         digits: [
             '𑯰', '𑯱', '𑯲', '𑯳', '𑯴', '𑯵', '𑯶', '𑯷', '𑯸', '𑯹',
@@ -733,7 +733,7 @@ pub static NUMBERING_SYSTEMS: [NumberingSystem; 78] = [
         symbols: None,
         rows: TableRange(0, 0),
     },
-    NumberingSystem {
+    DecimalSystem {
         name: *b"takr            ",
         digits: [
             '𑛀', '𑛁', '𑛂', '𑛃', '𑛄', '𑛅', '𑛆', '𑛇', '𑛈', '𑛉',
@@ -741,7 +741,7 @@ pub static NUMBERING_SYSTEMS: [NumberingSystem; 78] = [
         symbols: None,
         rows: TableRange(91, 92),
     },
-    NumberingSystem {
+    DecimalSystem {
         name: *b"talu            ",
         digits: [
             '᧐', '᧑', '᧒', '᧓', '᧔', '᧕', '᧖', '᧗', '᧘', '᧙',
@@ -749,7 +749,7 @@ pub static NUMBERING_SYSTEMS: [NumberingSystem; 78] = [
         symbols: None,
         rows: TableRange(92, 93),
     },
-    NumberingSystem {
+    DecimalSystem {
         name: *b"tamldec         ",
         digits: [
             '௦', '௧', '௨', '௩', '௪', '௫', '௬', '௭', '௮', '௯',
@@ -757,7 +757,7 @@ pub static NUMBERING_SYSTEMS: [NumberingSystem; 78] = [
         symbols: None,
         rows: TableRange(93, 94),
     },
-    NumberingSystem {
+    DecimalSystem {
         name: *b"telu            ",
         digits: [
             '౦', '౧', '౨', '౩', '౪', '౫', '౬', '౭', '౮', '౯',
@@ -765,7 +765,7 @@ pub static NUMBERING_SYSTEMS: [NumberingSystem; 78] = [
         symbols: None,
         rows: TableRange(94, 96),
     },
-    NumberingSystem {
+    DecimalSystem {
         name: *b"thai            ",
         digits: [
             '๐', '๑', '๒', '๓', '๔', '๕', '๖', '๗', '๘', '๙',
@@ -773,7 +773,7 @@ pub static NUMBERING_SYSTEMS: [NumberingSystem; 78] = [
         symbols: None,
         rows: TableRange(96, 97),
     },
-    NumberingSystem {
+    DecimalSystem {
         name: *b"tibt            ",
         digits: [
             '༠', '༡', '༢', '༣', '༤', '༥', '༦', '༧', '༨', '༩',
@@ -781,7 +781,7 @@ pub static NUMBERING_SYSTEMS: [NumberingSystem; 78] = [
         symbols: None,
         rows: TableRange(97, 98),
     },
-    NumberingSystem {
+    DecimalSystem {
         name: *b"tirh            ",
         digits: [
             '𑓐', '𑓑', '𑓒', '𑓓', '𑓔', '𑓕', '𑓖', '𑓗', '𑓘', '𑓙',
@@ -789,7 +789,7 @@ pub static NUMBERING_SYSTEMS: [NumberingSystem; 78] = [
         symbols: None,
         rows: TableRange(0, 0),
     },
-    NumberingSystem {
+    DecimalSystem {
         name: *b"tnsa            ",
         digits: [
             '𖫀', '𖫁', '𖫂', '𖫃', '𖫄', '𖫅', '𖫆', '𖫇', '𖫈', '𖫉',
@@ -797,7 +797,7 @@ pub static NUMBERING_SYSTEMS: [NumberingSystem; 78] = [
         symbols: None,
         rows: TableRange(0, 0),
     },
-    NumberingSystem {
+    DecimalSystem {
         name: *b"tols            ",
         digits: [
             '𑷠', '𑷡', '𑷢', '𑷣', '𑷤', '𑷥', '𑷦', '𑷧', '𑷨', '𑷩',
@@ -805,7 +805,7 @@ pub static NUMBERING_SYSTEMS: [NumberingSystem; 78] = [
         symbols: None,
         rows: TableRange(0, 0),
     },
-    NumberingSystem {
+    DecimalSystem {
         name: *b"vaii            ",
         digits: [
             '꘠', '꘡', '꘢', '꘣', '꘤', '꘥', '꘦', '꘧', '꘨', '꘩',
@@ -813,7 +813,7 @@ pub static NUMBERING_SYSTEMS: [NumberingSystem; 78] = [
         symbols: None,
         rows: TableRange(98, 99),
     },
-    NumberingSystem {
+    DecimalSystem {
         name: *b"wara            ",
         digits: [
             '𑣠', '𑣡', '𑣢', '𑣣', '𑣤', '𑣥', '𑣦', '𑣧', '𑣨', '𑣩',
@@ -821,7 +821,7 @@ pub static NUMBERING_SYSTEMS: [NumberingSystem; 78] = [
         symbols: None,
         rows: TableRange(0, 0),
     },
-    NumberingSystem {
+    DecimalSystem {
         name: *b"wcho            ",
         digits: [
             '𞋰', '𞋱', '𞋲', '𞋳', '𞋴', '𞋵', '𞋶', '𞋷', '𞋸', '𞋹',

@@ -4,3 +4,4 @@ pub mod PlainNumbers
 pub mod CompactChoices
 pub mod ExponentDigits
 pub mod StandardNotation
+pub mod StyleSystems

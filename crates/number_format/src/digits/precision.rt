@@ -1,6 +1,5 @@
 //! To which digit a number is rounded, and down to which one zeros are shown.
-ghost use Rattle.std.specs.Prelude.{◌≡◌, ◌≤◌, pos, negsuc, ◌+ℤ◌, ◌-ℤ◌, ◌≤ℤ◌, ◌<ℤ◌, IsOk, MatchResult};
-ghost use Rattle.std.specs.Int.{int_max};
+ghost use Rattle.std.specs.{Prelude.{◌≡◌, ◌≤◌, pos, negsuc, ◌+ℤ◌, ◌-ℤ◌, ◌≤ℤ◌, ◌<ℤ◌, IsOk, MatchResult}, Int.int_max};
 ghost use Rattle.number_format.specs.ShownDigits.{last_at, fraction_end, zeros_end, position_of, base_of, is_finer, last_shown_of};
 
 use crate::digits::ranges::{FractionDigits, FractionMultiples, SignificantDigits};

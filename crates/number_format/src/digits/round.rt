@@ -1,7 +1,6 @@
 //! Rounds a decimal to the digits that options show.
 ghost use Rattle.std.specs.Prelude.{◌≡◌, ◌+◌, ◌%◌, ◌≤◌, pos, IfErr, IsErrOf, OnOk, MatchResult};
-ghost use Rattle.decimal_digits.specs.Number.{weight, size};
-ghost use Rattle.decimal_digits.specs.Rounding.{unit_at};
+ghost use Rattle.decimal_digits.specs.{Number.{weight, size}, Rounding.unit_at};
 ghost use Rattle.decimal_unsigned.specs.Rounded.{ChangesInPlace};
 ghost use Rattle.number_format.specs.ShownDigits.{base_of, rounded_with, rounded_whole, stripped, shown, shown_whole, NeedsMemory, IsApplied, ApplyFails, IsRoundedAt, RoundingFailsAt};
 

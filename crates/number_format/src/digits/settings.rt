@@ -1,7 +1,6 @@
 //! The numbers of digits as ECMA-402 reads them.
 ghost use Rattle.std.specs.Prelude.{◌≡◌, true, false, not, ◌||◌, ◌&&◌, Some, None, IfOk, MatchResult};
-ghost use Rattle.number_format.specs.Resolved.{counts, needs_significant, needs_fraction, significant_of, fraction_of, are_within, are_fraction, IsNamed, IsResolved, first_error, increment_tests, resolve_error};
-ghost use Rattle.number_format.specs.ShownDigits.{increment_of};
+ghost use Rattle.number_format.specs.{DefaultDigits.no_settings, Resolved.{counts, needs_significant, needs_fraction, significant_of, fraction_of, are_within, are_fraction, IsNamed, IsResolved, first_error, increment_tests, resolve_error}, ShownDigits.increment_of};
 
 use crate::digits::error::DigitOptionsError;
 use crate::digits::options::{DigitOptions, TrailingZeros};
@@ -9,7 +8,7 @@ use crate::digits::precision::{BothDigits, Minimum, Precision};
 use crate::digits::ranges::{
     FractionDigits, FractionMultiples, Increment, IntegerDigits, SignificantDigits,
 };
-use fixed_decimal::SignedRoundingMode;
+use fixed_decimal::{SignedRoundingMode, UnsignedRoundingMode};
 
 /// Which of two roundings is chosen; ECMA-402's `roundingPriority`.
 #[derive(Clone, Copy, Debug, Default)]
@@ -53,6 +52,25 @@ pub struct DigitDefaults {
     pub fraction: FractionDigits,
     /// Whether the notation is compact.
     pub is_compact: bool,
+}
+
+impl Default for DigitSettings {
+    ghost is_default = { λ s. s ≡ no_settings 1 };
+
+    /// Returns the settings of ECMA-402 where none is given: no numbers of digits, and the increment 1.
+    fn default() -> DigitSettings {
+        DigitSettings {
+            minimum_integer_digits: None,
+            minimum_fraction_digits: None,
+            maximum_fraction_digits: None,
+            minimum_significant_digits: None,
+            maximum_significant_digits: None,
+            rounding_increment: 1,
+            rounding_mode: SignedRoundingMode::Unsigned(UnsignedRoundingMode::HalfExpand),
+            rounding_priority: RoundingPriority::Auto,
+            trailing_zeros: TrailingZeros::Auto,
+        }
+    }
 }
 
 impl DigitSettings {

@@ -1,5 +1,5 @@
 //! What is written before and after the digits of a number.
-ghost use Rattle.std.specs.{Prelude.{◌≡◌, ◌≤◌, ◌&&◌, ◌++◌, length, IsSome, IfSome, OnSome, OnOk, true}, Option.option_copied};
+ghost use Rattle.std.specs.{Prelude.{◌≡◌, ◌≤◌, ◌&&◌, ◌++◌, length, IsSome, IfSome, OnOk, true}, Option.option_copied};
 ghost use Rattle.decimal_format.specs.Symbols.{affixes};
 ghost use Rattle.locale_data.specs.Compact.{has_texts, text_of, AreTexts};
 ghost use Rattle.number_format.specs.{NumberStyles.{ends_with_currency, begins_with_currency}, PatternTexts.{sign_kind, sign_pieces, pattern_kind, pattern_text, pattern_pieces, affix_pieces, pattern_around, space_if, affixes_for, affixes_of_style}, NumberText.{currency_if, is_empty, first_sign, last_sign, compact_around, compact_suffix, around_by, AreParts}, TextParts.{part_pieces, pieces_text}};
@@ -9,10 +9,9 @@ use crate::format::currency::{ShownCurrency, begins_with_currency, ends_with_cur
 use crate::format::parts::put_part;
 use crate::format::short_affixes::ShortAffixes;
 use crate::format::text_part::{PartKind, TextPart};
-use arrayvec::ArrayString;
 use decimal_format::DecimalSymbols;
 use decimal_format::internal::Block;
-use fixed_decimal::{Sign, SinkFault};
+use fixed_decimal::{Sign, Sink, SinkFault};
 use locale_data::{
     Affix, AffixPair, AffixText, CompactForm, CompactPattern, Pattern, Piece, UnitAffixes,
 };
@@ -29,16 +28,6 @@ pub(crate) struct NumberAffixes<'f> {
     pub(crate) prefix: [TextPart<'f>; 7],
     pub(crate) has_number: bool,
     pub(crate) suffix: [TextPart<'f>; 6],
-}
-
-fn push_space(text: &mut ArrayString<23>, needed: bool) -> Option<()>
-    ensures { OnSome result (text.new.bytes ≡ text.old.bytes ++ pieces_text (space_if needed)) }
-{
-    if needed {
-        text.try_push_str("\u{a0}").ok()
-    } else {
-        Some(())
-    }
 }
 
 /// The pattern of a style in a locale, and the texts of its pieces.
@@ -115,6 +104,20 @@ impl StyleTexts {
         }
     }
 
+    #[inline(always)]
+    fn needs_space_after(&self, prefix: Affix) -> bool
+        ensures { result ≡ (ends_with_currency prefix && self.now.currency.space_after) }
+    {
+        ends_with_currency(prefix) && self.currency.space_after
+    }
+
+    #[inline(always)]
+    fn needs_space_before(&self, suffix: Affix) -> bool
+        ensures { result ≡ (begins_with_currency suffix && self.now.currency.space_before) }
+    {
+        begins_with_currency(suffix) && self.currency.space_before
+    }
+
     fn pattern_affixes(&self, sign: Sign, unit: UnitAffixes) -> NumberAffixes<'_>
         requires prefix { length unit.prefix.now ≤ 255 }
         requires suffix { length unit.suffix.now ≤ 255 }
@@ -128,12 +131,12 @@ impl StyleTexts {
                 self.pattern_part(prefix.second),
                 self.pattern_part(prefix.third),
                 self.pattern_part(prefix.fourth),
-                space_if(ends_with_currency(prefix) && self.currency.space_after),
+                space_if(self.needs_space_after(prefix)),
                 TextPart::new(PartKind::Literal, ""),
             ],
             has_number: true,
             suffix: [
-                space_if(begins_with_currency(suffix) && self.currency.space_before),
+                space_if(self.needs_space_before(suffix)),
                 self.pattern_part(suffix.first),
                 self.pattern_part(suffix.second),
                 self.pattern_part(suffix.third),
@@ -237,64 +240,52 @@ impl StyleTexts {
         }
     }
 
-    #[inline]
-    fn push_piece(&self, text: &mut ArrayString<23>, piece: Piece) -> Option<()>
-        ensures { OnSome result (text.new.bytes ≡ text.old.bytes ++ pieces_text (pattern_pieces self.now piece)) }
+    // Not inlined: most pieces are empty.
+    #[inline(never)]
+    #[tactic(auto, using(crate::proofs::lemmas::format::PieceTexts::text_of))]
+    fn put_some_piece(&self, piece: Piece, block: &mut Block) -> Result<(), SinkFault>
+        ensures { OnOk result (block.new.0 ≡ block.old.0 ++ pieces_text (pattern_pieces self.now piece)) }
+    {
+        block.put_bytes(self.pattern_text(piece).as_bytes())
+    }
+
+    #[inline(always)]
+    fn put_piece(&self, piece: Piece, block: &mut Block) -> Result<(), SinkFault>
+        ensures { OnOk result (block.new.0 ≡ block.old.0 ++ pieces_text (pattern_pieces self.now piece)) }
     {
         match piece {
-            Piece::Empty => Some(()),
-            _ => text.try_push_str(self.pattern_text(piece)).ok(),
+            Piece::Empty => Ok(()),
+            _ => self.put_some_piece(piece, block),
         }
     }
 
-    fn affix_text(&self, spaced: bool, affix: Affix, ends_spaced: bool) -> Option<ArrayString<23>>
-        ensures { IfSome result (λ text. text.bytes ≡ pieces_text (space_if spaced
-            ++ (affix_pieces (pattern_pieces self.now) affix ++ space_if ends_spaced))) }
+    #[inline(always)]
+    fn put_affix(&self, affix: Affix, block: &mut Block) -> Result<(), SinkFault>
+        ensures { OnOk result
+            (block.new.0 ≡ block.old.0 ++ pieces_text (affix_pieces (pattern_pieces self.now) affix)) }
     {
-        let mut text = ArrayString::new();
-        push_space(&mut text, spaced)?;
-        self.push_piece(&mut text, affix.first)?;
-        self.push_piece(&mut text, affix.second)?;
-        self.push_piece(&mut text, affix.third)?;
-        self.push_piece(&mut text, affix.fourth)?;
-        push_space(&mut text, ends_spaced)?;
-        Some(text)
+        self.put_piece(affix.first, block)?;
+        self.put_piece(affix.second, block)?;
+        self.put_piece(affix.third, block)?;
+        self.put_piece(affix.fourth, block)
     }
 
-    fn needs_space_after(&self, prefix: Affix) -> bool
-        ensures { result ≡ (ends_with_currency prefix && self.now.currency.space_after) }
+    #[inline(always)]
+    pub(crate) fn put_prefix(&self, sign: Sign, block: &mut Block) -> Result<(), SinkFault>
+        ensures { OnOk result (block.new.0 ≡ block.old.0 ++ pieces_text (pattern_around self.now sign).prefix) }
     {
-        ends_with_currency(prefix) && self.currency.space_after
+        let prefix = self.pattern.affixes(sign).prefix;
+        self.put_affix(prefix, block)?;
+        put_part(space_if(self.needs_space_after(prefix)), block)
     }
 
-    fn needs_space_before(&self, suffix: Affix) -> bool
-        ensures { result ≡ (begins_with_currency suffix && self.now.currency.space_before) }
+    #[inline(always)]
+    pub(crate) fn put_suffix(&self, sign: Sign, block: &mut Block) -> Result<(), SinkFault>
+        ensures { OnOk result (block.new.0 ≡ block.old.0 ++ pieces_text (pattern_around self.now sign).suffix) }
     {
-        begins_with_currency(suffix) && self.currency.space_before
-    }
-
-    fn short_texts(&self, sign: Sign) -> Option<ShortAffixes<23>>
-        ensures { IfSome result (λ t. t ≡ affixes_for self.now sign) }
-    {
-        let around = self.pattern.affixes(sign);
-        let after = self.needs_space_after(around.prefix);
-        let before = self.needs_space_before(around.suffix);
-        Some(ShortAffixes {
-            prefix: self.affix_text(false, around.prefix, after)?,
-            suffix: self.affix_text(before, around.suffix, false)?,
-        })
-    }
-
-    /// Returns the texts around a number for each sign, if each is short. Without arrays of parts a formatter is made
-    /// in less time.
-    pub(crate) fn short_sign_texts(&self) -> Option<BySign<ShortAffixes<23>>>
-        ensures { IfSome result (λ t. t ≡ affixes_of_style self.now) }
-    {
-        Some(BySign {
-            none: self.short_texts(Sign::None)?,
-            negative: self.short_texts(Sign::Negative)?,
-            positive: self.short_texts(Sign::Positive)?,
-        })
+        let suffix = self.pattern.affixes(sign).suffix;
+        put_part(space_if(self.needs_space_before(suffix)), block)?;
+        self.put_affix(suffix, block)
     }
 
     fn affix_texts<const CAP: usize>(&self, sign: Sign) -> Option<ShortAffixes<CAP>>

@@ -1,11 +1,10 @@
 //! A currency as it is shown.
 ghost use Rattle.std.specs.Prelude.{◌≡◌, ◌≤◌, [], false, None, length};
-ghost use Rattle.number_format.specs.NumberStyles.{text_or_nothing, symbol_text, wide_symbol, narrow_symbol, currency_text, piece_or, ends_with_currency, begins_with_currency, in_system, IsShownBy, IsShownWith, IsShownCurrency};
+ghost use Rattle.number_format.specs.NumberStyles.{symbol_text, wide_symbol, narrow_symbol, currency_text, piece_or, ends_with_currency, begins_with_currency, in_system, IsShownBy, IsShownWith, IsShownCurrency};
 
 use crate::format::text_part::{PartKind, TextPart};
 use crate::options::{CurrencyDisplay, CurrencyStyle};
 use locale_data::{Affix, CurrencyCode, CurrencySymbol, LocalCurrency, Piece};
-use std::str;
 
 /// A currency as it is shown.
 #[derive(Clone, Copy)]
@@ -17,16 +16,6 @@ pub(crate) struct ShownCurrency {
     pub(crate) space_after: bool,
     pub(crate) wide: &'static str,
     pub(crate) narrow: &'static str,
-}
-
-pub(crate) fn text_or_nothing(bytes: &[u8]) -> &str
-    ensures value { result.now ≡ text_or_nothing bytes.now }
-    ensures short { length result.now ≤ length bytes.now }
-{
-    match str::from_utf8(bytes) {
-        Ok(text) => text,
-        Err(_) => "",
-    }
 }
 
 fn symbol_text(symbol: Option<CurrencySymbol>) -> &'static str
@@ -62,19 +51,20 @@ impl ShownCurrency {
         ensures short { length result.now ≤ 255 }
     {
         if self.shows_code {
-            text_or_nothing(&self.code)
+            self.code.as_str()
         } else {
             self.symbol.text
         }
     }
 
+    #[inline(always)]
     pub(crate) fn none() -> Self
         ensures shown { IsShownBy [] false false result }
         ensures symbol { result.shows_code ≡ false }
     {
         ShownCurrency {
             symbol: TextPart::new(PartKind::Literal, ""),
-            code: [b' '; 3],
+            code: CurrencyCode::none(),
             shows_code: false,
             space_before: false,
             space_after: false,
@@ -83,10 +73,11 @@ impl ShownCurrency {
         }
     }
 
-    fn with_symbol(self, symbol: Option<CurrencySymbol>) -> Self
+    #[inline(always)]
+    fn with_symbol(&self, symbol: Option<CurrencySymbol>) -> Self
         ensures shown { IsShownWith symbol result }
-        ensures code { result.code ≡ self.code }
-        ensures names { (result.wide ≡ self.wide) × (result.narrow ≡ self.narrow) }
+        ensures code { result.code ≡ self.now.code }
+        ensures names { (result.wide ≡ self.now.wide) × (result.narrow ≡ self.now.narrow) }
     {
         match symbol {
             Some(symbol) => ShownCurrency {
@@ -94,37 +85,37 @@ impl ShownCurrency {
                 shows_code: false,
                 space_before: symbol.space_before,
                 space_after: symbol.space_after,
-                ..self
+                ..*self
             },
             None => ShownCurrency {
                 shows_code: true,
                 space_before: true,
                 space_after: true,
-                ..self
+                ..*self
             },
         }
     }
 
-    pub(crate) fn in_system(self, system: &str) -> Self
-        ensures { result ≡ in_system system.now self }
+    #[inline(always)]
+    pub(crate) fn in_system(&self, system: &str) -> Self
+        ensures { result ≡ in_system system.now self.now }
     {
         let spaced = system.as_bytes() != b"hanidec".as_slice();
         ShownCurrency {
             space_before: self.space_before && spaced,
             space_after: self.space_after && spaced,
-            ..self
+            ..*self
         }
     }
 
+    #[inline(always)]
     pub(crate) fn of(currency: Option<LocalCurrency>, style: &CurrencyStyle) -> Self
         ensures { IsShownCurrency currency style.now result }
     {
         let wide = wide_symbol(currency);
         let narrow = narrow_symbol(currency);
-        let mut code = style.code;
-        code.make_ascii_uppercase();
         let named = ShownCurrency {
-            code,
+            code: style.code,
             wide: symbol_text(wide),
             narrow: symbol_text(narrow),
             ..Self::none()

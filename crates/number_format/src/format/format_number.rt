@@ -46,6 +46,9 @@ impl NumberFormatter {
 
     /// Formats a number: rounds it, and writes it as the formatter's options have it.
     ///
+    /// It takes the number, since it rounds it in place, and so needs no memory for another one. On error the number is
+    /// returned. `DecimalFormatter` of `decimal_format`, which does not round, borrows the decimal.
+    ///
     /// # Errors
     ///
     /// The number, unchanged:

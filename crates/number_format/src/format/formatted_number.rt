@@ -286,18 +286,14 @@ impl<'f> FormattedNumber<'f> {
     }
 
     #[inline(always)]
-    #[tactic(auto, using(crate::proofs::lemmas::format::PieceTexts::by_sign_is))]
     fn put_pattern(&self, block: &mut Block) -> Result<(), SinkFault>
         ensures { OnOk result (block.new.0 ≡ block.old.0 ++ around_text self.now
             (pattern_around self.now.formatter.now.style self.now.value.sign)) }
     {
-        let Some(texts) = &self.formatter.sign_texts else {
-            return Err(SinkFault);
-        };
-        let texts = texts.of(self.value.sign).texts();
-        block.put_bytes(texts.prefix.as_bytes())?;
+        let style = &self.formatter.style;
+        style.put_prefix(self.value.sign, block)?;
         self.put_digits(block)?;
-        block.put_bytes(texts.suffix.as_bytes())
+        style.put_suffix(self.value.sign, block)
     }
 
     #[inline(always)]

@@ -1,14 +1,11 @@
 //! The formatter of numbers: made by a locale and options, it rounds a number and chooses what is written around it.
 ghost use Rattle.std.specs.{Prelude.{◌≡◌, ◌↔◌, ◌⊎◌, Some, None, pos, IsTrue, IsSome, IfSome, IfNone, IfOk, IfErr, IsErrOf, OnOk, OnErr}, Option.ForSome};
 ghost use Rattle.locale_data.specs.Plurals.{rules_text_at};
-ghost use Rattle.number_format.specs.PatternTexts.{affixes_of_style};
 
 use crate::digits::options::DigitOptions;
 use crate::format::affixes::StyleTexts;
-use crate::format::by_sign::BySign;
 use crate::format::compact::{CompactChoice, NO_CHOICE, compact_magnitude, is_one};
-use crate::format::ids::{FormatterIds, NumberFormatError, currency_by, system_text};
-use crate::format::short_affixes::ShortAffixes;
+use crate::format::ids::{FormatterIds, NumberFormatError, currency_by, style_system};
 use crate::format::style::{
     notation_of, percent_text, shown_digits, style_of, style_sizes, with_separators,
 };
@@ -31,10 +28,7 @@ pub struct NumberFormatter {
     pub(crate) options: NumberOptions,
     pub(crate) notation: Notation,
     pub(crate) digits: Option<DigitOptions>,
-    /// What is written around a number of standard notation, if it is short.
-    pub(crate) sign_texts: Option<BySign<ShortAffixes<23>>>,
     pub ghost rules_listed: { IsSome (rules_text_at rules) },
-    pub ghost sign_texts_are: { ForSome sign_texts (λ t. t ≡ affixes_of_style style) },
 }
 
 impl NumberFormatter {
@@ -57,15 +51,13 @@ impl NumberFormatter {
         ensures err { IfErr result (λ e. IsFormatterError tag.now options.numbering_system e) }
     {
         let ids = FormatterIds::of(tag, &options)?;
-        match Self::made(&ids, &options, true) {
+        match Self::at(&ids, &options) {
             Some(formatter) => Ok(formatter),
             None => unreachable!(),
         }
     }
 
     /// Makes the formatter of rows of tables and options, without a search. Returns `None` if there are no such rows.
-    ///
-    /// This takes less time than [`try_new`](Self::try_new), but the formatter takes longer to write a number.
     ///
     /// ```
     /// let ids = FormatterIds::of("de", &options)?;
@@ -75,19 +67,8 @@ impl NumberFormatter {
         ensures some { IfSome result (IsFormatterAt ids.now options.now) }
         ensures none { IfNone result (LacksRows ids.now) }
     {
-        Self::made(ids, options, false)
-    }
-
-    fn made(
-        ids: &FormatterIds,
-        options: &NumberOptions,
-        keeps_texts: bool,
-    ) -> Option<NumberFormatter>
-        ensures some { IfSome result (IsFormatterAt ids.now options.now) }
-        ensures none { IfNone result (LacksRows ids.now) }
-    {
         let symbols = symbols_at(ids.symbols)?;
-        let system = system_text(ids.symbols, &options.numbering_system)?;
+        let system = style_system(ids.symbols, options)?;
         let _rules = rules_text_at(ids.rules)?;
         let currency = currency_by(ids.currency)?;
         let own = symbols.sizes();
@@ -101,11 +82,6 @@ impl NumberFormatter {
             percent: TextPart::new(PartKind::PercentSign, percent),
             currency: shown,
         };
-        let sign_texts = if keeps_texts {
-            style.short_sign_texts()
-        } else {
-            None
-        };
         Some(NumberFormatter {
             style,
             separator: TextPart::new(PartKind::ExponentSeparator, signs.exponent.text()),
@@ -114,7 +90,6 @@ impl NumberFormatter {
             options: *options,
             notation: notation_of(options, &ids.formats),
             digits: shown_digits(options, currency),
-            sign_texts,
         })
     }
 

@@ -1,14 +1,13 @@
 //! The rows of tables of which a formatter is made.
 ghost use Rattle.std.specs.{Prelude.{◌≡◌, None, IfOk, IfErr, IfSome, IfNone, IsSomeAnd}, Option.option_copied};
 ghost use Rattle.locale_data.specs.{Currencies.LacksCurrency, Locales.{symbols_at, IsUnknown}};
-ghost use Rattle.number_format.specs.Formatters.{system_text, LacksRows, IsCurrencyBy, IsCurrencyRow, AreSymbolsOf, AreIdsOf, IsFormatterError};
+ghost use Rattle.number_format.specs.Formatters.{system_text, IsSystemOf, LacksRows, IsCurrencyBy, IsCurrencyRow, AreSymbolsOf, AreIdsOf, IsFormatterError};
 
-use crate::format::currency::text_or_nothing;
 use crate::options::{NumberOptions, NumberStyle};
 use locale_data::{
-    CurrencyId, LocalCurrency, LocaleId, Name, NumberFormats, PluralRuleType, PluralRulesId,
-    currency_at, currency_id, formats_of, locale_id, locale_id_in, plural_rules_id, system_name_at,
-    unpadded,
+    CurrencyId, LocalCurrency, LocaleId, NumberFormats, NumberingSystem, PluralRuleType,
+    PluralRulesId, currency_at, currency_id, formats_of, locale_id, locale_id_in, plural_rules_id,
+    system_name_at,
 };
 
 /// Why there is no formatter.
@@ -34,17 +33,31 @@ pub struct FormatterIds {
 }
 
 /// Returns the name of the numbering system: that of the options, or else that of the symbols.
-pub(crate) fn system_text(id: LocaleId, name: &Option<Name>) -> Option<&str>
+pub(crate) fn system_text(id: LocaleId, name: &Option<NumberingSystem>) -> Option<&str>
     ensures value { option_copied result ≡ system_text id name.now }
     ensures none { IfNone result (symbols_at id ≡ None) }
 {
     match name {
-        Some(name) => Some(text_or_nothing(unpadded(name))),
+        Some(name) => Some(name.as_str()),
         None => system_name_at(id),
     }
 }
 
+/// Returns the name of the numbering system of a currency, and an empty one for the styles that do not depend on it.
+#[inline(always)]
+pub(crate) fn style_system(id: LocaleId, options: &NumberOptions) -> Option<&str>
+    ensures value { IfSome result
+        (λ s. IsSystemOf options.now.style (system_text id options.now.numbering_system) s.now) }
+    ensures none { IfNone result (symbols_at id ≡ None) }
+{
+    match options.style {
+        NumberStyle::Currency(_) => system_text(id, &options.numbering_system),
+        _ => Some(""),
+    }
+}
+
 /// Returns what a row has for a currency, if there is one, and `None` if the tables lack it.
+#[inline(always)]
 pub(crate) fn currency_by(row: Option<CurrencyId>) -> Option<Option<LocalCurrency>>
     ensures found { IfSome result (IsCurrencyBy row) }
     ensures lacks { IfNone result (IsSomeAnd row LacksCurrency) }
@@ -55,7 +68,7 @@ pub(crate) fn currency_by(row: Option<CurrencyId>) -> Option<Option<LocalCurrenc
     }
 }
 
-fn symbols_of(tag: &str, name: &Option<Name>) -> Result<LocaleId, NumberFormatError>
+fn symbols_of(tag: &str, name: &Option<NumberingSystem>) -> Result<LocaleId, NumberFormatError>
     ensures known { IfOk result (λ id. ¬ IsUnknown tag.now) }
     ensures ok { IfOk result (AreSymbolsOf tag.now name.now) }
     ensures err { IfErr result (λ e. IsFormatterError tag.now name.now e) }
@@ -65,13 +78,10 @@ fn symbols_of(tag: &str, name: &Option<Name>) -> Result<LocaleId, NumberFormatEr
     };
     match name {
         None => Ok(own),
-        Some(name) => {
-            let system = text_or_nothing(unpadded(name));
-            match locale_id_in(tag, system) {
-                Some(id) => Ok(id),
-                None => Err(NumberFormatError::UnknownNumberingSystem),
-            }
-        }
+        Some(name) => match locale_id_in(tag, name.as_str()) {
+            Some(id) => Ok(id),
+            None => Err(NumberFormatError::UnknownNumberingSystem),
+        },
     }
 }
 

@@ -58,11 +58,10 @@ pub(crate) fn parts_length(parts: &[TextPart<'_>]) -> usize
 }
 
 /// A destination of the pieces of the text of a number: consecutive pieces of one kind are one part.
-///
-/// Contracts see the pieces that were put, if they are observable.
 pub trait PartSink {
-    /// The pieces that were put, or None for a sink whose pieces are not observable.
-    ghost pieces: { Self → Option (List Piece) };
+    /// Whether these may be the pieces that were put. Of a sink that keeps only their parts these are all pieces with
+    /// these parts, and of a sink whose pieces are not observable any pieces.
+    ghost pieces: { Self → List Piece → Type 0 };
 
     /// Whether the last piece was rejected.
     ghost has_failed: { Self → Bool };

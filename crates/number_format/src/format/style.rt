@@ -1,16 +1,17 @@
 //! What a locale has for the options: the pattern, separators and currency of the style, and the exponents.
 ghost use Rattle.std.specs.Prelude.{◌≡◌, ◌≤◌, length};
-ghost use Rattle.number_format.specs.{Formatters.{style_sizes, currency_sign, with_separators, IsWithoutCurrency, IsStyle, IsNotationBy, AreExponents, digits_by, AreShownDigits}, NumberText.compact_style, NumberStyles.{before, plain_pattern, percent_text}};
+ghost use Rattle.number_format.specs.{Formatters.{style_sizes, currency_sign, with_separators, IsWithoutCurrency, IsStyle, IsNotationBy, digits_by, AreShownDigits}, NumberText.compact_style, NumberStyles.{before, plain_pattern, percent_text}};
 
 use crate::digits::options::DigitOptions;
 use crate::format::currency::ShownCurrency;
+use crate::format::default_digits::default_digits;
 use crate::notation::{CompactExponents, Notation};
 use crate::options::{NumberNotation, NumberOptions, NumberStyle};
 use decimal_format::{DecimalSymbols, GroupingSizes, GroupingStrategy};
 use fixed_decimal::SignDisplay;
 use locale_data::{
-    Affix, AffixPair, CompactStyle, CurrencyDigits, CurrencyPattern, CurrencySign, LocalCurrency,
-    NumberFormats, NumberSigns, Pattern, Piece, UNLISTED_DIGITS, currency_pattern,
+    Affix, AffixPair, CurrencyDigits, CurrencyPattern, CurrencySign, LocalCurrency, NumberFormats,
+    NumberSigns, Pattern, Piece, UNLISTED_DIGITS, currency_pattern,
 };
 
 const NO_PIECES: Affix = Affix {
@@ -20,6 +21,7 @@ const NO_PIECES: Affix = Affix {
     fourth: Piece::Empty,
 };
 
+#[inline(always)]
 fn before(piece: Piece) -> AffixPair
     ensures { result ≡ before piece }
 {
@@ -32,6 +34,7 @@ fn before(piece: Piece) -> AffixPair
     }
 }
 
+#[inline(always)]
 fn plain_pattern(sizes: GroupingSizes) -> Pattern
     ensures { result ≡ plain_pattern sizes }
 {
@@ -44,6 +47,7 @@ fn plain_pattern(sizes: GroupingSizes) -> Pattern
     }
 }
 
+#[inline(always)]
 pub(crate) fn percent_text(style: NumberStyle, signs: NumberSigns) -> &'static str
     ensures value { result.now ≡ percent_text style signs }
     ensures short { length result.now ≤ 255 }
@@ -54,6 +58,7 @@ pub(crate) fn percent_text(style: NumberStyle, signs: NumberSigns) -> &'static s
     }
 }
 
+#[inline(always)]
 pub(crate) fn style_sizes(
     pattern: &Pattern,
     strategy: GroupingStrategy,
@@ -72,6 +77,7 @@ pub(crate) fn style_sizes(
     }
 }
 
+#[inline(always)]
 pub(crate) fn with_separators(
     symbols: DecimalSymbols<'static>,
     pattern: &CurrencyPattern,
@@ -98,6 +104,7 @@ fn currency_sign(display: SignDisplay, sign: CurrencySign) -> CurrencySign
     }
 }
 
+#[inline(always)]
 fn without_currency(pattern: Pattern) -> (CurrencyPattern, ShownCurrency)
     ensures { IsWithoutCurrency pattern result.0 result.1 }
 {
@@ -109,6 +116,7 @@ fn without_currency(pattern: Pattern) -> (CurrencyPattern, ShownCurrency)
     (written, ShownCurrency::none())
 }
 
+#[inline(always)]
 pub(crate) fn style_of(
     system: &str,
     sizes: GroupingSizes,
@@ -145,6 +153,7 @@ fn digits_by(currency: Option<LocalCurrency>) -> CurrencyDigits
 }
 
 /// Returns the digits that the options have, or else the default ones.
+#[inline(always)]
 pub(crate) fn shown_digits(
     options: &NumberOptions,
     currency: Option<LocalCurrency>,
@@ -153,28 +162,21 @@ pub(crate) fn shown_digits(
 {
     match options.digits {
         Some(digits) => Some(digits),
-        None => options.default_digits(digits_by(currency)),
+        None => default_digits(options, digits_by(currency)),
     }
 }
 
+#[inline(always)]
 pub(crate) fn notation_of(options: &NumberOptions, formats: &NumberFormats) -> Notation
     ensures { IsNotationBy formats.now options.now.notation
         (compact_style options.now.notation options.now.style) result }
 {
     match (options.notation, options.compact_style()) {
-        (_, Some(style)) => Notation::Compact(compact_exponents(formats, style)),
+        (_, Some(style)) => Notation::Compact(CompactExponents {
+            rows: formats.compact_exponents(style),
+        }),
         (NumberNotation::Scientific(_), None) => Notation::Scientific,
         (NumberNotation::Engineering(_), None) => Notation::Engineering,
         _ => Notation::Standard,
     }
-}
-
-fn compact_exponents(formats: &NumberFormats, style: CompactStyle) -> CompactExponents
-    ensures { AreExponents formats.now style result.rows }
-{
-    let mut rows = [0; 17];
-    for index in 0..17 {
-        rows[index] = formats.compact_exponent(style, index as i16 + 3);
-    }
-    CompactExponents { rows }
 }

@@ -1,6 +1,5 @@
 //! The significand and the exponent of a number.
-ghost use Rattle.std.specs.Prelude.{◌≡◌, ◌↔◌, ◌+◌, ◌*◌, ◌/◌, ◌^◌, ◌≤◌, Some, None, IsTrue, IfOk, OnOk, OnErr, IfErr, IsErrOf, pos, ◌+ℤ◌, ◌-ℤ◌, ◌≤ℤ◌, ◌<ℤ◌, negsuc, unsigned_abs};
-ghost use Rattle.std.specs.Int.{int_min};
+ghost use Rattle.std.specs.{Prelude.{◌≡◌, ◌↔◌, ◌+◌, ◌*◌, ◌/◌, ◌^◌, ◌≤◌, Some, None, IsTrue, IfOk, OnOk, OnErr, IfErr, IsErrOf, pos, ◌+ℤ◌, ◌-ℤ◌, ◌≤ℤ◌, ◌<ℤ◌, negsuc, unsigned_abs}, Int.int_min};
 ghost use Rattle.decimal_digits.specs.Number.{first, last};
 ghost use Rattle.number_format.specs.Scaled.{exponent_from_0, base_exponent, raised, settled, rounded_number, ScalingNeedsMemory, scaled_value, scaled};
 

@@ -3,7 +3,6 @@ ghost use Rattle.std.specs.Prelude.{◌≡◌, ◌∷◌, [], ◌++◌, ◌-ℤ�
 ghost use Rattle.number_format.specs.{AffixedTexts.IsReadExactly, PatternTexts.affixes_of_style, NumberReading.{CanRead, CanUndo, CannotRead, names_by, form, form_of, forms_of_name, number_reader_of, typed_forms, IsReadLeniently, IsReadInMode}};
 
 use crate::format::by_sign::BySign;
-use crate::format::currency::text_or_nothing;
 use crate::format::formatter::NumberFormatter;
 use crate::format::short_affixes::ShortAffixes;
 use crate::options::{NumberNotation, NumberStyle};
@@ -99,11 +98,10 @@ fn names(formatter: &NumberFormatter) -> (&str, &str, &str)
     ensures { result.0.now ∷ result.1.now ∷ result.2.now ∷ [] ≡ names_by formatter.now formatter.now.options.style }
 {
     let currency = &formatter.style.currency;
-    let code = text_or_nothing(&currency.code);
     match formatter.options.style {
         NumberStyle::Decimal => ("", "", ""),
         NumberStyle::Percent | NumberStyle::Permille => (formatter.style.percent.text, "", ""),
-        NumberStyle::Currency(_) => (currency.wide, currency.narrow, code),
+        NumberStyle::Currency(_) => (currency.wide, currency.narrow, currency.code.as_str()),
     }
 }
 
@@ -148,7 +146,7 @@ fn shift(formatter: &NumberFormatter) -> Result<i16, NumberReaderError>
 ///
 /// ```
 /// let formatter = NumberFormatter::try_new("de", options)?; // EUR
-/// let reader = formatter.into_reader(alloc)?;
+/// let reader = formatter.reader(alloc)?;
 /// reader.read(alloc, "-1.234,50\u{a0}€".as_bytes())?; // -1234.50
 /// ```
 pub struct NumberReader {
@@ -177,17 +175,17 @@ impl Model for NumberReader {
 }
 
 impl NumberFormatter {
-    /// Makes the reader of what this formatter writes.
+    /// Makes the reader of what this formatter writes. The formatter stays.
     ///
     /// # Errors
     ///
     /// - `Memory`: out of memory, though the texts of the formatter can be read.
     /// - Others: the texts of the formatter do not have one meaning each.
-    pub fn into_reader(self, alloc: Global) -> Result<NumberReader, NumberReaderError>
-        ensures ok { IfOk result (λ r. (r ≡ number_reader_of self) × CanRead self) }
-        ensures err { IfErr result (λ e. CannotRead e self) }
+    pub fn reader(&self, alloc: Global) -> Result<NumberReader, NumberReaderError>
+        ensures ok { IfOk result (λ r. (r ≡ number_reader_of self.now) × CanRead self.now) }
+        ensures err { IfErr result (λ e. CannotRead e self.now) }
     {
-        let shift = shift(&self)?;
+        let shift = shift(self)?;
         if !self.style.symbols.is_readable() {
             return Err(NumberReaderError::Symbols);
         }
@@ -195,13 +193,13 @@ impl NumberFormatter {
         if !are_apart(&self.style.symbols, &texts) {
             return Err(NumberReaderError::Affixes);
         }
-        let Ok(forms) = forms(&self, &texts, alloc) else {
+        let Ok(forms) = forms(self, &texts, alloc) else {
             return Err(NumberReaderError::Memory);
         };
         let Ok(affixes) = owned(&texts, alloc) else {
             return Err(NumberReaderError::Memory);
         };
-        let reader = AffixReader::new(self.style.symbols, affixes, shift);
+        let reader = AffixReader::new(self.style.symbols.copied(), affixes, shift);
         Ok(NumberReader { reader, forms })
     }
 }

@@ -1,20 +1,9 @@
-//! Runs of a character, names and numbers.
+//! Runs of a character, and numbers.
 use std::alloc::AllocError;
 
 pub(crate) fn push_run(text: &mut String, character: char, count: u32) -> Result<(), AllocError> {
     for _ in 0..count {
         text.push(character)?;
-    }
-    Ok(())
-}
-
-/// Appends bytes up to the first space.
-pub(crate) fn push_name(text: &mut String, name: &[u8]) -> Result<(), AllocError> {
-    for byte in name {
-        if *byte == b' ' {
-            return Ok(());
-        }
-        text.push(*byte as char)?;
     }
     Ok(())
 }

@@ -1,8 +1,7 @@
 //! Builds rules from the events of the parser.
 ghost use Rattle.std.specs.Prelude.{◌≡◌, ◌≤◌, ◌^◌, true, OnOk};
-ghost use Rattle.plural_rules.specs.declared.parse.state.Categories.{Categories};
+ghost use Rattle.plural_rules.specs.{declared.parse.state.Categories.Categories, RulesBuilder.{partial, IsSmall}};
 ghost use Rattle.plural_rules.specs.RulesReader as reader;
-ghost use Rattle.plural_rules.specs.RulesBuilder.{partial, IsSmall};
 
 use crate::parse::numbers::Numbers;
 use crate::parse::state::Event;

@@ -1,8 +1,7 @@
 //! The states of the parser of rules, and the transition on each byte.
 
 ghost use Rattle.std.specs.Prelude.{◌≡◌};
-ghost use Rattle.plural_rules.specs.RulesGrammar.{is_blank};
-ghost use Rattle.plural_rules.specs.Rules.{name_of};
+ghost use Rattle.plural_rules.specs.{RulesGrammar.is_blank, Rules.name_of};
 ghost use Rattle.plural_rules.specs.RulesReader as reader;
 
 use crate::rules::{Operand, PluralCategory};

@@ -1,8 +1,6 @@
 //! The plural category of a number by rules.
-ghost use Rattle.std.specs.Prelude.{◌≡◌, ℕ, ◌%◌, ◌^◌, ◌<◌, ◌≤◌};
-ghost use Rattle.std.specs.List.{list_any, list_all};
-ghost use Rattle.plural_rules.specs.DigitSlice.{IsUpTo};
-ghost use Rattle.plural_rules.specs.Rules.{operand_value, in_range, is_integer, relation, holds, is_met, category_of};
+ghost use Rattle.std.specs.{Prelude.{◌≡◌, ℕ, ◌%◌, ◌^◌, ◌<◌, ◌≤◌}, List.{list_any, list_all}};
+ghost use Rattle.plural_rules.specs.{DigitSlice.IsUpTo, Rules.{operand_value, in_range, is_integer, relation, holds, is_met, category_of}};
 
 use super::{Modulus, Operand, PluralCategory, PluralRules, Range, Relation, Rule};
 use crate::operands::PluralOperands;

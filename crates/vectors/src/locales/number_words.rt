@@ -3,7 +3,7 @@ use decimal_format::GroupingStrategy;
 use fixed_decimal::SignDisplay;
 use fixed_decimal::SignedRoundingMode::{self, Ceil, Floor, HalfCeil, HalfFloor, Unsigned};
 use fixed_decimal::UnsignedRoundingMode::{Expand, HalfEven, HalfExpand, HalfTrunc, Trunc};
-use locale_data::{CurrencyCode, CurrencySign};
+use locale_data::{CurrencyCode, CurrencySign, NumberingSystem};
 use number_format::{
     BothDigits, CompactLength, CurrencyDisplay, CurrencyStyle, CurrencyUsage, DigitOptions,
     DigitOptionsError, DigitSettings, ExponentOptions, ExponentSign, FractionDigits,
@@ -84,10 +84,8 @@ impl Options {
 
     /// Returns the options as node has them: in compact notation `auto` is `min2`.
     pub fn of_node(mut self) -> Self {
-        if let NumberNotation::Compact(_) = self.number.notation {
-            if self.number.grouping == GroupingStrategy::Auto {
-                self.number.grouping = GroupingStrategy::Min2;
-            }
+        if self.number.grouping == GroupingStrategy::Auto {
+            self.number.grouping = self.number.notation.default_grouping();
         }
         self
     }
@@ -120,8 +118,10 @@ impl Options {
 /// What a word of the table says.
 #[derive(Clone, Copy)]
 enum Word {
-    /// A style, and its scale.
-    Style(NumberStyle, i16),
+    Decimal,
+    Percent,
+    Permille,
+    Currency,
     CurrencyDisplay(CurrencyDisplay),
     CurrencySign(CurrencySign),
     Cash,
@@ -136,13 +136,6 @@ enum Word {
     Limited,
 }
 
-const CURRENCY: CurrencyStyle = CurrencyStyle {
-    code: *b"XXX",
-    display: CurrencyDisplay::Symbol,
-    sign: CurrencySign::Standard,
-    usage: CurrencyUsage::Standard,
-};
-
 const EXPONENT: ExponentOptions = ExponentOptions {
     digits: 1,
     sign: ExponentSign::Auto,
@@ -151,13 +144,10 @@ const EXPONENT: ExponentOptions = ExponentOptions {
 /// The words of options with few values, by the names of ECMA-402. Those that it does not have: `check` is what is
 /// checked, and with `limited` the digits are in a store that is out of memory for more than 16 of them.
 const WORDS: &[(&str, Word)] = &[
-    ("style=decimal", Word::Style(NumberStyle::Decimal, 0)),
-    ("style=percent", Word::Style(NumberStyle::Percent, 2)),
-    ("style=permille", Word::Style(NumberStyle::Permille, 3)),
-    (
-        "style=currency",
-        Word::Style(NumberStyle::Currency(CURRENCY), 0),
-    ),
+    ("style=decimal", Word::Decimal),
+    ("style=percent", Word::Percent),
+    ("style=permille", Word::Permille),
+    ("style=currency", Word::Currency),
     (
         "currencyDisplay=symbol",
         Word::CurrencyDisplay(CurrencyDisplay::Symbol),
@@ -257,12 +247,21 @@ const WORDS: &[(&str, Word)] = &[
     ("limited=yes", Word::Limited),
 ];
 
+/// Sets a style, and its scale.
+fn set_style(options: &mut Options, style: NumberStyle, scale: i16) {
+    options.number.style = style;
+    options.number.scale = scale;
+}
+
 /// Sets what a word of the table says.
 fn set_word(options: &mut Options, word: Word) {
     match word {
-        Word::Style(style, scale) => {
-            options.number.style = style;
-            options.number.scale = scale;
+        Word::Decimal => set_style(options, NumberStyle::Decimal, 0),
+        Word::Percent => set_style(options, NumberStyle::Percent, 2),
+        Word::Permille => set_style(options, NumberStyle::Permille, 3),
+        Word::Currency => {
+            let style = NumberStyle::Currency(options.currency);
+            set_style(options, style, 0);
         }
         Word::CurrencyDisplay(display) => options.currency.display = display,
         Word::CurrencySign(sign) => options.currency.sign = sign,
@@ -277,22 +276,6 @@ fn set_word(options: &mut Options, word: Word) {
         Word::Check(check) => options.check = check,
         Word::Limited => options.is_limited = true,
     }
-}
-
-/// Parses a code of three letters.
-fn code(word: &str) -> Option<CurrencyCode> {
-    let bytes = word.as_bytes();
-    if bytes.len() != 3 {
-        return None;
-    }
-    Some([bytes[0], bytes[1], bytes[2]])
-}
-
-/// Parses the name of a numbering system.
-fn system(word: &str) -> Option<[u8; 16]> {
-    let mut name = *b"                ";
-    name.get_mut(..word.len())?.copy_from_slice(word.as_bytes());
-    Some(name)
 }
 
 /// Parses the least number of exponent digits and the sign of an exponent, separated by a comma.
@@ -377,7 +360,7 @@ fn set_count(settings: &mut DigitSettings, name: &str, count: u16) -> Option<()>
 /// `scale` replaces that of a style before it.
 fn set_value(options: &mut Options, name: &str, value: &str) -> Option<()> {
     match name {
-        "currency" => options.currency.code = code(value)?,
+        "currency" => options.currency.code = CurrencyCode::try_from_str(value).ok()?,
         "defaults" => options.fraction = Some(fraction(value)?),
         "integer" => {
             let (min, max) = pair(value)?;
@@ -390,7 +373,10 @@ fn set_value(options: &mut Options, name: &str, value: &str) -> Option<()> {
         "engineering" => {
             options.number.notation = NumberNotation::Engineering(exponent(value)?);
         }
-        "numberingSystem" => options.number.numbering_system = Some(system(value)?),
+        "numberingSystem" => {
+            let system = NumberingSystem::try_from_str(value).ok()?;
+            options.number.numbering_system = Some(system);
+        }
         _ => match precision(name, value) {
             Some(precision) => options.precision = Some(precision),
             None => set_count(&mut options.settings, name, value.parse().ok()?)?,
@@ -399,40 +385,24 @@ fn set_value(options: &mut Options, name: &str, value: &str) -> Option<()> {
     Some(())
 }
 
-/// The options of a decimal, if no word follows.
-const DECIMAL: Options = Options {
-    number: NumberOptions {
-        style: NumberStyle::Decimal,
-        scale: 0,
-        notation: NumberNotation::Standard,
-        digits: None,
-        sign_display: SignDisplay::Auto,
-        grouping: GroupingStrategy::Auto,
-        numbering_system: None,
-    },
-    currency: CURRENCY,
-    compact_length: CompactLength::Short,
-    settings: DigitSettings {
-        minimum_integer_digits: None,
-        minimum_fraction_digits: None,
-        maximum_fraction_digits: None,
-        minimum_significant_digits: None,
-        maximum_significant_digits: None,
-        rounding_increment: 1,
-        rounding_mode: Unsigned(HalfExpand),
-        rounding_priority: RoundingPriority::Auto,
-        trailing_zeros: TrailingZeros::Auto,
-    },
-    fraction: None,
-    integer: None,
-    precision: None,
-    check: Check::Text,
-    is_limited: false,
-};
+/// Returns the options of a decimal, if no word follows.
+fn decimal() -> Options {
+    Options {
+        number: NumberOptions::default(),
+        currency: CurrencyStyle::new(CurrencyCode::none()),
+        compact_length: CompactLength::Short,
+        settings: DigitSettings::default(),
+        fraction: None,
+        integer: None,
+        precision: None,
+        check: Check::Text,
+        is_limited: false,
+    }
+}
 
 /// Parses words `name=value` with spaces between them.
 pub fn parse_options(words: &str) -> Option<Options> {
-    let mut options = DECIMAL;
+    let mut options = decimal();
     if words.is_empty() {
         return Some(options);
     }

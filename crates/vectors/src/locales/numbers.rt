@@ -191,9 +191,7 @@ fn checks(
     (text, expected): (&str, &str),
 ) -> Option<bool> {
     let formatter = NumberFormatter::try_new(tag, options.number(Some(digits))).ok()?;
-    let reader = NumberFormatter::try_new(tag, options.number(Some(digits)))
-        .ok()?
-        .into_reader(alloc);
+    let reader = formatter.reader(alloc);
     match options.check {
         Check::Text => formats(alloc, &formatter, reader, options, (text, expected)),
         Check::Parts => {
@@ -215,7 +213,10 @@ pub fn expanded(alloc: Global, field: &str) -> Option<String> {
 
 /// Whether a row holds.
 pub fn holds(alloc: Global, tag: &str, words: &str, (number, text): (&str, &str)) -> Option<bool> {
-    let options = parse_options(words)?.of_node();
+    let options = match parse_options(words) {
+        Some(options) => options.of_node(),
+        None => return None,
+    };
     let digits = match options.digits() {
         Ok(digits) => digits,
         Err(error) => {

@@ -1,5 +1,5 @@
 //! Parts of texts.
-ghost use Rattle.std.specs.Prelude.{None};
+ghost use Rattle.std.specs.Prelude.{⊤};
 
 use fixed_decimal::{Sink, SinkFault};
 use number_format::{FormattedNumber, PartKind, PartSink};
@@ -32,7 +32,7 @@ fn name(kind: PartKind) -> &'static str {
 }
 
 impl<'a> PartSink for PartTexts<'a> {
-    ghost pieces = { λ _. None };
+    ghost pieces = { λ _ _. ⊤ };
 
     ghost has_failed = { λ s. ⟦<LimitedSink<'a> as Sink>⟧.has_failed s.text };
 

@@ -1,5 +1,5 @@
 //! The options that number skeletons name, and their errors.
-use crate::locales::number_words::parse_options;
+use crate::locales::number_words::{Options, parse_options};
 use number_format::NumberOptions;
 use number_skeleton::SkeletonError;
 use std::alloc::{AllocError, Global};
@@ -34,6 +34,18 @@ fn reading_of(alloc: Global, text: &str) -> Result<String, AllocError> {
     }
 }
 
+fn text_of(alloc: Global, options: &NumberOptions) -> Result<String, AllocError> {
+    format!(in alloc; "{options:?}")
+}
+
+/// Returns the text of the options that the words of a row name.
+fn text_of_words(alloc: Global, options: &Options) -> Option<String> {
+    match options.digits() {
+        Ok(digits) => text_of(alloc, &options.number(Some(digits))).ok(),
+        Err(_) => None,
+    }
+}
+
 /// Returns the text of what a row expects.
 fn expected_reading(alloc: Global, expected: &str) -> Option<String> {
     if let Some(skeleton) = expected.strip_prefix('=') {
@@ -43,18 +55,18 @@ fn expected_reading(alloc: Global, expected: &str) -> Option<String> {
     if expected.starts_with("syntax ") || expected.starts_with("unsupported ") {
         return expanded(alloc, expected).ok();
     }
-    let options = parse_options(expected)?;
-    let options = options.number(Some(options.digits().ok()?));
-    format!(in alloc; "{options:?}").ok()
+    match parse_options(expected) {
+        Some(options) => text_of_words(alloc, &options),
+        None => None,
+    }
 }
 
 /// Returns the skeleton that the options of a skeleton are printed as, if it reads as the same options.
 fn printed(alloc: Global, options: &NumberOptions) -> Option<String> {
     let printed = number_skeleton::to_skeleton(options, alloc).ok()??;
-    let again = number_skeleton::parse(printed.as_str()).ok()?;
-    let again = format!(in alloc; "{again:?}").ok()?;
-    let options = format!(in alloc; "{options:?}").ok()?;
-    if again.as_str() == options.as_str() {
+    let again = reading_of(alloc, printed.as_str()).ok()?;
+    let text = text_of(alloc, options).ok()?;
+    if again.as_str() == text.as_str() {
         Some(printed)
     } else {
         None

@@ -1,9 +1,6 @@
 use Rattle.std.proofs.Common.{◌≡◌, List, String, [], ◌∷◌, length, refl, rules, arith}
 use Rattle.std.specs.declared.alloc.Global.{Global}
-use Rattle.cli.specs.declared.program.error.WordsError.TheVariants.{NoText}
-use Rattle.cli.specs.declared.program.help.Program.TheVariants.{Fixdec}
-use Rattle.cli.specs.Error.{setup_error}
-use Rattle.cli.specs.Fixdec.{HasError}
+use Rattle.cli.specs.{declared.program.{error.WordsError.TheVariants.NoText, help.Program.TheVariants.Fixdec}, Error.setup_error, Fixdec.HasError}
 use Rattle.cli.proofs.fixdec.parse_words.Goals as goal
 
 no_text : (words : List (String Global)) → length words ≡ 0 → HasError words (setup_error Fixdec NoText)

@@ -1,5 +1,4 @@
-use Rattle.std.proofs.Common.{◌≡◌, Err, refl, ap, ◌∙◌}
-use Rattle.std.proofs.lemmas.Result.{err_from_is_err_and}
+use Rattle.std.proofs.{Common.{◌≡◌, Err, refl, ap, ◌∙◌}, lemmas.Result.err_from_is_err_and}
 use Rattle.cli.specs.declared.program.error.ProgramError.TheVariants as program
 use Rattle.cli.specs.Error.{conversion_error}
 use Rattle.conversions.proofs.lemmas.conversion.Conversions.{output_fails}

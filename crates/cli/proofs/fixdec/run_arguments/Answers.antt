@@ -1,14 +1,7 @@
 use Rattle.std.proofs.Common.{◌≡◌, ◌≢◌, ◌<◌, ◌∙◌, ℕ, List, Ok, Err, inl, inr, refl, true, false, rules}
-use Rattle.std.specs.Io.Buffered.{writer_contents, writer_inner, writer_buffer}
-use Rattle.std.specs.Io.KnownBytes.{append_known}
-use Rattle.cli.specs.Fixdec.{PrintsPrefix}
-use Rattle.cli.specs.declared.program.error.ProgramError.TheVariants.{Output}
-use Rattle.cli.specs.declared.program.error.WordsError.TheVariants.{Memory}
-use Rattle.cli.specs.declared.program.help.Program.TheVariants.{Fixdec}
-use Rattle.cli.specs.Error.{setup_error}
-use Rattle.cli.proofs.lemmas.program.Buffers.{new_writer}
-use Rattle.cli.proofs.lemmas.program.Programs.{prints_kept, unwritten_fails}
-use Rattle.cli.proofs.lemmas.program.Starting.{have_words}
+use Rattle.std.specs.Io.{Buffered.{writer_contents, writer_inner, writer_buffer}, KnownBytes.append_known}
+use Rattle.cli.specs.{Fixdec.PrintsPrefix, declared.program.{error.{ProgramError.TheVariants.Output, WordsError.TheVariants.Memory}, help.Program.TheVariants.Fixdec}, Error.setup_error}
+use Rattle.cli.proofs.lemmas.program.{Buffers.new_writer, Programs.{prints_kept, unwritten_fails}, Starting.have_words}
 use Rattle.cli.proofs.fixdec.run_arguments.Goals as goal
 
 pub returns-in-Err-clause-ends : goal.returns-in-Err-clause-ends

@@ -1,23 +1,8 @@
-use Rattle.std.proofs.Common.{◌≡◌, ◌∙◌, ℕ, List, [], String, Option, Some, Result, Ok, Err, IfErr, OnOk, Bool, true, false, inl, inr, refl, ap, subst}
-use Rattle.std.specs.Prelude.{MatchBool}
-use Rattle.std.specs.declared.alloc.Global.{Global}
-use Rattle.std.specs.Io.KnownBytes.{Keeps, append_known}
-use Rattle.std.proofs.KnownBytes.{Appends-kept}
+use Rattle.std.proofs.{Common.{◌≡◌, ◌∙◌, ℕ, List, [], String, Option, Some, Result, Ok, Err, IfErr, OnOk, Bool, true, false, inl, inr, refl, ap, subst}, KnownBytes.Appends-kept}
+use Rattle.std.specs.{Prelude.MatchBool, declared.alloc.Global.Global, Io.KnownBytes.{Keeps, append_known}}
 use Rattle.decimal_digits.specs.AppendsPrefix.{AppendsPrefix}
-use Rattle.cli.specs.declared.program.error.ProgramError.{ProgramError}
-use Rattle.cli.specs.declared.program.error.ProgramError.TheVariants.{Setup, Output}
-use Rattle.cli.specs.declared.lines.filter.Filter.{Filter}
-use Rattle.cli.specs.Filter.{Effects, FilteredLine}
-use Rattle.cli.specs.declared.lines.named_filter.NamedFilter.{NamedFilter}
-use Rattle.cli.specs.Lines.{AreFirst, number_after, Returns, Filters, AppendsUnwritten}
-use Rattle.cli.specs.NamedFilter.{EndsAtHeader, FiltersNamed}
-use Rattle.cli.specs.declared.program.error.WordsError.TheVariants.{NoCsv}
-use Rattle.cli.specs.declared.program.help.Program.TheVariants.{FixdecLines}
-use Rattle.cli.specs.Error.{setup_error}
-use Rattle.cli.specs.Options.{lacks_csv}
-use Rattle.cli.specs.FixdecLines.{IsEarly, FilterFails, OthersFail}
-use Rattle.cli.proofs.lemmas.program.Buffers.{append_known-nil}
-use Rattle.cli.proofs.lemmas.program.Programs.{err_map}
+use Rattle.cli.specs.{declared.{program.{error.{ProgramError.{ProgramError, TheVariants.{Setup, Output}}, WordsError.TheVariants.NoCsv}, help.Program.TheVariants.FixdecLines}, lines.{filter.Filter.Filter, named_filter.NamedFilter.NamedFilter}}, Filter.{Effects, FilteredLine}, Lines.{AreFirst, number_after, Returns, Filters, AppendsUnwritten}, NamedFilter.{EndsAtHeader, FiltersNamed}, Error.setup_error, Options.lacks_csv, FixdecLines.{IsEarly, FilterFails, OthersFail}}
+use Rattle.cli.proofs.lemmas.program.{Buffers.append_known-nil, Programs.err_map}
 use Rattle.cli.proofs.fixdec_lines.filter_words.Goals as goal
 
 unwritten :

@@ -1,7 +1,6 @@
 use Rattle.std.proofs.Common.{inl, inr, refl}
 use Rattle.cli.specs.declared.program.help.Program.TheVariants.{FixdecLines}
-use Rattle.cli.proofs.lemmas.program.Programs.{err_all}
-use Rattle.cli.proofs.lemmas.program.Starting.{have_words, no_request}
+use Rattle.cli.proofs.lemmas.program.{Programs.err_all, Starting.{have_words, no_request}}
 use Rattle.cli.proofs.fixdec_lines.run_arguments.Goals as goal
 
 pub returns-in-Ok-clause-ends : goal.returns-in-Ok-clause-ends

@@ -1,20 +1,8 @@
 -- The fields of a line that are replaced by their conversions.
-use Rattle.std.proofs.Common.{◌≡◌, ◌≢◌, ℕ, suc, ◌+◌, ◌<◌, ◌≤◌, inl, inr, refl, sym, ap, subst, ◌∙◌, arith, add-one, Some, None, Ok, Err, Option, Bool, nat_le, List, ◌∷◌, ◌++◌, length, take, drop, get_or, append_assoc, take_all, drop-cons, ⊎_elim}
+use Rattle.std.proofs.{Common.{◌≡◌, ◌≢◌, ℕ, suc, ◌+◌, ◌<◌, ◌≤◌, inl, inr, refl, sym, ap, subst, ◌∙◌, arith, add-one, Some, None, Ok, Err, Option, Bool, nat_le, List, ◌∷◌, ◌++◌, length, take, drop, get_or, append_assoc, take_all, drop-cons, ⊎_elim}, lemmas.{Bool.{cond_both, cond-true, cond-false, Decides.leb_tells}, List.Elements.{All-push, All-weaker}}}
 use Rattle.std.specs.Prelude.{All, Contains, IfSome}
-use Rattle.std.proofs.lemmas.Bool.{cond_both, cond-true, cond-false}
-use Rattle.std.proofs.lemmas.Bool.Decides.{leb_tells}
-use Rattle.std.proofs.lemmas.List.Elements.{All-push, All-weaker}
-use Rattle.cli.specs.declared.lines.edits.FieldConversion.{FieldConversion}
-use Rattle.cli.specs.declared.lines.edits.FieldError.{FieldError}
-use Rattle.cli.specs.declared.program.error.LineError.{LineError}
-use Rattle.conversions.specs.declared.error.OperationError.{OperationError}
-use Rattle.conversions.specs.declared.error.OperationError.TheVariants.{Memory}
-use Rattle.cli.specs.declared.lines.fields.Field.{Field}
-use Rattle.cli.specs.Edits.{IsEdit, HasEdit, EditFails, AreEdited, HasEditedText, IsEditedLine, EditingFails, first_error}
-use Rattle.cli.specs.Error.{line_error}
-use Rattle.cli.specs.FieldConversion.{IsFieldResult}
-use Rattle.cli.specs.Fields.{located, within, replaced, bytes_of}
-use Rattle.cli.specs.Trim.{body_bounds}
+use Rattle.cli.specs.{declared.{lines.{edits.{FieldConversion.FieldConversion, FieldError.FieldError}, fields.Field.Field}, program.error.LineError.LineError}, Edits.{IsEdit, HasEdit, EditFails, AreEdited, HasEditedText, IsEditedLine, EditingFails, first_error}, Error.line_error, FieldConversion.IsFieldResult, Fields.{located, within, replaced, bytes_of}, Trim.body_bounds}
+use Rattle.conversions.specs.declared.error.OperationError.{OperationError, TheVariants.Memory}
 use Rattle.cli.proofs.lemmas.words.CallWords.{taken}
 
 -- what holds of two errors holds of the first one

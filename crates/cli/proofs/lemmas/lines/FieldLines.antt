@@ -1,28 +1,9 @@
 -- The result of a line.
-use Rattle.std.proofs.Common.{◌≡◌, ◌≢◌, ◌++◌, ℕ, inl, inr, refl, sym, Ok, Err, Result, Bool, true, false, List, [], ◌∷◌, length, Option, ap, subst, ◌∙◌, arith}
-use Rattle.std.specs.Prelude.{IfErr, MatchBool, not, ◌&&◌}
-use Rattle.std.proofs.lemmas.Bool.{false≢true}
-use Rattle.std.proofs.lemmas.List.{append-nil, take_rest}
-use Rattle.std.proofs.Math.Seq.{drop-length}
-use Rattle.std.specs.Borrow.{Bor}
-use Rattle.cli.specs.declared.program.error.FieldLabel.{FieldLabel}
-use Rattle.conversions.specs.declared.conversion.Conversion.{Conversion}
-use Rattle.conversions.specs.declared.error.OperationError.{OperationError}
-use Rattle.conversions.specs.declared.error.OperationError.TheVariants.{Quote, Memory, Output}
-use Rattle.cli.specs.declared.lines.edits.FieldConversion.{FieldConversion}
-use Rattle.cli.specs.declared.lines.fields.Field.{Field}
-use Rattle.cli.specs.declared.lines.filter.Filter.{Filter}
-use Rattle.cli.specs.declared.lines.filter.Target.{Target}
+use Rattle.std.proofs.{Common.{◌≡◌, ◌≢◌, ◌++◌, ℕ, inl, inr, refl, sym, Ok, Err, Result, Bool, true, false, List, [], ◌∷◌, length, Option, ap, subst, ◌∙◌, arith}, lemmas.{Bool.false≢true, List.{append-nil, take_rest}}, Math.Seq.drop-length}
+use Rattle.std.specs.{Prelude.{IfErr, MatchBool, not, ◌&&◌}, Borrow.Bor}
+use Rattle.cli.specs.{declared.{program.error.{FieldLabel.FieldLabel, LineError.LineError}, lines.{edits.FieldConversion.FieldConversion, fields.Field.Field, filter.{Filter.Filter, Target.Target}}}, Edits.{HasNoEdit, EditFails, IsEditedLine, EditingFails}, Error.error_of_line, FieldConversion.{IsTextResult, is_trimmed, IsFieldResult, HasFieldText, IsLineResult, HasLineText, LineFails, map_text}, Fields.{is_quoted, Holds, within, replaced, bytes_of}, Filter.{body_of, IsTargetResult, TargetFails, HasConvertedLine, ConvertingFails, ConversionFails, IsResultOfLine, filtered_line, is_broken_row, RowFails, IsResultOfRow}, Trim.{text_of, with_text_of, body_bounds}}
+use Rattle.conversions.specs.{declared.{conversion.Conversion.Conversion, error.OperationError.{OperationError, TheVariants.{Quote, Memory, Output}}}, Conversion.{HasOutcome, OperationsFail}, Error.status_of_operation}
 use Rattle.cli.specs.declared.lines.filter.Target.TheVariants as target
-use Rattle.conversions.specs.Conversion.{HasOutcome, OperationsFail}
-use Rattle.cli.specs.declared.program.error.LineError.{LineError}
-use Rattle.cli.specs.Edits.{HasNoEdit, EditFails, IsEditedLine, EditingFails}
-use Rattle.conversions.specs.Error.{status_of_operation}
-use Rattle.cli.specs.Error.{error_of_line}
-use Rattle.cli.specs.FieldConversion.{IsTextResult, is_trimmed, IsFieldResult, HasFieldText, IsLineResult, HasLineText, LineFails, map_text}
-use Rattle.cli.specs.Fields.{is_quoted, Holds, within, replaced, bytes_of}
-use Rattle.cli.specs.Filter.{body_of, IsTargetResult, TargetFails, HasConvertedLine, ConvertingFails, ConversionFails, IsResultOfLine, filtered_line, is_broken_row, RowFails, IsResultOfRow}
-use Rattle.cli.specs.Trim.{text_of, with_text_of, body_bounds}
 use Rattle.conversions.proofs.lemmas.conversion.Conversions.{error_is_outcome}
 
 -- what follows from a fact of an error

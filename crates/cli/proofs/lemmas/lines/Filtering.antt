@@ -1,26 +1,10 @@
 -- The state of a filter after some lines, and its result.
-use Rattle.std.proofs.Common.{◌≡◌, ◌≢◌, ℕ, ◌+◌, ◌≤◌, ◌^◌, List, [], ◌∷◌, ◌++◌, append_assoc, Option, Some, None, Ok, Err, Result, Bool, true, false, ◌&&◌, inl, inr, refl, sym, ap, subst, ◌∙◌, arith}
-use Rattle.std.specs.Prelude.{is_ok, IfSome, IsSomeAnd}
-use Rattle.std.proofs.lemmas.Bool.{and_from}
-use Rattle.std.proofs.lemmas.List.{append-nil, flat_map_more}
-use Rattle.std.proofs.lemmas.List.Folds.{list_all-append}
-use Rattle.std.proofs.lemmas.Grind.{common_steps}
-use Rattle.std.specs.List.{FoldsTo}
-use Rattle.std.specs.Io.KnownBytes.{Appends}
-use Rattle.std.specs.Io.BufRead.{drop_through}
-use Rattle.std.specs.declared.io.ErrorKind.{ErrorKind}
-use Rattle.std.proofs.KnownBytes.{Appends-nil, Appends-trans}
+use Rattle.std.proofs.{Common.{◌≡◌, ◌≢◌, ℕ, ◌+◌, ◌≤◌, ◌^◌, List, [], ◌∷◌, ◌++◌, append_assoc, Option, Some, None, Ok, Err, Result, Bool, true, false, ◌&&◌, inl, inr, refl, sym, ap, subst, ◌∙◌, arith}, lemmas.{Bool.and_from, List.{append-nil, flat_map_more, Folds.list_all-append}, Grind.common_steps}, KnownBytes.{Appends-nil, Appends-trans}}
+use Rattle.std.specs.{Prelude.{is_ok, IfSome, IsSomeAnd}, List.FoldsTo, Io.{KnownBytes.Appends, BufRead.drop_through}, declared.io.ErrorKind.ErrorKind}
 use Rattle.decimal_digits.specs.AppendsPrefix.{AppendsPrefix}
 use Rattle.fixed_decimal.proofs.Calling.{then_prefix}
-use Rattle.cli.specs.declared.program.error.ProgramError.{ProgramError}
-use Rattle.cli.specs.declared.program.error.ProgramError.TheVariants.{Line, LongLine, Input, Output}
-use Rattle.cli.specs.declared.lines.filter.Filter.{Filter}
-use Rattle.cli.specs.declared.lines.rows.FilteredRow.{FilteredRow}
-use Rattle.cli.specs.declared.words.options.OnError.TheVariants.{Stop}
-use Rattle.cli.specs.Filter.{Effects, FilteredLine, IsErrorOfReading, IsResultOfRow, lines_of_row, FiltersLine, FiltersNext, output_of_line, errors_of_line}
-use Rattle.cli.specs.Input.{IsRowRead}
+use Rattle.cli.specs.{declared.{program.error.ProgramError.{ProgramError, TheVariants.{Line, LongLine, Input, Output}}, lines.{filter.Filter.Filter, rows.FilteredRow.FilteredRow}, words.options.OnError.TheVariants.Stop}, Filter.{Effects, FilteredLine, IsErrorOfReading, IsResultOfRow, lines_of_row, FiltersLine, FiltersNext, output_of_line, errors_of_line}, Input.IsRowRead, Lines.{rows_of, AreRead, number_after, AreResults, output_of, errors_of, have_texts, EndsWith, Returns, Filters, IsConsumed}}
 use Rattle.conversions.specs.Lines.{lines_of}
-use Rattle.cli.specs.Lines.{rows_of, AreRead, number_after, AreResults, output_of, errors_of, have_texts, EndsWith, Returns, Filters, IsConsumed}
 use Rattle.cli.proofs.lemmas.lines.FirstLine.{lines_first}
 
 -- ---- What was read.

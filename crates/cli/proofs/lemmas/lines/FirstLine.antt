@@ -1,13 +1,6 @@
 -- The first line of bytes, and the others.
-use Rattle.std.proofs.Common.{◌≡◌, ◌≢◌, ℕ, zero, suc, ◌+◌, ◌<◌, ◌==◌, if◌then◌else◌, Bool, true, false, List, [], ◌∷◌, ◌++◌, length, take, drop, slice_index, Option, Some, None, IfSome, refl, sym, ap, ◌∙◌, arith, add-one, eq-eqb, ne_eqb, le_of_suc-le-suc, suc-le-suc, zero-lt-suc, eqb-true, take-append-drop, length-append}
-use Rattle.std.specs.Io.{StartsWith}
-use Rattle.std.specs.declared.io.buffered.BufReader.{BufReader}
-use Rattle.std.specs.Io.KnownBytes.{prepend_known}
-use Rattle.std.specs.Io.Buffered.{reader_buffer, reader_capacity, reader_remaining}
-use Rattle.std.specs.Io.BufRead.{take_through, drop_through, strip_last, first_piece, DropsConsumable}
-use Rattle.std.proofs.Math.Seq.{take-append_seam}
-use Rattle.std.proofs.lemmas.Bool.{cond-false}
-use Rattle.std.proofs.lemmas.Grind.{common_steps}
+use Rattle.std.proofs.{Common.{◌≡◌, ◌≢◌, ℕ, zero, suc, ◌+◌, ◌<◌, ◌==◌, if◌then◌else◌, Bool, true, false, List, [], ◌∷◌, ◌++◌, length, take, drop, slice_index, Option, Some, None, IfSome, refl, sym, ap, ◌∙◌, arith, add-one, eq-eqb, ne_eqb, le_of_suc-le-suc, suc-le-suc, zero-lt-suc, eqb-true, take-append-drop, length-append}, Math.Seq.take-append_seam, lemmas.{Bool.cond-false, Grind.common_steps}}
+use Rattle.std.specs.{Io.{StartsWith, KnownBytes.prepend_known, Buffered.{reader_buffer, reader_capacity, reader_remaining}, BufRead.{take_through, drop_through, strip_last, first_piece, DropsConsumable}}, declared.io.buffered.BufReader.BufReader}
 use Rattle.memchr.specs.Find.{IsFirstByte, is_byte}
 use Rattle.cli.specs.Input.{IsRead}
 use Rattle.conversions.specs.Lines.{lines_of}

@@ -1,17 +1,8 @@
 -- The first record of bytes, line by line.
-use Rattle.std.proofs.Common.{◌≡◌, ◌≢◌, ℕ, ◌+◌, ◌-◌, ◌<◌, ◌≤◌, ◌==◌, ◌||◌, if◌then◌else◌, not, Bool, true, false, List, [], ◌∷◌, ◌++◌, length, take, drop, take-append-drop, Option, Some, None, append_assoc, inl, inr, refl, sym, ap, ◌∙◌, arith}
-use Rattle.std.specs.Prelude.{IfSome, IsSomeAnd, nat_lt, count_by, ◌%◌}
-use Rattle.std.specs.Io.{StartsWith}
-use Rattle.std.specs.Io.BufRead.{strip_last, take_through, drop_through}
-use Rattle.std.proofs.lemmas.Bool.{cases_eq, ne_eqb}
-use Rattle.std.proofs.lemmas.Grind.{common_steps}
-use Rattle.std.proofs.lemmas.List.{append-nil}
-use Rattle.std.proofs.lemmas.List.Sums.{sum_by-append}
-use Rattle.std.proofs.lemmas.Bool.Decides.{nat_tests}
+use Rattle.std.proofs.{Common.{◌≡◌, ◌≢◌, ℕ, ◌+◌, ◌-◌, ◌<◌, ◌≤◌, ◌==◌, ◌||◌, if◌then◌else◌, not, Bool, true, false, List, [], ◌∷◌, ◌++◌, length, take, drop, take-append-drop, Option, Some, None, append_assoc, inl, inr, refl, sym, ap, ◌∙◌, arith}, lemmas.{Bool.{cases_eq, ne_eqb, Decides.nat_tests}, Grind.common_steps, List.{append-nil, Sums.sum_by-append}}}
+use Rattle.std.specs.{Prelude.{IfSome, IsSomeAnd, nat_lt, count_by, ◌%◌}, Io.{StartsWith, BufRead.{strip_last, take_through, drop_through}}}
 use Rattle.cli.proofs.lemmas.lines.Separators.{all_after}
-use Rattle.cli.specs.Fields.{is_quote, are_closed}
-use Rattle.cli.specs.Input.{IsAppended}
-use Rattle.cli.specs.Records.{longest_record, ends_record, records_after, records_of}
+use Rattle.cli.specs.{Fields.{is_quote, are_closed}, Input.IsAppended, Records.{longest_record, ends_record, records_after, records_of}}
 
 -- whether a record of these bytes, the last of which may be a line feed, is whole: it is closed, or too long
 abbrev pub is_whole : List ℕ → Bool

@@ -1,21 +1,7 @@
 -- The fields of a header, and their names.
-use Rattle.std.proofs.Common.{◌≡◌, ℕ, suc, ◌+◌, ◌<◌, ◌≤◌, Bool, true, false, List, [], ◌∷◌, length, slice_get, get_or, Some, refl, sym, ap, subst, ◌∙◌, arith, add-one, drop, drop-cons, inl, inr, ◌&&◌, ⊎_elim}
-use Rattle.std.proofs.Math.Nat.{eq-or-lt_of_le}
-use Rattle.std.proofs.lemmas.Bool.{and_parts, false≢true}
-use Rattle.std.proofs.lemmas.Grind.{common_steps}
-use Rattle.std.proofs.lemmas.List.{drop_all}
-use Rattle.std.proofs.lemmas.Option.{slice_get_past}
-use Rattle.std.specs.List.{list_any}
-use Rattle.std.specs.Prelude.{insert}
-use Rattle.cli.specs.declared.lines.fields.Field.{Field}
-use Rattle.cli.specs.declared.lines.edits.FieldConversion.{FieldConversion}
-use Rattle.cli.specs.declared.program.error.HeaderError.{HeaderError}
-use Rattle.cli.specs.declared.words.targets.NamedField.{NamedField}
-use Rattle.cli.specs.FieldConversion.{is_trimmed}
-use Rattle.cli.specs.declared.lines.headers.Header.{Header}
-use Rattle.cli.specs.Fields.{within, is_quote, is_quoted, quoted}
-use Rattle.cli.specs.Headers.{HasBounds, HoldsName, HasName, NoneHas, count_before, with_field, AddsField, FieldFails, AreFields, FieldsFail}
-use Rattle.cli.specs.Trim.{text_of}
+use Rattle.std.proofs.{Common.{◌≡◌, ℕ, suc, ◌+◌, ◌<◌, ◌≤◌, Bool, true, false, List, [], ◌∷◌, length, slice_get, get_or, Some, refl, sym, ap, subst, ◌∙◌, arith, add-one, drop, drop-cons, inl, inr, ◌&&◌, ⊎_elim}, Math.Nat.eq-or-lt_of_le, lemmas.{Bool.{and_parts, false≢true}, Grind.common_steps, List.drop_all, Option.slice_get_past}}
+use Rattle.std.specs.{List.list_any, Prelude.insert}
+use Rattle.cli.specs.{declared.{lines.{fields.Field.Field, edits.FieldConversion.FieldConversion, headers.Header.Header}, program.error.HeaderError.HeaderError, words.targets.NamedField.NamedField}, FieldConversion.is_trimmed, Fields.{within, is_quote, is_quoted, quoted}, Headers.{HasBounds, HoldsName, HasName, NoneHas, count_before, with_field, AddsField, FieldFails, AreFields, FieldsFail}, Trim.text_of}
 use Rattle.cli.proofs.lemmas.lines.Separators.{le_or_lt}
 
 -- ---- The name of a field.

@@ -1,27 +1,11 @@
 -- The run of a filter that words name.
-use Rattle.std.proofs.Common.{◌≡◌, ℕ, List, [], ◌∷◌, Option, Some, None, Ok, Err, Result, Bool, true, false, inr, refl}
-use Rattle.std.specs.Prelude.{IfSome, IsSomeAnd}
-use Rattle.std.proofs.KnownBytes.{Appends-nil}
+use Rattle.std.proofs.{Common.{◌≡◌, ℕ, List, [], ◌∷◌, Option, Some, None, Ok, Err, Result, Bool, true, false, inr, refl}, KnownBytes.Appends-nil}
+use Rattle.std.specs.{Prelude.{IfSome, IsSomeAnd, Vec}, Borrow.Bor, declared.alloc.Global.Global}
 use Rattle.decimal_digits.specs.AppendsPrefix.{AppendsPrefix}
-use Rattle.cli.specs.declared.program.error.HeaderError.{HeaderError}
-use Rattle.cli.specs.declared.program.error.ProgramError.{ProgramError}
-use Rattle.cli.specs.declared.program.error.ProgramError.TheVariants.{LongLine, Input, Header}
-use Rattle.std.specs.Borrow.{Bor}
-use Rattle.std.specs.Prelude.{Vec}
-use Rattle.std.specs.declared.alloc.Global.{Global}
+use Rattle.cli.specs.{declared.{program.error.{HeaderError.HeaderError, ProgramError.{ProgramError, TheVariants.{LongLine, Input, Header}}}, lines.{edits.FieldConversion.FieldConversion, fields.Field.Field, filter.Filter.Filter, named_filter.NamedFilter.NamedFilter}, words.targets.NamedField.NamedField}, Filter.{Effects, IsErrorOfReading}, Input.IsRowRead, Lines.rows_of, NamedFilter.{filter_of, IsOnly, ArePlaced, HasHeader, HeaderFails, IsFilter, EndsAtHeader, FiltersNamed}, Targets.have_names}
 use Rattle.conversions.specs.declared.conversion.Conversion.{Conversion}
-use Rattle.cli.specs.declared.lines.edits.FieldConversion.{FieldConversion}
-use Rattle.cli.specs.declared.lines.fields.Field.{Field}
-use Rattle.cli.specs.declared.lines.filter.Filter.{Filter}
-use Rattle.cli.specs.declared.words.targets.NamedField.{NamedField}
 use Rattle.cli.specs.declared.words.targets.NamedTarget.TheVariants as named
 use Rattle.cli.specs.declared.lines.filter.Target.TheVariants as target
-use Rattle.cli.specs.declared.lines.named_filter.NamedFilter.{NamedFilter}
-use Rattle.cli.specs.Filter.{Effects, IsErrorOfReading}
-use Rattle.cli.specs.Input.{IsRowRead}
-use Rattle.cli.specs.Lines.{rows_of}
-use Rattle.cli.specs.NamedFilter.{filter_of, IsOnly, ArePlaced, HasHeader, HeaderFails, IsFilter, EndsAtHeader, FiltersNamed}
-use Rattle.cli.specs.Targets.{have_names}
 use Rattle.cli.proofs.lemmas.lines.Filtering.{row_first, whole}
 
 -- the filter of a line

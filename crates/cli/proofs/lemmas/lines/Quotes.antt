@@ -1,13 +1,6 @@
 -- Texts in quotes.
-use Rattle.std.proofs.Common.{◌≡◌, ◌≢◌, ◌⊎◌, ℕ, suc, ◌+◌, ◌<◌, Bool, true, false, not, List, [], ◌∷◌, ◌++◌, length, take, drop, get_or, ⊎_elim, refl, sym, ap, ◌∙◌, subst, append_assoc, add-one, arith, take-append-drop, Option}
-use Rattle.std.specs.List.{list_any}
-use Rattle.std.proofs.lemmas.Bool.{cond-true, cond-false, eqb-true, false≢true}
-use Rattle.std.proofs.lemmas.List.{append-nil}
-use Rattle.std.proofs.Math.Bool.{beq}
-use Rattle.std.proofs.lemmas.Grind.{common_steps, flat_map-append}
-use Rattle.std.proofs.Math.Seq.{take-suc, drop-cons}
-use Rattle.std.specs.Io.KnownBytes.{Appends}
-use Rattle.std.proofs.KnownBytes.{Appends-trans}
+use Rattle.std.proofs.{Common.{◌≡◌, ◌≢◌, ◌⊎◌, ℕ, suc, ◌+◌, ◌<◌, Bool, true, false, not, List, [], ◌∷◌, ◌++◌, length, take, drop, get_or, ⊎_elim, refl, sym, ap, ◌∙◌, subst, append_assoc, add-one, arith, take-append-drop, Option}, lemmas.{Bool.{cond-true, cond-false, eqb-true, false≢true}, List.append-nil, Grind.{common_steps, flat_map-append}}, Math.{Bool.beq, Seq.{take-suc, drop-cons}}, KnownBytes.Appends-trans}
+use Rattle.std.specs.{List.list_any, Io.KnownBytes.Appends}
 use Rattle.decimal_digits.specs.AppendsPrefix.{AppendsPrefix}
 use Rattle.fixed_decimal.proofs.Calling.{prefix_more, then_prefix}
 use Rattle.cli.specs.Fields.{quote, is_quote, double, doubled, quoted}

@@ -1,15 +1,8 @@
 -- The delimiters of a line, and the starts and ends of its fields.
-use Rattle.std.proofs.Common.{◌≡◌, ℕ, zero, suc, ◌+◌, ◌-◌, ◌<◌, ◌≤◌, Bool, true, false, List, [], ◌∷◌, ◌++◌, length, take, drop, slice_get, slice_index, nat_eq, min, Option, Some, None, refl, sym, ap, subst, ⊎_elim, ◌∙◌, arith, add-one, inl, inr, ◌⊎◌, ◌&&◌, ◌==◌}
-use Rattle.std.specs.Prelude.{option_map, unwrap_or}
-use Rattle.std.specs.List.{starts_with}
-use Rattle.std.proofs.lemmas.Bool.{and_parts, cond-true, cond-false, cases_Bool, false≢true}
-use Rattle.std.proofs.lemmas.List.{drop-drop, length-drop, length-take}
-use Rattle.std.proofs.lemmas.Option.{slice_get_past}
-use Rattle.std.proofs.Math.Nat.{eq-or-lt_of_le}
-use Rattle.std.proofs.Math.Seq.{take-add, take-length}
+use Rattle.std.proofs.{Common.{◌≡◌, ℕ, zero, suc, ◌+◌, ◌-◌, ◌<◌, ◌≤◌, Bool, true, false, List, [], ◌∷◌, ◌++◌, length, take, drop, slice_get, slice_index, nat_eq, min, Option, Some, None, refl, sym, ap, subst, ⊎_elim, ◌∙◌, arith, add-one, inl, inr, ◌⊎◌, ◌&&◌, ◌==◌}, lemmas.{Bool.{and_parts, cond-true, cond-false, cases_Bool, false≢true}, List.{drop-drop, length-drop, length-take}, Option.slice_get_past}, Math.{Nat.eq-or-lt_of_le, Seq.{take-add, take-length}}}
+use Rattle.std.specs.{Prelude.{option_map, unwrap_or}, List.starts_with}
 use lib.Pointwise.{pointwise_long}
-use Rattle.cli.specs.declared.lines.fields.Field.{Field}
-use Rattle.cli.specs.Fields.{within, is_outside, is_at, ends_at, first_index, delimiter_after, next_start, start_of, bounds_from, bounds}
+use Rattle.cli.specs.{declared.lines.fields.Field.Field, Fields.{within, is_outside, is_at, ends_at, first_index, delimiter_after, next_start, start_of, bounds_from, bounds}}
 
 pub le_or_lt : (m n : ℕ) → (m ≤ n) ⊎ (n < m)
 le_or_lt zero n = inl (omega arith)

@@ -1,12 +1,6 @@
 -- The contents of new buffers, and of written ones.
-use Rattle.std.proofs.Common.{◌≡◌, ℕ, List, [], Option, Some, None, Bool, true, false, refl, sym, ap, subst}
-use Rattle.std.specs.declared.io.buffered.BufReader.{BufReader}
-use Rattle.std.specs.declared.io.buffered.BufWriter.{BufWriter}
-use Rattle.std.specs.Io.KnownBytes.{Keeps, append_known}
-use Rattle.std.specs.Io.Buffered.{reader_inner, reader_buffer, reader_capacity, reader_remaining, writer_inner, writer_buffer, writer_contents}
-use Rattle.std.proofs.KnownBytes.{prepend_known-nil}
-use Rattle.std.proofs.lemmas.Bool.{false≢true}
-use Rattle.std.proofs.lemmas.List.{append-nil}
+use Rattle.std.proofs.{Common.{◌≡◌, ℕ, List, [], Option, Some, None, Bool, true, false, refl, sym, ap, subst}, KnownBytes.prepend_known-nil, lemmas.{Bool.false≢true, List.append-nil}}
+use Rattle.std.specs.{declared.io.buffered.{BufReader.BufReader, BufWriter.BufWriter}, Io.{KnownBytes.{Keeps, append_known}, Buffered.{reader_inner, reader_buffer, reader_capacity, reader_remaining, writer_inner, writer_buffer, writer_contents}}}
 
 -- no bytes are unwritten
 pub append_known-nil : (known : Option (List ℕ)) → append_known known [] ≡ known

@@ -1,18 +1,9 @@
 -- The lines that have been printed, text by text.
-use Rattle.std.proofs.Common.{◌≡◌, ◌≢◌, ℕ, suc, ◌+◌, ◌<◌, List, [], ◌∷◌, ◌++◌, length, take, drop, get_or, String, string_bytes, Option, Result, Ok, Err, refl, sym, ap, subst, ◌∙◌, arith, append_assoc}
-use Rattle.std.specs.Prelude.{IsOkAnd, IfErr, OnOk}
-use Rattle.std.specs.declared.alloc.Global.{Global}
-use Rattle.std.specs.Io.KnownBytes.{Keeps, Appends}
-use Rattle.std.proofs.Math.Seq.{split_at}
-use Rattle.std.proofs.lemmas.List.{append-nil, length-take-le}
-use Rattle.std.proofs.KnownBytes.{Appends-kept, Appends-trans}
+use Rattle.std.proofs.{Common.{◌≡◌, ◌≢◌, ℕ, suc, ◌+◌, ◌<◌, List, [], ◌∷◌, ◌++◌, length, take, drop, get_or, String, string_bytes, Option, Result, Ok, Err, refl, sym, ap, subst, ◌∙◌, arith, append_assoc}, Math.Seq.split_at, lemmas.List.{append-nil, length-take-le}, KnownBytes.{Appends-kept, Appends-trans}}
+use Rattle.std.specs.{Prelude.{IsOkAnd, IfErr, OnOk}, declared.alloc.Global.Global, Io.KnownBytes.{Keeps, Appends}}
 use Rattle.decimal_digits.specs.AppendsPrefix.{AppendsPrefix}
 use Rattle.plural_rules.specs.declared.rules.PluralCategory.{PluralCategory}
-use Rattle.plural_rules.specs.Rules.{RuleValue}
-use Rattle.cli.specs.declared.program.error.ProgramError.{ProgramError}
-use Rattle.cli.specs.declared.program.error.ProgramError.TheVariants.{Output}
-use Rattle.cli.specs.Categories.{read_category, category_line, HaveLines, PrintsAll, StopsAt, TextFails}
-use Rattle.cli.specs.Plural.{HasRules}
+use Rattle.cli.specs.{declared.program.error.ProgramError.{ProgramError, TheVariants.Output}, TextCategory.{TextRulesValue, text_rules, read_category}, Categories.{category_line, HaveLines, PrintsAll, StopsAt, TextFails}, Plural.{named_tag, HasRules}}
 use Rattle.cli.proofs.lemmas.words.CallWords.{taken}
 use Rattle.fixed_decimal.proofs.Calling.{then_prefix}
 
@@ -23,7 +14,7 @@ ok_and (Err e) P h = absurd h
 
 -- one more text has one more line
 lines_more :
-    (rules : List RuleValue) (front : List (String Global)) (lines : List ℕ) (text : String Global)
+    (rules : TextRulesValue) (front : List (String Global)) (lines : List ℕ) (text : String Global)
     (category : PluralCategory) → HaveLines rules front lines → read_category rules (string_bytes text) ≡ Ok category
     → HaveLines rules (front ++ text ∷ []) (lines ++ category_line category)
 lines_more rules [] lines text category none read =
@@ -38,7 +29,7 @@ lines_more rules (first ∷ front) lines text category (found, rest, is, e, have
 
 -- the lines of the texts before the one at `i` are printed
 module _
-    (rules : List RuleValue) (texts : List (String Global)) (i : ℕ) (text : String Global)
+    (rules : TextRulesValue) (texts : List (String Global)) (i : ℕ) (text : String Global)
     (old mid new : Option (List ℕ)) (l : i < length texts) (e : text ≡ get_or texts i text)
     (before : PrintsAll rules (take i texts) old mid)
   where
@@ -90,7 +81,7 @@ module _
         )
 
 -- calls that keep the contents of a writer keep the printed lines
-module _ (rules : List RuleValue) (texts : List (String Global)) (old mid new : Option (List ℕ)) (k : Keeps mid new)
+module _ (rules : TextRulesValue) (texts : List (String Global)) (old mid new : Option (List ℕ)) (k : Keeps mid new)
   where
     prefix_kept : (xs : List ℕ) → AppendsPrefix old mid xs → AppendsPrefix old new xs
     prefix_kept xs (part, rest, e, p) = (part, rest, e, Appends-kept old mid new part p k)
@@ -127,9 +118,9 @@ module _ (rules : List RuleValue) (texts : List (String Global)) (old mid new : 
 
 -- P holds of the rules and of the texts that the words name
 pub has_rules :
-    (words : List (String Global)) (rules : List RuleValue) (texts : List (String Global))
-    (P : List RuleValue → List (String Global) → Type 0) → HasRules words (λ r t. (r ≡ rules) × (t ≡ texts))
+    (words : List (String Global)) (rules : TextRulesValue) (texts : List (String Global))
+    (P : TextRulesValue → List (String Global) → Type 0) → HasRules words (λ r t. (r ≡ rules) × (t ≡ texts))
     → P rules texts → HasRules words P
 has_rules words rules texts P (first, others, is, some, (found, grammar, (same, equal))) p =
-    let moved : P found others = rw (same, equal) p in
+    let moved : P (text_rules found (named_tag (string_bytes first))) others = rw (same, equal) p in
     (first, others, is, some, (found, grammar, moved))

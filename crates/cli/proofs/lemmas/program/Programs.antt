@@ -1,24 +1,12 @@
 -- The run that the words of a command line name, and its result.
-use Rattle.std.proofs.Common.{◌≡◌, ℕ, ◌<◌, List, [], ◌∷◌, ◌++◌, String, Option, None, Bool, true, false, Result, Ok, Err, IfOk, IfErr, refl, arith}
-use Rattle.std.specs.Prelude.{OnOk}
-use Rattle.std.specs.Result.{result_and}
-use Rattle.std.proofs.lemmas.Bool.{false≢true}
-use Rattle.std.specs.declared.alloc.Global.{Global}
-use Rattle.std.specs.Io.KnownBytes.{Keeps}
-use Rattle.std.proofs.lemmas.List.{append-nil}
-use Rattle.std.proofs.KnownBytes.{Appends-kept}
+use Rattle.std.proofs.{Common.{◌≡◌, ℕ, ◌<◌, List, [], ◌∷◌, ◌++◌, String, Option, None, Bool, true, false, Result, Ok, Err, IfOk, IfErr, refl, arith}, lemmas.{Bool.false≢true, List.append-nil}, KnownBytes.Appends-kept}
+use Rattle.std.specs.{Prelude.OnOk, Result.result_and, declared.alloc.Global.Global, Io.KnownBytes.Keeps}
 use Rattle.decimal_digits.specs.AppendsPrefix.{AppendsPrefix}
 use Rattle.fixed_decimal.proofs.Calling.{prefix_more}
-use Rattle.conversions.specs.declared.conversion.Conversion.{Conversion}
-use Rattle.cli.specs.declared.program.error.ProgramError.{ProgramError}
+use Rattle.conversions.specs.{declared.{conversion.Conversion.Conversion, error.OperationError.{OperationError, TheVariants.Output}}, Conversion.{HasOutcome, OperationsFail}}
+use Rattle.cli.specs.{declared.program.error.ProgramError.ProgramError, Diagnostics.Concludes, Error.{conversion_error, status_of}, Fixdec.{HasRun, NamesRun, HasError, PrintsLine, PrintsLinePrefix, Prints, PrintsPrefix}}
 use Rattle.cli.specs.declared.program.error.ProgramError.TheVariants as program
-use Rattle.conversions.specs.declared.error.OperationError.{OperationError}
-use Rattle.conversions.specs.Conversion.{HasOutcome, OperationsFail}
 use Rattle.conversions.proofs.lemmas.conversion.Conversions.{output_fails}
-use Rattle.cli.specs.Diagnostics.{Concludes}
-use Rattle.cli.specs.Error.{conversion_error, status_of}
-use Rattle.conversions.specs.declared.error.OperationError.TheVariants.{Output}
-use Rattle.cli.specs.Fixdec.{HasRun, NamesRun, HasError, PrintsLine, PrintsLinePrefix, Prints, PrintsPrefix}
 
 -- ---- Results.
 

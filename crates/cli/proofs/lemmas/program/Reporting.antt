@@ -1,10 +1,6 @@
 -- Reports to a writer that has failed.
-use Rattle.std.proofs.Common.{◌≡◌, ℕ, List, [], Option, Some, None, Bool, true, false, Result, Ok, Err, refl, sym, ◌∙◌, take, drop, take-append-drop}
-use Rattle.std.proofs.lemmas.Bool.{false≢true}
-use Rattle.std.proofs.lemmas.List.{append-nil}
-use Rattle.std.specs.Prelude.{is_err, OnOk, IfErr}
-use Rattle.std.specs.Io.KnownBytes.{Keeps, Appends}
-use Rattle.std.proofs.KnownBytes.{Appends-nil}
+use Rattle.std.proofs.{Common.{◌≡◌, ℕ, List, [], Option, Some, None, Bool, true, false, Result, Ok, Err, refl, sym, ◌∙◌, take, drop, take-append-drop}, lemmas.{Bool.false≢true, List.append-nil}, KnownBytes.Appends-nil}
+use Rattle.std.specs.{Prelude.{is_err, OnOk, IfErr}, Io.KnownBytes.{Keeps, Appends}}
 use Rattle.cli.specs.Diagnostics.{IsErrorLine, Reports}
 
 keeps_itself : (known : Option (List ℕ)) → Keeps known known

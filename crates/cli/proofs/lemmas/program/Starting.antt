@@ -1,8 +1,7 @@
 -- The words of a program that does not end before its work.
 use Rattle.std.proofs.Common.{◌≡◌, List, String, Ok, Err, sym, subst}
 use Rattle.std.specs.declared.alloc.Global.{Global}
-use Rattle.cli.specs.declared.program.help.Program.{Program}
-use Rattle.cli.specs.Arguments.{Arguments, HaveWords, IsRequest}
+use Rattle.cli.specs.{declared.program.help.Program.Program, Arguments.{Arguments, HaveWords, IsRequest}}
 
 map_words :
     (arguments : Arguments) {P Q : List (String Global) → Type 0} → HaveWords arguments P

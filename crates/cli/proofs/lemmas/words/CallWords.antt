@@ -1,7 +1,6 @@
 -- Words and the calls that they name, one by one.
-use Rattle.std.proofs.Common.{◌≡◌, ℕ, ◌+◌, ◌<◌, List, [], ◌∷◌, ◌++◌, length, take, get_or, String, string_bytes, sym, ap, ◌∙◌, add-one}
+use Rattle.std.proofs.{Common.{◌≡◌, ℕ, ◌+◌, ◌<◌, List, [], ◌∷◌, ◌++◌, length, take, get_or, String, string_bytes, sym, ap, ◌∙◌, add-one}, Math.Seq.take-suc}
 use Rattle.std.specs.declared.alloc.Global.{Global}
-use Rattle.std.proofs.Math.Seq.{take-suc}
 use Rattle.fixed_decimal.specs.declared.runs.Call.{Call}
 use Rattle.conversions.specs.Calls.{Names}
 use Rattle.cli.specs.Calls.{NameAll}

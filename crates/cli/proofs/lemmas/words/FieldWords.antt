@@ -1,17 +1,7 @@
 -- The words of several fields.
-use Rattle.std.proofs.Common.{◌≡◌, ◌≢◌, ℕ, ◌<◌, ◌≤◌, false, inl, inr, sym, ◌∙◌, List, [], ◌∷◌, length, take, drop, get_or, append_assoc, take-append-drop, drop-cons, String}
-use Rattle.std.specs.Prelude.{All, ◌==◌}
-use Rattle.std.specs.declared.alloc.Global.{Global}
-use Rattle.std.proofs.Math.Nat.{le_refl}
-use Rattle.std.proofs.lemmas.Bool.{false≢true}
-use Rattle.std.proofs.lemmas.List.{append-nil, take_all, drop_all}
-use Rattle.cli.specs.declared.words.columns.Column.{Column}
-use Rattle.cli.specs.declared.program.error.WordsError.{WordsError}
-use Rattle.cli.specs.declared.program.error.WordsError.TheVariants.{Misplaced, Memory}
-use Rattle.cli.specs.declared.words.targets.NamedField.{NamedField}
-use Rattle.cli.specs.Columns.{IsFieldWord}
-use Rattle.cli.specs.Targets.{BeginsWithField, IsSplit, IsGroup, has_column, AddsNamed, HasMore, GroupFails, MoreFail}
-use Rattle.cli.specs.Words.{ConversionFails}
+use Rattle.std.proofs.{Common.{◌≡◌, ◌≢◌, ℕ, ◌<◌, ◌≤◌, false, inl, inr, sym, ◌∙◌, List, [], ◌∷◌, length, take, drop, get_or, append_assoc, take-append-drop, drop-cons, String}, Math.Nat.le_refl, lemmas.{Bool.false≢true, List.{append-nil, take_all, drop_all}}}
+use Rattle.std.specs.{Prelude.{All, ◌==◌}, declared.alloc.Global.Global}
+use Rattle.cli.specs.{declared.{words.{columns.Column.Column, targets.NamedField.NamedField}, program.error.WordsError.{WordsError, TheVariants.{Misplaced, Memory}}}, Columns.IsFieldWord, Targets.{BeginsWithField, IsSplit, IsGroup, has_column, AddsNamed, HasMore, GroupFails, MoreFail}, Words.ConversionFails}
 
 -- ---- The words before a field.
 

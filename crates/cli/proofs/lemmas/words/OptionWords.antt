@@ -1,10 +1,6 @@
 -- The words of options, one by one.
 use Rattle.std.proofs.Common.{◌≡◌, ℕ, List, ◌∷◌, ◌++◌, codes, inl, inr, refl, subst, String, string_bytes, Global}
-use Rattle.cli.specs.declared.words.columns.Column.{Column}
-use Rattle.cli.specs.declared.words.columns.Column.TheVariants.{Index, Name}
-use Rattle.cli.specs.Columns.{IsField, IsName, IsColumn}
-use Rattle.cli.specs.declared.words.options.Options.{Options}
-use Rattle.cli.specs.Options.{Adds, AreOptions}
+use Rattle.cli.specs.{declared.words.{columns.Column.{Column, TheVariants.{Index, Name}}, options.Options.Options}, Columns.{IsField, IsName, IsColumn}, Options.{Adds, AreOptions}}
 
 -- the first word names an option
 pub options_more :

@@ -1,10 +1,7 @@
-use Rattle.std.proofs.Common.{◌≡◌, Some, Ok, Err, inr, refl, sym, ap, true, false, ◌∙◌}
-use Rattle.std.proofs.lemmas.Bool.{false≢true}
-use Rattle.std.proofs.lemmas.Result.{on_ok_weaker}
-use Rattle.cli.specs.Plural.{Categorizes}
-use Rattle.cli.proofs.lemmas.program.Buffers.{closed_contents}
-use Rattle.cli.proofs.lemmas.program.Programs.{err_map, result_and-cases}
-use Rattle.cli.proofs.lemmas.program.Printing.{all_kept, stop_kept, begun, has_rules}
+use Rattle.std.proofs.{Common.{◌≡◌, Some, Ok, Err, inr, refl, sym, ap, true, false, ◌∙◌}, lemmas.{Bool.false≢true, Result.on_ok_weaker}}
+use Rattle.std.specs.Io.KnownBytes.{append_known}
+use Rattle.cli.specs.{declared.program.error.ProgramError.TheVariants.Output, Categories.{PrintsAll, StopsAt}, Plural.Categorizes}
+use Rattle.cli.proofs.lemmas.program.{Buffers.closed_contents, Programs.{err_map, result_and-cases}, Printing.{all_kept, stop_kept, begun, has_rules}}
 use Rattle.cli.proofs.plural.print.Goals as goal
 
 pub returns-then-has_failed : goal.returns-then-has_failed
@@ -18,7 +15,10 @@ returns-then-has_failed g c =
       unwritten,
       (λ has_not_failed. absurd (false≢true (sym has_not_failed ∙ failed))),
       (λ _. failed),
-      has_rules c.args.words.now rules texts.now _ c.in-Ok.ensures.found
+      has_rules c.args.words.now rules texts.now
+          (λ r t. StopsAt r t (g.O.Write.contents c.args.out)
+          (append_known (g.O.Write.contents c.close-closed.result.0) unwritten) Output)
+          c.in-Ok.ensures.found
           (begun rules texts.now _ _ _ keeps printed.result (rw taken at printed.ensures.printed)
           (rw taken at printed.ensures.stopped)),
     )
@@ -38,7 +38,9 @@ returns g c =
     (λ lines. (
       refl,
       has_not_failed,
-      has_rules c.args.words.now rules texts.now _ c.in-Ok.ensures.found
+      has_rules c.args.words.now rules texts.now
+          (λ r t. PrintsAll r t (g.O.Write.contents c.args.out) (g.O.Write.contents c.close-closed.result.0))
+          c.in-Ok.ensures.found
           (all_kept rules texts.now _ _ _ (closed.written has_not_failed)
           (rw c.in-Ok-open.ensures.contents at lines)),
     ))
@@ -48,7 +50,10 @@ returns g c =
       unwritten,
       all,
       (λ e. closed.stays_failed (printed.ensures.failed (is ∙ ap Err e))),
-      has_rules c.args.words.now rules texts.now _ c.in-Ok.ensures.found
+      has_rules c.args.words.now rules texts.now
+          (λ r t. StopsAt r t (g.O.Write.contents c.args.out)
+          (append_known (g.O.Write.contents c.close-closed.result.0) unwritten) error)
+          c.in-Ok.ensures.found
           (stop_kept rules texts.now _ _ _ keeps error (rw c.in-Ok-open.ensures.contents at stops)),
     ))
     printed.ensures.stopped))

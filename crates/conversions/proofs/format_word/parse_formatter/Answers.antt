@@ -1,7 +1,5 @@
-use Rattle.std.proofs.Common.{◌≡◌, ◌∙◌, [], Some, inl, sym, ap, arith}
+use Rattle.std.proofs.{Common.{◌≡◌, ◌∙◌, [], Some, inl, sym, ap, arith}, lemmas.{List.nil_from_length, Option.none-some}}
 use Rattle.std.specs.Option.{option_copied}
-use Rattle.std.proofs.lemmas.List.{nil_from_length}
-use Rattle.std.proofs.lemmas.Option.{none-some}
 use Rattle.decimal_format.specs.declared.grouping.GroupingStrategy.TheVariants.{Auto}
 use Rattle.conversions.specs.Parameters.{option_of, locale_option}
 use Rattle.conversions.proofs.format_word.parse_formatter.Goals.{in_default-option-via-in-Some-option+else-not-is_empty, in_default-option-via-in_default-option}

@@ -1,10 +1,6 @@
-use Rattle.std.proofs.Common.{◌≡◌, ◌∙◌, ℕ, ◌-◌, List, [], length, take, drop, min, Bool, true, false, if◌then◌else◌, refl, sym, ap, subst}
+use Rattle.std.proofs.{Common.{◌≡◌, ◌∙◌, ℕ, ◌-◌, List, [], length, take, drop, min, Bool, true, false, if◌then◌else◌, refl, sym, ap, subst}, Math.Seq.take-length, lemmas.{List.{length-drop, take_min, drop_min}, Str.{IsUtf8-from_is_utf8, is_utf8-from_IsUtf8}}}
 use Rattle.std.specs.Str.{IsUtf8, is_utf8}
-use Rattle.std.proofs.Math.Seq.{take-length}
-use Rattle.std.proofs.lemmas.List.{length-drop, take_min, drop_min}
-use Rattle.std.proofs.lemmas.Str.{IsUtf8-from_is_utf8, is_utf8-from_IsUtf8}
-use Rattle.conversions.specs.FormatWord.{stem_bytes}
-use Rattle.conversions.specs.ShownWord.{shown}
+use Rattle.conversions.specs.{FormatWord.stem_bytes, ShownWord.shown}
 use Rattle.conversions.proofs.format_word.shown_stem.Goals as goal
 
 -- a part of a text between bounds that are within it

@@ -1,15 +1,8 @@
 -- The word of a concatenation.
-use Rattle.std.proofs.Common.{◌≡◌, ℕ, Bool, true, false, List, Option, Some, None, codes, refl, sym, ap, ◌∙◌}
-use Rattle.std.specs.Prelude.{if◌then◌else◌}
-use Rattle.std.specs.Bool.{Decides}
-use Rattle.std.specs.Option.{option_map, option_and_then, option_zip}
-use Rattle.std.specs.Str.{bytes_eq}
-use Rattle.std.proofs.lemmas.Option.{none-some, same_Some}
-use Rattle.std.proofs.lemmas.Slice.Eq.{bytes_eq-Decides}
-use Rattle.fixed_decimal.specs.declared.runs.Call.{Call}
-use Rattle.fixed_decimal.specs.declared.runs.Call.TheVariants.{MultiplyPow10, PadStart, PadEnd, SetMaxPosition, Round, SetSign, ApplySignDisplay, Concatenate}
-use Rattle.conversions.specs.Parameters.{tag_of, option_of, lookup, number}
-use Rattle.conversions.specs.Calls.{signs, displays, mode_and_increment, concatenation, plain_calls, calls_with, call_with, named_call, call_of}
+use Rattle.std.proofs.{Common.{◌≡◌, ℕ, Bool, true, false, List, Option, Some, None, codes, refl, sym, ap, ◌∙◌}, lemmas.{Option.{none-some, same_Some}, Slice.Eq.bytes_eq-Decides}}
+use Rattle.std.specs.{Prelude.if◌then◌else◌, Bool.Decides, Option.{option_map, option_and_then, option_zip}, Str.bytes_eq}
+use Rattle.fixed_decimal.specs.declared.runs.Call.{Call, TheVariants.{MultiplyPow10, PadStart, PadEnd, SetMaxPosition, Round, SetSign, ApplySignDisplay, Concatenate}}
+use Rattle.conversions.specs.{Parameters.{tag_of, option_of, lookup, number}, Calls.{signs, displays, mode_and_increment, concatenation, plain_calls, calls_with, call_with, named_call, call_of}}
 use Rattle.conversions.proofs.lemmas.calls.Lookups.{lookup-all}
 
 -- the bytes that a call concatenates

@@ -1,11 +1,6 @@
 -- Rows of tables, by their words.
-use Rattle.std.proofs.Common.{◌≡◌, ◌≢◌, ℕ, Bool, true, false, List, [], ◌∷◌, Option, Some, None, refl, subst}
-use Rattle.std.specs.Prelude.{if◌then◌else◌}
-use Rattle.std.specs.List.{AllByRecursion}
-use Rattle.std.specs.Str.{bytes_eq}
-use Rattle.std.proofs.lemmas.Bool.{false_from_ne_true}
-use Rattle.std.proofs.lemmas.Option.{none-some, same_Some}
-use Rattle.std.proofs.lemmas.Slice.Eq.{bytes_eq-Decides}
+use Rattle.std.proofs.{Common.{◌≡◌, ◌≢◌, ℕ, Bool, true, false, List, [], ◌∷◌, Option, Some, None, refl, subst}, lemmas.{Bool.false_from_ne_true, Option.{none-some, same_Some}, Slice.Eq.bytes_eq-Decides}}
+use Rattle.std.specs.{Prelude.if◌then◌else◌, List.AllByRecursion, Str.bytes_eq}
 use Rattle.conversions.specs.Parameters.{lookup}
 
 -- a word that no row has

@@ -1,12 +1,6 @@
 -- The numbers that bytes stand for.
-use Rattle.std.proofs.Common.{◌≡◌, ◌≢◌, ℕ, ◌<◌, ◌≤◌, ◌&&◌, ◌⊎◌, inl, inr, Bool, true, false, nat_le, ℤ, pos, neg_ℤ, List, [], ◌∷◌, length, get_or, Option, Some, None, Result, Ok, Err, Bor, refl, ap, arith, w16}
-use Rattle.std.specs.Option.{option_map, unwrap_or, MatchOption}
-use Rattle.std.specs.Result.{OkIff, result_ok}
-use Rattle.std.specs.Str.{all_ascii_digits}
-use Rattle.std.specs.Str.Parse.{digits_value, ParsesSigned}
-use Rattle.std.proofs.lemmas.Bool.Decides.{nat_tests}
-use Rattle.std.proofs.lemmas.Bool.{and_parts, leb-true, ltb-true, ne_eqb}
-use Rattle.std.proofs.lemmas.Str.Parse.{IsNumeralModel, numerals_by_value, tells_all_ascii_digits, parse_signed_minus, parse_signed_plain}
+use Rattle.std.proofs.{Common.{◌≡◌, ◌≢◌, ℕ, ◌<◌, ◌≤◌, ◌&&◌, ◌⊎◌, inl, inr, Bool, true, false, nat_le, ℤ, pos, neg_ℤ, List, [], ◌∷◌, length, get_or, Option, Some, None, Result, Ok, Err, Bor, refl, ap, arith, w16}, lemmas.{Bool.{Decides.nat_tests, and_parts, leb-true, ltb-true, ne_eqb}, Str.Parse.{IsNumeralModel, numerals_by_value, tells_all_ascii_digits, parse_signed_minus, parse_signed_plain}}}
+use Rattle.std.specs.{Option.{option_map, unwrap_or, MatchOption}, Result.{OkIff, result_ok}, Str.{all_ascii_digits, Parse.{digits_value, ParsesSigned}}}
 use Rattle.conversions.specs.Parameters.{are_digits, digits_up_to, number}
 
 -- digits with the value of `digits_value` are a model of numerals for the lemmas on parsing

@@ -1,15 +1,9 @@
 -- No text of rules has the form of a locale and an unknown type: each condition has an equals sign.
-use Rattle.std.proofs.Common.{◌≡◌, ◌≢◌, ℕ, suc, ◌+◌, drop, take, Bool, true, false, not, ◌||◌, ◌==◌, ◌⊎◌, inl, inr, List, [], ◌∷◌, ◌++◌, Option, Some, None, refl, sym, ap, ◌∙◌, arith, ⊎_elim}
-use Rattle.std.proofs.lemmas.Bool.{and_parts, false≢true}
-use Rattle.std.proofs.lemmas.Bool.Decides.{nat_tests}
-use Rattle.std.specs.Prelude.{codes}
-use Rattle.std.specs.Char.{is_ascii_alphabetic}
-use Rattle.std.specs.List.{list_all, list_any, position_or_len, after_first}
-use Rattle.plural_rules.specs.declared.rules.Operand.{Operand}
-use Rattle.plural_rules.specs.Rules.{RelationValue, RuleValue}
+use Rattle.std.proofs.{Common.{◌≡◌, ◌≢◌, ℕ, suc, ◌+◌, drop, take, Bool, true, false, not, ◌||◌, ◌==◌, ◌⊎◌, inl, inr, List, [], ◌∷◌, ◌++◌, Option, Some, None, refl, sym, ap, ◌∙◌, arith, ⊎_elim}, lemmas.Bool.{and_parts, false≢true, Decides.nat_tests}}
+use Rattle.std.specs.{Prelude.codes, Char.is_ascii_alphabetic, List.{list_all, list_any, position_or_len, after_first}}
+use Rattle.plural_rules.specs.{declared.rules.Operand.Operand, Rules.{RelationValue, RuleValue}}
 use Rattle.plural_rules.specs.RulesGrammar as g
-use Rattle.conversions.specs.NamedRules.{is_tag_byte, is_tag, HasUnknownType}
-use Rattle.conversions.specs.Parameters.{is_colon, tag_of, option_of}
+use Rattle.conversions.specs.{NamedRules.{is_tag_byte, is_tag, HasUnknownType}, Parameters.{is_colon, tag_of, option_of}}
 
 abbrev is_equals : ℕ → Bool
 is_equals byte = byte == 61

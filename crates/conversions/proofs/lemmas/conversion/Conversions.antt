@@ -1,30 +1,12 @@
 -- The outcome of a conversion, and its errors.
-use Rattle.std.proofs.Common.{◌≡◌, ◌&&◌, ℕ, List, Option, Some, None, Result, Ok, Err, true, inl, inr, refl, sym, ap, ◌∙◌, subst, arith}
-use Rattle.std.proofs.lemmas.Bool.{false≢true}
-use Rattle.std.specs.Prelude.{IfErr, OnErr, IsOk, IsOkAnd}
-use Rattle.std.specs.Option.{is_none}
-use Rattle.std.proofs.lemmas.Result.{IfErr-weaker}
-use Rattle.decimal_unsigned.specs.declared.error.ParseError.{ParseError}
+use Rattle.std.proofs.{Common.{◌≡◌, ◌&&◌, ℕ, List, Option, Some, None, Result, Ok, Err, true, inl, inr, refl, sym, ap, ◌∙◌, subst, arith}, lemmas.{Bool.false≢true, Result.IfErr-weaker}}
+use Rattle.std.specs.{Prelude.{IfErr, OnErr, IsOk, IsOkAnd}, Option.is_none}
+use Rattle.decimal_unsigned.specs.{declared.{error.ParseError.ParseError, decimal.TheConstants.INLINE_DIGITS}, Reading.{ReadError, syntax, limit}}
 use Rattle.decimal_unsigned.specs.declared.error.ParseError.TheVariants as parse
-use Rattle.decimal_unsigned.specs.Reading.{ReadError, syntax, limit}
-use Rattle.decimal_unsigned.specs.declared.decimal.TheConstants.{INLINE_DIGITS}
-use Rattle.fixed_decimal.specs.Decimal.{Decimal}
-use Rattle.fixed_decimal.specs.DecimalText.{read_decimal}
-use Rattle.fixed_decimal.specs.Calls.{CallsFail}
-use Rattle.fixed_decimal.specs.Errors.{RunFails, run_error}
-use Rattle.fixed_decimal.specs.Outcome.{OutcomeError, after_calls, outcome, start}
-use Rattle.fixed_decimal.specs.declared.runs.Call.{Call}
-use Rattle.fixed_decimal.specs.declared.runs.CallError.{CallError}
+use Rattle.fixed_decimal.specs.{Decimal.Decimal, DecimalText.read_decimal, Calls.CallsFail, Errors.{RunFails, run_error}, Outcome.{OutcomeError, after_calls, outcome, start}, declared.runs.{Call.Call, CallError.CallError, RunError.{RunError, TheVariants.{Start, Operand, Memory, Sink}}}}
 use Rattle.fixed_decimal.specs.declared.runs.CallError.TheVariants as call
-use Rattle.fixed_decimal.specs.declared.runs.RunError.{RunError}
-use Rattle.fixed_decimal.specs.declared.runs.RunError.TheVariants.{Start, Operand, Memory, Sink}
-use Rattle.conversions.specs.declared.conversion.Conversion.{Conversion}
-use Rattle.conversions.specs.declared.locale_formatter.LocaleFormatter.{LocaleFormatter}
-use Rattle.conversions.specs.declared.reader.LocaleReader.{LocaleReader}
+use Rattle.conversions.specs.{declared.{conversion.Conversion.Conversion, locale_formatter.LocaleFormatter.LocaleFormatter, reader.LocaleReader.LocaleReader, error.OperationError.OperationError}, Error.{error_of_run, status_of_operation}, Conversion.{IsReadBy, ReadingByFails, ReadingByNeedsMemory, ConversionError, of_run, format_overflow, IsOutcome, HasOutcome, OperationsFail, IsRunFormatted, error_of, own_text, last_decimal, IsFormatted, WritingFails, HasTextBy, IsTextBy, is_plain}}
 use Rattle.conversions.specs.declared.error.OperationError.TheVariants as operation
-use Rattle.conversions.specs.declared.error.OperationError.{OperationError}
-use Rattle.conversions.specs.Error.{error_of_run, status_of_operation}
-use Rattle.conversions.specs.Conversion.{IsReadBy, ReadingByFails, ReadingByNeedsMemory, ConversionError, of_run, format_overflow, IsOutcome, HasOutcome, OperationsFail, IsRunFormatted, error_of, own_text, last_decimal, IsFormatted, WritingFails, HasTextBy, IsTextBy, is_plain}
 
 module _ (c : Conversion) (text : List ℕ) where
   -- ---- The errors of the parts.

@@ -1,9 +1,6 @@
 use Rattle.std.proofs.Common.{◌≡◌, ◌≢◌, [], Some, true, sym, ap, ◌∙◌, arith}
-use Rattle.std.specs.Option.{option_copied}
-use Rattle.std.specs.List.{list_all}
-use Rattle.std.specs.Char.{is_ascii_alphabetic}
-use Rattle.conversions.specs.NamedRules.{is_tag, type_of}
-use Rattle.conversions.specs.Parameters.{tag_of}
+use Rattle.std.specs.{Option.option_copied, List.list_all, Char.is_ascii_alphabetic}
+use Rattle.conversions.specs.{NamedRules.{is_tag, type_of}, Parameters.tag_of}
 use Rattle.conversions.proofs.named_rules.unknown_type.Goals as goal
 
 pub returns-in-None-clause-some : goal.returns-in-None-clause-some

@@ -1,9 +1,6 @@
-use Rattle.std.proofs.Common.{◌∙◌, arith}
-use Rattle.std.proofs.lemmas.Str.Pattern.{strip_prefix_char, starts_char}
-use Rattle.std.proofs.lemmas.Bool.{both_ways}
-use Rattle.conversions.proofs.lemmas.calls.Numerals.{IsWithoutMinus, without_minus, number-none_if_long, number-none_if_plus, number-some}
+use Rattle.std.proofs.{Common.{◌∙◌, arith}, lemmas.{Str.Pattern.{strip_prefix_char, starts_char}, Bool.both_ways}}
+use Rattle.conversions.proofs.{lemmas.calls.Numerals.{IsWithoutMinus, without_minus, number-none_if_long, number-none_if_plus, number-some}, parameters.number.Goals.{After-unwrap_or-digits, then-digits-gt6-via-then-digits-gt6, then-digits-gt6-via-else-digits-gt6+then-starts_with}}
 use Rattle.conversions.proofs.parameters.number.Goals as goal
-use Rattle.conversions.proofs.parameters.number.Goals.{After-unwrap_or-digits, then-digits-gt6-via-then-digits-gt6, then-digits-gt6-via-else-digits-gt6+then-starts_with}
 
 -- the digits are those after an optional minus
 without : (c : After-unwrap_or-digits) → IsWithoutMinus c.args.word.now c.unwrap_or-digits.result.now

@@ -1,6 +1,5 @@
-use Rattle.std.proofs.Common.{◌≡◌, ◌≢◌, ℕ, suc, ◌<◌, List, [], ◌∷◌, length, get_or, None, false, refl, arith, ne_eqb}
+use Rattle.std.proofs.{Common.{◌≡◌, ◌≢◌, ℕ, suc, ◌<◌, List, [], ◌∷◌, length, get_or, None, false, refl, arith, ne_eqb}, lemmas.Str.Pattern.NoCharPasses-char}
 use Rattle.std.specs.List.{list_any}
-use Rattle.std.proofs.lemmas.Str.Pattern.{NoCharPasses-char}
 use Rattle.conversions.specs.Parameters.{is_colon, option_of}
 use Rattle.conversions.proofs.parameters.split_parameters.Goals as goal
 

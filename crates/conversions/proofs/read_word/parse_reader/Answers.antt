@@ -1,7 +1,6 @@
 use Rattle.std.proofs.Common.{◌≡◌, ◌≢◌, ◌∙◌, [], Some, inr, sym, ap, subst, arith}
 use Rattle.std.specs.Option.{option_copied}
-use Rattle.conversions.specs.Parameters.{tag_of, option_of, locale_tag, locale_option}
-use Rattle.conversions.specs.ReadWord.{read_option, IsNumberReader, SkeletonReaderFails, SkeletonFails, ReaderFails}
+use Rattle.conversions.specs.{Parameters.{tag_of, option_of, locale_tag, locale_option}, ReadWord.{read_option, IsNumberReader, SkeletonReaderFails, SkeletonFails, ReaderFails}}
 use Rattle.conversions.proofs.lemmas.calls.Results.{err_with}
 use Rattle.conversions.proofs.read_word.parse_reader.Goals as goal
 

@@ -1,5 +1,4 @@
-use Rattle.std.proofs.Common.{inr}
-use Rattle.std.proofs.lemmas.Result.{IfOk-weaker, IfErr-weaker}
+use Rattle.std.proofs.{Common.inr, lemmas.Result.{IfOk-weaker, IfErr-weaker}}
 use Rattle.conversions.proofs.read_word.skeleton_reader.Goals as goal
 
 pub returns-clause-ok : goal.returns-clause-ok

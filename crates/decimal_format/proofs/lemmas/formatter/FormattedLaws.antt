@@ -3,17 +3,9 @@ use Rattle.std.proofs.Common.{◌≡◌, ℕ, zero, suc, List, [], ◌++◌, ref
 use Rattle.std.specs.Prelude.{ℤ, pos, ◌-ℤ◌}
 use Rattle.decimal_digits.specs.Number.{digit}
 use Rattle.decimal_unsigned.specs.Text.{dot_before, text_down}
-use Rattle.fixed_decimal.specs.Decimal.{Decimal}
-use Rattle.fixed_decimal.specs.DecimalText.{decimal_text}
-use Rattle.fixed_decimal.specs.declared.variations.Sign.{Sign}
-use Rattle.decimal_format.specs.declared.grouping.GroupingSizes.{GroupingSizes}
-use Rattle.decimal_format.specs.declared.grouping.GroupingStrategy.{GroupingStrategy}
-use Rattle.decimal_format.specs.declared.grouping.GroupingStrategy.TheVariants.{Never}
-use Rattle.decimal_format.specs.Symbols.{Symbols, sign_affixes, without_grouping}
-use Rattle.decimal_format.specs.Ascii.{ascii_with}
-use Rattle.decimal_format.specs.Formatted.{separator_before, separator_after, formatted_down, formatted}
-use Rattle.decimal_format.proofs.lemmas.symbols.AsciiDigits.{ten_digits}
-use Rattle.decimal_format.proofs.lemmas.formatter.Magnitudes.{digit_below}
+use Rattle.fixed_decimal.specs.{Decimal.Decimal, DecimalText.decimal_text, declared.variations.Sign.Sign}
+use Rattle.decimal_format.specs.{declared.grouping.{GroupingSizes.GroupingSizes, GroupingStrategy.{GroupingStrategy, TheVariants.Never}}, Symbols.{Symbols, sign_affixes, without_grouping}, Ascii.ascii_with, Formatted.{separator_before, separator_after, formatted_down, formatted}}
+use Rattle.decimal_format.proofs.lemmas.{symbols.AsciiDigits.ten_digits, formatter.Magnitudes.digit_below}
 
 -- under `Never` there is no separator
 never_separates : (s : Symbols) (hi m : ℤ) → separator_after s Never hi m ≡ []

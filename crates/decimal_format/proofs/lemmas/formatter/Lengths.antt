@@ -1,22 +1,11 @@
 -- The length of the text.
-use Rattle.std.proofs.Common.{◌≡◌, ℕ, suc, ◌+◌, ◌-◌, ◌*◌, ◌<◌, Bool, true, false, List, [], ◌∷◌, ◌++◌, length, ◌∙◌, ap, arith, length-append, rules}
-use Rattle.std.specs.Prelude.{if◌then◌else◌, pos, ◌-ℤ◌, ◌≤ℤ◌, ◌<ℤ◌}
-use Rattle.std.specs.Int.{int_gap, int_min}
-use Rattle.std.specs.Int.Digits.{AllBelowBase}
-use Rattle.std.proofs.Math.Nat.{add-mul}
-use Rattle.std.proofs.lemmas.Int.{ints, clamps}
+use Rattle.std.proofs.{Common.{◌≡◌, ℕ, suc, ◌+◌, ◌-◌, ◌*◌, ◌<◌, Bool, true, false, List, [], ◌∷◌, ◌++◌, length, ◌∙◌, ap, arith, length-append, rules}, Math.Nat.add-mul, lemmas.Int.{ints, clamps}}
+use Rattle.std.specs.{Prelude.{if◌then◌else◌, pos, ◌-ℤ◌, ◌≤ℤ◌, ◌<ℤ◌}, Int.{int_gap, int_min, Digits.AllBelowBase}}
 use Rattle.decimal_unsigned.specs.Unsigned.{Unsigned, IsValue}
 use Rattle.fixed_decimal.specs.declared.variations.Sign.TheVariants.{None}
 use Rattle.fixed_decimal.proofs.Calling.{gap_is}
-use Rattle.decimal_format.specs.declared.grouping.GroupingStrategy.{GroupingStrategy}
-use Rattle.decimal_format.specs.Grouping.{separates}
-use Rattle.decimal_format.specs.Symbols.{Symbols, HaveWidth}
-use Rattle.decimal_format.specs.Formatted.{shown_count, absolute_text}
-use Rattle.decimal_format.specs.Parts.{separators_below}
-use Rattle.decimal_format.specs.Reading.{digits_text, fraction_text}
-use Rattle.decimal_format.specs.Scanning.{separator_if}
-use Rattle.decimal_format.proofs.lemmas.reader.NumeralTexts.{digits_of_value, absolute_is}
-use Rattle.decimal_format.proofs.lemmas.symbols.Separators.{separators_below-suc, separators_below-zero}
+use Rattle.decimal_format.specs.{declared.grouping.GroupingStrategy.GroupingStrategy, Grouping.separates, Symbols.{Symbols, HaveWidth}, Formatted.{shown_count, absolute_text}, Parts.separators_below, Reading.{digits_text, fraction_text}, Scanning.separator_if}
+use Rattle.decimal_format.proofs.lemmas.{reader.NumeralTexts.{digits_of_value, absolute_is}, symbols.Separators.{separators_below-suc, separators_below-zero}}
 
 module _ (s : Symbols) (w : ℕ) (width : HaveWidth s.digits w) where
   length-separator : (b : Bool) → length (separator_if s b) ≡ (if b then 1 else 0) * length s.grouping

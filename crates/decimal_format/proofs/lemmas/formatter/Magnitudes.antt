@@ -1,13 +1,9 @@
 -- The text magnitude by magnitude.
-use Rattle.std.proofs.Common.{◌≡◌, ℕ, zero, suc, ◌+◌, ◌/◌, ◌<◌, List, ◌++◌, sym, ◌∙◌, ap, arith, append_assoc, append-nil}
+use Rattle.std.proofs.{Common.{◌≡◌, ℕ, zero, suc, ◌+◌, ◌/◌, ◌<◌, List, ◌++◌, sym, ◌∙◌, ap, arith, append_assoc, append-nil}, lemmas.Int.ints, Math.Nat.mod-lt}
 use Rattle.std.specs.Prelude.{ℤ, pos, ◌-ℤ◌}
-use Rattle.std.proofs.lemmas.Int.{ints}
-use Rattle.std.proofs.Math.Nat.{mod-lt}
 use Rattle.decimal_digits.specs.Number.{weight, digit}
 use Rattle.decimal_unsigned.specs.Unsigned.{Unsigned}
-use Rattle.decimal_format.specs.declared.grouping.GroupingStrategy.{GroupingStrategy}
-use Rattle.decimal_format.specs.Symbols.{Symbols}
-use Rattle.decimal_format.specs.Formatted.{magnitude_text, formatted_down, nth_text}
+use Rattle.decimal_format.specs.{declared.grouping.GroupingStrategy.GroupingStrategy, Symbols.Symbols, Formatted.{magnitude_text, formatted_down, nth_text}}
 
 -- the given number of magnitudes, and then others
 pub formatted_down-add : (s : Symbols) (strategy : GroupingStrategy) (hi : ℤ) (number : ℕ) (m : ℤ) (i j : ℕ)

@@ -1,20 +1,10 @@
 -- The text of a part: digits without a separator between them.
-use Rattle.std.proofs.Common.{◌≡◌, ℕ, suc, ◌+◌, ◌-◌, ◌<◌, ◌≤◌, List, [], ◌∷◌, ◌++◌, length, Option, sym, ◌∙◌, ap, subst, arith, append_assoc, append-nil, rules}
-use Rattle.std.specs.Prelude.{Bool, false, if◌then◌else◌, slice_index, slice_range, EachIndex, ℤ, pos, ◌-ℤ◌}
-use Rattle.std.proofs.lemmas.Int.{ints}
-use Rattle.std.proofs.lemmas.List.Edits.{length-between, get_or-between}
-use Rattle.std.proofs.lemmas.List.Concat.{flat_map-cons}
-use Rattle.std.specs.Io.KnownBytes.{Appends}
-use Rattle.std.proofs.KnownBytes.{Appends-nil}
-use Rattle.decimal_digits.specs.AppendsPrefix.{AppendsPrefix}
+use Rattle.std.proofs.{Common.{◌≡◌, ℕ, suc, ◌+◌, ◌-◌, ◌<◌, ◌≤◌, List, [], ◌∷◌, ◌++◌, length, Option, sym, ◌∙◌, ap, subst, arith, append_assoc, append-nil, rules}, lemmas.{Int.ints, List.{Edits.{length-between, get_or-between}, Concat.flat_map-cons}}, KnownBytes.Appends-nil}
+use Rattle.std.specs.{Prelude.{Bool, false, if◌then◌else◌, slice_index, slice_range, EachIndex, ℤ, pos, ◌-ℤ◌}, Io.KnownBytes.Appends}
+use Rattle.decimal_digits.specs.{AppendsPrefix.AppendsPrefix, Number.digit}
 use Rattle.fixed_decimal.proofs.Calling.{second_of_three}
-use Rattle.decimal_digits.specs.Number.{digit}
-use Rattle.decimal_format.specs.Grouping.{separates}
-use Rattle.decimal_format.specs.Symbols.{digit_text}
-use Rattle.decimal_format.specs.Formatted.{FormattedAbsolute, separator_before, separator_after, formatted_down, shown_count, absolute_text}
-use Rattle.decimal_format.specs.Parts.{magnitude_of, part_text, AreDigits, IsRun, digits_text, run_text}
-use Rattle.decimal_format.proofs.lemmas.formatter.Magnitudes.{formatted_down-add, digit_below}
-use Rattle.decimal_format.proofs.lemmas.symbols.Rules.{steps}
+use Rattle.decimal_format.specs.{Grouping.separates, Symbols.digit_text, Formatted.{FormattedAbsolute, separator_before, separator_after, formatted_down, shown_count, absolute_text}, Parts.{magnitude_of, part_text, AreDigits, IsRun, digits_text, run_text}}
+use Rattle.decimal_format.proofs.lemmas.{formatter.Magnitudes.{formatted_down-add, digit_below}, symbols.Rules.steps}
 
 -- the digits of two pieces without a separator between them
 regroup : (a d t z : List ℕ) → (a ++ (d ++ [])) ++ ([] ++ (t ++ z)) ≡ a ++ ((d ++ t) ++ z)

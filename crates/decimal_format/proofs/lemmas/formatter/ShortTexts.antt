@@ -2,12 +2,7 @@
 use Rattle.std.proofs.Common.{◌≡◌, ℕ, zero, suc, ◌≤◌, List, [], ◌++◌, length, Bool, true, false, refl, arith, append_assoc, length-append}
 use Rattle.std.specs.Prelude.{if◌then◌else◌, ◌&&◌, ℤ, pos, negsuc}
 use Rattle.decimal_digits.specs.Number.{digit}
-use Rattle.decimal_format.specs.declared.grouping.GroupingSizes.{GroupingSizes}
-use Rattle.decimal_format.specs.declared.grouping.GroupingStrategy.{GroupingStrategy}
-use Rattle.decimal_format.specs.Formatted.{FormattedAbsolute, separator_before, magnitude_text}
-use Rattle.decimal_format.specs.Grouping.{is_grouped, separates}
-use Rattle.decimal_format.specs.Parts.{HasShortSeparators, ends_group_at}
-use Rattle.decimal_format.specs.Symbols.{digit_text}
+use Rattle.decimal_format.specs.{declared.grouping.{GroupingSizes.GroupingSizes, GroupingStrategy.GroupingStrategy}, Formatted.{FormattedAbsolute, separator_before, magnitude_text}, Grouping.{is_grouped, separates}, Parts.{HasShortSeparators, ends_group_at}, Symbols.digit_text}
 
 -- a separator is after the digits that end a group, of a value that is grouped
 pub separates_if : (strategy : GroupingStrategy) (sizes : GroupingSizes) (hi m : ℤ)

@@ -1,21 +1,10 @@
 -- Numbers between affixes as people type them.
-use Rattle.std.proofs.Common.{◌≡◌, ◌≢◌, ℕ, List, [], ◌∷◌, ◌++◌, length, get_or, take, drop, ◌-◌, ◌≤◌, refl, sym, ◌∙◌, ap, subst, arith, inl, inr}
+use Rattle.std.proofs.{Common.{◌≡◌, ◌≢◌, ℕ, List, [], ◌∷◌, ◌++◌, length, get_or, take, drop, ◌-◌, ◌≤◌, refl, sym, ◌∙◌, ap, subst, arith, inl, inr}, lemmas.List.{append_cancel_left, append_cancel_right, take_all}}
 use Rattle.std.specs.Prelude.{false, IfOk, Result, Ok, Err}
-use Rattle.std.proofs.lemmas.List.{append_cancel_left, append_cancel_right, take_all}
-use Rattle.decimal_unsigned.specs.Unsigned.{IsValue}
-use Rattle.decimal_unsigned.specs.declared.error.ParseError.{ParseError}
-use Rattle.decimal_unsigned.specs.declared.error.ParseError.TheVariants.{Syntax}
-use Rattle.fixed_decimal.specs.Decimal.{Decimal}
-use Rattle.fixed_decimal.specs.declared.variations.Sign.{Sign}
-use Rattle.fixed_decimal.specs.declared.variations.Sign.TheVariants.{None}
-use Rattle.decimal_format.specs.declared.reader.alternatives.Alternative.{Alternative}
-use Rattle.decimal_format.specs.Symbols.{Symbols, sign_affixes}
-use Rattle.decimal_format.specs.Readable.{IsReadable, BeginsWithDigit}
-use Rattle.decimal_format.specs.Reading.{Numeral, IsRead, absolute_numeral_text}
-use Rattle.decimal_format.specs.Lenient.{normalized, separated_at, IsLenientNumeral, IsLenientlyWritten}
-use Rattle.decimal_format.specs.Alternatives.{IsAround, IsNumeralAround, IsWrittenAround, IsNumeralOfFirst, IsWrittenOfFirst}
-use Rattle.decimal_format.proofs.lemmas.reader.NumeralLaws.{texts_by, none_read, read_first, read_next, with_sign, read_inside}
-use Rattle.decimal_format.proofs.lemmas.reader.Scans.{begins-append, number_begins, sign-unique}
+use Rattle.decimal_unsigned.specs.{Unsigned.IsValue, declared.error.ParseError.{ParseError, TheVariants.Syntax}}
+use Rattle.fixed_decimal.specs.{Decimal.Decimal, declared.variations.Sign.{Sign, TheVariants.None}}
+use Rattle.decimal_format.specs.{declared.reader.alternatives.Alternative.Alternative, Symbols.{Symbols, sign_affixes}, Readable.{IsReadable, BeginsWithDigit}, Reading.{Numeral, IsRead, absolute_numeral_text}, Lenient.{normalized, separated_at, IsLenientNumeral, IsLenientlyWritten}, Alternatives.{IsAround, IsNumeralAround, IsWrittenAround, IsNumeralOfFirst, IsWrittenOfFirst}}
+use Rattle.decimal_format.proofs.lemmas.reader.{NumeralLaws.{texts_by, none_read, read_first, read_next, with_sign, read_inside}, Scans.{begins-append, number_begins, sign-unique}}
 
 module _ (s : Symbols) (readable : IsReadable s) where
   -- a text that begins with a digit shows no sign

@@ -1,9 +1,6 @@
 -- Digits as packed BCD.
-use Rattle.std.proofs.Common.{◌≡◌, ℕ, ◌+◌, ◌*◌, ◌%◌, ◌^◌, ◌<◌, ◌≤◌, List, [], ◌∷◌, ◌++◌, length-append, refl, sym, ◌∙◌, ap, subst, arith}
+use Rattle.std.proofs.{Common.{◌≡◌, ℕ, ◌+◌, ◌*◌, ◌%◌, ◌^◌, ◌<◌, ◌≤◌, List, [], ◌∷◌, ◌++◌, length-append, refl, sym, ◌∙◌, ap, subst, arith}, lemmas.{Int.Digits.{number_after_append, number_lt}, Nat.shl_whole}, Math.Nat.{mod-eq_of_lt, pow-le-pow_right}}
 use Rattle.std.specs.Int.Digits.{AllBelowBase}
-use Rattle.std.proofs.lemmas.Int.Digits.{number_after_append, number_lt}
-use Rattle.std.proofs.lemmas.Nat.{shl_whole}
-use Rattle.std.proofs.Math.Nat.{mod-eq_of_lt, pow-le-pow_right}
 use Rattle.fixed_decimal.proofs.Calling.{below_sixteen, hex_pow, number_after}
 use Rattle.decimal_unsigned.specs.DigitValues.{IsBcd}
 use Rattle.decimal_format.specs.Scanning.{HasBcd}

@@ -1,9 +1,7 @@
 -- Codes of which none is a prefix of another one.
-use Rattle.std.proofs.Common.{◌≡◌, ◌≢◌, ℕ, ◌<◌, ◌⊎◌, inl, inr, true, List, [], ◌∷◌, ◌++◌, nat_lt, refl, sym, ◌∙◌, ap, arith, rules}
+use Rattle.std.proofs.{Common.{◌≡◌, ◌≢◌, ℕ, ◌<◌, ◌⊎◌, inl, inr, true, List, [], ◌∷◌, ◌++◌, nat_lt, refl, sym, ◌∙◌, ap, arith, rules}, lemmas.List.append_cancel_left}
 use Rattle.std.specs.Prelude.{Option, MatchOption}
-use Rattle.std.proofs.lemmas.List.{append_cancel_left}
-use Rattle.decimal_format.specs.Symbols.{Symbols, digit_text}
-use Rattle.decimal_format.specs.Readable.{BeginsWith, code, IsReadable}
+use Rattle.decimal_format.specs.{Symbols.{Symbols, digit_text}, Readable.{BeginsWith, code, IsReadable}}
 
 -- of two prefixes of one text, one is a prefix of the other
 pub meet : (a b r t : List ℕ) → a ++ r ≡ b ++ t → BeginsWith b a ⊎ BeginsWith a b

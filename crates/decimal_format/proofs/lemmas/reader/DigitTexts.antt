@@ -1,12 +1,7 @@
 -- Texts of digits.
-use Rattle.std.proofs.Common.{◌≡◌, ◌≢◌, ℕ, suc, ◌+◌, ◌-◌, ◌<◌, Bool, true, false, inl, inr, List, [], ◌∷◌, ◌++◌, length, refl, sym, ◌∙◌, ap, arith, append_assoc, length-append}
+use Rattle.std.proofs.{Common.{◌≡◌, ◌≢◌, ℕ, suc, ◌+◌, ◌-◌, ◌<◌, Bool, true, false, inl, inr, List, [], ◌∷◌, ◌++◌, length, refl, sym, ◌∙◌, ap, arith, append_assoc, length-append}, lemmas.{Bool.cases_eq, List.append_cancel_left}}
 use Rattle.std.specs.Int.Digits.{AllBelowBase}
-use Rattle.std.proofs.lemmas.Bool.{cases_eq}
-use Rattle.std.proofs.lemmas.List.{append_cancel_left}
-use Rattle.decimal_format.specs.Symbols.{Symbols, digit_text}
-use Rattle.decimal_format.specs.Readable.{IsReadable}
-use Rattle.decimal_format.specs.Reading.{digits_text, fraction_text}
-use Rattle.decimal_format.specs.Scanning.{separator_if, EndsInteger}
+use Rattle.decimal_format.specs.{Symbols.{Symbols, digit_text}, Readable.IsReadable, Reading.{digits_text, fraction_text}, Scanning.{separator_if, EndsInteger}}
 use Rattle.decimal_format.proofs.lemmas.reader.Codes.{same_digit, digit_not_decimal, digit_not_grouping, decimal_not_grouping, none_not_grouping, none_not_digit}
 
 pub digits_text-nil : (s : Symbols) (f : ℕ → Bool) → digits_text s f [] ≡ []

@@ -1,13 +1,7 @@
 -- Normal forms, read byte by byte.
-use Rattle.std.proofs.Common.{◌≡◌, ◌≢◌, ℕ, ◌+◌, ◌-◌, ◌<◌, ◌≤◌, List, [], ◌∷◌, ◌++◌, length, get_or, take, drop, sym, ◌∙◌, ap, arith, append-nil, length-append, length-drop, drop-cons, take-append-drop}
-use Rattle.std.specs.List.{flat_map}
-use Rattle.std.specs.Str.{chars}
-use Rattle.std.proofs.Math.Seq.{drop-append-add, drop-append_seam}
-use Rattle.std.proofs.Math.ListN.{get_or-append}
-use Rattle.std.proofs.lemmas.List.{drop-drop, nil_from_length}
-use Rattle.std.proofs.lemmas.List.Concat.{flat_map-cons}
-use Rattle.decimal_format.specs.Symbols.{Symbols}
-use Rattle.decimal_format.specs.Lenient.{replacement, replaced}
+use Rattle.std.proofs.{Common.{◌≡◌, ◌≢◌, ℕ, ◌+◌, ◌-◌, ◌<◌, ◌≤◌, List, [], ◌∷◌, ◌++◌, length, get_or, take, drop, sym, ◌∙◌, ap, arith, append-nil, length-append, length-drop, drop-cons, take-append-drop}, Math.{Seq.{drop-append-add, drop-append_seam}, ListN.get_or-append}, lemmas.List.{drop-drop, nil_from_length, Concat.flat_map-cons}}
+use Rattle.std.specs.{List.flat_map, Str.chars}
+use Rattle.decimal_format.specs.{Symbols.Symbols, Lenient.{replacement, replaced}}
 use Rattle.decimal_format.proofs.lemmas.symbols.Rules.{steps}
 
 -- ---- Steps over a list.

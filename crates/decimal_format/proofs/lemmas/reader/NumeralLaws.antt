@@ -1,29 +1,10 @@
 -- A text is that of one numeral, and of one decimal.
-use Rattle.std.proofs.Common.{◌≡◌, ◌≢◌, ℕ, ◌-◌, inl, inr, Bool, true, false, List, [], ◌∷◌, ◌++◌, length, refl, sym, ◌∙◌, ap, subst, append-nil, arith, rules}
-use Rattle.std.specs.Prelude.{◌⊎◌, Result, Ok, Err, IfOk, MatchResult, ◌↔◌, pos}
-use Rattle.std.specs.Int.Digits.{AllBelowBase}
-use Rattle.std.proofs.Math.Bool.{and-false}
-use Rattle.std.proofs.lemmas.Result.{IfOk-weaker}
-use Rattle.std.proofs.lemmas.List.{append_cancel_left, append_cancel_right}
-use Rattle.decimal_unsigned.specs.declared.error.ParseError.{ParseError}
-use Rattle.decimal_unsigned.specs.declared.error.ParseError.TheVariants.{Limit, Syntax, Memory}
-use Rattle.decimal_unsigned.specs.Unsigned.{IsValue}
-use Rattle.fixed_decimal.specs.Decimal.{Decimal}
-use Rattle.fixed_decimal.specs.declared.variations.Sign.{Sign}
-use Rattle.fixed_decimal.specs.declared.variations.Sign.TheVariants.{None}
-use Rattle.decimal_format.specs.declared.grouping.GroupingStrategy.{GroupingStrategy}
-use Rattle.decimal_format.specs.declared.grouping.GroupingStrategy.TheVariants.{Never}
-use Rattle.decimal_format.specs.Symbols.{Symbols, Affixes, sign_affixes}
-use Rattle.decimal_format.specs.Formatted.{formatted}
-use Rattle.decimal_format.specs.Grouping.{is_grouped, ends_group}
-use Rattle.decimal_format.specs.Readable.{IsReadable}
-use Rattle.decimal_format.specs.Reading.{Numeral, AreDigits, IsNumeral, IsBeyondLimits, IsWritten, IsRead, digits_text, fraction_text, absolute_numeral_text, numeral_text, separated_by}
-use Rattle.decimal_format.specs.Lenient.{separated_at, normalized, IsLenientNumeral, IsLenientlyWritten, IsTyped}
-use Rattle.decimal_format.specs.Scanning.{IsUniform, value_of, IsValueOf, IsNumeralBy, IsWrittenBy}
-use Rattle.decimal_format.proofs.lemmas.reader.Codes.{none_not_decimal}
-use Rattle.decimal_format.proofs.lemmas.reader.DigitTexts.{digits_text-cong, nil_ends, fraction_ends, digits-unique, ends_integer}
-use Rattle.decimal_format.proofs.lemmas.reader.NumeralTexts.{HasDigits, same_value, digits_are_value, formatted-digits, digits_of_value}
-use Rattle.decimal_format.proofs.lemmas.reader.Scans.{number_begins, begins-append, sign-unique, strategy_is, strategy_if, strategy_separates}
+use Rattle.std.proofs.{Common.{◌≡◌, ◌≢◌, ℕ, ◌-◌, inl, inr, Bool, true, false, List, [], ◌∷◌, ◌++◌, length, refl, sym, ◌∙◌, ap, subst, append-nil, arith, rules}, Math.Bool.and-false, lemmas.{Result.IfOk-weaker, List.{append_cancel_left, append_cancel_right}}}
+use Rattle.std.specs.{Prelude.{◌⊎◌, Result, Ok, Err, IfOk, MatchResult, ◌↔◌, pos}, Int.Digits.AllBelowBase}
+use Rattle.decimal_unsigned.specs.{declared.error.ParseError.{ParseError, TheVariants.{Limit, Syntax, Memory}}, Unsigned.IsValue}
+use Rattle.fixed_decimal.specs.{Decimal.Decimal, declared.variations.Sign.{Sign, TheVariants.None}}
+use Rattle.decimal_format.specs.{declared.grouping.GroupingStrategy.{GroupingStrategy, TheVariants.Never}, Symbols.{Symbols, Affixes, sign_affixes}, Formatted.formatted, Grouping.{is_grouped, ends_group}, Readable.IsReadable, Reading.{Numeral, AreDigits, IsNumeral, IsBeyondLimits, IsWritten, IsRead, digits_text, fraction_text, absolute_numeral_text, numeral_text, separated_by}, Lenient.{separated_at, normalized, IsLenientNumeral, IsLenientlyWritten, IsTyped}, Scanning.{IsUniform, value_of, IsValueOf, IsNumeralBy, IsWrittenBy}}
+use Rattle.decimal_format.proofs.lemmas.reader.{Codes.none_not_decimal, DigitTexts.{digits_text-cong, nil_ends, fraction_ends, digits-unique, ends_integer}, NumeralTexts.{HasDigits, same_value, digits_are_value, formatted-digits, digits_of_value}, Scans.{number_begins, begins-append, sign-unique, strategy_is, strategy_if, strategy_separates}}
 
 -- a text by some strategy has separators at ends of groups, all of them or none
 pub numeral_is_lenient : (s : Symbols) (bytes : List ℕ) (w : Numeral) → IsNumeral s bytes w

@@ -1,27 +1,12 @@
 -- The digits of a value, and the value of digits.
-use Rattle.std.proofs.Common.{◌≡◌, ℕ, zero, suc, ◌+◌, ◌-◌, ◌*◌, ◌/◌, ◌%◌, ◌^◌, ◌<◌, ◌≤◌, false, List, [], ◌∷◌, ◌++◌, length, take, drop, refl, sym, ◌∙◌, ap, subst, arith, append_assoc, append-nil, length-append, length-drop, take-append-drop, rules}
-use Rattle.std.specs.Int.Digits.{AllBelowBase, number_from_digits}
-use Rattle.std.specs.Prelude.{ℤ, pos, negsuc, ◌-ℤ◌}
-use Rattle.std.specs.Int.{int_gap, int_min}
-use Rattle.std.proofs.Math.Arith.{mod-mul}
-use Rattle.std.proofs.Math.Nat.{pow-suc, mod-lt, mod-one, mod-eq_of_lt, mul-div_cancel, mul-mod_left, div-lt_iff_lt-mul, div-div-eq-div-mul}
-use Rattle.std.proofs.lemmas.Bool.{cases_lt}
-use Rattle.std.proofs.lemmas.Int.{ints, clamps}
-use Rattle.std.proofs.lemmas.Nat.{div-add-mod', div-mul-add, mod-mul-add}
-use Rattle.std.proofs.lemmas.Int.Digits.{number_lt}
-use Rattle.decimal_digits.specs.Digits.{number_at}
-use Rattle.decimal_digits.specs.Number.{digit, weight, offset}
+use Rattle.std.proofs.{Common.{◌≡◌, ℕ, zero, suc, ◌+◌, ◌-◌, ◌*◌, ◌/◌, ◌%◌, ◌^◌, ◌<◌, ◌≤◌, false, List, [], ◌∷◌, ◌++◌, length, take, drop, refl, sym, ◌∙◌, ap, subst, arith, append_assoc, append-nil, length-append, length-drop, take-append-drop, rules}, Math.{Arith.mod-mul, Nat.{pow-suc, mod-lt, mod-one, mod-eq_of_lt, mul-div_cancel, mul-mod_left, div-lt_iff_lt-mul, div-div-eq-div-mul}}, lemmas.{Bool.cases_lt, Int.{ints, clamps, Digits.number_lt}, Nat.{div-add-mod', div-mul-add, mod-mul-add}}}
+use Rattle.std.specs.{Int.{Digits.{AllBelowBase, number_from_digits}, int_gap, int_min}, Prelude.{ℤ, pos, negsuc, ◌-ℤ◌}}
+use Rattle.decimal_digits.specs.{Digits.number_at, Number.{digit, weight, offset}}
 use Rattle.decimal_unsigned.specs.Unsigned.{IsValue}
 use Rattle.fixed_decimal.specs.Decimal.{Decimal}
 use Rattle.fixed_decimal.proofs.Calling.{number_first, number_at-lt, offset_is, gap_is, ten_pos, powers}
-use Rattle.decimal_format.specs.declared.grouping.GroupingStrategy.{GroupingStrategy}
-use Rattle.decimal_format.specs.Symbols.{Symbols, digit_text}
-use Rattle.decimal_format.specs.Grouping.{separates}
-use Rattle.decimal_format.specs.Formatted.{separator_before, separator_after, formatted_down, shown_count, absolute_text, formatted}
-use Rattle.decimal_format.specs.Reading.{Numeral, AreDigits, IsBeyondLimits, digits_text, fraction_text, absolute_numeral_text, numeral_text, separated_by}
-use Rattle.decimal_format.specs.Scanning.{value_of}
-use Rattle.decimal_format.proofs.lemmas.reader.Bcd.{below_append, below_first, below_rest}
-use Rattle.decimal_format.proofs.lemmas.reader.DigitTexts.{digits_text-first}
+use Rattle.decimal_format.specs.{declared.grouping.GroupingStrategy.GroupingStrategy, Symbols.{Symbols, digit_text}, Grouping.separates, Formatted.{separator_before, separator_after, formatted_down, shown_count, absolute_text, formatted}, Reading.{Numeral, AreDigits, IsBeyondLimits, digits_text, fraction_text, absolute_numeral_text, numeral_text, separated_by}, Scanning.value_of}
+use Rattle.decimal_format.proofs.lemmas.reader.{Bcd.{below_append, below_first, below_rest}, DigitTexts.digits_text-first}
 
 -- ---- The digits of a number.
 -- those at the given number of magnitudes, from m down

@@ -1,24 +1,10 @@
 -- The steps of a scan.
-use Rattle.std.proofs.Common.{◌≡◌, ◌≢◌, ℕ, ◌+◌, ◌-◌, ◌<◌, ◌≤◌, ◌==◌, Bool, true, false, ◌&&◌, ◌||◌, List, [], ◌∷◌, ◌++◌, length, refl, sym, ◌∙◌, ap, subst, arith, rules, append_assoc, append-nil, length-append, length-drop, take, drop, take-append-drop, inl, inr}
-use Rattle.std.specs.Prelude.{if◌then◌else◌, ◌*◌, ◌%◌, ◌^◌, pos, ◌↔◌}
-use Rattle.std.specs.Int.Digits.{AllBelowBase}
-use Rattle.std.proofs.Math.Bool.{beq, not, and-true, and-false, and_comm}
-use Rattle.std.proofs.lemmas.Bool.{cases_eq, cases_lt}
-use Rattle.std.proofs.lemmas.Bool.Decides.{nat_tests}
-use Rattle.std.proofs.lemmas.Int.{ints}
-use Rattle.std.proofs.lemmas.List.{append_cancel_left, nil_from_length}
+use Rattle.std.proofs.{Common.{◌≡◌, ◌≢◌, ℕ, ◌+◌, ◌-◌, ◌<◌, ◌≤◌, ◌==◌, Bool, true, false, ◌&&◌, ◌||◌, List, [], ◌∷◌, ◌++◌, length, refl, sym, ◌∙◌, ap, subst, arith, rules, append_assoc, append-nil, length-append, length-drop, take, drop, take-append-drop, inl, inr}, Math.Bool.{beq, not, and-true, and-false, and_comm}, lemmas.{Bool.{cases_eq, cases_lt, Decides.nat_tests}, Int.ints, List.{append_cancel_left, nil_from_length}}}
+use Rattle.std.specs.{Prelude.{if◌then◌else◌, ◌*◌, ◌%◌, ◌^◌, pos, ◌↔◌}, Int.Digits.AllBelowBase}
 use Rattle.fixed_decimal.specs.declared.variations.Sign.{Sign}
 use Rattle.fixed_decimal.specs.declared.variations.Sign.TheVariants as sign
-use Rattle.decimal_format.specs.declared.grouping.GroupingStrategy.{GroupingStrategy}
-use Rattle.decimal_format.specs.declared.grouping.GroupingStrategy.TheVariants.{Never, Always}
-use Rattle.decimal_format.specs.Symbols.{Symbols, digit_text, sign_affixes}
-use Rattle.decimal_format.specs.Grouping.{is_grouped, ends_group}
-use Rattle.decimal_format.specs.Readable.{IsReadable, BeginsWithDigit}
-use Rattle.decimal_format.specs.Reading.{Numeral, AreDigits, digits_text, fraction_text, absolute_numeral_text, separated_by}
-use Rattle.decimal_format.specs.Scanning.{separator_if, separated_if, SkipsSeparator, HasBcd, IsUniform, IsSpelled, ReadsSpelled, ReadsRun, ReadsDigits}
-use Rattle.decimal_format.proofs.lemmas.reader.Bcd.{below_append, below_first, below_rest, last_none, last_push}
-use Rattle.decimal_format.proofs.lemmas.reader.Codes.{same_digit, digit_not_grouping, digit_not_minus, digit_not_plus, plus_not_minus, none_not_decimal, none_not_digit, none_not_grouping}
-use Rattle.decimal_format.proofs.lemmas.reader.DigitTexts.{digits_text-nil, digits_text-first, digits_text-cong, digits_text-append, digits_text-run, digits_not_grouping, digits-unique, ends_integer, nil_ends, fraction_ends}
+use Rattle.decimal_format.specs.{declared.grouping.GroupingStrategy.{GroupingStrategy, TheVariants.{Never, Always}}, Symbols.{Symbols, digit_text, sign_affixes}, Grouping.{is_grouped, ends_group}, Readable.{IsReadable, BeginsWithDigit}, Reading.{Numeral, AreDigits, digits_text, fraction_text, absolute_numeral_text, separated_by}, Scanning.{separator_if, separated_if, SkipsSeparator, HasBcd, IsUniform, IsSpelled, ReadsSpelled, ReadsRun, ReadsDigits}}
+use Rattle.decimal_format.proofs.lemmas.reader.{Bcd.{below_append, below_first, below_rest, last_none, last_push}, Codes.{same_digit, digit_not_grouping, digit_not_minus, digit_not_plus, plus_not_minus, none_not_decimal, none_not_digit, none_not_grouping}, DigitTexts.{digits_text-nil, digits_text-first, digits_text-cong, digits_text-append, digits_text-run, digits_not_grouping, digits-unique, ends_integer, nil_ends, fraction_ends}}
 
 -- ---- Signs.
 pub begins-append : (s : Symbols) (number tail : List ℕ) → BeginsWithDigit s number → BeginsWithDigit s (number ++ tail)

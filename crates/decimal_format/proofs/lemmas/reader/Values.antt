@@ -1,26 +1,12 @@
 -- The value of digits, appended from left to right.
-use Rattle.std.proofs.Common.{◌≡◌, ℕ, ◌+◌, ◌-◌, ◌*◌, ◌%◌, ◌^◌, ◌<◌, ◌≤◌, false, List, [], ◌++◌, length, length-append, append_assoc, append-nil, refl, sym, ◌∙◌, ap, subst, arith, FitsSigned, w16, to_z, of_z}
+use Rattle.std.proofs.{Common.{◌≡◌, ℕ, ◌+◌, ◌-◌, ◌*◌, ◌%◌, ◌^◌, ◌<◌, ◌≤◌, false, List, [], ◌++◌, length, length-append, append_assoc, append-nil, refl, sym, ◌∙◌, ap, subst, arith, FitsSigned, w16, to_z, of_z}, Math.Nat.{mul-mod_left, mul_assoc, mul-le-mul_right, pow-le-pow_right}, lemmas.{Int.{ints, clamps, to_z-of_z, Digits.number_lt}, Bool.{cases_lt, Decides.nat_tests}, List.nil_from_length}}
 use lib.Signed.{mag}
-use Rattle.std.specs.Int.Digits.{AllBelowBase, number_from_digits}
-use Rattle.std.specs.Prelude.{Result, Ok, Err, IsOk, OnErr, ℤ, pos, negsuc, ◌+ℤ◌, ◌-ℤ◌, ◌≤ℤ◌}
-use Rattle.std.specs.Int.{int_max, int_min}
-use Rattle.std.proofs.Math.Nat.{mul-mod_left, mul_assoc, mul-le-mul_right, pow-le-pow_right}
-use Rattle.std.proofs.lemmas.Int.{ints, clamps, to_z-of_z}
-use Rattle.std.proofs.lemmas.Bool.{cases_lt}
-use Rattle.std.proofs.lemmas.Bool.Decides.{nat_tests}
-use Rattle.std.proofs.lemmas.List.{nil_from_length}
-use Rattle.std.proofs.lemmas.Int.Digits.{number_lt}
-use Rattle.decimal_digits.specs.Digits.{number_at}
-use Rattle.decimal_digits.specs.Number.{offset, weight, size}
-use Rattle.decimal_unsigned.specs.Concatenation.{overlaps, concatenated_end, concatenated_size}
-use Rattle.decimal_unsigned.specs.Edits.{leaves_limits, times_power, multiplied}
-use Rattle.decimal_unsigned.specs.Unsigned.{Unsigned, zero_value}
+use Rattle.std.specs.{Int.{Digits.{AllBelowBase, number_from_digits}, int_max, int_min}, Prelude.{Result, Ok, Err, IsOk, OnErr, ℤ, pos, negsuc, ◌+ℤ◌, ◌-ℤ◌, ◌≤ℤ◌}}
+use Rattle.decimal_digits.specs.{Digits.number_at, Number.{offset, weight, size}}
+use Rattle.decimal_unsigned.specs.{Concatenation.{overlaps, concatenated_end, concatenated_size}, Edits.{leaves_limits, times_power, multiplied}, Unsigned.{Unsigned, zero_value}, DigitValues.{IsBcd, value_of_first}}
 use Rattle.fixed_decimal.proofs.Calling.{offset_is, number_at-lt, powers, ten_pos, number-append, weight_up, integer_down, size_up, first_below_last, size_joined, size_left, size_right, not_overlapping}
-use Rattle.decimal_unsigned.specs.DigitValues.{IsBcd, value_of_first}
-use Rattle.decimal_format.specs.Symbols.{Symbols}
-use Rattle.decimal_format.specs.Scanning.{HasBcd, IsSpelled, ReadsSpelled, HoldsDigits}
-use Rattle.decimal_format.proofs.lemmas.reader.Bcd.{below_append, below_rest, last_is_bcd}
-use Rattle.decimal_format.proofs.lemmas.symbols.Rules.{steps}
+use Rattle.decimal_format.specs.{Symbols.Symbols, Scanning.{HasBcd, IsSpelled, ReadsSpelled, HoldsDigits}}
+use Rattle.decimal_format.proofs.lemmas.{reader.Bcd.{below_append, below_rest, last_is_bcd}, symbols.Rules.steps}
 
 -- ---- Numbers of digits.
 -- the number of digits and then others

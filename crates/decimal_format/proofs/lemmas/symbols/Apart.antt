@@ -1,10 +1,7 @@
 -- Texts of which none begins with another one, by computation.
-use Rattle.std.proofs.Common.{◌≡◌, ℕ, ◌<◌, ◌==◌, ◌&&◌, ◌||◌, not, zero, suc, nat_eq, Bool, true, false, List, refl, arith, rules}
-use Rattle.std.proofs.lemmas.Bool.Decides.{nat_tests, Decides-eqb, Decides-below_and}
-use Rattle.std.proofs.lemmas.Slice.Eq.{starts_is}
+use Rattle.std.proofs.{Common.{◌≡◌, ℕ, ◌<◌, ◌==◌, ◌&&◌, ◌||◌, not, zero, suc, nat_eq, Bool, true, false, List, refl, arith, rules}, lemmas.{Bool.Decides.{nat_tests, Decides-eqb, Decides-below_and}, Slice.Eq.starts_is}}
 use Rattle.std.specs.List.{starts_with}
-use Rattle.decimal_format.specs.Ascii.{ascii_symbols}
-use Rattle.decimal_format.specs.Readable.{BeginsWith, code, IsReadable}
+use Rattle.decimal_format.specs.{Ascii.ascii_symbols, Readable.{BeginsWith, code, IsReadable}}
 
 -- a text does not begin with another
 abbrev pub is_other : List ℕ → List ℕ → Bool

@@ -1,16 +1,8 @@
 -- The ASCII digits, and digits given in ASCII.
-use Rattle.std.proofs.Common.{◌≡◌, ℕ, suc, ◌+◌, ◌-◌, ◌<◌, ◌≤◌, List, [], ◌∷◌, ◌++◌, length, take, drop, refl, sym, ◌∙◌, ap, arith, append_assoc, append-nil, take-append-drop, rules}
+use Rattle.std.proofs.{Common.{◌≡◌, ℕ, suc, ◌+◌, ◌-◌, ◌<◌, ◌≤◌, List, [], ◌∷◌, ◌++◌, length, take, drop, refl, sym, ◌∙◌, ap, arith, append_assoc, append-nil, take-append-drop, rules}, lemmas.{Bool.Decides.nat_tests, Str.encode_ascii, List.{take_more, Concat.flat_map-cons}, Grind.flat_map-append}}
 use Rattle.std.specs.Prelude.{encode_utf8, slice_index}
-use Rattle.std.proofs.lemmas.Bool.Decides.{nat_tests}
-use Rattle.std.proofs.lemmas.Str.{encode_ascii}
-use Rattle.std.proofs.lemmas.List.{take_more}
-use Rattle.std.proofs.lemmas.List.Concat.{flat_map-cons}
-use Rattle.std.proofs.lemmas.Grind.{flat_map-append}
-use Rattle.decimal_format.specs.Ascii.{ascii_digits}
-use Rattle.decimal_format.specs.Parts.{digits_text}
-use Rattle.decimal_format.proofs.lemmas.symbols.Apart.{passes_below}
-use Rattle.decimal_format.specs.Symbols.{Symbols, digit_text}
-use Rattle.decimal_format.proofs.lemmas.symbols.Rules.{steps}
+use Rattle.decimal_format.specs.{Ascii.ascii_digits, Parts.digits_text, Symbols.{Symbols, digit_text}}
+use Rattle.decimal_format.proofs.lemmas.symbols.{Apart.passes_below, Rules.steps}
 
 -- the bytes of the ASCII digits
 pub ten_digits : (d : ℕ) → d < 10 → encode_utf8 (slice_index ascii_digits d) ≡ (48 + d) ∷ []

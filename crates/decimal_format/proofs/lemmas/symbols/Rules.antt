@@ -1,8 +1,5 @@
 -- Lists of lemmas for tactics.
-use Rattle.std.proofs.Common.{arith}
-use Rattle.std.proofs.lemmas.Bool.Decides.{nat_tests}
-use Rattle.std.proofs.lemmas.Grind.{common_steps}
-use Rattle.std.proofs.lemmas.Int.{ints, clamps}
+use Rattle.std.proofs.{Common.arith, lemmas.{Bool.Decides.nat_tests, Grind.common_steps, Int.{ints, clamps}}}
 
 -- arithmetic of naturals and integers, tests, and lists
 pub ruleset steps = (arith, ints, clamps, nat_tests, common_steps)

@@ -1,14 +1,7 @@
 -- Where the next separator is, and how many there are.
-use Rattle.std.proofs.Common.{◌≡◌, ℕ, zero, suc, ◌+◌, ◌-◌, ◌*◌, ◌/◌, ◌%◌, ◌<◌, ◌≤◌, inl, inr, Bool, true, false, refl, sym, ◌∙◌, ap, arith, rules}
+use Rattle.std.proofs.{Common.{◌≡◌, ℕ, zero, suc, ◌+◌, ◌-◌, ◌*◌, ◌/◌, ◌%◌, ◌<◌, ◌≤◌, inl, inr, Bool, true, false, refl, sym, ◌∙◌, ap, arith, rules}, Math.Nat.{mod-add-div', add-mul-mod_self_right, add-mul-div_right, mod-eq_of_lt, mod-lt, mod_self, mul-mod_left, div_self, div-eq_of_lt, zero-div, zero-mod}, lemmas.{Int.ints, Bool.{cases_lt, Decides.nat_tests}}}
 use Rattle.std.specs.Prelude.{if◌then◌else◌, ◌==◌, ◌&&◌, nat_lt, nat_le, ℤ, pos, ◌≤ℤ◌}
-use Rattle.std.proofs.Math.Nat.{mod-add-div', add-mul-mod_self_right, add-mul-div_right, mod-eq_of_lt, mod-lt, mod_self, mul-mod_left, div_self, div-eq_of_lt, zero-div, zero-mod}
-use Rattle.std.proofs.lemmas.Int.{ints}
-use Rattle.std.proofs.lemmas.Bool.{cases_lt}
-use Rattle.std.proofs.lemmas.Bool.Decides.{nat_tests}
-use Rattle.decimal_format.specs.declared.grouping.GroupingSizes.{GroupingSizes}
-use Rattle.decimal_format.specs.declared.grouping.GroupingStrategy.{GroupingStrategy}
-use Rattle.decimal_format.specs.Grouping.{reaches, is_grouped, secondary_size, ends_group, separates}
-use Rattle.decimal_format.specs.Parts.{separators_below}
+use Rattle.decimal_format.specs.{declared.grouping.{GroupingSizes.GroupingSizes, GroupingStrategy.GroupingStrategy}, Grouping.{reaches, is_grouped, secondary_size, ends_group, separates}, Parts.separators_below}
 
 -- ---- Quotients and remainders.
 -- subtracting less than the remainder leaves the rest of the remainder

@@ -1,5 +1,4 @@
-use Rattle.std.proofs.Common.{◌≡◌, take, length, min, ap, ◌∙◌, rules}
-use Rattle.std.proofs.lemmas.List.{take_min}
+use Rattle.std.proofs.{Common.{◌≡◌, take, length, min, ap, ◌∙◌, rules}, lemmas.List.take_min}
 use Rattle.fixed_decimal_c.proofs.calls.calls_in.Goals as goal
 
 pub returns-in-None : goal.returns-in-None

@@ -1,5 +1,4 @@
-use Rattle.std.proofs.Common.{inr}
-use Rattle.std.proofs.lemmas.Result.{IfOk-weaker, IfErr-weaker}
+use Rattle.std.proofs.{Common.inr, lemmas.Result.{IfOk-weaker, IfErr-weaker}}
 use Rattle.fixed_decimal_c.proofs.forms.skeleton_formatter.Goals as goal
 
 pub returns-clause-ok : goal.returns-clause-ok

@@ -1,11 +1,8 @@
 -- One call more.
-use Rattle.std.proofs.Common.{ℕ, ◌+◌, ◌<◌, List, [], ◌∷◌, ◌++◌, length, get_or, set, take, sym, subst}
+use Rattle.std.proofs.{Common.{ℕ, ◌+◌, ◌<◌, List, [], ◌∷◌, ◌++◌, length, get_or, set, take, sym, subst}, lemmas.{List.{take_more, take_more_set}, Option.slice_get-get_or}}
 use Rattle.std.specs.Prelude.{IsSomeAnd, slice_get}
-use Rattle.std.proofs.lemmas.List.{take_more, take_more_set}
-use Rattle.std.proofs.lemmas.Option.{slice_get-get_or}
 use Rattle.fixed_decimal.specs.declared.runs.Call.{Call}
-use Rattle.fixed_decimal_c.specs.declared.calls.FdCall.{FdCall}
-use Rattle.fixed_decimal_c.specs.Calls.{IsCall, AreCalls}
+use Rattle.fixed_decimal_c.specs.{declared.calls.FdCall.FdCall, Calls.{IsCall, AreCalls}}
 
 -- one more call is one more of the list
 calls_more : (cs : List FdCall) (texts : List ℕ) (ls : List Call) (c : FdCall) (call : Call) → AreCalls cs texts ls

@@ -2,18 +2,10 @@
 use Rattle.std.proofs.Common.{◌≡◌, ◌≢◌, ℕ, List, Result, Ok, inl, inr, sym, ap, ◌∙◌, arith}
 use Rattle.decimal_unsigned.specs.declared.decimal.TheConstants.{INLINE_DIGITS}
 use Rattle.decimal_unsigned.specs.declared.error.ParseError.TheVariants as parse
-use Rattle.fixed_decimal.specs.Calls.{CallsFail}
-use Rattle.fixed_decimal.specs.Decimal.{Decimal}
-use Rattle.fixed_decimal.specs.DecimalText.{decimal_text, read_decimal, and_then}
-use Rattle.fixed_decimal.specs.Errors.{run_error, RunFails}
-use Rattle.fixed_decimal.specs.Outcome.{started, after_calls, outcome}
-use Rattle.fixed_decimal.specs.declared.runs.Call.{Call}
-use Rattle.fixed_decimal.specs.declared.runs.CallError.{CallError}
+use Rattle.fixed_decimal.specs.{Calls.CallsFail, Decimal.Decimal, DecimalText.{decimal_text, read_decimal, and_then}, Errors.{run_error, RunFails}, Outcome.{started, after_calls, outcome}, declared.runs.{Call.Call, CallError.CallError}}
 use Rattle.fixed_decimal.specs.declared.runs.CallError.TheVariants as call
 use Rattle.fixed_decimal.specs.declared.runs.RunError.TheVariants as run
-use Rattle.fixed_decimal_c.specs.declared.calls.FdCall.{FdCall}
-use Rattle.fixed_decimal_c.specs.declared.error.FdError.{FdError}
-use Rattle.fixed_decimal_c.specs.Conversions.{IsConverted, ConversionFails, ConvertsDecoded, IsErrorOfRun, own_forms, Runs}
+use Rattle.fixed_decimal_c.specs.{declared.{calls.FdCall.FdCall, error.FdError.FdError}, Conversions.{IsConverted, ConversionFails, ConvertsDecoded, IsErrorOfRun, own_forms, Runs}}
 use Rattle.fixed_decimal_c.proofs.lemmas.texts.Writing.{writes_weaker}
 
 never_sink : (e : CallError) → run_error e ≢ run.Sink

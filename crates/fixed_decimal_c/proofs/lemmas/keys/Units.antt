@@ -2,11 +2,8 @@
 use Rattle.std.proofs.{Common.{ℕ, ◌≡◌, ◌*◌, ◌/◌, ◌%◌, ◌<◌, ◌^◌, ◌==◌, refl, sym, ◌∙◌, ap, arith, ℤ, pos, negsuc, ◌*ℤ◌, ◌<ℤ◌, Bool, true, false, eqb-true}, Math.Nat.{zero-mul, div-add-mod', mul_assoc, mul-lt-mul_of_pos_right, one-le-pow}, lemmas.{Int.ints, Nat.pow-add, Bool.Decides.nat_tests, Grind.common_steps}}
 use Rattle.std.specs.{Prelude.{Ok, Err, if◌then◌else◌}, Cmp.{int_cmp_is, int_ranks}, Ordering.{int_cmp, MatchOrdering}, declared.cmp.Ordering.Ordering, declared.cmp.Ordering.TheVariants.{Less, Equal, Greater}}
 use Rattle.decimal_digits.specs.Number.{weight, offset}
-use Rattle.decimal_unsigned.specs.declared.error.IntegerError.TheVariants.{NotWhole}
-use Rattle.decimal_unsigned.specs.Edits.{multiplied}
-use Rattle.fixed_decimal.specs.{Decimal.{Decimal, signed, signed_number}, ToInteger.{signed_in_range, as_signed}}
-use Rattle.fixed_decimal.specs.declared.variations.Sign.{Sign}
-use Rattle.fixed_decimal.specs.declared.variations.Sign.TheVariants.{None, Negative, Positive}
+use Rattle.decimal_unsigned.specs.{declared.error.IntegerError.TheVariants.NotWhole, Edits.multiplied}
+use Rattle.fixed_decimal.specs.{Decimal.{Decimal, signed, signed_number}, ToInteger.{signed_in_range, as_signed}, declared.variations.Sign.{Sign, TheVariants.{None, Negative, Positive}}}
 use Rattle.fixed_decimal_c.specs.Keys.{HasUnits}
 
 -- an integer in range is itself

@@ -1,31 +1,13 @@
 -- The first line of some bytes, and one line more of a column.
-use Rattle.std.proofs.Common.{◌≡◌, ◌≢◌, ℕ, zero, suc, ◌+◌, ◌-◌, ◌<◌, ◌≤◌, Bool, true, false, List, [], ◌∷◌, ◌++◌, length, take, drop, slice_index, Some, None, ◌⊎◌, inl, inr, set, Result, Ok, Err, refl, sym, ap, ◌∙◌, arith, add-one, eq-eqb, ne_eqb, le_of_suc-le-suc, suc-le-suc, zero-lt-suc, eqb-true, append_assoc, length-append, subst}
-use Rattle.std.specs.Prelude.{flat_map, count_by, is_err, IfOk, IfErr, OnOk, OnErr}
-use Rattle.std.specs.List.{onto_first}
-use Rattle.std.proofs.Math.Seq.{take-append_seam, drop-append_seam}
-use Rattle.std.proofs.Math.ListN.{drop_of_length-le}
-use Rattle.std.proofs.lemmas.List.{flat_map_more, length-take, length-drop, drop-drop, take_all, append-nil, take-append-drop}
-use Rattle.std.proofs.lemmas.Bool.{cond-false}
-use Rattle.std.proofs.lemmas.Grind.{common_steps}
+use Rattle.std.proofs.{Common.{◌≡◌, ◌≢◌, ℕ, zero, suc, ◌+◌, ◌-◌, ◌<◌, ◌≤◌, Bool, true, false, List, [], ◌∷◌, ◌++◌, length, take, drop, slice_index, Some, None, ◌⊎◌, inl, inr, set, Result, Ok, Err, refl, sym, ap, ◌∙◌, arith, add-one, eq-eqb, ne_eqb, le_of_suc-le-suc, suc-le-suc, zero-lt-suc, eqb-true, append_assoc, length-append, subst}, Math.{Seq.{take-append_seam, drop-append_seam}, ListN.drop_of_length-le}, lemmas.{List.{flat_map_more, length-take, length-drop, drop-drop, take_all, append-nil, take-append-drop}, Bool.cond-false, Grind.common_steps}}
+use Rattle.std.specs.{Prelude.{flat_map, count_by, is_err, IfOk, IfErr, OnOk, OnErr}, List.onto_first}
 use Rattle.memchr.specs.Find.{IsFirstByte, is_byte}
-use Rattle.fixed_decimal.specs.declared.runs.Call.{Call}
+use Rattle.fixed_decimal.specs.{declared.runs.Call.Call, Decimal.Decimal}
 use Rattle.conversions.specs.Lines.{lines_of}
 use Rattle.decimal_unsigned.specs.declared.error.ParseError.TheVariants as parse
-use Rattle.fixed_decimal.specs.Decimal.{Decimal}
 use Rattle.fixed_decimal.specs.declared.runs.CallError.TheVariants as call
 use Rattle.fixed_decimal_c.proofs.lemmas.texts.Writing.{writes_ok, writes_err, written_in_part, line_ended}
-use Rattle.fixed_decimal_c.specs.declared.convert.Forms.{Forms}
-use Rattle.fixed_decimal_c.specs.declared.forms.Format.{Format}
-use Rattle.fixed_decimal_c.specs.declared.forms.Format.TheVariants.{Own, Symbols, Skeleton}
-use Rattle.fixed_decimal_c.specs.declared.error.FdError.{FdError}
-use Rattle.fixed_decimal_c.specs.declared.lines.LineOutput.{LineOutput}
-use Rattle.fixed_decimal_c.specs.declared.answer.Progress.{Progress}
-use Rattle.fixed_decimal_c.specs.declared.error.FdError.TheVariants.{BufferTooSmall, Memory}
-use Rattle.fixed_decimal_c.specs.Conversions.{IsConverted, Converts, ConversionFails}
-use Rattle.fixed_decimal_c.specs.Errors.{is_of_line}
-use Rattle.fixed_decimal_c.specs.Formats.{FormatFails}
-use Rattle.fixed_decimal_c.specs.Texts.{IsWritten, Writes}
-use Rattle.fixed_decimal_c.specs.Lines.{IsLineResult, AreLineResults, LineStops, output_of_line, IsLineWritten, AreConverted, ConvertsLines, none}
+use Rattle.fixed_decimal_c.specs.{declared.{convert.Forms.Forms, forms.Format.{Format, TheVariants.{Own, Symbols, Skeleton}}, error.FdError.{FdError, TheVariants.{BufferTooSmall, Memory}}, lines.LineOutput.LineOutput, answer.Progress.Progress}, Conversions.{IsConverted, Converts, ConversionFails}, Errors.is_of_line, Formats.FormatFails, Texts.{IsWritten, Writes}, Lines.{IsLineResult, AreLineResults, LineStops, output_of_line, IsLineWritten, AreConverted, ConvertsLines, none}}
 
 -- ---- The first line.
 

@@ -1,12 +1,8 @@
 -- The number of the rules of a tag.
 use Rattle.std.proofs.Common.{◌≡◌, ℕ, zero, suc, List, Option, Some, None, Ok, refl, ap, ◌∙◌}
-use Rattle.std.specs.Prelude.{IsSomeAnd}
-use Rattle.std.specs.Option.{option_and_then}
-use Rattle.locale_data.specs.Plurals.{rules_text_at, IsRulesText}
-use Rattle.locale_data.specs.declared.plurals.PluralRuleType.{PluralRuleType}
-use Rattle.locale_data.specs.declared.plurals.PluralRulesId.{PluralRulesId}
-use Rattle.conversions.specs.NamedRules.{NamesLocale}
-use Rattle.conversions.specs.Parameters.{tag_of}
+use Rattle.std.specs.{Prelude.IsSomeAnd, Option.option_and_then}
+use Rattle.locale_data.specs.{Plurals.{rules_text_at, IsRulesText}, declared.plurals.{PluralRuleType.PluralRuleType, PluralRulesId.PluralRulesId}}
+use Rattle.conversions.specs.{NamedRules.NamesLocale, Parameters.tag_of}
 use Rattle.fixed_decimal_c.specs.Locales.{rule_type_code, rules_of, IsRulesNumber, IsNamedRulesNumber}
 
 pub rules_have_number :

@@ -1,14 +1,8 @@
 -- What is in a buffer after a text was written to it.
-use Rattle.std.proofs.Common.{◌≡◌, ℕ, ◌+◌, ◌<◌, ◌≤◌, ◌⊎◌, true, List, [], ◌∷◌, ◌++◌, length, take, drop, set, get_or, Some, Result, Ok, Err, inl, inr, sym, ap, subst, ◌∙◌, arith, append_assoc, length-append}
-use Rattle.std.proofs.Math.Seq.{set-append_seam}
-use Rattle.std.proofs.lemmas.Bool.{ltb-true}
-use Rattle.std.proofs.lemmas.List.{length-take, drop-append-le, drop_more, take_all, take-append-drop, append-nil, nil_from_length}
-use Rattle.std.specs.Prelude.{nat_lt, OnOk, OnErr}
-use Rattle.std.specs.Io.KnownBytes.{Appends}
-use Rattle.decimal_digits.specs.AppendsPrefix.{AppendsPrefix}
-use Rattle.decimal_digits.specs.declared.sink.SinkFault.{SinkFault}
-use Rattle.fixed_decimal_c.specs.declared.error.FdError.{FdError}
-use Rattle.fixed_decimal_c.specs.Texts.{IsWritten, Writes, WritesTo}
+use Rattle.std.proofs.{Common.{◌≡◌, ℕ, ◌+◌, ◌<◌, ◌≤◌, ◌⊎◌, true, List, [], ◌∷◌, ◌++◌, length, take, drop, set, get_or, Some, Result, Ok, Err, inl, inr, sym, ap, subst, ◌∙◌, arith, append_assoc, length-append}, Math.Seq.set-append_seam, lemmas.{Bool.ltb-true, List.{length-take, drop-append-le, drop_more, take_all, take-append-drop, append-nil, nil_from_length}}}
+use Rattle.std.specs.{Prelude.{nat_lt, OnOk, OnErr}, Io.KnownBytes.Appends}
+use Rattle.decimal_digits.specs.{AppendsPrefix.AppendsPrefix, declared.sink.SinkFault.SinkFault}
+use Rattle.fixed_decimal_c.specs.{declared.error.FdError.FdError, Texts.{IsWritten, Writes, WritesTo}}
 
 -- ---- What a function returns.
 

@@ -1,15 +1,8 @@
 -- The struct of a call that a word names.
-use Rattle.std.proofs.Common.{◌≡◌, ℕ, ◌+◌, ◌<◌, Bool, true, false, List, [], ◌∷◌, length, take, drop, codes, Option, Some, None, refl, sym, ap, ◌∙◌, arith}
-use Rattle.std.specs.Prelude.{if◌then◌else◌}
-use Rattle.std.specs.List.{list_any, after_first, position_or_len}
-use Rattle.std.proofs.Math.Seq.{take-length}
-use Rattle.std.proofs.lemmas.Bool.{false≢true}
-use Rattle.std.proofs.lemmas.List.{length-take, length-drop}
-use Rattle.std.proofs.lemmas.Option.{none-some, same_Some}
-use Rattle.fixed_decimal.specs.declared.runs.Call.{Call}
-use Rattle.fixed_decimal.specs.declared.runs.Call.TheVariants.{MultiplyPow10, TrimStart, TrimEnd, TrimEndIfInteger, PadStart, PadEnd, SetMaxPosition, Round, SetSign, ApplySignDisplay, Concatenate}
-use Rattle.conversions.specs.Calls.{Names}
-use Rattle.conversions.specs.Parameters.{is_colon, tag_of, option_of}
+use Rattle.std.proofs.{Common.{◌≡◌, ℕ, ◌+◌, ◌<◌, Bool, true, false, List, [], ◌∷◌, length, take, drop, codes, Some, None, refl, sym, ap, ◌∙◌, arith}, Math.Seq.take-length, lemmas.{Bool.false≢true, List.{length-take, length-drop}, Option.{none-some, same_Some}}}
+use Rattle.std.specs.{Prelude.if◌then◌else◌, List.{list_any, after_first, position_or_len}}
+use Rattle.fixed_decimal.specs.declared.runs.Call.{Call, TheVariants.{MultiplyPow10, TrimStart, TrimEnd, TrimEndIfInteger, PadStart, PadEnd, SetMaxPosition, Round, SetSign, ApplySignDisplay, Concatenate}}
+use Rattle.conversions.specs.{Calls.Names, Parameters.{is_colon, tag_of, option_of}}
 use Rattle.conversions.proofs.lemmas.calls.Concatenations.{concatenation_is}
 use Rattle.fixed_decimal_c.specs.Calls.{IsPart, IsCall, fd_call_of}
 

@@ -1,12 +1,7 @@
 -- Words that are placed one after another: their offsets grow by the number of bytes before them.
-use Rattle.std.proofs.Common.{◌≡◌, ℕ, ◌+◌, ◌≤◌, List, ◌++◌, length, take, drop, sym, ap, ◌∙◌, arith, length-append, length-drop}
-use Rattle.std.proofs.Math.Seq.{drop-append-add}
-use Rattle.std.proofs.lemmas.List.{take-append-le, drop-append-le}
-use Rattle.fixed_decimal.specs.declared.runs.Call.{Call}
-use Rattle.fixed_decimal.specs.declared.runs.Call.TheVariants.{MultiplyPow10, TrimStart, TrimEnd, TrimEndIfInteger, PadStart, PadEnd, SetMaxPosition, Round, SetSign, ApplySignDisplay, Concatenate}
-use Rattle.fixed_decimal_c.specs.declared.calls.FdCall.{FdCall}
-use Rattle.fixed_decimal_c.specs.Calls.{IsPart, IsCall}
-use Rattle.fixed_decimal_c.specs.Words.{moved_call}
+use Rattle.std.proofs.{Common.{◌≡◌, ℕ, ◌+◌, ◌≤◌, List, ◌++◌, length, take, drop, sym, ap, ◌∙◌, arith, length-append, length-drop}, Math.Seq.drop-append-add, lemmas.List.{take-append-le, drop-append-le}}
+use Rattle.fixed_decimal.specs.declared.runs.Call.{Call, TheVariants.{MultiplyPow10, TrimStart, TrimEnd, TrimEndIfInteger, PadStart, PadEnd, SetMaxPosition, Round, SetSign, ApplySignDisplay, Concatenate}}
+use Rattle.fixed_decimal_c.specs.{declared.calls.FdCall.FdCall, Calls.{IsPart, IsCall}, Words.moved_call}
 
 -- a part of a word is the same part of the joined words
 pub part_of_joined :

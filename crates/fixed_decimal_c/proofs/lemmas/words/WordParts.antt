@@ -1,17 +1,9 @@
 -- The parts of a word: its tag, its option and its skeleton.
-use Rattle.std.proofs.Common.{◌≡◌, ℕ, ◌+◌, ◌-◌, ◌<◌, ◌≤◌, Bool, true, false, codes, List, [], ◌++◌, length, take, drop, Option, Some, None, refl, sym, subst, ap, ◌∙◌, append_assoc, arith, length-append}
-use Rattle.std.specs.Prelude.{if◌then◌else◌, unwrap_or}
-use Rattle.std.specs.List.{list_any, after_first, position_or_len}
-use Rattle.std.specs.Str.{bytes_eq}
-use Rattle.std.proofs.Math.Seq.{drop-append_seam, take-length}
-use Rattle.std.proofs.lemmas.List.{take-append-drop, append-nil, length-take, take_min}
-use Rattle.std.proofs.lemmas.Option.{none-some, same_Some}
-use Rattle.number_format.specs.declared.read.number_reader.ParseMode.{ParseMode}
-use Rattle.number_format.specs.declared.read.number_reader.ParseMode.TheVariants.{Strict, Lenient}
-use Rattle.conversions.specs.Parameters.{is_colon, tag_of, option_of, parameters_of, locale_tag, locale_option}
-use Rattle.conversions.specs.ReadWord.{read_option}
-use Rattle.fixed_decimal_c.specs.Calls.{IsPart}
-use Rattle.fixed_decimal_c.specs.Words.{IsSuffix}
+use Rattle.std.proofs.{Common.{◌≡◌, ℕ, ◌+◌, ◌-◌, ◌≤◌, Bool, true, false, codes, List, [], ◌++◌, length, take, drop, Option, Some, None, refl, sym, subst, ap, ◌∙◌, append_assoc, arith, length-append}, Math.Seq.{drop-append_seam, take-length}, lemmas.{List.{take-append-drop, append-nil, length-take, take_min}, Option.{none-some, same_Some}}}
+use Rattle.std.specs.{Prelude.{if◌then◌else◌, unwrap_or}, List.{list_any, after_first, position_or_len}, Str.bytes_eq}
+use Rattle.number_format.specs.declared.read.number_reader.ParseMode.{ParseMode, TheVariants.{Strict, Lenient}}
+use Rattle.conversions.specs.{Parameters.{is_colon, tag_of, option_of, parameters_of, locale_tag, locale_option}, ReadWord.read_option}
+use Rattle.fixed_decimal_c.specs.{Calls.IsPart, Words.IsSuffix}
 
 -- what a word ends in is no longer than it
 pub suffix_le : (end word : List ℕ) → IsSuffix end word → length end ≤ length word

@@ -10,7 +10,7 @@ returns-in-Some-plural_rules_id c =
     let rule_type = c.in-Some.rule_type in
     let same : c.in-Ok.tag.now ≡ c.args.tag.now = search rules in
     rules_have_number c.args.tag.now c.args.code rule_type found c.number_of_rules.result c.in-Some.ensures.some
-    c.number_of_rules.ensures
+    c.number_of_rules.ensures.value
     (subst (λ t. IsSomeAnd (rules_text_at found) (IsRulesText t rule_type)) same
     c.in-Some-plural_rules_id.ensures.found)
 

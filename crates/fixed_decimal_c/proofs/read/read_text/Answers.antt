@@ -1,12 +1,11 @@
 use Rattle.std.proofs.Common.{inl, subst}
 use Rattle.decimal_unsigned.specs.declared.decimal.TheConstants.{INLINE_DIGITS}
-use Rattle.number_format.specs.declared.read.number_reader.ParseMode.{ParseMode}
-use Rattle.number_format.specs.NumberReading.{NumberReader, number_reader_of, IsReadInMode}
+use Rattle.number_format.specs.{declared.read.number_reader.ParseMode.ParseMode, NumberReading.{NumberReader, number_reader_of, IsReadInMode}}
 use Rattle.fixed_decimal_c.proofs.read.read_text.Goals as goal
 
 pub returns : goal.returns
 returns c =
-    let f = c.args.formatter in
+    let f = c.args.formatter.now in
     let text = c.args.text.now in
     let result = c.read_utf8-read.result in
     let (is, can) = c.in_ok-reader.ensures.ok in

@@ -1,7 +1,6 @@
 use Rattle.std.proofs.Common.{◌≡◌, Some, sym, ap, ◌∙◌}
 use Rattle.std.specs.Option.{option_copied}
-use Rattle.conversions.specs.Parameters.{option_of, locale_option}
-use Rattle.conversions.specs.ReadWord.{read_option}
+use Rattle.conversions.specs.{Parameters.{option_of, locale_option}, ReadWord.read_option}
 use Rattle.fixed_decimal_c.proofs.lemmas.words.WordParts.{skeleton_of_word}
 use Rattle.fixed_decimal_c.proofs.words.read_form.Goals as goal
 

@@ -1,6 +1,5 @@
 use Rattle.std.proofs.lemmas.Bool.{and_parts}
-use Rattle.locale_data.specs.declared.tables.compact.TheConstants.{COMPACT_BYTES}
-use Rattle.locale_data.specs.Texts.{is_text}
+use Rattle.locale_data.specs.{declared.tables.compact.TheConstants.COMPACT_BYTES, Texts.is_text}
 use Rattle.locale_data.proofs.compact.unit_of.Goals as goal
 
 pub compact_text-requires : goal.compact_text-requires

@@ -1,7 +1,6 @@
 use Rattle.std.specs.Option.{option_copied}
 use Rattle.locale_data.specs.declared.tables.currencies.TheConstants.{CURRENCIES}
-use Rattle.locale_data.proofs.lemmas.tables.CurrencyRows.{currencies_are_table, has_rows}
-use Rattle.locale_data.proofs.lemmas.tables.EachRow.{contains_at}
+use Rattle.locale_data.proofs.lemmas.tables.{CurrencyRows.{currencies_are_table, has_rows}, EachRow.contains_at}
 use Rattle.locale_data.proofs.currency.currency_id.Goals as goal
 
 pub index_named-requires : goal.index_named-requires

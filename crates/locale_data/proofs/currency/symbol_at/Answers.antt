@@ -1,9 +1,7 @@
 use Rattle.std.proofs.Common.{refl, subst, sym}
 use Rattle.std.specs.Prelude.{IsSomeAnd}
-use Rattle.locale_data.specs.Currencies.{IsSymbol}
-use Rattle.locale_data.specs.declared.tables.currencies.TheConstants.{CURRENCY_TEXTS}
-use Rattle.locale_data.proofs.lemmas.locales.IndexedRows.{at_some, at_none}
-use Rattle.locale_data.proofs.lemmas.tables.EachRow.{contains_at}
+use Rattle.locale_data.specs.{Currencies.IsSymbol, declared.tables.currencies.TheConstants.CURRENCY_TEXTS}
+use Rattle.locale_data.proofs.lemmas.{locales.IndexedRows.{at_some, at_none}, tables.EachRow.contains_at}
 use Rattle.locale_data.proofs.currency.symbol_at.Goals as goal
 
 pub symbol_of-requires : goal.symbol_of-requires

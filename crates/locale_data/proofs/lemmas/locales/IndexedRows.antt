@@ -1,19 +1,10 @@
 -- The symbols and the rules that rows make, by their indices.
-use Rattle.std.proofs.Common.{◌≡◌, ℕ, ◌<◌, List, length, Option, Some, None, slice_get, refl, ap, sym, ◌∙◌, subst, inl, inr, arith}
-use Rattle.std.proofs.lemmas.Option.{slice_get_cases, slice_get_past, slice_get_read}
-use Rattle.std.specs.Prelude.{IfSome, IsSomeAnd}
-use Rattle.std.specs.Borrow.{Bor}
-use Rattle.std.specs.Slice.{IsItemAt}
-use Rattle.std.specs.Option.{option_map, option_and_then}
-use Rattle.locale_data.specs.declared.locales.LocaleId.{LocaleId}
-use Rattle.locale_data.specs.declared.tables.rows.symbols.LocaleSymbols.{LocaleSymbols}
-use Rattle.locale_data.specs.declared.tables.rows.symbols.NumberingSystem.{NumberingSystem}
-use Rattle.locale_data.specs.declared.tables.symbols.TheConstants.{LOCALES, NUMBERING_SYSTEMS}
-use Rattle.locale_data.specs.Rows.{row_at}
-use Rattle.locale_data.specs.Locales.{system_named, system_of, own_rows, symbols_in, own_symbols_at, symbols_at, IsListed, IsLocale, IsLocaleIn, AreRowsOf}
+use Rattle.std.proofs.{Common.{◌≡◌, ℕ, ◌<◌, List, length, Option, Some, None, slice_get, refl, ap, sym, ◌∙◌, subst, inl, inr, arith}, lemmas.Option.{slice_get_cases, slice_get_past, slice_get_read}}
+use Rattle.std.specs.{Prelude.{IfSome, IsSomeAnd}, Borrow.Bor, Slice.IsItemAt, Option.{option_map, option_and_then}}
+use Rattle.locale_data.specs.{declared.{locales.LocaleId.LocaleId, tables.{rows.symbols.{LocaleSymbols.LocaleSymbols, DecimalSystem.DecimalSystem}, symbols.TheConstants.{LOCALES, NUMBERING_SYSTEMS}}}, Rows.row_at, Locales.{system_named, system_of, own_rows, symbols_in, own_symbols_at, symbols_at, IsListed, IsLocale, IsLocaleIn, AreRowsOf}}
 use Rattle.locale_data.proofs.lemmas.tables.EachRow.{not_past}
 
-own_symbols : (system : NumberingSystem) (locale : LocaleSymbols) (own : Option ℕ)
+own_symbols : (system : DecimalSystem) (locale : LocaleSymbols) (own : Option ℕ)
     → IfSome own (λ i. i < length (own_rows system))
     → own_symbols_at system locale own ≡ Some (symbols_in system locale (row_at (own_rows system) own))
 own_symbols system locale None inside = refl
@@ -48,7 +39,7 @@ module _ (id : LocaleId) where
         (slice_get NUMBERING_SYSTEMS id.system))) at_locale
         ∙ ap (option_and_then (λ system. own_symbols_at system locale id.own)) none
 
-    pub with_system : (system : NumberingSystem) → slice_get NUMBERING_SYSTEMS id.system ≡ Some system
+    pub with_system : (system : DecimalSystem) → slice_get NUMBERING_SYSTEMS id.system ≡ Some system
         → symbols_at id ≡ own_symbols_at system locale id.own
     unfolding symbols_at
     with_system system at_system =
@@ -70,7 +61,7 @@ pub rows_found : (tag : List ℕ) (locale : LocaleSymbols) (i j : ℕ) → slice
     → j < length NUMBERING_SYSTEMS → AreRowsOf tag i j
 rows_found tag locale i j at listed named inside = by (slice_get NUMBERING_SYSTEMS j) refl
   where
-    by : (o : Option NumberingSystem) → slice_get NUMBERING_SYSTEMS j ≡ o → AreRowsOf tag i j
+    by : (o : Option DecimalSystem) → slice_get NUMBERING_SYSTEMS j ≡ o → AreRowsOf tag i j
     by None none = absurd (not_past NUMBERING_SYSTEMS j inside none)
     by (Some system) at_system = record {
       locale = locale;
@@ -82,7 +73,7 @@ rows_found tag locale i j at listed named inside = by (slice_get NUMBERING_SYSTE
     }
 
 -- the rows of a tag make its symbols
-pub symbols_found : (tag : List ℕ) (id : LocaleId) (system : NumberingSystem)
+pub symbols_found : (tag : List ℕ) (id : LocaleId) (system : DecimalSystem)
     → AreRowsOf tag id.locale id.system → slice_get NUMBERING_SYSTEMS id.system ≡ Some system
     → IfSome id.own (λ i. i < length (own_rows system))
     → IsListed (own_rows system) tag (row_at (own_rows system) id.own)
@@ -103,7 +94,7 @@ symbols_found tag id system rows at_system inside own =
     })
 
 -- and the rows of a tag and of a numbering system with a name
-pub symbols_found_in : (tag name : List ℕ) (id : LocaleId) (system : NumberingSystem) → id.locale < length LOCALES
+pub symbols_found_in : (tag name : List ℕ) (id : LocaleId) (system : DecimalSystem) → id.locale < length LOCALES
     → IsListed LOCALES tag (slice_get LOCALES id.locale) → slice_get NUMBERING_SYSTEMS id.system ≡ Some system
     → system_named name ≡ Some system → IfSome id.own (λ i. i < length (own_rows system))
     → IsListed (own_rows system) tag (row_at (own_rows system) id.own) → IsSomeAnd (symbols_at id) (IsLocaleIn tag name)

@@ -1,22 +1,9 @@
 -- A tag has at most one row in a table, and names at most one value.
-use Rattle.std.proofs.Common.{◌≡◌, ℕ, ◌≤◌, true, false, List, length, get_or, take, Option, Some, None, refl, ap, subst, sym, ◌∙◌, inl, inr, arith}
-use Rattle.std.proofs.lemmas.Bool.{cases_lt}
-use Rattle.std.proofs.lemmas.List.{get_or_default}
-use Rattle.std.proofs.lemmas.List.Elements.{All-contains}
-use Rattle.std.proofs.lemmas.Slice.Eq.{bytes_eq-Decides}
+use Rattle.std.proofs.{Common.{◌≡◌, ℕ, ◌≤◌, true, false, List, length, get_or, take, Option, Some, None, refl, ap, subst, sym, ◌∙◌, inl, inr, arith}, lemmas.{Bool.cases_lt, List.{get_or_default, Elements.All-contains}, Slice.Eq.bytes_eq-Decides}}
 use Rattle.std.specs.List.{Contains}
 use Rattle.decimal_format.specs.Symbols.{Symbols}
-use Rattle.locale_data.specs.declared.tables.rows.symbols.LocaleSymbols.{LocaleSymbols}
-use Rattle.locale_data.specs.declared.tables.rows.symbols.NumberingSystem.{NumberingSystem}
-use Rattle.locale_data.specs.declared.tables.symbols.TheConstants.{LOCALES}
-use Rattle.locale_data.specs.Tag.{compared}
-use Rattle.locale_data.specs.Rows.{unpadded, is_candidate, IsRowOf}
-use Rattle.locale_data.specs.SortedRows.{is_table}
-use Rattle.locale_data.specs.Locales.{own_rows, IsListed, IsLocale}
-use Rattle.locale_data.proofs.lemmas.search.SortedRows.{keys_increase, key_of_named}
-use Rattle.locale_data.proofs.lemmas.search.LongestRow.{prefix_is}
-use Rattle.locale_data.proofs.lemmas.tables.EachRow.{locales_are_table, has_rows_if_listed}
-use Rattle.locale_data.proofs.lemmas.locales.Unknown.{system_is_listed}
+use Rattle.locale_data.specs.{declared.tables.{rows.symbols.{LocaleSymbols.LocaleSymbols, DecimalSystem.DecimalSystem}, symbols.TheConstants.LOCALES}, Tag.compared, Rows.{unpadded, is_candidate, IsRowOf}, SortedRows.is_table, Locales.{own_rows, IsListed, IsLocale}}
+use Rattle.locale_data.proofs.lemmas.{search.{SortedRows.{keys_increase, key_of_named}, LongestRow.prefix_is}, tables.EachRow.{locales_are_table, has_rows_if_listed}, locales.Unknown.system_is_listed}
 
 module _ {R : Type 0} (name_of : R → List ℕ) (rows : List R) (table : is_table name_of rows ≡ true) where
   -- rows with one name are one row
@@ -65,6 +52,6 @@ locale_is_unique tag s t a b =
     row_is_unique tag_of LOCALES locales_are_table tag _ _ a.listed b.listed in
     let system : a.system ≡ b.system = cc (locale, a.named, b.named) in
     let rows = has_rows_if_listed a.system (system_is_listed tag a.locale a.system a.named) in
-    let in_system = subst (λ (n : NumberingSystem). IsListed (own_rows n) tag b.own) (sym system) b.in_system in
+    let in_system = subst (λ (n : DecimalSystem). IsListed (own_rows n) tag b.own) (sym system) b.in_system in
     let own = row_is_unique tag_of (own_rows a.system) rows tag a.own b.own a.in_system in_system in
     cc (a.value, b.value)

@@ -1,13 +1,8 @@
 -- The numbering system of a tag, and when a tag has no symbols.
 use Rattle.std.proofs.Common.{◌≡◌, ℕ, List, Option, Some, None, slice_get, ap, refl, inl, inr}
 use Rattle.decimal_format.specs.Symbols.{Symbols}
-use Rattle.locale_data.specs.declared.tables.rows.symbols.LocaleSymbols.{LocaleSymbols}
-use Rattle.locale_data.specs.declared.tables.rows.symbols.NumberingSystem.{NumberingSystem}
-use Rattle.locale_data.specs.declared.tables.symbols.TheConstants.{LOCALES, NUMBERING_SYSTEMS}
+use Rattle.locale_data.specs.{declared.tables.{rows.symbols.{LocaleSymbols.LocaleSymbols, DecimalSystem.DecimalSystem}, symbols.TheConstants.{LOCALES, NUMBERING_SYSTEMS}}, Tag.requested_system, Rows.is_candidate, Locales.{system_by, system_named, system_of, IsListed, IsLocale, AreRowsOf, IsUnknown}}
 use Rattle.std.specs.List.{Contains}
-use Rattle.locale_data.specs.Tag.{requested_system}
-use Rattle.locale_data.specs.Rows.{is_candidate}
-use Rattle.locale_data.specs.Locales.{system_by, system_named, system_of, IsListed, IsLocale, AreRowsOf, IsUnknown}
 use Rattle.locale_data.proofs.lemmas.tables.EachRow.{contains_at, has_system_if_listed, listed_by_name, not_past}
 
 -- the numbering system that a tag names
@@ -22,7 +17,7 @@ pub default_system : (tag : List ℕ) (locale : LocaleSymbols) → requested_sys
 unfolding system_of
 default_system tag locale e = ap (λ o. system_by o locale) e
 
-pub system_is_listed : (tag : List ℕ) (locale : LocaleSymbols) (system : NumberingSystem)
+pub system_is_listed : (tag : List ℕ) (locale : LocaleSymbols) (system : DecimalSystem)
     → system_of tag locale ≡ Some system → Contains NUMBERING_SYSTEMS system
 unfolding system_of
 system_is_listed tag locale system = by (requested_system tag)
@@ -40,7 +35,7 @@ unknown_system tag locale listed = go (requested_system tag) refl
     go None e none = absurd (not_past NUMBERING_SYSTEMS locale.system (has_system_if_listed locale listed.0) none)
     go (Some name) e none = inr (record { name = name; requested = e; unlisted = none })
 
-pub known : (tag : List ℕ) (locale : LocaleSymbols) (system : NumberingSystem) → IsListed LOCALES tag (Some locale)
+pub known : (tag : List ℕ) (locale : LocaleSymbols) (system : DecimalSystem) → IsListed LOCALES tag (Some locale)
     → system_of tag locale ≡ Some system → IsUnknown tag → ⊥
 known tag locale system listed named (inl none) =
     let other = none listed.0.0 locale listed.0.1 in

@@ -1,18 +1,8 @@
 -- The row with the longest name that is a prefix of a tag, one prefix more at a time.
-use Rattle.std.proofs.Common.{◌≡◌, ◌≢◌, ℕ, ◌+◌, ◌<◌, ◌≤◌, ◌&&◌, nat_eq, Bool, true, false, List, ◌++◌, length, take, drop, get_or, Option, Some, None, refl, ap, sym, ◌∙◌, bytes_eq, arith, length-append}
-use Rattle.std.proofs.lemmas.Bool.{and_parts}
-use Rattle.std.proofs.lemmas.Bool.Decides.{Decides-eqb}
-use Rattle.std.proofs.lemmas.List.Elements.{Contains-get_or}
-use Rattle.std.proofs.lemmas.List.{take-map, take-append-drop, length-map, length-take-le}
-use Rattle.std.proofs.lemmas.Slice.Eq.{bytes_eq-Decides, starts_is}
-use Rattle.std.proofs.Math.Seq.{take-append_seam}
-use Rattle.std.specs.List.{find, All, Contains, starts_with}
-use Rattle.std.specs.Option.{option_or}
-use Rattle.locale_data.specs.Tag.{tag_byte, compared, is_tag_prefix}
-use Rattle.locale_data.specs.Rows.{unpadded, row_named, is_candidate, IsRowOf}
-use Rattle.locale_data.specs.SortedRows.{ends_at, HasNoLonger}
-use Rattle.locale_data.proofs.lemmas.search.SortedRows.{find_some, find_none_is}
-use Rattle.locale_data.proofs.lemmas.search.Tags.{hyphen}
+use Rattle.std.proofs.{Common.{◌≡◌, ◌≢◌, ℕ, ◌+◌, ◌<◌, ◌≤◌, ◌&&◌, nat_eq, Bool, true, false, List, ◌++◌, length, take, drop, get_or, Option, Some, None, refl, ap, sym, ◌∙◌, bytes_eq, arith, length-append}, lemmas.{Bool.{and_parts, Decides.Decides-eqb}, List.{Elements.Contains-get_or, take-map, take-append-drop, length-map, length-take-le}, Slice.Eq.{bytes_eq-Decides, starts_is}}, Math.Seq.take-append_seam}
+use Rattle.std.specs.{List.{find, All, Contains, starts_with}, Option.option_or}
+use Rattle.locale_data.specs.{Tag.{tag_byte, compared, is_tag_prefix}, Rows.{unpadded, row_named, is_candidate, IsRowOf}, SortedRows.{ends_at, HasNoLonger}}
+use Rattle.locale_data.proofs.lemmas.search.{SortedRows.{find_some, find_none_is}, Tags.hyphen}
 
 and_true : (a b : Bool) → a ≡ true → b ≡ true → a && b ≡ true
 and_true a b p q = cc

@@ -1,13 +1,7 @@
 -- The keys of parts of a tag: where one part is a prefix of another, their keys are near.
-use Rattle.std.proofs.Common.{◌≡◌, ℕ, zero, suc, ◌+◌, ◌-◌, ◌*◌, ◌%◌, ◌^◌, ◌<◌, ◌≤◌, ◌⊎◌, nat_lt, Bool, true, false, cond, List, length, length-set, set, replicate, slice_index, take, get_or, refl, ap, ap₂, sym, ◌∙◌, subst, inl, inr, lit≤, mod-eq_of_lt, mul_assoc, arith}
-use Rattle.std.proofs.Math.Nat.{pow-le-pow_right, mul-le-mul_right, mul_comm}
-use Rattle.std.proofs.lemmas.Bool.{cases_lt}
-use Rattle.std.proofs.lemmas.Bool.Decides.{nat_tests}
-use Rattle.std.proofs.lemmas.List.{ext_get_or, length-take, get_or-set_same, get_or-set_other, get_or-map, get_or-take, get_or-replicate, length-map, length-take-le}
-use Rattle.std.proofs.lemmas.Nat.{pow-add}
+use Rattle.std.proofs.{Common.{◌≡◌, ℕ, zero, suc, ◌+◌, ◌-◌, ◌*◌, ◌%◌, ◌^◌, ◌<◌, ◌≤◌, ◌⊎◌, nat_lt, Bool, true, false, cond, List, length, length-set, set, replicate, slice_index, take, get_or, refl, ap, ap₂, sym, ◌∙◌, subst, inl, inr, lit≤, mod-eq_of_lt, mul_assoc, arith}, Math.Nat.{pow-le-pow_right, mul-le-mul_right, mul_comm}, lemmas.{Bool.{cases_lt, Decides.nat_tests}, List.{ext_get_or, length-take, get_or-set_same, get_or-set_other, get_or-map, get_or-take, get_or-replicate, length-map, length-take-le}, Nat.pow-add}}
 use Rattle.std.specs.Int.{from_be_bytes, w128}
-use Rattle.locale_data.specs.Tag.{tag_byte, compared}
-use Rattle.locale_data.specs.SortedRows.{padded_byte, IsPadded, key_of_first, key}
+use Rattle.locale_data.specs.{Tag.{tag_byte, compared}, SortedRows.{padded_byte, IsPadded, key_of_first, key}}
 
 plus_one : (n p : ℕ) → (n + 1) * p ≡ n * p + p
 plus_one n p = grind arith

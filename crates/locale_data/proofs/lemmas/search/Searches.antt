@@ -1,24 +1,8 @@
 -- What a binary search for a part of a tag says of the row that it names, and of longer parts.
-use Rattle.std.proofs.Common.{◌≡◌, ◌≢◌, ℕ, ◌+◌, ◌-◌, ◌*◌, ◌%◌, ◌^◌, ◌<◌, ◌≤◌, nat_lt, Bool, true, false, cond, ◌⊎◌, List, length, take, get_or, Option, Some, None, Ok, Err, refl, ap, sym, ◌∙◌, subst, inl, inr, arith}
-use Rattle.std.proofs.lemmas.Bool.{cases_lt}
-use Rattle.std.proofs.lemmas.Bool.Decides.{nat_tests}
-use Rattle.std.proofs.lemmas.Cmp.{ranked}
-use Rattle.std.proofs.lemmas.Nat.{one_shl, pow_pos}
-use Rattle.std.proofs.lemmas.Option.{slice_get-get_or, slice_get_cases}
-use Rattle.std.proofs.lemmas.Slice.Eq.{bytes_eq-Decides}
-use Rattle.std.specs.Prelude.{IfSome, ◌==◌}
-use Rattle.std.specs.Str.{bytes_eq}
-use Rattle.std.specs.Bool.{then_some}
-use Rattle.std.specs.Int.{from_be_bytes, w128}
-use Rattle.std.specs.List.Sorted.{IsBinarySearchResult}
-use Rattle.std.specs.Option.{option_or}
-use Rattle.std.specs.Ordering.{nat_cmp}
-use Rattle.locale_data.specs.Tag.{tag_byte, compared}
-use Rattle.locale_data.specs.Rows.{unpadded, row_at, row_named, is_candidate}
-use Rattle.locale_data.specs.SortedRows.{key, padded_byte, is_table, ends_at, IsFar, HasNoLonger}
-use Rattle.locale_data.proofs.lemmas.search.LongestRow.{prefix_is, IsLongestBelow, searched_below}
-use Rattle.locale_data.proofs.lemmas.search.PrefixKeys.{part_below, part_near, same_text}
-use Rattle.locale_data.proofs.lemmas.search.SortedRows.{keys_increase, key_of_named, comparisons_rise}
+use Rattle.std.proofs.{Common.{◌≡◌, ◌≢◌, ℕ, ◌+◌, ◌-◌, ◌*◌, ◌%◌, ◌^◌, ◌<◌, ◌≤◌, nat_lt, Bool, true, false, cond, ◌⊎◌, List, length, take, get_or, Option, Some, None, Ok, Err, refl, ap, sym, ◌∙◌, subst, inl, inr, arith}, lemmas.{Bool.{cases_lt, Decides.nat_tests}, Cmp.ranked, Nat.{one_shl, pow_pos}, Option.{slice_get-get_or, slice_get_cases}, Slice.Eq.bytes_eq-Decides}}
+use Rattle.std.specs.{Prelude.{IfSome, ◌==◌}, Str.bytes_eq, Bool.then_some, Int.{from_be_bytes, w128}, List.Sorted.IsBinarySearchResult, Option.option_or, Ordering.nat_cmp}
+use Rattle.locale_data.specs.{Tag.{tag_byte, compared}, Rows.{unpadded, row_at, row_named, is_candidate}, SortedRows.{key, padded_byte, is_table, ends_at, IsFar, HasNoLonger}}
+use Rattle.locale_data.proofs.lemmas.search.{LongestRow.{prefix_is, IsLongestBelow, searched_below}, PrefixKeys.{part_below, part_near, same_text}, SortedRows.{keys_increase, key_of_named, comparisons_rise}}
 
 -- the row at the index that is found
 pub row_at-then_some : {R : Type 0} (rows : List R) (b : Bool) (i : ℕ) (d : R) → i < length rows

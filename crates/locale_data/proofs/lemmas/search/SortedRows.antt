@@ -1,23 +1,7 @@
 -- A binary search of sorted rows finds the row with a name.
-use Rattle.std.proofs.Common.{◌≡◌, ◌≢◌, ℕ, zero, suc, ◌<◌, ◌≤◌, Bool, true, false, cond, List, [], ◌∷◌, length, map, get_or, slice_get, nat_lt, Some, None, Result, Ok, Err, refl, ap, sym, ◌∙◌, ◌⊎◌, inl, inr, MatchResult, bytes_eq, arith}
-use Rattle.std.proofs.lemmas.Bool.{cases_lt, and_parts}
-use Rattle.std.proofs.lemmas.Bool.Decides.{nat_tests}
-use Rattle.std.proofs.lemmas.Cmp.{ranked}
-use Rattle.std.proofs.lemmas.List.{get_or-map, length-map}
-use Rattle.std.proofs.lemmas.List.Folds.{find_at}
-use Rattle.std.proofs.lemmas.List.Sorted.{IsNonDecreasingBy-from_default}
-use Rattle.std.proofs.lemmas.List.Sums.{AllPass-from_list_all, position_or_len_is}
-use Rattle.std.proofs.lemmas.Option.{slice_get-get_or, slice_get_past}
-use Rattle.std.proofs.lemmas.Slice.Eq.{bytes_eq-Decides}
-use Rattle.std.specs.Bool.{then_some}
-use Rattle.std.specs.Borrow.{Bor}
-use Rattle.std.specs.Option.{option_copied}
-use Rattle.std.specs.Int.{from_be_bytes, w128}
-use Rattle.std.specs.List.{list_all, find, Contains}
-use Rattle.std.specs.List.Sorted.{IsSearchInRange, IsBinarySearchResult, IsNonDecreasingBy}
-use Rattle.std.specs.Ordering.{nat_cmp, ordering_index}
-use Rattle.locale_data.specs.Rows.{unpadded, row_named}
-use Rattle.locale_data.specs.SortedRows.{key, increases, is_padded, is_table}
+use Rattle.std.proofs.{Common.{◌≡◌, ◌≢◌, ℕ, zero, suc, ◌<◌, ◌≤◌, Bool, true, false, cond, List, [], ◌∷◌, length, map, get_or, slice_get, nat_lt, Some, None, Result, Ok, Err, refl, ap, sym, ◌∙◌, ◌⊎◌, inl, inr, MatchResult, bytes_eq, arith}, lemmas.{Bool.{cases_lt, and_parts, Decides.nat_tests}, Cmp.ranked, List.{get_or-map, length-map, Folds.find_at, Sorted.IsNonDecreasingBy-from_default, Sums.{AllPass-from_list_all, position_or_len_is}}, Option.{slice_get-get_or, slice_get_past}, Slice.Eq.bytes_eq-Decides}}
+use Rattle.std.specs.{Bool.then_some, Borrow.Bor, Option.option_copied, Int.{from_be_bytes, w128}, List.{list_all, find, Contains, Sorted.{IsSearchInRange, IsBinarySearchResult, IsNonDecreasingBy}}, Ordering.{nat_cmp, ordering_index}}
+use Rattle.locale_data.specs.{Rows.{unpadded, row_named}, SortedRows.{key, increases, is_padded, is_table}}
 
 -- ---- Numbers that increase.
 

@@ -1,8 +1,5 @@
 -- Tags up to a hyphen.
-use Rattle.std.proofs.Common.{◌≡◌, ℕ, ◌+◌, ◌<◌, ◌==◌, nat_eq, true, false, ◌&&◌, ◌||◌, Some, cond, List, [], ◌∷◌, length, get_or, drop, refl, ap, ◌∙◌, arith}
-use Rattle.std.proofs.Math.Dec.{eqb-suc-suc}
-use Rattle.std.proofs.lemmas.Bool.Decides.{nat_tests}
-use Rattle.std.proofs.lemmas.List.{at_drop_more}
+use Rattle.std.proofs.{Common.{◌≡◌, ℕ, ◌+◌, ◌<◌, ◌==◌, nat_eq, true, false, ◌&&◌, ◌||◌, Some, cond, List, [], ◌∷◌, length, get_or, drop, refl, ap, ◌∙◌, arith}, Math.Dec.eqb-suc-suc, lemmas.{Bool.Decides.nat_tests, List.at_drop_more}}
 use Rattle.std.specs.List.{starts_with}
 use Rattle.locale_data.specs.Tag.{tag_byte, compared, is_tag_prefix, from_first, before_text}
 

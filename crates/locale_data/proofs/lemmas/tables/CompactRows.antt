@@ -1,24 +1,10 @@
 -- The ranges of compact patterns are parts of tables, and their texts are texts, by computation.
-use Rattle.std.proofs.Common.{◌≡◌, ℕ, ℤ, ◌==◌, ◌&&◌, Bool, true, false, cond, List, [], ◌∷◌, Option, Some, None, refl, subst, sym, ap, ◌∙◌, ◌⊎◌, inl, inr}
-use Rattle.std.proofs.lemmas.Bool.{and_parts}
-use Rattle.std.specs.Prelude.{slice_get, option_and_then, not}
-use Rattle.std.specs.List.{list_all, Contains}
-use Rattle.std.specs.Option.{option_or, option_map_or}
-use Rattle.std.specs.Str.{is_utf8, chars}
+use Rattle.std.proofs.{Common.{◌≡◌, ℕ, ℤ, ◌==◌, ◌<◌, ◌&&◌, nat_lt, Bool, true, false, cond, List, [], ◌∷◌, length, Option, Some, None, refl, subst, sym, ap, ◌∙◌, ◌⊎◌, inl, inr}, lemmas.Bool.and_parts}
+use Rattle.std.specs.{Prelude.{slice_get, option_and_then, not}, List.{list_all, Contains}, Option.{option_or, option_map_or}, Str.{is_utf8, chars}}
 use Rattle.plural_rules.specs.declared.rules.PluralCategory.{PluralCategory}
 use Rattle.plural_rules.specs.declared.rules.PluralCategory.TheVariants as category
-use Rattle.locale_data.specs.declared.tables.rows.compact.CompactPattern.{CompactPattern}
-use Rattle.locale_data.specs.declared.tables.rows.compact.CompactRun.{CompactRun}
-use Rattle.locale_data.specs.declared.compact.CompactStyle.{CompactStyle}
-use Rattle.locale_data.specs.declared.tables.rows.compact.PercentUnit.{PercentUnit}
-use Rattle.locale_data.specs.declared.tables.compact.TheConstants.{COMPACT_BYTES, COMPACT_RUNS, COMPACT_PATTERNS, PERCENT_UNITS}
-use Rattle.locale_data.specs.declared.number_formats.NumberFormats.{NumberFormats}
-use Rattle.locale_data.specs.Compact.{count_code, range_of, run_at, pattern_with, pattern_for, needs_category, compact_patterns, unit_for, has_unit_texts, AreTexts, IsRun}
-use Rattle.locale_data.specs.declared.tables.rows.TableRange.{TableRange}
-use Rattle.locale_data.specs.Rows.{part}
-use Rattle.locale_data.proofs.lemmas.tables.EachRow.{passes}
-use Rattle.locale_data.proofs.lemmas.search.SortedRows.{find_some}
-use Rattle.locale_data.proofs.lemmas.tables.TableTexts.{passes_at, contains-part, rests, table_rests, is_text_by, texts-by}
+use Rattle.locale_data.specs.{declared.{tables.{rows.{compact.{CompactPattern.CompactPattern, CompactRun.CompactRun, CompactSet.CompactSet, PercentUnit.PercentUnit}, TableRange.TableRange}, compact.TheConstants.{COMPACT_BYTES, COMPACT_EXPONENTS, COMPACT_SETS, COMPACT_RUNS, COMPACT_PATTERNS, PERCENT_UNITS}}, compact.CompactStyle.{CompactStyle, TheVariants.{Short, Long, Currency}}, number_formats.NumberFormats.NumberFormats}, Compact.{count_code, rows_of, run_at, pattern_with, pattern_for, needs_category, compact_patterns, unit_for, has_unit_texts, AreTexts, IsRun}, Rows.part}
+use Rattle.locale_data.proofs.lemmas.{tables.{EachRow.{passes, below}, TableTexts.{passes_at, contains-part, rests, table_rests, is_text_by, texts-by}}, search.SortedRows.find_some}
 
 abbrev compact_rests : List (List ℕ)
 compact_rests = table_rests COMPACT_BYTES
@@ -62,6 +48,33 @@ has_unit_at i unit which at =
     by category.Few has = has.1
     by category.Many has = has.1
     by category.Other has = has.1
+
+-- the exponents of a set are a row
+abbrev have_exponents : CompactSet → Bool
+have_exponents set =
+    let count = length COMPACT_EXPONENTS in
+    nat_lt set.short.exponents count && (nat_lt set.long.exponents count && nat_lt set.currency.exponents count)
+
+sets_have_exponents : list_all have_exponents COMPACT_SETS ≡ true
+sets_have_exponents = refl
+
+pub has_exponents_at : (i : ℕ) (set : CompactSet) (style : CompactStyle) → slice_get COMPACT_SETS i ≡ Some set
+    → (rows_of set style).exponents < length COMPACT_EXPONENTS
+has_exponents_at i set style at =
+    let count = length COMPACT_EXPONENTS in
+    let parts = and_parts (nat_lt set.short.exponents count)
+    (nat_lt set.long.exponents count && nat_lt set.currency.exponents count)
+    (passes_at have_exponents COMPACT_SETS i set sets_have_exponents at) in
+    let rest = and_parts (nat_lt set.long.exponents count) (nat_lt set.currency.exponents count) parts.1 in
+    by style (below set.short.exponents count parts.0) (below set.long.exponents count rest.0)
+    (below set.currency.exponents count rest.1)
+  where
+    by : (style : CompactStyle) → set.short.exponents < length COMPACT_EXPONENTS
+        → set.long.exponents < length COMPACT_EXPONENTS → set.currency.exponents < length COMPACT_EXPONENTS
+        → (rows_of set style).exponents < length COMPACT_EXPONENTS
+    by Short short long currency = short
+    by Long short long currency = long
+    by Currency short long currency = currency
 
 -- ---- What is found is a row.
 
@@ -147,5 +160,5 @@ pub patterns_of_run : (f : NumberFormats) (style : CompactStyle) (magnitude : �
     → compact_patterns f style magnitude ≡ option_map_or (λ run. part COMPACT_PATTERNS run.patterns) run []
 patterns_of_run f style magnitude run is =
     ap (λ set. option_map_or (λ run. part COMPACT_PATTERNS run.patterns) (option_and_then
-    (λ set. run_at (part COMPACT_RUNS (range_of set style)) magnitude) set) []) is.listed
+    (λ set. run_at (part COMPACT_RUNS (rows_of set style).runs) magnitude) set) []) is.listed
     ∙ ap (λ run. option_map_or (λ run. part COMPACT_PATTERNS run.patterns) run []) (sym is.value)

@@ -1,26 +1,8 @@
 -- The tables of currencies are sorted, and their indices are those of rows, by computation.
-use Rattle.std.proofs.Common.{◌≡◌, ℕ, ◌<◌, ◌&&◌, nat_lt, Bool, true, List, length, Option, Some, None, refl, sym, ◌∙◌, inl, inr}
-use Rattle.std.proofs.lemmas.Bool.{and_parts}
-use Rattle.std.proofs.lemmas.Option.{none-some}
-use Rattle.std.specs.Prelude.{IfSome, IsSomeAnd, slice_get}
-use Rattle.std.specs.List.{list_all, Contains}
-use Rattle.std.specs.Str.{is_utf8, chars}
-use Rattle.locale_data.specs.declared.currency.CurrencyId.{CurrencyId}
-use Rattle.locale_data.specs.declared.tables.rows.currencies.Currency.{Currency}
-use Rattle.locale_data.specs.declared.tables.rows.currencies.CurrencyText.{CurrencyText}
-use Rattle.locale_data.specs.declared.tables.rows.currencies.LocaleCurrency.{LocaleCurrency}
-use Rattle.locale_data.specs.declared.tables.rows.currencies.LocaleOverride.{LocaleOverride}
-use Rattle.locale_data.specs.declared.currency.SymbolWidth.{SymbolWidth}
-use Rattle.locale_data.specs.declared.currency.SymbolWidth.TheVariants.{Wide, Narrow}
-use Rattle.locale_data.specs.declared.tables.currencies.TheConstants.{CURRENCIES, CURRENCY_BYTES, CURRENCY_SYMBOLS, CURRENCY_TEXTS, OVERRIDES_BY_CURRENCY}
-use Rattle.locale_data.specs.declared.tables.formats.TheConstants.{CURRENCY_OVERRIDES, PATTERNS}
-use Rattle.locale_data.specs.declared.tables.rows.patterns.CurrencyOverride.{CurrencyOverride}
-use Rattle.locale_data.specs.Currencies.{symbol_index, IsSymbolRow, IsOverrideRow, LacksCurrency}
-use Rattle.locale_data.specs.Rows.{part}
-use Rattle.locale_data.specs.SortedRows.{key, is_table}
-use Rattle.locale_data.specs.Texts.{is_text}
-use Rattle.locale_data.proofs.lemmas.tables.EachRow.{passes, below, contains_at, not_past}
-use Rattle.locale_data.proofs.lemmas.tables.TableTexts.{passes_at, rests, table_rests, is_text_by, text-by}
+use Rattle.std.proofs.{Common.{◌≡◌, ℕ, ◌<◌, ◌&&◌, nat_lt, Bool, true, List, length, Option, Some, None, refl, sym, ◌∙◌, inl, inr}, lemmas.{Bool.and_parts, Option.none-some}}
+use Rattle.std.specs.{Prelude.{IfSome, IsSomeAnd, slice_get}, List.{list_all, Contains}, Str.{is_utf8, chars}}
+use Rattle.locale_data.specs.{declared.{currency.{CurrencyId.CurrencyId, SymbolWidth.{SymbolWidth, TheVariants.{Wide, Narrow}}}, tables.{rows.{currencies.{Currency.Currency, CurrencyText.CurrencyText, LocaleCurrency.LocaleCurrency, LocaleOverride.LocaleOverride}, patterns.CurrencyOverride.CurrencyOverride}, currencies.TheConstants.{CURRENCIES, CURRENCY_BYTES, CURRENCY_SYMBOLS, CURRENCY_TEXTS, OVERRIDES_BY_CURRENCY}, formats.TheConstants.{CURRENCY_OVERRIDES, PATTERNS}}}, Currencies.{symbol_index, IsSymbolRow, IsOverrideRow, LacksCurrency}, Rows.part, SortedRows.{key, is_table}, Texts.is_text}
+use Rattle.locale_data.proofs.lemmas.tables.{EachRow.{passes, below, contains_at, not_past}, TableTexts.{passes_at, rests, table_rests, is_text_by, text-by}}
 
 -- ---- The tables are sorted.
 

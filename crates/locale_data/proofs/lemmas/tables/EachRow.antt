@@ -1,25 +1,7 @@
 -- What is true of each row of the tables, by computation, and of the texts of symbols.
-use Rattle.std.proofs.Common.{◌≡◌, ℕ, ◌<◌, ◌≤◌, ◌==◌, ◌&&◌, nat_lt, Bool, true, List, length, slice_get, Some, None, refl, sym, ◌∙◌, inl, inr, lit≤, arith}
-use Rattle.std.proofs.lemmas.Bool.{and_parts}
-use Rattle.std.proofs.lemmas.Bool.Decides.{nat_tests}
-use Rattle.std.proofs.lemmas.List.Elements.{All-contains}
-use Rattle.std.proofs.lemmas.List.Sums.{AllPass-from_list_all}
-use Rattle.std.proofs.lemmas.Option.{slice_get_within, slice_get_cases, get_or_from_slice_get, none-some}
-use Rattle.std.proofs.lemmas.Str.{IsUtf8-from_is_utf8}
-use Rattle.std.specs.Prelude.{encode_utf8, slice_index}
-use Rattle.std.specs.List.{list_all, Contains}
-use Rattle.std.specs.Str.{IsUtf8, bytes_eq, is_utf8, chars}
-use Rattle.locale_data.specs.declared.tables.rows.symbols.Symbol.{Symbol}
-use Rattle.locale_data.specs.declared.tables.rows.symbols.Symbol.TheVariants.{Period, Comma}
-use Rattle.locale_data.specs.declared.tables.rows.symbols.NumberingSystem.{NumberingSystem}
-use Rattle.locale_data.specs.declared.tables.rows.symbols.LocaleSymbols.{LocaleSymbols}
-use Rattle.locale_data.specs.declared.tables.symbols.TheConstants.{LOCALES, NUMBERING_SYSTEMS}
-use Rattle.locale_data.specs.Symbol.{symbol_text}
-use Rattle.locale_data.specs.Tag.{compared}
-use Rattle.locale_data.specs.declared.tables.plurals.TheConstants.{PLURAL_RULES}
-use Rattle.locale_data.specs.Rows.{unpadded}
-use Rattle.locale_data.specs.SortedRows.{key, is_table}
-use Rattle.locale_data.specs.Locales.{own_rows, system_named, HasOneWidth}
+use Rattle.std.proofs.{Common.{◌≡◌, ℕ, ◌<◌, ◌≤◌, ◌==◌, ◌&&◌, nat_lt, Bool, true, List, length, slice_get, Some, None, refl, sym, ◌∙◌, inl, inr, lit≤, arith}, lemmas.{Bool.{and_parts, Decides.nat_tests}, List.{Elements.All-contains, Sums.AllPass-from_list_all}, Option.{slice_get_within, slice_get_cases, get_or_from_slice_get, none-some}, Str.IsUtf8-from_is_utf8}}
+use Rattle.std.specs.{Prelude.{encode_utf8, slice_index}, List.{list_all, Contains}, Str.{IsUtf8, bytes_eq, is_utf8, chars}}
+use Rattle.locale_data.specs.{declared.tables.{rows.symbols.{Symbol.{Symbol, TheVariants.{Period, Comma}}, DecimalSystem.DecimalSystem, LocaleSymbols.LocaleSymbols}, symbols.TheConstants.{LOCALES, NUMBERING_SYSTEMS}, plurals.TheConstants.PLURAL_RULES}, Symbol.symbol_text, Tag.compared, Rows.unpadded, SortedRows.{key, is_table}, Locales.{own_rows, system_named, HasOneWidth}}
 use Rattle.locale_data.proofs.lemmas.search.SortedRows.{find_some}
 
 -- a test that passes for each element of a list passes for those in it
@@ -49,19 +31,19 @@ width digits d = length (encode_utf8 (slice_index digits d))
 abbrev has_width : ℕ → ℕ → Bool
 has_width n c = length (encode_utf8 c) == n
 
-abbrev has_one_width : NumberingSystem → Bool
+abbrev has_one_width : DecimalSystem → Bool
 has_one_width s = (length s.digits == 10) && list_all (has_width (width s.digits 0)) s.digits
 
 systems_have_one_width : list_all has_one_width NUMBERING_SYSTEMS ≡ true
 unfolding lib.Utf8.encode
 systems_have_one_width = refl
 
-pub listed_by_name : (name : List ℕ) (s : NumberingSystem) → system_named name ≡ Some s → Contains NUMBERING_SYSTEMS s
+pub listed_by_name : (name : List ℕ) (s : DecimalSystem) → system_named name ≡ Some s → Contains NUMBERING_SYSTEMS s
 unfolding system_named
 listed_by_name name s found =
     (find_some (λ s. bytes_eq (unpadded s.name) (compared name)) NUMBERING_SYSTEMS s found).0
 
-pub listed-width : (s : NumberingSystem) → Contains NUMBERING_SYSTEMS s → HasOneWidth s.digits
+pub listed-width : (s : DecimalSystem) → Contains NUMBERING_SYSTEMS s → HasOneWidth s.digits
 listed-width s listed = λ d few.
     let both = passes has_one_width NUMBERING_SYSTEMS s systems_have_one_width listed in
     let has = has_width (width s.digits 0) in
@@ -81,14 +63,14 @@ unfolding key
 systems_are_table = refl
 
 -- the rows of a numbering system are sorted
-abbrev has_rows : NumberingSystem → Bool
+abbrev has_rows : DecimalSystem → Bool
 has_rows s = is_table (λ (l : LocaleSymbols). l.tag) (own_rows s)
 
 systems_have_rows : list_all has_rows NUMBERING_SYSTEMS ≡ true
 unfolding key
 systems_have_rows = refl
 
-pub has_rows_if_listed : (s : NumberingSystem) → Contains NUMBERING_SYSTEMS s → has_rows s ≡ true
+pub has_rows_if_listed : (s : DecimalSystem) → Contains NUMBERING_SYSTEMS s → has_rows s ≡ true
 has_rows_if_listed s listed = passes has_rows NUMBERING_SYSTEMS s systems_have_rows listed
 
 pub languages_are_table : is_table (λ l. l.tag) PLURAL_RULES ≡ true
@@ -107,14 +89,14 @@ pub has_system_if_listed : (l : LocaleSymbols) → Contains LOCALES l → l.syst
 has_system_if_listed l listed = below l.system _ (passes has_system LOCALES l locales_have_systems listed)
 
 -- the names of numbering systems are texts
-abbrev has_text : NumberingSystem → Bool
+abbrev has_text : DecimalSystem → Bool
 has_text s = is_utf8 (unpadded s.name)
 
 systems_have_texts : list_all has_text NUMBERING_SYSTEMS ≡ true
 unfolding is_utf8 chars lib.Utf8.encode
 systems_have_texts = refl
 
-pub has_text_if_listed : (s : NumberingSystem) → Contains NUMBERING_SYSTEMS s → IsUtf8 (unpadded s.name)
+pub has_text_if_listed : (s : DecimalSystem) → Contains NUMBERING_SYSTEMS s → IsUtf8 (unpadded s.name)
 has_text_if_listed s listed =
     IsUtf8-from_is_utf8 (unpadded s.name) (passes has_text NUMBERING_SYSTEMS s systems_have_texts listed)
 

@@ -1,21 +1,8 @@
 -- The tables of formats are sorted, and their indices are those of rows, by computation.
-use Rattle.std.proofs.Common.{◌≡◌, ℕ, ◌<◌, ◌&&◌, nat_lt, Bool, true, List, length, Option, Some, None, refl, ap, ◌∙◌}
-use Rattle.std.proofs.lemmas.Bool.{and_parts}
-use Rattle.std.specs.Prelude.{unwrap_or}
-use Rattle.std.specs.Str.{bytes_eq}
-use Rattle.std.specs.List.{list_all, Contains}
-use Rattle.std.specs.Option.{option_map_or}
-use Rattle.locale_data.specs.declared.tables.compact.TheConstants.{COMPACT_SETS, PERCENT_UNITS}
-use Rattle.locale_data.specs.declared.tables.rows.formats.FormatSystem.{FormatSystem}
-use Rattle.locale_data.specs.declared.tables.rows.formats.LocaleFormats.{LocaleFormats}
-use Rattle.locale_data.specs.declared.tables.rows.formats.SystemFormats.{SystemFormats}
-use Rattle.locale_data.specs.declared.tables.formats.TheConstants.{PATTERNS, NUMBER_SIGNS, MONEY_FORMATS, LOCALE_FORMATS, ROOT_FORMATS, FORMATS_BY_SYSTEM, FORMAT_SYSTEMS}
-use Rattle.locale_data.specs.Formats.{chosen, format_system, no_formats, IsRowElse, IsLatinFormats, AreOfSystem}
-use Rattle.locale_data.specs.Rows.{part, unpadded, IsRowOf}
-use Rattle.locale_data.specs.SortedRows.{key, is_table}
-use Rattle.locale_data.specs.Tag.{compared}
-use Rattle.locale_data.proofs.lemmas.tables.EachRow.{passes, below}
-use Rattle.locale_data.proofs.lemmas.search.SortedRows.{find_some}
+use Rattle.std.proofs.{Common.{◌≡◌, ℕ, ◌<◌, ◌&&◌, nat_lt, Bool, true, List, length, Option, Some, None, refl, ap, ◌∙◌}, lemmas.Bool.and_parts}
+use Rattle.std.specs.{Prelude.unwrap_or, Str.bytes_eq, List.{list_all, Contains}, Option.option_map_or}
+use Rattle.locale_data.specs.{declared.tables.{compact.TheConstants.{COMPACT_SETS, PERCENT_UNITS}, rows.formats.{FormatSystem.FormatSystem, LocaleFormats.LocaleFormats, SystemFormats.SystemFormats}, formats.TheConstants.{PATTERNS, NUMBER_SIGNS, MONEY_FORMATS, LOCALE_FORMATS, ROOT_FORMATS, FORMATS_BY_SYSTEM, FORMAT_SYSTEMS}}, Formats.{chosen, format_system, no_formats, IsRowElse, IsLatinFormats, AreOfSystem}, Rows.{part, unpadded, IsRowOf}, SortedRows.{key, is_table}, Tag.compared}
+use Rattle.locale_data.proofs.lemmas.{tables.EachRow.{passes, below}, search.SortedRows.find_some}
 
 -- ---- The tables are sorted.
 

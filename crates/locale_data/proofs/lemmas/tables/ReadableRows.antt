@@ -1,25 +1,9 @@
 -- The symbols of each row are readable, by computation.
-use Rattle.std.proofs.Common.{◌≡◌, ℕ, ◌+◌, ◌-◌, ◌<◌, ◌≤◌, ◌==◌, ◌&&◌, nat_lt, Bool, true, false, cond, List, [], ◌∷◌, ◌++◌, map, get_or, slice_get, Option, Some, None, unwrap_or, inl, inr, refl, ap, lit≤, subst, ◌∙◌, sym, rules, add-sub_of_le, arith}
-use Rattle.std.proofs.lemmas.Bool.{cases_lt, and_parts}
-use Rattle.std.proofs.lemmas.List.Sums.{AllPass-from_list_all}
-use Rattle.std.proofs.lemmas.Option.{option_and_then_some, same_Some}
-use Rattle.std.specs.Prelude.{encode_utf8, slice_index, IfSome}
-use Rattle.std.specs.List.{list_all, position, Contains}
-use Rattle.std.specs.Option.{option_map, option_map_or}
-use Rattle.std.specs.Str.{bytes_eq}
-use Rattle.decimal_format.specs.declared.grouping.GroupingSizes.{GroupingSizes}
-use Rattle.decimal_format.specs.Symbols.{Symbols}
+use Rattle.std.proofs.{Common.{◌≡◌, ℕ, ◌+◌, ◌-◌, ◌<◌, ◌≤◌, ◌==◌, ◌&&◌, nat_lt, Bool, true, false, cond, List, [], ◌∷◌, ◌++◌, map, get_or, slice_get, Option, Some, None, unwrap_or, inl, inr, refl, ap, lit≤, subst, ◌∙◌, sym, rules, add-sub_of_le, arith}, lemmas.{Bool.{cases_lt, and_parts}, List.Sums.AllPass-from_list_all, Option.{option_and_then_some, same_Some}}}
+use Rattle.std.specs.{Prelude.{encode_utf8, slice_index, IfSome}, List.{list_all, position, Contains}, Option.{option_map, option_map_or}, Str.bytes_eq}
+use Rattle.decimal_format.specs.{declared.grouping.GroupingSizes.GroupingSizes, Symbols.Symbols, Readable.{BeginsWith, code, IsOther, IsReadable}}
 use Rattle.decimal_format.proofs.lemmas.symbols.Apart.{are_apart, each_below, passes_below, texts_are_apart, other, texts_apart}
-use Rattle.decimal_format.specs.Readable.{BeginsWith, code, IsOther, IsReadable}
-use Rattle.locale_data.specs.declared.locales.LocaleId.{LocaleId}
-use Rattle.locale_data.specs.declared.tables.rows.symbols.LocaleSymbols.{LocaleSymbols}
-use Rattle.locale_data.specs.declared.tables.rows.symbols.NumberingSystem.{NumberingSystem}
-use Rattle.locale_data.specs.declared.tables.rows.symbols.Symbol.{Symbol}
-use Rattle.locale_data.specs.declared.tables.rows.symbols.Symbol.TheVariants.{Period, Comma, NoBreakSpace, NarrowNoBreakSpace, RightQuote, Apostrophe, ArabicComma, ReversedComma, ArabicDecimal, ArabicThousands, Hyphen, Minus, Plus, ArabicHyphen, ArabicMinus, ArabicPlus, LeftHyphen, LeftMinus, LeftPlus, RightHyphen, RightPlus, EnclosedHyphen, EnclosedMinus, EnclosedPlus, PlusLeft}
-use Rattle.locale_data.specs.declared.tables.rows.symbols.SymbolSet.{SymbolSet}
-use Rattle.locale_data.specs.declared.tables.symbols.TheConstants.{LOCALES, NUMBERING_SYSTEMS}
-use Rattle.locale_data.specs.Symbol.{symbol_text}
-use Rattle.locale_data.specs.Locales.{own_rows, symbols_of, symbols_in, own_symbols_at, symbols_at}
+use Rattle.locale_data.specs.{declared.{locales.LocaleId.LocaleId, tables.{rows.symbols.{LocaleSymbols.LocaleSymbols, DecimalSystem.DecimalSystem, Symbol.{Symbol, TheVariants.{Period, Comma, NoBreakSpace, NarrowNoBreakSpace, RightQuote, Apostrophe, ArabicComma, ReversedComma, ArabicDecimal, ArabicThousands, Hyphen, Minus, Plus, ArabicHyphen, ArabicMinus, ArabicPlus, LeftHyphen, LeftMinus, LeftPlus, RightHyphen, RightPlus, EnclosedHyphen, EnclosedMinus, EnclosedPlus, PlusLeft}}, SymbolSet.SymbolSet}, symbols.TheConstants.{LOCALES, NUMBERING_SYSTEMS}}}, Symbol.symbol_text, Locales.{own_rows, symbols_of, symbols_in, own_symbols_at, symbols_at}}
 use Rattle.locale_data.proofs.lemmas.tables.EachRow.{passes, contains_at}
 
 moved : {a b c d : List ℕ} → a ≡ c → b ≡ d → BeginsWith a b → BeginsWith c d
@@ -27,7 +11,7 @@ moved e f begins = (begins.0, sym e ∙ (begins.1 ∙ ap (λ t. t ++ begins.0) f
 
 -- ---- Digits.
 
-abbrev digit_of : NumberingSystem → ℕ → List ℕ
+abbrev digit_of : DecimalSystem → ℕ → List ℕ
 digit_of system d = encode_utf8 (slice_index system.digits d)
 
 -- the texts of all symbols
@@ -52,7 +36,7 @@ index_below Comma = lit≤ tt
 index_below _ = lit≤ tt
 
 -- the digits of a system are apart from each other, and from each symbol
-abbrev digits_are_apart : NumberingSystem → Bool
+abbrev digits_are_apart : DecimalSystem → Bool
 digits_are_apart system = texts_are_apart 10 (digit_of system) && each_below 10 (λ d. list_all (are_apart (digit_of
     system d)) texts)
 
@@ -77,13 +61,13 @@ marks_are_apart set = texts_are_apart 4 (λ k. mark_text set (10 + k))
 locales_have_marks_apart : list_all (λ l. marks_are_apart l.symbols) LOCALES ≡ true
 locales_have_marks_apart = refl
 
-abbrev own_marks_are_apart : NumberingSystem → Bool
+abbrev own_marks_are_apart : DecimalSystem → Bool
 own_marks_are_apart system = list_all (λ l. marks_are_apart l.symbols) (own_rows system)
 
 systems_have_own_marks_apart : list_all own_marks_are_apart NUMBERING_SYSTEMS ≡ true
 systems_have_own_marks_apart = refl
 
-abbrev if_any_are_apart : NumberingSystem → Bool
+abbrev if_any_are_apart : DecimalSystem → Bool
 if_any_are_apart system = option_map_or marks_are_apart system.symbols true
 
 systems_have_marks_apart : list_all if_any_are_apart NUMBERING_SYSTEMS ≡ true
@@ -91,7 +75,7 @@ systems_have_marks_apart = refl
 
 -- ---- The codes of a set of symbols.
 
-module _ (system : NumberingSystem) (set : SymbolSet) (sizes : GroupingSizes)
+module _ (system : DecimalSystem) (set : SymbolSet) (sizes : GroupingSizes)
     (digits : digits_are_apart system ≡ true) (marks : marks_are_apart set ≡ true) where
   digit_code : (k : ℕ) → (k < 10) → code (symbols_of system set sizes) k ≡ digit_of system k
   digit_code k h = let t : nat_lt k 10 ≡ true = search (rules, arith) in rw t refl
@@ -146,7 +130,7 @@ module _ (system : NumberingSystem) (set : SymbolSet) (sizes : GroupingSizes)
 
 -- ---- The symbols of a locale.
 
-chosen_marks : (system : NumberingSystem) (locale : LocaleSymbols) → if_any_are_apart system ≡ true
+chosen_marks : (system : DecimalSystem) (locale : LocaleSymbols) → if_any_are_apart system ≡ true
     → marks_are_apart locale.symbols ≡ true → marks_are_apart (unwrap_or system.symbols locale.symbols) ≡ true
 chosen_marks system locale if_any default = each system.symbols if_any
   where
@@ -155,7 +139,7 @@ chosen_marks system locale if_any default = each system.symbols if_any
     each None h = default
     each (Some set) h = h
 
-in_system : (system : NumberingSystem) (locale : LocaleSymbols) (own : Option LocaleSymbols)
+in_system : (system : DecimalSystem) (locale : LocaleSymbols) (own : Option LocaleSymbols)
     → Contains NUMBERING_SYSTEMS system → Contains LOCALES locale
     → IfSome own (λ row. Contains (own_rows system) row) → IsReadable (symbols_in system locale own)
 in_system system locale None known listed own =
@@ -170,7 +154,7 @@ in_system system locale (Some row) known listed own =
     (passes (λ l. marks_are_apart l.symbols) (own_rows system) row
     (passes own_marks_are_apart NUMBERING_SYSTEMS system systems_have_own_marks_apart known) own)
 
-own_are_readable : (system : NumberingSystem) (locale : LocaleSymbols) (own : Option ℕ) (s : Symbols)
+own_are_readable : (system : DecimalSystem) (locale : LocaleSymbols) (own : Option ℕ) (s : Symbols)
     → Contains NUMBERING_SYSTEMS system → Contains LOCALES locale → own_symbols_at system locale own ≡ Some s
     → IsReadable s
 own_are_readable system locale None s known listed e =

@@ -1,36 +1,12 @@
 -- The texts of the tables are the rules of the rows, by computation.
-use Rattle.std.proofs.Common.{◌≡◌, ℕ, ◌<◌, true, List, length, map, codes, Option, Some, None, Result, Ok, Err, slice_get, refl, ap, subst, sym, ◌∙◌}
-use Rattle.std.proofs.lemmas.Option.{none-some, same_Some, slice_get-map}
-use Rattle.std.specs.Prelude.{IsSome, IsSomeAnd}
-use Rattle.std.specs.Option.{option_map, option_and_then}
-use Rattle.plural_rules.specs.declared.parse.RulesError.{RulesError}
-use Rattle.plural_rules.specs.declared.parse.RulesError.TheVariants.{Syntax, Limit, Memory}
+use Rattle.std.proofs.{Common.{◌≡◌, ℕ, ◌<◌, true, List, length, map, codes, Option, Some, None, Result, Ok, Err, slice_get, refl, ap, subst, sym, ◌∙◌}, lemmas.Option.{none-some, same_Some, slice_get-map}}
+use Rattle.std.specs.{Prelude.{IsSome, IsSomeAnd}, Option.{option_map, option_and_then}}
+use Rattle.plural_rules.specs.{declared.{parse.RulesError.{RulesError, TheVariants.{Syntax, Limit, Memory}}, rules.PluralCategory.PluralCategory}, Operands.Operands, Rules.{RuleValue, category_of}, RulesGrammar.{Grammar, IsCategoryByText}, RulesParseResult.{Fits, IsParseResult}, RulesReader.no_rules}
 use Rattle.plural_rules.specs.declared.parse.state.State.TheVariants as state
-use Rattle.plural_rules.specs.declared.rules.PluralCategory.{PluralCategory}
-use Rattle.plural_rules.specs.Operands.{Operands}
-use Rattle.plural_rules.specs.Rules.{RuleValue, category_of}
-use Rattle.plural_rules.specs.RulesGrammar.{Grammar, IsCategoryByText}
-use Rattle.plural_rules.specs.RulesParseResult.{Fits, IsParseResult}
-use Rattle.plural_rules.specs.RulesReader.{no_rules}
-use Rattle.plural_rules.proofs.lemmas.parse.ParserComplete.{grammar-unique}
-use Rattle.plural_rules.proofs.lemmas.parse.ParserSound.{read-sound}
-use Rattle.plural_rules.proofs.lemmas.parse.RulesRun.{read, read_fits}
-use Rattle.locale_data.specs.declared.tables.rows.plurals.LanguageRules.{LanguageRules}
-use Rattle.locale_data.specs.declared.tables.rows.plurals.RuleSet.{RuleSet}
-use Rattle.locale_data.specs.declared.plurals.PluralRuleType.{PluralRuleType}
-use Rattle.locale_data.specs.declared.plurals.PluralRuleType.TheVariants.{Cardinal, Ordinal}
-use Rattle.locale_data.specs.declared.tables.plurals.TheConstants.{OTHER, PLURAL_RULES, PLURAL_RULES_TEXTS}
-use Rattle.locale_data.specs.declared.tables.rows.symbols.LocaleSymbols.{LocaleSymbols}
-use Rattle.locale_data.specs.declared.tables.symbols.TheConstants.{LOCALES}
-use Rattle.locale_data.specs.Rows.{row_at}
-use Rattle.locale_data.specs.declared.plurals.PluralRulesError.{PluralRulesError}
+use Rattle.plural_rules.proofs.lemmas.parse.{ParserComplete.grammar-unique, ParserSound.read-sound, RulesRun.{read, read_fits}}
+use Rattle.locale_data.specs.{declared.{tables.{rows.{plurals.{LanguageRules.LanguageRules, RuleSet.RuleSet}, symbols.LocaleSymbols.LocaleSymbols}, plurals.TheConstants.{OTHER, PLURAL_RULES, PLURAL_RULES_TEXTS}, symbols.TheConstants.LOCALES}, plurals.{PluralRuleType.{PluralRuleType, TheVariants.{Cardinal, Ordinal}}, PluralRulesError.PluralRulesError, PluralRulesId.PluralRulesId}}, Rows.row_at, Plurals.{IsRulesText, IsRulesText.{of_language, of_locale}, set_of, text_of, indexed_set, set_at, rules_text_at, IsCategoryAt, IsLanguageOf, IsLocaleOf, IsRulesAt, IsRulesOf}, PluralRows.rules_in}
 use Rattle.locale_data.specs.declared.plurals.PluralRulesError.TheVariants as errors
-use Rattle.locale_data.specs.declared.plurals.PluralRulesId.{PluralRulesId}
-use Rattle.locale_data.specs.Plurals.IsRulesText.{of_language, of_locale}
-use Rattle.locale_data.specs.PluralRows.{rules_in}
-use Rattle.locale_data.specs.Plurals.{set_of, text_of, indexed_set, set_at, rules_text_at, IsCategoryAt, IsLanguageOf, IsLocaleOf, IsRulesText, IsRulesAt, IsRulesOf}
-use Rattle.locale_data.proofs.lemmas.tables.EachRow.{not_past}
-use Rattle.locale_data.proofs.lemmas.tables.TableTexts.{rests, table_rests, part_by, part-by}
+use Rattle.locale_data.proofs.lemmas.tables.{EachRow.not_past, TableTexts.{rests, table_rests, part_by, part-by}}
 
 -- the rules of a text, or None if it is not rules or a number is too great
 abbrev rules_by : List ℕ → Option (List RuleValue)

@@ -1,17 +1,7 @@
 -- Rows by index, and ranges that are texts.
-use Rattle.std.proofs.Common.{◌≡◌, ℕ, zero, suc, ◌≤◌, ◌+◌, ◌-◌, ◌*◌, ◌/◌, ◌%◌, ◌&&◌, nat_le, Bool, true, false, List, [], ◌∷◌, length, take, drop, slice_get, Option, Some, None, refl, sym, ap, ap₂, ◌∙◌, arith}
-use Rattle.std.proofs.lemmas.Bool.{and_parts, false≢true}
-use Rattle.std.proofs.lemmas.Bool.Decides.{nat_tests}
-use Rattle.std.proofs.lemmas.List.Elements.{All-take, All-drop, All-contains, All-contains_itself}
-use Rattle.std.proofs.lemmas.List.{drop-drop}
-use Rattle.std.proofs.lemmas.Option.{none-some, same_Some}
-use Rattle.std.proofs.lemmas.Str.{IsUtf8-from_is_utf8}
-use Rattle.std.specs.List.{list_all, Contains}
-use Rattle.std.specs.Option.{option_map, option_map_or}
-use Rattle.std.specs.Str.{IsUtf8, is_utf8}
-use Rattle.locale_data.specs.declared.tables.rows.TableRange.{TableRange}
-use Rattle.locale_data.specs.Rows.{part}
-use Rattle.locale_data.specs.Texts.{is_short_text, is_text}
+use Rattle.std.proofs.{Common.{◌≡◌, ℕ, zero, suc, ◌≤◌, ◌+◌, ◌-◌, ◌*◌, ◌/◌, ◌%◌, ◌&&◌, nat_le, Bool, true, false, List, [], ◌∷◌, length, take, drop, slice_get, Option, Some, None, refl, sym, ap, ap₂, ◌∙◌, arith}, lemmas.{Bool.{and_parts, false≢true, Decides.nat_tests}, List.{Elements.{All-take, All-drop, All-contains, All-contains_itself}, drop-drop}, Option.{none-some, same_Some}, Str.IsUtf8-from_is_utf8}}
+use Rattle.std.specs.{List.{list_all, Contains}, Option.{option_map, option_map_or}, Str.{IsUtf8, is_utf8}}
+use Rattle.locale_data.specs.{declared.tables.rows.TableRange.TableRange, Rows.part, Texts.{is_short_text, is_text}}
 use Rattle.locale_data.proofs.lemmas.tables.EachRow.{passes, contains_at}
 
 -- a test that passes for each row of a table passes for that at an index

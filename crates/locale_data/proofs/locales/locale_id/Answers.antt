@@ -1,9 +1,7 @@
 use Rattle.std.proofs.Common.{subst, sym}
 use Rattle.std.specs.Prelude.{IsSomeAnd}
-use Rattle.locale_data.specs.declared.locales.LocaleId.{LocaleId}
-use Rattle.locale_data.specs.Locales.{symbols_at, IsLocale, IsUnknown}
-use Rattle.locale_data.proofs.lemmas.locales.IndexedRows.{symbols_found}
-use Rattle.locale_data.proofs.lemmas.locales.Unknown.{rows_are_known}
+use Rattle.locale_data.specs.{declared.locales.LocaleId.LocaleId, Locales.{symbols_at, IsLocale, IsUnknown}}
+use Rattle.locale_data.proofs.lemmas.locales.{IndexedRows.symbols_found, Unknown.rows_are_known}
 use Rattle.locale_data.proofs.locales.locale_id.Goals as goal
 
 pub returns-clause-found : goal.returns-clause-found

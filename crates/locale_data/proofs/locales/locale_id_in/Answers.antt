@@ -1,10 +1,7 @@
 use Rattle.std.proofs.Common.{◌≡◌, None, subst, sym, ap, ◌∙◌, inl}
 use Rattle.std.specs.Prelude.{◌⊎◌, IfNone, IsSomeAnd}
-use Rattle.locale_data.specs.declared.locales.LocaleId.{LocaleId}
-use Rattle.locale_data.specs.declared.tables.symbols.TheConstants.{LOCALES}
-use Rattle.locale_data.specs.Locales.{symbols_at, system_named, IsListed, IsLocaleIn}
-use Rattle.locale_data.proofs.lemmas.locales.IndexedRows.{symbols_found_in}
-use Rattle.locale_data.proofs.lemmas.tables.EachRow.{locales_are_table}
+use Rattle.locale_data.specs.{declared.{locales.LocaleId.LocaleId, tables.symbols.TheConstants.LOCALES}, Locales.{symbols_at, system_named, IsListed, IsLocaleIn}}
+use Rattle.locale_data.proofs.lemmas.{locales.IndexedRows.symbols_found_in, tables.EachRow.locales_are_table}
 use Rattle.locale_data.proofs.locales.locale_id_in.Goals as goal
 
 pub row_index-requires : goal.row_index-requires

@@ -1,7 +1,5 @@
 use Rattle.std.proofs.Common.{None, subst}
-use Rattle.locale_data.specs.declared.tables.symbols.TheConstants.{NUMBERING_SYSTEMS}
-use Rattle.locale_data.specs.Rows.{row_at}
-use Rattle.locale_data.specs.Locales.{IsListed}
+use Rattle.locale_data.specs.{declared.tables.symbols.TheConstants.NUMBERING_SYSTEMS, Rows.row_at, Locales.IsListed}
 use Rattle.locale_data.proofs.lemmas.tables.EachRow.{contains_at, has_rows_if_listed}
 use Rattle.locale_data.proofs.locales.own_index.Goals as goal
 

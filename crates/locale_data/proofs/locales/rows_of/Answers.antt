@@ -1,9 +1,6 @@
 use Rattle.std.proofs.Common.{is_some, ap, subst, sym, inl}
-use Rattle.locale_data.specs.declared.tables.symbols.TheConstants.{LOCALES}
-use Rattle.locale_data.specs.Locales.{IsListed}
-use Rattle.locale_data.proofs.lemmas.tables.EachRow.{locales_are_table, contains_at}
-use Rattle.locale_data.proofs.lemmas.locales.IndexedRows.{rows_found}
-use Rattle.locale_data.proofs.lemmas.locales.Unknown.{unknown_system, rows_are_known}
+use Rattle.locale_data.specs.{declared.tables.symbols.TheConstants.LOCALES, Locales.IsListed}
+use Rattle.locale_data.proofs.lemmas.{tables.EachRow.{locales_are_table, contains_at}, locales.{IndexedRows.rows_found, Unknown.{unknown_system, rows_are_known}}}
 use Rattle.locale_data.proofs.locales.rows_of.Goals as goal
 
 pub row_index-requires : goal.row_index-requires

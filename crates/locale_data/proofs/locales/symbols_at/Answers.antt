@@ -1,10 +1,7 @@
 use Rattle.std.proofs.Common.{Some, ap, sym, ◌∙◌}
 use Rattle.std.specs.Option.{option_map}
-use Rattle.locale_data.specs.declared.tables.symbols.TheConstants.{NUMBERING_SYSTEMS}
-use Rattle.locale_data.specs.Locales.{symbols_in, own_symbols_at}
-use Rattle.locale_data.proofs.lemmas.tables.EachRow.{contains_at, listed-width}
-use Rattle.locale_data.proofs.lemmas.locales.IndexedRows.{at_some, at_none, no_locale, no_system, with_system}
-use Rattle.locale_data.proofs.lemmas.tables.ReadableRows.{rows_are_readable}
+use Rattle.locale_data.specs.{declared.tables.symbols.TheConstants.NUMBERING_SYSTEMS, Locales.{symbols_in, own_symbols_at}}
+use Rattle.locale_data.proofs.lemmas.{tables.{EachRow.{contains_at, listed-width}, ReadableRows.rows_are_readable}, locales.IndexedRows.{at_some, at_none, no_locale, no_system, with_system}}
 use Rattle.locale_data.proofs.locales.symbols_at.Goals as goal
 
 pub returns-in_err-locale-clause-value : goal.returns-in_err-locale-clause-value

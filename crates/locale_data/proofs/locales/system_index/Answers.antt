@@ -1,6 +1,5 @@
 use Rattle.std.proofs.Common.{sym, ◌∙◌}
-use Rattle.locale_data.proofs.lemmas.tables.EachRow.{has_system_if_listed}
-use Rattle.locale_data.proofs.lemmas.locales.Unknown.{named_system, default_system}
+use Rattle.locale_data.proofs.lemmas.{tables.EachRow.has_system_if_listed, locales.Unknown.{named_system, default_system}}
 use Rattle.locale_data.proofs.locales.system_index.Goals as goal
 
 pub returns-in-Some-clause-value : goal.returns-in-Some-clause-value

@@ -1,5 +1,4 @@
-use Rattle.std.proofs.Common.{refl, arith}
-use Rattle.std.proofs.lemmas.Grind.{common_steps}
+use Rattle.std.proofs.{Common.{refl, arith}, lemmas.Grind.common_steps}
 use Rattle.locale_data.proofs.plural_rows.all_hold.Goals as goal
 
 pub loop-relation-init : goal.loop-relation-init

@@ -1,6 +1,5 @@
 use Rattle.std.proofs.Common.{ℕ, Bool, List, Option, ◌∙◌, ap}
-use Rattle.plural_rules.specs.declared.rules.Range.{Range}
-use Rattle.plural_rules.specs.Rules.{relation, modulus_of, holds}
+use Rattle.plural_rules.specs.{declared.rules.Range.Range, Rules.{relation, modulus_of, holds}}
 use Rattle.locale_data.proofs.plural_rows.holds.Goals as goal
 
 pub returns : goal.returns

@@ -1,9 +1,7 @@
 use Rattle.std.proofs.Common.{Some, None, subst}
-use Rattle.std.specs.Prelude.{IsSomeAnd}
-use Rattle.std.specs.Option.{option_map}
+use Rattle.std.specs.{Prelude.IsSomeAnd, Option.option_map}
 use Rattle.locale_data.specs.Plurals.{text_of, indexed_set, IsRulesText, HasNoRules}
-use Rattle.locale_data.proofs.lemmas.tables.EachRow.{locales_are_table, languages_are_table}
-use Rattle.locale_data.proofs.lemmas.tables.RulesTexts.{language_found, locale_found}
+use Rattle.locale_data.proofs.lemmas.tables.{EachRow.{locales_are_table, languages_are_table}, RulesTexts.{language_found, locale_found}}
 use Rattle.locale_data.proofs.plurals.plural_rules_id.Goals as goal
 
 pub row_index-requires : goal.row_index-requires

@@ -1,7 +1,6 @@
 use Rattle.std.proofs.Common.{Some, ap, sym, ◌∙◌}
 use Rattle.std.specs.Option.{option_map}
-use Rattle.locale_data.specs.declared.tables.rows.plurals.LanguageRules.{LanguageRules}
-use Rattle.locale_data.specs.Plurals.{set_of, indexed_set}
+use Rattle.locale_data.specs.{declared.tables.rows.plurals.LanguageRules.LanguageRules, Plurals.{set_of, indexed_set}}
 use Rattle.locale_data.proofs.lemmas.locales.IndexedRows.{at_some, at_none}
 use Rattle.locale_data.proofs.plurals.set_at.Goals as goal
 

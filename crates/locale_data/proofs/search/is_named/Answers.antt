@@ -1,12 +1,9 @@
 use mir.Syntax.{w8}
 use mir.Val.{Fits}
-use Rattle.std.proofs.Common.{ℕ, ◌<◌, ◌≤◌, ◌==◌, List, length, get_or, ap, sym, ◌∙◌, arith}
+use Rattle.std.proofs.{Common.{ℕ, ◌<◌, ◌≤◌, ◌==◌, List, length, get_or, ap, sym, ◌∙◌, arith}, lemmas.List.{length-take, length-map}}
 use Rattle.std.specs.List.{position_or_len}
-use Rattle.std.proofs.lemmas.List.{length-take, length-map}
-use Rattle.locale_data.specs.Rows.{unpadded}
-use Rattle.locale_data.specs.Tag.{tag_byte, compared}
-use Rattle.locale_data.proofs.lemmas.search.PrefixKeys.{first_are_bytes, compared_are_bytes}
-use Rattle.locale_data.proofs.lemmas.search.Searches.{named_by_length}
+use Rattle.locale_data.specs.{Rows.unpadded, Tag.{tag_byte, compared}}
+use Rattle.locale_data.proofs.lemmas.search.{PrefixKeys.{first_are_bytes, compared_are_bytes}, Searches.named_by_length}
 use Rattle.locale_data.proofs.search.is_named.Goals as goal
 
 are_bytes_of : (text : List ℕ) → ((i : ℕ) → Fits w8 (get_or text i 0)) → (i : ℕ) → get_or text i 0 < 256

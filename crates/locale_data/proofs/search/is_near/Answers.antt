@@ -1,5 +1,4 @@
-use Rattle.std.proofs.Common.{◌≡◌, ◌-◌, ◌*◌, ◌%◌, ◌^◌, nat_lt, false, get_or, ap, ◌∙◌, subst, arith}
-use Rattle.std.proofs.lemmas.List.{get_or_default}
+use Rattle.std.proofs.{Common.{◌≡◌, ◌-◌, ◌*◌, ◌%◌, ◌^◌, nat_lt, false, get_or, ap, ◌∙◌, subst, arith}, lemmas.List.get_or_default}
 use Rattle.std.specs.Int.{from_be_bytes, w128}
 use Rattle.locale_data.proofs.lemmas.search.Searches.{far_from}
 use Rattle.locale_data.proofs.search.is_near.Goals as goal

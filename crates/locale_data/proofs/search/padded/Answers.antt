@@ -1,9 +1,7 @@
 use mir.Syntax.{w8}
 use mir.Val.{Fits}
-use Rattle.std.proofs.Common.{ℕ, ◌+◌, ◌<◌, List, set, take, get_or, ap, subst, sym, ◌∙◌, arith}
-use Rattle.std.proofs.lemmas.List.{take_all}
-use Rattle.locale_data.specs.Tag.{compared}
-use Rattle.locale_data.specs.SortedRows.{IsPadded}
+use Rattle.std.proofs.{Common.{ℕ, ◌+◌, ◌<◌, List, set, take, get_or, ap, subst, sym, ◌∙◌, arith}, lemmas.List.take_all}
+use Rattle.locale_data.specs.{Tag.compared, SortedRows.IsPadded}
 use Rattle.locale_data.proofs.lemmas.search.PrefixKeys.{padded_none, padded_more}
 use Rattle.locale_data.proofs.search.padded.Goals as goal
 

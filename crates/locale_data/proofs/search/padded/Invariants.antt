@@ -1,6 +1,5 @@
 use Rattle.std.proofs.Common.{take}
-use Rattle.locale_data.specs.Tag.{compared}
-use Rattle.locale_data.specs.SortedRows.{IsPadded}
+use Rattle.locale_data.specs.{Tag.compared, SortedRows.IsPadded}
 use Rattle.locale_data.proofs.search.padded.Given as goal
 
 abbrev pub invariant-loop-index : goal.invariant-loop-index

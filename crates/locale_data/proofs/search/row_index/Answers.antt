@@ -1,14 +1,9 @@
 use mir.Syntax.{w8}
 use mir.Val.{Fits}
-use Rattle.std.proofs.Common.{◌≡◌, ℕ, ◌+◌, ◌<◌, Bool, true, false, not, List, set, take, refl, length, get_or, ap, subst, sym, ◌∙◌, arith}
-use Rattle.std.proofs.lemmas.Bool.Decides.{nat_tests}
+use Rattle.std.proofs.{Common.{◌≡◌, ℕ, ◌+◌, ◌<◌, Bool, true, false, not, List, set, take, refl, length, get_or, ap, subst, sym, ◌∙◌, arith}, lemmas.Bool.Decides.nat_tests}
 use Rattle.std.specs.Prelude.{IfSome}
-use Rattle.locale_data.specs.Rows.{row_at, IsRowOf}
-use Rattle.locale_data.specs.SortedRows.{IsPadded, ends_at}
-use Rattle.locale_data.specs.Tag.{tag_byte, compared}
-use Rattle.locale_data.proofs.lemmas.search.PrefixKeys.{padded_more}
-use Rattle.locale_data.proofs.lemmas.search.LongestRow.{IsLongestBelow, passed_below, none_beyond_tag, longest}
-use Rattle.locale_data.proofs.lemmas.search.Searches.{more_found, inside-or}
+use Rattle.locale_data.specs.{Rows.{row_at, IsRowOf}, SortedRows.{IsPadded, ends_at}, Tag.{tag_byte, compared}}
+use Rattle.locale_data.proofs.lemmas.search.{PrefixKeys.padded_more, LongestRow.{IsLongestBelow, passed_below, none_beyond_tag, longest}, Searches.{more_found, inside-or}}
 use Rattle.locale_data.proofs.search.row_index.Goals as goal
 
 are_bytes_of : (tag : List ℕ) → ((i : ℕ) → Fits w8 (get_or tag i 0)) → (i : ℕ) → get_or tag i 0 < 256

@@ -1,8 +1,6 @@
 use Rattle.std.proofs.Common.{◌<◌, length, take}
 use Rattle.std.specs.Prelude.{IfSome}
-use Rattle.locale_data.specs.Rows.{row_at}
-use Rattle.locale_data.specs.SortedRows.{IsPadded}
-use Rattle.locale_data.specs.Tag.{compared}
+use Rattle.locale_data.specs.{Rows.row_at, SortedRows.IsPadded, Tag.compared}
 use Rattle.locale_data.proofs.lemmas.search.LongestRow.{IsLongestBelow}
 use Rattle.locale_data.proofs.search.row_index.Given as goal
 

@@ -1,14 +1,9 @@
 use mir.Syntax.{w8}
 use mir.Val.{Fits}
-use Rattle.std.proofs.Common.{◌≡◌, ℕ, ◌+◌, ◌<◌, ◌≤◌, List, length, Ok, Err, Some, None, cond, bytes_eq, sym, ap, ◌∙◌, take, get_or, arith, rules}
+use Rattle.std.proofs.{Common.{◌≡◌, ℕ, ◌+◌, ◌<◌, ◌≤◌, List, length, Ok, Err, Some, None, cond, bytes_eq, sym, ap, ◌∙◌, take, get_or, arith, rules}, lemmas.List.Sorted.answers_always}
 use Rattle.std.specs.Int.{from_be_bytes, w128}
-use Rattle.std.proofs.lemmas.List.Sorted.{answers_always}
-use Rattle.locale_data.specs.Rows.{unpadded, row_at}
-use Rattle.locale_data.specs.SortedRows.{IsPadded, key}
-use Rattle.locale_data.specs.Tag.{compared}
-use Rattle.locale_data.proofs.lemmas.search.PrefixKeys.{are_bytes, padded_key}
-use Rattle.locale_data.proofs.lemmas.search.SortedRows.{searched, key_of_found}
-use Rattle.locale_data.proofs.lemmas.search.Searches.{row_at-then_some, at_most_ok, at_most_err, none_longer}
+use Rattle.locale_data.specs.{Rows.{unpadded, row_at}, SortedRows.{IsPadded, key}, Tag.compared}
+use Rattle.locale_data.proofs.lemmas.search.{PrefixKeys.{are_bytes, padded_key}, SortedRows.{searched, key_of_found}, Searches.{row_at-then_some, at_most_ok, at_most_err, none_longer}}
 use Rattle.locale_data.proofs.search.search.Goals as goal
 
 -- the padded name has the key of the part

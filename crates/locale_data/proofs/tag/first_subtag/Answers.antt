@@ -1,7 +1,4 @@
-use Rattle.std.proofs.Common.{◌≡◌, ◌==◌, true, get_or, take, ap, sym, arith}
-use Rattle.std.proofs.lemmas.Grind.{common_steps}
-use Rattle.std.proofs.lemmas.List.Sums.{position_or_len_is}
-use Rattle.std.proofs.lemmas.Bool.Decides.{nat_tests}
+use Rattle.std.proofs.{Common.{◌≡◌, ◌==◌, true, get_or, take, ap, sym, arith}, lemmas.{Grind.common_steps, List.Sums.position_or_len_is, Bool.Decides.nat_tests}}
 use Rattle.locale_data.specs.Tag.{tag_byte}
 use Rattle.locale_data.proofs.tag.first_subtag.Goals as goal
 

@@ -1,5 +1,4 @@
-use Rattle.std.proofs.Common.{◌≡◌, ◌∙◌, false, nat_eq, drop, arith}
-use Rattle.std.proofs.lemmas.Grind.{common_steps}
+use Rattle.std.proofs.{Common.{◌≡◌, ◌∙◌, false, nat_eq, drop, arith}, lemmas.Grind.common_steps}
 use Rattle.std.specs.List.{starts_with}
 use Rattle.locale_data.specs.Tag.{compared}
 use Rattle.locale_data.proofs.lemmas.search.Tags.{from_first-tail}

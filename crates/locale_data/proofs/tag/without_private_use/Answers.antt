@@ -1,8 +1,5 @@
-use Rattle.std.proofs.Common.{◌≡◌, ◌∙◌, ◌+◌, ◌++◌, ◌∷◌, [], false, nat_eq, get_or, take, drop, ap, sym, arith, append_assoc}
-use Rattle.std.proofs.lemmas.Grind.{common_steps}
-use Rattle.std.proofs.lemmas.List.{take_more}
-use Rattle.std.specs.Prelude.{codes}
-use Rattle.std.specs.List.{starts_with}
+use Rattle.std.proofs.{Common.{◌≡◌, ◌∙◌, ◌+◌, ◌++◌, ◌∷◌, [], false, nat_eq, get_or, take, drop, ap, sym, arith, append_assoc}, lemmas.{Grind.common_steps, List.take_more}}
+use Rattle.std.specs.{Prelude.codes, List.starts_with}
 use Rattle.locale_data.specs.Tag.{compared, before_text}
 use Rattle.locale_data.proofs.lemmas.search.Tags.{before_text-tail}
 use Rattle.locale_data.proofs.tag.without_private_use.Goals as goal

@@ -3,15 +3,24 @@
 use super::TableRange;
 use plural_rules::PluralCategory;
 
-/// The compact patterns of a locale, as parts of a table of runs.
+/// Where the compact patterns of a locale and a style are.
+#[derive(Clone, Copy)]
+pub struct CompactRows {
+    /// The index of the powers of ten in the table of exponents.
+    pub exponents: u8,
+    /// The patterns, as a part of the table of runs.
+    pub runs: TableRange,
+}
+
+/// The compact patterns of a locale.
 #[derive(Clone, Copy)]
 pub struct CompactSet {
     /// Short patterns: `1.2M`.
-    pub short: TableRange,
+    pub short: CompactRows,
     /// Long patterns: `1.2 million`.
-    pub long: TableRange,
+    pub long: CompactRows,
     /// The patterns of currencies: `$1.2M`.
-    pub currency: TableRange,
+    pub currency: CompactRows,
 }
 
 /// Magnitudes that have the same patterns: those up to the run before it.
@@ -19,8 +28,6 @@ pub struct CompactSet {
 pub struct CompactRun {
     /// The first magnitude.
     pub first: u8,
-    /// The power of ten by which a number is divided.
-    pub exponent: u8,
     /// The patterns.
     pub patterns: TableRange,
 }

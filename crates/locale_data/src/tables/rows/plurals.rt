@@ -44,3 +44,23 @@ pub struct RuleRow {
     /// The alternatives of the condition, as a range of `PLURAL_ALTERNATIVES`.
     pub alternatives: TableRange,
 }
+
+/// A language that has categories of ranges.
+#[derive(Clone, Copy)]
+pub struct RangeLanguage {
+    /// The language.
+    pub tag: Name,
+    /// The categories of its ranges, as a range of `RANGE_CATEGORIES`.
+    pub ranges: TableRange,
+}
+
+/// The category of a range of numbers, by those of its ends.
+#[derive(Clone, Copy)]
+pub struct RangeCategory {
+    /// The category of the start.
+    pub start: PluralCategory,
+    /// The category of the end.
+    pub end: PluralCategory,
+    /// The category of the range.
+    pub category: PluralCategory,
+}

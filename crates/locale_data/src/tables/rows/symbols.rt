@@ -53,7 +53,7 @@ pub struct SymbolSet {
 
 /// A decimal numbering system.
 #[derive(Clone, Copy)]
-pub struct NumberingSystem {
+pub struct DecimalSystem {
     /// Its name in CLDR: `latn`.
     pub name: Name,
     /// The digits from 0 to 9.

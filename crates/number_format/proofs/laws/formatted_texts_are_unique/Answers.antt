@@ -1,5 +1,4 @@
-use Rattle.number_format.proofs.lemmas.read.FormatterTexts.{are_unique}
-use Rattle.number_format.proofs.lemmas.read.ShownValues.{shown_value}
+use Rattle.number_format.proofs.lemmas.read.{FormatterTexts.are_unique, ShownValues.shown_value}
 use Rattle.number_format.proofs.laws.formatted_texts_are_unique.Goals as goal
 
 pub returns : goal.returns

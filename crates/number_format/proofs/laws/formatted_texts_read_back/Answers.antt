@@ -1,7 +1,5 @@
 use Rattle.number_format.specs.NumberReading.{reader_of}
-use Rattle.number_format.proofs.lemmas.read.FormatterTexts.{formatter_text}
-use Rattle.number_format.proofs.lemmas.read.ReadBack.{reads}
-use Rattle.number_format.proofs.lemmas.read.ShownValues.{shown_value}
+use Rattle.number_format.proofs.lemmas.read.{FormatterTexts.formatter_text, ReadBack.reads, ShownValues.shown_value}
 use Rattle.number_format.proofs.laws.formatted_texts_read_back.Goals as goal
 
 pub returns : goal.returns

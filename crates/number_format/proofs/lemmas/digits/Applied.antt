@@ -1,27 +1,12 @@
 -- A decimal that is rounded at the position of a precision, with the digits that are shown then, is the one that the
 -- options make.
-use Rattle.std.proofs.Common.{◌≡◌, ℕ, ◌*◌, ◌/◌, ◌%◌, ◌^◌, ◌<◌, ◌≤◌, false, refl, sym, ◌∙◌, ap, subst, arith}
-use Rattle.std.specs.Prelude.{Some, ℤ, pos, negsuc, ◌+ℤ◌, ◌-ℤ◌, ◌≤ℤ◌, int_lt}
-use Rattle.std.specs.Int.{int_max, int_min}
-use Rattle.std.proofs.Math.Nat.{mod-lt, mod-eq_of_lt, div-add-mod', mul-mod_left}
-use Rattle.std.proofs.lemmas.Int.{ints, clamps}
-use Rattle.std.proofs.lemmas.Bool.{or_from}
-use Rattle.decimal_digits.specs.Number.{number_limit, offset, weight, first, size, highest_magnitude}
-use Rattle.decimal_digits.specs.Rounding.{step_of, unit_at, rounded_number}
-use Rattle.decimal_digits.specs.declared.rounding.RoundError.{RoundError}
-use Rattle.decimal_digits.specs.declared.rounding.RoundError.TheVariants.{Limit, Memory}
-use Rattle.decimal_digits.specs.declared.rounding.RoundingIncrement.{RoundingIncrement}
-use Rattle.decimal_digits.specs.declared.rounding.UnsignedRoundingMode.{UnsignedRoundingMode}
-use Rattle.decimal_unsigned.specs.Unsigned.{Unsigned, IsValue}
-use Rattle.decimal_unsigned.specs.Edits.{padded_start, padded_end}
-use Rattle.decimal_unsigned.specs.Rounded.{rounding, reaches_limit}
-use Rattle.fixed_decimal.specs.Decimal.{Decimal, signed_number}
-use Rattle.fixed_decimal.specs.SignedRounding.{NamedSigned, mode_at, IsRounded, RoundingFails}
+use Rattle.std.proofs.{Common.{◌≡◌, ℕ, ◌*◌, ◌/◌, ◌%◌, ◌^◌, ◌<◌, ◌≤◌, false, refl, sym, ◌∙◌, ap, subst, arith}, Math.Nat.{mod-lt, mod-eq_of_lt, div-add-mod', mul-mod_left}, lemmas.{Int.{ints, clamps}, Bool.or_from}}
+use Rattle.std.specs.{Prelude.{Some, ℤ, pos, negsuc, ◌+ℤ◌, ◌-ℤ◌, ◌≤ℤ◌, int_lt}, Int.{int_max, int_min}}
+use Rattle.decimal_digits.specs.{Number.{number_limit, offset, weight, first, size, highest_magnitude}, Rounding.{step_of, unit_at, rounded_number}, declared.rounding.{RoundError.{RoundError, TheVariants.{Limit, Memory}}, RoundingIncrement.RoundingIncrement, UnsignedRoundingMode.UnsignedRoundingMode}}
+use Rattle.decimal_unsigned.specs.{Unsigned.{Unsigned, IsValue}, Edits.{padded_start, padded_end}, Rounded.{rounding, reaches_limit}}
+use Rattle.fixed_decimal.specs.{Decimal.{Decimal, signed_number}, SignedRounding.{NamedSigned, mode_at, IsRounded, RoundingFails}}
 use Rattle.fixed_decimal.proofs.Calling.{signed_rounded_to-some, below_limit, offset_is, size_right, ten_pos}
-use Rattle.number_format.specs.declared.digits.options.DigitOptions.{DigitOptions}
-use Rattle.number_format.specs.declared.digits.options.TrailingZeros.{TrailingZeros}
-use Rattle.number_format.specs.declared.digits.precision.Precision.{Precision}
-use Rattle.number_format.specs.ShownDigits.{rounded_with, padded, stripped, shown, base_of, position_of, position_at, last_shown_of, ApplyFails, IsRoundedAt, RoundingFailsAt}
+use Rattle.number_format.specs.{declared.digits.{options.{DigitOptions.DigitOptions, TrailingZeros.TrailingZeros}, precision.Precision.Precision}, ShownDigits.{rounded_with, padded, stripped, shown, base_of, position_of, position_at, last_shown_of, ApplyFails, IsRoundedAt, RoundingFailsAt}}
 use Rattle.number_format.proofs.lemmas.digits.Roundings.{IsChosen, chosen}
 
 -- at a position below the lowest magnitude the unit is that of the lowest one

@@ -1,22 +1,11 @@
 -- Laws of digit options.
-use Rattle.std.proofs.Common.{◌≡◌, ℕ, ◌*◌, ◌/◌, ◌<◌, ◌≤◌, ◌%◌, false, refl, sym, ◌∙◌, ap, subst, arith}
+use Rattle.std.proofs.{Common.{◌≡◌, ℕ, ◌*◌, ◌/◌, ◌<◌, ◌≤◌, ◌%◌, false, refl, sym, ◌∙◌, ap, subst, arith}, Math.Nat.div-add-mod', lemmas.{Int.ints, Bool.Decides.nat_tests}}
 use Rattle.std.specs.Prelude.{Some, ℤ, pos, ◌+ℤ◌}
-use Rattle.std.proofs.Math.Nat.{div-add-mod'}
-use Rattle.std.proofs.lemmas.Int.{ints}
-use Rattle.std.proofs.lemmas.Bool.Decides.{nat_tests}
-use Rattle.decimal_digits.specs.Number.{number_limit, offset, weight}
-use Rattle.decimal_digits.specs.Rounding.{step_of, rounded_number}
-use Rattle.decimal_digits.specs.declared.rounding.RoundingIncrement.{RoundingIncrement}
-use Rattle.decimal_digits.specs.declared.rounding.UnsignedRoundingMode.{UnsignedRoundingMode}
+use Rattle.decimal_digits.specs.{Number.{number_limit, offset, weight}, Rounding.{step_of, rounded_number}, declared.rounding.{RoundingIncrement.RoundingIncrement, UnsignedRoundingMode.UnsignedRoundingMode}}
 use Rattle.decimal_unsigned.specs.Rounded.{reaches_limit}
-use Rattle.fixed_decimal.specs.Decimal.{Decimal}
-use Rattle.fixed_decimal.specs.SignedRounding.{mode_at}
+use Rattle.fixed_decimal.specs.{Decimal.Decimal, SignedRounding.mode_at}
 use Rattle.fixed_decimal.proofs.Calling.{ten_pos, rounded_number-multiple, rounded_number-monotone, rounded_number-idempotent}
-use Rattle.number_format.specs.declared.digits.options.DigitOptions.{DigitOptions}
-use Rattle.number_format.specs.declared.digits.ranges.FractionDigits.{FractionDigits}
-use Rattle.number_format.specs.declared.digits.precision.Precision.{Precision}
-use Rattle.number_format.specs.declared.digits.precision.Precision.TheVariants.{Fraction, Multiples, Significant, MorePrecision, LessPrecision}
-use Rattle.number_format.specs.ShownDigits.{fraction_end, Rounded, to_fixed, rounded_by, rounded_with, shown, applied, IsFractional, KeepsDigits}
+use Rattle.number_format.specs.{declared.digits.{options.DigitOptions.DigitOptions, ranges.FractionDigits.FractionDigits, precision.Precision.{Precision, TheVariants.{Fraction, Multiples, Significant, MorePrecision, LessPrecision}}}, ShownDigits.{fraction_end, Rounded, to_fixed, rounded_by, rounded_with, shown, applied, IsFractional, KeepsDigits}}
 use Rattle.number_format.proofs.lemmas.digits.Applied.{shown_number}
 
 -- ---- A rounding to fraction digits is one to multiples of a unit.

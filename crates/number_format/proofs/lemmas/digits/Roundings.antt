@@ -1,23 +1,9 @@
 -- The first digit of a number before and after a rounding, and the rounding that a precision chooses of two.
-use Rattle.std.proofs.Common.{◌≡◌, ℕ, zero, suc, ◌+◌, ◌-◌, ◌*◌, ◌^◌, ◌<◌, ◌≤◌, inl, inr, refl, sym, ◌∙◌, ap, subst, arith, rules, ◌%◌, Bool, true}
-use Rattle.std.specs.Prelude.{◌⊎◌, nat_le, ℤ, pos, ◌+ℤ◌, ◌≤ℤ◌, ◌<ℤ◌, not, if◌then◌else◌, int_le}
-use Rattle.std.proofs.lemmas.Int.{ints, clamps}
-use Rattle.std.proofs.lemmas.Bool.{cases_lt}
-use Rattle.decimal_digits.specs.Number.{offset, number_limit, magnitude_at, weight, first}
-use Rattle.decimal_digits.specs.Rounding.{unit_at, rounded_number, above, step_of}
-use Rattle.decimal_digits.specs.declared.rounding.RoundingIncrement.TheVariants.{MultiplesOf1}
-use Rattle.decimal_digits.specs.declared.rounding.UnsignedRoundingMode.{UnsignedRoundingMode}
+use Rattle.std.proofs.{Common.{◌≡◌, ℕ, zero, suc, ◌+◌, ◌-◌, ◌*◌, ◌^◌, ◌<◌, ◌≤◌, inl, inr, refl, sym, ◌∙◌, ap, subst, arith, rules, ◌%◌, Bool, true}, lemmas.{Int.{ints, clamps}, Bool.{cases_lt, Decides.nat_tests}, Nat.mod-mul-add}, Math.Nat.mul_assoc}
+use Rattle.std.specs.{Prelude.{◌⊎◌, nat_le, ℤ, pos, ◌+ℤ◌, ◌≤ℤ◌, ◌<ℤ◌, not, if◌then◌else◌, int_le}, Int.{int_max, int_min}}
+use Rattle.decimal_digits.specs.{Number.{offset, number_limit, magnitude_at, weight, first}, Rounding.{unit_at, rounded_number, above, step_of}, declared.rounding.{RoundingIncrement.TheVariants.MultiplesOf1, UnsignedRoundingMode.{UnsignedRoundingMode, TheVariants.Trunc}}}
 use Rattle.fixed_decimal.proofs.Calling.{Extent, extent, first_of, offset_is, ten_pos, powers, first_is, greatest_is, rounded_number-multiple, rounded_number-monotone, weight_up}
-use Rattle.std.proofs.lemmas.Nat.{mod-mul-add}
-use Rattle.std.proofs.lemmas.Bool.Decides.{nat_tests}
-use Rattle.decimal_digits.specs.declared.rounding.UnsignedRoundingMode.TheVariants.{Trunc}
-use Rattle.std.specs.Int.{int_max, int_min}
-use Rattle.std.proofs.Math.Nat.{mul_assoc}
-use Rattle.number_format.specs.declared.digits.ranges.FractionMultiples.{FractionMultiples}
-use Rattle.number_format.specs.declared.digits.precision.BothDigits.{BothDigits}
-use Rattle.number_format.specs.declared.digits.precision.Precision.{Precision}
-use Rattle.number_format.specs.declared.digits.precision.Precision.TheVariants.{MorePrecision, LessPrecision}
-use Rattle.number_format.specs.ShownDigits.{last_at, fraction_end, first_by, increment_of, Rounded, to_precision, to_fixed, zeros_end, one_of, rounded_by, base_of, position_of, position_at, is_finer, last_shown_of}
+use Rattle.number_format.specs.{declared.digits.{ranges.FractionMultiples.FractionMultiples, precision.{BothDigits.BothDigits, Precision.{Precision, TheVariants.{MorePrecision, LessPrecision}}}}, ShownDigits.{last_at, fraction_end, first_by, increment_of, Rounded, to_precision, to_fixed, zeros_end, one_of, rounded_by, base_of, position_of, position_at, is_finer, last_shown_of}}
 
 -- no search for the first digit goes above 65535
 first_highest : (n k : ℕ) → k + 1 ≡ 65536 → 10 ^ k ≤ n → first n ≡ magnitude_at k

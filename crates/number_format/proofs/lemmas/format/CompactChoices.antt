@@ -5,14 +5,8 @@ use Rattle.decimal_format.specs.Symbols.{affixes}
 use Rattle.fixed_decimal.specs.Decimal.{Decimal}
 use Rattle.plural_rules.specs.Operands as operands
 use Rattle.plural_rules.specs.declared.rules.PluralCategory.{PluralCategory}
-use Rattle.locale_data.specs.declared.compact.CompactStyle.{CompactStyle}
-use Rattle.locale_data.specs.declared.compact.UnitAffixes.{UnitAffixes}
-use Rattle.locale_data.specs.declared.tables.compact.TheConstants.{PERCENT_UNITS}
-use Rattle.locale_data.specs.declared.number_formats.NumberFormats.{NumberFormats}
-use Rattle.locale_data.specs.{Compact.IsUnit, Plurals.IsCategoryAt}
-use Rattle.number_format.specs.declared.{format.compact.CompactChoice.CompactChoice, format.formatter.NumberFormatter.NumberFormatter, options.NumberStyle.NumberStyle}
-use Rattle.number_format.specs.FormattedNumbers.{chosen_pattern, ChoosesPattern}
-use Rattle.number_format.specs.NumberText.{compact_magnitude, compact_pattern, compact_style, is_one, percent_texts, unit_texts}
+use Rattle.locale_data.specs.{declared.{compact.{CompactStyle.CompactStyle, UnitAffixes.UnitAffixes}, tables.compact.TheConstants.PERCENT_UNITS, number_formats.NumberFormats.NumberFormats}, Compact.IsUnit, Plurals.IsCategoryAt}
+use Rattle.number_format.specs.{declared.{format.{compact.CompactChoice.CompactChoice, formatter.NumberFormatter.NumberFormatter}, options.NumberStyle.NumberStyle}, FormattedNumbers.{chosen_pattern, ChoosesPattern}, NumberText.{compact_magnitude, compact_pattern, compact_style, is_one, percent_texts, unit_texts}}
 
 pub percent_are : (f : NumberFormats) (category : PluralCategory) (shown : UnitAffixes) → IsUnit f category shown
     → affixes shown.prefix.now shown.suffix.now ≡ percent_texts (slice_get PERCENT_UNITS f.unit) category

@@ -1,11 +1,6 @@
 -- The digits of an exponent are kept without an allocation.
-use Rattle.std.proofs.Common.{◌≡◌, ℕ, ◌+◌, ◌*◌, ◌^◌, ◌<◌, ◌≤◌, false, arith, inl, inr, sym, ◌∙◌, ap}
+use Rattle.std.proofs.{Common.{◌≡◌, ℕ, ◌+◌, ◌*◌, ◌^◌, ◌<◌, ◌≤◌, false, arith, inl, inr, sym, ◌∙◌, ap}, Math.Nat.{mul_assoc, mul-le-mul_right, pow-le-pow_right}, lemmas.{Bool.{cases_lt, Decides.nat_tests}, Int.ints, Nat.pow-add}}
 use Rattle.std.specs.Prelude.{◌==◌, pos, ◌-ℤ◌}
-use Rattle.std.proofs.Math.Nat.{mul_assoc, mul-le-mul_right, pow-le-pow_right}
-use Rattle.std.proofs.lemmas.Bool.{cases_lt}
-use Rattle.std.proofs.lemmas.Bool.Decides.{nat_tests}
-use Rattle.std.proofs.lemmas.Int.{ints}
-use Rattle.std.proofs.lemmas.Nat.{pow-add}
 use Rattle.decimal_digits.specs.Number.{weight, offset, size, first, last}
 use Rattle.fixed_decimal.proofs.Calling.{Extent, extent, ordered, first_of_integer, last_is, gap_is, offset_is, ten_pos}
 

@@ -1,63 +1,45 @@
 -- Pieces of a text, and their texts.
-use Rattle.std.proofs.Common.{◌≡◌, ℕ, zero, suc, ◌+◌, ◌-◌, ◌<◌, List, [], ◌∷◌, ◌++◌, length, get_or, take, drop, take-append-drop, sym, ◌∙◌, ap, subst, refl, arith, append_assoc, append-nil}
+use Rattle.std.proofs.{Common.{◌≡◌, ℕ, zero, suc, ◌+◌, ◌-◌, ◌<◌, List, [], ◌∷◌, ◌++◌, length, get_or, take, drop, take-append-drop, sym, ◌∙◌, ap, subst, refl, arith, append_assoc, append-nil}, lemmas.{List.{take_more, Concat.flat_map-cons}, Grind.flat_map-append}}
 use Rattle.std.specs.Prelude.{Option, Some, None, ℤ, pos, ◌-ℤ◌, Bool, true, false, if◌then◌else◌}
-use Rattle.std.proofs.lemmas.List.{take_more}
-use Rattle.std.proofs.lemmas.List.Concat.{flat_map-cons}
-use Rattle.std.proofs.lemmas.Grind.{flat_map-append}
 use Rattle.decimal_unsigned.specs.Unsigned.{Unsigned}
-use Rattle.fixed_decimal.specs.Decimal.{Decimal}
-use Rattle.fixed_decimal.specs.declared.variations.Sign.{Sign}
-use Rattle.decimal_format.specs.declared.grouping.GroupingStrategy.{GroupingStrategy}
+use Rattle.fixed_decimal.specs.{Decimal.Decimal, declared.variations.Sign.Sign}
+use Rattle.decimal_format.specs.{declared.grouping.GroupingStrategy.{GroupingStrategy, TheVariants.Never}, Formatted.{separator_before, separator_after, magnitude_text, formatted_down, absolute_text, shown_count}, Symbols.{Symbols, digit_text}}
 use Rattle.decimal_digits.specs.Number.{digit}
-use Rattle.decimal_format.specs.declared.grouping.GroupingStrategy.TheVariants.{Never}
-use Rattle.decimal_format.specs.Formatted.{separator_before, separator_after, magnitude_text, formatted_down, absolute_text, shown_count}
-use Rattle.decimal_format.specs.Symbols.{Symbols, digit_text}
 use Rattle.decimal_format.proofs.lemmas.formatter.Magnitudes.{one_more}
-use Rattle.number_format.specs.declared.format.formatted_number.FormattedNumber.{FormattedNumber}
-use Rattle.number_format.specs.declared.format.affixes.{NumberAffixes.{NumberAffixes}, StyleTexts.{StyleTexts}}
-use Rattle.number_format.specs.declared.format.formatter.NumberFormatter.{NumberFormatter}
-use Rattle.number_format.specs.declared.format.text_part.PartKind.{PartKind}
+use Rattle.number_format.specs.{declared.format.{formatted_number.FormattedNumber.FormattedNumber, affixes.{NumberAffixes.NumberAffixes, StyleTexts.StyleTexts}, formatter.NumberFormatter.NumberFormatter, text_part.{PartKind.PartKind, TextPart.TextPart}}, TextParts.{Piece, Puts, PutsPrefix, part_pieces, parts_text, pieces_text, pieces_of, parts_pieces, digit_kind, magnitude_pieces, first_pieces, digit_pieces}, FormattedNumbers.{chosen_pattern, around_of, unit_of, exponent_text, number_text, number_text_if, around_text, formatted_number_text}, NumberText.{compact_style, unit_texts, around_by, exponent_kind, exponent_pieces, exponent_of, number_part, AreParts}, PatternTexts.{literal, pattern_around, sign_text, affixes_for, affixes_of_style, by_sign}}
 use Rattle.number_format.specs.declared.format.text_part.PartKind.TheVariants as kind
-use Rattle.number_format.specs.declared.format.text_part.TextPart.{TextPart}
-use Rattle.number_format.specs.TextParts.{Piece, Puts, PutsPrefix, part_pieces, parts_text, pieces_text, pieces_of, parts_pieces, digit_kind, magnitude_pieces, first_pieces, digit_pieces}
-use Rattle.number_format.specs.FormattedNumbers.{chosen_pattern, around_of, unit_of, exponent_text, number_text, number_text_if, around_text, formatted_number_text}
-use Rattle.number_format.specs.NumberText.{compact_style, unit_texts, around_by, exponent_kind, exponent_pieces, exponent_of, number_part, AreParts}
-use Rattle.number_format.specs.PatternTexts.{literal, pattern_around, sign_text, affixes_for, affixes_of_style, by_sign}
 
-pub puts_nil : (a : Option (List Piece)) → Puts a a []
-puts_nil None = tt
-puts_nil (Some x) = sym (append-nil x)
+pub puts_nil : (a : List Piece → Type 0) → Puts a a []
+puts_nil a = record { grown = λ pieces h. subst a (sym (append-nil pieces)) h }
 
-pub puts_trans : (a b c : Option (List Piece)) (ps qs : List Piece) → Puts a b ps → Puts b c qs → Puts a c (ps ++ qs)
-puts_trans None b c ps qs p q = tt
-puts_trans (Some x) None c ps qs p q = absurd p
-puts_trans (Some x) (Some y) None ps qs p q = absurd q
-puts_trans (Some x) (Some y) (Some z) ps qs p q = q ∙ ap (λ l. l ++ qs) p ∙ append_assoc x ps qs
+pub puts_trans : (a b c : List Piece → Type 0) (ps qs : List Piece) → Puts a b ps → Puts b c qs → Puts a c (ps ++ qs)
+puts_trans a b c ps qs p q =
+    record { grown = λ pieces h. subst c (append_assoc pieces ps qs) (q.grown (pieces ++ ps) (p.grown pieces h)) }
 
 -- a prefix of pieces is a prefix of more pieces
-pub prefix_more : (a b : Option (List Piece)) (ps qs : List Piece) → PutsPrefix a b ps → PutsPrefix a b (ps ++ qs)
+pub prefix_more : (a b : List Piece → Type 0) (ps qs : List Piece) → PutsPrefix a b ps → PutsPrefix a b (ps ++ qs)
 prefix_more a b ps qs (part, rest, e, p) = (part, rest ++ qs, sym (append_assoc part rest qs) ∙ ap (λ l. l ++ qs) e, p)
 
 -- pieces and then a prefix of the next
-pub then_prefix : (a b c : Option (List Piece)) (ps qs : List Piece) → Puts a b ps → PutsPrefix b c qs
+pub then_prefix : (a b c : List Piece → Type 0) (ps qs : List Piece) → Puts a b ps → PutsPrefix b c qs
     → PutsPrefix a c (ps ++ qs)
 then_prefix a b c ps qs q (part, rest, e, p) =
     (ps ++ part, rest, append_assoc ps part rest ∙ ap (λ l. ps ++ l) e, puts_trans a b c ps part q p)
 
 -- a piece that is rejected
-pub prefix_none : (a b : Option (List Piece)) (ps : List Piece) → Puts a b [] → PutsPrefix a b ps
+pub prefix_none : (a b : List Piece → Type 0) (ps : List Piece) → Puts a b [] → PutsPrefix a b ps
 prefix_none a b ps p = ([], ps, refl, p)
 
 -- the prefix that was put, if the first, the second or the third of three lists fails
 module _ (xs ys zs : List Piece) where
-  pub first_of_three : (a b : Option (List Piece)) → PutsPrefix a b xs → PutsPrefix a b (xs ++ (ys ++ zs))
+  pub first_of_three : (a b : List Piece → Type 0) → PutsPrefix a b xs → PutsPrefix a b (xs ++ (ys ++ zs))
   first_of_three a b p = prefix_more a b xs (ys ++ zs) p
 
-  pub second_of_three : (a b c : Option (List Piece)) → Puts a b xs → PutsPrefix b c ys
+  pub second_of_three : (a b c : List Piece → Type 0) → Puts a b xs → PutsPrefix b c ys
       → PutsPrefix a c (xs ++ (ys ++ zs))
   second_of_three a b c p q = then_prefix a b c xs (ys ++ zs) p (prefix_more b c ys zs q)
 
-  pub third_of_three : (a b c d : Option (List Piece)) → Puts a b xs → Puts b c ys → PutsPrefix c d zs
+  pub third_of_three : (a b c d : List Piece → Type 0) → Puts a b xs → Puts b c ys → PutsPrefix c d zs
       → PutsPrefix a d (xs ++ (ys ++ zs))
   third_of_three a b c d p q r = then_prefix a b d xs (ys ++ zs) p (then_prefix b c d ys zs q r)
 
@@ -111,7 +93,7 @@ first_pieces-prefix kind s strategy v n (suc k) =
 
 -- a prefix of one magnitude more is a prefix of all
 pub digits_prefix : (kind : PartKind) (s : Symbols) (strategy : GroupingStrategy) (v : Unsigned) (n : ℕ)
-    (a b c : Option (List Piece)) → n < shown_count v → Puts a b (first_pieces kind s strategy v n)
+    (a b c : List Piece → Type 0) → n < shown_count v → Puts a b (first_pieces kind s strategy v n)
     → PutsPrefix b c (magnitude_pieces kind s strategy v (v.hi -ℤ pos n))
     → PutsPrefix a c (digit_pieces kind s strategy v)
 digits_prefix kind s strategy v n a b c h p q =
@@ -126,6 +108,13 @@ bytes p = p.text
 
 pub text-append : (a b : List Piece) → pieces_text (a ++ b) ≡ pieces_text a ++ pieces_text b
 text-append a b = flat_map-append bytes a b
+
+-- pieces that were put, and others after them
+pub then_put : (ps qs rs : List Piece) (a b c : List ℕ) → b ≡ a ++ pieces_text ps → c ≡ b ++ pieces_text qs → qs ≡ rs
+    → c ≡ a ++ pieces_text (ps ++ rs)
+then_put ps qs rs a b c before here same =
+    here ∙ (λ i. before i ++ pieces_text (same i)) ∙ append_assoc a (pieces_text ps) (pieces_text rs)
+    ∙ ap (λ l. a ++ l) (sym (text-append ps rs))
 
 pub text-of : (k : PartKind) (text : List ℕ) → pieces_text (pieces_of k text) ≡ text
 text-of k [] = refl

@@ -5,8 +5,7 @@ use Rattle.decimal_unsigned.specs.{Edits.multiplied_pow10, Unsigned.{Unsigned, I
 use Rattle.fixed_decimal.specs.{Decimal.{Decimal, with_absolute, with_sign_display, negative_or, displayed_sign}, declared.variations.{Sign.Sign, SignDisplay.SignDisplay}}
 use Rattle.decimal_format.specs.{Formatted.{absolute_text, formatted}, Symbols.{Symbols, sign_affixes}, declared.grouping.GroupingStrategy.{GroupingStrategy, TheVariants.{Auto, Never, Always, Min2}}}
 use Rattle.locale_data.specs.declared.{currency.CurrencyPattern.CurrencyPattern, local_currency.{CurrencyDigits.CurrencyDigits, LocalCurrency.LocalCurrency}, tables.rows.patterns.Pattern.Pattern}
-use Rattle.number_format.specs.declared.{digits.options.DigitOptions.DigitOptions, format.formatter.NumberFormatter.NumberFormatter, format.text_part.PartKind.PartKind}
-use Rattle.number_format.specs.{DefaultDigits.AreDefaultDigits, Formatters.{IsFormatterBy, digits_by, plain_options, style_sizes, with_separators}, NumberStyles.plain_pattern, NumberText.{IsNumberText, rounded_in, number_before_cut, shown_number, exponent_of, compact_magnitude, is_one, compact_pattern, compact_style, unit_texts, around_by, pieces_around}, PatternTexts.{literal, pattern_around}, Scaled.{ScaledValue, scaled_value}, TextParts.{Piece, pieces_text, pieces_of, digit_pieces}}
+use Rattle.number_format.specs.{declared.{digits.options.DigitOptions.DigitOptions, format.{formatter.NumberFormatter.NumberFormatter, text_part.PartKind.PartKind}}, DefaultDigits.AreDefaultDigits, Formatters.{IsFormatterBy, digits_by, plain_options, style_sizes, with_separators}, NumberStyles.plain_pattern, NumberText.{IsNumberText, rounded_in, number_before_cut, shown_number, exponent_of, compact_magnitude, is_one, compact_pattern, compact_style, unit_texts, around_by, pieces_around}, PatternTexts.{literal, pattern_around}, Scaled.{ScaledValue, scaled_value}, TextParts.{Piece, pieces_text, pieces_of, digit_pieces}}
 use Rattle.number_format.proofs.{lemmas.format.PieceTexts.{text-append, text-of, text-of_digits}, lemmas.read.ReadBack.unshifted}
 
 some_same : (x y : ScaledValue) → Some x ≡ Some y → x ≡ y

@@ -1,12 +1,10 @@
 -- Standard notation: one rounding, and the exponent 0.
 use Rattle.std.proofs.{Common.{◌≡◌, ℕ, zero, suc, ◌*◌, ◌/◌, Option, refl, sym, ◌∙◌, ap, arith}, lemmas.Int.ints}
-use Rattle.std.specs.Prelude.{Some, None, option_and_then, ℤ, pos, negsuc, ◌-ℤ◌, ◌≤ℤ◌}
-use Rattle.std.specs.Option.{option_map_or}
+use Rattle.std.specs.{Prelude.{Some, None, option_and_then, ℤ, pos, negsuc, ◌-ℤ◌, ◌≤ℤ◌}, Option.option_map_or}
 use Rattle.decimal_digits.specs.Number.{last}
 use Rattle.decimal_unsigned.specs.{Edits.multiplied_pow10, Unsigned.IsValue}
 use Rattle.fixed_decimal.specs.Decimal.{Decimal, with_absolute}
-use Rattle.number_format.specs.declared.{digits.options.DigitOptions.DigitOptions, notation.Notation.TheVariants.Standard, format.formatter.NumberFormatter.NumberFormatter}
-use Rattle.number_format.specs.{NumberText.{rounded_by, rounded_in, number_before_cut, shown_number}, ShownDigits.{rounded_with, rounded_within, shown, IsRoundedAt}, Scaled.{Settled, settled_with, settled, rounded_number, scaled_value, written, scaled}}
+use Rattle.number_format.specs.{declared.{digits.options.DigitOptions.DigitOptions, notation.Notation.TheVariants.Standard, format.formatter.NumberFormatter.NumberFormatter}, NumberText.{rounded_by, rounded_in, number_before_cut, shown_number}, ShownDigits.{rounded_with, rounded_within, shown, IsRoundedAt}, Scaled.{Settled, settled_with, settled, rounded_number, scaled_value, written, scaled}}
 use Rattle.number_format.proofs.{lemmas.read.ReadBack.unshifted, lemmas.notation.Scales.scaled-some}
 
 last_least : (n : ℕ) → negsuc 32767 ≤ℤ last n

@@ -1,31 +1,13 @@
 -- The significand and the exponent of a number: the exponent is that of the rounded number, also if it carries.
 use lib.Signed.{mag}
-use Rattle.std.proofs.Common.{w16, to_z, of_z, ◌≡◌, ℕ, ◌+◌, ◌-◌, ◌*◌, ◌/◌, ◌^◌, ◌<◌, ◌≤◌, Bool, false, inl, inr, refl, sym, ◌∙◌, ap, arith, subst, ◌%◌}
-use Rattle.std.specs.Prelude.{if◌then◌else◌, nat_lt, ◌⊎◌, ◌||◌, Option, Some, None, option_map, option_and_then, unsigned_abs, ℤ, pos, negsuc, ◌+ℤ◌, ◌-ℤ◌, ◌≤ℤ◌, int_lt, ◌<ℤ◌}
-use Rattle.std.specs.Int.{int_max, int_min}
-use Rattle.std.proofs.Math.Nat.{mul_assoc, le-mul_of_pos_right, mul-lt-mul_of_pos_right, mul-mod_left, div-add-mod', div-le_self, pow-le-pow_right}
-use Rattle.std.proofs.lemmas.Int.{ints, clamps}
-use Rattle.std.proofs.lemmas.Bool.{cases_Bool, cases_lt, cases_eq}
-use Rattle.std.proofs.lemmas.Bool.Decides.{nat_tests}
-use Rattle.decimal_digits.specs.Number.{offset, number_limit, first, last, lowest_magnitude, highest_magnitude, weight}
+use Rattle.std.proofs.{Common.{w16, to_z, of_z, ◌≡◌, ℕ, ◌+◌, ◌-◌, ◌*◌, ◌/◌, ◌^◌, ◌<◌, ◌≤◌, Bool, false, inl, inr, refl, sym, ◌∙◌, ap, arith, subst, ◌%◌}, Math.Nat.{mul_assoc, le-mul_of_pos_right, mul-lt-mul_of_pos_right, mul-mod_left, div-add-mod', div-le_self, pow-le-pow_right}, lemmas.{Int.{ints, clamps}, Bool.{cases_Bool, cases_lt, cases_eq, Decides.nat_tests}}}
+use Rattle.std.specs.{Prelude.{if◌then◌else◌, nat_lt, ◌⊎◌, ◌||◌, Option, Some, None, option_map, option_and_then, unsigned_abs, ℤ, pos, negsuc, ◌+ℤ◌, ◌-ℤ◌, ◌≤ℤ◌, int_lt, ◌<ℤ◌}, Int.{int_max, int_min}}
+use Rattle.decimal_digits.specs.{Number.{offset, number_limit, first, last, lowest_magnitude, highest_magnitude, weight}, Rounding.{unit_at, rounded_number}, declared.rounding.{RoundingIncrement.TheVariants.MultiplesOf1, UnsignedRoundingMode.UnsignedRoundingMode}}
 use Rattle.decimal_unsigned.specs.Rounded.{reaches_limit}
-use Rattle.fixed_decimal.specs.Decimal.{Decimal}
-use Rattle.fixed_decimal.specs.declared.variations.Sign.{Sign}
+use Rattle.fixed_decimal.specs.{Decimal.Decimal, declared.variations.Sign.Sign, SignedRounding.mode_at}
 use Rattle.fixed_decimal.proofs.Calling.{narrow_kept, extent, first_of, last_of, offset_is, ten_pos, powers, first_up, first_zero, first_le}
-use Rattle.number_format.specs.declared.digits.options.DigitOptions.{DigitOptions}
-use Rattle.number_format.specs.declared.notation.Notation.{Notation}
-use Rattle.number_format.specs.ShownDigits.{Rounded, position_at, rounded_at, rounded_within, shown, base_of}
-use Rattle.number_format.specs.Scaled.{exponent_from_0, whole_exponent, carried_exponent, base_exponent, raised, Settled, settled_with, settled, ScaledValue, scaled_value, written, scaled, KeepsValueOf, exponent_at, compact_exponent, HasNoIncrement, IsOrdered, KeepsExponent}
-use Rattle.number_format.proofs.lemmas.digits.Applied.{shown_number}
-use Rattle.decimal_digits.specs.Rounding.{unit_at, rounded_number}
-use Rattle.decimal_digits.specs.declared.rounding.RoundingIncrement.TheVariants.{MultiplesOf1}
-use Rattle.decimal_digits.specs.declared.rounding.UnsignedRoundingMode.{UnsignedRoundingMode}
-use Rattle.fixed_decimal.specs.SignedRounding.{mode_at}
-use Rattle.number_format.specs.declared.notation.Notation.TheVariants.{Standard, Scientific, Engineering, Compact}
-use Rattle.number_format.specs.declared.digits.precision.Precision.{Precision}
-use Rattle.number_format.specs.declared.digits.precision.Precision.TheVariants.{Multiples}
-use Rattle.number_format.proofs.lemmas.digits.Roundings.{chosen, carry_coarser, unit_some, kept, limited, IsNear, first_near, order}
-use Rattle.number_format.specs.declared.notation.CompactExponents.{CompactExponents}
+use Rattle.number_format.specs.{declared.{digits.{options.DigitOptions.DigitOptions, precision.Precision.{Precision, TheVariants.Multiples}}, notation.{Notation.{Notation, TheVariants.{Standard, Scientific, Engineering, Compact}}, CompactExponents.CompactExponents}}, ShownDigits.{Rounded, position_at, rounded_at, rounded_within, shown, base_of}, Scaled.{exponent_from_0, whole_exponent, carried_exponent, base_exponent, raised, Settled, settled_with, settled, ScaledValue, scaled_value, written, scaled, KeepsValueOf, exponent_at, compact_exponent, HasNoIncrement, IsOrdered, KeepsExponent}}
+use Rattle.number_format.proofs.lemmas.digits.{Applied.shown_number, Roundings.{chosen, carry_coarser, unit_some, kept, limited, IsNear, first_near, order}}
 
 -- ---- Shifts.
 -- a multiplication moves the first digit up

@@ -3,8 +3,7 @@ use Rattle.std.proofs.{Common.{◌≡◌, ◌≢◌, ℕ, ◌<◌, Bool, false, 
 use Rattle.std.specs.{Prelude.{Result, Err, if◌then◌else◌, pos, ◌-◌}, Int.Digits.AllBelowBase}
 use Rattle.decimal_unsigned.specs.{Unsigned.IsValue, declared.error.ParseError.{ParseError, TheVariants.Syntax}}
 use Rattle.fixed_decimal.specs.{Decimal.Decimal, declared.variations.Sign.{Sign, TheVariants.{None, Negative, Positive}}}
-use Rattle.decimal_format.specs.declared.grouping.GroupingStrategy.{GroupingStrategy}
-use Rattle.decimal_format.specs.{Formatted.absolute_text, Grouping.is_grouped, Readable.{IsReadable, BeginsWithDigit, EndsWithDigit}, Reading.{Numeral, AreDigits, IsNumeral, IsWritten, IsRead, digits_text, fraction_text, absolute_numeral_text, separated_by}, Symbols.{Symbols, Affixes, digit_text, sign_affixes}}
+use Rattle.decimal_format.specs.{declared.grouping.GroupingStrategy.GroupingStrategy, Formatted.absolute_text, Grouping.is_grouped, Readable.{IsReadable, BeginsWithDigit, EndsWithDigit}, Reading.{Numeral, AreDigits, IsNumeral, IsWritten, IsRead, digits_text, fraction_text, absolute_numeral_text, separated_by}, Symbols.{Symbols, Affixes, digit_text, sign_affixes}}
 use Rattle.decimal_format.proofs.lemmas.reader.{NumeralLaws.{texts_are_unique, none_read, with_sign, read_inside}, Around.no_sign, NumeralTexts.{digits_of_value, absolute_is}, Scans.{begins-append, number_begins, none_after_last, strategy_is}}
 use Rattle.number_format.specs.{AffixedTexts.{Reader, AreNamed, ArePairApart, between, text_with, IsShown, IsShownNumeral, IsBetween}, PatternTexts.by_sign}
 use Rattle.number_format.proofs.lemmas.read.NamedAffixes.{ends-append}

@@ -4,8 +4,7 @@ use Rattle.std.specs.Prelude.{Some}
 use Rattle.decimal_unsigned.specs.Unsigned.{IsValue}
 use Rattle.fixed_decimal.specs.{Decimal.Decimal, declared.variations.Sign.Sign}
 use Rattle.decimal_format.specs.Formatted.{absolute_text}
-use Rattle.number_format.specs.declared.{format.affixes.StyleTexts.StyleTexts, format.formatter.NumberFormatter.NumberFormatter, options.{NumberOptions.NumberOptions, NumberNotation.NumberNotation}, format.text_part.PartKind.PartKind}
-use Rattle.number_format.specs.{Formatters.{IsFormatter}, AffixedTexts.{text_with}, NumberReading.{IsStandard, reader_of, CanRead, IsShownAs}, NumberText.{IsNumberText, shown_sign, compact_magnitude, is_one, compact_pattern, compact_style, unit_texts, around_by, pieces_around, exponent_of}, PatternTexts.{pattern_around, affixes_for, by_sign, affixes_of_style}, Scaled.ScaledValue, TextParts.{digit_pieces, pieces_text}}
+use Rattle.number_format.specs.{declared.{format.{formatter.NumberFormatter.NumberFormatter, text_part.PartKind.PartKind}, options.{NumberOptions.NumberOptions, NumberNotation.NumberNotation}}, Formatters.IsFormatter, AffixedTexts.text_with, NumberReading.{IsStandard, reader_of, CanRead, IsShownAs}, NumberText.{IsNumberText, shown_sign, compact_magnitude, is_one, compact_pattern, compact_style, unit_texts, around_by, pieces_around, exponent_of}, PatternTexts.{pattern_around, affixes_for}, Scaled.ScaledValue, TextParts.{digit_pieces, pieces_text}}
 use Rattle.number_format.proofs.{lemmas.read.AffixedNumbers.named_texts_are_unique, lemmas.format.PieceTexts.{by_sign_is, text-of_digits, text-three}}
 
 some_same : (x y : ScaledValue) → Some x ≡ Some y → x ≡ y

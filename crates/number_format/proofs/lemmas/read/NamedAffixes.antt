@@ -4,8 +4,7 @@ use Rattle.std.specs.{Prelude.{◌↔◌, not, nat_eq, IsTrue, Option, Some, Non
 use Rattle.fixed_decimal.specs.declared.variations.Sign.{Sign}
 use Rattle.decimal_format.specs.{Readable.{BeginsWithDigit, EndsWithDigit}, Symbols.{Symbols, Affixes, digit_text}}
 use Rattle.decimal_format.proofs.lemmas.reader.{Codes.meet, Scans.begins-append}
-use Rattle.number_format.specs.declared.format.by_sign.BySign.{BySign}
-use Rattle.number_format.specs.{AffixedTexts.{ArePrefixesApart, AreSuffixesApart, ArePairApart, AreNamed}, PatternTexts.by_sign}
+use Rattle.number_format.specs.{declared.format.by_sign.BySign.BySign, AffixedTexts.{ArePrefixesApart, AreSuffixesApart, ArePairApart, AreNamed}, PatternTexts.by_sign}
 
 -- ---- Characters.
 

@@ -5,8 +5,7 @@ use Rattle.decimal_digits.specs.Number.{offset, weight, first, last, number_limi
 use Rattle.decimal_unsigned.specs.{Edits.{leaves_limits, multiplied, multiplied_pow10}, Unsigned.{Unsigned, IsValue}}
 use Rattle.fixed_decimal.specs.Decimal.{Decimal, with_absolute}
 use Rattle.fixed_decimal.proofs.Calling.{powers, offset_is, ten_pos, extent, first_of, last_of, first_le, last_zero}
-use Rattle.number_format.specs.declared.{digits.options.{DigitOptions.DigitOptions, TrailingZeros.{TrailingZeros, TheVariants.{Auto, StripIfInteger}}}, format.formatter.NumberFormatter.NumberFormatter, notation.Notation.Notation}
-use Rattle.number_format.specs.{NumberReading.IsShownAs, NumberText.rounded_in, Scaled.{ScaledValue, scaled_value, Settled, base_exponent, raised as raised_to, written, settled, scaled}, ShownDigits.{padded, stripped, shown}}
+use Rattle.number_format.specs.{declared.{digits.options.{DigitOptions.DigitOptions, TrailingZeros.{TrailingZeros, TheVariants.{Auto, StripIfInteger}}}, format.formatter.NumberFormatter.NumberFormatter, notation.Notation.Notation}, NumberReading.IsShownAs, NumberText.rounded_in, Scaled.{ScaledValue, scaled_value, Settled, base_exponent, raised as raised_to, written, settled, scaled}, ShownDigits.{padded, stripped, shown}}
 
 -- a power of ten divides a number that ends with no fewer zeros
 ends_low : (n factor bottom low : ℕ) → low ≤ bottom → n ≡ factor * 10 ^ bottom → n % 10 ^ low ≡ 0

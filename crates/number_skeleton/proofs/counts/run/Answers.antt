@@ -1,6 +1,4 @@
-use Rattle.std.proofs.Common.{◌∙◌, sym, arith}
-use Rattle.std.proofs.lemmas.Grind.{common_steps}
-use Rattle.std.proofs.lemmas.List.Sums.{position_or_len_is}
+use Rattle.std.proofs.{Common.{◌∙◌, sym, arith}, lemmas.{Grind.common_steps, List.Sums.position_or_len_is}}
 use Rattle.number_skeleton.specs.Counts.{is_outside}
 use Rattle.number_skeleton.proofs.counts.run.Goals as goal
 

@@ -1,5 +1,4 @@
-use Rattle.std.proofs.Common.{arith}
-use Rattle.std.proofs.lemmas.Grind.{common_steps}
+use Rattle.std.proofs.{Common.arith, lemmas.Grind.common_steps}
 use Rattle.number_skeleton.proofs.digits.unit_of.Goals as goal
 
 pub returns-in-0-clause-value : goal.returns-in-0-clause-value

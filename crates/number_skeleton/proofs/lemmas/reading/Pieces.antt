@@ -1,11 +1,6 @@
 -- The pieces of a text from an offset, byte by byte.
-use Rattle.std.proofs.Common.{◌≡◌, ℕ, ◌+◌, ◌-◌, ◌<◌, ◌≤◌, ◌==◌, false, List, [], ◌∷◌, ◌++◌, length, take, drop, get_or, refl, ap, sym, ◌∙◌, add-one, arith, length-drop, drop-cons, Ok, Err}
-use Rattle.std.proofs.lemmas.Grind.{common_steps}
-use Rattle.std.proofs.lemmas.Bool.Decides.{nat_tests}
-use Rattle.std.proofs.lemmas.List.{take_more, get_or-drop}
-use Rattle.number_skeleton.specs.declared.error.SkeletonError.{SkeletonError}
-use Rattle.number_skeleton.specs.declared.reading.Reading.{Reading}
-use Rattle.number_skeleton.specs.Reading.{Piece, pieces, separator_length, next, read_pieces, no_stems, choices_of, and_then}
+use Rattle.std.proofs.{Common.{◌≡◌, ℕ, ◌+◌, ◌-◌, ◌<◌, ◌≤◌, ◌==◌, false, List, [], ◌∷◌, ◌++◌, length, take, drop, get_or, refl, ap, sym, ◌∙◌, add-one, arith, length-drop, drop-cons, Ok, Err}, lemmas.{Grind.common_steps, Bool.Decides.nat_tests, List.{take_more, get_or-drop}}}
+use Rattle.number_skeleton.specs.{declared.{error.SkeletonError.SkeletonError, reading.Reading.Reading}, Reading.{Piece, pieces, separator_length, next, read_pieces, no_stems, choices_of, and_then}}
 
 -- the bytes of a text between two offsets
 abbrev pub between : List ℕ → ℕ → ℕ → List ℕ

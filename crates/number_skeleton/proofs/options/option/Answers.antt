@@ -1,7 +1,6 @@
 use Rattle.std.proofs.Common.{◌≡◌, ℕ, sym, ap, ◌∙◌, List}
 use Rattle.std.specs.Prelude.{Option}
-use Rattle.number_skeleton.specs.declared.meaning.{Expected.Expected, Meaning.Meaning}
-use Rattle.number_skeleton.specs.Options.{option}
+use Rattle.number_skeleton.specs.{declared.meaning.{Expected.Expected, Meaning.Meaning}, Options.option}
 use Rattle.number_skeleton.proofs.options.option.Goals as goal
 
 by : {e f : Expected} {m : Option Meaning} (text : List ℕ) → e ≡ f → m ≡ option f text → m ≡ option e text

@@ -1,8 +1,6 @@
-use Rattle.std.proofs.Common.{◌∙◌, sym, arith}
-use Rattle.std.proofs.lemmas.Result.{err_from_is_err_and}
-use Rattle.number_skeleton.proofs.lemmas.reading.Pieces.{read_to_next, read_more, error_at_next, error_at_end, read_whole}
+use Rattle.std.proofs.{Common.{◌∙◌, sym, arith}, lemmas.Result.err_from_is_err_and}
+use Rattle.number_skeleton.proofs.{lemmas.reading.Pieces.{read_to_next, read_more, error_at_next, error_at_end, read_whole}, reading.read_choices.Goals.{then-length-gt0+in_ok-reading, else-length-gt0}}
 use Rattle.number_skeleton.proofs.reading.read_choices.Goals as goal
-use Rattle.number_skeleton.proofs.reading.read_choices.Goals.{then-length-gt0+in_ok-reading, else-length-gt0}
 
 pub returns-in_err-reading : goal.returns-in_err-reading
 returns-in_err-reading c =

@@ -1,22 +1,10 @@
 -- The operands are those of the digits of the text.
-use Rattle.std.proofs.Common.{◌≡◌, ℕ, ◌+◌, ◌-◌, ◌*◌, ◌^◌, ◌<◌, ◌≤◌, List, ◌++◌, length, sym, ◌∙◌, subst, arith}
-use Rattle.std.specs.Prelude.{None, Ok, pos, ◌-ℤ◌}
-use Rattle.std.specs.Int.{int_gap}
-use Rattle.std.specs.Str.Parse.{AllDigits, digits_value}
-use Rattle.std.proofs.lemmas.Int.{ints}
-use Rattle.std.proofs.lemmas.Int.Digits.{digits_value_is, digits_value-lt}
-use Rattle.std.proofs.lemmas.List.{map-append, length-map}
-use Rattle.std.proofs.lemmas.Nat.{div-mul-add, mod-mul-add}
-use Rattle.std.proofs.lemmas.Bool.Decides.{nat_tests}
-use Rattle.std.proofs.Math.Nat.{mul-div_cancel, mul-div-mul_right}
+use Rattle.std.proofs.{Common.{◌≡◌, ℕ, ◌+◌, ◌-◌, ◌*◌, ◌^◌, ◌<◌, ◌≤◌, List, ◌++◌, length, sym, ◌∙◌, subst, arith, rules}, lemmas.{Int.{ints, Digits.{digits_value_is, digits_value-lt}}, List.{map-append, length-map}, Nat.{div-mul-add, mod-mul-add}, Bool.Decides.nat_tests}, Math.Nat.{mul-div_cancel, mul-div-mul_right}}
+use Rattle.std.specs.{Prelude.{None, Ok, pos, ◌-ℤ◌}, Int.int_gap, Str.Parse.{AllDigits, digits_value}}
 use Rattle.decimal_digits.specs.Number.{offset, weight}
-use Rattle.decimal_unsigned.specs.Grammar.{Literal, Grammar}
-use Rattle.decimal_unsigned.specs.Reading.{mantissa, scaled, value_of, read, FollowsGrammar}
-use Rattle.decimal_unsigned.specs.Unsigned.{Unsigned}
-use Rattle.decimal_unsigned.specs.Text.{text}
+use Rattle.decimal_unsigned.specs.{Grammar.{Literal, Grammar}, Reading.{mantissa, scaled, value_of, read, FollowsGrammar}, Unsigned.Unsigned, Text.text}
 use Rattle.fixed_decimal.proofs.Calling.{ten_pos, offset_is, gap_is, powers, number-append}
 use Rattle.plural_rules.specs.Operands.{MatchesDigits}
-use Rattle.std.proofs.Common.{rules}
 
 -- the value of two lists of digits, one after the other
 numeral_append : (xs ys : List ℕ)

@@ -1,15 +1,9 @@
 -- Some of the digits of a number, as an integer.
-use Rattle.std.proofs.Common.{◌≡◌, ℕ, zero, suc, ◌+◌, ◌-◌, ◌*◌, ◌/◌, ◌%◌, ◌^◌, ◌<◌, ◌≤◌, refl, sym, ◌∙◌, ap, subst, arith}
-use Rattle.std.proofs.Math.Nat.{pow-suc, mod-lt, div-add-mod', div-div-eq-div-mul, mod-add-mod, mod-one, mod-eq_of_lt, dvd-mul_left, mod-mod_of_dvd}
-use Rattle.std.specs.Int.{◌∣◌}
-use Rattle.std.proofs.lemmas.Nat.Gcd.{dvd_refl}
-use Rattle.std.proofs.lemmas.Nat.{mod-mul-add, mul-mod_first, pow-add, div_below}
-use Rattle.std.specs.Prelude.{ℤ, pos, ◌-ℤ◌}
-use Rattle.std.proofs.lemmas.Int.{ints}
+use Rattle.std.proofs.{Common.{◌≡◌, ℕ, zero, suc, ◌+◌, ◌-◌, ◌*◌, ◌/◌, ◌%◌, ◌^◌, ◌<◌, ◌≤◌, refl, sym, ◌∙◌, ap, subst, arith, rules}, Math.Nat.{pow-suc, mod-lt, div-add-mod', div-div-eq-div-mul, mod-add-mod, mod-one, mod-eq_of_lt, dvd-mul_left, mod-mod_of_dvd}, lemmas.{Nat.{Gcd.dvd_refl, mod-mul-add, mul-mod_first, pow-add, div_below}, Int.ints}}
+use Rattle.std.specs.{Int.◌∣◌, Prelude.{ℤ, pos, ◌-ℤ◌}}
 use Rattle.decimal_digits.specs.Number.{offset, digit}
 use Rattle.fixed_decimal.proofs.Calling.{ten_pos, offset_is, powers}
 use Rattle.plural_rules.specs.DigitSlice.{digit_slice}
-use Rattle.std.proofs.Common.{rules}
 
 -- no digits have the value 0
 pub digit_slice-zero : (n top : ℕ) → digit_slice n top 0 ≡ 0

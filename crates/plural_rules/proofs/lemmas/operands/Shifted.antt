@@ -1,17 +1,10 @@
 -- The digits of a number times a power of ten.
-use Rattle.std.proofs.Common.{◌≡◌, ℕ, zero, suc, ◌+◌, ◌-◌, ◌*◌, ◌/◌, ◌%◌, ◌^◌, ◌<◌, ◌≤◌, ◌==◌, refl, sym, ◌∙◌, ap, arith, rules, inl, inr}
-use Rattle.std.specs.Prelude.{ℤ, pos, negsuc, ◌+ℤ◌, ◌≤ℤ◌}
-use Rattle.std.specs.Int.{int_max, int_min, ◌∣◌}
-use Rattle.std.proofs.Math.Nat.{mod-lt, dvd-mul_left, mul-lt-mul_of_pos_right, mul-pos, div-add-mod', div-eq_of_lt, pow-le-pow_right}
-use Rattle.std.proofs.lemmas.Nat.{mod-mul-add}
-use Rattle.std.proofs.lemmas.Nat.Gcd.{dvd_trans, dvd_of_mod-eq-zero, mod-eq-zero_of_dvd}
-use Rattle.std.proofs.lemmas.Int.{ints, clamps}
-use Rattle.std.proofs.lemmas.Bool.{cases_lt}
+use Rattle.std.proofs.{Common.{◌≡◌, ℕ, zero, suc, ◌+◌, ◌-◌, ◌*◌, ◌/◌, ◌%◌, ◌^◌, ◌<◌, ◌≤◌, ◌==◌, refl, sym, ◌∙◌, ap, arith, rules, inl, inr}, Math.Nat.{mod-lt, dvd-mul_left, mul-lt-mul_of_pos_right, mul-pos, div-add-mod', div-eq_of_lt, pow-le-pow_right}, lemmas.{Nat.{mod-mul-add, Gcd.{dvd_trans, dvd_of_mod-eq-zero, mod-eq-zero_of_dvd}}, Int.{ints, clamps}, Bool.cases_lt}}
+use Rattle.std.specs.{Prelude.{ℤ, pos, negsuc, ◌+ℤ◌, ◌≤ℤ◌}, Int.{int_max, int_min, ◌∣◌}}
 use Rattle.decimal_digits.specs.Number.{offset, last, magnitude_at, IsFirst, IsLast}
 use Rattle.decimal_unsigned.specs.Unsigned.{Unsigned}
 use Rattle.fixed_decimal.proofs.Calling.{ten_pos, offset_is, gap_is, shift_down, last_at, last_zero, greatest_is, powers}
-use Rattle.plural_rules.specs.Operands.{Operands, compact, i, v, f}
-use Rattle.plural_rules.specs.DigitSlice.{digit_slice}
+use Rattle.plural_rules.specs.{Operands.{Operands, compact, i, v, f}, DigitSlice.digit_slice}
 use Rattle.plural_rules.proofs.lemmas.operands.DigitSlice.{digit_slice-all, digit_slice-zero}
 
 -- a number is less than the weight of the place above its first digit

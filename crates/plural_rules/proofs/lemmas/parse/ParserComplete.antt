@@ -1,29 +1,13 @@
 -- The reader accepts a text of the grammar, with the meaning by the grammar; if its numbers fit, in strict mode too.
-use Rattle.std.proofs.Common.{◌≡◌, ◌≢◌, ℕ, ◌+◌, ◌-◌, ◌*◌, ◌^◌, ◌<◌, ◌≤◌, ◌==◌, nat_le, nat_lt, Bool, true, false, cond, not, ◌||◌, List, [], ◌∷◌, ◌++◌, length, refl, sym, ◌∙◌, ap, arith, append_assoc}
-use Rattle.std.specs.Prelude.{Option, Some, None, IfSome, codes}
-use Rattle.std.proofs.lemmas.Bool.{and_parts, le-leb}
-use Rattle.std.proofs.lemmas.Bool.Decides.{nat_tests}
-use Rattle.std.specs.Char.{is_ascii_digit, digit_value}
-use Rattle.std.specs.List.{AllByRecursion}
-use Rattle.std.specs.Str.{all_ascii_digits}
-use Rattle.std.specs.Str.Parse.{digits_value_after}
-use Rattle.plural_rules.specs.declared.rules.PluralCategory.{PluralCategory}
+use Rattle.std.proofs.{Common.{◌≡◌, ◌≢◌, ℕ, ◌+◌, ◌-◌, ◌*◌, ◌^◌, ◌<◌, ◌≤◌, ◌==◌, nat_le, nat_lt, Bool, true, false, cond, not, ◌||◌, List, [], ◌∷◌, ◌++◌, length, refl, sym, ◌∙◌, ap, arith, append_assoc, rules}, lemmas.Bool.{and_parts, le-leb, Decides.nat_tests}}
+use Rattle.std.specs.{Prelude.{Option, Some, None, IfSome, codes}, Char.{is_ascii_digit, digit_value}, List.AllByRecursion, Str.{all_ascii_digits, Parse.digits_value_after}}
+use Rattle.plural_rules.specs.{declared.{rules.{PluralCategory.PluralCategory, Operand.Operand, Range.Range}, parse.state.{State.State, Event.Event, Categories.Categories}}, Rules.{name_of, RelationValue, RuleValue, rule}, RulesGrammar.{is_blank, operand_word, HasNoLeadingDigit, HasDistinctCategories, Grammar}, RulesParseResult.{RangeFits, RelationFits, AndConditionFits, RuleFits, Fits}, RulesReader.{has, with, is_full, no_categories, Partial, no_rules, end_range, end_relation, end_alternative, after, next, follows_range, at_end, condition_of, limit}}
 use Rattle.plural_rules.specs.declared.rules.PluralCategory.TheVariants as category
-use Rattle.plural_rules.specs.declared.rules.Operand.{Operand}
 use Rattle.plural_rules.specs.declared.rules.Operand.TheVariants as operand_variants
-use Rattle.plural_rules.specs.declared.rules.Range.{Range}
-use Rattle.plural_rules.specs.declared.parse.state.State.{State}
 use Rattle.plural_rules.specs.declared.parse.state.State.TheVariants as state
-use Rattle.plural_rules.specs.declared.parse.state.Event.{Event}
 use Rattle.plural_rules.specs.declared.parse.state.Event.TheVariants as event
-use Rattle.plural_rules.specs.declared.parse.state.Categories.{Categories}
-use Rattle.plural_rules.specs.Rules.{name_of, RelationValue, RuleValue, rule}
 use Rattle.plural_rules.specs.RulesGrammar as g
-use Rattle.plural_rules.specs.RulesGrammar.{is_blank, operand_word, HasNoLeadingDigit, HasDistinctCategories, Grammar}
-use Rattle.plural_rules.specs.RulesParseResult.{RangeFits, RelationFits, AndConditionFits, RuleFits, Fits}
-use Rattle.plural_rules.specs.RulesReader.{has, with, is_full, no_categories, Partial, no_rules, end_range, end_relation, end_alternative, after, next, follows_range, at_end, condition_of, limit}
 use Rattle.plural_rules.proofs.lemmas.parse.RulesRun.{allowed, finish, finished, transitions, run, read, read_text}
-use Rattle.std.proofs.Common.{rules}
 
 -- ---- Bytes.
 

@@ -1,27 +1,10 @@
 -- What the loop of `read` knows of a text after each byte.
-use Rattle.std.proofs.Common.{◌≡◌, ℕ, ◌+◌, ◌-◌, ◌*◌, ◌<◌, ◌≤◌, nat_le, Bool, true, false, not, cond, List, length, take, drop, get_or, refl, sym, ◌∙◌, ap, subst, arith}
-use Rattle.std.specs.Prelude.{Some, None}
-use Rattle.std.specs.Char.{is_ascii_digit}
-use Rattle.std.proofs.lemmas.Bool.{and_parts, false≢true}
-use Rattle.std.proofs.lemmas.Bool.Decides.{nat_tests}
-use Rattle.std.proofs.lemmas.List.{take_all, take-append-drop}
-use Rattle.plural_rules.specs.declared.parse.state.State.{State}
-use Rattle.plural_rules.specs.declared.parse.state.Event.{Event}
-use Rattle.plural_rules.specs.declared.parse.state.Categories.{Categories}
-use Rattle.plural_rules.specs.declared.parse.numbers.Numbers.{Numbers}
-use Rattle.plural_rules.specs.declared.parse.numbers.Numbers.TheVariants.{Fit, TooLarge}
-use Rattle.plural_rules.specs.RulesGrammar.{Grammar}
-use Rattle.plural_rules.specs.RulesReader.{no_categories, no_rules, Partial, after, seen_after, next, at_end, limit, checked_number, numbers_after, all_fit}
-use Rattle.plural_rules.specs.RulesParseResult.{IsFittingPrefix, AreDigits, HasNoDigitBefore, Fits, IsLimitErrorAt}
-use Rattle.plural_rules.proofs.lemmas.parse.RulesRun.{is_open, starts_number, is_digits, is_valid, transition_is_valid, allowed, any_allowed, run_text, finish, finished, read_text, run_more, read_fits, reached_strictly}
-use Rattle.plural_rules.proofs.lemmas.parse.ParserSound.{read-sound}
-use Rattle.plural_rules.proofs.lemmas.parse.ViablePrefixes.{can_fit, stopped}
-use Rattle.plural_rules.specs.declared.parse.builder.Builder.{Builder}
-use Rattle.plural_rules.specs.Rules.{RuleValue}
-use Rattle.plural_rules.specs.RulesBuilder.{partial, IsSmall}
+use Rattle.std.proofs.{Common.{◌≡◌, ℕ, ◌+◌, ◌-◌, ◌*◌, ◌<◌, ◌≤◌, nat_le, Bool, true, false, not, cond, List, length, take, drop, get_or, refl, sym, ◌∙◌, ap, subst, arith, rules}, lemmas.{Bool.{and_parts, false≢true, Decides.nat_tests}, List.{take_all, take-append-drop}}}
+use Rattle.std.specs.{Prelude.{Some, None}, Char.is_ascii_digit}
+use Rattle.plural_rules.specs.{declared.parse.{state.{State.State, Event.Event, Categories.Categories}, numbers.Numbers.{Numbers, TheVariants.{Fit, TooLarge}}, builder.Builder.Builder}, RulesGrammar.Grammar, RulesReader.{no_categories, no_rules, Partial, after, seen_after, next, at_end, limit, checked_number, numbers_after, all_fit}, RulesParseResult.{IsFittingPrefix, AreDigits, HasNoDigitBefore, Fits, IsLimitErrorAt}, Rules.RuleValue, RulesBuilder.{partial, IsSmall}}
+use Rattle.plural_rules.proofs.lemmas.parse.{RulesRun.{is_open, starts_number, is_digits, is_valid, transition_is_valid, allowed, any_allowed, run_text, finish, finished, read_text, run_more, read_fits, reached_strictly}, ParserSound.read-sound, ViablePrefixes.{can_fit, stopped}}
 use Rattle.plural_rules.specs.declared.parse.state.State.TheVariants as state
 use Rattle.plural_rules.specs.declared.parse.state.Event.TheVariants as event
-use Rattle.std.proofs.Common.{rules}
 
 -- a number starts at `begin`, where the text before it is a prefix of rules that fit, and its digits reach to `end`
 pub record Begun (text : List ℕ) (begin end : ℕ) : Type 0 where

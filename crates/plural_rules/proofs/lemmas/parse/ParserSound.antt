@@ -1,29 +1,14 @@
 -- A text that the reader accepts is in the grammar: for each state, the form of a text that is accepted from it.
-use Rattle.std.proofs.Common.{◌≡◌, ◌≢◌, ℕ, suc, ◌+◌, ◌-◌, ◌*◌, ◌<◌, ◌≤◌, ◌==◌, nat_lt, Bool, true, false, cond, ◌&&◌, ◌||◌, List, [], ◌∷◌, ◌++◌, length, drop, get_or, refl, sym, ◌∙◌, ap, arith, eqb-true, drop-cons}
-use Rattle.std.specs.Prelude.{Some, None, codes}
-use Rattle.std.proofs.lemmas.Bool.{and_from, ltb-true}
-use Rattle.std.proofs.lemmas.List.{drop_all}
-use Rattle.std.proofs.lemmas.Bool.Decides.{nat_tests}
-use Rattle.std.specs.Char.{is_ascii_digit, digit_value}
-use Rattle.std.specs.List.{AllByRecursion}
-use Rattle.std.specs.Str.Parse.{digits_value, digits_value_after}
-use Rattle.plural_rules.specs.declared.rules.PluralCategory.{PluralCategory}
+use Rattle.std.proofs.{Common.{◌≡◌, ◌≢◌, ℕ, suc, ◌+◌, ◌-◌, ◌*◌, ◌<◌, ◌≤◌, ◌==◌, nat_lt, Bool, true, false, cond, ◌&&◌, ◌||◌, List, [], ◌∷◌, ◌++◌, length, drop, get_or, refl, sym, ◌∙◌, ap, arith, eqb-true, drop-cons, rules}, lemmas.{Bool.{and_from, ltb-true, Decides.nat_tests}, List.drop_all}}
+use Rattle.std.specs.{Prelude.{Some, None, codes}, Char.{is_ascii_digit, digit_value}, List.AllByRecursion, Str.Parse.{digits_value, digits_value_after}}
+use Rattle.plural_rules.specs.{declared.{rules.{PluralCategory.PluralCategory, Operand.Operand}, parse.state.{State.State, Event.Event, Categories.Categories}}, Rules.{name_of, RelationValue, RuleValue, rule}, RulesGrammar.{is_blank, operand_word, HasNoLeadingDigit, Grammar}, RulesReader.{has, with, is_full, Transition, Partial, no_rules, after, next, follows_range, condition_of, modulus_state}}
 use Rattle.plural_rules.specs.declared.rules.PluralCategory.TheVariants as category
-use Rattle.plural_rules.specs.declared.rules.Operand.{Operand}
 use Rattle.plural_rules.specs.declared.rules.Operand.TheVariants as operand_variants
-use Rattle.plural_rules.specs.declared.parse.state.State.{State}
 use Rattle.plural_rules.specs.declared.parse.state.State.TheVariants as state
-use Rattle.plural_rules.specs.declared.parse.state.Event.{Event}
 use Rattle.plural_rules.specs.declared.parse.state.Event.TheVariants as event
-use Rattle.plural_rules.specs.declared.parse.state.Categories.{Categories}
-use Rattle.plural_rules.specs.Rules.{name_of, RelationValue, RuleValue, rule}
 use Rattle.plural_rules.specs.RulesGrammar as g
-use Rattle.plural_rules.specs.RulesGrammar.{is_blank, operand_word, HasNoLeadingDigit, Grammar}
 use Rattle.plural_rules.specs.RulesReader as reader
-use Rattle.plural_rules.specs.RulesReader.{has, with, is_full, Transition, Partial, no_rules, after, next, follows_range, condition_of, modulus_state}
-use Rattle.plural_rules.proofs.lemmas.parse.RulesRun.{any_allowed, apply_transition, finish, run, read, read_text}
-use Rattle.plural_rules.proofs.lemmas.parse.ParserComplete.{IsNewCategory, AreNewCategories, digit_is, grows, read_any-complete}
-use Rattle.std.proofs.Common.{rules}
+use Rattle.plural_rules.proofs.lemmas.parse.{RulesRun.{any_allowed, apply_transition, finish, run, read, read_text}, ParserComplete.{IsNewCategory, AreNewCategories, digit_is, grows, read_any-complete}}
 
 -- ---- What may follow each form, by what it makes of the form before it.
 

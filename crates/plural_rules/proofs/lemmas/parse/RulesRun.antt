@@ -1,21 +1,10 @@
 -- The transitions on each byte, and the run of the reader over the bytes of a text; in strict mode it stops where a
 -- number does not fit.
-use Rattle.std.proofs.Common.{◌≡◌, ℕ, Bool, true, false, not, cond, ◌&&◌, arith, ◌+◌, ◌*◌, ◌^◌, ◌<◌, ◌≤◌, nat_le, ◌||◌, List, [], ◌∷◌, ◌++◌, length, take, get_or, refl, ◌∙◌, ap}
-use Rattle.std.specs.Prelude.{Some, None, Option, IfSome}
-use Rattle.std.proofs.lemmas.Bool.Decides.{nat_tests}
-use Rattle.std.specs.Char.{is_ascii_digit}
-use Rattle.plural_rules.specs.declared.parse.state.State.{State}
-use Rattle.plural_rules.specs.declared.parse.state.Event.{Event}
-use Rattle.plural_rules.specs.declared.parse.state.Categories.{Categories}
-use Rattle.plural_rules.specs.RulesReader.{is_full, Transition, seen_after, next, Partial, no_rules, after, at_end, limit}
-use Rattle.std.specs.List.{AllByRecursion}
-use Rattle.std.proofs.lemmas.List.{take_more}
-use Rattle.plural_rules.specs.Rules.{RuleValue}
-use Rattle.plural_rules.specs.RulesParseResult.{RangeFits, AndConditionFits, Fits}
+use Rattle.std.proofs.{Common.{◌≡◌, ℕ, Bool, true, false, not, cond, ◌&&◌, arith, ◌+◌, ◌*◌, ◌^◌, ◌<◌, ◌≤◌, nat_le, ◌||◌, List, [], ◌∷◌, ◌++◌, length, take, get_or, refl, ◌∙◌, ap, rules}, lemmas.{Bool.Decides.nat_tests, List.take_more, Grind.common_steps}}
+use Rattle.std.specs.{Prelude.{Some, None, Option, IfSome}, Char.is_ascii_digit, List.AllByRecursion}
+use Rattle.plural_rules.specs.{declared.parse.state.{State.State, Event.Event, Categories.Categories}, RulesReader.{is_full, Transition, seen_after, next, Partial, no_rules, after, at_end, limit}, Rules.RuleValue, RulesParseResult.{RangeFits, AndConditionFits, Fits}}
 use Rattle.plural_rules.specs.declared.parse.state.State.TheVariants as state
 use Rattle.plural_rules.specs.declared.parse.state.Event.TheVariants as event
-use Rattle.std.proofs.lemmas.Grind.{common_steps}
-use Rattle.std.proofs.Common.{rules}
 
 -- where a category comes next, one is left
 abbrev pub is_open : Categories → State → Bool

@@ -1,23 +1,11 @@
 -- A text at which the reader does not stop is a prefix of rules: each state that it reaches has bytes that complete it.
-use Rattle.std.proofs.Common.{◌≡◌, ℕ, suc, zero, ◌+◌, ◌<◌, ◌≤◌, ◌==◌, nat_le, nat_lt, Bool, true, false, not, ◌&&◌, List, [], ◌∷◌, ◌++◌, length, take, drop, get_or, refl, ◌∙◌, ap, arith}
+use Rattle.std.proofs.{Common.{◌≡◌, ℕ, suc, zero, ◌+◌, ◌<◌, ◌≤◌, ◌==◌, nat_le, nat_lt, Bool, true, false, not, ◌&&◌, List, [], ◌∷◌, ◌++◌, length, take, drop, get_or, refl, ◌∙◌, ap, arith, rules}, lemmas.{Bool.{false≢true, Decides.nat_tests}, List.{take_all, take-append-drop}}}
 use Rattle.std.specs.Prelude.{Option, Some, None, codes, is_some}
-use Rattle.std.proofs.lemmas.Bool.{false≢true}
-use Rattle.std.proofs.lemmas.Bool.Decides.{nat_tests}
-use Rattle.std.proofs.lemmas.List.{take_all, take-append-drop}
-use Rattle.plural_rules.specs.declared.rules.PluralCategory.{PluralCategory}
-use Rattle.plural_rules.specs.declared.parse.state.State.{State}
-use Rattle.plural_rules.specs.declared.parse.state.Event.{Event}
-use Rattle.plural_rules.specs.Rules.{name_of, RuleValue}
-use Rattle.plural_rules.specs.RulesGrammar.{Grammar}
-use Rattle.plural_rules.specs.RulesReader.{is_full, condition_of, no_rules, Partial, after, next, at_end, limit}
-use Rattle.plural_rules.specs.RulesParseResult.{IsViablePrefix, IsFittingPrefix, Fits, IsSyntaxErrorAt}
-use Rattle.plural_rules.proofs.lemmas.parse.RulesRun.{is_open, starts_number, allowed, run, finish, finished, read, run_text, read_text, bind, run_append, run_more, read_fits}
-use Rattle.plural_rules.proofs.lemmas.parse.ParserComplete.{step, read-complete, read_any-complete}
-use Rattle.plural_rules.proofs.lemmas.parse.ParserSound.{read-sound}
+use Rattle.plural_rules.specs.{declared.{rules.PluralCategory.PluralCategory, parse.state.{State.State, Event.Event}}, Rules.{name_of, RuleValue}, RulesGrammar.Grammar, RulesReader.{is_full, condition_of, no_rules, Partial, after, next, at_end, limit}, RulesParseResult.{IsViablePrefix, IsFittingPrefix, Fits, IsSyntaxErrorAt}}
+use Rattle.plural_rules.proofs.lemmas.parse.{RulesRun.{is_open, starts_number, allowed, run, finish, finished, read, run_text, read_text, bind, run_append, run_more, read_fits}, ParserComplete.{step, read-complete, read_any-complete}, ParserSound.read-sound}
 use Rattle.plural_rules.specs.declared.rules.PluralCategory.TheVariants as category
 use Rattle.plural_rules.specs.declared.parse.state.State.TheVariants as state
 use Rattle.plural_rules.specs.declared.parse.state.Event.TheVariants as event
-use Rattle.std.proofs.Common.{rules}
 
 -- ---- Completions of a state.
 

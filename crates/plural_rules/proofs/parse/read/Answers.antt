@@ -1,11 +1,7 @@
-use Rattle.std.proofs.Common.{◌≡◌, ◌<◌, length, get_or, Some, ◌∙◌, ap, arith}
+use Rattle.std.proofs.{Common.{◌≡◌, ◌<◌, length, get_or, Some, ◌∙◌, ap, arith}, lemmas.{Grind.common_steps, Int.{ints, clamps}, Bool.Decides.nat_tests}}
 use Rattle.plural_rules.specs.RulesReader.{seen_after, next}
-use Rattle.plural_rules.proofs.lemmas.parse.ViablePrefixes.{stopped_text, unended_text}
-use Rattle.plural_rules.proofs.lemmas.parse.ParserInvariants.{checked_first, checked_more, checked_whole, built_whole, small}
+use Rattle.plural_rules.proofs.lemmas.parse.{ViablePrefixes.{stopped_text, unended_text}, ParserInvariants.{checked_first, checked_more, checked_whole, built_whole, small}}
 use Rattle.plural_rules.proofs.parse.read.Goals as goal
-use Rattle.std.proofs.lemmas.Grind.{common_steps}
-use Rattle.std.proofs.lemmas.Int.{ints, clamps}
-use Rattle.std.proofs.lemmas.Bool.Decides.{nat_tests}
 
 pub loop-at-init : goal.loop-at-init
 loop-at-init c = rw c.none-seen.ensures (checked_first c.args.text.now c.new-builder.result c.new-builder.ensures)

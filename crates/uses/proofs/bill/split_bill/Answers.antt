@@ -1,8 +1,5 @@
-use Rattle.std.proofs.Common.{◌≡◌, ℕ, zero, suc, add-one, [], ◌∷◌, ◌++◌, ◌+◌, ◌*◌, ◌/◌, ◌%◌, ◌<◌, min, nat_lt, true, false, inl, inr, sym, ◌∙◌, ap, arith, rules}
+use Rattle.std.proofs.{Common.{◌≡◌, ℕ, zero, suc, add-one, [], ◌∷◌, ◌++◌, ◌+◌, ◌*◌, ◌/◌, ◌%◌, ◌<◌, min, nat_lt, true, false, inl, inr, sym, ◌∙◌, ap, arith, rules}, Math.Nat.{div-add-mod', mod-lt}, lemmas.{Bool.cases_lt, List.Sums.sum_by_push}}
 use Rattle.std.specs.Prelude.{sum_by}
-use Rattle.std.proofs.Math.Nat.{div-add-mod', mod-lt}
-use Rattle.std.proofs.lemmas.Bool.{cases_lt}
-use Rattle.std.proofs.lemmas.List.Sums.{sum_by_push}
 use Rattle.decimal_unsigned.specs.Unsigned.{Unsigned}
 use Rattle.fixed_decimal.proofs.Calling.{integer_down}
 use Rattle.uses.specs.Bill.{cent, cents_value, part_cents, parts_of}

@@ -1,12 +1,7 @@
-use Rattle.std.proofs.Common.{◌≡◌, ℕ, ◌*◌, ◌/◌, ◌%◌, ◌^◌, ◌≤◌, Ok, Err, inr, subst, sym, ◌∙◌, ap, arith, rules}
+use Rattle.std.proofs.{Common.{◌≡◌, ℕ, ◌*◌, ◌/◌, ◌%◌, ◌^◌, ◌≤◌, Ok, Err, inr, subst, sym, ◌∙◌, ap, arith, rules}, Math.Nat.{div-add-mod', mul-mod_left}, lemmas.Int.ints}
 use Rattle.std.specs.Prelude.{IsFalse, pos, negsuc}
-use Rattle.std.proofs.Math.Nat.{div-add-mod', mul-mod_left}
-use Rattle.std.proofs.lemmas.Int.{ints}
 use Rattle.decimal_digits.specs.Number.{weight}
-use Rattle.decimal_unsigned.specs.Edits.{leaves_limits}
-use Rattle.decimal_unsigned.specs.ToInteger.{as_integer}
-use Rattle.decimal_unsigned.specs.Unsigned.{Unsigned}
-use Rattle.decimal_unsigned.specs.declared.error.IntegerError.TheVariants.{NotWhole, OutOfRange}
+use Rattle.decimal_unsigned.specs.{Edits.leaves_limits, ToInteger.as_integer, Unsigned.Unsigned, declared.error.IntegerError.TheVariants.{NotWhole, OutOfRange}}
 use Rattle.fixed_decimal.proofs.Calling.{weight_up, integer_is, not_whole, out_of_range, out_of_range_whole}
 use Rattle.uses.specs.Bill.{cent}
 use Rattle.uses.proofs.bill.total_cents.Goals as goal

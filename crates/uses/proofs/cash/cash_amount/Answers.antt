@@ -1,13 +1,7 @@
-use Rattle.std.proofs.Common.{◌≡◌, ℕ, ◌*◌, sym, ◌∙◌, ap, subst, arith}
+use Rattle.std.proofs.{Common.{◌≡◌, ℕ, ◌*◌, sym, ◌∙◌, ap, subst, arith}, lemmas.Int.{ints, clamps}}
 use Rattle.std.specs.Prelude.{Some, negsuc}
-use Rattle.std.proofs.lemmas.Int.{ints, clamps}
-use Rattle.decimal_digits.specs.Number.{weight, first}
-use Rattle.decimal_digits.specs.Rounding.{Named}
-use Rattle.decimal_digits.specs.declared.rounding.RoundingIncrement.TheVariants.{MultiplesOf5}
-use Rattle.decimal_digits.specs.declared.rounding.UnsignedRoundingMode.TheVariants.{HalfEven}
-use Rattle.decimal_unsigned.specs.Unsigned.{Unsigned, integer_value}
-use Rattle.decimal_unsigned.specs.Edits.{multiplied}
-use Rattle.decimal_unsigned.specs.Rounded.{rounding, IsRounded}
+use Rattle.decimal_digits.specs.{Number.{weight, first}, Rounding.Named, declared.rounding.{RoundingIncrement.TheVariants.MultiplesOf5, UnsignedRoundingMode.TheVariants.HalfEven}}
+use Rattle.decimal_unsigned.specs.{Unsigned.{Unsigned, integer_value}, Edits.multiplied, Rounded.{rounding, IsRounded}}
 use Rattle.fixed_decimal.proofs.Calling.{integer_down, rounded_to-some}
 use Rattle.uses.specs.Cash.{IsCash}
 use Rattle.uses.proofs.cash.cash_amount.Goals as goal

@@ -1,16 +1,9 @@
-use Rattle.std.proofs.Common.{◌≡◌, ℕ, suc, ◌<◌, List, take, drop, length, get_or, [], ◌∷◌, ◌++◌, Ok, Err, refl, sym, ◌∙◌, ap, subst, arith, append_assoc, append-nil}
-use Rattle.std.specs.Prelude.{Option, Result, IsOkAnd, IsErrAnd, IfErr}
-use Rattle.std.specs.Borrow.{Bor}
-use Rattle.std.specs.Io.KnownBytes.{Keeps, Appends}
-use Rattle.std.proofs.KnownBytes.{Appends-trans, Appends-kept, Appends-nil}
-use Rattle.std.proofs.Math.Seq.{split_at}
-use Rattle.std.proofs.lemmas.List.{take_more}
+use Rattle.std.proofs.{Common.{◌≡◌, ℕ, suc, ◌<◌, List, take, drop, length, get_or, [], ◌∷◌, ◌++◌, Ok, Err, refl, sym, ◌∙◌, ap, subst, arith, append_assoc, append-nil}, KnownBytes.{Appends-trans, Appends-kept, Appends-nil}, Math.Seq.split_at, lemmas.List.take_more}
+use Rattle.std.specs.{Prelude.{Option, Result, IsOkAnd, IsErrAnd, IfErr}, Borrow.Bor, Io.KnownBytes.{Keeps, Appends}}
 use Rattle.decimal_digits.specs.AppendsPrefix.{AppendsPrefix}
 use Rattle.decimal_unsigned.specs.Reading.{ReadError}
 use Rattle.fixed_decimal.proofs.Calling.{prefix_more, then_prefix}
-use Rattle.uses.specs.Column.{normal_form, column_text, AmountFails, Stops}
-use Rattle.uses.specs.declared.column.ColumnError.{ColumnError}
-use Rattle.uses.specs.declared.column.ColumnError.TheVariants.{Amount, Sink}
+use Rattle.uses.specs.{Column.{normal_form, column_text, AmountFails, Stops}, declared.column.ColumnError.{ColumnError, TheVariants.{Amount, Sink}}}
 use Rattle.uses.proofs.column.write_column.Goals as goal
 
 -- the text of the amounts and one more

@@ -1,6 +1,5 @@
 use Rattle.std.proofs.Common.{take}
-use Rattle.std.specs.Prelude.{IsOkAnd}
-use Rattle.std.specs.Io.KnownBytes.{Appends}
+use Rattle.std.specs.{Prelude.IsOkAnd, Io.KnownBytes.Appends}
 use Rattle.uses.specs.Column.{column_text}
 use Rattle.uses.proofs.column.write_column.Given as goal
 

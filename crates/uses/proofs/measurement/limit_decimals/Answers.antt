@@ -1,12 +1,8 @@
-use Rattle.std.proofs.Common.{◌≡◌, ◌*◌, true, Ok, Err, sym, ◌∙◌, ap, arith, rules, w16, to_z, of_z, FitsSigned}
+use Rattle.std.proofs.{Common.{◌≡◌, ◌*◌, true, Ok, Err, sym, ◌∙◌, ap, arith, rules, w16, to_z, of_z, FitsSigned}, lemmas.Int.{ints, clamps, to_z-of_z}}
 use Rattle.std.specs.Prelude.{Result, ℤ, pos, neg_ℤ, ◌≤ℤ◌, int_lt, unsigned_abs, OnOk}
-use Rattle.std.proofs.lemmas.Int.{ints, clamps, to_z-of_z}
-use Rattle.decimal_digits.specs.Number.{offset, weight}
-use Rattle.decimal_digits.specs.declared.rounding.UnsignedRoundingMode.TheVariants.{HalfEven}
+use Rattle.decimal_digits.specs.{Number.{offset, weight}, declared.rounding.UnsignedRoundingMode.TheVariants.HalfEven}
 use Rattle.decimal_unsigned.specs.Rounded.{rounding_by_1, UpdatesInPlace}
-use Rattle.fixed_decimal.specs.Decimal.{Decimal, signed_number}
-use Rattle.fixed_decimal.specs.SignedRounding.{IsRounded}
-use Rattle.fixed_decimal.specs.declared.rounding.SignedRoundingMode.TheVariants.{Unsigned}
+use Rattle.fixed_decimal.specs.{Decimal.{Decimal, signed_number}, SignedRounding.IsRounded, declared.rounding.SignedRoundingMode.TheVariants.Unsigned}
 use Rattle.fixed_decimal.proofs.Calling.{ten_pos, absolute_number, signed_rounded_to-some, nearest_within}
 use Rattle.uses.specs.Measurement.{shortened, IsNear}
 use Rattle.uses.proofs.measurement.limit_decimals.Goals as goal

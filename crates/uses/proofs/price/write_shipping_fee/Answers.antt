@@ -1,12 +1,7 @@
-use Rattle.std.proofs.Common.{◌≡◌, lit<, lit≤, refl, ◌∙◌, ap, subst, arith}
-use Rattle.std.specs.Prelude.{◌*◌, OnOk, OnErr, codes, pos, negsuc}
-use Rattle.std.specs.Io.KnownBytes.{Appends}
-use Rattle.std.proofs.lemmas.Int.{ints}
-use Rattle.decimal_digits.specs.Number.{weight}
-use Rattle.decimal_digits.specs.AppendsPrefix.{AppendsPrefix}
-use Rattle.decimal_unsigned.specs.Unsigned.{integer_value}
-use Rattle.decimal_unsigned.specs.Edits.{multiplied}
-use Rattle.decimal_unsigned.specs.Text.{text}
+use Rattle.std.proofs.{Common.{◌≡◌, lit<, lit≤, refl, ◌∙◌, ap, subst, arith}, lemmas.Int.ints}
+use Rattle.std.specs.{Prelude.{◌*◌, OnOk, OnErr, codes, pos, negsuc}, Io.KnownBytes.Appends}
+use Rattle.decimal_digits.specs.{Number.weight, AppendsPrefix.AppendsPrefix}
+use Rattle.decimal_unsigned.specs.{Unsigned.integer_value, Edits.multiplied, Text.text}
 use Rattle.fixed_decimal.proofs.Calling.{first_of_integer, integer_down, text_of_literal}
 use Rattle.uses.proofs.price.write_shipping_fee.Goals as goal
 

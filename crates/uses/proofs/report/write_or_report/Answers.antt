@@ -1,9 +1,7 @@
-use Rattle.std.proofs.Common.{◌≡◌, ℕ, List, Ok, Err, inl, inr, refl, ◌∙◌, ap}
+use Rattle.std.proofs.{Common.{◌≡◌, ℕ, List, Ok, Err, inl, inr, refl, ◌∙◌, ap}, lemmas.Result.on_ok_weaker}
 use Rattle.std.specs.Prelude.{Result, IsOkAnd}
-use Rattle.std.proofs.lemmas.Result.{on_ok_weaker}
 use Rattle.decimal_digits.specs.AppendsPrefix.{AppendsPrefix}
-use Rattle.fixed_decimal.specs.ErrorText.{run_error_text}
-use Rattle.fixed_decimal.specs.Outcome.{outcome}
+use Rattle.fixed_decimal.specs.{ErrorText.run_error_text, Outcome.outcome}
 use Rattle.uses.proofs.report.write_or_report.Goals as goal
 
 -- the text of a result that is Ok

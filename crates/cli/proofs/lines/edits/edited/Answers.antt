@@ -1,8 +1,7 @@
 use Rattle.std.proofs.Common.{◌≡◌, ◌≢◌, None, sym, ◌∙◌, inr, refl, rules}
 use Rattle.conversions.specs.declared.error.OperationError.TheVariants.{Output}
-use Rattle.cli.proofs.lemmas.lines.Editing.{continues_more, first_other, found_more, found_error, found_first, found_none}
+use Rattle.cli.proofs.{lemmas.lines.Editing.{continues_more, first_other, found_more, found_error, found_first, found_none}, lines.edits.edited.Goals.{in-Ok, in-Err}}
 use Rattle.cli.proofs.lines.edits.edited.Goals as goal
-use Rattle.cli.proofs.lines.edits.edited.Goals.{in-Ok, in-Err}
 
 pub loop-field-preserved : goal.loop-field-preserved
 loop-field-preserved c =

@@ -1,7 +1,6 @@
 use Rattle.std.proofs.Common.{rules}
-use Rattle.cli.proofs.lemmas.lines.FieldLines.{plain_field, plain_fails, text_error}
+use Rattle.cli.proofs.{lemmas.lines.FieldLines.{plain_field, plain_fails, text_error}, lines.field_conversion.append_converted.Goals.{in-Ok, in-Err}}
 use Rattle.cli.proofs.lines.field_conversion.append_converted.Goals as goal
-use Rattle.cli.proofs.lines.field_conversion.append_converted.Goals.{in-Ok, in-Err}
 
 pub returns-then-not-field-clause-ok : goal.returns-then-not-field-clause-ok
 returns-then-not-field-clause-ok c =

@@ -1,11 +1,6 @@
 use Rattle.std.proofs.Common.{◌≡◌, ◌≢◌, List, ℕ, true, inl, inr, refl, rules}
-use Rattle.conversions.specs.declared.conversion.Conversion.{Conversion}
-use Rattle.conversions.specs.declared.error.OperationError.{OperationError}
-use Rattle.conversions.specs.declared.error.OperationError.TheVariants.{Memory, Output}
-use Rattle.conversions.specs.Conversion.{OperationsFail}
-use Rattle.cli.specs.FieldConversion.{LineFails}
-use Rattle.cli.specs.Fields.{within}
-use Rattle.cli.specs.Trim.{text_of}
+use Rattle.conversions.specs.{declared.{conversion.Conversion.Conversion, error.OperationError.{OperationError, TheVariants.{Memory, Output}}}, Conversion.OperationsFail}
+use Rattle.cli.specs.{FieldConversion.LineFails, Fields.within, Trim.text_of}
 use Rattle.cli.proofs.lines.field_conversion.convert_trimmed.Goals as goal
 
 -- a conversion to a sink in memory failed

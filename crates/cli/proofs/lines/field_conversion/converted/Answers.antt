@@ -1,9 +1,6 @@
-use Rattle.std.proofs.Common.{◌≡◌, true, false, Ok, Err, refl, sym, ap, ◌∙◌}
-use Rattle.std.proofs.lemmas.Result.{IfOk-weaker, err_from_is_err_and}
+use Rattle.std.proofs.{Common.{◌≡◌, true, false, Ok, Err, refl, sym, ap, ◌∙◌}, lemmas.Result.{IfOk-weaker, err_from_is_err_and}}
 use Rattle.std.specs.Cow.{cow_slice_items}
-use Rattle.cli.specs.Fields.{Holds}
-use Rattle.cli.specs.FieldConversion.{IsTextResult, IsFieldResult, is_trimmed}
-use Rattle.cli.specs.Trim.{text_of, with_text_of}
+use Rattle.cli.specs.{Fields.Holds, FieldConversion.{IsTextResult, IsFieldResult, is_trimmed}, Trim.{text_of, with_text_of}}
 use Rattle.cli.proofs.lemmas.lines.FieldLines.{field_result}
 use Rattle.cli.proofs.lines.field_conversion.converted.Goals as goal
 

@@ -1,8 +1,6 @@
-use Rattle.std.proofs.Common.{◌≡◌, take, drop, rules}
-use Rattle.std.proofs.lemmas.Result.{on_err_weaker}
+use Rattle.std.proofs.{Common.{◌≡◌, take, drop, rules}, lemmas.Result.on_err_weaker}
 use Rattle.fixed_decimal.proofs.Calling.{on_err, first_of_three, second_of_three, third_of_three}
-use Rattle.cli.proofs.lemmas.lines.FieldLines.{all_replaced}
-use Rattle.cli.proofs.lemmas.lines.Separators.{all_after}
+use Rattle.cli.proofs.lemmas.lines.{FieldLines.all_replaced, Separators.all_after}
 use Rattle.cli.proofs.lines.field_conversion.write_replaced.Goals as goal
 
 pub returns-in_err-put_bytes-clause-err : goal.returns-in_err-put_bytes-clause-err

@@ -1,6 +1,4 @@
-use Rattle.std.proofs.Common.{◌≡◌, ◌+◌, ◌<◌, ℕ, Bool, List, [], ◌∷◌, length, drop, get_or, add-one, arith}
-use Rattle.std.proofs.lemmas.List.{drop_all}
-use Rattle.std.proofs.Math.Seq.{drop-cons}
+use Rattle.std.proofs.{Common.{◌≡◌, ◌+◌, ◌<◌, ℕ, Bool, List, [], ◌∷◌, length, drop, get_or, add-one, arith}, lemmas.List.drop_all, Math.Seq.drop-cons}
 use Rattle.cli.proofs.lemmas.lines.Quotes.{Undoubled, undoubled_open, undoubled_alone, undoubled_first, undoubled_more}
 use Rattle.cli.proofs.lines.fields.undoubled.Goals as goal
 

@@ -1,7 +1,5 @@
 use Rattle.std.proofs.Common.{◌≡◌, true, inl, refl, sym, subst, ap, ◌∙◌}
-use Rattle.cli.specs.declared.lines.filter.Filter.{Filter}
-use Rattle.cli.specs.Input.{bytes_left, IsRowRead}
-use Rattle.cli.specs.Targets.{have_names}
+use Rattle.cli.specs.{declared.lines.filter.Filter.Filter, Input.{bytes_left, IsRowRead}, Targets.have_names}
 use Rattle.std.specs.Prelude.{IfSome}
 use Rattle.cli.proofs.lemmas.lines.NamedRuns.{has_header, ends_empty, ends_rejected}
 use Rattle.cli.proofs.lines.named_filter.filter_input.Goals as goal

@@ -1,9 +1,6 @@
-use Rattle.std.proofs.Common.{◌≡◌, ◌+◌, Ok, Err, subst, rules}
-use Rattle.std.proofs.lemmas.Result.{err_from_is_err_and}
+use Rattle.std.proofs.{Common.{◌≡◌, ◌+◌, Ok, Err, subst, rules}, lemmas.Result.err_from_is_err_and}
 use Rattle.decimal_digits.specs.AppendsPrefix.{AppendsPrefix}
-use Rattle.cli.specs.Filter.{Effects, lines_of_row}
-use Rattle.cli.specs.Input.{bytes_left}
-use Rattle.cli.specs.Lines.{Filters}
+use Rattle.cli.specs.{Filter.{Effects, lines_of_row}, Input.bytes_left, Lines.Filters}
 use Rattle.cli.proofs.lemmas.lines.Filtering.{filters_before, filters_first}
 use Rattle.cli.proofs.lines.named_filter.filter_rows.Goals as goal
 

@@ -1,10 +1,7 @@
-use Rattle.std.proofs.Common.{◌≡◌, false, inl, take, refl, sym, subst, Some, Err, ◌∙◌}
-use Rattle.std.specs.Prelude.{IfSome}
-use Rattle.std.proofs.lemmas.Result.{err_from_is_err_and}
-use Rattle.std.specs.Io.Buffered.{reader_remaining}
+use Rattle.std.proofs.{Common.{◌≡◌, false, inl, take, refl, sym, subst, Some, Err, ◌∙◌}, lemmas.Result.err_from_is_err_and}
+use Rattle.std.specs.{Prelude.IfSome, Io.Buffered.reader_remaining}
 use Rattle.memchr.specs.Find.{IsFirstByte, is_byte}
-use Rattle.cli.specs.Filter.{FiltersLine}
-use Rattle.cli.specs.Input.{bytes_left, IsRowRead}
+use Rattle.cli.specs.{Filter.FiltersLine, Input.{bytes_left, IsRowRead}}
 use Rattle.cli.proofs.lemmas.lines.FirstLine.{next_in_block}
 use Rattle.cli.proofs.lines.rows.filter_next.Goals as goal
 

@@ -1,5 +1,4 @@
-use Rattle.std.proofs.Common.{◌≡◌, ◌<◌, ℕ, true, false, length, get_or, sym, ◌∙◌, arith}
-use Rattle.std.proofs.lemmas.List.Sums.{prefix_len_is}
+use Rattle.std.proofs.{Common.{◌≡◌, ◌<◌, ℕ, true, false, length, get_or, sym, ◌∙◌, arith}, lemmas.List.Sums.prefix_len_is}
 use Rattle.cli.specs.Trim.{is_blank}
 use Rattle.cli.proofs.lines.trim.text_start.Goals as goal
 

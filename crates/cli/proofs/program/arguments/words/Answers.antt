@@ -1,8 +1,5 @@
-use Rattle.std.proofs.Common.{◌≡◌, Ok, IfOk, length, ap, ◌∙◌, rules}
-use Rattle.std.specs.Iterator.Adapters.{skip_source}
-use Rattle.std.specs.Vec.Iter.{into_iter_items, into_iter_len}
-use Rattle.std.proofs.lemmas.Iterator.{items_from_collect}
-use Rattle.std.proofs.lemmas.Iterator.Adapters.{YieldsList-from_skip, YieldsList-from_vec}
+use Rattle.std.proofs.{Common.{◌≡◌, Ok, IfOk, length, ap, ◌∙◌, rules}, lemmas.Iterator.{items_from_collect, Adapters.{YieldsList-from_skip, YieldsList-from_vec}}}
+use Rattle.std.specs.{Iterator.Adapters.skip_source, Vec.Iter.{into_iter_items, into_iter_len}}
 use Rattle.cli.specs.Arguments.{words_of}
 use Rattle.cli.proofs.program.arguments.words.Goals as goal
 

@@ -1,8 +1,5 @@
-use Rattle.std.proofs.Common.{◌≡◌, ℕ, ◌+◌, ◌<◌, List, [], ◌∷◌, ◌++◌, length, take, get_or, Option, sym, ap, ◌∙◌, add-one, append_assoc}
+use Rattle.std.proofs.{Common.{◌≡◌, ℕ, ◌+◌, ◌<◌, List, [], ◌∷◌, ◌++◌, length, take, get_or, Option, sym, ap, ◌∙◌, add-one, append_assoc}, KnownBytes.Appends-trans, Math.Seq.take-suc, lemmas.List.append-nil}
 use Rattle.std.specs.Io.KnownBytes.{Appends}
-use Rattle.std.proofs.KnownBytes.{Appends-trans}
-use Rattle.std.proofs.Math.Seq.{take-suc}
-use Rattle.std.proofs.lemmas.List.{append-nil}
 use Rattle.locale_data.specs.declared.tables.rows.symbols.LocaleSymbols.{LocaleSymbols}
 use Rattle.cli.specs.LocaleList.{tag_line, tag_lines}
 use Rattle.cli.proofs.program.locale_list.print_tags.Goals as goal

@@ -1,5 +1,4 @@
-use Rattle.std.proofs.Common.{length, refl, sym, inl, string_bytes, arith}
-use Rattle.std.proofs.lemmas.Option.{slice_get_read}
+use Rattle.std.proofs.{Common.{length, refl, sym, inl, string_bytes, arith}, lemmas.Option.slice_get_read}
 use Rattle.conversions.specs.Calls.{Names}
 use Rattle.cli.specs.Calls.{IsUnknown}
 use Rattle.cli.proofs.lemmas.words.CallWords.{names_more, taken}

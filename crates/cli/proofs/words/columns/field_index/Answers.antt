@@ -1,5 +1,4 @@
-use Rattle.std.proofs.Common.{◌+◌}
-use Rattle.std.proofs.lemmas.Option.{none-some}
+use Rattle.std.proofs.{Common.◌+◌, lemmas.Option.none-some}
 use Rattle.std.specs.Prelude.{pos}
 use Rattle.cli.proofs.words.columns.field_index.Goals as goal
 

@@ -1,5 +1,4 @@
-use Rattle.std.proofs.Common.{inr, refl, sym, ◌∙◌, arith}
-use Rattle.std.proofs.lemmas.Str.Pattern.{strip_prefix_char}
+use Rattle.std.proofs.{Common.{inr, refl, sym, ◌∙◌, arith}, lemmas.Str.Pattern.strip_prefix_char}
 use Rattle.cli.proofs.words.columns.name.Goals as goal
 
 pub returns-clause-some : goal.returns-clause-some

@@ -1,10 +1,6 @@
 use Rattle.std.proofs.Common.{◌≢◌, List, String, [], inl, inr, refl}
 use Rattle.std.specs.declared.alloc.Global.{Global}
-use Rattle.cli.specs.declared.program.error.WordsError.{WordsError}
-use Rattle.cli.specs.declared.program.error.WordsError.TheVariants.{Memory}
-use Rattle.cli.specs.Calls.{AreCalls, CallsFail, AreNoCalls}
-use Rattle.cli.specs.Error.{words_error}
-use Rattle.cli.specs.Words.{ConversionFails}
+use Rattle.cli.specs.{declared.program.error.WordsError.{WordsError, TheVariants.Memory}, Calls.{AreCalls, CallsFail, AreNoCalls}, Error.words_error, Words.ConversionFails}
 use Rattle.conversions.proofs.lemmas.calls.Results.{err_with}
 use Rattle.cli.proofs.words.conversion.parse_conversion.Goals as goal
 

@@ -1,5 +1,4 @@
-use Rattle.std.proofs.Common.{◌≡◌, ◌++◌, codes, length, rules, ◌∙◌, sym, ap}
-use Rattle.std.proofs.lemmas.Str.{chars_from_encodes}
+use Rattle.std.proofs.{Common.{◌≡◌, ◌++◌, codes, length, rules, ◌∙◌, sym, ap}, lemmas.Str.chars_from_encodes}
 use Rattle.std.specs.Str.{chars}
 use Rattle.cli.proofs.words.options.delimiter.Goals as goal
 use Rattle.cli.proofs.words.options.delimiter.Goals.{After-count}

@@ -1,5 +1,4 @@
-use Rattle.std.proofs.Common.{refl}
-use Rattle.std.proofs.lemmas.Result.{err_from_is_err_and}
+use Rattle.std.proofs.{Common.refl, lemmas.Result.err_from_is_err_and}
 use Rattle.cli.proofs.lemmas.words.FieldWords.{parsed_none, parsed_more, parsed_fails, parsed_all}
 use Rattle.cli.proofs.words.targets.parse_more.Goals as goal
 

@@ -1,5 +1,4 @@
-use Rattle.std.proofs.Common.{inl, inr, refl}
-use Rattle.std.proofs.lemmas.Result.{err_from_is_err_and}
+use Rattle.std.proofs.{Common.{inl, inr, refl}, lemmas.Result.err_from_is_err_and}
 use Rattle.cli.specs.Targets.{IsNamed}
 use Rattle.cli.proofs.words.targets.parse_target.Goals as goal
 

@@ -1,5 +1,4 @@
-use Rattle.std.proofs.Common.{◌≡◌, true, false, inl, inr, sym, ◌∙◌}
-use Rattle.std.proofs.lemmas.Result.{err_from_is_err_and}
+use Rattle.std.proofs.{Common.{◌≡◌, true, false, inl, inr, sym, ◌∙◌}, lemmas.Result.err_from_is_err_and}
 use Rattle.cli.specs.Targets.{has_column, IsNamed}
 use Rattle.cli.proofs.lemmas.words.FieldWords.{conversion_fails}
 use Rattle.cli.proofs.words.targets.push_named.Goals as goal

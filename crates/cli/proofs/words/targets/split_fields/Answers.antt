@@ -1,8 +1,6 @@
-use Rattle.std.proofs.Common.{refl}
-use Rattle.std.proofs.lemmas.List.Elements.{All-push}
+use Rattle.std.proofs.{Common.refl, lemmas.List.Elements.All-push}
 use Rattle.cli.specs.Columns.{IsFieldWord}
-use Rattle.cli.proofs.lemmas.words.FieldWords.{split_here, split_none}
-use Rattle.cli.proofs.lemmas.words.CallWords.{taken}
+use Rattle.cli.proofs.lemmas.words.{FieldWords.{split_here, split_none}, CallWords.taken}
 use Rattle.cli.proofs.words.targets.split_fields.Goals as goal
 
 pub returns-in-Some : goal.returns-in-Some

@@ -1,11 +1,8 @@
-use Rattle.std.proofs.Common.{◌≡◌, Ok, refl}
+use Rattle.std.proofs.{Common.{◌≡◌, Ok, refl}, lemmas.Result.{on_ok_weaker, IfErr-weaker, IfErr-at_err}}
 use Rattle.std.specs.Io.KnownBytes.{Appends}
-use Rattle.std.proofs.lemmas.Result.{on_ok_weaker, IfErr-weaker, IfErr-at_err}
 use Rattle.decimal_digits.specs.AppendsPrefix.{AppendsPrefix}
 use Rattle.fixed_decimal.specs.Outcome.{after_calls}
-use Rattle.conversions.specs.declared.error.OperationError.{OperationError}
-use Rattle.conversions.specs.declared.error.OperationError.TheVariants.{Output}
-use Rattle.conversions.specs.Conversion.{HasTextBy}
+use Rattle.conversions.specs.{declared.error.OperationError.{OperationError, TheVariants.Output}, Conversion.HasTextBy}
 use Rattle.conversions.proofs.lemmas.conversion.Conversions.{reading_fails, calls_fail, writing_fails, written_outcome}
 use Rattle.conversions.proofs.conversion.Conversion.convert_by_forms.Goals as goal
 

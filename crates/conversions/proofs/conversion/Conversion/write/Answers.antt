@@ -1,13 +1,8 @@
 use Rattle.std.proofs.Common.{◌≡◌, List, ℕ, Some, None, Option, Result, IfErr, refl, rules}
 use Rattle.decimal_digits.specs.AppendsPrefix.{AppendsPrefix}
-use Rattle.fixed_decimal.specs.Decimal.{Decimal}
-use Rattle.fixed_decimal.specs.DecimalText.{decimal_text}
+use Rattle.fixed_decimal.specs.{Decimal.Decimal, DecimalText.decimal_text}
 use Rattle.decimal_format.specs.Formatted.{formatted}
-use Rattle.conversions.specs.declared.error.OperationError.{OperationError}
-use Rattle.conversions.specs.declared.error.OperationError.TheVariants.{Output}
-use Rattle.conversions.specs.declared.locale_formatter.LocaleFormatter.{LocaleFormatter}
-use Rattle.conversions.specs.declared.locale_formatter.LocaleFormatter.TheVariants.{AllDigits, Skeleton}
-use Rattle.conversions.specs.Conversion.{HasTextBy}
+use Rattle.conversions.specs.{declared.{error.OperationError.{OperationError, TheVariants.Output}, locale_formatter.LocaleFormatter.{LocaleFormatter, TheVariants.{AllDigits, Skeleton}}}, Conversion.HasTextBy}
 use Rattle.conversions.proofs.lemmas.conversion.Conversions.{text_fails, text_begun}
 use Rattle.conversions.proofs.conversion.Conversion.write.Goals as goal
 

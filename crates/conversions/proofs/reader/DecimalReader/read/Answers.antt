@@ -1,14 +1,9 @@
 use Rattle.std.proofs.Common.{List, ℕ, Result, Ok, Err, refl}
-use Rattle.std.specs.Prelude.{IfOk, IfErr, ◌↔◌}
-use Rattle.std.specs.Str.{IsUtf8}
-use Rattle.decimal_unsigned.specs.declared.error.ParseError.{ParseError}
-use Rattle.decimal_unsigned.specs.declared.error.ParseError.TheVariants.{Syntax, Limit, Memory}
-use Rattle.decimal_unsigned.specs.declared.decimal.TheConstants.{INLINE_DIGITS}
+use Rattle.std.specs.{Prelude.{IfOk, IfErr, ◌↔◌}, Str.IsUtf8}
+use Rattle.decimal_unsigned.specs.declared.{error.ParseError.{ParseError, TheVariants.{Syntax, Limit, Memory}}, decimal.TheConstants.INLINE_DIGITS}
 use Rattle.fixed_decimal.specs.Decimal.{Decimal}
-use Rattle.decimal_format.specs.Symbols.{Symbols}
-use Rattle.decimal_format.specs.Reading.{Numeral, IsRead}
-use Rattle.number_format.specs.declared.read.number_reader.ParseMode.{ParseMode}
-use Rattle.number_format.specs.declared.read.number_reader.ParseMode.TheVariants.{Strict, Lenient}
+use Rattle.decimal_format.specs.{Symbols.Symbols, Reading.{Numeral, IsRead}}
+use Rattle.number_format.specs.declared.read.number_reader.ParseMode.{ParseMode, TheVariants.{Strict, Lenient}}
 use Rattle.conversions.specs.Reader.{IsTextIn, IsNumeralIn, IsReadIn, ReadingFailsIn}
 use Rattle.conversions.proofs.reader.DecimalReader.read.Goals as goal
 

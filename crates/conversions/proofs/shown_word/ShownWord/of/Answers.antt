@@ -1,8 +1,4 @@
-use Rattle.std.proofs.Common.{◌≡◌, ◌+◌, ◌≤◌, ◌++◌, ◌∙◌, length, refl, arith, length-append}
-use Rattle.std.proofs.lemmas.Iterator.{YieldsList-from_chars}
-use Rattle.std.proofs.lemmas.Iterator.Consumers.{YieldsList-turn, YieldsList-end}
-use Rattle.std.proofs.lemmas.List.{length_push}
-use Rattle.std.proofs.lemmas.Bool.{false≢true}
+use Rattle.std.proofs.{Common.{◌≡◌, ◌+◌, ◌≤◌, ◌++◌, ◌∙◌, length, refl, arith, length-append}, lemmas.{Iterator.{YieldsList-from_chars, Consumers.{YieldsList-turn, YieldsList-end}}, List.length_push, Bool.false≢true}}
 use Rattle.std.specs.Str.{chars}
 use Rattle.conversions.specs.ShownWord.{shown_bytes}
 use Rattle.conversions.proofs.lemmas.calls.ShownWords.{shown_whole, shown_cut, shown_more}

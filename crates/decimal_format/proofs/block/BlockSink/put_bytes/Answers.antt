@@ -1,5 +1,4 @@
-use Rattle.std.proofs.Common.{ℕ, List, Bool, ◌-◌, ap, length, take, drop, take-append-drop}
-use Rattle.std.proofs.lemmas.Result.{on_err_weaker}
+use Rattle.std.proofs.{Common.{ℕ, List, Bool, ◌-◌, ap, length, take, drop, take-append-drop}, lemmas.Result.on_err_weaker}
 use Rattle.decimal_format.specs.Blocks.{DoNotFit}
 use Rattle.decimal_format.proofs.block.BlockSink.put_bytes.Goals as goal
 

@@ -1,8 +1,7 @@
 use Rattle.std.proofs.Common.{◌≡◌, ◌<◌, ◌++◌, length, sym, ◌∙◌, ap, subst, arith, append_assoc, append-nil, length-append}
 use Rattle.fixed_decimal.proofs.Calling.{narrow_kept}
 use Rattle.decimal_format.specs.Formatted.{formatted_down, shown_count}
-use Rattle.decimal_format.proofs.lemmas.formatter.Magnitudes.{digit_below, first_magnitudes, one_more}
-use Rattle.decimal_format.proofs.lemmas.formatter.ShortTexts.{separates_if, pushed, length-magnitude}
+use Rattle.decimal_format.proofs.lemmas.formatter.{Magnitudes.{digit_below, first_magnitudes, one_more}, ShortTexts.{separates_if, pushed, length-magnitude}}
 use Rattle.decimal_format.proofs.formatter.FormattedAbsolute.push_digits.Goals as goal
 
 pub loop-below-init : goal.loop-below-init

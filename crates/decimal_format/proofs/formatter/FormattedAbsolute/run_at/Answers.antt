@@ -1,10 +1,7 @@
-use Rattle.std.proofs.Common.{◌≡◌, w16, to_z, of_z, sym, ◌∙◌, ap, arith}
+use Rattle.std.proofs.{Common.{◌≡◌, w16, to_z, of_z, sym, ◌∙◌, ap, arith}, lemmas.Int.ints}
 use Rattle.std.specs.Prelude.{nat_abs, pos}
-use Rattle.std.proofs.lemmas.Int.{ints}
 use Rattle.fixed_decimal.proofs.Calling.{narrow_kept}
-use Rattle.decimal_format.specs.Formatted.{separator_before}
-use Rattle.decimal_format.specs.Parts.{magnitude_of}
-use Rattle.decimal_format.specs.Scanning.{separator_if}
+use Rattle.decimal_format.specs.{Formatted.separator_before, Parts.magnitude_of, Scanning.separator_if}
 use Rattle.decimal_format.proofs.lemmas.formatter.Parts.{integer_run, after_run}
 use Rattle.decimal_format.proofs.formatter.FormattedAbsolute.run_at.Goals as goal
 

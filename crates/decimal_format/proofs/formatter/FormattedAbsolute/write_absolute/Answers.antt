@@ -1,8 +1,7 @@
 use Rattle.std.proofs.Common.{◌≡◌, ◌+◌, ◌≤◌, ap, subst, arith}
 use Rattle.decimal_digits.specs.AppendsPrefix.{AppendsPrefix}
 use Rattle.fixed_decimal.proofs.Calling.{on_err}
-use Rattle.decimal_format.specs.Formatted.{shown_count}
-use Rattle.decimal_format.specs.Parts.{part_text}
+use Rattle.decimal_format.specs.{Formatted.shown_count, Parts.part_text}
 use Rattle.decimal_format.proofs.lemmas.formatter.Parts.{part_none, part_more, part_failed, whole_part}
 use Rattle.decimal_format.proofs.formatter.FormattedAbsolute.write_absolute.Goals as goal
 

@@ -1,9 +1,7 @@
-use Rattle.std.proofs.Common.{◌≡◌, ℕ, length, replicate, arith}
-use Rattle.std.proofs.lemmas.List.{length-take}
+use Rattle.std.proofs.{Common.{◌≡◌, ℕ, length, replicate, arith}, lemmas.List.length-take}
 use Rattle.fixed_decimal.proofs.Calling.{on_err}
-use Rattle.decimal_format.proofs.lemmas.formatter.Parts.{ascii_between, run_between, part_none, part_more, part_failed}
+use Rattle.decimal_format.proofs.lemmas.{formatter.Parts.{ascii_between, run_between, part_none, part_more, part_failed}, symbols.Rules.steps}
 use Rattle.decimal_format.proofs.formatter.FormattedAbsolute.write_part.Goals as goal
-use Rattle.decimal_format.proofs.lemmas.symbols.Rules.{steps}
 
 pub loop-written-init : goal.loop-written-init
 loop-written-init g c = record { within = omega arith; appended = part_none c.args.self.now c.args.below _ }

@@ -1,5 +1,4 @@
-use Rattle.std.proofs.Common.{◌≡◌, arith}
-use Rattle.std.proofs.lemmas.Result.{on_err_weaker}
+use Rattle.std.proofs.{Common.{◌≡◌, arith}, lemmas.Result.on_err_weaker}
 use Rattle.fixed_decimal.proofs.Calling.{on_err, first_of_three, second_of_three, third_of_three}
 use Rattle.decimal_format.proofs.formatter.FormattedAbsolute.write_run.Goals as goal
 

@@ -1,13 +1,8 @@
-use Rattle.std.proofs.Common.{◌≡◌, ◌+◌, ◌-◌, ◌/◌, true, sym, ◌∙◌, ap, arith}
-use Rattle.std.specs.Prelude.{nat_abs, pos}
-use Rattle.std.specs.Int.{int_gap}
-use Rattle.std.proofs.lemmas.Int.{ints}
-use Rattle.std.proofs.lemmas.Bool.Decides.{nat_tests}
+use Rattle.std.proofs.{Common.{◌≡◌, ◌+◌, ◌-◌, ◌/◌, true, sym, ◌∙◌, ap, arith}, lemmas.{Int.ints, Bool.Decides.nat_tests}}
+use Rattle.std.specs.{Prelude.{nat_abs, pos}, Int.int_gap}
 use Rattle.fixed_decimal.proofs.Calling.{narrow_kept, gap_is}
-use Rattle.decimal_format.specs.Grouping.{is_grouped}
-use Rattle.decimal_format.specs.Parts.{separators_below}
-use Rattle.decimal_format.proofs.lemmas.symbols.Separators.{count-none, count-some, grouped_least}
-use Rattle.decimal_format.proofs.grouping.GroupingSizes.separator_count.Goals.{then-self-eq0-via-then-self-eq0, then-self-eq0-via-else-self-eq0+then-not-is_grouped}
+use Rattle.decimal_format.specs.{Grouping.is_grouped, Parts.separators_below}
+use Rattle.decimal_format.proofs.{lemmas.symbols.Separators.{count-none, count-some, grouped_least}, grouping.GroupingSizes.separator_count.Goals.{then-self-eq0-via-then-self-eq0, then-self-eq0-via-else-self-eq0+then-not-is_grouped}}
 use Rattle.decimal_format.proofs.grouping.GroupingSizes.separator_count.Goals as goal
 
 pub returns-then-self-eq0-clause-value : goal.returns-then-self-eq0-clause-value

@@ -1,5 +1,4 @@
-use Rattle.std.proofs.Common.{◌≡◌, ◌≢◌, ℕ, List, [], ◌∷◌, ◌++◌, sym, ◌∙◌, ap, append_assoc}
-use Rattle.std.proofs.lemmas.List.{append_cancel_left}
+use Rattle.std.proofs.{Common.{◌≡◌, ◌≢◌, ℕ, List, [], ◌∷◌, ◌++◌, sym, ◌∙◌, ap, append_assoc}, lemmas.List.append_cancel_left}
 use Rattle.decimal_format.proofs.reader.alternatives.cut_prefix.Goals as goal
 
 module _ (text prefix done left rest after : List ℕ) (byte : ℕ) (spelled : prefix ≡ done ++ left)

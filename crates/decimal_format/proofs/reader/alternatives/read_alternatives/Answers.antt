@@ -1,8 +1,5 @@
-use Rattle.std.proofs.Common.{◌≡◌, ◌≤◌, ◌-◌, ◌^◌, List, ℕ, length, sym, ◌∙◌, ap, subst, arith}
-use Rattle.std.proofs.lemmas.List.{take_all}
-use Rattle.decimal_format.specs.Alternatives.{IsNumeralOfFirst, IsWrittenOfFirst}
-use Rattle.decimal_format.specs.Lenient.{replaced, normalized}
-use Rattle.decimal_format.specs.Reading.{IsRead}
+use Rattle.std.proofs.{Common.{◌≡◌, ◌≤◌, ◌-◌, ◌^◌, List, ℕ, length, sym, ◌∙◌, ap, subst, arith}, lemmas.List.take_all}
+use Rattle.decimal_format.specs.{Alternatives.{IsNumeralOfFirst, IsWrittenOfFirst}, Lenient.{replaced, normalized}, Reading.IsRead}
 use Rattle.decimal_format.proofs.reader.alternatives.read_alternatives.Goals as goal
 
 pub returns-in-Some : goal.returns-in-Some

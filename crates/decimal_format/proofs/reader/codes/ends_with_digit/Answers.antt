@@ -1,8 +1,5 @@
-use Rattle.std.proofs.Common.{◌≡◌, ℕ, ◌+◌, ◌-◌, List, [], ◌++◌, length, drop, take, sym, ◌∙◌, ap, subst, arith, append-nil, length-append, length-drop, take-append-drop}
-use Rattle.std.proofs.lemmas.List.{nil_from_length, take_all}
-use Rattle.std.proofs.Math.Seq.{drop-append_seam}
-use Rattle.decimal_format.specs.Symbols.{Symbols, HaveWidth, digit_text}
-use Rattle.decimal_format.specs.Readable.{BeginsWithDigit, EndsWithDigit}
+use Rattle.std.proofs.{Common.{◌≡◌, ℕ, ◌+◌, ◌-◌, List, [], ◌++◌, length, drop, take, sym, ◌∙◌, ap, subst, arith, append-nil, length-append, length-drop, take-append-drop}, lemmas.List.{nil_from_length, take_all}, Math.Seq.drop-append_seam}
+use Rattle.decimal_format.specs.{Symbols.{Symbols, HaveWidth, digit_text}, Readable.{BeginsWithDigit, EndsWithDigit}}
 use Rattle.decimal_format.proofs.reader.codes.ends_with_digit.Goals as goal
 
 module _ (s : Symbols) (width front : ℕ) (text : List ℕ) (one_width : HaveWidth s.digits width)

@@ -1,6 +1,5 @@
-use Rattle.std.proofs.Common.{arith, sym, ◌∙◌, ap}
+use Rattle.std.proofs.{Common.{arith, sym, ◌∙◌, ap}, lemmas.{Grind.common_steps, Int.to_z-of_z}}
 use Rattle.std.specs.Prelude.{Err}
-use Rattle.std.proofs.lemmas.{Grind.common_steps, Int.to_z-of_z}
 use Rattle.decimal_unsigned.specs.declared.error.ConcatenateError.TheVariants.{Overlap, Memory}
 use Rattle.fixed_decimal.proofs.Calling.{on_err}
 use Rattle.decimal_format.proofs.lemmas.reader.Values.{next_at, bcd_only, memory_for_integer, stays_in_limits, is_apart, joined_is, memory_for_sum}

@@ -1,5 +1,4 @@
-use Rattle.std.proofs.Common.{arith}
-use Rattle.std.proofs.lemmas.Int.{to_z_pos}
+use Rattle.std.proofs.{Common.arith, lemmas.Int.to_z_pos}
 use Rattle.decimal_format.proofs.lemmas.reader.Values.{zero_moved}
 use Rattle.decimal_format.proofs.reader.value.zero_with_digits.Goals as goal
 

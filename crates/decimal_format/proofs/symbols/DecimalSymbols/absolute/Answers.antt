@@ -1,11 +1,8 @@
-use Rattle.std.proofs.Common.{[], ◌++◌, length-append, inl, inr, arith}
-use Rattle.std.proofs.lemmas.Bool.{cases_lt}
-use Rattle.std.proofs.lemmas.Result.{IfOk-weaker}
+use Rattle.std.proofs.{Common.{[], ◌++◌, length-append, inl, inr, arith}, lemmas.{Bool.cases_lt, Result.IfOk-weaker}}
 use Rattle.decimal_digits.specs.Number.{size}
 use Rattle.decimal_unsigned.specs.DigitValues.{value_of_first}
 use Rattle.fixed_decimal.proofs.Calling.{on_err}
-use Rattle.decimal_format.proofs.lemmas.reader.Bcd.{below_append, short_word}
-use Rattle.decimal_format.proofs.lemmas.reader.Values.{holds_none, holds_part, on_err_unless, size_more}
+use Rattle.decimal_format.proofs.lemmas.reader.{Bcd.{below_append, short_word}, Values.{holds_none, holds_part, on_err_unless, size_more}}
 use Rattle.decimal_format.proofs.symbols.DecimalSymbols.absolute.Goals as goal
 
 -- ---- Up to sixteen digits.

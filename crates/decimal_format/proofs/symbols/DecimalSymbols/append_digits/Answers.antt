@@ -1,7 +1,6 @@
 use Rattle.std.proofs.Common.{◌++◌, length-append, arith}
 use Rattle.fixed_decimal.proofs.Calling.{on_err}
-use Rattle.decimal_format.proofs.lemmas.reader.Bcd.{below_append}
-use Rattle.decimal_format.proofs.lemmas.reader.Values.{appended_all, appended_more, next_word, memory_for_word}
+use Rattle.decimal_format.proofs.lemmas.reader.{Bcd.below_append, Values.{appended_all, appended_more, next_word, memory_for_word}}
 use Rattle.decimal_format.proofs.symbols.DecimalSymbols.append_digits.Goals as goal
 
 pub append-requires : goal.append-requires

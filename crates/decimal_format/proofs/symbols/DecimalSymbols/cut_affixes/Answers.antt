@@ -1,6 +1,5 @@
-use Rattle.std.proofs.Common.{◌≡◌, ◌≢◌, ℕ, List, ◌++◌, sym, ◌∙◌, ap}
+use Rattle.std.proofs.{Common.{◌≡◌, ◌≢◌, ℕ, List, ◌++◌, sym, ◌∙◌, ap}, lemmas.List.append_cancel_left}
 use Rattle.std.specs.Prelude.{Option, Some, None, MatchOption}
-use Rattle.std.proofs.lemmas.List.{append_cancel_left}
 use Rattle.decimal_format.proofs.symbols.DecimalSymbols.cut_affixes.Goals as goal
 
 joined : {T : Type 0} (bytes : T → List ℕ) (text p q a b rest : List ℕ) (r : Option T) → p ≡ a → q ≡ b

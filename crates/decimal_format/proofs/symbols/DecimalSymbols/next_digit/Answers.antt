@@ -1,5 +1,4 @@
-use Rattle.decimal_format.proofs.lemmas.symbols.AsciiDigits.{digit_text-ascii}
-use Rattle.decimal_format.proofs.lemmas.reader.Codes.{match_weaker}
+use Rattle.decimal_format.proofs.lemmas.{symbols.AsciiDigits.digit_text-ascii, reader.Codes.match_weaker}
 use Rattle.decimal_format.proofs.symbols.DecimalSymbols.next_digit.Goals as goal
 use Rattle.std.proofs.Common.{arith}
 

@@ -1,8 +1,5 @@
 use Rattle.std.proofs.Common.{refl, arith, append-nil}
-use Rattle.decimal_format.proofs.lemmas.reader.Bcd.{last_none}
-use Rattle.decimal_format.proofs.lemmas.reader.DigitTexts.{digits_text-nil}
-use Rattle.decimal_format.proofs.lemmas.reader.Scans.{spelled_plain, fraction_is, fraction_read}
-use Rattle.decimal_format.proofs.symbols.DecimalSymbols.read_fraction.Goals.{then-count-eq0-via-then-count-eq0, then-count-eq0-via-else-count-eq0+then-not-is_empty}
+use Rattle.decimal_format.proofs.{lemmas.reader.{Bcd.last_none, DigitTexts.digits_text-nil, Scans.{spelled_plain, fraction_is, fraction_read}}, symbols.DecimalSymbols.read_fraction.Goals.{then-count-eq0-via-then-count-eq0, then-count-eq0-via-else-count-eq0+then-not-is_empty}}
 use Rattle.decimal_format.proofs.symbols.DecimalSymbols.read_fraction.Goals as goal
 
 pub returns-then-is_empty-clause-found : goal.returns-then-is_empty-clause-found

@@ -1,7 +1,6 @@
 use Rattle.std.proofs.Common.{◌≡◌, true, false, subst, sym, ◌∙◌}
 use Rattle.decimal_format.specs.Reading.{Numeral, IsNumeral}
-use Rattle.decimal_format.proofs.lemmas.reader.NumeralLaws.{texts_by, lenient-unique, numeral_is_lenient, numeral_by_is_lenient, numeral_by, none_by, nothing_read, value_read}
-use Rattle.decimal_format.proofs.symbols.DecimalSymbols.read_groups.Goals.{else-is_strict-via-then-is_strict+else-not-scanned, else-is_strict-via-else-is_strict}
+use Rattle.decimal_format.proofs.{lemmas.reader.NumeralLaws.{texts_by, lenient-unique, numeral_is_lenient, numeral_by_is_lenient, numeral_by, none_by, nothing_read, value_read}, symbols.DecimalSymbols.read_groups.Goals.{else-is_strict-via-then-is_strict+else-not-scanned, else-is_strict-via-else-is_strict}}
 use Rattle.decimal_format.proofs.symbols.DecimalSymbols.read_groups.Goals as goal
 
 -- the text is that of no digits, wherever the separators are

@@ -1,5 +1,4 @@
-use Rattle.std.proofs.Common.{◌≡◌, ◌≤◌, ◌-◌, ◌^◌, length, sym, ◌∙◌, ap, arith}
-use Rattle.std.proofs.lemmas.List.{take_all}
+use Rattle.std.proofs.{Common.{◌≡◌, ◌≤◌, ◌-◌, ◌^◌, length, sym, ◌∙◌, ap, arith}, lemmas.List.take_all}
 use Rattle.decimal_format.specs.Lenient.{replaced, normalized}
 use Rattle.decimal_format.proofs.lemmas.reader.NumeralLaws.{read_first, read_next}
 use Rattle.decimal_format.proofs.symbols.DecimalSymbols.read_lenient.Goals as goal

@@ -1,15 +1,8 @@
 use Rattle.std.proofs.Common.{◌≡◌, ℕ, ◌-◌, ◌^◌, ◌<◌, true, List, ◌++◌, length, refl, sym, ◌∙◌, ap, subst, arith}
 use Rattle.std.specs.Prelude.{◌↔◌}
 use Rattle.fixed_decimal.specs.declared.variations.Sign.{Sign}
-use Rattle.decimal_format.specs.Symbols.{Symbols, sign_affixes}
-use Rattle.decimal_format.specs.Grouping.{ends_group}
-use Rattle.decimal_format.specs.Lenient.{separated_at, IsLenientNumeral}
-use Rattle.decimal_format.specs.Readable.{IsReadable, BeginsWithDigit}
-use Rattle.decimal_format.specs.Reading.{Numeral, AreDigits, absolute_numeral_text, digits_text}
-use Rattle.decimal_format.specs.Scanning.{HasBcd, IsSpelled, ReadsSpelled, IsUniform}
-use Rattle.decimal_format.proofs.lemmas.reader.Codes.{none_not_digit}
-use Rattle.decimal_format.proofs.lemmas.reader.NumeralLaws.{numeral_if_uniform}
-use Rattle.decimal_format.proofs.lemmas.reader.Scans.{number_begins, whole_bcd, spelled_whole}
+use Rattle.decimal_format.specs.{Symbols.{Symbols, sign_affixes}, Grouping.ends_group, Lenient.{separated_at, IsLenientNumeral}, Readable.{IsReadable, BeginsWithDigit}, Reading.{Numeral, AreDigits, absolute_numeral_text, digits_text}, Scanning.{HasBcd, IsSpelled, ReadsSpelled, IsUniform}}
+use Rattle.decimal_format.proofs.lemmas.reader.{Codes.none_not_digit, NumeralLaws.numeral_if_uniform, Scans.{number_begins, whole_bcd, spelled_whole}}
 use Rattle.decimal_format.proofs.symbols.DecimalSymbols.scan.Goals as goal
 
 pub returns-in_err-sign-clause-none : goal.returns-in_err-sign-clause-none

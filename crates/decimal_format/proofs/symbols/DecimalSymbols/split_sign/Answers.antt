@@ -1,10 +1,7 @@
-use Rattle.std.proofs.Common.{◌++◌, sym, ◌∙◌, ap, append-nil, arith}
+use Rattle.std.proofs.{Common.{◌++◌, sym, ◌∙◌, ap, append-nil, arith}, lemmas.List.append_cancel_right}
 use Rattle.fixed_decimal.specs.declared.variations.Sign.TheVariants.{None}
-use Rattle.decimal_format.specs.Readable.{BeginsWithDigit}
-use Rattle.decimal_format.proofs.lemmas.symbols.AsciiDigits.{digit_text-ascii}
-use Rattle.std.proofs.lemmas.List.{append_cancel_right}
-use Rattle.decimal_format.specs.Symbols.{sign_affixes}
-use Rattle.decimal_format.proofs.lemmas.reader.Scans.{begins-append, sign-unique}
+use Rattle.decimal_format.specs.{Readable.BeginsWithDigit, Symbols.sign_affixes}
+use Rattle.decimal_format.proofs.lemmas.{symbols.AsciiDigits.digit_text-ascii, reader.Scans.{begins-append, sign-unique}}
 use Rattle.decimal_format.proofs.symbols.DecimalSymbols.split_sign.Goals as goal
 
 pub returns-in-Some-clause-unique : goal.returns-in-Some-clause-unique

@@ -1,7 +1,5 @@
 use Rattle.std.proofs.Common.{length, inl, inr, refl, ap, ◌∙◌}
-use Rattle.fixed_decimal_c.specs.Conversions.{IsConverted, ConversionFails}
-use Rattle.fixed_decimal_c.specs.Errors.{error_of_run}
-use Rattle.fixed_decimal_c.specs.Formats.{IsTextBy, FormatFails}
+use Rattle.fixed_decimal_c.specs.{Conversions.{IsConverted, ConversionFails}, Errors.error_of_run, Formats.{IsTextBy, FormatFails}}
 use Rattle.fixed_decimal_c.proofs.lemmas.texts.Writing.{writes_weaker}
 use Rattle.fixed_decimal_c.proofs.convert.Forms.convert.Goals as goal
 

@@ -1,5 +1,4 @@
-use Rattle.std.proofs.Common.{◌≡◌, ◌-◌, ◌∷◌, ◌≤◌, length, take, drop, refl, subst, arith}
-use Rattle.std.proofs.lemmas.List.{take_all, length-drop}
+use Rattle.std.proofs.{Common.{◌≡◌, ◌-◌, ◌∷◌, ◌≤◌, length, take, drop, refl, subst, arith}, lemmas.List.{take_all, length-drop}}
 use Rattle.conversions.specs.Lines.{lines_of}
 use Rattle.fixed_decimal_c.specs.Lines.{IsLineWritten, LineStops}
 use Rattle.fixed_decimal_c.proofs.lemmas.lines.Columns.{converted_none, converted_more, stopped}

@@ -1,5 +1,4 @@
-use Rattle.std.proofs.Common.{◌≡◌, ◌∷◌, ◌+◌, length, take, drop, sym, ap, ◌∙◌, arith, take-append-drop}
-use Rattle.std.proofs.lemmas.List.{length-take, take_all}
+use Rattle.std.proofs.{Common.{◌≡◌, ◌∷◌, ◌+◌, length, take, drop, sym, ap, ◌∙◌, arith, take-append-drop}, lemmas.List.{length-take, take_all}}
 use Rattle.fixed_decimal_c.proofs.slice_sink.SliceSinkSink.put_bytes.Goals as goal
 
 pub returns-then-count-bytes-clause-prefix : goal.returns-then-count-bytes-clause-prefix

@@ -1,7 +1,6 @@
 use Rattle.std.proofs.Common.{◌≡◌, Bor, Option, Some, None, IfSome, sym, ap, ◌∙◌}
 use Rattle.std.specs.Option.{option_copied}
-use Rattle.locale_data.specs.declared.tables.rows.compact.CompactPattern.{CompactPattern}
-use Rattle.locale_data.specs.Compact.{pattern_for, AreTexts}
+use Rattle.locale_data.specs.{declared.tables.rows.compact.CompactPattern.CompactPattern, Compact.{pattern_for, AreTexts}}
 use Rattle.locale_data.proofs.lemmas.tables.CompactRows.{pattern_has_texts}
 use Rattle.locale_data.proofs.compact.CompactPatterns.pattern.Goals as goal
 

@@ -1,5 +1,4 @@
-use Rattle.std.proofs.Common.{arith, rules, w16, FitsSigned}
-use Rattle.std.proofs.lemmas.Int.{ints, clamps, to_z-of_z}
+use Rattle.std.proofs.{Common.{arith, rules, w16, FitsSigned}, lemmas.Int.{ints, clamps, to_z-of_z}}
 use Rattle.number_format.proofs.format.compact.undivided_magnitude.Goals as goal
 
 pub returns : goal.returns

@@ -1,8 +1,6 @@
-use Rattle.std.proofs.Common.{◌≡◌, ◌∙◌, ap, ◌<◌, ◌^◌, arith, rules, w16, w32, to_z, FitsSigned}
+use Rattle.std.proofs.{Common.{◌≡◌, ◌∙◌, ap, ◌<◌, ◌^◌, arith, rules, w16, w32, to_z, FitsSigned}, lemmas.Int.{ints, to_z-of_z}}
 use Rattle.std.specs.Prelude.{pos, min}
-use Rattle.std.proofs.lemmas.Int.{ints, to_z-of_z}
-use Rattle.decimal_unsigned.specs.Edits.{padded_start}
-use Rattle.decimal_unsigned.specs.Unsigned.{integer_value}
+use Rattle.decimal_unsigned.specs.{Edits.padded_start, Unsigned.integer_value}
 use Rattle.number_format.proofs.lemmas.format.ExponentDigits.{integer_is_short}
 use Rattle.number_format.proofs.format.exponent.shown_exponent.Goals as goal
 

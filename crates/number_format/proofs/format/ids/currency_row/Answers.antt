@@ -1,7 +1,6 @@
 use Rattle.std.proofs.Common.{◌≡◌, ℕ, List, IfSome, None, Some, Option, refl, subst, sym}
 use Rattle.std.specs.Prelude.{IsNone, MatchOption}
-use Rattle.locale_data.specs.Currencies.{currency_with, IsCurrencyId}
-use Rattle.locale_data.specs.declared.currency.CurrencyId.{CurrencyId}
+use Rattle.locale_data.specs.{Currencies.{currency_with, IsCurrencyId}, declared.currency.CurrencyId.CurrencyId}
 use Rattle.number_format.specs.Formatters.{IsCurrencyRow}
 use Rattle.number_format.proofs.format.ids.currency_row.Goals as goal
 

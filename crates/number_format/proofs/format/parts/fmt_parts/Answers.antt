@@ -1,5 +1,4 @@
-use Rattle.std.proofs.Common.{arith}
-use Rattle.std.proofs.Output.{has_written_styled_append}
+use Rattle.std.proofs.{Common.arith, Output.has_written_styled_append}
 use Rattle.number_format.proofs.lemmas.format.PartTexts.{parts_text-more}
 use Rattle.number_format.proofs.format.parts.fmt_parts.Goals as goal
 

@@ -1,10 +1,8 @@
-use Rattle.std.proofs.Common.{◌∙◌, ap, subst, rules, w16, FitsSigned, pos, ◌-ℤ◌}
-use Rattle.std.proofs.lemmas.{Int.to_z-of_z, Result.{on_ok_weaker, on_err_weaker}}
+use Rattle.std.proofs.{Common.{◌∙◌, ap, subst, rules, w16, FitsSigned, pos, ◌-ℤ◌}, lemmas.{Int.to_z-of_z, Result.{on_ok_weaker, on_err_weaker}}}
 use Rattle.decimal_digits.specs.Number.{digit}
 use Rattle.decimal_format.specs.{Formatted.{separator_before, separator_after}, Symbols.digit_text}
 use Rattle.fixed_decimal.proofs.Calling.{on_err}
-use Rattle.number_format.specs.declared.format.text_part.PartKind.TheVariants.{Decimal, Group}
-use Rattle.number_format.specs.TextParts.{Puts, PutsPrefix, pieces_of, digit_kind}
+use Rattle.number_format.specs.{declared.format.text_part.PartKind.TheVariants.{Decimal, Group}, TextParts.{Puts, PutsPrefix, pieces_of, digit_kind}}
 use Rattle.number_format.proofs.lemmas.format.PieceTexts.{puts_trans, first_of_three, second_of_three, third_of_three}
 use Rattle.number_format.proofs.format.parts.put_magnitude.Goals as goal
 

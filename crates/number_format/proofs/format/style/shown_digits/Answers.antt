@@ -1,7 +1,6 @@
 use Rattle.std.proofs.Common.{◌≡◌, subst, sym}
 use Rattle.std.specs.Prelude.{Some, MatchOption}
-use Rattle.number_format.specs.DefaultDigits.{AreDefaultDigits}
-use Rattle.number_format.specs.Formatters.{digits_by}
+use Rattle.number_format.specs.{DefaultDigits.AreDefaultDigits, Formatters.digits_by}
 use Rattle.number_format.proofs.format.style.shown_digits.Goals as goal
 
 pub returns-in-None : goal.returns-in-None

@@ -1,7 +1,6 @@
 use Rattle.std.proofs.Common.{sym, subst}
 use Rattle.locale_data.specs.Currencies.{IsCurrencyPattern}
-use Rattle.number_format.specs.declared.options.NumberStyle.{NumberStyle}
-use Rattle.number_format.specs.Formatters.{IsStyle}
+use Rattle.number_format.specs.{declared.options.NumberStyle.NumberStyle, Formatters.IsStyle}
 use Rattle.number_format.proofs.format.style.style_of.Goals as goal
 
 pub returns-in-Currency-default : goal.returns-in-Currency-default

@@ -1,6 +1,5 @@
-use Rattle.std.proofs.Common.{◌*◌, ◌^◌, ◌∙◌, ap, arith, rules, w16, w32, FitsSigned}
+use Rattle.std.proofs.{Common.{◌*◌, ◌^◌, ◌∙◌, ap, arith, rules, w16, w32, FitsSigned}, lemmas.Int.{ints, clamps, to_z-of_z}}
 use Rattle.std.specs.Prelude.{pos}
-use Rattle.std.proofs.lemmas.Int.{ints, clamps, to_z-of_z}
 use Rattle.fixed_decimal.proofs.Calling.{below_limit}
 use Rattle.number_format.proofs.lemmas.notation.Scales.{raised_first, raised_twice}
 use Rattle.number_format.proofs.notation.Notation.raise.Goals as goal

@@ -1,5 +1,4 @@
-use Rattle.std.proofs.Common.{◌∙◌, ap, arith, rules, w32, FitsSigned}
-use Rattle.std.proofs.lemmas.Int.{ints, to_z-of_z}
+use Rattle.std.proofs.{Common.{◌∙◌, ap, arith, rules, w32, FitsSigned}, lemmas.Int.{ints, to_z-of_z}}
 use Rattle.number_format.specs.ShownDigits.{shown}
 use Rattle.number_format.proofs.lemmas.notation.Scales.{scaled-some}
 use Rattle.number_format.proofs.notation.Notation.scale_in_place.Goals as goal

@@ -1,13 +1,9 @@
-use Rattle.std.proofs.Common.{◌≡◌, ◌∙◌, ap, arith}
-use Rattle.std.proofs.lemmas.Grind.{common_steps}
+use Rattle.std.proofs.{Common.{◌≡◌, ◌∙◌, ap, arith}, lemmas.Grind.common_steps}
 use Rattle.std.specs.Prelude.{if◌then◌else◌, nat_lt, Some, option_map}
 use Rattle.decimal_digits.specs.Number.{first}
-use Rattle.number_format.specs.Scaled.{settled, settled_with}
-use Rattle.number_format.specs.ShownDigits.{rounded_with, rounded_within}
-use Rattle.number_format.proofs.lemmas.notation.Scales.{settled_by}
-use Rattle.number_format.proofs.notation.Notation.settle.Given.{Over}
+use Rattle.number_format.specs.{Scaled.{settled, settled_with}, ShownDigits.{rounded_with, rounded_within}}
+use Rattle.number_format.proofs.{lemmas.notation.Scales.settled_by, notation.Notation.settle.{Given.Over, Goals.After-carried_exponent-next}}
 use Rattle.number_format.proofs.notation.Notation.settle.Goals as goal
-use Rattle.number_format.proofs.notation.Notation.settle.Goals.{After-carried_exponent-next}
 
 -- the settled number, by the two exponents and the number that is rounded once
 settles : (g : Over) (c : After-carried_exponent-next g) →

@@ -1,5 +1,4 @@
-use Rattle.std.proofs.Common.{arith, rules, w32, FitsSigned}
-use Rattle.std.proofs.lemmas.Int.{ints, clamps, to_z-of_z}
+use Rattle.std.proofs.{Common.{arith, rules, w32, FitsSigned}, lemmas.Int.{ints, clamps, to_z-of_z}}
 use Rattle.number_format.proofs.notation.scale.halves.Goals as goal
 
 pub overflow_sub-count : goal.overflow_sub-count

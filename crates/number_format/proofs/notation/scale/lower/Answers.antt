@@ -1,9 +1,7 @@
-use Rattle.std.proofs.Common.{◌≡◌, ℕ, zero, suc, ◌/◌, ◌^◌, ◌<◌, ◌≤◌, Bool, true, false, refl, ◌∙◌, ap, subst, arith, w16, to_z, of_z}
+use Rattle.std.proofs.{Common.{◌≡◌, ℕ, zero, suc, ◌/◌, ◌^◌, ◌<◌, ◌≤◌, Bool, true, false, refl, ◌∙◌, ap, subst, arith, w16, to_z, of_z}, lemmas.Int.{ints, clamps}}
 use Rattle.std.specs.Prelude.{if◌then◌else◌, Some, None, ℤ, pos, negsuc, ◌-ℤ◌, ◌≤ℤ◌, ◌<ℤ◌}
-use Rattle.std.proofs.lemmas.Int.{ints, clamps}
 use Rattle.decimal_digits.specs.Number.{last}
-use Rattle.decimal_unsigned.specs.Edits.{leaves_limits, multiplied_pow10, times_power, trimmed_end}
-use Rattle.decimal_unsigned.specs.Unsigned.{Unsigned, IsValue}
+use Rattle.decimal_unsigned.specs.{Edits.{leaves_limits, multiplied_pow10, times_power, trimmed_end}, Unsigned.{Unsigned, IsValue}}
 use Rattle.number_format.proofs.notation.scale.lower.Goals as goal
 
 -- the power by which the value is multiplied

@@ -1,8 +1,5 @@
-use Rattle.std.proofs.Common.{◌≡◌, ◌≢◌, ℕ, List, ◌++◌, sym, ◌∙◌, ap, Bor}
+use Rattle.std.proofs.{Common.{◌≡◌, ◌≢◌, ℕ, List, ◌++◌, sym, ◌∙◌, ap, Bor}, lemmas.{Bool.Decides.Decides-eqb, List.append_cancel_left, Slice.Eq.{strip_prefix_is, strip_suffix_is}}}
 use Rattle.std.specs.Prelude.{Option, Some, None, MatchOption}
-use Rattle.std.proofs.lemmas.Bool.Decides.{Decides-eqb}
-use Rattle.std.proofs.lemmas.List.{append_cancel_left}
-use Rattle.std.proofs.lemmas.Slice.Eq.{strip_prefix_is, strip_suffix_is}
 use Rattle.number_format.proofs.read.affix_reader.cut_affixes.Goals as goal
 
 joined : (text p q rest : List ℕ) (r : Option (Bor (List ℕ))) → text ≡ p ++ rest

@@ -1,8 +1,7 @@
 use Rattle.std.proofs.Common.{◌≢◌}
 use Rattle.std.specs.Prelude.{IsTrue}
 use Rattle.fixed_decimal.specs.declared.variations.Sign.TheVariants.{None, Negative, Positive}
-use Rattle.number_format.proofs.lemmas.read.NamedAffixes.{named_if}
-use Rattle.number_format.proofs.read.apart.are_apart.Goals.{then-are_pair_apart, else-are_pair_apart}
+use Rattle.number_format.proofs.{lemmas.read.NamedAffixes.named_if, read.apart.are_apart.Goals.{then-are_pair_apart, else-are_pair_apart}}
 use Rattle.number_format.proofs.read.apart.are_apart.Goals as goal
 
 none_or_negative : None ≢ Negative

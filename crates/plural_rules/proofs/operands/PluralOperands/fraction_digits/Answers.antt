@@ -1,5 +1,4 @@
-use Rattle.std.proofs.Common.{ap, arith}
-use Rattle.std.proofs.lemmas.Int.{ints, clamps}
+use Rattle.std.proofs.{Common.{ap, arith}, lemmas.Int.{ints, clamps}}
 use Rattle.fixed_decimal.proofs.Calling.{narrow_kept, offset_is}
 use Rattle.plural_rules.proofs.lemmas.operands.Shifted.{fraction_at}
 use Rattle.plural_rules.proofs.operands.PluralOperands.fraction_digits.Goals as goal

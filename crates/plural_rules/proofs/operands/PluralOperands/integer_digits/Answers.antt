@@ -1,10 +1,7 @@
-use Rattle.std.proofs.Common.{arith}
-use Rattle.std.proofs.lemmas.Int.{ints, clamps}
+use Rattle.std.proofs.{Common.arith, lemmas.{Int.{ints, clamps}, Grind.common_steps, Bool.Decides.nat_tests}}
 use Rattle.plural_rules.proofs.lemmas.operands.Shifted.{integer_digits_of}
 use Rattle.fixed_decimal.proofs.Calling.{narrow_kept, offset_is}
 use Rattle.plural_rules.proofs.operands.PluralOperands.integer_digits.Goals as goal
-use Rattle.std.proofs.lemmas.Grind.{common_steps}
-use Rattle.std.proofs.lemmas.Bool.Decides.{nat_tests}
 
 pub new-requires : goal.new-requires
 new-requires g c = grind (arith, ints, clamps, narrow_kept, offset_is)

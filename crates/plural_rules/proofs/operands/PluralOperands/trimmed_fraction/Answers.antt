@@ -1,5 +1,4 @@
-use Rattle.std.proofs.Common.{refl, arith}
-use Rattle.std.proofs.lemmas.Int.{ints, clamps}
+use Rattle.std.proofs.{Common.{refl, arith}, lemmas.Int.{ints, clamps}}
 use Rattle.decimal_unsigned.specs.Edits.{trimmed_end}
 use Rattle.plural_rules.proofs.operands.PluralOperands.trimmed_fraction.Goals as goal
 

@@ -1,5 +1,4 @@
-use Rattle.std.proofs.Common.{arith}
-use Rattle.std.proofs.lemmas.Int.{ints, to_z-of_z}
+use Rattle.std.proofs.{Common.arith, lemmas.Int.{ints, to_z-of_z}}
 use Rattle.fixed_decimal.proofs.Calling.{offset_is, narrow_kept}
 use Rattle.plural_rules.proofs.lemmas.operands.DigitSlice.{step}
 use Rattle.plural_rules.proofs.operands.digits.digit_below.Goals as goal

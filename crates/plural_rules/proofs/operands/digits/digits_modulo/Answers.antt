@@ -1,5 +1,4 @@
-use Rattle.std.proofs.Common.{◌≡◌, ◌+◌, ◌-◌, ◌%◌, ◌^◌, w16, to_z, of_z, refl, ◌∙◌, arith}
-use Rattle.std.proofs.lemmas.Int.{ints, to_z-of_z}
+use Rattle.std.proofs.{Common.{◌≡◌, ◌+◌, ◌-◌, ◌%◌, ◌^◌, w16, to_z, of_z, refl, ◌∙◌, arith}, lemmas.Int.{ints, to_z-of_z}}
 use Rattle.decimal_digits.specs.Number.{offset}
 use Rattle.fixed_decimal.proofs.Calling.{offset_is, narrow_kept}
 use Rattle.plural_rules.specs.DigitSlice.{digit_slice}

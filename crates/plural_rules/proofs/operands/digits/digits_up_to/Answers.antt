@@ -1,5 +1,4 @@
-use Rattle.std.proofs.Common.{arith}
-use Rattle.std.proofs.lemmas.Int.{to_z-of_z}
+use Rattle.std.proofs.{Common.arith, lemmas.Int.to_z-of_z}
 use Rattle.plural_rules.proofs.lemmas.operands.DigitSlice.{over}
 use Rattle.plural_rules.proofs.operands.digits.digits_up_to.Goals as goal
 

@@ -1,5 +1,4 @@
-use Rattle.std.proofs.Common.{sym, ◌∙◌, ap, refl, arith}
-use Rattle.std.proofs.lemmas.Grind.{common_steps}
+use Rattle.std.proofs.{Common.{sym, ◌∙◌, ap, refl, arith}, lemmas.Grind.common_steps}
 use Rattle.plural_rules.specs.Rules.{category_of}
 use Rattle.plural_rules.proofs.rules.PluralRules.category.Goals as goal
 

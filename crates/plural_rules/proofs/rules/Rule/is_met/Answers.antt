@@ -1,5 +1,4 @@
-use Rattle.std.proofs.Common.{sym, ◌∙◌, ap, refl, arith}
-use Rattle.std.proofs.lemmas.Grind.{common_steps}
+use Rattle.std.proofs.{Common.{sym, ◌∙◌, ap, refl, arith}, lemmas.Grind.common_steps}
 use Rattle.plural_rules.specs.Rules.{is_met}
 use Rattle.plural_rules.proofs.rules.Rule.is_met.Goals as goal
 

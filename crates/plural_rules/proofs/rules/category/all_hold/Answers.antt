@@ -1,5 +1,4 @@
-use Rattle.std.proofs.Common.{arith}
-use Rattle.std.proofs.lemmas.Grind.{common_steps}
+use Rattle.std.proofs.{Common.arith, lemmas.Grind.common_steps}
 use Rattle.plural_rules.proofs.rules.category.all_hold.Goals as goal
 
 pub returns-then-not-holds : goal.returns-then-not-holds

@@ -1,5 +1,4 @@
-use Rattle.std.proofs.Common.{arith}
-use Rattle.std.proofs.lemmas.Grind.{common_steps}
+use Rattle.std.proofs.{Common.arith, lemmas.Grind.common_steps}
 use Rattle.plural_rules.proofs.rules.category.operand_is_in.Goals as goal
 
 pub returns-then-contains : goal.returns-then-contains

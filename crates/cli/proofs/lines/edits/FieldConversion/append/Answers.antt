@@ -1,5 +1,4 @@
-use Rattle.std.proofs.Common.{◌≡◌, Ok, sym, ◌∙◌}
-use Rattle.std.proofs.lemmas.Result.{err_from_is_err_and}
+use Rattle.std.proofs.{Common.{◌≡◌, Ok, sym, ◌∙◌}, lemmas.Result.err_from_is_err_and}
 use Rattle.cli.specs.Fields.{located}
 use Rattle.cli.proofs.lemmas.lines.Editing.{edit_fails}
 use Rattle.cli.proofs.lines.edits.FieldConversion.append.Goals as goal

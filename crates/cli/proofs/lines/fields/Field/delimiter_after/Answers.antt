@@ -1,9 +1,8 @@
 use Rattle.std.proofs.Common.{◌≡◌, ◌+◌, false, nat_eq, drop, ap, sym, ◌∙◌, rules, arith}
 use Rattle.std.specs.List.{starts_with}
 use Rattle.cli.specs.Fields.{within}
-use Rattle.cli.proofs.lemmas.lines.Separators.{all_after, searched_later, not_here, no_delimiter}
+use Rattle.cli.proofs.{lemmas.lines.Separators.{all_after, searched_later, not_here, no_delimiter}, lines.fields.Field.delimiter_after.Goals.{else-outside-via-then-outside+then-line-index+else-starts_with, else-outside-via-then-outside+else-line-index, else-outside-via-else-outside}}
 use Rattle.cli.proofs.lines.fields.Field.delimiter_after.Goals as goal
-use Rattle.cli.proofs.lines.fields.Field.delimiter_after.Goals.{else-outside-via-then-outside+then-line-index+else-starts_with, else-outside-via-then-outside+else-line-index, else-outside-via-else-outside}
 
 pub returns-in_err-first : goal.returns-in_err-first
 returns-in_err-first c = search (rules, arith, no_delimiter c.args.self.now c.args.line.now c.args.start)

@@ -1,13 +1,8 @@
-use Rattle.std.proofs.Common.{◌≢◌, [], ◌∷◌}
-use Rattle.std.proofs.lemmas.Result.{on_ok_weaker}
+use Rattle.std.proofs.{Common.{◌≢◌, [], ◌∷◌}, lemmas.Result.on_ok_weaker}
 use Rattle.std.specs.Io.KnownBytes.{Appends}
 use Rattle.decimal_digits.specs.AppendsPrefix.{AppendsPrefix}
-use Rattle.cli.specs.Edits.{EditingFails}
-use Rattle.cli.specs.Error.{line_error}
-use Rattle.cli.specs.FieldConversion.{LineFails}
-use Rattle.cli.specs.Filter.{body_of, ConvertingFails}
+use Rattle.cli.specs.{Edits.EditingFails, Error.line_error, FieldConversion.LineFails, Filter.{body_of, ConvertingFails}, declared.lines.filter.Target.TheVariants.{Line, Field, Fields}}
 use Rattle.conversions.specs.declared.error.OperationError.TheVariants.{Output}
-use Rattle.cli.specs.declared.lines.filter.Target.TheVariants.{Line, Field, Fields}
 use Rattle.cli.proofs.lemmas.lines.FieldLines.{converted_line, converted_text, converting_fails, err_weaker}
 use Rattle.cli.proofs.lines.filter.Filter.convert.Goals as goal
 

@@ -1,6 +1,4 @@
-use Rattle.std.proofs.Common.{[], ◌∷◌, inr}
-use Rattle.std.proofs.lemmas.Result.{err_from_is_err_and}
-use Rattle.std.proofs.KnownBytes.{Appends-trans}
+use Rattle.std.proofs.{Common.{[], ◌∷◌, inr}, lemmas.Result.err_from_is_err_and, KnownBytes.Appends-trans}
 use Rattle.fixed_decimal.proofs.Calling.{prefix_more}
 use Rattle.cli.proofs.lines.filter.Filter.print.Goals as goal
 

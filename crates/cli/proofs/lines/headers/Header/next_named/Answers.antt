@@ -1,7 +1,5 @@
-use Rattle.std.proofs.Common.{◌≡◌, ◌≤◌, ◌<◌, length, slice_get, Some, ⊎_elim, arith, refl}
-use Rattle.std.proofs.lemmas.Option.{slice_get_read}
-use Rattle.cli.proofs.lemmas.lines.HeaderNames.{none_more, other_at, past}
-use Rattle.cli.proofs.lemmas.lines.Separators.{le_or_lt}
+use Rattle.std.proofs.{Common.{◌≡◌, ◌≤◌, ◌<◌, length, slice_get, Some, ⊎_elim, arith, refl}, lemmas.Option.slice_get_read}
+use Rattle.cli.proofs.lemmas.lines.{HeaderNames.{none_more, other_at, past}, Separators.le_or_lt}
 use Rattle.cli.proofs.lines.headers.Header.next_named.Goals as goal
 
 pub loop-index-preserved : goal.loop-index-preserved

@@ -1,5 +1,4 @@
-use Rattle.std.proofs.Common.{◌≡◌, length, true, false, inl, inr, refl, sym, ◌∙◌, rules}
-use Rattle.std.proofs.lemmas.Result.{err_from_is_err_and}
+use Rattle.std.proofs.{Common.{◌≡◌, length, true, false, inl, inr, refl, sym, ◌∙◌, rules}, lemmas.Result.err_from_is_err_and}
 use Rattle.cli.specs.Headers.{has_index}
 use Rattle.cli.proofs.lemmas.lines.HeaderNames.{inserted}
 use Rattle.cli.proofs.lines.headers.Header.push_named.Goals as goal

@@ -1,7 +1,6 @@
 use Rattle.std.proofs.Common.{◌≡◌, ◌-◌, ℕ, Bool, List, Option, None, vec_len}
 use Rattle.std.specs.declared.io.ErrorKind.{ErrorKind}
-use Rattle.cli.specs.Fields.{are_closed}
-use Rattle.cli.specs.Input.{bytes_left}
+use Rattle.cli.specs.{Fields.are_closed, Input.bytes_left}
 use Rattle.cli.proofs.lemmas.lines.FirstRecord.{IsPart}
 use Rattle.cli.proofs.lines.input.LineReader.append_record.Given as goal
 

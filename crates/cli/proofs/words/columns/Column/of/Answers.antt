@@ -1,5 +1,4 @@
-use Rattle.std.proofs.Common.{◌≡◌, ◌++◌, codes, refl}
-use Rattle.std.proofs.lemmas.Option.{none-some}
+use Rattle.std.proofs.{Common.{◌≡◌, ◌++◌, codes, refl}, lemmas.Option.none-some}
 use Rattle.cli.proofs.lemmas.words.OptionWords.{no_column}
 use Rattle.cli.proofs.words.columns.Column.of.Goals as goal
 

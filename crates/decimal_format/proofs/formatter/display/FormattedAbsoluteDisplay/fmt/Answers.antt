@@ -1,5 +1,4 @@
-use Rattle.std.proofs.Common.{arith}
-use Rattle.std.proofs.Output.{has_written_styled_nil, has_written_styled_append, has_written_styled_of_eq}
+use Rattle.std.proofs.{Common.arith, Output.{has_written_styled_nil, has_written_styled_append, has_written_styled_of_eq}}
 use Rattle.decimal_format.specs.Formatted.{formatted_down}
 use Rattle.decimal_format.proofs.lemmas.formatter.Magnitudes.{first_magnitudes, one_more}
 use Rattle.decimal_format.proofs.formatter.display.FormattedAbsoluteDisplay.fmt.Goals as goal

@@ -1,7 +1,5 @@
-use Rattle.std.proofs.Common.{◌≡◌, ℕ, ◌≤◌, arith, rules, w16, w32, to_z, of_z, FitsSigned}
-use Rattle.std.specs.Prelude.{ℤ, pos, negsuc}
-use Rattle.std.specs.Int.{int_max, int_min}
-use Rattle.std.proofs.lemmas.Int.{ints, clamps}
+use Rattle.std.proofs.{Common.{◌≡◌, ℕ, ◌≤◌, arith, rules, w16, w32, to_z, of_z, FitsSigned}, lemmas.Int.{ints, clamps}}
+use Rattle.std.specs.{Prelude.{ℤ, pos, negsuc}, Int.{int_max, int_min}}
 use Rattle.number_format.proofs.lemmas.digits.Applied.{padded_is, stripped_number}
 use Rattle.number_format.proofs.digits.options.DigitOptions.cut_and_pad.Goals as goal
 

@@ -1,6 +1,5 @@
-use Rattle.std.proofs.Common.{◌≤◌, sym, ap, subst}
+use Rattle.std.proofs.{Common.{◌≤◌, sym, ap, subst}, Math.Nat.mod-eq_of_lt}
 use Rattle.std.specs.Prelude.{pos}
-use Rattle.std.proofs.Math.Nat.{mod-eq_of_lt}
 use Rattle.decimal_digits.specs.Number.{size}
 use Rattle.decimal_unsigned.specs.Unsigned.{Unsigned}
 use Rattle.fixed_decimal.proofs.Calling.{below_limit}

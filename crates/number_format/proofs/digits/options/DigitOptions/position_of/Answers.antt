@@ -1,5 +1,4 @@
-use Rattle.std.proofs.Common.{refl, rules, w16, FitsSigned}
-use Rattle.std.proofs.lemmas.Int.{to_z-of_z}
+use Rattle.std.proofs.{Common.{refl, rules, w16, FitsSigned}, lemmas.Int.to_z-of_z}
 use Rattle.number_format.specs.ShownDigits.{base_of}
 use Rattle.number_format.proofs.lemmas.digits.Applied.{unit_is}
 use Rattle.number_format.proofs.digits.options.DigitOptions.position_of.Goals as goal

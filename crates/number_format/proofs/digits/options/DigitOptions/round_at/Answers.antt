@@ -1,5 +1,4 @@
-use Rattle.std.proofs.Common.{arith, rules, w16, w32, FitsSigned}
-use Rattle.std.proofs.lemmas.Int.{ints, to_z-of_z}
+use Rattle.std.proofs.{Common.{arith, rules, w16, w32, FitsSigned}, lemmas.Int.{ints, to_z-of_z}}
 use Rattle.number_format.proofs.lemmas.digits.Applied.{rounded_there, rounding_fails}
 use Rattle.number_format.proofs.digits.options.DigitOptions.round_at.Goals as goal
 

@@ -1,5 +1,4 @@
-use Rattle.std.proofs.Common.{◌≡◌, refl, sym, subst, rules, w32, FitsSigned}
-use Rattle.std.proofs.lemmas.Int.{to_z-of_z}
+use Rattle.std.proofs.{Common.{◌≡◌, refl, sym, subst, rules, w32, FitsSigned}, lemmas.Int.to_z-of_z}
 use Rattle.std.specs.Prelude.{◌↔◌, IsTrue}
 use Rattle.number_format.proofs.lemmas.format.StandardNotation.{standard-some, standard-number}
 use Rattle.number_format.proofs.digits.options.DigitOptions.round_in_place.Goals as goal

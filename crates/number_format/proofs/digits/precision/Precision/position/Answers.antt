@@ -1,10 +1,6 @@
-use Rattle.std.proofs.Common.{◌≡◌, ℕ, ◌<◌, ◌≤◌, sym, ◌∙◌, ap, subst, arith, rules, w16, w32, to_z, of_z, Fits, FitsSigned}
-use Rattle.std.specs.Prelude.{ℤ, pos, negsuc, ◌+ℤ◌, ◌-ℤ◌, ◌≤ℤ◌}
-use Rattle.std.specs.Int.{int_max, int_min}
-use Rattle.std.proofs.lemmas.Int.{ints, clamps, to_z-of_z}
-use Rattle.number_format.specs.declared.digits.ranges.SignificantDigits.{SignificantDigits}
-use Rattle.number_format.specs.declared.digits.precision.Precision.{Precision}
-use Rattle.number_format.specs.ShownDigits.{last_at, fraction_end, position_of}
+use Rattle.std.proofs.{Common.{◌≡◌, ℕ, ◌<◌, ◌≤◌, sym, ◌∙◌, ap, subst, arith, rules, w16, w32, to_z, of_z, Fits, FitsSigned}, lemmas.Int.{ints, clamps, to_z-of_z}}
+use Rattle.std.specs.{Prelude.{ℤ, pos, negsuc, ◌+ℤ◌, ◌-ℤ◌, ◌≤ℤ◌}, Int.{int_max, int_min}}
+use Rattle.number_format.specs.{declared.digits.{ranges.SignificantDigits.SignificantDigits, precision.Precision.Precision}, ShownDigits.{last_at, fraction_end, position_of}}
 use Rattle.number_format.proofs.digits.precision.Precision.position.Goals as goal
 
 -- ---- The limits of positions, of a number whose first digit is at a magnitude.

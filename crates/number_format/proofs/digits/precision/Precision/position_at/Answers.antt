@@ -1,5 +1,4 @@
-use Rattle.std.proofs.Common.{refl, arith, rules, w16, w32, FitsSigned}
-use Rattle.std.proofs.lemmas.Int.{ints, clamps, to_z-of_z}
+use Rattle.std.proofs.{Common.{refl, arith, rules, w16, w32, FitsSigned}, lemmas.Int.{ints, clamps, to_z-of_z}}
 use Rattle.number_format.proofs.digits.precision.Precision.position_at.Goals as goal
 
 pub returns-clause-position : goal.returns-clause-position

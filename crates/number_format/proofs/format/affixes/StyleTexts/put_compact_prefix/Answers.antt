@@ -1,19 +1,9 @@
-use Rattle.std.proofs.Common.{◌≡◌, ℕ, List, ◌++◌, sym, ◌∙◌, ap, append_assoc}
-use Rattle.std.proofs.lemmas.Result.{on_ok_weaker}
+use Rattle.std.proofs.{Common.{◌≡◌, List, ◌++◌, ◌∙◌, ap, append_assoc}, lemmas.Result.on_ok_weaker}
 use Rattle.std.specs.Prelude.{◌&&◌}
 use Rattle.locale_data.specs.Compact.{text_of}
-use Rattle.number_format.specs.NumberText.{compact_pieces, currency_if, is_empty, first_sign, last_sign}
-use Rattle.number_format.specs.PatternTexts.{space_if}
-use Rattle.number_format.specs.TextParts.{Piece, part_pieces, pieces_text, pieces_of}
-use Rattle.number_format.proofs.lemmas.format.PieceTexts.{text-append}
+use Rattle.number_format.specs.{NumberText.{compact_pieces, currency_if, is_empty, first_sign, last_sign}, PatternTexts.space_if, TextParts.{Piece, part_pieces, pieces_text, pieces_of}}
+use Rattle.number_format.proofs.lemmas.format.PieceTexts.{then_put}
 use Rattle.number_format.proofs.format.affixes.StyleTexts.put_compact_prefix.Goals as goal
-
--- one part more
-then_put : (ps qs rs : List Piece) (a b c : List ℕ) → b ≡ a ++ pieces_text ps → c ≡ b ++ pieces_text qs → qs ≡ rs
-    → c ≡ a ++ pieces_text (ps ++ rs)
-then_put ps qs rs a b c before here same =
-    here ∙ (λ i. before i ++ pieces_text (same i)) ∙ append_assoc a (pieces_text ps) (pieces_text rs)
-    ∙ ap (λ l. a ++ l) (sym (text-append ps rs))
 
 regroup : (p q r s t u : List Piece) → ((((p ++ q) ++ r) ++ s) ++ t) ++ u ≡ p ++ ((q ++ (r ++ (s ++ t))) ++ u)
 regroup p q r s t u = simp append_assoc

@@ -1,7 +1,6 @@
 use Rattle.std.proofs.Common.{subst}
 use Rattle.std.specs.Option.{option_copied}
-use Rattle.number_format.specs.FormattedNumbers.{unit_of}
-use Rattle.number_format.specs.NumberText.{around_by, AreParts}
+use Rattle.number_format.specs.{FormattedNumbers.unit_of, NumberText.{around_by, AreParts}}
 use Rattle.number_format.proofs.lemmas.format.PieceTexts.{text-of_affixes}
 use Rattle.number_format.proofs.format.formatted_number.FormattedNumber.affixes.Goals as goal
 

@@ -1,7 +1,5 @@
-use Rattle.std.proofs.Common.{◌≡◌, ◌∙◌, rules, w32, to_z, of_z, FitsSigned}
-use Rattle.std.proofs.lemmas.Int.{to_z-of_z}
-use Rattle.number_format.specs.NumberText.{number_before_cut, shown_sign, compact_magnitude, compact_pattern, compact_style, is_one, unit_by, exponent_of, around_by, pieces_around}
-use Rattle.number_format.specs.Scaled.{scaled_value}
+use Rattle.std.proofs.{Common.{◌≡◌, ◌∙◌, rules, w32, to_z, of_z, FitsSigned}, lemmas.Int.to_z-of_z}
+use Rattle.number_format.specs.{NumberText.{number_before_cut, shown_sign, compact_magnitude, compact_pattern, compact_style, is_one, unit_by, exponent_of, around_by, pieces_around}, Scaled.scaled_value}
 use Rattle.number_format.proofs.format.formatted_number.FormattedNumber.choose.Goals as goal
 
 pub returns : goal.returns

@@ -1,5 +1,4 @@
-use Rattle.std.proofs.Common.{ap, arith}
-use Rattle.std.proofs.Output.{has_written_styled_append}
+use Rattle.std.proofs.{Common.{ap, arith}, Output.has_written_styled_append}
 use Rattle.number_format.specs.FormattedNumbers.{exponent_text}
 use Rattle.number_format.proofs.format.formatted_number.FormattedNumber.fmt_number_if.Goals as goal
 

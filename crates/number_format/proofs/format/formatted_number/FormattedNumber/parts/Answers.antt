@@ -1,10 +1,7 @@
-use Rattle.std.proofs.Common.{◌++◌, subst}
+use Rattle.std.proofs.{Common.{◌++◌, subst}, lemmas.Result.on_err_weaker}
 use Rattle.std.specs.Prelude.{OnErr}
-use Rattle.std.proofs.lemmas.Result.{on_err_weaker}
 use Rattle.fixed_decimal.proofs.Calling.{on_err}
-use Rattle.number_format.specs.FormattedNumbers.{around_of, unit_of, number_pieces_if}
-use Rattle.number_format.specs.PatternTexts.{literal}
-use Rattle.number_format.specs.TextParts.{Puts, PutsPrefix}
+use Rattle.number_format.specs.{FormattedNumbers.{around_of, unit_of, number_pieces_if}, PatternTexts.literal, TextParts.{Puts, PutsPrefix}}
 use Rattle.number_format.proofs.lemmas.format.PieceTexts.{first_of_three, second_of_three, third_of_three}
 use Rattle.number_format.proofs.format.formatted_number.FormattedNumber.parts.Goals as goal
 

@@ -1,11 +1,7 @@
-use Rattle.std.proofs.Common.{subst}
-use Rattle.std.proofs.lemmas.Result.{on_err_weaker}
+use Rattle.std.proofs.{Common.subst, lemmas.Result.on_err_weaker}
 use Rattle.fixed_decimal.proofs.Calling.{on_err}
 use Rattle.decimal_format.specs.declared.grouping.GroupingStrategy.TheVariants.{Never}
-use Rattle.number_format.specs.declared.format.text_part.PartKind.TheVariants.{ExponentSeparator, ExponentInteger}
-use Rattle.number_format.specs.NumberText.{exponent_kind}
-use Rattle.number_format.specs.PatternTexts.{sign_text}
-use Rattle.number_format.specs.TextParts.{Puts, PutsPrefix, pieces_of, digit_pieces}
+use Rattle.number_format.specs.{declared.format.text_part.PartKind.TheVariants.{ExponentSeparator, ExponentInteger}, NumberText.exponent_kind, PatternTexts.sign_text, TextParts.{Puts, PutsPrefix, pieces_of, digit_pieces}}
 use Rattle.number_format.proofs.lemmas.format.PieceTexts.{first_of_three, second_of_three, third_of_three}
 use Rattle.number_format.proofs.format.formatted_number.FormattedNumber.put_exponent.Goals as goal
 

@@ -1,11 +1,8 @@
-use Rattle.std.proofs.Common.{ap, subst, sym, true, ◌≡◌, ◌++◌, ◌∙◌, rules}
-use Rattle.std.proofs.lemmas.Result.{on_err_weaker}
+use Rattle.std.proofs.{Common.{ap, subst, sym, true, ◌≡◌, ◌++◌, ◌∙◌, rules}, lemmas.Result.on_err_weaker}
 use Rattle.std.specs.Prelude.{OnErr, Some}
 use Rattle.fixed_decimal.proofs.Calling.{on_err}
 use Rattle.number_format.specs.declared.format.text_part.PartKind.TheVariants as kind
-use Rattle.number_format.specs.FormattedNumbers.{number_pieces_if}
-use Rattle.number_format.specs.NumberText.{exponent_pieces}
-use Rattle.number_format.specs.TextParts.{PutsPrefix, digit_pieces}
+use Rattle.number_format.specs.{FormattedNumbers.number_pieces_if, NumberText.exponent_pieces, TextParts.{PutsPrefix, digit_pieces}}
 use Rattle.number_format.proofs.lemmas.format.PieceTexts.{prefix_more, then_prefix}
 use Rattle.number_format.proofs.format.formatted_number.FormattedNumber.put_number_if.Goals as goal
 

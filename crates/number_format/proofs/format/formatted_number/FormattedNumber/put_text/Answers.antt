@@ -1,5 +1,4 @@
-use Rattle.std.proofs.Common.{◌++◌, ◌∙◌, ap, sym}
-use Rattle.std.proofs.lemmas.Result.{on_ok_weaker}
+use Rattle.std.proofs.{Common.{◌++◌, ◌∙◌, ap, sym}, lemmas.Result.on_ok_weaker}
 use Rattle.number_format.proofs.lemmas.format.PieceTexts.{text-of_pattern}
 use Rattle.number_format.proofs.format.formatted_number.FormattedNumber.put_text.Goals as goal
 

@@ -1,9 +1,6 @@
-use Rattle.std.proofs.Common.{◌≡◌, ℕ, List, ◌++◌, ◌∙◌, ap, append_assoc}
-use Rattle.std.proofs.lemmas.Result.{on_ok_weaker}
+use Rattle.std.proofs.{Common.{◌≡◌, ℕ, List, ◌++◌, ◌∙◌, ap, append_assoc}, lemmas.Result.on_ok_weaker}
 use Rattle.decimal_format.specs.Symbols.{Affixes}
-use Rattle.number_format.specs.FormattedNumbers.{around_of, unit_of, around_text}
-use Rattle.number_format.specs.PatternTexts.{literal}
-use Rattle.number_format.specs.TextParts.{pieces_of, part_pieces, pieces_text}
+use Rattle.number_format.specs.{FormattedNumbers.{around_of, unit_of, around_text}, PatternTexts.literal, TextParts.{pieces_of, part_pieces, pieces_text}}
 use Rattle.number_format.proofs.lemmas.format.PieceTexts.{text-of_around}
 use Rattle.number_format.proofs.format.formatted_number.FormattedNumber.put_with_unit.Goals as goal
 

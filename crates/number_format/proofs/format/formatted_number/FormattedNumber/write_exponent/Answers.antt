@@ -1,8 +1,6 @@
-use Rattle.std.proofs.Common.{arith}
-use Rattle.std.proofs.lemmas.Result.{on_err_weaker}
+use Rattle.std.proofs.{Common.arith, lemmas.Result.on_err_weaker}
 use Rattle.fixed_decimal.proofs.Calling.{on_err, first_of_three, second_of_three, third_of_three}
-use Rattle.decimal_format.specs.declared.grouping.GroupingStrategy.TheVariants.{Never}
-use Rattle.decimal_format.specs.Formatted.{absolute_text}
+use Rattle.decimal_format.specs.{declared.grouping.GroupingStrategy.TheVariants.Never, Formatted.absolute_text}
 use Rattle.number_format.specs.PatternTexts.{sign_text}
 use Rattle.number_format.proofs.format.formatted_number.FormattedNumber.write_exponent.Goals as goal
 

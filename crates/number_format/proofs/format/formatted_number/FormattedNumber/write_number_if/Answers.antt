@@ -1,5 +1,4 @@
-use Rattle.std.proofs.Common.{ap, subst, sym, true, ◌≡◌, ◌++◌, ◌∙◌, arith, rules}
-use Rattle.std.proofs.lemmas.Result.{on_err_weaker}
+use Rattle.std.proofs.{Common.{ap, subst, sym, true, ◌≡◌, ◌++◌, ◌∙◌, arith, rules}, lemmas.Result.on_err_weaker}
 use Rattle.std.specs.Prelude.{OnErr, Some}
 use Rattle.decimal_digits.specs.AppendsPrefix.{AppendsPrefix}
 use Rattle.decimal_format.specs.Formatted.{absolute_text}

@@ -1,9 +1,7 @@
-use Rattle.std.proofs.Common.{subst}
-use Rattle.std.proofs.lemmas.Result.{on_err_weaker}
+use Rattle.std.proofs.{Common.subst, lemmas.Result.on_err_weaker}
 use Rattle.decimal_digits.specs.AppendsPrefix.{AppendsPrefix}
 use Rattle.fixed_decimal.proofs.Calling.{on_err, first_of_three, second_of_three, third_of_three}
-use Rattle.number_format.specs.FormattedNumbers.{number_text_if}
-use Rattle.number_format.specs.TextParts.{parts_text}
+use Rattle.number_format.specs.{FormattedNumbers.number_text_if, TextParts.parts_text}
 use Rattle.number_format.proofs.format.formatted_number.FormattedNumber.write_pieces.Goals as goal
 
 pub returns-in_err-write_parts-clause-err : goal.returns-in_err-write_parts-clause-err

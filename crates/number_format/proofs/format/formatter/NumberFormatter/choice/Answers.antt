@@ -1,11 +1,9 @@
-use Rattle.std.proofs.Common.{◌∙◌, refl, sym, ap, false, rules, w32, FitsSigned}
-use Rattle.std.proofs.lemmas.Int.{to_z-of_z}
+use Rattle.std.proofs.{Common.{◌∙◌, refl, sym, ap, false, rules, w32, FitsSigned}, lemmas.Int.to_z-of_z}
 use Rattle.fixed_decimal.proofs.Calling.{narrow_kept}
 use Rattle.plural_rules.specs.Operands as operands
 use Rattle.plural_rules.specs.declared.rules.PluralCategory.TheVariants.{Other}
 use Rattle.locale_data.specs.Compact.{pattern_for, patterns_in, compact_patterns}
-use Rattle.locale_data.proofs.lemmas.tables.CompactRows.{same_pattern}
-use Rattle.locale_data.proofs.lemmas.tables.RulesTexts.{category_exists}
+use Rattle.locale_data.proofs.lemmas.tables.{CompactRows.same_pattern, RulesTexts.category_exists}
 use Rattle.number_format.specs.NumberText.{is_one}
 use Rattle.number_format.proofs.lemmas.format.CompactChoices.{chooses}
 use Rattle.number_format.proofs.format.formatter.NumberFormatter.choice.Goals as goal

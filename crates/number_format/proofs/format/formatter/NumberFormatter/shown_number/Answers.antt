@@ -1,13 +1,9 @@
-use Rattle.std.proofs.Common.{◌≡◌, ◌∙◌, sym, subst, Some, arith, rules, w16, FitsSigned}
+use Rattle.std.proofs.{Common.{◌≡◌, ◌∙◌, sym, subst, Some, arith, rules, w16, FitsSigned}, lemmas.Int.ints}
 use Rattle.std.specs.Prelude.{◌↔◌, IfOk, IsSomeAnd, IsTrue, Result, Ok, Err, pos}
-use Rattle.std.proofs.lemmas.Int.{ints}
 use Rattle.decimal_digits.specs.declared.rounding.RoundError.{RoundError}
 use Rattle.decimal_unsigned.specs.Unsigned.{IsValue}
 use Rattle.fixed_decimal.specs.Decimal.{Decimal}
-use Rattle.number_format.specs.declared.{notation.scale.ShownNumber.ShownNumber, format.formatter.NumberFormatter.NumberFormatter}
-use Rattle.number_format.specs.FormattedNumbers.{IsShownNumber}
-use Rattle.number_format.specs.NumberText.{rounded_by, rounded_in, RoundingNeedsMemory}
-use Rattle.number_format.specs.Scaled.{scaled_value}
+use Rattle.number_format.specs.{declared.{notation.scale.ShownNumber.ShownNumber, format.formatter.NumberFormatter.NumberFormatter}, FormattedNumbers.IsShownNumber, NumberText.{rounded_by, rounded_in, RoundingNeedsMemory}, Scaled.scaled_value}
 use Rattle.number_format.proofs.lemmas.format.StandardNotation.{unmultiplied, unscaled, unscaled-number}
 use Rattle.number_format.proofs.format.formatter.NumberFormatter.shown_number.Goals as goal
 

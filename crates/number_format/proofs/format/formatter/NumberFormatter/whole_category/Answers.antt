@@ -4,8 +4,7 @@ use Rattle.plural_rules.specs.Operands as operands
 use Rattle.plural_rules.specs.declared.rules.PluralCategory.TheVariants.{Other}
 use Rattle.locale_data.proofs.lemmas.tables.RulesTexts.{category_exists}
 use Rattle.locale_data.specs.declared.compact.CompactStyle.{CompactStyle}
-use Rattle.number_format.specs.declared.{format.formatter.NumberFormatter.NumberFormatter, options.NumberStyle.NumberStyle}
-use Rattle.number_format.specs.{FormattedNumbers.ChoosesUnit, NumberText.{compact_style, whole_number}}
+use Rattle.number_format.specs.{declared.{format.formatter.NumberFormatter.NumberFormatter, options.NumberStyle.NumberStyle}, FormattedNumbers.ChoosesUnit, NumberText.{compact_style, whole_number}}
 use Rattle.number_format.proofs.lemmas.format.CompactChoices.{same_texts}
 use Rattle.number_format.proofs.format.formatter.NumberFormatter.whole_category.Goals as goal
 

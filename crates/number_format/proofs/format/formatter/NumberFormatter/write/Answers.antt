@@ -1,6 +1,5 @@
 use Rattle.std.proofs.Common.{subst, refl}
-use Rattle.number_format.specs.FormattedNumbers.{formatted_number_pieces, formatted_number_text}
-use Rattle.number_format.specs.NumberText.{AreNumberPieces}
+use Rattle.number_format.specs.{FormattedNumbers.{formatted_number_pieces, formatted_number_text}, NumberText.AreNumberPieces}
 use Rattle.number_format.proofs.format.formatter.NumberFormatter.write.Goals as goal
 
 pub returns-clause-prefix : goal.returns-clause-prefix

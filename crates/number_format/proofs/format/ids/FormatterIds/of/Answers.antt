@@ -1,21 +1,14 @@
 use Rattle.std.proofs.Common.{◌≡◌, ℕ, List, Option, None, Some, IfSome, subst, sym, inl, inr}
 use Rattle.std.specs.Prelude.{IsSomeAnd}
-use Rattle.locale_data.specs.Currencies.{LacksCurrency}
-use Rattle.locale_data.specs.Locales.{symbols_at, IsLocale, IsLocaleIn}
-use Rattle.locale_data.specs.Plurals.{IsRulesText}
-use Rattle.locale_data.specs.Rows.{unpadded}
-use Rattle.locale_data.specs.declared.currency.CurrencyId.{CurrencyId}
-use Rattle.locale_data.specs.declared.locales.LocaleId.{LocaleId}
-use Rattle.locale_data.specs.declared.plurals.PluralRuleType.TheVariants.{Cardinal}
+use Rattle.locale_data.specs.{Currencies.LacksCurrency, Locales.{symbols_at, IsLocale, IsLocaleIn}, Plurals.IsRulesText, declared.{currency.CurrencyId.CurrencyId, locales.LocaleId.LocaleId, plurals.PluralRuleType.TheVariants.Cardinal}}
 use Rattle.number_format.specs.Formatters.{AreSymbolsOf}
-use Rattle.number_format.specs.NumberStyles.{text_or_nothing}
 use Rattle.number_format.proofs.format.ids.FormatterIds.of.Goals as goal
 
 symbols_exist : (tag : List ℕ) (name : Option (List ℕ)) (id : LocaleId) → AreSymbolsOf tag name id
     → symbols_at id ≡ None → ⊥
 symbols_exist tag None id are none = subst (λ o. IsSomeAnd o (IsLocale tag)) none are.0
 symbols_exist tag (Some name) id are none =
-    subst (λ o. IsSomeAnd o (IsLocaleIn tag (text_or_nothing (unpadded name)))) none are
+    subst (λ o. IsSomeAnd o (IsLocaleIn tag name)) none are
 
 currency_exists : (row : Option CurrencyId) → IfSome row (λ id. ¬ LacksCurrency id) → IsSomeAnd row LacksCurrency → ⊥
 currency_exists None exists lacks = lacks

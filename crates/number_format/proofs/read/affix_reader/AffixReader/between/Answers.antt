@@ -1,9 +1,7 @@
-use Rattle.std.proofs.Common.{◌≡◌, ◌++◌, List, ℕ, sym, ◌∙◌, ap, subst}
+use Rattle.std.proofs.{Common.{◌≡◌, ◌++◌, List, ℕ, sym, ◌∙◌, ap, subst}, lemmas.List.{append_cancel_left, append_cancel_right}}
 use Rattle.std.specs.Prelude.{IsTrue}
-use Rattle.std.proofs.lemmas.List.{append_cancel_left, append_cancel_right}
 use Rattle.fixed_decimal.specs.declared.variations.Sign.{Sign}
-use Rattle.decimal_format.specs.Readable.{BeginsWithDigit, EndsWithDigit}
-use Rattle.decimal_format.specs.Symbols.{Affixes}
+use Rattle.decimal_format.specs.{Readable.{BeginsWithDigit, EndsWithDigit}, Symbols.Affixes}
 use Rattle.number_format.specs.{AffixedTexts.{Reader, IsBetween}, PatternTexts.by_sign}
 use Rattle.number_format.proofs.read.affix_reader.AffixReader.between.Goals.{else-begins_with_digit-via-then-begins_with_digit+else-ends_with_digit, else-begins_with_digit-via-else-begins_with_digit}
 use Rattle.number_format.proofs.read.affix_reader.AffixReader.between.Goals as goal

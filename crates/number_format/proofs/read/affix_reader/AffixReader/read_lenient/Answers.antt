@@ -1,5 +1,4 @@
-use Rattle.std.proofs.Common.{◌≡◌, ◌∙◌, ap, arith, w16, to_z, of_z, FitsSigned, rules}
-use Rattle.std.proofs.lemmas.Int.{ints}
+use Rattle.std.proofs.{Common.{◌≡◌, ◌∙◌, ap, arith, w16, to_z, of_z, FitsSigned, rules}, lemmas.Int.ints}
 use Rattle.number_format.specs.AffixedTexts.{shifted}
 use Rattle.number_format.proofs.read.affix_reader.AffixReader.read_lenient.Goals as goal
 

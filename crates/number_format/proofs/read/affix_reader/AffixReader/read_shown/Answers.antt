@@ -1,6 +1,5 @@
 use Rattle.std.proofs.Common.{◌≡◌, Ok, Err, subst}
-use Rattle.decimal_format.specs.Readable.{IsReadable}
-use Rattle.decimal_format.specs.Reading.{IsNumeral, IsWritten, IsRead}
+use Rattle.decimal_format.specs.{Readable.IsReadable, Reading.{IsNumeral, IsWritten, IsRead}}
 use Rattle.number_format.specs.AffixedTexts.{Reader, AreNamed}
 use Rattle.number_format.proofs.lemmas.read.AffixedNumbers.{none_between, read_between}
 use Rattle.number_format.proofs.read.affix_reader.AffixReader.read_shown.Goals as goal

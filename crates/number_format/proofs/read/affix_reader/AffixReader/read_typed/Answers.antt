@@ -1,8 +1,5 @@
 use Rattle.std.proofs.Common.{◌≡◌, subst}
-use Rattle.decimal_format.specs.Alternatives.{IsNumeralOfFirst, IsWrittenOfFirst}
-use Rattle.decimal_format.specs.Lenient.{normalized}
-use Rattle.decimal_format.specs.Reading.{IsRead}
-use Rattle.decimal_format.specs.Symbols.{Symbols}
+use Rattle.decimal_format.specs.{Alternatives.{IsNumeralOfFirst, IsWrittenOfFirst}, Lenient.normalized, Reading.IsRead, Symbols.Symbols}
 use Rattle.decimal_format.proofs.lemmas.reader.NumeralLaws.{read_first, read_next}
 use Rattle.number_format.proofs.read.affix_reader.AffixReader.read_typed.Goals as goal
 

@@ -1,6 +1,4 @@
-use Rattle.std.proofs.Common.{◌≡◌, [], ◌∷◌, ◌++◌, length, map, take, sym, ◌∙◌, ap, arith}
-use Rattle.std.proofs.lemmas.List.{length-set, map-append, take_more, take_more_set}
-use Rattle.std.proofs.Math.Seq.{take-length}
+use Rattle.std.proofs.{Common.{◌≡◌, [], ◌∷◌, ◌++◌, length, map, take, sym, ◌∙◌, ap, arith}, lemmas.List.{length-set, map-append, take_more, take_more_set}, Math.Seq.take-length}
 use Rattle.number_format.specs.NumberReading.{NumberReader, form_of}
 use Rattle.number_format.proofs.read.number_reader.NumberReader.alternatives.Goals as goal
 

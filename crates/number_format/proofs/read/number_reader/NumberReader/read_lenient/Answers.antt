@@ -1,6 +1,5 @@
 use Rattle.std.proofs.Common.{ap, subst}
-use Rattle.number_format.specs.AffixedTexts.{Reader, IsReadTyped}
-use Rattle.number_format.specs.NumberReading.{NumberReader}
+use Rattle.number_format.specs.{AffixedTexts.{Reader, IsReadTyped}, NumberReading.NumberReader}
 use Rattle.number_format.proofs.read.number_reader.NumberReader.read_lenient.Goals as goal
 
 pub returns : goal.returns

@@ -1,6 +1,5 @@
-use Rattle.std.proofs.Common.{◌∙◌, ap, arith}
+use Rattle.std.proofs.{Common.{◌∙◌, ap, arith}, lemmas.Result.on_ok_weaker}
 use Rattle.plural_rules.specs.RulesReader.{end_relation, end_alternative, end_rule}
-use Rattle.std.proofs.lemmas.Result.{on_ok_weaker}
 use Rattle.plural_rules.proofs.parse.builder.Builder.take.Goals as goal
 
 pub overflow_mul-self : goal.overflow_mul-self

@@ -1,0 +1,124 @@
+/* Rows of a locale, options by the names of ECMA-402, as JSON or as words, a number and its text, on the standard input:
+ * each text is that of one fd_formatter for consecutive rows of a locale and options, that of fd_format_number, and that
+ * of its parts. */
+#include "../fixed_decimal.h"
+#include <stdio.h>
+#include <stdlib.h>
+#include <string.h>
+
+#define BYTES(s) (const uint8_t *)(s), strlen(s)
+enum { ROOM = 4096, PARTS = 512 };
+
+static const char *const styles[] = {"decimal", "percent", "permille", "currency", NULL};
+static const char *const displays[] = {"symbol", "narrowSymbol", "code", NULL};
+static const char *const signs[] = {"standard", "accounting", NULL};
+static const char *const notations[] = {"standard", "scientific", "engineering", "compact", "long", NULL};
+static const char *const sign_displays[] = {"auto", "never", "always", "exceptZero", "negative", NULL};
+static const char *const groupings[] = {"auto", "false", "always", "min2", NULL};
+static const char *const modes[] = {"ceil", "floor", "expand", "trunc", "halfCeil", "halfFloor", "halfExpand", "halfTrunc",
+                                    "halfEven", NULL};
+static const char *const priorities[] = {"auto", "morePrecision", "lessPrecision", NULL};
+static const char *const zeros[] = {"auto", "stripIfInteger", NULL};
+
+static void fail(const char *what, const char *where) {
+    fprintf(stderr, "%s: %s\n", what, where);
+    exit(2);
+}
+
+static uint8_t word(const char *const *words, const char *value) {
+    for (int i = 0; words[i]; i++)
+        if (strcmp(words[i], value) == 0) return (uint8_t)i;
+    fail("no such word", value);
+    return 0;
+}
+
+static void set(fd_number_options *o, const char *name, const char *value) {
+    if (strcmp(name, "style") == 0) {
+        o->style = word(styles, value);
+        o->scale = o->style == FD_PERCENT ? 2 : 0;
+    } else if (strcmp(name, "currency") == 0) memcpy(o->currency, value, 3);
+    else if (strcmp(name, "currencyDisplay") == 0) o->currency_display = word(displays, value);
+    else if (strcmp(name, "currencySign") == 0) o->currency_sign = word(signs, value);
+    else if (strcmp(name, "notation") == 0) {
+        if (strcmp(value, "compact") || o->notation != FD_COMPACT_LONG) o->notation = word(notations, value);
+    } else if (strcmp(name, "compactDisplay") == 0) o->notation = strcmp(value, "long") ? FD_COMPACT_SHORT : FD_COMPACT_LONG;
+    else if (strcmp(name, "signDisplay") == 0) o->sign_display = word(sign_displays, value);
+    else if (strcmp(name, "useGrouping") == 0) o->grouping = word(groupings, strcmp(value, "true") ? value : "always");
+    else if (strcmp(name, "roundingMode") == 0) o->rounding_mode = word(modes, value);
+    else if (strcmp(name, "roundingPriority") == 0) o->rounding_priority = word(priorities, value);
+    else if (strcmp(name, "trailingZeroDisplay") == 0) o->trailing_zeros = word(zeros, value);
+    else if (strcmp(name, "minimumIntegerDigits") == 0) o->minimum_integer_digits = (uint16_t)atoi(value);
+    else if (strcmp(name, "minimumFractionDigits") == 0) o->minimum_fraction_digits = (uint16_t)atoi(value);
+    else if (strcmp(name, "maximumFractionDigits") == 0) o->maximum_fraction_digits = (uint16_t)atoi(value);
+    else if (strcmp(name, "minimumSignificantDigits") == 0) o->minimum_significant_digits = (uint16_t)atoi(value);
+    else if (strcmp(name, "maximumSignificantDigits") == 0) o->maximum_significant_digits = (uint16_t)atoi(value);
+    else if (strcmp(name, "roundingIncrement") == 0) o->rounding_increment = (uint16_t)atoi(value);
+    else fail("no such option", name);
+}
+
+/* The options of `{"name":value,..}`, where a value is a text without escapes, a number or a Boolean; or of
+ * `name=value name=value`. */
+static fd_number_options read_options(char *text) {
+    fd_number_options o = FD_NUMBER_OPTIONS;
+    int is_json = *text == '{';
+    for (char *name = strtok(text, is_json ? "{,}" : " "); name; name = strtok(NULL, is_json ? "{,}" : " ")) {
+        char *value = strchr(name, is_json ? ':' : '=');
+        if (!value) fail("no option", name);
+        *value++ = 0;
+        if (*name == '"') name++, value[-2] = 0;
+        if (*value == '"') value++, value[strlen(value) - 1] = 0;
+        set(&o, name, value);
+    }
+    return o;
+}
+
+/* Whether the parts have all bytes of the text in order, with neighbors of other kinds. */
+static int divide(const fd_part *parts, size_t count, size_t length) {
+    size_t end = 0;
+    for (size_t i = 0; i < count; i++) {
+        if (parts[i].start != end || parts[i].end <= end || parts[i].source != 0) return 0;
+        if (i > 0 && parts[i].kind == parts[i - 1].kind) return 0;
+        end = parts[i].end;
+    }
+    return end == length;
+}
+
+int main(void) {
+    static char row[1 << 16], last[1 << 16];
+    size_t passed = 0, failed = 0, made = 0;
+    fd_number_options options = FD_NUMBER_OPTIONS;
+    fd_formatter formatter = {0};
+    while (fgets(row, sizeof row, stdin)) {
+        if (row[0] == '#') continue;
+        row[strcspn(row, "\n")] = 0;
+        char *json = strchr(row, '\t'), *number = json ? strchr(json + 1, '\t') : NULL;
+        char *text = number ? strchr(number + 1, '\t') : NULL;
+        if (!text) fail("no row", row);
+        *json++ = 0, *number++ = 0, *text++ = 0;
+        size_t key = (size_t)(number - row);
+        if (memcmp(row, last, key) != 0) {
+            memcpy(last, row, key);
+            options = read_options(json);
+            fd_made it = fd_formatter_by_options(BYTES(row), &options);
+            if (it.status != FD_OK) fail("no formatter", row);
+            formatter = it.formatter;
+            made++;
+        }
+        uint8_t kept[ROOM], once[ROOM], divided[ROOM];
+        fd_part parts[PARTS];
+        fd_result a = fd_format(&formatter, BYTES(number), kept, ROOM);
+        fd_result b = fd_format_number(BYTES(number), BYTES(row), &options, once, ROOM);
+        fd_parted c = fd_format_parts(&formatter, BYTES(number), divided, ROOM, parts, PARTS);
+        size_t n = strlen(text);
+        int right = a.status == FD_OK && a.count == n && memcmp(kept, text, n) == 0;
+        right = right && b.status == FD_OK && b.count == n && memcmp(once, text, n) == 0;
+        right = right && c.status == FD_OK && c.count == n && memcmp(divided, text, n) == 0;
+        if (right && divide(parts, c.parts, n)) {
+            passed++;
+        } else if (failed++ < 20) {
+            fprintf(stderr, "%s %s: %.*s, but it is %s\n", row, number, (int)a.count, (char *)kept, text);
+        }
+    }
+    printf("%zu formatters\n%zu passed, %zu failed\n", made, passed, failed);
+    return failed != 0;
+}

@@ -1,0 +1,3 @@
+pub mod Increments
+pub mod Precisions
+pub mod Unique

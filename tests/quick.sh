@@ -1,0 +1,19 @@
+#!/usr/bin/env bash
+# Tests in a few minutes what needs no proof: `rt try` compiles the program of the programs' rows and runs it on them; and
+# the documents, the pictures, the texts of wrong bodies and the modules are checked. Nothing is proved, so it says
+# nothing about contracts: `bash tests/all.sh` does. Needs the Rattle kit, git and python3. The last line is
+# `N passed, M failed`; the status is 0 if M is 0.
+set -u
+cd "$(dirname "$0")/.." || exit 1
+. tests/programs.sh
+# One step of the interpreter, since it would not end on so many rows: the compiled program is what runs.
+(cd crates/cli_vectors && rt try --steps 1 --seconds 300 < stdin) > "$room/rows" 2>&1 &
+for script in tools/check_documents.py tools/check_modules.py; do
+  python3 "$script" > "$room/log" 2>&1
+  judge $? "$script: $(tail -n 5 "$room/log")"
+done
+wait
+[ -s crates/cli_vectors/stdout ] && ! grep -vxFf "$room/rows" crates/cli_vectors/stdout > "$room/log" &&
+  grep -q '^run=ended status=0 ' "$room/rows"
+judge $? "the rows of the programs: $(tail -n 5 "$room/rows")"
+finish
