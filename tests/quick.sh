@@ -1,8 +1,8 @@
 #!/usr/bin/env bash
 # Tests in a few minutes what needs no proof: `rt try` compiles the program of the programs' rows and runs it on them; and
-# the documents, the pictures, the texts of wrong bodies and the modules are checked. Nothing is proved, so it says
-# nothing about contracts: `bash tests/all.sh` does. Needs the Rattle kit, git and python3. The last line is
-# `N passed, M failed`; the status is 0 if M is 0.
+# the documents, the pictures, the texts of wrong bodies, the modules and the layout of sources are checked. Nothing is
+# proved, so it says nothing about contracts: `bash tests/all.sh` does. Needs the Rattle kit, git and python3. The last
+# line is `N passed, M failed`; the status is 0 if M is 0.
 set -u
 cd "$(dirname "$0")/.." || exit 1
 . tests/programs.sh
@@ -12,6 +12,12 @@ for script in tools/check_documents.py tools/check_modules.py; do
   python3 "$script" > "$room/log" 2>&1
   judge $? "$script: $(tail -n 5 "$room/log")"
 done
+copy_repository "$room/copy"
+for crate in "$room"/copy/crates/*/; do
+  (cd "$crate" && rt fmt)
+done > "$room/log" 2>&1
+git ls-files -z 'crates/*.rt' | xargs -0 -I{} cmp {} "$room/copy/{}" > "$room/log" 2>&1
+judge $? "the layout of rt fmt: $(head -n 3 "$room/log")"
 wait
 [ -s crates/cli_vectors/stdout ] && ! grep -vxFf "$room/rows" crates/cli_vectors/stdout > "$room/log" &&
   grep -q '^run=ended status=0 ' "$room/rows"
