@@ -13,8 +13,9 @@ use locale_data::{
     CompactStyle, CurrencyCode, CurrencyDigits, CurrencySign, NumberingSystem, UNLISTED_DIGITS,
     currency_digits,
 };
+use locale_names::{Unit, UnitDisplay};
 
-/// Which symbol of a currency is written.
+/// Which symbol of a currency is written, or its name.
 #[derive(Clone, Copy, Debug, Default, PartialEq)]
 pub enum CurrencyDisplay {
     /// The symbol of the locale, as `US$`.
@@ -26,6 +27,8 @@ pub enum CurrencyDisplay {
     Code,
     /// None: the digits are those of the currency.
     Hidden,
+    /// The name by the plural category of the number, as `US dollars`; of a code that has none the code.
+    Name,
 }
 
 /// For which use a currency's digits are chosen.
@@ -51,6 +54,15 @@ pub struct CurrencyStyle {
     pub usage: CurrencyUsage,
 }
 
+/// How a number of units is written.
+#[derive(Clone, Copy, Debug, PartialEq)]
+pub struct UnitStyle {
+    /// The unit, or two of them: `5 km/h`.
+    pub unit: Unit,
+    /// How long its text is.
+    pub display: UnitDisplay,
+}
+
 /// What a number counts.
 #[derive(Clone, Copy, Debug, PartialEq)]
 pub enum NumberStyle {
@@ -62,6 +74,18 @@ pub enum NumberStyle {
     Permille,
     /// An amount of money.
     Currency(CurrencyStyle),
+    /// A number of units.
+    Unit(UnitStyle),
+}
+
+/// Where the decimal separator is written.
+#[derive(Clone, Copy, Debug, Default, PartialEq)]
+pub enum DecimalSeparatorDisplay {
+    /// Before fraction digits.
+    #[default]
+    Auto,
+    /// After the integer digits, also if there are no fraction digits: `5.`.
+    Always,
 }
 
 /// Which sign an exponent has.
@@ -125,6 +149,8 @@ pub struct NumberOptions {
     /// Where groups are separated: by default as [`NumberNotation::default_grouping`] has it. In compact notation node
     /// takes `Auto` for `Min2`, and ECMA-402 does not.
     pub grouping: GroupingStrategy,
+    /// Where the decimal separator is written.
+    pub decimal_separator: DecimalSeparatorDisplay,
     /// The numbering system. `None`: that of the locale.
     pub numbering_system: Option<NumberingSystem>,
 }
