@@ -222,7 +222,7 @@ impl NumberOptions {
         ensures { IsDefaultBy currency self.now result }
     {
         let (min, max) = match self.style {
-            NumberStyle::Decimal => (0, 3),
+            NumberStyle::Decimal | NumberStyle::Unit(_) => (0, 3),
             NumberStyle::Percent | NumberStyle::Permille => (0, 0),
             NumberStyle::Currency(style) => {
                 let (count, _) = style.usage.digits(currency);
