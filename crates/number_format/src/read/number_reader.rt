@@ -1,6 +1,6 @@
 //! Readers of what formatters write.
-ghost use Rattle.std.specs.Prelude.{◌≡◌, ◌∷◌, [], ◌++◌, ◌-ℤ◌, pos, length, map, flat_map, IfOk, IfErr, OnOk};
-ghost use Rattle.number_format.specs.{AffixedTexts.IsReadExactly, PatternTexts.affixes_of_style, NumberReading.{CanRead, CanUndo, CannotRead, names_by, form, form_of, forms_of_name, number_reader_of, typed_forms, IsReadLeniently, IsReadInMode}};
+ghost use Rattle.std.specs.Prelude.{◌≡◌, ◌↔◌, IsTrue, ◌∷◌, [], ◌++◌, ◌-ℤ◌, pos, length, map, flat_map, IfOk, IfErr, OnOk};
+ghost use Rattle.number_format.specs.{AffixedTexts.IsReadExactly, PatternTexts.affixes_of_style, NumberReading.{HasNumberAlone, CanRead, CanUndo, CannotRead, names_by, form, form_of, forms_of_name, number_reader_of, typed_forms, IsReadLeniently, IsReadInMode}};
 
 use crate::format::by_sign::BySign;
 use crate::format::formatter::NumberFormatter;
@@ -133,15 +133,19 @@ fn forms(
     Ok(forms)
 }
 
+fn has_number_alone(formatter: &NumberFormatter) -> bool
+    ensures { IsTrue result ↔ HasNumberAlone formatter.now }
+{
+    let kind = (formatter.options.notation, &formatter.outer);
+    matches!(kind, (NumberNotation::Standard, OuterTexts::None))
+}
+
 fn shift(formatter: &NumberFormatter) -> Result<i16, NumberReaderError>
     ensures value { IfOk result (λ shift. shift ≡ pos 0 -ℤ formatter.now.options.scale) }
     ensures ok { OnOk result (CanUndo formatter.now) }
     ensures err { IfErr result (λ e. CannotRead e formatter.now) }
 {
-    if !matches!(formatter.options.notation, NumberNotation::Standard) {
-        return Err(NumberReaderError::Notation);
-    }
-    if !matches!(formatter.outer, OuterTexts::None) {
+    if !has_number_alone(formatter) {
         return Err(NumberReaderError::Notation);
     }
     let scale = formatter.options.scale;
