@@ -1,17 +1,17 @@
 //! What is written around the whole text of a number, its sign included: the text of a unit, or the name of a currency.
-ghost use Rattle.std.specs.Prelude.{◌≡◌, ◌≤◌, ◌++◌, [], length, OnOk, OnErr, true};
+ghost use Rattle.std.specs.Prelude.{◌≡◌, ◌≤◌, ◌++◌, [], Some, length, OnOk, OnErr, true};
 ghost use Rattle.locale_names.specs.LocaleUnits.{joined_texts, around_number, AreShort};
-ghost use Rattle.number_format.specs.{FormattedNumbers.IsOuter, NumberStyles.{is_percentage, outer_for, AreOuterTexts}, NumberText.{around_texts, name_texts, with_number}, PatternTexts.around, TextParts.{parts_text, pieces_of, Puts, PutsPrefix}};
+ghost use Rattle.number_format.specs.{FormattedNumbers.IsOuter, NumberStyles.{is_percentage, outer_for, shows_name, AreNameTexts, AreOuterTexts, AreUnitTexts}, NumberText.{around_texts, name_texts, with_number}, PatternTexts.around, TextParts.{parts_text, pieces_of, Puts, PutsPrefix}};
 ghost use Rattle.locale_names.specs.LocaleCurrencies.{name_for, pattern_for};
 
 use crate::format::parts::{PartSink, put};
 use crate::format::short_affixes::joined;
 use crate::format::text_part::{PartKind, TextPart};
-use crate::options::{NumberNotation, NumberStyle, UnitStyle};
+use crate::options::{CurrencyStyle, NumberNotation, NumberStyle, UnitStyle};
 use arrayvec::ArrayString;
 use fixed_decimal::SinkFault;
 use locale_data::UnitAffixes;
-use locale_names::{CurrencyNames, UnitDisplay, UnitPatterns, currency_names, unit_patterns};
+use locale_names::{CurrencyNames, NamePattern, UnitDisplay, UnitPatterns, currency_names, unit_patterns};
 use plural_rules::PluralCategory;
 
 /// What is written around the whole text, as rows of tables.
@@ -63,14 +63,28 @@ impl OuterTexts {
         ensures { AreOuterTexts tag.now style notation result }
     {
         match style {
-            NumberStyle::Unit(style) if !is_percentage(style, notation) => {
-                OuterTexts::Units(unit_patterns(tag, style.unit, style.display))
-            }
-            NumberStyle::Currency(style) if style.display.shows_name() => {
-                OuterTexts::Names(currency_names(tag, style.code.to_bytes()))
-            }
+            NumberStyle::Unit(style) => Self::of_unit(tag, style, is_percentage(style, notation)),
+            NumberStyle::Currency(style) => Self::of_currency(tag, style),
             _ => OuterTexts::None,
         }
+    }
+
+    fn of_unit(tag: &str, style: UnitStyle, is_percentage: bool) -> OuterTexts
+        ensures { AreUnitTexts is_percentage tag.now style result }
+    {
+        if is_percentage {
+            return OuterTexts::None;
+        }
+        OuterTexts::Units(unit_patterns(tag, style.unit, style.display))
+    }
+
+    fn of_currency(tag: &str, style: CurrencyStyle) -> OuterTexts
+        ensures { AreNameTexts (shows_name style.display) tag.now style.code result }
+    {
+        if style.display.shows_name() {
+            return OuterTexts::Names(currency_names(tag, style.code.to_bytes()));
+        }
+        OuterTexts::None
     }
 }
 
@@ -170,16 +184,25 @@ impl<'f> OuterAround<'f> {
         }
     }
 
+    fn named(name: &'f str, pattern: &NamePattern) -> Self
+        requires { length name.now ≤ 255 }
+        ensures { IsOuter (around_texts PartKind.Currency (name_texts name.now (Some pattern.now))) result }
+    {
+        let between = pattern.between_text();
+        if pattern.number_first {
+            Self::of_texts("", "", between, name)
+        } else {
+            Self::of_texts(name, between, "", "")
+        }
+    }
+
     pub(crate) fn of_name(names: &'f CurrencyNames, category: PluralCategory) -> Self
         ensures { IsOuter (around_texts PartKind.Currency
             (name_texts (name_for names.now category) (pattern_for names.now category))) result }
     {
         let name = names.name(category);
         match names.pattern(category) {
-            Some(pattern) if pattern.number_first => {
-                Self::of_texts("", "", pattern.between_text(), name)
-            }
-            Some(pattern) => Self::of_texts(name, pattern.between_text(), "", ""),
+            Some(pattern) => Self::named(name, pattern),
             None => Self::of_texts("", "", "", ""),
         }
     }
