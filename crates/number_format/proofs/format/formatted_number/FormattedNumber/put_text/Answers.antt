@@ -6,5 +6,5 @@ pub returns : goal.returns
 returns c =
     let n = c.args.self.now in
     on_ok_weaker c.put_around.result
-    (λ h. h ∙ ap (λ l. c.args.block.now.0 ++ l) (text-of_bare n (c.has_outer.ensures c.if-self-has_outer.false)))
+    (λ h. h ∙ ap (λ l. c.args.block.now.0 ++ l) (text-of_bare n (c.has_outer.ensures c.if-has_outer.false)))
     c.put_around.ensures
