@@ -39,6 +39,7 @@ pub use format::format_number::{FormatError, NumberWriteError};
 pub use format::formatted_number::FormattedNumber;
 pub use format::formatter::NumberFormatter;
 pub use format::ids::{FormatterIds, NumberFormatError};
+pub use format::outer::OuterTexts;
 pub use format::parts::PartSink;
 pub use format::text_part::{PartKind, TextPart};
 pub use notation::scale::Scaled;

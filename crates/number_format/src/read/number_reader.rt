@@ -4,6 +4,7 @@ ghost use Rattle.number_format.specs.{AffixedTexts.IsReadExactly, PatternTexts.a
 
 use crate::format::by_sign::BySign;
 use crate::format::formatter::NumberFormatter;
+use crate::format::outer::OuterTexts;
 use crate::format::short_affixes::ShortAffixes;
 use crate::options::{NumberNotation, NumberStyle};
 use crate::read::affix_reader::AffixReader;
@@ -19,7 +20,7 @@ use std::str;
 /// Why the texts of a formatter cannot be read: the first of these that holds, or out of memory if none does.
 #[derive(Clone, Copy, Debug, PartialEq, Eq)]
 pub enum NumberReaderError {
-    /// The notation is compact, scientific or engineering.
+    /// The notation is compact, scientific or engineering, or a unit or the name of a currency is written.
     Notation,
     /// The scale is -32768, which no scale undoes.
     Scale,
@@ -100,7 +101,9 @@ fn names(formatter: &NumberFormatter) -> (&str, &str, &str)
     let currency = &formatter.style.currency;
     match formatter.options.style {
         NumberStyle::Decimal => ("", "", ""),
-        NumberStyle::Percent | NumberStyle::Permille => (formatter.style.percent.text, "", ""),
+        NumberStyle::Percent | NumberStyle::Permille | NumberStyle::Unit(_) => {
+            (formatter.style.percent.text, "", "")
+        }
         NumberStyle::Currency(_) => (currency.wide, currency.narrow, currency.code.as_str()),
     }
 }
@@ -136,6 +139,9 @@ fn shift(formatter: &NumberFormatter) -> Result<i16, NumberReaderError>
     ensures err { IfErr result (λ e. CannotRead e formatter.now) }
 {
     if !matches!(formatter.options.notation, NumberNotation::Standard) {
+        return Err(NumberReaderError::Notation);
+    }
+    if !matches!(formatter.outer, OuterTexts::None) {
         return Err(NumberReaderError::Notation);
     }
     let scale = formatter.options.scale;
