@@ -103,8 +103,14 @@ impl Options {
 
     /// Returns why there is no reader, where there is none.
     pub fn reader_error(&self) -> NumberReaderError {
-        match self.number.notation {
-            NumberNotation::Standard => NumberReaderError::Scale,
+        match (self.number.notation, self.number(None).style) {
+            (NumberNotation::Standard, NumberStyle::Unit(_)) => NumberReaderError::Notation,
+            (NumberNotation::Standard, NumberStyle::Currency(currency))
+                if currency.display == CurrencyDisplay::Name =>
+            {
+                NumberReaderError::Notation
+            }
+            (NumberNotation::Standard, _) => NumberReaderError::Scale,
             _ => NumberReaderError::Notation,
         }
     }
