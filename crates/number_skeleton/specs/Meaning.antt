@@ -1,17 +1,17 @@
 -- The options that a skeleton names, by ICU's defaults. An error names the stem that this library has not.
-use Rattle.std.specs.{Prelude.{ℕ, ◌==◌, nat_lt, Bool, true, false, ◌||◌, not, if◌then◌else◌, ℤ, pos, negsuc, int_lt, List, length, codes, Option, Some, None, unwrap_or, Result, Ok, Err}, Option.{option_map, option_map_or}}
+use Rattle.std.specs.{Prelude.{ℕ, ◌==◌, nat_lt, Bool, true, false, ◌||◌, not, if◌then◌else◌, ℤ, pos, negsuc, int_lt, List, codes, Option, Some, None, unwrap_or, Result, Ok, Err}, Option.{option_map, option_map_or}}
 use Rattle.decimal_format.specs.declared.grouping.GroupingStrategy.{GroupingStrategy}
 use Rattle.fixed_decimal.specs.declared.variations.SignDisplay.{SignDisplay}
 use Rattle.fixed_decimal.specs.declared.variations.SignDisplay.TheVariants as sign
 use Rattle.locale_data.specs.{declared.currency.CurrencySign.CurrencySign, Codes.{code_of, system_name}, Rows.unpadded}
 use Rattle.locale_data.specs.declared.currency.CurrencySign.TheVariants as currency_sign
-use Rattle.locale_names.specs.{declared.{locale_units.UnitDisplay.{UnitDisplay, TheVariants.{Long, Short, Narrow}}, tables.units.TheConstants.UNITS}, Units.{Indices, indices_of, is_compound, unit_index}}
+use Rattle.locale_names.specs.{declared.locale_units.UnitDisplay.{UnitDisplay, TheVariants.{Long, Short, Narrow}}, Units.{Indices, indices_of}}
 use Rattle.number_format.specs.{declared.options.{CurrencyDisplay.CurrencyDisplay, CurrencyStyle.CurrencyStyle, CurrencyUsage.CurrencyUsage, DecimalSeparatorDisplay.DecimalSeparatorDisplay, NumberNotation.NumberNotation, NumberNotation.TheVariants.{Standard, Scientific, Engineering, Compact}, NumberOptions.NumberOptions, NumberStyle.NumberStyle}, DefaultOptions.default_grouping}
 use Rattle.number_format.specs.declared.options.CurrencyDisplay.TheVariants as display
 use Rattle.number_format.specs.declared.options.CurrencyUsage.TheVariants as usage
 use Rattle.number_format.specs.declared.options.DecimalSeparatorDisplay.TheVariants as separator
 use Rattle.number_format.specs.declared.options.NumberStyle.TheVariants as style
-use Rattle.number_skeleton.specs.{declared.{error.SkeletonError.SkeletonError, choices.{Choices.Choices, ChosenNotation.ChosenNotation, ChosenPerUnit.ChosenPerUnit, ChosenPrecision.ChosenPrecision, Exponent.Exponent, Span.Span, ChosenUnit.ChosenUnit}, decimal.Decimal.Decimal}, Digits.{unsupported, is_compact, DigitsValue, digits_value, digits_of}, Reading.{and_then, choices_of}, Units.joined}
+use Rattle.number_skeleton.specs.{declared.{error.SkeletonError.SkeletonError, choices.{Choices.Choices, ChosenNotation.ChosenNotation, ChosenPerUnit.ChosenPerUnit, ChosenPrecision.ChosenPrecision, Exponent.Exponent, Span.Span, ChosenUnit.ChosenUnit}, decimal.Decimal.Decimal}, Digits.{unsupported, is_compact, DigitsValue, digits_value, digits_of}, Reading.{and_then, choices_of}, Units.{unit_at, index_named, is_two, joined}}
 use Rattle.number_skeleton.specs.declared.choices.ChosenNotation.TheVariants as chosen
 use Rattle.number_skeleton.specs.declared.choices.ChosenPerUnit.TheVariants as per
 use Rattle.number_skeleton.specs.declared.choices.ChosenPrecision.TheVariants as precision
@@ -60,25 +60,26 @@ has_style true (Some display.Symbol) None = true
 has_style compact width second = has_pattern compact width
 
 -- ---- Units.
-abbrev pub unit_at : Span → ℕ → Result ℕ SkeletonError
-unit_at stem index = if nat_lt index (length UNITS) then Ok index else Err (unsupported stem)
+abbrev pub or_unsupported : Span → Option ℕ → Result ℕ SkeletonError
+or_unsupported stem (Some index) = Ok index
+or_unsupported stem None = Err (unsupported stem)
 
 abbrev pub unit_or_none : Span → Option ℕ → Result (Option ℕ) SkeletonError
 unit_or_none stem None = Ok None
-unit_or_none stem (Some index) = and_then (λ unit. Ok (Some unit)) (unit_at stem index)
+unit_or_none stem (Some index) = and_then (λ i. Ok (Some i)) (or_unsupported stem (unit_at index))
 
 -- a unit and another one after `per`; one of these that is two units is an error
 abbrev pub divided : Span → ℕ → ℕ → Result Indices SkeletonError
-divided stem unit second =
-    if is_compound unit || is_compound second then Err (unsupported stem) else Ok (joined unit second)
+divided stem first second =
+    if is_two first || is_two second then Err (unsupported stem) else Ok (joined first second)
 
 -- units, or the first of them and the one of `per-measure-unit`
 abbrev pub units_by : Span → Indices → Option (ℕ × Span) → ℕ → Result Indices SkeletonError
-units_by stem units None unit = and_then (λ second. Ok (unit, second)) (unit_or_none stem units.1)
-units_by stem units (Some (index, per_stem)) unit = and_then (divided per_stem unit) (unit_at per_stem index)
+units_by stem units None first = and_then (λ second. Ok (first, second)) (unit_or_none stem units.1)
+units_by stem units (Some (index, per_stem)) first = and_then (divided per_stem first) (or_unsupported per_stem (unit_at index))
 
 unfoldable pub units_of : Span → Indices → Option (ℕ × Span) → Result Indices SkeletonError
-units_of stem units second = and_then (units_by stem units second) (unit_at stem units.0)
+units_of stem units second = and_then (units_by stem units second) (or_unsupported stem (unit_at units.0))
 
 -- the unit of `per-measure-unit`, with its stem
 abbrev pub second_of : Option (ChosenPerUnit × Span) → Result (Option (ℕ × Span)) SkeletonError
@@ -129,28 +130,28 @@ units_style width stem second units = and_then (λ u. Ok (Units u width)) (units
 
 -- percent or permille as a unit
 abbrev pub hundredths_style : UnitDisplay → Span → Option (ℕ × Span) → Option ℕ → Result StyleValue SkeletonError
-hundredths_style width stem second (Some unit) = units_style width stem second (unit, None)
+hundredths_style width stem second (Some first) = units_style width stem second (first, None)
 hundredths_style width stem second None = Err (unsupported stem)
 
 abbrev pub percent_style : Bool → Option CurrencyDisplay → Span → Option (ℕ × Span) → Result StyleValue SkeletonError
 percent_style compact width stem second =
     if has_style compact width second then Ok Percent
-    else hundredths_style (unit_display width) stem second (unit_index (codes "percent"))
+    else hundredths_style (unit_display width) stem second (index_named (codes "percent"))
 
 abbrev pub permille_style : Bool → Option CurrencyDisplay → Span → Option (ℕ × Span) → Result StyleValue SkeletonError
 permille_style compact width stem second =
     if has_pattern compact width then Ok Permille
-    else hundredths_style (unit_display width) stem second (unit_index (codes "permille"))
+    else hundredths_style (unit_display width) stem second (index_named (codes "permille"))
 
 abbrev pub is_percent : ℕ → Bool
-is_percent index = option_map_or (λ percent. percent == index) (unit_index (codes "percent")) false
+is_percent index = option_map_or (λ percent. percent == index) (index_named (codes "percent")) false
 
 -- percent and another unit after `per`, of which a formatter writes the pattern of percent alone
 abbrev pub loses_second : Bool → UnitDisplay → Indices → Bool
 loses_second true width units = false
 loses_second false Long units = false
-loses_second false width (unit, None) = false
-loses_second false width (unit, Some second) = is_percent unit
+loses_second false width (first, None) = false
+loses_second false width (first, Some second) = is_percent first
 
 abbrev pub chosen_units : Bool → UnitDisplay → Span → Option (ℕ × Span) → Indices → Result StyleValue SkeletonError
 chosen_units compact width stem second units =

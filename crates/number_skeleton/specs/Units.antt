@@ -1,9 +1,20 @@
 -- Units in skeletons: by their identifiers, or by their types too.
-use Rattle.std.specs.{Prelude.{ℕ, ◌+◌, ◌-◌, ◌==◌, Bool, ◌&&◌, if◌then◌else◌, nat_eq, List, [], ◌∷◌, map, length, take, drop, slice_index, slice_get, codes, Option, Some, None, unwrap_or, Result, Ok, Err}, List.{list_any, position_from, starts_with}, Option.{option_map, option_map_or}, Str.bytes_eq}
-use Rattle.locale_names.specs.{declared.{tables.{rows.units.UnitRow.UnitRow, units.TheConstants.UNITS}}, Texts.{short_text, text_or_nothing}, Units.{Indices, unit_index}}
+use Rattle.std.specs.{Prelude.{ℕ, ◌+◌, ◌-◌, ◌==◌, nat_lt, Bool, ◌||◌, ◌&&◌, if◌then◌else◌, nat_eq, List, [], ◌∷◌, map, length, take, drop, slice_index, slice_get, codes, Option, Some, None, unwrap_or, Result, Ok, Err}, List.{list_any, position_from, starts_with}, Option.{option_map, option_map_or}, Str.bytes_eq}
+use Rattle.locale_names.specs.{declared.{tables.{rows.units.UnitRow.UnitRow, units.TheConstants.UNITS}, unit_id.UnitError.UnitError}, Texts.{short_text, text_or_nothing}, Units.{Indices, unit_index, named, is_compound}}
 use Rattle.number_skeleton.specs.{declared.choices.ChosenUnit.{ChosenUnit, TheVariants.{Percent, Permille, Units}}, Counts.run, Words.{is_name, padded}}
 
--- ---- The texts of a unit.
+-- ---- The units of CLDR, and their texts.
+-- an index, if it is that of a unit
+unfoldable pub unit_at : ℕ → Option ℕ
+unit_at index = if nat_lt index (length UNITS) then Some index else None
+
+unfoldable pub index_named : List ℕ → Option ℕ
+index_named name = unit_index name
+
+-- the unit that bytes name, or two units with `-per-` between them
+unfoldable pub units_named : List ℕ → Result Indices UnitError
+units_named bytes = named (text_or_nothing bytes)
+
 abbrev pub name_of : UnitRow → List ℕ
 name_of row = short_text row.name
 
@@ -42,7 +53,7 @@ unfoldable pub measured : List ℕ → Option ℕ
 measured text =
     let kind = run 97 122 text in
     if slice_index text kind == 45
-    then of_type (take kind text) (unit_index (text_or_nothing (without_person (drop (kind + 1) text))))
+    then of_type (take kind text) (index_named (text_or_nothing (without_person (drop (kind + 1) text))))
     else None
 
 unfoldable pub measured_unit : ℕ → ChosenUnit
@@ -57,6 +68,10 @@ is_joined first second name =
 
 unfoldable pub index_joined : List ℕ → List ℕ → List UnitRow → ℕ → Option ℕ
 index_joined first second units from = position_from (λ row. is_joined first second (name_of row)) from units
+
+-- an index is that of two units
+unfoldable pub is_two : ℕ → Bool
+is_two index = is_compound index
 
 -- two units are one if `-per-` between them makes the identifier of one
 unfoldable pub joined : ℕ → ℕ → Indices

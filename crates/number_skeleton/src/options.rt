@@ -10,7 +10,7 @@ use crate::counts::{Counts, after, byte_at, is_byte, is_wild, run};
 use crate::decimal::read_decimal;
 use crate::identifiers::is_identifier;
 use crate::meaning::{Expected, Meaning};
-use crate::units::{hundredth, measured, measured_unit, text_of, without_person};
+use crate::units::{hundredth, measured, measured_unit, units_named, without_person};
 use crate::words::{is_algorithmic, is_name, named};
 use fixed_decimal::SignDisplay;
 use locale_data::{CurrencySign, NUMBERING_SYSTEMS, Name};
@@ -103,7 +103,7 @@ fn unit_option(text: &[u8]) -> Option<Meaning>
     if let Some(unit) = hundredth(text) {
         return last(Choice::Unit(unit));
     }
-    match Unit::try_from_str(text_of(without_person(text))) {
+    match units_named(without_person(text)) {
         Ok(unit) => last(Choice::Unit(ChosenUnit::Units(indices(unit)))),
         Err(_) if is_identifier(text) => last(Choice::Unit(ChosenUnit::Other)),
         Err(_) => None,

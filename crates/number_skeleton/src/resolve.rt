@@ -1,14 +1,14 @@
 //! The options that the choices of a skeleton are, by ICU's defaults.
 ghost use Rattle.std.specs.{Prelude.{◌≡◌, Ok, Err, MatchResult}, Option.option_map};
 ghost use Rattle.locale_data.specs.{Codes.{code_of, system_name}, Rows.unpadded};
-ghost use Rattle.locale_names.specs.Units.{index_of, indices_of, unit_index};
-ghost use Rattle.number_skeleton.specs.{Digits.is_compact, Meaning.{notation_of, width_of, unit_display, currency_display, has_pattern, has_style, unit_at, unit_or_none, divided, units_by, units_of, second_of, style_value, usage_of, currency_style, units_style, hundredths_style, percent_style, permille_style, is_percent, loses_second, chosen_units, base_style, style_by, style_of, scale_of, grouping_of, system_by, system_of, no_usage, options_of, options_value}};
+ghost use Rattle.locale_names.specs.Units.{index_of, indices_of};
+ghost use Rattle.number_skeleton.specs.{Digits.is_compact, Units.{unit_at, index_named}, Meaning.{notation_of, width_of, unit_display, currency_display, has_pattern, has_style, or_unsupported, unit_or_none, divided, units_by, units_of, second_of, style_value, usage_of, currency_style, units_style, hundredths_style, percent_style, permille_style, is_percent, loses_second, chosen_units, base_style, style_by, style_of, scale_of, grouping_of, system_by, system_of, no_usage, options_of, options_value}};
 
 use crate::choices::{
     Choices, ChosenNotation, ChosenPerUnit, ChosenPrecision, ChosenUnit, Span,
 };
 use crate::error::SkeletonError;
-use crate::units::joined;
+use crate::units::{is_two, joined, unit_at, unit_named};
 use decimal_format::GroupingStrategy;
 use fixed_decimal::SignDisplay;
 use locale_data::{CurrencyCode, CurrencySign, NumberingSystem, unpadded};
@@ -48,10 +48,11 @@ fn has_style(is_compact: bool, width: Option<CurrencyDisplay>, second: Option<(u
     }
 }
 
-fn unit_at(stem: Span, index: u8) -> Result<UnitId, SkeletonError>
-    ensures { MatchResult result (λ u. unit_at stem index ≡ Ok u.index) (λ e. unit_at stem index ≡ Err e) }
+fn unit_or_unsupported(stem: Span, index: u8) -> Result<UnitId, SkeletonError>
+    ensures { MatchResult result (λ u. or_unsupported stem (unit_at index) ≡ Ok u.index)
+        (λ e. or_unsupported stem (unit_at index) ≡ Err e) }
 {
-    match UnitId::from_index(index) {
+    match unit_at(index) {
         Some(unit) => Ok(unit),
         None => Err(stem.unsupported()),
     }
@@ -63,7 +64,7 @@ fn unit_or_none(stem: Span, index: Option<u8>) -> Result<Option<UnitId>, Skeleto
 {
     match index {
         None => Ok(None),
-        Some(index) => Ok(Some(unit_at(stem, index)?)),
+        Some(index) => Ok(Some(unit_or_unsupported(stem, index)?)),
     }
 }
 
@@ -71,7 +72,7 @@ fn divided(stem: Span, unit: UnitId, second: UnitId) -> Result<Unit, SkeletonErr
     ensures { MatchResult result (λ u. divided stem unit.index second.index ≡ Ok (indices_of u))
         (λ e. divided stem unit.index second.index ≡ Err e) }
 {
-    if unit.is_compound() || second.is_compound() {
+    if is_two(unit) || is_two(second) {
         return Err(stem.unsupported());
     }
     Ok(joined(unit, second))
@@ -91,7 +92,7 @@ fn units_by(
             unit,
             per: unit_or_none(stem, units.1)?,
         }),
-        Some((index, per_stem)) => divided(per_stem, unit, unit_at(per_stem, index)?),
+        Some((index, per_stem)) => divided(per_stem, unit, unit_or_unsupported(per_stem, index)?),
     }
 }
 
@@ -104,7 +105,7 @@ fn units_of(
     ensures { MatchResult result (λ u. units_of stem units second ≡ Ok (indices_of u))
         (λ e. units_of stem units second ≡ Err e) }
 {
-    units_by(stem, units, second, unit_at(stem, units.0)?)
+    units_by(stem, units, second, unit_or_unsupported(stem, units.0)?)
 }
 
 fn units_style(
@@ -127,10 +128,10 @@ fn hundredths_style(
     name: &str,
 ) -> Result<NumberStyle, SkeletonError>
     ensures { MatchResult result
-        (λ s. hundredths_style display stem second (unit_index name.now) ≡ Ok (style_value s))
-        (λ e. hundredths_style display stem second (unit_index name.now) ≡ Err e) }
+        (λ s. hundredths_style display stem second (index_named name.now) ≡ Ok (style_value s))
+        (λ e. hundredths_style display stem second (index_named name.now) ≡ Err e) }
 {
-    match UnitId::try_from_str(name) {
+    match unit_named(name) {
         Some(unit) => units_style(display, stem, second, (unit.index(), None)),
         None => Err(stem.unsupported()),
     }
@@ -169,7 +170,7 @@ fn permille_style(
 fn is_percent(index: u8) -> bool
     ensures { result ≡ is_percent index }
 {
-    match UnitId::try_from_str("percent") {
+    match unit_named("percent") {
         Some(percent) => percent.index() == index,
         None => false,
     }

@@ -1,13 +1,13 @@
 //! Units in skeletons: by their identifiers, or by their types too.
-ghost use Rattle.std.specs.{Prelude.{◌≡◌}, Option.option_map};
+ghost use Rattle.std.specs.{Prelude.{◌≡◌, Some}, Option.option_map, Result.result_map_both};
 ghost use Rattle.locale_names.specs.{Texts.text_or_nothing, Units.{index_of, indices_of}, declared.tables.units.TheConstants.UNITS};
-ghost use Rattle.number_skeleton.specs.Units.{name_at, type_at, without_person, hundredth, measured, measured_unit, is_joined, index_joined, joined};
+ghost use Rattle.number_skeleton.specs.Units.{unit_at, index_named, units_named, is_two, name_at, type_at, of_type, without_person, hundredth, measured, measured_unit, is_joined, index_joined, joined};
 
 use crate::choices::ChosenUnit;
 use crate::counts::{after, before, byte_at, run};
 use crate::words::is_name;
 use locale_data::Name;
-use locale_names::{Unit, UnitId};
+use locale_names::{Unit, UnitError, UnitId};
 use std::str;
 
 /// The units of people's ages, which have the texts of the units of time.
@@ -26,6 +26,38 @@ pub(crate) fn text_of(bytes: &[u8]) -> &str
         Ok(text) => text,
         Err(_) => "",
     }
+}
+
+/// Returns the unit with an index.
+#[tactic(auto, unfolding(crate::specs::Units::unit_at))]
+pub(crate) fn unit_at(index: u8) -> Option<UnitId>
+    ensures { option_map index_of result ≡ unit_at index }
+{
+    UnitId::from_index(index)
+}
+
+/// Returns the unit with an identifier.
+#[tactic(auto, unfolding(crate::specs::Units::index_named))]
+pub(crate) fn unit_named(name: &str) -> Option<UnitId>
+    ensures { option_map index_of result ≡ index_named name.now }
+{
+    UnitId::try_from_str(name)
+}
+
+/// Returns the units that bytes name.
+#[tactic(auto, unfolding(crate::specs::Units::units_named))]
+pub(crate) fn units_named(bytes: &[u8]) -> Result<Unit, UnitError>
+    ensures { result_map_both indices_of (λ e. e) result ≡ units_named bytes.now }
+{
+    Unit::try_from_str(text_of(bytes))
+}
+
+/// Returns whether the identifier of a unit has `-per-`.
+#[tactic(auto, unfolding(crate::specs::Units::is_two))]
+pub(crate) fn is_two(unit: UnitId) -> bool
+    ensures { result ≡ is_two unit.index }
+{
+    unit.is_compound()
 }
 
 /// Returns the identifier of a unit.
@@ -88,7 +120,7 @@ pub(crate) fn measured(text: &[u8]) -> Option<UnitId>
     if byte_at(text, kind) != b'-' {
         return None;
     }
-    match UnitId::try_from_str(text_of(without_person(after(text, kind + 1)))) {
+    match unit_named(text_of(without_person(after(text, kind + 1)))) {
         Some(unit) => of_type(before(text, kind), unit),
         None => None,
     }
