@@ -46,7 +46,7 @@ pub enum PartKind {
     PlusSign,
     /// A percent sign or a permille sign.
     PercentSign,
-    /// The symbol or the code of a currency.
+    /// The symbol, the code or the name of a currency.
     Currency,
     /// Spaces, parentheses and marks.
     Literal,
@@ -60,11 +60,13 @@ pub enum PartKind {
     ExponentPlusSign,
     /// The digits of an exponent.
     ExponentInteger,
+    /// A unit.
+    Unit,
 }
 
 impl PartKind {
     /// Of each `fd_part_kind`.
-    const ALL: [PartKind; 14] = [
+    const ALL: [PartKind; 15] = [
         PartKind::Integer,
         PartKind::Group,
         PartKind::Decimal,
@@ -79,6 +81,7 @@ impl PartKind {
         PartKind::ExponentMinusSign,
         PartKind::ExponentPlusSign,
         PartKind::ExponentInteger,
+        PartKind::Unit,
     ];
 }
 

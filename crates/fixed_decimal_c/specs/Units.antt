@@ -1,7 +1,7 @@
 -- Units by numbers, as C has them.
-use Rattle.std.specs.{Prelude.{◌≡◌, ℕ, ◌+◌, true, List, Option, None, Some, Result, Ok, Err}, Str.IsUtf8}
-use Rattle.locale_names.specs.{declared.unit_id.{Unit.Unit, UnitId.UnitId}, Units.{indices_of, is_sanctioned, named}}
-use Rattle.fixed_decimal_c.specs.{declared.{error.FdError.{FdError, TheVariants.UnknownUnit}, units.FdUnits.FdUnits}, Errors.status_of}
+use Rattle.std.specs.{Prelude.{◌≡◌, ℕ, ◌+◌, true, List, Option, None, Some, Result, Ok, Err, IsSomeAnd}, Str.IsUtf8}
+use Rattle.locale_names.specs.{declared.unit_id.{Unit.Unit, UnitId.UnitId}, Texts.short_text, Units.{indices_of, is_sanctioned, named, row_of}}
+use Rattle.fixed_decimal_c.specs.{declared.{error.FdError.{FdError, TheVariants.{UnknownOption, UnknownUnit}}, units.FdUnits.FdUnits}, Errors.status_of, Texts.WritesTo}
 
 -- ---- Numbers.
 
@@ -31,6 +31,20 @@ pub record NamesUnit (text : List ℕ) (unit : Unit) : Type 0 where
 abbrev pub IsUnitNamed : Result Unit FdError → List ℕ → Type 0
 IsUnitNamed (Ok unit) text = NamesUnit text unit
 IsUnitNamed (Err error) text = (error ≡ UnknownUnit) × ((unit : Unit) → NamesUnit text unit → ⊥)
+
+-- the name of the unit with a number
+pub record IsNameOf (number : ℕ) (text : List ℕ) : Type 0 where
+  pub unit : UnitId
+  pub number_is : number ≡ unit_number unit
+  pub name : IsSomeAnd (row_of unit) (λ row. text ≡ short_text row.name)
+
+-- no unit has the number
+abbrev pub IsNoUnit : FdError → ℕ → Type 0
+IsNoUnit error number = (error ≡ UnknownOption) × ((id : UnitId) → number ≡ unit_number id → ⊥)
+
+-- the name is written if it fits; or there is none
+abbrev pub WritesUnitName : Result ℕ FdError → ℕ → List ℕ → List ℕ → Type 0
+WritesUnitName answer number old new = WritesTo (IsNameOf number) (λ error. IsNoUnit error number) answer old new
 
 -- ---- Answers, as C receives them.
 

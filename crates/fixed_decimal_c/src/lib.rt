@@ -5,7 +5,7 @@
 #![tactic(auto)]
 
 ghost use Rattle.std.specs.Prelude.{◌≡◌, nat_lt};
-ghost use Rattle.fixed_decimal_c.specs.{Encodings.{Encodes, EncodesNumber, EncodesUnsigned}, Conversions.{Runs, ConvertsCalls}, Lines.ConvertsColumn, Numbers.{Compares, Equates, HasSign, HasI64, HasU64}, Locales.{IsLocaleNumber, IsRulesNumber, IsNamedRulesNumber}, Categories.{HasCategory, HasCategoryOf}, Formats.{FormatsNumber, FormatsBySkeleton}, NumberReadings.{ReadsNumber, ReadsBySkeleton}, NumberTexts.WritesSkeleton, KeptFormatters.{EncodesMade, MakesByOptions, MakesBySkeleton, FormatsKept, FormatsColumn, ReadsKept, EncodesResolution, IsResolved}, Units.{EncodesUnits, IsUnitNamed}, Parts.FormatsPartsKept, StatusTexts.{WritesLine, status_line}, Keys.{EncodesKey, HasKey, ComparesKeys}, Words.IsWord};
+ghost use Rattle.fixed_decimal_c.specs.{Encodings.{Encodes, EncodesNumber, EncodesUnsigned}, Conversions.{Runs, ConvertsCalls}, Lines.ConvertsColumn, Numbers.{Compares, Equates, HasSign, HasI64, HasU64}, Locales.{IsLocaleNumber, IsRulesNumber, IsNamedRulesNumber}, Categories.{HasCategory, HasCategoryOf}, Formats.{FormatsNumber, FormatsBySkeleton}, NumberReadings.{ReadsNumber, ReadsBySkeleton}, NumberTexts.WritesSkeleton, KeptFormatters.{EncodesMade, MakesByOptions, MakesBySkeleton, FormatsKept, FormatsColumn, ReadsKept, EncodesResolution, IsResolved}, Units.{EncodesUnits, IsUnitNamed, WritesUnitName}, Parts.FormatsPartsKept, StatusTexts.{WritesLine, status_line}, Keys.{EncodesKey, HasKey, ComparesKeys}, Words.IsWord};
 
 mod answer;
 mod calls;
@@ -57,7 +57,7 @@ use status_text::write_status;
 use std::alloc::Global;
 pub use styles::StyleCodes;
 pub use units::FdUnits;
-use units::{encode_units, unit_named};
+use units::{encode_units, unit_named, write_name};
 pub use words::FdWord;
 use words::parse_word;
 
@@ -208,6 +208,15 @@ pub fn fd_unit(text: &[u8]) -> FdUnits
     ensures { EncodesUnits result (λ answer. IsUnitNamed answer text.now) }
 {
     encode_units(unit_named(text))
+}
+
+/// Writes the name of the unit with a number: that of [`fd_unit`], or of the options of a formatter.
+///
+/// The errors: `UnknownOption`, if no unit has the number; `BufferTooSmall`.
+pub fn fd_unit_name(number: u32, buffer: &mut [u8]) -> FdResult
+    ensures { Encodes result (λ answer. WritesUnitName answer number buffer.old buffer.new) }
+{
+    encode(write_name(number, buffer))
 }
 
 /// Makes the formatter of a tag and options, so that they are looked up once.

@@ -1,9 +1,10 @@
 //! Units by numbers, as C has them.
 ghost use Rattle.std.specs.Prelude.{◌≡◌, Option, IfSome, IfNone};
 ghost use Rattle.locale_names.specs.declared.unit_id.{Unit.Unit, UnitId.UnitId};
-ghost use Rattle.fixed_decimal_c.specs.Units.{unit_number, per_number, HasNumbers, IsUnitNamed, fd_units};
+ghost use Rattle.fixed_decimal_c.specs.Units.{unit_number, per_number, HasNumbers, IsUnitNamed, WritesUnitName, fd_units};
 
 use crate::error::FdError;
+use crate::texts::deliver;
 use locale_names::{Unit, UnitId};
 use std::str;
 
@@ -34,14 +35,14 @@ pub(crate) fn per_number(per: Option<UnitId>) -> u8
     }
 }
 
-fn unit_at(number: u8) -> Option<UnitId>
+fn unit_at(number: u32) -> Option<UnitId>
     ensures some { IfSome result (λ id. number ≡ unit_number id) }
     ensures none { IfNone result ((id : UnitId) → number ≡ unit_number id → ⊥) }
 {
-    match number {
-        0 => None,
-        _ => UnitId::from_index(number - 1),
+    if number == 0 || number > 256 {
+        return None;
     }
+    UnitId::from_index((number - 1) as u8)
 }
 
 fn per_at(number: u8) -> Option<Option<UnitId>>
@@ -51,7 +52,7 @@ fn per_at(number: u8) -> Option<Option<UnitId>>
     if number == 0 {
         return Some(None);
     }
-    match unit_at(number) {
+    match unit_at(number as u32) {
         Some(unit) => Some(Some(unit)),
         None => None,
     }
@@ -62,7 +63,7 @@ pub(crate) fn unit_with(number: u8, per_number: u8) -> Option<Unit>
     ensures some { IfSome result (HasNumbers number per_number) }
     ensures none { IfNone result ((unit : Unit) → HasNumbers number per_number unit → ⊥) }
 {
-    let Some(unit) = unit_at(number) else {
+    let Some(unit) = unit_at(number as u32) else {
         return None;
     };
     match per_at(per_number) {
@@ -85,6 +86,16 @@ pub(crate) fn unit_named(text: &[u8]) -> Result<Unit, FdError>
         Ok(unit)
     } else {
         Err(FdError::UnknownUnit)
+    }
+}
+
+/// Writes the name of the unit with a number.
+pub(crate) fn write_name(number: u32, buffer: &mut [u8]) -> Result<usize, FdError>
+    ensures { WritesUnitName result number buffer.old buffer.new }
+{
+    match unit_at(number) {
+        Some(unit) => deliver(unit.name().as_bytes(), buffer),
+        None => Err(FdError::UnknownOption),
     }
 }
 
