@@ -59,14 +59,14 @@ fn per_at(number: u8) -> Option<Option<UnitId>>
 }
 
 /// Returns the unit with these numbers.
-pub(crate) fn unit_with(number: u8, per_number: u8) -> Option<Unit>
-    ensures some { IfSome result (HasNumbers number per_number) }
-    ensures none { IfNone result ((unit : Unit) → HasNumbers number per_number unit → ⊥) }
+pub(crate) fn unit_with(first: u8, second: u8) -> Option<Unit>
+    ensures some { IfSome result (HasNumbers first second) }
+    ensures none { IfNone result ((unit : Unit) → HasNumbers first second unit → ⊥) }
 {
-    let Some(unit) = unit_at(number as u32) else {
+    let Some(unit) = unit_at(first as u32) else {
         return None;
     };
-    match per_at(per_number) {
+    match per_at(second) {
         Some(per) => Some(Unit { unit, per }),
         None => None,
     }
