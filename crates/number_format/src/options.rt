@@ -1,6 +1,6 @@
 //! How a number is written: its style, notation, digits, sign and groups, and the digits that ECMA-402 has by default.
 ghost use Rattle.std.specs.Prelude.{◌≡◌};
-ghost use Rattle.number_format.specs.{DefaultDigits.{shows_all_digits, is_compact, usage_digits, style_digits, increment_by, increment, IsDefaultBy, IsDefault}, NumberText.compact_style};
+ghost use Rattle.number_format.specs.{DefaultDigits.{shows_all_digits, is_compact, usage_digits, style_digits, increment_by, increment, IsDefaultBy, IsDefault}, NumberText.{compact_style, has_symbol}, NumberStyles.shows_name};
 
 mod constructors;
 
@@ -155,6 +155,14 @@ pub struct NumberOptions {
     pub numbering_system: Option<NumberingSystem>,
 }
 
+impl CurrencyDisplay {
+    pub(crate) fn shows_name(self) -> bool
+        ensures { result ≡ shows_name self }
+    {
+        matches!(self, CurrencyDisplay::Name)
+    }
+}
+
 impl CurrencyUsage {
     /// Returns the number of fraction digits that a currency has for this use, and its increment, 0 if it has none.
     pub fn digits(self, currency: CurrencyDigits) -> (u8, u8)
@@ -175,14 +183,23 @@ impl NumberOptions {
         matches!(self.notation, NumberNotation::Compact(_))
     }
 
+    fn has_symbol(&self) -> bool
+        ensures { result ≡ has_symbol self.now.style }
+    {
+        match self.style {
+            NumberStyle::Currency(style) => !style.display.shows_name(),
+            _ => false,
+        }
+    }
+
     #[inline(always)]
     pub(crate) fn compact_style(&self) -> Option<CompactStyle>
         ensures { result ≡ compact_style self.now.notation self.now.style }
     {
-        match (self.notation, self.style) {
-            (NumberNotation::Compact(_), NumberStyle::Currency(_)) => Some(CompactStyle::Currency),
-            (NumberNotation::Compact(CompactLength::Short), _) => Some(CompactStyle::Short),
-            (NumberNotation::Compact(CompactLength::Long), _) => Some(CompactStyle::Long),
+        match self.notation {
+            NumberNotation::Compact(_) if self.has_symbol() => Some(CompactStyle::Currency),
+            NumberNotation::Compact(CompactLength::Short) => Some(CompactStyle::Short),
+            NumberNotation::Compact(CompactLength::Long) => Some(CompactStyle::Long),
             _ => None,
         }
     }
@@ -222,7 +239,7 @@ impl NumberOptions {
         ensures { IsDefaultBy currency self.now result }
     {
         let (min, max) = match self.style {
-            NumberStyle::Decimal => (0, 3),
+            NumberStyle::Decimal | NumberStyle::Unit(_) => (0, 3),
             NumberStyle::Percent | NumberStyle::Permille => (0, 0),
             NumberStyle::Currency(style) => {
                 let (count, _) = style.usage.digits(currency);

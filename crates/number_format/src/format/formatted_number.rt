@@ -1,19 +1,20 @@
 //! A number as a locale writes it.
-ghost use Rattle.std.specs.{Prelude.{◌≡◌, ◌↔◌, ◌≤◌, ◌++◌, ℕ, length, Some, None, IsTrue, IfSome, IsErrOf, OnOk, OnErr, true}, Option.option_copied, Fmt.WritesStyledOnOk, Io.KnownBytes.Appends};
+ghost use Rattle.std.specs.{Prelude.{◌≡◌, ◌↔◌, ◌≤◌, ◌++◌, ℕ, length, Some, None, IsTrue, IfSome, IsErrOf, OnOk, OnErr, true, false, []}, Option.option_copied, Fmt.WritesStyledOnOk, Io.KnownBytes.Appends};
 ghost use Rattle.decimal_digits.specs.AppendsPrefix.{AppendsPrefix};
 ghost use Rattle.fixed_decimal.specs.Decimal.{Decimal, displayed_sign};
-ghost use Rattle.decimal_format.specs.{Formatted.formatted_absolute, Symbols.affixes, declared.grouping.GroupingStrategy.TheVariants.Never};
+ghost use Rattle.decimal_format.specs.{Formatted.formatted_absolute, declared.grouping.GroupingStrategy.TheVariants.Never};
 ghost use Rattle.locale_data.specs.Compact.{AreTexts};
-ghost use Rattle.number_format.specs.{FormattedNumbers.{pattern_of, around_of, unit_of, exponent_text, number_text, number_text_if, number_pieces_if, around_text, formatted_number_pieces, formatted_number_text, ChoosesUnit, IsShownNumber}, NumberText.{compact_around, exponent_of, exponent_pieces, shown_number, AreParts, AreNumberPieces, WritingNeedsMemory}, PatternTexts.pattern_around, TextParts.{parts_text, pieces_text, Puts, PutsPrefix}};
+ghost use Rattle.number_format.specs.{FormattedNumbers.{pattern_of, around_of, outer_of, exponent_text, number_text, number_text_if, number_pieces_if, around_text, inner_text, inner_text_if, inner_pieces, inner_pieces_if, formatted_number_pieces, formatted_number_text, ChoosesWhole, IsOuter, IsShownNumber}, NumberText.{compact_around, exponent_of, exponent_pieces, shown_number, AreParts, AreNumberPieces, WritingNeedsMemory}, PatternTexts.{around, pattern_around}, TextParts.{parts_text, pieces_text, Puts, PutsPrefix}};
 
-use crate::format::affixes::{NO_UNIT, NumberAffixes};
+use crate::format::affixes::NumberAffixes;
 use crate::format::compact::CompactChoice;
 use crate::format::exponent::{exponent_kind, shown_exponent};
 use crate::format::formatter::NumberFormatter;
+use crate::format::outer::{OuterAround, OuterTexts, put_outer};
 use crate::format::parts::{
-    PartSink, fmt_parts, parts_length, put, put_digits, put_part, put_parts, write_parts,
+    PartSink, fmt_parts, parts_length, push_parts, put, put_digits, put_parts, write_parts,
 };
-use crate::format::text_part::{PartKind, TextPart};
+use crate::format::text_part::PartKind;
 use crate::notation::scale::ShownNumber;
 use crate::options::{NumberNotation, NumberStyle};
 use decimal_format::internal::{Block, put_to_block};
@@ -46,7 +47,7 @@ pub struct FormattedNumber<'f> {
     pub(crate) value: Decimal,
     pub(crate) exponent: i32,
     pub(crate) choice: CompactChoice,
-    /// The plural category of the whole number.
+    /// The plural category of the whole number, by which a unit or a name is chosen.
     pub(crate) whole: PluralCategory,
 }
 
@@ -68,13 +69,13 @@ impl<'f> FormattedNumber<'f> {
     /// Chooses what is written around a significand and its exponent, and sets the sign that is shown.
     pub(crate) fn choose(&mut self, shown: ShownNumber, whole: PluralCategory)
         ensures { (v : Decimal) → IsShownNumber self.old.formatter.now v self.old.value shown
-            → ChoosesUnit self.old.formatter.now v whole
+            → ChoosesWhole self.old.formatter.now v whole
             → AreNumberPieces self.old.formatter.now v (formatted_number_pieces self.new) }
     {
         let formatter = self.formatter;
         let display = formatter.options.sign_display;
         self.choice = formatter.choice(&self.value, shown.exponent);
-        self.whole = whole;
+        self.whole = formatter.outer_category(&self.value, whole);
         self.exponent = shown.exponent;
         self.value.sign = displayed_sign(display, shown.is_zero, self.value.sign);
     }
@@ -107,19 +108,33 @@ impl<'f> FormattedNumber<'f> {
         }
     }
 
-    fn unit(&self) -> UnitAffixes
-        ensures value { affixes result.prefix.now result.suffix.now ≡ unit_of self.now }
-        ensures short { (length result.prefix.now ≤ 255) × (length result.suffix.now ≤ 255) }
+    fn outer_around(&self) -> OuterAround<'_>
+        ensures { IsOuter (outer_of self.now) result }
     {
         let formatter = self.formatter;
-        match (formatter.options.compact_style(), formatter.options.style) {
-            (Some(_), NumberStyle::Percent) => formatter.formats.percent_unit(self.whole),
-            (Some(_), NumberStyle::Permille) => UnitAffixes {
-                prefix: "",
-                suffix: "\u{2030}",
-            },
-            _ => NO_UNIT,
+        let words = formatter.options.compact_style();
+        match (&formatter.outer, words, formatter.options.style) {
+            (OuterTexts::Units(rows), _, _) => OuterAround::of_unit(*rows, self.whole),
+            (OuterTexts::Names(names), _, _) => OuterAround::of_name(names, self.whole),
+            (OuterTexts::None, Some(_), NumberStyle::Percent) => {
+                OuterAround::of_affixes(formatter.formats.percent_unit(self.whole))
+            }
+            (OuterTexts::None, Some(_), NumberStyle::Permille) => {
+                OuterAround::of_affixes(UnitAffixes {
+                    prefix: "",
+                    suffix: "\u{2030}",
+                })
+            }
+            _ => OuterAround::none(),
         }
+    }
+
+    fn outer(&self) -> OuterAround<'_>
+        ensures parts { IsOuter (outer_of self.now) result }
+        ensures text { parts_text result.before ++ (inner_text_if self.now result.has_number
+            ++ parts_text result.after) ≡ formatted_number_text self.now }
+    {
+        self.outer_around()
     }
 
     #[inline(never)]
@@ -135,13 +150,12 @@ impl<'f> FormattedNumber<'f> {
     }
 
     fn affixes(&self) -> NumberAffixes<'_>
-        ensures parts { AreParts (around_of self.now) (unit_of self.now) result }
+        ensures parts { AreParts (around_of self.now) result }
         ensures text { parts_text result.prefix ++ (number_text_if self.now result.has_number
-            ++ parts_text result.suffix) ≡ formatted_number_text self.now }
+            ++ parts_text result.suffix) ≡ inner_text self.now }
     {
-        self.formatter
-            .style
-            .affixes(self.value.sign, self.compact_pattern(), self.unit())
+        let style = &self.formatter.style;
+        style.affixes(self.value.sign, self.compact_pattern())
     }
 
     #[inline]
@@ -214,6 +228,31 @@ impl<'f> FormattedNumber<'f> {
         }
     }
 
+    fn write_inner<W: Sink>(&self, sink: &mut W) -> Result<(), SinkFault>
+        ensures ok { OnOk result (Appends (W.contents sink.old) (W.contents sink.new) (inner_text self.now)) }
+        ensures err { OnErr result
+            (AppendsPrefix (W.contents sink.old) (W.contents sink.new) (inner_text self.now)) }
+        ensures failed { OnErr result (W.has_failed sink.new ≡ true) }
+    {
+        let affixes = self.affixes();
+        write_parts(&affixes.prefix, sink)?;
+        self.write_number_if(affixes.has_number, sink)?;
+        write_parts(&affixes.suffix, sink)
+    }
+
+    fn write_inner_if<W: Sink>(&self, has_number: bool, sink: &mut W) -> Result<(), SinkFault>
+        ensures ok { OnOk result
+            (Appends (W.contents sink.old) (W.contents sink.new) (inner_text_if self.now has_number)) }
+        ensures err { OnErr result
+            (AppendsPrefix (W.contents sink.old) (W.contents sink.new) (inner_text_if self.now has_number)) }
+        ensures failed { OnErr result (W.has_failed sink.new ≡ true) }
+    {
+        if !has_number {
+            return Ok(());
+        }
+        self.write_inner(sink)
+    }
+
     #[inline(never)]
     fn write_pieces<W: Sink>(&self, sink: &mut W) -> Result<(), SinkFault>
         ensures ok { OnOk result
@@ -222,10 +261,26 @@ impl<'f> FormattedNumber<'f> {
             (AppendsPrefix (W.contents sink.old) (W.contents sink.new) (formatted_number_text self.now)) }
         ensures failed { OnErr result (W.has_failed sink.new ≡ true) }
     {
+        let outer = self.outer();
+        write_parts(&outer.before, sink)?;
+        self.write_inner_if(outer.has_number, sink)?;
+        write_parts(&outer.after, sink)
+    }
+
+    fn fmt_inner_if<W: fmt::Write>(
+        &self,
+        has_number: bool,
+        f: &mut fmt::Formatter<W>,
+    ) -> fmt::Result
+        ensures { WritesStyledOnOk W.write_str_gives f.old result (inner_text_if self.now has_number) f.new }
+    {
+        if !has_number {
+            return Ok(());
+        }
         let affixes = self.affixes();
-        write_parts(&affixes.prefix, sink)?;
-        self.write_number_if(affixes.has_number, sink)?;
-        write_parts(&affixes.suffix, sink)
+        fmt_parts(&affixes.prefix, f)?;
+        self.fmt_number_if(affixes.has_number, f)?;
+        fmt_parts(&affixes.suffix, f)
     }
 
     fn number_length(&self) -> usize
@@ -243,6 +298,19 @@ impl<'f> FormattedNumber<'f> {
             }
             None => digits,
         }
+    }
+
+    fn inner_length(&self) -> usize
+        ensures value { result ≡ length (inner_text self.now) }
+        ensures at_most { result ≤ 17240000 }
+    {
+        let affixes = self.affixes();
+        let number = if affixes.has_number {
+            self.number_length()
+        } else {
+            0
+        };
+        parts_length(&affixes.prefix) + number + parts_length(&affixes.suffix)
     }
 
     fn push_exponent(&self, exponent: &Decimal, block: &mut Block) -> Result<(), SinkFault>
@@ -309,23 +377,47 @@ impl<'f> FormattedNumber<'f> {
     }
 
     #[inline(always)]
-    fn put_with_unit(&self, block: &mut Block) -> Result<(), SinkFault>
+    fn has_outer(&self) -> bool
+        ensures { result ≡ false → outer_of self.now ≡ around [] true [] }
+    {
+        let formatter = self.formatter;
+        match (&formatter.outer, formatter.options.style) {
+            (OuterTexts::None, NumberStyle::Percent | NumberStyle::Permille) => {
+                formatter.options.compact_style().is_some()
+            }
+            (OuterTexts::None, _) => false,
+            _ => true,
+        }
+    }
+
+    // Not inlined: most numbers have no unit.
+    #[inline(never)]
+    fn put_around_if(&self, has_number: bool, block: &mut Block) -> Result<(), SinkFault>
+        ensures { OnOk result (block.new.0 ≡ block.old.0 ++ inner_text_if self.now has_number) }
+    {
+        if !has_number {
+            return Ok(());
+        }
+        self.put_around(block)
+    }
+
+    fn put_with_outer(&self, block: &mut Block) -> Result<(), SinkFault>
         ensures { OnOk result (block.new.0 ≡ block.old.0 ++ formatted_number_text self.now) }
     {
-        let unit = self.unit();
-        put_part(TextPart::new(PartKind::Literal, unit.prefix), block)?;
-        self.put_around(block)?;
-        put_part(TextPart::new(PartKind::Literal, unit.suffix), block)
+        let outer = self.outer();
+        push_parts(&outer.before, block)?;
+        self.put_around_if(outer.has_number, block)?;
+        push_parts(&outer.after, block)
     }
 
     #[inline(always)]
     fn put_text(&self, block: &mut Block) -> Result<(), SinkFault>
         ensures { OnOk result (block.new.0 ≡ block.old.0 ++ formatted_number_text self.now) }
     {
-        match self.formatter.options.compact_style() {
-            None => self.put_pattern(block),
-            Some(_) => self.put_with_unit(block),
+        if self.has_outer() {
+            return self.put_with_outer(block);
         }
+        self.put_around(block)
     }
 
     fn put_exponent<P: PartSink>(&self, exponent: &Decimal, sink: &mut P) -> Result<(), SinkFault>
@@ -362,6 +454,29 @@ impl<'f> FormattedNumber<'f> {
         }
     }
 
+    fn put_inner<P: PartSink>(&self, sink: &mut P) -> Result<(), SinkFault>
+        ensures ok { OnOk result (Puts (P.pieces sink.old) (P.pieces sink.new) (inner_pieces self.now)) }
+        ensures err { OnErr result (PutsPrefix (P.pieces sink.old) (P.pieces sink.new) (inner_pieces self.now)) }
+        ensures failed { OnErr result (P.has_failed sink.new ≡ true) }
+    {
+        let affixes = self.affixes();
+        put_parts(sink, &affixes.prefix)?;
+        self.put_number_if(affixes.has_number, sink)?;
+        put_parts(sink, &affixes.suffix)
+    }
+
+    fn put_inner_if<P: PartSink>(&self, has_number: bool, sink: &mut P) -> Result<(), SinkFault>
+        ensures ok { OnOk result (Puts (P.pieces sink.old) (P.pieces sink.new) (inner_pieces_if self.now has_number)) }
+        ensures err { OnErr result
+            (PutsPrefix (P.pieces sink.old) (P.pieces sink.new) (inner_pieces_if self.now has_number)) }
+        ensures failed { OnErr result (P.has_failed sink.new ≡ true) }
+    {
+        if !has_number {
+            return Ok(());
+        }
+        self.put_inner(sink)
+    }
+
     /// Puts the pieces of the text with their kinds: consecutive pieces of one kind are one part of `formatToParts` of
     /// ECMA-402. It does not allocate.
     ///
@@ -376,10 +491,10 @@ impl<'f> FormattedNumber<'f> {
             (PutsPrefix (P.pieces sink.old) (P.pieces sink.new) (formatted_number_pieces self.now)) }
         ensures failed { OnErr result (P.has_failed sink.new ≡ true) }
     {
-        let affixes = self.affixes();
-        put_parts(sink, &affixes.prefix)?;
-        self.put_number_if(affixes.has_number, sink)?;
-        put_parts(sink, &affixes.suffix)
+        let outer = self.outer();
+        put_outer(sink, outer.kind, &outer.before)?;
+        self.put_inner_if(outer.has_number, sink)?;
+        put_outer(sink, outer.kind, &outer.after)
     }
 }
 
@@ -405,13 +520,13 @@ impl<'f> Writeable for FormattedNumber<'f> {
 
     /// Returns the exact number of bytes of the text.
     fn writeable_length_hint(&self) -> usize {
-        let affixes = self.affixes();
-        let number = if affixes.has_number {
-            self.number_length()
+        let outer = self.outer();
+        let inner = if outer.has_number {
+            self.inner_length()
         } else {
             0
         };
-        parts_length(&affixes.prefix) + number + parts_length(&affixes.suffix)
+        parts_length(&outer.before) + inner + parts_length(&outer.after)
     }
 }
 
@@ -426,9 +541,9 @@ impl<'f> fmt::Display for FormattedNumber<'f> {
     ///
     /// The formatter fails.
     fn fmt<W: fmt::Write>(&self, f: &mut fmt::Formatter<W>) -> fmt::Result {
-        let affixes = self.affixes();
-        fmt_parts(&affixes.prefix, f)?;
-        self.fmt_number_if(affixes.has_number, f)?;
-        fmt_parts(&affixes.suffix, f)
+        let outer = self.outer();
+        fmt_parts(&outer.before, f)?;
+        self.fmt_inner_if(outer.has_number, f)?;
+        fmt_parts(&outer.after, f)
     }
 }
