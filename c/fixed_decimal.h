@@ -375,14 +375,14 @@ enum fd_part_kind {
     FD_PART_MINUS_SIGN = 4,
     FD_PART_PLUS_SIGN = 5,
     FD_PART_PERCENT_SIGN = 6, /* also the permille sign */
-    FD_PART_CURRENCY = 7,
+    FD_PART_CURRENCY = 7, /* also its name */
     FD_PART_LITERAL = 8,
     FD_PART_COMPACT = 9,
-    FD_PART_EXPONENT_SEPARATOR = 10,
-    FD_PART_EXPONENT_MINUS_SIGN = 11,
-    FD_PART_EXPONENT_PLUS_SIGN = 12,
-    FD_PART_EXPONENT_INTEGER = 13,
-    FD_PART_UNIT = 14
+    FD_PART_UNIT = 10,
+    FD_PART_EXPONENT_SEPARATOR = 11,
+    FD_PART_EXPONENT_MINUS_SIGN = 12,
+    FD_PART_EXPONENT_PLUS_SIGN = 13,
+    FD_PART_EXPONENT_INTEGER = 14
 };
 
 /* A part of a text: the bytes from start to end - 1. */

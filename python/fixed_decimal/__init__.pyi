@@ -81,7 +81,7 @@ class Decimal:
 class _Part(TypedDict):
     type: Literal[
         "integer", "group", "decimal", "fraction", "minusSign", "plusSign", "percentSign", "currency", "literal",
-        "compact", "exponentSeparator", "exponentMinusSign", "exponentPlusSign", "exponentInteger", "unit",
+        "compact", "unit", "exponentSeparator", "exponentMinusSign", "exponentPlusSign", "exponentInteger",
     ]
     value: str
 

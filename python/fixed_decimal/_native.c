@@ -759,8 +759,8 @@ static PyObject *number_format_format(NumberFormat *self, PyObject *value) {
 }
 
 static const char *const part_kinds[] = {"integer", "group", "decimal", "fraction", "minusSign", "plusSign",
-    "percentSign", "currency", "literal", "compact", "exponentSeparator", "exponentMinusSign", "exponentPlusSign",
-    "exponentInteger", "unit"};
+    "percentSign", "currency", "literal", "compact", "unit", "exponentSeparator", "exponentMinusSign",
+    "exponentPlusSign", "exponentInteger"};
 
 /* The parts of a text, as formatToParts of Intl.NumberFormat has them. */
 static PyObject *list_of_parts(const uint8_t *text, const fd_part *parts, size_t count) {

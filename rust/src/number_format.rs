@@ -52,6 +52,8 @@ pub enum PartKind {
     Literal,
     /// The word of a power of ten in compact notation.
     Compact,
+    /// The text of a unit; also a percent sign that is one.
+    Unit,
     /// The separator before an exponent.
     ExponentSeparator,
     /// The minus sign of an exponent.
@@ -60,8 +62,6 @@ pub enum PartKind {
     ExponentPlusSign,
     /// The digits of an exponent.
     ExponentInteger,
-    /// A unit.
-    Unit,
 }
 
 impl PartKind {
@@ -77,11 +77,11 @@ impl PartKind {
         PartKind::Currency,
         PartKind::Literal,
         PartKind::Compact,
+        PartKind::Unit,
         PartKind::ExponentSeparator,
         PartKind::ExponentMinusSign,
         PartKind::ExponentPlusSign,
         PartKind::ExponentInteger,
-        PartKind::Unit,
     ];
 }
 
