@@ -6,7 +6,8 @@ ghost use Rattle.locale_data.specs.{Codes.system_name, Rows.unpadded};
 ghost use Rattle.fixed_decimal_c.specs.{NumberOptions.{trailing_zeros, separators, grouping_code}, Styles.IsStyle, FormatOptions.{padded_name, exponent_signs, minimums, style_codes_in, notation_with, system_with, AreFraction, AreSignificant, AreBoth, IsPrecision, AreShownDigits, AreDigits, AreFormatOptions}};
 
 use crate::calls::{display, display_code, mode, mode_code};
-use crate::number_options::{SEPARATORS, TRAILING_ZEROS, choice, grouping, notation};
+use crate::choices::choice;
+use crate::number_options::{SEPARATORS, TRAILING_ZEROS, grouping, notation};
 use crate::styles::StyleCodes;
 use decimal_format::GroupingStrategy;
 use locale_data::{NumberingSystem, unpadded};

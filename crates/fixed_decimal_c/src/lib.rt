@@ -10,6 +10,7 @@ ghost use Rattle.fixed_decimal_c.specs.{Encodings.{Encodes, EncodesNumber, Encod
 mod answer;
 mod calls;
 mod categories;
+mod choices;
 mod convert;
 mod error;
 mod format;
@@ -200,8 +201,8 @@ pub fn fd_read_by_skeleton(
     }
 }
 
-/// Returns the numbers of the unit that a text names, for [`FdNumberOptions`]: one of the 45 units that ECMA-402 has, or
-/// two of them with `-per-` between them. They are the same in this process.
+/// Returns the numbers of the unit that a text names, for [`FdNumberOptions`]: one of the 45 units of ECMA-402, or two
+/// of them with `-per-` between them. They are the same in this process.
 ///
 /// The error: `UnknownUnit`.
 pub fn fd_unit(text: &[u8]) -> FdUnits

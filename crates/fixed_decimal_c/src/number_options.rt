@@ -5,6 +5,7 @@ ghost use Rattle.number_format.specs.declared.{options.{NumberOptions.NumberOpti
 ghost use Rattle.fixed_decimal_c.specs.NumberOptions.{grouping_code, grouping_in, system_of, given, notations, style_codes_of, error_of_digits, IsOptionStyle, AreChoices, AreSettings, AreNumberOptions, NumberOptionsFail};
 
 use crate::calls::{display, mode};
+use crate::choices::choice;
 use crate::error::FdError;
 use crate::styles::{StyleCodes, has_sanctioned_unit};
 use decimal_format::GroupingStrategy;
@@ -89,16 +90,6 @@ pub(crate) const SEPARATORS: [DecimalSeparatorDisplay; 2] = [
     DecimalSeparatorDisplay::Auto,
     DecimalSeparatorDisplay::Always,
 ];
-
-/// Returns the choice with this number.
-pub(crate) fn choice<T: Copy>(choices: &[T], code: u8) -> Option<T>
-    ensures { result ≡ slice_get choices.now code }
-{
-    match choices.get(code as usize) {
-        Some(choice) => Some(*choice),
-        None => None,
-    }
-}
 
 pub(crate) fn grouping(code: u8) -> Option<GroupingStrategy>
     ensures some { IfSome result (λ g. code ≡ grouping_code g) }

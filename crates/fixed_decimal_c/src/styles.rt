@@ -4,7 +4,7 @@ ghost use Rattle.locale_data.specs.Codes.{code_of};
 ghost use Rattle.number_format.specs.declared.options.{CurrencyStyle.CurrencyStyle, NumberStyle.NumberStyle, UnitStyle.UnitStyle};
 ghost use Rattle.fixed_decimal_c.specs.Styles.{displays, signs, usages, unit_displays, IsAmount, IsUnitStyle, IsStyle, has_sanctioned_unit};
 
-use crate::number_options::choice;
+use crate::choices::choice;
 use crate::units::{per_number, unit_number, unit_with};
 use locale_data::{CurrencyCode, CurrencySign};
 use locale_names::UnitDisplay;
