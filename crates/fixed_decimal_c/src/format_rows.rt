@@ -167,13 +167,16 @@ impl FdOuterRows {
         match outer {
             OuterTexts::None => NO_OUTER,
             OuterTexts::Units(units) => Self::of_units(units),
-            OuterTexts::Names(names) => FdOuterRows {
-                kind: 3,
-                texts: names.names,
-                patterns: names.patterns,
-                code: names.code,
-                ..NO_OUTER
-            },
+            OuterTexts::Names(names) => {
+                let code = names.code;
+                FdOuterRows {
+                    kind: 3,
+                    texts: names.names,
+                    patterns: names.patterns,
+                    code,
+                    ..NO_OUTER
+                }
+            }
         }
     }
 }

@@ -171,7 +171,7 @@ impl FdNumberOptions {
         let Some(style) = self.style_codes().decode() else {
             return None;
         };
-        if has_sanctioned_unit(style) {
+        if has_sanctioned_unit(&style) {
             Some(style)
         } else {
             None

@@ -115,8 +115,8 @@ impl StyleCodes {
 }
 
 /// Returns whether ECMA-402 has the unit of a style, if it has one.
-pub(crate) fn has_sanctioned_unit(style: NumberStyle) -> bool
-    ensures { result ≡ has_sanctioned_unit style }
+pub(crate) fn has_sanctioned_unit(style: &NumberStyle) -> bool
+    ensures { result ≡ has_sanctioned_unit style.now }
 {
     match style {
         NumberStyle::Unit(style) => style.unit.is_sanctioned(),
