@@ -1,5 +1,5 @@
 -- A unit is known by its numbers, and by the indices of its parts.
-use Rattle.std.proofs.{Common.{◌≡◌, ℕ, ◌<◌, List, length, Option, Some, None, Ok, true, false, refl, sym, ◌∙◌, ap, arith}, lemmas.Bool.false≢true}
+use Rattle.std.proofs.{Common.{◌≡◌, ℕ, ◌<◌, List, length, Option, Some, None, Ok, false, refl, sym, ◌∙◌, ap, arith}, lemmas.Bool.false≢true}
 use mathlib.Core.HLevel.{is_prop→PathP}
 use native.Mathlib.Bridge.{le_prop}
 use Rattle.std.specs.Option.{option_map}

@@ -1,4 +1,4 @@
-use Rattle.std.proofs.Common.{inl, rules}
+use Rattle.std.proofs.Common.{inl}
 use Rattle.fixed_decimal_c.proofs.units.write_name.Goals as goal
 
 pub returns-in-Some : goal.returns-in-Some
