@@ -99,7 +99,7 @@ offers 'plural en:' cardinal ordinal
 offers 'plural en 1'
 # A word that is offered is one that the program takes.
 for stem in notation-simple compact-short K engineering percent %x100 permille precision-integer rounding-mode-half-up \
-  group-min2 latin unit-width-iso-code sign-accounting-except-zero currency/ scale/ numbering-system/; do
+  group-min2 latin unit-width-iso-code sign-accounting-except-zero currency/ scale/ numbering-system/ unit/ per-measure-unit/; do
   COMP_LINE="fixdec 5 'format:de:$stem" COMP_POINT=${#COMP_LINE}
   _fixed_decimal fixdec
   [[ " ${COMPREPLY[*]} " == *" format:de:$stem "* ]]

@@ -11,8 +11,9 @@ import subprocess
 import sys
 
 ROOT = os.path.dirname(os.path.dirname(os.path.abspath(__file__)))
-# An option of each stem that needs one.
-SAMPLES = ["EUR", "0.05", "100", "*00", "latn", "length-meter"]
+# An option of each stem that needs one, and what precedes a stem that is none by itself.
+SAMPLES = ["EUR", "0.05", "100", "*00", "latn", "meter", "length-meter"]
+BEFORE = ["", "percent "]
 AFTER_SPACE = "the stems, after the last space"
 # What completes a word, by patterns of PROGRAM/WORDS BEFORE IT/WORD, of which the first counts: names of lists, and words.
 # They follow the last colon of the word.
@@ -46,7 +47,7 @@ def stems(fixdec):
     for word in (one or other for one, other in words):
         if accepts(word):
             found.append(word)
-        elif any(accepts(f"{word}/{sample}") for sample in SAMPLES):
+        elif any(accepts(f"{before}{word}/{sample}") for before in BEFORE for sample in SAMPLES):
             found.append(f"{word}/")
     return found
 

@@ -2,6 +2,7 @@
 """Writes rows of `vectors` of texts and errors of `Intl.NumberFormat`:
 
     python3 tools/numbers/make_rows.py TEXTS ERRORS CURRENCIES > crates/vectors/rows/node_numbers.tsv
+    python3 tools/numbers/make_rows.py --units UNITS NAMES > crates/vectors/rows/node_units.tsv
     python3 tools/numbers/make_rows.py TEXTS
 
 TEXTS has rows of a locale, options as JSON by the names of ECMA-402, a number and its text; ERRORS has a locale, options
@@ -9,7 +10,9 @@ and the class of the error; both are made with node. CURRENCIES has rows of a co
 Rows of errors are those of each distinct choice of digits. Rows of texts are those of
 `en`, style decimal, not compact; of all others those that are the first with a locale, with a value of an option in a style
 and a notation, with a currency and its display, or with what is written around and between digits, a symbol of a currency
-being any. With TEXTS alone its rows are written, all.
+being any. UNITS and NAMES have texts of units and of amounts with names of currencies; of these rows are written that
+are the first with a locale and a width, with a unit and its width, after `per` too, with a currency, or with a value of
+another option in a style and a notation. With TEXTS alone its rows are written, all.
 """
 import collections
 import json
@@ -19,8 +22,8 @@ import unicodedata
 
 COUNTS = ["minimumIntegerDigits", "minimumFractionDigits", "maximumFractionDigits", "minimumSignificantDigits",
           "maximumSignificantDigits", "roundingIncrement", "roundingPriority", "notation"]
-SHOWN = ["style", "currency", "currencyDisplay", "currencySign", "compactDisplay", *COUNTS, "roundingMode",
-         "trailingZeroDisplay", "signDisplay", "useGrouping"]
+SHOWN = ["style", "currency", "currencyDisplay", "currencySign", "unit", "unitDisplay", "compactDisplay", *COUNTS,
+         "roundingMode", "trailingZeroDisplay", "signDisplay", "useGrouping"]
 
 
 def rows(path):
@@ -91,6 +94,27 @@ def cover(path):
         seen |= has
 
 
+def cover_units(path):
+    """The rows of units and of names of currencies that have something as the first."""
+    seen = set()
+    for tag, options, number, text in texts(path):
+        style, notation, width = (options.get(it) for it in ["style", "notation", "unitDisplay"])
+        has = {(tag, style, width), (options.get("currency"), style)}
+        has |= {(unit, place, width) for place, unit in enumerate(options.get("unit", "").split("-per-"))}
+        has |= {(name, str(value), style, notation) for name, value in options.items()
+                if not name.startswith(("minimum", "maximum")) and name not in ("currency", "unit")}
+        if not has <= seen:
+            yield row_of(tag, options, number, text)
+        seen |= has
+
+
+def units(units_path, names_path):
+    print("# Made by `python3 tools/numbers/make_rows.py --units UNITS NAMES`, of texts of node 20.20.2 with CLDR 48, "
+          "under the license in tools/locales/LICENSE.")
+    print("\n# Units.\n" + "\n".join(cover_units(units_path)))
+    print("\n# Names of currencies.\n" + "\n".join(cover_units(names_path)))
+
+
 def errors(path, currencies):
     for _, options, error in rows(path):
         options = json.loads(options)
@@ -136,7 +160,9 @@ def main(texts_path, errors_path, currencies_path):
           + "\n".join(cover(texts_path)))
 
 
-if len(sys.argv) == 2:
+if sys.argv[1] == "--units":
+    units(*sys.argv[2:])
+elif len(sys.argv) == 2:
     for row in texts(sys.argv[1]):
         print(row_of(*row))
 else:

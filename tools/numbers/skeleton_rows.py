@@ -1,11 +1,12 @@
 #!/usr/bin/env python3
 """Writes rows of `vectors`: skeletons, and the options or the error that ICU has for each.
 
-    python3 tools/numbers/skeleton_rows.py SKELETONS MODEL > crates/vectors/rows/icu_skeletons.tsv
+    python3 tools/numbers/skeleton_rows.py SKELETONS MODEL UNITS > crates/vectors/rows/icu_skeletons.tsv
 
 SKELETONS has `skeleton_errors.tsv` and `normal.tsv`, which ICU wrote, `readings.tsv`, and `skeleton.py`, a reader that says
-a skeleton in the options of ECMA-402; MODEL has its tables. Of `unit/` and the like the library does not read the names,
-so that a wrong name is unsupported. Normal forms are those of ICU; it loses `group-auto` of compact notation.
+a skeleton in the options of ECMA-402; MODEL has its tables. UNITS has `skeleton_units_errors.tsv`, `normal_units.tsv` and
+`skeletons_units.tsv`, which ICU wrote, and `skeleton_units.py`, which adds the stems of units to the reader. Normal forms
+are those of ICU; it loses `group-auto` of compact notation.
 """
 import os
 import re
@@ -14,6 +15,8 @@ import sys
 WHITE = "\t\n\v\f\r \x85\u200e\u200f\u2028\u2029"
 HOSTILE = ["currency/EUR .00/@@#r/w rounding-mode-half-up ()?", "scientific/*ee/+! precision-increment/0.25 %x100",
            "KK group-auto unit-width-narrow latin scale/1e-3", "integer-width/##00 numbering-system/arab @@*/w +- EE+?00"]
+HOSTILE_UNITS = ["unit/square-meter-per-microsecond unit-width-narrow", "unit/pow4-light-year-and-day compact-long",
+                 "per-measure-unit/duration-day-person measure-unit/concentr-percent decimal-always"]
 COUNTS = ["{@*65536}", "{@*65537}", "@{#*65535}", "@{#*65536}", ".{0*32768}", ".{0*32769}", ".{#*65535}", ".{#*65536}",
           ".00/{@*65537}r", ".{0*32769}/@s", "./@{#*65536}", "./{@*65537}*", "{0*32767}", "{0*32768}",
           "integer-width/*{0*32768}", "integer-width/{#*32768}0", "E{0*65535}", "E{0*65536}", "scientific/*{e*65536}",
@@ -22,7 +25,7 @@ COUNTS = ["{@*65536}", "{@*65537}", "@{#*65535}", "@{#*65536}", ".{0*32768}", ".
           "precision-increment/5e4", "precision-increment/.{0*32767}5", "precision-increment/.{0*32768}5",
           "{.*65536}", "{percent *65536}", "currency/{E*65536}", "numbering-system/{l*65536}", "{/*65536}"]
 DEFAULTS = {"style": "decimal", "currencyDisplay": "symbol", "currencySign": "standard", "currencyUsage": "standard",
-            "compactDisplay": "short", "integer": "1,32768", "trailingZeroDisplay": "auto", "signDisplay": "auto",
+            "compactDisplay": "short", "unitDisplay": "short", "decimalSeparator": "auto", "integer": "1,32768", "trailingZeroDisplay": "auto", "signDisplay": "auto",
             "useGrouping": "auto"}
 
 
@@ -54,19 +57,22 @@ def first(text, names):
     return next(stem for stem in stems(text) if re.fullmatch(names, stem))
 
 
+def loses_second(reading, said):
+    """Whether the options of ECMA-402 lose the unit after `per`: percent, not by its name and not in compact notation."""
+    options = said.options
+    return (isinstance(reading.unit, tuple) and options.get("unit", "").startswith("percent-per-")
+            and options["unitDisplay"] != "long" and options.get("notation") != "compact")
+
+
 def unsupported(text, reading, said):
     """The stem that the library has not, in the order in which it looks for them."""
     kinds = set(said.kinds)
-    tokens = stems(text)
-    width = r"unit-width-(?:full-name|formal|variant)"
-    if "decimal-always" in kinds:
-        return "decimal-always"
-    if any(re.fullmatch(width, stem) for stem in tokens):
-        return first(text, width)
+    if kinds & {"formal", "variant"}:
+        return first(text, r"unit-width-(?:formal|variant)")
     if not re.fullmatch("[A-Za-z]{3}", said.options.get("currency", "XXX")):
         return "currency"
-    if "unit text" in kinds:
-        return first(text, r"%|percent|permille|%x100")
+    if loses_second(reading, said):
+        return first(text, r"unit|measure-unit")
     if "scale" in kinds or not -32768 <= said.scale <= 32767:
         return "scale"
     if reading.notation in ("scientific", "engineering") and not 1 <= reading.exponent_digits <= 65535:
@@ -124,20 +130,37 @@ def words(text):
     reading = read(text)
     if isinstance(reading, str):
         return "unsupported " + reading
-    said = skeleton.say(reading)
+    try:
+        said = skeleton_units.say(reading)
+    except skeleton.Unsupported:
+        return "unsupported per-measure-unit"
     stem = unsupported(text, reading, said)
     if stem is not None:
         return "unsupported " + stem
     return " ".join(f"{name}={value}" for name, value in named(text, reading, said) if value != DEFAULTS.get(name))
 
 
+def style_of(reading, said):
+    """The style: percent and permille are units by their names, in compact notation, and there with another unit."""
+    options = said.options
+    if reading.unit in ("percent", "permille") and options.get("style") == "unit":
+        is_compact = options.get("notation") == "compact"
+        is_alone = reading.unit == "percent" and reading.width == "short" and not getattr(reading, "per", None)
+        if is_alone and is_compact or not is_compact and reading.width != "full-name":
+            return reading.unit
+    return "permille" if "permille" in said.kinds else options.get("style", "decimal")
+
+
 def named(text, reading, said):
     """The options of a skeleton by their names."""
     options = said.options
-    style = "permille" if "permille" in said.kinds else options.get("style", "decimal")
+    style = style_of(reading, said)
     yield "style", style
     if said.scale != {"percent": 2, "permille": 3}.get(style, 0):
         yield "scale", said.scale
+    if style == "unit":
+        yield "unit", options["unit"].replace("-person", "")
+        yield "unitDisplay", options["unitDisplay"]
     if style == "currency":
         yield "currency", options["currency"]
         yield "currencyDisplay", "hidden" if "hidden" in said.kinds else options.get("currencyDisplay", "symbol")
@@ -157,6 +180,7 @@ def named(text, reading, said):
     yield "trailingZeroDisplay", "stripIfInteger" if "trailingZeroDisplay" in options else "auto"
     yield "signDisplay", options.get("signDisplay", "auto")
     yield "useGrouping", str(options.get("useGrouping", "auto")).lower()
+    yield "decimalSeparator", reading.decimal
     if reading.system:
         yield "numberingSystem", reading.system
 
@@ -172,8 +196,9 @@ def read(text):
         name = str(error)
         if name == "increment":
             return "precision-increment"
-        return first(text, r"per-measure-unit|unit") if "unit" in stems(text) or "per-measure-unit" in stems(text) \
-            else first(text, r"usage|measure-unit") if "usage" not in stems(text) else "usage"
+        return "usage" if "usage" in stems(text) else "unit"
+    except skeleton_units.Internal:
+        return first(text, r"per-measure-unit|measure-unit")
 
 
 def bounded(text):
@@ -183,20 +208,20 @@ def bounded(text):
 
 
 def expected(text):
-    """The words of any skeleton without units, or its error."""
+    """The words of any skeleton, or its error."""
     try:
         skeleton.LIMIT = 10**9
         skeleton.read(text)
     except skeleton.SkeletonError as error:
         return f"syntax {bytes_before(text, error.offset)}"
-    except (skeleton.OutOfBounds, skeleton.Unsupported):
+    except (skeleton.OutOfBounds, skeleton.Unsupported, skeleton_units.Internal):
         pass
     return words(text)
 
 
 def hostile():
     """Each prefix of some skeletons, each byte of them changed, and counts at and beyond the limits."""
-    for text in HOSTILE:
+    for text in HOSTILE + HOSTILE_UNITS:
         for at in range(len(text)):
             yield text[:at]
             yield from (text[:at] + byte + text[at + 1:] for byte in "/ 0xE*" if byte != text[at])
@@ -207,13 +232,14 @@ def bytes_before(text, units):
     return len(text.encode("utf-16-le", "surrogatepass")[:2 * units].decode("utf-16-le").encode())
 
 
-def main(folder, model):
-    sys.path.insert(0, folder)
+def main(folder, model, units):
+    sys.path[:0] = [folder, units]
     sys.dont_write_bytecode = True
-    global skeleton
+    os.environ["NUMBER_FORMAT"] = model
+    global skeleton, skeleton_units
     import skeleton
-    skeleton.use_model(model)
-    print("# Made by `python3 tools/numbers/skeleton_rows.py SKELETONS MODEL`, of what ICU 78.2 says of skeletons.")
+    import skeleton_units
+    print("# Made by `python3 tools/numbers/skeleton_rows.py SKELETONS MODEL UNITS`, of what ICU 78.2 says of skeletons.")
     print("\n# The options of skeletons.")
     seen = set()
 
@@ -224,21 +250,25 @@ def main(folder, model):
 
     for row in rows(os.path.join(folder, "readings.tsv")):
         put(row[0], words(skeleton.unescape(row[0])))
+    for row in rows(os.path.join(units, "skeletons_units.tsv")):
+        put(row[1], words(skeleton.unescape(row[1])))
     print("\n# Errors.")
-    for text, error, offset in rows(os.path.join(folder, "skeleton_errors.tsv")):
+    errors = [os.path.join(folder, "skeleton_errors.tsv"), os.path.join(units, "skeleton_units_errors.tsv")]
+    for text, error, offset in (row for path in errors for row in rows(path)):
         plain = skeleton.unescape(text)
-        if error == "U_NUMBER_SKELETON_SYNTAX_ERROR" and not re.match(r"(?:measure-)?unit/(?:length-)?foo$", plain):
+        if error == "U_NUMBER_SKELETON_SYNTAX_ERROR":
             put(text, f"syntax {bytes_before(plain, int(offset))}")
         else:
             put(text, words(plain))
     print("\n# Hostile texts.")
     for text in hostile():
-        if "unit" not in stems(text):
-            put(text, expected(skeleton.unescape(text)))
+        put(text, expected(skeleton.unescape(text)))
     print("\n# Options are printed as ICU's normal form, which has the options of its skeleton.")
-    for text, normal in rows(os.path.join(folder, "normal.tsv")):
+    normals = [os.path.join(folder, "normal.tsv"), os.path.join(units, "normal_units.tsv")]
+    for text, normal in (row for path in normals for row in rows(path)):
         loses_grouping = re.match("K|compact", text) and "group-auto" in text
-        if loses_grouping or "error " in normal or "unit/" in normal:
+        loses_unit = re.search("percent|permille", text) and "per-measure-unit" in text
+        if loses_grouping or loses_unit or "error " in normal:
             continue
         if words(skeleton.unescape(text)).startswith("unsupported ") or says_more(normal):
             if text != normal:
@@ -250,8 +280,10 @@ def main(folder, model):
 def says_more(normal):
     """Whether a normal form has a stem that changes no option: without a currency, or of the sign of an exponent."""
     always = r"(scientific|engineering)\S*/sign-(except-zero|accounting|negative)|precision-currency-standard"
-    of_currencies = r"sign-accounting|unit-width|precision-currency-cash"
-    return re.search(always, normal) or "currency/" not in normal and re.search(of_currencies, normal)
+    of_currencies = r"sign-accounting|precision-currency-cash|unit-width-(?:iso-code|formal|variant|hidden)"
+    has_width = re.search("currency/|unit/|percent|permille", normal)
+    return (re.search(always, normal) or "currency/" not in normal and re.search(of_currencies, normal)
+            or not has_width and "unit-width" in normal or "-person" in normal)
 
 
 if __name__ == "__main__":

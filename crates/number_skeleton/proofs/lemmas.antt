@@ -1,1 +1,2 @@
 pub mod reading
+pub mod units

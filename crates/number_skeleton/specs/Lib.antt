@@ -2,6 +2,8 @@ pub mod Counts
 pub mod Decimal
 pub mod Choices
 pub mod Words
+pub mod Units
+pub mod Identifiers
 pub mod Stems
 pub mod Options
 pub mod Reading

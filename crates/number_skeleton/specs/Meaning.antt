@@ -1,16 +1,19 @@
 -- The options that a skeleton names, by ICU's defaults. An error names the stem that this library has not.
-use Rattle.std.specs.{Prelude.{ℕ, ◌==◌, nat_lt, Bool, true, false, ◌||◌, not, if◌then◌else◌, ℤ, pos, negsuc, int_lt, List, Option, Some, None, unwrap_or, Result, Ok, Err}, Option.option_map}
+use Rattle.std.specs.{Prelude.{ℕ, ◌==◌, nat_lt, Bool, true, false, ◌||◌, not, if◌then◌else◌, ℤ, pos, negsuc, int_lt, List, codes, Option, Some, None, unwrap_or, Result, Ok, Err}, Option.{option_map, option_map_or}}
 use Rattle.decimal_format.specs.declared.grouping.GroupingStrategy.{GroupingStrategy}
 use Rattle.fixed_decimal.specs.declared.variations.SignDisplay.{SignDisplay}
 use Rattle.fixed_decimal.specs.declared.variations.SignDisplay.TheVariants as sign
 use Rattle.locale_data.specs.{declared.currency.CurrencySign.CurrencySign, Codes.{code_of, system_name}, Rows.unpadded}
 use Rattle.locale_data.specs.declared.currency.CurrencySign.TheVariants as currency_sign
-use Rattle.number_format.specs.{declared.options.{CurrencyDisplay.CurrencyDisplay, CurrencyUsage.CurrencyUsage, NumberNotation.NumberNotation, NumberNotation.TheVariants.{Standard, Scientific, Engineering, Compact}, NumberOptions.NumberOptions, NumberStyle.NumberStyle}, DefaultOptions.default_grouping}
+use Rattle.locale_names.specs.{declared.locale_units.UnitDisplay.{UnitDisplay, TheVariants.{Long, Short, Narrow}}, Units.{Indices, indices_of}}
+use Rattle.number_format.specs.{declared.options.{CurrencyDisplay.CurrencyDisplay, CurrencyStyle.CurrencyStyle, CurrencyUsage.CurrencyUsage, DecimalSeparatorDisplay.DecimalSeparatorDisplay, NumberNotation.NumberNotation, NumberNotation.TheVariants.{Standard, Scientific, Engineering, Compact}, NumberOptions.NumberOptions, NumberStyle.NumberStyle}, DefaultOptions.default_grouping}
 use Rattle.number_format.specs.declared.options.CurrencyDisplay.TheVariants as display
 use Rattle.number_format.specs.declared.options.CurrencyUsage.TheVariants as usage
+use Rattle.number_format.specs.declared.options.DecimalSeparatorDisplay.TheVariants as separator
 use Rattle.number_format.specs.declared.options.NumberStyle.TheVariants as style
-use Rattle.number_skeleton.specs.{declared.{error.SkeletonError.SkeletonError, choices.{Choices.Choices, ChosenNotation.ChosenNotation, ChosenPrecision.ChosenPrecision, Exponent.Exponent, Span.Span, ChosenUnit.ChosenUnit}, decimal.Decimal.Decimal}, Digits.{unsupported, is_compact, DigitsValue, digits_value, digits_of}, Reading.{and_then, choices_of}}
+use Rattle.number_skeleton.specs.{declared.{error.SkeletonError.SkeletonError, choices.{Choices.Choices, ChosenNotation.ChosenNotation, ChosenPerUnit.ChosenPerUnit, ChosenPrecision.ChosenPrecision, Exponent.Exponent, Span.Span, ChosenUnit.ChosenUnit}, decimal.Decimal.Decimal}, Digits.{unsupported, is_compact, DigitsValue, digits_value, digits_of}, Reading.{and_then, choices_of}, Units.{unit_at, index_named, is_two, joined}}
 use Rattle.number_skeleton.specs.declared.choices.ChosenNotation.TheVariants as chosen
+use Rattle.number_skeleton.specs.declared.choices.ChosenPerUnit.TheVariants as per
 use Rattle.number_skeleton.specs.declared.choices.ChosenPrecision.TheVariants as precision
 use Rattle.number_skeleton.specs.declared.choices.ChosenUnit.TheVariants as unit
 
@@ -27,11 +30,79 @@ notation_of (Some (chosen.Exponent e, stem)) = exponent_notation e stem
 notation_of (Some (chosen.Compact length, stem)) = Ok (Compact length)
 notation_of n = Ok Standard
 
+-- ---- Widths.
+-- the width that a stem names: `None` is that of other symbols, `formal` and `variant`
+abbrev pub width_of : Option (Option CurrencyDisplay × Span) → Option CurrencyDisplay
+width_of (Some (width, stem)) = width
+width_of None = Some display.Symbol
+
+-- units have the long text by each width but the short and the narrow one
+abbrev pub unit_display : Option CurrencyDisplay → UnitDisplay
+unit_display (Some display.Symbol) = Short
+unit_display (Some display.Narrow) = Narrow
+unit_display width = Long
+
+-- currencies have no other symbols
+abbrev pub currency_display : Option (Option CurrencyDisplay × Span) → Result CurrencyDisplay SkeletonError
+currency_display (Some (Some width, stem)) = Ok width
+currency_display (Some (None, stem)) = Err (unsupported stem)
+currency_display None = Ok display.Symbol
+
+-- percent and permille are no units but patterns: not in compact notation, and not by the name
+abbrev pub has_pattern : Bool → Option CurrencyDisplay → Bool
+has_pattern true width = false
+has_pattern false (Some display.Name) = false
+has_pattern false width = true
+
+-- percent is its style in compact notation too, with the short text and no other unit
+abbrev pub has_style : Bool → Option CurrencyDisplay → Option (ℕ × Span) → Bool
+has_style true (Some display.Symbol) None = true
+has_style compact width second = has_pattern compact width
+
+-- ---- Units.
+abbrev pub or_unsupported : Span → Option ℕ → Result ℕ SkeletonError
+or_unsupported stem (Some index) = Ok index
+or_unsupported stem None = Err (unsupported stem)
+
+abbrev pub unit_or_none : Span → Option ℕ → Result (Option ℕ) SkeletonError
+unit_or_none stem None = Ok None
+unit_or_none stem (Some index) = and_then (λ i. Ok (Some i)) (or_unsupported stem (unit_at index))
+
+-- a unit and another one after `per`; one of these that is two units is an error
+abbrev pub divided : Span → ℕ → ℕ → Result Indices SkeletonError
+divided stem first second =
+    if is_two first || is_two second then Err (unsupported stem) else Ok (joined first second)
+
+-- units, or the first of them and the one of `per-measure-unit`
+abbrev pub units_by : Span → Indices → Option (ℕ × Span) → ℕ → Result Indices SkeletonError
+units_by stem units None first = and_then (λ second. Ok (first, second)) (unit_or_none stem units.1)
+units_by stem units (Some (index, per_stem)) first = and_then (divided per_stem first) (or_unsupported per_stem (unit_at index))
+
+unfoldable pub units_of : Span → Indices → Option (ℕ × Span) → Result Indices SkeletonError
+units_of stem units second = and_then (units_by stem units second) (or_unsupported stem (unit_at units.0))
+
+-- the unit of `per-measure-unit`, with its stem
+abbrev pub second_of : Option (ChosenPerUnit × Span) → Result (Option (ℕ × Span)) SkeletonError
+second_of (Some (per.Unit index, stem)) = Ok (Some (index, stem))
+second_of (Some (per.Other, stem)) = Err (unsupported stem)
+second_of (Some (per.InUnit, stem)) = Ok None
+second_of None = Ok None
+
 -- ---- Styles.
-abbrev pub width_of : Option (Option CurrencyDisplay × Span) → Result CurrencyDisplay SkeletonError
-width_of (Some (Some width, stem)) = Ok width
-width_of (Some (None, stem)) = Err (unsupported stem)
-width_of None = Ok display.Symbol
+-- styles, with units by their indices
+pub data StyleValue : Type 0 where
+  Plain : StyleValue
+  Percent : StyleValue
+  Permille : StyleValue
+  Money : CurrencyStyle → StyleValue
+  Units : Indices → UnitDisplay → StyleValue
+
+abbrev pub style_value : NumberStyle → StyleValue
+style_value style.Decimal = Plain
+style_value style.Percent = Percent
+style_value style.Permille = Permille
+style_value (style.Currency c) = Money c
+style_value (style.Unit u) = Units (indices_of u.unit) u.display
 
 abbrev pub currency_sign_of : Option (SignDisplay × CurrencySign) → CurrencySign
 currency_sign_of s = (unwrap_or s (sign.Auto, currency_sign.Standard)).1
@@ -43,16 +114,10 @@ abbrev pub usage_of : Option (ChosenPrecision × Span) → CurrencyUsage
 usage_of (Some (precision.Currency u, stem)) = u
 usage_of p = usage.Standard
 
--- compact percentages have names of widths that this library has not
-abbrev pub percent_style : Bool → CurrencyDisplay → Span → Result NumberStyle SkeletonError
-percent_style false width stem = Ok style.Percent
-percent_style true display.Symbol stem = Ok style.Percent
-percent_style true width stem = Err (unsupported stem)
-
 -- a currency by its code, if its bytes are one: ICU has currencies of other bytes, and this library has not
-abbrev pub currency_style : Choices → CurrencyDisplay → Span → Option (List ℕ) → Result NumberStyle SkeletonError
+abbrev pub currency_style : Choices → CurrencyDisplay → Span → Option (List ℕ) → Result StyleValue SkeletonError
 currency_style c width stem (Some code) =
-    Ok (style.Currency (record {
+    Ok (Money (record {
       code = code;
       display = width;
       sign = currency_sign_of c.sign;
@@ -60,16 +125,57 @@ currency_style c width stem (Some code) =
     }))
 currency_style c width stem None = Err (unsupported stem)
 
-abbrev pub style_by : Option (ChosenUnit × Span) → Choices → CurrencyDisplay → Result NumberStyle SkeletonError
-style_by (Some (unit.Percent, stem)) c width = percent_style (is_compact c.notation) width stem
-style_by (Some (unit.Permille, stem)) c width =
-    if is_compact c.notation then Err (unsupported stem) else Ok style.Permille
-style_by (Some (unit.Currency bytes, stem)) c width = currency_style c width stem (code_of bytes)
-style_by (Some (unit.Other, stem)) c width = Err (unsupported stem)
-style_by u c width = Ok style.Decimal
+abbrev pub units_style : UnitDisplay → Span → Option (ℕ × Span) → Indices → Result StyleValue SkeletonError
+units_style width stem second units = and_then (λ u. Ok (Units u width)) (units_of stem units second)
 
-unfoldable pub style_of : Choices → Result NumberStyle SkeletonError
-style_of c = and_then (style_by c.unit c) (width_of c.width)
+-- percent or permille as a unit
+abbrev pub hundredths_style : UnitDisplay → Span → Option (ℕ × Span) → Option ℕ → Result StyleValue SkeletonError
+hundredths_style width stem second (Some first) = units_style width stem second (first, None)
+hundredths_style width stem second None = Err (unsupported stem)
+
+abbrev pub percent_style : Bool → Option CurrencyDisplay → Span → Option (ℕ × Span) → Result StyleValue SkeletonError
+percent_style compact width stem second =
+    if has_style compact width second then Ok Percent
+    else hundredths_style (unit_display width) stem second (index_named (codes "percent"))
+
+abbrev pub permille_style : Bool → Option CurrencyDisplay → Span → Option (ℕ × Span) → Result StyleValue SkeletonError
+permille_style compact width stem second =
+    if has_pattern compact width then Ok Permille
+    else hundredths_style (unit_display width) stem second (index_named (codes "permille"))
+
+abbrev pub is_percent : ℕ → Bool
+is_percent index = option_map_or (λ percent. percent == index) (index_named (codes "percent")) false
+
+-- percent and another unit after `per`, of which a formatter writes the pattern of percent alone
+abbrev pub loses_second : Bool → UnitDisplay → Indices → Bool
+loses_second true width units = false
+loses_second false Long units = false
+loses_second false width (first, None) = false
+loses_second false width (first, Some second) = is_percent first
+
+abbrev pub chosen_units : Bool → UnitDisplay → Span → Option (ℕ × Span) → Indices → Result StyleValue SkeletonError
+chosen_units compact width stem second units =
+    if loses_second compact width units then Err (unsupported stem)
+    else units_style width stem second units
+
+-- without a unit there is none after `per` either
+abbrev pub base_style : Option (ℕ × Span) → Result StyleValue SkeletonError
+base_style None = Ok Plain
+base_style (Some (index, stem)) = Err (unsupported stem)
+
+abbrev pub style_by : Option (ChosenUnit × Span) → Choices → Option (ℕ × Span) → Result StyleValue SkeletonError
+style_by (Some (unit.Percent, stem)) c second = percent_style (is_compact c.notation) (width_of c.width) stem second
+style_by (Some (unit.Permille, stem)) c second = permille_style (is_compact c.notation) (width_of c.width) stem second
+style_by (Some (unit.Currency bytes, stem)) c second =
+    and_then (λ width. currency_style c width stem (code_of bytes)) (currency_display c.width)
+style_by (Some (unit.Units units, stem)) c second =
+    chosen_units (is_compact c.notation) (unit_display (width_of c.width)) stem second units
+style_by (Some (unit.Other, stem)) c second = Err (unsupported stem)
+style_by (Some (unit.Base, stem)) c second = base_style second
+style_by None c second = base_style second
+
+unfoldable pub style_of : Choices → Result StyleValue SkeletonError
+style_of c = and_then (style_by c.unit c) (second_of c.per_unit)
 
 -- ---- The rest.
 -- a power of ten from -32,768 to 32,767
@@ -98,34 +204,31 @@ system_of (Some (Some bytes, stem)) = system_by stem (system_name (unpadded byte
 system_of (Some (None, stem)) = Err (unsupported stem)
 system_of None = Ok None
 
--- a unit beside another one, a usage, and a separator after integers are errors
-abbrev pub others_by : Option Span → Option Span → Option (Bool × Span) → Result (Unit {0}) SkeletonError
-others_by (Some stem) used decimal = Err (unsupported stem)
-others_by None (Some stem) decimal = Err (unsupported stem)
-others_by None None (Some (true, stem)) = Err (unsupported stem)
-others_by None None decimal = Ok tt
-
-abbrev pub others_of : Choices → Result (Unit {0}) SkeletonError
-others_of c = others_by c.per_unit c.usage c.decimal
+-- a usage is an error
+abbrev pub no_usage : Option Span → Result (Unit {0}) SkeletonError
+no_usage (Some stem) = Err (unsupported stem)
+no_usage None = Ok tt
 
 -- ---- Options by their numbers.
 pub record OptionsValue : Type 0 where
-  pub style : NumberStyle
+  pub style : StyleValue
   pub scale : ℤ
   pub notation : NumberNotation
   pub digits : Option DigitsValue
   pub sign_display : SignDisplay
   pub grouping : GroupingStrategy
+  pub decimal_separator : DecimalSeparatorDisplay
   pub numbering_system : Option (List ℕ)
 
 abbrev pub options_value : NumberOptions → OptionsValue
 options_value o = record {
-  style = o.style;
+  style = style_value o.style;
   scale = o.scale;
   notation = o.notation;
   digits = option_map digits_value o.digits;
   sign_display = o.sign_display;
   grouping = o.grouping;
+  decimal_separator = o.decimal_separator;
   numbering_system = o.numbering_system;
 }
 
@@ -140,9 +243,10 @@ options_of c =
       digits = Some digits;
       sign_display = sign_display_of c.sign;
       grouping = grouping;
+      decimal_separator = unwrap_or c.decimal_separator separator.Auto;
       numbering_system = system;
     })) (system_of c.system)) (grouping_of notation c.grouping)) (digits_of c))
-    (notation_of c.notation)) (scale_of c.scale)) (style_of c)) (others_of c)
+    (notation_of c.notation)) (scale_of c.scale)) (style_of c)) (no_usage c.usage)
 
 -- the options that a text names, or its error
 abbrev pub skeleton_options : List ℕ → Result OptionsValue SkeletonError

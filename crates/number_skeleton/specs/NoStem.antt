@@ -2,8 +2,8 @@
 use Rattle.std.specs.{Prelude.{ℕ, ◌==◌, Bool, true, false, ◌||◌, ◌&&◌, not, List, Option, Some, None, Result, Ok, Err}, List.list_any, Str.bytes_eq}
 use Rattle.fixed_decimal.specs.declared.variations.SignDisplay.{SignDisplay, TheVariants.Never}
 use Rattle.locale_data.specs.{declared.{currency.CurrencySign.{CurrencySign, TheVariants.Accounting}, tables.symbols.TheConstants.NUMBERING_SYSTEMS}, Rows.unpadded}
-use Rattle.number_format.specs.{declared.{options.{CurrencyUsage.{CurrencyUsage, TheVariants.Cash}, NumberNotation.{NumberNotation, TheVariants.{Scientific, Engineering}}, NumberStyle.{NumberStyle, TheVariants.{Permille, Currency}}}, digits.precision.Minimum.TheVariants.Both}, DefaultDigits.{is_compact, currency_digits}}
-use Rattle.number_skeleton.specs.{declared.error.SkeletonError.SkeletonError, Digits.{PrecisionValue, Fraction, Multiples, More, Less, DigitsValue, money_precision}, Meaning.OptionsValue}
+use Rattle.number_format.specs.{declared.{options.{CurrencyUsage.{CurrencyUsage, TheVariants.Cash}, NumberNotation.{NumberNotation, TheVariants.{Scientific, Engineering}}}, digits.precision.Minimum.TheVariants.Both}, DefaultDigits.{is_compact, currency_digits}}
+use Rattle.number_skeleton.specs.{declared.error.SkeletonError.SkeletonError, Digits.{PrecisionValue, Fraction, Multiples, More, Less, DigitsValue, money_precision}, Meaning.{OptionsValue, StyleValue, Permille, Money}}
 
 -- an exponent of no digit
 abbrev pub is_unnamed_notation : NumberNotation → Bool
@@ -16,9 +16,9 @@ hides_accounting Accounting Never = true
 hides_accounting sign display = false
 
 -- permille in compact notation, and signs of accounting that are never shown
-abbrev pub is_unnamed_style : Bool → SignDisplay → NumberStyle → Bool
+abbrev pub is_unnamed_style : Bool → SignDisplay → StyleValue → Bool
 is_unnamed_style compact display Permille = compact
-is_unnamed_style compact display (Currency c) = hides_accounting c.sign display
+is_unnamed_style compact display (Money c) = hides_accounting c.sign display
 is_unnamed_style compact display style = false
 
 -- `.00/@@@*` and `.00/@##` show both minima, and that of the significant digits is 1
@@ -41,15 +41,15 @@ abbrev pub is_cash_of : List ℕ → PrecisionValue → Bool
 is_cash_of code p = is_money (money_precision (currency_digits Cash code) (record { start = 0; end = 0 })) p
 
 -- cash with other digits than those of the currency
-abbrev pub has_other_cash : NumberStyle → PrecisionValue → Bool
-has_other_cash (Currency c) p = by_usage c.usage where
+abbrev pub has_other_cash : StyleValue → PrecisionValue → Bool
+has_other_cash (Money c) p = by_usage c.usage where
   by_usage : CurrencyUsage → Bool
   by_usage Cash = not (is_cash_of c.code p)
   by_usage usage = false
 has_other_cash style p = false
 
 -- all skeletons have digits
-abbrev pub are_unnamed_digits : NumberStyle → Option DigitsValue → Bool
+abbrev pub are_unnamed_digits : StyleValue → Option DigitsValue → Bool
 are_unnamed_digits style None = true
 are_unnamed_digits style (Some d) = has_other_minimum d.precision || has_other_cash style d.precision
 

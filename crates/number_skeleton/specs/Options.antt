@@ -1,13 +1,15 @@
 -- The options of the stems of skeletons.
-use Rattle.std.specs.{Prelude.{ℕ, ◌+◌, ◌==◌, nat_lt, nat_le, Bool, ◌||◌, ◌&&◌, not, if◌then◌else◌, List, [], ◌∷◌, length, drop, slice_index, find, is_none, Option, Some, None}, Option.{option_map, option_and_then}}
+use Rattle.std.specs.{Prelude.{ℕ, ◌+◌, ◌==◌, nat_lt, nat_le, nat_eq, Bool, ◌||◌, ◌&&◌, not, if◌then◌else◌, List, [], ◌∷◌, length, drop, slice_index, find, is_none, codes, Option, Some, None, Result, Ok, Err}, List.starts_with, Option.{option_map, option_and_then}}
 use Rattle.fixed_decimal.specs.declared.variations.SignDisplay.TheVariants as display
+use Rattle.locale_names.specs.{declared.unit_id.UnitError.UnitError, Units.Indices}
 use Rattle.locale_data.specs.declared.{currency.CurrencySign.TheVariants.Standard, tables.symbols.TheConstants.NUMBERING_SYSTEMS}
 use Rattle.number_format.specs.declared.{options.ExponentSign.ExponentSign, digits.{precision.Minimum.Minimum, settings.RoundingPriority.{RoundingPriority, TheVariants.{MorePrecision, LessPrecision}}}}
 use Rattle.number_format.specs.declared.options.ExponentSign.TheVariants as sign
 use Rattle.number_format.specs.declared.digits.precision.Minimum.TheVariants as minimum
-use Rattle.number_skeleton.specs.{declared.{choices.{Choice.Choice, Exponent.Exponent}, counts.Counts.Counts, meaning.{Expected.Expected, Meaning.Meaning}}, Counts.{run, is_byte, is_wild}, Decimal.decimal, Words.{is_name, named, is_algorithmic}}
+use Rattle.number_skeleton.specs.{declared.{choices.{Choice.Choice, ChosenUnit.ChosenUnit, Exponent.Exponent}, counts.Counts.Counts, meaning.{Expected.Expected, Meaning.Meaning}}, Counts.{run, is_byte, is_wild}, Decimal.decimal, Identifiers.is_identifier, Units.{hundredth, units_named, without_person, measured, measured_unit}, Words.{is_name, named, is_algorithmic}}
 use Rattle.number_skeleton.specs.declared.choices.Choice.TheVariants as choice
 use Rattle.number_skeleton.specs.declared.choices.ChosenNotation.TheVariants as notation
+use Rattle.number_skeleton.specs.declared.choices.ChosenPerUnit.TheVariants as per
 use Rattle.number_skeleton.specs.declared.choices.ChosenPrecision.TheVariants as precision
 use Rattle.number_skeleton.specs.declared.choices.ChosenUnit.TheVariants as unit
 use Rattle.number_skeleton.specs.declared.meaning.Expected.TheVariants as expected
@@ -55,6 +57,35 @@ currency_option text =
     if (length text == 3) && is_code_byte first && is_code_byte second && is_code_byte third
     then last (choice.Unit (unit.Currency (first ∷ second ∷ third ∷ [])))
     else None
+
+-- ---- Units.
+-- the units that a text names, or a unit of ICU that this library does not have
+abbrev pub units_of : List ℕ → Result Indices UnitError → Option ChosenUnit
+units_of text (Ok units) = Some (unit.Units units)
+units_of text (Err e) = if is_identifier text then Some unit.Other else None
+
+abbrev pub unit_of : List ℕ → Option ChosenUnit → Option ChosenUnit
+unit_of text (Some hundredth) = Some hundredth
+unit_of text None = units_of text (units_named (without_person text))
+
+-- `meter`, or two units: `gram-per-second`
+abbrev pub unit_option : List ℕ → Option Meaning
+unit_option text = option_and_then (λ u. last (choice.Unit u)) (unit_of text (hundredth text))
+
+-- ICU finds a unit in `currency-EUR` too, with which it fails
+abbrev pub is_currency : List ℕ → Bool
+is_currency text = (length text == 12) && starts_with nat_eq text (codes "currency-")
+
+-- `length-meter`
+abbrev pub measure_option : List ℕ → Option Meaning
+measure_option text =
+    if is_currency text then last (choice.Unit unit.Other)
+    else option_and_then (λ index. last (choice.Unit (measured_unit index))) (measured text)
+
+abbrev pub per_option : List ℕ → Option Meaning
+per_option text =
+    if is_currency text then last (choice.PerUnit per.Other)
+    else option_and_then (λ index. last (choice.PerUnit (per.Unit index))) (measured text)
 
 -- ---- Integer digits: `*00` is at least two, `##00` two to four.
 abbrev pub integer_option : List ℕ → Option Meaning
@@ -131,6 +162,9 @@ option expected.Integer text = integer_option text
 option expected.System text = system_option text
 option expected.Scale text = scale_option text
 option expected.Increment text = increment_option text
-option expected.Name text = last choice.Nothing
+option expected.Unit text = unit_option text
+option expected.MeasureUnit text = measure_option text
+option expected.PerMeasureUnit text = per_option text
+option expected.Usage text = last choice.Nothing
 option (expected.Significant fraction) text = significant_option fraction text
 option expected.StripIfInteger text = strip_option text

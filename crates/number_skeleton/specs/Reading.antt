@@ -52,7 +52,10 @@ needs_option expected.Integer = true
 needs_option expected.System = true
 needs_option expected.Scale = true
 needs_option expected.Increment = true
-needs_option expected.Name = true
+needs_option expected.Unit = true
+needs_option expected.MeasureUnit = true
+needs_option expected.PerMeasureUnit = true
+needs_option expected.Usage = true
 needs_option e = false
 
 abbrev pub no_stems : Reading

@@ -8,10 +8,12 @@ use Rattle.locale_data.specs.declared.currency.CurrencySign.TheVariants as curre
 use Rattle.number_format.specs.declared.options.CompactLength.TheVariants as compact
 use Rattle.number_format.specs.declared.options.CurrencyDisplay.TheVariants as display
 use Rattle.number_format.specs.declared.options.CurrencyUsage.TheVariants as usage
+use Rattle.number_format.specs.declared.options.DecimalSeparatorDisplay.TheVariants as separator
 use Rattle.number_format.specs.declared.options.ExponentSign.TheVariants as exponent_sign
 use Rattle.number_skeleton.specs.declared.{choices.{Choice.Choice, Exponent.Exponent}, counts.Counts.Counts, decimal.Decimal.Decimal, meaning.{Expected.Expected, Meaning.Meaning}, words.StemWord.StemWord}
 use Rattle.number_skeleton.specs.declared.choices.Choice.TheVariants as choice
 use Rattle.number_skeleton.specs.declared.choices.ChosenNotation.TheVariants as notation
+use Rattle.number_skeleton.specs.declared.choices.ChosenPerUnit.TheVariants as per
 use Rattle.number_skeleton.specs.declared.choices.ChosenPrecision.TheVariants as precision
 use Rattle.number_skeleton.specs.declared.choices.ChosenUnit.TheVariants as unit
 use Rattle.number_skeleton.specs.declared.meaning.Expected.TheVariants as expected
@@ -55,11 +57,11 @@ stems =
     ∷ word (codes "%") (choice.Unit unit.Percent)
     ∷ word (codes "permille") (choice.Unit unit.Permille)
     ∷ word (codes "%x100") choice.PercentTimes100
-    ∷ stem_word (codes "currency") (choice.Unit unit.Other) expected.Currency
-    ∷ stem_word (codes "measure-unit") (choice.Unit unit.Other) expected.Name
-    ∷ stem_word (codes "per-measure-unit") choice.PerUnit expected.Name
-    ∷ stem_word (codes "unit") choice.UnitPerUnit expected.Name
-    ∷ stem_word (codes "usage") choice.Usage expected.Name
+    ∷ stem_word (codes "currency") choice.UnitAlone expected.Currency
+    ∷ stem_word (codes "measure-unit") (choice.Unit unit.Other) expected.MeasureUnit
+    ∷ stem_word (codes "per-measure-unit") (choice.PerUnit per.Other) expected.PerMeasureUnit
+    ∷ stem_word (codes "unit") choice.UnitAlone expected.Unit
+    ∷ stem_word (codes "usage") choice.Usage expected.Usage
     ∷ stem_word (codes "precision-integer") (choice.Precision (precision.Fraction no_digits))
     (expected.Significant no_digits)
     ∷ stem_word (codes "precision-unlimited") (choice.Precision precision.Unlimited) expected.StripIfInteger
@@ -95,7 +97,7 @@ stems =
     ∷ word (codes "unit-width-narrow") (choice.Width (Some display.Narrow))
     ∷ word (codes "unit-width-iso-code") (choice.Width (Some display.Code))
     ∷ word (codes "unit-width-hidden") (choice.Width (Some display.Hidden))
-    ∷ word (codes "unit-width-full-name") (choice.Width None)
+    ∷ word (codes "unit-width-full-name") (choice.Width (Some display.Name))
     ∷ word (codes "unit-width-formal") (choice.Width None)
     ∷ word (codes "unit-width-variant") (choice.Width None)
     ∷ word (codes "sign-auto") (choice.Sign sign.Auto currency.Standard)
@@ -115,8 +117,8 @@ stems =
     ∷ word (codes "()?") (choice.Sign sign.ExceptZero currency.Accounting)
     ∷ word (codes "sign-accounting-negative") (choice.Sign sign.Negative currency.Accounting)
     ∷ word (codes "()-") (choice.Sign sign.Negative currency.Accounting)
-    ∷ word (codes "decimal-auto") (choice.IsDecimalAlways false)
-    ∷ word (codes "decimal-always") (choice.IsDecimalAlways true)
+    ∷ word (codes "decimal-auto") (choice.DecimalSeparator separator.Auto)
+    ∷ word (codes "decimal-always") (choice.DecimalSeparator separator.Always)
     ∷ stem_word (codes "scale") (choice.Scale one) expected.Scale
     ∷ []
 

@@ -9,7 +9,8 @@ use decimal_format::GroupingStrategy;
 use fixed_decimal::{SignDisplay, SignedRoundingMode};
 use locale_data::{CurrencySign, Name};
 use number_format::{
-    CompactLength, CurrencyDisplay, CurrencyUsage, ExponentSign, Minimum, RoundingPriority,
+    CompactLength, CurrencyDisplay, CurrencyUsage, DecimalSeparatorDisplay, ExponentSign, Minimum,
+    RoundingPriority,
 };
 
 /// The bytes of a stem, from an offset up to, and without, another.
@@ -52,6 +53,19 @@ pub(crate) enum ChosenUnit {
     Permille,
     /// The bytes of a code, which need not be letters.
     Currency([u8; 3]),
+    /// The indices of a unit and of the one after `-per-`.
+    Units((u8, Option<u8>)),
+    /// A unit of ICU that this library does not have.
+    Other,
+}
+
+#[derive(Clone, Copy)]
+pub(crate) enum ChosenPerUnit {
+    /// A stem of a unit is that of the unit after `per` too.
+    InUnit,
+    /// The index of a unit.
+    Unit(u8),
+    /// A unit of ICU that this library does not have.
     Other,
 }
 
@@ -82,9 +96,9 @@ pub(crate) enum Choice {
     Unit(ChosenUnit),
     /// Percent and a scale of 100.
     PercentTimes100,
-    /// A unit and the unit that divides it.
-    UnitPerUnit,
-    PerUnit,
+    /// A unit, beside which there is none after `per`.
+    UnitAlone,
+    PerUnit(ChosenPerUnit),
     Usage,
     Precision(ChosenPrecision),
     StripIfInteger,
@@ -94,7 +108,7 @@ pub(crate) enum Choice {
     System(Option<Name>),
     Width(Option<CurrencyDisplay>),
     Sign(SignDisplay, CurrencySign),
-    IsDecimalAlways(bool),
+    DecimalSeparator(DecimalSeparatorDisplay),
     Scale(Decimal),
 }
 
@@ -103,7 +117,7 @@ pub(crate) enum Choice {
 pub(crate) struct Choices {
     pub notation: Option<(ChosenNotation, Span)>,
     pub unit: Option<(ChosenUnit, Span)>,
-    pub per_unit: Option<Span>,
+    pub per_unit: Option<(ChosenPerUnit, Span)>,
     pub usage: Option<Span>,
     pub precision: Option<(ChosenPrecision, Span)>,
     pub strips_if_integer: bool,
@@ -113,7 +127,7 @@ pub(crate) struct Choices {
     pub system: Option<(Option<Name>, Span)>,
     pub width: Option<(Option<CurrencyDisplay>, Span)>,
     pub sign: Option<(SignDisplay, CurrencySign)>,
-    pub decimal: Option<(bool, Span)>,
+    pub decimal_separator: Option<DecimalSeparatorDisplay>,
     pub scale: Option<(Decimal, Span)>,
 }
 
@@ -136,8 +150,8 @@ impl Choices {
             Choice::Notation(_) => self.notation.is_some(),
             Choice::Unit(_) => self.unit.is_some(),
             Choice::PercentTimes100 => self.scale.is_some() || self.unit.is_some(),
-            Choice::UnitPerUnit => self.unit.is_some() || self.per_unit.is_some(),
-            Choice::PerUnit => self.per_unit.is_some(),
+            Choice::UnitAlone => self.unit.is_some() || self.per_unit.is_some(),
+            Choice::PerUnit(_) => self.per_unit.is_some(),
             Choice::Usage => self.usage.is_some(),
             Choice::Precision(_) => self.precision.is_some(),
             Choice::Mode(_) => self.mode.is_some(),
@@ -146,7 +160,7 @@ impl Choices {
             Choice::System(_) => self.system.is_some(),
             Choice::Width(_) => self.width.is_some(),
             Choice::Sign(_, _) => self.sign.is_some(),
-            Choice::IsDecimalAlways(_) => self.decimal.is_some(),
+            Choice::DecimalSeparator(_) => self.decimal_separator.is_some(),
             Choice::Scale(_) => self.scale.is_some(),
         }
     }
@@ -170,11 +184,11 @@ impl Choices {
                 };
                 all.scale = Some((hundred, stem));
             }
-            Choice::UnitPerUnit => {
+            Choice::UnitAlone => {
                 all.unit = Some((ChosenUnit::Other, stem));
-                all.per_unit = Some(stem);
+                all.per_unit = Some((ChosenPerUnit::InUnit, stem));
             }
-            Choice::PerUnit => all.per_unit = Some(stem),
+            Choice::PerUnit(per) => all.per_unit = Some((per, stem)),
             Choice::Usage => all.usage = Some(stem),
             Choice::Precision(precision) => all.precision = Some((precision, stem)),
             Choice::StripIfInteger => all.strips_if_integer = true,
@@ -184,7 +198,7 @@ impl Choices {
             Choice::System(system) => all.system = Some((system, stem)),
             Choice::Width(width) => all.width = Some((width, stem)),
             Choice::Sign(display, sign) => all.sign = Some((display, sign)),
-            Choice::IsDecimalAlways(always) => all.decimal = Some((always, stem)),
+            Choice::DecimalSeparator(display) => all.decimal_separator = Some(display),
             Choice::Scale(scale) => all.scale = Some((scale, stem)),
         }
         all

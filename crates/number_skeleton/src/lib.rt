@@ -15,6 +15,7 @@ mod counts;
 mod decimal;
 mod digits;
 mod error;
+mod identifiers;
 mod meaning;
 mod no_stem;
 mod options;
@@ -25,6 +26,7 @@ mod resolve;
 mod same;
 mod stems;
 mod text;
+mod units;
 mod words;
 
 pub use error::SkeletonError;

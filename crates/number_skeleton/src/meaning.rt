@@ -22,8 +22,14 @@ pub(crate) enum Expected {
     Scale,
     /// An increment.
     Increment,
-    /// The name of a unit.
-    Name,
+    /// The identifier of a unit.
+    Unit,
+    /// The type and the identifier of a unit.
+    MeasureUnit,
+    /// The same of a unit after `per`.
+    PerMeasureUnit,
+    /// The name of a usage.
+    Usage,
     /// Significant digits beside these fraction digits, or `w`.
     Significant(Counts),
     /// `w`.
@@ -46,7 +52,10 @@ impl Expected {
             | Expected::System
             | Expected::Scale
             | Expected::Increment
-            | Expected::Name => true,
+            | Expected::Unit
+            | Expected::MeasureUnit
+            | Expected::PerMeasureUnit
+            | Expected::Usage => true,
             _ => false,
         }
     }

@@ -1,6 +1,6 @@
 //! The options that no skeleton names.
 ghost use Rattle.std.specs.{Prelude.◌≡◌, Option.option_map};
-ghost use Rattle.number_skeleton.specs.{NoStem.{is_unnamed_notation, hides_accounting, is_unnamed_style, has_other_minimum, is_same_money, is_cash_of, has_other_cash, are_unnamed_digits, is_listed, is_unnamed_system, has_no_stem}, Digits.{precision_value, digits_value}, Meaning.options_value};
+ghost use Rattle.number_skeleton.specs.{NoStem.{is_unnamed_notation, hides_accounting, is_unnamed_style, has_other_minimum, is_same_money, is_cash_of, has_other_cash, are_unnamed_digits, is_listed, is_unnamed_system, has_no_stem}, Digits.{precision_value, digits_value}, Meaning.{style_value, options_value}};
 
 use crate::choices::Span;
 use crate::digits::money_precision;
@@ -33,7 +33,7 @@ fn hides_accounting(sign: CurrencySign, display: SignDisplay) -> bool
 }
 
 fn is_unnamed_style(is_compact: bool, display: SignDisplay, style: NumberStyle) -> bool
-    ensures { result ≡ is_unnamed_style is_compact display style }
+    ensures { result ≡ is_unnamed_style is_compact display (style_value style) }
 {
     match style {
         NumberStyle::Permille => is_compact,
@@ -79,7 +79,7 @@ fn is_cash_of(code: CurrencyCode, precision: Precision) -> bool
 }
 
 fn has_other_cash(style: NumberStyle, precision: Precision) -> bool
-    ensures { result ≡ has_other_cash style (precision_value precision) }
+    ensures { result ≡ has_other_cash (style_value style) (precision_value precision) }
 {
     match style {
         NumberStyle::Currency(currency) => match currency.usage {
@@ -91,7 +91,7 @@ fn has_other_cash(style: NumberStyle, precision: Precision) -> bool
 }
 
 fn are_unnamed_digits(style: NumberStyle, digits: Option<DigitOptions>) -> bool
-    ensures { result ≡ are_unnamed_digits style (option_map digits_value digits) }
+    ensures { result ≡ are_unnamed_digits (style_value style) (option_map digits_value digits) }
 {
     match digits {
         None => true,

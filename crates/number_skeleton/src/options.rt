@@ -1,14 +1,20 @@
 //! The options of stems.
 ghost use Rattle.std.specs.Prelude.{◌≡◌};
-ghost use Rattle.number_skeleton.specs.Options.{last, chosen_exponent_sign, sign_option, changed_exponent, exponent_option, is_code_byte, currency_option, integer_option, decimal_system, system_option, scale_option, increment_option, both, strip_option, significant_option, option};
+ghost use Rattle.locale_names.specs.Units.{indices_of};
+ghost use Rattle.number_skeleton.specs.Options.{last, chosen_exponent_sign, sign_option, changed_exponent, exponent_option, is_code_byte, currency_option, unit_option, is_currency, measure_option, per_option, integer_option, decimal_system, system_option, scale_option, increment_option, both, strip_option, significant_option, option};
 
-use crate::choices::{Choice, ChosenNotation, ChosenPrecision, ChosenUnit, Exponent, TwoCounts};
+use crate::choices::{
+    Choice, ChosenNotation, ChosenPerUnit, ChosenPrecision, ChosenUnit, Exponent, TwoCounts,
+};
 use crate::counts::{Counts, after, byte_at, is_byte, is_wild, run};
 use crate::decimal::read_decimal;
+use crate::identifiers::is_identifier;
 use crate::meaning::{Expected, Meaning};
+use crate::units::{hundredth, measured, measured_unit, units_named, without_person};
 use crate::words::{is_algorithmic, is_name, named};
 use fixed_decimal::SignDisplay;
 use locale_data::{CurrencySign, NUMBERING_SYSTEMS, Name};
+use locale_names::Unit;
 use number_format::RoundingPriority::{self, LessPrecision, MorePrecision};
 use number_format::{ExponentSign, Minimum};
 
@@ -80,6 +86,58 @@ fn currency_option(text: &[u8]) -> Option<Meaning>
         return None;
     }
     last(Choice::Unit(ChosenUnit::Currency([first, second, third])))
+}
+
+fn indices(unit: Unit) -> (u8, Option<u8>)
+    ensures { result ≡ indices_of unit }
+{
+    match unit.per {
+        Some(per) => (unit.unit.index(), Some(per.index())),
+        None => (unit.unit.index(), None),
+    }
+}
+
+fn unit_option(text: &[u8]) -> Option<Meaning>
+    ensures { result ≡ unit_option text.now }
+{
+    if let Some(unit) = hundredth(text) {
+        return last(Choice::Unit(unit));
+    }
+    match units_named(without_person(text)) {
+        Ok(unit) => last(Choice::Unit(ChosenUnit::Units(indices(unit)))),
+        Err(_) if is_identifier(text) => last(Choice::Unit(ChosenUnit::Other)),
+        Err(_) => None,
+    }
+}
+
+fn is_currency(text: &[u8]) -> bool
+    ensures { result ≡ is_currency text.now }
+{
+    text.len() == 12 && text.starts_with(b"currency-")
+}
+
+fn measure_option(text: &[u8]) -> Option<Meaning>
+    ensures { result ≡ measure_option text.now }
+{
+    if is_currency(text) {
+        return last(Choice::Unit(ChosenUnit::Other));
+    }
+    match measured(text) {
+        Some(unit) => last(Choice::Unit(measured_unit(unit))),
+        None => None,
+    }
+}
+
+fn per_option(text: &[u8]) -> Option<Meaning>
+    ensures { result ≡ per_option text.now }
+{
+    if is_currency(text) {
+        return last(Choice::PerUnit(ChosenPerUnit::Other));
+    }
+    match measured(text) {
+        Some(unit) => last(Choice::PerUnit(ChosenPerUnit::Unit(unit.index()))),
+        None => None,
+    }
 }
 
 fn integer_option(text: &[u8]) -> Option<Meaning>
@@ -204,7 +262,10 @@ pub(crate) fn option(expected: Expected, text: &[u8]) -> Option<Meaning>
         Expected::System => system_option(text),
         Expected::Scale => scale_option(text),
         Expected::Increment => increment_option(text),
-        Expected::Name => last(Choice::Nothing),
+        Expected::Unit => unit_option(text),
+        Expected::MeasureUnit => measure_option(text),
+        Expected::PerMeasureUnit => per_option(text),
+        Expected::Usage => last(Choice::Nothing),
         Expected::Significant(fraction) => significant_option(fraction, text),
         Expected::StripIfInteger => strip_option(text),
     }

@@ -37,7 +37,7 @@ impl Reading {
                 system: None,
                 width: None,
                 sign: None,
-                decimal: None,
+                decimal_separator: None,
                 scale: None,
             },
             expected: Expected::Stem,

@@ -1,17 +1,57 @@
 //! Whether two options are the same.
 ghost use Rattle.std.specs.{Prelude.{◌≡◌, ◌↔◌, true}, Option.option_map};
+ghost use Rattle.locale_names.specs.Units.{index_of, indices_of};
 ghost use Rattle.number_format.specs.{Resolved.counts, declared.digits.precision.Precision.TheVariants.{Multiples, MorePrecision}};
-ghost use Rattle.number_skeleton.specs.{Digits.{precision_value, digits_value}, Meaning.options_value};
+ghost use Rattle.number_skeleton.specs.{Digits.{precision_value, digits_value}, Meaning.{style_value, options_value}};
 
+use locale_names::{Unit, UnitId};
 use number_format::{
-    BothDigits, DigitOptions, FractionDigits, FractionMultiples, NumberNotation, NumberOptions,
-    NumberStyle, NumberingSystem, Precision, SignificantDigits,
+    BothDigits, CurrencyStyle, DigitOptions, FractionDigits, FractionMultiples, NumberNotation,
+    NumberOptions,
+    NumberStyle, NumberingSystem, Precision, SignificantDigits, UnitStyle,
 };
 
-fn same_style(first: NumberStyle, second: NumberStyle) -> bool
+fn same_second_unit(first: Option<UnitId>, second: Option<UnitId>) -> bool
+    ensures { (result ≡ true) ↔ (option_map index_of first ≡ option_map index_of second) }
+{
+    match (first, second) {
+        (None, None) => true,
+        (Some(first), Some(second)) => first.index() == second.index(),
+        _ => false,
+    }
+}
+
+fn same_units(first: Unit, second: Unit) -> bool
+    ensures { (result ≡ true) ↔ (indices_of first ≡ indices_of second) }
+{
+    first.unit.index() == second.unit.index() && same_second_unit(first.per, second.per)
+}
+
+fn same_unit_style(first: UnitStyle, second: UnitStyle) -> bool
+    ensures { (result ≡ true) ↔ (style_value (NumberStyle.Unit first) ≡ style_value (NumberStyle.Unit second)) }
+{
+    same_units(first.unit, second.unit) && first.display == second.display
+}
+
+fn same_currency(first: CurrencyStyle, second: CurrencyStyle) -> bool
     ensures { (result ≡ true) ↔ (first ≡ second) }
 {
     first == second
+}
+
+fn same_style(first: NumberStyle, second: NumberStyle) -> bool
+    ensures { (result ≡ true) ↔ (style_value first ≡ style_value second) }
+{
+    match (first, second) {
+        (NumberStyle::Decimal, NumberStyle::Decimal)
+        | (NumberStyle::Percent, NumberStyle::Percent)
+        | (NumberStyle::Permille, NumberStyle::Permille) => true,
+        (NumberStyle::Currency(first), NumberStyle::Currency(second)) => {
+            same_currency(first, second)
+        }
+        (NumberStyle::Unit(first), NumberStyle::Unit(second)) => same_unit_style(first, second),
+        _ => false,
+    }
 }
 
 fn same_notation(first: NumberNotation, second: NumberNotation) -> bool
@@ -107,5 +147,6 @@ pub(crate) fn same_options(first: &NumberOptions, second: &NumberOptions) -> boo
         && same_digit_options(first.digits, second.digits)
         && first.sign_display == second.sign_display
         && first.grouping == second.grouping
+        && first.decimal_separator == second.decimal_separator
         && same_system(first.numbering_system, second.numbering_system)
 }

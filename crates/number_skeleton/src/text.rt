@@ -7,9 +7,10 @@ mod precision;
 use decimal_format::GroupingStrategy;
 use fixed_decimal::{SignDisplay, SignedRoundingMode, UnsignedRoundingMode};
 use locale_data::{CurrencyCode, CurrencySign, NumberingSystem};
+use locale_names::{Unit, UnitDisplay};
 use number_format::{
-    CompactLength, CurrencyDisplay, ExponentOptions, ExponentSign, IntegerDigits, NumberNotation,
-    NumberOptions, NumberStyle,
+    CompactLength, CurrencyDisplay, DecimalSeparatorDisplay, ExponentOptions, ExponentSign,
+    IntegerDigits, NumberNotation, NumberOptions, NumberStyle,
 };
 use numbers::{push_number, push_power, push_run};
 use precision::push_shown_precision;
@@ -49,12 +50,32 @@ fn push_currency(text: &mut String, code: CurrencyCode) -> Result<(), AllocError
     text.push(' ')
 }
 
+/// Appends `unit/gram-per-second`, or `percent` and `permille` alone.
+fn push_units(text: &mut String, unit: Unit) -> Result<(), AllocError> {
+    let name = unit.unit.name();
+    match unit.per {
+        None if name == "percent" || name == "permille" => text.push_str(name)?,
+        None => {
+            text.push_str("unit/")?;
+            text.push_str(name)?;
+        }
+        Some(second) => {
+            text.push_str("unit/")?;
+            text.push_str(name)?;
+            text.push_str("-per-")?;
+            text.push_str(second.name())?;
+        }
+    }
+    text.push(' ')
+}
+
 fn push_unit(text: &mut String, style: NumberStyle) -> Result<(), AllocError> {
     match style {
         NumberStyle::Decimal => Ok(()),
         NumberStyle::Percent => text.push_str("percent "),
         NumberStyle::Permille => text.push_str("permille "),
         NumberStyle::Currency(currency) => push_currency(text, currency.code),
+        NumberStyle::Unit(style) => push_units(text, style.unit),
     }
 }
 
@@ -117,6 +138,15 @@ fn width_text(display: CurrencyDisplay) -> &'static str {
         CurrencyDisplay::Narrow => "unit-width-narrow ",
         CurrencyDisplay::Code => "unit-width-iso-code ",
         CurrencyDisplay::Hidden => "unit-width-hidden ",
+        CurrencyDisplay::Name => "unit-width-full-name ",
+    }
+}
+
+fn unit_width_text(display: UnitDisplay) -> &'static str {
+    match display {
+        UnitDisplay::Short => "",
+        UnitDisplay::Narrow => "unit-width-narrow ",
+        UnitDisplay::Long => "unit-width-full-name ",
     }
 }
 
@@ -134,7 +164,7 @@ fn sign_text(sign: CurrencySign, display: SignDisplay) -> &'static str {
     }
 }
 
-/// Appends the stems of a currency's width and of the sign.
+/// Appends the stems of the width of a currency or a unit, and of the sign.
 fn push_sign(
     text: &mut String,
     style: NumberStyle,
@@ -145,7 +175,18 @@ fn push_sign(
             text.push_str(width_text(currency.display))?;
             text.push_str(sign_text(currency.sign, display))
         }
+        NumberStyle::Unit(style) => {
+            text.push_str(unit_width_text(style.display))?;
+            text.push_str(sign_text(CurrencySign::Standard, display))
+        }
         _ => text.push_str(sign_text(CurrencySign::Standard, display)),
+    }
+}
+
+fn decimal_text(display: DecimalSeparatorDisplay) -> &'static str {
+    match display {
+        DecimalSeparatorDisplay::Auto => "",
+        DecimalSeparatorDisplay::Always => "decimal-always ",
     }
 }
 
@@ -179,5 +220,6 @@ pub(crate) fn push_skeleton(text: &mut String, options: &NumberOptions) -> Resul
     }
     push_system(text, options.numbering_system)?;
     push_sign(text, options.style, options.sign_display)?;
+    text.push_str(decimal_text(options.decimal_separator))?;
     push_scale(text, options.scale)
 }

@@ -2,7 +2,9 @@
 ghost use Rattle.std.specs.Prelude.{◌≡◌};
 ghost use Rattle.number_skeleton.specs.Words.{is_name, named, is_algorithmic};
 
-use crate::choices::{Choice, ChosenNotation, ChosenPrecision, ChosenUnit, Exponent};
+use crate::choices::{
+    Choice, ChosenNotation, ChosenPerUnit, ChosenPrecision, ChosenUnit, Exponent,
+};
 use crate::counts::{Counts, byte_at};
 use crate::decimal::Decimal;
 use crate::meaning::{Expected, Meaning};
@@ -10,7 +12,7 @@ use decimal_format::GroupingStrategy;
 use fixed_decimal::{SignDisplay, SignedRoundingMode, UnsignedRoundingMode};
 use locale_data::{CurrencySign, Name};
 use number_format::CurrencyUsage::{Cash, Standard};
-use number_format::{CompactLength, CurrencyDisplay, ExponentSign};
+use number_format::{CompactLength, CurrencyDisplay, DecimalSeparatorDisplay, ExponentSign};
 
 /// A stem that is a word, and what it means.
 #[derive(Clone, Copy)]
@@ -68,11 +70,11 @@ static STEMS: [StemWord; 72] = stems! {
     b"%                           " Choice::Unit(ChosenUnit::Percent), Expected::Stem;
     b"permille                    " Choice::Unit(ChosenUnit::Permille), Expected::Stem;
     b"%x100                       " Choice::PercentTimes100, Expected::Stem;
-    b"currency                    " Choice::Unit(ChosenUnit::Other), Expected::Currency;
-    b"measure-unit                " Choice::Unit(ChosenUnit::Other), Expected::Name;
-    b"per-measure-unit            " Choice::PerUnit, Expected::Name;
-    b"unit                        " Choice::UnitPerUnit, Expected::Name;
-    b"usage                       " Choice::Usage, Expected::Name;
+    b"currency                    " Choice::UnitAlone, Expected::Currency;
+    b"measure-unit                " Choice::Unit(ChosenUnit::Other), Expected::MeasureUnit;
+    b"per-measure-unit            " Choice::PerUnit(ChosenPerUnit::Other), Expected::PerMeasureUnit;
+    b"unit                        " Choice::UnitAlone, Expected::Unit;
+    b"usage                       " Choice::Usage, Expected::Usage;
     b"precision-integer           "
         Choice::Precision(ChosenPrecision::Fraction(NO_DIGITS)), Expected::Significant(NO_DIGITS);
     b"precision-unlimited         " Choice::Precision(ChosenPrecision::Unlimited), Expected::StripIfInteger;
@@ -111,7 +113,7 @@ static STEMS: [StemWord; 72] = stems! {
     b"unit-width-narrow           " Choice::Width(Some(CurrencyDisplay::Narrow)), Expected::Stem;
     b"unit-width-iso-code         " Choice::Width(Some(CurrencyDisplay::Code)), Expected::Stem;
     b"unit-width-hidden           " Choice::Width(Some(CurrencyDisplay::Hidden)), Expected::Stem;
-    b"unit-width-full-name        " Choice::Width(None), Expected::Stem;
+    b"unit-width-full-name        " Choice::Width(Some(CurrencyDisplay::Name)), Expected::Stem;
     b"unit-width-formal           " Choice::Width(None), Expected::Stem;
     b"unit-width-variant          " Choice::Width(None), Expected::Stem;
     b"sign-auto                   " Choice::Sign(SignDisplay::Auto, CurrencySign::Standard), Expected::Stem;
@@ -131,8 +133,8 @@ static STEMS: [StemWord; 72] = stems! {
     b"()?                         " Choice::Sign(SignDisplay::ExceptZero, CurrencySign::Accounting), Expected::Stem;
     b"sign-accounting-negative    " Choice::Sign(SignDisplay::Negative, CurrencySign::Accounting), Expected::Stem;
     b"()-                         " Choice::Sign(SignDisplay::Negative, CurrencySign::Accounting), Expected::Stem;
-    b"decimal-auto                " Choice::IsDecimalAlways(false), Expected::Stem;
-    b"decimal-always              " Choice::IsDecimalAlways(true), Expected::Stem;
+    b"decimal-auto                " Choice::DecimalSeparator(DecimalSeparatorDisplay::Auto), Expected::Stem;
+    b"decimal-always              " Choice::DecimalSeparator(DecimalSeparatorDisplay::Always), Expected::Stem;
     b"scale                       " Choice::Scale(ONE), Expected::Scale;
 };
 

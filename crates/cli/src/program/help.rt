@@ -126,8 +126,10 @@ GROUPING: auto, never, always, min2
 const SKELETONS: &str = "\
 SKELETON: stems with spaces between them, in one word, as 'format:de:currency/EUR .00'
 
-currency/EUR            an amount; with unit-width-narrow, unit-width-iso-code or unit-width-hidden
+currency/EUR            an amount; with unit-width-narrow, unit-width-iso-code, unit-width-hidden or
+                        unit-width-full-name
 percent, %x100          12 is 12%, 0.12 is 12%
+unit/kilometer-per-hour 5 is 5 km/h; with unit-width-narrow 5km/h, with unit-width-full-name 5 kilometers per hour
 K, KK                   1.2K, 1.2 thousand
 E0, EE0                 12000 is 1.2E4, or 12E3 with an exponent that is a multiple of 3; E+!00: 1.2E+04
 .00 .0# .00* . .+       two fraction digits, one or two, two or more, none, all; .00/w: none if they are 0
@@ -139,6 +141,7 @@ rounding-mode-half-up   also ceiling, floor, down, up, half-even, half-ceiling, 
 +! +_ +? +- ()          sign: always, never, except-zero, negative, accounting
 scale/100               multiplies by a power of ten first
 numbering-system/arab   digits
+decimal-always          5 is 5.
 
 Without stems rounding is half-even, to the digits of the currency or of compact notation, or else to six
 fraction digits.

@@ -5,7 +5,8 @@ use fixed_decimal::SignedRoundingMode::{Ceil, Floor, HalfCeil, HalfFloor, Unsign
 use fixed_decimal::UnsignedRoundingMode::{self, Expand, HalfEven, HalfExpand, HalfTrunc, Trunc};
 use fixed_decimal::{RoundingIncrement, Sign, SignDisplay};
 use number_format::{
-    CompactLength, CurrencyDisplay, CurrencyUsage, ExponentSign, RoundingPriority, TrailingZeros,
+    CompactLength, CurrencyDisplay, CurrencyUsage, DecimalSeparatorDisplay, ExponentSign,
+    RoundingPriority, TrailingZeros,
 };
 use std::cmp::Ordering;
 
@@ -42,6 +43,10 @@ fn options_have_defaults() -> bool {
         && matches!(CompactLength::default(), CompactLength::Short)
         && matches!(CurrencyUsage::default(), CurrencyUsage::Standard)
         && matches!(ExponentSign::default(), ExponentSign::Auto)
+        && matches!(
+            DecimalSeparatorDisplay::default(),
+            DecimalSeparatorDisplay::Auto
+        )
 }
 
 pub fn are_ordered() -> bool {

@@ -5,10 +5,11 @@ use fixed_decimal::SignedRoundingMode::{self, Ceil, Floor, HalfCeil, HalfFloor, 
 use fixed_decimal::UnsignedRoundingMode::{Expand, HalfEven, HalfExpand, HalfTrunc, Trunc};
 use locale_data::{CurrencyCode, CurrencySign, NumberingSystem};
 use number_format::{
-    BothDigits, CompactLength, CurrencyDisplay, CurrencyStyle, CurrencyUsage, DigitOptions,
-    DigitOptionsError, DigitSettings, ExponentOptions, ExponentSign, FractionDigits,
-    FractionMultiples, Increment, IntegerDigits, Minimum, Notation, NumberNotation, NumberOptions,
-    NumberReaderError, NumberStyle, Precision, RoundingPriority, SignificantDigits, TrailingZeros,
+    BothDigits, CompactLength, CurrencyDisplay, CurrencyStyle, CurrencyUsage,
+    DecimalSeparatorDisplay, DigitOptions, DigitOptionsError, DigitSettings, ExponentOptions,
+    ExponentSign, FractionDigits, FractionMultiples, Increment, IntegerDigits, Minimum, Notation,
+    NumberNotation, NumberOptions, NumberReaderError, NumberStyle, Precision, RoundingPriority,
+    SignificantDigits, TrailingZeros, Unit, UnitDisplay, UnitStyle,
 };
 use test_support::named;
 
@@ -28,9 +29,12 @@ pub enum Check {
 /// What the words of a row say.
 #[derive(Clone, Copy)]
 pub struct Options {
-    /// All but the digits, the currency and the length of compact notation.
+    /// All but the digits, the currency, the unit and the length of compact notation.
     pub number: NumberOptions,
     currency: CurrencyStyle,
+    unit: Option<Unit>,
+    unit_display: UnitDisplay,
+    is_unit: bool,
     compact_length: CompactLength,
     settings: DigitSettings,
     fraction: Option<FractionDigits>,
@@ -45,9 +49,10 @@ impl Options {
     /// whose digits are cut off.
     pub fn is_plain(&self, tag: &str) -> bool {
         let is_decimal = matches!(
-            (self.number.style, self.check),
-            (NumberStyle::Decimal, Check::Text)
+            (self.is_unit, self.number.style, self.check),
+            (false, NumberStyle::Decimal, Check::Text)
         );
+        let has_separators = self.number.decimal_separator == DecimalSeparatorDisplay::Auto;
         let is_written = match self.number.notation {
             NumberNotation::Standard => true,
             NumberNotation::Compact(_) => false,
@@ -57,7 +62,7 @@ impl Options {
             SignDisplay::ExceptZero | SignDisplay::Negative => self.integer.is_none(),
             _ => true,
         };
-        is_decimal && self.number.scale == 0 && is_written && is_signed
+        is_decimal && has_separators && self.number.scale == 0 && is_written && is_signed
     }
 
     /// Returns the notation of `scale`.
@@ -76,6 +81,12 @@ impl Options {
         if let NumberStyle::Currency(_) = number.style {
             number.style = NumberStyle::Currency(self.currency);
         }
+        if let (true, Some(unit)) = (self.is_unit, self.unit) {
+            number.style = NumberStyle::Unit(UnitStyle {
+                unit,
+                display: self.unit_display,
+            });
+        }
         if let NumberNotation::Compact(_) = number.notation {
             number.notation = NumberNotation::Compact(self.compact_length);
         }
@@ -92,8 +103,14 @@ impl Options {
 
     /// Returns why there is no reader, where there is none.
     pub fn reader_error(&self) -> NumberReaderError {
-        match self.number.notation {
-            NumberNotation::Standard => NumberReaderError::Scale,
+        match (self.number.notation, self.number(None).style) {
+            (NumberNotation::Standard, NumberStyle::Unit(_)) => NumberReaderError::Notation,
+            (NumberNotation::Standard, NumberStyle::Currency(currency))
+                if currency.display == CurrencyDisplay::Name =>
+            {
+                NumberReaderError::Notation
+            }
+            (NumberNotation::Standard, _) => NumberReaderError::Scale,
             _ => NumberReaderError::Notation,
         }
     }
@@ -125,10 +142,13 @@ enum Word {
     CurrencyDisplay(CurrencyDisplay),
     CurrencySign(CurrencySign),
     Cash,
+    Unit,
+    UnitDisplay(UnitDisplay),
     Notation(NumberNotation),
     CompactLength(CompactLength),
     Sign(SignDisplay),
     Grouping(GroupingStrategy),
+    DecimalSeparator(DecimalSeparatorDisplay),
     Mode(SignedRoundingMode),
     Priority(RoundingPriority),
     TrailingZeros(TrailingZeros),
@@ -142,12 +162,14 @@ const EXPONENT: ExponentOptions = ExponentOptions {
 };
 
 /// The words of options with few values, by the names of ECMA-402. Those that it does not have: `check` is what is
-/// checked, and with `limited` the digits are in a store that is out of memory for more than 16 of them.
+/// checked, `decimalSeparator` is that of skeletons, and with `limited` the digits are in a store that is out of memory
+/// for more than 16 of them.
 const WORDS: &[(&str, Word)] = &[
     ("style=decimal", Word::Decimal),
     ("style=percent", Word::Percent),
     ("style=permille", Word::Permille),
     ("style=currency", Word::Currency),
+    ("style=unit", Word::Unit),
     (
         "currencyDisplay=symbol",
         Word::CurrencyDisplay(CurrencyDisplay::Symbol),
@@ -165,6 +187,10 @@ const WORDS: &[(&str, Word)] = &[
         Word::CurrencyDisplay(CurrencyDisplay::Hidden),
     ),
     (
+        "currencyDisplay=name",
+        Word::CurrencyDisplay(CurrencyDisplay::Name),
+    ),
+    (
         "currencySign=standard",
         Word::CurrencySign(CurrencySign::Standard),
     ),
@@ -173,6 +199,12 @@ const WORDS: &[(&str, Word)] = &[
         Word::CurrencySign(CurrencySign::Accounting),
     ),
     ("currencyUsage=cash", Word::Cash),
+    ("unitDisplay=short", Word::UnitDisplay(UnitDisplay::Short)),
+    (
+        "unitDisplay=narrow",
+        Word::UnitDisplay(UnitDisplay::Narrow),
+    ),
+    ("unitDisplay=long", Word::UnitDisplay(UnitDisplay::Long)),
     (
         "notation=standard",
         Word::Notation(NumberNotation::Standard),
@@ -212,6 +244,14 @@ const WORDS: &[(&str, Word)] = &[
         Word::Grouping(GroupingStrategy::Always),
     ),
     ("useGrouping=min2", Word::Grouping(GroupingStrategy::Min2)),
+    (
+        "decimalSeparator=auto",
+        Word::DecimalSeparator(DecimalSeparatorDisplay::Auto),
+    ),
+    (
+        "decimalSeparator=always",
+        Word::DecimalSeparator(DecimalSeparatorDisplay::Always),
+    ),
     ("roundingMode=ceil", Word::Mode(Ceil)),
     ("roundingMode=expand", Word::Mode(Unsigned(Expand))),
     ("roundingMode=floor", Word::Mode(Floor)),
@@ -266,10 +306,13 @@ fn set_word(options: &mut Options, word: Word) {
         Word::CurrencyDisplay(display) => options.currency.display = display,
         Word::CurrencySign(sign) => options.currency.sign = sign,
         Word::Cash => options.currency.usage = CurrencyUsage::Cash,
+        Word::Unit => options.is_unit = true,
+        Word::UnitDisplay(display) => options.unit_display = display,
         Word::Notation(notation) => options.number.notation = notation,
         Word::CompactLength(length) => options.compact_length = length,
         Word::Sign(display) => options.number.sign_display = display,
         Word::Grouping(grouping) => options.number.grouping = grouping,
+        Word::DecimalSeparator(display) => options.number.decimal_separator = display,
         Word::Mode(mode) => options.settings.rounding_mode = mode,
         Word::Priority(priority) => options.settings.rounding_priority = priority,
         Word::TrailingZeros(zeros) => options.settings.trailing_zeros = zeros,
@@ -361,6 +404,7 @@ fn set_count(settings: &mut DigitSettings, name: &str, count: u16) -> Option<()>
 fn set_value(options: &mut Options, name: &str, value: &str) -> Option<()> {
     match name {
         "currency" => options.currency.code = CurrencyCode::try_from_str(value).ok()?,
+        "unit" => options.unit = Some(Unit::try_from_str(value).ok()?),
         "defaults" => options.fraction = Some(fraction(value)?),
         "integer" => {
             let (min, max) = pair(value)?;
@@ -390,6 +434,9 @@ fn decimal() -> Options {
     Options {
         number: NumberOptions::default(),
         currency: CurrencyStyle::new(CurrencyCode::none()),
+        unit: None,
+        unit_display: UnitDisplay::Short,
+        is_unit: false,
         compact_length: CompactLength::Short,
         settings: DigitSettings::default(),
         fraction: None,

@@ -29,3 +29,12 @@ returns-in-Significant c = by c.args.text.now c.in-Significant.is c.significant_
 
 pub returns-in-StripIfInteger : goal.returns-in-StripIfInteger
 returns-in-StripIfInteger c = by c.args.text.now c.in-StripIfInteger.is c.strip_option.ensures
+
+pub returns-in-Unit : goal.returns-in-Unit
+returns-in-Unit c = by c.args.text.now c.in-Unit.is c.unit_option.ensures
+
+pub returns-in-MeasureUnit : goal.returns-in-MeasureUnit
+returns-in-MeasureUnit c = by c.args.text.now c.in-MeasureUnit.is c.measure_option.ensures
+
+pub returns-in-PerMeasureUnit : goal.returns-in-PerMeasureUnit
+returns-in-PerMeasureUnit c = by c.args.text.now c.in-PerMeasureUnit.is c.per_option.ensures

@@ -1,0 +1,2 @@
+pub mod UnitRows
+pub mod JoinedUnits
