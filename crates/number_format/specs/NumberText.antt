@@ -189,12 +189,15 @@ percent_texts None category = with_number [] []
 percent_texts (Some unit) category =
     with_number (text_of (unit_for unit category).prefix) (text_of (unit_for unit category).suffix)
 
+-- the number is before the name, and the text between them; without a pattern nothing is between them
+abbrev pub place_of : Option NamePattern → Bool × List ℕ
+place_of None = (true, [])
+place_of (Some p) = (p.number_first, short_text p.between)
+
 -- the name of a currency, after the number or before it
-abbrev pub name_texts : List ℕ → Option NamePattern → units.Around
-name_texts name None = with_number [] []
-name_texts name (Some p) =
-    if p.number_first then with_number [] (short_text p.between ++ name)
-    else with_number (name ++ short_text p.between) []
+abbrev pub name_texts : List ℕ → Bool × List ℕ → units.Around
+name_texts name place =
+    if place.0 then with_number [] (place.1 ++ name) else with_number (name ++ place.1) []
 
 -- the texts of a pattern, of one kind
 abbrev pub around_texts : PartKind → units.Around → Around
@@ -205,7 +208,7 @@ abbrev pub outer_texts : NumberFormats → OuterTexts → Option CompactStyle �
 outer_texts formats (OuterTexts.Units rows) words style category =
     around_texts PartKind.Unit (units.around_number rows category)
 outer_texts formats (OuterTexts.Names names) words style category =
-    around_texts PartKind.Currency (name_texts (name_for names category) (pattern_for names category))
+    around_texts PartKind.Currency (name_texts (name_for names category) (place_of (pattern_for names category)))
 outer_texts formats OuterTexts.None (Some words) NumberStyle.Percent category =
     around_texts PartKind.Unit (percent_texts (slice_get PERCENT_UNITS formats.unit) category)
 outer_texts formats OuterTexts.None (Some words) NumberStyle.Permille category =
