@@ -9,7 +9,6 @@ import doctest
 import functools
 import importlib.metadata
 import inspect
-import json
 import os
 import pickle
 import random
@@ -640,26 +639,12 @@ WRONG_UNIT_OPTIONS = [
 
 
 def test_units():
-    """Rows of `Intl.NumberFormat` with units and with names of currencies, what is rejected, and resolved options."""
-    rows = os.path.join(os.path.dirname(os.path.abspath(__file__)), "../../c/tests/units.tsv")
-    with open(rows, encoding="utf-8") as file:
-        rows = [row for line in file if len(row := line.rstrip("\n").split("\t")) == 4]
-    check(len(rows) > 500, len(rows))
-    for locale, words, number, text in rows:
-        options = {re.sub("[A-Z]", lambda capital: "_" + capital[0].lower(), name): value
-                   for name, value in json.loads(words).items()}
-        made = NumberFormat(locale, **options)
-        parts = made.format_to_parts(number)
-        found = "".join(part["value"] for part in parts)
-        check(made.format(number) == found == text, locale, words, number, made.format(number), found, text)
-        check(Decimal(number).format(locale, **options) == text, "Decimal.format", locale, words, number, text)
-        kind = "unit" if options["style"] == "unit" else "currency"
-        check(kind in {part["type"] for part in parts}, "the kind of a part", locale, words, number, parts)
-        resolved = made.resolved_options()
-        check(resolved.get("unit") == options.get("unit"), "the unit", options, resolved)
-        check(NumberFormat(**resolved).format(number) == text, "resolved options", resolved, number)
+    """Units and names of currencies beside the rows of `test_options`: options that are rejected, and resolved ones."""
     speed = {"style": "unit", "unit": "kilometer-per-hour", "unit_display": "long"}
-    check(NumberFormat("en", **speed).format(5) == "5 kilometers per hour", "a unit")
+    made = NumberFormat("en", **speed)
+    check(made.format(5) == "5 kilometers per hour", "a unit")
+    check([part["type"] for part in made.format_to_parts(5)] == ["integer", "literal", "unit"], "the kinds of parts")
+    check(made.resolved_options()["unit"] == "kilometer-per-hour", "the unit", made.resolved_options())
     check(eval(repr(NumberFormat("en", **speed))) == NumberFormat("en", **speed), "repr")
     check(column(["5"], format="en", **speed) == ["5 kilometers per hour"], "a column")
     furlong = NumberFormat("en", skeleton="unit/furlong-per-day unit-width-full-name decimal-always .")
