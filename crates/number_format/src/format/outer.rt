@@ -1,5 +1,5 @@
 //! What is written around the whole text of a number, its sign included: the text of a unit, or the name of a currency.
-ghost use Rattle.std.specs.{Prelude.{◌≡◌, ◌≤◌, ◌++◌, [], length, OnOk, OnErr, true}, Option.option_copied};
+ghost use Rattle.std.specs.Prelude.{◌≡◌, ◌≤◌, ◌++◌, [], length, OnOk, OnErr, true};
 ghost use Rattle.locale_names.specs.LocaleUnits.{joined_texts, around_number, AreShort};
 ghost use Rattle.number_format.specs.{FormattedNumbers.IsOuter, NumberStyles.{is_percentage, outer_for, shows_name, AreNameTexts, AreOuterTexts, AreUnitTexts}, NumberText.{around_texts, name_texts, place_of, with_number}, PatternTexts.around, TextParts.{parts_text, pieces_of, Puts, PutsPrefix}};
 ghost use Rattle.locale_names.specs.LocaleCurrencies.{name_for, pattern_for};
@@ -11,7 +11,7 @@ use crate::options::{CurrencyStyle, NumberNotation, NumberStyle, UnitStyle};
 use arrayvec::ArrayString;
 use fixed_decimal::SinkFault;
 use locale_data::UnitAffixes;
-use locale_names::{CurrencyNames, NamePattern, UnitDisplay, UnitPatterns, currency_names, unit_patterns};
+use locale_names::{CurrencyNames, UnitDisplay, UnitPatterns, currency_names, unit_patterns};
 use plural_rules::PluralCategory;
 
 /// What is written around the whole text, as rows of tables.
@@ -88,13 +88,22 @@ impl OuterTexts {
     }
 }
 
-fn place_of(pattern: Option<&NamePattern>) -> (bool, &'static str)
-    ensures value { (result.0, result.1.now) ≡ place_of (option_copied pattern.entry) }
-    ensures short { length result.1.now ≤ 255 }
+fn is_number_first(names: &CurrencyNames, category: PluralCategory) -> bool
+    ensures { result ≡ (place_of (pattern_for names.now category)).0 }
 {
-    match pattern {
-        Some(pattern) => (pattern.number_first, pattern.between_text()),
-        None => (true, ""),
+    match names.pattern(category) {
+        Some(pattern) => pattern.number_first,
+        None => true,
+    }
+}
+
+fn between_text(names: &CurrencyNames, category: PluralCategory) -> &str
+    ensures value { result.now ≡ (place_of (pattern_for names.now category)).1 }
+    ensures short { length result.now ≤ 255 }
+{
+    match names.pattern(category) {
+        Some(pattern) => pattern.between_text(),
+        None => "",
     }
 }
 
@@ -219,8 +228,9 @@ impl<'f> OuterAround<'f> {
         ensures { IsOuter (around_texts PartKind.Currency
             (name_texts (name_for names.now category) (place_of (pattern_for names.now category)))) result }
     {
-        let (number_first, between) = place_of(names.pattern(category));
-        Self::named(names.name(category), number_first, between)
+        let name = names.name(category);
+        let between = between_text(names, category);
+        Self::named(name, is_number_first(names, category), between)
     }
 }
 
