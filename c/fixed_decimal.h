@@ -4,9 +4,9 @@
  * of a value and writes the text of another one into a buffer of the caller. Nothing is kept between calls: there is no
  * handle, nothing to free and no global state, and each function may be called in any thread at any time.
  *
- * The number of a locale or of plural rules names rows of constant tables, and an fd_formatter has such numbers. They
- * are the same in all threads, and valid in this process only, since another version of the library may have other
- * rows: do not store them.
+ * The number of a locale, of plural rules or of a unit names rows of constant tables, and an fd_formatter has such
+ * numbers. They are the same in all threads, and valid in this process only, since another version of the library may
+ * have other rows: do not store them.
  *
  * Each function is proved to return; none panics, aborts, waits, prints or calls back. docs/C.md says what is proved.
  *
@@ -36,7 +36,7 @@ extern "C" {
 #endif
 
 /* The version of this interface: it grows when a number, a struct or a meaning changes. */
-#define FD_VERSION 6
+#define FD_VERSION 7
 
 /* The version of the library, to be compared with FD_VERSION. */
 uint32_t fd_version(void);
@@ -63,12 +63,13 @@ typedef enum fd_status {
     FD_SKELETON_SYNTAX = 16, /* the text is no skeleton, or not UTF-8, from byte `at` on; or it is outside the texts */
     FD_SKELETON_UNSUPPORTED = 17,    /* the library has no such option as the stem at byte `at` of the skeleton */
     FD_UNKNOWN_NUMBERING_SYSTEM = 18, /* no numbering system is known by the name in the options */
-    FD_UNREADABLE_FORMAT = 19, /* the numbers of the options are not read: they have an exponent or words, or two have
-                                  the same text */
+    FD_UNREADABLE_FORMAT = 19, /* the numbers of the options are not read: they have an exponent, words, a name of a
+                                  currency or a unit other than a percentage, or two have the same text */
     FD_DIGIT_OPTIONS = 20,     /* the numbers of digits are those of no format, by the fd_digit_reason at */
     FD_NO_SKELETON = 21,       /* no skeleton has these options */
     FD_FORMATTER = 22,         /* the bytes are no fd_formatter */
-    FD_PARTS_TOO_SMALL = 23    /* the text fits the buffer, and its parts do not fit the array */
+    FD_PARTS_TOO_SMALL = 23,   /* the text fits the buffer, and its parts do not fit the array */
+    FD_UNKNOWN_UNIT = 24       /* Intl.NumberFormat has no unit with this name */
 } fd_status;
 
 /* An answer that is a text: status is an fd_status. */
@@ -91,6 +92,13 @@ typedef struct fd_unsigned {
     size_t at;
     uint64_t value;
 } fd_unsigned;
+
+/* An answer that is a unit; its numbers are 0 if status is not FD_OK. */
+typedef struct fd_units {
+    uint32_t status;  /* FD_OK or FD_UNKNOWN_UNIT */
+    uint8_t unit;     /* at least 1 */
+    uint8_t per_unit; /* the unit after "-per-"; 0: none */
+} fd_units;
 
 /* The number of a decimal in units of 10^-18: high * 2^64 + low. */
 typedef struct fd_key {
@@ -191,11 +199,13 @@ typedef struct fd_word {
     fd_form form;    /* the others: the form; start and skeleton_start count from the word's first byte */
 } fd_word;
 
-/* Words of the options of a number: those of Intl.NumberFormat, and FD_PERMILLE and FD_HIDDEN of ICU. */
-enum fd_style { FD_DECIMAL = 0, FD_PERCENT = 1, FD_PERMILLE = 2, FD_CURRENCY = 3 };
-enum fd_currency_display { FD_SYMBOL = 0, FD_NARROW_SYMBOL = 1, FD_CODE = 2, FD_HIDDEN = 3 };
+/* Words of the options of a number: those of Intl.NumberFormat, and FD_PERMILLE, FD_HIDDEN and fd_decimal_separator of
+ * ICU. */
+enum fd_style { FD_DECIMAL = 0, FD_PERCENT = 1, FD_PERMILLE = 2, FD_CURRENCY = 3, FD_UNIT = 4 };
+enum fd_currency_display { FD_SYMBOL = 0, FD_NARROW_SYMBOL = 1, FD_CODE = 2, FD_HIDDEN = 3, FD_NAME = 4 };
 enum fd_currency_sign { FD_STANDARD_SIGN = 0, FD_ACCOUNTING = 1 };
 enum fd_currency_usage { FD_STANDARD_USAGE = 0, FD_CASH = 1 };
+enum fd_unit_display { FD_UNIT_SHORT = 0, FD_UNIT_NARROW = 1, FD_UNIT_LONG = 2 }; /* 5 km, 5km, 5 kilometers */
 enum fd_notation {
     FD_STANDARD = 0,
     FD_SCIENTIFIC = 1,    /* 1.2E3 */
@@ -205,6 +215,7 @@ enum fd_notation {
 };
 enum fd_rounding_priority { FD_PRIORITY_AUTO = 0, FD_MORE_PRECISION = 1, FD_LESS_PRECISION = 2 };
 enum fd_trailing_zeros { FD_SHOW_ZEROS = 0, FD_STRIP_IF_INTEGER = 1 };
+enum fd_decimal_separator { FD_SEPARATOR_AUTO = 0, FD_SEPARATOR_ALWAYS = 1 }; /* 5 or 5. */
 
 /* No number of digits, and no increment: the default of Intl.NumberFormat applies. */
 #define FD_DEFAULT 65535
@@ -219,9 +230,13 @@ typedef struct fd_number_options {
     uint8_t currency_display;
     uint8_t currency_sign;
     uint8_t currency_usage; /* FD_CASH: the digits, and the increment that is not given, are those of cash */
+    uint8_t unit;           /* FD_UNIT: the number of fd_unit; if it returns no such pair, FD_UNKNOWN_OPTION */
+    uint8_t per_unit;       /* 0: none */
+    uint8_t unit_display;
     uint8_t notation;
     uint8_t sign_display; /* of the number as it is rounded */
     uint8_t grouping;     /* in compact notation FD_GROUP_AUTO is FD_GROUP_MIN2 */
+    uint8_t decimal_separator;
     uint8_t rounding_mode;
     uint8_t rounding_priority;
     uint8_t trailing_zeros;
@@ -237,8 +252,8 @@ typedef struct fd_number_options {
 /* A plain number, with at most three fraction digits, half-expand. */
 #define FD_NUMBER_OPTIONS                                                                                            \
     {FD_DECIMAL, {0, 0, 0}, {0, 0, 0, 0, 0, 0, 0, 0, 0, 0, 0, 0, 0, 0, 0, 0}, FD_SYMBOL, FD_STANDARD_SIGN,           \
-     FD_STANDARD_USAGE, FD_STANDARD, FD_AUTO, FD_GROUP_AUTO, FD_HALF_EXPAND, FD_PRIORITY_AUTO, FD_SHOW_ZEROS, 0,     \
-     FD_DEFAULT, FD_DEFAULT, FD_DEFAULT, FD_DEFAULT, FD_DEFAULT, FD_DEFAULT}
+     FD_STANDARD_USAGE, 0, 0, FD_UNIT_SHORT, FD_STANDARD, FD_AUTO, FD_GROUP_AUTO, FD_SEPARATOR_AUTO, FD_HALF_EXPAND, \
+     FD_PRIORITY_AUTO, FD_SHOW_ZEROS, 0, FD_DEFAULT, FD_DEFAULT, FD_DEFAULT, FD_DEFAULT, FD_DEFAULT, FD_DEFAULT}
 
 /* Why numbers of digits are those of no format, the first that holds. */
 enum fd_digit_reason {
@@ -268,7 +283,8 @@ enum fd_exponent_sign { FD_EXPONENT_AUTO = 0, FD_EXPONENT_ALWAYS = 1, FD_EXPONEN
 
 /* All options of a formatter, also those that a skeleton has beyond fd_number_options, with the digits that are shown.
  * The words are those of fd_number_options, or what is said beside them. Numbers that `precision` does not use are
- * ignored, and so are the fields of a currency without FD_CURRENCY, and the digits of an exponent without one. */
+ * ignored, and so are the fields of a currency without FD_CURRENCY, those of a unit without FD_UNIT, and the digits of
+ * an exponent without one. A skeleton may also name a unit that Intl.NumberFormat does not have. */
 typedef struct fd_format_options {
     uint32_t minimum_significant_digits; /* 1 to 65536 */
     uint32_t maximum_significant_digits; /* the minimum to 65536, which is no maximum */
@@ -285,19 +301,32 @@ typedef struct fd_format_options {
     uint8_t currency_display;
     uint8_t currency_sign;
     uint8_t currency_usage;
+    uint8_t unit;     /* as fd_unit has it */
+    uint8_t per_unit; /* 0: none */
+    uint8_t unit_display;
     uint8_t notation;
     uint8_t exponent_sign; /* an fd_exponent_sign */
     uint8_t sign_display;
     uint8_t grouping;
+    uint8_t decimal_separator;
     uint8_t precision; /* an fd_precision */
     uint8_t zeros;     /* an fd_zeros */
     uint8_t rounding_mode;
     uint8_t trailing_zeros;
     uint8_t has_numbering_system; /* 1; 0: it is that of the locale, and the name is ignored */
-    uint8_t reserved[34];         /* 0 */
+    uint8_t reserved[30];         /* 0 */
 } fd_format_options;
 
-/* Rows of the library's tables, for a locale and a currency. */
+/* Rows of the library's tables, for what is written around the whole number. */
+typedef struct fd_outer_rows {
+    uint32_t kind;     /* 0: nothing, and the others are ignored; 1: a unit; 2: a unit and one after it; 3: a name */
+    uint32_t texts;    /* of the unit, or the names of the currency */
+    uint32_t patterns; /* of the second unit, or of numbers with names */
+    uint8_t joiner;
+    uint8_t code[3];
+} fd_outer_rows;
+
+/* Rows of the library's tables, for a locale and a currency or a unit. */
 typedef struct fd_format_rows {
     uint64_t locale;       /* as fd_locale has it */
     uint32_t plural_rules; /* as fd_plural_rules has it */
@@ -313,11 +342,12 @@ typedef struct fd_format_rows {
     uint8_t percent_unit;
     uint8_t money;
     uint8_t reserved[3]; /* 0 */
+    fd_outer_rows outer;
 } fd_format_rows;
 
-/* A formatter of numbers: plain data of 120 bytes without a pointer, to be copied and shared between threads. Make it
- * by fd_formatter_by_options or fd_formatter_by_skeleton. Any bytes are allowed in it: those that name no row or no
- * option, or are not 0 where they are reserved, are FD_FORMATTER. All zeros are no formatter. */
+/* A formatter of numbers: plain data of 136 bytes without a pointer, to be copied and shared between threads. Make it
+ * by fd_formatter_by_options or fd_formatter_by_skeleton. Any bytes are allowed in it: those that name no row, no option
+ * or no unit, or are not 0 where they are reserved, are FD_FORMATTER. All zeros are no formatter. */
 typedef struct fd_formatter {
     fd_format_rows rows;
     fd_format_options options;
@@ -345,13 +375,14 @@ enum fd_part_kind {
     FD_PART_MINUS_SIGN = 4,
     FD_PART_PLUS_SIGN = 5,
     FD_PART_PERCENT_SIGN = 6, /* also the permille sign */
-    FD_PART_CURRENCY = 7,
+    FD_PART_CURRENCY = 7, /* also its name */
     FD_PART_LITERAL = 8,
     FD_PART_COMPACT = 9,
-    FD_PART_EXPONENT_SEPARATOR = 10,
-    FD_PART_EXPONENT_MINUS_SIGN = 11,
-    FD_PART_EXPONENT_PLUS_SIGN = 12,
-    FD_PART_EXPONENT_INTEGER = 13
+    FD_PART_UNIT = 10,
+    FD_PART_EXPONENT_SEPARATOR = 11,
+    FD_PART_EXPONENT_MINUS_SIGN = 12,
+    FD_PART_EXPONENT_PLUS_SIGN = 13,
+    FD_PART_EXPONENT_INTEGER = 14
 };
 
 /* A part of a text: the bytes from start to end - 1. */
@@ -434,6 +465,16 @@ fd_result fd_format_by_skeleton(const uint8_t *text, size_t count, const uint8_t
 fd_result fd_read_by_skeleton(const uint8_t *text, size_t count, const uint8_t *tag, size_t tag_count,
                               const uint8_t *skeleton, size_t skeleton_count, uint32_t lenient, uint8_t *buffer,
                               size_t capacity);
+
+/* The numbers of the unit of a name, for fd_number_options: "kilometer", "meter-per-second", "mile-per-hour". It is one
+ * of the 45 units of Intl.NumberFormat, or two of them with "-per-" between them; letters have to be of the same case.
+ * Errors: FD_UNKNOWN_UNIT. */
+fd_units fd_unit(const uint8_t *text, size_t count);
+
+/* Writes the name of the unit with a number, also of one that Intl.NumberFormat does not have; of two units each has a
+ * name. The buffer is as after fd_run; 40 bytes are enough.
+ * Errors: FD_UNKNOWN_OPTION if no unit has the number; FD_BUFFER_TOO_SMALL. */
+fd_result fd_unit_name(uint32_t number, uint8_t *buffer, size_t capacity);
 
 /* Makes a formatter of the locale of a tag and options, or a number skeleton of ICU, so that they are looked up once.
  * Errors: as fd_format_number, or fd_format_by_skeleton, of the options and the tag. */

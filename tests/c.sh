@@ -37,7 +37,7 @@ try 'formatters that are kept, and any bytes as one' "$room/formatter_plain"
 try 'the same with sanitizers' compile formatter formatter_asan -O1 -fsanitize=address,undefined -fno-sanitize-recover=all
 try 'formatters, sanitizers' "$room/formatter_asan"
 try 'the texts of node compile' compile format_vectors format_vectors -O1 -fsanitize=address,undefined -fno-sanitize-recover=all
-awk -F '\t' 'NF == 4' crates/vectors/rows/node_numbers.tsv > "$room/texts"
+awk -F '\t' 'NF == 4' crates/vectors/rows/node_numbers.tsv crates/vectors/rows/node_units.tsv > "$room/texts"
 "$room/format_vectors" < "$room/texts" > "$room/log" 2>&1
 judge $? "node's texts, by one formatter a locale and options: $(tail -n 1 "$room/log")"
 if command -v valgrind > /dev/null; then
@@ -65,7 +65,7 @@ judge $? "docs/C.md names each function and each status: $(tr '\n' ' ' < "$room/
 nm -D --defined-only c/out/libfixed_decimal.so | awk '{ print $3 }' | grep -v '^fd_' > "$room/others"
 [ ! -s "$room/others" ]
 judge $? 'the shared library exports no other names'
-readelf -d c/out/libfixed_decimal.so | grep -q 'SONAME.*libfixed_decimal.so.6'
+readelf -d c/out/libfixed_decimal.so | grep -q 'SONAME.*libfixed_decimal.so.7'
 judge $? 'the shared library has a soname'
 
 # ---- Python
@@ -127,6 +127,10 @@ if command -v sqlite3 > /dev/null && echo '#include <sqlite3ext.h>' | gcc -E -x 
     $'12,5\u00a0%|'
   row "SELECT format_number('es', 'notation', 'compact', 'compactDisplay', 'long', 'numberingSystem', 'arab', 1234567)" '١٫٢ millones'
   row "SELECT read_number('de', 'style', 'currency', 'currency', 'EUR', '-1.234,57' || char(160) || '€')" -1234.57
+  row "SELECT format_number('en', 'style', 'unit', 'unit', 'mile-per-gallon', '1234567.891'), format_number('pl', 'style', 'unit', 'unit', 'day', 'unitDisplay', 'long', 3)" \
+    '1,234,567.891 mpg|3 dni'
+  row "SELECT format_number('en', 'style', 'currency', 'currency', 'USD', 'currencyDisplay', 'name', 42), format_number('en', 'decimalSeparator', 'always', 5)" \
+    '42.00 US dollars|5.'
   row "SELECT length(format_number('en', 'useGrouping', 'always', printf('%.*c', 300, '7')))" 399
   row "SELECT read_number('de', 'currency/EUR', '-1.234,57' || char(160) || '€'), read_number('en', NULL, '1') IS NULL" \
     '-1234.57|1'
@@ -166,15 +170,16 @@ if command -v sqlite3 > /dev/null && echo '#include <sqlite3ext.h>' | gcc -E -x 
     "'1', 'concat:x'|call 0: syntax" "'1', x'636f6e6361743a313200'|call 0: syntax"
   rejects try_fixdec "'1', 'trimm'|no such call" "'x', 'format:tlh'|unknown locale" "'1', 'concat:x'|call 0: syntax" \
     "'x', 'format:de:percent/w'|skeleton: syntax at 7"
-  rejects try_read_number "'tlh', '', 'x'|unknown locale" "'en', 'style', 'unit', 'x'|no such option" \
+  rejects try_read_number "'tlh', '', 'x'|unknown locale" "'en', 'style', 'units', 'x'|no such option" \
     "'en', 'K', 'x'|skeleton: no reader" "'en', 'notation', 'compact', 'x'|no reader of such numbers"
   rejects plural "'one: n =', '1'|rules: syntax at 8" "'xx', '1'|unknown locale" "'en:nominal', '1'|rules: syntax at 0" \
     "'en', '1x'|start: syntax"
-  rejects format_number "'tlh', 'percent/w', 'x'|skeleton: syntax at 7" "'en', '.00 measure-unit/length-meter', '1'|skeleton: unsupported at 4" \
+  rejects format_number "'tlh', 'percent/w', 'x'|skeleton: syntax at 7" "'en', '.00 group-thousands', '1'|skeleton: unsupported at 4" \
     "'tlh', 'percent', 'x'|unknown locale" "'en', 'percent', '1x'|start: syntax" "'en', 'scale/100', '1e32767'|format: overflow" \
     "'en'|a locale, names with values, and a number" "|a locale, names with values, and a number" \
     "'en', 'style', 'percent', 'notation', 5|a locale, names with values, and a number" \
-    "'en', 'style', 1|skeleton: syntax at 0" "'en', 'style', 'unit', 1|no such option" \
+    "'en', 'style', 1|skeleton: syntax at 0" "'en', 'style', 'units', 1|no such option" \
+    "'en', 'style', 'unit', 1|unknown option" "'en', 'unit', 'furlong', 1|unknown unit" \
     "'en', 'style', 'currency', 1|unknown option" "'en', 'minimumIntegerDigits', 22, 1|no such numbers of digits" \
     "'en', 'minimumIntegerDigits', -1, 1|no such option" "'tlh', 'notation', 'compact', 1|unknown locale" \
     "'en', 1, 'style', 'percent'|no such option"

@@ -98,8 +98,8 @@ database=postgres
 for _ in $(seq 300); do sql 'SELECT 1' > /dev/null && break; sleep 0.1; done
 try 'the server' sql 'SELECT 1' || { cat "$room/server"; finish; exit; }
 try 'CREATE EXTENSION' sql 'CREATE EXTENSION fixed_decimal'
-row "count(*) FROM pg_proc WHERE probin LIKE '%fixed_decimal' AND provolatile = 'i' AND proisstrict AND proparallel = 's'" 5
-row "count(*) FROM pg_proc WHERE probin LIKE '%fixed_decimal'" 5
+row "count(*) FROM pg_proc WHERE probin LIKE '%fixed_decimal' AND provolatile = 'i' AND proisstrict AND proparallel = 's'" 7
+row "count(*) FROM pg_proc WHERE probin LIKE '%fixed_decimal'" 7
 
 # ---- Results.
 block docs/SQL.md prices-postgresql.sql > "$room/prices.sql"
@@ -121,6 +121,10 @@ row "format_number('uk', 'percent', 5300000), format_number('de', '', 1e15)" "5$
 row "format_number('en', '.00', 7), format_number('ar-u-nu-arab', '', 12.5)" '7.00|١٢٫٥'
 row "read_number('de', 'currency/EUR', '-1.234,57$nbsp€'), read_number('de', '', '1.234,50')" '-1234.57|1234.50'
 row "read_number('de', 'currency/EUR', '5,00$nbsp€') + 1, pg_typeof(read_number('en', '', '1'))" '6.00|numeric'
+row "format_number('pl', ARRAY['style', 'unit', 'unit', 'day', 'unitDisplay', 'long'], 3), format_number('fr', '{style,percent,maximumFractionDigits,1}'::text[], 0.125)" \
+  "3 dni|12,5$nbsp%"
+row "format_number('en', ARRAY['style', 'currency', 'currency', 'USD', 'currencyDisplay', 'name'], 42), read_number('de', ARRAY['style', 'currency', 'currency', 'EUR'], '-1.234,57$nbsp€')" \
+  '42.00 US dollars|-1234.57'
 row "plural('ru', 2), plural('en:ordinal', 22), plural('en_GB.UTF-8:cardinal', 1.0), plural('en', 1)" 'few|two|other|one'
 row "plural('one: i = 1 and v = 0', 1), plural('one: i = 1 and v = 0', '1.0'), plural('ja', 1)" 'one|other|other'
 row "fixdec(NULL::text, 'trim-end') IS NULL, fixdec(NULL::numeric, 'trimm') IS NULL, fixdec('1', VARIADIC NULL) IS NULL" 't|t|t'
@@ -130,6 +134,10 @@ row "plural(NULL, 1) IS NULL, plural('de', NULL) IS NULL" 't|t'
 
 # ---- Errors.
 rejects '22004|a word is NULL' "fixdec('1', NULL)" "fixdec(1, 'trim-end', NULL)" "fixdec('x', VARIADIC ARRAY[NULL, 'trimm'])"
+rejects '22023|no such option' "format_number('en', ARRAY['style', 'units'], 1)" "format_number('en', ARRAY['Style', 'unit'], 1)"
+rejects '22023|unknown unit' "format_number('en', ARRAY['style', 'unit', 'unit', 'furlong'], 1)"
+rejects '22023|unknown option' "format_number('en', ARRAY['style', 'unit'], 1)"
+rejects '22023|names of options with values' "format_number('en', ARRAY['style'], 1)"
 rejects '22P02|start: syntax' "fixdec('1x', 'trim-end')" "fixdec('')" "fixdec('NaN')" "fixdec(numeric 'NaN')" \
   "fixdec(numeric 'Infinity', 'format:de')" "format_number('de', '', 'NaN')" "format_number('de', '', '-Infinity')" \
   "plural('de', 'NaN')" "plural('one: i = 1', 'Infinity')" "read_number('de', 'currency/EUR', 'x')" \

@@ -9,9 +9,10 @@
 #define BYTES(s) (const uint8_t *)(s), strlen(s)
 enum { ROOM = 4096, PARTS = 512 };
 
-static const char *const styles[] = {"decimal", "percent", "permille", "currency", NULL};
-static const char *const displays[] = {"symbol", "narrowSymbol", "code", NULL};
+static const char *const styles[] = {"decimal", "percent", "permille", "currency", "unit", NULL};
+static const char *const displays[] = {"symbol", "narrowSymbol", "code", "hidden", "name", NULL};
 static const char *const signs[] = {"standard", "accounting", NULL};
+static const char *const unit_displays[] = {"short", "narrow", "long", NULL};
 static const char *const notations[] = {"standard", "scientific", "engineering", "compact", "long", NULL};
 static const char *const sign_displays[] = {"auto", "never", "always", "exceptZero", "negative", NULL};
 static const char *const groupings[] = {"auto", "false", "always", "min2", NULL};
@@ -32,12 +33,20 @@ static uint8_t word(const char *const *words, const char *value) {
     return 0;
 }
 
+static void set_unit(fd_number_options *o, const char *name) {
+    fd_units units = fd_unit(BYTES(name));
+    if (units.status != FD_OK) fail("no such unit", name);
+    o->unit = units.unit, o->per_unit = units.per_unit;
+}
+
 static void set(fd_number_options *o, const char *name, const char *value) {
     if (strcmp(name, "style") == 0) {
         o->style = word(styles, value);
         o->scale = o->style == FD_PERCENT ? 2 : 0;
     } else if (strcmp(name, "currency") == 0) memcpy(o->currency, value, 3);
     else if (strcmp(name, "currencyDisplay") == 0) o->currency_display = word(displays, value);
+    else if (strcmp(name, "unit") == 0) set_unit(o, value);
+    else if (strcmp(name, "unitDisplay") == 0) o->unit_display = word(unit_displays, value);
     else if (strcmp(name, "currencySign") == 0) o->currency_sign = word(signs, value);
     else if (strcmp(name, "notation") == 0) {
         if (strcmp(value, "compact") || o->notation != FD_COMPACT_LONG) o->notation = word(notations, value);

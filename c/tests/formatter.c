@@ -12,7 +12,8 @@ static const char *const skeletons[] = {
     "", "currency/EUR", "currency/JPY unit-width-iso-code", "percent @@", "%x100 .0", "K", "KK +!", "scientific/*ee/+!",
     "engineering @@@", "currency/CHF precision-currency-cash", ".00/@@@*", ".00/@@@r", "integer-width/##00",
     "precision-increment/0.25", "permille", "compact-long currency/USD", "()-", "currency/XYZ", "numbering-system/arab",
-    "precision-unlimited", "integer-width/+00000000000000000000000000000000000", "percent/w", "measure-unit/length-meter"};
+    "precision-unlimited", "unit/kilometer-per-hour unit-width-full-name", "unit/furlong", "currency/EUR unit-width-full-name",
+    "decimal-always .", "integer-width/+00000000000000000000000000000000000", "percent/w", "group-thousands"};
 
 /* Each skeleton in each locale: as fd_format_by_skeleton and fd_read_by_skeleton. */
 static void test_skeletons(void) {
@@ -48,10 +49,14 @@ static void test_options(void) {
     for (unsigned seed = 0; seed < 3000; seed++) {
         fd_number_options o = FD_NUMBER_OPTIONS;
         srand(seed);
-        o.style = (uint8_t)(rand() % 4);
+        static const char *const units[] = {"kilometer", "mile-per-hour", "gram-per-second", "percent"};
+        fd_units unit = fd_unit(BYTES(units[rand() % 4]));
+        o.style = (uint8_t)(rand() % 5);
+        o.unit = unit.unit, o.per_unit = unit.per_unit, o.unit_display = (uint8_t)(rand() % 3);
         memcpy(o.currency, rand() % 3 ? "EUR" : "jpy", 3);
         if (rand() % 4 == 0) memcpy(o.numbering_system, rand() % 4 ? "deva            " : "none            ", 16);
-        o.currency_display = (uint8_t)(rand() % 4);
+        o.currency_display = (uint8_t)(rand() % 5);
+        o.decimal_separator = (uint8_t)(rand() % 2);
         o.currency_sign = (uint8_t)(rand() % 2);
         o.currency_usage = (uint8_t)(rand() % 2);
         o.notation = (uint8_t)(rand() % 5);
@@ -66,7 +71,8 @@ static void test_options(void) {
         if (rand() % 3 == 0) o.maximum_fraction_digits = (uint16_t)(rand() % 8);
         if (rand() % 4 == 0) o.maximum_significant_digits = (uint16_t)(rand() % 8);
         if (rand() % 8 == 0) o.rounding_increment = 25;
-        if (rand() % 16 == 0) o.style = 4;
+        if (rand() % 16 == 0) o.style = 5;
+        if (rand() % 16 == 0) o.unit = (uint8_t)rand();
         const char *tag = tags[(size_t)rand() % COUNT(tags)], *number = numbers[(size_t)rand() % COUNT(numbers)];
         static uint8_t kept[70000], once[70000];
         fd_made made = fd_formatter_by_options(BYTES(tag), &o);
@@ -111,6 +117,8 @@ static void test_parts(void) {
         {"en", "K", "1234", "1.2K", {FD_PART_INTEGER, FD_PART_DECIMAL, FD_PART_FRACTION, FD_PART_COMPACT},
          {1, 2, 3, 4}, 4},
         {"en", "percent +!", "5", "+5%", {FD_PART_PLUS_SIGN, FD_PART_INTEGER, FD_PART_PERCENT_SIGN}, {1, 2, 3}, 3},
+        {"en", "unit/pound", "0.1", "0.1 lb",
+         {FD_PART_INTEGER, FD_PART_DECIMAL, FD_PART_FRACTION, FD_PART_LITERAL, FD_PART_UNIT}, {1, 2, 3, 4, 6}, 5},
         {"hi-u-nu-deva", "", "12", "१२", {FD_PART_INTEGER}, {6}, 1}};
     for (size_t i = 0; i < COUNT(rows); i++) {
         fd_formatter f = by_skeleton(rows[i].tag, rows[i].skeleton);
@@ -142,7 +150,7 @@ static void test_parts(void) {
     CHECK(r.status == FD_SYNTAX && r.count == 0 && r.parts == 0);
     r = fd_format_parts(&f, B("1e32767"), buffer, 8, parts, 4);
     CHECK(r.status == FD_OVERFLOW && r.at == 0 && r.count == 0 && r.parts == 0);
-    f.options.reserved[33] = 1;
+    f.options.reserved[29] = 1;
     r = fd_format_parts(&f, B("x"), buffer, 8, parts, 4);
     CHECK(r.status == FD_FORMATTER && r.count == 0 && r.parts == 0);
 }
@@ -200,9 +208,14 @@ static void test_resolved(void) {
     f = by_skeleton("en", "K");
     r = fd_resolved(&f);
     CHECK(r.options.notation == FD_COMPACT_SHORT && r.options.grouping == FD_GROUP_MIN2);
-    f.options.style = 4;
+    f.options.style = 5;
     r = fd_resolved(&f);
     CHECK(r.status == FD_FORMATTER && all(&r.options, sizeof r.options, 0));
+    f = by_skeleton("en", "unit/gram-per-second unit-width-narrow decimal-always");
+    r = fd_resolved(&f);
+    CHECK(r.options.style == FD_UNIT && r.options.unit_display == FD_UNIT_NARROW);
+    CHECK(r.options.unit == fd_unit(B("gram")).unit && r.options.per_unit == fd_unit(B("second")).unit);
+    CHECK(r.options.decimal_separator == FD_SEPARATOR_ALWAYS && r.options.currency[0] == 0);
 }
 
 static void test_status_texts(void) {
@@ -218,7 +231,8 @@ static void test_status_texts(void) {
         {FD_OVERFLOW, 0, 0, "format: overflow"}, {FD_UNKNOWN_CALL, 3, 4, "no such call: 3"},
         {FD_UNKNOWN_LOCALE, 0, 0, "unknown locale"}, {FD_RULES_SYNTAX, SIZE_MAX, 0, "rules: syntax at 18446744073709551615"},
         {FD_SKELETON_SYNTAX, 14, 0, "skeleton: syntax at 14"}, {FD_SKELETON_UNSUPPORTED, 4, 0, "skeleton: unsupported at 4"},
-        {FD_UNREADABLE_FORMAT, 0, 0, "skeleton: no reader"}, {FD_FORMATTER, 0, 0, "no formatter"}};
+        {FD_UNREADABLE_FORMAT, 0, 0, "skeleton: no reader"}, {FD_FORMATTER, 0, 0, "no formatter"},
+        {FD_UNKNOWN_UNIT, 0, 0, "unknown unit"}};
     for (size_t i = 0; i < COUNT(rows); i++) {
         size_t n = strlen(rows[i].line);
         for (size_t room = 0; room < n + 3; room++) {
@@ -232,7 +246,7 @@ static void test_status_texts(void) {
     uint8_t b[80];
     for (uint32_t status = 0; status < 300; status++)
         for (size_t at = 0; at < 2; at++)
-            CHECK(fd_status_text(status, at ? SIZE_MAX : 0, 0, b, 80).status == (status < 24 ? FD_OK : FD_UNKNOWN_OPTION));
+            CHECK(fd_status_text(status, at ? SIZE_MAX : 0, 0, b, 80).status == (status < 25 ? FD_OK : FD_UNKNOWN_OPTION));
     CHECK(fd_status_text(UINT32_MAX, 0, 0, b, 80).status == FD_UNKNOWN_OPTION);
 }
 
@@ -273,6 +287,16 @@ static void test_any_bytes(void) {
         }
     }
     CHECK(others > 0);
+    /* A number of no unit, and a kind of no rows. */
+    f = by_skeleton("de", "unit/furlong");
+    f.options.per_unit = 231;
+    CHECK(!is_formatter(&f));
+    f.options.per_unit = 0, f.options.unit = 0;
+    CHECK(!is_formatter(&f));
+    f.options.unit = 230;
+    CHECK(is_formatter(&f));
+    f.rows.outer.kind = 4;
+    CHECK(!is_formatter(&f));
     for (size_t k = 0; k < sizeof f.options.reserved; k++) {
         f = by_skeleton("de", "");
         f.options.reserved[k] = 1;

@@ -33,6 +33,7 @@ static const struct { const char *sql, *result; } rows[] = {
     {"SELECT try_fixdec(zeroblob(100)) IS NULL", "1"},
     {"SELECT format_number('de', 'currency/EUR', 1234.5)", "1.234,50\u00a0€"},
     {"SELECT format_number('de', 'minimumFractionDigits', 2, 'useGrouping', 'false', 1234.5)", "1234,50"},
+    {"SELECT format_number('en', 'style', 'unit', 'unit', 'liter-per-kilometer', '-0.5')", "-0.5 L/km"},
     {"SELECT read_number('de', 'useGrouping', 'auto', '1.234,50'), read_number('en', 'currency/EUR', '€5.00')",
      "1234.50|5.00"},
     {"SELECT group_concat(format_number('de', 'currency/' || column1, column2), ' ') "

@@ -336,6 +336,9 @@ static void test_format_number(void) {
         {"123456", "en", OPTIONS(.notation = FD_ENGINEERING), "123.456E3"},
         {"0", "ar-EG", OPTIONS(.sign_display = FD_ALWAYS), "\xd8\x9c+٠"},
         {"-0.0001", "en", OPTIONS(.sign_display = FD_NEGATIVE), "0"},
+        {"42", "en", OPTIONS(MONEY("usd"), .currency_display = FD_NAME), "42.00 US dollars"},
+        {"1", "de", OPTIONS(MONEY("RUB"), .currency_display = FD_NAME, FRACTION(FD_DEFAULT, 0)), "1 Russischer Rubel"},
+        {"5", "en", OPTIONS(.decimal_separator = FD_SEPARATOR_ALWAYS), "5."},
         {"12345.678", "hi", OPTIONS(.grouping = FD_GROUP_NEVER), "12345.678"},
         {"1234.5", "pl", OPTIONS(.grouping = FD_GROUP_ALWAYS), "1\xc2\xa0" "234,5"},
         {"1234.5", "en", OPTIONS(.grouping = FD_GROUP_MIN2), "1234.5"},
@@ -362,6 +365,75 @@ static void test_format_number(void) {
     }
 }
 
+/* Texts of Intl.NumberFormat in node with units, by their names, at each capacity; and names that it does not have. */
+static void test_units(void) {
+    static const struct {
+        const char *number, *tag, *unit;
+        int is_pair;
+        fd_number_options options;
+        const char *text;
+    } rows[] = {
+        {"1234567.891", "en", "mile-per-gallon", 0, OPTIONS(.unit_display = FD_UNIT_SHORT), "1,234,567.891 mpg"},
+        {"-0.5", "en", "liter-per-kilometer", 0, OPTIONS(.unit_display = FD_UNIT_SHORT), "-0.5 L/km"},
+        {"5", "en", "percent-per-hour", 1, OPTIONS(.unit_display = FD_UNIT_LONG), "5 percent per hour"},
+        {"100", "de", "mile-scandinavian-per-liter", 1, OPTIONS(.unit_display = FD_UNIT_LONG),
+         "100 skandinavische Meilen pro Liter"},
+        {"20", "fr", "hectare", 0, OPTIONS(.unit_display = FD_UNIT_NARROW), "20ha"},
+        {"3", "pl", "degree", 0, OPTIONS(.unit_display = FD_UNIT_LONG), "3 stopnie"},
+        {"1.0", "pl", "day", 0, OPTIONS(.unit_display = FD_UNIT_LONG), "1 dzień"},
+        {"1.5", "pl", "celsius", 0, OPTIONS(.unit_display = FD_UNIT_LONG), "1,5 stopnia Celsjusza"},
+        {"22", "ar", "meter-per-meter", 1, OPTIONS(.unit_display = FD_UNIT_NARROW), "22 م/م"},
+        {"1234567.891", "hi", "gram", 0, OPTIONS(.unit_display = FD_UNIT_LONG), "12,34,567.891 ग्राम"},
+        {"3", "ja", "second-per-gallon", 1, OPTIONS(.unit_display = FD_UNIT_NARROW), "3s/gal"},
+        {"21", "en", "percent", 0, OPTIONS(.unit_display = FD_UNIT_SHORT), "21%"},
+        {"-1", "ar", "hour-per-byte", 1, OPTIONS(.unit_display = FD_UNIT_LONG), "ساعة لكل بايت"},
+        {"1500000", "hi", "hectare", 0, OPTIONS(.unit_display = FD_UNIT_LONG, .notation = FD_COMPACT_LONG,
+         .sign_display = FD_ALWAYS, .trailing_zeros = FD_STRIP_IF_INTEGER, FRACTION(1, FD_DEFAULT)),
+         "+15 लाख हेक्टेयर"},
+        {"22", "en", "second", 0, OPTIONS(.unit_display = FD_UNIT_NARROW, .notation = FD_ENGINEERING), "22E0s"}};
+    static const char *const others[] = {
+        "", "foo", "Meter", "meters", "m", "meter ", "furlong", "tonne", "square-meter", "kilowatt-hour", "permille",
+        "knot", "meter-per-foo", "foo-per-meter", "meter-per-", "-per-meter", "per-meter",
+        "meter-per-second-per-second", "meter-per-square-second", "liter-per-100-kilometer", "meter-PER-second",
+        "meter per second", "meter/second", "day-person", "foot-and-inch", "length-meter", "unit/meter",
+        "m\xc3\xa9" "ter"};
+    for (size_t i = 0; i < sizeof rows / sizeof *rows; i++) {
+        fd_units units = fd_unit(BYTES(rows[i].unit));
+        fd_number_options options = rows[i].options;
+        CHECK(units.status == FD_OK && units.unit > 0 && (units.per_unit > 0) == rows[i].is_pair);
+        options.style = FD_UNIT, options.unit = units.unit, options.per_unit = units.per_unit;
+        size_t n = strlen(rows[i].text);
+        for (size_t room = 0; room < n + 9; room++) {
+            uint8_t *buffer = malloc(room ? room : 1);
+            memset(buffer, 0xA5, room ? room : 1);
+            fd_result r = fd_format_number(BYTES(rows[i].number), BYTES(rows[i].tag), &options, buffer, room);
+            check_text(r, buffer, room, room, rows[i].text);
+            free(buffer);
+        }
+    }
+    for (size_t i = 0; i < sizeof others / sizeof *others; i++) {
+        fd_units units = fd_unit(BYTES(others[i]));
+        CHECK(units.status == FD_UNKNOWN_UNIT && units.unit == 0 && units.per_unit == 0);
+    }
+    CHECK(fd_unit(B("meter\0")).status == FD_UNKNOWN_UNIT && fd_unit(B("\xff")).status == FD_UNKNOWN_UNIT);
+    /* Each number of a unit has a name; and the name of a unit of Intl.NumberFormat has its number. */
+    size_t units = 0, named = 0;
+    for (uint32_t number = 0; number < 1000; number++) {
+        uint8_t name[40];
+        memset(name, 0xA5, sizeof name);
+        fd_result r = fd_unit_name(number, name, sizeof name);
+        CHECK(r.status == FD_OK || (r.status == FD_UNKNOWN_OPTION && r.count == 0 && all(name, 40, 0xA5)));
+        if (r.status != FD_OK) continue;
+        fd_units found = fd_unit(name, r.count);
+        CHECK(number > 0 && number < 256 && (found.status != FD_OK || (found.unit == number && found.per_unit == 0)));
+        units++, named += found.status == FD_OK;
+        CHECK(fd_unit_name(number, name, r.count - 1).status == FD_BUFFER_TOO_SMALL);
+    }
+    CHECK(units == 230 && named == 50);
+    uint8_t none[1];
+    CHECK(fd_unit_name(UINT32_MAX, none, 0).status == FD_UNKNOWN_OPTION);
+}
+
 /* The same texts are read, exactly and as people type them. */
 static void test_read_number(void) {
     static const struct {
@@ -376,7 +448,8 @@ static void test_read_number(void) {
         {"EUR 1.234,5", "de", OPTIONS(MONEY("EUR")), 0, FD_SYNTAX, ""},
         {"1", "de", OPTIONS(.notation = FD_COMPACT_SHORT), 1, FD_UNREADABLE_FORMAT, ""},
         {"1", "xx", OPTIONS(.notation = FD_COMPACT_SHORT), 0, FD_UNKNOWN_LOCALE, ""},
-        {"x", "xx", OPTIONS(.style = 4), 0, FD_UNKNOWN_OPTION, ""}};
+        {"x", "xx", OPTIONS(.style = 5), 0, FD_UNKNOWN_OPTION, ""},
+        {"1", "de", OPTIONS(MONEY("EUR"), .currency_display = FD_NAME), 1, FD_UNREADABLE_FORMAT, ""}};
     for (size_t i = 0; i < sizeof rows / sizeof *rows; i++) {
         for (size_t room = 0, n = strlen(rows[i].own); room < n + 9; room++) {
             uint8_t buffer[40];
@@ -395,15 +468,19 @@ static void test_option_errors(void) {
         fd_number_options options;
         uint32_t status, at;
     } rows[] = {
-        {OPTIONS(.style = 4), FD_UNKNOWN_OPTION, 0},
+        {OPTIONS(.style = 5), FD_UNKNOWN_OPTION, 0},
+        {OPTIONS(.style = FD_UNIT), FD_UNKNOWN_OPTION, 0},
+        {OPTIONS(.style = FD_UNIT, .unit = 231), FD_UNKNOWN_OPTION, 0},
+        {OPTIONS(.style = FD_UNIT, .unit = 255, .per_unit = 255), FD_UNKNOWN_OPTION, 0},
         {OPTIONS(MONEY("E1R")), FD_UNKNOWN_OPTION, 0},
         {OPTIONS(.style = FD_CURRENCY), FD_UNKNOWN_OPTION, 0},
-        {OPTIONS(MONEY("EUR"), .currency_display = 4), FD_UNKNOWN_OPTION, 0},
+        {OPTIONS(MONEY("EUR"), .currency_display = 5), FD_UNKNOWN_OPTION, 0},
         {OPTIONS(MONEY("EUR"), .currency_sign = 2), FD_UNKNOWN_OPTION, 0},
         {OPTIONS(MONEY("EUR"), .currency_usage = 2), FD_UNKNOWN_OPTION, 0},
         {OPTIONS(.notation = 5), FD_UNKNOWN_OPTION, 0},
         {OPTIONS(.sign_display = 5), FD_UNKNOWN_OPTION, 0},
         {OPTIONS(.grouping = 4), FD_UNKNOWN_OPTION, 0},
+        {OPTIONS(.decimal_separator = 2), FD_UNKNOWN_OPTION, 0},
         {OPTIONS(.rounding_mode = 9), FD_UNKNOWN_OPTION, 0},
         {OPTIONS(.rounding_priority = 3), FD_UNKNOWN_OPTION, 0},
         {OPTIONS(.trailing_zeros = 2), FD_UNKNOWN_OPTION, 0},
@@ -426,8 +503,9 @@ static void test_option_errors(void) {
         r = fd_skeleton(&rows[i].options, buffer, 32);
         CHECK(r.status == rows[i].status && r.at == rows[i].at && r.count == 0 && all(buffer, 32, 0x5A));
     }
-    /* Of the options of a currency other styles have none. */
-    fd_number_options plain = OPTIONS(.currency_display = 9, .currency_sign = 9, .currency_usage = 9);
+    /* Of the options of a currency or of a unit other styles have none. */
+    fd_number_options plain = OPTIONS(.currency_display = 9, .currency_sign = 9, .currency_usage = 9, .unit = 255,
+                                      .per_unit = 255, .unit_display = 9);
     uint8_t buffer[8];
     CHECK(gives(fd_format_number(B("5"), B("en"), &plain, buffer, 8), buffer, "5"));
     CHECK(fd_format_number(B("x"), B("xx"), &plain, buffer, 8).status == FD_UNKNOWN_LOCALE);
@@ -436,6 +514,17 @@ static void test_option_errors(void) {
     CHECK(fd_format_number(B("x"), B("en"), &plain, buffer, 8).status == FD_UNKNOWN_NUMBERING_SYSTEM);
     CHECK(fd_format_number(B("x"), B("xx"), &plain, buffer, 8).status == FD_UNKNOWN_LOCALE);
     plain.numbering_system[0] = 0;
+    /* Units that Intl.NumberFormat does not have, alone or as the second of two. */
+    for (uint32_t number = 1; number < 256; number++) {
+        uint8_t name[40] = {0};
+        fd_result named = fd_unit_name(number, name, sizeof name);
+        int is_unit = named.status == FD_OK && fd_unit(name, named.count).status == FD_OK;
+        fd_number_options unit = OPTIONS(.style = FD_UNIT, .unit = (uint8_t)number);
+        CHECK(fd_format_number(B("x"), B("en"), &unit, buffer, 8).status == (is_unit ? FD_SYNTAX : FD_UNKNOWN_OPTION));
+        unit.per_unit = unit.unit, unit.unit = fd_unit(B("meter")).unit;
+        int is_part = is_unit && !strstr((char *)name, "-per-");
+        CHECK(fd_format_number(B("x"), B("en"), &unit, buffer, 8).status == (is_part ? FD_SYNTAX : FD_UNKNOWN_OPTION));
+    }
     plain.scale = 1;
     CHECK(fd_format_number(B("1e32767"), B("en"), &plain, buffer, 8).status == FD_OVERFLOW);
 }
@@ -538,7 +627,7 @@ static void test_skeleton_errors(void) {
         {"1", "en", ".00 currency/E", FD_SKELETON_SYNTAX, 13},
         {"1", "en", "\xff", FD_SKELETON_SYNTAX, 0},
         {"1", "en", "percent/w .00 \xe2\x82", FD_SKELETON_SYNTAX, 14},
-        {"x", "xx", ".00 measure-unit/length-meter", FD_SKELETON_UNSUPPORTED, 4},
+        {"x", "xx", ".00 group-thousands", FD_SKELETON_UNSUPPORTED, 4},
         {"x", "xx", "percent", FD_UNKNOWN_LOCALE, 0},
         {"x", "\xff", "", FD_UNKNOWN_LOCALE, 0},
         {"x", "en", "percent", FD_SYNTAX, 0},
@@ -688,6 +777,7 @@ int main(void) {
     test_lines();
     test_numbers();
     test_format_number();
+    test_units();
     test_read_number();
     test_option_errors();
     test_skeletons_of_options();

@@ -1,8 +1,8 @@
 /* Decimals in PostgreSQL: the functions of fixed_decimal--1.0.sql over the library. NULL in, NULL out, but a NULL among
  * the words is an error.
  *
- * What the library makes of the words, or of a locale and a skeleton, is kept for the statement (fn_extra) until they
- * change. An error of the server jumps out of a function: the library keeps nothing between its calls that it could
+ * What the library makes of the words, or of a locale and a skeleton or options, is kept for the statement (fn_extra)
+ * until they change. An error of the server jumps out of a function: the library keeps nothing between its calls that it could
  * lose. Each text is passed to the library in UTF-8, whatever the encoding of the database is. */
 #include "postgres.h"
 
@@ -62,7 +62,7 @@ fail_word(uint32_t status, int index, const char *hint)
 
 /* ---- What is kept. */
 
-enum kind { WORDS_OF_TEXT, WORDS_OF_NUMERIC, FORMAT, READ, PLURAL };
+enum kind { WORDS_OF_TEXT, WORDS_OF_NUMERIC, FORMAT, FORMAT_BY_OPTIONS, READ, READ_BY_OPTIONS, PLURAL };
 
 /* How a function converts numbers, made of arguments that name it. */
 typedef struct conversion {
@@ -73,7 +73,7 @@ typedef struct conversion {
     fd_forms forms;
     uint8_t *texts;                /* the words, one after another */
     size_t used;
-    fd_formatter formatter;        /* a locale and a skeleton */
+    fd_formatter formatter;        /* a locale, and a skeleton or options */
     bytes rules;                   /* the plural rules, and their number: 0 for a text of rules */
     uint64_t rules_number;
 } conversion;
@@ -115,28 +115,162 @@ add_word(conversion *it, bytes text, int index, int words)
         it->calls[it->count++] = word.call;
 }
 
-static void
-make_words(conversion *it)
+/* The texts of an array of words. */
+static bytes *
+texts_of(struct varlena *array, int *count)
 {
     Datum *words;
     bool *nulls;
-    int count;
     bytes *texts;
-    size_t size = 0;
 
-    deconstruct_array((ArrayType *)it->names[0], TEXTOID, -1, false, TYPALIGN_INT, &words, &nulls, &count);
-    texts = palloc(count * sizeof *texts);
-    for (int i = 0; i < count; size += texts[i++].count) {
+    deconstruct_array((ArrayType *)array, TEXTOID, -1, false, TYPALIGN_INT, &words, &nulls, count);
+    texts = palloc(*count * sizeof *texts);
+    for (int i = 0; i < *count; i++) {
         if (nulls[i])
             ereport(ERROR, errcode(ERRCODE_NULL_VALUE_NOT_ALLOWED), errmsg("a word is NULL"),
                     errdetail("It is word %d.", i + 1));
         texts[i] = bytes_of((struct varlena *)DatumGetPointer(words[i]));
     }
+    return texts;
+}
+
+static void
+make_words(conversion *it)
+{
+    int count;
+    bytes *texts = texts_of(it->names[0], &count);
+    size_t size = 0;
+
+    for (int i = 0; i < count; i++)
+        size += texts[i].count;
     it->calls = palloc(count * sizeof *it->calls);
     it->texts = palloc(size);
     for (int i = 0; i < count; i++)
         add_word(it, texts[i], i, count);
 }
+
+/* ---- Options. */
+
+typedef struct named { fd_number_options number; uint8_t is_long; } named;
+#define OPTION(field) offsetof(named, number.field)
+
+/* The options of Intl.NumberFormat with their words, each with a space after it, or for a number of digits none. */
+static const struct { const char *name; size_t offset; const char *words; } options[] = {
+    {"style", OPTION(style), "decimal percent permille currency unit "},
+    {"currencyDisplay", OPTION(currency_display), "symbol narrowSymbol code hidden name "},
+    {"currencySign", OPTION(currency_sign), "standard accounting "},
+    {"currencyUsage", OPTION(currency_usage), "standard cash "},
+    {"unitDisplay", OPTION(unit_display), "short narrow long "},
+    {"notation", OPTION(notation), "standard scientific engineering compact "},
+    {"compactDisplay", offsetof(named, is_long), "short long "},
+    {"signDisplay", OPTION(sign_display), "auto never always exceptZero negative "},
+    {"useGrouping", OPTION(grouping), "auto false always min2 "},
+    {"decimalSeparator", OPTION(decimal_separator), "auto always "},
+    {"roundingMode", OPTION(rounding_mode),
+     "ceil floor expand trunc halfCeil halfFloor halfExpand halfTrunc halfEven "},
+    {"roundingPriority", OPTION(rounding_priority), "auto morePrecision lessPrecision "},
+    {"trailingZeroDisplay", OPTION(trailing_zeros), "auto stripIfInteger "},
+    {"minimumIntegerDigits", OPTION(minimum_integer_digits), NULL},
+    {"minimumFractionDigits", OPTION(minimum_fraction_digits), NULL},
+    {"maximumFractionDigits", OPTION(maximum_fraction_digits), NULL},
+    {"minimumSignificantDigits", OPTION(minimum_significant_digits), NULL},
+    {"maximumSignificantDigits", OPTION(maximum_significant_digits), NULL},
+    {"roundingIncrement", OPTION(rounding_increment), NULL}};
+
+static bool
+is(bytes text, const char *word, size_t count)
+{
+    return text.count == count && memcmp(text.start, word, count) == 0;
+}
+
+/* Sets an option to the index of its word; false: it is none of the words. */
+static bool
+set_word(uint8_t *option, const char *words, bytes text)
+{
+    for (uint8_t i = 0; *words; i++, words += strcspn(words, " ") + 1)
+        if (is(text, words, strcspn(words, " ")))
+            return *option = i, true;
+    return false;
+}
+
+/* Sets an option to a number, of digits and nothing else; false: it is none, or too great. */
+static bool
+set_number(uint8_t *option, bytes text)
+{
+    uint32_t number = 0;
+
+    for (size_t i = 0; i < text.count; i++) {
+        if (text.start[i] < '0' || text.start[i] > '9')
+            return false;
+        number = number * 10 + (text.start[i] - '0');
+        if (number >= FD_DEFAULT)
+            return false;
+    }
+    return text.count && memcpy(option, &(uint16_t){(uint16_t)number}, sizeof(uint16_t));
+}
+
+/* Sets an option by its name; false: there is none, or no such value. */
+static bool
+set_option(named *o, bytes name, bytes value)
+{
+    if (is(name, "currency", 8))
+        return value.count == 3 && memcpy(o->number.currency, value.start, 3);
+    if (is(name, "numberingSystem", 15))
+        return value.count <= 16 && !memchr(value.start, ' ', value.count)
+               && memcpy(memset(o->number.numbering_system, ' ', 16), value.start, value.count);
+    for (size_t i = 0; i < lengthof(options); i++) {
+        uint8_t *field = (uint8_t *)o + options[i].offset;
+
+        if (is(name, options[i].name, strlen(options[i].name)))
+            return options[i].words ? set_word(field, options[i].words, value) : set_number(field, value);
+    }
+    return false;
+}
+
+/* Parses names of options, each with its value after it. */
+static fd_number_options
+parse_options(struct varlena *array)
+{
+    int count;
+    bytes *texts = texts_of(array, &count);
+    named o = {FD_NUMBER_OPTIONS, 0};
+
+    if (count % 2)
+        ereport(ERROR, errcode(ERRCODE_INVALID_PARAMETER_VALUE), errmsg("names of options with values"));
+    for (int i = 0; i < count; i += 2) {
+        fd_units units = {FD_OK, 0, 0};
+
+        if (is(texts[i], "unit", 4)) {
+            units = fd_unit(BYTES(texts[i + 1]));
+            o.number.unit = units.unit, o.number.per_unit = units.per_unit;
+        } else if (!set_option(&o, texts[i], texts[i + 1]))
+            ereport(ERROR, errcode(ERRCODE_INVALID_PARAMETER_VALUE), errmsg("no such option"),
+                    errdetail("It is option %d.", i / 2 + 1));
+        if (units.status != FD_OK)
+            fail(units.status, 0, 0);
+    }
+    if (o.number.style == FD_PERCENT)
+        o.number.scale = 2;
+    if (o.number.notation == FD_COMPACT_SHORT)
+        o.number.notation += o.is_long;
+    return o.number;
+}
+
+static fd_made
+make_formatter(const conversion *it)
+{
+    bytes locale = bytes_of(it->names[0]), skeleton;
+    fd_number_options number;
+
+    if (it->kind == FORMAT_BY_OPTIONS || it->kind == READ_BY_OPTIONS) {
+        number = parse_options(it->names[1]);
+        return fd_formatter_by_options(BYTES(locale), &number);
+    }
+    skeleton = bytes_of(it->names[1]);
+    return fd_formatter_by_skeleton(BYTES(locale), BYTES(skeleton));
+}
+
+/* ---- Conversions. */
 
 static void
 make(conversion *it)
@@ -152,8 +286,7 @@ make(conversion *it)
             fail(number.status, number.at, 0);
         it->rules_number = number.value;
     } else {
-        bytes locale = bytes_of(it->names[0]), skeleton = bytes_of(it->names[1]);
-        fd_made made = fd_formatter_by_skeleton(BYTES(locale), BYTES(skeleton));
+        fd_made made = make_formatter(it);
 
         if (made.status != FD_OK)
             fail(made.status, made.at, 0);
@@ -208,8 +341,10 @@ run(const conversion *it, bytes text, uint8_t *out, size_t room)
 {
     switch (it->kind) {
     case FORMAT:
+    case FORMAT_BY_OPTIONS:
         return fd_format(&it->formatter, BYTES(text), out, room);
     case READ:
+    case READ_BY_OPTIONS:
         return fd_read(&it->formatter, BYTES(text), 0, out, room);
     default:
         return fd_convert(BYTES(text), &it->forms, it->calls, it->count, it->texts, it->used, out, room);
@@ -276,14 +411,33 @@ format_number(PG_FUNCTION_ARGS)
     PG_RETURN_TEXT_P(converted(kept(fcinfo, FORMAT, 0, 2), digits_of(PG_GETARG_DATUM(2))));
 }
 
-/* numeric_in reports a number with more fraction digits than a numeric has. */
+PG_FUNCTION_INFO_V1(format_number_by_options);
+Datum
+format_number_by_options(PG_FUNCTION_ARGS)
+{
+    PG_RETURN_TEXT_P(converted(kept(fcinfo, FORMAT_BY_OPTIONS, 0, 2), digits_of(PG_GETARG_DATUM(2))));
+}
+
+/* Reads a text. numeric_in reports a number with more fraction digits than a numeric has. */
+static Datum
+read_by(const conversion *it, bytes text)
+{
+    return DirectFunctionCall3(numeric_in, CStringGetDatum(convert(it, text)), ObjectIdGetDatum(InvalidOid),
+                               Int32GetDatum(-1));
+}
+
 PG_FUNCTION_INFO_V1(read_number);
 Datum
 read_number(PG_FUNCTION_ARGS)
 {
-    char *number = convert(kept(fcinfo, READ, 0, 2), bytes_of(PG_GETARG_VARLENA_PP(2)));
+    return read_by(kept(fcinfo, READ, 0, 2), bytes_of(PG_GETARG_VARLENA_PP(2)));
+}
 
-    return DirectFunctionCall3(numeric_in, CStringGetDatum(number), ObjectIdGetDatum(InvalidOid), Int32GetDatum(-1));
+PG_FUNCTION_INFO_V1(read_number_by_options);
+Datum
+read_number_by_options(PG_FUNCTION_ARGS)
+{
+    return read_by(kept(fcinfo, READ_BY_OPTIONS, 0, 2), bytes_of(PG_GETARG_VARLENA_PP(2)));
 }
 
 PG_FUNCTION_INFO_V1(plural);

@@ -97,14 +97,16 @@ typedef struct { fd_number_options number; uint8_t is_long; } named;
 
 /* The options of Intl.NumberFormat with their words, each with a space after it, or for a number of digits none. */
 static const struct { const char *name; size_t offset; const char *words; } options[] = {
-    {"style", OPTION(style), "decimal percent permille currency "},
-    {"currencyDisplay", OPTION(currency_display), "symbol narrowSymbol code hidden "},
+    {"style", OPTION(style), "decimal percent permille currency unit "},
+    {"currencyDisplay", OPTION(currency_display), "symbol narrowSymbol code hidden name "},
     {"currencySign", OPTION(currency_sign), "standard accounting "},
     {"currencyUsage", OPTION(currency_usage), "standard cash "},
+    {"unitDisplay", OPTION(unit_display), "short narrow long "},
     {"notation", OPTION(notation), "standard scientific engineering compact "},
     {"compactDisplay", offsetof(named, is_long), "short long "},
     {"signDisplay", OPTION(sign_display), "auto never always exceptZero negative "},
     {"useGrouping", OPTION(grouping), "auto false always min2 "},
+    {"decimalSeparator", OPTION(decimal_separator), "auto always "},
     {"roundingMode", OPTION(rounding_mode),
      "ceil floor expand trunc halfCeil halfFloor halfExpand halfTrunc halfEven "},
     {"roundingPriority", OPTION(rounding_priority), "auto morePrecision lessPrecision "},
@@ -134,9 +136,17 @@ static int set_number(uint8_t *option, bytes text) {
     return text.count && memcpy(option, &(uint16_t){(uint16_t)number}, sizeof(uint16_t));
 }
 
+/* Sets the unit with a name; 0: there is none. */
+static int set_unit(fd_number_options *number, bytes name) {
+    fd_units units = fd_unit(BYTES(name));
+    number->unit = units.unit, number->per_unit = units.per_unit;
+    return units.status == FD_OK;
+}
+
 /* Sets an option by its name; 0: there is none, or no such value. */
 static int set_option(named *o, bytes name, bytes value) {
     if (is(name, "currency", 8)) return value.count == 3 && memcpy(o->number.currency, value.start, 3);
+    if (is(name, "unit", 4)) return set_unit(&o->number, value);
     if (is(name, "numberingSystem", 15))
         return value.count <= 16 && !has(value, ' ') && !has(value, 0)
                && memcpy(memset(o->number.numbering_system, ' ', 16), value.start, value.count);
@@ -156,7 +166,7 @@ static int parse_options(sqlite3_context *context, fd_number_options *number, in
     for (int i = 0; i < count; i += 2) {
         if (!get(context, values[i], &name) || !get(context, values[i + 1], &value)) return 0;
         if (sqlite3_value_type(values[i + 1]) == SQLITE_BLOB || !set_option(&o, name, value))
-            return fail(context, "no such option");
+            return is(name, "unit", 4) ? fail_status(context, FD_UNKNOWN_UNIT, 0, 0) : fail(context, "no such option");
     }
     *number = o.number;
     if (number->style == FD_PERCENT) number->scale = 2;

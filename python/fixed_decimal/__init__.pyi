@@ -14,6 +14,8 @@ class _Options(TypedDict, total=False):
     currency: str
     currency_display: str
     currency_sign: str
+    unit: str
+    unit_display: str
     notation: str
     compact_display: str
     sign_display: str
@@ -79,7 +81,7 @@ class Decimal:
 class _Part(TypedDict):
     type: Literal[
         "integer", "group", "decimal", "fraction", "minusSign", "plusSign", "percentSign", "currency", "literal",
-        "compact", "exponentSeparator", "exponentMinusSign", "exponentPlusSign", "exponentInteger",
+        "compact", "unit", "exponentSeparator", "exponentMinusSign", "exponentPlusSign", "exponentInteger",
     ]
     value: str
 

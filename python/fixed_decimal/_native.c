@@ -45,7 +45,7 @@ static PyObject *decimal_error;
 static const char *const reasons[] = {"", "syntax", "limit", "memory", "operand syntax", "operand limit", "overlap",
     "overflow", "", "unknown call", "unknown locale", "unknown option", "not whole", "out of range", "rules syntax",
     "rules limit", "skeleton syntax", "skeleton unsupported", "unknown numbering system", "unreadable format",
-    "digit options", "no skeleton", "formatter", ""};
+    "digit options", "no skeleton", "formatter", "", "unknown unit"};
 static const char *const modes[] = {"ceil", "floor", "expand", "trunc", "half-ceil", "half-floor", "half-expand",
     "half-trunc", "half-even", NULL};
 static const char *const displays[] = {"auto", "never", "always", "except-zero", "negative", NULL};
@@ -759,8 +759,8 @@ static PyObject *number_format_format(NumberFormat *self, PyObject *value) {
 }
 
 static const char *const part_kinds[] = {"integer", "group", "decimal", "fraction", "minusSign", "plusSign",
-    "percentSign", "currency", "literal", "compact", "exponentSeparator", "exponentMinusSign", "exponentPlusSign",
-    "exponentInteger"};
+    "percentSign", "currency", "literal", "compact", "unit", "exponentSeparator", "exponentMinusSign",
+    "exponentPlusSign", "exponentInteger"};
 
 /* The parts of a text, as formatToParts of Intl.NumberFormat has them. */
 static PyObject *list_of_parts(const uint8_t *text, const fd_part *parts, size_t count) {
@@ -1437,6 +1437,28 @@ static PyObject *native_skeleton(PyObject *ignored, PyObject *value) {
     return PyUnicode_DecodeUTF8((char *)buffer, (Py_ssize_t)answer.count, NULL);
 }
 
+/* The numbers of the unit of a name. */
+static PyObject *native_unit(PyObject *ignored, PyObject *name) {
+    size_t count;
+    (void)ignored;
+    const uint8_t *bytes = utf8_of(name, &count, "a unit", FD_UNKNOWN_UNIT);
+    if (!bytes) return NULL;
+    fd_units units = fd_unit(bytes, count);
+    if (units.status != FD_OK) return fail_text(units.status, 0, bytes, count);
+    return Py_BuildValue("ii", (int)units.unit, (int)units.per_unit);
+}
+
+/* The name of the unit with a number, which has less than 64 bytes. */
+static PyObject *native_unit_name(PyObject *ignored, PyObject *value) {
+    uint8_t buffer[64];
+    (void)ignored;
+    unsigned long number = PyLong_AsUnsignedLong(value);
+    if (PyErr_Occurred()) return NULL;
+    fd_result answer = fd_unit_name(number < UINT32_MAX ? (uint32_t)number : UINT32_MAX, buffer, sizeof buffer);
+    if (answer.status != FD_OK) return fail(answer.status, answer.at);
+    return PyUnicode_DecodeUTF8((char *)buffer, (Py_ssize_t)answer.count, NULL);
+}
+
 PyDoc_STRVAR(round_text, "round($self, /, position, mode='half-even', increment=1)\n--\n\n"
 "Rounds as decimal's quantize does: d.round(-2) keeps two decimals, as d.quantize(decimal.Decimal('0.01')).\n\n"
 "The result is a multiple of increment * 10^position. The increment is 1, 2, 5 or 25.\n\n"
@@ -1591,7 +1613,9 @@ static PyType_Spec number_format_spec = {.name = "fixed_decimal.NumberFormat", .
                                          .slots = number_format_slots};
 
 static PyMethodDef functions[] = {{"column", native_column, METH_VARARGS, NULL},
-                                  {"skeleton", native_skeleton, METH_O, NULL}, {NULL, NULL, 0, NULL}};
+                                  {"skeleton", native_skeleton, METH_O, NULL},
+                                  {"unit", native_unit, METH_O, NULL},
+                                  {"unit_name", native_unit_name, METH_O, NULL}, {NULL, NULL, 0, NULL}};
 /* The module has one state for the process, so it is for the main interpreter alone. */
 static int execute(PyObject *module) {
     if (fd_version() != FD_VERSION) return PyErr_SetString(PyExc_ImportError, "the library has another version"), -1;

@@ -6,13 +6,16 @@ import struct
 
 from ._native import NumberFormat
 from ._native import skeleton as _skeleton
+from ._native import unit as _unit
+from ._native import unit_name as _unit_name
 
 # The words of each option that has some, by their numbers in the structs; False is no grouping.
 _WORDS = {
-    "style": ("decimal", "percent", "permille", "currency"),
-    "currency_display": ("symbol", "narrow-symbol", "code", "hidden"),
+    "style": ("decimal", "percent", "permille", "currency", "unit"),
+    "currency_display": ("symbol", "narrow-symbol", "code", "hidden", "name"),
     "currency_sign": ("standard", "accounting"),
     "currency_usage": ("standard", "cash"),
+    "unit_display": ("short", "narrow", "long"),
     "notation": ("standard", "scientific", "engineering", "compact"),
     "compact_display": ("short", "long"),
     "sign_display": ("auto", "never", "always", "except-zero", "negative"),
@@ -22,19 +25,21 @@ _WORDS = {
     "rounding_priority": ("auto", "more-precision", "less-precision"),
     "trailing_zero_display": ("auto", "strip-if-integer"),
     "exponent_sign": ("auto", "always", "never"),
+    "decimal_separator": ("auto", "always"),
 }
 # Words that number skeletons have, and ECMA-402 has not.
 _OF_SKELETONS = ("permille", "hidden")
 # The options of ECMA-402 with their defaults; no number of digits has one that is always the same.
 _DEFAULTS = {
     "style": "decimal", "currency": "", "currency_display": "symbol", "currency_sign": "standard",
+    "unit": "", "unit_display": "short",
     "notation": "standard", "compact_display": "short", "sign_display": "auto", "use_grouping": "auto",
     "minimum_integer_digits": None, "minimum_fraction_digits": None, "maximum_fraction_digits": None,
     "minimum_significant_digits": None, "maximum_significant_digits": None, "rounding_increment": None,
     "rounding_mode": "half-expand", "rounding_priority": "auto", "trailing_zero_display": "auto",
     "numbering_system": "",
 }
-_NAMES = {"currency": "|[A-Za-z]{3}", "numbering_system": "|[a-z0-9]{3,8}"}
+_NAMES = {"currency": "|[A-Za-z]{3}", "unit": "(?s:.*)", "numbering_system": "|[a-z0-9]{3,8}"}
 _COUNTS = [option for option, value in _DEFAULTS.items() if value is None]
 _NO_COUNT = 65535
 
@@ -56,7 +61,7 @@ def _word(option, word):
 
 
 def _name(option, name):
-    """The name of a currency or of a numbering system, as a str of no subclass."""
+    """The name of a currency, of a unit or of a numbering system, as a str of no subclass."""
     if not isinstance(name, str):
         raise TypeError(f"{option} is a str, not {type(name).__name__}")
     if not (found := re.fullmatch(_NAMES[option], name)):
@@ -89,13 +94,17 @@ def number_options(**options):
     named = _DEFAULTS | own
     if named["style"] == "currency" and not named["currency"]:
         raise ValueError("style='currency' needs a currency, such as currency='EUR'")
+    if named["style"] == "unit" and not named["unit"]:
+        raise ValueError("style='unit' needs a unit, such as unit='kilometer'")
+    unit, per_unit = _unit(named["unit"]) if named["unit"] else (0, 0)
     number = {option: words.index(named[option]) for option, words in _WORDS.items() if option in named}
     is_long = named["notation"] == "compact" and number["compact_display"]
     system = named["numbering_system"].encode()
     found = struct.pack(
-        "=B3s16s9Bxh6H", number["style"], named["currency"].encode(), system and system.ljust(16),
-        number["currency_display"], number["currency_sign"], 0, number["notation"] + is_long, number["sign_display"],
-        number["use_grouping"], number["rounding_mode"], number["rounding_priority"], number["trailing_zero_display"],
+        "=B3s16s13Bxh6H", number["style"], named["currency"].encode(), system and system.ljust(16),
+        number["currency_display"], number["currency_sign"], 0, unit, per_unit, number["unit_display"],
+        number["notation"] + is_long, number["sign_display"], number["use_grouping"], 0, number["rounding_mode"],
+        number["rounding_priority"], number["trailing_zero_display"],
         2 if named["style"] == "percent" else 0,
         *[_NO_COUNT if named[option] is None else named[option] for option in _COUNTS])
     return found, tuple(sorted(own.items()))
@@ -126,18 +135,27 @@ def _words(**numbers):
     return {option: _WORDS[option][number] for option, number in numbers.items()}
 
 
+def _unit_text(unit, per_unit):
+    """The name of a unit by its numbers."""
+    return _unit_name(unit) + ("-per-" + _unit_name(per_unit) if per_unit else "")
+
+
 def resolved_options(locale, options):
     """Returns a dictionary of the options of a locale that an `fd_format_options` has, from its bytes."""
     (least, most, scale, exponent_digits, integer, most_integer, fraction, most_fraction, increment, style, currency,
-     system, display, sign, usage, notation, exponent_sign, sign_display, grouping, precision, _, mode,
-     zeros) = struct.unpack("=IIh6HB3s16s11B35x", options)
+     system, display, sign, usage, unit, per_unit, unit_display, notation, exponent_sign, sign_display, grouping,
+     separator, precision, _, mode, zeros) = struct.unpack("=IIh6HB3s16s15B31x", options)
 
     found = {"locale": locale, "numbering_system": system.decode().rstrip(" "), **_words(style=style)}
     if found["style"] == "currency":
         found |= {"currency": currency.decode(), **_words(currency_display=display, currency_sign=sign)}
         found |= _words(currency_usage=usage) if usage else {}
+    elif found["style"] == "unit":
+        found |= {"unit": _unit_text(unit, per_unit), **_words(unit_display=unit_display)}
     if scale != 2 * (found["style"] == "percent"):
         found["scale"] = scale
+    if separator:
+        found |= _words(decimal_separator=separator)
     found["minimum_integer_digits"] = integer
     if most_integer < 32768:
         found["maximum_integer_digits"] = most_integer

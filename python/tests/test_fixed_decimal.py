@@ -274,7 +274,7 @@ def test_class():
     raises(TypeError, lambda: Decimal("1").compare(1), text="compare() takes a Decimal, not int: write Decimal(x)")
     raises(DecimalError, lambda: Decimal("1").format("tlh", skeleton="percent"), "unknown locale")
     raises(DecimalError, lambda: Decimal("1").format("tlh", skeleton="percent/w"), "skeleton syntax")
-    raises(DecimalError, lambda: Decimal("1").format("en", skeleton="measure-unit/length-foot"), "skeleton unsupported")
+    raises(DecimalError, lambda: Decimal("1").format("en", skeleton="group-thousands"), "skeleton unsupported")
     raises(TypeError, lambda: Decimal("1").format("en", "auto", "percent"))
     raises(DecimalError, lambda: Decimal("1").format("tlh"), "unknown locale")
     raises(DecimalError, lambda: Decimal.read("1", "tlh"), "unknown locale")
@@ -337,8 +337,8 @@ def test_messages():
         (lambda: one.format("tlh", style="percent"), "unknown locale: 'tlh'"),
         (lambda: one.format("de", skeleton="percent/w"), "skeleton syntax: 'percent/w'"),
         (lambda: Decimal.read("1x", "de"), "syntax: '1x'"), (lambda: Decimal.read("1", "tlh"), "unknown locale: 'tlh'"),
-        (lambda: Decimal.read("1", "de", skeleton="measure-unit/length-foot"),
-         "skeleton unsupported: 'measure-unit/length-foot'"),
+        (lambda: Decimal.read("1", "de", skeleton="group-thousands"),
+         "skeleton unsupported: 'group-thousands'"),
         (lambda: Decimal.read("1", "de", skeleton="K"), "unreadable format"),
         (lambda: one.format("de", numbering_system="roman"), "unknown numbering system"),
         (lambda: one.format("de", **digits),
@@ -466,14 +466,14 @@ def test_options():
     raises(DecimalError, lambda: number_skeleton(**unsigned), "no skeleton")
     check(Decimal("1234.5").format("en", numbering_system="arab") == "١٬٢٣٤٫٥", "a numbering system")
     raises(DecimalError, lambda: Decimal("1").format("en", numbering_system="roman"), "unknown numbering system")
-    for wrong in ({"style": "unit"}, {"style": "currency"}, {"compact_display": "wide"}, {"currency": "EURO"},
+    for wrong in ({"style": "units"}, {"style": "currency"}, {"compact_display": "wide"}, {"currency": "EURO"},
                   {"numbering_system": "arab\n"}, {"style": "percent\0"}, {"style": "\ud800"},
                   {"minimum_fraction_digits": -1},
                   {"maximum_significant_digits": 22}, {"minimum_fraction_digits": 65535},
                   {"minimum_fraction_digits": 3, "maximum_fraction_digits": 2},
                   {"rounding_increment": 5, "maximum_fraction_digits": 2}):
         raises(ValueError, lambda: Decimal("1").format("de", **wrong))
-    for wrong in ({"unit": "meter"}, {"style": "percent", "skeleton": "K"}, {"style": None}, {"style": []},
+    for wrong in ({"scale": 2}, {"style": "percent", "skeleton": "K"}, {"style": None}, {"style": []},
                   {"currency": b"EUR"}, {"maximum_fraction_digits": "2"}):
         raises(TypeError, lambda: Decimal("1").format("de", **wrong))
 
@@ -586,8 +586,8 @@ def test_errors_of_number_formats():
         (lambda: NumberFormat("\udcff"), "unknown locale: '\\udcff'"),
         (lambda: NumberFormat("tlh", skeleton="percent/w"), "skeleton syntax: 'percent/w'"),
         (lambda: NumberFormat("de", skeleton="\ud800"), "skeleton syntax: '\\ud800'"),
-        (lambda: NumberFormat("de", skeleton="measure-unit/length-foot"),
-         "skeleton unsupported: 'measure-unit/length-foot'"),
+        (lambda: NumberFormat("de", skeleton="group-thousands"),
+         "skeleton unsupported: 'group-thousands'"),
         (lambda: NumberFormat("de", numbering_system="roman"), "unknown numbering system"),
         (lambda: NumberFormat("de", minimum_integer_digits=22), "digit options: integer digits are from 1 to 21"),
     ):
@@ -602,7 +602,8 @@ def test_errors_of_number_formats():
         (lambda: NumberFormat("de", locale="de"), "no such option: locale"),
         (lambda: NumberFormat(b"de"), "a locale is a str, not bytes"),
         (lambda: NumberFormat("de", skeleton=5), "a skeleton is a str, not int"),
-        (lambda: NumberFormat("de", unit="meter"), "no such option: unit"),
+        (lambda: NumberFormat("de", scale=2), "no such option: scale"),
+        (lambda: NumberFormat("de", unit=5), "unit is a str, not int"),
         (lambda: NumberFormat("de", style=5), "style is a str, not int"),
         (lambda: euros.format(1.5), "a number is a str, an int or a Decimal, not float, whose digits are not those "
                                     "that were written: write str(x) of a float x"),
@@ -618,6 +619,46 @@ def test_errors_of_number_formats():
         raises(TypeError, call, text=message)
     for wrong in ({"style": "unit"}, {"style": "permille"}, {"currency_display": "hidden"}, {"style": "currency"}):
         raises(ValueError, lambda: NumberFormat("de", **wrong))
+
+
+# Options that `Intl.NumberFormat` of node 20 rejects, with Python's words; `{"unit": "meter"}` it takes.
+WRONG_UNITS = [
+    "foo", "Meter", "meters", "m", "meter ", "furlong", "tonne", "square-meter", "kilowatt-hour", "permille", "knot",
+    "meter-per-foo", "foo-per-meter", "meter-per-", "-per-meter", "per-meter", "meter-per-second-per-second",
+    "meter-per-square-second", "liter-per-100-kilometer", "meter-PER-second", "meter per second", "meter/second",
+    "day-person", "foot-and-inch", "length-meter", "unit/meter", "m\xe9ter", "meter\0", "meter\n",
+]
+WRONG_UNIT_OPTIONS = [
+    {"style": "unit"}, {"style": "unit", "unit": ""}, {"style": "unit", "unit": "meter", "unit_display": "full"},
+    {"style": "unit", "unit": "meter", "unit_display": ""}, {"unit_display": "foo"},
+    {"style": "currency", "currency": "USD", "currency_display": "names"},
+    {"style": "currency", "currency_display": "name"},
+    {"style": "currency", "currency": "US$", "currency_display": "name"},
+    {"style": "unit", "unit": "meter", "currency": "US"}, {"style": "unit", "unit": "meter", "currency_sign": "foo"},
+]
+
+
+def test_units():
+    """Units and names of currencies beside the rows of `test_options`: options that are rejected, and resolved ones."""
+    speed = {"style": "unit", "unit": "kilometer-per-hour", "unit_display": "long"}
+    made = NumberFormat("en", **speed)
+    check(made.format(5) == "5 kilometers per hour", "a unit")
+    check([part["type"] for part in made.format_to_parts(5)] == ["integer", "literal", "unit"], "the kinds of parts")
+    check(made.resolved_options()["unit"] == "kilometer-per-hour", "the unit", made.resolved_options())
+    check(eval(repr(NumberFormat("en", **speed))) == NumberFormat("en", **speed), "repr")
+    check(column(["5"], format="en", **speed) == ["5 kilometers per hour"], "a column")
+    furlong = NumberFormat("en", skeleton="unit/furlong-per-day unit-width-full-name decimal-always .")
+    found = [furlong.resolved_options().get(name) for name in ("unit", "unit_display", "decimal_separator")]
+    check(found == ["furlong-per-day", "long", "always"], "resolved options of a skeleton", found)
+    check(NumberFormat("de", unit="meter").format(5) == "5", "a unit of another style")
+    for unit in WRONG_UNITS:
+        for options in ({"style": "unit", "unit": unit}, {"unit": unit}, {"style": "percent", "unit": unit}):
+            raises(DecimalError, lambda: NumberFormat("en", **options), "unknown unit")
+    raises(DecimalError, lambda: NumberFormat("en", unit="\ud800"), "unknown unit")
+    for options in WRONG_UNIT_OPTIONS:
+        raises(ValueError, lambda: NumberFormat("en", **options))
+    raises(TypeError, lambda: NumberFormat("en", style="unit", unit=None))
+    raises(DecimalError, lambda: NumberFormat("en", **speed).read("5 kilometers per hour"), "unreadable format")
 
 
 def test_values_of_number_formats():
@@ -753,6 +794,8 @@ def test_leaks():
         lambda: fails(lambda: column(["x"], format=euros)),
         lambda: fails(lambda: column(["1"], format=euros, style="x")),
         lambda: fails(lambda: one.format("de", minimum_integer_digits=30)),
+        lambda: NumberFormat("de", style="unit", unit="gram-per-second").resolved_options(),
+        lambda: fails(lambda: one.format("de", unit="foo")),
     ]
     tracemalloc.start()
     for call in calls:
@@ -1083,6 +1126,7 @@ if __name__ == "__main__":
     test_options()
     test_number_format()
     test_errors_of_number_formats()
+    test_units()
     test_values_of_number_formats()
     test_kept_formats()
     test_threads()

@@ -75,7 +75,7 @@ pub enum ReadError {
 #[derive(Clone, Copy, Debug, PartialEq, Eq)]
 pub struct UnknownLocale;
 
-/// A text is no code of a currency, or no name of a numbering system.
+/// A text is no code of a currency, or no name of a unit or of a numbering system.
 #[derive(Clone, Copy, Debug, PartialEq, Eq)]
 pub struct NameError;
 
@@ -193,7 +193,7 @@ impl fmt::Display for DigitOptionsError {
 
 impl fmt::Display for NameError {
     fn fmt(&self, f: &mut fmt::Formatter<'_>) -> fmt::Result {
-        f.write_str("no code of a currency, or no name of a numbering system")
+        f.write_str("no code of a currency, or no name of a unit or of a numbering system")
     }
 }
 

@@ -63,10 +63,17 @@ pub(crate) struct FdForms {
     pub(crate) format: FdForm,
 }
 
-/// A formatter, of 120 bytes that only the library reads.
+#[repr(C)]
+struct FdUnits {
+    status: u32,
+    unit: u8,
+    per_unit: u8,
+}
+
+/// A formatter, of 136 bytes that only the library reads.
 #[repr(C)]
 #[derive(Clone, Copy)]
-pub(crate) struct FdFormatter([u64; 15]);
+pub(crate) struct FdFormatter([u64; 17]);
 
 #[repr(C)]
 struct FdMade {
@@ -105,6 +112,8 @@ extern "C" {
         text: *const u8, count: usize, forms: *const FdForms, calls: *const FdCall, call_count: usize,
         texts: *const u8, texts_count: usize, buffer: *mut u8, capacity: usize,
     ) -> FdResult;
+    fn fd_unit(text: *const u8, count: usize) -> FdUnits;
+    fn fd_unit_name(number: u32, buffer: *mut u8, capacity: usize) -> FdResult;
     fn fd_formatter_by_options(tag: *const u8, tag_count: usize, options: *const Options) -> FdMade;
     #[rustfmt::skip]
     fn fd_formatter_by_skeleton(
@@ -226,6 +235,25 @@ pub(crate) fn convert(start: &[u8], forms: &FdForms, texts: &[u8]) -> Result<Str
             fd_convert(start.as_ptr(), start.len(), forms, none.as_ptr(), 0, texts, texts_count, buffer, capacity)
         }
     })
+}
+
+/// The numbers of the unit of a name, and of the one after `per` or 0.
+pub(crate) fn unit(name: &str) -> Result<(u8, u8), Failure> {
+    // SAFETY: the pointer is that of a slice of the length beside it.
+    let units = unsafe { fd_unit(name.as_ptr(), name.len()) };
+    match units.status {
+        OK => Ok((units.unit, units.per_unit)),
+        status => Err(Failure::new(status, 0)),
+    }
+}
+
+/// The name of the unit with a number that `unit` returned.
+pub(crate) fn unit_name(number: u8) -> String {
+    // SAFETY: the buffer has the capacity.
+    match text(ROOM, |buffer, capacity| unsafe { fd_unit_name(u32::from(number), buffer, capacity) }) {
+        Ok(name) => name,
+        Err(failure) => failure.never(),
+    }
 }
 
 /// Makes a formatter of a locale and options.
@@ -383,6 +411,6 @@ mod tests {
     #[test]
     fn structs_are_those_of_the_library() {
         // SAFETY: the function takes nothing.
-        assert_eq!(unsafe { super::fd_version() }, 6);
+        assert_eq!(unsafe { super::fd_version() }, 7);
     }
 }

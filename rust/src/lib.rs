@@ -22,7 +22,7 @@ pub use error::{
 };
 pub use number_format::{FormattedNumber, NumberFormat, NumberParts, PartKind};
 pub use number_options::{
-    CompactLength, CurrencyCode, CurrencyDisplay, CurrencySign, CurrencyUsage, GroupingStrategy, NumberingSystem,
-    Options, RoundingPriority, TrailingZeroDisplay,
+    CompactLength, CurrencyCode, CurrencyDisplay, CurrencySign, CurrencyUsage, DecimalSeparatorDisplay,
+    GroupingStrategy, NumberingSystem, Options, RoundingPriority, TrailingZeroDisplay, Unit, UnitDisplay,
 };
 pub use options::{PluralCategory, RoundingIncrement, Sign, SignDisplay, SignedRoundingMode, UnsignedRoundingMode};

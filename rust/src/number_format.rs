@@ -46,12 +46,14 @@ pub enum PartKind {
     PlusSign,
     /// A percent sign or a permille sign.
     PercentSign,
-    /// The symbol or the code of a currency.
+    /// The symbol, the code or the name of a currency.
     Currency,
     /// Spaces, parentheses and marks.
     Literal,
     /// The word of a power of ten in compact notation.
     Compact,
+    /// The text of a unit; also a percent sign that is one.
+    Unit,
     /// The separator before an exponent.
     ExponentSeparator,
     /// The minus sign of an exponent.
@@ -64,7 +66,7 @@ pub enum PartKind {
 
 impl PartKind {
     /// Of each `fd_part_kind`.
-    const ALL: [PartKind; 14] = [
+    const ALL: [PartKind; 15] = [
         PartKind::Integer,
         PartKind::Group,
         PartKind::Decimal,
@@ -75,6 +77,7 @@ impl PartKind {
         PartKind::Currency,
         PartKind::Literal,
         PartKind::Compact,
+        PartKind::Unit,
         PartKind::ExponentSeparator,
         PartKind::ExponentMinusSign,
         PartKind::ExponentPlusSign,

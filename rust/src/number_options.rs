@@ -1,5 +1,6 @@
 //! The options of a number, as those of `Intl.NumberFormat`.
 use crate::error::NameError;
+use crate::ffi;
 use crate::options::{SignDisplay, SignedRoundingMode, UnsignedRoundingMode};
 use std::fmt;
 use std::str::FromStr;
@@ -30,6 +31,22 @@ pub struct CurrencyCode([u8; 3]);
 #[repr(transparent)]
 #[derive(Clone, Copy, PartialEq, Eq, Hash)]
 pub struct NumberingSystem([u8; 16]);
+
+/// A unit that ECMA-402 has: one of 45, as `kilometer`, or two of these, as `gram-per-second`.
+///
+/// ```
+/// # use fixed_decimal_proved::{NameError, Unit};
+/// assert_eq!(Unit::try_from_str("kilometer-per-hour")?.to_string(), "kilometer-per-hour");
+/// assert_eq!(Unit::try_from_str("furlong"), Err(NameError));
+/// # Ok::<(), NameError>(())
+/// ```
+#[repr(C)]
+#[derive(Clone, Copy, PartialEq, Eq, Hash)]
+pub struct Unit {
+    unit: u8,
+    /// 0 is none.
+    per_unit: u8,
+}
 
 impl CurrencyCode {
     /// Reads a code.
@@ -72,6 +89,51 @@ impl NumberingSystem {
     }
 }
 
+impl Unit {
+    /// Zeros, which are no unit.
+    const NONE: Unit = Unit { unit: 0, per_unit: 0 };
+
+    /// Reads the name of a unit.
+    ///
+    /// # Errors
+    ///
+    /// ECMA-402 has no unit with this name. Letters have to be of the same case.
+    pub fn try_from_str(name: &str) -> Result<Self, NameError> {
+        match ffi::unit(name) {
+            Ok((unit, per_unit)) => Ok(Unit { unit, per_unit }),
+            Err(_) => Err(NameError),
+        }
+    }
+}
+
+impl FromStr for Unit {
+    type Err = NameError;
+
+    fn from_str(text: &str) -> Result<Self, NameError> {
+        Self::try_from_str(text)
+    }
+}
+
+impl fmt::Display for Unit {
+    fn fmt(&self, f: &mut fmt::Formatter<'_>) -> fmt::Result {
+        f.write_str(&ffi::unit_name(self.unit))?;
+        if self.per_unit == 0 {
+            return Ok(());
+        }
+        f.write_str("-per-")?;
+        f.write_str(&ffi::unit_name(self.per_unit))
+    }
+}
+
+impl fmt::Debug for Unit {
+    fn fmt(&self, f: &mut fmt::Formatter<'_>) -> fmt::Result {
+        match *self {
+            Unit::NONE => f.write_str("none"),
+            _ => fmt::Display::fmt(self, f),
+        }
+    }
+}
+
 /// The text of ASCII bytes.
 fn text_of(bytes: &[u8]) -> &str {
     std::str::from_utf8(bytes).expect("a name is ASCII")
@@ -105,9 +167,10 @@ enum Style {
     Percent = 1,
     Permille = 2,
     Currency = 3,
+    Unit = 4,
 }
 
-/// Which symbol of a currency is written.
+/// Which symbol of a currency is written, or its name.
 #[repr(u8)]
 #[derive(Clone, Copy, Debug, Default, PartialEq, Eq, Hash)]
 pub enum CurrencyDisplay {
@@ -120,6 +183,8 @@ pub enum CurrencyDisplay {
     Code = 2,
     /// None: the digits are those of the currency.
     Hidden = 3,
+    /// The name, as `US dollars`.
+    Name = 4,
 }
 
 /// Which pattern of amounts is used.
@@ -142,6 +207,30 @@ pub enum CurrencyUsage {
     Standard = 0,
     /// Those of cash, with its increment.
     Cash = 1,
+}
+
+/// The width of a unit.
+#[repr(u8)]
+#[derive(Clone, Copy, Debug, Default, PartialEq, Eq, Hash)]
+pub enum UnitDisplay {
+    /// `5 km/h`
+    #[default]
+    Short = 0,
+    /// `5km/h`
+    Narrow = 1,
+    /// `5 kilometers per hour`
+    Long = 2,
+}
+
+/// Where the decimal separator is written.
+#[repr(u8)]
+#[derive(Clone, Copy, Debug, Default, PartialEq, Eq, Hash)]
+pub enum DecimalSeparatorDisplay {
+    /// Before fraction digits.
+    #[default]
+    Auto = 0,
+    /// After the integer digits, also if there are no fraction digits: `5.`.
+    Always = 1,
 }
 
 /// In which notation a number is written.
@@ -230,9 +319,12 @@ pub struct Options {
     currency_display: CurrencyDisplay,
     currency_sign: CurrencySign,
     currency_usage: CurrencyUsage,
+    unit: Unit,
+    unit_display: UnitDisplay,
     notation: Notation,
     sign_display: SignDisplay,
     grouping: GroupingStrategy,
+    decimal_separator: DecimalSeparatorDisplay,
     rounding_mode: u8,
     rounding_priority: RoundingPriority,
     trailing_zeros: TrailingZeroDisplay,
@@ -254,9 +346,12 @@ impl Default for Options {
             currency_display: CurrencyDisplay::default(),
             currency_sign: CurrencySign::default(),
             currency_usage: CurrencyUsage::default(),
+            unit: Unit::NONE,
+            unit_display: UnitDisplay::default(),
             notation: Notation::default(),
             sign_display: SignDisplay::default(),
             grouping: GroupingStrategy::default(),
+            decimal_separator: DecimalSeparatorDisplay::default(),
             rounding_mode: SignedRoundingMode::Unsigned(UnsignedRoundingMode::HalfExpand).code(),
             rounding_priority: RoundingPriority::default(),
             trailing_zeros: TrailingZeroDisplay::default(),
@@ -289,6 +384,20 @@ impl Options {
     #[must_use]
     pub fn currency(code: CurrencyCode) -> Self {
         Options { style: Style::Currency, currency: code, ..Options::default() }
+    }
+
+    /// A number of units.
+    ///
+    /// ```
+    /// # use fixed_decimal_proved::{Decimal, NumberFormat, Options, Unit, UnitDisplay};
+    /// let speed = Options::unit("kilometer-per-hour".parse()?);
+    /// let format = NumberFormat::new("de", &speed.with_unit_display(UnitDisplay::Long))?;
+    /// assert_eq!(format.format(&Decimal::from(100))?.as_str(), "100 Kilometer pro Stunde");
+    /// # Ok::<(), Box<dyn std::error::Error>>(())
+    /// ```
+    #[must_use]
+    pub fn unit(unit: Unit) -> Self {
+        Options { style: Style::Unit, unit, ..Options::default() }
     }
 
     /// A plain number in compact notation: 1234567 is `1.2M` or `1.2 million`.
@@ -364,12 +473,16 @@ macro_rules! setters {
 }
 
 setters! {
-    /// The same with another symbol of the currency.
+    /// The same with another symbol of the currency, or its name.
     with_currency_display currency_display: CurrencyDisplay;
     /// The same with the usual pattern of amounts, or that of accounts.
     with_currency_sign currency_sign: CurrencySign;
     /// The same with the usual digits of the currency, or those of cash.
     with_currency_usage currency_usage: CurrencyUsage;
+    /// The same with a unit of another width.
+    with_unit_display unit_display: UnitDisplay;
+    /// The same with the decimal separator also after integers, as ICU has it.
+    with_decimal_separator decimal_separator: DecimalSeparatorDisplay;
     /// The same with another sign: that of the rounded number.
     with_sign_display sign_display: SignDisplay;
     /// The same with other groups.

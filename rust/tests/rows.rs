@@ -2,11 +2,11 @@
 use fixed_decimal_proved::SignedRoundingMode::{Ceil, Floor, HalfCeil, HalfFloor};
 use fixed_decimal_proved::UnsignedRoundingMode::{Expand, HalfEven, HalfExpand, HalfTrunc, Trunc};
 use fixed_decimal_proved::{
-    CompactLength, CurrencyCode, CurrencyDisplay, CurrencySign, CurrencyUsage, Decimal, DigitOptionsError,
-    FormattedNumber, GroupingStrategy, IntegerError, LimitError, NameError, NumberFormat, NumberFormatError,
+    CompactLength, CurrencyCode, CurrencyDisplay, CurrencySign, CurrencyUsage, Decimal, DecimalSeparatorDisplay,
+    DigitOptionsError, FormattedNumber, GroupingStrategy, IntegerError, LimitError, NameError, NumberFormat, NumberFormatError,
     NumberParts, NumberReadError, NumberingSystem, Options, OverlapError, ParseError, PartKind, PluralCategory,
     ReadError, RoundingIncrement, RoundingPriority, RulesError, Sign, SignDisplay, SignedRoundingMode,
-    TrailingZeroDisplay, UnknownLocale,
+    TrailingZeroDisplay, Unit, UnitDisplay, UnknownLocale,
 };
 use std::cmp::Ordering;
 use std::error::Error;
@@ -245,7 +245,7 @@ fn skeletons() {
     }
     for (text, locale, skeleton, error) in [
         ("1", "tlh", "percent/w", NumberFormatError::SkeletonSyntax(7)),
-        ("1", "tlh", ".00 measure-unit/length-meter", NumberFormatError::SkeletonUnsupported(4)),
+        ("1", "tlh", ".00 group-thousands", NumberFormatError::SkeletonUnsupported(4)),
         ("1e32767", "tlh", "scale/100", NumberFormatError::UnknownLocale),
         ("1e32767", "en", "scale/100", NumberFormatError::Limit),
     ] {
@@ -280,6 +280,10 @@ fn currency(code: &str) -> Options {
     Options::currency(code.parse().unwrap())
 }
 
+fn unit(name: &str) -> Options {
+    Options::unit(name.parse().unwrap())
+}
+
 /// Texts of `Intl.NumberFormat` in node 20 (CLDR 48), and of ICU where the option is its own.
 #[test]
 fn number_formats() {
@@ -311,6 +315,15 @@ fn number_formats() {
         ("en", plain.with_minimum_significant_digits(3), "5", "5.00"),
         ("en", plain.with_maximum_significant_digits(2), "12345", "12,000"),
         ("en", plain.with_scale(2), "5", "500"),
+        ("en", plain.with_decimal_separator(DecimalSeparatorDisplay::Always), "5", "5."),
+        ("en", currency("USD").with_currency_display(CurrencyDisplay::Name), "42", "42.00 US dollars"),
+        ("ja", currency("INR").with_currency_display(CurrencyDisplay::Name), "5000", "5,000.00インド ルピー"),
+        ("en", unit("mile-per-gallon"), "1234567.891", "1,234,567.891 mpg"),
+        ("en", unit("celsius-per-stone"), "1.0", "1°C/st"),
+        ("fr", unit("hectare").with_unit_display(UnitDisplay::Narrow), "20", "20ha"),
+        ("pl", unit("day").with_unit_display(UnitDisplay::Long), "3", "3 dni"),
+        ("ar", unit("hour-per-byte").with_unit_display(UnitDisplay::Long), "-1", "ساعة لكل بايت"),
+        ("fr", unit("gallon").with_unit_display(UnitDisplay::Long).with_engineering_notation(), "1.01", "1,01E0 gallon"),
     ] {
         let format = NumberFormat::new(locale, &options).unwrap();
         assert_eq!(format.format(&decimal(text)).unwrap().as_str(), written, "{locale} {options:?}");
@@ -416,6 +429,18 @@ fn errors_of_number_formats() {
     for name in ["", "la", "latinlatin", "la n", "Latn", "latn\0", "lätn"] {
         assert_eq!(NumberingSystem::try_from_str(name), Err(NameError), "{name}");
     }
+    for name in ["", "foo", "Meter", "furlong", "meter-per-foo", "meter-per-square-second", "meter per second"] {
+        assert_eq!(Unit::try_from_str(name), Err(NameError), "{name}");
+    }
+    for name in ["meter", "kilometer-per-hour", "gram-per-second"] {
+        assert_eq!(Unit::try_from_str(name).unwrap().to_string(), name);
+        assert_eq!(format!("{:?}", Unit::try_from_str(name).unwrap()), name);
+    }
+    let speed = NumberFormat::new("en", &unit("kilometer-per-hour")).unwrap();
+    assert_eq!(speed.read("5 km/h"), Err(NumberReadError::Unreadable));
+    let parts = speed.parts(&decimal("5")).unwrap();
+    let kinds: Vec<_> = parts.iter().map(|(kind, _)| kind).collect();
+    assert_eq!(kinds, [PartKind::Integer, PartKind::Literal, PartKind::Unit]);
     assert_ne!(plain.with_numbering_system("arab".parse().unwrap()), plain);
 }
 

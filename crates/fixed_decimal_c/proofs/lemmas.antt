@@ -6,5 +6,7 @@ pub mod keys
 pub mod lines
 pub mod locales
 pub mod parts
+pub mod styles
 pub mod texts
+pub mod units
 pub mod words

@@ -4,7 +4,7 @@ use Rattle.decimal_unsigned.specs.declared.error.ParseError.{ParseError}
 use Rattle.decimal_unsigned.specs.declared.error.ParseError.TheVariants as parse
 use Rattle.fixed_decimal.specs.declared.runs.RunError.{RunError}
 use Rattle.fixed_decimal.specs.declared.runs.RunError.TheVariants as run
-use Rattle.fixed_decimal_c.specs.declared.error.FdError.{FdError, TheVariants.{Syntax, Limit, Memory, OperandSyntax, OperandLimit, Overlap, Overflow, BufferTooSmall, UnknownCall, UnknownLocale, UnknownOption, NotWhole, OutOfRange, RulesSyntax, RulesLimit, SkeletonSyntax, SkeletonUnsupported, UnknownNumberingSystem, UnreadableFormat, DigitOptions, NoSkeleton, Formatter, PartsTooSmall}}
+use Rattle.fixed_decimal_c.specs.declared.error.FdError.{FdError, TheVariants.{Syntax, Limit, Memory, OperandSyntax, OperandLimit, Overlap, Overflow, BufferTooSmall, UnknownCall, UnknownLocale, UnknownOption, NotWhole, OutOfRange, RulesSyntax, RulesLimit, SkeletonSyntax, SkeletonUnsupported, UnknownNumberingSystem, UnreadableFormat, DigitOptions, NoSkeleton, Formatter, PartsTooSmall, UnknownUnit}}
 
 -- the status of an error
 abbrev pub status_of : FdError → ℕ
@@ -31,6 +31,7 @@ status_of (DigitOptions at) = 20
 status_of NoSkeleton = 21
 status_of Formatter = 22
 status_of PartsTooSmall = 23
+status_of UnknownUnit = 24
 
 -- where an error is: the number of a text, a call or a reason, or a byte of rules or of a skeleton
 abbrev pub place_of : FdError → ℕ

@@ -1,8 +1,8 @@
 -- The options of a formatter, as C keeps them.
 use Rattle.std.specs.{Prelude.{◌≡◌, ℕ, ◌-◌, ◌==◌, if◌then◌else◌, List, [], ◌∷◌, ◌++◌, length, take, replicate, slice_get, Option, Some, None}, Option.{option_and_then, option_map}}
-use Rattle.locale_data.specs.{Codes.{code_of, system_name}, Rows.unpadded}
-use Rattle.number_format.specs.{declared.{digits.{options.DigitOptions.DigitOptions, precision.{BothDigits.BothDigits, Minimum.Minimum, Precision.Precision}, ranges.{FractionDigits.FractionDigits, SignificantDigits.SignificantDigits}}, options.{ExponentSign.ExponentSign, NumberNotation.NumberNotation, NumberOptions.NumberOptions, NumberStyle.NumberStyle}}, ShownDigits.increment_of}
-use Rattle.fixed_decimal_c.specs.{declared.format_options.FdFormatOptions.FdFormatOptions, Calls.{display_code, mode_code}, NumberOptions.{amounts, displays, grouping_code, notations, signs, trailing_zeros, units, usages}}
+use Rattle.locale_data.specs.{Codes.system_name, Rows.unpadded}
+use Rattle.number_format.specs.{declared.{digits.{options.DigitOptions.DigitOptions, precision.{BothDigits.BothDigits, Minimum.Minimum, Precision.Precision}, ranges.{FractionDigits.FractionDigits, SignificantDigits.SignificantDigits}}, options.{ExponentSign.ExponentSign, NumberNotation.NumberNotation, NumberOptions.NumberOptions}}, ShownDigits.increment_of}
+use Rattle.fixed_decimal_c.specs.{declared.{format_options.FdFormatOptions.FdFormatOptions, styles.StyleCodes.StyleCodes}, Calls.{display_code, mode_code}, NumberOptions.{grouping_code, notations, separators, trailing_zeros}, Styles.IsStyle}
 
 -- ---- Words, in the order of their numbers.
 
@@ -12,12 +12,18 @@ exponent_signs = ExponentSign.Auto ∷ ExponentSign.Always ∷ ExponentSign.Neve
 abbrev pub minimums : List Minimum
 minimums = Minimum.Chosen ∷ Minimum.Both ∷ []
 
--- the style with a number; of money with the bytes of a code and the numbers of its display, sign and usage
-abbrev pub style_with : ℕ → List ℕ → ℕ → ℕ → ℕ → Option NumberStyle
-style_with style code display sign usage =
-    if style == 3
-    then amounts (code_of code) (slice_get displays display) (slice_get signs sign) (slice_get usages usage)
-    else slice_get units style
+-- the numbers of the style
+abbrev pub style_codes_in : FdFormatOptions → StyleCodes
+style_codes_in c = record {
+  style = c.style;
+  currency = c.currency;
+  currency_display = c.currency_display;
+  currency_sign = c.currency_sign;
+  currency_usage = c.currency_usage;
+  unit = c.unit;
+  per_unit = c.per_unit;
+  unit_display = c.unit_display;
+}
 
 -- the notation with a number, and with this number of digits and number of a sign of an exponent
 abbrev pub notation_with : ℕ → ℕ → ℕ → Option NumberNotation
@@ -71,12 +77,12 @@ AreDigits c (Some d) = AreShownDigits c d
 
 -- C has these options
 pub record AreFormatOptions (c : FdFormatOptions) (o : NumberOptions) : Type 0 where
-  pub style :
-      style_with c.style c.currency c.currency_display c.currency_sign c.currency_usage ≡ Some o.style
+  pub style : IsStyle (style_codes_in c) o.style
   pub scale : o.scale ≡ c.scale
   pub notation : notation_with c.notation c.exponent_digits c.exponent_sign ≡ Some o.notation
   pub digits : AreDigits c o.digits
   pub sign : c.sign_display ≡ display_code o.sign_display
   pub grouping : c.grouping ≡ grouping_code o.grouping
+  pub separator : slice_get separators c.decimal_separator ≡ Some o.decimal_separator
   pub system : system_with c.has_numbering_system c.numbering_system ≡ Some o.numbering_system
-  pub reserved : c.reserved ≡ replicate 34 0
+  pub reserved : c.reserved ≡ replicate 30 0

@@ -2,7 +2,7 @@
 use Rattle.std.specs.{Prelude.{◌≡◌, ◌⊎◌, ℕ, Bool, List, replicate, pos, Some, Result, Ok, Err}, Str.IsUtf8}
 use Rattle.locale_data.specs.Locales.{system_name_at}
 use Rattle.number_format.specs.{declared.{format.{ids.FormatterIds.FormatterIds, formatter.NumberFormatter.NumberFormatter}, options.NumberOptions.NumberOptions}, Formatters.{AreIdsOf, IsFormatterAt, LacksRows}}
-use Rattle.fixed_decimal_c.specs.{declared.{answer.FdColumn.FdColumn, error.FdError.{FdError, TheVariants.Formatter}, format_options.FdFormatOptions.FdFormatOptions, format_rows.FdFormatRows.FdFormatRows, formatter.{FdFormatter.FdFormatter, FdMade.FdMade, FdResolution.FdResolution}, number_options.FdNumberOptions.FdNumberOptions}, Errors.{status_of, place_of}, FormatOptions.{padded_name, AreFormatOptions}, FormatRows.AreRows, Formats.FormatsIfMade, Lines.FormatsColumnIfMade, NumberOptions.AreNumberOptions, NumberReadings.ReadsIfMade, NumberTexts.{AreOptionsOf, FormatterByFails, FormatterFails}}
+use Rattle.fixed_decimal_c.specs.{declared.{answer.FdColumn.FdColumn, error.FdError.{FdError, TheVariants.Formatter}, format_options.FdFormatOptions.FdFormatOptions, format_rows.{FdFormatRows.FdFormatRows, FdOuterRows.FdOuterRows}, formatter.{FdFormatter.FdFormatter, FdMade.FdMade, FdResolution.FdResolution}, number_options.FdNumberOptions.FdNumberOptions}, Errors.{status_of, place_of}, FormatOptions.{padded_name, AreFormatOptions}, FormatRows.AreRows, Formats.FormatsIfMade, Lines.FormatsColumnIfMade, NumberOptions.AreNumberOptions, NumberReadings.ReadsIfMade, NumberTexts.{AreOptionsOf, FormatterByFails, FormatterFails}}
 
 -- ---- What C keeps.
 
@@ -76,6 +76,9 @@ ReadsKept answer c text lenient old new =
 
 -- ---- Answers, as C receives them.
 
+abbrev pub no_outer : FdOuterRows
+no_outer = record { kind = 0; texts = 0; patterns = 0; joiner = 0; code = replicate 3 0 }
+
 -- the rows with all fields 0
 abbrev pub no_rows : FdFormatRows
 no_rows = record {
@@ -93,6 +96,7 @@ no_rows = record {
   percent_unit = 0;
   money = 0;
   reserved = replicate 3 0;
+  outer = no_outer;
 }
 
 -- the options with all fields 0
@@ -113,16 +117,20 @@ no_options = record {
   currency_display = 0;
   currency_sign = 0;
   currency_usage = 0;
+  unit = 0;
+  per_unit = 0;
+  unit_display = 0;
   notation = 0;
   exponent_sign = 0;
   sign_display = 0;
   grouping = 0;
+  decimal_separator = 0;
   precision = 0;
   zeros = 0;
   rounding_mode = 0;
   trailing_zeros = 0;
   has_numbering_system = 0;
-  reserved = replicate 34 0;
+  reserved = replicate 30 0;
 }
 
 abbrev pub no_formatter : FdFormatter

@@ -4,6 +4,8 @@ pub mod Texts
 pub mod Calls
 pub mod Locales
 pub mod Numbers
+pub mod Units
+pub mod Styles
 pub mod NumberOptions
 pub mod NumberTexts
 pub mod FormatOptions

@@ -1,9 +1,9 @@
 -- The options of a number that C passes.
-use Rattle.std.specs.{Prelude.{◌≡◌, ℕ, ◌⊎◌, ◌==◌, if◌then◌else◌, Option, Some, None, unwrap_or, List, [], ◌∷◌, slice_get, slice_index}, Option.option_map}
+use Rattle.std.specs.{Prelude.{◌≡◌, ℕ, ◌⊎◌, ◌==◌, if◌then◌else◌, Option, Some, None, true, unwrap_or, List, [], ◌∷◌, slice_get, slice_index}, Option.option_map}
 use Rattle.decimal_format.specs.declared.grouping.GroupingStrategy.{GroupingStrategy}
-use Rattle.locale_data.specs.{declared.currency.CurrencySign.CurrencySign, Codes.{code_of, system_name}, Rows.unpadded}
-use Rattle.number_format.specs.{declared.{digits.{options.TrailingZeros.TrailingZeros, error.DigitOptionsError.DigitOptionsError, settings.{DigitSettings.DigitSettings, RoundingPriority.RoundingPriority}}, options.{CompactLength.CompactLength, CurrencyDisplay.CurrencyDisplay, CurrencyUsage.CurrencyUsage, ExponentOptions.ExponentOptions, ExponentSign.ExponentSign, NumberNotation.NumberNotation, NumberOptions.NumberOptions, NumberStyle.NumberStyle}}, DefaultDigits.{increment, is_compact}, DefaultOptions.{default_grouping, HasDigitsOf, DigitsFail}}
-use Rattle.fixed_decimal_c.specs.{declared.{error.FdError.{FdError, TheVariants.{UnknownOption, DigitOptions as WrongDigits}}, number_options.FdNumberOptions.FdNumberOptions}, Calls.{display_code, mode_code}}
+use Rattle.locale_data.specs.{Codes.system_name, Rows.unpadded}
+use Rattle.number_format.specs.{declared.{digits.{options.TrailingZeros.TrailingZeros, error.DigitOptionsError.DigitOptionsError, settings.{DigitSettings.DigitSettings, RoundingPriority.RoundingPriority}}, options.{CompactLength.CompactLength, DecimalSeparatorDisplay.DecimalSeparatorDisplay, ExponentOptions.ExponentOptions, ExponentSign.ExponentSign, NumberNotation.NumberNotation, NumberOptions.NumberOptions, NumberStyle.NumberStyle}}, DefaultDigits.{increment, is_compact}, DefaultOptions.{default_grouping, HasDigitsOf, DigitsFail}}
+use Rattle.fixed_decimal_c.specs.{declared.{error.FdError.{FdError, TheVariants.{UnknownOption, DigitOptions as WrongDigits}}, number_options.FdNumberOptions.FdNumberOptions, styles.StyleCodes.StyleCodes}, Calls.{display_code, mode_code}, Styles.{IsStyle, has_sanctioned_unit}}
 
 abbrev pub grouping_code : GroupingStrategy → ℕ
 grouping_code GroupingStrategy.Auto = 0
@@ -35,19 +35,6 @@ notations exponent =
     NumberNotation.Standard ∷ NumberNotation.Scientific exponent ∷ NumberNotation.Engineering exponent
     ∷ NumberNotation.Compact CompactLength.Short ∷ NumberNotation.Compact CompactLength.Long ∷ []
 
-abbrev pub units : List NumberStyle
-units = NumberStyle.Decimal ∷ NumberStyle.Percent ∷ NumberStyle.Permille ∷ []
-
-abbrev pub displays : List CurrencyDisplay
-displays =
-    CurrencyDisplay.Symbol ∷ CurrencyDisplay.Narrow ∷ CurrencyDisplay.Code ∷ CurrencyDisplay.Hidden ∷ []
-
-abbrev pub signs : List CurrencySign
-signs = CurrencySign.Standard ∷ CurrencySign.Accounting ∷ []
-
-abbrev pub usages : List CurrencyUsage
-usages = CurrencyUsage.Standard ∷ CurrencyUsage.Cash ∷ []
-
 abbrev pub priorities : List RoundingPriority
 priorities =
     RoundingPriority.Auto ∷ RoundingPriority.MorePrecision ∷ RoundingPriority.LessPrecision ∷ []
@@ -55,30 +42,37 @@ priorities =
 abbrev pub trailing_zeros : List TrailingZeros
 trailing_zeros = TrailingZeros.Auto ∷ TrailingZeros.StripIfInteger ∷ []
 
--- the style of a currency by its code and its display, sign and usage
-abbrev pub amounts :
-    Option (List ℕ) → Option CurrencyDisplay → Option CurrencySign → Option CurrencyUsage → Option NumberStyle
-amounts (Some code) (Some d) (Some s) (Some u) =
-    Some (NumberStyle.Currency (record { code = code; display = d; sign = s; usage = u }))
-amounts code d s u = None
+abbrev pub separators : List DecimalSeparatorDisplay
+separators = DecimalSeparatorDisplay.Auto ∷ DecimalSeparatorDisplay.Always ∷ []
 
-abbrev pub currency_of : FdNumberOptions → Option NumberStyle
-currency_of c =
-    amounts (code_of c.currency) (slice_get displays c.currency_display) (slice_get signs c.currency_sign)
-    (slice_get usages c.currency_usage)
+-- the numbers of the style
+abbrev pub style_codes_of : FdNumberOptions → StyleCodes
+style_codes_of c = record {
+  style = c.style;
+  currency = c.currency;
+  currency_display = c.currency_display;
+  currency_sign = c.currency_sign;
+  currency_usage = c.currency_usage;
+  unit = c.unit;
+  per_unit = c.per_unit;
+  unit_display = c.unit_display;
+}
 
-abbrev pub style_of : FdNumberOptions → Option NumberStyle
-style_of c = if c.style == 3 then currency_of c else slice_get units c.style
+-- C passes this style, and ECMA-402 has its unit
+pub record IsOptionStyle (c : FdNumberOptions) (s : NumberStyle) : Type 0 where
+  pub style : IsStyle (style_codes_of c) s
+  pub sanctioned : has_sanctioned_unit s ≡ true
 
 -- C passes these options, apart from the digits
 pub record AreChoices (c : FdNumberOptions) (o : NumberOptions) : Type 0 where
-  pub style : style_of c ≡ Some o.style
+  pub style : IsOptionStyle c o.style
   pub scale : o.scale ≡ c.scale
   pub notation : slice_get (notations plain) c.notation ≡ Some o.notation
   pub digits : o.digits ≡ None
   pub sign : c.sign_display ≡ display_code o.sign_display
   pub grouping :
       (g : GroupingStrategy) × (c.grouping ≡ grouping_code g) × (o.grouping ≡ grouping_in o.notation g)
+  pub separator : slice_get separators c.decimal_separator ≡ Some o.decimal_separator
   pub system : system_of c.numbering_system ≡ Some o.numbering_system
 
 -- C passes these numbers of digits; without an increment that of the style

@@ -15,10 +15,11 @@ kind_code PartKind.PercentSign = 6
 kind_code PartKind.Currency = 7
 kind_code PartKind.Literal = 8
 kind_code PartKind.Compact = 9
-kind_code PartKind.ExponentSeparator = 10
-kind_code PartKind.ExponentMinusSign = 11
-kind_code PartKind.ExponentPlusSign = 12
-kind_code PartKind.ExponentInteger = 13
+kind_code PartKind.Unit = 10
+kind_code PartKind.ExponentSeparator = 11
+kind_code PartKind.ExponentMinusSign = 12
+kind_code PartKind.ExponentPlusSign = 13
+kind_code PartKind.ExponentInteger = 14
 
 -- the part of this number of bytes from `start` on
 abbrev pub part_from : ℕ → ℕ → ℕ → FdPart

@@ -1,6 +1,6 @@
 -- The lines of statuses.
 use Rattle.std.specs.{Prelude.{◌≡◌, ℕ, zero, suc, ◌==◌, if◌then◌else◌, codes, List, [], ◌∷◌, ◌++◌, slice_get, Option, Some, None, Result}, Option.option_map, Fmt.decimal}
-use Rattle.fixed_decimal_c.specs.{declared.error.FdError.{FdError, TheVariants.{Syntax, Limit, Memory, OperandSyntax, OperandLimit, Overlap, Overflow, BufferTooSmall, UnknownCall, UnknownLocale, UnknownOption, NotWhole, OutOfRange, RulesSyntax, RulesLimit, SkeletonSyntax, SkeletonUnsupported, UnknownNumberingSystem, UnreadableFormat, DigitOptions, NoSkeleton, Formatter, PartsTooSmall}}, Texts.{Writes, WritesNothing}}
+use Rattle.fixed_decimal_c.specs.{declared.error.FdError.{FdError, TheVariants.{Syntax, Limit, Memory, OperandSyntax, OperandLimit, Overlap, Overflow, BufferTooSmall, UnknownCall, UnknownLocale, UnknownOption, NotWhole, OutOfRange, RulesSyntax, RulesLimit, SkeletonSyntax, SkeletonUnsupported, UnknownNumberingSystem, UnreadableFormat, DigitOptions, NoSkeleton, Formatter, PartsTooSmall, UnknownUnit}}, Texts.{Writes, WritesNothing}}
 
 -- the errors of the statuses from 1 on, at a place
 abbrev pub errors_at : ℕ → List FdError
@@ -8,7 +8,7 @@ errors_at at =
     Syntax at ∷ Limit at ∷ Memory ∷ OperandSyntax at ∷ OperandLimit at ∷ Overlap at ∷ Overflow at
     ∷ BufferTooSmall 0 ∷ UnknownCall at ∷ UnknownLocale ∷ UnknownOption ∷ NotWhole ∷ OutOfRange ∷ RulesSyntax at
     ∷ RulesLimit at ∷ SkeletonSyntax at ∷ SkeletonUnsupported at ∷ UnknownNumberingSystem ∷ UnreadableFormat
-    ∷ DigitOptions at ∷ NoSkeleton ∷ Formatter ∷ PartsTooSmall ∷ []
+    ∷ DigitOptions at ∷ NoSkeleton ∷ Formatter ∷ PartsTooSmall ∷ UnknownUnit ∷ []
 
 -- texts before and after a number
 abbrev pub around : List ℕ → ℕ → List ℕ → List ℕ
@@ -45,6 +45,7 @@ line_of calls (DigitOptions at) = codes "no such numbers of digits"
 line_of calls NoSkeleton = codes "no such skeleton"
 line_of calls Formatter = codes "no formatter"
 line_of calls PartsTooSmall = codes "too few parts"
+line_of calls UnknownUnit = codes "unknown unit"
 
 -- the line of a status; that of no error is empty
 abbrev pub status_line : ℕ → ℕ → ℕ → Option (List ℕ)

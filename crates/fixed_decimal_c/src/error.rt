@@ -54,6 +54,8 @@ pub enum FdError {
     Formatter,
     /// The parts of the text do not fit their array.
     PartsTooSmall,
+    /// ECMA-402 has no unit with this name.
+    UnknownUnit,
 }
 
 impl FdError {
@@ -84,6 +86,7 @@ impl FdError {
             FdError::NoSkeleton => 21,
             FdError::Formatter => 22,
             FdError::PartsTooSmall => 23,
+            FdError::UnknownUnit => 24,
         }
     }
 

@@ -1,16 +1,18 @@
 //! The options of a formatter, as C keeps them.
 ghost use Rattle.std.specs.Prelude.{◌≡◌, ◌<◌, Option, replicate, slice_get, Some, IfSome, IfNone};
-ghost use Rattle.number_format.specs.declared.{digits.{options.DigitOptions.DigitOptions, precision.{BothDigits.BothDigits, Precision.Precision}, ranges.{FractionDigits.FractionDigits, FractionMultiples.FractionMultiples, IntegerDigits.IntegerDigits, SignificantDigits.SignificantDigits}}, options.{NumberNotation.NumberNotation, NumberOptions.NumberOptions}};
+ghost use Rattle.number_format.specs.declared.{digits.{options.DigitOptions.DigitOptions, precision.{BothDigits.BothDigits, Precision.Precision}, ranges.{FractionDigits.FractionDigits, FractionMultiples.FractionMultiples, IntegerDigits.IntegerDigits, SignificantDigits.SignificantDigits}}, options.{NumberNotation.NumberNotation, NumberOptions.NumberOptions, NumberStyle.NumberStyle}};
 ghost use Rattle.number_format.specs.ShownDigits.{increment_of};
-ghost use Rattle.locale_data.specs.{Codes.{code_of, system_name}, Rows.unpadded};
-ghost use Rattle.fixed_decimal_c.specs.{NumberOptions.{trailing_zeros, units, amounts, displays, signs, usages, grouping_code}, FormatOptions.{padded_name, exponent_signs, minimums, style_with, notation_with, system_with, AreFraction, AreSignificant, AreBoth, IsPrecision, AreShownDigits, AreDigits, AreFormatOptions}};
+ghost use Rattle.locale_data.specs.{Codes.system_name, Rows.unpadded};
+ghost use Rattle.fixed_decimal_c.specs.{NumberOptions.{trailing_zeros, separators, grouping_code}, Styles.IsStyle, FormatOptions.{padded_name, exponent_signs, minimums, style_codes_in, notation_with, system_with, AreFraction, AreSignificant, AreBoth, IsPrecision, AreShownDigits, AreDigits, AreFormatOptions}};
 
 use crate::calls::{display, display_code, mode, mode_code};
-use crate::number_options::{TRAILING_ZEROS, UNITS, amounts, choice, grouping, notation};
+use crate::choices::choice;
+use crate::number_options::{SEPARATORS, TRAILING_ZEROS, grouping, notation};
+use crate::styles::StyleCodes;
 use decimal_format::GroupingStrategy;
-use locale_data::{CurrencyCode, CurrencySign, NumberingSystem, unpadded};
+use locale_data::{NumberingSystem, unpadded};
 use number_format::{
-    BothDigits, CompactLength, CurrencyDisplay, CurrencyUsage, DigitOptions, ExponentOptions,
+    BothDigits, CompactLength, DecimalSeparatorDisplay, DigitOptions, ExponentOptions,
     ExponentSign, FractionDigits, FractionMultiples, Increment, IntegerDigits, Minimum,
     NumberNotation, NumberOptions, NumberStyle, Precision, SignificantDigits, TrailingZeros,
 };
@@ -45,12 +47,18 @@ pub struct FdFormatOptions {
     pub currency: [u8; 3],
     /// The name of the numbering system, padded with spaces.
     pub numbering_system: [u8; 16],
-    /// Which symbol of the currency is written, as in `FdNumberOptions`.
+    /// Which symbol of the currency is written, or its name, as in `FdNumberOptions`.
     pub currency_display: u8,
     /// The pattern of an amount, as in `FdNumberOptions`.
     pub currency_sign: u8,
     /// The use for which the digits of the currency are chosen, as in `FdNumberOptions`.
     pub currency_usage: u8,
+    /// The number of the unit, as `fd_unit` has it.
+    pub unit: u8,
+    /// The number of the unit after `per`, or 0 for none.
+    pub per_unit: u8,
+    /// The width of the unit, as in `FdNumberOptions`.
+    pub unit_display: u8,
     /// The notation, as in `FdNumberOptions`.
     pub notation: u8,
     /// The sign of an exponent: 0 a minus sign below 0, 1 also a plus sign from 0 on, 2 none.
@@ -59,6 +67,8 @@ pub struct FdFormatOptions {
     pub sign_display: u8,
     /// Where separators of groups are written.
     pub grouping: u8,
+    /// Where the decimal separator is written, as in `FdNumberOptions`.
+    pub decimal_separator: u8,
     /// Which numbers of digits are used: 0 none, 1 of fraction digits, 2 of fraction digits and the increment, 3 of
     /// significant digits, 4 both with the more precise rounding, 5 both with the other one.
     pub precision: u8,
@@ -71,7 +81,7 @@ pub struct FdFormatOptions {
     /// Whether the numbering system is given: 0 no, it is that of the locale, 1 yes.
     pub has_numbering_system: u8,
     /// Zeros.
-    pub reserved: [u8; 34],
+    pub reserved: [u8; 30],
 }
 
 /// The options with all fields 0.
@@ -91,16 +101,20 @@ pub(crate) const NO_OPTIONS: FdFormatOptions = FdFormatOptions {
     currency_display: 0,
     currency_sign: 0,
     currency_usage: 0,
+    unit: 0,
+    per_unit: 0,
+    unit_display: 0,
     notation: 0,
     exponent_sign: 0,
     sign_display: 0,
     grouping: 0,
+    decimal_separator: 0,
     precision: 0,
     zeros: 0,
     rounding_mode: 0,
     trailing_zeros: 0,
     has_numbering_system: 0,
-    reserved: [0; 34],
+    reserved: [0; 30],
 };
 
 const EXPONENT_SIGNS: [ExponentSign; 3] = [
@@ -114,15 +128,26 @@ const MINIMUMS: [Minimum; 2] = [Minimum::Chosen, Minimum::Both];
 // ---- The options that C has.
 
 impl FdFormatOptions {
-    fn style(&self) -> Option<NumberStyle>
-        ensures { result ≡ style_with self.now.style self.now.currency self.now.currency_display
-            self.now.currency_sign self.now.currency_usage }
+    fn style_codes(&self) -> StyleCodes
+        ensures { result ≡ style_codes_in self.now }
     {
-        let (display, sign) = (self.currency_display, self.currency_sign);
-        match self.style {
-            3 => amounts(&self.currency, display, sign, self.currency_usage),
-            _ => choice(&UNITS, self.style),
+        StyleCodes {
+            style: self.style,
+            currency: self.currency,
+            currency_display: self.currency_display,
+            currency_sign: self.currency_sign,
+            currency_usage: self.currency_usage,
+            unit: self.unit,
+            per_unit: self.per_unit,
+            unit_display: self.unit_display,
         }
+    }
+
+    fn style(&self) -> Option<NumberStyle>
+        ensures some { IfSome result (IsStyle (style_codes_in self.now)) }
+        ensures none { IfNone result ((s : NumberStyle) → IsStyle (style_codes_in self.now) s → ⊥) }
+    {
+        self.style_codes().decode()
     }
 
     fn notation(&self) -> Option<NumberNotation>
@@ -266,7 +291,7 @@ impl FdFormatOptions {
         ensures some { IfSome result (AreFormatOptions self.now) }
         ensures none { IfNone result ((o : NumberOptions) → AreFormatOptions self.now o → ⊥) }
     {
-        if self.reserved != [0; 34] {
+        if self.reserved != [0; 30] {
             return None;
         }
         Some(NumberOptions {
@@ -276,79 +301,13 @@ impl FdFormatOptions {
             digits: self.digits()?,
             sign_display: display(self.sign_display)?,
             grouping: grouping(self.grouping)?,
+            decimal_separator: choice(&SEPARATORS, self.decimal_separator)?,
             numbering_system: self.system()?,
         })
     }
 }
 
 // ---- The options, as C keeps them.
-
-/// The numbers of a style.
-#[derive(Clone, Copy)]
-struct StyleCodes {
-    style: u8,
-    currency: [u8; 3],
-    display: u8,
-    sign: u8,
-    usage: u8,
-}
-
-fn display_number(display: CurrencyDisplay) -> u8
-    ensures { slice_get displays result ≡ Some display }
-{
-    display as u8
-}
-
-fn sign_number(sign: CurrencySign) -> u8
-    ensures { slice_get signs result ≡ Some sign }
-{
-    sign as u8
-}
-
-fn usage_number(usage: CurrencyUsage) -> u8
-    ensures { slice_get usages result ≡ Some usage }
-{
-    usage as u8
-}
-
-fn code_bytes(code: &CurrencyCode) -> [u8; 3]
-    ensures { code_of result ≡ Some code.now }
-{
-    code.to_bytes()
-}
-
-fn plain_style(style: u8) -> StyleCodes
-    requires { style < 3 }
-    ensures { style_with result.style result.currency result.display result.sign result.usage
-        ≡ slice_get units style }
-{
-    StyleCodes {
-        style,
-        currency: [0; 3],
-        display: 0,
-        sign: 0,
-        usage: 0,
-    }
-}
-
-fn style_codes(style: NumberStyle) -> StyleCodes
-    ensures { style_with result.style result.currency result.display result.sign result.usage ≡ Some style }
-{
-    match style {
-        NumberStyle::Decimal => plain_style(0),
-        NumberStyle::Percent => plain_style(1),
-        NumberStyle::Permille => plain_style(2),
-        NumberStyle::Currency(style) => {
-            StyleCodes {
-                style: 3,
-                currency: code_bytes(&style.code),
-                display: display_number(style.display),
-                sign: sign_number(style.sign),
-                usage: usage_number(style.usage),
-            }
-        }
-    }
-}
 
 fn exponent_sign_number(sign: ExponentSign) -> u8
     ensures { slice_get exponent_signs result ≡ Some sign }
@@ -377,6 +336,12 @@ fn grouping_number(grouping: GroupingStrategy) -> u8
     ensures { result ≡ grouping_code grouping }
 {
     grouping as u8
+}
+
+fn separator_number(separator: DecimalSeparatorDisplay) -> u8
+    ensures { slice_get separators result ≡ Some separator }
+{
+    separator as u8
 }
 
 fn minimum_number(minimum: Minimum) -> u8
@@ -420,7 +385,7 @@ fn system_codes(system: &Option<NumberingSystem>) -> (u8, [u8; 16])
 fn both_options(precision: u8, both: BothDigits) -> FdFormatOptions
     ensures precision { result.precision ≡ precision }
     ensures both { AreBoth result both }
-    ensures reserved { result.reserved ≡ replicate 34 0 }
+    ensures reserved { result.reserved ≡ replicate 30 0 }
 {
     FdFormatOptions {
         minimum_significant_digits: both.significant.min,
@@ -436,7 +401,7 @@ fn both_options(precision: u8, both: BothDigits) -> FdFormatOptions
 
 fn precision_options(precision: Precision) -> FdFormatOptions
     ensures precision { IsPrecision result precision }
-    ensures reserved { result.reserved ≡ replicate 34 0 }
+    ensures reserved { result.reserved ≡ replicate 30 0 }
 {
     match precision {
         Precision::Fraction(fraction) => FdFormatOptions {
@@ -467,7 +432,7 @@ fn precision_options(precision: Precision) -> FdFormatOptions
 
 fn digit_options(digits: Option<DigitOptions>) -> FdFormatOptions
     ensures digits { AreDigits result digits }
-    ensures reserved { result.reserved ≡ replicate 34 0 }
+    ensures reserved { result.reserved ≡ replicate 30 0 }
 {
     match digits {
         None => NO_OPTIONS,
@@ -490,7 +455,7 @@ impl FdFormatOptions {
         ensures { AreFormatOptions result options.now }
     {
         let digits = digit_options(options.digits);
-        let style = style_codes(options.style);
+        let style = StyleCodes::encode(options.style);
         let currency = style.currency;
         let (notation, exponent_digits, exponent_sign) = notation_codes(options.notation);
         let (has_numbering_system, numbering_system) = system_codes(&options.numbering_system);
@@ -500,13 +465,17 @@ impl FdFormatOptions {
             style: style.style,
             currency,
             numbering_system,
-            currency_display: style.display,
-            currency_sign: style.sign,
-            currency_usage: style.usage,
+            currency_display: style.currency_display,
+            currency_sign: style.currency_sign,
+            currency_usage: style.currency_usage,
+            unit: style.unit,
+            per_unit: style.per_unit,
+            unit_display: style.unit_display,
             notation,
             exponent_sign,
             sign_display: display_code(options.sign_display),
             grouping: grouping_number(options.grouping),
+            decimal_separator: separator_number(options.decimal_separator),
             has_numbering_system,
             ..digits
         }

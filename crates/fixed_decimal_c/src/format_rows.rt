@@ -1,14 +1,33 @@
 //! The rows of a formatter in the library's tables, as C keeps them.
 ghost use Rattle.std.specs.Prelude.{◌≡◌, ◌≤◌, ◌^◌, replicate, Some, IfSome, IfNone};
 ghost use Rattle.locale_data.specs.{declared.number_formats.NumberFormats.{NumberFormats}, Formats.format_rows};
-ghost use Rattle.number_format.specs.declared.format.ids.FormatterIds.{FormatterIds};
-ghost use Rattle.fixed_decimal_c.specs.{Locales.index_of, FormatRows.{formats_in, currency_in, AreRows}};
+ghost use Rattle.number_format.specs.declared.format.{ids.FormatterIds.FormatterIds, outer.OuterTexts.OuterTexts};
+ghost use Rattle.fixed_decimal_c.specs.{Locales.index_of, FormatRows.{formats_in, currency_in, units_in, outer_in, AreRows}};
 
 use crate::locales::{number_of_rows, number_of_rules, rows_of_number, rules_of_number};
 use locale_data::{CurrencyId, FormatRows, NumberFormats};
-use number_format::FormatterIds;
+use locale_names::{CurrencyNames, PerPatterns, UnitPatterns};
+use number_format::{FormatterIds, OuterTexts};
 
-/// The rows of a locale and a currency in the library's tables.
+/// The rows of what is written around the whole number: of a unit, or of the name of a currency.
+///
+/// Fields that the kind does not use are ignored; the library makes them 0.
+#[repr(C)]
+#[derive(Clone, Copy)]
+pub struct FdOuterRows {
+    /// What is written: 0 nothing, 1 a unit, 2 a unit and another one after `per`, 3 the name of a currency.
+    pub kind: u32,
+    /// The run of the patterns of the unit, or of the names of the currency.
+    pub texts: u32,
+    /// The run of the patterns of the second unit, or of those of numbers with names.
+    pub patterns: u32,
+    /// The index of the pattern of two units.
+    pub joiner: u8,
+    /// The code of the currency in upper case.
+    pub code: [u8; 3],
+}
+
+/// The rows of a locale, a currency and a unit in the library's tables.
 #[repr(C)]
 #[derive(Clone, Copy)]
 pub struct FdFormatRows {
@@ -40,7 +59,18 @@ pub struct FdFormatRows {
     pub money: u8,
     /// Zeros.
     pub reserved: [u8; 3],
+    /// The rows of a unit, or of the name of a currency.
+    pub outer: FdOuterRows,
 }
+
+/// The rows with all fields 0, which are those of nothing.
+const NO_OUTER: FdOuterRows = FdOuterRows {
+    kind: 0,
+    texts: 0,
+    patterns: 0,
+    joiner: 0,
+    code: [0; 3],
+};
 
 /// The rows with all fields 0, which are none.
 pub(crate) const NO_ROWS: FdFormatRows = FdFormatRows {
@@ -58,6 +88,7 @@ pub(crate) const NO_ROWS: FdFormatRows = FdFormatRows {
     percent_unit: 0,
     money: 0,
     reserved: [0; 3],
+    outer: NO_OUTER,
 };
 
 fn number_of_pattern(pattern: Option<u8>) -> u16
@@ -77,6 +108,76 @@ fn index_of_pattern(number: u16) -> Option<u8>
     match number {
         0 => None,
         _ => Some((number - 1) as u8),
+    }
+}
+
+impl FdOuterRows {
+    fn units(&self) -> UnitPatterns
+        ensures { result ≡ units_in self.now }
+    {
+        UnitPatterns {
+            unit: self.texts,
+            per: match self.kind {
+                2 => Some(PerPatterns {
+                    unit: self.patterns,
+                    joiner: self.joiner,
+                }),
+                _ => None,
+            },
+        }
+    }
+
+    fn decode(&self) -> Option<OuterTexts>
+        ensures { result ≡ outer_in self.now }
+    {
+        match self.kind {
+            0 => Some(OuterTexts::None),
+            1 | 2 => Some(OuterTexts::Units(self.units())),
+            3 => Some(OuterTexts::Names(CurrencyNames {
+                code: self.code,
+                names: self.texts,
+                patterns: self.patterns,
+            })),
+            _ => None,
+        }
+    }
+
+    fn of_units(units: UnitPatterns) -> FdOuterRows
+        ensures { outer_in result ≡ Some (OuterTexts.Units units) }
+    {
+        match units.per {
+            None => FdOuterRows {
+                kind: 1,
+                texts: units.unit,
+                ..NO_OUTER
+            },
+            Some(per) => FdOuterRows {
+                kind: 2,
+                texts: units.unit,
+                patterns: per.unit,
+                joiner: per.joiner,
+                ..NO_OUTER
+            },
+        }
+    }
+
+    fn encode(outer: OuterTexts) -> FdOuterRows
+        ensures { outer_in result ≡ Some outer }
+    {
+        match outer {
+            OuterTexts::None => NO_OUTER,
+            OuterTexts::Units(units) => Self::of_units(units),
+            OuterTexts::Names(names) => {
+                let code = names.code;
+                FdOuterRows {
+                    kind: 3,
+                    texts: names.names,
+                    patterns: names.patterns,
+                    code,
+                    ..NO_OUTER
+                }
+            }
+        }
     }
 }
 
@@ -129,6 +230,7 @@ impl FdFormatRows {
             formats,
             rules: rules_of_number(self.plural_rules as u64)?,
             currency: self.currency()?,
+            outer: self.outer.decode()?,
         })
     }
 
@@ -164,6 +266,7 @@ impl FdFormatRows {
             compact: formats.compact,
             percent_unit: formats.unit,
             money: formats.money,
+            outer: FdOuterRows::encode(ids.outer),
             ..currency
         }
     }

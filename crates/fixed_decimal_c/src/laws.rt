@@ -1,8 +1,10 @@
 //! Laws of words and of formatters that C keeps: the contract of each function states a law.
-ghost use Rattle.std.specs.{Prelude.{ℕ, ◌+◌, Bool, List, ◌++◌, length, Ok, Result}, Str.IsUtf8};
+ghost use Rattle.std.specs.{Prelude.{◌≡◌, ℕ, ◌+◌, Bool, List, ◌++◌, length, slice_get, Some, Ok, Result}, Str.IsUtf8};
 ghost use Rattle.conversions.specs.{Calls.Names, FormatWord.IsFormatWord, ReadWord.IsReadWord};
 ghost use Rattle.fixed_decimal.specs.declared.runs.Call.{Call};
-ghost use Rattle.fixed_decimal_c.specs.{Calls.{IsPart, IsCall}, Formats.{FormatsNumber, FormatsBySkeleton}, KeptFormatters.{FormatsKept, MakesByOptions, MakesBySkeleton, ReadsKept}, NumberReadings.{ReadsNumber, ReadsBySkeleton}, Words.{IsReadAnswer, IsFormatAnswer, IsCallAnswer, IsWord, moved_call}, declared.{calls.FdCall.FdCall, error.FdError.FdError, formatter.FdFormatter.FdFormatter, number_options.FdNumberOptions.FdNumberOptions, words.FdWord.FdWord}};
+ghost use Rattle.locale_names.specs.declared.{locale_units.UnitDisplay.UnitDisplay, unit_id.Unit.Unit};
+ghost use Rattle.number_format.specs.declared.options.NumberStyle.{NumberStyle};
+ghost use Rattle.fixed_decimal_c.specs.{Calls.{IsPart, IsCall}, Formats.{FormatsNumber, FormatsBySkeleton}, KeptFormatters.{FormatsKept, MakesByOptions, MakesBySkeleton, ReadsKept}, NumberOptions.IsOptionStyle, NumberReadings.{ReadsNumber, ReadsBySkeleton}, Styles.unit_displays, Units.{NamesUnit, fd_units}, Words.{IsReadAnswer, IsFormatAnswer, IsCallAnswer, IsWord, moved_call}, declared.{calls.FdCall.FdCall, error.FdError.FdError, formatter.FdFormatter.FdFormatter, number_options.FdNumberOptions.FdNumberOptions, words.FdWord.FdWord}};
 
 /// A part of a word is a part of words that are placed one after another: its start counts the bytes before the word.
 #[tactic(auto, using(crate::proofs::lemmas::words::JoinedWords::part_of_joined))]
@@ -63,4 +65,13 @@ pub fn kept_skeletons_read()
     ensures { (tag skeleton : List ℕ) (c : FdFormatter) (answer : Result ℕ FdError) (text : List ℕ) (lenient : Bool)
         (old new : List ℕ) → MakesBySkeleton (Ok c) tag skeleton → ReadsKept answer c text lenient old new
         → ReadsBySkeleton answer text tag skeleton lenient old new }
+{}
+
+/// Options with the style 4, the numbers that `fd_unit` returns for a name, and a width have the unit of this name.
+#[tactic(auto, using(crate::proofs::lemmas::styles::NamedStyles::named_style))]
+pub fn named_units_are_options()
+    ensures { (name : List ℕ) (unit : Unit) (c : FdNumberOptions) (display : UnitDisplay) → NamesUnit name unit
+        → c.style ≡ 4 → c.unit ≡ (fd_units (Ok unit)).unit → c.per_unit ≡ (fd_units (Ok unit)).per_unit
+        → slice_get unit_displays c.unit_display ≡ Some display
+        → IsOptionStyle c (NumberStyle.Unit (record { unit = unit; display = display })) }
 {}

@@ -5,11 +5,12 @@
 #![tactic(auto)]
 
 ghost use Rattle.std.specs.Prelude.{◌≡◌, nat_lt};
-ghost use Rattle.fixed_decimal_c.specs.{Encodings.{Encodes, EncodesNumber, EncodesUnsigned}, Conversions.{Runs, ConvertsCalls}, Lines.ConvertsColumn, Numbers.{Compares, Equates, HasSign, HasI64, HasU64}, Locales.{IsLocaleNumber, IsRulesNumber, IsNamedRulesNumber}, Categories.{HasCategory, HasCategoryOf}, Formats.{FormatsNumber, FormatsBySkeleton}, NumberReadings.{ReadsNumber, ReadsBySkeleton}, NumberTexts.WritesSkeleton, KeptFormatters.{EncodesMade, MakesByOptions, MakesBySkeleton, FormatsKept, FormatsColumn, ReadsKept, EncodesResolution, IsResolved}, Parts.FormatsPartsKept, StatusTexts.{WritesLine, status_line}, Keys.{EncodesKey, HasKey, ComparesKeys}, Words.IsWord};
+ghost use Rattle.fixed_decimal_c.specs.{Encodings.{Encodes, EncodesNumber, EncodesUnsigned}, Conversions.{Runs, ConvertsCalls}, Lines.ConvertsColumn, Numbers.{Compares, Equates, HasSign, HasI64, HasU64}, Locales.{IsLocaleNumber, IsRulesNumber, IsNamedRulesNumber}, Categories.{HasCategory, HasCategoryOf}, Formats.{FormatsNumber, FormatsBySkeleton}, NumberReadings.{ReadsNumber, ReadsBySkeleton}, NumberTexts.WritesSkeleton, KeptFormatters.{EncodesMade, MakesByOptions, MakesBySkeleton, FormatsKept, FormatsColumn, ReadsKept, EncodesResolution, IsResolved}, Units.{EncodesUnits, IsUnitNamed, WritesUnitName}, Parts.FormatsPartsKept, StatusTexts.{WritesLine, status_line}, Keys.{EncodesKey, HasKey, ComparesKeys}, Words.IsWord};
 
 mod answer;
 mod calls;
 mod categories;
+mod choices;
 mod convert;
 mod error;
 mod format;
@@ -27,7 +28,9 @@ mod parts;
 mod read;
 mod slice_sink;
 mod status_text;
+mod styles;
 mod texts;
+mod units;
 mod words;
 
 pub use answer::{FdColumn, FdNumber, FdResult, FdUnsigned, Progress};
@@ -38,7 +41,7 @@ use convert::{convert, run};
 pub use error::FdError;
 use format::write_skeleton;
 pub use format_options::FdFormatOptions;
-pub use format_rows::FdFormatRows;
+pub use format_rows::{FdFormatRows, FdOuterRows};
 pub use formatter::{FdFormatter, FdMade, FdResolution};
 use formatter::{encode_made, encode_resolution};
 pub use forms::{FdForm, FdForms};
@@ -53,14 +56,17 @@ pub use parts::{FdPart, FdParted, PartCounts};
 use read::read_number;
 use status_text::write_status;
 use std::alloc::Global;
+pub use styles::StyleCodes;
+pub use units::FdUnits;
+use units::{encode_units, unit_named, write_name};
 pub use words::FdWord;
 use words::parse_word;
 
 /// Returns the version of the interface. It grows when a number, a struct or a meaning changes.
 pub fn fd_version() -> u32
-    ensures { result ≡ 6 }
+    ensures { result ≡ 7 }
 {
-    6
+    7
 }
 
 /// Makes calls in order on the decimal that `start` writes, and writes the text of the result.
@@ -193,6 +199,25 @@ pub fn fd_read_by_skeleton(
         Ok(formatter) => fd_read(alloc, &formatter, text, lenient, buffer),
         Err(error) => encode(Err(error)),
     }
+}
+
+/// Returns the numbers of the unit that a text names, for [`FdNumberOptions`]: one of the 45 units of ECMA-402, or two
+/// of them with `-per-` between them. They are the same in this process.
+///
+/// The error: `UnknownUnit`.
+pub fn fd_unit(text: &[u8]) -> FdUnits
+    ensures { EncodesUnits result (λ answer. IsUnitNamed answer text.now) }
+{
+    encode_units(unit_named(text))
+}
+
+/// Writes the name of the unit with a number: that of [`fd_unit`], or of the options of a formatter.
+///
+/// The errors: `UnknownOption`, if no unit has the number; `BufferTooSmall`.
+pub fn fd_unit_name(number: u32, buffer: &mut [u8]) -> FdResult
+    ensures { Encodes result (λ answer. WritesUnitName answer number buffer.old buffer.new) }
+{
+    encode(write_name(number, buffer))
 }
 
 /// Makes the formatter of a tag and options, so that they are looked up once.

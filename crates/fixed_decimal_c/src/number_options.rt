@@ -1,18 +1,18 @@
 //! The options of a number, as C passes them.
 ghost use Rattle.std.specs.Prelude.{◌≡◌, slice_get, IfOk, IfErr, IfSome, IfNone};
 ghost use Rattle.decimal_format.specs.declared.grouping.GroupingStrategy.{GroupingStrategy};
-ghost use Rattle.number_format.specs.declared.{options.NumberOptions.NumberOptions, digits.settings.DigitSettings.DigitSettings};
-ghost use Rattle.locale_data.specs.Codes.{code_of};
-ghost use Rattle.fixed_decimal_c.specs.NumberOptions.{grouping_code, grouping_in, system_of, given, notations, displays, signs, usages, amounts, currency_of, style_of, error_of_digits, AreChoices, AreSettings, AreNumberOptions, NumberOptionsFail};
+ghost use Rattle.number_format.specs.declared.{options.{NumberOptions.NumberOptions, NumberStyle.NumberStyle}, digits.settings.DigitSettings.DigitSettings};
+ghost use Rattle.fixed_decimal_c.specs.NumberOptions.{grouping_code, grouping_in, system_of, given, notations, style_codes_of, error_of_digits, IsOptionStyle, AreChoices, AreSettings, AreNumberOptions, NumberOptionsFail};
 
 use crate::calls::{display, mode};
+use crate::choices::choice;
 use crate::error::FdError;
+use crate::styles::{StyleCodes, has_sanctioned_unit};
 use decimal_format::GroupingStrategy;
-use locale_data::{CurrencyCode, CurrencySign, NumberingSystem, unpadded};
+use locale_data::{NumberingSystem, unpadded};
 use number_format::{
-    CompactLength, CurrencyDisplay, CurrencyStyle, CurrencyUsage, DigitOptionsError, DigitSettings,
-    ExponentOptions, ExponentSign, NumberNotation, NumberOptions, NumberStyle, RoundingPriority,
-    TrailingZeros,
+    CompactLength, DecimalSeparatorDisplay, DigitOptionsError, DigitSettings, ExponentOptions,
+    ExponentSign, NumberNotation, NumberOptions, NumberStyle, RoundingPriority, TrailingZeros,
 };
 
 /// The options of a number: those of ECMA-402, and a scale. A word is its number in the list of its option.
@@ -21,24 +21,33 @@ use number_format::{
 #[repr(C)]
 #[derive(Clone, Copy)]
 pub struct FdNumberOptions {
-    /// The style: 0 decimal, 1 percent, 2 permille, 3 currency.
+    /// The style: 0 decimal, 1 percent, 2 permille, 3 currency, 4 unit.
     pub style: u8,
     /// The code of the currency, three letters.
     pub currency: [u8; 3],
     /// The name of the numbering system, padded with spaces; if it begins with 0, that of the locale.
     pub numbering_system: [u8; 16],
-    /// Which symbol of the currency is written: 0 that of the locale, 1 the narrow one, 2 the code, 3 none.
+    /// Which symbol of the currency is written: 0 that of the locale, 1 the narrow one, 2 the code, 3 none; or 4, the
+    /// name.
     pub currency_display: u8,
     /// The pattern of an amount: 0 the usual one, 1 that of accounts.
     pub currency_sign: u8,
     /// The use for which the digits of the currency are chosen: 0 the usual one, 1 cash.
     pub currency_usage: u8,
+    /// The number of the unit, as `fd_unit` has it.
+    pub unit: u8,
+    /// The number of the unit after `per`, or 0 for none.
+    pub per_unit: u8,
+    /// The width of the unit: 0 short, 1 narrow, 2 long.
+    pub unit_display: u8,
     /// The notation: 0 standard, 1 scientific, 2 engineering, 3 compact with short words, 4 with long ones.
     pub notation: u8,
     /// The display of the sign of the number that is shown.
     pub sign_display: u8,
     /// Where separators of groups are written.
     pub grouping: u8,
+    /// Where the decimal separator is written: 0 before fraction digits, 1 always.
+    pub decimal_separator: u8,
     /// The mode of the rounding.
     pub rounding_mode: u8,
     /// Which of two roundings is chosen: 0 by the numbers that are given, 1 the more precise one, 2 the other.
@@ -66,23 +75,6 @@ const PLAIN: ExponentOptions = ExponentOptions {
     sign: ExponentSign::Auto,
 };
 
-pub(crate) const UNITS: [NumberStyle; 3] = [
-    NumberStyle::Decimal,
-    NumberStyle::Percent,
-    NumberStyle::Permille,
-];
-
-const DISPLAYS: [CurrencyDisplay; 4] = [
-    CurrencyDisplay::Symbol,
-    CurrencyDisplay::Narrow,
-    CurrencyDisplay::Code,
-    CurrencyDisplay::Hidden,
-];
-
-const SIGNS: [CurrencySign; 2] = [CurrencySign::Standard, CurrencySign::Accounting];
-
-const USAGES: [CurrencyUsage; 2] = [CurrencyUsage::Standard, CurrencyUsage::Cash];
-
 const PRIORITIES: [RoundingPriority; 3] = [
     RoundingPriority::Auto,
     RoundingPriority::MorePrecision,
@@ -94,15 +86,10 @@ pub(crate) const TRAILING_ZEROS: [TrailingZeros; 2] = [
     TrailingZeros::StripIfInteger,
 ];
 
-/// Returns the choice with this number.
-pub(crate) fn choice<T: Copy>(choices: &[T], code: u8) -> Option<T>
-    ensures { result ≡ slice_get choices.now code }
-{
-    match choices.get(code as usize) {
-        Some(choice) => Some(*choice),
-        None => None,
-    }
-}
+pub(crate) const SEPARATORS: [DecimalSeparatorDisplay; 2] = [
+    DecimalSeparatorDisplay::Auto,
+    DecimalSeparatorDisplay::Always,
+];
 
 pub(crate) fn grouping(code: u8) -> Option<GroupingStrategy>
     ensures some { IfSome result (λ g. code ≡ grouping_code g) }
@@ -161,36 +148,33 @@ fn given(count: u16) -> Option<u16>
     }
 }
 
-/// Returns the style of a currency with these bytes of a code and these words.
-pub(crate) fn amounts(code: &[u8], display: u8, sign: u8, usage: u8) -> Option<NumberStyle>
-    ensures { result ≡ amounts (code_of code.now) (slice_get displays display) (slice_get signs sign)
-        (slice_get usages usage) }
-{
-    let Ok(code) = CurrencyCode::try_from_utf8(code) else {
-        return None;
-    };
-    Some(NumberStyle::Currency(CurrencyStyle {
-        code,
-        display: choice(&DISPLAYS, display)?,
-        sign: choice(&SIGNS, sign)?,
-        usage: choice(&USAGES, usage)?,
-    }))
-}
-
 impl FdNumberOptions {
-    fn currency(&self) -> Option<NumberStyle>
-        ensures { result ≡ currency_of self.now }
+    fn style_codes(&self) -> StyleCodes
+        ensures { result ≡ style_codes_of self.now }
     {
-        let (display, sign) = (self.currency_display, self.currency_sign);
-        amounts(&self.currency, display, sign, self.currency_usage)
+        StyleCodes {
+            style: self.style,
+            currency: self.currency,
+            currency_display: self.currency_display,
+            currency_sign: self.currency_sign,
+            currency_usage: self.currency_usage,
+            unit: self.unit,
+            per_unit: self.per_unit,
+            unit_display: self.unit_display,
+        }
     }
 
     fn style(&self) -> Option<NumberStyle>
-        ensures { result ≡ style_of self.now }
+        ensures some { IfSome result (IsOptionStyle self.now) }
+        ensures none { IfNone result ((s : NumberStyle) → IsOptionStyle self.now s → ⊥) }
     {
-        match self.style {
-            3 => self.currency(),
-            _ => choice(&UNITS, self.style),
+        let Some(style) = self.style_codes().decode() else {
+            return None;
+        };
+        if has_sanctioned_unit(&style) {
+            Some(style)
+        } else {
+            None
         }
     }
 
@@ -207,6 +191,7 @@ impl FdNumberOptions {
             digits: None,
             sign_display: display(self.sign_display)?,
             grouping: grouping_in(notation, grouping(self.grouping)?),
+            decimal_separator: choice(&SEPARATORS, self.decimal_separator)?,
             numbering_system: system(self.numbering_system)?,
         })
     }

@@ -8,7 +8,7 @@ use fixed_decimal::{Sink, SinkFault, Writeable};
 use itoa::Buffer;
 
 /// The errors of the statuses from 1 on, at a place.
-fn errors_at(at: usize) -> [FdError; 23]
+fn errors_at(at: usize) -> [FdError; 24]
     ensures { result ≡ errors_at at }
 {
     [
@@ -35,6 +35,7 @@ fn errors_at(at: usize) -> [FdError; 23]
         FdError::NoSkeleton,
         FdError::Formatter,
         FdError::PartsTooSmall,
+        FdError::UnknownUnit,
     ]
 }
 
@@ -108,6 +109,7 @@ fn line_of(calls: usize, error: FdError) -> StatusLine
         FdError::NoSkeleton => plain("no such skeleton"),
         FdError::Formatter => plain("no formatter"),
         FdError::PartsTooSmall => plain("too few parts"),
+        FdError::UnknownUnit => plain("unknown unit"),
     }
 }
 

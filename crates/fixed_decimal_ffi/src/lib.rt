@@ -2,17 +2,17 @@
 #![tactic(auto)]
 
 ghost use Rattle.std.specs.Prelude.{◌≡◌, nat_lt};
-ghost use Rattle.fixed_decimal_c.specs.{Encodings.{Encodes, EncodesNumber, EncodesUnsigned}, Conversions.{Runs, ConvertsCalls}, Lines.ConvertsColumn, Numbers.{Compares, Equates, HasSign, HasI64, HasU64}, Locales.{IsLocaleNumber, IsRulesNumber, IsNamedRulesNumber}, Categories.{HasCategory, HasCategoryOf}, Formats.{FormatsNumber, FormatsBySkeleton}, NumberReadings.{ReadsNumber, ReadsBySkeleton}, NumberTexts.WritesSkeleton, KeptFormatters.{EncodesMade, MakesByOptions, MakesBySkeleton, FormatsKept, FormatsColumn, ReadsKept, EncodesResolution, IsResolved}, Parts.FormatsPartsKept, StatusTexts.{WritesLine, status_line}, Keys.{EncodesKey, HasKey, ComparesKeys}, Words.IsWord};
+ghost use Rattle.fixed_decimal_c.specs.{Encodings.{Encodes, EncodesNumber, EncodesUnsigned}, Conversions.{Runs, ConvertsCalls}, Lines.ConvertsColumn, Numbers.{Compares, Equates, HasSign, HasI64, HasU64}, Locales.{IsLocaleNumber, IsRulesNumber, IsNamedRulesNumber}, Categories.{HasCategory, HasCategoryOf}, Formats.{FormatsNumber, FormatsBySkeleton}, NumberReadings.{ReadsNumber, ReadsBySkeleton}, NumberTexts.WritesSkeleton, KeptFormatters.{EncodesMade, MakesByOptions, MakesBySkeleton, FormatsKept, FormatsColumn, ReadsKept, EncodesResolution, IsResolved}, Units.{EncodesUnits, IsUnitNamed, WritesUnitName}, Parts.FormatsPartsKept, StatusTexts.{WritesLine, status_line}, Keys.{EncodesKey, HasKey, ComparesKeys}, Words.IsWord};
 
 use fixed_decimal_c::{
     FdCall, FdColumn, FdFormatter, FdForms, FdKey, FdKeyed, FdMade, FdNumber, FdNumberOptions,
-    FdPart, FdParted, FdResolution, FdResult, FdUnsigned, FdWord,
+    FdPart, FdParted, FdResolution, FdResult, FdUnits, FdUnsigned, FdWord,
 };
 use std::alloc::Global;
 
 #[unsafe(no_mangle)]
 pub extern "C" fn fd_version() -> u32
-    ensures { result ≡ 6 }
+    ensures { result ≡ 7 }
 {
     fixed_decimal_c::fd_version()
 }
@@ -116,6 +116,20 @@ pub extern "C" fn fd_read_by_skeleton(
         (λ answer. ReadsBySkeleton answer text.now locale.now skeleton.now (nat_lt 0 lenient) buffer.old buffer.new) }
 {
     fixed_decimal_c::fd_read_by_skeleton(alloc, text, locale, skeleton, lenient, buffer)
+}
+
+#[unsafe(no_mangle)]
+pub extern "C" fn fd_unit(text: &[u8]) -> FdUnits
+    ensures { EncodesUnits result (λ answer. IsUnitNamed answer text.now) }
+{
+    fixed_decimal_c::fd_unit(text)
+}
+
+#[unsafe(no_mangle)]
+pub extern "C" fn fd_unit_name(number: u32, buffer: &mut [u8]) -> FdResult
+    ensures { Encodes result (λ answer. WritesUnitName answer number buffer.old buffer.new) }
+{
+    fixed_decimal_c::fd_unit_name(number, buffer)
 }
 
 #[unsafe(no_mangle)]

@@ -9,7 +9,8 @@ use Rattle.fixed_decimal.specs.declared.{rounding.SignedRoundingMode.SignedRound
 use Rattle.fixed_decimal.specs.declared.rounding.SignedRoundingMode.TheVariants as mode
 use Rattle.decimal_format.specs.declared.grouping.GroupingStrategy.{GroupingStrategy}
 use Rattle.number_format.specs.{declared.{digits.{options.DigitOptions.DigitOptions, precision.{BothDigits.BothDigits, Precision.{Precision, TheVariants.{Fraction, Multiples, Significant, MorePrecision, LessPrecision}}}, ranges.{FractionDigits.FractionDigits, FractionMultiples.FractionMultiples, Increment.Increment, IntegerDigits.IntegerDigits, SignificantDigits.SignificantDigits}}, options.NumberOptions.NumberOptions}, ShownDigits.increment_of}
-use Rattle.fixed_decimal_c.specs.{declared.format_options.FdFormatOptions.FdFormatOptions, Calls.{display_code, mode_code}, FormatOptions.{AreBoth, AreDigits, AreFormatOptions, AreFraction, AreShownDigits, AreSignificant, IsPrecision}, NumberOptions.grouping_code}
+use Rattle.fixed_decimal_c.specs.{declared.format_options.FdFormatOptions.FdFormatOptions, Calls.{display_code, mode_code}, FormatOptions.{AreBoth, AreDigits, AreFormatOptions, AreFraction, AreShownDigits, AreSignificant, IsPrecision, style_codes_in}, NumberOptions.grouping_code}
+use Rattle.fixed_decimal_c.proofs.lemmas.styles.CodedStyles.{same_style}
 
 -- ---- Words by their numbers.
 
@@ -233,15 +234,16 @@ same_digits c (Some a) (Some b) is js = ap (λ d. Some d) (same_shown c a b is j
 
 pub same_options : (c : FdFormatOptions) (a b : NumberOptions) → AreFormatOptions c a → AreFormatOptions c b → a ≡ b
 same_options c a b is js =
-    let style_is = is.style in
-    let style_too = js.style in
-    let style : a.style ≡ b.style = cc in
+    let style = same_style (style_codes_in c) a.style b.style is.style js.style in
     let notation_is = is.notation in
     let notation_too = js.notation in
     let notation : a.notation ≡ b.notation = cc in
     let system_is = is.system in
     let system_too = js.system in
     let system : a.numbering_system ≡ b.numbering_system = cc in
+    let separator_is = is.separator in
+    let separator_too = js.separator in
+    let separator : a.decimal_separator ≡ b.decimal_separator = cc in
     let scale = is.scale ∙ sym js.scale in
     let digits = same_digits c a.digits b.digits is.digits js.digits in
     let sign = same_display a.sign_display b.sign_display (sym is.sign ∙ js.sign) in
@@ -253,5 +255,6 @@ same_options c a b is js =
       digits = digits i;
       sign_display = sign i;
       grouping = grouping i;
+      decimal_separator = separator i;
       numbering_system = system i;
     }

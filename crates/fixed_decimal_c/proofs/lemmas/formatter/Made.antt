@@ -2,7 +2,7 @@
 use Rattle.std.proofs.Common.{◌≡◌, ℕ, List, Bool, Option, Result, Ok, Err, inl, inr, sym, ◌∙◌, ap, subst}
 use Rattle.std.specs.Prelude.{IsSomeAnd}
 use Rattle.locale_data.specs.{declared.{currency.CurrencyId.CurrencyId, format_rows.FormatRows.FormatRows, locales.LocaleId.LocaleId, plurals.{PluralRulesId.PluralRulesId, PluralRuleType.TheVariants.Cardinal}}, Currencies.LacksCurrency, Formats.{AreFormatsOf}, Locales.symbols_at, Plurals.{rules_text_at, IsRulesText}}
-use Rattle.number_format.specs.{declared.{format.{ids.FormatterIds.FormatterIds, formatter.NumberFormatter.NumberFormatter}, options.NumberOptions.NumberOptions}, Formatters.{AreIdsOf, AreSymbolsOf, IsCurrencyRow, IsFormatterAt, LacksRows, system_text}}
+use Rattle.number_format.specs.{declared.{format.{ids.FormatterIds.FormatterIds, formatter.NumberFormatter.NumberFormatter}, options.NumberOptions.NumberOptions}, Formatters.{AreIdsOf, AreSymbolsOf, IsCurrencyRow, IsFormatterAt, LacksRows, system_text}, NumberStyles.AreOuterTexts}
 use Rattle.fixed_decimal_c.specs.{declared.{error.FdError.FdError, format_rows.FdFormatRows.FdFormatRows, formatter.FdFormatter.FdFormatter, number_options.FdNumberOptions.FdNumberOptions}, FormatRows.AreRows, Formats.{FormatsBySkeleton, FormatsNumber}, KeptFormatters.{FormatsKept, IsFormatterIn, IsKept, IsNoFormatter, Keeps, MakesByOptions, MakesBySkeleton, ReadsKept}, NumberReadings.{ReadsBySkeleton, ReadsNumber}, NumberTexts.{HasFormatter, IsMade, IsMadeBySkeleton}}
 use Rattle.fixed_decimal_c.proofs.lemmas.format_options.Unique.{same_options}
 
@@ -25,6 +25,12 @@ module _ (c : FdFormatRows) (a b : FormatterIds) (is : AreRows c a) (js : AreRow
   same_currency =
       let one = is.currency in
       let other = js.currency in
+      cc
+
+  same_outer : a.outer ≡ b.outer
+  same_outer =
+      let one = is.outer in
+      let other = js.outer in
       cc
 
   same_formats : (tag system : List ℕ) → AreFormatsOf tag system a.formats → AreFormatsOf tag system b.formats
@@ -54,6 +60,7 @@ module _ (c : FdFormatRows) (a b : FormatterIds) (is : AreRows c a) (js : AreRow
     formats = same_formats tag are.system are.formats;
     rules = subst (λ (r : PluralRulesId). IsSomeAnd (rules_text_at r) (IsRulesText tag Cardinal)) same_rules are.rules;
     currency = subst (IsCurrencyRow tag o.style) same_currency are.currency;
+    outer = subst (AreOuterTexts tag o.style o.notation) same_outer are.outer;
   }
 
   lacks_too : LacksRows b → LacksRows a

@@ -1,0 +1,2 @@
+pub mod CodedStyles
+pub mod NamedStyles
