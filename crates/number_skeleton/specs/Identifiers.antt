@@ -1,12 +1,12 @@
 -- The identifiers of units that ICU reads, of which this library has only some.
 use Rattle.std.specs.{Prelude.{ℕ, zero, suc, ◌==◌, nat_lt, max, Bool, true, false, ◌&&◌, not, if◌then◌else◌, nat_eq, List, [], ◌∷◌, map, length, drop, slice_index, fold, codes, Option, Some, None}, List.starts_with, Option.option_map_or}
-use Rattle.locale_data.specs.Rows.unpadded
+use Rattle.locale_data.specs.Rows.{unpadded}
 use Rattle.locale_names.specs.declared.tables.{rows.units.UnitRow.UnitRow, units.TheConstants.UNITS}
 use Rattle.number_skeleton.specs.{Units.{name_of, person_units}, Words.padded}
 
 -- ---- Words at the start of a text.
 -- the length of a word, if it is longer and the text starts with it
-abbrev pub longer : List ℕ → ℕ → List ℕ → ℕ
+unfoldable pub longer : List ℕ → ℕ → List ℕ → ℕ
 longer text longest word = if starts_with nat_eq text word then max longest (length word) else longest
 
 -- the length of the longest of some words that a text starts with, or 0
@@ -36,7 +36,8 @@ power_length text = longest_word powers text
 unfoldable pub prefix_length : List ℕ → ℕ
 prefix_length text = longest_word prefixes text
 
-abbrev pub longest_name : List ℕ → ℕ → List UnitRow → ℕ
+-- that of the longest name of some units, or a length that is not less
+unfoldable pub longest_name : List ℕ → ℕ → List UnitRow → ℕ
 longest_name text longest units = fold (λ n row. longer text n (name_of row)) longest units
 
 -- the units without patterns of their own

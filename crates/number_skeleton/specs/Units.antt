@@ -33,9 +33,12 @@ person_units =
     map (padded 16)
     (codes "day-person" ∷ codes "week-person" ∷ codes "month-person" ∷ codes "year-person" ∷ [])
 
+unfoldable pub is_person : List ℕ → Bool
+is_person text = list_any (λ name. is_name name text) person_units
+
 -- `day` of `day-person`
 unfoldable pub without_person : List ℕ → List ℕ
-without_person text = if list_any (λ name. is_name name text) person_units then take (length text - 7) text else text
+without_person text = if is_person text then take (length text - 7) text else text
 
 -- percent and permille are units that have patterns of their own
 unfoldable pub hundredth : List ℕ → Option ChosenUnit

@@ -29,6 +29,7 @@ static PREFIXES: [Name; 32] = [
     *b"pebi            ", *b"exbi            ", *b"zebi            ", *b"yobi            ",
 ];
 
+#[tactic(auto, unfolding(crate::specs::Identifiers::longer))]
 fn longer(text: &[u8], longest: usize, word: &[u8]) -> usize
     ensures { result ≡ longer text.now longest word.now }
 {

@@ -1,7 +1,7 @@
 //! Units in skeletons: by their identifiers, or by their types too.
 ghost use Rattle.std.specs.{Prelude.{◌≡◌, Some}, Option.option_map, Result.result_map_both};
 ghost use Rattle.locale_names.specs.{Texts.text_or_nothing, Units.{index_of, indices_of}, declared.tables.units.TheConstants.UNITS};
-ghost use Rattle.number_skeleton.specs.Units.{unit_at, index_named, units_named, is_two, name_at, type_at, of_type, without_person, hundredth, measured, measured_unit, is_joined, index_joined, joined};
+ghost use Rattle.number_skeleton.specs.Units.{unit_at, index_named, units_named, is_two, name_at, type_at, of_type, is_person, without_person, hundredth, measured, measured_unit, is_joined, index_joined, joined};
 
 use crate::choices::ChosenUnit;
 use crate::counts::{after, before, byte_at, run};
@@ -75,12 +75,19 @@ fn type_at(unit: UnitId) -> &'static str
     unit.unit_type()
 }
 
+#[tactic(auto, unfolding(crate::specs::Units::is_person))]
+fn is_person(text: &[u8]) -> bool
+    ensures { result ≡ is_person text.now }
+{
+    PERSON_UNITS.iter().any(|name| is_name(name, text))
+}
+
 /// Returns `day` of `day-person`.
 #[tactic(auto, unfolding(crate::specs::Units::without_person))]
 pub(crate) fn without_person(text: &[u8]) -> &[u8]
     ensures { result.now ≡ without_person text.now }
 {
-    if PERSON_UNITS.iter().any(|name| is_name(name, text)) {
+    if is_person(text) {
         before(text, text.len().saturating_sub(7))
     } else {
         text

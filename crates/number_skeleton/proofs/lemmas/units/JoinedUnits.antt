@@ -1,5 +1,5 @@
 -- The units of an identifier, one after another.
-use Rattle.std.proofs.Common.{◌≡◌, ℕ, suc, ◌+◌, ◌-◌, ◌<◌, ◌==◌, Bool, true, false, List, length, drop, Some, None, refl, ap, ◌∙◌, arith}
+use Rattle.std.proofs.{Common.{◌≡◌, ℕ, suc, ◌+◌, ◌-◌, ◌<◌, ◌==◌, Bool, true, false, List, length, drop, Some, None, refl, ap, ◌∙◌, arith}, lemmas.Bool.Decides.nat_tests}
 use Rattle.number_skeleton.specs.Identifiers.{after_factor, joiner_length, are_units}
 
 module _ (mixed : Bool) (n i : ℕ) (text rest : List ℕ) (inside : i < n) where
@@ -28,3 +28,6 @@ module _ (mixed : Bool) (n i : ℕ) (text rest : List ℕ) (inside : i < n) wher
 pub no_more_units : (mixed : Bool) (text : List ℕ) → are_units mixed 0 text ≡ false
 unfolding are_units
 no_more_units mixed text = refl
+
+pub not_zero : (n m : ℕ) → n ≡ m → (n ≡ 0 → ⊥) → (m == 0) ≡ false
+not_zero n m same some = grind (arith, nat_tests)

@@ -1,6 +1,6 @@
 -- The units of the table from an index on, one after another.
 use Rattle.std.proofs.{Common.{◌≡◌, ℕ, ◌+◌, ◌<◌, ◌≤◌, Bool, true, false, cond, List, [], ◌∷◌, length, drop, Option, Some, None, slice_get, refl, ap, sym, ◌∙◌, inl, inr, arith}, lemmas.{List.{at_drop_more, at_drop_all}, Option.slice_get_cases}}
-use Rattle.std.specs.Option.option_map_or
+use Rattle.std.specs.Option.{option_map_or}
 use Rattle.locale_names.specs.declared.tables.{rows.units.UnitRow.UnitRow, units.TheConstants.UNITS}
 use Rattle.number_skeleton.specs.{Identifiers.{longer, longest_name}, Units.{name_of, name_at, is_joined, index_joined}}
 
@@ -19,12 +19,14 @@ name_is i row at = ap (λ o. option_map_or name_of o []) at
 -- ---- The longest name.
 pub longest_next : (text : List ℕ) (n i : ℕ) → i < length UNITS
     → longest_name text n (drop i UNITS) ≡ longest_name text (longer text n (name_at i)) (drop (i + 1) UNITS)
+unfolding longest_name
 longest_next text n i inside =
     let found = at_row (longest_name text n) UNITS i inside in
     found.2
     ∙ ap (λ name. longest_name text (longer text n name) (drop (i + 1) UNITS)) (sym (name_is i found.0 found.1))
 
 pub longest_end : (text : List ℕ) (n i : ℕ) → length UNITS ≤ i → longest_name text n (drop i UNITS) ≡ n
+unfolding longest_name
 longest_end text n i past = at_drop_all (longest_name text n) UNITS i past
 
 -- ---- Two units that are one.
