@@ -3,14 +3,14 @@ use Rattle.std.specs.{Prelude.{◌≡◌, ◌≢◌, ℕ, ◌==◌, min, Bool, t
 use Rattle.decimal_digits.specs.Number.{first}
 use Rattle.decimal_unsigned.specs.{Unsigned.{Unsigned, integer_value}, Edits.{multiplied_pow10, padded_start}, declared.decimal.TheConstants.INLINE_DIGITS}
 use Rattle.fixed_decimal.specs.{Decimal.{Decimal, with_absolute, displayed_sign}, DecimalText.IsLong, declared.variations.Sign.Sign}
-use Rattle.decimal_format.specs.declared.grouping.GroupingStrategy.TheVariants.{Never}
+use Rattle.decimal_format.specs.{Symbols.Symbols, declared.grouping.GroupingStrategy.TheVariants.Never}
 use Rattle.plural_rules.specs.Operands as operands
 use Rattle.plural_rules.specs.declared.rules.PluralCategory.{PluralCategory}
 use Rattle.locale_names.specs.{declared.tables.rows.currencies.NamePattern.NamePattern, LocaleCurrencies.{name_for, pattern_for}, Texts.short_text}
 use Rattle.locale_names.specs.LocaleUnits as units
 use Rattle.locale_data.specs.Compact as compact
 use Rattle.locale_data.specs.{declared.{compact.CompactStyle.CompactStyle, tables.{rows.{compact.{AffixText.AffixText, CompactForm.CompactForm, CompactPattern.CompactPattern, PercentUnit.PercentUnit}, TableRange.TableRange}, compact.TheConstants.PERCENT_UNITS}, number_formats.NumberFormats.NumberFormats}, Compact.{text_of, compact_patterns, unit_for}, Plurals.IsCategoryAt}
-use Rattle.number_format.specs.{declared.{digits.options.DigitOptions.DigitOptions, notation.Notation.Notation, format.{affixes.{NumberAffixes.NumberAffixes, StyleTexts.StyleTexts}, outer.OuterTexts.OuterTexts, formatter.NumberFormatter.NumberFormatter, text_part.PartKind.PartKind}, options.{CompactLength.CompactLength, ExponentOptions.ExponentOptions, ExponentSign.ExponentSign, NumberNotation.NumberNotation, NumberStyle.NumberStyle}}, NumberStyles.{currency_text, shows_name}, PatternTexts.{Around, around, within, sign_text, sign_pieces, space_if, pattern_around}, ShownDigits.rounded_whole, TextParts.{pieces_text, pieces_of, parts_pieces, digit_pieces}, Scaled.{ScaledValue, scaled_value, scaled, raised, rounded_number, exponent_at, ScalingNeedsMemory}}
+use Rattle.number_format.specs.{declared.{digits.options.DigitOptions.DigitOptions, notation.Notation.Notation, format.{affixes.{NumberAffixes.NumberAffixes, StyleTexts.StyleTexts}, outer.OuterTexts.OuterTexts, formatter.NumberFormatter.NumberFormatter, text_part.PartKind.PartKind}, options.{CompactLength.CompactLength, DecimalSeparatorDisplay.DecimalSeparatorDisplay, ExponentOptions.ExponentOptions, ExponentSign.ExponentSign, NumberNotation.NumberNotation, NumberStyle.NumberStyle}}, NumberStyles.{currency_text, shows_name}, PatternTexts.{Around, around, within, sign_text, sign_pieces, space_if, pattern_around}, ShownDigits.rounded_whole, TextParts.{pieces_text, pieces_of, parts_pieces, digit_pieces}, Scaled.{ScaledValue, scaled_value, scaled, raised, rounded_number, exponent_at, ScalingNeedsMemory}}
 use Rattle.number_format.specs.ShownDigits as shown_digits
 use Rattle.number_format.specs.TextParts as parts
 
@@ -132,9 +132,20 @@ exponent_pieces f (Some e) =
     ++ (pieces_of (exponent_kind e.sign) (sign_text f.style.symbols e.sign)
     ++ digit_pieces PartKind.ExponentInteger f.style.symbols Never e.absolute)
 
+-- the decimal separator of a number without fraction digits, if it is always written
+abbrev pub bare_separator : DecimalSeparatorDisplay → Symbols → Unsigned → List ℕ
+bare_separator DecimalSeparatorDisplay.Auto s v = []
+bare_separator DecimalSeparatorDisplay.Always s v = if int_lt v.lo (pos 0) then [] else s.decimal
+
+-- the digits of a significand, with that separator
+abbrev pub significand_pieces : NumberFormatter → DecimalSeparatorDisplay → Unsigned → List parts.Piece
+significand_pieces f display v =
+    digit_pieces PartKind.Integer f.style.symbols f.options.grouping v
+    ++ pieces_of PartKind.Decimal (bare_separator display f.style.symbols v)
+
 -- the digits of a significand and of an exponent, if there is one
 abbrev pub number_part : NumberFormatter → Unsigned → Option Decimal → List parts.Piece
-number_part f v e = digit_pieces PartKind.Integer f.style.symbols f.options.grouping v ++ exponent_pieces f e
+number_part f v e = significand_pieces f f.options.decimal_separator v ++ exponent_pieces f e
 
 -- ---- Compact notation.
 

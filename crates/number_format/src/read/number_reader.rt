@@ -6,7 +6,7 @@ use crate::format::by_sign::BySign;
 use crate::format::formatter::NumberFormatter;
 use crate::format::outer::OuterTexts;
 use crate::format::short_affixes::ShortAffixes;
-use crate::options::{NumberNotation, NumberStyle};
+use crate::options::{DecimalSeparatorDisplay, NumberNotation, NumberStyle};
 use crate::read::affix_reader::AffixReader;
 use crate::read::apart::are_apart;
 use crate::read::owned_affixes::OwnedAffixes;
@@ -20,7 +20,8 @@ use std::str;
 /// Why the texts of a formatter cannot be read: the first of these that holds, or out of memory if none does.
 #[derive(Clone, Copy, Debug, PartialEq, Eq)]
 pub enum NumberReaderError {
-    /// The notation is compact, scientific or engineering, or a unit or the name of a currency is written.
+    /// The notation is compact, scientific or engineering; or a unit, the name of a currency, or a decimal separator
+    /// without fraction digits is written.
     Notation,
     /// The scale is -32768, which no scale undoes.
     Scale,
@@ -136,8 +137,20 @@ fn forms(
 fn has_number_alone(formatter: &NumberFormatter) -> bool
     ensures { IsTrue result ↔ HasNumberAlone formatter.now }
 {
-    let kind = (formatter.options.notation, &formatter.outer);
-    matches!(kind, (NumberNotation::Standard, OuterTexts::None))
+    let options = &formatter.options;
+    let kind = (
+        options.notation,
+        &formatter.outer,
+        options.decimal_separator,
+    );
+    matches!(
+        kind,
+        (
+            NumberNotation::Standard,
+            OuterTexts::None,
+            DecimalSeparatorDisplay::Auto
+        )
+    )
 }
 
 fn shift(formatter: &NumberFormatter) -> Result<i16, NumberReaderError>
