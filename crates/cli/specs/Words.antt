@@ -1,7 +1,7 @@
 -- The conversion that words name: [read:LOCALE[:lenient][:SKELETON]] [CALL].. [format:LOCALE[:GROUPING|:SKELETON]].
-use Rattle.std.specs.{Prelude.{◌≡◌, ◌≢◌, ◌⊎◌, ℕ, Bool, if◌then◌else◌, List, [], ◌∷◌, map, reverse, String, string_bytes, Option, Some, None, Ok, MatchResult}, declared.alloc.Global.Global}
+use Rattle.std.specs.{Prelude.{◌≡◌, ◌≢◌, ◌⊎◌, ℕ, Bool, if◌then◌else◌, List, [], ◌∷◌, map, reverse, codes, String, string_bytes, Option, Some, None, Ok, MatchResult}, declared.alloc.Global.Global}
 use Rattle.conversions.specs.{declared.{conversion.Conversion.Conversion, error.FormError.FormError, locale_formatter.LocaleFormatter.LocaleFormatter, reader.LocaleReader.LocaleReader}, Calls.copied, FormatWord.{NamesFormatter, FormatterFails}, ReadWord.{NamesReader, ReaderFails}}
-use Rattle.cli.specs.{declared.program.error.WordsError.{WordsError, TheVariants.Memory}, Calls.{calls_of, IsErrorOfWord}, Error.words_error, Parameters.{is_read_word, is_format_word}}
+use Rattle.cli.specs.{declared.program.error.WordsError.{WordsError, TheVariants.Memory}, Calls.{calls_of, IsErrorOfWord}, Error.words_error, Parameters.has_name}
 
 -- ---- The first and the last word.
 
@@ -13,11 +13,11 @@ split_if test (word ∷ words) =
 
 -- the first word, if it is `read:..`, and the words after it
 abbrev pub split_read : List (String Global) → Option (List ℕ) × List (String Global)
-split_read words = split_if is_read_word words
+split_read words = split_if (has_name (codes "read")) words
 
 -- the last word, if it is `format:..`, and the words before it
 abbrev pub split_format : List (String Global) → Option (List ℕ) × List (String Global)
-split_format words = let last = split_if is_format_word (reverse words) in (last.0, reverse last.1)
+split_format words = let last = split_if (has_name (codes "format")) (reverse words) in (last.0, reverse last.1)
 
 -- ---- All words.
 

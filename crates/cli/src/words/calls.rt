@@ -5,7 +5,7 @@ ghost use Rattle.cli.specs.Calls.{calls_of, is_first, IsErrorOfWord, CallsFail};
 
 use crate::program::error::WordsError;
 use crate::words::options::is_option;
-use crate::words::parameters::{is_format_word, is_read_word};
+use crate::words::parameters::has_name;
 use conversions::{ShownWord, call};
 use fixed_decimal::Call;
 use std::alloc::Global;
@@ -13,7 +13,7 @@ use std::alloc::Global;
 fn is_first(word: &str) -> bool
     ensures { result ≡ is_first word.now }
 {
-    is_option(word) || is_read_word(word)
+    is_option(word) || has_name("read", word)
 }
 
 /// Returns the error of a word that names no call, after this number of calls.
@@ -21,7 +21,7 @@ fn error_of_word(calls: usize, word: &str) -> WordsError
     ensures { IsErrorOfWord calls word.now result }
 {
     let shown = ShownWord::of(word);
-    if is_format_word(word) {
+    if has_name("format", word) {
         return WordsError::Misplaced(shown);
     }
     if !is_first(word) {

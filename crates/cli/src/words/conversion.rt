@@ -4,7 +4,7 @@ ghost use Rattle.cli.specs.Words.{split_read, split_format, NamesConversion, Con
 
 use crate::program::error::WordsError;
 use crate::words::calls::parse_calls;
-use crate::words::parameters::{is_format_word, is_read_word};
+use crate::words::parameters::has_name;
 use conversions::{Conversion, parse_formatter, parse_reader};
 use std::alloc::Global;
 
@@ -15,7 +15,7 @@ fn split_read(words: &[String]) -> (Option<&str>, &[String])
         return (None, words);
     };
     let word = first.as_str();
-    if is_read_word(word) {
+    if has_name("read", word) {
         return (Some(word), rest);
     }
     (None, words)
@@ -28,7 +28,7 @@ fn split_format(words: &[String]) -> (Option<&str>, &[String])
         return (None, words);
     };
     let word = last.as_str();
-    if is_format_word(word) {
+    if has_name("format", word) {
         return (Some(word), rest);
     }
     (None, words)

@@ -177,7 +177,10 @@ impl<'a> Options<'a> {
 pub fn is_option(word: &str) -> bool
     ensures { result ≡ is_option word.now }
 {
-    Options::none().with(word).is_some()
+    match Options::none().with(word) {
+        Some(_) => true,
+        None => false,
+    }
 }
 
 fn split_after<'a>(options: Options<'a>, words: &'a [String]) -> (Options<'a>, &'a [String])

@@ -1,6 +1,6 @@
 //! The parameter of a word: what follows its name and a colon.
 ghost use Rattle.std.specs.{Prelude.◌≡◌, Option.option_copied};
-ghost use Rattle.cli.specs.Parameters.{parameter_of, is_read_word, is_format_word};
+ghost use Rattle.cli.specs.Parameters.{parameter_of, has_name};
 
 use conversions::parameters::split_parameters;
 
@@ -12,16 +12,12 @@ pub fn parameter_of<'a>(name: &str, word: &'a str) -> Option<&'a str>
     if first == name { parameter } else { None }
 }
 
-/// Returns whether a word is `read:` and a text.
-pub fn is_read_word(word: &str) -> bool
-    ensures { result ≡ is_read_word word.now }
+/// Returns whether a word is this name, a colon and a text.
+pub fn has_name(name: &str, word: &str) -> bool
+    ensures { result ≡ has_name name.now word.now }
 {
-    parameter_of("read", word).is_some()
-}
-
-/// Returns whether a word is `format:` and a text.
-pub fn is_format_word(word: &str) -> bool
-    ensures { result ≡ is_format_word word.now }
-{
-    parameter_of("format", word).is_some()
+    match parameter_of(name, word) {
+        Some(_) => true,
+        None => false,
+    }
 }

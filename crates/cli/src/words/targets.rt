@@ -70,7 +70,10 @@ impl NamedTarget<'_> {
 fn names_field(word: &str) -> bool
     ensures { result ≡ is_some (column_of word.now) }
 {
-    Column::of(word).is_some()
+    match Column::of(word) {
+        Some(_) => true,
+        None => false,
+    }
 }
 
 fn first_name(words: &[String]) -> Option<usize>

@@ -1,0 +1,15 @@
+use Rattle.std.proofs.Common.refl
+use Rattle.cli.proofs.words.columns.Column.of.Goals as goal
+
+pub returns-in_err-text : goal.returns-in_err-text
+returns-in_err-text c = rw (← rw c.in_err-text.was at c.parameter_of.ensures) refl
+
+pub returns-in-Some : goal.returns-in-Some
+returns-in-Some c =
+    let found = rw c.in_ok-text.was at c.parameter_of.ensures in
+    rw (← found, ← c.in-Some.ensures) refl
+
+pub returns : goal.returns
+returns c =
+    let found = rw c.in_ok-text.was at c.parameter_of.ensures in
+    rw (← found, ← c.in_default.ensures) c.by_name.ensures
