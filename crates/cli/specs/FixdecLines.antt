@@ -1,6 +1,6 @@
 -- The filter that the words of `fixdec_lines` name, and its result on an input.
 use Rattle.std.specs.{Prelude.{◌≡◌, ◌⊎◌, ℕ, ◌&&◌, not, ⊤, Bool, true, false, List, String, Option, Some, None, Result, Err, OnOk, IfErr, IsOkAnd, MatchResult}, declared.{alloc.Global.Global, io.ErrorKind.ErrorKind}}
-use Rattle.cli.specs.{Targets.{NamesTarget, NameNoTarget, have_names}, Options.{options_of, copied_options, first_of}, declared.{words.{options.Options.Options, targets.NamedTarget.NamedTarget}, lines.named_filter.NamedFilter.NamedFilter, program.{error.{WordsError.{WordsError, TheVariants.{Memory, NoHeader}}, ProgramError.{ProgramError, TheVariants.{Setup, Output}}}, help.Program.TheVariants.FixdecLines}}, Error.setup_error, NamedFilter.FiltersNamed, Filter.{Change, Effects}, Lines.AppendsUnwritten}
+use Rattle.cli.specs.{Targets.{NamesTarget, NameNoTarget, have_names}, Options.{options_of, copied_options, field_of}, declared.{words.{options.Options.Options, targets.NamedTarget.NamedTarget}, lines.named_filter.NamedFilter.NamedFilter, program.{error.{WordsError.{WordsError, TheVariants.{Memory, NoHeader}}, ProgramError.{ProgramError, TheVariants.{Setup, Output}}}, help.Program.TheVariants.FixdecLines}}, Error.setup_error, NamedFilter.FiltersNamed, Filter.{Change, Effects}, Lines.AppendsUnwritten}
 
 -- whether a field has a name, and `header` is not there
 abbrev pub lacks_header : Options → NamedTarget → Bool
@@ -11,7 +11,7 @@ abbrev pub NamesFilter : List (String Global) → NamedFilter → Type 0
 NamesFilter words filter =
     let named = options_of words in
     (copied_options filter.options ≡ named.0)
-    × IsOkAnd (first_of named.0) (λ first. NamesTarget first named.1 filter.target)
+    × IsOkAnd (field_of named.0) (λ first. NamesTarget first named.1 filter.target)
     × (lacks_header named.0 filter.target ≡ false)
 
 -- they are not, for this error: that of the options; or the other words name nothing to convert; or a field has a name,
@@ -19,7 +19,7 @@ NamesFilter words filter =
 abbrev pub FilterFails : List (String Global) → WordsError → Type 0
 FilterFails words error =
     let named = options_of words in
-    MatchResult (first_of named.0)
+    MatchResult (field_of named.0)
     (λ first. NameNoTarget first named.1 error
     ⊎ ((target : NamedTarget) × NamesTarget first named.1 target × (lacks_header named.0 target ≡ true)
     × (error ≡ NoHeader)))

@@ -91,12 +91,12 @@ copied_first first = (copied first.0, copied_field first.1)
 
 -- the field that options name, if they do, and the first field of each line. A delimiter and CSV need a field, and the
 -- delimiter of CSV is no quote
-abbrev pub first_by : Option Column → Options → Result (Option (Column × Field)) WordsError
-first_by None options = if is_some options.delimiter || options.is_csv then Err NoField else Ok None
-first_by (Some column) options =
+abbrev pub field_by : Option Column → Options → Result (Option (Column × Field)) WordsError
+field_by None options = if is_some options.delimiter || options.is_csv then Err NoField else Ok None
+field_by (Some column) options =
     if options.is_csv && bytes_eq (delimiter_bytes options) (quote ∷ []) then Err QuoteDelimiter
     else Ok (Some (column, record { index = 0; delimiter = borrowed (delimiter_bytes options); is_csv = options.is_csv }))
 
 -- the same; and records need CSV
-abbrev pub first_of : Options → Result (Option (Column × Field)) WordsError
-first_of options = if options.has_records && not options.is_csv then Err NoCsv else first_by options.column options
+abbrev pub field_of : Options → Result (Option (Column × Field)) WordsError
+field_of options = if options.has_records && not options.is_csv then Err NoCsv else field_by options.column options

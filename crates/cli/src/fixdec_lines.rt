@@ -23,7 +23,7 @@ fn parse_filter(alloc: Global, words: &[String]) -> Result<NamedFilter<'_>, Word
     ensures err { IfErr result (FilterFails words.now) }
 {
     let (options, words) = split_options(words);
-    let first = options.first()?;
+    let first = options.field()?;
     let target = parse_target(alloc, first, words)?;
     if target.has_names() && !options.has_header {
         return Err(WordsError::NoHeader);

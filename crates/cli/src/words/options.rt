@@ -1,6 +1,6 @@
 //! The options that the first words of `fixdec_lines` name.
 ghost use Rattle.std.specs.{Prelude.{◌≡◌, option_map, option_copied}, Result.result_map_both};
-ghost use Rattle.cli.specs.Options.{none, copied_options, with_on_error, delimiter_of, with_parameter, with_word, is_option, options_after, options_of, delimiter_bytes, copied_first, first_of};
+ghost use Rattle.cli.specs.Options.{none, copied_options, with_on_error, delimiter_of, with_parameter, with_word, is_option, options_after, options_of, delimiter_bytes, copied_first, field_of};
 
 use crate::lines::fields::Field;
 use crate::program::error::WordsError;
@@ -146,9 +146,9 @@ impl<'a> Options<'a> {
     /// - `NoCsv`: `records` has no `csv`.
     /// - `NoField`: a delimiter or `csv` has no field.
     /// - `QuoteDelimiter`: the delimiter of CSV is a quote.
-    pub fn first(self) -> Result<Option<(Column<'a>, Field<'a>)>, WordsError>
+    pub fn field(self) -> Result<Option<(Column<'a>, Field<'a>)>, WordsError>
         ensures { result_map_both (option_map copied_first) (λ error. error) result
-            ≡ first_of (copied_options self.entry) }
+            ≡ field_of (copied_options self.entry) }
     {
         if self.has_records && !self.is_csv {
             return Err(WordsError::NoCsv);

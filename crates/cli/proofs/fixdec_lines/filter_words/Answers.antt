@@ -1,4 +1,4 @@
-use Rattle.std.proofs.{Common.{◌≡◌, ◌∙◌, ℕ, List, [], Option, Some, Result, Ok, Err, IfErr, OnOk, Bool, false, inl, inr, refl, ap}, KnownBytes.Appends-kept}
+use Rattle.std.proofs.{Common.{◌≡◌, ◌∙◌, ℕ, List, [], Option, Some, Result, Ok, Err, IfErr, OnOk, Bool, true, false, inl, inr, refl, ap}, KnownBytes.Appends-kept}
 use Rattle.std.specs.{Io.KnownBytes.{Keeps, append_known}}
 use Rattle.decimal_digits.specs.AppendsPrefix.{AppendsPrefix}
 use Rattle.cli.specs.{declared.{program.error.ProgramError.{ProgramError, TheVariants.{Setup, Output}}, lines.{filter.Filter.Filter, named_filter.NamedFilter.NamedFilter}}, Filter.{Effects, FilteredLine}, Lines.{AreFirst, number_after, Returns, Filters, AppendsUnwritten}, NamedFilter.{EndsAtHeader, FiltersNamed}, FixdecLines.IsEarly}

@@ -1,4 +1,4 @@
-use Rattle.std.proofs.Common.{◌≡◌, ◌≢◌, ℕ, List, [], Option, String, Result, Ok, Err, inl, inr, refl}
+use Rattle.std.proofs.Common.{◌≡◌, ◌≢◌, ℕ, List, [], Option, String, Result, Ok, Err, inl, inr, refl, ap}
 use Rattle.std.specs.{declared.alloc.Global.Global, Prelude.{map, MatchResult}}
 use Rattle.fixed_decimal.specs.declared.runs.Call.{Call}
 use Rattle.conversions.specs.{declared.{conversion.Conversion.Conversion, reader.LocaleReader.LocaleReader}, Calls.copied, FormatWord.NamesFormatter, ReadWord.NamesReader}
@@ -23,24 +23,65 @@ module _ (format : Option (List ℕ)) (calls : List (String Global)) (error : Wo
   after_calls (Ok named) fails after = after fails.0
   after_calls (Err wrong) fails after = absurd fails
 
-  -- at another error one names none
-  at_call :
-      (named : Result (List Call) (ℕ × List ℕ)) → error ≢ Memory → Fail calls error named
-      → Fails format calls error named
-  at_call (Ok named) other fails = absurd (other fails.1)
-  at_call (Err wrong) other fails = fails
-
 module _
-    (words others calls : List (String Global)) (read format : Option (List ℕ)) (first : (read, others) ≡ split_read words)
-    (last : (format, calls) ≡ split_format others)
+    (words others calls : List (String Global)) (read format : Option (List ℕ))
+    (first : (read, others) ≡ split_read words) (last : (format, calls) ≡ split_format others)
   where
+  by : format ≡ (split_format others).0
+  by = ap (λ (it : Option (List ℕ) × List (String Global)). it.0) last
+
+  before : calls ≡ (split_format others).1
+  before = ap (λ (it : Option (List ℕ) × List (String Global)). it.1) last
+
   names :
       (conversion : Conversion) → NamesReader read conversion.reader
       → calls_of calls ≡ Ok (map copied conversion.calls.items) → NamesFormatter format conversion.formatter
       → NamesConversion words conversion
-  names conversion reader named formatter = rw (← first, ← last) (reader, named, formatter)
+  names conversion reader named formatter = rw (← first, ← by, ← before) (reader, named, formatter)
 
   fails :
       (error : WordsError) (reader : Option LocaleReader) → NamesReader read reader
       → Fails format calls error (calls_of calls) → ConversionFails words error
-  fails error reader is wrong = rw (← first, ← last) (inr ((reader, is), wrong))
+  fails error reader is wrong = rw (← first, ← by, ← before) (inr ((reader, is), wrong))
+
+pub returns-in_err-reader-clause-err : goal.returns-in_err-reader-clause-err
+returns-in_err-reader-clause-err c =
+    let residual = c.from_residual in
+    let failed = c.in_err-reader in
+    err_with (ConversionFails c.args.words.now) residual.result (words_error failed.field-0.0) residual.ensures.1
+    (rw (← c.split_read.ensures) (inl (failed.field-0.0, refl, failed.ensures.err)))
+
+pub returns-in_err-parse_formatter-in-Ok-clause-err : goal.returns-in_err-parse_formatter-in-Ok-clause-err
+returns-in_err-parse_formatter-in-Ok-clause-err c =
+    let residual = c.from_residual-in_err-parse_formatter-in-Ok in
+    let failed = c.in_err-parse_formatter-in-Ok in
+    err_with (ConversionFails c.args.words.now) residual.result (words_error failed.field-0.0) residual.ensures.1
+    (fails c.args.words.now _ _ _ _ c.split_read.ensures c.split_format.ensures (words_error failed.field-0.0)
+    c.in_ok-reader.reader c.in_ok-reader.ensures.some
+    (rw c.in-Ok.ensures.some (inl (failed.field-0.0, refl, failed.ensures.err))))
+
+pub returns-in-Ok-clause-some : goal.returns-in-Ok-clause-some
+returns-in-Ok-clause-some c =
+    let parsed = c.in_ok-parse_formatter-in-Ok in
+    names c.args.words.now _ _ _ _ c.split_read.ensures c.split_format.ensures
+    (record { reader = c.in_ok-reader.reader; calls = c.in-Ok.calls; formatter = parsed.field-0 })
+    c.in_ok-reader.ensures.some c.in-Ok.ensures.some parsed.ensures.some
+
+pub returns-in_err-parse_formatter-in-Err-Memory-clause-err :
+    goal.returns-in_err-parse_formatter-in-Err-Memory-clause-err
+returns-in_err-parse_formatter-in-Err-Memory-clause-err c =
+    let residual = c.from_residual-in_err-parse_formatter-in-Err-Memory in
+    let failed = c.in_err-parse_formatter-in-Err-Memory in
+    let none = rw c.in-Err-Memory.field-0-is at c.in-Err-Memory.ensures.err in
+    err_with (ConversionFails c.args.words.now) residual.result (words_error failed.field-0.0) residual.ensures.1
+    (fails c.args.words.now _ _ _ _ c.split_read.ensures c.split_format.ensures (words_error failed.field-0.0)
+    c.in_ok-reader.reader c.in_ok-reader.ensures.some
+    (after_calls _ _ _ _ none (λ some. inl (failed.field-0.0, refl, failed.ensures.err))))
+
+pub returns-in-Err-Memory-clause-err : goal.returns-in-Err-Memory-clause-err
+returns-in-Err-Memory-clause-err c =
+    let parsed = c.in_ok-parse_formatter-in-Err-Memory in
+    let none = rw c.in-Err-Memory.field-0-is at c.in-Err-Memory.ensures.err in
+    fails c.args.words.now _ _ _ _ c.split_read.ensures c.split_format.ensures Memory c.in_ok-reader.reader
+    c.in_ok-reader.ensures.some
+    (after_calls _ _ _ _ none (λ some. inr ((parsed.field-0, parsed.ensures.some), some, refl)))

@@ -1,5 +1,5 @@
-use Rattle.std.proofs.{Common.{◌≡◌, List, [], ◌∷◌, ◌++◌, String, Global, Bool, true, false, Some, None, refl, sym, ◌∙◌, codes, string_bytes, rules}, lemmas.List.{reverse-append, reverse-reverse}}
-use Rattle.std.specs.Prelude.{if◌then◌else◌}
+use Rattle.std.proofs.{Common.{◌≡◌, List, [], ◌∷◌, ◌++◌, String, Global, Bool, true, false, Some, None, refl, sym, ap, ◌∙◌, codes, string_bytes, rules}, lemmas.List.{reverse-append, reverse-reverse}}
+use Rattle.std.specs.Prelude.{if◌then◌else◌, reverse}
 use Rattle.cli.specs.{Parameters.has_name, Words.split_format}
 use Rattle.cli.proofs.words.conversion.split_format.Goals as goal
 
@@ -10,7 +10,10 @@ last_is :
     → (if is_format then (Some (string_bytes last), rest) else (None, rest ++ (last ∷ [])))
     ≡ split_format (rest ++ (last ∷ []))
 last_is rest last true is = rw (reverse-append, is, reverse-reverse) refl
-last_is rest last false is = rw (reverse-append, is, reverse-reverse) refl
+last_is rest last false is =
+    let kept : rest ++ (last ∷ []) ≡ reverse (last ∷ reverse rest) =
+    sym (reverse-append (last ∷ []) (reverse rest) ∙ ap (λ words. words ++ (last ∷ [])) (reverse-reverse rest)) in
+    rw (reverse-append, is) (rw (← kept) refl)
 
 pub returns-then-has_name : goal.returns-then-has_name
 returns-then-has_name c =

@@ -1,12 +1,6 @@
 use Rattle.std.proofs.Common.{◌≡◌, ◌∷◌, refl, rules}
 use Rattle.cli.proofs.words.targets.first_group.Goals as goal
 
-pub returns-in_err-column-clause-value : goal.returns-in_err-column-clause-value
-returns-in_err-column-clause-value c =
-    let split : c.args.words.now ≡ c.in_ok-first.first.now ∷ c.in_ok-first.rest.now = search rules in
-    let named = rw (c.in_err-column.was, c.as_str-word.ensures.value) at c.of.ensures in
-    rw (split, ← named) refl
-
 pub returns-clause-value : goal.returns-clause-value
 returns-clause-value c =
     let split : c.args.words.now ≡ c.in_ok-first.first.now ∷ c.in_ok-first.rest.now = search rules in

@@ -1,8 +1,5 @@
-use Rattle.std.proofs.Common.refl
+use Rattle.std.proofs.Common.{refl}
 use Rattle.cli.proofs.words.columns.Column.of.Goals as goal
-
-pub returns-in_err-text : goal.returns-in_err-text
-returns-in_err-text c = rw (← rw c.in_err-text.was at c.parameter_of.ensures) refl
 
 pub returns-in-Some : goal.returns-in-Some
 returns-in-Some c =
