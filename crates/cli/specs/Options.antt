@@ -1,5 +1,5 @@
 -- The options that the first words of `fixdec_lines` name.
-use Rattle.std.specs.{Prelude.{◌≡◌, ℕ, ◌==◌, ◌&&◌, ◌||◌, not, if◌then◌else◌, Bool, true, false, List, [], ◌∷◌, length, codes, String, string_bytes, Option, Some, None, is_some, is_none, unwrap_or, option_map, option_and_then, option_copied, Result, Ok, Err}, Bool.then_some, Option.option_map_or, Str.{bytes_eq, chars}, declared.alloc.Global.Global}
+use Rattle.std.specs.{Prelude.{ℕ, ◌==◌, ◌&&◌, ◌||◌, not, if◌then◌else◌, Bool, true, false, List, [], ◌∷◌, length, codes, String, string_bytes, Option, Some, None, is_some, is_none, unwrap_or, option_map, option_and_then, option_copied, Result, Ok, Err}, Bool.then_some, Option.option_map_or, Str.{bytes_eq, chars}, declared.alloc.Global.Global}
 use Rattle.conversions.specs.Parameters.{lookup}
 use Rattle.cli.specs.{Columns.{borrowed, copied, column_of}, declared.{words.{columns.Column.Column, options.{OnError.{OnError, TheVariants.{Stop, Skip, Keep}}, Options.Options}}, lines.fields.Field.Field, program.error.WordsError.{WordsError, TheVariants.{NoCsv, NoField, QuoteDelimiter}}}, Fields.quote, Parameters.parameter_of}
 

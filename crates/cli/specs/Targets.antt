@@ -1,5 +1,5 @@
 -- What the words after the options name: the conversion of each line, or of fields of it.
-use Rattle.std.specs.{Prelude.{◌≡◌, ◌⊎◌, ℕ, ◌==◌, if◌then◌else◌, Bool, true, false, List, [], ◌∷◌, ◌++◌, length, take, drop, position, String, string_bytes, Option, Some, None, unwrap_or, option_map, IsSomeAnd, MatchOption, MatchBool}, List.list_any, declared.alloc.Global.Global}
+use Rattle.std.specs.{Prelude.{◌≡◌, ◌⊎◌, ℕ, ◌==◌, if◌then◌else◌, Bool, false, List, [], ◌∷◌, ◌++◌, length, take, drop, position, String, string_bytes, Option, Some, None, unwrap_or, option_map, IsSomeAnd, MatchOption, MatchBool}, List.list_any, declared.alloc.Global.Global}
 use Rattle.cli.specs.{Columns.{copied, column_of, names_field, is_same, is_name, IsLabel}, declared.{words.{columns.Column.{Column, TheVariants.{Index, Name}}, targets.{Group.Group, NamedField.NamedField, NamedTarget.{NamedTarget, TheVariants.{One, Fields}}}}, program.error.WordsError.{WordsError, TheVariants.{Misplaced, Memory}}, lines.fields.Field.Field}, Fields.at_index, Options.copied_field, Words.{NamesConversion, ConversionFails}}
 use Rattle.conversions.specs.{declared.{conversion.Conversion.Conversion, shown_word.ShownWord.ShownWord}, ShownWord.IsShown}
 

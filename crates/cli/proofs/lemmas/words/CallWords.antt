@@ -1,5 +1,5 @@
 -- Words and the calls that they name, one by one.
-use Rattle.std.proofs.{Common.{◌≡◌, ℕ, ◌+◌, ◌<◌, ◌≤◌, List, [], ◌∷◌, ◌++◌, length, take, drop, get_or, String, string_bytes, Option, Some, None, Result, Ok, Err, refl, sym, ap, ◌∙◌, append_assoc, add-one}, Math.Seq.take-suc, lemmas.List.{append-nil, drop_more, drop_all}}
+use Rattle.std.proofs.{Common.{◌≡◌, ℕ, ◌+◌, ◌<◌, ◌≤◌, List, [], ◌∷◌, ◌++◌, length, take, drop, get_or, String, string_bytes, Some, None, Result, Ok, Err, refl, sym, ap, ◌∙◌, append_assoc, add-one}, Math.Seq.take-suc, lemmas.List.{append-nil, drop_more, drop_all}}
 use Rattle.std.specs.declared.alloc.Global.{Global}
 use Rattle.fixed_decimal.specs.{DecimalText.and_then, declared.runs.Call.Call}
 use Rattle.conversions.specs.Calls.{call_of}

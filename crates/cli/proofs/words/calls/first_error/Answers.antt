@@ -1,6 +1,6 @@
-use Rattle.std.proofs.Common.{◌≡◌, [], ◌∷◌, ◌++◌, Some, None, refl, string_bytes}
+use Rattle.std.proofs.Common.{◌≡◌, [], ◌∷◌, ◌++◌, Some, None, string_bytes}
 use Rattle.conversions.specs.Calls.{call_of, copied}
-use Rattle.cli.proofs.lemmas.words.CallWords.{calls_all, calls_next, calls_end}
+use Rattle.cli.proofs.lemmas.words.CallWords.{calls_next, calls_end}
 use Rattle.cli.proofs.words.calls.first_error.Goals as goal
 
 pub returns-in_default-clause-some : goal.returns-in_default-clause-some
@@ -22,8 +22,3 @@ loop-index-preserved c =
       calls_next c.args.words.now c.loop-index.index calls word c.loop-index-test.true c.index-words-index.is names
           call named,
     )
-
-pub returns-clause-none : goal.returns-clause-none
-returns-clause-none c =
-    let (calls, names) = c.loop-index.invariant in
-    rw (calls_all c.args.words.now c.loop-index.index calls names c.loop-index-test.false) refl

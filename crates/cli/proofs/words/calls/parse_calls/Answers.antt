@@ -1,6 +1,6 @@
-use Rattle.std.proofs.{Common.{◌≡◌, [], ◌∷◌, Some, None, string_bytes, arith}, lemmas.List.map-append}
+use Rattle.std.proofs.{Common.{◌≡◌, Some, None, string_bytes, arith}, lemmas.List.map-append}
 use Rattle.conversions.specs.Calls.{call_of, copied}
-use Rattle.cli.proofs.lemmas.words.CallWords.{calls_all, calls_next, calls_end}
+use Rattle.cli.proofs.lemmas.words.CallWords.{calls_next, calls_end}
 use Rattle.cli.proofs.words.calls.parse_calls.Goals as goal
 
 pub returns-in_default-call-clause-err : goal.returns-in_default-call-clause-err
@@ -24,7 +24,3 @@ loop-index-preserved c =
       count = omega (arith, c.push_reserved.ensures.len, c.loop-index.invariant.count);
       room = omega (arith, capacity, c.loop-index.invariant.room);
     }
-
-pub returns-clause-some : goal.returns-clause-some
-returns-clause-some c =
-    calls_all c.args.words.now c.loop-index.index _ c.loop-index.invariant.names c.loop-index-test.false

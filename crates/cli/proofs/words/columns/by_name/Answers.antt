@@ -6,18 +6,6 @@ no_equals_sign : (text : List ℕ) → ((name : List ℕ) → text ≢ 61 ∷ na
 no_equals_sign [] other = refl
 no_equals_sign (first ∷ name) other = ne_eqb first 61 (λ is. other name (ap (λ byte. byte ∷ name) is))
 
-pub returns-in-Some : goal.returns-in-Some
-returns-in-Some c =
-    let is = rw c.in-Some.is at (strip_prefix_char 61 c.args.text.now c.strip_prefix.result
-    c.strip_prefix.ensures.cases (omega arith)) in
-    rw is refl
-
-pub returns-then-are_digits : goal.returns-then-are_digits
-returns-then-are_digits c =
-    let other = rw c.in_default.is at (strip_prefix_char 61 c.args.text.now c.strip_prefix.result
-    c.strip_prefix.ensures.cases (omega arith)) in
-    rw (no_equals_sign c.args.text.now other, sym c.are_digits.ensures ∙ c.if-are_digits.true) refl
-
 pub returns : goal.returns
 returns c =
     let other = rw c.in_default.is at (strip_prefix_char 61 c.args.text.now c.strip_prefix.result

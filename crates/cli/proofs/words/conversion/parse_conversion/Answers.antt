@@ -2,7 +2,7 @@ use Rattle.std.proofs.Common.{◌≡◌, ◌≢◌, ℕ, List, [], Option, Strin
 use Rattle.std.specs.{declared.alloc.Global.Global, Prelude.{map, MatchResult}}
 use Rattle.fixed_decimal.specs.declared.runs.Call.{Call}
 use Rattle.conversions.specs.{declared.{conversion.Conversion.Conversion, reader.LocaleReader.LocaleReader}, Calls.copied, FormatWord.NamesFormatter, ReadWord.NamesReader}
-use Rattle.cli.specs.{declared.program.error.WordsError.{WordsError, TheVariants.Memory}, Calls.{calls_of, IsErrorOfWord, CallsFail}, Error.words_error, Words.{split_read, split_format, NamesConversion, FormatFails, ConversionFails}}
+use Rattle.cli.specs.{declared.program.error.WordsError.{WordsError, TheVariants.Memory}, Calls.{calls_of, IsErrorOfWord}, Error.words_error, Words.{split_read, split_format, NamesConversion, FormatFails, ConversionFails}}
 use Rattle.conversions.proofs.lemmas.calls.Results.{err_with}
 use Rattle.cli.proofs.words.conversion.parse_conversion.Goals as goal
 

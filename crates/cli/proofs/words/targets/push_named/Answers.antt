@@ -1,19 +1,6 @@
-use Rattle.std.proofs.{Common.{◌≡◌, true, false, inl, inr, refl, ap, sym, ◌∙◌}, lemmas.Result.err_from_is_err_and}
+use Rattle.std.proofs.{Common.{◌≡◌, false, inr, refl, ap, sym, ◌∙◌}}
 use Rattle.cli.specs.{Columns.copied, Targets.{has_column, IsNamed}}
 use Rattle.cli.proofs.words.targets.push_named.Goals as goal
-
-pub returns-then-has_column-clause-err : goal.returns-then-has_column-clause-err
-returns-then-has_column-clause-err c =
-    let again : has_column c.args.fields.now.items (copied c.args.group.column) ≡ true =
-    rw c.as_slice.ensures.value at (sym c.has_column.ensures ∙ c.if-has_column.true) in
-    rw again (c.of.result, c.of.ensures, refl)
-
-pub returns-in_err-conversion-clause-err : goal.returns-in_err-conversion-clause-err
-returns-in_err-conversion-clause-err c =
-    let new : has_column c.args.fields.now.items (copied c.args.group.column) ≡ false =
-    rw c.as_slice.ensures.value at (sym c.has_column.ensures ∙ c.if-has_column.false) in
-    let p = err_from_is_err_and c.from_residual.result c.from_residual.ensures.1 in
-    rw (p.1, p.2, new) (inl c.in_err-conversion.ensures.err)
 
 pub returns-in-Err-clause-err : goal.returns-in-Err-clause-err
 returns-in-Err-clause-err c =
