@@ -27,22 +27,22 @@ module _
     (words others calls : List (String Global)) (read format : Option (List ℕ))
     (first : (read, others) ≡ split_read words) (last : (format, calls) ≡ split_format others)
   where
-  by : format ≡ (split_format others).0
-  by = ap (λ (it : Option (List ℕ) × List (String Global)). it.0) last
+    by : format ≡ (split_format others).0
+    by = ap (λ (it : Option (List ℕ) × List (String Global)). it.0) last
 
-  before : calls ≡ (split_format others).1
-  before = ap (λ (it : Option (List ℕ) × List (String Global)). it.1) last
+    before : calls ≡ (split_format others).1
+    before = ap (λ (it : Option (List ℕ) × List (String Global)). it.1) last
 
-  names :
-      (conversion : Conversion) → NamesReader read conversion.reader
-      → calls_of calls ≡ Ok (map copied conversion.calls.items) → NamesFormatter format conversion.formatter
-      → NamesConversion words conversion
-  names conversion reader named formatter = rw (← first, ← by, ← before) (reader, named, formatter)
+    names :
+        (conversion : Conversion) → NamesReader read conversion.reader
+        → calls_of calls ≡ Ok (map copied conversion.calls.items) → NamesFormatter format conversion.formatter
+        → NamesConversion words conversion
+    names conversion reader named formatter = rw (← first, ← by, ← before) (reader, named, formatter)
 
-  fails :
-      (error : WordsError) (reader : Option LocaleReader) → NamesReader read reader
-      → Fails format calls error (calls_of calls) → ConversionFails words error
-  fails error reader is wrong = rw (← first, ← by, ← before) (inr ((reader, is), wrong))
+    fails :
+        (error : WordsError) (reader : Option LocaleReader) → NamesReader read reader
+        → Fails format calls error (calls_of calls) → ConversionFails words error
+    fails error reader is wrong = rw (← first, ← by, ← before) (inr ((reader, is), wrong))
 
 pub returns-in_err-reader-clause-err : goal.returns-in_err-reader-clause-err
 returns-in_err-reader-clause-err c =
