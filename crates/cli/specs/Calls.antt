@@ -1,46 +1,37 @@
 -- The calls that words name, and the error of a word that names none.
-use Rattle.std.specs.{Prelude.{◌≡◌, ◌≢◌, ◌⊎◌, ℕ, ◌<◌, ⊤, List, [], ◌∷◌, take, slice_get, String, string_bytes, Some, None}, declared.alloc.Global.Global}
-use Rattle.fixed_decimal.specs.declared.runs.Call.{Call}
-use Rattle.conversions.specs.{Calls.{call_of, Names}, FormatWord.IsFormatWord, ReadWord.IsReadWord, ShownWord.IsShown}
-use Rattle.cli.specs.{declared.program.error.WordsError.{WordsError, TheVariants.{NoSuchWord, AfterCall, Misplaced, Memory}}, Options.IsOption}
+use Rattle.std.specs.{Prelude.{◌≡◌, ◌≢◌, ◌⊎◌, ℕ, ◌+◌, ◌<◌, Bool, true, false, ◌||◌, List, [], ◌∷◌, codes, String, string_bytes, Result, Ok, MatchResult}, Option.ok_or, declared.alloc.Global.Global}
+use Rattle.fixed_decimal.specs.{DecimalText.and_then, declared.runs.Call.Call}
+use Rattle.conversions.specs.{Calls.call_of, ShownWord.IsShown}
+use Rattle.cli.specs.{declared.program.error.WordsError.{WordsError, TheVariants.{NoSuchWord, AfterCall, Misplaced, Memory}}, Options.is_option, Parameters.has_name}
 
--- the words name these calls, one by one
-abbrev pub NameAll : List (String Global) → List Call → Type 0
-NameAll [] [] = ⊤
-NameAll (word ∷ words) (call ∷ calls) = Names (string_bytes word) call × NameAll words calls
-NameAll _ _ = ⊥
+-- the calls that words name, of which the first has this index; or the first word that names none, with its index
+abbrev pub calls_from : ℕ → List (String Global) → Result (List Call) (ℕ × List ℕ)
+calls_from index [] = Ok []
+calls_from index (word ∷ words) =
+    and_then (ok_or (call_of (string_bytes word)) (index, string_bytes word))
+    (λ call. and_then (calls_from (index + 1) words) (λ calls. Ok (call ∷ calls)))
 
--- each word names a call
-abbrev pub AreCalls : List (String Global) → Type 0
-AreCalls words = (calls : List Call) × NameAll words calls
-
--- the word names no call
-abbrev pub IsUnknown : String Global → Type 0
-IsUnknown word = call_of (string_bytes word) ≡ None
-
--- this word, at this index, is the first that names no call
-abbrev pub IsFirstUnknown : List (String Global) → ℕ → String Global → Type 0
-IsFirstUnknown words at word = (slice_get words at ≡ Some word) × AreCalls (take at words) × IsUnknown word
+abbrev pub calls_of : List (String Global) → Result (List Call) (ℕ × List ℕ)
+calls_of words = calls_from 0 words
 
 -- ---- Errors.
 
--- the word is one that comes before all calls: an option of a filter, or `read:..`
-abbrev pub StandsFirst : List ℕ → Type 0
-StandsFirst word = IsOption word ⊎ IsReadWord word
+-- whether a word is one that comes before all calls: an option of a filter, or `read:..`
+abbrev pub is_first : List ℕ → Bool
+is_first word = is_option word || has_name (codes "read") word
 
 -- a word that names no call, after this number of calls, has this error
 abbrev pub IsErrorOfWord : ℕ → List ℕ → WordsError → Type 0
-IsErrorOfWord calls word (NoSuchWord text) = ¬ StandsFirst word × ¬ IsFormatWord word × IsShown word text
-IsErrorOfWord calls word (AfterCall text) = StandsFirst word × ¬ IsFormatWord word × (0 < calls) × IsShown word text
-IsErrorOfWord calls word (Misplaced text) = (IsFormatWord word ⊎ (StandsFirst word × (calls ≡ 0))) × IsShown word text
+IsErrorOfWord calls word (NoSuchWord text) =
+    (is_first word ≡ false) × (has_name (codes "format") word ≡ false) × IsShown word text
+IsErrorOfWord calls word (AfterCall text) =
+    (is_first word ≡ true) × (has_name (codes "format") word ≡ false) × (0 < calls) × IsShown word text
+IsErrorOfWord calls word (Misplaced text) =
+    ((has_name (codes "format") word ≡ true) ⊎ ((is_first word ≡ true) × (calls ≡ 0))) × IsShown word text
 IsErrorOfWord calls word _ = ⊥
 
--- the first word that names no call has this error
+-- the first word that names no call has this error; or each names one, and the list is out of memory
 abbrev pub CallsFail : List (String Global) → WordsError → Type 0
 CallsFail words error =
-    (calls : ℕ) × (word : String Global) × IsFirstUnknown words calls word
-    × IsErrorOfWord calls (string_bytes word) error
-
--- the words are no calls, for this error; or each names one, and the list is out of memory
-abbrev pub AreNoCalls : List (String Global) → WordsError → Type 0
-AreNoCalls words error = CallsFail words error ⊎ (AreCalls words × (words ≢ []) × (error ≡ Memory))
+    MatchResult (calls_of words) (λ calls. (words ≢ []) × (error ≡ Memory))
+    (λ wrong. IsErrorOfWord wrong.0 wrong.1 error)

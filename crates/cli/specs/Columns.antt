@@ -1,27 +1,38 @@
 -- The fields that words name.
-use Rattle.std.specs.{Prelude.{◌≡◌, ◌≢◌, ◌⊎◌, ℕ, ◌+◌, ◌==◌, Bool, true, false, pos, List, ◌∷◌, ◌++◌, codes, String, string_bytes}, Char.is_ascii_digit, List.list_all, Str.bytes_eq, declared.alloc.Global.Global}
-use Rattle.conversions.specs.{Parameters.HasNumber, ShownWord.IsShown}
-use Rattle.cli.specs.declared.{words.columns.Column.{Column, TheVariants.{Index, Name}}, program.error.FieldLabel.FieldLabel}
+use Rattle.std.specs.{Prelude.{◌≡◌, ℕ, suc, ◌==◌, Bool, true, false, ℤ, pos, if◌then◌else◌, List, drop, slice_index, codes, String, string_bytes, Option, Some, None, is_some, option_and_then}, Borrow.Bor, Char.is_ascii_digit, List.list_all, Option.option_or, Str.bytes_eq, declared.alloc.Global.Global}
+use Rattle.conversions.specs.{Parameters.number, ShownWord.IsShown}
+use Rattle.cli.specs.{declared.{words.columns.Column.{Column, TheVariants.{Index, Name}}, program.error.FieldLabel.FieldLabel}, Parameters.parameter_of}
 use Rattle.cli.specs.declared.program.error.FieldLabel.TheVariants as label
 
--- the word is `field:` and this 1-based number of a field
-abbrev pub IsField : List ℕ → ℕ → Type 0
-IsField word index = HasNumber (codes "field:") word (pos (index + 1))
+-- these bytes, wherever they are
+abbrev pub borrowed : List ℕ → Bor (List ℕ)
+borrowed bytes = record { ref_ptr = (0, 0); now = bytes }
 
--- the text is an equals sign and this name; or it is this name, which begins with none and is not digits alone
-abbrev pub IsName : List ℕ → List ℕ → Type 0
-IsName text name =
-    (text ≡ 61 ∷ name)
-    ⊎ ((text ≡ name) × ((rest : List ℕ) → name ≢ 61 ∷ rest) × (list_all is_ascii_digit name ≡ false))
+-- a column, wherever its name is
+abbrev pub copied : Column → Column
+copied (Index index) = Index index
+copied (Name name) = Name (borrowed name.now)
 
--- the word is `field:` and a number or a name: `field:2`, `field:price`, and `field:=2` for the name 2
-abbrev pub IsColumn : List ℕ → Column → Type 0
-IsColumn word (Index index) = IsField word index
-IsColumn word (Name name) = (text : List ℕ) × (word ≡ codes "field:" ++ text) × IsName text name.now
+-- the field with this 1-based number
+abbrev pub by_number : Option ℤ → Option Column
+by_number (Some (pos (suc index))) = Some (Index index)
+by_number number = None
 
--- the word names a field
-abbrev pub IsFieldWord : String Global → Type 0
-IsFieldWord word = (column : Column) × IsColumn (string_bytes word) column
+-- the field with this name, which is not digits alone; or with the name that follows an equals sign
+abbrev pub by_name : List ℕ → Option Column
+by_name text =
+    if slice_index text 0 == 61 then Some (Name (borrowed (drop 1 text)))
+    else if list_all is_ascii_digit text then None
+    else Some (Name (borrowed text))
+
+-- the field that a word names: `field:2`, `field:price`, and `field:=2` for the name 2
+abbrev pub column_of : List ℕ → Option Column
+column_of word =
+    option_and_then (λ text. option_or (by_number (number text)) (by_name text)) (parameter_of (codes "field") word)
+
+-- whether a word names a field
+abbrev pub names_field : String Global → Bool
+names_field word = is_some (column_of (string_bytes word))
 
 -- whether both have the same number or the same name
 abbrev pub is_same : Column → Column → Bool

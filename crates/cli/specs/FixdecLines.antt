@@ -1,13 +1,6 @@
 -- The filter that the words of `fixdec_lines` name, and its result on an input.
-use Rattle.std.specs.{Prelude.{◌≡◌, ◌⊎◌, ℕ, ◌&&◌, not, ⊤, Bool, true, false, List, String, Option, Some, None, MatchBool, Result, Err, OnOk, IfErr, IsErrAnd}, declared.{alloc.Global.Global, io.ErrorKind.ErrorKind}}
-use Rattle.cli.specs.{Targets.{NamesTarget, NameNoTarget, have_names}, Options.{none, AreOptions, HasField, lacks_csv, field_error}, declared.{words.{options.Options.Options, columns.Column.Column, targets.NamedTarget.NamedTarget}, lines.{fields.Field.Field, named_filter.NamedFilter.NamedFilter}, program.{error.{WordsError.{WordsError, TheVariants.{Memory, NoCsv, NoHeader}}, ProgramError.{ProgramError, TheVariants.{Setup, Output}}}, help.Program.TheVariants.FixdecLines}}, Error.setup_error, NamedFilter.FiltersNamed, Filter.{Change, Effects}, Lines.AppendsUnwritten}
-
--- the words are [OPTION].. .., and P holds of the options and of the words after them
-pub record HasWords (words : List (String Global)) (P : Options → List (String Global) → Type 0) : Type 0 where
-  pub options : Options
-  pub others : List (String Global)
-  pub first : AreOptions none words options others
-  pub holds : P options others
+use Rattle.std.specs.{Prelude.{◌≡◌, ◌⊎◌, ℕ, ◌&&◌, not, ⊤, Bool, true, false, List, String, Option, Some, None, Result, Err, OnOk, IfErr, IsOkAnd, MatchResult}, declared.{alloc.Global.Global, io.ErrorKind.ErrorKind}}
+use Rattle.cli.specs.{Targets.{NamesTarget, NameNoTarget, have_names}, Options.{options_of, copied_options, field_of}, declared.{words.{options.Options.Options, targets.NamedTarget.NamedTarget}, lines.named_filter.NamedFilter.NamedFilter, program.{error.{WordsError.{WordsError, TheVariants.{Memory, NoHeader}}, ProgramError.{ProgramError, TheVariants.{Setup, Output}}}, help.Program.TheVariants.FixdecLines}}, Error.setup_error, NamedFilter.FiltersNamed, Filter.{Change, Effects}, Lines.AppendsUnwritten}
 
 -- whether a field has a name, and `header` is not there
 abbrev pub lacks_header : Options → NamedTarget → Bool
@@ -16,28 +9,21 @@ lacks_header options target = have_names target && not options.has_header
 -- the words are [OPTION].. and those of what is converted, with this filter; if a field has a name, `header` is there
 abbrev pub NamesFilter : List (String Global) → NamedFilter → Type 0
 NamesFilter words filter =
-    HasWords words
-    (λ options others. (lacks_csv options ≡ false) × (filter.options ≡ options)
-    × ((field : Option (Column × Field)) × HasField options field × NamesTarget field others filter.target)
-    × (lacks_header options filter.target ≡ false))
+    let named = options_of words in
+    (copied_options filter.options ≡ named.0)
+    × IsOkAnd (field_of named.0) (λ first. NamesTarget first named.1 filter.target)
+    × (lacks_header named.0 filter.target ≡ false)
 
--- the options have no field, for this error; or they have one, and the other words name nothing to convert, or a field
--- has a name and `header` is not there
-abbrev pub OthersFail : Options → List (String Global) → ProgramError → Type 0
-OthersFail options others error =
-    (((field : Option (Column × Field)) → ¬ HasField options field)
-    × (error ≡ setup_error FixdecLines (field_error options)))
-    ⊎ ((field : Option (Column × Field)) × HasField options field
-    × (((why : WordsError) × (error ≡ setup_error FixdecLines why) × NameNoTarget field others why)
-    ⊎ ((target : NamedTarget) × NamesTarget field others target × (lacks_header options target ≡ true)
-    × (error ≡ setup_error FixdecLines NoHeader))))
-
--- they are not, for this error: `records` has no `csv`; or it has, and the other words fail
-abbrev pub FilterFails : List (String Global) → ProgramError → Type 0
+-- they are not, for this error: that of the options; or the other words name nothing to convert; or a field has a name,
+-- and `header` is not there
+abbrev pub FilterFails : List (String Global) → WordsError → Type 0
 FilterFails words error =
-    HasWords words
-    (λ options others. MatchBool (lacks_csv options) (error ≡ setup_error FixdecLines NoCsv)
-    (OthersFail options others error))
+    let named = options_of words in
+    MatchResult (field_of named.0)
+    (λ first. NameNoTarget first named.1 error
+    ⊎ ((target : NamedTarget) × NamesTarget first named.1 target × (lacks_header named.0 target ≡ true)
+    × (error ≡ NoHeader)))
+    (λ why. error ≡ why)
 
 -- the error comes before the first line
 abbrev pub IsEarly : ProgramError → Type 0
@@ -68,7 +54,7 @@ module _ {D : Type 0} (reports : D → ProgramError → D → Type 0) where
   WordsFilter words effects returned =
       ((filter : NamedFilter) × NamesFilter words filter
       × FiltersNamed reports AppendsUnwritten filter effects returned)
-      ⊎ IsErrAnd returned (λ error. FilterFails words error
+      ⊎ ((why : WordsError) × FilterFails words why × (returned ≡ Err (setup_error FixdecLines why))
       × (effects.diagnostics.after ≡ effects.diagnostics.before))
 
   -- the work of `fixdec_lines`: the block before the writer cannot be allocated; or the words filter with this result,

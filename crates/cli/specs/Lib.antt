@@ -18,6 +18,7 @@ pub mod Lines
 pub mod LocaleList
 pub mod NamedFilter
 pub mod Options
+pub mod Parameters
 pub mod Plural
 pub mod Records
 pub mod Targets

@@ -1,38 +1,47 @@
 -- What the words after the options name: the conversion of each line, or of fields of it.
-use Rattle.std.specs.{Prelude.{◌≡◌, ◌≢◌, ◌⊎◌, ℕ, ⊤, Bool, true, false, List, [], ◌∷◌, ◌++◌, All, String, string_bytes, Option, Some, None}, List.list_any, declared.alloc.Global.Global}
-use Rattle.cli.specs.{Columns.{IsColumn, IsFieldWord, is_same, is_name, IsLabel}, declared.{words.{columns.Column.{Column, TheVariants.Index}, targets.{NamedField.NamedField, NamedTarget.{NamedTarget, TheVariants.{One, Fields}}}}, program.error.WordsError.{WordsError, TheVariants.{Misplaced, Memory}}, lines.fields.Field.Field}, Fields.at_index, Words.{NamesConversion, ConversionFails}}
-use Rattle.conversions.specs.{declared.conversion.Conversion.Conversion, ShownWord.IsShown}
+use Rattle.std.specs.{Prelude.{◌≡◌, ◌⊎◌, ℕ, ◌==◌, if◌then◌else◌, Bool, false, List, [], ◌∷◌, ◌++◌, length, take, drop, position, String, string_bytes, Option, Some, None, unwrap_or, option_map, IsSomeAnd, MatchOption, MatchBool}, List.list_any, declared.alloc.Global.Global}
+use Rattle.cli.specs.{Columns.{copied, column_of, names_field, is_same, is_name, IsLabel}, declared.{words.{columns.Column.{Column, TheVariants.{Index, Name}}, targets.{Group.Group, NamedField.NamedField, NamedTarget.{NamedTarget, TheVariants.{One, Fields}}}}, program.error.WordsError.{WordsError, TheVariants.{Misplaced, Memory}}, lines.fields.Field.Field}, Fields.at_index, Options.copied_field, Words.{NamesConversion, ConversionFails}}
+use Rattle.conversions.specs.{declared.{conversion.Conversion.Conversion, shown_word.ShownWord.ShownWord}, ShownWord.IsShown}
 
 -- ---- Words of fields.
 
--- there is no word, or the first one names a field
-abbrev pub BeginsWithField : List (String Global) → Type 0
-BeginsWithField [] = ⊤
-BeginsWithField (word ∷ words) = IsFieldWord word
+-- the number of words before the first one that names a field
+abbrev pub own_count : List (String Global) → ℕ
+own_count words = unwrap_or (position names_field words) (length words)
 
--- these are the words before the first one that names a field, and the others
-abbrev pub IsSplit : List (String Global) → List (String Global) → List (String Global) → Type 0
-IsSplit words own others =
-    (words ≡ own ++ others) × All (λ word. ¬ IsFieldWord word) own × BeginsWithField others
+-- these words, and the others
+abbrev pub own_words : List (String Global) → List (String Global)
+own_words words = take (own_count words) words
 
--- the first word is this and names this field, and after it are its own words, up to the next one that names a field,
--- and the others
-pub record IsGroup
-    (words : List (String Global)) (word : List ℕ) (column : Column) (own others : List (String Global)) : Type 0
-  where
-    pub first : String Global
-    pub rest : List (String Global)
-    pub is : words ≡ first ∷ rest
-    pub bytes : word ≡ string_bytes first
-    pub named : IsColumn word column
-    pub split : IsSplit rest own others
+abbrev pub other_words : List (String Global) → List (String Global)
+other_words words = drop (own_count words) words
 
--- P holds of the first word, of the field that it names, of its own words and of the others
-abbrev pub HasGroup :
-    List (String Global) → (List ℕ → Column → List (String Global) → List (String Global) → Type 0) → Type 0
-HasGroup words P =
-    (word : List ℕ) × (column : Column) × (own : List (String Global)) × (others : List (String Global))
-    × IsGroup words word column own others × P word column own others
+-- a word that names a field, the field, the words up to the next one, and the others
+pub record FieldWords : Type 0 where
+  pub word : List ℕ
+  pub column : Column
+  pub own : List (String Global)
+  pub others : List (String Global)
+
+-- the same as the code has it
+abbrev pub field_words : Group → FieldWords
+field_words group = record {
+  word = group.word.now;
+  column = copied group.column;
+  own = group.own.now;
+  others = group.others.now;
+}
+
+-- the words of the first field, if the first word names one
+abbrev pub first_field : List (String Global) → Option FieldWords
+first_field [] = None
+first_field (word ∷ words) =
+    option_map (λ column. record {
+      word = string_bytes word;
+      column = column;
+      own = own_words words;
+      others = other_words words;
+    }) (column_of (string_bytes word))
 
 -- ---- More fields, after the first one.
 
@@ -42,84 +51,79 @@ has_column fields column = list_any (λ named. is_same named.column column) fiel
 
 -- this is the field, with the conversion of the words
 abbrev pub IsNamed : Column → List (String Global) → NamedField → Type 0
-IsNamed column own named = (named.column ≡ column) × IsLabel column named.label × NamesConversion own named.conversion
+IsNamed column own named =
+    (copied named.column ≡ column) × IsLabel column named.label × NamesConversion own named.conversion
 
--- the field is new, and is added to these with the conversion of the words
-abbrev pub AddsNamed : Column → List (String Global) → List NamedField → List NamedField → Type 0
-AddsNamed column own before after =
-    (named : NamedField) × (has_column before column ≡ false) × IsNamed column own named
+-- the field is new, and is added to these with the conversion of its words
+abbrev pub AddsNamed : FieldWords → List NamedField → List NamedField → Type 0
+AddsNamed field before after =
+    (named : NamedField) × (has_column before field.column ≡ false) × IsNamed field.column field.own named
     × (after ≡ before ++ (named ∷ []))
 
--- after these fields the words name these, none of them twice: field:.. [read:..] [CALL].. [format:..] of each
-abbrev pub NameMore : List NamedField → List (String Global) → List NamedField → Type 0
-NameMore before words [] = words ≡ []
-NameMore before words (named ∷ more) =
-    HasGroup words
-    (λ word column own others. (has_column before column ≡ false) × IsNamed column own named
-    × NameMore (before ++ (named ∷ [])) others more)
+-- the words up to those that are left name fields, which are added to these: field:.. [read:..] [CALL].. [format:..] of
+-- each
+pub data AddFields (words : List (String Global)) (before : List NamedField)
+    : List (String Global) → List NamedField → Type 0 where
+  no_field : AddFields words before words before
+  next_field :
+      {left : List (String Global)} {fields after : List NamedField} (field : FieldWords)
+      → AddFields words before left fields → first_field left ≡ Some field → AddsNamed field fields after
+      → AddFields words before field.others after
 
--- with the words the fields are these
+-- with all words the fields are these
 abbrev pub HasMore : List (String Global) → List NamedField → List NamedField → Type 0
-HasMore words before after = (more : List NamedField) × NameMore before words more × (after ≡ before ++ more)
+HasMore words before after =
+    (left : List (String Global)) × AddFields words before left after × (first_field left ≡ None)
 
 -- the field is named again, or its words name no conversion, or the list of the fields is out of memory
-abbrev pub GroupFails : List NamedField → WordsError → List ℕ → Column → List (String Global) → Type 0
-GroupFails before (Misplaced text) word column own =
-    ((has_column before column ≡ true) × IsShown word text)
-    ⊎ ((has_column before column ≡ false) × ConversionFails own (Misplaced text))
-GroupFails before Memory word column own =
-    (has_column before column ≡ false)
-    × (ConversionFails own Memory ⊎ ((conversion : Conversion) × NamesConversion own conversion))
-GroupFails before error word column own = (has_column before column ≡ false) × ConversionFails own error
+abbrev pub FieldFails : List NamedField → WordsError → FieldWords → Type 0
+FieldFails before error field =
+    MatchBool (has_column before field.column)
+    ((text : ShownWord) × IsShown field.word text × (error ≡ Misplaced text))
+    (ConversionFails field.own error
+    ⊎ ((error ≡ Memory) × ((conversion : Conversion) × NamesConversion field.own conversion)))
 
--- after these fields the words name these, and then no field, for this error
-abbrev pub FailAfter : List NamedField → List (String Global) → List NamedField → WordsError → Type 0
-FailAfter before words [] error = HasGroup words (λ word column own others. GroupFails before error word column own)
-FailAfter before words (named ∷ more) error =
-    HasGroup words
-    (λ word column own others. (has_column before column ≡ false) × IsNamed column own named
-    × FailAfter (before ++ (named ∷ [])) others more error)
-
--- the words fail, for this error
+-- words name fields, and then one that fails, for this error
 abbrev pub MoreFail : List (String Global) → List NamedField → WordsError → Type 0
-MoreFail words before error = (more : List NamedField) × FailAfter before words more error
+MoreFail words before error =
+    (left : List (String Global)) × (fields : List NamedField) × AddFields words before left fields
+    × IsSomeAnd (first_field left) (FieldFails fields error)
 
 -- ---- All words.
 
--- the words are those of the first field and others, and P holds of them
-abbrev pub HasSplit : List (String Global) → (List (String Global) → List (String Global) → Type 0) → Type 0
-HasSplit words P =
-    (own : List (String Global)) × (others : List (String Global)) × IsSplit words own others × P own others
+-- the index of a field by its number, if no other field follows
+abbrev pub only_index : Column → List (String Global) → Option ℕ
+only_index (Index index) others = if length others == 0 then Some index else None
+only_index (Name name) others = None
 
--- one field by its number, and no other words
-abbrev pub IsOnlyIndex : Column → List (String Global) → ℕ → Type 0
-IsOnlyIndex column others index = (column ≡ Index index) × (others ≡ [])
+-- the conversion of the words is that of this field, or of the line
+abbrev pub IsOne : Option Field → List (String Global) → NamedTarget → Type 0
+IsOne place words (One found conversion) = (option_map copied_field found ≡ place) × NamesConversion words conversion
+IsOne place words (Fields base fields) = ⊥
 
--- several fields, or one by its name
-abbrev pub AreSeveral : Column → List (String Global) → Type 0
-AreSeveral column others = (others ≢ []) ⊎ (is_name column ≡ true)
+-- the words are those of this field and of others, and name these
+abbrev pub AreFields : Column → Field → List (String Global) → NamedTarget → Type 0
+AreFields column field words (One place conversion) = ⊥
+AreFields column field words (Fields base fields) =
+    (copied_field base ≡ field)
+    × ((named : NamedField) × IsNamed column (own_words words) named
+    × HasMore (other_words words) (named ∷ []) fields.items)
 
--- the words name this, where the options name this, in lines whose first field is this
+-- the words name this, where the options name this field, in lines whose first field is this
 abbrev pub NamesTarget : Option (Column × Field) → List (String Global) → NamedTarget → Type 0
-NamesTarget None words (One place conversion) = (place ≡ None) × NamesConversion words conversion
-NamesTarget None words (Fields base fields) = ⊥
-NamesTarget (Some (column, field)) words (One place conversion) =
-    HasSplit words
-    (λ own others. ((index : ℕ) × IsOnlyIndex column others index × (place ≡ Some (at_index field index)))
-    × NamesConversion own conversion)
-NamesTarget (Some (column, field)) words (Fields base fields) =
-    HasSplit words
-    (λ own others. AreSeveral column others × (base ≡ field)
-    × ((named : NamedField) × IsNamed column own named × HasMore others (named ∷ []) fields.items))
+NamesTarget None words target = IsOne None words target
+NamesTarget (Some (column, field)) words target =
+    MatchOption (only_index column (other_words words)) (AreFields column field words target)
+    (λ index. IsOne (Some (at_index field index)) (own_words words) target)
 
 -- the words name nothing, for this error: the words of the first field fail; or those of the others
 abbrev pub NameNoTarget : Option (Column × Field) → List (String Global) → WordsError → Type 0
 NameNoTarget None words error = ConversionFails words error
 NameNoTarget (Some (column, field)) words error =
-    HasSplit words
-    (λ own others. ConversionFails own error
-    ⊎ (AreSeveral column others
-    × ((named : NamedField) × IsNamed column own named × ((error ≡ Memory) ⊎ MoreFail others (named ∷ []) error))))
+    ConversionFails (own_words words) error
+    ⊎ ((only_index column (other_words words) ≡ None)
+    × ((named : NamedField) × IsNamed column (own_words words) named
+    × ((error ≡ Memory) ⊎ MoreFail (other_words words) (named ∷ []) error)))
 
 -- whether a field has a name
 abbrev pub any_name : List NamedField → Bool

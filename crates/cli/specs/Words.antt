@@ -1,47 +1,33 @@
 -- The conversion that words name: [read:LOCALE[:lenient][:SKELETON]] [CALL].. [format:LOCALE[:GROUPING|:SKELETON]].
-use Rattle.std.specs.{Prelude.{◌≡◌, ◌≢◌, ◌⊎◌, ℕ, List, [], ◌∷◌, ◌++◌, String, string_bytes, Option, Some, None}, declared.alloc.Global.Global}
-use Rattle.conversions.specs.{declared.{conversion.Conversion.Conversion, error.FormError.FormError, locale_formatter.LocaleFormatter.LocaleFormatter, reader.LocaleReader.LocaleReader}, FormatWord.{IsFormatWord, NamesFormatter, FormatterFails}, ReadWord.{IsReadWord, NamesReader, ReaderFails}}
-use Rattle.cli.specs.{declared.program.error.WordsError.{WordsError, TheVariants.Memory}, Calls.{NameAll, AreCalls, CallsFail}, Error.words_error}
+use Rattle.std.specs.{Prelude.{◌≡◌, ◌≢◌, ◌⊎◌, ℕ, Bool, if◌then◌else◌, List, [], ◌∷◌, map, reverse, codes, String, string_bytes, Option, Some, None, Ok, MatchResult}, declared.alloc.Global.Global}
+use Rattle.conversions.specs.{declared.{conversion.Conversion.Conversion, error.FormError.FormError, locale_formatter.LocaleFormatter.LocaleFormatter, reader.LocaleReader.LocaleReader}, Calls.copied, FormatWord.{NamesFormatter, FormatterFails}, ReadWord.{NamesReader, ReaderFails}}
+use Rattle.cli.specs.{declared.program.error.WordsError.{WordsError, TheVariants.Memory}, Calls.{calls_of, IsErrorOfWord}, Error.words_error, Parameters.has_name}
 
 -- ---- The first and the last word.
 
--- the first word is this `read:..`, and these are the words after it; or it is another, and these are all
-abbrev pub IsReadSplit : List (String Global) → Option (List ℕ) → List (String Global) → Type 0
-IsReadSplit words (Some read) others =
-    (word : String Global) × (words ≡ word ∷ others) × (read ≡ string_bytes word) × IsReadWord read
-IsReadSplit words None others =
-    (others ≡ words) × ((word : String Global) (rest : List (String Global)) → words ≡ word ∷ rest
-    → ¬ IsReadWord (string_bytes word))
+-- the first word, if it passes a test, and the words after it; or none, and all
+abbrev pub split_if : (List ℕ → Bool) → List (String Global) → Option (List ℕ) × List (String Global)
+split_if test [] = (None, [])
+split_if test (word ∷ words) =
+    if test (string_bytes word) then (Some (string_bytes word), words) else (None, word ∷ words)
 
--- the last word is this `format:..`, and these are the words before it; or it is another, and these are all
-abbrev pub IsFormatSplit : List (String Global) → Option (List ℕ) → List (String Global) → Type 0
-IsFormatSplit words (Some format) others =
-    (word : String Global) × (words ≡ others ++ (word ∷ [])) × (format ≡ string_bytes word) × IsFormatWord format
-IsFormatSplit words None others =
-    (others ≡ words) × ((word : String Global) (rest : List (String Global)) → words ≡ rest ++ (word ∷ [])
-    → ¬ IsFormatWord (string_bytes word))
+-- the first word, if it is `read:..`, and the words after it
+abbrev pub split_read : List (String Global) → Option (List ℕ) × List (String Global)
+split_read words = split_if (has_name (codes "read")) words
+
+-- the last word, if it is `format:..`, and the words before it
+abbrev pub split_format : List (String Global) → Option (List ℕ) × List (String Global)
+split_format words = let last = split_if (has_name (codes "format")) (reverse words) in (last.0, reverse last.1)
 
 -- ---- All words.
-
--- the words are [read:..] .. [format:..], and P holds of the first, of those between, and of the last
-pub record HasParts
-    (words : List (String Global)) (P : Option (List ℕ) → List (String Global) → Option (List ℕ) → Type 0)
-    : Type 0
-  where
-    pub read : Option (List ℕ)
-    pub others : List (String Global)
-    pub calls : List (String Global)
-    pub format : Option (List ℕ)
-    pub first : IsReadSplit words read others
-    pub last : IsFormatSplit others format calls
-    pub holds : P read calls format
 
 -- the words are [read:..] [CALL].. [format:..], and name this conversion
 abbrev pub NamesConversion : List (String Global) → Conversion → Type 0
 NamesConversion words conversion =
-    HasParts words
-    (λ read calls format. NamesReader read conversion.reader × NameAll calls conversion.calls.items
-    × NamesFormatter format conversion.formatter)
+    let read = split_read words in
+    let format = split_format read.1 in
+    NamesReader read.0 conversion.reader × (calls_of format.1 ≡ Ok (map copied conversion.calls.items))
+    × NamesFormatter format.0 conversion.formatter
 
 -- ---- Errors.
 
@@ -49,17 +35,19 @@ NamesConversion words conversion =
 abbrev pub IsFormError : (FormError → Type 0) → WordsError → Type 0
 IsFormError Fails error = (why : FormError) × (error ≡ words_error why) × Fails why
 
--- the first wrong word has this error, from the left: `read:..`, a call, `format:..`; or no word is wrong, and the list
--- of the calls is out of memory
-abbrev pub PartsFail : WordsError → Option (List ℕ) → List (String Global) → Option (List ℕ) → Type 0
-PartsFail error read calls format =
-    IsFormError (ReaderFails read) error
-    ⊎ (((reader : Option LocaleReader) × NamesReader read reader)
-    × (CallsFail calls error
-    ⊎ (AreCalls calls
-    × (IsFormError (FormatterFails format) error
-    ⊎ (((formatter : Option LocaleFormatter) × NamesFormatter format formatter) × (calls ≢ []) × (error ≡ Memory))))))
+-- after calls `format:..` has this error; or it has none, and the list of the calls is out of memory
+abbrev pub FormatFails : Option (List ℕ) → List (String Global) → WordsError → Type 0
+FormatFails format calls error =
+    IsFormError (FormatterFails format) error
+    ⊎ (((formatter : Option LocaleFormatter) × NamesFormatter format formatter) × (calls ≢ []) × (error ≡ Memory))
 
--- the words name no conversion, for this error
+-- the words name no conversion, for this error: that of the first wrong word, from the left: `read:..`, a call,
+-- `format:..`; or no word is wrong, and the list of the calls is out of memory
 abbrev pub ConversionFails : List (String Global) → WordsError → Type 0
-ConversionFails words error = HasParts words (PartsFail error)
+ConversionFails words error =
+    let read = split_read words in
+    let format = split_format read.1 in
+    IsFormError (ReaderFails read.0) error
+    ⊎ (((reader : Option LocaleReader) × NamesReader read.0 reader)
+    × MatchResult (calls_of format.1) (λ calls. FormatFails format.0 format.1 error)
+    (λ wrong. IsErrorOfWord wrong.0 wrong.1 error))

@@ -18,23 +18,15 @@ use std::io::{Read, Write};
 use std::process::ExitCode;
 use std::{env, io};
 
-fn parse_filter(alloc: Global, words: &[String]) -> Result<NamedFilter<'_>, ProgramError>
+fn parse_filter(alloc: Global, words: &[String]) -> Result<NamedFilter<'_>, WordsError>
     ensures some { IfOk result (NamesFilter words.now) }
     ensures err { IfErr result (FilterFails words.now) }
 {
     let (options, words) = split_options(words);
-    if options.lacks_csv() {
-        return Err(ProgramError::setup(Program::FixdecLines, WordsError::NoCsv));
-    }
-    let Some(field) = options.field() else {
-        return Err(ProgramError::setup(Program::FixdecLines, options.field_error()));
-    };
-    let target = match parse_target(alloc, field, words) {
-        Ok(target) => target,
-        Err(why) => return Err(ProgramError::setup(Program::FixdecLines, why)),
-    };
+    let first = options.field()?;
+    let target = parse_target(alloc, first, words)?;
     if target.has_names() && !options.has_header {
-        return Err(ProgramError::setup(Program::FixdecLines, WordsError::NoHeader));
+        return Err(WordsError::NoHeader);
     }
     Ok(NamedFilter { options, target })
 }
@@ -64,7 +56,10 @@ fn filter_words<R: Read, O: Write + Drop, D: Diagnostics<ProgramError>>(
     };
     let filter = match parse_filter(alloc, words) {
         Ok(filter) => filter,
-        Err(error) => return (Err(error), Some(buffered.abandon())),
+        Err(why) => {
+            let error = ProgramError::setup(Program::FixdecLines, why);
+            return (Err(error), Some(buffered.abandon()));
+        }
     };
     let filtered = filter_input(alloc, &filter, input, &mut buffered, diagnostics);
     let closed = buffered.close();

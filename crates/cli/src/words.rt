@@ -3,4 +3,5 @@ pub mod calls;
 pub mod columns;
 pub mod conversion;
 pub mod options;
+pub mod parameters;
 pub mod targets;

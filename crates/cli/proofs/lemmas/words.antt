@@ -1,3 +1,1 @@
 pub mod CallWords
-pub mod FieldWords
-pub mod OptionWords

@@ -1,10 +1,12 @@
 //! The fields that words name: by a number, or by a name in the header.
-ghost use Rattle.std.specs.{Prelude.{◌≡◌, ℕ, List, None, Some, IfSome}, Char.is_ascii_digit, List.list_all};
-ghost use Rattle.cli.specs.Columns.{IsField, IsName};
+ghost use Rattle.std.specs.{Prelude.{◌≡◌, option_map}, Char.is_ascii_digit, List.list_all};
+ghost use Rattle.conversions.specs.Parameters.{number};
+ghost use Rattle.cli.specs.Columns.{copied, by_number, by_name, column_of};
 
 use crate::program::error::FieldLabel;
+use crate::words::parameters::parameter_of;
 use conversions::ShownWord;
-use conversions::parameters::number_after;
+use conversions::parameters::number;
 
 /// What a word `field:..` names.
 #[derive(Clone, Copy)]
@@ -15,13 +17,11 @@ pub enum Column<'a> {
     Name(&'a str),
 }
 
-/// Returns the 0-based index of the field that a word names.
-fn field_index(word: &str) -> Option<usize>
-    ensures some { IfSome result (IsField word.now) }
-    ensures only { (index : ℕ) → IsField word.now index → result ≡ Some index }
+fn by_number(text: &str) -> Option<Column<'_>>
+    ensures { option_map copied result ≡ by_number (number text.now) }
 {
-    match number_after("field:", word) {
-        Some(number) if number > 0 => Some(number as usize - 1),
+    match number(text) {
+        Some(number) if number > 0 => Some(Column::Index(number as usize - 1)),
         _ => None,
     }
 }
@@ -32,37 +32,35 @@ fn are_digits(text: &str) -> bool
     text.as_bytes().iter().all(|byte| byte.is_ascii_digit())
 }
 
-/// Returns the name that follows `field:`.
-fn name(text: &str) -> Option<&str>
-    ensures some { IfSome result (λ name. IsName text.now name.now) }
-    ensures none { result ≡ None → (name : List ℕ) → ¬ IsName text.now name }
+fn by_name(text: &str) -> Option<Column<'_>>
+    ensures { option_map copied result ≡ by_name text.now }
 {
     if let Some(name) = text.strip_prefix('=') {
-        return Some(name);
+        return Some(Column::Name(name));
     }
     if are_digits(text) {
         return None;
     }
-    Some(text)
+    Some(Column::Name(text))
 }
 
 impl<'a> Column<'a> {
-    ghost use Rattle.cli.specs.Columns.{IsColumn, is_same, is_name, IsLabel};
+    ghost use Rattle.cli.specs.Columns.{is_same, is_name, IsLabel};
 
     /// Returns what a word names.
     pub fn of(word: &'a str) -> Option<Self>
-        ensures some { IfSome result (IsColumn word.now) }
-        ensures none { result ≡ None → (column : Column) → ¬ IsColumn word.now column }
+        ensures { option_map copied result ≡ column_of word.now }
     {
-        if let Some(index) = field_index(word) {
-            return Some(Column::Index(index));
+        let text = parameter_of("field", word)?;
+        if let Some(column) = by_number(text) {
+            return Some(column);
         }
-        Some(Column::Name(name(word.strip_prefix("field:")?)?))
+        by_name(text)
     }
 
     /// Returns whether both have the same number or the same name.
     pub fn is_same(self, other: Column<'_>) -> bool
-        ensures { result ≡ is_same self.entry other.entry }
+        ensures { result ≡ is_same self.entry (copied other.entry) }
     {
         match (self, other) {
             (Column::Index(index), Column::Index(other)) => index == other,
@@ -83,7 +81,7 @@ impl<'a> Column<'a> {
 
     /// Returns how an error names it.
     pub fn label(self) -> FieldLabel
-        ensures { IsLabel self.entry result }
+        ensures { IsLabel (copied self.entry) result }
     {
         match self {
             Column::Index(index) => FieldLabel::Index(index),

@@ -1,32 +1,35 @@
 //! The conversion that words name: `[read:LOCALE[:lenient][:SKELETON]] [CALL].. [format:LOCALE[:GROUPING|:SKELETON]]`.
-ghost use Rattle.std.specs.{Prelude.{IfOk, IfErr, Some, None}, Option.option_copied};
-ghost use Rattle.cli.specs.Words.{IsReadSplit, IsFormatSplit, NamesConversion, ConversionFails};
+ghost use Rattle.std.specs.{Prelude.{◌≡◌, IfOk, IfErr}, Option.option_copied};
+ghost use Rattle.cli.specs.Words.{split_read, split_format, NamesConversion, ConversionFails};
 
 use crate::program::error::WordsError;
 use crate::words::calls::parse_calls;
-use conversions::{Conversion, is_format_word, is_read_word, parse_formatter, parse_reader};
+use crate::words::parameters::has_name;
+use conversions::{Conversion, parse_formatter, parse_reader};
 use std::alloc::Global;
 
 fn split_read(words: &[String]) -> (Option<&str>, &[String])
-    ensures { IsReadSplit words.now (option_copied result.0) result.1.now }
+    ensures { (option_copied result.0, result.1.now) ≡ split_read words.now }
 {
-    if let Some((first, rest)) = words.split_first() {
-        let word = first.as_str();
-        if is_read_word(word) {
-            return (Some(word), rest);
-        }
+    let Some((first, rest)) = words.split_first() else {
+        return (None, words);
+    };
+    let word = first.as_str();
+    if has_name("read", word) {
+        return (Some(word), rest);
     }
     (None, words)
 }
 
 fn split_format(words: &[String]) -> (Option<&str>, &[String])
-    ensures { IsFormatSplit words.now (option_copied result.0) result.1.now }
+    ensures { (option_copied result.0, result.1.now) ≡ split_format words.now }
 {
-    if let Some((last, rest)) = words.split_last() {
-        let word = last.as_str();
-        if is_format_word(word) {
-            return (Some(word), rest);
-        }
+    let Some((last, rest)) = words.split_last() else {
+        return (None, words);
+    };
+    let word = last.as_str();
+    if has_name("format", word) {
+        return (Some(word), rest);
     }
     (None, words)
 }

@@ -1,10 +1,11 @@
 //! The options that the first words of `fixdec_lines` name.
-ghost use Rattle.std.specs.Prelude.{◌≡◌, ◌≢◌, ℕ, List, Option, Some, None, IfSome, true, false};
-ghost use Rattle.cli.specs.{declared.{words.{columns.Column.Column, options.{OnError.TheVariants.Stop, Options.Options}}, lines.fields.Field.Field}, Options.{IsDelimiter, none, Adds, AddsParameter, IsOption, AreOptions, HasField, lacks_csv, field_error}};
+ghost use Rattle.std.specs.{Prelude.{◌≡◌, option_map, option_copied}, Result.result_map_both};
+ghost use Rattle.cli.specs.Options.{none, copied_options, with_on_error, delimiter_of, with_parameter, with_word, is_option, options_after, options_of, delimiter_bytes, copied_first, field_of};
 
 use crate::lines::fields::Field;
 use crate::program::error::WordsError;
 use crate::words::columns::Column;
+use crate::words::parameters::parameter_of;
 
 /// What a filter does at a line whose conversion fails.
 #[derive(Clone, Copy, Debug, PartialEq)]
@@ -37,10 +38,9 @@ pub struct Options<'a> {
 }
 
 fn delimiter(word: &str) -> Option<&[u8]>
-    ensures some { IfSome result (λ delimiter. IsDelimiter word.now delimiter.now) }
-    ensures none { result ≡ None → (delimiter : List ℕ) → ¬ IsDelimiter word.now delimiter }
+    ensures { option_copied result ≡ delimiter_of word.now }
 {
-    let text = word.strip_prefix("delimiter:")?;
+    let text = parameter_of("delimiter", word)?;
     if text.chars().count() != 1 {
         return None;
     }
@@ -48,6 +48,8 @@ fn delimiter(word: &str) -> Option<&[u8]>
 }
 
 impl<'a> Options<'a> {
+    ghost use Rattle.cli.specs.Columns.{column_of};
+
     /// Returns the options of no words.
     pub fn none() -> Self
         ensures { result ≡ none }
@@ -64,9 +66,7 @@ impl<'a> Options<'a> {
     }
 
     fn with_on_error(self, on_error: OnError) -> Option<Options<'a>>
-        ensures some { IfSome result (λ next. (self.entry.on_error ≡ Stop)
-            × (next ≡ record self.entry { on_error = on_error })) }
-        ensures none { result ≡ None → self.entry.on_error ≢ Stop }
+        ensures { option_map copied_options result ≡ with_on_error on_error (copied_options self.entry) }
     {
         match self.on_error {
             OnError::Stop => Some(Options { on_error, ..self }),
@@ -75,34 +75,31 @@ impl<'a> Options<'a> {
     }
 
     fn with_parameter(self, word: &'a str) -> Option<Options<'a>>
-        ensures some { IfSome result (Adds word.now self.entry) }
-        ensures none { result ≡ None → (next : Options) → AddsParameter word.now self.entry next → ⊥ }
+        ensures { option_map copied_options result
+            ≡ with_parameter (column_of word.now) (delimiter_of word.now) (copied_options self.entry) }
     {
         if let Some(column) = Column::of(word) {
-            if self.column.is_some() {
-                return None;
-            }
-            return Some(Options {
-                column: Some(column),
-                ..self
-            });
+            return match self.column {
+                Some(_) => None,
+                None => Some(Options {
+                    column: Some(column),
+                    ..self
+                }),
+            };
         }
-        if let Some(delimiter) = delimiter(word) {
-            if self.delimiter.is_some() {
-                return None;
-            }
-            return Some(Options {
+        let delimiter = delimiter(word)?;
+        match self.delimiter {
+            Some(_) => None,
+            None => Some(Options {
                 delimiter: Some(delimiter),
                 ..self
-            });
+            }),
         }
-        None
     }
 
     /// Returns the options with that of a word. None: the word names no option, or one that is there.
     fn with(self, word: &'a str) -> Option<Options<'a>>
-        ensures some { IfSome result (Adds word.now self.entry) }
-        ensures none { result ≡ None → (next : Options) → ¬ Adds word.now self.entry next }
+        ensures { option_map copied_options result ≡ with_word word.now (copied_options self.entry) }
     {
         match word {
             "skip" => self.with_on_error(OnError::Skip),
@@ -131,58 +128,54 @@ impl<'a> Options<'a> {
         }
     }
 
-    /// Returns whether `records` has no `csv`.
-    pub fn lacks_csv(self) -> bool
-        ensures { result ≡ lacks_csv self.entry }
+    fn delimiter_bytes(self) -> &'a [u8]
+        ensures { result.now ≡ delimiter_bytes (copied_options self.entry) }
     {
-        self.has_records && !self.is_csv
-    }
-
-    /// Returns why these options have no field.
-    pub fn field_error(self) -> WordsError
-        ensures { result ≡ field_error self.entry }
-    {
-        if self.column.is_some() {
-            WordsError::QuoteDelimiter
-        } else {
-            WordsError::NoField
+        match self.delimiter {
+            Some(delimiter) => delimiter,
+            None if self.is_csv => b",",
+            None => b"\t",
         }
     }
 
     /// Returns what the first field is, and the first field of each line, which has the delimiter and the quotes of
-    /// all. None: a delimiter or `csv` has no field, or the delimiter of CSV is a quote.
-    pub fn field(self) -> Option<Option<(Column<'a>, Field<'a>)>>
-        ensures some { IfSome result (HasField self.entry) }
-        ensures none { result ≡ None → (field : Option (Column × Field)) → ¬ HasField self.entry field }
+    /// all. None: no word names a field.
+    ///
+    /// # Errors
+    ///
+    /// - `NoCsv`: `records` has no `csv`.
+    /// - `NoField`: a delimiter or `csv` has no field.
+    /// - `QuoteDelimiter`: the delimiter of CSV is a quote.
+    pub fn field(self) -> Result<Option<(Column<'a>, Field<'a>)>, WordsError>
+        ensures { result_map_both (option_map copied_first) (λ error. error) result
+            ≡ field_of (copied_options self.entry) }
     {
+        if self.has_records && !self.is_csv {
+            return Err(WordsError::NoCsv);
+        }
         let Some(column) = self.column else {
-            return if self.delimiter.is_none() && !self.is_csv {
-                Some(None)
+            return if self.delimiter.is_some() || self.is_csv {
+                Err(WordsError::NoField)
             } else {
-                None
+                Ok(None)
             };
         };
-        let delimiter = match self.delimiter {
-            Some(delimiter) => delimiter,
-            None if self.is_csv => b",",
-            None => b"\t",
-        };
+        let delimiter = self.delimiter_bytes();
         if self.is_csv && delimiter == b"\"".as_slice() {
-            return None;
+            return Err(WordsError::QuoteDelimiter);
         }
         let field = Field {
             index: 0,
             delimiter,
             is_csv: self.is_csv,
         };
-        Some(Some((column, field)))
+        Ok(Some((column, field)))
     }
 }
 
 /// Returns whether a word names an option.
 pub fn is_option(word: &str) -> bool
-    ensures yes { result ≡ true → IsOption word.now }
-    ensures no { result ≡ false → ¬ IsOption word.now }
+    ensures { result ≡ is_option word.now }
 {
     match Options::none().with(word) {
         Some(_) => true,
@@ -191,7 +184,7 @@ pub fn is_option(word: &str) -> bool
 }
 
 fn split_after<'a>(options: Options<'a>, words: &'a [String]) -> (Options<'a>, &'a [String])
-    ensures { AreOptions options.entry words.now result.0 result.1.now }
+    ensures { (copied_options result.0, result.1.now) ≡ options_after (copied_options options.entry) words.now }
 {
     let Some((first, rest)) = words.split_first() else {
         return (options, words);
@@ -204,7 +197,7 @@ fn split_after<'a>(options: Options<'a>, words: &'a [String]) -> (Options<'a>, &
 
 /// Splits off the words of options.
 pub fn split_options(words: &[String]) -> (Options<'_>, &[String])
-    ensures { AreOptions none words.now result.0 result.1.now }
+    ensures { (copied_options result.0, result.1.now) ≡ options_of words.now }
 {
     split_after(Options::none(), words)
 }

@@ -1,6 +1,6 @@
 //! What is converted of each line: the line, or the fields that words name.
-ghost use Rattle.std.specs.Prelude.{◌≡◌, [], None, IfSome, IfOk, IfErr, OnOk};
-ghost use Rattle.cli.specs.Targets.{BeginsWithField, IsSplit, IsGroup, any_name, has_column, have_names, IsOnlyIndex, AreSeveral, AddsNamed, GroupFails, HasMore, MoreFail, NamesTarget, NameNoTarget};
+ghost use Rattle.std.specs.Prelude.{◌≡◌, ◌<◌, ◌≤◌, length, position, is_some, option_map, IfSome, IfOk, IfErr, OnOk};
+ghost use Rattle.cli.specs.{Columns.{copied, column_of, names_field}, Options.copied_first, Targets.{own_words, other_words, field_words, first_field, any_name, has_column, have_names, only_index, AddsNamed, FieldFails, HasMore, MoreFail, NamesTarget, NameNoTarget}};
 
 use crate::lines::fields::Field;
 use crate::program::error::{FieldLabel, WordsError};
@@ -35,7 +35,7 @@ impl<'a> NamedField<'a> {
 
     fn new(column: Column<'a>, conversion: Conversion<'a>) -> Self
         ensures column { result.column ≡ column.entry }
-        ensures label { IsLabel column.entry result.label }
+        ensures label { IsLabel (copied column.entry) result.label }
         ensures conversion { result.conversion ≡ conversion.entry }
     {
         NamedField {
@@ -67,16 +67,32 @@ impl NamedTarget<'_> {
     }
 }
 
+fn names_field(word: &str) -> bool
+    ensures { result ≡ is_some (column_of word.now) }
+{
+    match Column::of(word) {
+        Some(_) => true,
+        None => false,
+    }
+}
+
+fn first_name(words: &[String]) -> Option<usize>
+    ensures value { result ≡ position names_field words.now }
+    ensures bound { IfSome result (λ index. index < length words.now) }
+{
+    words.iter().position(|word| names_field(word.as_str()))
+}
+
 /// Splits words before the first one that names a field.
 fn split_fields(words: &[String]) -> (&[String], &[String])
-    ensures { IsSplit words.now result.0.now result.1.now }
+    ensures own { result.0.now ≡ own_words words.now }
+    ensures others { result.1.now ≡ other_words words.now }
+    ensures within { length result.1.now ≤ length words.now }
 {
-    for (index, word) in words.iter().enumerate() {
-        if let Some(_) = Column::of(word.as_str()) {
-            return words.split_at(index);
-        }
+    match first_name(words) {
+        Some(index) => words.split_at(index),
+        None => words.split_at(words.len()),
     }
-    words.split_at(words.len())
 }
 
 fn any_name(fields: &[NamedField<'_>]) -> bool
@@ -86,15 +102,14 @@ fn any_name(fields: &[NamedField<'_>]) -> bool
 }
 
 fn has_column(fields: &[NamedField<'_>], column: Column<'_>) -> bool
-    ensures { result ≡ has_column fields.now column.entry }
+    ensures { result ≡ has_column fields.now (copied column.entry) }
 {
     fields.iter().any(|field| field.column.is_same(column))
 }
 
 /// Returns the index of a field by its number, if no other field follows.
 fn only_index(column: Column<'_>, others: &[String]) -> Option<usize>
-    ensures some { IfSome result (IsOnlyIndex column.entry others.now) }
-    ensures none { result ≡ None → AreSeveral column.entry others.now }
+    ensures { result ≡ only_index (copied column.entry) others.now }
 {
     match column {
         Column::Index(index) if others.is_empty() => Some(index),
@@ -102,12 +117,10 @@ fn only_index(column: Column<'_>, others: &[String]) -> Option<usize>
     }
 }
 
-/// Splits off the words of the first field. None: there are no words.
+/// Splits off the words of the first field. None: the first word names no field.
 fn first_group(words: &[String]) -> Option<Group<'_>>
-    requires { BeginsWithField words.now }
-    ensures some { IfSome result
-        (λ group. IsGroup words.now group.word.now group.column group.own.now group.others.now) }
-    ensures none { result ≡ None → words.now ≡ [] }
+    ensures value { option_map field_words result ≡ first_field words.now }
+    ensures shorter { IfSome result (λ group. length group.others.now < length words.now) }
 {
     let (first, rest) = words.split_first()?;
     let word = first.as_str();
@@ -127,9 +140,8 @@ fn push_named<'a>(
     group: Group<'a>,
     fields: &mut Vec<NamedField<'a>>,
 ) -> Result<(), WordsError>
-    ensures ok { OnOk result (AddsNamed group.entry.column group.entry.own.now fields.old.items fields.new.items) }
-    ensures err { IfErr result (λ error. GroupFails fields.old.items error group.entry.word.now group.entry.column
-        group.entry.own.now) }
+    ensures ok { OnOk result (AddsNamed (field_words group.entry) fields.old.items fields.new.items) }
+    ensures err { IfErr result (λ error. FieldFails fields.old.items error (field_words group.entry)) }
 {
     if has_column(fields.as_slice(), group.column) {
         return Err(WordsError::Misplaced(ShownWord::of(group.word)));
@@ -147,7 +159,6 @@ fn parse_more<'a>(
     words: &'a [String],
     fields: &mut Vec<NamedField<'a>>,
 ) -> Result<(), WordsError>
-    requires { BeginsWithField words.now }
     ensures ok { OnOk result (HasMore words.now fields.old.items fields.new.items) }
     ensures err { IfErr result (MoreFail words.now fields.old.items) }
 {
@@ -170,8 +181,8 @@ pub fn parse_target<'a>(
     first: Option<(Column<'a>, Field<'a>)>,
     words: &'a [String],
 ) -> Result<NamedTarget<'a>, WordsError>
-    ensures ok { IfOk result (NamesTarget first.entry words.now) }
-    ensures err { IfErr result (NameNoTarget first.entry words.now) }
+    ensures ok { IfOk result (NamesTarget (option_map copied_first first.entry) words.now) }
+    ensures err { IfErr result (NameNoTarget (option_map copied_first first.entry) words.now) }
 {
     let Some((column, field)) = first else {
         return Ok(NamedTarget::One(None, parse_conversion(alloc, words)?));

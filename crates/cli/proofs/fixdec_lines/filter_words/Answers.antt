@@ -1,7 +1,7 @@
-use Rattle.std.proofs.{Common.{◌≡◌, ◌∙◌, ℕ, List, [], String, Option, Some, Result, Ok, Err, IfErr, OnOk, Bool, true, false, inl, inr, refl, ap, subst}, KnownBytes.Appends-kept}
-use Rattle.std.specs.{Prelude.MatchBool, declared.alloc.Global.Global, Io.KnownBytes.{Keeps, append_known}}
+use Rattle.std.proofs.{Common.{◌≡◌, ◌∙◌, ℕ, List, [], Option, Some, Result, Ok, Err, IfErr, OnOk, Bool, true, false, inl, inr, refl, ap}, KnownBytes.Appends-kept}
+use Rattle.std.specs.{Io.KnownBytes.{Keeps, append_known}}
 use Rattle.decimal_digits.specs.AppendsPrefix.{AppendsPrefix}
-use Rattle.cli.specs.{declared.{program.{error.{ProgramError.{ProgramError, TheVariants.{Setup, Output}}, WordsError.TheVariants.NoCsv}, help.Program.TheVariants.FixdecLines}, lines.{filter.Filter.Filter, named_filter.NamedFilter.NamedFilter}}, Filter.{Effects, FilteredLine}, Lines.{AreFirst, number_after, Returns, Filters, AppendsUnwritten}, NamedFilter.{EndsAtHeader, FiltersNamed}, Error.setup_error, Options.lacks_csv, FixdecLines.{IsEarly, FilterFails, OthersFail}}
+use Rattle.cli.specs.{declared.{program.error.ProgramError.{ProgramError, TheVariants.{Setup, Output}}, lines.{filter.Filter.Filter, named_filter.NamedFilter.NamedFilter}}, Filter.{Effects, FilteredLine}, Lines.{AreFirst, number_after, Returns, Filters, AppendsUnwritten}, NamedFilter.{EndsAtHeader, FiltersNamed}, FixdecLines.IsEarly}
 use Rattle.cli.proofs.lemmas.program.{Buffers.append_known-nil, Programs.err_map}
 use Rattle.cli.proofs.fixdec_lines.filter_words.Goals as goal
 
@@ -108,28 +108,10 @@ on_ok : {X E : Type 0} {P : Type 0} (r : Result X E) → P → OnOk r P
 on_ok (Ok x) h = h
 on_ok (Err e) h = tt
 
--- words that name no filter have an early error
-early : (words : List (String Global)) (error : ProgramError) → FilterFails words error → IsEarly error
-early words error h = by_csv (lacks_csv h.options) h.holds
-  where
-    by_csv :
-        (lacks : Bool)
-        → MatchBool lacks (error ≡ setup_error FixdecLines NoCsv) (OthersFail h.options h.others error)
-        → IsEarly error
-    by_csv true is = rw is tt
-    by_csv false (inl (none, is)) = rw is tt
-    by_csv false (inr (field, has, inl (why, is, names))) = rw is tt
-    by_csv false (inr (field, has, inr (target, names, lacks, is))) = rw is tt
-
 pub returns-in-Err-clause-filtered : goal.returns-in-Err-clause-filtered
 returns-in-Err-clause-filtered g c =
-    let words = c.args.words.now in
-    let error = c.in-Err.error in
-    let closed : c.abandon.result ≡ (c.args.out, false) = rw c.in-Ok.ensures.opened at c.abandon.ensures in (
-      inr (c.in-Err.ensures.err, refl),
-      tt,
-      ((λ is. absurd (subst IsEarly is (early words error c.in-Err.ensures.err))), λ _. closed),
-    )
+    let closed : c.abandon.result ≡ (c.args.out, false) = rw c.in-Ok.ensures.opened at c.abandon.ensures in
+    rw c.setup-error.ensures (inr (c.in-Err.why, c.in-Err.ensures.err, refl, refl), tt, ((λ is. cc), λ _. closed))
 
 pub returns-then-has_failed-clause-filtered : goal.returns-then-has_failed-clause-filtered
 returns-then-has_failed-clause-filtered g c =

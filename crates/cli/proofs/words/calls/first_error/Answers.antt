@@ -1,27 +1,24 @@
-use Rattle.std.proofs.{Common.{[], ◌∷◌, ◌++◌, length, refl, sym, string_bytes}, lemmas.Option.slice_get_read}
-use Rattle.conversions.specs.Calls.{Names}
-use Rattle.cli.specs.Calls.{IsUnknown}
-use Rattle.cli.proofs.lemmas.words.CallWords.{names_more, taken}
+use Rattle.std.proofs.Common.{◌≡◌, [], ◌∷◌, ◌++◌, Some, None, string_bytes}
+use Rattle.conversions.specs.Calls.{call_of, copied}
+use Rattle.cli.proofs.lemmas.words.CallWords.{calls_next, calls_end}
 use Rattle.cli.proofs.words.calls.first_error.Goals as goal
 
 pub returns-in_default-clause-some : goal.returns-in_default-clause-some
 returns-in_default-clause-some c =
     let word = c.index-words-index.result in
-    let unknown : IsUnknown word = sym (rw c.as_str.ensures.value at c.in_default.ensures) in
-    let is = slice_get_read c.args.words.now (length c.args.words.now) c.loop-index.index word refl
-    c.loop-index-test.true c.index-words-index.is in (
-      c.loop-index.index,
-      word,
-      (is, c.loop-index.invariant, unknown),
-      rw c.as_str-in_default.ensures.value at c.error_of_word.ensures,
-    )
+    let unknown : None ≡ call_of (string_bytes word) = rw c.as_str.ensures.value at c.in_default.ensures in
+    let (calls, names) = c.loop-index.invariant in
+    rw (calls_end c.args.words.now c.loop-index.index calls word c.loop-index-test.true c.index-words-index.is names
+    unknown)
+    (rw c.as_str-in_default.ensures.value at c.error_of_word.ensures)
 
 pub loop-index-preserved : goal.loop-index-preserved
 loop-index-preserved c =
     let word = c.index-words-index.result in
-    let (calls, names) = c.loop-index.invariant in
-    let named : Names (string_bytes word) c.in-Some.field-0 = sym (rw c.as_str.ensures.value at c.in-Some.ensures) in (
-      calls ++ (c.in-Some.field-0 ∷ []),
-      rw (taken c.args.words.now c.loop-index.index word c.loop-index-test.true c.index-words-index.is)
-          (names_more _ calls word c.in-Some.field-0 names named),
+    let call = copied c.in-Some.field-0 in
+    let named : Some call ≡ call_of (string_bytes word) = rw c.as_str.ensures.value at c.in-Some.ensures in
+    let (calls, names) = c.loop-index.invariant in (
+      calls ++ (call ∷ []),
+      calls_next c.args.words.now c.loop-index.index calls word c.loop-index-test.true c.index-words-index.is names
+          call named,
     )

@@ -1,7 +1,8 @@
-use Rattle.std.proofs.Common.{take}
-use Rattle.cli.specs.Calls.{AreCalls}
+use Rattle.std.proofs.Common.{List}
+use Rattle.fixed_decimal.specs.declared.runs.Call.{Call}
+use Rattle.cli.proofs.lemmas.words.CallWords.{Begin}
 use Rattle.cli.proofs.words.calls.first_error.Given as goal
 
--- each word so far names a call
+-- the words so far name calls
 abbrev pub invariant-loop-index : goal.invariant-loop-index
-invariant-loop-index l = AreCalls (take l.index l.words)
+invariant-loop-index l = (calls : List Call) × Begin l.words l.index calls

@@ -1,12 +1,14 @@
-use Rattle.std.proofs.Common.{⊎_elim}
+use Rattle.std.proofs.Common.{ap, ◌∙◌}
+use Rattle.std.specs.Prelude.{unwrap_or}
+use Rattle.conversions.proofs.lemmas.calls.Lookups.{lookup-none}
+use Rattle.cli.specs.{Columns.column_of, Options.{copied_options, plain_options, delimiter_of, with_parameter}}
 use Rattle.cli.proofs.words.options.Options.with.Goals as goal
 
-pub returns-in_default-clause-none : goal.returns-in_default-clause-none
-returns-in_default-clause-none c = λ none next adds.
-    ⊎_elim (λ skip. c.in_default.not-skip skip.0)
-    (λ others. ⊎_elim (λ keep. c.in_default.not-keep keep.0)
-    (λ others. ⊎_elim (λ csv. c.in_default.not-csv csv.0)
-    (λ others. ⊎_elim (λ header. c.in_default.not-header header.0)
-    (λ others. ⊎_elim (λ records. c.in_default.not-records records.0)
-    (λ others. ⊎_elim (λ trim. c.in_default.not-trim trim.0)
-    (λ parameter. c.with_parameter.ensures.none none next parameter) others) others) others) others) others) adds
+pub returns-in_default : goal.returns-in_default
+returns-in_default c =
+    let word = c.args.word.now in
+    let is = c.in_default in
+    c.with_parameter.ensures
+    ∙ ap (λ change. unwrap_or change (with_parameter (column_of word) (delimiter_of word)) (copied_options c.args.self))
+    (lookup-none plain_options word
+    (is.not-skip, (is.not-keep, (is.not-csv, (is.not-header, (is.not-records, (is.not-trim, tt)))))))
