@@ -106,10 +106,7 @@ impl Options {
         match (self.number.notation, self.number(None).style) {
             (NumberNotation::Standard, NumberStyle::Unit(_)) => NumberReaderError::Notation,
             (NumberNotation::Standard, NumberStyle::Currency(currency))
-                if currency.display == CurrencyDisplay::Name =>
-            {
-                NumberReaderError::Notation
-            }
+                if currency.display == CurrencyDisplay::Name => { NumberReaderError::Notation }
             (NumberNotation::Standard, _) => NumberReaderError::Scale,
             _ => NumberReaderError::Notation,
         }
@@ -200,10 +197,7 @@ const WORDS: &[(&str, Word)] = &[
     ),
     ("currencyUsage=cash", Word::Cash),
     ("unitDisplay=short", Word::UnitDisplay(UnitDisplay::Short)),
-    (
-        "unitDisplay=narrow",
-        Word::UnitDisplay(UnitDisplay::Narrow),
-    ),
+    ("unitDisplay=narrow", Word::UnitDisplay(UnitDisplay::Narrow)),
     ("unitDisplay=long", Word::UnitDisplay(UnitDisplay::Long)),
     (
         "notation=standard",
