@@ -76,7 +76,8 @@ divided stem first second =
 -- units, or the first of them and the one of `per-measure-unit`
 abbrev pub units_by : Span → Indices → Option (ℕ × Span) → ℕ → Result Indices SkeletonError
 units_by stem units None first = and_then (λ second. Ok (first, second)) (unit_or_none stem units.1)
-units_by stem units (Some (index, per_stem)) first = and_then (divided per_stem first) (or_unsupported per_stem (unit_at index))
+units_by stem units (Some (index, per_stem)) first =
+    and_then (divided per_stem first) (or_unsupported per_stem (unit_at index))
 
 unfoldable pub units_of : Span → Indices → Option (ℕ × Span) → Result Indices SkeletonError
 units_of stem units second = and_then (units_by stem units second) (or_unsupported stem (unit_at units.0))

@@ -18,7 +18,8 @@ has_system id None s e = by (slice_get NUMBERING_SYSTEMS id.system) refl
     by None at = absurd (none-some s (sym (without_system id at) ∙ e))
     by (Some row) at = (unpadded row.name, ap (option_map (λ (r : DecimalSystem). unpadded r.name)) at)
 
-module _ (n : NumberNotation) (texts : OuterTexts) (own : Option (List ℕ)) (system text : List ℕ) (sizes : GroupingSizes)
+module _ (n : NumberNotation) (texts : OuterTexts) (own : Option (List ℕ)) (system text : List ℕ)
+    (sizes : GroupingSizes)
     (formats : NumberFormats) (currency : Option LocalCurrency) (display : SignDisplay) (p : CurrencyPattern)
     (shown : ShownCurrency) where
   abbrev IsIn : NumberStyle → List ℕ → Type 0
