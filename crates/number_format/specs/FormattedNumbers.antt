@@ -5,7 +5,7 @@ use Rattle.decimal_format.specs.{Formatted.absolute_text, declared.grouping.Grou
 use Rattle.locale_data.specs.{Compact.{pattern_for, patterns_in}, Plurals.IsCategoryAt, declared.{compact.CompactStyle.CompactStyle, tables.rows.compact.CompactPattern.CompactPattern}}
 use Rattle.plural_rules.specs.Operands as operands
 use Rattle.plural_rules.specs.declared.rules.PluralCategory.{PluralCategory}
-use Rattle.number_format.specs.{declared.{notation.scale.ShownNumber.ShownNumber, options.NumberNotation.NumberNotation, format.{outer.OuterAround.OuterAround, compact.CompactChoice.CompactChoice, formatted_number.FormattedNumber.FormattedNumber, formatter.NumberFormatter.NumberFormatter}}, NumberText.{around_by, compact_style, compact_pattern, compact_magnitude, has_categories, is_one, number_before_cut, shown_number, outer_by, outer_operands, exponent_of, number_part}, PatternTexts.{Around, sign_text, within}, Scaled.{ScaledValue, scaled_value}, TextParts.{Piece, parts_text, pieces_of, pieces_text}}
+use Rattle.number_format.specs.{declared.{notation.scale.ShownNumber.ShownNumber, options.NumberNotation.NumberNotation, format.{outer.OuterAround.OuterAround, compact.CompactChoice.CompactChoice, formatted_number.FormattedNumber.FormattedNumber, formatter.NumberFormatter.NumberFormatter}}, NumberText.{around_by, bare_separator, compact_style, compact_pattern, compact_magnitude, has_categories, is_one, number_before_cut, shown_number, outer_by, outer_operands, exponent_of, number_part}, PatternTexts.{Around, sign_text, within}, Scaled.{ScaledValue, scaled_value}, TextParts.{Piece, parts_text, pieces_of, pieces_text}}
 
 -- the compact pattern that is chosen, in compact notation
 abbrev pub chosen_pattern : Option CompactStyle → CompactChoice → Option CompactPattern
@@ -45,10 +45,20 @@ exponent_text f None = []
 exponent_text f (Some e) =
     f.separator.text.now ++ (sign_text f.style.symbols e.sign ++ absolute_text f.style.symbols Never e.absolute)
 
--- the digits of the significand, and the exponent
+-- the decimal separator of a number without fraction digits, if it is always written
+abbrev pub separator_of : FormattedNumber → List ℕ
+separator_of n =
+    bare_separator n.formatter.now.options.decimal_separator n.formatter.now.style.symbols n.value.absolute
+
+-- the digits of the significand, with that separator
+abbrev pub significand_text : FormattedNumber → List ℕ
+significand_text n =
+    absolute_text n.formatter.now.style.symbols n.formatter.now.options.grouping n.value.absolute ++ separator_of n
+
+-- and the exponent
 abbrev pub number_text : FormattedNumber → List ℕ
 number_text n =
-    absolute_text n.formatter.now.style.symbols n.formatter.now.options.grouping n.value.absolute
+    significand_text n
     ++ exponent_text n.formatter.now (exponent_of n.formatter.now.options.notation n.exponent)
 
 -- the pieces of these, if the text has a number

@@ -3,7 +3,7 @@ use Rattle.std.specs.{Prelude.{◌≡◌, ℕ, Bool, true, false, not, codes, �
 use Rattle.decimal_format.specs.declared.grouping.GroupingSizes.{GroupingSizes}
 use Rattle.locale_data.specs.{declared.{currency.CurrencyPattern.CurrencyPattern, local_currency.{CurrencySymbol.CurrencySymbol, LocalCurrency.LocalCurrency}, tables.rows.patterns.{Affix.Affix, AffixPair.AffixPair, NumberSigns.NumberSigns, Pattern.Pattern, Piece.{Piece, TheVariants.{Empty, Minus, Plus, Currency}}}}}
 use Rattle.locale_data.specs.Patterns as pattern
-use Rattle.locale_names.specs.{declared.{locale_currencies.CurrencyNames.CurrencyNames, locale_units.{UnitDisplay.UnitDisplay, UnitPatterns.UnitPatterns}, unit_id.UnitId.UnitId}, LocaleCurrencies.AreNamesOf, LocaleUnits.AreRowsOf, Texts.short_text, Units.row_of}
+use Rattle.locale_names.specs.{declared.{locale_currencies.CurrencyNames.CurrencyNames, locale_units.{UnitDisplay.UnitDisplay, UnitPatterns.UnitPatterns}, tables.rows.units.UnitRow.UnitRow, unit_id.UnitId.UnitId}, LocaleCurrencies.AreNamesOf, LocaleUnits.AreRowsOf, Texts.short_text, Units.row_of}
 use Rattle.number_format.specs.declared.{options.{CurrencyDisplay.CurrencyDisplay, CurrencyStyle.CurrencyStyle, NumberNotation.NumberNotation, NumberStyle.NumberStyle, UnitStyle.UnitStyle}, format.{currency.ShownCurrency.ShownCurrency, outer.OuterTexts.OuterTexts, text_part.PartKind.PartKind}}
 
 -- ---- Patterns.
@@ -59,7 +59,7 @@ is_long UnitDisplay.Long = true
 is_long other = false
 
 abbrev pub name_of : UnitId → List ℕ
-name_of id = option_map_or (λ row. short_text row.name) (row_of id) []
+name_of id = option_map_or (λ (row : UnitRow). short_text row.name) (row_of id) []
 
 -- the unit `percent` is written by the pattern of percentages, but not by its long name, and not in compact notation
 abbrev pub is_percentage : UnitStyle → NumberNotation → Bool

@@ -3,14 +3,14 @@ use Rattle.std.specs.{Prelude.{◌≡◌, ◌≢◌, ℕ, ◌==◌, min, Bool, t
 use Rattle.decimal_digits.specs.Number.{first}
 use Rattle.decimal_unsigned.specs.{Unsigned.{Unsigned, integer_value}, Edits.{multiplied_pow10, padded_start}, declared.decimal.TheConstants.INLINE_DIGITS}
 use Rattle.fixed_decimal.specs.{Decimal.{Decimal, with_absolute, displayed_sign}, DecimalText.IsLong, declared.variations.Sign.Sign}
-use Rattle.decimal_format.specs.declared.grouping.GroupingStrategy.TheVariants.{Never}
+use Rattle.decimal_format.specs.{Symbols.Symbols, declared.grouping.GroupingStrategy.TheVariants.Never}
 use Rattle.plural_rules.specs.Operands as operands
 use Rattle.plural_rules.specs.declared.rules.PluralCategory.{PluralCategory}
 use Rattle.locale_names.specs.{declared.tables.rows.currencies.NamePattern.NamePattern, LocaleCurrencies.{name_for, pattern_for}, Texts.short_text}
 use Rattle.locale_names.specs.LocaleUnits as units
 use Rattle.locale_data.specs.Compact as compact
 use Rattle.locale_data.specs.{declared.{compact.CompactStyle.CompactStyle, tables.{rows.{compact.{AffixText.AffixText, CompactForm.CompactForm, CompactPattern.CompactPattern, PercentUnit.PercentUnit}, TableRange.TableRange}, compact.TheConstants.PERCENT_UNITS}, number_formats.NumberFormats.NumberFormats}, Compact.{text_of, compact_patterns, unit_for}, Plurals.IsCategoryAt}
-use Rattle.number_format.specs.{declared.{digits.options.DigitOptions.DigitOptions, notation.Notation.Notation, format.{affixes.{NumberAffixes.NumberAffixes, StyleTexts.StyleTexts}, outer.OuterTexts.OuterTexts, formatter.NumberFormatter.NumberFormatter, text_part.PartKind.PartKind}, options.{CompactLength.CompactLength, ExponentOptions.ExponentOptions, ExponentSign.ExponentSign, NumberNotation.NumberNotation, NumberStyle.NumberStyle}}, NumberStyles.{currency_text, shows_name}, PatternTexts.{Around, around, within, sign_text, sign_pieces, space_if, pattern_around}, ShownDigits.rounded_whole, TextParts.{pieces_text, pieces_of, parts_pieces, digit_pieces}, Scaled.{ScaledValue, scaled_value, scaled, raised, rounded_number, exponent_at, ScalingNeedsMemory}}
+use Rattle.number_format.specs.{declared.{digits.options.DigitOptions.DigitOptions, notation.Notation.Notation, format.{affixes.{NumberAffixes.NumberAffixes, StyleTexts.StyleTexts}, outer.OuterTexts.OuterTexts, formatter.NumberFormatter.NumberFormatter, text_part.PartKind.PartKind}, options.{CompactLength.CompactLength, DecimalSeparatorDisplay.DecimalSeparatorDisplay, ExponentOptions.ExponentOptions, ExponentSign.ExponentSign, NumberNotation.NumberNotation, NumberStyle.NumberStyle}}, NumberStyles.{currency_text, shows_name}, PatternTexts.{Around, around, within, sign_text, sign_pieces, space_if, pattern_around}, ShownDigits.rounded_whole, TextParts.{pieces_text, pieces_of, parts_pieces, digit_pieces}, Scaled.{ScaledValue, scaled_value, scaled, raised, rounded_number, exponent_at, ScalingNeedsMemory}}
 use Rattle.number_format.specs.ShownDigits as shown_digits
 use Rattle.number_format.specs.TextParts as parts
 
@@ -132,9 +132,20 @@ exponent_pieces f (Some e) =
     ++ (pieces_of (exponent_kind e.sign) (sign_text f.style.symbols e.sign)
     ++ digit_pieces PartKind.ExponentInteger f.style.symbols Never e.absolute)
 
+-- the decimal separator of a number without fraction digits, if it is always written
+abbrev pub bare_separator : DecimalSeparatorDisplay → Symbols → Unsigned → List ℕ
+bare_separator DecimalSeparatorDisplay.Auto s v = []
+bare_separator DecimalSeparatorDisplay.Always s v = if int_lt v.lo (pos 0) then [] else s.decimal
+
+-- the digits of a significand, with that separator
+abbrev pub significand_pieces : NumberFormatter → DecimalSeparatorDisplay → Unsigned → List parts.Piece
+significand_pieces f display v =
+    digit_pieces PartKind.Integer f.style.symbols f.options.grouping v
+    ++ pieces_of PartKind.Decimal (bare_separator display f.style.symbols v)
+
 -- the digits of a significand and of an exponent, if there is one
 abbrev pub number_part : NumberFormatter → Unsigned → Option Decimal → List parts.Piece
-number_part f v e = digit_pieces PartKind.Integer f.style.symbols f.options.grouping v ++ exponent_pieces f e
+number_part f v e = significand_pieces f f.options.decimal_separator v ++ exponent_pieces f e
 
 -- ---- Compact notation.
 
@@ -189,12 +200,15 @@ percent_texts None category = with_number [] []
 percent_texts (Some unit) category =
     with_number (text_of (unit_for unit category).prefix) (text_of (unit_for unit category).suffix)
 
+-- the number is before the name, and the text between them; without a pattern nothing is between them
+abbrev pub place_of : Option NamePattern → Bool × List ℕ
+place_of None = (true, [])
+place_of (Some p) = (p.number_first, short_text p.between)
+
 -- the name of a currency, after the number or before it
-abbrev pub name_texts : List ℕ → Option NamePattern → units.Around
-name_texts name None = with_number [] []
-name_texts name (Some p) =
-    if p.number_first then with_number [] (short_text p.between ++ name)
-    else with_number (name ++ short_text p.between) []
+abbrev pub name_texts : List ℕ → Bool × List ℕ → units.Around
+name_texts name place =
+    if place.0 then with_number [] (place.1 ++ name) else with_number (name ++ place.1) []
 
 -- the texts of a pattern, of one kind
 abbrev pub around_texts : PartKind → units.Around → Around
@@ -205,7 +219,7 @@ abbrev pub outer_texts : NumberFormats → OuterTexts → Option CompactStyle �
 outer_texts formats (OuterTexts.Units rows) words style category =
     around_texts PartKind.Unit (units.around_number rows category)
 outer_texts formats (OuterTexts.Names names) words style category =
-    around_texts PartKind.Currency (name_texts (name_for names category) (pattern_for names category))
+    around_texts PartKind.Currency (name_texts (name_for names category) (place_of (pattern_for names category)))
 outer_texts formats OuterTexts.None (Some words) NumberStyle.Percent category =
     around_texts PartKind.Unit (percent_texts (slice_get PERCENT_UNITS formats.unit) category)
 outer_texts formats OuterTexts.None (Some words) NumberStyle.Permille category =

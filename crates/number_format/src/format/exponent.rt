@@ -50,8 +50,8 @@ pub(crate) fn exponent_operand(exponent: i32) -> u8
 /// beyond 16 bits.
 pub(crate) fn exponent_shift(exponent: i32) -> Option<i16>
     ensures some { IfSome result (λ shift. shift ≡ exponent -ℤ pos (exponent_operand exponent)) }
-    ensures none { IfNone result ((exponent -ℤ pos (exponent_operand exponent) <ℤ negsuc 32767)
-        ⊎ (pos 32767 <ℤ exponent -ℤ pos (exponent_operand exponent))) }
+    ensures none { IfNone result (((exponent -ℤ pos (exponent_operand exponent)) <ℤ negsuc 32767)
+        ⊎ (pos 32767 <ℤ (exponent -ℤ pos (exponent_operand exponent)))) }
 {
     let shift = exponent as i64 - exponent_operand(exponent) as i64;
     if shift < -32768 || shift > 32767 {

@@ -4,7 +4,7 @@ ghost use Rattle.decimal_digits.specs.AppendsPrefix.{AppendsPrefix};
 ghost use Rattle.fixed_decimal.specs.Decimal.{Decimal, displayed_sign};
 ghost use Rattle.decimal_format.specs.{Formatted.formatted_absolute, declared.grouping.GroupingStrategy.TheVariants.Never};
 ghost use Rattle.locale_data.specs.Compact.{AreTexts};
-ghost use Rattle.number_format.specs.{FormattedNumbers.{pattern_of, around_of, outer_of, exponent_text, number_text, number_text_if, number_pieces_if, around_text, inner_text, inner_text_if, inner_pieces, inner_pieces_if, formatted_number_pieces, formatted_number_text, ChoosesWhole, IsOuter, IsShownNumber}, NumberText.{compact_around, exponent_of, exponent_pieces, shown_number, AreParts, AreNumberPieces, WritingNeedsMemory}, PatternTexts.{around, pattern_around}, TextParts.{parts_text, pieces_text, Puts, PutsPrefix}};
+ghost use Rattle.number_format.specs.{FormattedNumbers.{pattern_of, around_of, outer_of, exponent_text, number_text, number_text_if, number_pieces_if, separator_of, significand_text, around_text, inner_text, inner_text_if, inner_pieces, inner_pieces_if, formatted_number_pieces, formatted_number_text, ChoosesWhole, IsOuter, IsShownNumber}, NumberText.{compact_around, compact_style, outer_texts, exponent_of, exponent_pieces, significand_pieces, shown_number, AreParts, AreNumberPieces, WritingNeedsMemory}, PatternTexts.{around, pattern_around}, TextParts.{parts_text, pieces_text, Puts, PutsPrefix}};
 
 use crate::format::affixes::NumberAffixes;
 use crate::format::compact::CompactChoice;
@@ -16,7 +16,7 @@ use crate::format::parts::{
 };
 use crate::format::text_part::PartKind;
 use crate::notation::scale::ShownNumber;
-use crate::options::{NumberNotation, NumberStyle};
+use crate::options::{DecimalSeparatorDisplay, NumberNotation, NumberStyle};
 use decimal_format::internal::{Block, put_to_block};
 use decimal_format::{FormattedAbsolute, GroupingStrategy};
 use fixed_decimal::{
@@ -108,24 +108,32 @@ impl<'f> FormattedNumber<'f> {
         }
     }
 
+    fn compact_outer(&self) -> OuterAround<'static>
+        ensures { IsOuter (outer_texts self.now.formatter.now.formats OuterTexts.None
+            (compact_style self.now.formatter.now.options.notation self.now.formatter.now.options.style)
+            self.now.formatter.now.options.style self.now.whole) result }
+    {
+        let formatter = self.formatter;
+        match (formatter.options.compact_style(), formatter.options.style) {
+            (Some(_), NumberStyle::Percent) => {
+                OuterAround::of_affixes(formatter.formats.percent_unit(self.whole))
+            }
+            (Some(_), NumberStyle::Permille) => OuterAround::of_affixes(UnitAffixes {
+                prefix: "",
+                suffix: "\u{2030}",
+            }),
+            _ => OuterAround::none(),
+        }
+    }
+
     fn outer_around(&self) -> OuterAround<'_>
         ensures { IsOuter (outer_of self.now) result }
     {
         let formatter = self.formatter;
-        let words = formatter.options.compact_style();
-        match (&formatter.outer, words, formatter.options.style) {
-            (OuterTexts::Units(rows), _, _) => OuterAround::of_unit(*rows, self.whole),
-            (OuterTexts::Names(names), _, _) => OuterAround::of_name(names, self.whole),
-            (OuterTexts::None, Some(_), NumberStyle::Percent) => {
-                OuterAround::of_affixes(formatter.formats.percent_unit(self.whole))
-            }
-            (OuterTexts::None, Some(_), NumberStyle::Permille) => {
-                OuterAround::of_affixes(UnitAffixes {
-                    prefix: "",
-                    suffix: "\u{2030}",
-                })
-            }
-            _ => OuterAround::none(),
+        match &formatter.outer {
+            OuterTexts::Units(rows) => OuterAround::of_unit(*rows, self.whole),
+            OuterTexts::Names(names) => OuterAround::of_name(names, self.whole),
+            OuterTexts::None => self.compact_outer(),
         }
     }
 
@@ -168,6 +176,19 @@ impl<'f> FormattedNumber<'f> {
         FormattedAbsolute::new(&formatter.style.symbols, grouping, &self.value.absolute)
     }
 
+    fn separator(&self) -> &str
+        ensures value { result.now ≡ separator_of self.now }
+        ensures short { length result.now ≤ 255 }
+    {
+        let formatter = self.formatter;
+        match formatter.options.decimal_separator {
+            DecimalSeparatorDisplay::Always if self.value.absolute.lowest() >= 0 => {
+                formatter.style.symbols.decimal_separator()
+            }
+            _ => "",
+        }
+    }
+
     fn exponent_digits<'g>(&'g self, exponent: &'g Decimal) -> FormattedAbsolute<'g, DecimalStore>
         ensures { result ≡ formatted_absolute self.now.formatter.now.style.symbols Never exponent.now.absolute }
     {
@@ -189,6 +210,17 @@ impl<'f> FormattedNumber<'f> {
         self.exponent_digits(exponent).write_to(sink)
     }
 
+    fn write_significand<W: Sink>(&self, sink: &mut W) -> Result<(), SinkFault>
+        ensures ok { OnOk result
+            (Appends (W.contents sink.old) (W.contents sink.new) (significand_text self.now)) }
+        ensures err { OnErr result
+            (AppendsPrefix (W.contents sink.old) (W.contents sink.new) (significand_text self.now)) }
+        ensures failed { OnErr result (W.has_failed sink.new ≡ true) }
+    {
+        self.digits().write_to(sink)?;
+        sink.put_bytes(self.separator().as_bytes())
+    }
+
     fn write_number_if<W: Sink>(&self, has_number: bool, sink: &mut W) -> Result<(), SinkFault>
         ensures ok { OnOk result
             (Appends (W.contents sink.old) (W.contents sink.new) (number_text_if self.now has_number)) }
@@ -199,11 +231,18 @@ impl<'f> FormattedNumber<'f> {
         if !has_number {
             return Ok(());
         }
-        self.digits().write_to(sink)?;
+        self.write_significand(sink)?;
         match &self.shown_exponent() {
             Some(exponent) => self.write_exponent(exponent, sink),
             None => Ok(()),
         }
+    }
+
+    fn fmt_significand<W: fmt::Write>(&self, f: &mut fmt::Formatter<W>) -> fmt::Result
+        ensures { WritesStyledOnOk W.write_str_gives f.old result (significand_text self.now) f.new }
+    {
+        fmt::Display::fmt(&self.digits(), f)?;
+        f.write_str(self.separator())
     }
 
     fn fmt_number_if<W: fmt::Write>(
@@ -217,7 +256,7 @@ impl<'f> FormattedNumber<'f> {
             return Ok(());
         }
         let formatter = self.formatter;
-        fmt::Display::fmt(&self.digits(), f)?;
+        self.fmt_significand(f)?;
         match &self.shown_exponent() {
             Some(exponent) => {
                 f.write_str(formatter.separator.text)?;
@@ -285,10 +324,10 @@ impl<'f> FormattedNumber<'f> {
 
     fn number_length(&self) -> usize
         ensures value { result ≡ length (number_text self.now) }
-        ensures at_most { result ≤ 17236988 }
+        ensures at_most { result ≤ 17237243 }
     {
         let formatter = self.formatter;
-        let digits = self.digits().writeable_length_hint();
+        let digits = self.digits().writeable_length_hint() + self.separator().len();
         match &self.shown_exponent() {
             Some(exponent) => {
                 digits
@@ -302,7 +341,7 @@ impl<'f> FormattedNumber<'f> {
 
     fn inner_length(&self) -> usize
         ensures value { result ≡ length (inner_text self.now) }
-        ensures at_most { result ≤ 17240000 }
+        ensures at_most { result ≤ 17240100 }
     {
         let affixes = self.affixes();
         let number = if affixes.has_number {
@@ -325,10 +364,21 @@ impl<'f> FormattedNumber<'f> {
     }
 
     #[inline(always)]
+    fn push_separator(&self, block: &mut Block) -> Result<(), SinkFault>
+        ensures { OnOk result (block.new.0 ≡ block.old.0 ++ separator_of self.now) }
+    {
+        match self.formatter.options.decimal_separator {
+            DecimalSeparatorDisplay::Auto => Ok(()),
+            DecimalSeparatorDisplay::Always => block.put_bytes(self.separator().as_bytes()),
+        }
+    }
+
+    #[inline(always)]
     fn put_digits(&self, block: &mut Block) -> Result<(), SinkFault>
         ensures { OnOk result (block.new.0 ≡ block.old.0 ++ number_text self.now) }
     {
         put_to_block(&self.digits(), block)?;
+        self.push_separator(block)?;
         match self.formatter.options.notation {
             NumberNotation::Scientific(options) | NumberNotation::Engineering(options) => {
                 let exponent = shown_exponent(self.alloc, options, self.exponent);
@@ -438,6 +488,19 @@ impl<'f> FormattedNumber<'f> {
         )
     }
 
+    fn put_significand<P: PartSink>(&self, sink: &mut P) -> Result<(), SinkFault>
+        ensures ok { OnOk result (Puts (P.pieces sink.old) (P.pieces sink.new)
+            (significand_pieces self.now.formatter.now self.now.formatter.now.options.decimal_separator
+            self.now.value.absolute)) }
+        ensures err { OnErr result (PutsPrefix (P.pieces sink.old) (P.pieces sink.new)
+            (significand_pieces self.now.formatter.now self.now.formatter.now.options.decimal_separator
+            self.now.value.absolute)) }
+        ensures failed { OnErr result (P.has_failed sink.new ≡ true) }
+    {
+        put_digits(&self.digits(), PartKind::Integer, sink)?;
+        put(sink, PartKind::Decimal, self.separator())
+    }
+
     fn put_number_if<P: PartSink>(&self, has_number: bool, sink: &mut P) -> Result<(), SinkFault>
         ensures ok { OnOk result (Puts (P.pieces sink.old) (P.pieces sink.new) (number_pieces_if self.now has_number)) }
         ensures err { OnErr result
@@ -447,7 +510,7 @@ impl<'f> FormattedNumber<'f> {
         if !has_number {
             return Ok(());
         }
-        put_digits(&self.digits(), PartKind::Integer, sink)?;
+        self.put_significand(sink)?;
         match &self.shown_exponent() {
             Some(exponent) => self.put_exponent(exponent, sink),
             None => Ok(()),

@@ -1,13 +1,13 @@
 -- What chooses the texts around the whole text.
-use Rattle.std.proofs.{Common.{◌≡◌, ◌≢◌, true, false, Option, Some, None, refl, ap, sym, subst, ◌∙◌, arith, inl, inr}, lemmas.Int.ints}
-use Rattle.std.specs.{Prelude.{ℤ, pos, negsuc, ◌-ℤ◌, ◌<ℤ◌, ◌⊎◌, ◌||◌, if◌then◌else◌, Result, Ok, Err, IfOk}, Option.option_map_or}
+use Rattle.std.proofs.{Common.{◌≡◌, ◌≢◌, true, false, Option, Some, None, refl, ap, subst, arith, inl, inr}, lemmas.Int.ints}
+use Rattle.std.specs.{Prelude.{ℤ, pos, negsuc, ◌-ℤ◌, ◌<ℤ◌, ◌⊎◌, if◌then◌else◌, Result, Ok, Err, IfOk}, Option.option_map_or}
 use Rattle.decimal_unsigned.specs.{Edits.{leaves_limits, multiplied, multiplied_pow10}, Unsigned.{Unsigned, IsValue}}
 use Rattle.fixed_decimal.specs.Decimal.{Decimal}
 use Rattle.plural_rules.specs.Operands as operands
 use Rattle.plural_rules.specs.declared.rules.PluralCategory.{PluralCategory, TheVariants.Other}
 use Rattle.locale_data.specs.{Plurals.IsCategoryAt, declared.{compact.CompactStyle.CompactStyle, number_formats.NumberFormats.NumberFormats}}
 use Rattle.locale_data.proofs.lemmas.tables.RulesTexts.{category_exists}
-use Rattle.number_format.specs.{declared.{format.{formatter.NumberFormatter.NumberFormatter, outer.OuterTexts.OuterTexts}, options.{NumberNotation.NumberNotation, NumberStyle.NumberStyle}}, FormattedNumbers.{ChoosesOuter, ChoosesWhole}, NumberText.{exponent_operand, has_categories, is_by_category, operands_by, operands_with, outer_operands, outer_texts, shown_number, whole_number, compact_style}, Scaled.ScaledValue}
+use Rattle.number_format.specs.{declared.{format.{formatter.NumberFormatter.NumberFormatter, outer.OuterTexts.OuterTexts}, options.{CompactLength.CompactLength, NumberNotation.NumberNotation, NumberStyle.NumberStyle}}, FormattedNumbers.{ChoosesOuter, ChoosesWhole}, NumberText.{exponent_operand, has_categories, is_by_category, operands_by, operands_with, outer_operands, outer_texts, compact_style}, Scaled.ScaledValue}
 
 -- texts that do not depend on the category
 pub same_outer : (formats : NumberFormats) (texts : OuterTexts) (words : Option CompactStyle) (style : NumberStyle)
@@ -49,6 +49,15 @@ module _ (f : NumberFormatter) (v : Decimal) where
       record { category = c; of_whole = subst (λ y. IsCategoryAt f.rules y c) same of; texts = refl }
 
 -- ---- Operands with an exponent.
+
+-- a notation with an exponent is that of the operands with it
+pub with_exponent : (n : NumberNotation) (whole : Unsigned) (number : ScaledValue) → n ≢ NumberNotation.Standard
+    → ((words : CompactLength) → n ≢ NumberNotation.Compact words)
+    → operands_with number.significand.absolute number.exponent ≡ operands_by n whole number
+with_exponent NumberNotation.Standard whole number standard compact = absurd (standard refl)
+with_exponent (NumberNotation.Compact words) whole number standard compact = absurd (compact words refl)
+with_exponent (NumberNotation.Scientific o) whole number standard compact = refl
+with_exponent (NumberNotation.Engineering o) whole number standard compact = refl
 
 -- a shift beyond 16 bits leaves the limits
 pub beyond : (v : Unsigned) (d : ℤ) → IsValue v → (d <ℤ negsuc 32767) ⊎ (pos 32767 <ℤ d)
