@@ -1,5 +1,5 @@
 -- Units in skeletons: by their identifiers, or by their types too.
-use Rattle.std.specs.{Prelude.{ℕ, ◌+◌, ◌-◌, ◌==◌, nat_lt, Bool, ◌||◌, ◌&&◌, if◌then◌else◌, nat_eq, List, [], ◌∷◌, map, length, take, drop, slice_index, slice_get, codes, Option, Some, None, unwrap_or, Result, Ok, Err}, List.{list_any, position_from, starts_with}, Option.{option_map, option_map_or}, Str.bytes_eq}
+use Rattle.std.specs.{Prelude.{ℕ, ◌+◌, ◌-◌, ◌==◌, nat_lt, Bool, ◌&&◌, if◌then◌else◌, nat_eq, List, [], ◌∷◌, map, length, take, drop, slice_index, slice_get, codes, Option, Some, None, unwrap_or, Result}, List.{list_any, position_from, starts_with}, Option.{option_map_or}, Str.bytes_eq}
 use Rattle.locale_names.specs.{declared.{tables.{rows.units.UnitRow.UnitRow, units.TheConstants.UNITS}, unit_id.UnitError.UnitError}, Texts.{short_text, text_or_nothing}, Units.{Indices, unit_index, named, is_compound}}
 use Rattle.number_skeleton.specs.{declared.choices.ChosenUnit.{ChosenUnit, TheVariants.{Percent, Permille, Units}}, Counts.run, Words.{is_name, padded}}
 

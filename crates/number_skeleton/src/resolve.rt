@@ -4,9 +4,7 @@ ghost use Rattle.locale_data.specs.{Codes.{code_of, system_name}, Rows.unpadded}
 ghost use Rattle.locale_names.specs.Units.{index_of, indices_of};
 ghost use Rattle.number_skeleton.specs.{Digits.is_compact, Units.{unit_at, index_named}, Meaning.{notation_of, width_of, unit_display, currency_display, has_pattern, has_style, or_unsupported, unit_or_none, divided, units_by, units_of, second_of, style_value, usage_of, currency_style, units_style, hundredths_style, percent_style, permille_style, is_percent, loses_second, chosen_units, base_style, style_by, style_of, scale_of, grouping_of, system_by, system_of, no_usage, options_of, options_value}};
 
-use crate::choices::{
-    Choices, ChosenNotation, ChosenPerUnit, ChosenPrecision, ChosenUnit, Span,
-};
+use crate::choices::{Choices, ChosenNotation, ChosenPerUnit, ChosenPrecision, ChosenUnit, Span};
 use crate::error::SkeletonError;
 use crate::units::{is_two, joined, unit_at, unit_named};
 use decimal_format::GroupingStrategy;

@@ -7,8 +7,7 @@ ghost use Rattle.number_skeleton.specs.{Digits.{precision_value, digits_value}, 
 use locale_names::{Unit, UnitId};
 use number_format::{
     BothDigits, CurrencyStyle, DigitOptions, FractionDigits, FractionMultiples, NumberNotation,
-    NumberOptions,
-    NumberStyle, NumberingSystem, Precision, SignificantDigits, UnitStyle,
+    NumberOptions, NumberStyle, NumberingSystem, Precision, SignificantDigits, UnitStyle,
 };
 
 fn same_second_unit(first: Option<UnitId>, second: Option<UnitId>) -> bool

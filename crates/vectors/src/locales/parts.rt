@@ -24,6 +24,7 @@ fn name(kind: PartKind) -> &'static str {
         PartKind::Currency => "|currency=",
         PartKind::Literal => "|literal=",
         PartKind::Compact => "|compact=",
+        PartKind::Unit => "|unit=",
         PartKind::ExponentSeparator => "|exponentSeparator=",
         PartKind::ExponentMinusSign => "|exponentMinusSign=",
         PartKind::ExponentPlusSign => "|exponentPlusSign=",

@@ -1,4 +1,4 @@
-use Rattle.std.proofs.Common.{◌≡◌, ◌<◌, ◌≤◌, ◌+◌, ◌∙◌, ℕ, length, drop, sym, ap, subst, arith}
+use Rattle.std.proofs.Common.{◌<◌, ◌≤◌, ◌+◌, ◌∙◌, ℕ, length, drop, sym, ap, subst, arith}
 use Rattle.locale_names.specs.declared.tables.units.TheConstants.{UNITS}
 use Rattle.number_skeleton.specs.{Identifiers.{longer, longest_name, unit_length}, Units.name_at}
 use Rattle.number_skeleton.proofs.lemmas.units.UnitRows.{longest_next, longest_end, units_are}

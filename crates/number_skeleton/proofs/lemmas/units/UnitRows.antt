@@ -1,5 +1,5 @@
 -- The units of the table from an index on, one after another.
-use Rattle.std.proofs.{Common.{◌≡◌, ℕ, ◌+◌, ◌<◌, ◌≤◌, Bool, true, false, cond, List, [], ◌∷◌, length, drop, Option, Some, None, slice_get, refl, ap, sym, ◌∙◌, inl, inr, arith}, lemmas.{List.{at_drop_more, at_drop_all}, Option.slice_get_cases}}
+use Rattle.std.proofs.{Common.{◌≡◌, ℕ, ◌+◌, ◌<◌, ◌≤◌, true, false, cond, List, [], ◌∷◌, length, drop, Some, None, slice_get, refl, ap, sym, ◌∙◌, inl, inr, arith}, lemmas.{List.{at_drop_more, at_drop_all}, Option.slice_get_cases}}
 use Rattle.std.specs.Option.{option_map_or}
 use Rattle.locale_names.specs.declared.tables.{rows.units.UnitRow.UnitRow, units.TheConstants.UNITS}
 use Rattle.number_skeleton.specs.{Identifiers.{longer, longest_name}, Units.{name_of, name_at, is_joined, index_joined}}

@@ -1,4 +1,4 @@
-use Rattle.std.proofs.Common.{◌≡◌, ◌<◌, ◌≤◌, ◌∙◌, ℕ, Some, length, sym, ap, subst, arith}
+use Rattle.std.proofs.Common.{◌<◌, ◌≤◌, ◌∙◌, ℕ, Some, length, sym, ap, subst, arith}
 use Rattle.locale_names.specs.declared.tables.units.TheConstants.{UNITS}
 use Rattle.number_skeleton.specs.Units.{name_at, is_joined}
 use Rattle.number_skeleton.proofs.lemmas.units.UnitRows.{joined_next, joined_here, joined_end, units_are}
