@@ -643,7 +643,8 @@ def test_units():
     speed = {"style": "unit", "unit": "kilometer-per-hour", "unit_display": "long"}
     made = NumberFormat("en", **speed)
     check(made.format(5) == "5 kilometers per hour", "a unit")
-    check([part["type"] for part in made.format_to_parts(5)] == ["integer", "literal", "unit"], "the kinds of parts")
+    parts = NumberFormat("en", style="unit", unit="celsius").format_to_parts(5)
+    check(parts == [{"type": "integer", "value": "5"}, {"type": "unit", "value": "°C"}], "parts", parts)
     check(made.resolved_options()["unit"] == "kilometer-per-hour", "the unit", made.resolved_options())
     check(eval(repr(NumberFormat("en", **speed))) == NumberFormat("en", **speed), "repr")
     check(column(["5"], format="en", **speed) == ["5 kilometers per hour"], "a column")
