@@ -25,14 +25,14 @@ struct FdCall {
 struct FdMade {
     status: u32,
     at: usize,
-    formatter: [u64; 15],
+    formatter: [u64; 17],
 }
 
 extern "C" {
     fn fd_formatter_by_options(tag: *const u8, tag_count: usize, options: *const Options) -> FdMade;
     #[rustfmt::skip]
     fn fd_format(
-        formatter: *const [u64; 15], text: *const u8, count: usize, buffer: *mut u8, capacity: usize,
+        formatter: *const [u64; 17], text: *const u8, count: usize, buffer: *mut u8, capacity: usize,
     ) -> FdResult;
     #[rustfmt::skip]
     fn fd_run(
