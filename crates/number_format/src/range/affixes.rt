@@ -1,0 +1,324 @@
+//! What is written around a number of a range.
+ghost use Rattle.std.specs.{Prelude.{◌≡◌, ◌&&◌, ◌++◌, [], IfSome}, Option.option_copied};
+ghost use Rattle.locale_data.specs.{Compact.AreTexts, RangeFormats.sign_text};
+ghost use Rattle.number_format.specs.{FormattedRanges.AreRangeParts, NumberStyles.{begins_with_currency, ends_with_currency}, NumberText.{around_by, compact_around, compact_prefix, compact_suffix}, PatternTexts.{pattern_around, space_if}, RangeText.{approximately_pieces, approximate_piece, approximate_affixes, approximate_pattern, approximate_first, approximate_last, approximate_compact, approximate_around}, TextParts.{part_pieces, parts_pieces}};
+
+use crate::format::affixes::{StyleTexts, space_if};
+use crate::format::text_part::{PartKind, TextPart};
+use fixed_decimal::Sign;
+use locale_data::{Affix, AffixPair, ApproximatelySign, CompactForm, CompactPattern, Piece};
+
+/// An empty part.
+pub(crate) const NOTHING: TextPart<'static> = TextPart {
+    kind: PartKind::Literal,
+    text: "",
+};
+
+/// The parts before a prefix, between it and the number, and after a suffix.
+#[derive(Clone, Copy)]
+pub(crate) struct OuterParts<'f> {
+    pub(crate) first: TextPart<'f>,
+    pub(crate) inner: TextPart<'f>,
+    pub(crate) last: TextPart<'f>,
+}
+
+/// No other parts.
+pub(crate) const NO_OUTER: OuterParts<'static> = OuterParts {
+    first: NOTHING,
+    inner: NOTHING,
+    last: NOTHING,
+};
+
+/// The parts before and after a number.
+#[derive(Clone, Copy)]
+pub(crate) struct RangeAffixes<'f> {
+    pub(crate) prefix: [TextPart<'f>; 11],
+    pub(crate) has_number: bool,
+    pub(crate) suffix: [TextPart<'f>; 10],
+}
+
+fn approximately_part(approximately: ApproximatelySign) -> TextPart<'static>
+    ensures { part_pieces result ≡ approximately_pieces approximately }
+{
+    TextPart::new(PartKind::ApproximatelySign, approximately.text())
+}
+
+impl StyleTexts {
+    /// Returns a piece of a pattern, with the approximately sign before a sign or instead of it.
+    fn approximate_piece(
+        &self,
+        approximately: ApproximatelySign,
+        sign: Sign,
+        piece: Piece,
+    ) -> (TextPart<'_>, TextPart<'_>)
+        ensures { part_pieces result.0 ++ part_pieces result.1
+            ≡ approximate_piece self.now approximately sign piece }
+    {
+        match (sign, piece) {
+            (Sign::None, Piece::Plus) => (NOTHING, approximately_part(approximately)),
+            (_, Piece::Minus | Piece::Plus) => {
+                (approximately_part(approximately), self.pattern_part(piece))
+            }
+            _ => (NOTHING, self.pattern_part(piece)),
+        }
+    }
+
+    fn approximate_first(
+        &self,
+        approximately: ApproximatelySign,
+        sign: Sign,
+        form: CompactForm,
+    ) -> (TextPart<'_>, TextPart<'_>)
+        ensures { part_pieces result.0 ++ part_pieces result.1
+            ≡ approximate_first self.now approximately sign form }
+    {
+        match form {
+            CompactForm::SignLast => (NOTHING, NOTHING),
+            _ => (approximately_part(approximately), self.sign_part(sign)),
+        }
+    }
+
+    fn approximate_last(
+        &self,
+        approximately: ApproximatelySign,
+        sign: Sign,
+        form: CompactForm,
+    ) -> (TextPart<'_>, TextPart<'_>)
+        ensures { part_pieces result.0 ++ part_pieces result.1
+            ≡ approximate_last self.now approximately sign form }
+    {
+        match form {
+            CompactForm::SignLast => (approximately_part(approximately), self.sign_part(sign)),
+            _ => (NOTHING, NOTHING),
+        }
+    }
+
+    fn approximate_pair(&self, sign: Sign) -> AffixPair
+        ensures { result ≡ approximate_affixes self.now.pattern sign }
+    {
+        match sign {
+            Sign::None => self.pattern.plus,
+            _ => self.pattern.affixes(sign),
+        }
+    }
+
+    fn range_pattern<'f>(&'f self, sign: Sign, outer: OuterParts<'f>) -> RangeAffixes<'f>
+        ensures { AreRangeParts (pattern_around self.now sign) outer result }
+    {
+        let AffixPair { prefix, suffix } = self.pattern.affixes(sign);
+        RangeAffixes {
+            prefix: [
+                outer.first,
+                self.pattern_part(prefix.first),
+                self.pattern_part(prefix.second),
+                self.pattern_part(prefix.third),
+                self.pattern_part(prefix.fourth),
+                space_if(self.needs_space_after(prefix)),
+                outer.inner,
+                NOTHING,
+                NOTHING,
+                NOTHING,
+                NOTHING,
+            ],
+            has_number: true,
+            suffix: [
+                space_if(self.needs_space_before(suffix)),
+                self.pattern_part(suffix.first),
+                self.pattern_part(suffix.second),
+                self.pattern_part(suffix.third),
+                self.pattern_part(suffix.fourth),
+                outer.last,
+                NOTHING,
+                NOTHING,
+                NOTHING,
+                NOTHING,
+            ],
+        }
+    }
+
+    fn range_compact<'f>(
+        &'f self,
+        sign: Sign,
+        pattern: &CompactPattern,
+        outer: OuterParts<'f>,
+    ) -> RangeAffixes<'f>
+        requires { AreTexts pattern.now }
+        ensures { AreRangeParts (compact_around self.now sign pattern.now) outer result }
+    {
+        let CompactPattern {
+            form,
+            prefix,
+            suffix,
+            ..
+        } = *pattern;
+        RangeAffixes {
+            prefix: [
+                outer.first,
+                self.first_sign(sign, form),
+                TextPart::new(PartKind::Compact, prefix.before_text()),
+                self.currency_if(prefix.has_currency),
+                TextPart::new(PartKind::Compact, prefix.after_text()),
+                space_if(self.space_after(&prefix)),
+                self.last_sign(sign, form),
+                outer.inner,
+                NOTHING,
+                NOTHING,
+                NOTHING,
+            ],
+            has_number: !matches!(form, CompactForm::Literal),
+            suffix: [
+                space_if(self.space_before(&suffix)),
+                TextPart::new(PartKind::Compact, suffix.before_text()),
+                self.currency_if(suffix.has_currency),
+                TextPart::new(PartKind::Compact, suffix.after_text()),
+                outer.last,
+                NOTHING,
+                NOTHING,
+                NOTHING,
+                NOTHING,
+                NOTHING,
+            ],
+        }
+    }
+
+    /// Returns the parts around a number that is shown with a sign.
+    pub(crate) fn range_affixes<'f>(
+        &'f self,
+        sign: Sign,
+        compact: Option<&CompactPattern>,
+        outer: OuterParts<'f>,
+    ) -> RangeAffixes<'f>
+        requires { IfSome compact (λ pattern. AreTexts pattern.now) }
+        ensures { AreRangeParts (around_by self.now sign (option_copied compact.entry)) outer result }
+    {
+        match compact {
+            Some(pattern) if !matches!(pattern.form, CompactForm::Plain) => {
+                self.range_compact(sign, pattern, outer)
+            }
+            _ => self.range_pattern(sign, outer),
+        }
+    }
+
+    fn approximate_pattern<'f>(
+        &'f self,
+        approximately: ApproximatelySign,
+        sign: Sign,
+        outer: OuterParts<'f>,
+    ) -> RangeAffixes<'f>
+        ensures { AreRangeParts (approximate_pattern self.now approximately sign) outer result }
+    {
+        let AffixPair { prefix, suffix } = self.approximate_pair(sign);
+        let one = self.approximate_piece(approximately, sign, prefix.first);
+        let two = self.approximate_piece(approximately, sign, prefix.second);
+        let three = self.approximate_piece(approximately, sign, prefix.third);
+        let four = self.approximate_piece(approximately, sign, prefix.fourth);
+        let space = space_if(self.needs_space_after(prefix));
+        let prefix = [
+            outer.first,
+            one.0,
+            one.1,
+            two.0,
+            two.1,
+            three.0,
+            three.1,
+            four.0,
+            four.1,
+            space,
+            outer.inner,
+        ];
+        RangeAffixes {
+            prefix,
+            has_number: true,
+            suffix: self.approximate_suffix(approximately, sign, suffix, outer.last),
+        }
+    }
+
+    fn approximate_suffix<'f>(
+        &'f self,
+        approximately: ApproximatelySign,
+        sign: Sign,
+        suffix: Affix,
+        last: TextPart<'f>,
+    ) -> [TextPart<'f>; 10]
+        ensures { parts_pieces result
+            ≡ (space_if (begins_with_currency suffix && self.now.currency.space_before)
+            ++ affix_pieces (approximate_piece self.now approximately sign) suffix) ++ part_pieces last }
+    {
+        let one = self.approximate_piece(approximately, sign, suffix.first);
+        let two = self.approximate_piece(approximately, sign, suffix.second);
+        let three = self.approximate_piece(approximately, sign, suffix.third);
+        let four = self.approximate_piece(approximately, sign, suffix.fourth);
+        let space = space_if(self.needs_space_before(suffix));
+        [
+            space, one.0, one.1, two.0, two.1, three.0, three.1, four.0, four.1, last,
+        ]
+    }
+
+    fn approximate_compact<'f>(
+        &'f self,
+        approximately: ApproximatelySign,
+        sign: Sign,
+        pattern: &CompactPattern,
+        outer: OuterParts<'f>,
+    ) -> RangeAffixes<'f>
+        requires { AreTexts pattern.now }
+        ensures { AreRangeParts (approximate_compact self.now approximately sign pattern.now) outer result }
+    {
+        let CompactPattern {
+            form,
+            prefix,
+            suffix,
+            ..
+        } = *pattern;
+        let first = self.approximate_first(approximately, sign, form);
+        let last = self.approximate_last(approximately, sign, form);
+        RangeAffixes {
+            prefix: [
+                outer.first,
+                first.0,
+                first.1,
+                TextPart::new(PartKind::Compact, prefix.before_text()),
+                self.currency_if(prefix.has_currency),
+                TextPart::new(PartKind::Compact, prefix.after_text()),
+                space_if(self.space_after(&prefix)),
+                last.0,
+                last.1,
+                outer.inner,
+                NOTHING,
+            ],
+            has_number: !matches!(form, CompactForm::Literal),
+            suffix: [
+                space_if(self.space_before(&suffix)),
+                TextPart::new(PartKind::Compact, suffix.before_text()),
+                self.currency_if(suffix.has_currency),
+                TextPart::new(PartKind::Compact, suffix.after_text()),
+                outer.last,
+                NOTHING,
+                NOTHING,
+                NOTHING,
+                NOTHING,
+                NOTHING,
+            ],
+        }
+    }
+
+    /// Returns the parts around a number, with an approximately sign.
+    pub(crate) fn approximate_affixes<'f>(
+        &'f self,
+        approximately: ApproximatelySign,
+        sign: Sign,
+        compact: Option<&CompactPattern>,
+        outer: OuterParts<'f>,
+    ) -> RangeAffixes<'f>
+        requires { IfSome compact (λ pattern. AreTexts pattern.now) }
+        ensures { AreRangeParts (approximate_around self.now approximately sign (option_copied compact.entry))
+            outer result }
+    {
+        match compact {
+            Some(pattern) if !matches!(pattern.form, CompactForm::Plain) => {
+                self.approximate_compact(approximately, sign, pattern, outer)
+            }
+            _ => self.approximate_pattern(approximately, sign, outer),
+        }
+    }
+}
