@@ -4,7 +4,7 @@ use Rattle.fixed_decimal.specs.Decimal.{Decimal}
 use Rattle.plural_rules.specs.Operands as operands
 use Rattle.plural_rules.specs.declared.rules.PluralCategory.{PluralCategory}
 use Rattle.locale_data.specs.{declared.locales.LocaleId.LocaleId, Locales.AreRowsOf, Plurals.IsCategoryAt, RangeFormats.IsRangeFormat}
-use Rattle.number_format.specs.{declared.{format.{formatted_number.FormattedNumber.FormattedNumber, formatter.NumberFormatter.NumberFormatter}, range.{affixes.{OuterParts.OuterParts, RangeAffixes.RangeAffixes}, common.BareParts.BareParts, formatted_range.{FormattedRange.FormattedRange, RangeSegment.{RangeSegment, TheVariants.{Before, Start, Separator, End, After}}}, range_texts.RangeTexts.RangeTexts, segment.Segment.Segment}}, Formatters.system_text, FormattedNumbers.{number_pieces_if, number_text_if, pattern_of}, NumberText.whole_number, PatternTexts.Around, RangeText.{IsSameOuter, RangeEnd, RangePieces, ShownRange, range_pieces, text_of_pieces}, TextParts.{Piece, part_pieces, parts_pieces, parts_text}}
+use Rattle.number_format.specs.{declared.{format.{formatted_number.FormattedNumber.FormattedNumber, formatter.NumberFormatter.NumberFormatter}, range.{affixes.{OuterParts.OuterParts, RangeAffixes.RangeAffixes}, common.BareParts.BareParts, formatted_range.{FormattedRange.FormattedRange, RangeSegment.{RangeSegment, TheVariants.{Before, Start, Separator, End, After}}, RangeSource.{RangeSource, TheVariants.{Shared, StartRange, EndRange}}}, range_texts.RangeTexts.RangeTexts, segment.Segment.Segment}}, Formatters.system_text, FormattedNumbers.{number_pieces_if, number_text_if, pattern_of}, NumberText.whole_number, PatternTexts.Around, RangeText.{IsSameOuter, RangeEnd, RangePieces, ShownRange, range_pieces, text_of_pieces}, TextParts.{Piece, part_pieces, parts_pieces, parts_text}}
 
 -- ---- The texts of a locale.
 
@@ -50,6 +50,12 @@ pieces_in p After = p.after
 abbrev pub formatted_range_pieces : FormattedRange → RangeSegment → List Piece
 formatted_range_pieces t = pieces_in (range_pieces (shown_range t))
 
+-- to which number the parts of a segment belong
+abbrev pub source_of : RangeSegment → RangeSource
+source_of Start = StartRange
+source_of End = EndRange
+source_of other = Shared
+
 -- the text: that of the segments
 abbrev pub formatted_range_text : FormattedRange → List ℕ
 formatted_range_text t = text_of_pieces (range_pieces (shown_range t))
@@ -61,6 +67,18 @@ pub record AreRangeParts (a : Around) (o : OuterParts) (shown : RangeAffixes) : 
   pub prefix : parts_pieces shown.prefix ≡ part_pieces o.first ++ (a.prefix ++ part_pieces o.inner)
   pub has_number : shown.has_number ≡ a.has_number
   pub suffix : parts_pieces shown.suffix ≡ a.suffix ++ part_pieces o.last
+
+-- the parts before and after an approximate number, with what is around the whole text
+pub record HasAffixes (u a : Around) (shown : RangeAffixes) : Type 0 where
+  pub prefix : parts_pieces shown.prefix ≡ u.prefix ++ a.prefix
+  pub has_number : shown.has_number ≡ a.has_number
+  pub suffix : parts_pieces shown.suffix ≡ a.suffix ++ u.suffix
+
+-- the parts before and after two numbers, with what is around the whole text
+pub record HasCommonAffixes (u a : Around) (shown : RangeAffixes) : Type 0 where
+  pub prefix : parts_pieces shown.prefix ≡ a.prefix ++ u.prefix
+  pub has_number : shown.has_number ≡ a.has_number
+  pub suffix : parts_pieces shown.suffix ≡ a.suffix ++ u.suffix
 
 -- the parts are what is around a number
 pub record AreBareParts (a : Around) (shown : BareParts) : Type 0 where

@@ -269,7 +269,18 @@ abbrev pub range_category : List ℕ → RangeForm → PluralCategory → Plural
 range_category tag Approximate start end = start
 range_category tag other start end = plural_range_category tag start end
 
--- what is around the whole text does not depend on the category
+-- the range of two ends, and of the categories of the two numbers
+abbrev pub range_by : RangeTexts → RangeForm → RangeEnd → RangeEnd → PluralCategory → PluralCategory → ShownRange
+range_by t form start end start_category end_category = record {
+  start = start;
+  end = end;
+  format = t.format;
+  form = form;
+  spaced = needs_spaces form start;
+  category = range_category t.tag.now form start_category end_category;
+}
+
+-- the same texts are around the whole text by two categories
 abbrev pub IsSameOuter : NumberFormatter → PluralCategory → PluralCategory → Type 0
 IsSameOuter f a b = unit_by f a ≡ unit_by f b
 
@@ -281,8 +292,8 @@ pub record IsRange (f : NumberFormatter) (t : RangeTexts) (v w : Decimal) (r : S
   pub end_is : IsRangeEnd f w r.end
   pub of_start : IsCategoryAt f.rules (operands.plain (whole_number f v)) start_category
   pub of_end : IsCategoryAt f.rules (operands.plain (whole_number f w)) end_category
-  pub format_is : r.format ≡ t.format
   pub form_is : r.form ≡ range_form v w r.start r.end
+  pub format_is : r.format ≡ t.format
   pub spaced_is : r.spaced ≡ needs_spaces r.form r.start
   pub outer_is : IsSameOuter f r.category (range_category t.tag.now r.form start_category end_category)
 

@@ -16,6 +16,8 @@ pub enum PartKind {
     MinusSign,
     /// A plus sign.
     PlusSign,
+    /// A sign before a number that is not exact.
+    ApproximatelySign,
     /// A percent sign.
     PercentSign,
     /// The symbol or the code of a currency.

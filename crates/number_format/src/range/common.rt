@@ -100,7 +100,7 @@ fn characters(text: &str) -> usize
         .count()
 }
 
-fn are_both_or_neither(first: bool, second: bool) -> bool
+pub(crate) fn are_both_or_neither(first: bool, second: bool) -> bool
     ensures { result ≡ both_or_neither first second }
 {
     if first { second } else { !second }
