@@ -15,7 +15,9 @@ use super::rows::plurals::{RangeCategory, RangeLanguage};
 use plural_rules::PluralCategory::*;
 """
 RANGES_HEAD = """use super::rows::TableRange;
-use super::rows::ranges::{ApproximatelySign, LocaleRange, RangeFormat, RangeSeparator, RangeSystem};
+use super::rows::ranges::{
+    ApproximatelySign, LocaleRange, RangeFormat, RangeSeparator, RangeSystem,
+};
 
 macro_rules! ranges {
     ($($tag:literal $separator:ident $approximately:ident;)*) => {

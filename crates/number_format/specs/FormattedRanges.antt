@@ -1,10 +1,9 @@
 -- The text of a formatted range.
-use Rattle.std.specs.Prelude.{◌≡◌, ◌⊎◌, ℕ, List, [], ◌++◌, Option}
+use Rattle.std.specs.Prelude.{◌≡◌, ◌⊎◌, ℕ, List, ◌++◌, Option, Some}
 use Rattle.fixed_decimal.specs.Decimal.{Decimal}
-use Rattle.plural_rules.specs.Operands as operands
 use Rattle.plural_rules.specs.declared.rules.PluralCategory.{PluralCategory}
 use Rattle.locale_data.specs.{declared.locales.LocaleId.LocaleId, Locales.AreRowsOf, Plurals.IsCategoryAt, RangeFormats.IsRangeFormat}
-use Rattle.number_format.specs.{declared.{format.{formatted_number.FormattedNumber.FormattedNumber, formatter.NumberFormatter.NumberFormatter}, range.{affixes.{OuterParts.OuterParts, RangeAffixes.RangeAffixes}, common.BareParts.BareParts, formatted_range.{FormattedRange.FormattedRange, RangeSegment.{RangeSegment, TheVariants.{Before, Start, Separator, End, After}}, RangeSource.{RangeSource, TheVariants.{Shared, StartRange, EndRange}}}, range_texts.RangeTexts.RangeTexts, segment.Segment.Segment}}, Formatters.system_text, FormattedNumbers.{number_pieces_if, number_text_if, pattern_of}, NumberText.whole_number, PatternTexts.Around, RangeText.{IsSameOuter, RangeEnd, RangePieces, ShownRange, range_pieces, text_of_pieces}, TextParts.{Piece, part_pieces, parts_pieces, parts_text}}
+use Rattle.number_format.specs.{declared.{format.{formatted_number.FormattedNumber.FormattedNumber, formatter.NumberFormatter.NumberFormatter}, range.{affixes.RangeAffixes.RangeAffixes, common.BareParts.BareParts, formatted_range.{FormattedRange.FormattedRange, RangeSegment.{RangeSegment, TheVariants.{Prefix, OuterPrefix, Start, Middle, End, Suffix, OuterSuffix}}, RangeSource.{RangeSource, TheVariants.{Shared, StartRange, EndRange}}}, range_texts.RangeTexts.RangeTexts, segment.{InnerSegment.InnerSegment, Segment.{Segment, TheVariants.{Outer, Inner}}}}}, Formatters.system_text, FormattedNumbers.{number_pieces_if, number_text_if, pattern_of}, NumberText.shown_number, PatternTexts.Around, RangeOuter.{outer_by, outer_operands}, RangeText.{IsRangeEnd, RangeEnd, RangePieces, ShownRange, range_pieces, text_of_pieces}, Scaled.ScaledValue, TextParts.{Piece, parts_pieces, parts_text, pieces_of}}
 
 -- ---- The texts of a locale.
 
@@ -14,7 +13,7 @@ pub record AreRangeTexts (tag : List ℕ) (name : Option (List ℕ)) (t : RangeT
   pub id : LocaleId
   pub system : List ℕ
   pub rows : AreRowsOf tag id.locale id.system
-  pub system_is : system_text id name ≡ Option.Some system
+  pub system_is : system_text id name ≡ Some system
   pub format_is : IsRangeFormat tag system t.format
 
 -- ---- The text.
@@ -41,11 +40,13 @@ shown_range t = record {
 
 -- the pieces of a segment
 abbrev pub pieces_in : RangePieces → RangeSegment → List Piece
-pieces_in p Before = p.before
+pieces_in p Prefix = p.prefix
+pieces_in p OuterPrefix = p.outer_prefix
 pieces_in p Start = p.start
-pieces_in p Separator = p.separator
+pieces_in p Middle = p.middle
 pieces_in p End = p.end
-pieces_in p After = p.after
+pieces_in p Suffix = p.suffix
+pieces_in p OuterSuffix = p.outer_suffix
 
 abbrev pub formatted_range_pieces : FormattedRange → RangeSegment → List Piece
 formatted_range_pieces t = pieces_in (range_pieces (shown_range t))
@@ -62,39 +63,41 @@ formatted_range_text t = text_of_pieces (range_pieces (shown_range t))
 
 -- ---- Private: used only in the contracts of private functions.
 
--- the parts are what is around a number, with other parts before the prefix, after it, and after the suffix
-pub record AreRangeParts (a : Around) (o : OuterParts) (shown : RangeAffixes) : Type 0 where
-  pub prefix : parts_pieces shown.prefix ≡ part_pieces o.first ++ (a.prefix ++ part_pieces o.inner)
-  pub has_number : shown.has_number ≡ a.has_number
-  pub suffix : parts_pieces shown.suffix ≡ a.suffix ++ part_pieces o.last
-
--- the parts before and after an approximate number, with what is around the whole text
-pub record HasAffixes (u a : Around) (shown : RangeAffixes) : Type 0 where
-  pub prefix : parts_pieces shown.prefix ≡ u.prefix ++ a.prefix
-  pub has_number : shown.has_number ≡ a.has_number
-  pub suffix : parts_pieces shown.suffix ≡ a.suffix ++ u.suffix
-
--- the parts before and after two numbers, with what is around the whole text
-pub record HasCommonAffixes (u a : Around) (shown : RangeAffixes) : Type 0 where
-  pub prefix : parts_pieces shown.prefix ≡ a.prefix ++ u.prefix
-  pub has_number : shown.has_number ≡ a.has_number
-  pub suffix : parts_pieces shown.suffix ≡ a.suffix ++ u.suffix
-
 -- the parts are what is around a number
+pub record AreRangeParts (a : Around) (shown : RangeAffixes) : Type 0 where
+  pub prefix : parts_pieces shown.prefix ≡ a.prefix
+  pub has_number : shown.has_number ≡ a.has_number
+  pub suffix : parts_pieces shown.suffix ≡ a.suffix
+
+-- the parts are what is around a number, without spaces
 pub record AreBareParts (a : Around) (shown : BareParts) : Type 0 where
   pub prefix : parts_pieces shown.prefix ≡ a.prefix
   pub has_number : shown.has_number ≡ a.has_number
   pub suffix : parts_pieces shown.suffix ≡ a.suffix
 
+abbrev pub inner_pieces : InnerSegment → List Piece
+inner_pieces s = parts_pieces s.prefix ++ (number_pieces_if s.number.now s.has_number ++ parts_pieces s.suffix)
+
+abbrev pub inner_text : InnerSegment → List ℕ
+inner_text s = parts_text s.prefix ++ (number_text_if s.number.now s.has_number ++ parts_text s.suffix)
+
+-- texts of one kind are one piece
 abbrev pub segment_pieces : Segment → List Piece
-segment_pieces s =
-    parts_pieces s.prefix ++ (number_pieces_if s.number.now s.has_number ++ parts_pieces s.suffix)
+segment_pieces (Outer kind texts) = pieces_of kind (parts_text texts)
+segment_pieces (Inner s) = inner_pieces s
 
 abbrev pub segment_text : Segment → List ℕ
-segment_text s = parts_text s.prefix ++ (number_text_if s.number.now s.has_number ++ parts_text s.suffix)
+segment_text (Outer kind texts) = parts_text texts
+segment_text (Inner s) = inner_text s
 
--- what is around the whole text by a category is the same as by that of the number before it is divided
-pub record ChoosesOuter (f : NumberFormatter) (v : Decimal) (chosen : PluralCategory) : Type 0 where
-  pub category : PluralCategory
-  pub of_whole : IsCategoryAt f.rules (operands.plain (whole_number f v)) category
-  pub same : (chosen ≡ category) ⊎ ((a b : PluralCategory) → IsSameOuter f a b)
+-- the category is that of what is around the whole text, or this is the same for each category
+pub record HasOuterCategory (f : NumberFormatter) (v : Decimal) (chosen : PluralCategory) : Type 0 where
+  pub whole : PluralCategory
+  pub of_whole : (number : ScaledValue) → shown_number f v ≡ Some number
+      → IsCategoryAt f.rules (outer_operands f v number) whole
+  pub same : (chosen ≡ whole) ⊎ ((a b : PluralCategory) → outer_by f a ≡ outer_by f b)
+
+-- a formatted number is an end of a range, and has the category of what is around the whole text
+abbrev pub IsFormattedEnd : NumberFormatter → Decimal → FormattedNumber → Type 0
+IsFormattedEnd f v n =
+    (is : IsRangeEnd f v (end_of n)) × ((n.whole ≡ is.whole) ⊎ ((a b : PluralCategory) → outer_by f a ≡ outer_by f b))

@@ -8,7 +8,7 @@ use Rattle.plural_rules.specs.Operands as operands
 use Rattle.plural_rules.specs.declared.rules.PluralCategory.{PluralCategory}
 use Rattle.locale_data.specs.{declared.tables.rows.{compact.{AffixText.AffixText, CompactForm.{CompactForm, TheVariants.SignLast}, CompactPattern.CompactPattern}, patterns.{AffixPair.AffixPair, Pattern.Pattern, Piece.Piece}, ranges.{ApproximatelySign.ApproximatelySign, RangeFormat.RangeFormat, RangeSeparator.{RangeSeparator, TheVariants.{SpacedHyphen, SpacedEnDash}}}}, Patterns.affixes_of, PluralRanges.plural_range_category, Plurals.IsCategoryAt}
 use Rattle.locale_data.specs.RangeFormats as range_texts
-use Rattle.number_format.specs.{declared.{format.{affixes.StyleTexts.StyleTexts, formatter.NumberFormatter.NumberFormatter, text_part.PartKind.PartKind}, options.NumberNotation.NumberNotation, range.{common.BareTexts.BareTexts, form.RangeForm.{RangeForm, TheVariants.{Approximate, Common, Apart}}, range_texts.RangeTexts.RangeTexts}}, NumberStyles.{begins_with_currency, ends_with_currency}, NumberText.{around_by, compact_magnitude, compact_pattern, compact_pieces, compact_prefix, compact_style, compact_suffix, currency_if, exponent_of, first_sign, has_number, is_negative, is_one, is_plain, last_sign, number_part, shown_number, shown_sign, unit_by, whole_number}, PatternTexts.{Around, around, affix_pieces, literal, pattern_pieces, sign_pieces, space_if}, Scaled.ScaledValue, TextParts.{pieces_of, pieces_text}}
+use Rattle.number_format.specs.{declared.{format.{affixes.StyleTexts.StyleTexts, formatter.NumberFormatter.NumberFormatter, text_part.PartKind.PartKind}, options.NumberNotation.NumberNotation, range.{common.BareTexts.BareTexts, form.RangeForm.{RangeForm, TheVariants.{Approximate, Common, Apart}}, range_texts.RangeTexts.RangeTexts}}, NumberStyles.{begins_with_currency, ends_with_currency}, NumberText.{around_by, compact_magnitude, compact_pattern, compact_pieces, compact_prefix, compact_style, compact_suffix, currency_if, exponent_of, first_sign, has_number, is_negative, is_one, is_plain, last_sign, number_part, shown_number, shown_sign}, PatternTexts.{Around, around, affix_pieces, literal, pattern_pieces, sign_pieces, space_if}, RangeOuter.{outer_by, outer_operands, within}, Scaled.ScaledValue, TextParts.{pieces_of, pieces_text}}
 use Rattle.number_format.specs.TextParts as parts
 
 -- ---- The ends.
@@ -27,6 +27,8 @@ pub record IsRangeEnd (f : NumberFormatter) (v : Decimal) (n : RangeEnd) : Type 
   pub category : PluralCategory
   pub number_is : shown_number f v ≡ Some number
   pub of_significand : IsCategoryAt f.rules (operands.plain number.significand.absolute) category
+  pub whole : PluralCategory
+  pub of_whole : IsCategoryAt f.rules (outer_operands f v number) whole
   pub value : n ≡ record {
         formatter = f;
         digits = number.significand.absolute;
@@ -43,10 +45,6 @@ end_number n = number_part n.formatter n.digits (exponent_of n.formatter.options
 -- what is around an end
 abbrev pub end_around : RangeEnd → Around
 end_around n = around_by n.formatter.style n.sign n.pattern
-
--- a number between its affixes; some words of compact notation replace it
-abbrev pub pieces_between : Around → List parts.Piece → List parts.Piece
-pieces_between a number = a.prefix ++ ((if a.has_number then number else []) ++ a.suffix)
 
 -- ---- What the ends have in common.
 
@@ -196,13 +194,15 @@ approximate_around t a s (Some p) = if is_plain p.form then approximate_pattern 
 
 -- ---- The text.
 
--- the pieces of a range: those that are of neither end, before, between and after the two, and those of each end
+-- the pieces of a range, one after another
 pub record RangePieces : Type 0 where
-  pub before : List parts.Piece
+  pub prefix : List parts.Piece
+  pub outer_prefix : List parts.Piece
   pub start : List parts.Piece
-  pub separator : List parts.Piece
+  pub middle : List parts.Piece
   pub end : List parts.Piece
-  pub after : List parts.Piece
+  pub suffix : List parts.Piece
+  pub outer_suffix : List parts.Piece
 
 -- a range as it is shown; the category is that of what is around the whole text
 pub record ShownRange : Type 0 where
@@ -213,56 +213,66 @@ pub record ShownRange : Type 0 where
   pub spaced : Bool
   pub category : PluralCategory
 
--- what is around the whole text, as the sign of percent in compact notation
-abbrev pub outer_of : NumberFormatter → PluralCategory → Around
-outer_of f category = around (literal (unit_by f category).prefix) true (literal (unit_by f category).suffix)
+abbrev pub pieces_if : Bool → List parts.Piece → List parts.Piece
+pieces_if b pieces = if b then pieces else []
 
 -- one number, which is of neither end alone
 abbrev pub approximate_pieces : Around → Around → List parts.Piece → RangePieces
 approximate_pieces u a number = record {
-  before = u.prefix ++ (pieces_between a number ++ u.suffix);
+  prefix = [];
+  outer_prefix = u.prefix;
   start = [];
-  separator = [];
+  middle = pieces_if u.has_number (within a number);
   end = [];
-  after = [];
+  suffix = [];
+  outer_suffix = u.suffix;
 }
 
--- two numbers between affixes; what is around the whole text is within the prefix and beyond the suffix
+-- two numbers between affixes; what is around the whole text begins after the prefix
 abbrev pub common_pieces : Around → Around → List parts.Piece → List parts.Piece → List parts.Piece → RangePieces
-common_pieces u a start separator end =
-    let if_shown = λ (pieces : List parts.Piece). if a.has_number then pieces else [] in
-    record {
-      before = a.prefix ++ u.prefix;
-      start = if_shown start;
-      separator = if_shown separator;
-      end = if_shown end;
-      after = a.suffix ++ u.suffix;
-    }
+common_pieces u a start separator end = record {
+  prefix = a.prefix;
+  outer_prefix = u.prefix;
+  start = pieces_if (u.has_number && a.has_number) start;
+  middle = pieces_if (u.has_number && a.has_number) separator;
+  end = pieces_if (u.has_number && a.has_number) end;
+  suffix = pieces_if u.has_number a.suffix;
+  outer_suffix = u.suffix;
+}
 
 -- two numbers with affixes of their own
 abbrev pub apart_pieces : Around → List parts.Piece → List parts.Piece → List parts.Piece → RangePieces
-apart_pieces u start separator end =
-    record { before = u.prefix; start = start; separator = separator; end = end; after = u.suffix }
+apart_pieces u start separator end = record {
+  prefix = [];
+  outer_prefix = u.prefix;
+  start = pieces_if u.has_number start;
+  middle = pieces_if u.has_number separator;
+  end = pieces_if u.has_number end;
+  suffix = [];
+  outer_suffix = u.suffix;
+}
 
 abbrev pub pieces_by : RangeForm → ShownRange → RangePieces
 pieces_by Approximate r =
-    approximate_pieces (outer_of r.start.formatter r.category)
+    approximate_pieces (outer_by r.start.formatter r.category)
     (approximate_around r.start.formatter.style r.format.approximately r.start.sign r.start.pattern)
     (end_number r.start)
 pieces_by Common r =
-    common_pieces (outer_of r.start.formatter r.category) (end_around r.start) (end_number r.start)
+    common_pieces (outer_by r.start.formatter r.category) (end_around r.start) (end_number r.start)
     (separator_pieces r.format.separator r.spaced) (end_number r.end)
 pieces_by Apart r =
-    apart_pieces (outer_of r.start.formatter r.category) (pieces_between (end_around r.start) (end_number r.start))
-    (separator_pieces r.format.separator r.spaced) (pieces_between (end_around r.end) (end_number r.end))
+    apart_pieces (outer_by r.start.formatter r.category) (within (end_around r.start) (end_number r.start))
+    (separator_pieces r.format.separator r.spaced) (within (end_around r.end) (end_number r.end))
 
 abbrev pub range_pieces : ShownRange → RangePieces
 range_pieces r = pieces_by r.form r
 
 abbrev pub text_of_pieces : RangePieces → List ℕ
 text_of_pieces p =
-    pieces_text p.before
-    ++ (pieces_text p.start ++ (pieces_text p.separator ++ (pieces_text p.end ++ pieces_text p.after)))
+    pieces_text p.prefix
+    ++ (pieces_text p.outer_prefix
+    ++ (pieces_text p.start
+    ++ (pieces_text p.middle ++ (pieces_text p.end ++ (pieces_text p.suffix ++ pieces_text p.outer_suffix)))))
 
 -- the plural category of an approximate number is its own
 abbrev pub range_category : List ℕ → RangeForm → PluralCategory → PluralCategory → PluralCategory
@@ -280,22 +290,14 @@ range_by t form start end start_category end_category = record {
   category = range_category t.tag.now form start_category end_category;
 }
 
--- the same texts are around the whole text by two categories
-abbrev pub IsSameOuter : NumberFormatter → PluralCategory → PluralCategory → Type 0
-IsSameOuter f a b = unit_by f a ≡ unit_by f b
-
 -- the range of two numbers
 pub record IsRange (f : NumberFormatter) (t : RangeTexts) (v w : Decimal) (r : ShownRange) : Type 0 where
-  pub start_category : PluralCategory
-  pub end_category : PluralCategory
   pub start_is : IsRangeEnd f v r.start
   pub end_is : IsRangeEnd f w r.end
-  pub of_start : IsCategoryAt f.rules (operands.plain (whole_number f v)) start_category
-  pub of_end : IsCategoryAt f.rules (operands.plain (whole_number f w)) end_category
   pub form_is : r.form ≡ range_form v w r.start r.end
   pub format_is : r.format ≡ t.format
   pub spaced_is : r.spaced ≡ needs_spaces r.form r.start
-  pub outer_is : IsSameOuter f r.category (range_category t.tag.now r.form start_category end_category)
+  pub outer_is : outer_by f r.category ≡ outer_by f (range_category t.tag.now r.form start_is.whole end_is.whole)
 
 -- the text of the range of two numbers
 abbrev pub IsRangeText : NumberFormatter → RangeTexts → Decimal → Decimal → List ℕ → Type 0

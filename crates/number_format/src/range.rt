@@ -4,5 +4,6 @@ mod common;
 mod form;
 pub(crate) mod format_range;
 pub(crate) mod formatted_range;
+mod outer;
 pub(crate) mod range_texts;
 mod segment;

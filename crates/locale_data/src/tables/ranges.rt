@@ -1,7 +1,9 @@
 //! The texts of ranges of numbers.
 // Written by tools/locales/make_tables.py from data of CLDR 48; their license is tools/locales/LICENSE. Do not edit.
 use super::rows::TableRange;
-use super::rows::ranges::{ApproximatelySign, LocaleRange, RangeFormat, RangeSeparator, RangeSystem};
+use super::rows::ranges::{
+    ApproximatelySign, LocaleRange, RangeFormat, RangeSeparator, RangeSystem,
+};
 
 macro_rules! ranges {
     ($($tag:literal $separator:ident $approximately:ident;)*) => {

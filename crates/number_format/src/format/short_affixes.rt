@@ -22,7 +22,7 @@ impl<const CAP: usize> Model for ShortAffixes<CAP> {
     ghost view = { λ s. affixes s.prefix.bytes s.suffix.bytes };
 }
 
-fn joined<const CAP: usize>(parts: &[TextPart<'_>]) -> Option<ArrayString<CAP>>
+pub(crate) fn joined<const CAP: usize>(parts: &[TextPart<'_>]) -> Option<ArrayString<CAP>>
     ensures value { IfSome result (λ text. text.bytes ≡ parts_text parts.now) }
     ensures some { 255 * length parts.now ≤ CAP → IsSome result }
 {

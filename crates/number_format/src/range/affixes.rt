@@ -1,7 +1,7 @@
 //! What is written around a number of a range.
-ghost use Rattle.std.specs.{Prelude.{◌≡◌, ◌&&◌, ◌++◌, [], IfSome}, Option.option_copied};
-ghost use Rattle.locale_data.specs.{Compact.AreTexts, RangeFormats.sign_text};
-ghost use Rattle.number_format.specs.{FormattedRanges.AreRangeParts, NumberStyles.{begins_with_currency, ends_with_currency}, NumberText.{around_by, compact_around, compact_prefix, compact_suffix}, PatternTexts.{pattern_around, space_if}, RangeText.{approximately_pieces, approximate_piece, approximate_affixes, approximate_pattern, approximate_first, approximate_last, approximate_compact, approximate_around}, TextParts.{part_pieces, parts_pieces}};
+ghost use Rattle.std.specs.{Prelude.{◌≡◌, ◌&&◌, ◌++◌, IfSome}, Option.option_copied};
+ghost use Rattle.locale_data.specs.Compact.{AreTexts};
+ghost use Rattle.number_format.specs.{FormattedRanges.AreRangeParts, NumberStyles.begins_with_currency, NumberText.{around_by, compact_around}, PatternTexts.{affix_pieces, pattern_around, space_if}, RangeText.{approximately_pieces, approximate_piece, approximate_affixes, approximate_pattern, approximate_first, approximate_last, approximate_compact, approximate_around}, TextParts.{part_pieces, parts_pieces}};
 
 use crate::format::affixes::{StyleTexts, space_if};
 use crate::format::text_part::{PartKind, TextPart};
@@ -14,27 +14,12 @@ pub(crate) const NOTHING: TextPart<'static> = TextPart {
     text: "",
 };
 
-/// The parts before a prefix, between it and the number, and after a suffix.
-#[derive(Clone, Copy)]
-pub(crate) struct OuterParts<'f> {
-    pub(crate) first: TextPart<'f>,
-    pub(crate) inner: TextPart<'f>,
-    pub(crate) last: TextPart<'f>,
-}
-
-/// No other parts.
-pub(crate) const NO_OUTER: OuterParts<'static> = OuterParts {
-    first: NOTHING,
-    inner: NOTHING,
-    last: NOTHING,
-};
-
 /// The parts before and after a number.
 #[derive(Clone, Copy)]
 pub(crate) struct RangeAffixes<'f> {
-    pub(crate) prefix: [TextPart<'f>; 11],
+    pub(crate) prefix: [TextPart<'f>; 9],
     pub(crate) has_number: bool,
-    pub(crate) suffix: [TextPart<'f>; 10],
+    pub(crate) suffix: [TextPart<'f>; 9],
 }
 
 fn approximately_part(approximately: ApproximatelySign) -> TextPart<'static>
@@ -102,19 +87,17 @@ impl StyleTexts {
         }
     }
 
-    fn range_pattern<'f>(&'f self, sign: Sign, outer: OuterParts<'f>) -> RangeAffixes<'f>
-        ensures { AreRangeParts (pattern_around self.now sign) outer result }
+    fn range_pattern(&self, sign: Sign) -> RangeAffixes<'_>
+        ensures { AreRangeParts (pattern_around self.now sign) result }
     {
         let AffixPair { prefix, suffix } = self.pattern.affixes(sign);
         RangeAffixes {
             prefix: [
-                outer.first,
                 self.pattern_part(prefix.first),
                 self.pattern_part(prefix.second),
                 self.pattern_part(prefix.third),
                 self.pattern_part(prefix.fourth),
                 space_if(self.needs_space_after(prefix)),
-                outer.inner,
                 NOTHING,
                 NOTHING,
                 NOTHING,
@@ -127,7 +110,6 @@ impl StyleTexts {
                 self.pattern_part(suffix.second),
                 self.pattern_part(suffix.third),
                 self.pattern_part(suffix.fourth),
-                outer.last,
                 NOTHING,
                 NOTHING,
                 NOTHING,
@@ -136,14 +118,13 @@ impl StyleTexts {
         }
     }
 
-    fn range_compact<'f>(
-        &'f self,
+    fn range_compact(
+        &self,
         sign: Sign,
         pattern: &CompactPattern,
-        outer: OuterParts<'f>,
-    ) -> RangeAffixes<'f>
+    ) -> RangeAffixes<'_>
         requires { AreTexts pattern.now }
-        ensures { AreRangeParts (compact_around self.now sign pattern.now) outer result }
+        ensures { AreRangeParts (compact_around self.now sign pattern.now) result }
     {
         let CompactPattern {
             form,
@@ -153,14 +134,12 @@ impl StyleTexts {
         } = *pattern;
         RangeAffixes {
             prefix: [
-                outer.first,
                 self.first_sign(sign, form),
                 TextPart::new(PartKind::Compact, prefix.before_text()),
                 self.currency_if(prefix.has_currency),
                 TextPart::new(PartKind::Compact, prefix.after_text()),
                 space_if(self.space_after(&prefix)),
                 self.last_sign(sign, form),
-                outer.inner,
                 NOTHING,
                 NOTHING,
                 NOTHING,
@@ -171,7 +150,6 @@ impl StyleTexts {
                 TextPart::new(PartKind::Compact, suffix.before_text()),
                 self.currency_if(suffix.has_currency),
                 TextPart::new(PartKind::Compact, suffix.after_text()),
-                outer.last,
                 NOTHING,
                 NOTHING,
                 NOTHING,
@@ -182,30 +160,28 @@ impl StyleTexts {
     }
 
     /// Returns the parts around a number that is shown with a sign.
-    pub(crate) fn range_affixes<'f>(
-        &'f self,
+    pub(crate) fn range_affixes(
+        &self,
         sign: Sign,
         compact: Option<&CompactPattern>,
-        outer: OuterParts<'f>,
-    ) -> RangeAffixes<'f>
+    ) -> RangeAffixes<'_>
         requires { IfSome compact (λ pattern. AreTexts pattern.now) }
-        ensures { AreRangeParts (around_by self.now sign (option_copied compact.entry)) outer result }
+        ensures { AreRangeParts (around_by self.now sign (option_copied compact.entry)) result }
     {
         match compact {
             Some(pattern) if !matches!(pattern.form, CompactForm::Plain) => {
-                self.range_compact(sign, pattern, outer)
+                self.range_compact(sign, pattern)
             }
-            _ => self.range_pattern(sign, outer),
+            _ => self.range_pattern(sign),
         }
     }
 
-    fn approximate_pattern<'f>(
-        &'f self,
+    fn approximate_pattern(
+        &self,
         approximately: ApproximatelySign,
         sign: Sign,
-        outer: OuterParts<'f>,
-    ) -> RangeAffixes<'f>
-        ensures { AreRangeParts (approximate_pattern self.now approximately sign) outer result }
+    ) -> RangeAffixes<'_>
+        ensures { AreRangeParts (approximate_pattern self.now approximately sign) result }
     {
         let AffixPair { prefix, suffix } = self.approximate_pair(sign);
         let one = self.approximate_piece(approximately, sign, prefix.first);
@@ -214,7 +190,6 @@ impl StyleTexts {
         let four = self.approximate_piece(approximately, sign, prefix.fourth);
         let space = space_if(self.needs_space_after(prefix));
         let prefix = [
-            outer.first,
             one.0,
             one.1,
             two.0,
@@ -224,25 +199,23 @@ impl StyleTexts {
             four.0,
             four.1,
             space,
-            outer.inner,
         ];
         RangeAffixes {
             prefix,
             has_number: true,
-            suffix: self.approximate_suffix(approximately, sign, suffix, outer.last),
+            suffix: self.approximate_suffix(approximately, sign, suffix),
         }
     }
 
-    fn approximate_suffix<'f>(
-        &'f self,
+    fn approximate_suffix(
+        &self,
         approximately: ApproximatelySign,
         sign: Sign,
         suffix: Affix,
-        last: TextPart<'f>,
-    ) -> [TextPart<'f>; 10]
+    ) -> [TextPart<'_>; 9]
         ensures { parts_pieces result
-            ≡ (space_if (begins_with_currency suffix && self.now.currency.space_before)
-            ++ affix_pieces (approximate_piece self.now approximately sign) suffix) ++ part_pieces last }
+            ≡ space_if (begins_with_currency suffix && self.now.currency.space_before)
+            ++ affix_pieces (approximate_piece self.now approximately sign) suffix }
     {
         let one = self.approximate_piece(approximately, sign, suffix.first);
         let two = self.approximate_piece(approximately, sign, suffix.second);
@@ -250,19 +223,18 @@ impl StyleTexts {
         let four = self.approximate_piece(approximately, sign, suffix.fourth);
         let space = space_if(self.needs_space_before(suffix));
         [
-            space, one.0, one.1, two.0, two.1, three.0, three.1, four.0, four.1, last,
+            space, one.0, one.1, two.0, two.1, three.0, three.1, four.0, four.1,
         ]
     }
 
-    fn approximate_compact<'f>(
-        &'f self,
+    fn approximate_compact(
+        &self,
         approximately: ApproximatelySign,
         sign: Sign,
         pattern: &CompactPattern,
-        outer: OuterParts<'f>,
-    ) -> RangeAffixes<'f>
+    ) -> RangeAffixes<'_>
         requires { AreTexts pattern.now }
-        ensures { AreRangeParts (approximate_compact self.now approximately sign pattern.now) outer result }
+        ensures { AreRangeParts (approximate_compact self.now approximately sign pattern.now) result }
     {
         let CompactPattern {
             form,
@@ -274,7 +246,6 @@ impl StyleTexts {
         let last = self.approximate_last(approximately, sign, form);
         RangeAffixes {
             prefix: [
-                outer.first,
                 first.0,
                 first.1,
                 TextPart::new(PartKind::Compact, prefix.before_text()),
@@ -283,7 +254,6 @@ impl StyleTexts {
                 space_if(self.space_after(&prefix)),
                 last.0,
                 last.1,
-                outer.inner,
                 NOTHING,
             ],
             has_number: !matches!(form, CompactForm::Literal),
@@ -292,7 +262,6 @@ impl StyleTexts {
                 TextPart::new(PartKind::Compact, suffix.before_text()),
                 self.currency_if(suffix.has_currency),
                 TextPart::new(PartKind::Compact, suffix.after_text()),
-                outer.last,
                 NOTHING,
                 NOTHING,
                 NOTHING,
@@ -303,22 +272,21 @@ impl StyleTexts {
     }
 
     /// Returns the parts around a number, with an approximately sign.
-    pub(crate) fn approximate_affixes<'f>(
-        &'f self,
+    pub(crate) fn approximate_affixes(
+        &self,
         approximately: ApproximatelySign,
         sign: Sign,
         compact: Option<&CompactPattern>,
-        outer: OuterParts<'f>,
-    ) -> RangeAffixes<'f>
+    ) -> RangeAffixes<'_>
         requires { IfSome compact (λ pattern. AreTexts pattern.now) }
         ensures { AreRangeParts (approximate_around self.now approximately sign (option_copied compact.entry))
-            outer result }
+            result }
     {
         match compact {
             Some(pattern) if !matches!(pattern.form, CompactForm::Plain) => {
-                self.approximate_compact(approximately, sign, pattern, outer)
+                self.approximate_compact(approximately, sign, pattern)
             }
-            _ => self.approximate_pattern(approximately, sign, outer),
+            _ => self.approximate_pattern(approximately, sign),
         }
     }
 }

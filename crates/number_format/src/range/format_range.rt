@@ -2,7 +2,7 @@
 ghost use Rattle.std.specs.Prelude.{◌≡◌, ◌⊎◌, None, IfOk, IfErr};
 ghost use Rattle.decimal_unsigned.specs.declared.decimal.TheConstants.{INLINE_DIGITS};
 ghost use Rattle.fixed_decimal.specs.DecimalText.{IsLong};
-ghost use Rattle.number_format.specs.{FormattedRanges.{ChoosesOuter, end_of, formatted_range_text, shown_range}, NumberText.{shown_number, is_negative, FormattingNeedsMemory, WholeNeedsMemory}, RangeText.{are_equal, have_same_sign, range_by, range_category, IsRangeEnd, IsRange, IsRangeText}};
+ghost use Rattle.number_format.specs.{FormattedRanges.{HasOuterCategory, IsFormattedEnd, end_of, formatted_range_text, shown_range}, NumberText.{shown_number, is_negative, FormattingNeedsMemory, WholeNeedsMemory}, RangeText.{are_equal, have_same_sign, range_by, range_category, IsRange, IsRangeText}};
 
 use crate::format::format_number::FormatError;
 use crate::format::formatted_number::{FormattedNumber, displayed_sign};
@@ -79,9 +79,9 @@ fn range_by<'f>(
 }
 
 impl NumberFormatter {
-    /// Returns the plural category of what is around the whole text; any, where that does not depend on it.
-    fn outer_category(&self, value: &Decimal) -> Result<PluralCategory, RoundError>
-        ensures ok { IfOk result (ChoosesOuter self.now value.now) }
+    /// Returns the plural category of what is around the whole text; any, where this does not depend on it.
+    fn range_outer_category(&self, value: &Decimal) -> Result<PluralCategory, RoundError>
+        ensures ok { IfOk result (HasOuterCategory self.now value.now) }
         ensures err { IfErr result (λ e. (e ≡ RoundError.Memory) × WholeNeedsMemory self.now value.now) }
     {
         match (self.options.compact_style(), self.options.style) {
@@ -95,13 +95,12 @@ impl NumberFormatter {
         alloc: Global,
         mut value: Decimal,
     ) -> Result<FormattedNumber<'_>, FormatError>
-        ensures end { IfOk result (λ n. IsRangeEnd self.now value (end_of n)) }
-        ensures outer { IfOk result (λ n. ChoosesOuter self.now value n.whole) }
+        ensures end { IfOk result (IsFormattedEnd self.now value) }
         ensures unchanged { IfErr result (λ e. e.value ≡ value) }
         ensures limit { IfErr result (λ e. e.error ≡ RoundError.Limit → shown_number self.now value ≡ None) }
         ensures memory { IfErr result (λ e. e.error ≡ RoundError.Memory → FormattingNeedsMemory self.now value) }
     {
-        let whole = match self.outer_category(&value) {
+        let whole = match self.range_outer_category(&value) {
             Ok(whole) => whole,
             Err(error) => return Err(FormatError { error, value }),
         };

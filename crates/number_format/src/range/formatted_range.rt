@@ -1,20 +1,17 @@
 //! A range of two numbers as a locale writes it.
 ghost use Rattle.std.specs.{Prelude.{◌≡◌, ◌≤◌, length, Some, OnOk, OnErr, true}, Fmt.WritesStyledOnOk, Io.KnownBytes.Appends};
 ghost use Rattle.decimal_digits.specs.AppendsPrefix.{AppendsPrefix};
-ghost use Rattle.decimal_format.specs.Symbols.{affixes};
-ghost use Rattle.number_format.specs.{FormattedNumbers.{around_of, pattern_of}, FormattedRanges.{HasAffixes, HasCommonAffixes, formatted_range_pieces, formatted_range_text, pieces_in, segment_pieces, segment_text, shown_range, source_of}, NumberText.unit_by, RangeText.{approximate_around, outer_of, pieces_by}, TextParts.{Puts, PutsPrefix, part_pieces, pieces_text}};
+ghost use Rattle.number_format.specs.{FormattedNumbers.{around_of, pattern_of}, FormattedRanges.{AreRangeParts, end_of, formatted_range_pieces, formatted_range_text, inner_pieces, pieces_in, segment_pieces, segment_text, shown_range, source_of}, RangeOuter.{outer_by, within, IsOuter}, RangeText.{approximate_around, end_number, pieces_by}, TextParts.{Puts, PutsPrefix, pieces_text}};
 ghost use Rattle.number_format.specs.declared.range.form.RangeForm.TheVariants as form;
 
-use crate::format::affixes::NO_UNIT;
 use crate::format::formatted_number::FormattedNumber;
 use crate::format::parts::PartSink;
-use crate::format::text_part::{PartKind, TextPart};
-use crate::options::NumberStyle;
-use crate::range::affixes::{NOTHING, OuterParts, RangeAffixes};
+use crate::range::affixes::RangeAffixes;
 use crate::range::form::RangeForm;
-use crate::range::segment::Segment;
+use crate::range::outer::OuterAround;
+use crate::range::segment::{InnerSegment, Segment};
 use fixed_decimal::{Sink, SinkFault, Writeable};
-use locale_data::{RangeFormat, UnitAffixes};
+use locale_data::RangeFormat;
 use plural_rules::PluralCategory;
 use std::fmt;
 
@@ -32,26 +29,32 @@ pub enum RangeSource {
 /// A segment of the text of a range. The text is that of the segments, in this order; a segment may be empty.
 #[derive(Clone, Copy, Debug, PartialEq)]
 pub enum RangeSegment {
-    /// What is before the two numbers, or an approximate number.
-    Before,
-    /// The first number.
+    /// What is before both numbers.
+    Prefix,
+    /// The text of a unit before the numbers.
+    OuterPrefix,
+    /// The first number, with what is around it alone.
     Start,
-    /// What is between the two numbers.
-    Separator,
-    /// The second number.
+    /// The separator; or an approximate number, instead of two numbers.
+    Middle,
+    /// The second number, with what is around it alone.
     End,
-    /// What is after the two numbers.
-    After,
+    /// What is after both numbers.
+    Suffix,
+    /// The text of a unit after the numbers.
+    OuterSuffix,
 }
 
 impl RangeSegment {
     /// The segments, in the order of the text.
-    pub const ALL: [RangeSegment; 5] = [
-        RangeSegment::Before,
+    pub const ALL: [RangeSegment; 7] = [
+        RangeSegment::Prefix,
+        RangeSegment::OuterPrefix,
         RangeSegment::Start,
-        RangeSegment::Separator,
+        RangeSegment::Middle,
         RangeSegment::End,
-        RangeSegment::After,
+        RangeSegment::Suffix,
+        RangeSegment::OuterSuffix,
     ];
 
     /// Returns to which number the parts of a segment belong.
@@ -95,112 +98,85 @@ impl<'f> Drop for FormattedRange<'f> {
 }
 
 impl<'f> FormattedRange<'f> {
-    fn unit(&self) -> UnitAffixes
-        ensures value { affixes result.prefix.now result.suffix.now
-            ≡ unit_by self.now.start.formatter.now self.now.category }
-        ensures short { (length result.prefix.now ≤ 255) × (length result.suffix.now ≤ 255) }
+    fn outer(&self) -> OuterAround<'_>
+        ensures { IsOuter (outer_by self.now.start.formatter.now self.now.category) result }
     {
-        let formatter = self.start.formatter;
-        match (formatter.options.compact_style(), formatter.options.style) {
-            (Some(_), NumberStyle::Percent) => formatter.formats.percent_unit(self.category),
-            (Some(_), NumberStyle::Permille) => UnitAffixes {
-                prefix: "",
-                suffix: "\u{2030}",
-            },
-            _ => NO_UNIT,
-        }
+        self.start.formatter.outer_around(self.category)
     }
 
-    fn outer_prefix(&self) -> TextPart<'_>
-        ensures { part_pieces result ≡ (outer_of self.now.start.formatter.now self.now.category).prefix }
-    {
-        TextPart::new(PartKind::Literal, self.unit().prefix)
-    }
-
-    fn outer_suffix(&self) -> TextPart<'_>
-        ensures { part_pieces result ≡ (outer_of self.now.start.formatter.now self.now.category).suffix }
-    {
-        TextPart::new(PartKind::Literal, self.unit().suffix)
-    }
-
-    fn approximate_affixes(&self) -> RangeAffixes<'_>
-        ensures { HasAffixes (outer_of self.now.start.formatter.now self.now.category)
+    fn approximate_number(&self) -> InnerSegment<'_, 'f>
+        ensures { inner_pieces result ≡ within
             (approximate_around self.now.start.formatter.now.style self.now.format.approximately
-            self.now.start.value.sign (pattern_of self.now.start)) result }
+            self.now.start.value.sign (pattern_of self.now.start)) (end_number (end_of self.now.start)) }
     {
         let start = &self.start;
-        let outer = OuterParts {
-            first: self.outer_prefix(),
-            inner: NOTHING,
-            last: self.outer_suffix(),
-        };
-        start.formatter.style.approximate_affixes(
-            self.format.approximately,
-            start.value.sign,
-            start.compact_pattern(),
-            outer,
-        )
+        let style = &start.formatter.style;
+        let approximately = self.format.approximately;
+        let pattern = start.compact_pattern();
+        let affixes = style.approximate_affixes(approximately, start.value.sign, pattern);
+        InnerSegment {
+            prefix: affixes.prefix,
+            number: start,
+            has_number: affixes.has_number,
+            suffix: affixes.suffix,
+        }
     }
 
     fn approximate_segment(&self, segment: RangeSegment) -> Segment<'_, 'f>
         ensures { segment_pieces result ≡ pieces_in (pieces_by form.Approximate (shown_range self.now)) segment }
     {
+        let outer = self.outer();
         match segment {
-            RangeSegment::Before => {
-                let affixes = self.approximate_affixes();
-                Segment {
-                    prefix: affixes.prefix,
-                    number: &self.start,
-                    has_number: affixes.has_number,
-                    suffix: affixes.suffix,
-                }
-            }
+            RangeSegment::OuterPrefix => Segment::Outer(outer.kind, outer.before),
+            RangeSegment::Middle if outer.has_number => Segment::Inner(self.approximate_number()),
+            RangeSegment::OuterSuffix => Segment::Outer(outer.kind, outer.after),
             _ => Segment::empty(&self.start),
         }
     }
 
     fn common_affixes(&self) -> RangeAffixes<'_>
-        ensures { HasCommonAffixes (outer_of self.now.start.formatter.now self.now.category)
-            (around_of self.now.start) result }
+        ensures { AreRangeParts (around_of self.now.start) result }
     {
         let start = &self.start;
-        let outer = OuterParts {
-            first: NOTHING,
-            inner: self.outer_prefix(),
-            last: self.outer_suffix(),
-        };
         let style = &start.formatter.style;
-        style.range_affixes(start.value.sign, start.compact_pattern(), outer)
+        style.range_affixes(start.value.sign, start.compact_pattern())
     }
 
     fn common_segment(&self, segment: RangeSegment) -> Segment<'_, 'f>
         ensures { segment_pieces result ≡ pieces_in (pieces_by form.Common (shown_range self.now)) segment }
     {
+        let outer = self.outer();
         let affixes = self.common_affixes();
-        let separator = self.format.separator;
+        let has_number = outer.has_number && affixes.has_number;
+        let start = &self.start;
         match segment {
-            RangeSegment::Before => Segment::prefix(&self.start, affixes.prefix),
-            RangeSegment::Start => Segment::number(&self.start, affixes.has_number),
-            RangeSegment::Separator => {
-                Segment::separator(&self.start, separator, self.spaced, affixes.has_number)
+            RangeSegment::Prefix => Segment::parts_if(start, affixes.prefix, true),
+            RangeSegment::OuterPrefix => Segment::Outer(outer.kind, outer.before),
+            RangeSegment::Start => Segment::number_if(start, has_number),
+            RangeSegment::Middle => {
+                Segment::separator_if(start, self.format.separator, self.spaced, has_number)
             }
-            RangeSegment::End => Segment::number(&self.end, affixes.has_number),
-            RangeSegment::After => Segment::suffix(&self.start, affixes.suffix),
+            RangeSegment::End => Segment::number_if(&self.end, has_number),
+            RangeSegment::Suffix => Segment::parts_if(start, affixes.suffix, outer.has_number),
+            RangeSegment::OuterSuffix => Segment::Outer(outer.kind, outer.after),
         }
     }
 
     fn apart_segment(&self, segment: RangeSegment) -> Segment<'_, 'f>
         ensures { segment_pieces result ≡ pieces_in (pieces_by form.Apart (shown_range self.now)) segment }
     {
-        let separator = self.format.separator;
+        let outer = self.outer();
+        let start = &self.start;
         match segment {
-            RangeSegment::Before => Segment::part(&self.start, self.outer_prefix()),
-            RangeSegment::Start => Segment::whole(&self.start),
-            RangeSegment::Separator => {
-                Segment::separator(&self.start, separator, self.spaced, true)
+            RangeSegment::OuterPrefix => Segment::Outer(outer.kind, outer.before),
+            RangeSegment::Start => Segment::whole_if(start, outer.has_number),
+            RangeSegment::Middle => {
+                let separator = self.format.separator;
+                Segment::separator_if(start, separator, self.spaced, outer.has_number)
             }
-            RangeSegment::End => Segment::whole(&self.end),
-            RangeSegment::After => Segment::part(&self.start, self.outer_suffix()),
+            RangeSegment::End => Segment::whole_if(&self.end, outer.has_number),
+            RangeSegment::OuterSuffix => Segment::Outer(outer.kind, outer.after),
+            RangeSegment::Prefix | RangeSegment::Suffix => Segment::empty(start),
         }
     }
 
@@ -217,7 +193,7 @@ impl<'f> FormattedRange<'f> {
 
     fn segment_length(&self, segment: RangeSegment) -> usize
         ensures value { result ≡ length (pieces_text (formatted_range_pieces self.now segment)) }
-        ensures at_most { result ≤ 17242343 }
+        ensures at_most { result ≤ 17241578 }
     {
         self.segment(segment).length()
     }
@@ -257,7 +233,7 @@ impl<'f> FormattedRange<'f> {
     ///
     /// ```
     /// for segment in RangeSegment::ALL {
-    ///     range.parts(segment, &mut sink)?; // of `1–2`: none, integer, literal, integer, none
+    ///     range.parts(segment, &mut sink)?; // of `1–2`: integer, literal, integer
     /// }
     /// ```
     pub fn parts<P: PartSink>(
@@ -287,20 +263,24 @@ impl<'f> Writeable for FormattedRange<'f> {
         if sink.failed() {
             return Err(SinkFault);
         }
-        self.write_segment(RangeSegment::Before, sink)?;
+        self.write_segment(RangeSegment::Prefix, sink)?;
+        self.write_segment(RangeSegment::OuterPrefix, sink)?;
         self.write_segment(RangeSegment::Start, sink)?;
-        self.write_segment(RangeSegment::Separator, sink)?;
+        self.write_segment(RangeSegment::Middle, sink)?;
         self.write_segment(RangeSegment::End, sink)?;
-        self.write_segment(RangeSegment::After, sink)
+        self.write_segment(RangeSegment::Suffix, sink)?;
+        self.write_segment(RangeSegment::OuterSuffix, sink)
     }
 
     /// Returns the exact number of bytes of the text.
     fn writeable_length_hint(&self) -> usize {
-        self.segment_length(RangeSegment::Before)
+        self.segment_length(RangeSegment::Prefix)
+            + self.segment_length(RangeSegment::OuterPrefix)
             + self.segment_length(RangeSegment::Start)
-            + self.segment_length(RangeSegment::Separator)
+            + self.segment_length(RangeSegment::Middle)
             + self.segment_length(RangeSegment::End)
-            + self.segment_length(RangeSegment::After)
+            + self.segment_length(RangeSegment::Suffix)
+            + self.segment_length(RangeSegment::OuterSuffix)
     }
 }
 
@@ -315,10 +295,12 @@ impl<'f> fmt::Display for FormattedRange<'f> {
     ///
     /// The formatter fails.
     fn fmt<W: fmt::Write>(&self, f: &mut fmt::Formatter<W>) -> fmt::Result {
-        self.fmt_segment(RangeSegment::Before, f)?;
+        self.fmt_segment(RangeSegment::Prefix, f)?;
+        self.fmt_segment(RangeSegment::OuterPrefix, f)?;
         self.fmt_segment(RangeSegment::Start, f)?;
-        self.fmt_segment(RangeSegment::Separator, f)?;
+        self.fmt_segment(RangeSegment::Middle, f)?;
         self.fmt_segment(RangeSegment::End, f)?;
-        self.fmt_segment(RangeSegment::After, f)
+        self.fmt_segment(RangeSegment::Suffix, f)?;
+        self.fmt_segment(RangeSegment::OuterSuffix, f)
     }
 }

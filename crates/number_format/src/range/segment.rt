@@ -1,35 +1,41 @@
-//! A segment of the text of a range: parts, a number, and parts.
+//! Segments of the text of a range.
 ghost use Rattle.std.specs.{Prelude.{◌≡◌, ◌≤◌, [], ◌∷◌, length, OnOk, OnErr, true, if◌then◌else◌}, Fmt.WritesStyledOnOk, Io.KnownBytes.Appends};
 ghost use Rattle.decimal_digits.specs.AppendsPrefix.{AppendsPrefix};
-ghost use Rattle.number_format.specs.{FormattedNumbers.number_pieces_if, FormattedRanges.{end_of, segment_pieces, segment_text}, PatternTexts.literal, RangeText.{end_around, end_number, has_spaces, pieces_between, separator_pieces}, TextParts.{part_pieces, parts_pieces, Puts, PutsPrefix}};
+ghost use Rattle.number_format.specs.{FormattedNumbers.number_pieces_if, FormattedRanges.{end_of, inner_pieces, inner_text, segment_pieces, segment_text}, PatternTexts.literal, RangeOuter.within, RangeText.{end_around, end_number, has_spaces, pieces_if, separator_pieces}, TextParts.{part_pieces, parts_pieces, parts_text, pieces_of, Puts, PutsPrefix}};
 
 use crate::format::formatted_number::FormattedNumber;
 use crate::format::parts::{PartSink, fmt_parts, parts_length, put_parts, write_parts};
 use crate::format::text_part::{PartKind, TextPart};
-use crate::range::affixes::{NO_OUTER, NOTHING};
+use crate::range::affixes::NOTHING;
+use crate::range::outer::put_outer;
 use fixed_decimal::{Sink, SinkFault};
 use locale_data::RangeSeparator;
 use std::fmt;
 
-/// A segment of the text of a range.
+/// Parts, a number, and parts.
 #[derive(Clone, Copy)]
-pub(crate) struct Segment<'r, 'f> {
-    pub(crate) prefix: [TextPart<'r>; 11],
+pub(crate) struct InnerSegment<'r, 'f> {
+    pub(crate) prefix: [TextPart<'r>; 9],
     pub(crate) number: &'r FormattedNumber<'f>,
     pub(crate) has_number: bool,
-    pub(crate) suffix: [TextPart<'r>; 10],
+    pub(crate) suffix: [TextPart<'r>; 9],
 }
 
-fn no_prefix() -> [TextPart<'static>; 11]
-    ensures { parts_pieces result ≡ [] }
-{
-    [NOTHING; 11]
+/// A segment of the text of a range.
+#[derive(Clone, Copy)]
+pub(crate) enum Segment<'r, 'f> {
+    /// Texts of one kind.
+    Outer(PartKind, [TextPart<'r>; 4]),
+    /// A number, and what is around it.
+    Inner(InnerSegment<'r, 'f>),
 }
 
-fn no_suffix() -> [TextPart<'static>; 10]
+fn no_parts() -> [TextPart<'static>; 9]
     ensures { parts_pieces result ≡ [] }
 {
-    [NOTHING; 10]
+    [
+        NOTHING, NOTHING, NOTHING, NOTHING, NOTHING, NOTHING, NOTHING, NOTHING, NOTHING,
+    ]
 }
 
 fn has_spaces(separator: RangeSeparator) -> bool
@@ -48,81 +54,47 @@ fn space_if(needed: bool) -> TextPart<'static>
 }
 
 /// Returns a separator, with spaces beside it if it needs them and has none.
-fn separator_parts(separator: RangeSeparator, needs_spaces: bool) -> [TextPart<'static>; 11]
+fn separator_parts(separator: RangeSeparator, needs_spaces: bool) -> [TextPart<'static>; 9]
     ensures { parts_pieces result ≡ separator_pieces separator needs_spaces }
 {
     let space = space_if(needs_spaces && !has_spaces(separator));
     let text = TextPart::new(PartKind::Literal, separator.text());
     [
-        space, text, space, NOTHING, NOTHING, NOTHING, NOTHING, NOTHING, NOTHING, NOTHING, NOTHING,
+        space, text, space, NOTHING, NOTHING, NOTHING, NOTHING, NOTHING, NOTHING,
     ]
 }
 
-impl<'r, 'f> Segment<'r, 'f> {
-    /// Returns a segment without pieces.
-    pub(crate) fn empty(number: &'r FormattedNumber<'f>) -> Self
-        ensures { segment_pieces result ≡ [] }
+impl<'r, 'f> InnerSegment<'r, 'f> {
+    /// Returns the segment of a number alone, or one without pieces.
+    fn number_if(number: &'r FormattedNumber<'f>, has_number: bool) -> Self
+        ensures { inner_pieces result ≡ number_pieces_if number.now has_number }
     {
-        Self::number(number, false)
-    }
-
-    /// Returns the segment of a number alone.
-    pub(crate) fn number(number: &'r FormattedNumber<'f>, has_number: bool) -> Self
-        ensures { segment_pieces result ≡ number_pieces_if number.now has_number }
-    {
-        Segment {
-            prefix: no_prefix(),
+        InnerSegment {
+            prefix: no_parts(),
             number,
             has_number,
-            suffix: no_suffix(),
+            suffix: no_parts(),
         }
     }
 
-    /// Returns the segment of parts alone.
-    pub(crate) fn prefix(number: &'r FormattedNumber<'f>, prefix: [TextPart<'r>; 11]) -> Self
-        ensures { segment_pieces result ≡ parts_pieces prefix }
+    fn of_parts(number: &'r FormattedNumber<'f>, prefix: [TextPart<'r>; 9]) -> Self
+        ensures { inner_pieces result ≡ parts_pieces prefix }
     {
-        Segment {
+        InnerSegment {
             prefix,
             number,
             has_number: false,
-            suffix: no_suffix(),
+            suffix: no_parts(),
         }
     }
 
-    /// Returns the segment of parts alone.
-    pub(crate) fn suffix(number: &'r FormattedNumber<'f>, suffix: [TextPart<'r>; 10]) -> Self
-        ensures { segment_pieces result ≡ parts_pieces suffix }
-    {
-        Segment {
-            prefix: no_prefix(),
-            number,
-            has_number: false,
-            suffix,
-        }
-    }
-
-    /// Returns the segment of a part alone.
-    pub(crate) fn part(number: &'r FormattedNumber<'f>, part: TextPart<'r>) -> Self
-        ensures { segment_pieces result ≡ part_pieces part }
-    {
-        Self::suffix(
-            number,
-            [
-                part, NOTHING, NOTHING, NOTHING, NOTHING, NOTHING, NOTHING, NOTHING, NOTHING,
-                NOTHING,
-            ],
-        )
-    }
-
-    /// Returns the segment of a number between its affixes.
-    pub(crate) fn whole(number: &'r FormattedNumber<'f>) -> Self
-        ensures { segment_pieces result
-            ≡ pieces_between (end_around (end_of number.now)) (end_number (end_of number.now)) }
+    fn whole(number: &'r FormattedNumber<'f>) -> Self
+        ensures { inner_pieces result
+            ≡ within (end_around (end_of number.now)) (end_number (end_of number.now)) }
     {
         let style = &number.formatter.style;
-        let affixes = style.range_affixes(number.value.sign, number.compact_pattern(), NO_OUTER);
-        Segment {
+        let affixes = style.range_affixes(number.value.sign, number.compact_pattern());
+        InnerSegment {
             prefix: affixes.prefix,
             number,
             has_number: affixes.has_number,
@@ -130,28 +102,10 @@ impl<'r, 'f> Segment<'r, 'f> {
         }
     }
 
-    /// Returns the segment of a separator, or one without pieces.
-    pub(crate) fn separator(
-        number: &'r FormattedNumber<'f>,
-        separator: RangeSeparator,
-        needs_spaces: bool,
-        has_number: bool,
-    ) -> Self
-        ensures { segment_pieces result
-            ≡ (if has_number then separator_pieces separator needs_spaces else []) }
-    {
-        if has_number {
-            Self::prefix(number, separator_parts(separator, needs_spaces))
-        } else {
-            Self::empty(number)
-        }
-    }
-
-    /// Appends the text.
-    pub(crate) fn write<W: Sink>(&self, sink: &mut W) -> Result<(), SinkFault>
-        ensures ok { OnOk result (Appends (W.contents sink.old) (W.contents sink.new) (segment_text self.now)) }
+    fn write<W: Sink>(&self, sink: &mut W) -> Result<(), SinkFault>
+        ensures ok { OnOk result (Appends (W.contents sink.old) (W.contents sink.new) (inner_text self.now)) }
         ensures err { OnErr result
-            (AppendsPrefix (W.contents sink.old) (W.contents sink.new) (segment_text self.now)) }
+            (AppendsPrefix (W.contents sink.old) (W.contents sink.new) (inner_text self.now)) }
         ensures failed { OnErr result (W.has_failed sink.new ≡ true) }
     {
         write_parts(&self.prefix, sink)?;
@@ -159,19 +113,17 @@ impl<'r, 'f> Segment<'r, 'f> {
         write_parts(&self.suffix, sink)
     }
 
-    /// Writes the text.
-    pub(crate) fn fmt<W: fmt::Write>(&self, f: &mut fmt::Formatter<W>) -> fmt::Result
-        ensures { WritesStyledOnOk W.write_str_gives f.old result (segment_text self.now) f.new }
+    fn fmt<W: fmt::Write>(&self, f: &mut fmt::Formatter<W>) -> fmt::Result
+        ensures { WritesStyledOnOk W.write_str_gives f.old result (inner_text self.now) f.new }
     {
         fmt_parts(&self.prefix, f)?;
         self.number.fmt_number_if(self.has_number, f)?;
         fmt_parts(&self.suffix, f)
     }
 
-    /// Returns the number of bytes of the text.
-    pub(crate) fn length(&self) -> usize
-        ensures value { result ≡ length (segment_text self.now) }
-        ensures at_most { result ≤ 17242343 }
+    fn length(&self) -> usize
+        ensures value { result ≡ length (inner_text self.now) }
+        ensures at_most { result ≤ 17241578 }
     {
         let number = if self.has_number {
             self.number.number_length()
@@ -181,14 +133,114 @@ impl<'r, 'f> Segment<'r, 'f> {
         parts_length(&self.prefix) + number + parts_length(&self.suffix)
     }
 
+    fn put<P: PartSink>(&self, sink: &mut P) -> Result<(), SinkFault>
+        ensures ok { OnOk result (Puts (P.pieces sink.old) (P.pieces sink.new) (inner_pieces self.now)) }
+        ensures err { OnErr result (PutsPrefix (P.pieces sink.old) (P.pieces sink.new) (inner_pieces self.now)) }
+        ensures failed { OnErr result (P.has_failed sink.new ≡ true) }
+    {
+        put_parts(sink, &self.prefix)?;
+        self.number.put_number_if(self.has_number, sink)?;
+        put_parts(sink, &self.suffix)
+    }
+}
+
+impl<'r, 'f> Segment<'r, 'f> {
+    /// Returns a segment without pieces.
+    pub(crate) fn empty(number: &'r FormattedNumber<'f>) -> Self
+        ensures { segment_pieces result ≡ [] }
+    {
+        Segment::Inner(InnerSegment::number_if(number, false))
+    }
+
+    /// Returns the segment of a number alone, or one without pieces.
+    pub(crate) fn number_if(number: &'r FormattedNumber<'f>, has_number: bool) -> Self
+        ensures { segment_pieces result ≡ pieces_if has_number (end_number (end_of number.now)) }
+    {
+        Segment::Inner(InnerSegment::number_if(number, has_number))
+    }
+
+    /// Returns the segment of parts, or one without pieces.
+    pub(crate) fn parts_if(
+        number: &'r FormattedNumber<'f>,
+        parts: [TextPart<'r>; 9],
+        shown: bool,
+    ) -> Self
+        ensures { segment_pieces result ≡ pieces_if shown (parts_pieces parts) }
+    {
+        if shown {
+            Segment::Inner(InnerSegment::of_parts(number, parts))
+        } else {
+            Self::empty(number)
+        }
+    }
+
+    /// Returns the segment of a number between its affixes, or one without pieces.
+    pub(crate) fn whole_if(number: &'r FormattedNumber<'f>, shown: bool) -> Self
+        ensures { segment_pieces result ≡ pieces_if shown
+            (within (end_around (end_of number.now)) (end_number (end_of number.now))) }
+    {
+        if shown {
+            Segment::Inner(InnerSegment::whole(number))
+        } else {
+            Self::empty(number)
+        }
+    }
+
+    /// Returns the segment of a separator, or one without pieces.
+    pub(crate) fn separator_if(
+        number: &'r FormattedNumber<'f>,
+        separator: RangeSeparator,
+        needs_spaces: bool,
+        shown: bool,
+    ) -> Self
+        ensures { segment_pieces result ≡ pieces_if shown (separator_pieces separator needs_spaces) }
+    {
+        Self::parts_if(number, separator_parts(separator, needs_spaces), shown)
+    }
+
+    /// Appends the text.
+    pub(crate) fn write<W: Sink>(&self, sink: &mut W) -> Result<(), SinkFault>
+        ensures ok { OnOk result (Appends (W.contents sink.old) (W.contents sink.new) (segment_text self.now)) }
+        ensures err { OnErr result
+            (AppendsPrefix (W.contents sink.old) (W.contents sink.new) (segment_text self.now)) }
+        ensures failed { OnErr result (W.has_failed sink.new ≡ true) }
+    {
+        match self {
+            Segment::Outer(_, texts) => write_parts(texts, sink),
+            Segment::Inner(inner) => inner.write(sink),
+        }
+    }
+
+    /// Writes the text.
+    pub(crate) fn fmt<W: fmt::Write>(&self, f: &mut fmt::Formatter<W>) -> fmt::Result
+        ensures { WritesStyledOnOk W.write_str_gives f.old result (segment_text self.now) f.new }
+    {
+        match self {
+            Segment::Outer(_, texts) => fmt_parts(texts, f),
+            Segment::Inner(inner) => inner.fmt(f),
+        }
+    }
+
+    /// Returns the number of bytes of the text.
+    pub(crate) fn length(&self) -> usize
+        ensures value { result ≡ length (segment_text self.now) }
+        ensures at_most { result ≤ 17241578 }
+    {
+        match self {
+            Segment::Outer(_, texts) => parts_length(texts),
+            Segment::Inner(inner) => inner.length(),
+        }
+    }
+
     /// Puts the pieces.
     pub(crate) fn put<P: PartSink>(&self, sink: &mut P) -> Result<(), SinkFault>
         ensures ok { OnOk result (Puts (P.pieces sink.old) (P.pieces sink.new) (segment_pieces self.now)) }
         ensures err { OnErr result (PutsPrefix (P.pieces sink.old) (P.pieces sink.new) (segment_pieces self.now)) }
         ensures failed { OnErr result (P.has_failed sink.new ≡ true) }
     {
-        put_parts(sink, &self.prefix)?;
-        self.number.put_number_if(self.has_number, sink)?;
-        put_parts(sink, &self.suffix)
+        match self {
+            Segment::Outer(kind, texts) => put_outer(sink, *kind, texts),
+            Segment::Inner(inner) => inner.put(sink),
+        }
     }
 }
