@@ -21,22 +21,26 @@ pub record RangeEnd : Type 0 where
   pub sign : Sign
   pub pattern : Option CompactPattern
 
--- a number as an end: rounded, and its affixes chosen, as if it was written alone
+-- the end of a number that is rounded to a significand and an exponent, and of the category of the significand
+abbrev pub shown_end : NumberFormatter → Decimal → ScaledValue → PluralCategory → RangeEnd
+shown_end f v number category = record {
+  formatter = f;
+  digits = number.significand.absolute;
+  exponent = number.exponent;
+  sign = shown_sign f v number.significand;
+  pattern = compact_pattern f.formats (compact_style f.options.notation f.options.style)
+      (compact_magnitude f.notation number.significand number.exponent) category (is_one number.significand);
+}
+
+-- a number as an end: rounded, and its affixes and the category of what is around it chosen as if it was written alone
 pub record IsRangeEnd (f : NumberFormatter) (v : Decimal) (n : RangeEnd) : Type 0 where
   pub number : ScaledValue
   pub category : PluralCategory
+  pub whole : PluralCategory
   pub number_is : shown_number f v ≡ Some number
   pub of_significand : IsCategoryAt f.rules (operands.plain number.significand.absolute) category
-  pub whole : PluralCategory
   pub of_whole : IsCategoryAt f.rules (outer_operands f v number) whole
-  pub value : n ≡ record {
-        formatter = f;
-        digits = number.significand.absolute;
-        exponent = number.exponent;
-        sign = shown_sign f v number.significand;
-        pattern = compact_pattern f.formats (compact_style f.options.notation f.options.style)
-            (compact_magnitude f.notation number.significand number.exponent) category (is_one number.significand);
-      }
+  pub value : n ≡ shown_end f v number category
 
 -- the digits of an end, and its exponent
 abbrev pub end_number : RangeEnd → List parts.Piece

@@ -27,6 +27,7 @@ pub mod laws;
 mod notation;
 mod options;
 mod range;
+pub mod range_laws;
 mod read;
 
 pub use digits::error::DigitOptionsError;

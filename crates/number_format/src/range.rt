@@ -1,7 +1,7 @@
 //! Ranges of two numbers.
 mod affixes;
 mod common;
-mod form;
+pub(crate) mod form;
 pub(crate) mod format_range;
 pub(crate) mod formatted_range;
 mod outer;

@@ -1,7 +1,7 @@
 use Rattle.std.proofs.lemmas.Result.{on_err_weaker}
 use Rattle.fixed_decimal.proofs.Calling.{on_err, first_of_three, second_of_three, third_of_three}
 use Rattle.number_format.specs.{FormattedNumbers.number_text_if, TextParts.parts_text}
-use Rattle.number_format.proofs.range.segment.Segment.write.Goals as goal
+use Rattle.number_format.proofs.range.segment.InnerSegment.write.Goals as goal
 
 pub returns-in_err-write_parts-clause-err : goal.returns-in_err-write_parts-clause-err
 returns-in_err-write_parts-clause-err g c =

@@ -2,7 +2,7 @@ use Rattle.std.proofs.lemmas.Result.{on_err_weaker}
 use Rattle.fixed_decimal.proofs.Calling.{on_err}
 use Rattle.number_format.specs.{FormattedNumbers.number_pieces_if, TextParts.parts_pieces}
 use Rattle.number_format.proofs.lemmas.format.PieceTexts.{first_of_three, second_of_three, third_of_three}
-use Rattle.number_format.proofs.range.segment.Segment.put.Goals as goal
+use Rattle.number_format.proofs.range.segment.InnerSegment.put.Goals as goal
 
 pub returns-in_err-put_parts-clause-err : goal.returns-in_err-put_parts-clause-err
 returns-in_err-put_parts-clause-err g c =
