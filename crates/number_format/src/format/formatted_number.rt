@@ -175,7 +175,11 @@ impl<'f> FormattedNumber<'f> {
         self.exponent_digits(exponent).write_to(sink)
     }
 
-    pub(crate) fn write_number_if<W: Sink>(&self, has_number: bool, sink: &mut W) -> Result<(), SinkFault>
+    pub(crate) fn write_number_if<W: Sink>(
+        &self,
+        has_number: bool,
+        sink: &mut W,
+    ) -> Result<(), SinkFault>
         ensures ok { OnOk result
             (Appends (W.contents sink.old) (W.contents sink.new) (number_text_if self.now has_number)) }
         ensures err { OnErr result
@@ -346,7 +350,11 @@ impl<'f> FormattedNumber<'f> {
         )
     }
 
-    pub(crate) fn put_number_if<P: PartSink>(&self, has_number: bool, sink: &mut P) -> Result<(), SinkFault>
+    pub(crate) fn put_number_if<P: PartSink>(
+        &self,
+        has_number: bool,
+        sink: &mut P,
+    ) -> Result<(), SinkFault>
         ensures ok { OnOk result (Puts (P.pieces sink.old) (P.pieces sink.new) (number_pieces_if self.now has_number)) }
         ensures err { OnErr result
             (PutsPrefix (P.pieces sink.old) (P.pieces sink.new) (number_pieces_if self.now has_number)) }

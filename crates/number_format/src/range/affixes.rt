@@ -118,11 +118,7 @@ impl StyleTexts {
         }
     }
 
-    fn range_compact(
-        &self,
-        sign: Sign,
-        pattern: &CompactPattern,
-    ) -> RangeAffixes<'_>
+    fn range_compact(&self, sign: Sign, pattern: &CompactPattern) -> RangeAffixes<'_>
         requires { AreTexts pattern.now }
         ensures { AreRangeParts (compact_around self.now sign pattern.now) result }
     {
@@ -176,11 +172,7 @@ impl StyleTexts {
         }
     }
 
-    fn approximate_pattern(
-        &self,
-        approximately: ApproximatelySign,
-        sign: Sign,
-    ) -> RangeAffixes<'_>
+    fn approximate_pattern(&self, approximately: ApproximatelySign, sign: Sign) -> RangeAffixes<'_>
         ensures { AreRangeParts (approximate_pattern self.now approximately sign) result }
     {
         let AffixPair { prefix, suffix } = self.approximate_pair(sign);
@@ -190,15 +182,7 @@ impl StyleTexts {
         let four = self.approximate_piece(approximately, sign, prefix.fourth);
         let space = space_if(self.needs_space_after(prefix));
         let prefix = [
-            one.0,
-            one.1,
-            two.0,
-            two.1,
-            three.0,
-            three.1,
-            four.0,
-            four.1,
-            space,
+            one.0, one.1, two.0, two.1, three.0, three.1, four.0, four.1, space,
         ];
         RangeAffixes {
             prefix,

@@ -198,11 +198,7 @@ impl<'f> FormattedRange<'f> {
         self.segment(segment).length()
     }
 
-    fn write_segment<W: Sink>(
-        &self,
-        segment: RangeSegment,
-        sink: &mut W,
-    ) -> Result<(), SinkFault>
+    fn write_segment<W: Sink>(&self, segment: RangeSegment, sink: &mut W) -> Result<(), SinkFault>
         ensures ok { OnOk result (Appends (W.contents sink.old) (W.contents sink.new)
             (pieces_text (formatted_range_pieces self.now segment))) }
         ensures err { OnErr result (AppendsPrefix (W.contents sink.old) (W.contents sink.new)
@@ -236,11 +232,7 @@ impl<'f> FormattedRange<'f> {
     ///     range.parts(segment, &mut sink)?; // of `1–2`: integer, literal, integer
     /// }
     /// ```
-    pub fn parts<P: PartSink>(
-        &self,
-        segment: RangeSegment,
-        sink: &mut P,
-    ) -> Result<(), SinkFault>
+    pub fn parts<P: PartSink>(&self, segment: RangeSegment, sink: &mut P) -> Result<(), SinkFault>
         ensures pieces { OnOk result
             (Puts (P.pieces sink.old) (P.pieces sink.new) (formatted_range_pieces self.now segment)) }
         ensures prefix { OnErr result

@@ -1,11 +1,11 @@
 -- The ends of ranges: a number has one end, and its text alone is that of the end.
-use Rattle.std.proofs.{Common.{◌≡◌, ℕ, true, false, List, [], ◌++◌, Option, Some, None, refl, sym, ◌∙◌, ap, subst, append-nil}, lemmas.Option.same_Some}
-use Rattle.std.specs.{Prelude.{Bool, ◌&&◌, ◌||◌, if◌then◌else◌, IsSomeAnd, ℤ}, Cmp.{int_eq_equiv, Lexicographic.nat_list_eq_equiv}, Ordering.int_eq, Str.bytes_eq}
+use Rattle.std.proofs.{Common.{◌≡◌, ℕ, inl, inr, true, false, List, [], ◌++◌, Option, Some, None, refl, sym, ◌∙◌, ap, subst, append-nil}, lemmas.Option.same_Some}
+use Rattle.std.specs.{Prelude.{Bool, ◌&&◌, ◌||◌, if◌then◌else◌, IsSomeAnd, ◌⊎◌}, Cmp.{int_eq_equiv, Lexicographic.nat_list_eq_equiv}, Ordering.int_eq, Str.bytes_eq}
 use Rattle.fixed_decimal.specs.Decimal.{Decimal, signed_number}
 use Rattle.plural_rules.specs.{Operands.{Operands, plain}, Rules.category_of, RulesGrammar.IsCategoryByText, declared.rules.PluralCategory.PluralCategory}
 use Rattle.plural_rules.proofs.lemmas.parse.ParserComplete.{grammar-unique}
 use Rattle.locale_data.specs.{Plurals.{rules_text_at, IsCategoryAt}, declared.plurals.PluralRulesId.PluralRulesId}
-use Rattle.number_format.specs.{declared.{format.formatter.NumberFormatter.NumberFormatter, range.{common.BareTexts.BareTexts, form.RangeForm.{RangeForm, TheVariants.{Approximate, Common, Apart}}, range_texts.RangeTexts.RangeTexts}}, NumberText.{HasNumberText, IsNumberText}, PatternTexts.{Around, around}, RangeOuter.{outer_by, within}, RangeText.{IsRange, IsRangeEnd, RangeEnd, ShownRange, apart_pieces, are_same_texts, bare_texts, both_or_neither, end_around, end_number, form_by, pieces_by, range_form, range_pieces, separator_pieces, shown_end, text_of_pieces, written_exponent}, Scaled.ScaledValue, TextParts.{Piece, pieces_text}}
+use Rattle.number_format.specs.{declared.{format.{formatted_number.FormattedNumber.FormattedNumber, formatter.NumberFormatter.NumberFormatter}, range.{common.BareTexts.BareTexts, form.RangeForm.{RangeForm, TheVariants.{Approximate, Common, Apart}}, range_texts.RangeTexts.RangeTexts}}, FormattedRanges.{end_of, IsFormattedEnd}, NumberText.{HasNumberText, IsNumberText}, PatternTexts.{Around, around}, RangeOuter.{outer_by, within}, RangeText.{IsRange, IsRangeEnd, RangeEnd, ShownRange, apart_pieces, are_same_texts, bare_texts, both_or_neither, end_around, end_number, form_by, pieces_by, range_by, range_category, range_form, range_pieces, separator_pieces, shown_end, text_of_pieces, written_exponent}, Scaled.ScaledValue, TextParts.{Piece, pieces_text}}
 
 -- rules have one category
 pub category_unique : (id : PluralRulesId) (n : Operands) (a b : PluralCategory) → IsCategoryAt id n a
@@ -100,3 +100,28 @@ apart_are_alone f t v w r none is apart =
           ∙ ap (λ u. text_of_pieces (apart_pieces u start separator end)) outer
           ∙ ap (λ l. pieces_text start ++ (pieces_text separator ++ l)) (append-nil (pieces_text end)),
     )
+
+abbrev IsConstant : NumberFormatter → Type 0
+IsConstant f = (a b : PluralCategory) → outer_by f a ≡ outer_by f b
+
+-- what is around the whole text is that of the categories, or of any
+same_outer : (f : NumberFormatter) (tag : List ℕ) (form : RangeForm) (a b c d : PluralCategory)
+    → (a ≡ c) ⊎ IsConstant f → (b ≡ d) ⊎ IsConstant f
+    → outer_by f (range_category tag form a b) ≡ outer_by f (range_category tag form c d)
+same_outer f tag form a b c d (inl p) (inl q) = λ i. outer_by f (range_category tag form (p i) (q i))
+same_outer f tag form a b c d (inl p) (inr any) = any (range_category tag form a b) (range_category tag form c d)
+same_outer f tag form a b c d (inr any) q = any (range_category tag form a b) (range_category tag form c d)
+
+-- two ends make a range
+pub is_range : (f : NumberFormatter) (t : RangeTexts) (v w : Decimal) (m n : FormattedNumber) (form : RangeForm)
+    (r : ShownRange) → IsFormattedEnd f v m → IsFormattedEnd f w n → form ≡ range_form v w (end_of m) (end_of n)
+    → r ≡ range_by t form (end_of m) (end_of n) m.whole n.whole → IsRange f t v w r
+is_range f t v w m n form r x y chosen made =
+    subst (IsRange f t v w) (sym made) (record {
+      start_is = x.0;
+      end_is = y.0;
+      form_is = chosen;
+      format_is = refl;
+      spaced_is = refl;
+      outer_is = same_outer f t.tag.now form m.whole n.whole x.0.whole y.0.whole x.1 y.1;
+    })
