@@ -3,7 +3,7 @@ use Rattle.std.specs.Prelude.{◌≡◌, ◌⊎◌, ℕ, List, ◌++◌, Option,
 use Rattle.fixed_decimal.specs.Decimal.{Decimal}
 use Rattle.plural_rules.specs.declared.rules.PluralCategory.{PluralCategory}
 use Rattle.locale_data.specs.{declared.locales.LocaleId.LocaleId, Locales.AreRowsOf, Plurals.IsCategoryAt, RangeFormats.IsRangeFormat}
-use Rattle.number_format.specs.{declared.{format.{formatted_number.FormattedNumber.FormattedNumber, formatter.NumberFormatter.NumberFormatter}, range.{affixes.RangeAffixes.RangeAffixes, common.BareParts.BareParts, formatted_range.{FormattedRange.FormattedRange, RangeSegment.{RangeSegment, TheVariants.{Prefix, OuterPrefix, Start, Middle, End, Suffix, OuterSuffix}}, RangeSource.{RangeSource, TheVariants.{Shared, StartRange, EndRange}}}, range_texts.RangeTexts.RangeTexts, segment.{InnerSegment.InnerSegment, Segment.{Segment, TheVariants.{Outer, Inner}}}}}, Formatters.system_text, FormattedNumbers.{number_pieces_if, number_text_if, pattern_of}, NumberText.shown_number, PatternTexts.Around, RangeOuter.{outer_by, outer_operands}, RangeText.{IsRangeEnd, RangeEnd, RangePieces, ShownRange, range_pieces, text_of_pieces}, Scaled.ScaledValue, TextParts.{Piece, parts_pieces, parts_text, pieces_of}}
+use Rattle.number_format.specs.{declared.{format.{formatted_number.FormattedNumber.FormattedNumber, formatter.NumberFormatter.NumberFormatter}, range.{affixes.RangeAffixes.RangeAffixes, common.BareParts.BareParts, formatted_range.{FormattedRange.FormattedRange, RangeSegment.{RangeSegment, TheVariants.{Prefix, OuterPrefix, Start, Middle, End, Suffix, OuterSuffix}}, RangeSource.{RangeSource, TheVariants.{Shared, StartRange, EndRange}}}, range_texts.RangeTexts.RangeTexts, segment.{InnerSegment.InnerSegment, Segment.Segment}}}, Formatters.system_text, FormattedNumbers.{number_pieces_if, number_text_if, pattern_of}, NumberText.shown_number, PatternTexts.Around, RangeOuter.{outer_by, outer_operands}, RangeText.{IsRangeEnd, RangeEnd, RangePieces, ShownRange, range_pieces, text_of_pieces}, Scaled.ScaledValue, TextParts.{Piece, parts_pieces, parts_text, pieces_of}}
 
 -- ---- The texts of a locale.
 
@@ -81,14 +81,12 @@ inner_pieces s = parts_pieces s.prefix ++ (number_pieces_if s.number.now s.has_n
 abbrev pub inner_text : InnerSegment → List ℕ
 inner_text s = parts_text s.prefix ++ (number_text_if s.number.now s.has_number ++ parts_text s.suffix)
 
--- texts of one kind are one piece
+-- the texts, which are one piece, and what is around a number
 abbrev pub segment_pieces : Segment → List Piece
-segment_pieces (Outer kind texts) = pieces_of kind (parts_text texts)
-segment_pieces (Inner s) = inner_pieces s
+segment_pieces s = pieces_of s.kind (parts_text s.texts) ++ inner_pieces s.inner
 
 abbrev pub segment_text : Segment → List ℕ
-segment_text (Outer kind texts) = parts_text texts
-segment_text (Inner s) = inner_text s
+segment_text s = parts_text s.texts ++ inner_text s.inner
 
 -- the category is that of what is around the whole text, or this is the same for each category
 pub record HasOuterCategory (f : NumberFormatter) (v : Decimal) (chosen : PluralCategory) : Type 0 where

@@ -1,12 +1,12 @@
 //! What is written around a number of a range.
-ghost use Rattle.std.specs.{Prelude.{◌≡◌, ◌&&◌, ◌++◌, IfSome}, Option.option_copied};
-ghost use Rattle.locale_data.specs.Compact.{AreTexts};
-ghost use Rattle.number_format.specs.{FormattedRanges.AreRangeParts, NumberStyles.begins_with_currency, NumberText.{around_by, compact_around}, PatternTexts.{affix_pieces, pattern_around, space_if}, RangeText.{approximately_pieces, approximate_piece, approximate_affixes, approximate_pattern, approximate_first, approximate_last, approximate_compact, approximate_around}, TextParts.{part_pieces, parts_pieces}};
+ghost use Rattle.std.specs.{Prelude.{◌≡◌, ◌&&◌, ◌++◌, IfSome, true}, Option.option_copied};
+ghost use Rattle.locale_data.specs.Compact.{has_texts, AreTexts};
+ghost use Rattle.number_format.specs.{FormattedRanges.AreRangeParts, NumberStyles.begins_with_currency, NumberText.{around_by, compact_around, compact_prefix, compact_suffix}, PatternTexts.{affix_pieces, pattern_around, space_if}, RangeText.{approximately_pieces, approximate_piece, approximate_affixes, approximate_pattern, approximate_first, approximate_last, approximate_compact, approximate_around}, TextParts.{part_pieces, parts_pieces}};
 
 use crate::format::affixes::{StyleTexts, space_if};
 use crate::format::text_part::{PartKind, TextPart};
 use fixed_decimal::Sign;
-use locale_data::{Affix, AffixPair, ApproximatelySign, CompactForm, CompactPattern, Piece};
+use locale_data::{Affix, AffixPair, AffixText, ApproximatelySign, CompactForm, CompactPattern, Piece};
 
 /// An empty part.
 pub(crate) const NOTHING: TextPart<'static> = TextPart {
@@ -211,6 +211,49 @@ impl StyleTexts {
         ]
     }
 
+    fn approximate_prefix(
+        &self,
+        approximately: ApproximatelySign,
+        sign: Sign,
+        form: CompactForm,
+        prefix: &AffixText,
+    ) -> [TextPart<'_>; 9]
+        requires { has_texts prefix.now ≡ true }
+        ensures { parts_pieces result ≡ approximate_first self.now approximately sign form
+            ++ (compact_prefix self.now prefix.now ++ approximate_last self.now approximately sign form) }
+    {
+        let first = self.approximate_first(approximately, sign, form);
+        let last = self.approximate_last(approximately, sign, form);
+        [
+            first.0,
+            first.1,
+            TextPart::new(PartKind::Compact, prefix.before_text()),
+            self.currency_if(prefix.has_currency),
+            TextPart::new(PartKind::Compact, prefix.after_text()),
+            space_if(self.space_after(prefix)),
+            last.0,
+            last.1,
+            NOTHING,
+        ]
+    }
+
+    fn compact_suffix(&self, suffix: &AffixText) -> [TextPart<'_>; 9]
+        requires { has_texts suffix.now ≡ true }
+        ensures { parts_pieces result ≡ compact_suffix self.now suffix.now }
+    {
+        [
+            space_if(self.space_before(suffix)),
+            TextPart::new(PartKind::Compact, suffix.before_text()),
+            self.currency_if(suffix.has_currency),
+            TextPart::new(PartKind::Compact, suffix.after_text()),
+            NOTHING,
+            NOTHING,
+            NOTHING,
+            NOTHING,
+            NOTHING,
+        ]
+    }
+
     fn approximate_compact(
         &self,
         approximately: ApproximatelySign,
@@ -226,32 +269,10 @@ impl StyleTexts {
             suffix,
             ..
         } = *pattern;
-        let first = self.approximate_first(approximately, sign, form);
-        let last = self.approximate_last(approximately, sign, form);
         RangeAffixes {
-            prefix: [
-                first.0,
-                first.1,
-                TextPart::new(PartKind::Compact, prefix.before_text()),
-                self.currency_if(prefix.has_currency),
-                TextPart::new(PartKind::Compact, prefix.after_text()),
-                space_if(self.space_after(&prefix)),
-                last.0,
-                last.1,
-                NOTHING,
-            ],
+            prefix: self.approximate_prefix(approximately, sign, form, &prefix),
             has_number: !matches!(form, CompactForm::Literal),
-            suffix: [
-                space_if(self.space_before(&suffix)),
-                TextPart::new(PartKind::Compact, suffix.before_text()),
-                self.currency_if(suffix.has_currency),
-                TextPart::new(PartKind::Compact, suffix.after_text()),
-                NOTHING,
-                NOTHING,
-                NOTHING,
-                NOTHING,
-                NOTHING,
-            ],
+            suffix: self.compact_suffix(&suffix),
         }
     }
 

@@ -61,12 +61,13 @@ fn range_category(
 }
 
 fn range_by<'f>(
-    texts: RangeTexts<'_>,
+    texts: &RangeTexts<'_>,
     form: RangeForm,
     start: FormattedNumber<'f>,
     end: FormattedNumber<'f>,
 ) -> FormattedRange<'f>
-    ensures { shown_range result ≡ range_by texts form (end_of start) (end_of end) start.whole end.whole }
+    ensures { shown_range result ≡ range_by texts.now form (end_of start.entry) (end_of end.entry)
+        start.entry.whole end.entry.whole }
 {
     FormattedRange {
         format: texts.format,
@@ -134,17 +135,17 @@ impl NumberFormatter {
     ///
     /// ```
     /// let texts = RangeTexts::of("en", &options.numbering_system)?;
-    /// formatter.format_range(alloc, texts, start, end)? // $1.00 – $2.00
+    /// formatter.format_range(alloc, &texts, start, end)? // $1.00 – $2.00
     /// ```
     pub fn format_range(
         &self,
         alloc: Global,
-        texts: RangeTexts<'_>,
+        texts: &RangeTexts<'_>,
         start: Decimal,
         end: Decimal,
     ) -> Result<FormattedRange<'_>, RangeFormatError>
-        ensures range { IfOk result (λ r. IsRange self.now texts start end (shown_range r)) }
-        ensures text { IfOk result (λ r. IsRangeText self.now texts start end (formatted_range_text r)) }
+        ensures range { IfOk result (λ r. IsRange self.now texts.now start end (shown_range r)) }
+        ensures text { IfOk result (λ r. IsRangeText self.now texts.now start end (formatted_range_text r)) }
         ensures unchanged { IfErr result (λ e. (e.start ≡ start) × (e.end ≡ end)) }
         ensures limit { IfErr result (λ e. e.error ≡ RoundError.Limit
             → (shown_number self.now start ≡ None) ⊎ (shown_number self.now end ≡ None)) }

@@ -98,10 +98,11 @@ impl<'f> Drop for FormattedRange<'f> {
 }
 
 impl<'f> FormattedRange<'f> {
-    fn outer(&self) -> OuterAround<'_>
+    fn outer(&self) -> OuterAround<'f>
         ensures { IsOuter (outer_by self.now.start.formatter.now self.now.category) result }
     {
-        self.start.formatter.outer_around(self.category)
+        let formatter = self.start.formatter;
+        formatter.outer_around(self.category)
     }
 
     fn approximate_number(&self) -> InnerSegment<'_, 'f>
@@ -109,73 +110,101 @@ impl<'f> FormattedRange<'f> {
             (approximate_around self.now.start.formatter.now.style self.now.format.approximately
             self.now.start.value.sign (pattern_of self.now.start)) (end_number (end_of self.now.start)) }
     {
-        let start = &self.start;
-        let style = &start.formatter.style;
+        let number = &self.start;
+        let formatter = number.formatter;
+        let style = &formatter.style;
         let approximately = self.format.approximately;
-        let pattern = start.compact_pattern();
-        let affixes = style.approximate_affixes(approximately, start.value.sign, pattern);
+        let pattern = number.compact_pattern();
+        let RangeAffixes {
+            prefix,
+            has_number,
+            suffix,
+        } = style.approximate_affixes(approximately, number.value.sign, pattern);
         InnerSegment {
-            prefix: affixes.prefix,
-            number: start,
-            has_number: affixes.has_number,
-            suffix: affixes.suffix,
+            prefix,
+            number,
+            has_number,
+            suffix,
         }
     }
 
     fn approximate_segment(&self, segment: RangeSegment) -> Segment<'_, 'f>
         ensures { segment_pieces result ≡ pieces_in (pieces_by form.Approximate (shown_range self.now)) segment }
     {
-        let outer = self.outer();
+        let OuterAround {
+            kind,
+            before,
+            has_number: has_inner,
+            after,
+        } = self.outer();
+        let start = &self.start;
         match segment {
-            RangeSegment::OuterPrefix => Segment::Outer(outer.kind, outer.before),
-            RangeSegment::Middle if outer.has_number => Segment::Inner(self.approximate_number()),
-            RangeSegment::OuterSuffix => Segment::Outer(outer.kind, outer.after),
-            _ => Segment::empty(&self.start),
+            RangeSegment::OuterPrefix => Segment::of_texts(start, kind, before),
+            RangeSegment::Middle if has_inner => {
+                Segment::of_inner(self.approximate_number())
+            }
+            RangeSegment::OuterSuffix => Segment::of_texts(start, kind, after),
+            _ => Segment::empty(start),
         }
     }
 
-    fn common_affixes(&self) -> RangeAffixes<'_>
+    fn common_affixes(&self) -> RangeAffixes<'f>
         ensures { AreRangeParts (around_of self.now.start) result }
     {
         let start = &self.start;
-        let style = &start.formatter.style;
+        let formatter = start.formatter;
+        let style = &formatter.style;
         style.range_affixes(start.value.sign, start.compact_pattern())
     }
 
     fn common_segment(&self, segment: RangeSegment) -> Segment<'_, 'f>
         ensures { segment_pieces result ≡ pieces_in (pieces_by form.Common (shown_range self.now)) segment }
     {
-        let outer = self.outer();
-        let affixes = self.common_affixes();
-        let has_number = outer.has_number && affixes.has_number;
+        let OuterAround {
+            kind,
+            before,
+            has_number: has_inner,
+            after,
+        } = self.outer();
+        let RangeAffixes {
+            prefix,
+            has_number,
+            suffix,
+        } = self.common_affixes();
+        let has_numbers = has_inner && has_number;
         let start = &self.start;
         match segment {
-            RangeSegment::Prefix => Segment::parts_if(start, affixes.prefix, true),
-            RangeSegment::OuterPrefix => Segment::Outer(outer.kind, outer.before),
-            RangeSegment::Start => Segment::number_if(start, has_number),
+            RangeSegment::Prefix => Segment::parts_if(start, prefix, true),
+            RangeSegment::OuterPrefix => Segment::of_texts(start, kind, before),
+            RangeSegment::Start => Segment::number_if(start, has_numbers),
             RangeSegment::Middle => {
-                Segment::separator_if(start, self.format.separator, self.spaced, has_number)
+                Segment::separator_if(start, self.format.separator, self.spaced, has_numbers)
             }
-            RangeSegment::End => Segment::number_if(&self.end, has_number),
-            RangeSegment::Suffix => Segment::parts_if(start, affixes.suffix, outer.has_number),
-            RangeSegment::OuterSuffix => Segment::Outer(outer.kind, outer.after),
+            RangeSegment::End => Segment::number_if(&self.end, has_numbers),
+            RangeSegment::Suffix => Segment::parts_if(start, suffix, has_inner),
+            RangeSegment::OuterSuffix => Segment::of_texts(start, kind, after),
         }
     }
 
     fn apart_segment(&self, segment: RangeSegment) -> Segment<'_, 'f>
         ensures { segment_pieces result ≡ pieces_in (pieces_by form.Apart (shown_range self.now)) segment }
     {
-        let outer = self.outer();
+        let OuterAround {
+            kind,
+            before,
+            has_number: has_inner,
+            after,
+        } = self.outer();
         let start = &self.start;
         match segment {
-            RangeSegment::OuterPrefix => Segment::Outer(outer.kind, outer.before),
-            RangeSegment::Start => Segment::whole_if(start, outer.has_number),
+            RangeSegment::OuterPrefix => Segment::of_texts(start, kind, before),
+            RangeSegment::Start => Segment::whole_if(start, has_inner),
             RangeSegment::Middle => {
                 let separator = self.format.separator;
-                Segment::separator_if(start, separator, self.spaced, outer.has_number)
+                Segment::separator_if(start, separator, self.spaced, has_inner)
             }
-            RangeSegment::End => Segment::whole_if(&self.end, outer.has_number),
-            RangeSegment::OuterSuffix => Segment::Outer(outer.kind, outer.after),
+            RangeSegment::End => Segment::whole_if(&self.end, has_inner),
+            RangeSegment::OuterSuffix => Segment::of_texts(start, kind, after),
             RangeSegment::Prefix | RangeSegment::Suffix => Segment::empty(start),
         }
     }
@@ -193,7 +222,7 @@ impl<'f> FormattedRange<'f> {
 
     fn segment_length(&self, segment: RangeSegment) -> usize
         ensures value { result ≡ length (pieces_text (formatted_range_pieces self.now segment)) }
-        ensures at_most { result ≤ 17241578 }
+        ensures at_most { result ≤ 17242598 }
     {
         self.segment(segment).length()
     }

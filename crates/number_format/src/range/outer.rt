@@ -53,7 +53,7 @@ impl NumberFormatter {
     }
 }
 
-fn of_text(text: &'static str) -> [TextPart<'static>; 4]
+fn of_text<'f>(text: &'f str) -> [TextPart<'f>; 4]
     requires { length text.now ≤ 255 }
     ensures { parts_text result ≡ text.now }
 {

@@ -21,7 +21,7 @@ impl<'t> RangeTexts<'t> {
     ///
     /// ```
     /// let texts = RangeTexts::of("de", &options.numbering_system)?;
-    /// formatter.format_range(alloc, texts, start, end)? // 1–2
+    /// formatter.format_range(alloc, &texts, start, end)? // 1–2
     /// ```
     pub fn of(tag: &'t str, name: &Option<NumberingSystem>) -> Option<RangeTexts<'t>>
         ensures some { IfSome result (AreRangeTexts tag.now name.now) }

@@ -6,7 +6,7 @@ ghost use Rattle.number_format.specs.{FormattedNumbers.number_pieces_if, Formatt
 use crate::format::formatted_number::FormattedNumber;
 use crate::format::parts::{PartSink, fmt_parts, parts_length, put_parts, write_parts};
 use crate::format::text_part::{PartKind, TextPart};
-use crate::range::affixes::NOTHING;
+use crate::range::affixes::{NOTHING, RangeAffixes};
 use crate::range::outer::put_outer;
 use fixed_decimal::{Sink, SinkFault};
 use locale_data::RangeSeparator;
@@ -15,22 +15,27 @@ use std::fmt;
 /// Parts, a number, and parts.
 #[derive(Clone, Copy)]
 pub(crate) struct InnerSegment<'r, 'f> {
-    pub(crate) prefix: [TextPart<'r>; 9],
+    pub(crate) prefix: [TextPart<'f>; 9],
     pub(crate) number: &'r FormattedNumber<'f>,
     pub(crate) has_number: bool,
-    pub(crate) suffix: [TextPart<'r>; 9],
+    pub(crate) suffix: [TextPart<'f>; 9],
 }
 
-/// A segment of the text of a range.
+/// A segment of the text of a range: texts of one kind; or a number, and what is around it.
 #[derive(Clone, Copy)]
-pub(crate) enum Segment<'r, 'f> {
-    /// Texts of one kind.
-    Outer(PartKind, [TextPart<'r>; 4]),
-    /// A number, and what is around it.
-    Inner(InnerSegment<'r, 'f>),
+pub(crate) struct Segment<'r, 'f> {
+    pub(crate) kind: PartKind,
+    pub(crate) texts: [TextPart<'f>; 4],
+    pub(crate) inner: InnerSegment<'r, 'f>,
 }
 
-fn no_parts() -> [TextPart<'static>; 9]
+fn no_texts<'f>() -> [TextPart<'f>; 4]
+    ensures { parts_text result ≡ [] }
+{
+    [NOTHING, NOTHING, NOTHING, NOTHING]
+}
+
+fn no_parts<'f>() -> [TextPart<'f>; 9]
     ensures { parts_pieces result ≡ [] }
 {
     [
@@ -54,7 +59,7 @@ fn space_if(needed: bool) -> TextPart<'static>
 }
 
 /// Returns a separator, with spaces beside it if it needs them and has none.
-fn separator_parts(separator: RangeSeparator, needs_spaces: bool) -> [TextPart<'static>; 9]
+fn separator_parts<'f>(separator: RangeSeparator, needs_spaces: bool) -> [TextPart<'f>; 9]
     ensures { parts_pieces result ≡ separator_pieces separator needs_spaces }
 {
     let space = space_if(needs_spaces && !has_spaces(separator));
@@ -69,22 +74,25 @@ impl<'r, 'f> InnerSegment<'r, 'f> {
     fn number_if(number: &'r FormattedNumber<'f>, has_number: bool) -> Self
         ensures { inner_pieces result ≡ number_pieces_if number.now has_number }
     {
+        let prefix = no_parts();
+        let suffix = no_parts();
         InnerSegment {
-            prefix: no_parts(),
+            prefix,
             number,
             has_number,
-            suffix: no_parts(),
+            suffix,
         }
     }
 
-    fn of_parts(number: &'r FormattedNumber<'f>, prefix: [TextPart<'r>; 9]) -> Self
-        ensures { inner_pieces result ≡ parts_pieces prefix }
+    fn of_parts(number: &'r FormattedNumber<'f>, prefix: [TextPart<'f>; 9]) -> Self
+        ensures { inner_pieces result ≡ parts_pieces prefix.entry }
     {
+        let suffix = no_parts();
         InnerSegment {
             prefix,
             number,
             has_number: false,
-            suffix: no_parts(),
+            suffix,
         }
     }
 
@@ -92,13 +100,18 @@ impl<'r, 'f> InnerSegment<'r, 'f> {
         ensures { inner_pieces result
             ≡ within (end_around (end_of number.now)) (end_number (end_of number.now)) }
     {
-        let style = &number.formatter.style;
-        let affixes = style.range_affixes(number.value.sign, number.compact_pattern());
+        let formatter = number.formatter;
+        let style = &formatter.style;
+        let RangeAffixes {
+            prefix,
+            has_number,
+            suffix,
+        } = style.range_affixes(number.value.sign, number.compact_pattern());
         InnerSegment {
-            prefix: affixes.prefix,
+            prefix,
             number,
-            has_number: affixes.has_number,
-            suffix: affixes.suffix,
+            has_number,
+            suffix,
         }
     }
 
@@ -145,30 +158,54 @@ impl<'r, 'f> InnerSegment<'r, 'f> {
 }
 
 impl<'r, 'f> Segment<'r, 'f> {
+    /// Returns the segment of what is around a number.
+    pub(crate) fn of_inner(inner: InnerSegment<'r, 'f>) -> Self
+        ensures { segment_pieces result ≡ inner_pieces inner.entry }
+    {
+        let texts = no_texts();
+        Segment {
+            kind: PartKind::Literal,
+            texts,
+            inner,
+        }
+    }
+
+    /// Returns the segment of texts of one kind.
+    pub(crate) fn of_texts(
+        number: &'r FormattedNumber<'f>,
+        kind: PartKind,
+        texts: [TextPart<'f>; 4],
+    ) -> Self
+        ensures { segment_pieces result ≡ pieces_of kind (parts_text texts.entry) }
+    {
+        let inner = InnerSegment::number_if(number, false);
+        Segment { kind, texts, inner }
+    }
+
     /// Returns a segment without pieces.
     pub(crate) fn empty(number: &'r FormattedNumber<'f>) -> Self
         ensures { segment_pieces result ≡ [] }
     {
-        Segment::Inner(InnerSegment::number_if(number, false))
+        Self::of_inner(InnerSegment::number_if(number, false))
     }
 
     /// Returns the segment of a number alone, or one without pieces.
     pub(crate) fn number_if(number: &'r FormattedNumber<'f>, has_number: bool) -> Self
         ensures { segment_pieces result ≡ pieces_if has_number (end_number (end_of number.now)) }
     {
-        Segment::Inner(InnerSegment::number_if(number, has_number))
+        Self::of_inner(InnerSegment::number_if(number, has_number))
     }
 
     /// Returns the segment of parts, or one without pieces.
     pub(crate) fn parts_if(
         number: &'r FormattedNumber<'f>,
-        parts: [TextPart<'r>; 9],
+        parts: [TextPart<'f>; 9],
         shown: bool,
     ) -> Self
-        ensures { segment_pieces result ≡ pieces_if shown (parts_pieces parts) }
+        ensures { segment_pieces result ≡ pieces_if shown (parts_pieces parts.entry) }
     {
         if shown {
-            Segment::Inner(InnerSegment::of_parts(number, parts))
+            Self::of_inner(InnerSegment::of_parts(number, parts))
         } else {
             Self::empty(number)
         }
@@ -180,7 +217,7 @@ impl<'r, 'f> Segment<'r, 'f> {
             (within (end_around (end_of number.now)) (end_number (end_of number.now))) }
     {
         if shown {
-            Segment::Inner(InnerSegment::whole(number))
+            Self::of_inner(InnerSegment::whole(number))
         } else {
             Self::empty(number)
         }
@@ -205,31 +242,24 @@ impl<'r, 'f> Segment<'r, 'f> {
             (AppendsPrefix (W.contents sink.old) (W.contents sink.new) (segment_text self.now)) }
         ensures failed { OnErr result (W.has_failed sink.new ≡ true) }
     {
-        match self {
-            Segment::Outer(_, texts) => write_parts(texts, sink),
-            Segment::Inner(inner) => inner.write(sink),
-        }
+        write_parts(&self.texts, sink)?;
+        self.inner.write(sink)
     }
 
     /// Writes the text.
     pub(crate) fn fmt<W: fmt::Write>(&self, f: &mut fmt::Formatter<W>) -> fmt::Result
         ensures { WritesStyledOnOk W.write_str_gives f.old result (segment_text self.now) f.new }
     {
-        match self {
-            Segment::Outer(_, texts) => fmt_parts(texts, f),
-            Segment::Inner(inner) => inner.fmt(f),
-        }
+        fmt_parts(&self.texts, f)?;
+        self.inner.fmt(f)
     }
 
     /// Returns the number of bytes of the text.
     pub(crate) fn length(&self) -> usize
         ensures value { result ≡ length (segment_text self.now) }
-        ensures at_most { result ≤ 17241578 }
+        ensures at_most { result ≤ 17242598 }
     {
-        match self {
-            Segment::Outer(_, texts) => parts_length(texts),
-            Segment::Inner(inner) => inner.length(),
-        }
+        parts_length(&self.texts) + self.inner.length()
     }
 
     /// Puts the pieces.
@@ -238,9 +268,7 @@ impl<'r, 'f> Segment<'r, 'f> {
         ensures err { OnErr result (PutsPrefix (P.pieces sink.old) (P.pieces sink.new) (segment_pieces self.now)) }
         ensures failed { OnErr result (P.has_failed sink.new ≡ true) }
     {
-        match self {
-            Segment::Outer(kind, texts) => put_outer(sink, *kind, texts),
-            Segment::Inner(inner) => inner.put(sink),
-        }
+        put_outer(sink, self.kind, &self.texts)?;
+        self.inner.put(sink)
     }
 }

@@ -94,11 +94,13 @@ apart_are_alone f t v w r none is apart =
     let outer = ap (λ (n : RangeEnd). outer_by n.formatter r.category) is.start_is.value ∙ none r.category in (
       pieces_text start,
       end_alone f v r.start none is.start_is,
-      pieces_text end,
-      end_alone f w r.end none is.end_is,
-      ap (λ form. text_of_pieces (pieces_by form r)) apart
-          ∙ ap (λ u. text_of_pieces (apart_pieces u start separator end)) outer
-          ∙ ap (λ l. pieces_text start ++ (pieces_text separator ++ l)) (append-nil (pieces_text end)),
+      (
+        pieces_text end,
+        end_alone f w r.end none is.end_is,
+        ap (λ form. text_of_pieces (pieces_by form r)) apart
+            ∙ ap (λ u. text_of_pieces (apart_pieces u start separator end)) outer
+            ∙ ap (λ l. pieces_text start ++ (pieces_text separator ++ l)) (append-nil (pieces_text end)),
+      ),
     )
 
 abbrev IsConstant : NumberFormatter → Type 0
