@@ -115,15 +115,13 @@ impl<'f> FormattedRange<'f> {
         let style = &formatter.style;
         let approximately = self.format.approximately;
         let pattern = number.compact_pattern();
-        let RangeAffixes {
-            prefix,
-            has_number,
-            suffix,
-        } = style.approximate_affixes(approximately, number.value.sign, pattern);
+        let affixes = style.approximate_affixes(approximately, number.value.sign, pattern);
+        let prefix = affixes.prefix;
+        let suffix = affixes.suffix;
         InnerSegment {
             prefix,
             number,
-            has_number,
+            has_number: affixes.has_number,
             suffix,
         }
     }
@@ -131,19 +129,16 @@ impl<'f> FormattedRange<'f> {
     fn approximate_segment(&self, segment: RangeSegment) -> Segment<'_, 'f>
         ensures { segment_pieces result ≡ pieces_in (pieces_by form.Approximate (shown_range self.now)) segment }
     {
-        let OuterAround {
-            kind,
-            before,
-            has_number: has_inner,
-            after,
-        } = self.outer();
+        let outer = self.outer();
+        let before = outer.before;
+        let after = outer.after;
         let start = &self.start;
         match segment {
-            RangeSegment::OuterPrefix => Segment::of_texts(start, kind, before),
-            RangeSegment::Middle if has_inner => {
+            RangeSegment::OuterPrefix => Segment::of_texts(start, outer.kind, before),
+            RangeSegment::Middle if outer.has_number => {
                 Segment::of_inner(self.approximate_number())
             }
-            RangeSegment::OuterSuffix => Segment::of_texts(start, kind, after),
+            RangeSegment::OuterSuffix => Segment::of_texts(start, outer.kind, after),
             _ => Segment::empty(start),
         }
     }
@@ -160,51 +155,43 @@ impl<'f> FormattedRange<'f> {
     fn common_segment(&self, segment: RangeSegment) -> Segment<'_, 'f>
         ensures { segment_pieces result ≡ pieces_in (pieces_by form.Common (shown_range self.now)) segment }
     {
-        let OuterAround {
-            kind,
-            before,
-            has_number: has_inner,
-            after,
-        } = self.outer();
-        let RangeAffixes {
-            prefix,
-            has_number,
-            suffix,
-        } = self.common_affixes();
-        let has_numbers = has_inner && has_number;
+        let outer = self.outer();
+        let before = outer.before;
+        let after = outer.after;
+        let affixes = self.common_affixes();
+        let prefix = affixes.prefix;
+        let suffix = affixes.suffix;
+        let has_numbers = outer.has_number && affixes.has_number;
         let start = &self.start;
         match segment {
             RangeSegment::Prefix => Segment::parts_if(start, prefix, true),
-            RangeSegment::OuterPrefix => Segment::of_texts(start, kind, before),
+            RangeSegment::OuterPrefix => Segment::of_texts(start, outer.kind, before),
             RangeSegment::Start => Segment::number_if(start, has_numbers),
             RangeSegment::Middle => {
                 Segment::separator_if(start, self.format.separator, self.spaced, has_numbers)
             }
             RangeSegment::End => Segment::number_if(&self.end, has_numbers),
-            RangeSegment::Suffix => Segment::parts_if(start, suffix, has_inner),
-            RangeSegment::OuterSuffix => Segment::of_texts(start, kind, after),
+            RangeSegment::Suffix => Segment::parts_if(start, suffix, outer.has_number),
+            RangeSegment::OuterSuffix => Segment::of_texts(start, outer.kind, after),
         }
     }
 
     fn apart_segment(&self, segment: RangeSegment) -> Segment<'_, 'f>
         ensures { segment_pieces result ≡ pieces_in (pieces_by form.Apart (shown_range self.now)) segment }
     {
-        let OuterAround {
-            kind,
-            before,
-            has_number: has_inner,
-            after,
-        } = self.outer();
+        let outer = self.outer();
+        let before = outer.before;
+        let after = outer.after;
         let start = &self.start;
         match segment {
-            RangeSegment::OuterPrefix => Segment::of_texts(start, kind, before),
-            RangeSegment::Start => Segment::whole_if(start, has_inner),
+            RangeSegment::OuterPrefix => Segment::of_texts(start, outer.kind, before),
+            RangeSegment::Start => Segment::whole_if(start, outer.has_number),
             RangeSegment::Middle => {
                 let separator = self.format.separator;
-                Segment::separator_if(start, separator, self.spaced, has_inner)
+                Segment::separator_if(start, separator, self.spaced, outer.has_number)
             }
-            RangeSegment::End => Segment::whole_if(&self.end, has_inner),
-            RangeSegment::OuterSuffix => Segment::of_texts(start, kind, after),
+            RangeSegment::End => Segment::whole_if(&self.end, outer.has_number),
+            RangeSegment::OuterSuffix => Segment::of_texts(start, outer.kind, after),
             RangeSegment::Prefix | RangeSegment::Suffix => Segment::empty(start),
         }
     }

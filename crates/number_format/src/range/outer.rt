@@ -40,15 +40,17 @@ impl NumberFormatter {
     }
 
     /// Returns what is around the whole text by a plural category.
-    pub(crate) fn outer_around(&self, category: PluralCategory) -> OuterAround<'_>
+    pub(crate) fn outer_around(&self, category: PluralCategory) -> OuterAround<'static>
         ensures { IsOuter (outer_by self.now category) result }
     {
         let unit = self.unit(category);
+        let before = of_text(unit.prefix);
+        let after = of_text(unit.suffix);
         OuterAround {
             kind: PartKind::Literal,
-            before: of_text(unit.prefix),
+            before,
             has_number: true,
-            after: of_text(unit.suffix),
+            after,
         }
     }
 }

@@ -6,7 +6,7 @@ ghost use Rattle.number_format.specs.{FormattedNumbers.number_pieces_if, Formatt
 use crate::format::formatted_number::FormattedNumber;
 use crate::format::parts::{PartSink, fmt_parts, parts_length, put_parts, write_parts};
 use crate::format::text_part::{PartKind, TextPart};
-use crate::range::affixes::{NOTHING, RangeAffixes};
+use crate::range::affixes::NOTHING;
 use crate::range::outer::put_outer;
 use fixed_decimal::{Sink, SinkFault};
 use locale_data::RangeSeparator;
@@ -102,15 +102,13 @@ impl<'r, 'f> InnerSegment<'r, 'f> {
     {
         let formatter = number.formatter;
         let style = &formatter.style;
-        let RangeAffixes {
-            prefix,
-            has_number,
-            suffix,
-        } = style.range_affixes(number.value.sign, number.compact_pattern());
+        let affixes = style.range_affixes(number.value.sign, number.compact_pattern());
+        let prefix = affixes.prefix;
+        let suffix = affixes.suffix;
         InnerSegment {
             prefix,
             number,
-            has_number,
+            has_number: affixes.has_number,
             suffix,
         }
     }

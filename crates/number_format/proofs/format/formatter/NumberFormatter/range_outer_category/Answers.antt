@@ -1,4 +1,4 @@
-use Rattle.std.proofs.{Common.{◌≡◌, ◌≢◌, Some, ap, refl, inl, inr}, lemmas.Result.IfOk-weaker}
+use Rattle.std.proofs.{Common.{◌≡◌, ◌≢◌, true, Some, ap, refl, inl, inr}, lemmas.Result.IfOk-weaker}
 use Rattle.fixed_decimal.specs.Decimal.{Decimal}
 use Rattle.decimal_format.specs.Symbols.{Affixes}
 use Rattle.plural_rules.specs.Operands as operands
