@@ -1,9 +1,9 @@
 -- The text of a formatted range.
-use Rattle.std.specs.Prelude.{◌≡◌, ◌⊎◌, ℕ, List, ◌++◌, Option, Some}
+use Rattle.std.specs.Prelude.{◌≡◌, ◌⊎◌, ℕ, Bool, if◌then◌else◌, List, ◌++◌, Option, Some}
 use Rattle.fixed_decimal.specs.Decimal.{Decimal}
 use Rattle.plural_rules.specs.declared.rules.PluralCategory.{PluralCategory}
 use Rattle.locale_data.specs.{declared.locales.LocaleId.LocaleId, Locales.AreRowsOf, Plurals.IsCategoryAt, RangeFormats.IsRangeFormat}
-use Rattle.number_format.specs.{declared.{format.{formatted_number.FormattedNumber.FormattedNumber, formatter.NumberFormatter.NumberFormatter}, range.{affixes.RangeAffixes.RangeAffixes, common.BareParts.BareParts, formatted_range.{FormattedRange.FormattedRange, RangeSegment.{RangeSegment, TheVariants.{Prefix, OuterPrefix, Start, Middle, End, Suffix, OuterSuffix}}, RangeSource.{RangeSource, TheVariants.{Shared, StartRange, EndRange}}}, range_texts.RangeTexts.RangeTexts, segment.{InnerSegment.InnerSegment, Segment.Segment}}}, Formatters.system_text, FormattedNumbers.{number_pieces_if, number_text_if, pattern_of}, NumberText.shown_number, PatternTexts.Around, RangeOuter.{outer_by, outer_operands}, RangeText.{IsRangeEnd, RangeEnd, RangePieces, ShownRange, range_pieces, text_of_pieces}, Scaled.ScaledValue, TextParts.{Piece, parts_pieces, parts_text, pieces_of}}
+use Rattle.number_format.specs.{declared.{format.{formatted_number.FormattedNumber.FormattedNumber, formatter.NumberFormatter.NumberFormatter}, range.{common.BareParts.BareParts, formatted_range.{FormattedRange.FormattedRange, RangeSegment.{RangeSegment, TheVariants.{Prefix, OuterPrefix, Start, Middle, End, Suffix, OuterSuffix}}, RangeSource.{RangeSource, TheVariants.{Shared, StartRange, EndRange}}}, outer.OuterAround.OuterAround, range_texts.RangeTexts.RangeTexts, segment.{InnerSegment.InnerSegment, Segment.Segment}}}, Formatters.system_text, FormattedNumbers.{number_pieces_if, number_text_if, pattern_of}, NumberText.shown_number, PatternTexts.Around, RangeOuter.{outer_by, outer_operands}, RangeText.{IsRangeEnd, RangeEnd, RangePieces, ShownRange, range_pieces, text_of_pieces}, Scaled.ScaledValue, TextParts.{Piece, parts_pieces, parts_text, pieces_of}}
 
 -- ---- The texts of a locale.
 
@@ -63,12 +63,6 @@ formatted_range_text t = text_of_pieces (range_pieces (shown_range t))
 
 -- ---- Private: used only in the contracts of private functions.
 
--- the parts are what is around a number
-pub record AreRangeParts (a : Around) (shown : RangeAffixes) : Type 0 where
-  pub prefix : parts_pieces shown.prefix ≡ a.prefix
-  pub has_number : shown.has_number ≡ a.has_number
-  pub suffix : parts_pieces shown.suffix ≡ a.suffix
-
 -- the parts are what is around a number, without spaces
 pub record AreBareParts (a : Around) (shown : BareParts) : Type 0 where
   pub prefix : parts_pieces shown.prefix ≡ a.prefix
@@ -81,12 +75,18 @@ inner_pieces s = parts_pieces s.prefix ++ (number_pieces_if s.number.now s.has_n
 abbrev pub inner_text : InnerSegment → List ℕ
 inner_text s = parts_text s.prefix ++ (number_text_if s.number.now s.has_number ++ parts_text s.suffix)
 
--- the texts, which are one piece, and what is around a number
+-- what is before the whole text, or after it; its texts are one piece
+abbrev pub outer_text : OuterAround → Bool → List ℕ
+outer_text u is_after = if is_after then parts_text u.after else parts_text u.before
+
+abbrev pub outer_pieces : OuterAround → Bool → List Piece
+outer_pieces u is_after = pieces_of u.kind (outer_text u is_after)
+
 abbrev pub segment_pieces : Segment → List Piece
-segment_pieces s = pieces_of s.kind (parts_text s.texts) ++ inner_pieces s.inner
+segment_pieces s = outer_pieces s.outer s.is_after ++ inner_pieces s.inner
 
 abbrev pub segment_text : Segment → List ℕ
-segment_text s = parts_text s.texts ++ inner_text s.inner
+segment_text s = outer_text s.outer s.is_after ++ inner_text s.inner
 
 -- the category is that of what is around the whole text, or this is the same for each category
 pub record HasOuterCategory (f : NumberFormatter) (v : Decimal) (chosen : PluralCategory) : Type 0 where

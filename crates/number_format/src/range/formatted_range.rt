@@ -1,12 +1,13 @@
 //! A range of two numbers as a locale writes it.
 ghost use Rattle.std.specs.{Prelude.{◌≡◌, ◌≤◌, length, Some, OnOk, OnErr, true}, Fmt.WritesStyledOnOk, Io.KnownBytes.Appends};
 ghost use Rattle.decimal_digits.specs.AppendsPrefix.{AppendsPrefix};
-ghost use Rattle.number_format.specs.{FormattedNumbers.{around_of, pattern_of}, FormattedRanges.{AreRangeParts, end_of, formatted_range_pieces, formatted_range_text, inner_pieces, pieces_in, segment_pieces, segment_text, shown_range, source_of}, RangeOuter.{outer_by, within, IsOuter}, RangeText.{approximate_around, end_number, pieces_by}, TextParts.{Puts, PutsPrefix, pieces_text}};
+ghost use Rattle.number_format.specs.{FormattedNumbers.{around_of, pattern_of}, FormattedRanges.{end_of, formatted_range_pieces, formatted_range_text, inner_pieces, pieces_in, segment_pieces, segment_text, shown_range, source_of}, RangeOuter.{outer_by, within, IsOuter}, RangeText.{approximate_around, end_number, pieces_by}, TextParts.{Puts, PutsPrefix, parts_pieces, pieces_text}};
 ghost use Rattle.number_format.specs.declared.range.form.RangeForm.TheVariants as form;
 
 use crate::format::formatted_number::FormattedNumber;
 use crate::format::parts::PartSink;
-use crate::range::affixes::RangeAffixes;
+use crate::format::text_part::TextPart;
+use crate::range::affixes::shows_number;
 use crate::range::form::RangeForm;
 use crate::range::outer::OuterAround;
 use crate::range::segment::{InnerSegment, Segment};
@@ -115,13 +116,12 @@ impl<'f> FormattedRange<'f> {
         let style = &formatter.style;
         let approximately = self.format.approximately;
         let pattern = number.compact_pattern();
-        let affixes = style.approximate_affixes(approximately, number.value.sign, pattern);
-        let prefix = affixes.prefix;
-        let suffix = affixes.suffix;
+        let prefix = style.approximate_prefix(approximately, number.value.sign, pattern);
+        let suffix = style.approximate_suffix(approximately, number.value.sign, pattern);
         InnerSegment {
             prefix,
             number,
-            has_number: affixes.has_number,
+            has_number: shows_number(pattern),
             suffix,
         }
     }
@@ -130,49 +130,59 @@ impl<'f> FormattedRange<'f> {
         ensures { segment_pieces result ≡ pieces_in (pieces_by form.Approximate (shown_range self.now)) segment }
     {
         let outer = self.outer();
-        let before = outer.before;
-        let after = outer.after;
         let start = &self.start;
         match segment {
-            RangeSegment::OuterPrefix => Segment::of_texts(start, outer.kind, before),
+            RangeSegment::OuterPrefix => Segment::of_outer(start, outer, false),
             RangeSegment::Middle if outer.has_number => {
                 Segment::of_inner(self.approximate_number())
             }
-            RangeSegment::OuterSuffix => Segment::of_texts(start, outer.kind, after),
+            RangeSegment::OuterSuffix => Segment::of_outer(start, outer, true),
             _ => Segment::empty(start),
         }
     }
 
-    fn common_affixes(&self) -> RangeAffixes<'f>
-        ensures { AreRangeParts (around_of self.now.start) result }
+    fn common_prefix(&self) -> [TextPart<'f>; 9]
+        ensures { parts_pieces result ≡ (around_of self.now.start).prefix }
     {
         let start = &self.start;
         let formatter = start.formatter;
         let style = &formatter.style;
-        style.range_affixes(start.value.sign, start.compact_pattern())
+        style.range_prefix(start.value.sign, start.compact_pattern())
+    }
+
+    fn common_suffix(&self) -> [TextPart<'f>; 9]
+        ensures { parts_pieces result ≡ (around_of self.now.start).suffix }
+    {
+        let start = &self.start;
+        let formatter = start.formatter;
+        let style = &formatter.style;
+        style.range_suffix(start.value.sign, start.compact_pattern())
+    }
+
+    fn has_common_number(&self) -> bool
+        ensures { result ≡ (around_of self.now.start).has_number }
+    {
+        shows_number(self.start.compact_pattern())
     }
 
     fn common_segment(&self, segment: RangeSegment) -> Segment<'_, 'f>
         ensures { segment_pieces result ≡ pieces_in (pieces_by form.Common (shown_range self.now)) segment }
     {
         let outer = self.outer();
-        let before = outer.before;
-        let after = outer.after;
-        let affixes = self.common_affixes();
-        let prefix = affixes.prefix;
-        let suffix = affixes.suffix;
-        let has_numbers = outer.has_number && affixes.has_number;
+        let has_number = outer.has_number && self.has_common_number();
         let start = &self.start;
         match segment {
-            RangeSegment::Prefix => Segment::parts_if(start, prefix, true),
-            RangeSegment::OuterPrefix => Segment::of_texts(start, outer.kind, before),
-            RangeSegment::Start => Segment::number_if(start, has_numbers),
+            RangeSegment::Prefix => Segment::parts_if(start, self.common_prefix(), true),
+            RangeSegment::OuterPrefix => Segment::of_outer(start, outer, false),
+            RangeSegment::Start => Segment::number_if(start, has_number),
             RangeSegment::Middle => {
-                Segment::separator_if(start, self.format.separator, self.spaced, has_numbers)
+                Segment::separator_if(start, self.format.separator, self.spaced, has_number)
             }
-            RangeSegment::End => Segment::number_if(&self.end, has_numbers),
-            RangeSegment::Suffix => Segment::parts_if(start, suffix, outer.has_number),
-            RangeSegment::OuterSuffix => Segment::of_texts(start, outer.kind, after),
+            RangeSegment::End => Segment::number_if(&self.end, has_number),
+            RangeSegment::Suffix => {
+                Segment::parts_if(start, self.common_suffix(), outer.has_number)
+            }
+            RangeSegment::OuterSuffix => Segment::of_outer(start, outer, true),
         }
     }
 
@@ -180,18 +190,16 @@ impl<'f> FormattedRange<'f> {
         ensures { segment_pieces result ≡ pieces_in (pieces_by form.Apart (shown_range self.now)) segment }
     {
         let outer = self.outer();
-        let before = outer.before;
-        let after = outer.after;
         let start = &self.start;
         match segment {
-            RangeSegment::OuterPrefix => Segment::of_texts(start, outer.kind, before),
+            RangeSegment::OuterPrefix => Segment::of_outer(start, outer, false),
             RangeSegment::Start => Segment::whole_if(start, outer.has_number),
             RangeSegment::Middle => {
                 let separator = self.format.separator;
                 Segment::separator_if(start, separator, self.spaced, outer.has_number)
             }
             RangeSegment::End => Segment::whole_if(&self.end, outer.has_number),
-            RangeSegment::OuterSuffix => Segment::of_texts(start, outer.kind, after),
+            RangeSegment::OuterSuffix => Segment::of_outer(start, outer, true),
             RangeSegment::Prefix | RangeSegment::Suffix => Segment::empty(start),
         }
     }

@@ -1,13 +1,13 @@
 //! Segments of the text of a range.
-ghost use Rattle.std.specs.{Prelude.{◌≡◌, ◌≤◌, [], ◌∷◌, length, OnOk, OnErr, true, if◌then◌else◌}, Fmt.WritesStyledOnOk, Io.KnownBytes.Appends};
+ghost use Rattle.std.specs.{Prelude.{◌≡◌, ◌≤◌, [], ◌∷◌, length, OnOk, OnErr, true, false, if◌then◌else◌}, Fmt.WritesStyledOnOk, Io.KnownBytes.Appends};
 ghost use Rattle.decimal_digits.specs.AppendsPrefix.{AppendsPrefix};
-ghost use Rattle.number_format.specs.{FormattedNumbers.number_pieces_if, FormattedRanges.{end_of, inner_pieces, inner_text, segment_pieces, segment_text}, PatternTexts.literal, RangeOuter.within, RangeText.{end_around, end_number, has_spaces, pieces_if, separator_pieces}, TextParts.{part_pieces, parts_pieces, parts_text, pieces_of, Puts, PutsPrefix}};
+ghost use Rattle.number_format.specs.{FormattedNumbers.number_pieces_if, FormattedRanges.{end_of, inner_pieces, inner_text, outer_pieces, outer_text, segment_pieces, segment_text}, PatternTexts.literal, RangeOuter.within, RangeText.{end_around, end_number, has_spaces, pieces_if, separator_pieces}, TextParts.{part_pieces, parts_pieces, parts_text, Puts, PutsPrefix}};
 
 use crate::format::formatted_number::FormattedNumber;
 use crate::format::parts::{PartSink, fmt_parts, parts_length, put_parts, write_parts};
 use crate::format::text_part::{PartKind, TextPart};
-use crate::range::affixes::NOTHING;
-use crate::range::outer::put_outer;
+use crate::range::affixes::{NOTHING, shows_number};
+use crate::range::outer::{OuterAround, put_outer};
 use fixed_decimal::{Sink, SinkFault};
 use locale_data::RangeSeparator;
 use std::fmt;
@@ -21,11 +21,12 @@ pub(crate) struct InnerSegment<'r, 'f> {
     pub(crate) suffix: [TextPart<'f>; 9],
 }
 
-/// A segment of the text of a range: texts of one kind; or a number, and what is around it.
+/// A segment of the text of a range: what is before or after the whole text; or a number, and what is around it.
 #[derive(Clone, Copy)]
 pub(crate) struct Segment<'r, 'f> {
-    pub(crate) kind: PartKind,
-    pub(crate) texts: [TextPart<'f>; 4],
+    pub(crate) outer: OuterAround<'f>,
+    /// Whether it is after the whole text.
+    pub(crate) is_after: bool,
     pub(crate) inner: InnerSegment<'r, 'f>,
 }
 
@@ -33,6 +34,19 @@ fn no_texts<'f>() -> [TextPart<'f>; 4]
     ensures { parts_text result ≡ [] }
 {
     [NOTHING, NOTHING, NOTHING, NOTHING]
+}
+
+fn no_outer<'f>() -> OuterAround<'f>
+    ensures { outer_pieces result false ≡ [] }
+{
+    let before = no_texts();
+    let after = no_texts();
+    OuterAround {
+        kind: PartKind::Literal,
+        before,
+        has_number: true,
+        after,
+    }
 }
 
 fn no_parts<'f>() -> [TextPart<'f>; 9]
@@ -102,13 +116,13 @@ impl<'r, 'f> InnerSegment<'r, 'f> {
     {
         let formatter = number.formatter;
         let style = &formatter.style;
-        let affixes = style.range_affixes(number.value.sign, number.compact_pattern());
-        let prefix = affixes.prefix;
-        let suffix = affixes.suffix;
+        let pattern = number.compact_pattern();
+        let prefix = style.range_prefix(number.value.sign, pattern);
+        let suffix = style.range_suffix(number.value.sign, pattern);
         InnerSegment {
             prefix,
             number,
-            has_number: affixes.has_number,
+            has_number: shows_number(pattern),
             suffix,
         }
     }
@@ -156,28 +170,32 @@ impl<'r, 'f> InnerSegment<'r, 'f> {
 }
 
 impl<'r, 'f> Segment<'r, 'f> {
-    /// Returns the segment of what is around a number.
+    /// Returns the segment of a number, and what is around it.
     pub(crate) fn of_inner(inner: InnerSegment<'r, 'f>) -> Self
         ensures { segment_pieces result ≡ inner_pieces inner.entry }
     {
-        let texts = no_texts();
+        let outer = no_outer();
         Segment {
-            kind: PartKind::Literal,
-            texts,
+            outer,
+            is_after: false,
             inner,
         }
     }
 
-    /// Returns the segment of texts of one kind.
-    pub(crate) fn of_texts(
+    /// Returns the segment of what is before or after the whole text.
+    pub(crate) fn of_outer(
         number: &'r FormattedNumber<'f>,
-        kind: PartKind,
-        texts: [TextPart<'f>; 4],
+        outer: OuterAround<'f>,
+        is_after: bool,
     ) -> Self
-        ensures { segment_pieces result ≡ pieces_of kind (parts_text texts.entry) }
+        ensures { segment_pieces result ≡ outer_pieces outer.entry is_after }
     {
         let inner = InnerSegment::number_if(number, false);
-        Segment { kind, texts, inner }
+        Segment {
+            outer,
+            is_after,
+            inner,
+        }
     }
 
     /// Returns a segment without pieces.
@@ -233,6 +251,56 @@ impl<'r, 'f> Segment<'r, 'f> {
         Self::parts_if(number, separator_parts(separator, needs_spaces), shown)
     }
 
+    fn write_outer<W: Sink>(&self, sink: &mut W) -> Result<(), SinkFault>
+        ensures ok { OnOk result
+            (Appends (W.contents sink.old) (W.contents sink.new) (outer_text self.now.outer self.now.is_after)) }
+        ensures err { OnErr result (AppendsPrefix (W.contents sink.old) (W.contents sink.new)
+            (outer_text self.now.outer self.now.is_after)) }
+        ensures failed { OnErr result (W.has_failed sink.new ≡ true) }
+    {
+        if self.is_after {
+            write_parts(&self.outer.after, sink)
+        } else {
+            write_parts(&self.outer.before, sink)
+        }
+    }
+
+    fn fmt_outer<W: fmt::Write>(&self, f: &mut fmt::Formatter<W>) -> fmt::Result
+        ensures { WritesStyledOnOk W.write_str_gives f.old result
+            (outer_text self.now.outer self.now.is_after) f.new }
+    {
+        if self.is_after {
+            fmt_parts(&self.outer.after, f)
+        } else {
+            fmt_parts(&self.outer.before, f)
+        }
+    }
+
+    fn outer_length(&self) -> usize
+        ensures value { result ≡ length (outer_text self.now.outer self.now.is_after) }
+        ensures at_most { result ≤ 1020 }
+    {
+        if self.is_after {
+            parts_length(&self.outer.after)
+        } else {
+            parts_length(&self.outer.before)
+        }
+    }
+
+    fn put_outer<P: PartSink>(&self, sink: &mut P) -> Result<(), SinkFault>
+        ensures ok { OnOk result
+            (Puts (P.pieces sink.old) (P.pieces sink.new) (outer_pieces self.now.outer self.now.is_after)) }
+        ensures err { OnErr result
+            (PutsPrefix (P.pieces sink.old) (P.pieces sink.new) (outer_pieces self.now.outer self.now.is_after)) }
+        ensures failed { OnErr result (P.has_failed sink.new ≡ true) }
+    {
+        if self.is_after {
+            put_outer(sink, self.outer.kind, &self.outer.after)
+        } else {
+            put_outer(sink, self.outer.kind, &self.outer.before)
+        }
+    }
+
     /// Appends the text.
     pub(crate) fn write<W: Sink>(&self, sink: &mut W) -> Result<(), SinkFault>
         ensures ok { OnOk result (Appends (W.contents sink.old) (W.contents sink.new) (segment_text self.now)) }
@@ -240,7 +308,7 @@ impl<'r, 'f> Segment<'r, 'f> {
             (AppendsPrefix (W.contents sink.old) (W.contents sink.new) (segment_text self.now)) }
         ensures failed { OnErr result (W.has_failed sink.new ≡ true) }
     {
-        write_parts(&self.texts, sink)?;
+        self.write_outer(sink)?;
         self.inner.write(sink)
     }
 
@@ -248,7 +316,7 @@ impl<'r, 'f> Segment<'r, 'f> {
     pub(crate) fn fmt<W: fmt::Write>(&self, f: &mut fmt::Formatter<W>) -> fmt::Result
         ensures { WritesStyledOnOk W.write_str_gives f.old result (segment_text self.now) f.new }
     {
-        fmt_parts(&self.texts, f)?;
+        self.fmt_outer(f)?;
         self.inner.fmt(f)
     }
 
@@ -257,7 +325,7 @@ impl<'r, 'f> Segment<'r, 'f> {
         ensures value { result ≡ length (segment_text self.now) }
         ensures at_most { result ≤ 17242598 }
     {
-        parts_length(&self.texts) + self.inner.length()
+        self.outer_length() + self.inner.length()
     }
 
     /// Puts the pieces.
@@ -266,7 +334,7 @@ impl<'r, 'f> Segment<'r, 'f> {
         ensures err { OnErr result (PutsPrefix (P.pieces sink.old) (P.pieces sink.new) (segment_pieces self.now)) }
         ensures failed { OnErr result (P.has_failed sink.new ≡ true) }
     {
-        put_outer(sink, self.kind, &self.texts)?;
+        self.put_outer(sink)?;
         self.inner.put(sink)
     }
 }

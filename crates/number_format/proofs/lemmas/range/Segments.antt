@@ -1,6 +1,6 @@
 -- The texts of segments of ranges.
 use Rattle.std.proofs.Common.{◌≡◌, ◌++◌, ◌∙◌}
-use Rattle.number_format.specs.{declared.range.segment.{InnerSegment.InnerSegment, Segment.Segment}, FormattedNumbers.{number_pieces_if, number_text, number_text_if}, FormattedRanges.{inner_pieces, inner_text, segment_pieces, segment_text}, NumberText.{exponent_of, number_part}, TextParts.{parts_pieces, parts_text, pieces_of, pieces_text}}
+use Rattle.number_format.specs.{declared.range.segment.{InnerSegment.InnerSegment, Segment.Segment}, FormattedNumbers.{number_pieces_if, number_text, number_text_if}, FormattedRanges.{inner_pieces, inner_text, outer_pieces, outer_text, segment_pieces, segment_text}, NumberText.{exponent_of, number_part}, TextParts.{parts_pieces, parts_text, pieces_text}}
 use Rattle.number_format.proofs.lemmas.format.PieceTexts.{text-append, text-if, text-of, text-of_number, text-of_parts, text-three}
 
 text-of_inner : (s : InnerSegment) → pieces_text (inner_pieces s) ≡ inner_text s
@@ -14,5 +14,5 @@ text-of_inner s =
 -- the text of the pieces of a segment
 pub text-of_segment : (s : Segment) → pieces_text (segment_pieces s) ≡ segment_text s
 text-of_segment s =
-    text-append (pieces_of s.kind (parts_text s.texts)) (inner_pieces s.inner)
-    ∙ (λ i. text-of s.kind (parts_text s.texts) i ++ text-of_inner s.inner i)
+    text-append (outer_pieces s.outer s.is_after) (inner_pieces s.inner)
+    ∙ (λ i. text-of s.outer.kind (outer_text s.outer s.is_after) i ++ text-of_inner s.inner i)
