@@ -3,7 +3,7 @@ use Rattle.std.specs.Prelude.{◌≡◌, ◌⊎◌, ℕ, Bool, if◌then◌else�
 use Rattle.fixed_decimal.specs.Decimal.{Decimal}
 use Rattle.plural_rules.specs.declared.rules.PluralCategory.{PluralCategory}
 use Rattle.locale_data.specs.{declared.locales.LocaleId.LocaleId, Locales.AreRowsOf, Plurals.IsCategoryAt, RangeFormats.IsRangeFormat}
-use Rattle.number_format.specs.{declared.{format.{formatted_number.FormattedNumber.FormattedNumber, formatter.NumberFormatter.NumberFormatter}, range.{common.BareParts.BareParts, formatted_range.{FormattedRange.FormattedRange, RangeSegment.{RangeSegment, TheVariants.{Prefix, OuterPrefix, Start, Middle, End, Suffix, OuterSuffix}}, RangeSource.{RangeSource, TheVariants.{Shared, StartRange, EndRange}}}, outer.OuterAround.OuterAround, range_texts.RangeTexts.RangeTexts, segment.{InnerSegment.InnerSegment, Segment.Segment}}}, Formatters.system_text, FormattedNumbers.{number_pieces_if, number_text_if, pattern_of}, NumberText.shown_number, PatternTexts.Around, RangeOuter.{outer_by, outer_operands}, RangeText.{IsRangeEnd, RangeEnd, RangePieces, ShownRange, range_pieces, text_of_pieces}, Scaled.ScaledValue, TextParts.{Piece, parts_pieces, parts_text, pieces_of}}
+use Rattle.number_format.specs.{declared.{format.{formatted_number.FormattedNumber.FormattedNumber, formatter.NumberFormatter.NumberFormatter}, range.{common.BareParts.BareParts, formatted_range.{FormattedRange.FormattedRange, RangeSegment.{RangeSegment, TheVariants.{Prefix, OuterPrefix, Start, Middle, End, Suffix, OuterSuffix}}, RangeSource.{RangeSource, TheVariants.{Shared, StartRange, EndRange}}}, outer.OuterAround.OuterAround, range_texts.RangeTexts.RangeTexts, segment.{InnerSegment.InnerSegment, Segment.Segment}}}, Formatters.system_text, FormattedNumbers.{number_pieces_if, number_text_if, pattern_of}, NumberText.shown_number, PatternTexts.Around, RangeOuter.{outer_by, outer_operands}, RangeText.{IsRangeEnd, RangeEnd, RangePieces, ShownRange, range_pieces, text_of_pieces}, Scaled.ScaledValue, TextParts.{Piece, parts_pieces, parts_text, pieces_of, pieces_text}}
 
 -- ---- The texts of a locale.
 
@@ -62,6 +62,17 @@ abbrev pub formatted_range_text : FormattedRange → List ℕ
 formatted_range_text t = text_of_pieces (range_pieces (shown_range t))
 
 -- ---- Private: used only in the contracts of private functions.
+
+-- the text of the last three segments, and of the last five
+abbrev pub text_from_end : FormattedRange → List ℕ
+text_from_end t =
+    let text = λ (segment : RangeSegment). pieces_text (formatted_range_pieces t segment) in
+    text End ++ (text Suffix ++ text OuterSuffix)
+
+abbrev pub text_from_start : FormattedRange → List ℕ
+text_from_start t =
+    pieces_text (formatted_range_pieces t Start)
+    ++ (pieces_text (formatted_range_pieces t Middle) ++ text_from_end t)
 
 -- the parts are what is around a number, without spaces
 pub record AreBareParts (a : Around) (shown : BareParts) : Type 0 where

@@ -1,7 +1,7 @@
 //! A range of two numbers as a locale writes it.
 ghost use Rattle.std.specs.{Prelude.{◌≡◌, ◌≤◌, length, Some, OnOk, OnErr, true}, Fmt.WritesStyledOnOk, Io.KnownBytes.Appends};
 ghost use Rattle.decimal_digits.specs.AppendsPrefix.{AppendsPrefix};
-ghost use Rattle.number_format.specs.{FormattedNumbers.{around_of, pattern_of}, FormattedRanges.{end_of, formatted_range_pieces, formatted_range_text, inner_pieces, pieces_in, segment_pieces, segment_text, shown_range, source_of}, RangeOuter.{outer_by, within, IsOuter}, RangeText.{approximate_around, end_number, pieces_by}, TextParts.{Puts, PutsPrefix, parts_pieces, pieces_text}};
+ghost use Rattle.number_format.specs.{FormattedNumbers.{around_of, pattern_of}, FormattedRanges.{end_of, formatted_range_pieces, formatted_range_text, inner_pieces, pieces_in, segment_pieces, segment_text, shown_range, source_of, text_from_end, text_from_start}, RangeOuter.{outer_by, within, IsOuter}, RangeText.{approximate_around, end_number, pieces_by}, TextParts.{Puts, PutsPrefix, parts_pieces, pieces_text}};
 ghost use Rattle.number_format.specs.declared.range.form.RangeForm.TheVariants as form;
 
 use crate::format::formatted_number::FormattedNumber;
@@ -243,6 +243,22 @@ impl<'f> FormattedRange<'f> {
         self.segment(segment).fmt(f)
     }
 
+    fn fmt_from_end<W: fmt::Write>(&self, f: &mut fmt::Formatter<W>) -> fmt::Result
+        ensures { WritesStyledOnOk W.write_str_gives f.old result (text_from_end self.now) f.new }
+    {
+        self.fmt_segment(RangeSegment::End, f)?;
+        self.fmt_segment(RangeSegment::Suffix, f)?;
+        self.fmt_segment(RangeSegment::OuterSuffix, f)
+    }
+
+    fn fmt_from_start<W: fmt::Write>(&self, f: &mut fmt::Formatter<W>) -> fmt::Result
+        ensures { WritesStyledOnOk W.write_str_gives f.old result (text_from_start self.now) f.new }
+    {
+        self.fmt_segment(RangeSegment::Start, f)?;
+        self.fmt_segment(RangeSegment::Middle, f)?;
+        self.fmt_from_end(f)
+    }
+
     /// Puts the pieces of a segment of the text with their kinds: consecutive pieces of one kind are one part of
     /// `formatRangeToParts` of ECMA-402, and [`RangeSegment::source`] is their source; pieces of one kind from two
     /// sources are one part, which is shared. It does not allocate.
@@ -313,10 +329,6 @@ impl<'f> fmt::Display for FormattedRange<'f> {
     fn fmt<W: fmt::Write>(&self, f: &mut fmt::Formatter<W>) -> fmt::Result {
         self.fmt_segment(RangeSegment::Prefix, f)?;
         self.fmt_segment(RangeSegment::OuterPrefix, f)?;
-        self.fmt_segment(RangeSegment::Start, f)?;
-        self.fmt_segment(RangeSegment::Middle, f)?;
-        self.fmt_segment(RangeSegment::End, f)?;
-        self.fmt_segment(RangeSegment::Suffix, f)?;
-        self.fmt_segment(RangeSegment::OuterSuffix, f)
+        self.fmt_from_start(f)
     }
 }
