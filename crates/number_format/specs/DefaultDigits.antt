@@ -32,6 +32,7 @@ abbrev pub fraction_digits : CurrencyDigits → NumberStyle → ℕ × ℕ
 fraction_digits digits NumberStyle.Decimal = (0, 3)
 fraction_digits digits NumberStyle.Percent = (0, 0)
 fraction_digits digits NumberStyle.Permille = (0, 0)
+fraction_digits digits (NumberStyle.Unit u) = (0, 3)
 fraction_digits digits (NumberStyle.Currency c) = ((usage_digits c.usage digits).0, (usage_digits c.usage digits).0)
 
 -- an increment that ECMA-402 allows, or 1

@@ -3,7 +3,8 @@ use Rattle.std.specs.Prelude.{◌≡◌, ℕ, ℤ, Bool, true, false, if◌then�
 use Rattle.decimal_format.specs.declared.grouping.GroupingStrategy.{GroupingStrategy}
 use Rattle.fixed_decimal.specs.declared.variations.SignDisplay.{SignDisplay}
 use Rattle.locale_data.specs.declared.currency.CurrencySign.{CurrencySign}
-use Rattle.number_format.specs.{declared.{digits.{options.DigitOptions.DigitOptions, error.DigitOptionsError.DigitOptionsError, settings.{DigitDefaults.DigitDefaults, DigitSettings.DigitSettings}}, options.{CurrencyDisplay.CurrencyDisplay, CurrencyStyle.CurrencyStyle, CurrencyUsage.CurrencyUsage, ExponentOptions.ExponentOptions, ExponentSign.ExponentSign, NumberNotation.NumberNotation, NumberOptions.NumberOptions, NumberStyle.NumberStyle}}, DefaultDigits.IsDefault, Resolved.{IsResolved, resolve_error}}
+use Rattle.locale_names.specs.declared.{locale_units.UnitDisplay.UnitDisplay, unit_id.Unit.Unit}
+use Rattle.number_format.specs.{declared.{digits.{options.DigitOptions.DigitOptions, error.DigitOptionsError.DigitOptionsError, settings.{DigitDefaults.DigitDefaults, DigitSettings.DigitSettings}}, options.{CurrencyDisplay.CurrencyDisplay, CurrencyStyle.CurrencyStyle, CurrencyUsage.CurrencyUsage, DecimalSeparatorDisplay.DecimalSeparatorDisplay, ExponentOptions.ExponentOptions, ExponentSign.ExponentSign, NumberNotation.NumberNotation, NumberOptions.NumberOptions, NumberStyle.NumberStyle, UnitStyle.UnitStyle}}, DefaultDigits.IsDefault, Resolved.{IsResolved, resolve_error}}
 
 -- one digit or more, and a minus sign below 0
 abbrev pub plain_exponent : ExponentOptions
@@ -17,6 +18,10 @@ currency_style code = record {
   sign = CurrencySign.Standard;
   usage = CurrencyUsage.Standard;
 }
+
+-- the short text of a unit
+abbrev pub unit_style : Unit → UnitStyle
+unit_style unit = record { unit = unit; display = UnitDisplay.Short }
 
 -- in compact notation a separator has at least two digits before it
 abbrev pub default_grouping : NumberNotation → GroupingStrategy
@@ -32,6 +37,7 @@ options_of style scale notation = record {
   digits = None;
   sign_display = SignDisplay.Auto;
   grouping = default_grouping notation;
+  decimal_separator = DecimalSeparatorDisplay.Auto;
   numbering_system = None;
 }
 

@@ -1,11 +1,11 @@
 -- The text of a formatted number.
-use Rattle.std.specs.Prelude.{◌≡◌, ◌↔◌, ℕ, Bool, IsTrue, if◌then◌else◌, List, [], ◌++◌, Option, Some, None, ℤ}
+use Rattle.std.specs.Prelude.{◌≡◌, ◌⊎◌, ◌↔◌, ℕ, Bool, true, ◌≢◌, IsTrue, if◌then◌else◌, List, [], ◌++◌, Option, Some, None, ℤ}
 use Rattle.fixed_decimal.specs.Decimal.{Decimal}
-use Rattle.decimal_format.specs.{Formatted.absolute_text, Symbols.Affixes, declared.grouping.GroupingStrategy.TheVariants.Never}
+use Rattle.decimal_format.specs.{Formatted.absolute_text, declared.grouping.GroupingStrategy.TheVariants.Never}
 use Rattle.locale_data.specs.{Compact.{pattern_for, patterns_in}, Plurals.IsCategoryAt, declared.{compact.CompactStyle.CompactStyle, tables.rows.compact.CompactPattern.CompactPattern}}
 use Rattle.plural_rules.specs.Operands as operands
 use Rattle.plural_rules.specs.declared.rules.PluralCategory.{PluralCategory}
-use Rattle.number_format.specs.{declared.{notation.scale.ShownNumber.ShownNumber, format.{compact.CompactChoice.CompactChoice, formatted_number.FormattedNumber.FormattedNumber, formatter.NumberFormatter.NumberFormatter}}, NumberText.{around_by, compact_style, compact_pattern, compact_magnitude, is_one, number_before_cut, shown_number, unit_by, whole_number, exponent_of, number_part, pieces_around}, PatternTexts.{Around, sign_text}, Scaled.scaled_value, TextParts.{Piece, pieces_text}}
+use Rattle.number_format.specs.{declared.{notation.scale.ShownNumber.ShownNumber, options.NumberNotation.NumberNotation, format.{outer.OuterAround.OuterAround, compact.CompactChoice.CompactChoice, formatted_number.FormattedNumber.FormattedNumber, formatter.NumberFormatter.NumberFormatter}}, NumberText.{around_by, bare_separator, compact_style, compact_pattern, compact_magnitude, has_categories, is_one, number_before_cut, shown_number, outer_by, outer_operands, exponent_of, number_part}, PatternTexts.{Around, sign_text, within}, Scaled.{ScaledValue, scaled_value}, TextParts.{Piece, parts_text, pieces_of, pieces_text}}
 
 -- the compact pattern that is chosen, in compact notation
 abbrev pub chosen_pattern : Option CompactStyle → CompactChoice → Option CompactPattern
@@ -21,14 +21,17 @@ abbrev pub around_of : FormattedNumber → Around
 around_of n = around_by n.formatter.now.style n.value.sign (pattern_of n)
 
 -- and around the whole text
-abbrev pub unit_of : FormattedNumber → Affixes
-unit_of n = unit_by n.formatter.now n.whole
+abbrev pub outer_of : FormattedNumber → Around
+outer_of n = outer_by n.formatter.now n.whole
+
+-- the pieces of the digits and of the exponent
+abbrev pub number_pieces : FormattedNumber → List Piece
+number_pieces n =
+    number_part n.formatter.now n.value.absolute (exponent_of n.formatter.now.options.notation n.exponent)
 
 -- the pieces of a text, with their kinds
 abbrev pub formatted_number_pieces : FormattedNumber → List Piece
-formatted_number_pieces n =
-    pieces_around n.formatter.now n.value.absolute (exponent_of n.formatter.now.options.notation n.exponent)
-    (around_of n) (unit_of n)
+formatted_number_pieces n = within (outer_of n) (within (around_of n) (number_pieces n))
 
 -- the text: that of the pieces
 abbrev pub formatted_number_text : FormattedNumber → List ℕ
@@ -42,17 +45,25 @@ exponent_text f None = []
 exponent_text f (Some e) =
     f.separator.text.now ++ (sign_text f.style.symbols e.sign ++ absolute_text f.style.symbols Never e.absolute)
 
--- the digits of the significand, and the exponent
+-- the decimal separator of a number without fraction digits, if it is always written
+abbrev pub separator_of : FormattedNumber → List ℕ
+separator_of n =
+    bare_separator n.formatter.now.options.decimal_separator n.formatter.now.style.symbols n.value.absolute
+
+-- the digits of the significand, with that separator
+abbrev pub significand_text : FormattedNumber → List ℕ
+significand_text n =
+    absolute_text n.formatter.now.style.symbols n.formatter.now.options.grouping n.value.absolute ++ separator_of n
+
+-- and the exponent
 abbrev pub number_text : FormattedNumber → List ℕ
 number_text n =
-    absolute_text n.formatter.now.style.symbols n.formatter.now.options.grouping n.value.absolute
+    significand_text n
     ++ exponent_text n.formatter.now (exponent_of n.formatter.now.options.notation n.exponent)
 
 -- the pieces of these, if the text has a number
 abbrev pub number_pieces_if : FormattedNumber → Bool → List Piece
-number_pieces_if n has_number =
-    if has_number then number_part n.formatter.now n.value.absolute
-    (exponent_of n.formatter.now.options.notation n.exponent) else []
+number_pieces_if n has_number = if has_number then number_pieces n else []
 
 -- the same text, if the text has a number
 abbrev pub number_text_if : FormattedNumber → Bool → List ℕ
@@ -61,6 +72,26 @@ number_text_if n has_number = if has_number then number_text n else []
 -- the number with what is around it
 abbrev pub around_text : FormattedNumber → Around → List ℕ
 around_text n a = pieces_text a.prefix ++ (number_text_if n a.has_number ++ pieces_text a.suffix)
+
+-- the same with what is around the number
+abbrev pub inner_text : FormattedNumber → List ℕ
+inner_text n = around_text n (around_of n)
+
+abbrev pub inner_pieces : FormattedNumber → List Piece
+inner_pieces n = within (around_of n) (number_pieces n)
+
+-- these, if the pattern of the unit or the name has a number
+abbrev pub inner_text_if : FormattedNumber → Bool → List ℕ
+inner_text_if n has_number = if has_number then inner_text n else []
+
+abbrev pub inner_pieces_if : FormattedNumber → Bool → List Piece
+inner_pieces_if n has_number = if has_number then inner_pieces n else []
+
+-- texts of one kind, one after another, are what is around the whole text
+pub record IsOuter (a : Around) (shown : OuterAround) : Type 0 where
+  pub prefix : pieces_of shown.kind (parts_text shown.before) ≡ a.prefix
+  pub has_number : shown.has_number ≡ a.has_number
+  pub suffix : pieces_of shown.kind (parts_text shown.after) ≡ a.suffix
 
 -- what chooses the same compact pattern as a significand does
 pub record ChoosesPattern (f : NumberFormatter) (significand : Decimal) (e : ℤ) (choice : CompactChoice)
@@ -72,11 +103,18 @@ pub record ChoosesPattern (f : NumberFormatter) (significand : Decimal) (e : ℤ
       chosen_pattern style choice
       ≡ compact_pattern f.formats style (compact_magnitude f.notation significand e) category (is_one significand)
 
--- and the same texts around the whole text as the number before it is divided does
-pub record ChoosesUnit (f : NumberFormatter) (v : Decimal) (chosen : PluralCategory) : Type 0 where
+-- the category is that of the number, or the same texts are around the whole text by each category
+pub record ChoosesOuter (f : NumberFormatter) (v : Decimal) (number : ScaledValue) (chosen : PluralCategory)
+    : Type 0 where
   pub category : PluralCategory
-  pub of_whole : IsCategoryAt f.rules (operands.plain (whole_number f v)) category
-  pub texts : unit_by f chosen ≡ unit_by f category
+  pub of_whole : IsCategoryAt f.rules (outer_operands f v number) category
+  pub same : (chosen ≡ category) ⊎ ((a b : PluralCategory) → outer_by f a ≡ outer_by f b)
+
+-- what chooses these before the number is rounded; in standard notation they are chosen after that
+abbrev pub ChoosesWhole : NumberFormatter → Decimal → PluralCategory → Type 0
+ChoosesWhole f v chosen =
+    (number : ScaledValue) → shown_number f v ≡ Some number
+    → (has_categories f ≡ true → f.options.notation ≢ NumberNotation.Standard) → ChoosesOuter f v number chosen
 
 -- what is known of a rounded number: its significand, its exponent, and whether it is 0 before digits are cut off
 pub record IsShownNumber (f : NumberFormatter) (v significand : Decimal) (shown : ShownNumber) : Type 0 where

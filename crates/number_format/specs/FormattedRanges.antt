@@ -2,8 +2,8 @@
 use Rattle.std.specs.Prelude.{◌≡◌, ◌⊎◌, ℕ, Bool, if◌then◌else◌, List, ◌++◌, Option, Some}
 use Rattle.fixed_decimal.specs.Decimal.{Decimal}
 use Rattle.plural_rules.specs.declared.rules.PluralCategory.{PluralCategory}
-use Rattle.locale_data.specs.{declared.locales.LocaleId.LocaleId, Locales.AreRowsOf, Plurals.IsCategoryAt, RangeFormats.IsRangeFormat}
-use Rattle.number_format.specs.{declared.{format.{formatted_number.FormattedNumber.FormattedNumber, formatter.NumberFormatter.NumberFormatter}, range.{common.BareParts.BareParts, formatted_range.{FormattedRange.FormattedRange, RangeSegment.{RangeSegment, TheVariants.{Prefix, OuterPrefix, Start, Middle, End, Suffix, OuterSuffix}}, RangeSource.{RangeSource, TheVariants.{Shared, StartRange, EndRange}}}, outer.OuterAround.OuterAround, range_texts.RangeTexts.RangeTexts, segment.{InnerSegment.InnerSegment, Segment.Segment}}}, Formatters.system_text, FormattedNumbers.{number_pieces_if, number_text_if, pattern_of}, NumberText.shown_number, PatternTexts.Around, RangeOuter.{outer_by, outer_operands}, RangeText.{IsRangeEnd, RangeEnd, RangePieces, ShownRange, range_pieces, text_of_pieces}, Scaled.ScaledValue, TextParts.{Piece, parts_pieces, parts_text, pieces_of, pieces_text}}
+use Rattle.locale_data.specs.{declared.locales.LocaleId.LocaleId, Locales.AreRowsOf, RangeFormats.IsRangeFormat}
+use Rattle.number_format.specs.{declared.{format.{outer.OuterAround.OuterAround, formatted_number.FormattedNumber.FormattedNumber, formatter.NumberFormatter.NumberFormatter}, range.{common.BareParts.BareParts, formatted_range.{FormattedRange.FormattedRange, RangeSegment.{RangeSegment, TheVariants.{Prefix, OuterPrefix, Start, Middle, End, Suffix, OuterSuffix}}, RangeSource.{RangeSource, TheVariants.{Shared, StartRange, EndRange}}}, range_texts.RangeTexts.RangeTexts, segment.{InnerSegment.InnerSegment, Segment.Segment}}}, Formatters.system_text, FormattedNumbers.{number_pieces_if, number_text_if, pattern_of}, NumberText.outer_by, PatternTexts.Around, RangeText.{IsRangeEnd, RangeEnd, RangePieces, ShownRange, range_pieces, text_of_pieces}, TextParts.{Piece, parts_pieces, parts_text, pieces_of, pieces_text}}
 
 -- ---- The texts of a locale.
 
@@ -35,7 +35,7 @@ shown_range t = record {
   format = t.format;
   form = t.form;
   spaced = t.spaced;
-  category = t.category;
+  category = t.start.whole;
 }
 
 -- the pieces of a segment
@@ -98,13 +98,6 @@ segment_pieces s = outer_pieces s.outer s.is_after ++ inner_pieces s.inner
 
 abbrev pub segment_text : Segment → List ℕ
 segment_text s = outer_text s.outer s.is_after ++ inner_text s.inner
-
--- the category is that of what is around the whole text, or this is the same for each category
-pub record HasOuterCategory (f : NumberFormatter) (v : Decimal) (chosen : PluralCategory) : Type 0 where
-  pub whole : PluralCategory
-  pub of_whole : (number : ScaledValue) → shown_number f v ≡ Some number
-      → IsCategoryAt f.rules (outer_operands f v number) whole
-  pub same : (chosen ≡ whole) ⊎ ((a b : PluralCategory) → outer_by f a ≡ outer_by f b)
 
 -- a formatted number is an end of a range, and has the category of what is around the whole text
 abbrev pub IsFormattedEnd : NumberFormatter → Decimal → FormattedNumber → Type 0

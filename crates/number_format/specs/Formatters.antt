@@ -1,9 +1,9 @@
 -- The formatter that a tag and options name.
-use Rattle.std.specs.{Prelude.{◌≡◌, ℕ, ◌==◌, false, ◌⊎◌, if◌then◌else◌, List, [], slice_get, Option, Some, None, unwrap_or, IsSomeAnd, MatchOption, pos, ⊤}, Option.option_map}
+use Rattle.std.specs.{Prelude.{◌≡◌, ℕ, ◌==◌, Bool, true, false, ◌⊎◌, if◌then◌else◌, List, [], slice_get, Option, Some, None, unwrap_or, IsSomeAnd, MatchOption, pos, ⊤}, Option.option_map}
 use Rattle.fixed_decimal.specs.declared.variations.SignDisplay.{SignDisplay}
 use Rattle.decimal_format.specs.{Symbols.Symbols, declared.grouping.{GroupingSizes.GroupingSizes, GroupingStrategy.GroupingStrategy}}
 use Rattle.locale_data.specs.{declared.{compact.CompactStyle.CompactStyle, currency.{CurrencyId.CurrencyId, CurrencyPattern.CurrencyPattern, CurrencySign.CurrencySign}, local_currency.{CurrencyDigits.CurrencyDigits, LocalCurrency.LocalCurrency}, locales.LocaleId.LocaleId, tables.{formats.TheConstants.{PATTERNS, NUMBER_SIGNS}, rows.patterns.{NumberSigns.NumberSigns, Pattern.Pattern}}, number_formats.NumberFormats.NumberFormats, plurals.PluralRuleType.TheVariants.Cardinal}, Compact.AreExponents, Currencies.{currency_with, digits_of, IsCurrencyId, IsCurrencyAt, IsCurrencyPattern, LacksCurrency}, Formats.AreFormatsOf, Locales.{symbols_at, system_named, system_name_at, AreRowsOf, IsLocale, IsLocaleIn, IsUnknown}, Patterns.{separator_text, exponent_text}, Plurals.{rules_text_at, IsRulesText, HasNoRules}}
-use Rattle.number_format.specs.{declared.{digits.options.DigitOptions.DigitOptions, notation.Notation.Notation, format.{ids.{FormatterIds.FormatterIds, NumberFormatError.NumberFormatError}, formatter.NumberFormatter.NumberFormatter, currency.ShownCurrency.ShownCurrency}, options.{NumberNotation.NumberNotation, NumberOptions.NumberOptions, NumberStyle.NumberStyle}}, DefaultDigits.AreDefaultDigits, NumberStyles.{plain_pattern, percent_text, in_system, IsShownBy, IsShownCurrency}, NumberText.compact_style}
+use Rattle.number_format.specs.{declared.{digits.options.DigitOptions.DigitOptions, notation.Notation.Notation, format.{outer.OuterTexts.OuterTexts, ids.{FormatterIds.FormatterIds, NumberFormatError.NumberFormatError}, formatter.NumberFormatter.NumberFormatter, currency.ShownCurrency.ShownCurrency}, options.{CurrencyStyle.CurrencyStyle, DecimalSeparatorDisplay.DecimalSeparatorDisplay, NumberNotation.NumberNotation, NumberOptions.NumberOptions, NumberStyle.NumberStyle}}, DefaultDigits.AreDefaultDigits, NumberStyles.{plain_pattern, money_pattern, percent_text, percent_kind, in_system, outer_for, AreOuterTexts, IsShownBy, IsShownCurrency}, NumberText.compact_style}
 
 -- ---- What options say by themselves.
 
@@ -30,18 +30,38 @@ pub record IsWithoutCurrency (pattern : Pattern) (p : CurrencyPattern) (shown : 
   pub written : p ≡ record { pattern = pattern; decimal = None; grouping = None }
   pub hidden : IsShownBy [] false false shown
 
--- the pattern, the separators and the currency of a style; percent in compact notation has the pattern of plain numbers
-abbrev pub IsStyle : NumberStyle → NumberNotation → List ℕ → GroupingSizes → NumberFormats → Option LocalCurrency
-    → SignDisplay → CurrencyPattern → ShownCurrency → Type 0
-IsStyle NumberStyle.Decimal n system sizes formats currency display p shown =
-    IsWithoutCurrency (plain_pattern sizes) p shown
-IsStyle (NumberStyle.Currency c) n system sizes formats currency display p shown =
-    IsCurrencyPattern formats currency (currency_sign display c.sign) p
-    × (own : ShownCurrency) × IsShownCurrency currency c own × (shown ≡ in_system system own)
-IsStyle other (NumberNotation.Compact words) system sizes formats currency display p shown =
-    IsWithoutCurrency (plain_pattern sizes) p shown
-IsStyle other n system sizes formats currency display p shown =
+-- the pattern of percentages is that of percent, of permille and of a unit without texts, but not in compact notation
+abbrev pub has_percent_pattern : NumberNotation → NumberStyle → OuterTexts → Bool
+has_percent_pattern (NumberNotation.Compact words) style texts = false
+has_percent_pattern n NumberStyle.Percent texts = true
+has_percent_pattern n NumberStyle.Permille texts = true
+has_percent_pattern n (NumberStyle.Unit u) OuterTexts.None = true
+has_percent_pattern n style texts = false
+
+-- the pattern of percentages, or that of plain numbers
+abbrev pub IsNumberPattern : Bool → GroupingSizes → NumberFormats → CurrencyPattern → ShownCurrency → Type 0
+IsNumberPattern false sizes formats p shown = IsWithoutCurrency (plain_pattern sizes) p shown
+IsNumberPattern true sizes formats p shown =
     (slice_get PATTERNS formats.percent ≡ Some p.pattern) × IsWithoutCurrency p.pattern p shown
+
+-- the pattern of an amount, with its symbol
+pub record IsMoney (system : List ℕ) (sizes : GroupingSizes) (formats : NumberFormats)
+    (currency : Option LocalCurrency) (display : SignDisplay) (c : CurrencyStyle) (p : CurrencyPattern)
+    (shown : ShownCurrency) : Type 0 where
+  pub written : CurrencyPattern
+  pub own : ShownCurrency
+  pub written_is : IsCurrencyPattern formats currency (currency_sign display c.sign) written
+  pub pattern : p ≡ money_pattern c.display sizes written
+  pub own_is : IsShownCurrency currency c own
+  pub shown_is : shown ≡ in_system system own
+
+-- the pattern, the separators and the currency of a style
+abbrev pub IsStyle : NumberStyle → NumberNotation → OuterTexts → List ℕ → GroupingSizes → NumberFormats
+    → Option LocalCurrency → SignDisplay → CurrencyPattern → ShownCurrency → Type 0
+IsStyle (NumberStyle.Currency c) n texts system sizes formats currency display =
+    IsMoney system sizes formats currency display c
+IsStyle style n texts system sizes formats currency display =
+    IsNumberPattern (has_percent_pattern n style texts) sizes formats
 
 -- the digits of a currency; of one that is not listed those of no currency
 abbrev pub digits_by : Option LocalCurrency → CurrencyDigits
@@ -63,18 +83,20 @@ IsNotationBy formats (NumberNotation.Engineering o) None Notation.Engineering = 
 IsNotationBy formats NumberNotation.Standard None Notation.Standard = ⊤
 IsNotationBy formats other words n = ⊥
 
--- the formatter of the symbols and the currency of a locale, and of a numbering system
-pub record IsFormatterBy (own : Symbols) (system : List ℕ) (currency : Option LocalCurrency) (o : NumberOptions)
-    (f : NumberFormatter) : Type 0 where
+-- the formatter of the symbols, the currency and the outer texts of a locale, and of a numbering system
+pub record IsFormatterBy (own : Symbols) (system : List ℕ) (currency : Option LocalCurrency) (texts : OuterTexts)
+    (o : NumberOptions) (f : NumberFormatter) : Type 0 where
   pub signs : NumberSigns
   pub written : CurrencyPattern
   pub signs_are : slice_get NUMBER_SIGNS f.formats.signs ≡ Some signs
+  pub outer : f.outer ≡ outer_for o.style texts
   pub style_is :
-      IsStyle o.style o.notation system own.sizes f.formats currency o.sign_display written f.style.currency
+      IsStyle o.style o.notation f.outer system own.sizes f.formats currency o.sign_display written f.style.currency
   pub symbols : f.style.symbols
       ≡ record (with_separators own written) { sizes = style_sizes written.pattern o.grouping own.sizes }
   pub pattern : f.style.pattern ≡ written.pattern
   pub percent : f.style.percent.text.now ≡ percent_text o.style signs
+  pub percent_kind_is : f.style.percent.kind ≡ percent_kind o.style
   pub separator : f.separator.text.now ≡ exponent_text signs.exponent
   pub options : f.options ≡ o
   pub notation_is : IsNotationBy f.formats o.notation (compact_style o.notation o.style) f.notation
@@ -102,7 +124,7 @@ pub record IsFormatterAt (ids : FormatterIds) (o : NumberOptions) (f : NumberFor
   pub currency_is : IsCurrencyBy ids.currency currency
   pub formats : f.formats ≡ ids.formats
   pub rules : f.rules ≡ ids.rules
-  pub made : IsFormatterBy own system currency o f
+  pub made : IsFormatterBy own system currency ids.outer o f
 
 -- a table has no such row
 abbrev pub LacksRows : FormatterIds → Type 0
@@ -130,6 +152,7 @@ pub record AreIdsOf (tag : List ℕ) (o : NumberOptions) (ids : FormatterIds) : 
   pub formats : AreFormatsOf tag system ids.formats
   pub rules : IsSomeAnd (rules_text_at ids.rules) (IsRulesText tag Cardinal)
   pub currency : IsCurrencyRow tag o.style ids.currency
+  pub outer : AreOuterTexts tag o.style o.notation ids.outer
 
 -- ---- The formatter of a tag.
 
@@ -156,6 +179,7 @@ plain_options grouping system = record {
   digits = None;
   sign_display = SignDisplay.Auto;
   grouping = grouping;
+  decimal_separator = DecimalSeparatorDisplay.Auto;
   numbering_system = system;
 }
 

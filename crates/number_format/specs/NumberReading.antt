@@ -3,7 +3,7 @@ use Rattle.std.specs.{Prelude.{◌≡◌, ◌≢◌, ℕ, ◌⊎◌, List, [], �
 use Rattle.decimal_unsigned.specs.declared.error.ParseError.{ParseError, TheVariants.Syntax}
 use Rattle.fixed_decimal.specs.{Decimal.Decimal, declared.variations.Sign.Sign}
 use Rattle.decimal_format.specs.{Readable.IsReadable, Symbols.{Affixes, affixes}, declared.reader.alternatives.Alternative.Alternative}
-use Rattle.number_format.specs.{declared.{format.{affixes.StyleTexts.StyleTexts, formatter.NumberFormatter.NumberFormatter}, options.{NumberNotation.NumberNotation, NumberStyle.NumberStyle}, read.number_reader.{NumberReaderError.NumberReaderError, ParseMode.{ParseMode, TheVariants.{Strict, Lenient}}}}, AffixedTexts.{AreNamed, Reader, IsReadExactly, IsReadTyped}, NumberText.{shown_number, shown_sign}, PatternTexts.{affixes_for, affixes_of_style}, Scaled.ScaledValue}
+use Rattle.number_format.specs.{declared.{format.{affixes.StyleTexts.StyleTexts, outer.OuterTexts.OuterTexts, formatter.NumberFormatter.NumberFormatter}, options.{DecimalSeparatorDisplay.DecimalSeparatorDisplay, NumberNotation.NumberNotation, NumberStyle.NumberStyle}, read.number_reader.{NumberReaderError.NumberReaderError, ParseMode.{ParseMode, TheVariants.{Strict, Lenient}}}}, AffixedTexts.{AreNamed, Reader, IsReadExactly, IsReadTyped}, NumberText.{shown_number, shown_sign}, PatternTexts.{affixes_for, affixes_of_style}, Scaled.ScaledValue}
 
 -- ---- Exactly.
 
@@ -11,13 +11,18 @@ use Rattle.number_format.specs.{declared.{format.{affixes.StyleTexts.StyleTexts,
 abbrev pub IsStandard : NumberFormatter → Type 0
 IsStandard f = f.options.notation ≡ NumberNotation.Standard
 
+-- and no unit, no name of a currency, and no decimal separator without fraction digits is written
+abbrev pub HasNumberAlone : NumberFormatter → Type 0
+HasNumberAlone f =
+    IsStandard f × ((f.outer ≡ OuterTexts.None) × (f.options.decimal_separator ≡ DecimalSeparatorDisplay.Auto))
+
 -- the reader of its texts, which undoes its scale
 abbrev pub reader_of : NumberFormatter → Reader
 reader_of f = record { symbols = f.style.symbols; affixes = affixes_of_style f.style; shift = pos 0 -ℤ f.options.scale }
 
--- the notation and the scale can be undone
+-- the notation and the scale can be undone, and the number is written alone
 abbrev pub CanUndo : NumberFormatter → Type 0
-CanUndo f = IsStandard f × (f.options.scale ≢ negsuc 32767)
+CanUndo f = HasNumberAlone f × (f.options.scale ≢ negsuc 32767)
 
 -- the texts of the formatter are read: a text has at most one sign and one number
 pub record CanRead (f : NumberFormatter) : Type 0 where
@@ -27,8 +32,8 @@ pub record CanRead (f : NumberFormatter) : Type 0 where
 
 -- what an error says; `Memory` is reported only where the texts are read
 abbrev pub CannotRead : NumberReaderError → NumberFormatter → Type 0
-CannotRead NumberReaderError.Notation f = ¬ IsStandard f
-CannotRead NumberReaderError.Scale f = IsStandard f × (f.options.scale ≡ negsuc 32767)
+CannotRead NumberReaderError.Notation f = ¬ HasNumberAlone f
+CannotRead NumberReaderError.Scale f = HasNumberAlone f × (f.options.scale ≡ negsuc 32767)
 CannotRead NumberReaderError.Memory f = CanRead f
 CannotRead NumberReaderError.Symbols f = CanUndo f × ¬ IsReadable f.style.symbols
 CannotRead NumberReaderError.Affixes f =

@@ -1,9 +1,10 @@
--- What a style of numbers writes: its pattern, its percent sign, and its currency.
-use Rattle.std.specs.{Prelude.{◌≡◌, ℕ, Bool, true, false, not, codes, ◌&&◌, if◌then◌else◌, List, [], Option, Some, None}, Option.{option_map, option_map_or}, Str.bytes_eq}
+-- What a style of numbers writes: its pattern, its percent sign, its currency, and what is around the whole text.
+use Rattle.std.specs.{Prelude.{◌≡◌, ℕ, Bool, true, false, not, codes, ◌&&◌, if◌then◌else◌, List, [], Option, Some, None, is_some}, Option.{option_map, option_map_or}, Str.bytes_eq}
 use Rattle.decimal_format.specs.declared.grouping.GroupingSizes.{GroupingSizes}
-use Rattle.locale_data.specs.{declared.{local_currency.{CurrencySymbol.CurrencySymbol, LocalCurrency.LocalCurrency}, tables.rows.patterns.{Affix.Affix, AffixPair.AffixPair, NumberSigns.NumberSigns, Pattern.Pattern, Piece.{Piece, TheVariants.{Empty, Minus, Plus, Currency}}}}}
+use Rattle.locale_data.specs.{declared.{currency.CurrencyPattern.CurrencyPattern, local_currency.{CurrencySymbol.CurrencySymbol, LocalCurrency.LocalCurrency}, tables.rows.patterns.{Affix.Affix, AffixPair.AffixPair, NumberSigns.NumberSigns, Pattern.Pattern, Piece.{Piece, TheVariants.{Empty, Minus, Plus, Currency}}}}}
 use Rattle.locale_data.specs.Patterns as pattern
-use Rattle.number_format.specs.declared.{options.{CurrencyDisplay.CurrencyDisplay, CurrencyStyle.CurrencyStyle, NumberStyle.NumberStyle}, format.currency.ShownCurrency.ShownCurrency}
+use Rattle.locale_names.specs.{declared.{locale_currencies.CurrencyNames.CurrencyNames, locale_units.{UnitDisplay.UnitDisplay, UnitPatterns.UnitPatterns}, tables.rows.units.UnitRow.UnitRow, unit_id.UnitId.UnitId}, LocaleCurrencies.AreNamesOf, LocaleUnits.AreRowsOf, Texts.short_text, Units.row_of}
+use Rattle.number_format.specs.declared.{options.{CurrencyDisplay.CurrencyDisplay, CurrencyStyle.CurrencyStyle, NumberNotation.NumberNotation, NumberStyle.NumberStyle, UnitStyle.UnitStyle}, format.{currency.ShownCurrency.ShownCurrency, outer.OuterTexts.OuterTexts, text_part.PartKind.PartKind}}
 
 -- ---- Patterns.
 
@@ -46,6 +47,54 @@ abbrev pub percent_text : NumberStyle → NumberSigns → List ℕ
 percent_text NumberStyle.Permille signs = pattern.permille_text signs.permille
 percent_text other signs = pattern.percent_text signs.percent
 
+-- the percent sign of the unit `percent` is a unit
+abbrev pub percent_kind : NumberStyle → PartKind
+percent_kind (NumberStyle.Unit u) = PartKind.Unit
+percent_kind other = PartKind.PercentSign
+
+-- ---- What is around the whole text.
+
+abbrev pub is_long : UnitDisplay → Bool
+is_long UnitDisplay.Long = true
+is_long other = false
+
+abbrev pub name_of : UnitId → List ℕ
+name_of id = option_map_or (λ (row : UnitRow). short_text row.name) (row_of id) []
+
+-- the unit `percent` is written by the pattern of percentages, but not by its long name, and not in compact notation
+abbrev pub is_percentage : UnitStyle → NumberNotation → Bool
+is_percentage u (NumberNotation.Compact words) = false
+is_percentage u other = bytes_eq (name_of u.unit.unit) (codes "percent") && not (is_long u.display)
+
+-- the texts of a unit; a percentage has none
+abbrev pub AreUnitTexts : Bool → List ℕ → UnitStyle → OuterTexts → Type 0
+AreUnitTexts true tag u texts = texts ≡ OuterTexts.None
+AreUnitTexts false tag u texts =
+    (rows : UnitPatterns) × AreRowsOf tag u.unit u.display rows × (texts ≡ OuterTexts.Units rows)
+
+-- the name of a currency is written
+abbrev pub shows_name : CurrencyDisplay → Bool
+shows_name CurrencyDisplay.Name = true
+shows_name other = false
+
+-- the texts of a currency, if its name is written
+abbrev pub AreNameTexts : Bool → List ℕ → List ℕ → OuterTexts → Type 0
+AreNameTexts false tag code texts = texts ≡ OuterTexts.None
+AreNameTexts true tag code texts =
+    (names : CurrencyNames) × AreNamesOf tag code names × (texts ≡ OuterTexts.Names names)
+
+-- what is around the whole text in the locale of a tag
+abbrev pub AreOuterTexts : List ℕ → NumberStyle → NumberNotation → OuterTexts → Type 0
+AreOuterTexts tag (NumberStyle.Unit u) notation = AreUnitTexts (is_percentage u notation) tag u
+AreOuterTexts tag (NumberStyle.Currency c) notation = AreNameTexts (shows_name c.display) tag c.code
+AreOuterTexts tag other notation = λ texts. texts ≡ OuterTexts.None
+
+-- only units and currencies have texts around the whole text
+abbrev pub outer_for : NumberStyle → OuterTexts → OuterTexts
+outer_for (NumberStyle.Unit u) texts = texts
+outer_for (NumberStyle.Currency c) texts = texts
+outer_for other texts = OuterTexts.None
+
 -- ---- Currencies.
 
 -- the symbol of a currency, or its code
@@ -67,6 +116,7 @@ abbrev pub IsDisplayed : CurrencyDisplay → Option CurrencySymbol → Option Cu
 IsDisplayed CurrencyDisplay.Symbol wide narrow = IsShownWith wide
 IsDisplayed CurrencyDisplay.Narrow wide narrow = IsShownWith narrow
 IsDisplayed CurrencyDisplay.Code wide narrow = IsShownWith None
+IsDisplayed CurrencyDisplay.Name wide narrow = IsShownWith wide
 IsDisplayed CurrencyDisplay.Hidden wide narrow = IsShownBy [] false false
 
 abbrev pub symbol_text : Option CurrencySymbol → List ℕ
@@ -91,3 +141,12 @@ abbrev pub in_system : List ℕ → ShownCurrency → ShownCurrency
 in_system system c =
     let spaced = not (bytes_eq system (codes "hanidec")) in
     record c { space_before = c.space_before && spaced; space_after = c.space_after && spaced }
+
+-- a currency has a pattern of its own: only those in the tables give both separators
+abbrev pub is_own : CurrencyPattern → Bool
+is_own p = is_some p.decimal && is_some p.grouping
+
+-- the pattern of an amount: that of plain numbers with a name, if the currency has none of its own
+abbrev pub money_pattern : CurrencyDisplay → GroupingSizes → CurrencyPattern → CurrencyPattern
+money_pattern display sizes p =
+    if shows_name display && not (is_own p) then record p { pattern = plain_pattern sizes } else p

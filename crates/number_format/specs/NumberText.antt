@@ -1,13 +1,16 @@
 -- The text of a number: what a formatter writes.
-use Rattle.std.specs.{Prelude.{◌≡◌, ◌≢◌, ℕ, ◌==◌, min, Bool, true, false, not, ◌&&◌, if◌then◌else◌, ◌⊎◌, IsSome, IsSomeAnd, List, [], ◌∷◌, ◌++◌, Option, Some, None, option_and_then, slice_get, unsigned_abs, ℤ, pos, ◌+ℤ◌, int_lt}, Int.{int_max, int_min}, Option.option_map_or}
+use Rattle.std.specs.{Prelude.{◌≡◌, ◌≢◌, ℕ, ◌==◌, min, Bool, true, false, not, ◌&&◌, if◌then◌else◌, ◌⊎◌, IsSome, IsSomeAnd, List, [], ◌∷◌, ◌++◌, Option, Some, None, option_and_then, slice_get, unsigned_abs, ℤ, pos, negsuc, ◌+ℤ◌, ◌-ℤ◌, int_lt}, Int.{int_max, int_min}, Option.option_map_or}
 use Rattle.decimal_digits.specs.Number.{first}
 use Rattle.decimal_unsigned.specs.{Unsigned.{Unsigned, integer_value}, Edits.{multiplied_pow10, padded_start}, declared.decimal.TheConstants.INLINE_DIGITS}
 use Rattle.fixed_decimal.specs.{Decimal.{Decimal, with_absolute, displayed_sign}, DecimalText.IsLong, declared.variations.Sign.Sign}
-use Rattle.decimal_format.specs.{Symbols.{Affixes, affixes}, declared.grouping.GroupingStrategy.TheVariants.Never}
+use Rattle.decimal_format.specs.{Symbols.Symbols, declared.grouping.GroupingStrategy.TheVariants.Never}
 use Rattle.plural_rules.specs.Operands as operands
 use Rattle.plural_rules.specs.declared.rules.PluralCategory.{PluralCategory}
-use Rattle.locale_data.specs.{declared.{compact.CompactStyle.CompactStyle, tables.{rows.{compact.{AffixText.AffixText, CompactForm.CompactForm, CompactPattern.CompactPattern, PercentUnit.PercentUnit}, TableRange.TableRange}, compact.TheConstants.PERCENT_UNITS}, number_formats.NumberFormats.NumberFormats}, Compact.{text_of, pattern_for, compact_patterns, unit_for}, Plurals.IsCategoryAt}
-use Rattle.number_format.specs.{declared.{digits.options.DigitOptions.DigitOptions, notation.Notation.Notation, format.{affixes.{NumberAffixes.NumberAffixes, StyleTexts.StyleTexts}, formatter.NumberFormatter.NumberFormatter, text_part.PartKind.PartKind}, options.{CompactLength.CompactLength, ExponentOptions.ExponentOptions, ExponentSign.ExponentSign, NumberNotation.NumberNotation, NumberStyle.NumberStyle}}, NumberStyles.currency_text, PatternTexts.{Around, around, literal, sign_text, sign_pieces, space_if, pattern_around}, ShownDigits.rounded_whole, TextParts.{pieces_text, pieces_of, parts_pieces, digit_pieces}, Scaled.{ScaledValue, scaled_value, scaled, raised, rounded_number, exponent_at, ScalingNeedsMemory}}
+use Rattle.locale_names.specs.{declared.tables.rows.currencies.NamePattern.NamePattern, LocaleCurrencies.{name_for, pattern_for}, Texts.short_text}
+use Rattle.locale_names.specs.LocaleUnits as units
+use Rattle.locale_data.specs.Compact as compact
+use Rattle.locale_data.specs.{declared.{compact.CompactStyle.CompactStyle, tables.{rows.{compact.{AffixText.AffixText, CompactForm.CompactForm, CompactPattern.CompactPattern, PercentUnit.PercentUnit}, TableRange.TableRange}, compact.TheConstants.PERCENT_UNITS}, number_formats.NumberFormats.NumberFormats}, Compact.{text_of, compact_patterns, unit_for}, Plurals.IsCategoryAt}
+use Rattle.number_format.specs.{declared.{digits.options.DigitOptions.DigitOptions, notation.Notation.Notation, format.{affixes.{NumberAffixes.NumberAffixes, StyleTexts.StyleTexts}, outer.OuterTexts.OuterTexts, formatter.NumberFormatter.NumberFormatter, text_part.PartKind.PartKind}, options.{CompactLength.CompactLength, DecimalSeparatorDisplay.DecimalSeparatorDisplay, ExponentOptions.ExponentOptions, ExponentSign.ExponentSign, NumberNotation.NumberNotation, NumberStyle.NumberStyle}}, NumberStyles.{currency_text, shows_name}, PatternTexts.{Around, around, within, sign_text, sign_pieces, space_if, pattern_around}, ShownDigits.rounded_whole, TextParts.{pieces_text, pieces_of, parts_pieces, digit_pieces}, Scaled.{ScaledValue, scaled_value, scaled, raised, rounded_number, exponent_at, ScalingNeedsMemory}}
 use Rattle.number_format.specs.ShownDigits as shown_digits
 use Rattle.number_format.specs.TextParts as parts
 
@@ -97,11 +100,11 @@ abbrev pub around_by : StyleTexts → Sign → Option CompactPattern → Around
 around_by t s None = pattern_around t s
 around_by t s (Some p) = if is_plain p.form then pattern_around t s else compact_around t s p
 
--- the parts are these pieces, with what is written around the whole text
-pub record AreParts (a : Around) (u : Affixes) (shown : NumberAffixes) : Type 0 where
-  pub prefix : parts_pieces shown.prefix ≡ literal u.prefix ++ a.prefix
+-- the parts are these pieces
+pub record AreParts (a : Around) (shown : NumberAffixes) : Type 0 where
+  pub prefix : parts_pieces shown.prefix ≡ a.prefix
   pub has_number : shown.has_number ≡ a.has_number
-  pub suffix : parts_pieces shown.suffix ≡ a.suffix ++ literal u.suffix
+  pub suffix : parts_pieces shown.suffix ≡ a.suffix
 
 -- ---- The digits and the exponent.
 
@@ -129,18 +132,37 @@ exponent_pieces f (Some e) =
     ++ (pieces_of (exponent_kind e.sign) (sign_text f.style.symbols e.sign)
     ++ digit_pieces PartKind.ExponentInteger f.style.symbols Never e.absolute)
 
+-- the decimal separator of a number without fraction digits, if it is always written
+abbrev pub bare_separator : DecimalSeparatorDisplay → Symbols → Unsigned → List ℕ
+bare_separator DecimalSeparatorDisplay.Auto s v = []
+bare_separator DecimalSeparatorDisplay.Always s v = if int_lt v.lo (pos 0) then [] else s.decimal
+
+-- the digits of a significand, with that separator
+abbrev pub significand_pieces : NumberFormatter → DecimalSeparatorDisplay → Unsigned → List parts.Piece
+significand_pieces f display v =
+    digit_pieces PartKind.Integer f.style.symbols f.options.grouping v
+    ++ pieces_of PartKind.Decimal (bare_separator display f.style.symbols v)
+
 -- the digits of a significand and of an exponent, if there is one
 abbrev pub number_part : NumberFormatter → Unsigned → Option Decimal → List parts.Piece
-number_part f v e = digit_pieces PartKind.Integer f.style.symbols f.options.grouping v ++ exponent_pieces f e
+number_part f v e = significand_pieces f f.options.decimal_separator v ++ exponent_pieces f e
 
 -- ---- Compact notation.
 
--- the compact patterns: those of currencies are short
+-- the amount is written without the name of its currency
+abbrev pub has_symbol : NumberStyle → Bool
+has_symbol (NumberStyle.Currency c) = not (shows_name c.display)
+has_symbol other = false
+
+abbrev pub words_of : CompactLength → CompactStyle
+words_of CompactLength.Short = CompactStyle.Short
+words_of CompactLength.Long = CompactStyle.Long
+
+-- the compact patterns: those with the symbols of currencies are short
 abbrev pub compact_style : NumberNotation → NumberStyle → Option CompactStyle
-compact_style (NumberNotation.Compact words) (NumberStyle.Currency c) = Some CompactStyle.Currency
-compact_style (NumberNotation.Compact CompactLength.Short) other = Some CompactStyle.Short
-compact_style (NumberNotation.Compact CompactLength.Long) other = Some CompactStyle.Long
-compact_style rest other = None
+compact_style (NumberNotation.Compact words) style =
+    Some (if has_symbol style then CompactStyle.Currency else words_of words)
+compact_style other style = None
 
 -- the number is the integer 1, without a minus sign
 abbrev pub is_negative : Sign → Bool
@@ -166,29 +188,69 @@ compact_magnitude notation significand e =
 abbrev pub compact_pattern : NumberFormats → Option CompactStyle → ℤ → PluralCategory → Bool → Option CompactPattern
 compact_pattern formats None magnitude category one = None
 compact_pattern formats (Some style) magnitude category one =
-    pattern_for category one (compact_patterns formats style magnitude)
+    compact.pattern_for category one (compact_patterns formats style magnitude)
 
-abbrev pub percent_texts : Option PercentUnit → PluralCategory → Affixes
-percent_texts None category = affixes [] []
+-- ---- Around the whole text.
+
+abbrev pub with_number : List ℕ → List ℕ → units.Around
+with_number prefix suffix = record { prefix = prefix; has_number = true; suffix = suffix }
+
+abbrev pub percent_texts : Option PercentUnit → PluralCategory → units.Around
+percent_texts None category = with_number [] []
 percent_texts (Some unit) category =
-    affixes (text_of (unit_for unit category).prefix) (text_of (unit_for unit category).suffix)
+    with_number (text_of (unit_for unit category).prefix) (text_of (unit_for unit category).suffix)
 
--- what is written around the whole text in compact notation: percent has a pattern of its own
-abbrev pub unit_texts : NumberFormats → Option CompactStyle → NumberStyle → PluralCategory → Affixes
-unit_texts formats (Some words) NumberStyle.Percent category =
-    percent_texts (slice_get PERCENT_UNITS formats.unit) category
-unit_texts formats (Some words) NumberStyle.Permille category = affixes [] (226 ∷ 128 ∷ 176 ∷ [])
-unit_texts formats words style category = affixes [] []
+-- the number is before the name, and the text between them; without a pattern nothing is between them
+abbrev pub place_of : Option NamePattern → Bool × List ℕ
+place_of None = (true, [])
+place_of (Some p) = (p.number_first, short_text p.between)
 
-abbrev pub unit_by : NumberFormatter → PluralCategory → Affixes
-unit_by f = unit_texts f.formats (compact_style f.options.notation f.options.style) f.options.style
+-- the name of a currency, after the number or before it
+abbrev pub name_texts : List ℕ → Bool × List ℕ → units.Around
+name_texts name place =
+    if place.0 then with_number [] (place.1 ++ name) else with_number (name ++ place.1) []
+
+-- the texts of a pattern, of one kind
+abbrev pub around_texts : PartKind → units.Around → Around
+around_texts kind a = around (pieces_of kind a.prefix) a.has_number (pieces_of kind a.suffix)
+
+-- a unit or a name, by the plural category; in compact notation percent and permille are units
+abbrev pub outer_texts : NumberFormats → OuterTexts → Option CompactStyle → NumberStyle → PluralCategory → Around
+outer_texts formats (OuterTexts.Units rows) words style category =
+    around_texts PartKind.Unit (units.around_number rows category)
+outer_texts formats (OuterTexts.Names names) words style category =
+    around_texts PartKind.Currency (name_texts (name_for names category) (place_of (pattern_for names category)))
+outer_texts formats OuterTexts.None (Some words) NumberStyle.Percent category =
+    around_texts PartKind.Unit (percent_texts (slice_get PERCENT_UNITS formats.unit) category)
+outer_texts formats OuterTexts.None (Some words) NumberStyle.Permille category =
+    around_texts PartKind.Unit (with_number [] (226 ∷ 128 ∷ 176 ∷ []))
+outer_texts formats OuterTexts.None words style category = around [] true []
+
+abbrev pub outer_by : NumberFormatter → PluralCategory → Around
+outer_by f = outer_texts f.formats f.outer (compact_style f.options.notation f.options.style) f.options.style
+
+-- the operand c of an exponent, from 0 to 255; one below 0 is as 255: no range of plural rules has either
+abbrev pub exponent_operand : ℤ → ℕ
+exponent_operand (pos n) = min n 255
+exponent_operand (negsuc n) = 255
+
+-- the operands of a number with an exponent: of the whole number, and c; beyond the limits those of the significand
+abbrev pub operands_with : Unsigned → ℤ → operands.Operands
+operands_with v e =
+    option_map_or (λ w. operands.compact w (exponent_operand e))
+    (multiplied_pow10 v (e -ℤ pos (exponent_operand e))) (operands.plain v)
+
+-- by which operands what is around the whole text is chosen: in compact notation those of the number before it is
+-- divided, else those of the number that is shown
+abbrev pub operands_by : NumberNotation → Unsigned → ScaledValue → operands.Operands
+operands_by NumberNotation.Standard whole number = operands.plain number.significand.absolute
+operands_by (NumberNotation.Compact words) whole number = operands.plain whole
+operands_by other whole number = operands_with number.significand.absolute number.exponent
+
+abbrev pub outer_operands : NumberFormatter → Decimal → ScaledValue → operands.Operands
+outer_operands f v = operands_by f.options.notation (whole_number f v)
 
 -- ---- The text.
-
-abbrev pub pieces_around : NumberFormatter → Unsigned → Option Decimal → Around → Affixes → List parts.Piece
-pieces_around f v e a u =
-    (literal u.prefix ++ a.prefix)
-    ++ ((if a.has_number then number_part f v e else []) ++ (a.suffix ++ literal u.suffix))
 
 -- the exponent as it is shown, if the notation has one
 abbrev pub exponent_of : NumberNotation → ℤ → Option Decimal
@@ -197,19 +259,18 @@ exponent_of (NumberNotation.Engineering o) e = Some (shown_exponent o e)
 exponent_of other e = None
 
 -- the pieces of a number, with their kinds; compact patterns are by the plural category of the significand as it is
--- shown, and those around the whole text by that of the number before it is divided
+-- shown
 pub record AreNumberPieces (f : NumberFormatter) (v : Decimal) (pieces : List parts.Piece) : Type 0 where
   pub number : ScaledValue
   pub category : PluralCategory
   pub whole : PluralCategory
   pub number_is : shown_number f v ≡ Some number
   pub of_significand : IsCategoryAt f.rules (operands.plain number.significand.absolute) category
-  pub of_whole : IsCategoryAt f.rules (operands.plain (whole_number f v)) whole
-  pub value : pieces ≡ pieces_around f number.significand.absolute (exponent_of f.options.notation number.exponent)
-      (around_by f.style (shown_sign f v number.significand)
+  pub of_whole : IsCategoryAt f.rules (outer_operands f v number) whole
+  pub value : pieces ≡ within (outer_by f whole) (within (around_by f.style (shown_sign f v number.significand)
       (compact_pattern f.formats (compact_style f.options.notation f.options.style)
-      (compact_magnitude f.notation number.significand number.exponent) category
-      (is_one number.significand))) (unit_by f whole)
+      (compact_magnitude f.notation number.significand number.exponent) category (is_one number.significand)))
+      (number_part f number.significand.absolute (exponent_of f.options.notation number.exponent)))
 
 -- the text of a number: that of its pieces
 abbrev pub IsNumberText : NumberFormatter → Decimal → List ℕ → Type 0
@@ -238,14 +299,25 @@ WholeRoundingNeedsMemory f v =
     IsSomeAnd (with_absolute v (multiplied_pow10 v.absolute f.options.scale))
     (λ w. IsSomeAnd f.digits (λ o. shown_digits.NeedsMemory INLINE_DIGITS o w.sign 0 w.absolute.number))
 
--- percent in compact notation rounds a copy of the number, for the category of its pattern: in this rounding, or for
--- the copy of a number of more digits than are kept without an allocation
-abbrev pub WholeNeedsMemory : NumberFormatter → Decimal → Type 0
-WholeNeedsMemory f v =
-    IsSome (compact_style f.options.notation f.options.style) × (f.options.style ≡ NumberStyle.Percent)
-    × (IsLong INLINE_DIGITS v ⊎ WholeRoundingNeedsMemory f v)
+-- what is around the whole text depends on the plural category: of units, of names, and of percent in compact notation
+abbrev pub is_by_category : OuterTexts → Option CompactStyle → NumberStyle → Bool
+is_by_category OuterTexts.None (Some words) NumberStyle.Percent = true
+is_by_category OuterTexts.None words style = false
+is_by_category texts words style = true
 
--- in a rounding, or for the category of percent in compact notation
+abbrev pub has_categories : NumberFormatter → Bool
+has_categories f =
+    is_by_category f.outer (compact_style f.options.notation f.options.style) f.options.style
+
+-- for this category a copy of the number is rounded, but not in standard notation: in the rounding before compact
+-- notation divides the number, or for the copy of a number of more digits than are kept without an allocation
+pub record WholeNeedsMemory (f : NumberFormatter) (v : Decimal) : Type 0 where
+  pub by_category : has_categories f ≡ true
+  pub copied : f.options.notation ≢ NumberNotation.Standard
+  pub memory : IsLong INLINE_DIGITS v
+      ⊎ (IsSome (compact_style f.options.notation f.options.style) × WholeRoundingNeedsMemory f v)
+
+-- in a rounding, or for the category of a unit or a name
 abbrev pub WritingNeedsMemory : NumberFormatter → Decimal → Type 0
 WritingNeedsMemory f v = NeedsMemory f v ⊎ WholeNeedsMemory f v
 

@@ -6,6 +6,7 @@ use Rattle.locale_data.specs.{Patterns.{literal_text, affixes_of}, declared.tabl
 use Rattle.number_format.specs.{NumberStyles.{currency_text, ends_with_currency, begins_with_currency}, TextParts.{pieces_text, pieces_of}, declared.{format.affixes.StyleTexts.StyleTexts, format.by_sign.BySign.BySign, format.text_part.PartKind.PartKind}}
 use Rattle.number_format.specs.TextParts as parts
 
+-- pieces before and after a number, or instead of it
 pub record Around : Type 0 where
   pub prefix : List parts.Piece
   pub has_number : Bool
@@ -13,6 +14,10 @@ pub record Around : Type 0 where
 
 abbrev pub around : List parts.Piece → Bool → List parts.Piece → Around
 around prefix has_number suffix = record { prefix = prefix; has_number = has_number; suffix = suffix }
+
+-- what is written where a pattern has its number
+abbrev pub within : Around → List parts.Piece → List parts.Piece
+within a pieces = a.prefix ++ ((if a.has_number then pieces else []) ++ a.suffix)
 
 abbrev pub literal : List ℕ → List parts.Piece
 literal text = pieces_of PartKind.Literal text
@@ -29,12 +34,12 @@ abbrev pub sign_pieces : Symbols → Sign → List parts.Piece
 sign_pieces symbols s = pieces_of (sign_kind s) (sign_text symbols s)
 
 -- a piece of a pattern
-abbrev pub pattern_kind : Piece → PartKind
-pattern_kind Piece.Minus = PartKind.MinusSign
-pattern_kind Piece.Plus = PartKind.PlusSign
-pattern_kind Piece.Percent = PartKind.PercentSign
-pattern_kind Piece.Currency = PartKind.Currency
-pattern_kind other = PartKind.Literal
+abbrev pub pattern_kind : StyleTexts → Piece → PartKind
+pattern_kind t Piece.Minus = PartKind.MinusSign
+pattern_kind t Piece.Plus = PartKind.PlusSign
+pattern_kind t Piece.Percent = t.percent.kind
+pattern_kind t Piece.Currency = PartKind.Currency
+pattern_kind t other = PartKind.Literal
 
 abbrev pub pattern_text : StyleTexts → Piece → List ℕ
 pattern_text t Piece.Minus = sign_text t.symbols Sign.Negative
@@ -44,7 +49,7 @@ pattern_text t Piece.Currency = currency_text t.currency
 pattern_text t other = literal_text other
 
 abbrev pub pattern_pieces : StyleTexts → Piece → List parts.Piece
-pattern_pieces t p = pieces_of (pattern_kind p) (pattern_text t p)
+pattern_pieces t p = pieces_of (pattern_kind t p) (pattern_text t p)
 
 -- an affix, by the pieces of its pieces
 abbrev pub affix_pieces : (Piece → List parts.Piece) → Affix → List parts.Piece

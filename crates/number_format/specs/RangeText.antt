@@ -8,7 +8,7 @@ use Rattle.plural_rules.specs.Operands as operands
 use Rattle.plural_rules.specs.declared.rules.PluralCategory.{PluralCategory}
 use Rattle.locale_data.specs.{declared.tables.rows.{compact.{AffixText.AffixText, CompactForm.{CompactForm, TheVariants.SignLast}, CompactPattern.CompactPattern}, patterns.{AffixPair.AffixPair, Pattern.Pattern, Piece.Piece}, ranges.{ApproximatelySign.ApproximatelySign, RangeFormat.RangeFormat, RangeSeparator.{RangeSeparator, TheVariants.{SpacedHyphen, SpacedEnDash}}}}, Patterns.affixes_of, PluralRanges.plural_range_category, Plurals.IsCategoryAt}
 use Rattle.locale_data.specs.RangeFormats as range_texts
-use Rattle.number_format.specs.{declared.{format.{affixes.StyleTexts.StyleTexts, formatter.NumberFormatter.NumberFormatter, text_part.PartKind.PartKind}, options.NumberNotation.NumberNotation, range.{common.BareTexts.BareTexts, form.RangeForm.{RangeForm, TheVariants.{Approximate, Common, Apart}}, range_texts.RangeTexts.RangeTexts}}, NumberStyles.{begins_with_currency, ends_with_currency}, NumberText.{around_by, compact_magnitude, compact_pattern, compact_pieces, compact_prefix, compact_style, compact_suffix, currency_if, exponent_of, first_sign, has_number, is_negative, is_one, is_plain, last_sign, number_part, shown_number, shown_sign}, PatternTexts.{Around, around, affix_pieces, literal, pattern_pieces, sign_pieces, space_if}, RangeOuter.{outer_by, outer_operands, within}, Scaled.ScaledValue, TextParts.{pieces_of, pieces_text}}
+use Rattle.number_format.specs.{declared.{format.{affixes.StyleTexts.StyleTexts, formatter.NumberFormatter.NumberFormatter, text_part.PartKind.PartKind}, options.NumberNotation.NumberNotation, range.{common.BareTexts.BareTexts, form.RangeForm.{RangeForm, TheVariants.{Approximate, Common, Apart}}, range_texts.RangeTexts.RangeTexts}}, NumberStyles.{begins_with_currency, ends_with_currency}, NumberText.{around_by, compact_magnitude, compact_pattern, compact_pieces, compact_prefix, compact_style, compact_suffix, currency_if, exponent_of, first_sign, has_number, is_negative, is_one, is_plain, last_sign, number_part, outer_by, outer_operands, shown_number, shown_sign}, PatternTexts.{Around, around, affix_pieces, literal, pattern_pieces, sign_pieces, space_if, within}, Scaled.ScaledValue, TextParts.{pieces_of, pieces_text}}
 use Rattle.number_format.specs.TextParts as parts
 
 -- ---- The ends.

@@ -10,6 +10,7 @@ pub(crate) mod formatted_number;
 pub(crate) mod formatter;
 mod formatter_options;
 pub(crate) mod ids;
+pub(crate) mod outer;
 pub(crate) mod parts;
 pub(crate) mod short_affixes;
 mod style;

@@ -8,6 +8,7 @@ ghost use Rattle.number_format.specs.{AffixedTexts.{Reader, AreNamed, text_with,
 use crate::digits::options::DigitOptions;
 use crate::digits::ranges::FractionDigits;
 use crate::format::formatter::NumberFormatter;
+use crate::format::outer::OuterTexts;
 use crate::notation::Notation;
 use crate::options::{NumberNotation, NumberOptions};
 use decimal_format::GroupingStrategy;
@@ -55,9 +56,9 @@ pub fn the_value_is_the_rounded_number()
 /// By plain options the text is that of `decimal_format` by the symbols of the locale, if these have the minus sign
 /// before the number; by each strategy but `Always`, which may group where the locale does not.
 pub fn plain_texts_are_decimals()
-    ensures { (system : List ℕ) (own : Symbols) (currency : Option LocalCurrency) (g : GroupingStrategy)
-        (name : Option (List ℕ)) (f : NumberFormatter) (v : Decimal) (text : List ℕ)
-        → IsFormatterBy own system currency (plain_options g name) f
+    ensures { (system : List ℕ) (own : Symbols) (currency : Option LocalCurrency) (texts : OuterTexts)
+        (g : GroupingStrategy) (name : Option (List ℕ)) (f : NumberFormatter) (v : Decimal) (text : List ℕ)
+        → IsFormatterBy own system currency texts (plain_options g name) f
         → g ≢ GroupingStrategy.Always → IsValue v.absolute
         → (sign_affixes own (with_sign_display v SignDisplay.Auto).sign).suffix ≡ []
         → IsNumberText f v text → text ≡ formatted own g (with_sign_display v SignDisplay.Auto) }

@@ -1,12 +1,12 @@
 //! Formats and reads numbers as `Intl.NumberFormat` of ECMA-402 does, with the data of CLDR, on decimals of any length.
 //!
-//! - [`NumberFormatter`] writes a number in a locale by [`NumberOptions`]: plain numbers, percent, permille and money,
-//!   in standard, scientific, engineering and compact notation.
+//! - [`NumberFormatter`] writes a number in a locale by [`NumberOptions`]: plain numbers, percent, permille, money and
+//!   units, in standard, scientific, engineering and compact notation.
 //! - [`NumberReader`] reads what a formatter writes.
 //! - [`DigitOptions`] and [`Notation`] decide which digits are shown, and the exponent:
 //!   `SetNumberFormatDigitOptions`, `FormatNumericToString` and `ComputeExponent` of ECMA-402.
 //!
-//! Units and ranges are not there yet.
+//! Ranges are not there yet.
 //!
 //! ```
 //! let digits = SignificantDigits::new(1, 3)?;
@@ -41,13 +41,14 @@ pub use format::format_number::{FormatError, NumberWriteError};
 pub use format::formatted_number::FormattedNumber;
 pub use format::formatter::NumberFormatter;
 pub use format::ids::{FormatterIds, NumberFormatError};
+pub use format::outer::OuterTexts;
 pub use format::parts::PartSink;
 pub use format::text_part::{PartKind, TextPart};
 pub use notation::scale::Scaled;
 pub use notation::{CompactExponents, Notation};
 pub use options::{
-    CompactLength, CurrencyDisplay, CurrencyStyle, CurrencyUsage, ExponentOptions, ExponentSign,
-    NumberNotation, NumberOptions, NumberStyle,
+    CompactLength, CurrencyDisplay, CurrencyStyle, CurrencyUsage, DecimalSeparatorDisplay,
+    ExponentOptions, ExponentSign, NumberNotation, NumberOptions, NumberStyle, UnitStyle,
 };
 pub use range::format_range::RangeFormatError;
 pub use range::formatted_range::{FormattedRange, RangeSegment, RangeSource};
@@ -63,3 +64,4 @@ pub use fixed_decimal::{
 pub use locale_data::{
     CurrencyCode, CurrencyCodeError, CurrencySign, NumberingSystem, NumberingSystemError,
 };
+pub use locale_names::{Unit, UnitDisplay, UnitError, UnitId};

@@ -1,6 +1,6 @@
 //! How a number is written: its style, notation, digits, sign and groups, and the digits that ECMA-402 has by default.
 ghost use Rattle.std.specs.Prelude.{◌≡◌};
-ghost use Rattle.number_format.specs.{DefaultDigits.{shows_all_digits, is_compact, usage_digits, style_digits, increment_by, increment, IsDefaultBy, IsDefault}, NumberText.compact_style};
+ghost use Rattle.number_format.specs.{DefaultDigits.{shows_all_digits, is_compact, usage_digits, style_digits, increment_by, increment, IsDefaultBy, IsDefault}, NumberText.{compact_style, has_symbol}, NumberStyles.shows_name};
 
 mod constructors;
 
@@ -13,8 +13,9 @@ use locale_data::{
     CompactStyle, CurrencyCode, CurrencyDigits, CurrencySign, NumberingSystem, UNLISTED_DIGITS,
     currency_digits,
 };
+use locale_names::{Unit, UnitDisplay};
 
-/// Which symbol of a currency is written.
+/// Which symbol of a currency is written, or its name.
 #[derive(Clone, Copy, Debug, Default, PartialEq)]
 pub enum CurrencyDisplay {
     /// The symbol of the locale, as `US$`.
@@ -26,6 +27,8 @@ pub enum CurrencyDisplay {
     Code,
     /// None: the digits are those of the currency.
     Hidden,
+    /// The name by the plural category of the number, as `US dollars`; of a code that has none the code.
+    Name,
 }
 
 /// For which use a currency's digits are chosen.
@@ -51,6 +54,15 @@ pub struct CurrencyStyle {
     pub usage: CurrencyUsage,
 }
 
+/// How a number of units is written.
+#[derive(Clone, Copy, Debug, PartialEq)]
+pub struct UnitStyle {
+    /// The unit, or two of them: `5 km/h`.
+    pub unit: Unit,
+    /// How long its text is.
+    pub display: UnitDisplay,
+}
+
 /// What a number counts.
 #[derive(Clone, Copy, Debug, PartialEq)]
 pub enum NumberStyle {
@@ -62,6 +74,18 @@ pub enum NumberStyle {
     Permille,
     /// An amount of money.
     Currency(CurrencyStyle),
+    /// A number of units.
+    Unit(UnitStyle),
+}
+
+/// Where the decimal separator is written.
+#[derive(Clone, Copy, Debug, Default, PartialEq)]
+pub enum DecimalSeparatorDisplay {
+    /// Before fraction digits.
+    #[default]
+    Auto,
+    /// After the integer digits, also if there are no fraction digits: `5.`.
+    Always,
 }
 
 /// Which sign an exponent has.
@@ -125,8 +149,18 @@ pub struct NumberOptions {
     /// Where groups are separated: by default as [`NumberNotation::default_grouping`] has it. In compact notation node
     /// takes `Auto` for `Min2`, and ECMA-402 does not.
     pub grouping: GroupingStrategy,
+    /// Where the decimal separator is written.
+    pub decimal_separator: DecimalSeparatorDisplay,
     /// The numbering system. `None`: that of the locale.
     pub numbering_system: Option<NumberingSystem>,
+}
+
+impl CurrencyDisplay {
+    pub(crate) fn shows_name(self) -> bool
+        ensures { result ≡ shows_name self }
+    {
+        matches!(self, CurrencyDisplay::Name)
+    }
 }
 
 impl CurrencyUsage {
@@ -149,14 +183,23 @@ impl NumberOptions {
         matches!(self.notation, NumberNotation::Compact(_))
     }
 
+    fn has_symbol(&self) -> bool
+        ensures { result ≡ has_symbol self.now.style }
+    {
+        match self.style {
+            NumberStyle::Currency(style) => !style.display.shows_name(),
+            _ => false,
+        }
+    }
+
     #[inline(always)]
     pub(crate) fn compact_style(&self) -> Option<CompactStyle>
         ensures { result ≡ compact_style self.now.notation self.now.style }
     {
-        match (self.notation, self.style) {
-            (NumberNotation::Compact(_), NumberStyle::Currency(_)) => Some(CompactStyle::Currency),
-            (NumberNotation::Compact(CompactLength::Short), _) => Some(CompactStyle::Short),
-            (NumberNotation::Compact(CompactLength::Long), _) => Some(CompactStyle::Long),
+        match self.notation {
+            NumberNotation::Compact(_) if self.has_symbol() => Some(CompactStyle::Currency),
+            NumberNotation::Compact(CompactLength::Short) => Some(CompactStyle::Short),
+            NumberNotation::Compact(CompactLength::Long) => Some(CompactStyle::Long),
             _ => None,
         }
     }
@@ -196,7 +239,7 @@ impl NumberOptions {
         ensures { IsDefaultBy currency self.now result }
     {
         let (min, max) = match self.style {
-            NumberStyle::Decimal => (0, 3),
+            NumberStyle::Decimal | NumberStyle::Unit(_) => (0, 3),
             NumberStyle::Percent | NumberStyle::Permille => (0, 0),
             NumberStyle::Currency(style) => {
                 let (count, _) = style.usage.digits(currency);

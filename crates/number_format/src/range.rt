@@ -4,6 +4,5 @@ mod common;
 pub(crate) mod form;
 pub(crate) mod format_range;
 pub(crate) mod formatted_range;
-mod outer;
 pub(crate) mod range_texts;
 mod segment;

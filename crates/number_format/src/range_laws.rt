@@ -1,7 +1,7 @@
 //! Laws of ranges: the contract of each function states a law.
 ghost use Rattle.std.specs.Prelude.{◌≡◌, ◌++◌, [], true};
 ghost use Rattle.fixed_decimal.specs.Decimal.{Decimal};
-ghost use Rattle.number_format.specs.{NumberText.HasNumberText, PatternTexts.around, RangeOuter.outer_by, RangeText.{IsRange, ShownRange, range_pieces, separator_pieces, text_of_pieces}, TextParts.pieces_text};
+ghost use Rattle.number_format.specs.{NumberText.{HasNumberText, outer_by}, PatternTexts.around, RangeText.{IsRange, ShownRange, range_pieces, separator_pieces, text_of_pieces}, TextParts.pieces_text};
 
 use crate::format::formatter::NumberFormatter;
 use crate::range::form::RangeForm;

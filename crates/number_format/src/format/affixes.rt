@@ -1,6 +1,5 @@
 //! What is written before and after the digits of a number.
 ghost use Rattle.std.specs.{Prelude.{◌≡◌, ◌≤◌, ◌&&◌, ◌++◌, length, IsSome, IfSome, OnOk, true}, Option.option_copied};
-ghost use Rattle.decimal_format.specs.Symbols.{affixes};
 ghost use Rattle.locale_data.specs.Compact.{has_texts, text_of, AreTexts};
 ghost use Rattle.number_format.specs.{NumberStyles.{ends_with_currency, begins_with_currency}, PatternTexts.{sign_kind, sign_pieces, pattern_kind, pattern_text, pattern_pieces, affix_pieces, pattern_around, space_if, affixes_for, affixes_of_style}, NumberText.{currency_if, is_empty, first_sign, last_sign, compact_around, compact_suffix, around_by, AreParts}, TextParts.{part_pieces, pieces_text}};
 
@@ -12,22 +11,14 @@ use crate::format::text_part::{PartKind, TextPart};
 use decimal_format::DecimalSymbols;
 use decimal_format::internal::Block;
 use fixed_decimal::{Sign, Sink, SinkFault};
-use locale_data::{
-    Affix, AffixPair, AffixText, CompactForm, CompactPattern, Pattern, Piece, UnitAffixes,
-};
-
-/// No texts around the whole text.
-pub(crate) const NO_UNIT: UnitAffixes = UnitAffixes {
-    prefix: "",
-    suffix: "",
-};
+use locale_data::{Affix, AffixPair, AffixText, CompactForm, CompactPattern, Pattern, Piece};
 
 /// The parts before and after a number.
 #[derive(Clone, Copy)]
 pub(crate) struct NumberAffixes<'f> {
-    pub(crate) prefix: [TextPart<'f>; 7],
+    pub(crate) prefix: [TextPart<'f>; 6],
     pub(crate) has_number: bool,
-    pub(crate) suffix: [TextPart<'f>; 6],
+    pub(crate) suffix: [TextPart<'f>; 5],
 }
 
 /// The pattern of a style in a locale, and the texts of its pieces.
@@ -55,19 +46,19 @@ fn sign_kind(sign: Sign) -> PartKind
     }
 }
 
-fn pattern_kind(piece: Piece) -> PartKind
-    ensures { result ≡ pattern_kind piece }
-{
-    match piece {
-        Piece::Minus => PartKind::MinusSign,
-        Piece::Plus => PartKind::PlusSign,
-        Piece::Percent => PartKind::PercentSign,
-        Piece::Currency => PartKind::Currency,
-        _ => PartKind::Literal,
-    }
-}
-
 impl StyleTexts {
+    fn pattern_kind(&self, piece: Piece) -> PartKind
+        ensures { result ≡ pattern_kind self.now piece }
+    {
+        match piece {
+            Piece::Minus => PartKind::MinusSign,
+            Piece::Plus => PartKind::PlusSign,
+            Piece::Percent => self.percent.kind,
+            Piece::Currency => PartKind::Currency,
+            _ => PartKind::Literal,
+        }
+    }
+
     pub(crate) fn sign_part(&self, sign: Sign) -> TextPart<'_>
         ensures { part_pieces result ≡ sign_pieces self.now.symbols sign }
     {
@@ -91,7 +82,7 @@ impl StyleTexts {
     pub(crate) fn pattern_part(&self, piece: Piece) -> TextPart<'_>
         ensures { part_pieces result ≡ pattern_pieces self.now piece }
     {
-        TextPart::new(pattern_kind(piece), self.pattern_text(piece))
+        TextPart::new(self.pattern_kind(piece), self.pattern_text(piece))
     }
 
     pub(crate) fn currency_if(&self, has_currency: bool) -> TextPart<'_>
@@ -118,15 +109,12 @@ impl StyleTexts {
         begins_with_currency(suffix) && self.currency.space_before
     }
 
-    fn pattern_affixes(&self, sign: Sign, unit: UnitAffixes) -> NumberAffixes<'_>
-        requires prefix { length unit.prefix.now ≤ 255 }
-        requires suffix { length unit.suffix.now ≤ 255 }
-        ensures { AreParts (pattern_around self.now sign) (affixes unit.prefix.now unit.suffix.now) result }
+    fn pattern_affixes(&self, sign: Sign) -> NumberAffixes<'_>
+        ensures { AreParts (pattern_around self.now sign) result }
     {
         let AffixPair { prefix, suffix } = self.pattern.affixes(sign);
         NumberAffixes {
             prefix: [
-                TextPart::new(PartKind::Literal, unit.prefix),
                 self.pattern_part(prefix.first),
                 self.pattern_part(prefix.second),
                 self.pattern_part(prefix.third),
@@ -141,7 +129,6 @@ impl StyleTexts {
                 self.pattern_part(suffix.second),
                 self.pattern_part(suffix.third),
                 self.pattern_part(suffix.fourth),
-                TextPart::new(PartKind::Literal, unit.suffix),
             ],
         }
     }
@@ -180,17 +167,9 @@ impl StyleTexts {
         affix.has_currency && affix.before_text().is_empty() && self.currency.space_before
     }
 
-    fn compact_affixes(
-        &self,
-        sign: Sign,
-        pattern: &CompactPattern,
-        unit: UnitAffixes,
-    ) -> NumberAffixes<'_>
-        requires prefix { length unit.prefix.now ≤ 255 }
-        requires suffix { length unit.suffix.now ≤ 255 }
-        requires texts { AreTexts pattern.now }
-        ensures { AreParts (compact_around self.now sign pattern.now)
-            (affixes unit.prefix.now unit.suffix.now) result }
+    fn compact_affixes(&self, sign: Sign, pattern: &CompactPattern) -> NumberAffixes<'_>
+        requires { AreTexts pattern.now }
+        ensures { AreParts (compact_around self.now sign pattern.now) result }
     {
         let CompactPattern {
             form,
@@ -200,7 +179,6 @@ impl StyleTexts {
         } = *pattern;
         NumberAffixes {
             prefix: [
-                TextPart::new(PartKind::Literal, unit.prefix),
                 self.first_sign(sign, form),
                 TextPart::new(PartKind::Compact, prefix.before_text()),
                 self.currency_if(prefix.has_currency),
@@ -215,7 +193,6 @@ impl StyleTexts {
                 self.currency_if(suffix.has_currency),
                 TextPart::new(PartKind::Compact, suffix.after_text()),
                 TextPart::new(PartKind::Literal, ""),
-                TextPart::new(PartKind::Literal, unit.suffix),
             ],
         }
     }
@@ -224,19 +201,15 @@ impl StyleTexts {
         &self,
         sign: Sign,
         compact: Option<&CompactPattern>,
-        unit: UnitAffixes,
     ) -> NumberAffixes<'_>
-        requires prefix { length unit.prefix.now ≤ 255 }
-        requires suffix { length unit.suffix.now ≤ 255 }
-        requires texts { IfSome compact (λ pattern. AreTexts pattern.now) }
-        ensures { AreParts (around_by self.now sign (option_copied compact.entry))
-            (affixes unit.prefix.now unit.suffix.now) result }
+        requires { IfSome compact (λ pattern. AreTexts pattern.now) }
+        ensures { AreParts (around_by self.now sign (option_copied compact.entry)) result }
     {
         match compact {
             Some(pattern) if !matches!(pattern.form, CompactForm::Plain) => {
-                self.compact_affixes(sign, pattern, unit)
+                self.compact_affixes(sign, pattern)
             }
-            _ => self.pattern_affixes(sign, unit),
+            _ => self.pattern_affixes(sign),
         }
     }
 
@@ -292,7 +265,7 @@ impl StyleTexts {
         ensures value { IfSome result (λ t. t ≡ affixes_for self.now sign) }
         ensures some { 1785 ≤ CAP → IsSome result }
     {
-        let affixes = self.affixes(sign, None, NO_UNIT);
+        let affixes = self.affixes(sign, None);
         ShortAffixes::joined(&affixes.prefix, &affixes.suffix)
     }
 

@@ -121,7 +121,7 @@ impl ShownCurrency {
             ..Self::none()
         };
         match style.display {
-            CurrencyDisplay::Symbol => named.with_symbol(wide),
+            CurrencyDisplay::Symbol | CurrencyDisplay::Name => named.with_symbol(wide),
             CurrencyDisplay::Narrow => named.with_symbol(narrow),
             CurrencyDisplay::Code => named.with_symbol(None),
             CurrencyDisplay::Hidden => named,

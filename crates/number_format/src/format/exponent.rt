@@ -1,6 +1,6 @@
 //! An exponent as it is shown.
-ghost use Rattle.std.specs.Prelude.{◌≡◌};
-ghost use Rattle.number_format.specs.NumberText.{exponent_sign, exponent_kind, shown_exponent};
+ghost use Rattle.std.specs.Prelude.{◌≡◌, ◌⊎◌, ◌<ℤ◌, ◌-ℤ◌, pos, negsuc, IfSome, IfNone};
+ghost use Rattle.number_format.specs.NumberText.{exponent_sign, exponent_kind, exponent_operand, shown_exponent};
 
 use crate::format::text_part::PartKind;
 use crate::options::{ExponentOptions, ExponentSign};
@@ -32,5 +32,31 @@ pub(crate) fn exponent_kind(sign: Sign) -> PartKind
     match sign {
         Sign::Positive => PartKind::ExponentPlusSign,
         _ => PartKind::ExponentMinusSign,
+    }
+}
+
+/// Returns the operand c of an exponent, which plural rules compare.
+pub(crate) fn exponent_operand(exponent: i32) -> u8
+    ensures { result ≡ exponent_operand exponent }
+{
+    if exponent < 0 {
+        255
+    } else {
+        exponent.min(255) as u8
+    }
+}
+
+/// Returns the power of ten by which a significand is multiplied, so that its exponent becomes the operand; `None`
+/// beyond 16 bits.
+pub(crate) fn exponent_shift(exponent: i32) -> Option<i16>
+    ensures some { IfSome result (λ shift. shift ≡ exponent -ℤ pos (exponent_operand exponent)) }
+    ensures none { IfNone result (((exponent -ℤ pos (exponent_operand exponent)) <ℤ negsuc 32767)
+        ⊎ (pos 32767 <ℤ (exponent -ℤ pos (exponent_operand exponent)))) }
+{
+    let shift = exponent as i64 - exponent_operand(exponent) as i64;
+    if shift < -32768 || shift > 32767 {
+        None
+    } else {
+        Some(shift as i16)
     }
 }

@@ -1,21 +1,22 @@
 //! A number as a locale writes it.
-ghost use Rattle.std.specs.{Prelude.{◌≡◌, ◌↔◌, ◌≤◌, ◌++◌, ℕ, length, Some, None, IsTrue, IfSome, IsErrOf, OnOk, OnErr, true}, Option.option_copied, Fmt.WritesStyledOnOk, Io.KnownBytes.Appends};
+ghost use Rattle.std.specs.{Prelude.{◌≡◌, ◌↔◌, ◌≤◌, ◌++◌, ℕ, length, Some, None, IsTrue, IfSome, IsErrOf, OnOk, OnErr, true, false, []}, Option.option_copied, Fmt.WritesStyledOnOk, Io.KnownBytes.Appends};
 ghost use Rattle.decimal_digits.specs.AppendsPrefix.{AppendsPrefix};
 ghost use Rattle.fixed_decimal.specs.Decimal.{Decimal, displayed_sign};
-ghost use Rattle.decimal_format.specs.{Formatted.formatted_absolute, Symbols.affixes, declared.grouping.GroupingStrategy.TheVariants.Never};
+ghost use Rattle.decimal_format.specs.{Formatted.formatted_absolute, declared.grouping.GroupingStrategy.TheVariants.Never};
 ghost use Rattle.locale_data.specs.Compact.{AreTexts};
-ghost use Rattle.number_format.specs.{FormattedNumbers.{pattern_of, around_of, unit_of, exponent_text, number_text, number_text_if, number_pieces_if, around_text, formatted_number_pieces, formatted_number_text, ChoosesUnit, IsShownNumber}, NumberText.{compact_around, exponent_of, exponent_pieces, shown_number, AreParts, AreNumberPieces, WritingNeedsMemory}, PatternTexts.pattern_around, TextParts.{parts_text, pieces_text, Puts, PutsPrefix}};
+ghost use Rattle.number_format.specs.{FormattedNumbers.{pattern_of, around_of, outer_of, exponent_text, number_text, number_text_if, number_pieces_if, separator_of, significand_text, around_text, inner_text, inner_text_if, inner_pieces, inner_pieces_if, formatted_number_pieces, formatted_number_text, ChoosesWhole, IsOuter, IsShownNumber}, NumberText.{compact_around, compact_style, outer_texts, exponent_of, exponent_pieces, significand_pieces, shown_number, AreParts, AreNumberPieces, WritingNeedsMemory}, PatternTexts.{around, pattern_around}, TextParts.{parts_text, pieces_text, Puts, PutsPrefix}};
 
-use crate::format::affixes::{NO_UNIT, NumberAffixes};
+use crate::format::affixes::NumberAffixes;
 use crate::format::compact::CompactChoice;
 use crate::format::exponent::{exponent_kind, shown_exponent};
 use crate::format::formatter::NumberFormatter;
+use crate::format::outer::{OuterAround, OuterTexts, put_outer};
 use crate::format::parts::{
-    PartSink, fmt_parts, parts_length, put, put_digits, put_part, put_parts, write_parts,
+    PartSink, fmt_parts, parts_length, push_parts, put, put_digits, put_parts, write_parts,
 };
-use crate::format::text_part::{PartKind, TextPart};
+use crate::format::text_part::PartKind;
 use crate::notation::scale::ShownNumber;
-use crate::options::{NumberNotation, NumberStyle};
+use crate::options::{DecimalSeparatorDisplay, NumberNotation, NumberStyle};
 use decimal_format::internal::{Block, put_to_block};
 use decimal_format::{FormattedAbsolute, GroupingStrategy};
 use fixed_decimal::{
@@ -46,7 +47,7 @@ pub struct FormattedNumber<'f> {
     pub(crate) value: Decimal,
     pub(crate) exponent: i32,
     pub(crate) choice: CompactChoice,
-    /// The plural category of the whole number.
+    /// The plural category of the whole number, by which a unit or a name is chosen.
     pub(crate) whole: PluralCategory,
 }
 
@@ -68,13 +69,13 @@ impl<'f> FormattedNumber<'f> {
     /// Chooses what is written around a significand and its exponent, and sets the sign that is shown.
     pub(crate) fn choose(&mut self, shown: ShownNumber, whole: PluralCategory)
         ensures { (v : Decimal) → IsShownNumber self.old.formatter.now v self.old.value shown
-            → ChoosesUnit self.old.formatter.now v whole
+            → ChoosesWhole self.old.formatter.now v whole
             → AreNumberPieces self.old.formatter.now v (formatted_number_pieces self.new) }
     {
         let formatter = self.formatter;
         let display = formatter.options.sign_display;
         self.choice = formatter.choice(&self.value, shown.exponent);
-        self.whole = whole;
+        self.whole = formatter.outer_category(&self.value, whole);
         self.exponent = shown.exponent;
         self.value.sign = displayed_sign(display, shown.is_zero, self.value.sign);
     }
@@ -107,19 +108,41 @@ impl<'f> FormattedNumber<'f> {
         }
     }
 
-    fn unit(&self) -> UnitAffixes
-        ensures value { affixes result.prefix.now result.suffix.now ≡ unit_of self.now }
-        ensures short { (length result.prefix.now ≤ 255) × (length result.suffix.now ≤ 255) }
+    fn compact_outer(&self) -> OuterAround<'static>
+        ensures { IsOuter (outer_texts self.now.formatter.now.formats OuterTexts.None
+            (compact_style self.now.formatter.now.options.notation self.now.formatter.now.options.style)
+            self.now.formatter.now.options.style self.now.whole) result }
     {
         let formatter = self.formatter;
         match (formatter.options.compact_style(), formatter.options.style) {
-            (Some(_), NumberStyle::Percent) => formatter.formats.percent_unit(self.whole),
-            (Some(_), NumberStyle::Permille) => UnitAffixes {
+            (Some(_), NumberStyle::Percent) => {
+                OuterAround::of_affixes(formatter.formats.percent_unit(self.whole))
+            }
+            (Some(_), NumberStyle::Permille) => OuterAround::of_affixes(UnitAffixes {
                 prefix: "",
                 suffix: "\u{2030}",
-            },
-            _ => NO_UNIT,
+            }),
+            _ => OuterAround::none(),
         }
+    }
+
+    pub(crate) fn outer_around(&self) -> OuterAround<'_>
+        ensures { IsOuter (outer_of self.now) result }
+    {
+        let formatter = self.formatter;
+        match &formatter.outer {
+            OuterTexts::Units(rows) => OuterAround::of_unit(*rows, self.whole),
+            OuterTexts::Names(names) => OuterAround::of_name(names, self.whole),
+            OuterTexts::None => self.compact_outer(),
+        }
+    }
+
+    fn outer(&self) -> OuterAround<'_>
+        ensures parts { IsOuter (outer_of self.now) result }
+        ensures text { parts_text result.before ++ (inner_text_if self.now result.has_number
+            ++ parts_text result.after) ≡ formatted_number_text self.now }
+    {
+        self.outer_around()
     }
 
     #[inline(never)]
@@ -135,13 +158,12 @@ impl<'f> FormattedNumber<'f> {
     }
 
     fn affixes(&self) -> NumberAffixes<'_>
-        ensures parts { AreParts (around_of self.now) (unit_of self.now) result }
+        ensures parts { AreParts (around_of self.now) result }
         ensures text { parts_text result.prefix ++ (number_text_if self.now result.has_number
-            ++ parts_text result.suffix) ≡ formatted_number_text self.now }
+            ++ parts_text result.suffix) ≡ inner_text self.now }
     {
-        self.formatter
-            .style
-            .affixes(self.value.sign, self.compact_pattern(), self.unit())
+        let style = &self.formatter.style;
+        style.affixes(self.value.sign, self.compact_pattern())
     }
 
     #[inline]
@@ -152,6 +174,19 @@ impl<'f> FormattedNumber<'f> {
         let formatter = self.formatter;
         let grouping = formatter.options.grouping;
         FormattedAbsolute::new(&formatter.style.symbols, grouping, &self.value.absolute)
+    }
+
+    fn separator(&self) -> &str
+        ensures value { result.now ≡ separator_of self.now }
+        ensures short { length result.now ≤ 255 }
+    {
+        let formatter = self.formatter;
+        match formatter.options.decimal_separator {
+            DecimalSeparatorDisplay::Always if self.value.absolute.lowest() >= 0 => {
+                formatter.style.symbols.decimal_separator()
+            }
+            _ => "",
+        }
     }
 
     fn exponent_digits<'g>(&'g self, exponent: &'g Decimal) -> FormattedAbsolute<'g, DecimalStore>
@@ -175,11 +210,18 @@ impl<'f> FormattedNumber<'f> {
         self.exponent_digits(exponent).write_to(sink)
     }
 
-    pub(crate) fn write_number_if<W: Sink>(
-        &self,
-        has_number: bool,
-        sink: &mut W,
-    ) -> Result<(), SinkFault>
+    fn write_significand<W: Sink>(&self, sink: &mut W) -> Result<(), SinkFault>
+        ensures ok { OnOk result
+            (Appends (W.contents sink.old) (W.contents sink.new) (significand_text self.now)) }
+        ensures err { OnErr result
+            (AppendsPrefix (W.contents sink.old) (W.contents sink.new) (significand_text self.now)) }
+        ensures failed { OnErr result (W.has_failed sink.new ≡ true) }
+    {
+        self.digits().write_to(sink)?;
+        sink.put_bytes(self.separator().as_bytes())
+    }
+
+    pub(crate) fn write_number_if<W: Sink>(&self, has_number: bool, sink: &mut W) -> Result<(), SinkFault>
         ensures ok { OnOk result
             (Appends (W.contents sink.old) (W.contents sink.new) (number_text_if self.now has_number)) }
         ensures err { OnErr result
@@ -189,11 +231,18 @@ impl<'f> FormattedNumber<'f> {
         if !has_number {
             return Ok(());
         }
-        self.digits().write_to(sink)?;
+        self.write_significand(sink)?;
         match &self.shown_exponent() {
             Some(exponent) => self.write_exponent(exponent, sink),
             None => Ok(()),
         }
+    }
+
+    fn fmt_significand<W: fmt::Write>(&self, f: &mut fmt::Formatter<W>) -> fmt::Result
+        ensures { WritesStyledOnOk W.write_str_gives f.old result (significand_text self.now) f.new }
+    {
+        fmt::Display::fmt(&self.digits(), f)?;
+        f.write_str(self.separator())
     }
 
     pub(crate) fn fmt_number_if<W: fmt::Write>(
@@ -207,7 +256,7 @@ impl<'f> FormattedNumber<'f> {
             return Ok(());
         }
         let formatter = self.formatter;
-        fmt::Display::fmt(&self.digits(), f)?;
+        self.fmt_significand(f)?;
         match &self.shown_exponent() {
             Some(exponent) => {
                 f.write_str(formatter.separator.text)?;
@@ -218,12 +267,10 @@ impl<'f> FormattedNumber<'f> {
         }
     }
 
-    #[inline(never)]
-    fn write_pieces<W: Sink>(&self, sink: &mut W) -> Result<(), SinkFault>
-        ensures ok { OnOk result
-            (Appends (W.contents sink.old) (W.contents sink.new) (formatted_number_text self.now)) }
+    fn write_inner<W: Sink>(&self, sink: &mut W) -> Result<(), SinkFault>
+        ensures ok { OnOk result (Appends (W.contents sink.old) (W.contents sink.new) (inner_text self.now)) }
         ensures err { OnErr result
-            (AppendsPrefix (W.contents sink.old) (W.contents sink.new) (formatted_number_text self.now)) }
+            (AppendsPrefix (W.contents sink.old) (W.contents sink.new) (inner_text self.now)) }
         ensures failed { OnErr result (W.has_failed sink.new ≡ true) }
     {
         let affixes = self.affixes();
@@ -232,12 +279,55 @@ impl<'f> FormattedNumber<'f> {
         write_parts(&affixes.suffix, sink)
     }
 
+    fn write_inner_if<W: Sink>(&self, has_number: bool, sink: &mut W) -> Result<(), SinkFault>
+        ensures ok { OnOk result
+            (Appends (W.contents sink.old) (W.contents sink.new) (inner_text_if self.now has_number)) }
+        ensures err { OnErr result
+            (AppendsPrefix (W.contents sink.old) (W.contents sink.new) (inner_text_if self.now has_number)) }
+        ensures failed { OnErr result (W.has_failed sink.new ≡ true) }
+    {
+        if !has_number {
+            return Ok(());
+        }
+        self.write_inner(sink)
+    }
+
+    #[inline(never)]
+    fn write_pieces<W: Sink>(&self, sink: &mut W) -> Result<(), SinkFault>
+        ensures ok { OnOk result
+            (Appends (W.contents sink.old) (W.contents sink.new) (formatted_number_text self.now)) }
+        ensures err { OnErr result
+            (AppendsPrefix (W.contents sink.old) (W.contents sink.new) (formatted_number_text self.now)) }
+        ensures failed { OnErr result (W.has_failed sink.new ≡ true) }
+    {
+        let outer = self.outer();
+        write_parts(&outer.before, sink)?;
+        self.write_inner_if(outer.has_number, sink)?;
+        write_parts(&outer.after, sink)
+    }
+
+    fn fmt_inner_if<W: fmt::Write>(
+        &self,
+        has_number: bool,
+        f: &mut fmt::Formatter<W>,
+    ) -> fmt::Result
+        ensures { WritesStyledOnOk W.write_str_gives f.old result (inner_text_if self.now has_number) f.new }
+    {
+        if !has_number {
+            return Ok(());
+        }
+        let affixes = self.affixes();
+        fmt_parts(&affixes.prefix, f)?;
+        self.fmt_number_if(affixes.has_number, f)?;
+        fmt_parts(&affixes.suffix, f)
+    }
+
     pub(crate) fn number_length(&self) -> usize
         ensures value { result ≡ length (number_text self.now) }
-        ensures at_most { result ≤ 17236988 }
+        ensures at_most { result ≤ 17237243 }
     {
         let formatter = self.formatter;
-        let digits = self.digits().writeable_length_hint();
+        let digits = self.digits().writeable_length_hint() + self.separator().len();
         match &self.shown_exponent() {
             Some(exponent) => {
                 digits
@@ -247,6 +337,19 @@ impl<'f> FormattedNumber<'f> {
             }
             None => digits,
         }
+    }
+
+    fn inner_length(&self) -> usize
+        ensures value { result ≡ length (inner_text self.now) }
+        ensures at_most { result ≤ 17240100 }
+    {
+        let affixes = self.affixes();
+        let number = if affixes.has_number {
+            self.number_length()
+        } else {
+            0
+        };
+        parts_length(&affixes.prefix) + number + parts_length(&affixes.suffix)
     }
 
     fn push_exponent(&self, exponent: &Decimal, block: &mut Block) -> Result<(), SinkFault>
@@ -261,10 +364,21 @@ impl<'f> FormattedNumber<'f> {
     }
 
     #[inline(always)]
+    fn push_separator(&self, block: &mut Block) -> Result<(), SinkFault>
+        ensures { OnOk result (block.new.0 ≡ block.old.0 ++ separator_of self.now) }
+    {
+        match self.formatter.options.decimal_separator {
+            DecimalSeparatorDisplay::Auto => Ok(()),
+            DecimalSeparatorDisplay::Always => block.put_bytes(self.separator().as_bytes()),
+        }
+    }
+
+    #[inline(always)]
     fn put_digits(&self, block: &mut Block) -> Result<(), SinkFault>
         ensures { OnOk result (block.new.0 ≡ block.old.0 ++ number_text self.now) }
     {
         put_to_block(&self.digits(), block)?;
+        self.push_separator(block)?;
         match self.formatter.options.notation {
             NumberNotation::Scientific(options) | NumberNotation::Engineering(options) => {
                 let exponent = shown_exponent(self.alloc, options, self.exponent);
@@ -313,23 +427,47 @@ impl<'f> FormattedNumber<'f> {
     }
 
     #[inline(always)]
-    fn put_with_unit(&self, block: &mut Block) -> Result<(), SinkFault>
+    fn has_outer(&self) -> bool
+        ensures { result ≡ false → outer_of self.now ≡ around [] true [] }
+    {
+        let formatter = self.formatter;
+        match (&formatter.outer, formatter.options.style) {
+            (OuterTexts::None, NumberStyle::Percent | NumberStyle::Permille) => {
+                formatter.options.compact_style().is_some()
+            }
+            (OuterTexts::None, _) => false,
+            _ => true,
+        }
+    }
+
+    // Not inlined: most numbers have no unit.
+    #[inline(never)]
+    fn put_around_if(&self, has_number: bool, block: &mut Block) -> Result<(), SinkFault>
+        ensures { OnOk result (block.new.0 ≡ block.old.0 ++ inner_text_if self.now has_number) }
+    {
+        if !has_number {
+            return Ok(());
+        }
+        self.put_around(block)
+    }
+
+    fn put_with_outer(&self, block: &mut Block) -> Result<(), SinkFault>
         ensures { OnOk result (block.new.0 ≡ block.old.0 ++ formatted_number_text self.now) }
     {
-        let unit = self.unit();
-        put_part(TextPart::new(PartKind::Literal, unit.prefix), block)?;
-        self.put_around(block)?;
-        put_part(TextPart::new(PartKind::Literal, unit.suffix), block)
+        let outer = self.outer();
+        push_parts(&outer.before, block)?;
+        self.put_around_if(outer.has_number, block)?;
+        push_parts(&outer.after, block)
     }
 
     #[inline(always)]
     fn put_text(&self, block: &mut Block) -> Result<(), SinkFault>
         ensures { OnOk result (block.new.0 ≡ block.old.0 ++ formatted_number_text self.now) }
     {
-        match self.formatter.options.compact_style() {
-            None => self.put_pattern(block),
-            Some(_) => self.put_with_unit(block),
+        if self.has_outer() {
+            return self.put_with_outer(block);
         }
+        self.put_around(block)
     }
 
     fn put_exponent<P: PartSink>(&self, exponent: &Decimal, sink: &mut P) -> Result<(), SinkFault>
@@ -350,11 +488,20 @@ impl<'f> FormattedNumber<'f> {
         )
     }
 
-    pub(crate) fn put_number_if<P: PartSink>(
-        &self,
-        has_number: bool,
-        sink: &mut P,
-    ) -> Result<(), SinkFault>
+    fn put_significand<P: PartSink>(&self, sink: &mut P) -> Result<(), SinkFault>
+        ensures ok { OnOk result (Puts (P.pieces sink.old) (P.pieces sink.new)
+            (significand_pieces self.now.formatter.now self.now.formatter.now.options.decimal_separator
+            self.now.value.absolute)) }
+        ensures err { OnErr result (PutsPrefix (P.pieces sink.old) (P.pieces sink.new)
+            (significand_pieces self.now.formatter.now self.now.formatter.now.options.decimal_separator
+            self.now.value.absolute)) }
+        ensures failed { OnErr result (P.has_failed sink.new ≡ true) }
+    {
+        put_digits(&self.digits(), PartKind::Integer, sink)?;
+        put(sink, PartKind::Decimal, self.separator())
+    }
+
+    pub(crate) fn put_number_if<P: PartSink>(&self, has_number: bool, sink: &mut P) -> Result<(), SinkFault>
         ensures ok { OnOk result (Puts (P.pieces sink.old) (P.pieces sink.new) (number_pieces_if self.now has_number)) }
         ensures err { OnErr result
             (PutsPrefix (P.pieces sink.old) (P.pieces sink.new) (number_pieces_if self.now has_number)) }
@@ -363,11 +510,34 @@ impl<'f> FormattedNumber<'f> {
         if !has_number {
             return Ok(());
         }
-        put_digits(&self.digits(), PartKind::Integer, sink)?;
+        self.put_significand(sink)?;
         match &self.shown_exponent() {
             Some(exponent) => self.put_exponent(exponent, sink),
             None => Ok(()),
         }
+    }
+
+    fn put_inner<P: PartSink>(&self, sink: &mut P) -> Result<(), SinkFault>
+        ensures ok { OnOk result (Puts (P.pieces sink.old) (P.pieces sink.new) (inner_pieces self.now)) }
+        ensures err { OnErr result (PutsPrefix (P.pieces sink.old) (P.pieces sink.new) (inner_pieces self.now)) }
+        ensures failed { OnErr result (P.has_failed sink.new ≡ true) }
+    {
+        let affixes = self.affixes();
+        put_parts(sink, &affixes.prefix)?;
+        self.put_number_if(affixes.has_number, sink)?;
+        put_parts(sink, &affixes.suffix)
+    }
+
+    fn put_inner_if<P: PartSink>(&self, has_number: bool, sink: &mut P) -> Result<(), SinkFault>
+        ensures ok { OnOk result (Puts (P.pieces sink.old) (P.pieces sink.new) (inner_pieces_if self.now has_number)) }
+        ensures err { OnErr result
+            (PutsPrefix (P.pieces sink.old) (P.pieces sink.new) (inner_pieces_if self.now has_number)) }
+        ensures failed { OnErr result (P.has_failed sink.new ≡ true) }
+    {
+        if !has_number {
+            return Ok(());
+        }
+        self.put_inner(sink)
     }
 
     /// Puts the pieces of the text with their kinds: consecutive pieces of one kind are one part of `formatToParts` of
@@ -384,10 +554,10 @@ impl<'f> FormattedNumber<'f> {
             (PutsPrefix (P.pieces sink.old) (P.pieces sink.new) (formatted_number_pieces self.now)) }
         ensures failed { OnErr result (P.has_failed sink.new ≡ true) }
     {
-        let affixes = self.affixes();
-        put_parts(sink, &affixes.prefix)?;
-        self.put_number_if(affixes.has_number, sink)?;
-        put_parts(sink, &affixes.suffix)
+        let outer = self.outer();
+        put_outer(sink, outer.kind, &outer.before)?;
+        self.put_inner_if(outer.has_number, sink)?;
+        put_outer(sink, outer.kind, &outer.after)
     }
 }
 
@@ -413,13 +583,13 @@ impl<'f> Writeable for FormattedNumber<'f> {
 
     /// Returns the exact number of bytes of the text.
     fn writeable_length_hint(&self) -> usize {
-        let affixes = self.affixes();
-        let number = if affixes.has_number {
-            self.number_length()
+        let outer = self.outer();
+        let inner = if outer.has_number {
+            self.inner_length()
         } else {
             0
         };
-        parts_length(&affixes.prefix) + number + parts_length(&affixes.suffix)
+        parts_length(&outer.before) + inner + parts_length(&outer.after)
     }
 }
 
@@ -434,9 +604,9 @@ impl<'f> fmt::Display for FormattedNumber<'f> {
     ///
     /// The formatter fails.
     fn fmt<W: fmt::Write>(&self, f: &mut fmt::Formatter<W>) -> fmt::Result {
-        let affixes = self.affixes();
-        fmt_parts(&affixes.prefix, f)?;
-        self.fmt_number_if(affixes.has_number, f)?;
-        fmt_parts(&affixes.suffix, f)
+        let outer = self.outer();
+        fmt_parts(&outer.before, f)?;
+        self.fmt_inner_if(outer.has_number, f)?;
+        fmt_parts(&outer.after, f)
     }
 }

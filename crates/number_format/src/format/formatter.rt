@@ -5,14 +5,16 @@ ghost use Rattle.locale_data.specs.Plurals.{rules_text_at};
 use crate::digits::options::DigitOptions;
 use crate::format::affixes::StyleTexts;
 use crate::format::compact::{CompactChoice, NO_CHOICE, compact_magnitude, is_one};
+use crate::format::exponent::{exponent_operand, exponent_shift};
 use crate::format::ids::{FormatterIds, NumberFormatError, currency_by, style_system};
+use crate::format::outer::OuterTexts;
 use crate::format::style::{
-    notation_of, percent_text, shown_digits, style_of, style_sizes, with_separators,
+    notation_of, percent_kind, percent_text, shown_digits, style_of, style_sizes, with_separators,
 };
 use crate::format::text_part::{PartKind, TextPart};
 use crate::notation::Notation;
 use crate::notation::scale::ShownNumber;
-use crate::options::{NumberOptions, NumberStyle};
+use crate::options::{NumberNotation, NumberOptions, NumberStyle};
 use fixed_decimal::{Decimal, DecimalStore, RoundError};
 use locale_data::{NumberFormats, PluralRulesId, plural_category_at, rules_text_at, symbols_at};
 use plural_rules::{PluralCategory, PluralOperands};
@@ -23,6 +25,7 @@ pub struct NumberFormatter {
     pub(crate) style: StyleTexts,
     /// What is written before an exponent.
     pub(crate) separator: TextPart<'static>,
+    pub(crate) outer: OuterTexts,
     pub(crate) formats: NumberFormats,
     pub(crate) rules: PluralRulesId,
     pub(crate) options: NumberOptions,
@@ -36,7 +39,8 @@ impl NumberFormatter {
     ghost use Rattle.fixed_decimal.specs.DecimalText.{IsLong};
     ghost use Rattle.locale_data.specs.Plurals.{IsCategoryAt};
     ghost use Rattle.plural_rules.specs.Operands.{plain};
-    ghost use Rattle.number_format.specs.{FormattedNumbers.{ChoosesPattern, ChoosesUnit, IsShownNumber}, Formatters.{LacksRows, IsFormatterAt, IsFormatter, IsFormatterError}, NumberText.{shown_number, rounded_in, rounded_by, whole_number, RoundingNeedsMemory, NeedsMemory, WholeRoundingNeedsMemory, WholeNeedsMemory, FormattingNeedsMemory}, Scaled.scaled_value};
+    ghost use Rattle.number_format.specs.{FormattedNumbers.{ChoosesOuter, ChoosesPattern, ChoosesWhole, IsShownNumber}, Formatters.{LacksRows, IsFormatterAt, IsFormatter, IsFormatterError}, NumberText.{has_categories, operands_with, shown_number, rounded_in, rounded_by, whole_number, RoundingNeedsMemory, NeedsMemory, WholeRoundingNeedsMemory, WritingNeedsMemory, FormattingNeedsMemory}, Scaled.{ScaledValue, scaled_value}};
+    ghost use Rattle.fixed_decimal.specs.Decimal.{Decimal};
 
     /// Makes the formatter of a locale and options. It does not allocate.
     ///
@@ -72,19 +76,21 @@ impl NumberFormatter {
         let _rules = rules_text_at(ids.rules)?;
         let currency = currency_by(ids.currency)?;
         let own = symbols.sizes();
-        let (written, shown) = style_of(system, own, &ids.formats, currency, options);
+        let outer = ids.outer.in_style(options.style);
+        let (written, shown) = style_of(system, own, &ids.formats, currency, &outer, options);
         let sizes = style_sizes(&written.pattern, options.grouping, own);
         let signs = ids.formats.signs();
         let percent = percent_text(options.style, signs);
         let style = StyleTexts {
             symbols: with_separators(symbols, &written).with_sizes(sizes),
             pattern: written.pattern,
-            percent: TextPart::new(PartKind::PercentSign, percent),
+            percent: TextPart::new(percent_kind(options.style), percent),
             currency: shown,
         };
         Some(NumberFormatter {
             style,
             separator: TextPart::new(PartKind::ExponentSeparator, signs.exponent.text()),
+            outer,
             formats: ids.formats,
             rules: ids.rules,
             options: *options,
@@ -201,14 +207,83 @@ impl NumberFormatter {
         }
     }
 
-    pub(crate) fn whole_category(&self, value: &Decimal) -> Result<PluralCategory, RoundError>
-        ensures ok { IfOk result (ChoosesUnit self.now value.now) }
-        ensures err { IfErr result (λ e. (e ≡ RoundError.Memory) × WholeNeedsMemory self.now value.now) }
+    #[inline(always)]
+    fn has_categories(&self) -> bool
+        ensures { result ≡ has_categories self.now }
     {
-        match (self.options.compact_style(), self.options.style) {
-            (Some(_), NumberStyle::Percent) => self.undivided_category(value),
-            _ => Ok(PluralCategory::Other),
+        match (&self.outer, self.options.style) {
+            (OuterTexts::None, NumberStyle::Percent) => self.options.compact_style().is_some(),
+            (OuterTexts::None, _) => false,
+            _ => true,
         }
+    }
+
+    #[inline(always)]
+    pub(crate) fn whole_category(&self, value: &Decimal) -> Result<PluralCategory, RoundError>
+        ensures ok { IfOk result (ChoosesWhole self.now value.now) }
+        ensures limit { IsErrOf result RoundError.Limit → shown_number self.now value.now ≡ None }
+        ensures memory { IsErrOf result RoundError.Memory → WritingNeedsMemory self.now value.now }
+    {
+        if !self.has_categories() {
+            return Ok(PluralCategory::Other);
+        }
+        match self.options.notation {
+            NumberNotation::Standard => Ok(PluralCategory::Other),
+            NumberNotation::Compact(_) => self.undivided_category(value),
+            _ => self.exponent_category(value),
+        }
+    }
+
+    /// Returns the category of the significand in standard notation, and else that of the whole number.
+    #[inline(always)]
+    pub(crate) fn outer_category(
+        &self,
+        significand: &Decimal,
+        whole: PluralCategory,
+    ) -> PluralCategory
+        ensures { (v : Decimal) (number : ScaledValue) → shown_number self.now v ≡ Some number
+            → number.significand ≡ significand.now → ChoosesWhole self.now v whole
+            → ChoosesOuter self.now v number result }
+    {
+        match self.options.notation {
+            NumberNotation::Standard if self.has_categories() => {
+                self.category(&PluralOperands::of_decimal(significand))
+            }
+            _ => whole,
+        }
+    }
+
+    fn category_with(&self, significand: &mut Decimal, exponent: i32) -> PluralCategory
+        ensures { IsCategoryAt self.now.rules (operands_with significand.old.absolute exponent) result }
+    {
+        // Proof hint: the value satisfies its invariant.
+        let _range = significand.absolute.magnitude_range();
+        let Some(shift) = exponent_shift(exponent) else {
+            return self.category(&PluralOperands::of_decimal(significand));
+        };
+        match significand.absolute.multiply_pow10(shift) {
+            Ok(()) => {
+                let power = exponent_operand(exponent);
+                self.category(&PluralOperands::of_scaled(&significand.absolute, power))
+            }
+            Err(_) => self.category(&PluralOperands::of_decimal(significand)),
+        }
+    }
+
+    // Not inlined: only units and names need it.
+    #[inline(never)]
+    fn exponent_category(&self, value: &Decimal) -> Result<PluralCategory, RoundError>
+        ensures ok { IfOk result (λ c. (number : ScaledValue) → shown_number self.now value.now ≡ Some number
+            → IsCategoryAt self.now.rules (operands_with number.significand.absolute number.exponent) c) }
+        ensures limit { IsErrOf result RoundError.Limit → shown_number self.now value.now ≡ None }
+        ensures memory { IsErrOf result RoundError.Memory
+            → IsLong INLINE_DIGITS value.now ⊎ NeedsMemory self.now value.now }
+    {
+        let Ok(mut number) = value.clone() else {
+            return Err(RoundError::Memory);
+        };
+        let shown = self.shown_number(&mut number)?;
+        Ok(self.category_with(&mut number, shown.exponent))
     }
 
     fn round_whole(&self, value: &mut Decimal) -> Result<(), RoundError>
@@ -225,7 +300,7 @@ impl NumberFormatter {
         }
     }
 
-    // Not inlined: only percent in compact notation needs it.
+    // Not inlined: only percent, units and names in compact notation need it.
     #[inline(never)]
     pub(crate) fn undivided_category(&self, value: &Decimal) -> Result<PluralCategory, RoundError>
         ensures ok { IfOk result (IsCategoryAt self.now.rules (plain (whole_number self.now value.now))) }

@@ -3,6 +3,7 @@ ghost use Rattle.std.specs.{Prelude.{◌≡◌, None, IfOk, IfErr, IfSome, IfNon
 ghost use Rattle.locale_data.specs.{Currencies.LacksCurrency, Locales.{symbols_at, IsUnknown}};
 ghost use Rattle.number_format.specs.Formatters.{system_text, IsSystemOf, LacksRows, IsCurrencyBy, IsCurrencyRow, AreSymbolsOf, AreIdsOf, IsFormatterError};
 
+use crate::format::outer::OuterTexts;
 use crate::options::{NumberOptions, NumberStyle};
 use locale_data::{
     CurrencyId, LocalCurrency, LocaleId, NumberFormats, NumberingSystem, PluralRuleType,
@@ -30,6 +31,8 @@ pub struct FormatterIds {
     pub rules: PluralRulesId,
     /// The currency of the style, if it is listed.
     pub currency: Option<CurrencyId>,
+    /// The texts around the whole text: of a unit, or the names of a currency.
+    pub outer: OuterTexts,
 }
 
 /// Returns the name of the numbering system: that of the options, or else that of the symbols.
@@ -119,6 +122,7 @@ impl FormatterIds {
             formats: formats_of(tag, system),
             rules,
             currency: currency_row(tag, options.style),
+            outer: OuterTexts::of(tag, options.style, options.notation),
         })
     }
 }

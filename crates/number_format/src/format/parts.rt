@@ -22,6 +22,15 @@ pub(crate) fn put_part(part: TextPart<'_>, block: &mut Block) -> Result<(), Sink
     block.put_bytes(part.text.as_bytes())
 }
 
+pub(crate) fn push_parts(parts: &[TextPart<'_>], block: &mut Block) -> Result<(), SinkFault>
+    ensures { OnOk result (block.new.0 ≡ block.old.0 ++ parts_text parts.now) }
+{
+    for part in parts {
+        put_part(*part, block)?;
+    }
+    Ok(())
+}
+
 pub(crate) fn write_parts<W: Sink>(parts: &[TextPart<'_>], sink: &mut W) -> Result<(), SinkFault>
     ensures ok { OnOk result (Appends (W.contents sink.old) (W.contents sink.new) (parts_text parts.now)) }
     ensures err { OnErr result (AppendsPrefix (W.contents sink.old) (W.contents sink.new) (parts_text parts.now)) }

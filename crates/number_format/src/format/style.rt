@@ -1,12 +1,14 @@
 //! What a locale has for the options: the pattern, separators and currency of the style, and the exponents.
 ghost use Rattle.std.specs.Prelude.{◌≡◌, ◌≤◌, length};
-ghost use Rattle.number_format.specs.{Formatters.{style_sizes, currency_sign, with_separators, IsWithoutCurrency, IsStyle, IsNotationBy, digits_by, AreShownDigits}, NumberText.compact_style, NumberStyles.{before, plain_pattern, percent_text}};
+ghost use Rattle.number_format.specs.{Formatters.{style_sizes, currency_sign, with_separators, has_percent_pattern, IsWithoutCurrency, IsNumberPattern, IsMoney, IsStyle, IsNotationBy, digits_by, AreShownDigits}, NumberText.compact_style, NumberStyles.{before, plain_pattern, percent_text, percent_kind, is_own, money_pattern}};
 
 use crate::digits::options::DigitOptions;
 use crate::format::currency::ShownCurrency;
 use crate::format::default_digits::default_digits;
+use crate::format::outer::OuterTexts;
+use crate::format::text_part::PartKind;
 use crate::notation::{CompactExponents, Notation};
-use crate::options::{NumberNotation, NumberOptions, NumberStyle};
+use crate::options::{CurrencyDisplay, CurrencyStyle, NumberNotation, NumberOptions, NumberStyle};
 use decimal_format::{DecimalSymbols, GroupingSizes, GroupingStrategy};
 use fixed_decimal::SignDisplay;
 use locale_data::{
@@ -55,6 +57,16 @@ pub(crate) fn percent_text(style: NumberStyle, signs: NumberSigns) -> &'static s
     match style {
         NumberStyle::Permille => signs.permille.text(),
         _ => signs.percent.text(),
+    }
+}
+
+#[inline(always)]
+pub(crate) fn percent_kind(style: NumberStyle) -> PartKind
+    ensures { result ≡ percent_kind style }
+{
+    match style {
+        NumberStyle::Unit(_) => PartKind::Unit,
+        _ => PartKind::PercentSign,
     }
 }
 
@@ -116,30 +128,95 @@ fn without_currency(pattern: Pattern) -> (CurrencyPattern, ShownCurrency)
     (written, ShownCurrency::none())
 }
 
+fn is_own(pattern: &CurrencyPattern) -> bool
+    ensures { result ≡ is_own pattern.now }
+{
+    pattern.decimal.is_some() && pattern.grouping.is_some()
+}
+
+#[inline(always)]
+fn money_pattern(
+    display: CurrencyDisplay,
+    sizes: GroupingSizes,
+    pattern: CurrencyPattern,
+) -> CurrencyPattern
+    ensures { result ≡ money_pattern display sizes pattern }
+{
+    if display.shows_name() && !is_own(&pattern) {
+        return CurrencyPattern {
+            pattern: plain_pattern(sizes),
+            ..pattern
+        };
+    }
+    pattern
+}
+
+#[inline(always)]
+fn money(
+    system: &str,
+    sizes: GroupingSizes,
+    formats: &NumberFormats,
+    currency: Option<LocalCurrency>,
+    display: SignDisplay,
+    style: &CurrencyStyle,
+) -> (CurrencyPattern, ShownCurrency)
+    ensures { IsMoney system.now sizes formats.now currency display style.now result.0 result.1 }
+{
+    let sign = currency_sign(display, style.sign);
+    let written = currency_pattern(formats, currency, sign);
+    (
+        money_pattern(style.display, sizes, written),
+        ShownCurrency::of(currency, style).in_system(system),
+    )
+}
+
+fn has_percent_pattern(notation: NumberNotation, style: NumberStyle, texts: &OuterTexts) -> bool
+    ensures { result ≡ has_percent_pattern notation style texts.now }
+{
+    match (notation, style, texts) {
+        (NumberNotation::Compact(_), _, _) => false,
+        (_, NumberStyle::Percent | NumberStyle::Permille, _) => true,
+        (_, NumberStyle::Unit(_), OuterTexts::None) => true,
+        _ => false,
+    }
+}
+
+#[inline(always)]
+fn number_pattern(
+    is_percent: bool,
+    sizes: GroupingSizes,
+    formats: &NumberFormats,
+) -> (CurrencyPattern, ShownCurrency)
+    ensures { IsNumberPattern is_percent sizes formats.now result.0 result.1 }
+{
+    if is_percent {
+        without_currency(*formats.percent())
+    } else {
+        without_currency(plain_pattern(sizes))
+    }
+}
+
 #[inline(always)]
 pub(crate) fn style_of(
     system: &str,
     sizes: GroupingSizes,
     formats: &NumberFormats,
     currency: Option<LocalCurrency>,
+    texts: &OuterTexts,
     options: &NumberOptions,
 ) -> (CurrencyPattern, ShownCurrency)
-    ensures { IsStyle options.now.style options.now.notation system.now sizes formats.now currency
+    ensures { IsStyle options.now.style options.now.notation texts.now system.now sizes formats.now currency
         options.now.sign_display result.0 result.1 }
 {
-    match (options.style, options.notation) {
-        (NumberStyle::Currency(style), _) => {
-            let sign = currency_sign(options.sign_display, style.sign);
-            let written = currency_pattern(formats, currency, sign);
-            (
-                written,
-                ShownCurrency::of(currency, &style).in_system(system),
-            )
+    match options.style {
+        NumberStyle::Currency(style) => {
+            let display = options.sign_display;
+            money(system, sizes, formats, currency, display, &style)
         }
-        (NumberStyle::Decimal, _) | (_, NumberNotation::Compact(_)) => {
-            without_currency(plain_pattern(sizes))
+        style => {
+            let is_percent = has_percent_pattern(options.notation, style, texts);
+            number_pattern(is_percent, sizes, formats)
         }
-        _ => without_currency(*formats.percent()),
     }
 }
 

@@ -20,12 +20,14 @@ pub enum PartKind {
     ApproximatelySign,
     /// A percent sign.
     PercentSign,
-    /// The symbol or the code of a currency.
+    /// The symbol, the code or the name of a currency.
     Currency,
     /// Spaces, parentheses and marks.
     Literal,
     /// The word of a power of ten in compact notation.
     Compact,
+    /// The text of a unit; also a percent sign that is one.
+    Unit,
     /// The separator before an exponent.
     ExponentSeparator,
     /// The minus sign of an exponent.

@@ -1,17 +1,18 @@
 //! Options of numbers, by what they differ in from the default ones.
 ghost use Rattle.std.specs.Prelude.{◌≡◌, Some, None, pos, IfOk, IfErr};
-ghost use Rattle.number_format.specs.DefaultOptions.{default_grouping, default_options, grouping_after, plain_exponent, currency_style, options_of, HasDigitsOf, DigitsFail};
+ghost use Rattle.number_format.specs.DefaultOptions.{default_grouping, default_options, grouping_after, plain_exponent, currency_style, unit_style, options_of, HasDigitsOf, DigitsFail};
 
 use crate::digits::error::DigitOptionsError;
 use crate::digits::options::DigitOptions;
 use crate::digits::settings::DigitSettings;
 use crate::options::{
-    CompactLength, CurrencyDisplay, CurrencyStyle, CurrencyUsage, ExponentOptions, ExponentSign,
-    NumberNotation, NumberOptions, NumberStyle,
+    CompactLength, CurrencyDisplay, CurrencyStyle, CurrencyUsage, DecimalSeparatorDisplay,
+    ExponentOptions, ExponentSign, NumberNotation, NumberOptions, NumberStyle, UnitStyle,
 };
 use decimal_format::GroupingStrategy;
 use fixed_decimal::SignDisplay;
 use locale_data::{CurrencyCode, CurrencySign, NumberingSystem};
+use locale_names::{Unit, UnitDisplay};
 
 impl CurrencyStyle {
     /// Returns the usual style of a currency: its symbol, the usual pattern, and the usual digits.
@@ -26,7 +27,7 @@ impl CurrencyStyle {
         }
     }
 
-    /// Returns the style with another symbol.
+    /// Returns the style with another symbol, or with the name.
     pub fn with_display(self, display: CurrencyDisplay) -> CurrencyStyle
         ensures { result ≡ record self { display = display } }
     {
@@ -45,6 +46,25 @@ impl CurrencyStyle {
         ensures { result ≡ record self { usage = usage } }
     {
         CurrencyStyle { usage, ..self }
+    }
+}
+
+impl UnitStyle {
+    /// Returns the usual style of a unit: its short text.
+    pub fn new(unit: Unit) -> UnitStyle
+        ensures { result ≡ unit_style unit }
+    {
+        UnitStyle {
+            unit,
+            display: UnitDisplay::Short,
+        }
+    }
+
+    /// Returns the style with a text of another length.
+    pub fn with_display(self, display: UnitDisplay) -> UnitStyle
+        ensures { result ≡ record self { display = display } }
+    {
+        UnitStyle { display, ..self }
     }
 }
 
@@ -92,6 +112,7 @@ impl NumberOptions {
             digits: None,
             sign_display: SignDisplay::Auto,
             grouping: notation.default_grouping(),
+            decimal_separator: DecimalSeparatorDisplay::Auto,
             numbering_system: None,
         }
     }
@@ -114,6 +135,20 @@ impl NumberOptions {
         ensures { result ≡ options_of (NumberStyle.Currency (currency_style code)) (pos 0) NumberNotation.Standard }
     {
         let style = NumberStyle::Currency(CurrencyStyle::new(code));
+        Self::of(style, 0, NumberNotation::Standard)
+    }
+
+    /// Returns the options of a number of units, with the short text of the unit.
+    ///
+    /// ```
+    /// let speed = Unit::try_from_str("kilometer-per-hour")?;
+    /// let formatter = NumberFormatter::try_new("de", NumberOptions::unit(speed))?;
+    /// formatter.format(alloc, value)? // 50 km/h
+    /// ```
+    pub fn unit(unit: Unit) -> NumberOptions
+        ensures { result ≡ options_of (NumberStyle.Unit (unit_style unit)) (pos 0) NumberNotation.Standard }
+    {
+        let style = NumberStyle::Unit(UnitStyle::new(unit));
         Self::of(style, 0, NumberNotation::Standard)
     }
 
@@ -216,6 +251,16 @@ impl NumberOptions {
         ensures { result ≡ record self { grouping = grouping } }
     {
         NumberOptions { grouping, ..self }
+    }
+
+    /// Returns the options with a decimal separator before fraction digits only, or after the integer digits too.
+    pub fn with_decimal_separator(self, display: DecimalSeparatorDisplay) -> NumberOptions
+        ensures { result ≡ record self { decimal_separator = display } }
+    {
+        NumberOptions {
+            decimal_separator: display,
+            ..self
+        }
     }
 
     /// Returns the options with a numbering system, whichever the tag of the locale names.

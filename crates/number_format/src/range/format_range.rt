@@ -2,12 +2,11 @@
 ghost use Rattle.std.specs.Prelude.{◌≡◌, ◌⊎◌, None, IfOk, IfErr};
 ghost use Rattle.decimal_unsigned.specs.declared.decimal.TheConstants.{INLINE_DIGITS};
 ghost use Rattle.fixed_decimal.specs.DecimalText.{IsLong};
-ghost use Rattle.number_format.specs.{FormattedRanges.{HasOuterCategory, IsFormattedEnd, end_of, formatted_range_text, shown_range}, NumberText.{shown_number, is_negative, FormattingNeedsMemory, WholeNeedsMemory}, RangeText.{are_equal, have_same_sign, range_by, range_category, IsRange, IsRangeText}};
+ghost use Rattle.number_format.specs.{FormattedRanges.{IsFormattedEnd, end_of, formatted_range_text, shown_range}, NumberText.{shown_number, is_negative, FormattingNeedsMemory}, RangeText.{are_equal, have_same_sign, range_by, range_category, IsRange, IsRangeText}};
 
 use crate::format::format_number::FormatError;
 use crate::format::formatted_number::{FormattedNumber, displayed_sign};
 use crate::format::formatter::NumberFormatter;
-use crate::options::NumberStyle;
 use crate::range::common::are_both_or_neither;
 use crate::range::form::{RangeForm, form_by, needs_spaces};
 use crate::range::formatted_range::FormattedRange;
@@ -63,34 +62,24 @@ fn range_category(
 fn range_by<'f>(
     texts: &RangeTexts<'_>,
     form: RangeForm,
-    start: FormattedNumber<'f>,
+    mut start: FormattedNumber<'f>,
     end: FormattedNumber<'f>,
 ) -> FormattedRange<'f>
     ensures { shown_range result ≡ range_by texts.now form (end_of start.entry) (end_of end.entry)
         start.entry.whole end.entry.whole }
 {
+    let spaced = needs_spaces(form, &start);
+    start.whole = range_category(texts.tag, form, start.whole, end.whole);
     FormattedRange {
-        format: texts.format,
-        form,
-        spaced: needs_spaces(form, &start),
-        category: range_category(texts.tag, form, start.whole, end.whole),
         start,
         end,
+        format: texts.format,
+        form,
+        spaced,
     }
 }
 
 impl NumberFormatter {
-    /// Returns the plural category of what is around the whole text; any, where this does not depend on it.
-    fn range_outer_category(&self, value: &Decimal) -> Result<PluralCategory, RoundError>
-        ensures ok { IfOk result (HasOuterCategory self.now value.now) }
-        ensures err { IfErr result (λ e. (e ≡ RoundError.Memory) × WholeNeedsMemory self.now value.now) }
-    {
-        match (self.options.compact_style(), self.options.style) {
-            (Some(_), NumberStyle::Percent) => self.undivided_category(value),
-            _ => Ok(PluralCategory::Other),
-        }
-    }
-
     fn range_end(
         &self,
         alloc: Global,
@@ -101,7 +90,7 @@ impl NumberFormatter {
         ensures limit { IfErr result (λ e. e.error ≡ RoundError.Limit → shown_number self.now value ≡ None) }
         ensures memory { IfErr result (λ e. e.error ≡ RoundError.Memory → FormattingNeedsMemory self.now value) }
     {
-        let whole = match self.range_outer_category(&value) {
+        let whole = match self.whole_category(&value) {
             Ok(whole) => whole,
             Err(error) => return Err(FormatError { error, value }),
         };
@@ -110,6 +99,7 @@ impl NumberFormatter {
             Err(error) => return Err(FormatError { error, value }),
         };
         let choice = self.choice(&value, shown.exponent);
+        let whole = self.outer_category(&value, whole);
         let display = self.options.sign_display;
         value.sign = displayed_sign(display, shown.is_zero, value.sign);
         Ok(FormattedNumber {

@@ -1,19 +1,18 @@
 //! A range of two numbers as a locale writes it.
 ghost use Rattle.std.specs.{Prelude.{◌≡◌, ◌≤◌, length, Some, OnOk, OnErr, true}, Fmt.WritesStyledOnOk, Io.KnownBytes.Appends};
 ghost use Rattle.decimal_digits.specs.AppendsPrefix.{AppendsPrefix};
-ghost use Rattle.number_format.specs.{FormattedNumbers.{around_of, pattern_of}, FormattedRanges.{end_of, formatted_range_pieces, formatted_range_text, inner_pieces, pieces_in, segment_pieces, segment_text, shown_range, source_of, text_from_end, text_from_start}, RangeOuter.{outer_by, within, IsOuter}, RangeText.{approximate_around, end_number, pieces_by}, TextParts.{Puts, PutsPrefix, parts_pieces, pieces_text}};
+ghost use Rattle.number_format.specs.{FormattedNumbers.{around_of, outer_of, pattern_of, IsOuter}, FormattedRanges.{end_of, formatted_range_pieces, formatted_range_text, inner_pieces, pieces_in, segment_pieces, segment_text, shown_range, source_of, text_from_end, text_from_start}, PatternTexts.within, RangeText.{approximate_around, end_number, pieces_by}, TextParts.{Puts, PutsPrefix, parts_pieces, pieces_text}};
 ghost use Rattle.number_format.specs.declared.range.form.RangeForm.TheVariants as form;
 
 use crate::format::formatted_number::FormattedNumber;
+use crate::format::outer::OuterAround;
 use crate::format::parts::PartSink;
 use crate::format::text_part::TextPart;
 use crate::range::affixes::shows_number;
 use crate::range::form::RangeForm;
-use crate::range::outer::OuterAround;
 use crate::range::segment::{InnerSegment, Segment};
 use fixed_decimal::{Sink, SinkFault, Writeable};
 use locale_data::RangeFormat;
-use plural_rules::PluralCategory;
 use std::fmt;
 
 /// To which number of a range a part of its text belongs, as `formatRangeToParts` of ECMA-402 names it.
@@ -72,14 +71,13 @@ impl RangeSegment {
 
 /// A range of two numbers as a locale writes it. It borrows the formatter.
 pub struct FormattedRange<'f> {
+    /// The first number, with the plural category of the range.
     pub(crate) start: FormattedNumber<'f>,
     pub(crate) end: FormattedNumber<'f>,
     pub(crate) format: RangeFormat,
     pub(crate) form: RangeForm,
     /// Whether spaces are beside the separator.
     pub(crate) spaced: bool,
-    /// The plural category of the range.
-    pub(crate) category: PluralCategory,
 }
 
 // Not derived: a derived drop is proved again in each crate that depends on this one.
@@ -91,7 +89,6 @@ impl<'f> Drop for FormattedRange<'f> {
             format: _,
             form: _,
             spaced: _,
-            category: _,
         } = self;
         drop(start);
         drop(end);
@@ -99,11 +96,10 @@ impl<'f> Drop for FormattedRange<'f> {
 }
 
 impl<'f> FormattedRange<'f> {
-    fn outer(&self) -> OuterAround<'f>
-        ensures { IsOuter (outer_by self.now.start.formatter.now self.now.category) result }
+    fn outer(&self) -> OuterAround<'_>
+        ensures { IsOuter (outer_of self.now.start) result }
     {
-        let formatter = self.start.formatter;
-        formatter.outer_around(self.category)
+        self.start.outer_around()
     }
 
     fn approximate_number(&self) -> InnerSegment<'_, 'f>
@@ -217,7 +213,7 @@ impl<'f> FormattedRange<'f> {
 
     fn segment_length(&self, segment: RangeSegment) -> usize
         ensures value { result ≡ length (pieces_text (formatted_range_pieces self.now segment)) }
-        ensures at_most { result ≤ 17242598 }
+        ensures at_most { result ≤ 17242853 }
     {
         self.segment(segment).length()
     }

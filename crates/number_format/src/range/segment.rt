@@ -1,13 +1,13 @@
 //! Segments of the text of a range.
 ghost use Rattle.std.specs.{Prelude.{◌≡◌, ◌≤◌, [], ◌∷◌, length, OnOk, OnErr, true, false, if◌then◌else◌}, Fmt.WritesStyledOnOk, Io.KnownBytes.Appends};
 ghost use Rattle.decimal_digits.specs.AppendsPrefix.{AppendsPrefix};
-ghost use Rattle.number_format.specs.{FormattedNumbers.number_pieces_if, FormattedRanges.{end_of, inner_pieces, inner_text, outer_pieces, outer_text, segment_pieces, segment_text}, PatternTexts.literal, RangeOuter.within, RangeText.{end_around, end_number, has_spaces, pieces_if, separator_pieces}, TextParts.{part_pieces, parts_pieces, parts_text, Puts, PutsPrefix}};
+ghost use Rattle.number_format.specs.{FormattedNumbers.number_pieces_if, FormattedRanges.{end_of, inner_pieces, inner_text, outer_pieces, outer_text, segment_pieces, segment_text}, PatternTexts.{literal, within}, RangeText.{end_around, end_number, has_spaces, pieces_if, separator_pieces}, TextParts.{part_pieces, parts_pieces, parts_text, Puts, PutsPrefix}};
 
 use crate::format::formatted_number::FormattedNumber;
+use crate::format::outer::{OuterAround, put_outer};
 use crate::format::parts::{PartSink, fmt_parts, parts_length, put_parts, write_parts};
 use crate::format::text_part::{PartKind, TextPart};
 use crate::range::affixes::{NOTHING, shows_number};
-use crate::range::outer::{OuterAround, put_outer};
 use fixed_decimal::{Sink, SinkFault};
 use locale_data::RangeSeparator;
 use std::fmt;
@@ -24,7 +24,7 @@ pub(crate) struct InnerSegment<'r, 'f> {
 /// A segment of the text of a range: what is before or after the whole text; or a number, and what is around it.
 #[derive(Clone, Copy)]
 pub(crate) struct Segment<'r, 'f> {
-    pub(crate) outer: OuterAround<'f>,
+    pub(crate) outer: OuterAround<'r>,
     /// Whether it is after the whole text.
     pub(crate) is_after: bool,
     pub(crate) inner: InnerSegment<'r, 'f>,
@@ -36,7 +36,7 @@ fn no_texts<'f>() -> [TextPart<'f>; 4]
     [NOTHING, NOTHING, NOTHING, NOTHING]
 }
 
-fn no_outer<'f>() -> OuterAround<'f>
+fn no_outer<'r>() -> OuterAround<'r>
     ensures { outer_pieces result false ≡ [] }
 {
     let before = no_texts();
@@ -148,7 +148,7 @@ impl<'r, 'f> InnerSegment<'r, 'f> {
 
     fn length(&self) -> usize
         ensures value { result ≡ length (inner_text self.now) }
-        ensures at_most { result ≤ 17241578 }
+        ensures at_most { result ≤ 17241833 }
     {
         let number = if self.has_number {
             self.number.number_length()
@@ -185,7 +185,7 @@ impl<'r, 'f> Segment<'r, 'f> {
     /// Returns the segment of what is before or after the whole text.
     pub(crate) fn of_outer(
         number: &'r FormattedNumber<'f>,
-        outer: OuterAround<'f>,
+        outer: OuterAround<'r>,
         is_after: bool,
     ) -> Self
         ensures { segment_pieces result ≡ outer_pieces outer.entry is_after }
@@ -323,7 +323,7 @@ impl<'r, 'f> Segment<'r, 'f> {
     /// Returns the number of bytes of the text.
     pub(crate) fn length(&self) -> usize
         ensures value { result ≡ length (segment_text self.now) }
-        ensures at_most { result ≤ 17242598 }
+        ensures at_most { result ≤ 17242853 }
     {
         self.outer_length() + self.inner.length()
     }

@@ -1,11 +1,12 @@
 //! Readers of what formatters write.
-ghost use Rattle.std.specs.Prelude.{◌≡◌, ◌∷◌, [], ◌++◌, ◌-ℤ◌, pos, length, map, flat_map, IfOk, IfErr, OnOk};
-ghost use Rattle.number_format.specs.{AffixedTexts.IsReadExactly, PatternTexts.affixes_of_style, NumberReading.{CanRead, CanUndo, CannotRead, names_by, form, form_of, forms_of_name, number_reader_of, typed_forms, IsReadLeniently, IsReadInMode}};
+ghost use Rattle.std.specs.Prelude.{◌≡◌, ◌↔◌, IsTrue, ◌∷◌, [], ◌++◌, ◌-ℤ◌, pos, length, map, flat_map, IfOk, IfErr, OnOk};
+ghost use Rattle.number_format.specs.{AffixedTexts.IsReadExactly, PatternTexts.affixes_of_style, NumberReading.{HasNumberAlone, CanRead, CanUndo, CannotRead, names_by, form, form_of, forms_of_name, number_reader_of, typed_forms, IsReadLeniently, IsReadInMode}};
 
 use crate::format::by_sign::BySign;
 use crate::format::formatter::NumberFormatter;
+use crate::format::outer::OuterTexts;
 use crate::format::short_affixes::ShortAffixes;
-use crate::options::{NumberNotation, NumberStyle};
+use crate::options::{DecimalSeparatorDisplay, NumberNotation, NumberStyle};
 use crate::read::affix_reader::AffixReader;
 use crate::read::apart::are_apart;
 use crate::read::owned_affixes::OwnedAffixes;
@@ -19,7 +20,8 @@ use std::str;
 /// Why the texts of a formatter cannot be read: the first of these that holds, or out of memory if none does.
 #[derive(Clone, Copy, Debug, PartialEq, Eq)]
 pub enum NumberReaderError {
-    /// The notation is compact, scientific or engineering.
+    /// The notation is compact, scientific or engineering; or a unit, the name of a currency, or a decimal separator
+    /// without fraction digits is written.
     Notation,
     /// The scale is -32768, which no scale undoes.
     Scale,
@@ -100,7 +102,9 @@ fn names(formatter: &NumberFormatter) -> (&str, &str, &str)
     let currency = &formatter.style.currency;
     match formatter.options.style {
         NumberStyle::Decimal => ("", "", ""),
-        NumberStyle::Percent | NumberStyle::Permille => (formatter.style.percent.text, "", ""),
+        NumberStyle::Percent | NumberStyle::Permille | NumberStyle::Unit(_) => {
+            (formatter.style.percent.text, "", "")
+        }
         NumberStyle::Currency(_) => (currency.wide, currency.narrow, currency.code.as_str()),
     }
 }
@@ -130,12 +134,27 @@ fn forms(
     Ok(forms)
 }
 
+fn has_number_alone(formatter: &NumberFormatter) -> bool
+    ensures { IsTrue result ↔ HasNumberAlone formatter.now }
+{
+    let options = &formatter.options;
+    let kind = (options.notation, &formatter.outer, options.decimal_separator);
+    matches!(
+        kind,
+        (
+            NumberNotation::Standard,
+            OuterTexts::None,
+            DecimalSeparatorDisplay::Auto
+        )
+    )
+}
+
 fn shift(formatter: &NumberFormatter) -> Result<i16, NumberReaderError>
     ensures value { IfOk result (λ shift. shift ≡ pos 0 -ℤ formatter.now.options.scale) }
     ensures ok { OnOk result (CanUndo formatter.now) }
     ensures err { IfErr result (λ e. CannotRead e formatter.now) }
 {
-    if !matches!(formatter.options.notation, NumberNotation::Standard) {
+    if !has_number_alone(formatter) {
         return Err(NumberReaderError::Notation);
     }
     let scale = formatter.options.scale;

@@ -18,12 +18,14 @@ default_is_increment digits (NumberStyle.Currency c) true = refl
 default_is_increment digits NumberStyle.Decimal compact = refl
 default_is_increment digits NumberStyle.Percent compact = refl
 default_is_increment digits NumberStyle.Permille compact = refl
+default_is_increment digits (NumberStyle.Unit u) compact = refl
 
 pub no_increment : (digits : CurrencyDigits) (s : NumberStyle) → increment_by digits s true ≡ 1
 no_increment digits (NumberStyle.Currency c) = refl
 no_increment digits NumberStyle.Decimal = refl
 no_increment digits NumberStyle.Percent = refl
 no_increment digits NumberStyle.Permille = refl
+no_increment digits (NumberStyle.Unit u) = refl
 
 -- compact notation has both roundings
 pub compact_is_both : (n : ℕ) (d : DigitDefaults) (b : BothDigits) → IsBoth b (0, 0) (1, 2) → d.is_compact ≡ true

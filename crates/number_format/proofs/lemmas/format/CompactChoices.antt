@@ -1,26 +1,16 @@
 -- What chooses compact patterns.
-use Rattle.std.proofs.Common.{◌≡◌, ◌≢◌, Option, Some, None, refl, ap, sym, subst, ℤ, ◌∙◌}
+use Rattle.std.proofs.Common.{◌≡◌, Option, Some, None, refl, ap, sym, subst, ℤ, ◌∙◌}
 use Rattle.std.specs.Prelude.{slice_get}
-use Rattle.decimal_format.specs.Symbols.{affixes}
 use Rattle.fixed_decimal.specs.Decimal.{Decimal}
 use Rattle.plural_rules.specs.Operands as operands
 use Rattle.plural_rules.specs.declared.rules.PluralCategory.{PluralCategory}
 use Rattle.locale_data.specs.{declared.{compact.{CompactStyle.CompactStyle, UnitAffixes.UnitAffixes}, tables.compact.TheConstants.PERCENT_UNITS, number_formats.NumberFormats.NumberFormats}, Compact.IsUnit, Plurals.IsCategoryAt}
-use Rattle.number_format.specs.{declared.{format.{compact.CompactChoice.CompactChoice, formatter.NumberFormatter.NumberFormatter}, options.NumberStyle.NumberStyle}, FormattedNumbers.{chosen_pattern, ChoosesPattern}, NumberText.{compact_magnitude, compact_pattern, compact_style, is_one, percent_texts, unit_texts}}
+use Rattle.number_format.specs.{declared.format.{compact.CompactChoice.CompactChoice, formatter.NumberFormatter.NumberFormatter}, FormattedNumbers.{chosen_pattern, ChoosesPattern}, NumberText.{compact_magnitude, compact_pattern, compact_style, is_one, percent_texts, with_number}}
 
 pub percent_are : (f : NumberFormats) (category : PluralCategory) (shown : UnitAffixes) → IsUnit f category shown
-    → affixes shown.prefix.now shown.suffix.now ≡ percent_texts (slice_get PERCENT_UNITS f.unit) category
+    → with_number shown.prefix.now shown.suffix.now ≡ percent_texts (slice_get PERCENT_UNITS f.unit) category
 percent_are f category shown is =
-    (λ i. affixes (is.value.0 i) (is.value.1 i)) ∙ ap (λ unit. percent_texts unit category) (sym is.listed)
-
--- but for percent the texts do not depend on the category
-pub same_texts : (f : NumberFormats) (words : Option CompactStyle) (s : NumberStyle) (a b : PluralCategory)
-    → ((w : CompactStyle) → words ≡ Some w → s ≢ NumberStyle.Percent) → unit_texts f words s a ≡ unit_texts f words s b
-same_texts f None s a b h = refl
-same_texts f (Some w) NumberStyle.Decimal a b h = refl
-same_texts f (Some w) NumberStyle.Permille a b h = refl
-same_texts f (Some w) (NumberStyle.Currency c) a b h = refl
-same_texts f (Some w) NumberStyle.Percent a b h = absurd (h w refl refl)
+    (λ i. with_number (is.value.0 i) (is.value.1 i)) ∙ ap (λ unit. percent_texts unit category) (sym is.listed)
 
 -- the pattern of a style that is that of the formatter's options
 pub chooses : (f : NumberFormatter) (significand : Decimal) (e : ℤ) (choice : CompactChoice)

@@ -6,7 +6,7 @@ use Rattle.fixed_decimal.specs.{Decimal.Decimal, declared.variations.Sign.Sign}
 use Rattle.decimal_format.specs.{declared.grouping.GroupingStrategy.{GroupingStrategy, TheVariants.Never}, Formatted.{separator_before, separator_after, magnitude_text, formatted_down, absolute_text, shown_count}, Symbols.{Symbols, digit_text}}
 use Rattle.decimal_digits.specs.Number.{digit}
 use Rattle.decimal_format.proofs.lemmas.formatter.Magnitudes.{one_more}
-use Rattle.number_format.specs.{declared.format.{formatted_number.FormattedNumber.FormattedNumber, affixes.{NumberAffixes.NumberAffixes, StyleTexts.StyleTexts}, formatter.NumberFormatter.NumberFormatter, text_part.{PartKind.PartKind, TextPart.TextPart}}, TextParts.{Piece, Puts, PutsPrefix, part_pieces, parts_text, pieces_text, pieces_of, parts_pieces, digit_kind, magnitude_pieces, first_pieces, digit_pieces}, FormattedNumbers.{chosen_pattern, around_of, unit_of, exponent_text, number_text, number_text_if, around_text, formatted_number_text}, NumberText.{compact_style, unit_texts, around_by, exponent_kind, exponent_pieces, exponent_of, number_part, AreParts}, PatternTexts.{literal, pattern_around, sign_text, affixes_for, affixes_of_style, by_sign}}
+use Rattle.number_format.specs.{declared.format.{formatted_number.FormattedNumber.FormattedNumber, affixes.{NumberAffixes.NumberAffixes, StyleTexts.StyleTexts}, formatter.NumberFormatter.NumberFormatter, outer.OuterAround.OuterAround, text_part.{PartKind.PartKind, TextPart.TextPart}}, TextParts.{Piece, Puts, PutsPrefix, part_pieces, parts_text, pieces_text, pieces_of, parts_pieces, digit_kind, magnitude_pieces, first_pieces, digit_pieces}, FormattedNumbers.{around_of, outer_of, exponent_text, number_pieces, number_text, number_text_if, separator_of, inner_pieces, inner_text, inner_text_if, formatted_number_text, IsOuter}, NumberText.{exponent_kind, exponent_pieces, exponent_of, number_part, AreParts}, PatternTexts.{Around, around, within, sign_text, affixes_for, affixes_of_style, by_sign}}
 use Rattle.number_format.specs.declared.format.text_part.PartKind.TheVariants as kind
 
 pub puts_nil : (a : List Piece → Type 0) → Puts a a []
@@ -177,58 +177,52 @@ pub text-of_number : (n : FormattedNumber)
 text-of_number n =
     let f = n.formatter.now in
     let e = exponent_of f.options.notation n.exponent in
-    text-append (digit_pieces kind.Integer f.style.symbols f.options.grouping n.value.absolute) (exponent_pieces f e)
-    ∙ (λ i. text-of_digits kind.Integer f.style.symbols f.options.grouping n.value.absolute i ++ text-of_exponent f e i)
+    let digits = digit_pieces kind.Integer f.style.symbols f.options.grouping n.value.absolute in
+    let separator = pieces_of kind.Decimal (separator_of n) in
+    text-append (digits ++ separator) (exponent_pieces f e)
+    ∙ (λ i. (text-append digits separator
+    ∙ (λ j. text-of_digits kind.Integer f.style.symbols f.options.grouping n.value.absolute j
+    ++ text-of kind.Decimal (separator_of n) j)) i ++ text-of_exponent f e i)
 
 pub text-if : (b : Bool) (ps : List Piece) (text : List ℕ) → pieces_text ps ≡ text
     → pieces_text (if b then ps else []) ≡ (if b then text else [])
 text-if true ps text e = e
 text-if false ps text e = refl
 
--- the number between the texts of the parts before and after it is the text
-pub text-of_affixes : (n : FormattedNumber) (shown : NumberAffixes) → AreParts (around_of n) (unit_of n) shown
-    → parts_text shown.prefix ++ (number_text_if n shown.has_number ++ parts_text shown.suffix)
-    ≡ formatted_number_text n
+-- the text of pieces with those around them
+text-of_within : (a : Around) (ps : List Piece) (text : List ℕ) → pieces_text ps ≡ text
+    → pieces_text (within a ps)
+    ≡ pieces_text a.prefix ++ ((if a.has_number then text else []) ++ pieces_text a.suffix)
+text-of_within a ps text e =
+    text-three a.prefix (if a.has_number then ps else []) a.suffix (pieces_text a.prefix)
+    (if a.has_number then text else []) (pieces_text a.suffix) refl (text-if a.has_number ps text e) refl
+
+pub text-of_inner : (n : FormattedNumber) → pieces_text (inner_pieces n) ≡ inner_text n
+text-of_inner n = text-of_within (around_of n) (number_pieces n) (number_text n) (text-of_number n)
+
+-- the number between the texts of the parts before and after it
+pub text-of_affixes : (n : FormattedNumber) (shown : NumberAffixes) → AreParts (around_of n) shown
+    → parts_text shown.prefix ++ (number_text_if n shown.has_number ++ parts_text shown.suffix) ≡ inner_text n
 text-of_affixes n shown is =
-    let a = around_of n in
-    let number =
-    number_part n.formatter.now n.value.absolute (exponent_of n.formatter.now.options.notation n.exponent) in
-    sym (text-three (literal (unit_of n).prefix ++ a.prefix) (if a.has_number then number else [])
-    (a.suffix ++ literal (unit_of n).suffix) (parts_text shown.prefix) (number_text_if n shown.has_number)
-    (parts_text shown.suffix) (ap pieces_text (sym is.prefix) ∙ text-of_parts shown.prefix)
-    (text-if a.has_number number (number_text n) (text-of_number n) ∙ ap (number_text_if n) (sym is.has_number))
-    (ap pieces_text (sym is.suffix) ∙ text-of_parts shown.suffix))
+    let before = sym (text-of_parts shown.prefix) ∙ ap pieces_text is.prefix in
+    let after = sym (text-of_parts shown.suffix) ∙ ap pieces_text is.suffix in
+    (λ i. before i ++ (number_text_if n (is.has_number i) ++ after i))
 
--- what is written around the whole text, before and after what is written around the number
-pub text-of_around : (n : FormattedNumber)
-    → pieces_text (literal (unit_of n).prefix) ++ (around_text n (around_of n)
-    ++ pieces_text (literal (unit_of n).suffix)) ≡ formatted_number_text n
-text-of_around n =
-    let a = around_of n in
-    let p = literal (unit_of n).prefix in
-    let q = literal (unit_of n).suffix in
-    let number =
-    number_part n.formatter.now n.value.absolute (exponent_of n.formatter.now.options.notation n.exponent) in
-    regroup (pieces_text p) (pieces_text a.prefix) (number_text_if n a.has_number) (pieces_text a.suffix)
-    (pieces_text q)
-    ∙ sym (text-three (p ++ a.prefix) (if a.has_number then number else []) (a.suffix ++ q)
-    (pieces_text p ++ pieces_text a.prefix) (number_text_if n a.has_number) (pieces_text a.suffix ++ pieces_text q)
-    (text-append p a.prefix) (text-if a.has_number number (number_text n) (text-of_number n)) (text-append a.suffix q))
-  where
-    regroup : (p q m r s : List ℕ) → p ++ ((q ++ (m ++ r)) ++ s) ≡ (p ++ q) ++ (m ++ (r ++ s))
-    regroup p q m r s = simp append_assoc
+-- that between the texts around it is the whole text
+pub text-of_outer : (n : FormattedNumber) (shown : OuterAround) → IsOuter (outer_of n) shown
+    → parts_text shown.before ++ (inner_text_if n shown.has_number ++ parts_text shown.after)
+    ≡ formatted_number_text n
+text-of_outer n shown is =
+    let before = sym (text-of shown.kind (parts_text shown.before)) ∙ ap pieces_text is.prefix in
+    let after = sym (text-of shown.kind (parts_text shown.after)) ∙ ap pieces_text is.suffix in
+    (λ i. before i ++ (inner_text_if n (is.has_number i) ++ after i))
+    ∙ sym (text-of_within (outer_of n) (inner_pieces n) (inner_text n) (text-of_inner n))
 
--- in another notation than compact that is the pattern alone
-pub text-of_pattern : (n : FormattedNumber)
-    → compact_style n.formatter.now.options.notation n.formatter.now.options.style ≡ None
-    → around_text n (pattern_around n.formatter.now.style n.value.sign) ≡ formatted_number_text n
-text-of_pattern n none =
-    let f = n.formatter.now in
-    sym (append-nil (around_text n (pattern_around f.style n.value.sign)))
-    ∙ ap (λ words. pieces_text (literal (unit_texts f.formats words f.options.style n.whole).prefix) ++ (around_text n
-    (around_by f.style n.value.sign (chosen_pattern words n.choice))
-    ++ pieces_text (literal (unit_texts f.formats words f.options.style n.whole).suffix))) (sym none)
-    ∙ text-of_around n
+-- without texts around it, it is the whole text
+pub text-of_bare : (n : FormattedNumber) → outer_of n ≡ around [] true [] → inner_text n ≡ formatted_number_text n
+text-of_bare n none =
+    sym (text-of_inner n) ∙ ap pieces_text (sym (append-nil (inner_pieces n)))
+    ∙ ap (λ a. pieces_text (within a (inner_pieces n))) (sym none)
 
 -- what a style writes around a number that is shown with a sign
 pub by_sign_is : (t : StyleTexts) (s : Sign) → by_sign (affixes_of_style t) s ≡ affixes_for t s

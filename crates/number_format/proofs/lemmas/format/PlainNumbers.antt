@@ -5,7 +5,7 @@ use Rattle.decimal_unsigned.specs.{Edits.multiplied_pow10, Unsigned.{Unsigned, I
 use Rattle.fixed_decimal.specs.{Decimal.{Decimal, with_absolute, with_sign_display, negative_or, displayed_sign}, declared.variations.{Sign.Sign, SignDisplay.SignDisplay}}
 use Rattle.decimal_format.specs.{Formatted.{absolute_text, formatted}, Symbols.{Symbols, sign_affixes}, declared.grouping.GroupingStrategy.{GroupingStrategy, TheVariants.{Auto, Never, Always, Min2}}}
 use Rattle.locale_data.specs.declared.{currency.CurrencyPattern.CurrencyPattern, local_currency.{CurrencyDigits.CurrencyDigits, LocalCurrency.LocalCurrency}, tables.rows.patterns.Pattern.Pattern}
-use Rattle.number_format.specs.{declared.{digits.options.DigitOptions.DigitOptions, format.{formatter.NumberFormatter.NumberFormatter, text_part.PartKind.PartKind}}, DefaultDigits.AreDefaultDigits, Formatters.{IsFormatterBy, digits_by, plain_options, style_sizes, with_separators}, NumberStyles.plain_pattern, NumberText.{IsNumberText, rounded_in, number_before_cut, shown_number, exponent_of, compact_magnitude, is_one, compact_pattern, compact_style, unit_texts, around_by, pieces_around}, PatternTexts.{literal, pattern_around}, Scaled.{ScaledValue, scaled_value}, TextParts.{Piece, pieces_text, pieces_of, digit_pieces}}
+use Rattle.number_format.specs.{declared.{digits.options.DigitOptions.DigitOptions, format.{formatter.NumberFormatter.NumberFormatter, outer.OuterTexts.OuterTexts, text_part.PartKind.PartKind}}, DefaultDigits.AreDefaultDigits, Formatters.{IsFormatterBy, digits_by, plain_options, style_sizes, with_separators}, NumberStyles.plain_pattern, NumberText.{IsNumberText, rounded_in, number_before_cut, shown_number, exponent_of, compact_magnitude, is_one, compact_pattern, compact_style, outer_texts, around_by, exponent_pieces, significand_pieces}, PatternTexts.{pattern_around, within}, Scaled.{ScaledValue, scaled_value}, TextParts.{Piece, pieces_text, pieces_of, digit_pieces}}
 use Rattle.number_format.proofs.{lemmas.format.PieceTexts.{text-append, text-of, text-of_digits}, lemmas.read.ReadBack.unshifted}
 
 some_same : (x y : ScaledValue) → Some x ≡ Some y → x ≡ y
@@ -29,11 +29,12 @@ record IsPlain (f : NumberFormatter) (own : Symbols) (g : GroupingStrategy) (nam
   pub pattern : f.style.pattern ≡ plain_pattern own.sizes
   pub options : f.options ≡ plain_options g name
   pub digits : f.digits ≡ None
+  pub outer : f.outer ≡ OuterTexts.None
 
-is_plain : (system : List ℕ) (own : Symbols) (currency : Option LocalCurrency) (g : GroupingStrategy)
-    (name : Option (List ℕ)) (f : NumberFormatter) → IsFormatterBy own system currency (plain_options g name) f
-    → g ≢ Always → IsPlain f own g name
-is_plain system own currency g name f made not_always =
+is_plain : (system : List ℕ) (own : Symbols) (currency : Option LocalCurrency) (texts : OuterTexts)
+    (g : GroupingStrategy) (name : Option (List ℕ)) (f : NumberFormatter)
+    → IsFormatterBy own system currency texts (plain_options g name) f → g ≢ Always → IsPlain f own g name
+is_plain system own currency texts g name f made not_always =
     let written = made.style_is.written in
     record {
       symbols =
@@ -43,14 +44,14 @@ is_plain system own currency g name f made not_always =
       pattern = made.pattern ∙ ap (λ (p : CurrencyPattern). p.pattern) written;
       options = made.options;
       digits = no_digits (digits_by currency) g name f.digits made.digits;
+      outer = made.outer;
     }
 
 -- the digits between what a pattern writes
 abbrev pieces_for : NumberFormatter → Symbols → Pattern → GroupingStrategy → Unsigned → Sign → List Piece
 pieces_for f symbols pattern g v s =
     let a = pattern_around (record f.style { symbols = symbols; pattern = pattern }) s in
-    (literal [] ++ a.prefix)
-    ++ ((digit_pieces PartKind.Integer symbols g v ++ []) ++ (a.suffix ++ literal []))
+    (a.prefix ++ (((digit_pieces PartKind.Integer symbols g v ++ []) ++ []) ++ a.suffix)) ++ []
 
 abbrev plain_pieces : NumberFormatter → Symbols → GroupingStrategy → Unsigned → Sign → List Piece
 plain_pieces f own = pieces_for f own (plain_pattern own.sizes)
@@ -90,22 +91,22 @@ of_plain f own g name v text plain valid no_suffix (pieces, is, of_pieces) =
     let s = negative_or Sign.None v.sign in
     of_pieces
     ∙ ap pieces_text (is.value
-    ∙ (λ i. pieces_around f (number i).significand.absolute
-    (exponent_of (plain.options i).notation (number i).exponent)
-    (around_by f.style (displayed_sign (plain.options i).sign_display (number_before_cut f v)
+    ∙ (λ i. within (outer_texts f.formats (plain.outer i) (compact_style (plain.options i).notation
+    (plain.options i).style) (plain.options i).style is.whole)
+    (within (around_by f.style (displayed_sign (plain.options i).sign_display (number_before_cut f v)
     (number i).significand.sign)
     (compact_pattern f.formats (compact_style (plain.options i).notation (plain.options i).style)
     (compact_magnitude f.notation (number i).significand (number i).exponent) is.category
     (is_one (number i).significand)))
-    (unit_texts f.formats (compact_style (plain.options i).notation (plain.options i).style) (plain.options i).style
-    is.whole))
+    (significand_pieces f (plain.options i).decimal_separator (number i).significand.absolute
+    ++ exponent_pieces f (exponent_of (plain.options i).notation (number i).exponent))))
     ∙ (λ i. pieces_for f (plain.symbols i) (plain.pattern i) (plain.options i).grouping v.absolute s))
     ∙ around_is f own g v.absolute v.sign no_suffix
 
-pub plain_text : (system : List ℕ) (own : Symbols) (currency : Option LocalCurrency) (g : GroupingStrategy)
-    (name : Option (List ℕ)) (f : NumberFormatter) (v : Decimal) (text : List ℕ)
-    → IsFormatterBy own system currency (plain_options g name) f → g ≢ Always → IsValue v.absolute
+pub plain_text : (system : List ℕ) (own : Symbols) (currency : Option LocalCurrency) (texts : OuterTexts)
+    (g : GroupingStrategy) (name : Option (List ℕ)) (f : NumberFormatter) (v : Decimal) (text : List ℕ)
+    → IsFormatterBy own system currency texts (plain_options g name) f → g ≢ Always → IsValue v.absolute
     → (sign_affixes own (with_sign_display v SignDisplay.Auto).sign).suffix ≡ []
     → IsNumberText f v text → text ≡ formatted own g (with_sign_display v SignDisplay.Auto)
-plain_text system own currency g name f v text made not_always valid no_suffix is =
-    of_plain f own g name v text (is_plain system own currency g name f made not_always) valid no_suffix is
+plain_text system own currency texts g name f v text made not_always valid no_suffix is =
+    of_plain f own g name v text (is_plain system own currency texts g name f made not_always) valid no_suffix is

@@ -5,7 +5,7 @@ use Rattle.fixed_decimal.specs.Decimal.{Decimal, signed_number}
 use Rattle.plural_rules.specs.{Operands.{Operands, plain}, Rules.category_of, RulesGrammar.IsCategoryByText, declared.rules.PluralCategory.PluralCategory}
 use Rattle.plural_rules.proofs.lemmas.parse.ParserComplete.{grammar-unique}
 use Rattle.locale_data.specs.{Plurals.{rules_text_at, IsCategoryAt}, declared.plurals.PluralRulesId.PluralRulesId}
-use Rattle.number_format.specs.{declared.{format.{formatted_number.FormattedNumber.FormattedNumber, formatter.NumberFormatter.NumberFormatter}, range.{common.BareTexts.BareTexts, form.RangeForm.{RangeForm, TheVariants.{Approximate, Common, Apart}}, range_texts.RangeTexts.RangeTexts}}, FormattedRanges.{end_of, IsFormattedEnd}, NumberText.{HasNumberText, IsNumberText}, PatternTexts.{Around, around}, RangeOuter.{outer_by, within}, RangeText.{IsRange, IsRangeEnd, RangeEnd, ShownRange, apart_pieces, are_same_texts, bare_texts, both_or_neither, end_around, end_number, form_by, pieces_by, range_by, range_category, range_form, range_pieces, separator_pieces, shown_end, text_of_pieces, written_exponent}, Scaled.ScaledValue, TextParts.{Piece, pieces_text}}
+use Rattle.number_format.specs.{declared.{format.{formatted_number.FormattedNumber.FormattedNumber, formatter.NumberFormatter.NumberFormatter}, range.{common.BareTexts.BareTexts, form.RangeForm.{RangeForm, TheVariants.{Approximate, Common, Apart}}, range_texts.RangeTexts.RangeTexts}}, FormattedRanges.{end_of, IsFormattedEnd}, NumberText.{HasNumberText, IsNumberText, outer_by}, PatternTexts.{around, within}, RangeText.{IsRange, IsRangeEnd, RangeEnd, ShownRange, apart_pieces, are_same_texts, bare_texts, both_or_neither, end_around, end_number, form_by, pieces_by, range_by, range_category, range_form, range_pieces, separator_pieces, shown_end, text_of_pieces, written_exponent}, Scaled.ScaledValue, TextParts.{Piece, pieces_text}}
 
 -- rules have one category
 pub category_unique : (id : PluralRulesId) (n : Operands) (a b : PluralCategory) → IsCategoryAt id n a
@@ -56,19 +56,14 @@ equal_are_approximate f t v r is =
     ∙ approximate_if _ _ _ _ _ (texts_are_same (bare_texts r.start)) (int_eq_equiv.refl (written_exponent r.start))
     (int_eq_equiv.refl (signed_number v))
 
-around_nothing : (p m s x y : List Piece) → x ≡ [] → y ≡ [] → p ++ (m ++ s) ≡ (x ++ p) ++ (m ++ (s ++ y))
-around_nothing p m s x y before after =
-    ap (λ l. p ++ (m ++ l)) (sym (append-nil s)) ∙ sym (λ i. (before i ++ p) ++ (m ++ (s ++ after i)))
-
 -- with nothing around the whole text the text of a number is that of the end
 pub end_alone : (f : NumberFormatter) (v : Decimal) (n : RangeEnd)
     → ((c : PluralCategory) → outer_by f c ≡ around [] true []) → IsRangeEnd f v n
     → IsNumberText f v (pieces_text (within (end_around n) (end_number n)))
 end_alone f v n none is =
     let m = shown_end f v is.number is.category in
-    let a = end_around m in
-    let number = if a.has_number then end_number m else [] in (
-      within a (end_number m),
+    let pieces = within (end_around m) (end_number m) in (
+      pieces,
       record {
         number = is.number;
         category = is.category;
@@ -76,8 +71,7 @@ end_alone f v n none is =
         number_is = is.number_is;
         of_significand = is.of_significand;
         of_whole = is.of_whole;
-        value = around_nothing a.prefix number a.suffix _ _ (ap (λ (u : Around). u.prefix) (none is.whole))
-            (ap (λ (u : Around). u.suffix) (none is.whole));
+        value = sym (ap (λ u. within u pieces) (none is.whole) ∙ append-nil pieces);
       },
       ap (λ (x : RangeEnd). pieces_text (within (end_around x) (end_number x))) is.value,
     )

@@ -4,7 +4,7 @@ use Rattle.std.specs.Prelude.{Some}
 use Rattle.decimal_unsigned.specs.Unsigned.{IsValue}
 use Rattle.fixed_decimal.specs.{Decimal.Decimal, declared.variations.Sign.Sign}
 use Rattle.decimal_format.specs.Formatted.{absolute_text}
-use Rattle.number_format.specs.{declared.{format.{formatter.NumberFormatter.NumberFormatter, text_part.PartKind.PartKind}, options.{NumberOptions.NumberOptions, NumberNotation.NumberNotation}}, Formatters.IsFormatter, AffixedTexts.text_with, NumberReading.{IsStandard, reader_of, CanRead, IsShownAs}, NumberText.{IsNumberText, shown_sign, compact_magnitude, is_one, compact_pattern, compact_style, unit_texts, around_by, pieces_around, exponent_of}, PatternTexts.{pattern_around, affixes_for}, Scaled.ScaledValue, TextParts.{digit_pieces, pieces_text}}
+use Rattle.number_format.specs.{declared.{format.{formatter.NumberFormatter.NumberFormatter, text_part.PartKind.PartKind}, options.{NumberOptions.NumberOptions, NumberNotation.NumberNotation}}, Formatters.IsFormatter, AffixedTexts.text_with, NumberReading.{IsStandard, HasNumberAlone, reader_of, CanRead, IsShownAs}, NumberText.{IsNumberText, shown_sign, compact_magnitude, is_one, compact_pattern, compact_style, outer_texts, around_by, exponent_pieces, significand_pieces, exponent_of}, PatternTexts.{pattern_around, affixes_for, within}, Scaled.ScaledValue, TextParts.{digit_pieces, pieces_text}}
 use Rattle.number_format.proofs.{lemmas.read.AffixedNumbers.named_texts_are_unique, lemmas.format.PieceTexts.{by_sign_is, text-of_digits, text-three}}
 
 some_same : (x y : ScaledValue) → Some x ≡ Some y → x ≡ y
@@ -12,36 +12,39 @@ some_same x y e = cc
 
 -- the text of the pieces of a number between what a sign writes around it
 text_around : (f : NumberFormatter) (s : Sign) (x : ScaledValue)
-    → pieces_text ((pattern_around f.style s).prefix
-    ++ ((digit_pieces PartKind.Integer f.style.symbols f.options.grouping x.significand.absolute ++ [])
-    ++ ((pattern_around f.style s).suffix ++ [])))
+    → pieces_text (((pattern_around f.style s).prefix
+    ++ (((digit_pieces PartKind.Integer f.style.symbols f.options.grouping x.significand.absolute ++ []) ++ [])
+    ++ (pattern_around f.style s).suffix)) ++ [])
     ≡ (affixes_for f.style s).prefix
     ++ (absolute_text f.style.symbols f.options.grouping x.significand.absolute ++ (affixes_for f.style s).suffix)
 text_around f s x =
     let digits = digit_pieces PartKind.Integer f.style.symbols f.options.grouping x.significand.absolute in
-    text-three (pattern_around f.style s).prefix (digits ++ []) ((pattern_around f.style s).suffix ++ [])
+    let a = pattern_around f.style s in
+    ap pieces_text (append-nil (a.prefix ++ (((digits ++ []) ++ []) ++ a.suffix)))
+    ∙ text-three a.prefix ((digits ++ []) ++ []) a.suffix
     (affixes_for f.style s).prefix (absolute_text f.style.symbols f.options.grouping x.significand.absolute)
     (affixes_for f.style s).suffix refl
-    (ap pieces_text (append-nil digits)
+    (ap pieces_text (append-nil (digits ++ []) ∙ append-nil digits)
     ∙ text-of_digits PartKind.Integer f.style.symbols f.options.grouping x.significand.absolute)
-    (ap pieces_text (append-nil (pattern_around f.style s).suffix))
+    refl
 
 -- the text of a number is that of the number that is shown
-pub formatter_text : (f : NumberFormatter) (v u : Decimal) (text : List ℕ) → IsStandard f → IsNumberText f v text
+pub formatter_text : (f : NumberFormatter) (v u : Decimal) (text : List ℕ) → HasNumberAlone f → IsNumberText f v text
     → IsShownAs f v u → text ≡ text_with (reader_of f) f.options.grouping u
-formatter_text f v u text standard (pieces, is, of_pieces) shown =
+formatter_text f v u text (standard, (alone, auto)) (pieces, is, of_pieces) shown =
     let number : is.number ≡ shown.number = some_same _ _ (sym is.number_is ∙ shown.number_is) in
     let s = shown_sign f v shown.number.significand in
     let affixes = ap (affixes_for f.style) (sym shown.sign) ∙ sym (by_sign_is f.style u.sign) in
     of_pieces
     ∙ ap pieces_text is.value
-    ∙ (λ i. pieces_text (pieces_around f (number i).significand.absolute
-    (exponent_of (standard i) (number i).exponent)
-    (around_by f.style (shown_sign f v (number i).significand)
+    ∙ (λ i. pieces_text (within (outer_texts f.formats (alone i) (compact_style (standard i) f.options.style)
+    f.options.style is.whole)
+    (within (around_by f.style (shown_sign f v (number i).significand)
     (compact_pattern f.formats (compact_style (standard i) f.options.style)
     (compact_magnitude f.notation (number i).significand (number i).exponent) is.category
     (is_one (number i).significand)))
-    (unit_texts f.formats (compact_style (standard i) f.options.style) f.options.style is.whole)))
+    (significand_pieces f (auto i) (number i).significand.absolute
+    ++ exponent_pieces f (exponent_of (standard i) (number i).exponent)))))
     ∙ text_around f s shown.number
     ∙ (λ i. (affixes i).prefix
     ++ (absolute_text f.style.symbols f.options.grouping (sym shown.absolute i) ++ (affixes i).suffix))

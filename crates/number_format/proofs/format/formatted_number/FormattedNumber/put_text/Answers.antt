@@ -1,10 +1,15 @@
-use Rattle.std.proofs.{Common.{◌++◌, ◌∙◌, ap, sym}, lemmas.Result.on_ok_weaker}
-use Rattle.number_format.proofs.lemmas.format.PieceTexts.{text-of_pattern}
+use Rattle.std.proofs.{Common.{◌≡◌, ℕ, List, ◌++◌, ◌∙◌, ap}, lemmas.Result.on_ok_weaker}
+use Rattle.number_format.specs.FormattedNumbers.{formatted_number_text, inner_text}
+use Rattle.number_format.proofs.lemmas.format.PieceTexts.{text-of_bare}
 use Rattle.number_format.proofs.format.formatted_number.FormattedNumber.put_text.Goals as goal
 
-pub returns-in-None : goal.returns-in-None
-returns-in-None c =
-    on_ok_weaker c.put_pattern.result
-    (λ h. h ∙ ap (λ l. c.args.block.now.0 ++ l)
-    (text-of_pattern c.args.self.now (sym c.compact_style.ensures ∙ c.in-None.is)))
-    c.put_pattern.ensures
+-- a text that is another one, after others
+other : (b text same x : List ℕ) → text ≡ same → x ≡ b ++ text → x ≡ b ++ same
+other b text same x e h = h ∙ ap (λ l. b ++ l) e
+
+pub returns : goal.returns
+returns c =
+    let n = c.args.self.now in
+    on_ok_weaker c.put_around.result
+    (other c.args.block.now.0 (inner_text n) (formatted_number_text n) _
+    (text-of_bare n (c.has_outer.ensures c.if-has_outer.false))) c.put_around.ensures

@@ -13,7 +13,7 @@ returns-clause-some c =
     let text = c.in_ok-system.system.now in
     let named = has_system c.args.ids.now.symbols o.numbering_system own (sym c.in_ok-symbols.ensures.value) in
     let style =
-    subst (λ z. IsStyle o.style o.notation text z formats currency o.sign_display written c.style_of-shown.result.1)
+    subst (λ z. IsStyle o.style o.notation c.in_style-outer.result text z formats currency o.sign_display written c.style_of-shown.result.1)
     c.sizes-own.ensures c.style_of-shown.ensures in
     let sizes = c.style_sizes-sizes.ensures ∙ ap (style_sizes written.pattern o.grouping) c.sizes-own.ensures in
     record {
@@ -29,11 +29,13 @@ returns-clause-some c =
         signs = c.signs-signs.result;
         written = written;
         signs_are = c.signs-signs.ensures;
-        style_is = style_in_system o.notation _ named.0 text own.sizes formats currency o.sign_display written
+        outer = c.in_style-outer.ensures;
+        style_is = style_in_system o.notation c.in_style-outer.result _ named.0 text own.sizes formats currency o.sign_display written
             c.style_of-shown.result.1 o.style named.1 c.in_ok-system.ensures.value style;
         symbols = c.with_sizes.ensures ∙ (λ i. record (c.with_separators.ensures i) { sizes = sizes i });
         pattern = refl;
         percent = c.new.ensures.text ∙ c.percent_text-percent.ensures.value;
+        percent_kind_is = c.new.ensures.kind ∙ c.percent_kind.ensures;
         separator = c.new-2.ensures.text ∙ c.text.ensures;
         options = refl;
         notation_is = c.notation_of.ensures;

@@ -1,31 +1,28 @@
-use Rattle.std.proofs.Common.{◌≡◌, ◌≢◌, Some}
-use Rattle.fixed_decimal.specs.Decimal.{Decimal}
-use Rattle.plural_rules.specs.Operands as operands
-use Rattle.plural_rules.specs.declared.rules.PluralCategory.TheVariants.{Other}
-use Rattle.locale_data.proofs.lemmas.tables.RulesTexts.{category_exists}
-use Rattle.locale_data.specs.declared.compact.CompactStyle.{CompactStyle}
-use Rattle.number_format.specs.{declared.{format.formatter.NumberFormatter.NumberFormatter, options.NumberStyle.NumberStyle}, FormattedNumbers.ChoosesUnit, NumberText.{compact_style, whole_number}}
-use Rattle.number_format.proofs.lemmas.format.CompactChoices.{same_texts}
+use Rattle.std.proofs.Common.{◌≡◌, true, sym, ◌∙◌, ap, rules}
+use Rattle.number_format.specs.{FormattedNumbers.{ChoosesOuter, ChoosesWhole}, NumberText.{has_categories, operands_by, operands_with, whole_number}}
+use Rattle.number_format.proofs.lemmas.format.OuterChoices.{any_category, if_ok, by_operands, with_exponent}
+use Rattle.plural_rules.specs.Operands.{plain}
 use Rattle.number_format.proofs.format.formatter.NumberFormatter.whole_category.Goals as goal
 
--- but for percent every category is as good
-any_category : (f : NumberFormatter) (v : Decimal)
-    → ((w : CompactStyle) → compact_style f.options.notation f.options.style ≡ Some w
-    → f.options.style ≢ NumberStyle.Percent) → ChoosesUnit f v Other
-any_category f v other =
-    let own = category_exists f.rules (operands.plain (whole_number f v)) f.rules_listed in
-    record {
-      category = own.0;
-      of_whole = own.1;
-      texts = same_texts f.formats _ f.options.style _ own.0 other;
-    }
+pub returns-then-not-has_categories-clause-ok : goal.returns-then-not-has_categories-clause-ok
+returns-then-not-has_categories-clause-ok c =
+    any_category c.args.self.now c.args.value.now (sym c.has_categories.ensures ∙ search rules)
 
-pub returns-in_default : goal.returns-in_default
-returns-in_default c = record {
-  ok = any_category c.args.self.now c.args.value.now (λ w h. c.in_default.not-Percent-1);
-  err = tt;
-}
+pub returns-in-Compact-clause-ok : goal.returns-in-Compact-clause-ok
+returns-in-Compact-clause-ok c =
+    let f = c.args.self.now in
+    let v = c.args.value.now in
+    if_ok c.undivided_category.result
+    (λ category of number shown allowed. by_operands f v number (plain (whole_number f v)) category of
+    (ap (λ n. operands_by n (whole_number f v) number) (sym c.in-Compact.is)))
+    c.undivided_category.ensures.ok
 
-pub returns-in_default-2-clause-ok : goal.returns-in_default-2-clause-ok
-returns-in_default-2-clause-ok c =
-    any_category c.args.self.now c.args.value.now (λ w h p. cc (h, c.compact_style.ensures, c.in_default.is-0))
+pub returns-in_default-clause-ok : goal.returns-in_default-clause-ok
+returns-in_default-clause-ok c =
+    let f = c.args.self.now in
+    let v = c.args.value.now in
+    if_ok c.exponent_category.result
+    (λ category of number shown allowed. by_operands f v number
+    (operands_with number.significand.absolute number.exponent) category (of number shown)
+    (with_exponent f.options.notation (whole_number f v) number c.in_default.not-Standard c.in_default.not-Compact))
+    c.exponent_category.ensures.ok

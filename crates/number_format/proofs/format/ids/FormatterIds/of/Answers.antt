@@ -28,6 +28,7 @@ returns-clause-ok c = record {
   formats = c.formats_of.ensures;
   rules = c.in-Some.ensures.found;
   currency = c.currency_row.ensures.row;
+  outer = c.of.ensures;
 }
 
 pub returns-clause-exist : goal.returns-clause-exist
