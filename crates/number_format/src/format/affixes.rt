@@ -197,11 +197,7 @@ impl StyleTexts {
         }
     }
 
-    pub(crate) fn affixes(
-        &self,
-        sign: Sign,
-        compact: Option<&CompactPattern>,
-    ) -> NumberAffixes<'_>
+    pub(crate) fn affixes(&self, sign: Sign, compact: Option<&CompactPattern>) -> NumberAffixes<'_>
         requires { IfSome compact (λ pattern. AreTexts pattern.now) }
         ensures { AreParts (around_by self.now sign (option_copied compact.entry)) result }
     {

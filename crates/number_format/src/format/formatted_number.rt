@@ -221,7 +221,11 @@ impl<'f> FormattedNumber<'f> {
         sink.put_bytes(self.separator().as_bytes())
     }
 
-    pub(crate) fn write_number_if<W: Sink>(&self, has_number: bool, sink: &mut W) -> Result<(), SinkFault>
+    pub(crate) fn write_number_if<W: Sink>(
+        &self,
+        has_number: bool,
+        sink: &mut W,
+    ) -> Result<(), SinkFault>
         ensures ok { OnOk result
             (Appends (W.contents sink.old) (W.contents sink.new) (number_text_if self.now has_number)) }
         ensures err { OnErr result
@@ -501,7 +505,11 @@ impl<'f> FormattedNumber<'f> {
         put(sink, PartKind::Decimal, self.separator())
     }
 
-    pub(crate) fn put_number_if<P: PartSink>(&self, has_number: bool, sink: &mut P) -> Result<(), SinkFault>
+    pub(crate) fn put_number_if<P: PartSink>(
+        &self,
+        has_number: bool,
+        sink: &mut P,
+    ) -> Result<(), SinkFault>
         ensures ok { OnOk result (Puts (P.pieces sink.old) (P.pieces sink.new) (number_pieces_if self.now has_number)) }
         ensures err { OnErr result
             (PutsPrefix (P.pieces sink.old) (P.pieces sink.new) (number_pieces_if self.now has_number)) }

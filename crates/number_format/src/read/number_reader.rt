@@ -138,7 +138,11 @@ fn has_number_alone(formatter: &NumberFormatter) -> bool
     ensures { IsTrue result ↔ HasNumberAlone formatter.now }
 {
     let options = &formatter.options;
-    let kind = (options.notation, &formatter.outer, options.decimal_separator);
+    let kind = (
+        options.notation,
+        &formatter.outer,
+        options.decimal_separator,
+    );
     matches!(
         kind,
         (
