@@ -27,12 +27,12 @@ returns-clause-end c =
         of_significand = chosen.of_significand;
         of_whole = outer.of_whole number is.number_is;
         value = λ i. record {
-              formatter = f;
-              digits = significand.absolute;
-              exponent = exponent i;
-              sign = sign i;
-              pattern = pattern i;
-            };
+          formatter = f;
+          digits = significand.absolute;
+          exponent = exponent i;
+          sign = sign i;
+          pattern = pattern i;
+        };
       },
       outer.same,
     )
