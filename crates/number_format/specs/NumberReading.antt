@@ -3,7 +3,7 @@ use Rattle.std.specs.{Prelude.{◌≡◌, ◌≢◌, ℕ, ◌⊎◌, List, [], �
 use Rattle.decimal_unsigned.specs.declared.error.ParseError.{ParseError, TheVariants.Syntax}
 use Rattle.fixed_decimal.specs.{Decimal.Decimal, declared.variations.Sign.Sign}
 use Rattle.decimal_format.specs.{Readable.IsReadable, Symbols.{Affixes, affixes}, declared.reader.alternatives.Alternative.Alternative}
-use Rattle.number_format.specs.{declared.{format.{affixes.StyleTexts.StyleTexts, outer.OuterTexts.OuterTexts, formatter.NumberFormatter.NumberFormatter}, options.{DecimalSeparatorDisplay.DecimalSeparatorDisplay, NumberNotation.NumberNotation, NumberStyle.NumberStyle}, read.number_reader.{NumberReaderError.NumberReaderError, ParseMode.{ParseMode, TheVariants.{Strict, Lenient}}}}, AffixedTexts.{AreNamed, Reader, IsReadExactly, IsReadTyped}, NumberText.{shown_number, shown_sign}, PatternTexts.{affixes_for, affixes_of_style}, Scaled.ScaledValue}
+use Rattle.number_format.specs.{declared.{format.{outer.OuterTexts.OuterTexts, formatter.NumberFormatter.NumberFormatter}, options.{DecimalSeparatorDisplay.DecimalSeparatorDisplay, NumberNotation.NumberNotation, NumberStyle.NumberStyle}, read.number_reader.{NumberReaderError.NumberReaderError, ParseMode.{ParseMode, TheVariants.{Strict, Lenient}}}}, AffixedTexts.{AreNamed, Reader, IsReadExactly, IsReadTyped}, NumberText.{shown_number, shown_sign}, PatternTexts.{affixes_for, affixes_of_style}, Scaled.ScaledValue}
 
 -- ---- Exactly.
 

@@ -88,7 +88,8 @@ impl NumberFormatter {
     ///
     /// # Errors
     ///
-    /// As [`NumberWriteError`] describes. The number is not copied: `Memory` is only for one digit more, as in
+    /// As [`NumberWriteError`] describes. The number is copied only for the plural category of a unit, of the name of a
+    /// currency or of a percent sign, and not in standard notation. Else `Memory` is only for one digit more, as in
     /// [`Notation::scale`].
     #[inline(always)]
     pub fn write<W: Sink>(

@@ -1,5 +1,5 @@
 -- What chooses compact patterns.
-use Rattle.std.proofs.Common.{◌≡◌, Option, Some, None, refl, ap, sym, subst, ℤ, ◌∙◌}
+use Rattle.std.proofs.Common.{◌≡◌, Option, ap, sym, subst, ℤ, ◌∙◌}
 use Rattle.std.specs.Prelude.{slice_get}
 use Rattle.fixed_decimal.specs.Decimal.{Decimal}
 use Rattle.plural_rules.specs.Operands as operands

@@ -1,13 +1,13 @@
 -- What chooses the texts around the whole text.
-use Rattle.std.proofs.{Common.{◌≡◌, ◌≢◌, true, false, Option, Some, None, refl, ap, sym, subst, ◌∙◌, arith, inl, inr}, lemmas.Int.ints}
-use Rattle.std.specs.{Prelude.{ℤ, pos, negsuc, ◌-ℤ◌, ◌<ℤ◌, ◌⊎◌, ◌||◌, if◌then◌else◌, Result, Ok, Err, IfOk}, Option.option_map_or}
+use Rattle.std.proofs.{Common.{◌≡◌, ◌≢◌, true, false, Option, Some, None, refl, ap, subst, arith, inl, inr}, lemmas.Int.ints}
+use Rattle.std.specs.{Prelude.{ℤ, pos, negsuc, ◌-ℤ◌, ◌<ℤ◌, ◌⊎◌, if◌then◌else◌, Result, Ok, Err, IfOk}, Option.option_map_or}
 use Rattle.decimal_unsigned.specs.{Edits.{leaves_limits, multiplied, multiplied_pow10}, Unsigned.{Unsigned, IsValue}}
 use Rattle.fixed_decimal.specs.Decimal.{Decimal}
 use Rattle.plural_rules.specs.Operands as operands
 use Rattle.plural_rules.specs.declared.rules.PluralCategory.{PluralCategory, TheVariants.Other}
 use Rattle.locale_data.specs.{Plurals.IsCategoryAt, declared.{compact.CompactStyle.CompactStyle, number_formats.NumberFormats.NumberFormats}}
 use Rattle.locale_data.proofs.lemmas.tables.RulesTexts.{category_exists}
-use Rattle.number_format.specs.{declared.{format.{formatter.NumberFormatter.NumberFormatter, outer.OuterTexts.OuterTexts}, options.{CompactLength.CompactLength, NumberNotation.NumberNotation, NumberStyle.NumberStyle}}, FormattedNumbers.{ChoosesOuter, ChoosesWhole}, NumberText.{exponent_operand, has_categories, is_by_category, operands_by, operands_with, outer_by, outer_operands, outer_texts, shown_number, whole_number, compact_style}, Scaled.ScaledValue}
+use Rattle.number_format.specs.{declared.{format.{formatter.NumberFormatter.NumberFormatter, outer.OuterTexts.OuterTexts}, options.{CompactLength.CompactLength, NumberNotation.NumberNotation, NumberStyle.NumberStyle}}, FormattedNumbers.{ChoosesOuter, ChoosesWhole}, NumberText.{exponent_operand, has_categories, is_by_category, operands_by, operands_with, outer_by, outer_operands, outer_texts, compact_style}, Scaled.ScaledValue}
 
 -- texts that do not depend on the category
 pub same_outer : (formats : NumberFormats) (texts : OuterTexts) (words : Option CompactStyle) (style : NumberStyle)

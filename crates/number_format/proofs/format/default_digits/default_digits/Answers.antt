@@ -1,4 +1,4 @@
-use Rattle.std.proofs.Common.{◌≡◌, true, refl, sym, subst, ◌∙◌, ap}
+use Rattle.std.proofs.Common.{refl, sym, subst, ◌∙◌, ap}
 use Rattle.number_format.specs.{DefaultDigits.{is_compact, increment_by, IsDefaultPrecision}, Increments.is_increment}
 use Rattle.number_format.proofs.lemmas.digits.DefaultsResolve.{default_is_increment, no_increment}
 use Rattle.number_format.proofs.format.default_digits.default_digits.Goals as goal

@@ -1,4 +1,4 @@
-use Rattle.std.proofs.Common.{◌++◌, ◌∙◌, ap, sym, append_assoc, arith}
+use Rattle.std.proofs.Common.{append_assoc, arith}
 use Rattle.number_format.proofs.lemmas.format.{PartTexts.parts_text-more, PieceTexts.text-of}
 use Rattle.number_format.proofs.format.parts.push_parts.Goals as goal
 

@@ -1,4 +1,4 @@
-use Rattle.std.proofs.{Common.{◌∙◌}, lemmas.Result.on_err_weaker}
+use Rattle.std.proofs.{lemmas.Result.on_err_weaker}
 use Rattle.fixed_decimal.proofs.Calling.{on_err, prefix_more, then_prefix}
 use Rattle.decimal_format.specs.Formatted.{absolute_text}
 use Rattle.number_format.specs.FormattedNumbers.{separator_of}

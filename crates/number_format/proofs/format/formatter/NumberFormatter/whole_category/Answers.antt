@@ -1,5 +1,5 @@
-use Rattle.std.proofs.Common.{◌≡◌, true, sym, ◌∙◌, ap, rules}
-use Rattle.number_format.specs.{FormattedNumbers.{ChoosesOuter, ChoosesWhole}, NumberText.{has_categories, operands_by, operands_with, whole_number}}
+use Rattle.std.proofs.Common.{sym, ◌∙◌, ap, rules}
+use Rattle.number_format.specs.{NumberText.{operands_by, operands_with, whole_number}}
 use Rattle.number_format.proofs.lemmas.format.OuterChoices.{any_category, if_ok, by_operands, with_exponent}
 use Rattle.plural_rules.specs.Operands.{plain}
 use Rattle.number_format.proofs.format.formatter.NumberFormatter.whole_category.Goals as goal
