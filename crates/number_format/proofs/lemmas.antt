@@ -2,3 +2,4 @@ pub mod digits
 pub mod notation
 pub mod format
 pub mod read
+pub mod range

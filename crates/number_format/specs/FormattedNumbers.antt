@@ -1,5 +1,5 @@
 -- The text of a formatted number.
-use Rattle.std.specs.Prelude.{◌≡◌, ◌↔◌, ℕ, Bool, true, ◌≢◌, IsTrue, if◌then◌else◌, List, [], ◌++◌, Option, Some, None, ℤ}
+use Rattle.std.specs.Prelude.{◌≡◌, ◌⊎◌, ◌↔◌, ℕ, Bool, true, ◌≢◌, IsTrue, if◌then◌else◌, List, [], ◌++◌, Option, Some, None, ℤ}
 use Rattle.fixed_decimal.specs.Decimal.{Decimal}
 use Rattle.decimal_format.specs.{Formatted.absolute_text, declared.grouping.GroupingStrategy.TheVariants.Never}
 use Rattle.locale_data.specs.{Compact.{pattern_for, patterns_in}, Plurals.IsCategoryAt, declared.{compact.CompactStyle.CompactStyle, tables.rows.compact.CompactPattern.CompactPattern}}
@@ -103,12 +103,12 @@ pub record ChoosesPattern (f : NumberFormatter) (significand : Decimal) (e : ℤ
       chosen_pattern style choice
       ≡ compact_pattern f.formats style (compact_magnitude f.notation significand e) category (is_one significand)
 
--- and the same texts around the whole text as the category of the number does
+-- the category is that of the number, or the same texts are around the whole text by each category
 pub record ChoosesOuter (f : NumberFormatter) (v : Decimal) (number : ScaledValue) (chosen : PluralCategory)
     : Type 0 where
   pub category : PluralCategory
   pub of_whole : IsCategoryAt f.rules (outer_operands f v number) category
-  pub texts : outer_by f chosen ≡ outer_by f category
+  pub same : (chosen ≡ category) ⊎ ((a b : PluralCategory) → outer_by f a ≡ outer_by f b)
 
 -- what chooses these before the number is rounded; in standard notation they are chosen after that
 abbrev pub ChoosesWhole : NumberFormatter → Decimal → PluralCategory → Type 0

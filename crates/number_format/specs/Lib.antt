@@ -12,3 +12,5 @@ pub mod FormattedNumbers
 pub mod NumberText
 pub mod Formatters
 pub mod NumberReading
+pub mod RangeText
+pub mod FormattedRanges

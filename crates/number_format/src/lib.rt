@@ -26,6 +26,8 @@ mod format;
 pub mod laws;
 mod notation;
 mod options;
+mod range;
+pub mod range_laws;
 mod read;
 
 pub use digits::error::DigitOptionsError;
@@ -48,6 +50,9 @@ pub use options::{
     CompactLength, CurrencyDisplay, CurrencyStyle, CurrencyUsage, DecimalSeparatorDisplay,
     ExponentOptions, ExponentSign, NumberNotation, NumberOptions, NumberStyle, UnitStyle,
 };
+pub use range::format_range::RangeFormatError;
+pub use range::formatted_range::{FormattedRange, RangeSegment, RangeSource};
+pub use range::range_texts::RangeTexts;
 pub use read::number_reader::{NumberReader, NumberReaderError, ParseMode};
 
 // What the options and the functions above mention, so that a caller needs no other crate.

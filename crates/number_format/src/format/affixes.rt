@@ -59,7 +59,7 @@ impl StyleTexts {
         }
     }
 
-    fn sign_part(&self, sign: Sign) -> TextPart<'_>
+    pub(crate) fn sign_part(&self, sign: Sign) -> TextPart<'_>
         ensures { part_pieces result ≡ sign_pieces self.now.symbols sign }
     {
         TextPart::new(sign_kind(sign), self.symbols.affixes(sign).prefix)
@@ -79,7 +79,7 @@ impl StyleTexts {
         }
     }
 
-    fn pattern_part(&self, piece: Piece) -> TextPart<'_>
+    pub(crate) fn pattern_part(&self, piece: Piece) -> TextPart<'_>
         ensures { part_pieces result ≡ pattern_pieces self.now piece }
     {
         TextPart::new(self.pattern_kind(piece), self.pattern_text(piece))
@@ -96,14 +96,14 @@ impl StyleTexts {
     }
 
     #[inline(always)]
-    fn needs_space_after(&self, prefix: Affix) -> bool
+    pub(crate) fn needs_space_after(&self, prefix: Affix) -> bool
         ensures { result ≡ (ends_with_currency prefix && self.now.currency.space_after) }
     {
         ends_with_currency(prefix) && self.currency.space_after
     }
 
     #[inline(always)]
-    fn needs_space_before(&self, suffix: Affix) -> bool
+    pub(crate) fn needs_space_before(&self, suffix: Affix) -> bool
         ensures { result ≡ (begins_with_currency suffix && self.now.currency.space_before) }
     {
         begins_with_currency(suffix) && self.currency.space_before

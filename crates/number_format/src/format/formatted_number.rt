@@ -27,7 +27,7 @@ use plural_rules::PluralCategory;
 use std::alloc::Global;
 use std::fmt;
 
-fn displayed_sign(display: SignDisplay, is_zero: bool, sign: Sign) -> Sign
+pub(crate) fn displayed_sign(display: SignDisplay, is_zero: bool, sign: Sign) -> Sign
     ensures { (number : ℕ) → (IsTrue is_zero ↔ (number ≡ 0)) → result ≡ displayed_sign display number sign }
 {
     match (display, sign) {
@@ -97,7 +97,7 @@ impl<'f> FormattedNumber<'f> {
         Ok(())
     }
 
-    fn compact_pattern(&self) -> Option<&'static CompactPattern>
+    pub(crate) fn compact_pattern(&self) -> Option<&'static CompactPattern>
         ensures value { option_copied result ≡ pattern_of self.now }
         ensures texts { IfSome result (λ pattern. AreTexts pattern.now) }
     {
@@ -126,7 +126,7 @@ impl<'f> FormattedNumber<'f> {
         }
     }
 
-    fn outer_around(&self) -> OuterAround<'_>
+    pub(crate) fn outer_around(&self) -> OuterAround<'_>
         ensures { IsOuter (outer_of self.now) result }
     {
         let formatter = self.formatter;
@@ -221,7 +221,11 @@ impl<'f> FormattedNumber<'f> {
         sink.put_bytes(self.separator().as_bytes())
     }
 
-    fn write_number_if<W: Sink>(&self, has_number: bool, sink: &mut W) -> Result<(), SinkFault>
+    pub(crate) fn write_number_if<W: Sink>(
+        &self,
+        has_number: bool,
+        sink: &mut W,
+    ) -> Result<(), SinkFault>
         ensures ok { OnOk result
             (Appends (W.contents sink.old) (W.contents sink.new) (number_text_if self.now has_number)) }
         ensures err { OnErr result
@@ -245,7 +249,7 @@ impl<'f> FormattedNumber<'f> {
         f.write_str(self.separator())
     }
 
-    fn fmt_number_if<W: fmt::Write>(
+    pub(crate) fn fmt_number_if<W: fmt::Write>(
         &self,
         has_number: bool,
         f: &mut fmt::Formatter<W>,
@@ -322,7 +326,7 @@ impl<'f> FormattedNumber<'f> {
         fmt_parts(&affixes.suffix, f)
     }
 
-    fn number_length(&self) -> usize
+    pub(crate) fn number_length(&self) -> usize
         ensures value { result ≡ length (number_text self.now) }
         ensures at_most { result ≤ 17237243 }
     {
@@ -501,7 +505,11 @@ impl<'f> FormattedNumber<'f> {
         put(sink, PartKind::Decimal, self.separator())
     }
 
-    fn put_number_if<P: PartSink>(&self, has_number: bool, sink: &mut P) -> Result<(), SinkFault>
+    pub(crate) fn put_number_if<P: PartSink>(
+        &self,
+        has_number: bool,
+        sink: &mut P,
+    ) -> Result<(), SinkFault>
         ensures ok { OnOk result (Puts (P.pieces sink.old) (P.pieces sink.new) (number_pieces_if self.now has_number)) }
         ensures err { OnErr result
             (PutsPrefix (P.pieces sink.old) (P.pieces sink.new) (number_pieces_if self.now has_number)) }

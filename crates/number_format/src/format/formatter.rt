@@ -302,7 +302,7 @@ impl NumberFormatter {
 
     // Not inlined: only percent, units and names in compact notation need it.
     #[inline(never)]
-    fn undivided_category(&self, value: &Decimal) -> Result<PluralCategory, RoundError>
+    pub(crate) fn undivided_category(&self, value: &Decimal) -> Result<PluralCategory, RoundError>
         ensures ok { IfOk result (IsCategoryAt self.now.rules (plain (whole_number self.now value.now))) }
         ensures err { IfErr result (λ e. (e ≡ RoundError.Memory)
             × (IsLong INLINE_DIGITS value.now ⊎ WholeRoundingNeedsMemory self.now value.now)) }

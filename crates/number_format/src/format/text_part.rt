@@ -16,6 +16,8 @@ pub enum PartKind {
     MinusSign,
     /// A plus sign.
     PlusSign,
+    /// A sign before a number that is not exact.
+    ApproximatelySign,
     /// A percent sign.
     PercentSign,
     /// The symbol, the code or the name of a currency.

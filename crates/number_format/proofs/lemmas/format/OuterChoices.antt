@@ -7,7 +7,7 @@ use Rattle.plural_rules.specs.Operands as operands
 use Rattle.plural_rules.specs.declared.rules.PluralCategory.{PluralCategory, TheVariants.Other}
 use Rattle.locale_data.specs.{Plurals.IsCategoryAt, declared.{compact.CompactStyle.CompactStyle, number_formats.NumberFormats.NumberFormats}}
 use Rattle.locale_data.proofs.lemmas.tables.RulesTexts.{category_exists}
-use Rattle.number_format.specs.{declared.{format.{formatter.NumberFormatter.NumberFormatter, outer.OuterTexts.OuterTexts}, options.{CompactLength.CompactLength, NumberNotation.NumberNotation, NumberStyle.NumberStyle}}, FormattedNumbers.{ChoosesOuter, ChoosesWhole}, NumberText.{exponent_operand, has_categories, is_by_category, operands_by, operands_with, outer_operands, outer_texts, compact_style}, Scaled.ScaledValue}
+use Rattle.number_format.specs.{declared.{format.{formatter.NumberFormatter.NumberFormatter, outer.OuterTexts.OuterTexts}, options.{CompactLength.CompactLength, NumberNotation.NumberNotation, NumberStyle.NumberStyle}}, FormattedNumbers.{ChoosesOuter, ChoosesWhole}, NumberText.{exponent_operand, has_categories, is_by_category, operands_by, operands_with, outer_by, outer_operands, outer_texts, compact_style}, Scaled.ScaledValue}
 
 -- texts that do not depend on the category
 pub same_outer : (formats : NumberFormats) (texts : OuterTexts) (words : Option CompactStyle) (style : NumberStyle)
@@ -27,6 +27,12 @@ pub if_ok : {A E : Type 0} {P Q : A → Type 0} (r : Result A E) → ((a : A) �
 if_ok (Ok a) weaker p = weaker a p
 if_ok (Err e) weaker p = tt
 
+-- the texts of a category that is that of the number, or any
+pub chosen_texts : (f : NumberFormatter) (a b : PluralCategory)
+    → (a ≡ b) ⊎ ((x y : PluralCategory) → outer_by f x ≡ outer_by f y) → outer_by f a ≡ outer_by f b
+chosen_texts f a b (inl same) = ap (outer_by f) same
+chosen_texts f a b (inr any) = any a b
+
 module _ (f : NumberFormatter) (v : Decimal) where
   pub any_category : has_categories f ≡ false → ChoosesWhole f v Other
   any_category none number shown allowed =
@@ -34,8 +40,8 @@ module _ (f : NumberFormatter) (v : Decimal) where
       record {
         category = own.0;
         of_whole = own.1;
-        texts = same_outer f.formats f.outer (compact_style f.options.notation f.options.style) f.options.style Other
-            own.0 none;
+        same = inr (λ a b. same_outer f.formats f.outer (compact_style f.options.notation f.options.style)
+            f.options.style a b none);
       }
 
   pub after_rounding : has_categories f ≡ true → f.options.notation ≡ NumberNotation.Standard
@@ -46,7 +52,7 @@ module _ (f : NumberFormatter) (v : Decimal) where
   pub by_operands : (number : ScaledValue) (x : operands.Operands) (c : PluralCategory)
       → IsCategoryAt f.rules x c → x ≡ outer_operands f v number → ChoosesOuter f v number c
   by_operands number x c of same =
-      record { category = c; of_whole = subst (λ y. IsCategoryAt f.rules y c) same of; texts = refl }
+      record { category = c; of_whole = subst (λ y. IsCategoryAt f.rules y c) same of; same = inl refl }
 
 -- ---- Operands with an exponent.
 

@@ -170,7 +170,7 @@ text-of_exponent f (Some e) =
     (absolute_text f.style.symbols Never e.absolute) (text-of kind.ExponentSeparator f.separator.text.now)
     (text-of (exponent_kind e.sign) sign) (text-of_digits kind.ExponentInteger f.style.symbols Never e.absolute)
 
-text-of_number : (n : FormattedNumber)
+pub text-of_number : (n : FormattedNumber)
     → pieces_text (number_part n.formatter.now n.value.absolute
     (exponent_of n.formatter.now.options.notation n.exponent))
     ≡ number_text n
@@ -184,7 +184,7 @@ text-of_number n =
     ∙ (λ j. text-of_digits kind.Integer f.style.symbols f.options.grouping n.value.absolute j
     ++ text-of kind.Decimal (separator_of n) j)) i ++ text-of_exponent f e i)
 
-text-if : (b : Bool) (ps : List Piece) (text : List ℕ) → pieces_text ps ≡ text
+pub text-if : (b : Bool) (ps : List Piece) (text : List ℕ) → pieces_text ps ≡ text
     → pieces_text (if b then ps else []) ≡ (if b then text else [])
 text-if true ps text e = e
 text-if false ps text e = refl

@@ -1,0 +1,123 @@
+-- The ends of ranges: a number has one end, and its text alone is that of the end.
+use Rattle.std.proofs.{Common.{◌≡◌, ℕ, inl, inr, true, false, List, [], ◌++◌, Option, Some, None, refl, sym, ◌∙◌, ap, subst, append-nil}, lemmas.Option.same_Some}
+use Rattle.std.specs.{Prelude.{Bool, ◌&&◌, ◌||◌, if◌then◌else◌, IsSomeAnd, ◌⊎◌}, Cmp.{int_eq_equiv, Lexicographic.nat_list_eq_equiv}, Ordering.int_eq, Str.bytes_eq}
+use Rattle.fixed_decimal.specs.Decimal.{Decimal, signed_number}
+use Rattle.plural_rules.specs.{Operands.{Operands, plain}, Rules.category_of, RulesGrammar.IsCategoryByText, declared.rules.PluralCategory.PluralCategory}
+use Rattle.plural_rules.proofs.lemmas.parse.ParserComplete.{grammar-unique}
+use Rattle.locale_data.specs.{Plurals.{rules_text_at, IsCategoryAt}, declared.plurals.PluralRulesId.PluralRulesId}
+use Rattle.number_format.specs.{declared.{format.{formatted_number.FormattedNumber.FormattedNumber, formatter.NumberFormatter.NumberFormatter}, range.{common.BareTexts.BareTexts, form.RangeForm.{RangeForm, TheVariants.{Approximate, Common, Apart}}, range_texts.RangeTexts.RangeTexts}}, FormattedRanges.{end_of, IsFormattedEnd}, NumberText.{HasNumberText, IsNumberText, outer_by}, PatternTexts.{around, within}, RangeText.{IsRange, IsRangeEnd, RangeEnd, ShownRange, apart_pieces, are_same_texts, bare_texts, both_or_neither, end_around, end_number, form_by, pieces_by, range_by, range_category, range_form, range_pieces, separator_pieces, shown_end, text_of_pieces, written_exponent}, Scaled.ScaledValue, TextParts.{Piece, pieces_text}}
+
+-- rules have one category
+pub category_unique : (id : PluralRulesId) (n : Operands) (a b : PluralCategory) → IsCategoryAt id n a
+    → IsCategoryAt id n b → a ≡ b
+category_unique id n a b = by (rules_text_at id)
+  where
+    by : (o : Option (List ℕ)) → IsSomeAnd o (λ text. IsCategoryByText text n a)
+        → IsSomeAnd o (λ text. IsCategoryByText text n b) → a ≡ b
+    by None x y = absurd x
+    by (Some text) (rules, first, x) (others, second, y) =
+        x ∙ ap (λ found. category_of found n) (grammar-unique first second) ∙ sym y
+
+-- a number has one end
+pub end_unique : (f : NumberFormatter) (v : Decimal) (m n : RangeEnd) → IsRangeEnd f v m → IsRangeEnd f v n → m ≡ n
+end_unique f v m n x y =
+    let number : x.number ≡ y.number = same_Some x.number y.number (sym x.number_is ∙ y.number_is) in
+    let other = subst (λ (s : ScaledValue). IsCategoryAt f.rules (plain s.significand.absolute) y.category)
+    (sym number) y.of_significand in
+    let category =
+    category_unique f.rules (plain x.number.significand.absolute) x.category y.category x.of_significand other in
+    x.value ∙ (λ i. shown_end f v (number i) (category i)) ∙ sym y.value
+
+both_is : (b : Bool) → both_or_neither b b ≡ true
+both_is true = refl
+both_is false = refl
+
+all_of_three : (a b c : Bool) → a ≡ true → b ≡ true → c ≡ true → (a && (b && c)) ≡ true
+all_of_three a b c x y z = cc
+
+texts_are_same : (a : BareTexts) → are_same_texts a a ≡ true
+texts_are_same a =
+    all_of_three _ _ _ (nat_list_eq_equiv.refl a.affixes.prefix) (nat_list_eq_equiv.refl a.affixes.suffix)
+    (both_is a.has_number)
+
+approximate_if : (alike exponents equal other long : Bool) → alike ≡ true → exponents ≡ true → equal ≡ true
+    → (if alike && (exponents && (equal || other)) then Approximate else if alike && long then Common else Apart)
+    ≡ Approximate
+approximate_if alike exponents equal other long x y z =
+    let e : (alike && (exponents && (equal || other))) ≡ true = rw (x, y, z) refl in
+    ap (λ b. if b then Approximate else if alike && long then Common else Apart) e
+
+-- the range of a number and itself is approximate
+pub equal_are_approximate : (f : NumberFormatter) (t : RangeTexts) (v : Decimal) (r : ShownRange) → IsRange f t v v r
+    → r.form ≡ Approximate
+equal_are_approximate f t v r is =
+    let same = end_unique f v r.end r.start is.end_is is.start_is in
+    is.form_is ∙ ap (range_form v v r.start) same
+    ∙ approximate_if _ _ _ _ _ (texts_are_same (bare_texts r.start)) (int_eq_equiv.refl (written_exponent r.start))
+    (int_eq_equiv.refl (signed_number v))
+
+-- with nothing around the whole text the text of a number is that of the end
+pub end_alone : (f : NumberFormatter) (v : Decimal) (n : RangeEnd)
+    → ((c : PluralCategory) → outer_by f c ≡ around [] true []) → IsRangeEnd f v n
+    → IsNumberText f v (pieces_text (within (end_around n) (end_number n)))
+end_alone f v n none is =
+    let m = shown_end f v is.number is.category in
+    let pieces = within (end_around m) (end_number m) in (
+      pieces,
+      record {
+        number = is.number;
+        category = is.category;
+        whole = is.whole;
+        number_is = is.number_is;
+        of_significand = is.of_significand;
+        of_whole = is.of_whole;
+        value = sym (ap (λ u. within u pieces) (none is.whole) ∙ append-nil pieces);
+      },
+      ap (λ (x : RangeEnd). pieces_text (within (end_around x) (end_number x))) is.value,
+    )
+
+-- the text of two numbers apart is that of each alone, with the separator between them
+pub apart_are_alone : (f : NumberFormatter) (t : RangeTexts) (v w : Decimal) (r : ShownRange)
+    → ((c : PluralCategory) → outer_by f c ≡ around [] true []) → IsRange f t v w r → r.form ≡ Apart
+    → HasNumberText f v (λ start. HasNumberText f w (λ end. text_of_pieces (range_pieces r)
+    ≡ start ++ (pieces_text (separator_pieces r.format.separator r.spaced) ++ end)))
+apart_are_alone f t v w r none is apart =
+    let start = within (end_around r.start) (end_number r.start) in
+    let end = within (end_around r.end) (end_number r.end) in
+    let separator = separator_pieces r.format.separator r.spaced in
+    let outer = ap (λ (n : RangeEnd). outer_by n.formatter r.category) is.start_is.value ∙ none r.category in (
+      pieces_text start,
+      end_alone f v r.start none is.start_is,
+      (
+        pieces_text end,
+        end_alone f w r.end none is.end_is,
+        ap (λ form. text_of_pieces (pieces_by form r)) apart
+            ∙ ap (λ u. text_of_pieces (apart_pieces u start separator end)) outer
+            ∙ ap (λ l. pieces_text start ++ (pieces_text separator ++ l)) (append-nil (pieces_text end)),
+      ),
+    )
+
+abbrev IsConstant : NumberFormatter → Type 0
+IsConstant f = (a b : PluralCategory) → outer_by f a ≡ outer_by f b
+
+-- what is around the whole text is that of the categories, or of any
+same_outer : (f : NumberFormatter) (tag : List ℕ) (form : RangeForm) (a b c d : PluralCategory)
+    → (a ≡ c) ⊎ IsConstant f → (b ≡ d) ⊎ IsConstant f
+    → outer_by f (range_category tag form a b) ≡ outer_by f (range_category tag form c d)
+same_outer f tag form a b c d (inl p) (inl q) = λ i. outer_by f (range_category tag form (p i) (q i))
+same_outer f tag form a b c d (inl p) (inr any) = any (range_category tag form a b) (range_category tag form c d)
+same_outer f tag form a b c d (inr any) q = any (range_category tag form a b) (range_category tag form c d)
+
+-- two ends make a range
+pub is_range : (f : NumberFormatter) (t : RangeTexts) (v w : Decimal) (m n : FormattedNumber) (form : RangeForm)
+    (r : ShownRange) → IsFormattedEnd f v m → IsFormattedEnd f w n → form ≡ range_form v w (end_of m) (end_of n)
+    → r ≡ range_by t form (end_of m) (end_of n) m.whole n.whole → IsRange f t v w r
+is_range f t v w m n form r x y chosen made =
+    subst (IsRange f t v w) (sym made) (record {
+      start_is = x.0;
+      end_is = y.0;
+      form_is = chosen;
+      format_is = refl;
+      spaced_is = refl;
+      outer_is = same_outer f t.tag.now form m.whole n.whole x.0.whole y.0.whole x.1 y.1;
+    })

@@ -1,0 +1,175 @@
+//! Formatting of a range of two numbers.
+ghost use Rattle.std.specs.Prelude.{◌≡◌, ◌⊎◌, None, IfOk, IfErr};
+ghost use Rattle.decimal_unsigned.specs.declared.decimal.TheConstants.{INLINE_DIGITS};
+ghost use Rattle.fixed_decimal.specs.DecimalText.{IsLong};
+ghost use Rattle.number_format.specs.{FormattedRanges.{IsFormattedEnd, end_of, formatted_range_text, shown_range}, NumberText.{shown_number, is_negative, FormattingNeedsMemory}, RangeText.{are_equal, have_same_sign, range_by, range_category, IsRange, IsRangeText}};
+
+use crate::format::format_number::FormatError;
+use crate::format::formatted_number::{FormattedNumber, displayed_sign};
+use crate::format::formatter::NumberFormatter;
+use crate::range::common::are_both_or_neither;
+use crate::range::form::{RangeForm, form_by, needs_spaces};
+use crate::range::formatted_range::FormattedRange;
+use crate::range::range_texts::RangeTexts;
+use fixed_decimal::{Decimal, RoundError, Sign};
+use locale_data::plural_range_category;
+use plural_rules::PluralCategory;
+use std::alloc::Global;
+
+/// Why a range is not formatted, and its numbers, unchanged.
+#[derive(Drop)]
+pub struct RangeFormatError {
+    /// The error.
+    pub error: RoundError,
+    /// The first number.
+    pub start: Decimal,
+    /// The second number.
+    pub end: Decimal,
+}
+
+fn is_negative(sign: Sign) -> bool
+    ensures { result ≡ is_negative sign }
+{
+    matches!(sign, Sign::Negative)
+}
+
+fn are_equal(start: &Decimal, end: &Decimal) -> bool
+    ensures { result ≡ are_equal start.now end.now }
+{
+    start.compare(end).is_eq()
+}
+
+fn have_same_sign(start: &Decimal, end: &Decimal) -> bool
+    ensures { result ≡ have_same_sign start.now end.now }
+{
+    are_both_or_neither(is_negative(start.sign), is_negative(end.sign))
+}
+
+fn range_category(
+    tag: &str,
+    form: RangeForm,
+    start: PluralCategory,
+    end: PluralCategory,
+) -> PluralCategory
+    ensures { result ≡ range_category tag.now form start end }
+{
+    match form {
+        RangeForm::Approximate => start,
+        _ => plural_range_category(tag, start, end),
+    }
+}
+
+fn range_by<'f>(
+    texts: &RangeTexts<'_>,
+    form: RangeForm,
+    mut start: FormattedNumber<'f>,
+    end: FormattedNumber<'f>,
+) -> FormattedRange<'f>
+    ensures { shown_range result ≡ range_by texts.now form (end_of start.entry) (end_of end.entry)
+        start.entry.whole end.entry.whole }
+{
+    let spaced = needs_spaces(form, &start);
+    start.whole = range_category(texts.tag, form, start.whole, end.whole);
+    FormattedRange {
+        start,
+        end,
+        format: texts.format,
+        form,
+        spaced,
+    }
+}
+
+impl NumberFormatter {
+    fn range_end(
+        &self,
+        alloc: Global,
+        mut value: Decimal,
+    ) -> Result<FormattedNumber<'_>, FormatError>
+        ensures end { IfOk result (IsFormattedEnd self.now value) }
+        ensures unchanged { IfErr result (λ e. e.value ≡ value) }
+        ensures limit { IfErr result (λ e. e.error ≡ RoundError.Limit → shown_number self.now value ≡ None) }
+        ensures memory { IfErr result (λ e. e.error ≡ RoundError.Memory → FormattingNeedsMemory self.now value) }
+    {
+        let whole = match self.whole_category(&value) {
+            Ok(whole) => whole,
+            Err(error) => return Err(FormatError { error, value }),
+        };
+        let shown = match self.shown_number_or_unchanged(&mut value) {
+            Ok(shown) => shown,
+            Err(error) => return Err(FormatError { error, value }),
+        };
+        let choice = self.choice(&value, shown.exponent);
+        let whole = self.outer_category(&value, whole);
+        let display = self.options.sign_display;
+        value.sign = displayed_sign(display, shown.is_zero, value.sign);
+        Ok(FormattedNumber {
+            formatter: self,
+            alloc,
+            value,
+            exponent: shown.exponent,
+            choice,
+            whole,
+        })
+    }
+
+    /// Formats the range of two numbers, in any order: `1–2`, or `~1` of two numbers that are shown alike.
+    ///
+    /// `texts` are those of the formatter's locale. Both numbers are rounded as by [`format`](Self::format). What both
+    /// have around them is written once if it has more than one character, as ICU does: `1,00–2,00 €`, but
+    /// `$1.00 – $2.00`. `formatRange` of ECMA-402.
+    ///
+    /// # Errors
+    ///
+    /// Both numbers, unchanged, and the error of [`format`](Self::format): of the first number, or else of the second
+    /// one. The first number is copied: `Memory` is also for a copy of more than `INLINE_DIGITS` digits.
+    ///
+    /// ```
+    /// let texts = RangeTexts::of("en", &options.numbering_system)?;
+    /// formatter.format_range(alloc, &texts, start, end)? // $1.00 – $2.00
+    /// ```
+    pub fn format_range(
+        &self,
+        alloc: Global,
+        texts: &RangeTexts<'_>,
+        start: Decimal,
+        end: Decimal,
+    ) -> Result<FormattedRange<'_>, RangeFormatError>
+        ensures range { IfOk result (λ r. IsRange self.now texts.now start end (shown_range r)) }
+        ensures text { IfOk result (λ r. IsRangeText self.now texts.now start end (formatted_range_text r)) }
+        ensures unchanged { IfErr result (λ e. (e.start ≡ start) × (e.end ≡ end)) }
+        ensures limit { IfErr result (λ e. e.error ≡ RoundError.Limit
+            → (shown_number self.now start ≡ None) ⊎ (shown_number self.now end ≡ None)) }
+        ensures memory { IfErr result (λ e. e.error ≡ RoundError.Memory
+            → IsLong INLINE_DIGITS start ⊎ (FormattingNeedsMemory self.now start
+            ⊎ FormattingNeedsMemory self.now end)) }
+    {
+        let Ok(kept) = start.clone() else {
+            let error = RoundError::Memory;
+            return Err(RangeFormatError { error, start, end });
+        };
+        let equal = are_equal(&start, &end);
+        let same_sign = have_same_sign(&start, &end);
+        let first = match self.range_end(alloc, start) {
+            Ok(number) => number,
+            Err(FormatError { error, value }) => {
+                return Err(RangeFormatError {
+                    error,
+                    start: value,
+                    end,
+                });
+            }
+        };
+        let second = match self.range_end(alloc, end) {
+            Ok(number) => number,
+            Err(FormatError { error, value }) => {
+                return Err(RangeFormatError {
+                    error,
+                    start: kept,
+                    end: value,
+                });
+            }
+        };
+        let form = form_by(equal, same_sign, &first, &second);
+        Ok(range_by(texts, form, first, second))
+    }
+}

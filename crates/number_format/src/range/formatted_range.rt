@@ -1,0 +1,330 @@
+//! A range of two numbers as a locale writes it.
+ghost use Rattle.std.specs.{Prelude.{◌≡◌, ◌≤◌, length, Some, OnOk, OnErr, true}, Fmt.WritesStyledOnOk, Io.KnownBytes.Appends};
+ghost use Rattle.decimal_digits.specs.AppendsPrefix.{AppendsPrefix};
+ghost use Rattle.number_format.specs.{FormattedNumbers.{around_of, outer_of, pattern_of, IsOuter}, FormattedRanges.{end_of, formatted_range_pieces, formatted_range_text, inner_pieces, pieces_in, segment_pieces, segment_text, shown_range, source_of, text_from_end, text_from_start}, PatternTexts.within, RangeText.{approximate_around, end_number, pieces_by}, TextParts.{Puts, PutsPrefix, parts_pieces, pieces_text}};
+ghost use Rattle.number_format.specs.declared.range.form.RangeForm.TheVariants as form;
+
+use crate::format::formatted_number::FormattedNumber;
+use crate::format::outer::OuterAround;
+use crate::format::parts::PartSink;
+use crate::format::text_part::TextPart;
+use crate::range::affixes::shows_number;
+use crate::range::form::RangeForm;
+use crate::range::segment::{InnerSegment, Segment};
+use fixed_decimal::{Sink, SinkFault, Writeable};
+use locale_data::RangeFormat;
+use std::fmt;
+
+/// To which number of a range a part of its text belongs, as `formatRangeToParts` of ECMA-402 names it.
+#[derive(Clone, Copy, Debug, PartialEq)]
+pub enum RangeSource {
+    /// To neither: it is written once for both numbers.
+    Shared,
+    /// To the first number.
+    StartRange,
+    /// To the second number.
+    EndRange,
+}
+
+/// A segment of the text of a range. The text is that of the segments, in this order; a segment may be empty.
+#[derive(Clone, Copy, Debug, PartialEq)]
+pub enum RangeSegment {
+    /// What is before both numbers.
+    Prefix,
+    /// The text of a unit before the numbers.
+    OuterPrefix,
+    /// The first number, with what is around it alone.
+    Start,
+    /// The separator; or an approximate number, instead of two numbers.
+    Middle,
+    /// The second number, with what is around it alone.
+    End,
+    /// What is after both numbers.
+    Suffix,
+    /// The text of a unit after the numbers.
+    OuterSuffix,
+}
+
+impl RangeSegment {
+    /// The segments, in the order of the text.
+    pub const ALL: [RangeSegment; 7] = [
+        RangeSegment::Prefix,
+        RangeSegment::OuterPrefix,
+        RangeSegment::Start,
+        RangeSegment::Middle,
+        RangeSegment::End,
+        RangeSegment::Suffix,
+        RangeSegment::OuterSuffix,
+    ];
+
+    /// Returns to which number the parts of a segment belong.
+    pub fn source(self) -> RangeSource
+        ensures { result ≡ source_of self }
+    {
+        match self {
+            RangeSegment::Start => RangeSource::StartRange,
+            RangeSegment::End => RangeSource::EndRange,
+            _ => RangeSource::Shared,
+        }
+    }
+}
+
+/// A range of two numbers as a locale writes it. It borrows the formatter.
+pub struct FormattedRange<'f> {
+    /// The first number, with the plural category of the range.
+    pub(crate) start: FormattedNumber<'f>,
+    pub(crate) end: FormattedNumber<'f>,
+    pub(crate) format: RangeFormat,
+    pub(crate) form: RangeForm,
+    /// Whether spaces are beside the separator.
+    pub(crate) spaced: bool,
+}
+
+// Not derived: a derived drop is proved again in each crate that depends on this one.
+impl<'f> Drop for FormattedRange<'f> {
+    fn drop(self) {
+        let FormattedRange {
+            start,
+            end,
+            format: _,
+            form: _,
+            spaced: _,
+        } = self;
+        drop(start);
+        drop(end);
+    }
+}
+
+impl<'f> FormattedRange<'f> {
+    fn outer(&self) -> OuterAround<'_>
+        ensures { IsOuter (outer_of self.now.start) result }
+    {
+        self.start.outer_around()
+    }
+
+    fn approximate_number(&self) -> InnerSegment<'_, 'f>
+        ensures { inner_pieces result ≡ within
+            (approximate_around self.now.start.formatter.now.style self.now.format.approximately
+            self.now.start.value.sign (pattern_of self.now.start)) (end_number (end_of self.now.start)) }
+    {
+        let number = &self.start;
+        let formatter = number.formatter;
+        let style = &formatter.style;
+        let approximately = self.format.approximately;
+        let pattern = number.compact_pattern();
+        let prefix = style.approximate_prefix(approximately, number.value.sign, pattern);
+        let suffix = style.approximate_suffix(approximately, number.value.sign, pattern);
+        InnerSegment {
+            prefix,
+            number,
+            has_number: shows_number(pattern),
+            suffix,
+        }
+    }
+
+    fn approximate_segment(&self, segment: RangeSegment) -> Segment<'_, 'f>
+        ensures { segment_pieces result ≡ pieces_in (pieces_by form.Approximate (shown_range self.now)) segment }
+    {
+        let outer = self.outer();
+        let start = &self.start;
+        match segment {
+            RangeSegment::OuterPrefix => Segment::of_outer(start, outer, false),
+            RangeSegment::Middle if outer.has_number => {
+                Segment::of_inner(self.approximate_number())
+            }
+            RangeSegment::OuterSuffix => Segment::of_outer(start, outer, true),
+            _ => Segment::empty(start),
+        }
+    }
+
+    fn common_prefix(&self) -> [TextPart<'f>; 9]
+        ensures { parts_pieces result ≡ (around_of self.now.start).prefix }
+    {
+        let start = &self.start;
+        let formatter = start.formatter;
+        let style = &formatter.style;
+        style.range_prefix(start.value.sign, start.compact_pattern())
+    }
+
+    fn common_suffix(&self) -> [TextPart<'f>; 9]
+        ensures { parts_pieces result ≡ (around_of self.now.start).suffix }
+    {
+        let start = &self.start;
+        let formatter = start.formatter;
+        let style = &formatter.style;
+        style.range_suffix(start.value.sign, start.compact_pattern())
+    }
+
+    fn has_common_number(&self) -> bool
+        ensures { result ≡ (around_of self.now.start).has_number }
+    {
+        shows_number(self.start.compact_pattern())
+    }
+
+    fn common_segment(&self, segment: RangeSegment) -> Segment<'_, 'f>
+        ensures { segment_pieces result ≡ pieces_in (pieces_by form.Common (shown_range self.now)) segment }
+    {
+        let outer = self.outer();
+        let has_number = outer.has_number && self.has_common_number();
+        let start = &self.start;
+        match segment {
+            RangeSegment::Prefix => Segment::parts_if(start, self.common_prefix(), true),
+            RangeSegment::OuterPrefix => Segment::of_outer(start, outer, false),
+            RangeSegment::Start => Segment::number_if(start, has_number),
+            RangeSegment::Middle => {
+                Segment::separator_if(start, self.format.separator, self.spaced, has_number)
+            }
+            RangeSegment::End => Segment::number_if(&self.end, has_number),
+            RangeSegment::Suffix => {
+                Segment::parts_if(start, self.common_suffix(), outer.has_number)
+            }
+            RangeSegment::OuterSuffix => Segment::of_outer(start, outer, true),
+        }
+    }
+
+    fn apart_segment(&self, segment: RangeSegment) -> Segment<'_, 'f>
+        ensures { segment_pieces result ≡ pieces_in (pieces_by form.Apart (shown_range self.now)) segment }
+    {
+        let outer = self.outer();
+        let start = &self.start;
+        match segment {
+            RangeSegment::OuterPrefix => Segment::of_outer(start, outer, false),
+            RangeSegment::Start => Segment::whole_if(start, outer.has_number),
+            RangeSegment::Middle => {
+                let separator = self.format.separator;
+                Segment::separator_if(start, separator, self.spaced, outer.has_number)
+            }
+            RangeSegment::End => Segment::whole_if(&self.end, outer.has_number),
+            RangeSegment::OuterSuffix => Segment::of_outer(start, outer, true),
+            RangeSegment::Prefix | RangeSegment::Suffix => Segment::empty(start),
+        }
+    }
+
+    fn segment(&self, segment: RangeSegment) -> Segment<'_, 'f>
+        ensures pieces { segment_pieces result ≡ formatted_range_pieces self.now segment }
+        ensures text { segment_text result ≡ pieces_text (formatted_range_pieces self.now segment) }
+    {
+        match self.form {
+            RangeForm::Approximate => self.approximate_segment(segment),
+            RangeForm::Common => self.common_segment(segment),
+            RangeForm::Apart => self.apart_segment(segment),
+        }
+    }
+
+    fn segment_length(&self, segment: RangeSegment) -> usize
+        ensures value { result ≡ length (pieces_text (formatted_range_pieces self.now segment)) }
+        ensures at_most { result ≤ 17242853 }
+    {
+        self.segment(segment).length()
+    }
+
+    fn write_segment<W: Sink>(&self, segment: RangeSegment, sink: &mut W) -> Result<(), SinkFault>
+        ensures ok { OnOk result (Appends (W.contents sink.old) (W.contents sink.new)
+            (pieces_text (formatted_range_pieces self.now segment))) }
+        ensures err { OnErr result (AppendsPrefix (W.contents sink.old) (W.contents sink.new)
+            (pieces_text (formatted_range_pieces self.now segment))) }
+        ensures failed { OnErr result (W.has_failed sink.new ≡ true) }
+    {
+        self.segment(segment).write(sink)
+    }
+
+    fn fmt_segment<W: fmt::Write>(
+        &self,
+        segment: RangeSegment,
+        f: &mut fmt::Formatter<W>,
+    ) -> fmt::Result
+        ensures { WritesStyledOnOk W.write_str_gives f.old result
+            (pieces_text (formatted_range_pieces self.now segment)) f.new }
+    {
+        self.segment(segment).fmt(f)
+    }
+
+    fn fmt_from_end<W: fmt::Write>(&self, f: &mut fmt::Formatter<W>) -> fmt::Result
+        ensures { WritesStyledOnOk W.write_str_gives f.old result (text_from_end self.now) f.new }
+    {
+        self.fmt_segment(RangeSegment::End, f)?;
+        self.fmt_segment(RangeSegment::Suffix, f)?;
+        self.fmt_segment(RangeSegment::OuterSuffix, f)
+    }
+
+    fn fmt_from_start<W: fmt::Write>(&self, f: &mut fmt::Formatter<W>) -> fmt::Result
+        ensures { WritesStyledOnOk W.write_str_gives f.old result (text_from_start self.now) f.new }
+    {
+        self.fmt_segment(RangeSegment::Start, f)?;
+        self.fmt_segment(RangeSegment::Middle, f)?;
+        self.fmt_from_end(f)
+    }
+
+    /// Puts the pieces of a segment of the text with their kinds: consecutive pieces of one kind are one part of
+    /// `formatRangeToParts` of ECMA-402, and [`RangeSegment::source`] is their source; pieces of one kind from two
+    /// sources are one part, which is shared. It does not allocate.
+    ///
+    /// # Errors
+    ///
+    /// The sink rejects a piece; those before it were put.
+    ///
+    /// ```
+    /// for segment in RangeSegment::ALL {
+    ///     range.parts(segment, &mut sink)?; // of `1–2`: integer, literal, integer
+    /// }
+    /// ```
+    pub fn parts<P: PartSink>(&self, segment: RangeSegment, sink: &mut P) -> Result<(), SinkFault>
+        ensures pieces { OnOk result
+            (Puts (P.pieces sink.old) (P.pieces sink.new) (formatted_range_pieces self.now segment)) }
+        ensures prefix { OnErr result
+            (PutsPrefix (P.pieces sink.old) (P.pieces sink.new) (formatted_range_pieces self.now segment)) }
+        ensures failed { OnErr result (P.has_failed sink.new ≡ true) }
+    {
+        self.segment(segment).put(sink)
+    }
+}
+
+impl<'f> Writeable for FormattedRange<'f> {
+    ghost text = { formatted_range_text };
+
+    /// Appends the text.
+    ///
+    /// # Errors
+    ///
+    /// As [`Writeable::write_to`].
+    fn write_to<W: Sink>(&self, sink: &mut W) -> Result<(), SinkFault> {
+        if sink.failed() {
+            return Err(SinkFault);
+        }
+        self.write_segment(RangeSegment::Prefix, sink)?;
+        self.write_segment(RangeSegment::OuterPrefix, sink)?;
+        self.write_segment(RangeSegment::Start, sink)?;
+        self.write_segment(RangeSegment::Middle, sink)?;
+        self.write_segment(RangeSegment::End, sink)?;
+        self.write_segment(RangeSegment::Suffix, sink)?;
+        self.write_segment(RangeSegment::OuterSuffix, sink)
+    }
+
+    /// Returns the exact number of bytes of the text.
+    fn writeable_length_hint(&self) -> usize {
+        self.segment_length(RangeSegment::Prefix)
+            + self.segment_length(RangeSegment::OuterPrefix)
+            + self.segment_length(RangeSegment::Start)
+            + self.segment_length(RangeSegment::Middle)
+            + self.segment_length(RangeSegment::End)
+            + self.segment_length(RangeSegment::Suffix)
+            + self.segment_length(RangeSegment::OuterSuffix)
+    }
+}
+
+impl<'f> fmt::Display for FormattedRange<'f> {
+    ghost output = { λ v. Some (formatted_range_text v) };
+
+    ghost styled_output = { λ v _. Some (formatted_range_text v) };
+
+    /// Writes the text that `write_to` appends, and ignores the options of the format.
+    ///
+    /// # Errors
+    ///
+    /// The formatter fails.
+    fn fmt<W: fmt::Write>(&self, f: &mut fmt::Formatter<W>) -> fmt::Result {
+        self.fmt_segment(RangeSegment::Prefix, f)?;
+        self.fmt_segment(RangeSegment::OuterPrefix, f)?;
+        self.fmt_from_start(f)
+    }
+}

@@ -1,0 +1,40 @@
+//! What a locale writes of ranges.
+ghost use Rattle.std.specs.Prelude.{◌≡◌, IfSome, IfNone};
+ghost use Rattle.locale_data.specs.Locales.{IsUnknown};
+ghost use Rattle.number_format.specs.FormattedRanges.{AreRangeTexts};
+
+use crate::format::ids::system_text;
+use locale_data::{NumberingSystem, RangeFormat, locale_id, range_format};
+
+/// What a locale writes of ranges: the separator, the approximately sign, and the plural categories of the language.
+#[derive(Clone, Copy)]
+pub struct RangeTexts<'t> {
+    /// The tag, whose language has the plural categories.
+    pub(crate) tag: &'t str,
+    /// The texts.
+    pub(crate) format: RangeFormat,
+}
+
+impl<'t> RangeTexts<'t> {
+    /// Returns the texts of a tag, as [`locale`](locale_data::locale) has it, in a numbering system, or else in that of
+    /// the tag. Returns `None` where `locale` does. It does not allocate.
+    ///
+    /// ```
+    /// let texts = RangeTexts::of("de", &options.numbering_system)?;
+    /// formatter.format_range(alloc, &texts, start, end)? // 1–2
+    /// ```
+    pub fn of(tag: &'t str, name: &Option<NumberingSystem>) -> Option<RangeTexts<'t>>
+        ensures some { IfSome result (AreRangeTexts tag.now name.now) }
+        ensures none { IfNone result (IsUnknown tag.now) }
+    {
+        let id = locale_id(tag)?;
+        let system = match system_text(id, name) {
+            Some(system) => system,
+            None => unreachable!(),
+        };
+        Some(RangeTexts {
+            tag,
+            format: range_format(tag, system),
+        })
+    }
+}
