@@ -20,6 +20,7 @@ kind_code PartKind.ExponentSeparator = 11
 kind_code PartKind.ExponentMinusSign = 12
 kind_code PartKind.ExponentPlusSign = 13
 kind_code PartKind.ExponentInteger = 14
+kind_code PartKind.ApproximatelySign = 15
 
 -- the part of this number of bytes from `start` on
 abbrev pub part_from : ℕ → ℕ → ℕ → FdPart

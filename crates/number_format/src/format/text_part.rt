@@ -16,8 +16,6 @@ pub enum PartKind {
     MinusSign,
     /// A plus sign.
     PlusSign,
-    /// A sign before a number that is not exact.
-    ApproximatelySign,
     /// A percent sign.
     PercentSign,
     /// The symbol, the code or the name of a currency.
@@ -36,6 +34,8 @@ pub enum PartKind {
     ExponentPlusSign,
     /// The digits of an exponent.
     ExponentInteger,
+    /// A sign before a number that is not exact, in a range.
+    ApproximatelySign,
 }
 
 /// A part of the text of a number: at most 255 bytes.

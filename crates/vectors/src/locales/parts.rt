@@ -29,6 +29,7 @@ fn name(kind: PartKind) -> &'static str {
         PartKind::ExponentMinusSign => "|exponentMinusSign=",
         PartKind::ExponentPlusSign => "|exponentPlusSign=",
         PartKind::ExponentInteger => "|exponentInteger=",
+        PartKind::ApproximatelySign => "|approximatelySign=",
     }
 }
 
