@@ -95,7 +95,10 @@ abbrev pub field_by : Option Column → Options → Result (Option (Column × Fi
 field_by None options = if is_some options.delimiter || options.is_csv then Err NoField else Ok None
 field_by (Some column) options =
     if options.is_csv && bytes_eq (delimiter_bytes options) (quote ∷ []) then Err QuoteDelimiter
-    else Ok (Some (column, record { index = 0; delimiter = borrowed (delimiter_bytes options); is_csv = options.is_csv }))
+    else Ok (Some (
+      column,
+      record { index = 0; delimiter = borrowed (delimiter_bytes options); is_csv = options.is_csv },
+    ))
 
 -- the same; and records need CSV
 abbrev pub field_of : Options → Result (Option (Column × Field)) WordsError

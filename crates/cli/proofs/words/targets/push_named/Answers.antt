@@ -12,6 +12,10 @@ pub returns-clause-ok : goal.returns-clause-ok
 returns-clause-ok c =
     let new : has_column c.args.fields.now.items (copied c.args.group.column) ≡ false =
     rw c.as_slice.ensures.value at (sym c.has_column.ensures ∙ c.if-has_column.false) in
-    let named : IsNamed (copied c.args.group.column) c.args.group.own.now c.new.result =
-    (ap copied c.new.ensures.column, c.new.ensures.label, rw c.new.ensures.conversion c.in_ok-conversion.ensures.some) in
+    let named : IsNamed (copied c.args.group.column) c.args.group.own.now c.new.result = (
+      ap copied c.new.ensures.column,
+      c.new.ensures.label,
+      rw c.new.ensures.conversion
+          c.in_ok-conversion.ensures.some,
+    ) in
     (c.new.result, new, named, c.in_default.ensures.items)
