@@ -6,7 +6,8 @@ use Rattle.number_format.proofs.lemmas.format.PieceTexts.{text-append, text-if, 
 text-of_inner : (s : InnerSegment) → pieces_text (inner_pieces s) ≡ inner_text s
 text-of_inner s =
     let n = s.number.now in
-    let number = number_part n.formatter.now n.value.absolute (exponent_of n.formatter.now.options.notation n.exponent) in
+    let number =
+    number_part n.formatter.now n.value.absolute (exponent_of n.formatter.now.options.notation n.exponent) in
     text-three (parts_pieces s.prefix) (number_pieces_if n s.has_number) (parts_pieces s.suffix) (parts_text s.prefix)
     (number_text_if n s.has_number) (parts_text s.suffix) (text-of_parts s.prefix)
     (text-if s.has_number number (number_text n) (text-of_number n)) (text-of_parts s.suffix)
