@@ -17,6 +17,9 @@ HOSTILE = ["currency/EUR .00/@@#r/w rounding-mode-half-up ()?", "scientific/*ee/
            "KK group-auto unit-width-narrow latin scale/1e-3", "integer-width/##00 numbering-system/arab @@*/w +- EE+?00"]
 HOSTILE_UNITS = ["unit/square-meter-per-microsecond unit-width-narrow", "unit/light-year-per-day compact-long",
                  "per-measure-unit/duration-day-person measure-unit/concentr-percent decimal-always"]
+# What the library reads otherwise than ICU: docs/DIFFERENCES.md names both.
+OTHERWISE = {"unit/square-square-meter": "unsupported unit",
+             "compact-short unit/month-person-per-gigabyte () precision-currency-standard unit-width-narrow": "unsupported unit"}
 COUNTS = ["{@*65536}", "{@*65537}", "@{#*65535}", "@{#*65536}", ".{0*32768}", ".{0*32769}", ".{#*65535}", ".{#*65536}",
           ".00/{@*65537}r", ".{0*32769}/@s", "./@{#*65536}", "./{@*65537}*", "{0*32767}", "{0*32768}",
           "integer-width/*{0*32768}", "integer-width/{#*32768}0", "E{0*65535}", "E{0*65536}", "scientific/*{e*65536}",
@@ -209,6 +212,8 @@ def bounded(text):
 
 def expected(text):
     """The words of any skeleton, or its error."""
+    if text in OTHERWISE:
+        return OTHERWISE[text]
     try:
         skeleton.LIMIT = 10**9
         skeleton.read(text)
