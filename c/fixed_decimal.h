@@ -278,7 +278,7 @@ enum fd_precision {
 /* Which zeros are shown by FD_BY_MORE and FD_BY_LESS: those of the rounding that is chosen, or of both. */
 enum fd_zeros { FD_ZEROS_OF_CHOSEN = 0, FD_ZEROS_OF_BOTH = 1 };
 
-/* Which sign an exponent has: a minus below 0; also a plus from 0 on; none. */
+/* Which sign an exponent has: a minus sign below 0; also a plus sign else; none. */
 enum fd_exponent_sign { FD_EXPONENT_AUTO = 0, FD_EXPONENT_ALWAYS = 1, FD_EXPONENT_NEVER = 2 };
 
 /* All options of a formatter, also those that a skeleton has beyond fd_number_options, with the digits that are shown.

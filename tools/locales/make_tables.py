@@ -140,11 +140,19 @@ def rule_text(text, alternatives, relations, ranges):
     return f"    RuleRow {{ category: {category.title()}, alternatives: {range_text} }},\n"
 
 
+def tried_rules(text):
+    """Rules in the order in which they are tried.
+
+    Only rules with the operand e overlap, where e is negative: ICU tries `many` before `one`.
+    """
+    return "; ".join(sorted(text.split("; "))) if re.search("\\be\\b", text) else text
+
+
 def plural_tables():
     """The text of plurals.rt."""
     given = {}
     for kind, tag, text in rows("plural_rules.tsv"):
-        given.setdefault(tag.lower(), {})[kind] = text or "other:"
+        given.setdefault(tag.lower(), {})[kind] = tried_rules(text) or "other:"
     listed, names = {}, {"other:": "OTHER"}
     for tag in sorted(given):
         parent = listed.get(tag.rpartition("-")[0], {})

@@ -2,7 +2,7 @@
 use Rattle.std.specs.{Prelude.{◌≡◌, ℕ, zero, suc, ◌==◌, if◌then◌else◌, codes, List, [], ◌∷◌, ◌++◌, slice_get, Option, Some, None, Result}, Option.option_map, Fmt.decimal}
 use Rattle.fixed_decimal_c.specs.{declared.error.FdError.{FdError, TheVariants.{Syntax, Limit, Memory, OperandSyntax, OperandLimit, Overlap, Overflow, BufferTooSmall, UnknownCall, UnknownLocale, UnknownOption, NotWhole, OutOfRange, RulesSyntax, RulesLimit, SkeletonSyntax, SkeletonUnsupported, UnknownNumberingSystem, UnreadableFormat, DigitOptions, NoSkeleton, Formatter, PartsTooSmall, UnknownUnit}}, Texts.{Writes, WritesNothing}}
 
--- the errors of the statuses from 1 on, at a place
+-- the errors of the statuses, starting at status 1, at a place
 abbrev pub errors_at : ℕ → List FdError
 errors_at at =
     Syntax at ∷ Limit at ∷ Memory ∷ OperandSyntax at ∷ OperandLimit at ∷ Overlap at ∷ Overflow at

@@ -61,7 +61,7 @@ pub struct FdFormatOptions {
     pub unit_display: u8,
     /// The notation, as in `FdNumberOptions`.
     pub notation: u8,
-    /// The sign of an exponent: 0 a minus sign below 0, 1 also a plus sign from 0 on, 2 none.
+    /// The sign of an exponent: 0 a minus sign below 0, 1 also a plus sign else, 2 none.
     pub exponent_sign: u8,
     /// The display of the sign of the number that is shown.
     pub sign_display: u8,

@@ -7,7 +7,7 @@ use crate::texts::write_value;
 use fixed_decimal::{Sink, SinkFault, Writeable};
 use itoa::Buffer;
 
-/// The errors of the statuses from 1 on, at a place.
+/// The errors of the statuses, starting at status 1, at a place.
 fn errors_at(at: usize) -> [FdError; 24]
     ensures { result ≡ errors_at at }
 {

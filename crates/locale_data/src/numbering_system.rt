@@ -15,8 +15,10 @@ pub enum NumberingSystemError {
     Letters,
 }
 
-/// The name of a numbering system, as `latn`: three to eight letters and digits of ASCII, the form of CLDR's names
-/// and of the keyword `nu` of a tag (UTS 35, part 3, Numbering Systems). Letters are kept in lower case.
+/// The name of a numbering system, such as `latn`.
+///
+/// It has three to eight letters and digits of ASCII. This is the form of CLDR's names and of the keyword `nu` of a
+/// tag (UTS 35, part 3, Numbering Systems). Letters are kept in lower case.
 ///
 /// The name need not be listed: a formatter of a name that is not is an error.
 ///

@@ -156,8 +156,8 @@ separator_pieces s needed =
 abbrev pub approximately_pieces : ApproximatelySign → List parts.Piece
 approximately_pieces a = pieces_of PartKind.ApproximatelySign (range_texts.sign_text a)
 
--- a piece of a pattern; a sign has the approximately sign before it, and that sign stands in the place of the plus sign
--- of a number that is shown without a sign
+-- a piece of a pattern: a sign has the approximately sign before it; in a number that is shown without a sign, the
+-- approximately sign is instead of the plus sign
 abbrev pub approximate_piece : StyleTexts → ApproximatelySign → Sign → Piece → List parts.Piece
 approximate_piece t a Sign.None Piece.Plus = approximately_pieces a
 approximate_piece t a s Piece.Minus = approximately_pieces a ++ pattern_pieces t Piece.Minus

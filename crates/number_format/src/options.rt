@@ -94,7 +94,7 @@ pub enum ExponentSign {
     /// A minus sign below 0.
     #[default]
     Auto,
-    /// A plus sign from 0 on, else a minus sign.
+    /// A minus sign below 0, and a plus sign else.
     Always,
     /// None.
     Never,

@@ -79,7 +79,7 @@ const EN_ORDINAL: RuleSet = RuleSet { text: TableRange(1836, 1939), rules: Table
 const ES: RuleSet = RuleSet { text: TableRange(2624, 2701), rules: TableRange(56, 58) };
 
 #[rattlefmt::skip]
-const FF: RuleSet = RuleSet { text: TableRange(2545, 2557), rules: TableRange(58, 59) };
+const FF: RuleSet = RuleSet { text: TableRange(2612, 2624), rules: TableRange(58, 59) };
 
 #[rattlefmt::skip]
 const FR: RuleSet = RuleSet { text: TableRange(2545, 2624), rules: TableRange(59, 61) };
@@ -449,25 +449,25 @@ and n % 100 != 11; two: n = 2; few: n != 2 and n % 10 = 2..9 and n % 100 != 11..
 i % 10 = 1; two: v = 0 and i % 10 = 2; few: v = 0 and i % 100 = 0,20,40,60,80; many: v != 0one: n % 10 = 1 and\
 \x20n % 100 != 11; two: n % 10 = 2 and n % 100 != 12; few: n % 10 = 3 and n % 100 != 13one: v = 0 and i % 100 \
 = 1; two: v = 0 and i % 100 = 2; few: v = 0 and i % 100 = 3..4 or v != 0one: n % 10 = 1 and n % 100 != 11..19;\
-\x20few: n % 10 = 2..9 and n % 100 != 11..19; many: f != 0one: i = 1 and v = 0; many: e = 0 and i != 0 and i %\
-\x201000000 = 0 and v = 0 or e != 0..5one: n = 1..4 or n % 100 = 1..4,21..24,41..44,61..64,81..84; many: n = 5\
+\x20few: n % 10 = 2..9 and n % 100 != 11..19; many: f != 0many: e = 0 and i != 0 and i % 1000000 = 0 and v = 0\
+\x20or e != 0..5; one: i = 1 and v = 0one: n = 1..4 or n % 100 = 1..4,21..24,41..44,61..64,81..84; many: n = 5\
 \x20or n % 100 = 5one: v = 0 and i = 1,2,3 or v = 0 and i % 10 != 4,6,9 or v != 0 and f % 10 != 4,6,9zero: n =\
-\x200; one: n = 1; two: n = 2; few: n % 100 = 3..10; many: n % 100 = 11..99one: i = 0..1; many: e = 0 and i !=\
-\x200 and i % 1000000 = 0 and v = 0 or e != 0..5one: i = 0,1; many: e = 0 and i != 0 and i % 1000000 = 0 and v\
-\x20= 0 or e != 0..5one: n = 1; many: e = 0 and i != 0 and i % 1000000 = 0 and v = 0 or e != 0..5one: n = 1; t\
-wo: n = 2; few: n = 0 or n % 100 = 3..10; many: n % 100 = 11..19one: t = 0 and i % 10 = 1 and i % 100 != 11 or\
-\x20t % 10 = 1 and t % 100 != 11one: i = 1 and v = 0; few: v != 0 or n = 0 or n != 1 and n % 100 = 1..19zero: \
-n = 0,7,8,9; one: n = 1; two: n = 2; few: n = 3,4; many: n = 5,6one: i = 1 and v = 0 or i = 0 and v != 0; two:\
-\x20i = 2 and v = 0one: n = 1,5,7,8,9,10; two: n = 2,3; few: n = 4; many: n = 6zero: n = 0; one: n = 1; two: n\
-\x20= 2; few: n = 3; many: n = 6one: i = 1 and v = 0; few: i = 2..4 and v = 0; many: v != 0one: n = 1,5,7..9; \
-two: n = 2,3; few: n = 4; many: n = 6many: n % 10 = 6 or n % 10 = 9 or n % 10 = 0 and n != 0one: n = 1; two: n\
-\x20= 2; few: n = 3..6; many: n = 7..10one: i = 1; many: i = 0 or i % 100 = 2..20,40,60,80one: n = 1,11; two: \
-n = 2,12; few: n = 3..10,13..19one: n = 1; two: n = 2,3; few: n = 4; many: n = 6one: n = 1; many: n % 10 = 4 a\
-nd n % 100 != 14one: n = 1,11; two: n = 2,12; few: n = 3,13zero: i = 0; one: i = 1; few: i = 2,3,4,5,6few: n %\
-\x2010 = 2,3 and n % 100 != 12,13one: n % 10 = 1,2 and n % 100 != 11,12one: n = 1,3; two: n = 2; few: n = 4zer\
-o: n = 0; one: i = 0,1 and n != 0one: i = 0 or n = 1; few: n = 2..10one: n = 1 or t != 0 and i = 0,1one: n = 0\
-,1 or i = 0 and f = 1many: n = 11,8,80..89,800..899few: n % 10 = 6,9 or n = 10one: n = 0..1 or n = 11..99many:\
-\x20n = 11,8,80,800other:";
+\x200; one: n = 1; two: n = 2; few: n % 100 = 3..10; many: n % 100 = 11..99many: e = 0 and i != 0 and i % 1000\
+000 = 0 and v = 0 or e != 0..5; one: i = 0..1many: e = 0 and i != 0 and i % 1000000 = 0 and v = 0 or e != 0..5\
+; one: i = 0,1many: e = 0 and i != 0 and i % 1000000 = 0 and v = 0 or e != 0..5; one: n = 1one: n = 1; two: n \
+= 2; few: n = 0 or n % 100 = 3..10; many: n % 100 = 11..19one: t = 0 and i % 10 = 1 and i % 100 != 11 or t % 1\
+0 = 1 and t % 100 != 11one: i = 1 and v = 0; few: v != 0 or n = 0 or n != 1 and n % 100 = 1..19zero: n = 0,7,8\
+,9; one: n = 1; two: n = 2; few: n = 3,4; many: n = 5,6one: i = 1 and v = 0 or i = 0 and v != 0; two: i = 2 an\
+d v = 0one: n = 1,5,7,8,9,10; two: n = 2,3; few: n = 4; many: n = 6zero: n = 0; one: n = 1; two: n = 2; few: n\
+\x20= 3; many: n = 6one: i = 1 and v = 0; few: i = 2..4 and v = 0; many: v != 0one: n = 1,5,7..9; two: n = 2,3\
+; few: n = 4; many: n = 6many: n % 10 = 6 or n % 10 = 9 or n % 10 = 0 and n != 0one: n = 1; two: n = 2; few: n\
+\x20= 3..6; many: n = 7..10one: i = 1; many: i = 0 or i % 100 = 2..20,40,60,80one: n = 1,11; two: n = 2,12; fe\
+w: n = 3..10,13..19one: n = 1; two: n = 2,3; few: n = 4; many: n = 6one: n = 1; many: n % 10 = 4 and n % 100 !\
+= 14one: n = 1,11; two: n = 2,12; few: n = 3,13zero: i = 0; one: i = 1; few: i = 2,3,4,5,6few: n % 10 = 2,3 an\
+d n % 100 != 12,13one: n % 10 = 1,2 and n % 100 != 11,12one: n = 1,3; two: n = 2; few: n = 4zero: n = 0; one: \
+i = 0,1 and n != 0one: i = 0 or n = 1; few: n = 2..10one: n = 1 or t != 0 and i = 0,1one: n = 0,1 or i = 0 and\
+\x20f = 1many: n = 11,8,80..89,800..899few: n % 10 = 6,9 or n = 10one: n = 0..1 or n = 11..99many: n = 11,8,80\
+,800other:";
 
 /// The rules of the texts.
 #[rattlefmt::skip]
@@ -502,8 +502,8 @@ pub static PLURAL_RULE_ROWS: [RuleRow; 139] = [
     RuleRow { category: Many, alternatives: TableRange(31, 32) },
     RuleRow { category: One, alternatives: TableRange(32, 34) },
     RuleRow { category: Few, alternatives: TableRange(34, 36) },
-    RuleRow { category: One, alternatives: TableRange(12, 13) },
     RuleRow { category: Many, alternatives: TableRange(36, 38) },
+    RuleRow { category: One, alternatives: TableRange(12, 13) },
     RuleRow { category: One, alternatives: TableRange(38, 39) },
     RuleRow { category: Two, alternatives: TableRange(5, 6) },
     RuleRow { category: Few, alternatives: TableRange(10, 11) },
@@ -528,11 +528,11 @@ pub static PLURAL_RULE_ROWS: [RuleRow; 139] = [
     RuleRow { category: One, alternatives: TableRange(20, 21) },
     RuleRow { category: Two, alternatives: TableRange(56, 57) },
     RuleRow { category: Few, alternatives: TableRange(57, 58) },
+    RuleRow { category: Many, alternatives: TableRange(36, 38) },
     RuleRow { category: One, alternatives: TableRange(0, 1) },
-    RuleRow { category: Many, alternatives: TableRange(36, 38) },
-    RuleRow { category: One, alternatives: TableRange(58, 59) },
     RuleRow { category: One, alternatives: TableRange(58, 59) },
     RuleRow { category: Many, alternatives: TableRange(36, 38) },
+    RuleRow { category: One, alternatives: TableRange(58, 59) },
     RuleRow { category: One, alternatives: TableRange(0, 1) },
     RuleRow { category: Two, alternatives: TableRange(5, 6) },
     RuleRow { category: Few, alternatives: TableRange(59, 60) },
@@ -591,8 +591,8 @@ pub static PLURAL_RULE_ROWS: [RuleRow; 139] = [
     RuleRow { category: One, alternatives: TableRange(12, 13) },
     RuleRow { category: Few, alternatives: TableRange(34, 35) },
     RuleRow { category: Many, alternatives: TableRange(109, 112) },
-    RuleRow { category: One, alternatives: TableRange(112, 113) },
     RuleRow { category: Many, alternatives: TableRange(36, 38) },
+    RuleRow { category: One, alternatives: TableRange(112, 113) },
     RuleRow { category: One, alternatives: TableRange(32, 33) },
     RuleRow { category: Few, alternatives: TableRange(34, 35) },
     RuleRow { category: Many, alternatives: TableRange(113, 116) },
