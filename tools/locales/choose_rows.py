@@ -4,8 +4,8 @@
     node tools/locales/node.js vectors | python3 tools/locales/choose_rows.py > crates/vectors/rows/node_locales.tsv
 
 Of texts it prints rows of one locale for each pair of a numbering system and symbols in symbols.tsv: those of the
-strategy `auto`, and of each other strategy those with another text. Of plural categories it prints for each language the
-first row of each category, and for one language of each text of rules eight rows of each.
+strategy `auto`, and of each other strategy those with another text. Of plural categories it prints for each language
+the first row of each category, and for one language of each text of rules eight rows of each.
 """
 import collections
 import os

@@ -4,8 +4,8 @@
     python3 tools/locales/choose_vectors.py TEXTS [LIMIT] > crates/vectors/rows/node_systems.tsv
 
 TEXTS has rows of a locale, options as JSON by the names of ECMA-402, a number and its text. Rows are those of the style
-`decimal` in the notation `standard`. For each numbering system with its symbols, as symbols.tsv has them, there are LIMIT
-rows at most, 160 by default, the first of which have each set of names of options.
+`decimal` in the notation `standard`. For each numbering system with its symbols, as symbols.tsv has them, there are
+LIMIT rows at most, 160 by default, the first of which have each set of names of options.
 """
 import collections
 import json

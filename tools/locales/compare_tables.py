@@ -3,7 +3,7 @@ import os
 import re
 import sys
 
-from number_tables import COUNTS, EXPONENTS, PERCENT_SIGNS, PIECES, SEPARATORS, canonical, is_spaced
+from number_tables import COUNTS, EXPONENTS, PERCENT_SIGNS, PIECES, SEPARATORS, STYLES, canonical, is_spaced
 from table_text import SOURCES, path, rows
 
 NAMES = {value: key for names in (PIECES, COUNTS) for key, value in names.items()}
@@ -61,13 +61,15 @@ class Tables:
         self.symbols = [(tag_of(row[0]), (int(row[1]), int(row[2]))) for row in table(currency, "CURRENCY_SYMBOLS")]
         self.by_currency = [(tag_of(row[0]), int(row[1])) for row in table(currency, "OVERRIDES_BY_CURRENCY")]
         texts = pool(currency, "CURRENCY_BYTES")
-        self.texts = [(texts[int(row[0]):int(row[1])].decode(), row[2], row[3]) for row in table(currency, "CURRENCY_TEXTS")]
+        self.texts = [(texts[int(row[0]):int(row[1])].decode(), row[2], row[3])
+                      for row in table(currency, "CURRENCY_TEXTS")]
         self.bytes = pool(compact, "COMPACT_BYTES")
         self.sets = [[int(it) for it in row] for row in table(compact, "COMPACT_SETS")]
         self.exponents = [[int(it) for it in row if it.isdigit()] for row in table(compact, "COMPACT_EXPONENTS")]
         self.runs = [[int(it) for it in row] for row in table(compact, "COMPACT_RUNS")]
         self.compact = [self.compact_of(row) for row in table(compact, "COMPACT_PATTERNS")]
-        self.units = [[self.text(*map(int, row[at:at + 2])) for at in range(0, 8, 2)] for row in table(compact, "PERCENT_UNITS")]
+        self.units = [[self.text(*map(int, row[at:at + 2])) for at in range(0, 8, 2)]
+                      for row in table(compact, "PERCENT_UNITS")]
 
     @staticmethod
     def options(found):
@@ -162,7 +164,8 @@ class Files:
 
     def currency(self, tag, system, code, accounting):
         sign = "accounting" if accounting else "standard"
-        row, money = self.in_system(self.currency_rows, tag, system, sign), self.find(self.currency_rows, tag, "latn", sign)
+        row = self.in_system(self.currency_rows, tag, system, sign)
+        money = self.find(self.currency_rows, tag, "latn", sign)
         row = (*row[:6], row[6] or money[6], row[7] or money[7], *row[8:])
         region = self.find(self.region, tag)
         return self.find(self.overrides, tag, code) or (region and region[1:]) or row
@@ -204,7 +207,7 @@ def compare(folder):
                 for code in ("XXX", "EUR"):
                     same(tables.currency(tag, system, code, accounting), files.currency(tag, system, code, accounting),
                          tag, system, code)
-            for style, key in enumerate((("compact.tsv", "short"), ("compact.tsv", "long"), ("compact_currency.tsv", "short"))):
+            for style, key in enumerate(STYLES):
                 ours = blocks.setdefault((formats[4], style), None) or tables.block(formats[4], style)
                 blocks[formats[4], style] = ours
                 at = (canonical(tag) if system != "laoo" or tag.startswith("lo") else "", tag, system, key)
@@ -218,7 +221,8 @@ def compare(folder):
         for code in codes:
             same(tables.symbol_pair(tag, code), files.find(files.symbols, tag, code) or (code, code), tag, code)
             for accounting in (False, True):
-                same(tables.currency(tag, "latn", code, accounting), files.currency(tag, "latn", code, accounting), tag, code)
+                key = tag, "latn", code, accounting
+                same(tables.currency(*key), files.currency(*key), tag, code)
     for code in codes:
         digits, cash, increment, cash_increment = files.digits.get((code.lower(),), "2200")[:4]
         same([str(it) for it in tables.currencies[code][:3]], [digits, cash, cash_increment], code, "digits")

@@ -1,12 +1,11 @@
 #!/usr/bin/env python3
 """Writes the tables of crates/locale_data/src/tables from the files of data in this folder.
 
-`tools/locales/make_tables.py` writes the files, `tools/locales/make_tables.py --check` fails if they would change. With a
-folder after `--check` it also compares what the tables say of every tag and numbering system with the rows of the files
-there, which are those that the data were made from. A locale is listed unless it has the same data as the longest listed
-tag before one of its hyphens.
+`tools/locales/make_tables.py` writes the files, `tools/locales/make_tables.py --check` fails if they would change. With
+a folder after `--check` it also compares what the tables say of every tag and numbering system with the rows of the
+files there, which are those that the data were made from. A locale is listed unless it has the same data as the longest
+listed tag before one of its hyphens.
 """
-import os
 import re
 import sys
 import unicodedata
@@ -14,7 +13,7 @@ import unicodedata
 from compare_tables import compare
 from number_tables import number_tables
 from range_tables import plural_range_tables, range_tables
-from table_text import SKIP, SOURCES, Lists, Texts, array, listed_tags, rows
+from table_text import SKIP, SOURCES, Lists, Texts, array, head, listed_tags, rows, write_or_compare
 
 SYMBOLS = {
     ".": "Period", ",": "Comma", "\u00a0": "NoBreakSpace", "\u202f": "NarrowNoBreakSpace", "\u2019": "RightQuote",
@@ -35,16 +34,12 @@ SIZES = {
     ("2", "0", "1"): "TWOS",
     ("0", "0", "1"): "NO_GROUPS",
 }
-HEAD = '''//! The numbering systems, and the locales with their symbols.
-// Written by tools/locales/make_tables.py from data of CLDR 48; their license is tools/locales/LICENSE. Do not edit.
-use super::rows::TableRange;
+SYMBOLS_HEAD = """use super::rows::TableRange;
 use super::rows::symbols::Symbol::*;
 use super::rows::symbols::{DecimalSystem, LocaleSymbols, SymbolSet};
 use decimal_format::GroupingSizes;
-'''
-PLURALS_HEAD = """//! The plural rules of languages.
-// Written by tools/locales/make_tables.py from data of CLDR 48; their license is tools/locales/LICENSE. Do not edit.
-use super::rows::TableRange;
+"""
+PLURALS_HEAD = """use super::rows::TableRange;
 use super::rows::plurals::{LanguageRules, RelationRow, RuleRow, RuleSet};
 use plural_rules::Operand::*;
 use plural_rules::PluralCategory::*;
@@ -78,7 +73,7 @@ def system_text(name, digits, own, rows):
 
 
 def fields_of(symbols):
-    """For each tag its default system; for each tag and system the symbols and the sizes; those of each system in root."""
+    """For each tag its default system; for each tag and system the symbols and the sizes; the symbols of root."""
     default, fields = {}, {}
     for tag, system, is_default, *rest in symbols:
         fields[tag.lower(), system] = (tuple(rest[:4]), tuple(rest[4:]))
@@ -117,10 +112,11 @@ def symbol_tables():
     lists = [array("The decimal numbering systems.", "NUMBERING_SYSTEMS", "DecimalSystem", systems),
              array("The locales, each with its default numbering system.", "LOCALES", "LocaleSymbols",
                    [row_text(tag, *data) for tag, data in locales]),
-             array("The locales that have symbols of their own in a numbering system.", "LOCALES_BY_SYSTEM", "LocaleSymbols",
-                   [row_text(tag, *data) for tag, data in others])]
+             array("The locales that have symbols of their own in a numbering system.", "LOCALES_BY_SYSTEM",
+                   "LocaleSymbols", [row_text(tag, *data) for tag, data in others])]
     constants = [size_text(*it) for it in SIZES.items()] + [set_text(*it) for it in sets.items()]
-    return "\n".join([HEAD, *constants, *lists])
+    title = "The numbering systems, and the locales with their symbols."
+    return "\n".join([head(title, SYMBOLS_HEAD), *constants, *lists])
 
 
 def relation_text(text, ranges):
@@ -135,7 +131,8 @@ def relation_text(text, ranges):
 def rule_text(text, alternatives, relations, ranges):
     """The row of a rule."""
     category, condition = text.split(":")
-    listed = [[relation_text(it, ranges) for it in part.split(" and ")] for part in condition.strip().split(" or ") if part]
+    listed = [[relation_text(it, ranges) for it in part.split(" and ")]
+              for part in condition.strip().split(" or ") if part]
     range_text = alternatives.range([f"    {relations.range(it)},\n" for it in listed])
     return f"    RuleRow {{ category: {category.title()}, alternatives: {range_text} }},\n"
 
@@ -165,12 +162,12 @@ def plural_tables():
                  f"rules: {sets[text]} }};\n" for text, name in names.items()]
     items = [f'    LanguageRules {{ tag: *b"{tag:16}", cardinal: {names[kinds["cardinal"]]}, '
              f'ordinal: {names[kinds["ordinal"]]} }},\n' for tag, kinds in listed.items()]
-    return "\n".join([PLURALS_HEAD, *(SKIP + it for it in constants),
+    return "\n".join([head("The plural rules of languages.", PLURALS_HEAD), *(SKIP + it for it in constants),
                       array("The languages that have plural rules.", "PLURAL_RULES", "LanguageRules", items),
                       texts.array("The texts of plural rules.", "PLURAL_RULES_TEXTS"),
                       rules.array("The rules of the texts.", "PLURAL_RULE_ROWS", "RuleRow"),
-                      parts[0].array("The alternatives of rules, as parts of `PLURAL_RELATIONS`.", "PLURAL_ALTERNATIVES",
-                                     "TableRange"),
+                      parts[0].array("The alternatives of rules, as parts of `PLURAL_RELATIONS`.",
+                                     "PLURAL_ALTERNATIVES", "TableRange"),
                       parts[1].array("The relations of alternatives.", "PLURAL_RELATIONS", "RelationRow"),
                       parts[2].array("The ranges of relations.", "PLURAL_RANGES", "Range")])
 
@@ -183,17 +180,7 @@ def tables():
 
 
 def main(words):
-    wrong = []
-    for name, text in tables().items():
-        path = os.path.join(SOURCES, name)
-        if not words:
-            with open(path, "w", encoding="utf-8") as file:
-                file.write(text)
-        else:
-            with open(path, encoding="utf-8") as file:
-                wrong += [] if file.read() == text else [name]
-    if wrong:
-        sys.exit(f"not what tools/locales/make_tables.py writes: {', '.join(wrong)}")
+    write_or_compare(tables(), SOURCES, "tools/locales/make_tables.py", words)
     if words[1:]:
         compare(words[1])
 

@@ -16,8 +16,8 @@ EXPONENTS = {
     "\u0415": "CyrillicIe", "\U0001e909": "AdlamMiim",
 }
 PERCENT_SIGNS = {
-    "%": "Percent", "\u066a": "Arabic", "\u066a\u061c": "ArabicBeforeArabicMark", "\u066a\u200f": "ArabicBeforeRightMark",
-    "\u200e%\u200e": "Enclosed", "~": "Tilde",
+    "%": "Percent", "\u066a": "Arabic", "\u066a\u061c": "ArabicBeforeArabicMark",
+    "\u066a\u200f": "ArabicBeforeRightMark", "\u200e%\u200e": "Enclosed", "~": "Tilde",
 }
 PERMILLE_SIGNS = {
     "\u2030": "Permille", "\u0609": "Arabic", "\u0609\u200f": "ArabicBeforeRightMark", "0/00": "Ascii",
@@ -417,7 +417,8 @@ def currency_rows(data, tags, code):
 def currency_table(data, tags, formats):
     codes = sorted({code for _, code in data.symbols} | set(data.digits) | {code for _, code in data.overrides})
     found = {code: currency_rows(data, tags, code) for code in codes}
-    texts = sorted({text for root, symbols, _ in found.values() for pair in [root, *dict(symbols).values()] for text in pair})
+    pairs = [pair for root, symbols, _ in found.values() for pair in [root, *dict(symbols).values()]]
+    texts = sorted({text for pair in pairs for text in pair})
     pool, index = Texts(texts), {text: at for at, text in enumerate(texts)}
     currencies, symbols, overrides = [], [], []
     for code, (root, own_symbols, own_patterns) in found.items():
@@ -432,7 +433,8 @@ def currency_table(data, tags, formats):
     return "\n".join([
         head("The currencies.", CURRENCY_HEAD),
         called("The currencies, by their codes in lower case.", "CURRENCIES", "Currency", "currencies", currencies),
-        called("The symbols that currencies have in locales.", "CURRENCY_SYMBOLS", "LocaleCurrency", "symbols", symbols),
+        called("The symbols that currencies have in locales.", "CURRENCY_SYMBOLS", "LocaleCurrency", "symbols",
+               symbols),
         called("The patterns that currencies have in locales.", "OVERRIDES_BY_CURRENCY", "LocaleOverride", "overrides",
                overrides),
         called("The texts of symbols.", "CURRENCY_TEXTS", "CurrencyText", "texts", shown),
@@ -466,15 +468,16 @@ def compact_table(formats):
     for block in blocks:
         block_rows[block] = f"{exponents.of(exponents_of(block))} {len(runs)} {len(runs) + len(block)}"
         runs += [f"{first} {ranges[it]}" for first, _, it in reversed(block)]
-    units = [" ".join(pool.numbers(part) for pattern in unit for part in pattern.split("{0}")) for unit in formats.units.all]
+    units = [" ".join(pool.numbers(part) for pattern in unit for part in pattern.split("{0}"))
+             for unit in formats.units.all]
     return "\n".join([
         head("The compact patterns of locales.", COMPACT_HEAD),
         called("The compact patterns of locales, as rows of the next two tables.", "COMPACT_SETS", "CompactSet", "sets",
                [" ".join(block_rows[block] for block in it) for it in formats.compact.all]),
         array("The powers of ten by which numbers are divided, for the magnitudes 3 to 19.", "COMPACT_EXPONENTS",
               "[u8; 17]", [f"    [{', '.join(map(str, it))}],\n" for it in exponents.all]),
-        called("The magnitudes that have the same patterns, from the highest down.", "COMPACT_RUNS", "CompactRun", "runs",
-               runs),
+        called("The magnitudes that have the same patterns, from the highest down.", "COMPACT_RUNS", "CompactRun",
+               "runs", runs),
         called("The patterns of these magnitudes.", "COMPACT_PATTERNS", "CompactPattern", "patterns", patterns),
         called("The patterns of percent in compact notation.", "PERCENT_UNITS", "PercentUnit", "units", units),
         pool.array("The bytes of these patterns.", "COMPACT_BYTES")])

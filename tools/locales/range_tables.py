@@ -50,12 +50,13 @@ def plural_range_tables():
     languages = [f'    RangeLanguage {{ tag: *b"{language:16}", ranges: {categories.range(listed[language])} }},\n'
                  for language in sorted(listed)]
     return "\n".join([head("The plural categories of ranges of numbers.", PLURAL_RANGES_HEAD),
-                      array("The languages that have categories of ranges.", "RANGE_LANGUAGES", "RangeLanguage", languages),
+                      array("The languages that have categories of ranges.", "RANGE_LANGUAGES", "RangeLanguage",
+                            languages),
                       categories.array("The categories of ranges.", "RANGE_CATEGORIES", "RangeCategory")])
 
 
 def range_tables():
-    """The text of ranges.rt. An alias of a tag has the row of the longest listed tag that is a prefix of what it means."""
+    """The text of ranges.rt. An alias has the row of the longest listed tag that is a prefix of what it means."""
     listed = {}
     for tag, system, pattern, sign in rows("ranges.tsv"):
         listed.setdefault(system, {})[tag.lower()] = f"{SEPARATORS[pattern[3:-3]]} {SIGNS[sign]}"
@@ -79,10 +80,12 @@ def range_tables():
     separator, sign = root.split()
     return "\n".join([head("The texts of ranges of numbers.", RANGES_HEAD),
                       "/// The texts of root.\n"
-                      f"pub const ROOT_RANGE: RangeFormat = RangeFormat {{\n    separator: RangeSeparator::{separator},\n"
+                      "pub const ROOT_RANGE: RangeFormat = RangeFormat {\n"
+                      f"    separator: RangeSeparator::{separator},\n"
                       f"    approximately: ApproximatelySign::{sign},\n}};\n",
-                      list_of("The locales with other texts than the locale that their tags begin with.", "LOCALE_RANGES",
-                              sorted(listed["latn"].items())),
-                      list_of("The locales that have texts of their own in a numbering system.", "RANGES_BY_SYSTEM", others),
+                      list_of("The locales with other texts than the locale that their tags begin with.",
+                              "LOCALE_RANGES", sorted(listed["latn"].items())),
+                      list_of("The locales that have texts of their own in a numbering system.", "RANGES_BY_SYSTEM",
+                              others),
                       array("The numbering systems in which locales have texts of their own.", "RANGE_SYSTEMS",
                             "RangeSystem", systems)])

@@ -1,8 +1,10 @@
-"""What the scripts of the tables share: rows of data, and tables as source."""
+"""What the scripts of the tables share: rows of data, tables as source, and the files of the tables."""
 import os
+import sys
 
 FOLDER = os.path.dirname(os.path.abspath(__file__))
-SOURCES = os.path.join(FOLDER, "..", "..", "crates", "locale_data", "src", "tables")
+CRATES = os.path.join(FOLDER, "..", "..", "crates")
+SOURCES = os.path.join(CRATES, "locale_data", "src", "tables")
 SKIP = "#[rattlefmt::skip]\n"
 
 
@@ -26,13 +28,42 @@ def listed_tags(tags, actual, usual):
     return sorted(listed.items())
 
 
-def head(title, uses):
-    return (f"//! {title}\n// Written by tools/locales/make_tables.py from data of CLDR 48; their license is "
-            f"tools/locales/LICENSE. Do not edit.\n{uses}")
+def head(title, uses="", script="tools/locales/make_tables.py"):
+    """The first lines of a file, which name the script that writes it."""
+    return (f"//! {title}\n// Written by {script} from data of CLDR 48; their license is tools/locales/LICENSE. "
+            f"Do not edit.\n{uses}")
 
 
 def array(title, name, kind, items):
     return f"/// {title}\n{SKIP}pub static {name}: [{kind}; {len(items)}] = [\n{''.join(items)}];\n"
+
+
+def byte_table(title, name, content):
+    """A table of bytes, as a byte string."""
+    lines, line = [], ""
+    for byte in content:
+        shown = chr(byte) if 32 <= byte < 127 and chr(byte) not in '"\\' else f"\\x{byte:02x}"
+        if len(line) + len(shown) > 110:
+            lines, line = [*lines, line], ""
+        # A space at the head of a line would be skipped.
+        line += "\\x20" if shown == " " and not line else shown
+    shown = "\\\n".join(["", *lines, line])
+    return f'/// {title}\n{SKIP}pub static {name}: [u8; {len(content)}] = *b"{shown}";\n'
+
+
+def write_or_compare(texts, folder, script, words):
+    """Writes the files of a folder, each with its text; with words compares them, and ends with those that differ."""
+    wrong = []
+    for name, text in texts.items():
+        file_path = os.path.join(folder, name)
+        if not words:
+            with open(file_path, "w", encoding="utf-8") as file:
+                file.write(text)
+        else:
+            with open(file_path, encoding="utf-8") as file:
+                wrong += [] if file.read() == text else [name]
+    if wrong:
+        sys.exit(f"not what {script} writes: {', '.join(wrong)}")
 
 
 class Texts:
@@ -54,15 +85,7 @@ class Texts:
         return f"TableRange({self.numbers(text).replace(' ', ', ')})"
 
     def array(self, title, name):
-        lines, line = [], ""
-        for byte in self.bytes:
-            shown = chr(byte) if 32 <= byte < 127 and chr(byte) not in '"\\' else f"\\x{byte:02x}"
-            if len(line) + len(shown) > 110:
-                lines, line = [*lines, line], ""
-            # A space at the head of a line would be skipped.
-            line += "\\x20" if shown == " " and not line else shown
-        shown = "\\\n".join(["", *lines, line])
-        return f'/// {title}\n{SKIP}pub static {name}: [u8; {len(self.bytes)}] = *b"{shown}";\n'
+        return byte_table(title, name, self.bytes)
 
 
 class Lists:

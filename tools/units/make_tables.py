@@ -13,9 +13,10 @@ FOLDER = os.path.dirname(os.path.abspath(__file__))
 sys.path.insert(0, os.path.join(FOLDER, "..", "locales"))
 
 from number_tables import canonical  # noqa: E402
-from table_text import SKIP, array, listed_tags, path, rows  # noqa: E402
+from table_text import CRATES, SKIP, array, byte_table, head, listed_tags, path, rows, write_or_compare  # noqa: E402
 
-SOURCES = os.path.join(FOLDER, "..", "..", "crates", "locale_names", "src", "tables")
+SOURCES = os.path.join(CRATES, "locale_names", "src", "tables")
+SCRIPT = "tools/units/make_tables.py"
 WIDTHS = ("long", "short", "narrow")
 # The order of categories in the data, which is that of the numbers of categories in entries, and then `per`.
 CATEGORIES = ("Other", "Zero", "One", "Two", "Few", "Many")
@@ -23,9 +24,6 @@ PER = len(CATEGORIES)
 # The most bytes of a constant: the checker reads constants of at most 140,000 expressions.
 PART = 2 ** 17
 # Units that ECMA-402 sanctions, and those of their compounds that have patterns of their own, are in `units.tsv`.
-HEAD = """//! {}
-// Written by tools/units/make_tables.py from data of CLDR 48; their license is tools/locales/LICENSE. Do not edit.
-{}"""
 UNITS_HEAD = """use super::rows::TextRange;
 use super::rows::units::{Compound, UnitJoiner, UnitRow};
 
@@ -52,6 +50,10 @@ macro_rules! joiners {
         }),*]
     };
 }
+"""
+CURRENCIES_HEAD = """use super::rows::TextRange;
+use super::rows::currencies::{CurrencyRow, NamePattern};
+use plural_rules::PluralCategory::*;
 """
 LOCALE_FIELDS = ("long", "short", "narrow", "long_joiner", "short_joiner", "narrow_joiner", "names", "name_patterns")
 LOCALES_HEAD = """use super::rows::locales::LocaleNames;
@@ -127,18 +129,6 @@ class Pool:
         """The parts as constants, one if there is one."""
         names = [f"{name}_{at}" for at in range(len(self.parts))] if len(self.parts) > 1 else [name]
         return "\n".join(byte_table(title, *it) for it in zip(names, self.parts))
-
-
-def byte_table(title, name, content):
-    lines, line = [], ""
-    for byte in content:
-        shown = chr(byte) if 32 <= byte < 127 and chr(byte) not in '"\\' else f"\\x{byte:02x}"
-        if len(line) + len(shown) > 110:
-            lines, line = [*lines, line], ""
-        # A space at the head of a line would be skipped.
-        line += "\\x20" if shown == " " and not line else shown
-    shown = "\\\n".join(["", *lines, line])
-    return f'/// {title}\n{SKIP}pub static {name}: [u8; {len(content)}] = *b"{shown}";\n'
 
 
 class Runs:
@@ -224,14 +214,14 @@ class Units:
         self.pool = Pool(texts)
         self.runs, self.lists = Runs(map(self.entries, self.rows.values())), Lists()
         self.numbers = {row: self.runs.number(self.entries(row)) for row in set(self.rows.values())}
-        self.short_texts = {*self.names, *self.types.values(), *(it for row in self.joiner_rows for it in joiner(row)[1:])}
+        joining = {text for row in self.joiner_rows for text in joiner(row)[1:]}
+        self.short_texts = joining.union(self.names, self.types.values())
 
     def entries(self, row):
         return tuple(self.entry(*it) for it in row)
 
     def entry(self, kind, pattern):
-        """The number of an entry: the start of its text, its length, the place of the number, whether it has one, and its
-        kind."""
+        """The number of an entry: its text's start and length, the number's place, whether it has one, and its kind."""
         assert pattern.count("{0}") <= 1 and (kind != PER or "{0}" in pattern)
         before, number, after = pattern.partition("{0}")
         length = len((before + after).encode())
@@ -262,17 +252,19 @@ class Units:
         return f"    {str(is_first).lower()} {' '.join(map(pool.range, texts))};\n"
 
     def files(self, pool):
-        compounds = [f"    Compound {{ numerator: {a}, denominator: {b}, unit: {c} }},\n" for a, b, c in self.compounds()]
+        compounds = [f"    Compound {{ numerator: {a}, denominator: {b}, unit: {c} }},\n"
+                     for a, b, c in self.compounds()]
         return {"units.rt": "\n".join([
-            HEAD.format("Units, and their patterns.", UNITS_HEAD),
+            head("Units, and their patterns.", UNITS_HEAD, SCRIPT),
             by_macro("The units of CLDR.", "UNITS", "UnitRow", "units",
                      [self.unit_text(it, pool) for it in self.names]),
-            array("The pairs of units that have patterns of their own as one unit.", "COMPOUNDS", "Compound", compounds),
+            array("The pairs of units that have patterns of their own as one unit.", "COMPOUNDS", "Compound",
+                  compounds),
             by_macro("The patterns of two units.", "UNIT_JOINERS", "UnitJoiner", "joiners",
                      [self.joiner_text(it, pool) for it in self.joiner_rows]),
             numbers("Lists of runs, one for each unit.", "UNIT_RUNS", "u32", self.lists.values()),
             numbers("The patterns of all runs.", "UNIT_ENTRIES", "u64", self.runs.entries)]),
-            "unit_texts.rt": "\n".join([HEAD.format("The texts of the patterns of units.", ""),
+            "unit_texts.rt": "\n".join([head("The texts of the patterns of units.", script=SCRIPT),
                                         self.pool.statics("A part of the texts.", "UNIT_TEXTS")])}
 
 
@@ -314,18 +306,15 @@ class Currencies:
                 f"between: TextRange {{ start: {start}, len: {length} }} }},\n")
 
     def files(self, pool):
-        head = HEAD.format("The names of currencies, and their patterns.",
-                           "use super::rows::TextRange;\nuse super::rows::currencies::{CurrencyRow, NamePattern};\n"
-                           "use plural_rules::PluralCategory::*;\n")
         codes = [f'    CurrencyRow {{ code: *b"{code.lower():16}" }},\n' for code in self.codes]
         patterns = [self.pattern_text(*it, pool) for it in self.pattern_rows.entries]
         return {"currencies.rt": "\n".join([
-            head,
+            head("The names of currencies, and their patterns.", CURRENCIES_HEAD, SCRIPT),
             array("The currencies that have a name in a locale.", "CURRENCY_CODES", "CurrencyRow", codes),
             array("The patterns of numbers with names.", "NAME_PATTERNS", "NamePattern", patterns),
             numbers("Lists of runs, one for each currency.", "NAME_RUNS", "u32", self.lists.values()),
             numbers("The names of all runs.", "NAME_ENTRIES", "u32", self.runs.entries)]),
-            "currency_texts.rt": "\n".join([HEAD.format("The texts of names of currencies.", ""),
+            "currency_texts.rt": "\n".join([head("The texts of names of currencies.", script=SCRIPT),
                                             self.pool.statics("A part of the texts.", "NAME_TEXTS")])}
 
 
@@ -344,8 +333,9 @@ def locale_file(units, currencies):
     fields = ", ".join(f"{field}: {value}" for field, value in zip(LOCALE_FIELDS, usual))
     root = (f"/// What a locale has that is not listed.\n{SKIP}pub const ROOT: LocaleNames = LocaleNames {{\n"
             f'    tag: *b"{"":16}",\n    {fields},\n}};\n')
-    return "\n".join([HEAD.format("What each locale has.", LOCALES_HEAD),
-                      by_macro("The locales.", "LOCALES", "LocaleNames", "locales", [f"    {text(*it)}\n" for it in listed]),
+    return "\n".join([head("What each locale has.", LOCALES_HEAD, SCRIPT),
+                      by_macro("The locales.", "LOCALES", "LocaleNames", "locales",
+                               [f"    {text(*it)}\n" for it in listed]),
                       root])
 
 
@@ -353,25 +343,11 @@ def tables():
     """The text of each file."""
     units, currencies = Units(), Currencies()
     pool = Pool(units.short_texts | currencies.short_texts)
-    short_texts = "\n".join([HEAD.format("Identifiers of units, and texts between a number and what it counts.", ""),
-                             pool.statics("The texts.", "SHORT_TEXTS")])
+    title = "Identifiers of units, and texts between a number and what it counts."
+    short_texts = "\n".join([head(title, script=SCRIPT), pool.statics("The texts.", "SHORT_TEXTS")])
     return {"locales.rt": locale_file(units, currencies), "short_texts.rt": short_texts, **units.files(pool),
             **currencies.files(pool)}
 
 
-def main(words):
-    wrong = []
-    for name, text in tables().items():
-        file_path = os.path.join(SOURCES, name)
-        if not words:
-            with open(file_path, "w", encoding="utf-8") as file:
-                file.write(text)
-        else:
-            with open(file_path, encoding="utf-8") as file:
-                wrong += [] if file.read() == text else [name]
-    if wrong:
-        sys.exit(f"not what tools/units/make_tables.py writes: {', '.join(wrong)}")
-
-
 if __name__ == "__main__":
-    main(sys.argv[1:])
+    write_or_compare(tables(), SOURCES, SCRIPT, sys.argv[1:])

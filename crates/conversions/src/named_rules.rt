@@ -88,14 +88,22 @@ fn unknown_type(word: &str) -> Option<&str>
     }
 }
 
-/// Returns the plural rules that a word names: `ru`, `en:ordinal` and `en:cardinal` those of a locale, as
-/// [`plural_rules_of`] has them, and each other word those that it is the text of.
+/// Returns the plural rules that a word names.
+///
+/// The tag of a locale, alone or followed by `:cardinal` or `:ordinal`, names the rules of the locale, which
+/// [`plural_rules_of`] returns. Any other word is parsed as the text of rules.
+///
+/// ```
+/// parse_rules(alloc, "ru")? // the cardinal rules of Russian
+/// parse_rules(alloc, "en:ordinal")? // those of 1st, 2nd, 3rd
+/// parse_rules(alloc, "one: n = 1; other:")? // these rules
+/// ```
 ///
 /// # Errors
 ///
-/// - `UnknownLocale`: the word has the form of a locale, and this is unknown.
+/// - `UnknownLocale`: the word has the form of a locale, and the locale is unknown.
 /// - `UnknownType`: the word has the form of a locale, a colon and a type, and no type has this name.
-/// - `Rules`: the word has another form, and is rejected as rules; or out of memory.
+/// - `Rules`: the word has another form, and is rejected as the text of rules; or out of memory.
 pub fn parse_rules(alloc: Global, word: &str) -> Result<PluralRules, NamedRulesError>
     ensures ok { IfOk result (NamesRules word.now) }
     ensures err { IfErr result (NamesNoRules word.now) }

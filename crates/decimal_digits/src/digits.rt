@@ -20,8 +20,14 @@ pub use steps::Steps;
 /// A list of digits 0 to 9, with room for more.
 ///
 /// Contracts see the digits, the room, and `L`, the number of digits that fit without an allocation. `reserve`,
-/// `push_in_room` and `push_text` state the room that they leave; after any other call that changes the list, the room
-/// is only known to be at least `L` minus the length.
+/// `push_in_room` and `push_text` state the room that they leave. After any other call that changes the list, contracts
+/// say only that the room is at least `L` minus the length.
+///
+/// ```
+/// let mut digits = PackedDigits::from_digits(alloc, &[2, 5])?;
+/// digits.reserve(1)?;
+/// digits.push_in_room(9); // 2, 5, 9
+/// ```
 pub trait DigitStore: Drop {
     /// The digits.
     ghost digits: { Self → List ℕ };

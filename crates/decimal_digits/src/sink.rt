@@ -16,12 +16,25 @@ pub use text_buf::TextBuf;
 pub use write_error::{WriteError, write_whole};
 
 /// The error of a sink that rejects a byte.
+///
+/// ```
+/// match value.write_to(&mut sink) {
+///     Ok(()) => {} // the whole text is in the sink
+///     Err(SinkFault) => {} // a prefix of the text is
+/// }
+/// ```
 #[derive(Clone, Copy, Debug, PartialEq)]
 pub struct SinkFault;
 
 /// A destination of bytes.
 ///
 /// Contracts see its contents, if they are observable, and whether a write has failed.
+///
+/// ```
+/// let mut sink = TextBuf::new(alloc);
+/// sink.put_bytes(b"2.")?;
+/// sink.put_byte(b'5')?; // 2.5
+/// ```
 pub trait Sink {
     /// The bytes that were written, or None for a sink whose contents are not observable.
     ghost contents: { Self → Option (List ℕ) };
@@ -70,6 +83,11 @@ pub trait Sink {
 }
 
 /// A value that has a text.
+///
+/// ```
+/// value.write_to(&mut sink)?; // -2.50
+/// value.writeable_length_hint() // 5
+/// ```
 pub trait Writeable {
     /// The bytes of the text.
     ghost text: { Self → List ℕ };

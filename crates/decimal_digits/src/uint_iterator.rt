@@ -9,6 +9,10 @@ use std::marker::Model;
 pub const MAX_DIGITS: usize = 39;
 
 /// An unsigned integer type: `u8` to `u128`, and `usize`.
+///
+/// ```
+/// 250_u16.split_last_digit() // Some((0, 25))
+/// ```
 pub trait UnsignedInteger: Copy {
     /// The integer.
     ghost number: { Self → ℕ };
@@ -25,6 +29,12 @@ pub trait UnsignedInteger: Copy {
 /// The decimal digits of an integer, from the last to the first; 0 has none.
 ///
 /// Contracts see the digits that are left. Of 250 they are 0, 5 and 2.
+///
+/// ```
+/// for digit in IntIterator::new(250_u16) {
+///     digits.push(digit)?; // 0, 5, 2
+/// }
+/// ```
 #[derive(Drop)]
 pub struct IntIterator<T: UnsignedInteger> {
     rest: T,

@@ -10,6 +10,12 @@ use std::marker::Model;
 const SIZE: usize = 192;
 
 /// A sink that holds up to 192 bytes. When more are put into it, it keeps the first 192 and fails.
+///
+/// ```
+/// let mut block = Block::new();
+/// block.put_bytes(b"2.50")?;
+/// block.as_bytes() // b"2.50"
+/// ```
 #[derive(Drop)]
 pub struct Block {
     bytes: [u8; SIZE],

@@ -4,6 +4,11 @@ use std::error::Error;
 use std::fmt;
 
 /// Why symbols are rejected.
+///
+/// ```
+/// let digits = ['0', '1', '2', '3', '4', '5', '6', '7', '8', '९']; // the last one has three bytes
+/// DecimalSymbols::new(digits, ".", ",", minus, plus, sizes) // DigitWidths
+/// ```
 #[derive(Clone, Copy, Debug, PartialEq, Eq)]
 pub enum SymbolsError {
     /// The ten digits do not have one length in UTF-8.

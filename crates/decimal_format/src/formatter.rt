@@ -17,6 +17,11 @@ use std::marker::Model;
 /// Formats decimals by the symbols of a locale.
 ///
 /// `DecimalFormatter` of ICU4X.
+///
+/// ```
+/// let formatter = DecimalFormatter::new(DecimalSymbols::ascii(), GroupingStrategy::Auto);
+/// formatter.format(&value).write_to(&mut sink)?; // -1,234,567.50
+/// ```
 #[derive(Debug, Drop)]
 pub struct DecimalFormatter<'a> {
     symbols: DecimalSymbols<'a>,
@@ -32,6 +37,12 @@ impl<'a> Model for DecimalFormatter<'a> {
 }
 
 /// An absolute value that is written by the symbols of a locale. It borrows the value.
+///
+/// ```
+/// let absolute = FormattedAbsolute::new(&symbols, GroupingStrategy::Auto, &*value); // 1,234,567.50
+/// absolute.digit(0) // 1
+/// absolute.separator_after(0) // ,
+/// ```
 #[derive(Debug, Drop)]
 pub struct FormattedAbsolute<'f, D: DigitStore> {
     symbols: &'f DecimalSymbols<'f>,
@@ -50,6 +61,12 @@ impl<'f, D: DigitStore> Model for FormattedAbsolute<'f, D> {
 /// A decimal that is written by the symbols of a locale. It borrows the decimal.
 ///
 /// `FormattedDecimal` of ICU4X.
+///
+/// ```
+/// let formatted = formatter.format(&value);
+/// formatted.writeable_length_hint() // 13
+/// formatted.write_to(&mut sink)?; // -1,234,567.50
+/// ```
 #[derive(Debug, Drop)]
 pub struct FormattedDecimal<'f, D: DigitStore> {
     absolute: FormattedAbsolute<'f, D>,
@@ -95,8 +112,12 @@ impl<'a> DecimalFormatter<'a> {
 
     /// Formats a decimal over any store of digits. It does not allocate.
     ///
-    /// It shows the decimal as it is, so it borrows it. A formatter that rounds, as `NumberFormatter` of
-    /// `number_format`, takes the number instead, since it changes it.
+    /// It shows the decimal as it is, so it borrows it. `NumberFormatter` of `number_format` rounds, and takes the
+    /// number, since it changes it.
+    ///
+    /// ```
+    /// format!(in alloc; "{}", formatter.format(&value))? // -1,234,567.50
+    /// ```
     #[inline]
     pub fn format<'f, D: DigitStore>(
         &'f self,

@@ -4,8 +4,15 @@ ghost use Rattle.decimal_format.specs.{Grouping.{reaches, is_grouped, secondary_
 
 /// When the integer digits are grouped.
 ///
-/// `GroupingStrategy` of ICU4X. If the primary size is 0, as that of the locale `en-US-u-va-posix`, no strategy groups;
+/// `GroupingStrategy` of ICU4X, `useGrouping` of ECMA-402.
+///
+/// If the primary size is 0, as that of the locale `en-US-u-va-posix`, no strategy groups;
 /// ICU groups by threes there under `Always`.
+///
+/// ```
+/// DecimalFormatter::new(locale("es")?, GroupingStrategy::Auto).format(&value) // 1234
+/// DecimalFormatter::new(locale("es")?, GroupingStrategy::Always).format(&value) // 1.234
+/// ```
 #[derive(Clone, Copy, Debug, PartialEq, Eq)]
 pub enum GroupingStrategy {
     /// As the locale does, which may require more than one digit before the first separator.
@@ -20,7 +27,14 @@ pub enum GroupingStrategy {
 
 /// The number of digits in each group.
 ///
-/// `GroupingSizes` of ICU4X: `12,34,567` has 3 and 2, `1,234,567` has 3 and 3, or 3 and 0.
+/// `12,34,567` has 3 and 2, `1,234,567` has 3 and 3, or 3 and 0. `GroupingSizes` of ICU4X; UTS 35 part 3, Number
+/// Patterns.
+///
+/// ```
+/// let sizes = GroupingSizes { primary: 3, secondary: 2, min_grouping: 1 };
+/// let symbols = DecimalSymbols::ascii().with_sizes(sizes);
+/// DecimalFormatter::new(symbols, GroupingStrategy::Auto).format(&value) // -12,34,567.50
+/// ```
 #[derive(Clone, Copy, Debug, PartialEq, Eq)]
 pub struct GroupingSizes {
     /// The size of the last group of integer digits; 0 for no groups.

@@ -183,6 +183,10 @@ impl<'a> DecimalSymbols<'a> {
     /// `-1,234.50` and `-1234.50` are accepted, and `1,23` and `12,34.5` are `Syntax`. The value shows the digits
     /// of the text. Requires readable symbols, which [`is_readable`](Self::is_readable) tests.
     ///
+    /// ```
+    /// let value: Decimal = DecimalSymbols::ascii().read(alloc, b"-1,234.50")?; // -1234.50
+    /// ```
+    ///
     /// # Errors
     ///
     /// - `Syntax`: no decimal has this text, of any number of digits.

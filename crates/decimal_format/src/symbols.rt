@@ -13,6 +13,10 @@ const MAX_TEXT: usize = 255;
 const ASCII_DIGITS: [char; 10] = ['0', '1', '2', '3', '4', '5', '6', '7', '8', '9'];
 
 /// The texts before and after a number that has a sign.
+///
+/// ```
+/// DecimalSymbols::ascii().affixes(Sign::Negative).prefix // -
+/// ```
 #[derive(Clone, Copy, Debug)]
 pub struct Affixes<'a> {
     /// The text before the number.
@@ -23,7 +27,12 @@ pub struct Affixes<'a> {
 
 /// The symbols of a locale: ten digits, two separators, two signs, and the sizes of groups.
 ///
-/// It borrows its texts. `DecimalSymbols` of ICU4X.
+/// It borrows its texts. `DecimalSymbols` of ICU4X; UTS 35 part 3, Number Symbols.
+///
+/// ```
+/// let symbols = DecimalSymbols::ascii().with_grouping_separator("’");
+/// let value: Decimal = symbols.read(alloc, "1’234.50".as_bytes())?; // 1234.50
+/// ```
 #[derive(Debug, Drop)]
 pub struct DecimalSymbols<'a> {
     digits: [char; 10],

@@ -42,6 +42,12 @@ use std::ops::RangeInclusive;
 /// magnitudes      1   0  -1  -2
 /// positions     2   1   0  -1  -2
 /// ```
+///
+/// ```
+/// let mut value = UnsignedDecimal::try_from_str(alloc, "0012.3400")?;
+/// value.trim_start(); // 12.3400
+/// value.round(-1)?; // 12.3
+/// ```
 #[derive(Debug)]
 pub struct UnsignedOver<D: DigitStore> {
     digits: D,

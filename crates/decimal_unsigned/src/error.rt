@@ -10,6 +10,11 @@ use std::fmt;
 ///
 /// `5.0` has a fraction digit, and is no `FixedInteger`; `10` times 10^32767 would show the magnitude 32768. A value
 /// that was to be changed is unchanged.
+///
+/// ```
+/// let mut value = UnsignedDecimal::try_from_str(alloc, "10")?;
+/// value.multiply_pow10(32767) // Err(LimitError)
+/// ```
 #[derive(Clone, Copy, Debug, PartialEq)]
 pub struct LimitError;
 
@@ -31,7 +36,10 @@ impl Error for LimitError {}
 
 /// The error of parsing a text.
 ///
-/// `5.` is `Syntax`, `1e32768` is `Limit`.
+/// ```
+/// UnsignedDecimal::try_from_str(alloc, "5.") // Syntax
+/// UnsignedDecimal::try_from_str(alloc, "1e32768") // Limit
+/// ```
 #[derive(Debug, Drop, PartialEq)]
 pub enum ParseError {
     /// The value would show digits outside of the magnitudes -32768 to 32767, or its exponent is outside of them.
@@ -84,7 +92,14 @@ impl Error for ParseError {}
 
 /// The error of joining two numbers, with the arguments.
 ///
-/// `concatenate_end` returns the second number in it, `concatenated_end` both. `120` and `25` are `Overlap`.
+/// `concatenate_end` returns the second number in it, `concatenated_end` both. `120` and `25` are
+/// `Overlap`: both have a nonzero digit at magnitude 1.
+///
+/// ```
+/// let number = UnsignedDecimal::try_from_str(alloc, "120")?;
+/// let fraction = UnsignedDecimal::try_from_str(alloc, "0.25")?;
+/// number.concatenated_end(fraction)? // 120.25
+/// ```
 #[derive(Debug, Drop)]
 pub enum ConcatenateError<T> {
     /// Neither number is 0, and the first nonzero digit of the second is at or above the last one of the first.
@@ -109,6 +124,11 @@ impl<T: fmt::Debug + Drop> Error for ConcatenateError<T> {}
 /// The error of converting a number to an integer type.
 ///
 /// `1.5` is `NotWhole` for each type, and an integer of 300 digits is `OutOfRange`.
+///
+/// ```
+/// UnsignedDecimal::try_from_str(alloc, "1.5")?.try_to_u64() // NotWhole
+/// UnsignedDecimal::try_from_str(alloc, "18446744073709551616")?.try_to_u64() // OutOfRange
+/// ```
 #[derive(Clone, Copy, Debug, PartialEq, Eq)]
 pub enum IntegerError {
     /// A fraction digit is not 0.

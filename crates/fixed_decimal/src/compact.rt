@@ -16,6 +16,14 @@ use std::marker::Model;
 /// A decimal, the significand, times 10 to the power of an exponent from 0 to 255: `-1.20c6`.
 ///
 /// The significand keeps its sign and all its zeros. Contracts see the two parts.
+///
+/// UTS 35 part 3, Language Plural Rules, writes samples of compact numbers so.
+///
+/// ```
+/// let value = CompactDecimal::try_from_str(alloc, "-1.20c6")?;
+/// value.significand() // -1.20
+/// value.exponent() // 6
+/// ```
 #[derive(Debug)]
 pub struct CompactDecimal {
     significand: Decimal,

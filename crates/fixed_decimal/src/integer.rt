@@ -19,6 +19,12 @@ use std::marker::Model;
 /// A decimal without fraction digits: `-0120`.
 ///
 /// It is the exponent of a `ScientificDecimal`. Contracts see the decimal.
+///
+/// ```
+/// FixedInteger::try_from_str(alloc, "05")? // 05
+/// FixedInteger::try_from_str(alloc, "5.0e1")? // 50
+/// FixedInteger::try_from_str(alloc, "5.0") // Limit
+/// ```
 #[derive(Debug)]
 pub struct FixedInteger(Decimal);
 

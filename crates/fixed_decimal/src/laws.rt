@@ -55,8 +55,8 @@ pub fn roundings_compose()
     ensures away_from_zero { RoundsOnce Expand }
 {}
 
-/// Runs of the same calls from the same start return the same over any two stores and append the same text to any two
-/// sinks, unless one is out of memory or its sink fails.
+/// Runs of the same calls from the same start return the same over any two stores, and append the same text to any two
+/// sinks. This holds unless one of the runs is out of memory, or its sink fails.
 pub fn runs_agree<D: DigitStore, E: DigitStore, V: Sink, W: Sink>(
     alloc: Global,
     start: &[u8],

@@ -17,6 +17,12 @@ use std::marker::Model;
 /// A decimal, the significand, times 10 to the power of an integer, the exponent: `-1.20e+05`.
 ///
 /// Both parts keep their sign and all their zeros. Contracts see the two parts.
+///
+/// ```
+/// let value = ScientificDecimal::try_from_str(alloc, "-1.20e+05")?;
+/// value.significand() // -1.20
+/// value.exponent() // +05
+/// ```
 #[derive(Debug)]
 pub struct ScientificDecimal {
     significand: Decimal,

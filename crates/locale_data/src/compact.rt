@@ -28,7 +28,14 @@ fn count_code(count: Option<PluralCategory>) -> u8
     }
 }
 
-/// Which compact patterns.
+/// A kind of compact patterns.
+///
+/// UTS 35 part 3, Compact Number Formats; `compactDisplay` of ECMA-402.
+///
+/// ```
+/// let millions = formats_of("de", "latn").compact_patterns(CompactStyle::Long, 6);
+/// millions.pattern(PluralCategory::Other, false) // 2 Millionen
+/// ```
 #[derive(Clone, Copy, Debug, PartialEq)]
 pub enum CompactStyle {
     /// `1.2M`
@@ -40,10 +47,19 @@ pub enum CompactStyle {
 }
 
 /// The compact patterns of a magnitude, as a part of the table of patterns.
+///
+/// ```
+/// let millions = formats_of("en", "latn").compact_patterns(CompactStyle::Short, 6);
+/// millions.pattern(PluralCategory::Other, false) // 2M
+/// ```
 #[derive(Clone, Copy)]
 pub struct CompactPatterns(pub TableRange);
 
 /// What is written around a number in compact notation with its percent sign.
+///
+/// ```
+/// formats_of("de", "latn").percent_unit(PluralCategory::Other).suffix // " %"
+/// ```
 #[derive(Clone, Copy)]
 pub struct UnitAffixes {
     /// The text before the number; at most 255 bytes.

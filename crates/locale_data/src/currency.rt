@@ -132,6 +132,11 @@ fn symbol_at(index: u16) -> Option<CurrencySymbol>
 }
 
 /// The rows of a currency for a tag. They are the same as long as the tables are.
+///
+/// ```
+/// let id = currency_id("en", CurrencyCode::try_from_str("CAD")?)?;
+/// currency_at(id)?.wide.text // CA$
+/// ```
 #[derive(Clone, Copy)]
 pub struct CurrencyId {
     /// The currency in `CURRENCIES`.
@@ -200,6 +205,11 @@ fn is_override(pattern: Option<u8>) -> bool
 }
 
 /// Returns what a locale has for a currency from its rows, and `None` if there are no such rows.
+///
+/// ```
+/// let id = currency_id("en", CurrencyCode::try_from_str("CAD")?)?;
+/// currency_at(id)?.narrow.text // $
+/// ```
 #[inline(always)]
 pub fn currency_at(id: CurrencyId) -> Option<LocalCurrency>
     ensures found { IfSome result (IsCurrencyAt id) }
@@ -219,7 +229,13 @@ pub fn currency_at(id: CurrencyId) -> Option<LocalCurrency>
     })
 }
 
-/// Which pattern of a currency.
+/// The pattern of a currency that is chosen: `currencySign` of ECMA-402.
+///
+/// ```
+/// let formats = formats_of("en", "latn");
+/// currency_pattern(&formats, None, CurrencySign::Standard) // -XXX 1.00
+/// currency_pattern(&formats, None, CurrencySign::Accounting) // (XXX 1.00)
+/// ```
 #[derive(Clone, Copy, Debug, PartialEq)]
 pub enum CurrencySign {
     /// The usual one.
@@ -229,6 +245,13 @@ pub enum CurrencySign {
 }
 
 /// How a currency is written.
+///
+/// UTS 35 part 3, Number Patterns and Number Symbols.
+///
+/// ```
+/// let formats = formats_of("de-AT", "latn"); // 1 234,5, but money: € 1.234,50
+/// currency_pattern(&formats, None, CurrencySign::Standard).grouping // Some: .
+/// ```
 #[derive(Clone, Copy)]
 pub struct CurrencyPattern {
     /// The pattern.
@@ -274,9 +297,9 @@ fn own_pattern(currency: Option<LocalCurrency>) -> Option<u8>
 
 /// Returns how a currency is written in a locale that has these formats, and this for the currency.
 ///
-/// It is the pattern that the locale has for this currency, or else that of the region's currency, which ICU uses for
-/// all currencies there, or else the pattern of the formats. Of a code that is not listed it is that of other
-/// currencies.
+/// The pattern is the first of these three that there is: the one that the locale has for this currency; that of the
+/// region's currency, which ICU uses for all currencies there; the pattern of the formats. A code that is not listed
+/// has the pattern of other currencies.
 ///
 /// ```
 /// currency_pattern(&formats_of("de", "latn"), currency_at(euro), CurrencySign::Standard) // 1,00 €

@@ -6,6 +6,11 @@ use std::marker::Model;
 use std::str;
 
 /// Why a text is no code of a currency.
+///
+/// ```
+/// CurrencyCode::try_from_str("EURO") // Length
+/// CurrencyCode::try_from_str("E1R") // Letters
+/// ```
 #[derive(Clone, Copy, Debug, PartialEq, Eq)]
 pub enum CurrencyCodeError {
     /// The text does not have three bytes.

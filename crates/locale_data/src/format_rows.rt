@@ -7,6 +7,11 @@ use crate::tables::compact::{COMPACT_SETS, PERCENT_UNITS};
 use crate::tables::formats::{MONEY_FORMATS, NUMBER_SIGNS, PATTERNS};
 
 /// The rows of [`NumberFormats`], as integers. They are the same as long as the tables are.
+///
+/// ```
+/// let rows = formats_of("de", "latn").rows();
+/// NumberFormats::at(rows)?.percent() // 12 %
+/// ```
 #[derive(Clone, Copy, Debug, PartialEq)]
 pub struct FormatRows {
     /// The pattern of percent.

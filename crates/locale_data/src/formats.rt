@@ -78,9 +78,9 @@ fn system_formats(tag: &[u8], system: &[u8]) -> (SystemFormats, SystemFormats)
 
 /// Returns the formats of a tag, as `locale` has it, in a numbering system, as `latn`.
 ///
-/// Of each format it is that of the listed locale with the longest tag that is `tag` or has a hyphen after it there,
-/// and without one that of root: in the numbering system, or else in `latn`. Every tag and every system have formats;
-/// `locale` decides which are known.
+/// Each format is that of the listed locale with the longest tag that is `tag` or has a hyphen after it there, and
+/// without such a locale that of root. It is the one in the numbering system, or else in `latn`. Every tag and every
+/// system have formats; [`locale`](crate::locale) decides which are known.
 ///
 /// ```
 /// formats_of("de", "latn").percent() // 12 %

@@ -3,6 +3,14 @@ ghost use Rattle.std.specs.{Prelude.{◌<◌, ◌≤◌, length}, Option.ForSome
 ghost use Rattle.locale_data.specs.declared.tables.formats.TheConstants.{CURRENCY_OVERRIDES};
 
 /// The numbers of digits of a currency.
+///
+/// UTS 35 part 3, Supplemental Currency Data.
+///
+/// ```
+/// let franc = CurrencyCode::try_from_str("CHF")?;
+/// currency_digits(franc).digits // 2
+/// currency_digits(franc).cash_increment // 5: cash is a multiple of 0.05
+/// ```
 #[derive(Clone, Copy)]
 pub struct CurrencyDigits {
     /// The number of fraction digits.
@@ -14,6 +22,12 @@ pub struct CurrencyDigits {
 }
 
 /// A symbol of a currency.
+///
+/// ```
+/// let currency = currency_at(currency_id("en", CurrencyCode::try_from_str("CHF")?)?)?;
+/// currency.wide.text // CHF
+/// currency.wide.space_after // true: CHF 1.00
+/// ```
 #[derive(Clone, Copy)]
 pub struct CurrencySymbol {
     /// Its text, of at most 255 bytes.
@@ -26,6 +40,12 @@ pub struct CurrencySymbol {
 }
 
 /// What a locale has for a currency.
+///
+/// ```
+/// let currency = currency_at(currency_id("en", CurrencyCode::try_from_str("CAD")?)?)?;
+/// currency.wide.text // CA$
+/// currency.narrow.text // $
+/// ```
 #[derive(Clone, Copy)]
 pub struct LocalCurrency {
     /// The numbers of its digits.

@@ -107,6 +107,11 @@ fn symbols_in(
 }
 
 /// The indices of the rows of a tag in the tables of symbols. They are the same as long as the tables are.
+///
+/// ```
+/// let id = locale_id("de-CH")?;
+/// symbols_at(id)?.grouping_separator() // '
+/// ```
 #[derive(Clone, Copy)]
 pub struct LocaleId {
     /// The row of the locale in `LOCALES`.
@@ -141,6 +146,10 @@ fn own_index(tag: &[u8], system: usize) -> Option<u16>
 }
 
 /// Returns the rows of a tag, from which [`symbols_at`] makes its symbols. Returns `None` where [`locale`] does.
+///
+/// ```
+/// symbols_at(locale_id("de-CH")?) // 1'234'567.5
+/// ```
 pub fn locale_id(tag: &str) -> Option<LocaleId>
     ensures found { IfSome result (λ id. IsSomeAnd (symbols_at id) (IsLocale tag.now)) }
     ensures rows { IfSome result (λ id. AreRowsOf tag.now id.locale id.system) }
@@ -178,6 +187,10 @@ pub fn locale_id_in(tag: &str, system: &str) -> Option<LocaleId>
 }
 
 /// Returns the symbols of a locale from its rows, and `None` if there are no such rows.
+///
+/// ```
+/// symbols_at(locale_id("hi")?) // 12,34,567.5
+/// ```
 #[inline(always)]
 pub fn symbols_at(id: LocaleId) -> Option<DecimalSymbols<'static>>
     ensures value { result ≡ symbols_at id }

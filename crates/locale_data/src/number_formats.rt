@@ -8,6 +8,12 @@ use crate::tables::rows::patterns::{AffixPair, NumberSigns, Pattern};
 use fixed_decimal::Sign;
 
 /// The formats of numbers in a locale and a numbering system.
+///
+/// ```
+/// let formats = formats_of("de", "latn");
+/// formats.percent() // 12 %
+/// formats.signs().exponent.text() // E
+/// ```
 #[derive(Clone, Copy)]
 pub struct NumberFormats {
     pub(crate) percent: u8,

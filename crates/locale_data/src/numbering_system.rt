@@ -7,6 +7,11 @@ use std::marker::Model;
 use std::str;
 
 /// Why a text is no name of a numbering system.
+///
+/// ```
+/// NumberingSystem::try_from_str("la") // Length
+/// NumberingSystem::try_from_str("latn-x") // Letters
+/// ```
 #[derive(Clone, Copy, Debug, PartialEq, Eq)]
 pub enum NumberingSystemError {
     /// The text has fewer than three bytes, or more than eight.

@@ -50,8 +50,8 @@ fn range_with(
 
 /// Returns the plural category of a range of numbers, as `1–5 days`, by those of its start and its end.
 ///
-/// It is the category that CLDR lists for the two in the language of `tag`, which is the part before the first hyphen:
-/// letters may be of either case, and `_`, `.` and `@` are hyphens. For two categories that are not listed it is
+/// It is the category that CLDR lists for the two in the language of `tag`, which is the part before the first hyphen.
+/// Letters may be of either case, and `_`, `.` and `@` are hyphens. For two categories that are not listed it is
 /// `Other`. Cardinal and ordinal numbers have the same table. (UTS 35, part 3, Plural Ranges.)
 ///
 /// ```

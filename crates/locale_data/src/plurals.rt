@@ -12,7 +12,12 @@ use fixed_decimal::DigitStore;
 use plural_rules::{PluralCategory, PluralOperands, PluralRules};
 use std::alloc::Global;
 
-/// What plural rules are for.
+/// The kind of numbers that plural rules are for: `type` of `Intl.PluralRules` in ECMA-402.
+///
+/// ```
+/// let rules = plural_rules_id("en", PluralRuleType::Ordinal)?;
+/// plural_category_at(rules, &PluralOperands::of_decimal(&two)) // Some(Two): 2nd
+/// ```
 #[derive(Clone, Copy, Debug, PartialEq)]
 pub enum PluralRuleType {
     /// Numbers of things: `2 days`.
@@ -21,8 +26,14 @@ pub enum PluralRuleType {
     Ordinal,
 }
 
-/// The plural rules of a tag: the index of its language in `PLURAL_RULES`, and the type. A tag that has no rules but
-/// symbols has no index, and the rules `other:`.
+/// The plural rules of a tag: the index of its language in `PLURAL_RULES`, and the type.
+///
+/// A tag that has symbols and no rules has no index: its rules are `other:`.
+///
+/// ```
+/// let rules = plural_rules_id("ru", PluralRuleType::Cardinal)?;
+/// plural_category_at(rules, &PluralOperands::of_decimal(&two)) // Some(Few)
+/// ```
 #[derive(Clone, Copy)]
 pub struct PluralRulesId {
     /// The index of the language.
@@ -54,8 +65,14 @@ fn languages() -> &'static [LanguageRules]
     &PLURAL_RULES
 }
 
-/// Returns the plural rules of a tag, as [`rules_text_at`] and [`plural_rules_at`] take them. Returns `None` where
-/// [`plural_rules_text`] does.
+/// Returns the plural rules of a tag, as [`rules_text_at`] and [`plural_rules_at`] take them.
+///
+/// Returns `None` where [`plural_rules_text`] does.
+///
+/// ```
+/// plural_rules_id("en-GB", PluralRuleType::Cardinal) // Some
+/// plural_rules_id("tlh", PluralRuleType::Cardinal) // None
+/// ```
 pub fn plural_rules_id(tag: &str, rule_type: PluralRuleType) -> Option<PluralRulesId>
     ensures found { IfSome result (λ id. IsSomeAnd (rules_text_at id) (IsRulesText tag.now rule_type)) }
     ensures unknown { IfNone result (HasNoRules tag.now) }
@@ -89,6 +106,10 @@ fn set_at(id: PluralRulesId) -> Option<RuleSet>
 }
 
 /// Returns the text of plural rules, and `None` if no language has the index.
+///
+/// ```
+/// rules_text_at(plural_rules_id("en", PluralRuleType::Cardinal)?) // one: i = 1 and v = 0
+/// ```
 pub fn rules_text_at(id: PluralRulesId) -> Option<&'static [u8]>
     ensures { option_copied result ≡ rules_text_at id }
 {
@@ -100,8 +121,8 @@ pub fn rules_text_at(id: PluralRulesId) -> Option<&'static [u8]>
 
 /// Returns the text of the plural rules of a tag, as `PluralRules` parses it.
 ///
-/// The rules are those of the listed language with the longest tag that is `tag` or has a hyphen after it there;
-/// letters may be of either case, and `_`, `.` and `@` are hyphens. A tag that has no rules but symbols, for which
+/// The rules are those of the listed language with the longest tag that is `tag` or has a hyphen after it there.
+/// Letters may be of either case, and `_`, `.` and `@` are hyphens. A tag that has no rules but symbols, for which
 /// `locale` returns some, has the rules `other:`. Returns `None` for other tags.
 ///
 /// ```
@@ -118,6 +139,10 @@ pub fn plural_rules_text(tag: &str, rule_type: PluralRuleType) -> Option<&'stati
 }
 
 /// Why a tag has no plural rules.
+///
+/// ```
+/// plural_rules_of(alloc, "tlh", PluralRuleType::Cardinal) // UnknownLocale
+/// ```
 #[derive(Clone, Copy, Debug, PartialEq)]
 pub enum PluralRulesError {
     /// The tag has neither rules nor symbols.
@@ -127,6 +152,11 @@ pub enum PluralRulesError {
 }
 
 /// Returns plural rules: those of `rules_text_at`.
+///
+/// ```
+/// let rules = plural_rules_at(alloc, plural_rules_id("ru", PluralRuleType::Cardinal)?)?;
+/// rules.category(&PluralOperands::of_decimal(&two)) // Few
+/// ```
 ///
 /// # Errors
 ///
@@ -144,8 +174,14 @@ pub fn plural_rules_at(alloc: Global, id: PluralRulesId) -> Result<PluralRules, 
     }
 }
 
-/// Returns the plural category of a number by the rules of `rules_text_at`, and `None` if no language has the index. It
-/// does not allocate.
+/// Returns the plural category of a number by the rules of `rules_text_at`, and `None` if no language has the index.
+///
+/// It does not allocate.
+///
+/// ```
+/// let rules = plural_rules_id("ru", PluralRuleType::Cardinal)?;
+/// plural_category_at(rules, &PluralOperands::of_decimal(&two)) // Some(Few)
+/// ```
 pub fn plural_category_at<D: DigitStore>(
     rules: PluralRulesId,
     number: &PluralOperands<'_, D>,

@@ -80,9 +80,10 @@ fn row_in_latin(tag: &[u8]) -> Option<LocaleRange>
 
 /// Returns how a tag, as `locale` has it, writes ranges in a numbering system, as `latn`.
 ///
-/// It is as the listed locale with the longest tag that is `tag` or has a hyphen after it there: in the numbering
-/// system, or else in `latn`, or else as root. Every tag and every system have texts; `locale` decides which are known.
-/// (UTS 35, part 3, Number Symbols and Miscellaneous Patterns: `approximatelySign` and `range`.)
+/// The listed locale with the longest tag that is `tag` or has a hyphen after it there decides: by its texts in the
+/// numbering system, or else by those in `latn`, or else by those of root. Every tag and every system have texts;
+/// [`locale`](crate::locale) decides which are known. (UTS 35, part 3, Number Symbols and Miscellaneous Patterns:
+/// `approximatelySign` and `range`.)
 ///
 /// ```
 /// range_format("de", "latn").separator.text() // –

@@ -6,6 +6,10 @@ use crate::tables::rows::{Name, TableRange};
 use crate::tag::tag_byte;
 
 /// A row of a table that is sorted by name.
+///
+/// ```
+/// index_named(&NUMBERING_SYSTEMS, b"latn") // the index of the row whose name is latn
+/// ```
 pub trait Row {
     ghost name: { Self → List ℕ };
 
@@ -31,6 +35,10 @@ pub fn indexed_row<R>(rows: &[R], index: usize) -> &R
 }
 
 /// Returns a name without the spaces after it.
+///
+/// ```
+/// unpadded(b"de-ch           ") // b"de-ch"
+/// ```
 pub fn unpadded(padded: &[u8]) -> &[u8]
     ensures { result.now ≡ unpadded padded.now }
 {

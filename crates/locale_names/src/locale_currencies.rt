@@ -19,6 +19,12 @@ impl Row for CurrencyRow {
 }
 
 /// The names of a currency in a locale, as rows of tables. They are the same as long as the tables are.
+///
+/// ```
+/// let names = currency_names("de", *b"EUR");
+/// names.name(PluralCategory::Other) // Euro
+/// names.pattern(PluralCategory::Other)?.number_first // true: 2 Euro
+/// ```
 #[derive(Clone, Copy)]
 pub struct CurrencyNames {
     /// The code in upper case.

@@ -11,7 +11,12 @@ use crate::texts::{short_text, unit_text};
 use crate::unit_id::Unit;
 use plural_rules::PluralCategory;
 
-/// The width of a unit.
+/// The width of a unit: `unitDisplay` of ECMA-402, and UTS 35 part 2, Unit Elements.
+///
+/// ```
+/// let day = Unit::try_from_str("day")?;
+/// unit_patterns("en", day, UnitDisplay::Narrow).pattern(PluralCategory::Other) // 2d
+/// ```
 #[derive(Clone, Copy, Debug, PartialEq)]
 pub enum UnitDisplay {
     /// `5 kilometers per hour`
@@ -23,6 +28,11 @@ pub enum UnitDisplay {
 }
 
 /// The patterns of a unit in a locale, as rows of tables. They are the same as long as the tables are.
+///
+/// ```
+/// let speed = Unit::try_from_str("kilometer-per-hour")?;
+/// unit_patterns("de", speed, UnitDisplay::Short).pattern(PluralCategory::Other) // 5 km/h
+/// ```
 #[derive(Clone, Copy)]
 pub struct UnitPatterns {
     /// The run of the patterns of the unit, or of the first of two.
@@ -32,6 +42,11 @@ pub struct UnitPatterns {
 }
 
 /// The patterns of a unit after `per`, as rows of tables.
+///
+/// ```
+/// let unit = Unit::try_from_str("gram-per-second")?;
+/// unit_patterns("de", unit, UnitDisplay::Long).per // Some: the patterns of `pro Sekunde`
+/// ```
 #[derive(Clone, Copy)]
 pub struct PerPatterns {
     /// The run of its patterns.
@@ -41,6 +56,11 @@ pub struct PerPatterns {
 }
 
 /// What is written around a number of a unit, its sign included: texts one after another, of at most 255 bytes each.
+///
+/// ```
+/// let day = Unit::try_from_str("day")?;
+/// unit_patterns("en", day, UnitDisplay::Long).pattern(PluralCategory::Other).suffix // " days"
+/// ```
 #[derive(Clone, Copy)]
 pub struct UnitPattern {
     /// The texts before the unit, if there is a second one.

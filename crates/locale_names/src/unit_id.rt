@@ -3,6 +3,13 @@ ghost use Rattle.std.specs.Prelude.{◌<◌, length};
 ghost use Rattle.locale_names.specs.declared.tables.units.TheConstants.{UNITS};
 
 /// A unit of CLDR, such as `kilometer` or `mile-per-gallon`.
+///
+/// UTS 35 part 2, Unit Identifiers.
+///
+/// ```
+/// let meter = UnitId::try_from_str("meter")?;
+/// meter.unit_type() // length
+/// ```
 #[derive(Clone, Copy, Debug, PartialEq)]
 pub struct UnitId {
     pub(crate) index: u8,
@@ -10,6 +17,12 @@ pub struct UnitId {
 }
 
 /// A unit, or two of which the second follows `per`.
+///
+/// ```
+/// let unit = Unit::try_from_str("gram-per-second")?;
+/// unit.unit.name() // gram
+/// unit.per?.name() // second
+/// ```
 #[derive(Clone, Copy, Debug, PartialEq)]
 pub struct Unit {
     /// The unit, or the first of two.
@@ -19,6 +32,12 @@ pub struct Unit {
 }
 
 /// Why a text is no unit.
+///
+/// ```
+/// Unit::try_from_str("parsnip") // Unknown
+/// Unit::try_from_str("parsnip-per-hour") // Numerator
+/// Unit::try_from_str("meter-per-parsnip") // Denominator
+/// ```
 #[derive(Clone, Copy, Debug, PartialEq)]
 pub enum UnitError {
     /// It is no unit of CLDR, and has no `-per-`.

@@ -10,11 +10,17 @@ use digits::Digits;
 use fixed_decimal::{CompactDecimal, DecimalStore, DigitStore, Signed, UnsignedOver};
 use std::marker::Model;
 
-/// The operands of a formatted number that plural rules compare, by Unicode Technical Standard 35.
+/// The operands of a formatted number that plural rules compare: UTS 35 part 3, Plural Operand Meanings.
 ///
 /// It borrows a value, and does not allocate. Contracts see the value multiplied by 10^exponent, and the exponent of
 /// the compact decimal, which is 0 for every other value. `1.230` has i 1, v 3, w 2, f 230, t 23 and c 0; `1.2c6` has
 /// i 1200000, v 0, w 0, f 0, t 0 and c 6.
+///
+/// ```
+/// let operands = PluralOperands::of_decimal(&value); // 2.50
+/// operands.i() // Some(2)
+/// operands.f() // Some(50)
+/// ```
 #[derive(Debug, Drop)]
 pub struct PluralOperands<'a, D: DigitStore> {
     value: &'a UnsignedOver<D>,

@@ -47,7 +47,11 @@ fn read(alloc: Global, text: &[u8]) -> Result<PluralRules, RulesError>
 
 /// The reason for which a text of rules is rejected.
 ///
-/// `one: n =` is `Syntax { at: 8 }`.
+/// ```
+/// PluralRules::try_from_str(alloc, "one: n =") // Syntax { at: 8 }
+/// PluralRules::try_from_str(alloc, "one: n % 0 = 1") // Syntax { at: 10 }
+/// PluralRules::try_from_str(alloc, "one: n = 18446744073709551616") // Limit { at: 9 }
+/// ```
 #[derive(Clone, Copy, Debug, PartialEq)]
 pub enum RulesError {
     /// The text is not rules: `at` is the offset of the first byte that cannot follow those before it, or the length of

@@ -8,7 +8,11 @@ use std::marker::Model;
 
 /// A plural category, by which a language selects the words for a number.
 ///
-/// The six names are those of Unicode Technical Standard 35; each language defines what they mean.
+/// The six names are those of UTS 35 part 3, Language Plural Rules. Each language defines what they mean.
+///
+/// ```
+/// PluralCategory::Few.name() // few
+/// ```
 #[derive(Clone, Copy, Debug, PartialEq, Eq)]
 pub enum PluralCategory {
     /// In Arabic, the category of `0`.
@@ -42,6 +46,13 @@ impl PluralCategory {
 }
 
 /// An operand of a number, which a relation compares.
+///
+/// UTS 35 part 3, Plural Operand Meanings.
+///
+/// ```
+/// // `n % 10 = 2..4`, which holds for 22:
+/// relation_holds(&number, Operand::N, Modulus::new(10), true, &[Range { low: 2, high: 4 }]) // true
+/// ```
 #[derive(Clone, Copy, Debug, PartialEq, Eq)]
 pub enum Operand {
     /// The number itself, if it is an integer.
@@ -61,6 +72,11 @@ pub enum Operand {
 }
 
 /// A range of integers, both ends included: `2..4`. It is empty if the first is above the last.
+///
+/// ```
+/// // `n = 2..4`, which holds for 3:
+/// relation_holds(&number, Operand::N, None, true, &[Range { low: 2, high: 4 }]) // true
+/// ```
 #[derive(Clone, Copy, Debug, PartialEq, Eq)]
 pub struct Range {
     /// The first.
@@ -73,6 +89,11 @@ pub struct Range {
 pub const MAX_MODULUS: u64 = 1_000_000_000_000_000_000;
 
 /// A modulus, from 1 to 10^18.
+///
+/// ```
+/// Modulus::new(100)?.divisor() // 100
+/// Modulus::new(0) // None
+/// ```
 #[derive(Clone, Copy, Debug)]
 pub struct Modulus {
     divisor: u64,
@@ -202,7 +223,13 @@ impl Rule {
 
 /// Plural rules: categories in order, each with its condition.
 ///
-/// Contracts see the list of the rules.
+/// Contracts see the list of the rules. UTS 35 part 3, Plural Rules Syntax.
+///
+/// ```
+/// let rules = PluralRules::try_from_str(alloc, "one: i = 1 and v = 0; other:")?;
+/// rules.category(&PluralOperands::of_decimal(&one)) // One
+/// rules.category(&PluralOperands::of_decimal(&one_point_zero)) // Other
+/// ```
 #[derive(Debug)]
 pub struct PluralRules {
     rules: Vec<Rule>,

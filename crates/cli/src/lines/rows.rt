@@ -89,21 +89,21 @@ fn filter_next<R: Read, W: Sink, D: Diagnostics<ProgramError>>(
     }))
 }
 
-/// Makes the calls on each line of the input, from the line with the number `first`, writes the texts to `out`, each
-/// with a line feed, and returns whether each line has a text.
+/// Makes the calls on each line of the input, and returns whether each line has a text.
 ///
-/// A line is all bytes up to a line feed; the bytes after the last line feed are a line if there are any. Where the
-/// filter has records, each of these takes the place of a line, and its number is that of its first line. A header is
-/// copied. With `Skip` and `Keep` the error of a line is reported, and an empty line or the line itself is written.
+/// The texts are written to `out`, each with a line feed. `first` is the number of the first line that is read. A line
+/// is all bytes up to a line feed. If there are bytes after the last line feed, these are a line too. If the filter has
+/// records, each record is handled as one line, whose number is that of its first line. A header is copied. With `Skip`
+/// and `Keep` the error of a line is reported, and an empty line (`Skip`) or the line itself (`Keep`) is written.
 ///
 /// # Errors
 ///
-/// - `Line`: with `Stop`, the conversion of a line fails; otherwise, it is out of memory.
+/// - `Line`: with `Stop`, the conversion of a line fails; with `Skip` or `Keep`, it is out of memory.
 /// - `LongLine`: the reader has failed, out of memory for the line.
 /// - `Input`: the reader has failed otherwise, or there are more lines than a `u64` counts.
 /// - `Output`: the sink failed, after a prefix of the texts of some lines.
 ///
-/// Else the texts of all lines before the error are in `out`.
+/// After any error but `Output`, the texts of all lines before the error are in `out`.
 pub fn filter_lines<R: Read, W: Sink, D: Diagnostics<ProgramError>>(
     alloc: Global,
     filter: &Filter<'_>,

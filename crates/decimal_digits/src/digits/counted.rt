@@ -7,10 +7,16 @@ use std::alloc::AllocError;
 
 /// A borrowed list of digits, with the `Steps` that count its digit accesses.
 ///
-/// `get`, `set` and `push_in_room` are one digit access each, and `count_trailing` is one for each
-/// digit that it reads. The other calls pass no digit to or from the list, and are not counted; neither is what the
-/// list does inside a call. The list and the count are changed in place. Contracts see the list, the accesses so far,
-/// and that both are still those that were borrowed.
+/// `get`, `set` and `push_in_room` are one digit access each, and `count_trailing` is one for each digit that it reads.
+/// The other calls pass no digit to or from the list, and are not counted. What the list does inside a call is not
+/// counted either. The list and the count are changed in place. Contracts see the list, the accesses so far, and that
+/// both are still those that were borrowed.
+///
+/// ```
+/// let mut steps = Steps::new();
+/// let mut counted = Counted::new(&mut digits, &mut steps);
+/// counted.set(0, 7); // one digit access
+/// ```
 #[derive(Drop)]
 pub struct Counted<'a, D: DigitStore> {
     list: &'a mut D,

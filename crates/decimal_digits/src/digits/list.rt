@@ -8,6 +8,12 @@ use std::alloc::{AllocError, Global};
 /// A list of digits with one digit to a byte, of which up to eight need no allocation.
 ///
 /// The list that `from_digits` makes of 2, 5 and 0 has three bytes, and needs no allocation.
+///
+/// ```
+/// let digits = DigitList::from_digits(alloc, &[2, 5, 0])?;
+/// digits.get(1) // 5
+/// digits.as_bcd() // None
+/// ```
 #[derive(Debug)]
 pub struct DigitList {
     bytes: SmallVec<u8, 8>,

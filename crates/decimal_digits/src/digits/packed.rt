@@ -27,6 +27,12 @@ pub(super) use words::pack_word;
 /// The digit at index `i` is in byte `i / 2`, in the high nibble if `i` is even. There are at least eight bytes, and
 /// the nibbles after the digits are 0. The list that `from_digits` makes of 2, 5 and 0 has the byte 0x25 and seven
 /// bytes 0x00, and needs no allocation.
+///
+/// ```
+/// let digits = PackedDigits::from_digits(alloc, &[2, 5, 0])?;
+/// digits.as_bcd() // the bytes 0x25 and 0x00
+/// digits.bcd_at(0) // 0x2500_0000_0000_0000
+/// ```
 #[derive(Debug)]
 pub struct PackedDigits {
     bytes: SmallVec<u8, 8>,

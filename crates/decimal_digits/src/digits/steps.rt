@@ -8,6 +8,12 @@ use std::marker::Model;
 ///
 /// Contracts see `count`; at run time it has no bytes. `tick` adds one, and `tick_by` the given number. No other call
 /// changes a `Steps`, but its owner may replace it by a new one.
+///
+/// ```
+/// let mut steps = Steps::new();
+/// steps.tick();
+/// steps.tick_by(6); // contracts see a count of 7
+/// ```
 #[derive(Debug, Drop)]
 pub struct Steps {
     pub ghost count: { ℕ },

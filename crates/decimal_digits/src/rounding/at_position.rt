@@ -51,13 +51,18 @@ fn magnitude_after<D: DigitStore>(counted: &Counted<'_, D>, position: i16, place
 
 /// Rounds the number of a list of digits at a position, and returns the magnitude of its first digit afterwards.
 ///
-/// `magnitude` is that of the first digit. The list has no leading and no trailing zeros, before and after. The digits
-/// 1, 2 and 5 from magnitude 0 down, which are 1.25, become 1 and 2 at position -1, half-even by 1, and the result is
-/// 0. The result is also 0 if no digit is left. The law
-/// [`rounded_number_is_named`](crate::laws::rounded_number_is_named) says which multiple the number is.
+/// `magnitude` is that of the first digit. The list has no leading and no trailing zeros, before and after. The result
+/// is 0 if no digit is left. The law [`rounded_number_is_named`](crate::laws::rounded_number_is_named) says which
+/// multiple the number is. In the example 1.25 becomes 1.2.
 ///
-/// There are at most 7 digit accesses, and one for each digit that is removed; with `Limit`, at most 7, and one for
-/// each digit.
+/// There are at most 7 digit accesses, and one for each digit that is removed; with `Limit` there are at most 7, and
+/// one for each digit.
+///
+/// ```
+/// let mut counted = Counted::new(&mut digits, &mut steps); // 1, 2, 5
+/// let (mode, increment) = (UnsignedRoundingMode::HalfEven, RoundingIncrement::MultiplesOf1);
+/// round(&mut counted, 0, -1, mode, increment)? // 0, and the digits are 1, 2
+/// ```
 ///
 /// # Errors
 ///

@@ -18,6 +18,12 @@ const BLOCK: usize = 65_536;
 /// The contents are those of the writer and then the bytes in the block, which `close` writes. A write that is
 /// interrupted is repeated. A call of the writer that fails otherwise or takes no byte is a failure of the sink, after
 /// which the writer is not called again.
+///
+/// ```
+/// let mut sink = BufferedOut::open(alloc, rt.stdout())?;
+/// value.write_to(&mut sink)?;
+/// sink.close().error() // None, unless a call of standard output failed
+/// ```
 #[derive(Drop)]
 pub struct BufferedOut<W: Write> {
     writer: W,

@@ -6,6 +6,12 @@ use std::io::ErrorKind;
 use std::marker::Model;
 
 /// A writer after its last call, with the error of the call that failed, if one did.
+///
+/// ```
+/// let closed = sink.close();
+/// closed.has_failed() // false, if the writer took every byte
+/// closed.into_writer() // the writer of the sink
+/// ```
 #[derive(Drop)]
 pub struct Closed<W> {
     writer: W,

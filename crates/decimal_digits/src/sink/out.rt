@@ -11,9 +11,13 @@ use std::marker::Model;
 /// A sink over a writer, by one write for each byte.
 ///
 /// A write that fails, is interrupted, or takes no byte is a failure of the sink, after which the writer is not called
-/// again. Contracts
-/// see the writer, and whether the sink has failed. Over a `Vec<u8>`, `into_writer` returns the vector with the text of
-/// the numbers.
+/// again. Contracts see the writer, and whether the sink has failed.
+///
+/// ```
+/// let mut sink = Out::new(Vec::new(alloc));
+/// value.write_to(&mut sink)?;
+/// sink.into_writer() // the bytes of the text
+/// ```
 #[derive(Debug, Drop)]
 pub struct Out<W: Write> {
     writer: W,

@@ -10,8 +10,13 @@ const MIN_CAPACITY: usize = 64;
 
 /// A sink that keeps the bytes in memory. It fails only if out of memory.
 ///
-/// Contracts see the bytes and whether the sink has failed. After a number is written to `TextBuf::new(alloc)`,
-/// `as_bytes` returns its text.
+/// Contracts see the bytes and whether the sink has failed.
+///
+/// ```
+/// let mut text = TextBuf::new(alloc);
+/// value.write_to(&mut text)?;
+/// text.as_bytes() // b"-2.50"
+/// ```
 #[derive(Debug, Drop)]
 pub struct TextBuf {
     bytes: Vec<u8>,

@@ -9,6 +9,12 @@ use std::marker::{Model, PhantomData};
 /// The error of a call of a `W` that failed.
 ///
 /// Only a failed call makes one. Contracts see the number of bytes that were written before it failed.
+///
+/// ```
+/// if let Err(error) = write_whole(&mut writer, b"2.50\n") {
+///     error.written() // the number of bytes that the writer took before
+/// }
+/// ```
 #[derive(Debug, Drop)]
 pub struct WriteError<W> {
     kind: ErrorKind,
@@ -88,8 +94,18 @@ fn write_some<W: Write>(writer: &mut W, bytes: &[u8]) -> Result<usize, ErrorKind
     Err(ErrorKind::Other)
 }
 
-/// Writes all bytes. The writer is called until it has taken them all, again if a call is interrupted, and not again
-/// after a call that fails otherwise or takes no byte.
+/// Writes all bytes, by as many calls of the writer as that takes.
+///
+/// A call that is interrupted is repeated. After a call that fails otherwise, or takes no byte, the writer is not
+/// called again.
+///
+/// ```
+/// write_whole(&mut writer, b"2.50\n")?;
+/// ```
+///
+/// # Errors
+///
+/// That call: the writer has taken a prefix of the bytes, whose length is in the error.
 pub fn write_whole<W: Write>(writer: &mut W, bytes: &[u8]) -> Result<(), WriteError<W>>
     ensures ok { OnOk result (Appends (W.contents writer.old) (W.contents writer.new) bytes.now) }
     ensures err { IfErr result (λ written.

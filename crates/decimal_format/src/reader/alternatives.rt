@@ -11,6 +11,11 @@ use std::alloc::Global;
 
 /// Texts that may be around a number, and the sign that they show: of `(` and `)`, `Negative`. With `None` the number
 /// may show its own.
+///
+/// ```
+/// let negative = Alternative { prefix: "(", suffix: ")", sign: Sign::Negative };
+/// read_alternatives(&symbols, alloc, &[negative], "(1.50)")? // -1.50
+/// ```
 #[derive(Clone, Copy, Debug)]
 pub struct Alternative<'a> {
     /// The text before the number.
@@ -104,8 +109,13 @@ impl<'a> DecimalSymbols<'a> {
 ///
 /// The text and the affixes are compared as [`read_lenient`](DecimalSymbols::read_lenient) compares numbers: direction
 /// marks are ignored, and the kinds of minus signs, of plus signs and of spaces are not distinguished. Separators are
-/// optional. With the alternative `$` and an empty suffix, `$1234.5` is 1234.5, and with `(` and `)` for `Negative`,
-/// `(12)` is -12 and `(-12)`, of two signs, is `Syntax`. Requires readable symbols.
+/// optional. With the alternative `(` and `)` for `Negative`, `(12)` is -12, and `(-12)`, which has two signs, is
+/// `Syntax`. Requires readable symbols.
+///
+/// ```
+/// let alternatives = [Alternative { prefix: "$", suffix: "", sign: Sign::None }];
+/// read_alternatives(&symbols, alloc, &alternatives, "$1234.5")? // 1234.5
+/// ```
 ///
 /// # Errors
 ///

@@ -182,11 +182,16 @@ impl<'a> DecimalSymbols<'a> {
 
     /// Reads a decimal as people type it.
     ///
-    /// A text that [`read`](Self::read) accepts has the same value. In any other text, ASCII digits stand for the
-    /// digits of the locale, minus signs and hyphens for its minus, spaces for its grouping separator if that is a
-    /// space, apostrophes likewise, and direction marks are ignored: with the symbols of `fr`, `1 234,5` with a space
-    /// of the keyboard is 1234.5. Separators are optional, at the ends of groups: with those of `en`, `1234,567` is
-    /// 1234567, and `12,34` is `Syntax`. Requires readable symbols.
+    /// A text that [`read`](Self::read) accepts has the same value. In any other text direction marks are ignored, and
+    /// characters that people type instead of those of the locale are accepted: ASCII digits, minus signs and hyphens,
+    /// spaces if the grouping separator is a space, and apostrophes if it is an apostrophe. Separators are optional, at
+    /// the ends of groups: with those of `en`, `1234,567` is 1234567, and `12,34` is `Syntax`. Requires readable
+    /// symbols.
+    ///
+    /// ```
+    /// let symbols = locale("fr")?; // 1 234,5 with a narrow no-break space
+    /// symbols.read_lenient(alloc, "1 234,5")? // 1234.5: the space of the keyboard is accepted
+    /// ```
     ///
     /// # Errors
     ///

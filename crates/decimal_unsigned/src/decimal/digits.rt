@@ -13,6 +13,10 @@ use std::marker::Model;
 /// The digits that a value shows, most significant first.
 ///
 /// Contracts see the digits that are left.
+///
+/// ```
+/// value.digits().len() // 4 of 02.50
+/// ```
 #[derive(Drop)]
 pub struct Digits<'a, D: DigitStore> {
     // The next `ready` digits are the nibbles of `word` from the highest one on, with zeros after them. The `rest`

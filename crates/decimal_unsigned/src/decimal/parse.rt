@@ -27,6 +27,12 @@ use std::marker::Model;
 ///
 /// Contracts see the value that `value` makes. To parse several texts, scan all of them first: every error except out
 /// of memory is then reported before a digit is stored. A scan borrows its text.
+///
+/// ```
+/// let scan = Scan::new(b"100e-2")?;
+/// scan.lowest() // -2
+/// scan.value::<PackedDigits>(alloc)? // 1.00
+/// ```
 #[derive(Debug, Drop)]
 pub struct Scan<'a> {
     parts: Parts<'a>,
@@ -118,16 +124,22 @@ impl<D: DigitStore> UnsignedOver<D> {
     /// Parses a value.
     ///
     /// A text is digits, or digits around a decimal point with at least one fraction digit. Either can be followed by
-    /// an `e` or `E` and an integer exponent, with at most one sign, minus or plus; the decimal point then needs no
-    /// digit on either side. All zeros count: `0012.3400` shows magnitudes 3 to -4. With an exponent, leading zeros are
-    /// removed if the first nonzero digit is above magnitude 0, and trailing zeros if the last one is below it:
-    /// `1.20e0` gives `1.2`, and `1.20e+1` gives `12.0`.
+    /// an `e` or `E` and an integer exponent, with at most one sign, minus or plus. With an exponent the decimal point
+    /// needs no digit on either side. All zeros count: `0012.3400` shows magnitudes 3 to -4. With an exponent, leading
+    /// zeros are removed if the first nonzero digit is above magnitude 0, and trailing zeros if the last one is below
+    /// it: `1.20e0` gives `1.2`, and `1.20e+1` gives `12.0`.
+    ///
+    /// ```
+    /// UnsignedDecimal::try_from_utf8(alloc, b"0012.3400")? // 0012.3400
+    /// UnsignedDecimal::try_from_utf8(alloc, b"1.20e+1")? // 12.0
+    /// UnsignedDecimal::try_from_utf8(alloc, b"5.") // Syntax
+    /// ```
     ///
     /// # Errors
     ///
     /// - `Syntax`: the text has none of these forms.
-    /// - `Limit`: there are more than 32,768 integer or fraction digits; or, for a number other than 0, the exponent is
-    ///   outside -32768 to 32767, or moves the range outside of these magnitudes.
+    /// - `Limit`: there are more than 32,768 integer or fraction digits. Or the number is not 0, and its exponent is
+    ///   outside of -32768 to 32767, or moves the range outside of these magnitudes.
     /// - `Memory`: out of memory; possible only with more than `L` digits.
     // Inlined always, for the reason that `from_short_text` gives.
     #[inline(always)]

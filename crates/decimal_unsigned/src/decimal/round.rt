@@ -28,13 +28,13 @@ impl<D: DigitStore> UnsignedOver<D> {
     /// Rounds to a multiple of an increment at a position, and counts the digit accesses.
     ///
     /// The unit is the increment times 10^`position` (see `UnsignedOver`). The mode chooses one of all multiples of the
-    /// unit, which becomes the number. The lowest magnitude shown is the position, or 0 if that is lower; the highest
-    /// is the greatest of the highest one before, the one just below the position, and that of the first digit. `9.75`
-    /// at -1, half-even by 5, becomes `10.0`, and `99.999` at 4, half-expand, becomes `0000`, since 0 is nearer than
-    /// 10000.
+    /// unit, which becomes the number. The lowest magnitude shown is the position, or 0 if that is lower. The highest
+    /// one is the greatest of three: the highest one before, the one just below the position, and that of the first
+    /// digit. `9.75` at -1, half-even by 5, becomes `10.0`. `99.999` at 4, half-expand, becomes `0000`, since 0 is
+    /// nearer than 10000.
     ///
-    /// There are at most 7 digit accesses, and one for each digit that is removed; with `Limit`, at most 7, and one for
-    /// each digit. Law: [`crate::laws::rounding_is_monotone`].
+    /// There are at most 7 digit accesses, and one for each digit that is removed; with `Limit` there are at most 7,
+    /// and one for each digit. Law: [`crate::laws::rounding_is_monotone`].
     ///
     /// # Errors
     ///

@@ -88,7 +88,12 @@ fn remainder_is_in(remainder: u64, ranges: &[Range]) -> bool
 /// Returns whether a relation holds: an operand, or its remainder by a modulus, is in one of the ranges, or for `!=` in
 /// none of them.
 ///
-/// `n` is in no range where it is not an integer.
+/// If `n` is not an integer, it is in no range. UTS 35 part 3, Relations.
+///
+/// ```
+/// // `n % 10 = 2..4`, which holds for 22, and for 23.0 too:
+/// relation_holds(&number, Operand::N, Modulus::new(10), true, &[Range { low: 2, high: 4 }]) // true
+/// ```
 pub fn relation_holds<D: DigitStore>(
     number: &PluralOperands<'_, D>,
     operand: Operand,
