@@ -1,4 +1,4 @@
-//! White space and marks at the ends of a part.
+//! White space and marks at the ends of a text, which are parts of their own.
 ghost use Rattle.std.specs.{Prelude.{◌≡◌, ◌-◌, ◌≤◌, ◌++◌, [], ◌∷◌, length, take, drop, reverse, MatchOption}, Str.{chars, IsUtf8, encode_utf8_all}, Char.encode_utf8};
 ghost use Rattle.number_format.specs.TrimmedTexts.{is_trimmed, from_kept, trimmed_length, kept_length};
 
