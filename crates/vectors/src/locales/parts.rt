@@ -83,28 +83,26 @@ fn joined(first: RangeSource, second: RangeSource) -> RangeSource {
     }
 }
 
-impl<'a> RangePartTexts<'a> {
-    /// Ends the last part, if there is one.
-    fn end(&mut self) -> Result<(), SinkFault> {
-        let source = match self.last {
-            None => return Ok(()),
-            Some((_, RangeSource::Shared)) => "@shared",
-            Some((_, RangeSource::StartRange)) => "@startRange",
-            Some((_, RangeSource::EndRange)) => "@endRange",
-        };
-        self.text.put_bytes(source.as_bytes())
+/// Returns what ends a part, if there is one.
+fn end_of(last: Option<(PartKind, RangeSource)>) -> &'static str {
+    match last {
+        None => "",
+        Some((_, RangeSource::Shared)) => "@shared",
+        Some((_, RangeSource::StartRange)) => "@startRange",
+        Some((_, RangeSource::EndRange)) => "@endRange",
     }
+}
 
-    /// Puts the name of a kind, if it is another one than that of the last part, and returns the source.
-    fn begin(&mut self, kind: PartKind) -> Result<RangeSource, SinkFault> {
-        match self.last {
-            Some((last, source)) if last == kind => Ok(joined(source, self.source)),
-            _ => {
-                self.end()?;
-                self.text.put_bytes(name(kind).as_bytes())?;
-                Ok(self.source)
-            }
-        }
+/// Returns what ends the last part and begins the next one, if a piece is not of the last part, and the source of its
+/// part.
+fn next_part(
+    last: Option<(PartKind, RangeSource)>,
+    kind: PartKind,
+    source: RangeSource,
+) -> (&'static str, &'static str, RangeSource) {
+    match last {
+        Some((last, first)) if last == kind => ("", "", joined(first, source)),
+        _ => (end_of(last), name(kind), source),
     }
 }
 
@@ -114,8 +112,10 @@ impl<'a> PartSink for RangePartTexts<'a> {
     ghost has_failed = { λ s. ⟦<LimitedSink<'a> as Sink>⟧.has_failed s.text };
 
     fn put(&mut self, kind: PartKind, text: &str) -> Result<(), SinkFault> {
-        let source = self.begin(kind)?;
+        let (end, begin, source) = next_part(self.last, kind, self.source);
         self.last = Some((kind, source));
+        self.text.put_bytes(end.as_bytes())?;
+        self.text.put_bytes(begin.as_bytes())?;
         self.text.put_bytes(text.as_bytes())
     }
 }
@@ -133,5 +133,6 @@ pub fn has_range_parts(formatted: &FormattedRange<'_>, parts: &str) -> bool {
             return false;
         }
     }
-    sink.end().is_ok() && sink.text.has_all()
+    let end = end_of(sink.last);
+    sink.text.put_bytes(end.as_bytes()).is_ok() && sink.text.has_all()
 }
