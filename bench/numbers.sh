@@ -11,6 +11,8 @@
 # - `format`: a text is parsed as a decimal, formatted and written into a sink in memory; with `decimal` instead of a
 #   skeleton by DecimalFormatter. In ICU it is LocalizedNumberFormatter::formatDecimal of the text, and its text in
 #   UTF-8; in node Intl.NumberFormat's format of the text.
+# - `range`: two texts are parsed, and written as a range. In ICU it is
+#   LocalizedNumberRangeFormatter::formatFormattableRange of the texts, in node Intl.NumberFormat's formatRange.
 # - `read`: NumberReader::read of the formatted text, in ICU unum_parseDecimal of it in UTF-16, by the style
 #   UNUM_CURRENCY or UNUM_PERCENT.
 #

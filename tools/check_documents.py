@@ -1,5 +1,9 @@
 #!/usr/bin/env python3
-"""Checks the documents against the tree: `python3 tools/check_documents.py`. The last line is `N passed, M failed`."""
+"""Checks the documents against the tree: `python3 tools/check_documents.py`. The last line is `N passed, M failed`.
+
+The commands of README and PROGRAMS are run by the programs that are built of the sources as they are (tools/built.py).
+With BUILT_BY_GATE set all of them have to be built.
+"""
 import functools
 import os
 import re
@@ -14,8 +18,8 @@ LIBRARIES = [*CRATES[:4], "locale_data", "locale_names", "number_format", "numbe
 CALLERS = ["uses", "plural_rules", "decimal_format", "locale_data", "locale_names", "number_format", "number_skeleton",
            "conversions", "cli", "fixed_decimal_c"]
 # Modules and functions that are public for the crates of this repository alone.
-INTERNAL = re.compile(r"/src/(?:rounding/|digits/packed/|digits/steps|ops|uint_iterator|block|decimal/parse/|reader/|search"
-                      r"|tag|tables/)")
+INTERNAL = re.compile(r"/src/(?:rounding/|digits/packed/|digits/steps|ops|uint_iterator|block|decimal/parse/|reader/"
+                      r"|search|tag|tables/)")
 HIDDEN = {"from_bcd_digits", "from_short_text", "scan_from", "lowest_of"}
 OUTSIDE = re.compile(r"\b(?:document|paper|issue|session|request|promise|definition) \d|\b[DTRW]\d{1,2}\b"
                      r"|/(?:work|tmp|root|home)/")
@@ -39,6 +43,7 @@ def read(path):
         return file.read()
 
 
+os.chdir(os.path.dirname(os.path.dirname(os.path.abspath(__file__))))
 LISTED = subprocess.run(["git", "ls-files"], capture_output=True, text=True, check=True).stdout
 FILES = [path for path in LISTED.split("\n") if os.path.isfile(path)]
 CODE = {path: read(path) for path in FILES if path.endswith((".rt", ".antt"))}
@@ -283,11 +288,19 @@ def check_design():
             check(not bare, f"{path}: no comment says what {bare} hold")
 
 
+def is_built(program):
+    """Whether a program is built of the sources as they are."""
+    run = subprocess.run([sys.executable, "tools/built.py", "programs", program], capture_output=True,
+                         env={**os.environ, "BUILT_BY_GATE": "1"})
+    return run.returncode == 0
+
+
 def check_examples():
     """Each `$ ..` of README and PROGRAMS writes what follows it, if its program is built. `cat FILE` shows an input.
     `tests/setting_up.sh` runs the command with `rt`, and `tests/guide.sh` the commands of the guide."""
     folders = {name: os.path.abspath(f"crates/{name}/out") for name in ["fixdec", "fixdec_lines", "plural"]}
-    unbuilt = {name for name, folder in folders.items() if not os.access(f"{folder}/{name}", os.X_OK)}
+    unbuilt = {name for name in folders if not is_built(name)}
+    check(not unbuilt or not os.environ.get("BUILT_BY_GATE"), f"these programs are not built: {sorted(unbuilt)}")
     for document in ["README.md", "docs/PROGRAMS.md"]:
         with tempfile.TemporaryDirectory() as room:
             for block in [text for _, text in blocks(document) if text.startswith("$ ")]:
