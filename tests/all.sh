@@ -5,6 +5,9 @@
 # `not run: ..` for each thing that is missing here, and `N passed, M failed`; the status is 0 if M is 0.
 set -u
 cd "$(dirname "$0")/.." || exit 1
+# One run at a time: another one would remove what the gate has built, and the scripts would not find it.
+exec 9< tests/all.sh || exit 1
+flock -n 9 || { echo 'waits for another tests/all.sh in this clone'; flock 9; }
 room=$(mktemp -d) || exit 1
 passed=0
 failed=0
@@ -35,8 +38,14 @@ count() {
 
 # One job for each check, as many checks as there are processors: two jobs take a third more processor time.
 export RT_JOBS=${RT_JOBS:-$(nproc)} JOBS=${JOBS:-1}
-python3 tools/built.py gate 2>&1 | tee "$room/log"
-count 'the gate' "${PIPESTATUS[0]}" "$room/log"
+setsid python3 tools/built.py gate > "$room/log" 2>&1 9<&- &
+gate=$!
+tail -n +1 -f --pid=$gate "$room/log" 9<&- &
+shown=$!
+wait $gate
+status=$?
+wait $shown
+count 'the gate' $status "$room/log"
 
 # The scripts take what `rt ci` has just built, and nothing else. Those that take longest begin.
 export BUILT_BY_GATE=1
@@ -46,7 +55,7 @@ scripts=(tests/{c,postgresql,end_to_end,installs,setting_up,guide,releases,dask,
 started=()
 for script in "${scripts[@]}"; do
   while [ "$(jobs -rp | wc -l)" -ge "$(nproc)" ]; do wait -n; done
-  setsid timeout 30m "$script" > "$room/${#started[@]}" 2>&1 &
+  setsid timeout 30m "$script" > "$room/${#started[@]}" 2>&1 9<&- &
   started+=($!)
 done
 for number in "${!scripts[@]}"; do
