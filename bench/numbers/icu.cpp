@@ -2,9 +2,9 @@
 // nanoseconds of a call.
 //
 // `format` is LocalizedNumberFormatter::formatDecimal of a text, and its text in UTF-8. `range` is
-// LocalizedNumberRangeFormatter::formatFormattableRange of two texts, and its text in UTF-8. `read` is unum_parseDecimal
-// of the text in UTF-16. All of these are made before the clock starts. `make` is UnlocalizedNumberFormatter::locale, and
-// `first` also formats the number.
+// LocalizedNumberRangeFormatter::formatFormattableRange of two texts, and its text in UTF-8. `read` is
+// unum_parseDecimal of the text in UTF-16. All of these are made before the clock starts. `make` is
+// UnlocalizedNumberFormatter::locale, and `first` also formats the number.
 #include <unicode/fmtable.h>
 #include <unicode/numberformatter.h>
 #include <unicode/numberrangeformatter.h>

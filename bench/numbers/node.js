@@ -1,6 +1,6 @@
-// Times node for bench/numbers.sh: a row `format`, `range`, `make` or `first`, locale, skeleton, number, nanoseconds of a
-// call, by the options that the skeleton has in ECMA-402. `format` is Intl.NumberFormat.prototype.format, `range` is its
-// formatRange, `make` is `new Intl.NumberFormat`, and `first` also formats the number. Reading is not in ECMA-402.
+// Times node for bench/numbers.sh: a row `format`, `range`, `make` or `first`, locale, skeleton, number, nanoseconds of
+// a call, by the options that the skeleton has in ECMA-402. `format` is Intl.NumberFormat.prototype.format, `range` is
+// its formatRange, `make` is `new Intl.NumberFormat`, and `first` also formats the number. Reading is not in ECMA-402.
 const CALLS = 20_000;
 const NUMBERS = ["1234.5", "-1234567.891", "0.25"];
 const UNIT = "unit/kilometer-per-hour";

@@ -63,8 +63,8 @@ impl NumberFormatter {
 
     /// Makes the formatter of a locale and options for [`format_range`](Self::format_range). It does not allocate.
     ///
-    /// It differs from that of [`NumberFormatter::try_new`] for one unit. Of `percent-per-hour`, short or narrow and not
-    /// in compact notation, `Intl.NumberFormat` writes `1%` of one number, but `1–2%/h` of a range.
+    /// It is that of [`try_new`](Self::try_new), but for percent per another unit: of `percent-per-hour`, short or
+    /// narrow and not in compact notation, `Intl.NumberFormat` writes `1%` of one number, but `1–2%/h` of a range.
     ///
     /// # Errors
     ///

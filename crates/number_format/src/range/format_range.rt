@@ -114,10 +114,9 @@ impl NumberFormatter {
 
     /// Formats the range of two numbers, in any order: `1–2`, or `~1` of two numbers that are shown alike.
     ///
-    /// `texts` are those of the formatter's locale. [`for_ranges`](NumberFormatter::for_ranges) makes the formatter; for
-    /// units but `percent-per-hour` and its like, [`try_new`](NumberFormatter::try_new) makes the same. Both numbers are
-    /// rounded as by [`format`](Self::format). What both have around them is written once if it has more than one
-    /// character, as ICU does: `1,00–2,00 €`, but `$1.00 – $2.00`. `formatRange` of ECMA-402.
+    /// `texts` are those of the formatter's locale. [`for_ranges`](NumberFormatter::for_ranges) makes the formatter.
+    /// Both numbers are rounded as by [`format`](Self::format). What both have around them is written once if it has
+    /// more than one character, as ICU does: `1,00–2,00 €`, but `$1.00 – $2.00`. `formatRange` of ECMA-402.
     ///
     /// # Errors
     ///
