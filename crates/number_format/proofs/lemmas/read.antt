@@ -3,3 +3,6 @@ pub mod AffixedNumbers
 pub mod ReadBack
 pub mod FormatterTexts
 pub mod ShownValues
+pub mod ScientificScans
+pub mod ScientificExponents
+pub mod ScientificTexts

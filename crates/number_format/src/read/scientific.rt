@@ -10,7 +10,7 @@ mod scan;
 
 use crate::options::{ExponentOptions, ExponentSign};
 use crate::read::scientific::exponent::{Exponent, read_exponent};
-use crate::read::scientific::scan::{Scan, scan_number};
+use crate::read::scientific::scan::{Scan, cut, scan_number};
 use decimal_format::DecimalSymbols;
 use decimal_format::internal::begins_with_digit;
 use fixed_decimal::{DigitStore, ParseError, Signed, UnsignedOver};
