@@ -63,10 +63,14 @@ pub record IsScientificNumeral (s : Symbols) (f : ExponentForm) (bytes : List �
   pub notation : IsInNotation (step_of f) (number_from_digits 10 w.significand.whole)
       (number_from_digits 10 w.significand.fraction) (exponent_of w)
 
--- no text that begins with the separator begins with a digit, a decimal or a grouping separator
+-- neither text begins with the other
+pub record AreApart (a b : List ℕ) : Type 0 where
+  pub first : ¬ BeginsWith a b
+  pub second : ¬ BeginsWith b a
+
+-- no text begins with the separator and with a digit, a decimal or a grouping separator
 abbrev pub IsSeparatorApart : Symbols → List ℕ → Type 0
-IsSeparatorApart s separator =
-    (k : ℕ) → k < 12 → (¬ BeginsWith separator (code s k)) × ¬ BeginsWith (code s k) separator
+IsSeparatorApart s separator = (k : ℕ) → k < 12 → AreApart separator (code s k)
 
 -- the exponents are told from significands, and their signs are shown
 pub record CanReadExponent (s : Symbols) (f : ExponentForm) : Type 0 where

@@ -6,3 +6,4 @@ pub mod ShownValues
 pub mod ScientificScans
 pub mod ScientificExponents
 pub mod ScientificTexts
+pub mod ScientificValues

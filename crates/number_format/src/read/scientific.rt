@@ -5,10 +5,12 @@ ghost use Rattle.decimal_unsigned.specs.Unsigned.{IsValue};
 ghost use Rattle.decimal_format.specs.{Readable.IsReadable, Reading.IsNumeral};
 ghost use Rattle.number_format.specs.{AffixedTexts.shifted, ScientificReading.{step_of, IsInNotation, IsSeparatorApart, CanReadExponent, ScientificNumeral, IsScientificNumeral, IsReadScientific, HasNumbers, HasExponent, capped_exponent, exponent_of, IsSplit}};
 
+mod apart;
 mod exponent;
 mod scan;
 
 use crate::options::{ExponentOptions, ExponentSign};
+use crate::read::scientific::apart::is_separator_apart;
 use crate::read::scientific::exponent::{Exponent, read_exponent};
 use crate::read::scientific::scan::{Scan, cut, scan_number};
 use decimal_format::DecimalSymbols;
@@ -57,6 +59,17 @@ impl<'a> ExponentForm<'a> {
             return significand.whole < 1000 && exponent.remainder == 0;
         }
         significand.whole < 10
+    }
+
+    /// Returns whether the exponents that are written can be read: the separator is told from digits and from other
+    /// separators, and a minus sign is shown.
+    pub(crate) fn can_read(&self, symbols: &DecimalSymbols<'_>) -> bool
+        ensures { IsTrue result ↔ CanReadExponent symbols.now self.now }
+    {
+        match self.options.sign {
+            ExponentSign::Never => false,
+            _ => is_separator_apart(symbols, self.separator.as_bytes()),
+        }
     }
 
     /// Returns what precedes the separator, and the exponent.

@@ -15,8 +15,8 @@ module _ (s : Symbols) where
   -- a text that begins with the separator begins with no digit and no other separator
   pub separator_ends : (separator tail : List ℕ) → IsSeparatorApart s separator → EndsNumber s (separator ++ tail)
   separator_ends separator tail apart k rest below e = elim (meet separator _ tail rest e) [
-    | inl begins ↦ (apart k below).1 begins
-    | inr begins ↦ (apart k below).0 begins
+    | inl begins ↦ (apart k below).second begins
+    | inr begins ↦ (apart k below).first begins
   ]
 
   -- a numeral without a sign

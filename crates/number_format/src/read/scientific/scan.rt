@@ -26,7 +26,7 @@ pub(super) fn cut<'t>(text: &'t [u8], code: &[u8]) -> Option<&'t [u8]>
     text.strip_prefix(code)
 }
 
-fn cut_code<'t>(symbols: &DecimalSymbols<'_>, index: u8, text: &'t [u8]) -> Option<&'t [u8]>
+pub(super) fn cut_code<'t>(symbols: &DecimalSymbols<'_>, index: u8, text: &'t [u8]) -> Option<&'t [u8]>
     requires { index < 12 }
     ensures { MatchOption result ((rest : List ℕ) → text.now ≢ code symbols.now index ++ rest)
         (λ r. text.now ≡ code symbols.now index ++ r.now) }
