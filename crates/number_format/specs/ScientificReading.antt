@@ -1,10 +1,10 @@
 -- Numbers in scientific and engineering notation, such as `1.2E3`: which texts are read, and as what.
-use Rattle.std.specs.{Prelude.{◌≡◌, ◌≢◌, ℕ, ◌+◌, ◌*◌, ◌%◌, ◌^◌, ◌<◌, ◌⊎◌, ◌==◌, nat_lt, min, max, Bool, false, true, ◌||◌, if◌then◌else◌, List, [], ◌++◌, length, get_or, ℤ, pos, negsuc, ◌-ℤ◌, unsigned_abs, Result, Ok, Err}, Int.{int_max, int_min, Digits.{AllBelowBase, number_from_digits}}}
-use Rattle.decimal_digits.specs.Number.{size}
-use Rattle.decimal_unsigned.specs.declared.error.ParseError.{ParseError, TheVariants.{Syntax, Limit, Memory}}
+use Rattle.std.specs.{Prelude.{◌≡◌, ◌≢◌, ℕ, ◌+◌, ◌*◌, ◌%◌, ◌^◌, ◌<◌, ◌⊎◌, ◌==◌, nat_lt, min, max, Bool, false, true, ◌||◌, if◌then◌else◌, List, [], ◌++◌, length, get_or, ℤ, pos, negsuc, ◌+ℤ◌, ◌-ℤ◌, unsigned_abs, Result, Ok, Err}, Int.{int_max, int_min, Digits.{AllBelowBase, number_from_digits}}}
+use Rattle.decimal_digits.specs.Number.{size, first}
+use Rattle.decimal_unsigned.specs.{Unsigned.Unsigned, declared.error.ParseError.{ParseError, TheVariants.{Syntax, Limit, Memory}}}
 use Rattle.fixed_decimal.specs.{Decimal.Decimal, declared.variations.Sign.{Sign, TheVariants.{None, Negative}}}
-use Rattle.decimal_format.specs.{Readable.{BeginsWith, BeginsWithDigit, code}, Reading.{Numeral, IsNumeral, digits_text, fraction_text}, Scanning.value_of, Symbols.{Symbols, sign_affixes}}
-use Rattle.number_format.specs.{declared.{options.{ExponentOptions.ExponentOptions, ExponentSign.ExponentSign}, read.scientific.{ExponentForm.ExponentForm, exponent.Exponent.Exponent, scan.Scan.Scan}}, AffixedTexts.shifted, NumberText.exponent_sign}
+use Rattle.decimal_format.specs.{declared.grouping.GroupingStrategy.{GroupingStrategy, TheVariants.Never}, Formatted.absolute_text, Readable.{BeginsWith, BeginsWithDigit, code}, Reading.{Numeral, IsNumeral, digits_text, fraction_text}, Scanning.value_of, Symbols.{Symbols, sign_affixes}}
+use Rattle.number_format.specs.{declared.{options.{ExponentOptions.ExponentOptions, ExponentSign.ExponentSign}, notation.Notation.{Notation, TheVariants.{Scientific, Engineering}}, read.scientific.{ExponentForm.ExponentForm, exponent.Exponent.Exponent, scan.Scan.Scan}}, AffixedTexts.shifted, NumberText.{exponent_sign, shown_exponent}, Scaled.exponent_at}
 
 -- ---- The exponent.
 
@@ -102,6 +102,23 @@ pub record IsReadScientific (inline : ℕ) (s : Symbols) (f : ExponentForm) (byt
   pub found : result ≢ Err Syntax → (w : ScientificNumeral) × IsScientificNumeral s f bytes w
   pub value : (w : ScientificNumeral) → IsScientificNumeral s f bytes w
       → IsValueOrMemory inline w.significand (scientific_value w) result
+
+-- ---- What is written.
+
+-- the text of a significand and an exponent
+abbrev pub scientific_text : Symbols → ExponentForm → GroupingStrategy → Unsigned → ℤ → List ℕ
+scientific_text s f strategy v e =
+    absolute_text s strategy v
+    ++ (f.separator.now ++ ((sign_affixes s (exponent_sign f.options.sign e)).prefix
+    ++ absolute_text s Never (shown_exponent f.options e).absolute))
+
+abbrev pub notation_of : ExponentForm → Notation
+notation_of f = if f.is_engineering then Engineering else Scientific
+
+-- the exponent is the one that the notation has for the number; that of 0 is 0
+abbrev pub HasExponentOf : Notation → ℕ → ℤ → Type 0
+HasExponentOf notation number e =
+    ((0 < number) × (e ≡ exponent_at notation (first number +ℤ e))) ⊎ ((number ≡ 0) × (e ≡ pos 0))
 
 -- ---- Private: used only in the contracts of private functions.
 

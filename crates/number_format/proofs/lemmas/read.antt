@@ -7,3 +7,5 @@ pub mod ScientificScans
 pub mod ScientificExponents
 pub mod ScientificTexts
 pub mod ScientificValues
+pub mod ScientificExponentTexts
+pub mod ScientificShown

@@ -1,12 +1,12 @@
 -- The values of numbers with an exponent.
 use Rattle.std.proofs.{Common.{◌≡◌, ◌≢◌, ℕ, ◌<◌, ◌≤◌, Bool, true, false, ◌||◌, nat_lt, inl, inr, List, length, refl, sym, ◌∙◌, ap, subst, arith, rules}, lemmas.Bool.{cases_lt, Decides.nat_tests}}
-use Rattle.std.specs.Prelude.{◌×◌, if◌then◌else◌, Result, Ok, Err, ℤ}
+use Rattle.std.specs.Prelude.{if◌then◌else◌, Result, Ok, Err, ℤ}
 use Rattle.decimal_digits.specs.Number.{size}
 use Rattle.decimal_unsigned.specs.{Unsigned.{Unsigned, IsValue}, declared.error.ParseError.{ParseError, TheVariants.{Syntax, Limit, Memory}}}
 use Rattle.fixed_decimal.specs.Decimal.{Decimal}
 use Rattle.decimal_format.specs.{Symbols.Symbols, Readable.IsReadable, Reading.{Numeral, IsNumeral, IsBeyondLimits, IsWritten, IsRead}, Scanning.value_of}
-use Rattle.decimal_format.proofs.lemmas.reader.{NumeralLaws.formatted_texts, NumeralTexts.HasDigits}
-use Rattle.number_format.specs.{declared.read.scientific.ExponentForm.ExponentForm, AffixedTexts.shifted, ScientificReading.{ScientificNumeral, exponent_of, IsScientificNumeral, is_beyond_limits, numeral_value, IsValueOrMemory, IsReadScientific, capped_exponent, IsSplit}}
+use Rattle.decimal_format.proofs.lemmas.reader.{NumeralLaws.texts_by, NumeralTexts.HasDigits}
+use Rattle.number_format.specs.{declared.read.scientific.ExponentForm.ExponentForm, AffixedTexts.shifted, ScientificReading.{ScientificNumeral, exponent_number, exponent_of, IsScientificNumeral, is_beyond_limits, numeral_value, IsValueOrMemory, IsReadScientific, capped_exponent, IsSplit}}
 use Rattle.number_format.proofs.lemmas.read.ScientificTexts.{no_sign_shown}
 
 above_limit : (n : ℕ) → 32768 < n → nat_lt 32768 n ≡ true
@@ -35,11 +35,16 @@ few_is w none = λ i.
 abbrev value_by : Numeral → Bool → Result Decimal ParseError
 value_by w b = if b then Err Limit else Ok (record { sign = w.sign; absolute = value_of w })
 
+-- the digits of a value have this value
+pub digits_value : (v : Decimal) (w : Numeral) → HasDigits v w → numeral_value w ≡ Ok v
+digits_value v w has =
+    ap (value_by w) (few_is w has.few) ∙ (λ i. Ok (record { sign = sym has.sign i; absolute = sym has.absolute i }))
+
 module _ (inline : ℕ) (s : Symbols) (readable : IsReadable s) (front : List ℕ) where
   has_digits : (v : Decimal) → IsValue v.absolute → IsWritten s v front → (w : Numeral) → IsNumeral s front w
       → HasDigits v w
   has_digits v valid written w n =
-      let texts = formatted_texts s readable front in
+      let texts = texts_by true s readable front in
       let t = texts.reads v valid written in
       subst (HasDigits v) (texts.unique t.0 w t.1 n) t.2
 
@@ -48,12 +53,11 @@ module _ (inline : ℕ) (s : Symbols) (readable : IsReadable s) (front : List �
       → IsRead inline (IsNumeral s front) (λ v. IsWritten s v front) r → IsValueOrMemory inline w (numeral_value w) r
   numeral_read w n (Ok v) is =
       let has = has_digits v is.found.0 is.found.1 w n in
-      let value : Ok v ≡ value_by w false = λ i. Ok (record { sign = has.sign i; absolute = has.absolute i }) in
-      inl (value ∙ ap (value_by w) (sym (few_is w has.few)))
+      inl (sym (digits_value v w has))
   numeral_read w n (Err Syntax) is = absurd (is.syntax.0 refl w n)
   numeral_read w n (Err Limit) is =
       let x = is.limit.0 refl in
-      let same = (formatted_texts s readable front).unique x.0 w x.1 n in
+      let same = (texts_by true s readable front).unique x.0 w x.1 n in
       inl (ap (value_by w) (sym (beyond_is w (subst IsBeyondLimits same x.2))))
   numeral_read w n (Err Memory) is =
       let x = is.memory refl in
@@ -65,12 +69,12 @@ module _ (inline : ℕ) (s : Symbols) (readable : IsReadable s) (front : List �
       → IsRead inline (IsNumeral s front) (λ v. IsWritten s v front) r → r ≢ Err Syntax
       → (w : Numeral) × IsNumeral s front w
   numeral_found (Ok v) is other =
-      let t = (formatted_texts s readable front).reads v is.found.0 is.found.1 in (t.0, t.1)
+      let t = (texts_by true s readable front).reads v is.found.0 is.found.1 in (t.0, t.1)
   numeral_found (Err Syntax) is other = absurd (other refl)
   numeral_found (Err Limit) is other = let x = is.limit.0 refl in (x.0, x.1)
   numeral_found (Err Memory) is other =
       let x = is.memory refl in
-      let t = (formatted_texts s readable front).reads x.0 x.1 x.2 in (t.0, t.1)
+      let t = (texts_by true s readable front).reads x.0 x.1 x.2 in (t.0, t.1)
 
   -- a text that was split, whose significand was read
   pub read_split : (f : ExponentForm) (bytes : List ℕ) (number : ℤ) (r result : Result Decimal ParseError)
@@ -82,7 +86,8 @@ module _ (inline : ℕ) (s : Symbols) (readable : IsReadable s) (front : List �
   read_split f bytes number r result split unique read is = record {
     found = λ other.
         let x = numeral_found r read
-        (λ syntax. other (is _ split.number_is ∙ ap (shifted _) syntax)) in (
+        (λ syntax. other (is (exponent_number split.sign split.digits) split.number_is
+        ∙ ap (shifted (exponent_number split.sign split.digits)) syntax)) in (
           record { significand = x.0; sign = split.sign; exponent = split.digits },
           record {
             front = front;
