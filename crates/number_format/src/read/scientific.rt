@@ -73,11 +73,7 @@ impl<'a> ExponentForm<'a> {
     }
 
     /// Returns what precedes the separator, and the exponent.
-    fn split<'t>(
-        &self,
-        symbols: &DecimalSymbols<'_>,
-        body: &'t [u8],
-    ) -> Option<(&'t [u8], i32)>
+    fn split<'t>(&self, symbols: &DecimalSymbols<'_>, body: &'t [u8]) -> Option<(&'t [u8], i32)>
         requires readable { IsReadable symbols.now }
         requires separator { IsSeparatorApart symbols.now self.now.separator.now }
         ensures found { IfSome result (λ r. IsSplit symbols.now self.now body.now r.0.now r.1) }

@@ -79,9 +79,11 @@ separator-below false = tt
 
 digits-below : (f : ℕ → Bool) (ds : List ℕ) → AllBelowBase 10 ds → AllBelowBase 12 (digit_codes f ds)
 digits-below f [] all = tt
-digits-below f (d ∷ ds) all =
-    (omega (arith, all.0), below-append 12 (separator_code (f (length ds))) _ (separator-below (f (length ds)))
-    (digits-below f ds all.1))
+digits-below f (d ∷ ds) all = (
+  omega (arith, all.0),
+  below-append 12 (separator_code (f (length ds))) _ (separator-below (f (length ds)))
+      (digits-below f ds all.1),
+)
 
 fraction-below : (ds : List ℕ) → AllBelowBase 10 ds → AllBelowBase 12 (fraction_codes ds)
 fraction-below [] all = tt
@@ -408,7 +410,9 @@ module _ (s : Symbols) (readable : IsReadable s) (bytes rest : List ℕ) (scan :
         ∙ (λ i. digits-text s readable f ds all i ++ (fraction-text s readable es more i ++ tail)) in
         let same = codes-unique s readable was.codes ks rest tail was.below
         (below-append 12 (digit_codes f ds) (fraction_codes es) (digits-below f ds all) (fraction-below es more))
-        ends tail_ends (sym was.text ∙ text ∙ sym is) in
-        (same.1, subst (λ x. HasNumbers x ds es) (sym (was.scan_is ∙ ap (scanned start) same.0))
-        (numeral-numbers f ds es all more));
+        ends tail_ends (sym was.text ∙ text ∙ sym is) in (
+          same.1,
+          subst (λ x. HasNumbers x ds es) (sym (was.scan_is ∙ ap (scanned start) same.0))
+              (numeral-numbers f ds es all more),
+        );
   }

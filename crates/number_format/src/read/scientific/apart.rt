@@ -15,7 +15,11 @@ fn begins_code(symbols: &DecimalSymbols<'_>, index: u8, text: &[u8]) -> bool
         11 => cut(symbols.grouping_separator().as_bytes(), text).is_some(),
         _ => {
             let mut buffer = [0; 4];
-            cut(symbols.digit(index).encode_utf8(&mut buffer).as_bytes(), text).is_some()
+            cut(
+                symbols.digit(index).encode_utf8(&mut buffer).as_bytes(),
+                text,
+            )
+            .is_some()
         }
     }
 }

@@ -26,7 +26,11 @@ pub(super) fn cut<'t>(text: &'t [u8], code: &[u8]) -> Option<&'t [u8]>
     text.strip_prefix(code)
 }
 
-pub(super) fn cut_code<'t>(symbols: &DecimalSymbols<'_>, index: u8, text: &'t [u8]) -> Option<&'t [u8]>
+pub(super) fn cut_code<'t>(
+    symbols: &DecimalSymbols<'_>,
+    index: u8,
+    text: &'t [u8],
+) -> Option<&'t [u8]>
     requires { index < 12 }
     ensures { MatchOption result ((rest : List ℕ) → text.now ≢ code symbols.now index ++ rest)
         (λ r. text.now ≡ code symbols.now index ++ r.now) }
@@ -36,7 +40,10 @@ pub(super) fn cut_code<'t>(symbols: &DecimalSymbols<'_>, index: u8, text: &'t [u
         11 => cut(text, symbols.grouping_separator().as_bytes()),
         _ => {
             let mut buffer = [0; 4];
-            cut(text, symbols.digit(index).encode_utf8(&mut buffer).as_bytes())
+            cut(
+                text,
+                symbols.digit(index).encode_utf8(&mut buffer).as_bytes(),
+            )
         }
     }
 }
