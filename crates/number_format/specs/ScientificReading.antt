@@ -1,10 +1,10 @@
 -- Numbers in scientific and engineering notation, such as `1.2E3`: which texts are read, and as what.
-use Rattle.std.specs.{Prelude.{◌≡◌, ◌≢◌, ℕ, ◌+◌, ◌*◌, ◌%◌, ◌^◌, ◌<◌, ◌⊎◌, ◌==◌, nat_lt, min, max, Bool, false, true, ◌||◌, if◌then◌else◌, List, [], ◌++◌, length, get_or, ℤ, pos, negsuc, ◌+ℤ◌, ◌-ℤ◌, unsigned_abs, Result, Ok, Err}, Int.{int_max, int_min, Digits.{AllBelowBase, number_from_digits}}}
+use Rattle.std.specs.{Prelude.{◌≡◌, ◌≢◌, ℕ, ◌+◌, ◌*◌, ◌%◌, ◌^◌, ◌<◌, ◌⊎◌, ◌==◌, nat_lt, min, max, Bool, false, true, ◌||◌, if◌then◌else◌, List, [], ◌++◌, length, get_or, ℤ, pos, negsuc, ◌+ℤ◌, ◌-ℤ◌, unsigned_abs, Option, Some, None, Result, Ok, Err}, Int.{int_max, int_min, Digits.{AllBelowBase, number_from_digits}}}
 use Rattle.decimal_digits.specs.Number.{size, first}
 use Rattle.decimal_unsigned.specs.{Unsigned.Unsigned, declared.error.ParseError.{ParseError, TheVariants.{Syntax, Limit, Memory}}}
-use Rattle.fixed_decimal.specs.{Decimal.Decimal, declared.variations.Sign.{Sign, TheVariants.{None, Negative}}}
+use Rattle.fixed_decimal.specs.{Decimal.Decimal, declared.variations.Sign.Sign}
 use Rattle.decimal_format.specs.{declared.grouping.GroupingStrategy.{GroupingStrategy, TheVariants.Never}, Formatted.absolute_text, Readable.{BeginsWith, BeginsWithDigit, code}, Reading.{Numeral, IsNumeral, digits_text, fraction_text}, Scanning.value_of, Symbols.{Symbols, sign_affixes}}
-use Rattle.number_format.specs.{declared.{options.{ExponentOptions.ExponentOptions, ExponentSign.ExponentSign}, notation.Notation.{Notation, TheVariants.{Scientific, Engineering}}, read.scientific.{ExponentForm.ExponentForm, exponent.Exponent.Exponent, scan.Scan.Scan}}, AffixedTexts.shifted, NumberText.{exponent_sign, shown_exponent}, Scaled.exponent_at}
+use Rattle.number_format.specs.{declared.{format.formatter.NumberFormatter.NumberFormatter, options.{ExponentOptions.ExponentOptions, ExponentSign.ExponentSign, NumberNotation.NumberNotation}, notation.Notation.{Notation, TheVariants.{Scientific, Engineering}}, read.scientific.{ExponentForm.ExponentForm, exponent.Exponent.Exponent, scan.Scan.Scan}}, AffixedTexts.shifted, NumberText.{exponent_sign, shown_exponent}, Scaled.exponent_at}
 
 -- ---- The exponent.
 
@@ -18,7 +18,7 @@ HasLeastDigits least ds = (length ds ≡ least) ⊎ ((least < length ds) × (get
 
 -- the number of a sign and digits
 abbrev pub exponent_number : Sign → List ℕ → ℤ
-exponent_number Negative ds = pos 0 -ℤ pos (number_from_digits 10 ds)
+exponent_number Sign.Negative ds = pos 0 -ℤ pos (number_from_digits 10 ds)
 exponent_number other ds = pos (number_from_digits 10 ds)
 
 -- the text is that of an exponent: the sign that the options show, and digits
@@ -58,7 +58,7 @@ pub record IsScientificNumeral (s : Symbols) (f : ExponentForm) (bytes : List �
   pub back : List ℕ
   pub text : bytes ≡ front ++ (f.separator.now ++ back)
   pub significand : IsNumeral s front w.significand
-  pub unsigned : w.significand.sign ≡ None
+  pub unsigned : w.significand.sign ≡ Sign.None
   pub exponent : IsExponent s f.options back w.sign w.exponent
   pub notation : IsInNotation (step_of f) (number_from_digits 10 w.significand.whole)
       (number_from_digits 10 w.significand.fraction) (exponent_of w)
@@ -71,6 +71,14 @@ pub record AreApart (a b : List ℕ) : Type 0 where
 -- no text begins with the separator and with a digit, a decimal or a grouping separator
 abbrev pub IsSeparatorApart : Symbols → List ℕ → Type 0
 IsSeparatorApart s separator = (k : ℕ) → k < 12 → AreApart separator (code s k)
+
+-- how a formatter writes exponents, if its notation has them
+abbrev pub exponent_form : NumberFormatter → NumberNotation → Option ExponentForm
+exponent_form f (NumberNotation.Scientific o) =
+    Some (record { separator = f.separator.text; options = o; is_engineering = false })
+exponent_form f (NumberNotation.Engineering o) =
+    Some (record { separator = f.separator.text; options = o; is_engineering = true })
+exponent_form f other = None
 
 -- the exponents are told from significands, and their signs are shown
 pub record CanReadExponent (s : Symbols) (f : ExponentForm) : Type 0 where

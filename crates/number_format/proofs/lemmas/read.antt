@@ -9,3 +9,4 @@ pub mod ScientificTexts
 pub mod ScientificValues
 pub mod ScientificExponentTexts
 pub mod ScientificShown
+pub mod ScientificBodies

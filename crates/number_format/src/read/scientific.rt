@@ -3,13 +3,14 @@ ghost use Rattle.std.specs.Prelude.{◌≡◌, ◌↔◌, ℕ, List, ℤ, IsTrue
 ghost use Rattle.std.specs.Int.Digits.{number_from_digits};
 ghost use Rattle.decimal_unsigned.specs.Unsigned.{IsValue};
 ghost use Rattle.decimal_format.specs.{Readable.IsReadable, Reading.IsNumeral};
-ghost use Rattle.number_format.specs.{AffixedTexts.shifted, ScientificReading.{step_of, IsInNotation, IsSeparatorApart, CanReadExponent, ScientificNumeral, IsScientificNumeral, IsReadScientific, HasNumbers, HasExponent, capped_exponent, exponent_of, IsSplit}};
+ghost use Rattle.number_format.specs.{AffixedTexts.shifted, ScientificReading.{exponent_form, step_of, IsInNotation, IsSeparatorApart, CanReadExponent, ScientificNumeral, IsScientificNumeral, IsReadScientific, HasNumbers, HasExponent, capped_exponent, exponent_of, IsSplit}};
 
 mod apart;
 mod exponent;
 mod scan;
 
-use crate::options::{ExponentOptions, ExponentSign};
+use crate::format::formatter::NumberFormatter;
+use crate::options::{ExponentOptions, ExponentSign, NumberNotation};
 use crate::read::scientific::apart::is_separator_apart;
 use crate::read::scientific::exponent::{Exponent, read_exponent};
 use crate::read::scientific::scan::{Scan, cut, scan_number};
@@ -47,6 +48,22 @@ fn shifted<D: DigitStore>(
 }
 
 impl<'a> ExponentForm<'a> {
+    /// Returns how a formatter writes exponents: `None` in standard and in compact notation.
+    pub(crate) fn of(formatter: &NumberFormatter) -> Option<ExponentForm<'static>>
+        ensures { result ≡ exponent_form formatter.now formatter.now.options.notation }
+    {
+        let (options, is_engineering) = match formatter.options.notation {
+            NumberNotation::Scientific(options) => (options, false),
+            NumberNotation::Engineering(options) => (options, true),
+            _ => return None,
+        };
+        Some(ExponentForm {
+            separator: formatter.separator.text,
+            options,
+            is_engineering,
+        })
+    }
+
     fn is_in_notation(&self, significand: Scan, exponent: Exponent) -> bool
         ensures { (ds es : List ℕ) (e : ℤ) → HasNumbers significand ds es → HasExponent exponent e
             → IsTrue result

@@ -1,13 +1,13 @@
 -- The exponent that a formatter writes is read back.
-use Rattle.std.proofs.{Common.{◌≡◌, ◌≢◌, ℕ, suc, ◌+◌, ◌-◌, ◌*◌, ◌/◌, ◌%◌, ◌^◌, ◌<◌, ◌≤◌, Bool, true, false, inl, inr, List, [], ◌∷◌, ◌++◌, length, get_or, refl, sym, ◌∙◌, ap, subst, arith, append-nil, length-append}, Math.Nat.{mul-lt-mul_of_pos_right, mul-mod_left, mul-div_cancel, pow-le-pow_right}, lemmas.{Bool.cases_lt, Int.{ints, clamps, Digits.number_lt}, List.nil_from_length}}
+use Rattle.std.proofs.{Common.{◌≡◌, ◌≢◌, ℕ, suc, ◌+◌, ◌-◌, ◌*◌, ◌/◌, ◌^◌, ◌<◌, ◌≤◌, true, false, inl, inr, List, [], ◌∷◌, ◌++◌, length, get_or, refl, sym, ◌∙◌, ap, subst, arith, append-nil, length-append}, Math.Nat.{mul-lt-mul_of_pos_right, mul-mod_left, mul-div_cancel, pow-le-pow_right}, lemmas.{Bool.cases_lt, Int.{ints, clamps, Digits.number_lt}, List.nil_from_length}}
 use Rattle.std.specs.{Prelude.{min, max, if◌then◌else◌, ℤ, pos, negsuc, ◌-ℤ◌, int_lt, unsigned_abs}, Int.{int_max, int_min, Digits.{AllBelowBase, number_from_digits}}}
 use Rattle.decimal_digits.specs.{Digits.number_at, Number.{weight, offset, first}}
 use Rattle.decimal_unsigned.specs.{Unsigned.{Unsigned, IsValue, integer_value}, Edits.padded_start}
-use Rattle.fixed_decimal.specs.{Decimal.Decimal, declared.variations.Sign.{Sign, TheVariants.{None, Negative}}}
+use Rattle.fixed_decimal.specs.{Decimal.Decimal, declared.variations.Sign.{Sign, TheVariants.{None}}}
 use Rattle.fixed_decimal.proofs.Calling.{extent, first_of_integer, first_zero, offset_is, ten_pos, powers, number_first}
-use Rattle.decimal_format.specs.{declared.grouping.GroupingStrategy.TheVariants.Never, Symbols.{Symbols, sign_affixes}, Formatted.absolute_text, Reading.{Numeral, AreDigits, digits_text, fraction_text, absolute_numeral_text, separated_by}, Scanning.value_of}
-use Rattle.decimal_format.proofs.lemmas.reader.{DigitTexts.digits_text-cong, NumeralTexts.{HasDigits, digits_of_value, absolute_is}}
-use Rattle.number_format.specs.{declared.options.{ExponentOptions.ExponentOptions, ExponentSign.ExponentSign}, NumberText.{exponent_sign, shown_exponent}, ScientificReading.{least_digits, HasLeastDigits, exponent_number, IsExponent}}
+use Rattle.decimal_format.specs.{declared.grouping.GroupingStrategy.TheVariants.Never, Symbols.{Symbols, sign_affixes}, Formatted.absolute_text, Reading.{digits_text, fraction_text, separated_by}}
+use Rattle.decimal_format.proofs.lemmas.reader.{DigitTexts.digits_text-cong, NumeralTexts.{digits_of_value, absolute_is}}
+use Rattle.number_format.specs.{declared.options.{ExponentOptions.ExponentOptions, ExponentSign.ExponentSign}, NumberText.{exponent_sign, shown_exponent}, ScientificReading.{least_digits, exponent_number, IsExponent}}
 
 -- ---- The first digit of an integer.
 

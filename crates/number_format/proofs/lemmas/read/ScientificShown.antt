@@ -1,13 +1,13 @@
 -- What a formatter writes with an exponent is read back.
-use Rattle.std.proofs.{Common.{◌≡◌, ◌≢◌, ℕ, suc, ◌+◌, ◌-◌, ◌*◌, ◌/◌, ◌%◌, ◌^◌, ◌<◌, ◌≤◌, Bool, true, false, inl, inr, List, [], ◌∷◌, ◌++◌, length, refl, sym, ◌∙◌, ap, subst, arith, append-nil, length-append, mod-lt}, Math.Nat.{mul-lt-mul_of_pos_right, mul-le-mul_left, mul-le-mul_right, mul_assoc, add-mul, div-lt_iff_lt-mul, pow-le-pow_right}, lemmas.{Bool.cases_lt, Int.{ints, clamps, Digits.number_lt}, Nat.div-mul-add}}
-use Rattle.std.specs.{Prelude.{◌⊎◌, if◌then◌else◌, Result, Ok, Err, ℤ, pos, negsuc, ◌+ℤ◌, ◌-ℤ◌, unsigned_abs}, Int.{int_rem_euclid, Digits.{AllBelowBase, number_from_digits}}}
+use Rattle.std.proofs.{Common.{◌≡◌, ℕ, ◌+◌, ◌-◌, ◌*◌, ◌/◌, ◌%◌, ◌^◌, ◌<◌, ◌≤◌, Bool, true, false, inl, inr, ◌++◌, length, refl, sym, ◌∙◌, ap, subst, arith, append-nil, length-append, mod-lt}, Math.Nat.{mul-lt-mul_of_pos_right, mul-le-mul_left, mul-le-mul_right, mul_assoc, add-mul, div-lt_iff_lt-mul, pow-le-pow_right}, lemmas.{Bool.cases_lt, Int.{ints, Digits.number_lt}, Nat.div-mul-add}}
+use Rattle.std.specs.{Prelude.{◌⊎◌, if◌then◌else◌, Result, Ok, Err, ℤ, pos, negsuc, ◌+ℤ◌, ◌-ℤ◌, unsigned_abs}, Int.{int_rem_euclid, Digits.{number_from_digits}}}
 use Rattle.decimal_digits.specs.{Digits.number_at, Number.{weight, offset, first}}
 use Rattle.decimal_unsigned.specs.{Unsigned.{Unsigned, IsValue}, declared.error.ParseError.{ParseError, TheVariants.Memory}}
-use Rattle.fixed_decimal.specs.{Decimal.Decimal, declared.variations.Sign.{Sign, TheVariants.None}}
+use Rattle.fixed_decimal.specs.{Decimal.Decimal, declared.variations.Sign.{TheVariants.None}}
 use Rattle.fixed_decimal.proofs.Calling.{Extent, extent, first_of, offset_is, ten_pos, powers, number-append}
-use Rattle.decimal_format.specs.{declared.grouping.GroupingStrategy.GroupingStrategy, Symbols.Symbols, Readable.IsReadable, Formatted.{absolute_text, formatted}, Reading.{Numeral, AreDigits, IsNumeral, separated_by}, Scanning.value_of}
+use Rattle.decimal_format.specs.{declared.grouping.GroupingStrategy.GroupingStrategy, Symbols.Symbols, Formatted.{absolute_text}, Reading.{Numeral, AreDigits}, Scanning.value_of}
 use Rattle.decimal_format.proofs.lemmas.reader.NumeralTexts.{HasDigits, digits_of_value, formatted-digits}
-use Rattle.number_format.specs.{declared.{notation.Notation.{Notation, TheVariants.{Scientific, Engineering}}, options.ExponentSign.ExponentSign, read.scientific.ExponentForm.ExponentForm}, AffixedTexts.shifted, NumberText.exponent_sign, Scaled.exponent_at, ScientificReading.{step_of, IsInNotation, CanReadExponent, ScientificNumeral, IsScientificNumeral, numeral_value, IsReadScientific, scientific_text, notation_of, HasExponentOf}}
+use Rattle.number_format.specs.{declared.{notation.Notation.{TheVariants.{Scientific, Engineering}}, read.scientific.ExponentForm.ExponentForm}, AffixedTexts.shifted, NumberText.exponent_sign, Scaled.exponent_at, ScientificReading.{step_of, IsInNotation, CanReadExponent, ScientificNumeral, IsScientificNumeral, IsReadScientific, scientific_text, notation_of, HasExponentOf}}
 use Rattle.number_format.proofs.lemmas.read.{ScientificExponentTexts.exponent_shown, ScientificValues.digits_value}
 
 -- ---- The integer part.

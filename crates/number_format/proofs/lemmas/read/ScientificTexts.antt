@@ -1,8 +1,8 @@
 -- Texts of numbers with an exponent: a significand, a separator and an exponent.
-use Rattle.std.proofs.{Common.{◌≡◌, ◌≢◌, ℕ, ◌+◌, ◌-◌, ◌<◌, ◌≤◌, false, inl, inr, List, [], ◌∷◌, ◌++◌, length, take, refl, sym, ◌∙◌, ap, subst, arith, append_assoc, append-nil, length-append}, lemmas.List.{append_cancel_left, append_cancel_right}, Math.Seq.take-append_seam}
-use Rattle.fixed_decimal.specs.declared.variations.Sign.{Sign, TheVariants.None}
+use Rattle.std.proofs.{Common.{◌≡◌, ℕ, ◌-◌, inl, inr, List, ◌++◌, length, take, sym, ◌∙◌, ap, subst, arith, append_assoc, append-nil, length-append}, Math.Seq.take-append_seam}
+use Rattle.fixed_decimal.specs.declared.variations.Sign.{TheVariants.None}
 use Rattle.decimal_format.specs.{Symbols.{Symbols, sign_affixes}, Readable.{IsReadable, BeginsWithDigit}, Reading.{Numeral, IsNumeral, digits_text, fraction_text, absolute_numeral_text, separated_by}}
-use Rattle.decimal_format.proofs.lemmas.reader.{Around.no_sign, Codes.meet, Scans.{begins-append, number_begins}}
+use Rattle.decimal_format.proofs.lemmas.reader.{Around.no_sign, Codes.meet, Scans.{number_begins}}
 use Rattle.number_format.specs.{declared.read.scientific.{ExponentForm.ExponentForm, scan.Scan.Scan}, ScientificReading.{IsSeparatorApart, ScientificNumeral, IsScientificNumeral, HasNumbers, EndsNumber, IsScan}}
 
 -- what precedes the rest of a text

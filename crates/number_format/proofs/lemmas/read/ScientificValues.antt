@@ -1,5 +1,5 @@
 -- The values of numbers with an exponent.
-use Rattle.std.proofs.{Common.{◌≡◌, ◌≢◌, ℕ, ◌<◌, ◌≤◌, Bool, true, false, ◌||◌, nat_lt, inl, inr, List, length, refl, sym, ◌∙◌, ap, subst, arith, rules}, lemmas.Bool.{cases_lt, Decides.nat_tests}}
+use Rattle.std.proofs.{Common.{◌≡◌, ◌≢◌, ℕ, ◌<◌, Bool, true, false, ◌||◌, nat_lt, inl, inr, List, length, refl, sym, ◌∙◌, ap, subst, arith, rules}, lemmas.Bool.{cases_lt, Decides.nat_tests}}
 use Rattle.std.specs.Prelude.{if◌then◌else◌, Result, Ok, Err, ℤ}
 use Rattle.decimal_digits.specs.Number.{size}
 use Rattle.decimal_unsigned.specs.{Unsigned.{Unsigned, IsValue}, declared.error.ParseError.{ParseError, TheVariants.{Syntax, Limit, Memory}}}
