@@ -127,7 +127,8 @@ integer_digits s n hi below few =
           ∙ ap (λ x. x / weight (pos 0)) (sym number) ∙ mul-div_cancel n (ten_pos (offset (pos 0)));
       text =
           ap (absolute_text s Never) d.2.absolute ∙ absolute_is w d.1 d.2.few s Never
-          ∙ ap (λ l. l ++ fraction_text s w.fraction) (digits_text-cong s (separated_by s Never (length w.whole)) (λ _. false) w.whole
+          ∙ ap (λ l. l ++ fraction_text s w.fraction)
+          (digits_text-cong s (separated_by s Never (length w.whole)) (λ _. false) w.whole
           (λ m inside. refl))
           ∙ ap (λ l. digits_text s (λ _. false) w.whole ++ fraction_text s l) none
           ∙ append-nil (digits_text s (λ _. false) w.whole);

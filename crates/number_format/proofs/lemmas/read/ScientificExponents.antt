@@ -21,7 +21,8 @@ exponent_absolute Sign.Positive ds = refl
 exponent_absolute Sign.Negative ds = omega (arith, ints)
 
 module _ (s : Symbols) where
-  first-text : (d : ℕ) (ds : List ℕ) → digits_text s (λ _. false) (d ∷ ds) ≡ digit_text s d ++ digits_text s (λ _. false) ds
+  first-text : (d : ℕ) (ds : List ℕ)
+      → digits_text s (λ _. false) (d ∷ ds) ≡ digit_text s d ++ digits_text s (λ _. false) ds
   first-text d ds =
       sym (append-nil (digits_text s (λ _. false) (d ∷ ds))) ∙ digits_text-first s (λ _. false) d ds []
       ∙ ap (λ l. digit_text s d ++ l) (append-nil (digits_text s (λ _. false) ds))
@@ -44,8 +45,10 @@ module _ (s : Symbols) where
     λ t. let begins = test.0 t in
         (same_digit s readable d 0 (digits_text s (λ _. false) ds) begins.0 all.0 (omega arith)
         (sym (first-text d ds) ∙ sym e ∙ begins.1)).0,
-    λ zero. test.1
-        (digits_text s (λ _. false) ds, e ∙ first-text d ds ∙ ap (λ x. digit_text s x ++ digits_text s (λ _. false) ds) zero),
+    λ zero. test.1 (
+      digits_text s (λ _. false) ds,
+      e ∙ first-text d ds ∙ ap (λ x. digit_text s x ++ digits_text s (λ _. false) ds) zero,
+    ),
   )
 
 -- the text of an exponent, after its sign and scanned

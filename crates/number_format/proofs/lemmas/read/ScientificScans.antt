@@ -14,7 +14,8 @@ codes_text s (k ∷ ks) = code s k ++ codes_text s ks
 codes_text-append : (s : Symbols) (js ks : List ℕ) → codes_text s (js ++ ks) ≡ codes_text s js ++ codes_text s ks
 codes_text-append s [] ks = refl
 codes_text-append s (j ∷ js) ks =
-    ap (λ l. code s j ++ l) (codes_text-append s js ks) ∙ sym (append_assoc (code s j) (codes_text s js) (codes_text s ks))
+    ap (λ l. code s j ++ l) (codes_text-append s js ks)
+    ∙ sym (append_assoc (code s j) (codes_text s js) (codes_text s ks))
 
 below-append : (b : ℕ) (js ks : List ℕ) → AllBelowBase b js → AllBelowBase b ks → AllBelowBase b (js ++ ks)
 below-append b [] ks p q = q
@@ -33,7 +34,8 @@ module _ (s : Symbols) (readable : IsReadable s) where
       let both : code s j ++ (codes_text s js ++ t) ≡ code s k ++ (codes_text s ks ++ u) =
       sym (append_assoc (code s j) (codes_text s js) t) ∙ e ∙ append_assoc (code s k) (codes_text s ks) u in
       let same : j ≡ k =
-      apart s readable j k (omega (arith, p.0)) (omega (arith, q.0)) (codes_text s js ++ t) (codes_text s ks ++ u) both in
+      apart s readable j k (omega (arith, p.0)) (omega (arith, q.0)) (codes_text s js ++ t) (codes_text s ks ++ u)
+      both in
       let rest =
       append_cancel_left (code s j) (codes_text s js ++ t) (codes_text s ks ++ u)
       (both ∙ ap (λ x. code s x ++ (codes_text s ks ++ u)) (sym same)) in
@@ -234,7 +236,8 @@ numeral-numbers f ds es all more =
     let whole = whole-scan f 0 0 0 false ds (fraction_codes es) all in
     let count : 0 + length ds ≡ length ds = omega arith in
     let is =
-    whole.1 ∙ ap (λ k. scanned (state k (number_from_digits_after 10 0 ds) 0 false whole.0) (fraction_codes es)) count in
+    whole.1
+    ∙ ap (λ k. scanned (state k (number_from_digits_after 10 0 ds) 0 false whole.0) (fraction_codes es)) count in
     subst (λ x. HasNumbers x ds es) (sym is) (fraction-numbers ds whole.0 es more)
 
 -- ---- Separators.
@@ -371,8 +374,8 @@ scanned-more s bytes rest after scan k below e was = record {
   small = small-push scan k was.small;
 }
 
-module _ (s : Symbols) (readable : IsReadable s) (bytes rest : List ℕ) (scan : Scan) (was : HasScanned s bytes rest scan)
-    (ends : EndsNumber s rest) where
+module _ (s : Symbols) (readable : IsReadable s) (bytes rest : List ℕ) (scan : Scan)
+    (was : HasScanned s bytes rest scan) (ends : EndsNumber s rest) where
   plain-numbers : (ds : List ℕ) → AllBelowBase 10 ds → scan ≡ scanned start ds → IsPlain scan × HasNumbers scan ds []
   plain-numbers ds all e =
       let count : 0 + length ds ≡ length ds = omega arith in

@@ -13,7 +13,8 @@ use Rattle.number_format.proofs.lemmas.read.{ScientificExponentTexts.exponent_sh
 -- ---- The integer part.
 
 -- a number of integer digits and of fraction digits is its integer part and less than 1
-module _ (v : Unsigned) (w : Numeral) (digits : AreDigits w) (has : v ≡ value_of w) (few : length w.fraction ≤ 32768) where
+module _ (v : Unsigned) (w : Numeral) (digits : AreDigits w) (has : v ≡ value_of w)
+    (few : length w.fraction ≤ 32768) where
   abbrev whole : ℕ
   whole = number_from_digits 10 w.whole
 
@@ -128,7 +129,8 @@ module _ (s : Symbols) (f : ExponentForm) (g : GroupingStrategy) (v : Unsigned) 
   in_notation = elim is [
     | inl some ↦
         let j = first_below f.is_engineering (first v.number) e some.1 in
-        let x = extent (offset v.hi + 1) v.number some.0 valid.below (omega (arith, ints, offset_is v.hi, valid.hi_in)) in
+        let x = extent (offset v.hi + 1) v.number some.0 valid.below
+        (omega (arith, ints, offset_is v.hi, valid.hi_in)) in
         let between = whole_between v number.0 number.1 number.2.absolute few j.0 x j.1 in
         let most : 10 ^ (j.0 + 1) ≤ 10 ^ step_of f = pow-le-pow_right (omega arith) (omega (arith, j.2)) in
         inl (between.0, omega (arith, between.1, most), j.3)

@@ -64,7 +64,10 @@ returns-clause-found c =
             c.split_sign-sign.ensures.found
             ∙ ap (λ l. (sign_affixes c.args.symbols.now sign).prefix ++ l) text;
       },
-      record { number = same ∙ c.signed.ensures ds x.3.whole; remainder = x.3.remainder ∙ sym (ap (λ n. n % 3) (exponent_absolute sign ds)) },
+      record {
+        number = same ∙ c.signed.ensures ds x.3.whole;
+        remainder = x.3.remainder ∙ sym (ap (λ n. n % 3) (exponent_absolute sign ds));
+      },
     )
 
 pub returns-clause-unique : goal.returns-clause-unique
