@@ -12,7 +12,7 @@ use Rattle.number_format.specs.{declared.{format.formatter.NumberFormatter.Numbe
 abbrev pub least_digits : ExponentOptions → ℕ
 least_digits o = max 1 (min o.digits 32767)
 
--- so many digits, or more without a leading zero: of two 03 and 123
+-- the least number of digits, or more without a leading zero: for 2 both 03 and 123
 abbrev pub HasLeastDigits : ℕ → List ℕ → Type 0
 HasLeastDigits least ds = (length ds ≡ least) ⊎ ((least < length ds) × (get_or ds 0 0 ≢ 0))
 
@@ -80,7 +80,7 @@ exponent_form f (NumberNotation.Engineering o) =
     Some (record { separator = f.separator.text; options = o; is_engineering = true })
 exponent_form f other = None
 
--- the exponents are told from significands, and their signs are shown
+-- where a significand ends is certain, and the minus sign of an exponent is shown
 pub record CanReadExponent (s : Symbols) (f : ExponentForm) : Type 0 where
   pub separator : IsSeparatorApart s f.separator.now
   pub signs : f.options.sign ≢ ExponentSign.Never
@@ -134,7 +134,7 @@ HasExponentOf notation number e =
 abbrev pub capped : ℕ → ℕ
 capped n = min n 40000
 
--- a scan with one code more
+-- a scan with one more digit, and with one more code
 abbrev pub with_digit : Scan → ℕ → Scan
 with_digit scan d =
     if scan.has_decimal then record scan { fraction = capped (scan.fraction * 10 + d) }

@@ -78,8 +78,10 @@ impl<'a> ExponentForm<'a> {
         significand.whole < 10
     }
 
-    /// Returns whether the exponents that are written can be read: the separator is told from digits and from other
-    /// separators, and a minus sign is shown.
+    /// Returns whether the exponents that are written can be read.
+    ///
+    /// No text may begin with the separator and with a digit or another separator, and minus signs have to be shown: by
+    /// `ExponentSign::Never` the texts of 1000 and of 0.001 are `1E3`.
     pub(crate) fn can_read(&self, symbols: &DecimalSymbols<'_>) -> bool
         ensures { IsTrue result ↔ CanReadExponent symbols.now self.now }
     {

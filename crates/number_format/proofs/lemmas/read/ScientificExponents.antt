@@ -1,5 +1,5 @@
 -- The digits of exponents.
-use Rattle.std.proofs.{Common.{◌≡◌, ◌≢◌, ℕ, suc, ◌+◌, ◌<◌, ◌≤◌, false, inl, inr, List, [], ◌∷◌, ◌++◌, length, get_or, refl, sym, ◌∙◌, ap, subst, arith, append-nil}, lemmas.Int.ints}
+use Rattle.std.proofs.{Common.{◌≡◌, ℕ, ◌<◌, false, inl, inr, List, [], ◌∷◌, ◌++◌, length, get_or, refl, sym, ◌∙◌, ap, subst, arith, append-nil}, lemmas.Int.ints}
 use Rattle.std.specs.{Prelude.{◌↔◌, IsTrue, Bool, unsigned_abs}, Int.Digits.{AllBelowBase, number_from_digits}}
 use Rattle.fixed_decimal.specs.declared.variations.Sign.{Sign}
 use Rattle.decimal_format.specs.{Symbols.{Symbols, digit_text, sign_affixes}, Readable.{IsReadable, BeginsWith, BeginsWithDigit}, Reading.digits_text}

@@ -1,7 +1,7 @@
 -- Scans of digits and separators.
-use Rattle.std.proofs.{Common.{◌≡◌, ◌≢◌, ℕ, suc, ◌+◌, ◌*◌, ◌%◌, ◌<◌, ◌≤◌, ◌==◌, Bool, true, false, List, [], ◌∷◌, ◌++◌, length, refl, sym, ◌∙◌, ap, subst, arith, rules, append_assoc, append-nil, length-append, inl, inr}, lemmas.{Bool.{cases_eq, Decides.nat_tests}, List.append_cancel_left}}
-use Rattle.std.specs.{Prelude.{if◌then◌else◌, min}, Int.Digits.{AllBelowBase, number_from_digits, number_from_digits_after}}
-use Rattle.decimal_format.specs.{Symbols.{Symbols, digit_text}, Readable.{IsReadable, code}, Reading.{digits_text, fraction_text}}
+use Rattle.std.proofs.{Common.{◌≡◌, ◌≢◌, ℕ, suc, ◌+◌, ◌*◌, ◌%◌, ◌<◌, ◌==◌, Bool, true, false, List, [], ◌∷◌, ◌++◌, length, refl, sym, ◌∙◌, ap, subst, arith, append_assoc, append-nil, length-append, inl, inr}, lemmas.{Bool.{cases_eq, Decides.nat_tests}, List.append_cancel_left}}
+use Rattle.std.specs.{Prelude.{if◌then◌else◌}, Int.Digits.{AllBelowBase, number_from_digits_after}}
+use Rattle.decimal_format.specs.{Symbols.{Symbols}, Readable.{IsReadable, code}, Reading.{digits_text, fraction_text}}
 use Rattle.decimal_format.proofs.lemmas.reader.Codes.{apart, digit_code, none_not_code}
 use Rattle.number_format.specs.{declared.read.scientific.scan.Scan.Scan, ScientificReading.{capped, with_digit, with_code, HasNumbers, IsPlain, EndsNumber, IsScan}}
 
@@ -118,7 +118,7 @@ scanned-push : (scan : Scan) (ks : List ℕ) (k : ℕ) → scanned scan (ks ++ k
 scanned-push scan [] k = refl
 scanned-push scan (j ∷ ks) k = scanned-push (with_code scan j) ks k
 
--- a scan of so many integer digits, of this number, and of fraction digits of that number
+-- a scan of the given number of integer digits, with the numbers that these and the fraction digits write
 abbrev state : ℕ → ℕ → ℕ → Bool → Bool → Scan
 state count whole fraction decimal grouping = record {
   count = capped count;

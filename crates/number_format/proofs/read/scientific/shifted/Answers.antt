@@ -1,5 +1,5 @@
 use Rattle.std.proofs.{Common.{◌≡◌, sym, ◌∙◌, ap, arith, rules, to_z, of_z, FitsSigned, w16, w32}, lemmas.Int.{ints, clamps}}
-use Rattle.std.specs.Prelude.{ok_or, Some, None}
+use Rattle.std.specs.Prelude.{ok_or}
 use Rattle.decimal_unsigned.specs.{Edits.multiplied_pow10, declared.error.ParseError.TheVariants.Limit}
 use Rattle.fixed_decimal.specs.Decimal.{with_absolute}
 use Rattle.number_format.specs.AffixedTexts.{shifted}

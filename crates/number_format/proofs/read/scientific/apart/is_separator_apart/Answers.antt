@@ -1,4 +1,4 @@
-use Rattle.std.proofs.{Common.{◌≡◌, inl, inr, refl, sym, subst, arith}, lemmas.Bool.cases_eq}
+use Rattle.std.proofs.{Common.{inl, inr, refl, sym, subst, arith}, lemmas.Bool.cases_eq}
 use Rattle.std.specs.Prelude.{IsTrue}
 use Rattle.decimal_format.specs.Readable.{code}
 use Rattle.number_format.specs.ScientificReading.{AreApart}

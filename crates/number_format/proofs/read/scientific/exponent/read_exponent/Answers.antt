@@ -1,4 +1,4 @@
-use Rattle.std.proofs.{Common.{◌≡◌, false, true, List, [], ◌++◌, ◌%◌, length, nat_eq, sym, ◌∙◌, ap, subst, arith, append-nil, rules, to_z, of_z, FitsSigned, w32}, lemmas.Int.ints}
+use Rattle.std.proofs.{Common.{◌≡◌, false, true, ◌++◌, ◌%◌, length, nat_eq, sym, ◌∙◌, ap, subst, arith, append-nil, rules, to_z, of_z, FitsSigned, w32}, lemmas.Int.ints}
 use Rattle.std.specs.Prelude.{IsTrue}
 use Rattle.fixed_decimal.specs.declared.variations.Sign.{Sign}
 use Rattle.decimal_format.specs.{Reading.digits_text, Symbols.sign_affixes}

@@ -1,5 +1,5 @@
 use Rattle.std.proofs.Common.{sym, subst}
-use Rattle.number_format.proofs.lemmas.read.ScientificScans.{HasScanned, shorter, scanned-none, scanned-more, is_scan}
+use Rattle.number_format.proofs.lemmas.read.ScientificScans.{HasScanned, shorter, scanned-more, is_scan}
 use Rattle.number_format.proofs.read.scientific.scan.scan_number.Goals as goal
 
 pub loop-next-smaller : goal.loop-next-smaller
