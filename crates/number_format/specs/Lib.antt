@@ -12,6 +12,7 @@ pub mod FormattedNumbers
 pub mod NumberText
 pub mod Formatters
 pub mod NumberReading
+pub mod ScientificReading
 pub mod RangeText
 pub mod FormattedRanges
 pub mod TrimmedTexts

@@ -1,18 +1,19 @@
 //! Laws of digit options, of notations and of texts: the contract of each function states a law.
-ghost use Rattle.std.specs.Prelude.{◌≡◌, ◌≢◌, ◌*◌, ◌^◌, ◌≤◌, ◌⊎◌, ℕ, List, [], Option, Some, suc, pos, negsuc, Result, Ok, Err, MatchResult};
-ghost use Rattle.decimal_unsigned.specs.Unsigned.{IsValue};
+ghost use Rattle.std.specs.Prelude.{◌≡◌, ◌≢◌, ◌*◌, ◌^◌, ◌<◌, ◌≤◌, ◌⊎◌, ℕ, ℤ, List, [], Option, Some, suc, pos, negsuc, unsigned_abs, Result, Ok, Err, MatchResult};
+ghost use Rattle.decimal_unsigned.specs.Unsigned.{Unsigned, IsValue};
 ghost use Rattle.fixed_decimal.specs.Decimal.{Decimal, with_sign_display};
 ghost use Rattle.decimal_format.specs.{Formatted.formatted, Readable.IsReadable, Symbols.{Symbols, sign_affixes}};
-ghost use Rattle.number_format.specs.{AffixedTexts.{Reader, AreNamed, text_with, shifted, IsReadExactly}, Formatters.{plain_options, IsFormatterBy, IsFormatter}, NumberReading.{IsStandard, reader_of, CanRead, IsShownAs}, NumberText.IsNumberText, ShownDigits.{rounded_with, applied, IsFractional, KeepsDigits}, Scaled.{KeepsExponent, KeepsValueOf}};
+ghost use Rattle.number_format.specs.{declared.read.scientific.ExponentForm.ExponentForm, FormattedNumbers.number_text, AffixedTexts.{Reader, AreNamed, text_with, shifted, IsReadExactly}, Formatters.{plain_options, IsFormatterBy, IsFormatter}, NumberReading.{IsStandard, reader_of, CanRead, IsShownAs}, NumberText.IsNumberText, ScientificReading.{CanReadExponent, exponent_form, HasExponentOf, notation_of, scientific_text, IsReadScientific}, ShownDigits.{rounded_with, applied, IsFractional, KeepsDigits}, Scaled.{KeepsExponent, KeepsValueOf}};
 
 use crate::digits::options::DigitOptions;
 use crate::digits::ranges::FractionDigits;
+use crate::format::formatted_number::FormattedNumber;
 use crate::format::formatter::NumberFormatter;
 use crate::format::outer::OuterTexts;
 use crate::notation::Notation;
-use crate::options::{NumberNotation, NumberOptions};
+use crate::options::{DecimalSeparatorDisplay, NumberNotation, NumberOptions};
 use decimal_format::GroupingStrategy;
-use fixed_decimal::{ParseError, SignDisplay};
+use fixed_decimal::{ParseError, Sign, SignDisplay};
 use locale_data::LocalCurrency;
 
 /// By `Precision::Fraction` a number with no more than the greatest number of fraction digits is kept, and the whole
@@ -106,4 +107,23 @@ pub fn formatted_texts_are_unique()
 pub fn standard_notation_is_read()
     ensures { (tag : List ℕ) (o : NumberOptions) (f : NumberFormatter) → IsFormatter tag o f
         → o.notation ≡ NumberNotation.Standard → IsStandard f }
+{}
+
+/// The text of a significand and of the exponent that the notation has for it reads as the significand times the power
+/// of ten: that of `1.20E3` as 1200.
+pub fn scientific_texts_read_back()
+    ensures { (inline : ℕ) (s : Symbols) (f : ExponentForm) (g : GroupingStrategy) (v : Unsigned) (e : ℤ)
+        (result : Result Decimal ParseError) → CanReadExponent s f → IsValue v → unsigned_abs e < 2 ^ 32
+        → HasExponentOf (notation_of f) v.number e → IsReadScientific inline s f (scientific_text s f g v e) result
+        → (result ≡ shifted e (Ok (record { sign = Sign.None; absolute = v }))) ⊎ (result ≡ Err ParseError.Memory) }
+{}
+
+/// The digits and the exponent that a formatter writes, if no decimal separator is written after an integer, are the
+/// text of a significand and an exponent by its form of exponents.
+pub fn exponents_are_written_by_their_form()
+    ensures { (n : FormattedNumber) (f : ExponentForm)
+        → exponent_form n.formatter.now n.formatter.now.options.notation ≡ Some f
+        → n.formatter.now.options.decimal_separator ≡ DecimalSeparatorDisplay.Auto
+        → number_text n ≡ scientific_text n.formatter.now.style.symbols f n.formatter.now.options.grouping
+        n.value.absolute n.exponent }
 {}

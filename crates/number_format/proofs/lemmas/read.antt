@@ -3,3 +3,10 @@ pub mod AffixedNumbers
 pub mod ReadBack
 pub mod FormatterTexts
 pub mod ShownValues
+pub mod ScientificScans
+pub mod ScientificExponents
+pub mod ScientificTexts
+pub mod ScientificValues
+pub mod ScientificExponentTexts
+pub mod ScientificShown
+pub mod ScientificBodies
