@@ -20,4 +20,6 @@ pub mod KeptFormatters
 pub mod StatusTexts
 pub mod Parts
 pub mod Categories
+pub mod Ranges
+pub mod RangeParts
 pub mod Words

@@ -84,7 +84,7 @@ impl FdFormatter {
 
     /// Returns the rows and the options.
     #[inline(always)]
-    fn ids_and_options(&self) -> Option<(FormatterIds, NumberOptions)>
+    pub(crate) fn ids_and_options(&self) -> Option<(FormatterIds, NumberOptions)>
         ensures some { IfSome result
             (λ found. AreRows self.now.rows found.0 × AreFormatOptions self.now.options found.1) }
         ensures none { IfNone result (IsNoFormatter self.now) }
