@@ -65,7 +65,7 @@ judge $? "docs/C.md names each function and each status: $(tr '\n' ' ' < "$room/
 nm -D --defined-only c/out/libfixed_decimal.so | awk '{ print $3 }' | grep -v '^fd_' > "$room/others"
 [ ! -s "$room/others" ]
 judge $? 'the shared library exports no other names'
-readelf -d c/out/libfixed_decimal.so | grep -q 'SONAME.*libfixed_decimal.so.7'
+readelf -d c/out/libfixed_decimal.so | grep -q 'SONAME.*libfixed_decimal.so.8'
 judge $? 'the shared library has a soname'
 
 # ---- Python
