@@ -555,8 +555,9 @@ fd_column fd_lines(const uint8_t *lines, size_t count, uint32_t skip, const fd_f
                    size_t call_count, const uint8_t *texts, size_t texts_count, uint8_t *buffer, size_t capacity);
 
 /* Writes the line of an error, as the programs print it: "call 1: overflow" of FD_OVERFLOW at 1. `calls` is the number
- * of calls that were passed, and 0 for a function without calls: FD_OVERFLOW at this number is "format: overflow". The
- * text of FD_OK is empty. The buffer is as after fd_run; 80 bytes are enough.
+ * of calls that were passed, and 0 for a function without calls: FD_OVERFLOW at this number or above is
+ * "format: overflow". FD_SYNTAX is "start: syntax" at 0, and else "end: syntax", of the second text of a range; FD_LIMIT
+ * likewise. The text of FD_OK is empty. The buffer is as after fd_run; 80 bytes are enough.
  * Errors: FD_UNKNOWN_OPTION if no fd_status has the number; FD_BUFFER_TOO_SMALL. */
 fd_result fd_status_text(uint32_t status, size_t at, size_t calls, uint8_t *buffer, size_t capacity);
 

@@ -346,8 +346,8 @@ pub fn fd_resolved(formatter: &FdFormatter) -> FdResolution
     encode_resolution(formatter.resolved())
 }
 
-/// Writes the line of a status, as the programs print it. An overflow at the number of calls, which is 0 for a function
-/// without calls, is that of the format.
+/// Writes the line of a status, as the programs print it. An error of a text after the first is that of the end of a
+/// range. An overflow at the number of calls, which is 0 for a function without calls, or above is that of the format.
 ///
 /// The errors: `UnknownOption`, if there is no such status; `BufferTooSmall`.
 pub fn fd_status_text(status: u32, at: usize, calls: usize, buffer: &mut [u8]) -> FdResult
