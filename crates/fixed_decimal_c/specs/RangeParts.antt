@@ -2,7 +2,7 @@
 use Rattle.std.specs.Prelude.{◌≡◌, ◌⊎◌, ℕ, ◌+◌, nat_le, ◌&&◌, if◌then◌else◌, Bool, List, ◌++◌, length, map, Result, Ok}
 use Rattle.fixed_decimal.specs.{Decimal.Decimal, DecimalText.read_decimal}
 use Rattle.number_format.specs.{declared.{format.formatter.NumberFormatter.NumberFormatter, range.range_texts.RangeTexts.RangeTexts}, RangeText.{IsRange, RangePieces, ShownRange, range_pieces}, TextParts.{Piece, pieces_text}}
-use Rattle.fixed_decimal_c.specs.{declared.{error.FdError.{FdError, TheVariants.Formatter}, formatter.FdFormatter.FdFormatter, parts.{FdPart.FdPart, FdParted.FdParted, PartCounts.PartCounts}, range_parts.RangeBounds.RangeBounds}, KeptFormatters.IsNoFormatter, Parts.{PartedText, counts_of, fd_parted, parts_of, WritesNoParts, WritesParts}, Ranges.{EndsFail, IsRangeFormatterIn, RangeFails}}
+use Rattle.fixed_decimal_c.specs.{declared.{error.FdError.{FdError, TheVariants.Formatter}, formatter.FdFormatter.FdFormatter, parts.{FdPart.FdPart, FdParted.FdParted, PartCounts.PartCounts, PartList.PartList}, range_parts.RangeBounds.RangeBounds}, KeptFormatters.IsNoFormatter, Parts.{PartedText, counts_of, fd_parted, parts_of, HasTaken, WritesNoParts, WritesParts}, Ranges.{EndsFail, IsRangeFormatterIn, RangeFails}}
 
 -- the pieces of all segments
 abbrev pub all_pieces : RangePieces → List Piece
@@ -25,6 +25,10 @@ source_in b part = if lies_in b.start b.middle part then 1 else if lies_in b.end
 
 abbrev pub with_source : RangeBounds → FdPart → FdPart
 with_source b part = record part { source = source_in b part }
+
+-- the pieces that a list of parts may have taken
+abbrev pub Taken : PartList → List Piece → Type 0
+Taken s pieces = HasTaken s.parts.ghost_name s.parts.now s.count s.last pieces
 
 -- the text of a range, and its parts with their sources
 abbrev pub parted_range : RangePieces → PartedText

@@ -1,11 +1,11 @@
 -- Ranges of two decimals, as a formatter that C keeps writes them, and their plural categories.
-use Rattle.std.specs.{Prelude.{◌≡◌, ◌⊎◌, ℕ, zero, suc, ℤ, pos, List, slice_get, Option, Some, None, Result, Ok, Err, IsOkAnd, IsSome}, Option.option_map, Str.IsUtf8}
+use Rattle.std.specs.{Prelude.{◌≡◌, ◌⊎◌, ℕ, zero, suc, ℤ, pos, List, slice_get, Option, Some, None, Result, Ok, Err}, Option.option_map, Str.IsUtf8}
 use Rattle.decimal_unsigned.specs.declared.decimal.TheConstants.{INLINE_DIGITS}
 use Rattle.fixed_decimal.specs.{Decimal.Decimal, DecimalText.{read_decimal, IsLong}}
 use Rattle.plural_rules.specs.declared.rules.PluralCategory.{PluralCategory}
-use Rattle.locale_data.specs.{declared.{locales.LocaleId.LocaleId, tables.symbols.TheConstants.LOCALES}, Locales.system_name_at, PluralRanges.plural_range_category, Plurals.HasNoRules, Rows.unpadded}
-use Rattle.number_format.specs.{declared.{format.{ids.FormatterIds.FormatterIds, formatter.NumberFormatter.NumberFormatter}, options.NumberOptions.NumberOptions, range.range_texts.RangeTexts.RangeTexts}, Formatters.IsFormatterAt, FormattedRanges.AreRangeTexts, NumberText.{shown_number, FormattingNeedsMemory}, RangeText.IsRangeText}
-use Rattle.fixed_decimal_c.specs.{declared.{error.FdError.{FdError, TheVariants.{Formatter, Memory, Overflow, UnknownLocale, UnknownOption}}, formatter.FdFormatter.FdFormatter}, Categories.category_code, FormatOptions.AreFormatOptions, FormatRows.AreRows, KeptFormatters.IsNoFormatter, Numbers.ParsingFails, Texts.{WritesNothing, WritesTo}}
+use Rattle.locale_data.specs.{declared.{locales.LocaleId.LocaleId, tables.symbols.TheConstants.LOCALES}, PluralRanges.plural_range_category, Plurals.HasNoRules, Rows.unpadded}
+use Rattle.number_format.specs.{declared.{format.{ids.FormatterIds.FormatterIds, formatter.NumberFormatter.NumberFormatter}, options.NumberOptions.NumberOptions, range.range_texts.RangeTexts.RangeTexts}, Formatters.{system_text, AreIdsOf, IsFormatterAt}, FormattedRanges.AreRangeTexts, NumberText.{shown_number, FormattingNeedsMemory}, RangeText.IsRangeText, Scaled.ScaledValue}
+use Rattle.fixed_decimal_c.specs.{declared.{error.FdError.{FdError, TheVariants.{Formatter, Memory, Overflow, UnknownLocale, UnknownOption}}, formatter.FdFormatter.FdFormatter}, Categories.category_code, FormatOptions.AreFormatOptions, FormatRows.AreRows, KeptFormatters.IsNoFormatter, Numbers.ParsingFails, NumberTexts.HasFormatter, Texts.{WritesNothing, WritesTo}}
 
 -- ---- The texts of ranges of a locale, by its rows.
 
@@ -13,32 +13,33 @@ use Rattle.fixed_decimal_c.specs.{declared.{error.FdError.{FdError, TheVariants.
 abbrev pub tag_at : LocaleId → Option (List ℕ)
 tag_at id = option_map (λ l. unpadded l.tag) (slice_get LOCALES id.locale)
 
--- the texts are those of the locale of rows in their numbering system
-pub record AreRangeTextsAt (id : LocaleId) (t : RangeTexts) : Type 0 where
+-- the texts are those of the locale of rows, in the numbering system with a name, or else in that of the rows
+pub record AreRangeTextsAt (id : LocaleId) (name : Option (List ℕ)) (t : RangeTexts) : Type 0 where
   pub tag : List ℕ
   pub system : List ℕ
   pub tag_is : tag_at id ≡ Some tag
-  pub system_is : system_name_at id ≡ Some system
+  pub system_is : system_text id name ≡ Some system
   pub texts : AreRangeTexts tag (Some system) t
 
 -- the formatter of the rows and the options that C has, and the texts of ranges of its locale
 abbrev pub IsRangeFormatterIn : FdFormatter → NumberFormatter → RangeTexts → Type 0
 IsRangeFormatterIn c f t =
     (ids : FormatterIds) × (o : NumberOptions) × AreRows c.rows ids × AreFormatOptions c.options o
-    × IsFormatterAt ids o f × AreRangeTextsAt ids.symbols t
+    × IsFormatterAt ids o f × AreRangeTextsAt ids.symbols o.numbering_system t
 
 -- ---- Errors.
 
 -- the start is no decimal; or it is one, and the end is none
 abbrev pub EndsFail : FdError → List ℕ → List ℕ → Type 0
 EndsFail error start end =
-    ParsingFails error start 0 ⊎ IsOkAnd (read_decimal start) (λ v. ParsingFails error end 1)
+    ParsingFails error start 0 ⊎ ((v : Decimal) × (read_decimal start ≡ Ok v) × ParsingFails error end 1)
 
 -- formatting a range fails: the start is shown beyond the limits; or the start is not, and the end is; or out of memory,
 -- where a copy of the start or one of the numbers needs it
 abbrev pub RangeFails : NumberFormatter → Decimal → Decimal → FdError → Type 0
 RangeFails f v w (Overflow zero) = shown_number f v ≡ None
-RangeFails f v w (Overflow (suc zero)) = IsSome (shown_number f v) × (shown_number f w ≡ None)
+RangeFails f v w (Overflow (suc zero)) =
+    (number : ScaledValue) × (shown_number f v ≡ Some number) × (shown_number f w ≡ None)
 RangeFails f v w Memory = IsLong INLINE_DIGITS v ⊎ (FormattingNeedsMemory f v ⊎ FormattingNeedsMemory f w)
 RangeFails f v w error = ⊥
 
@@ -56,6 +57,12 @@ abbrev pub FormatsRange : Result ℕ FdError → FdFormatter → List ℕ → Li
 FormatsRange answer c start end old new =
     ((f : NumberFormatter) × (t : RangeTexts) × IsRangeFormatterIn c f t × WritesRange f t answer start end old new)
     ⊎ WritesNothing (λ error. (error ≡ Formatter) × IsNoFormatter c) answer old new
+
+-- the same by the formatter of a tag and options, with the texts of ranges of its rows
+abbrev pub FormatsRangeBy : List ℕ → NumberOptions → Result ℕ FdError → List ℕ → List ℕ → List ℕ → List ℕ → Type 0
+FormatsRangeBy tag o answer start end old new =
+    (f : NumberFormatter) × (t : RangeTexts) × (ids : FormatterIds) × HasFormatter tag o f × AreIdsOf tag o ids
+    × AreRangeTextsAt ids.symbols o.numbering_system t × WritesRange f t answer start end old new
 
 -- ---- Plural categories.
 

@@ -1,7 +1,7 @@
 //! The text of a range with its parts.
 ghost use Rattle.std.specs.Prelude.{◌≡◌, ◌<◌, ◌^◌, ◌&&◌, nat_le, length, map};
 ghost use Rattle.number_format.specs.{FormattedRanges.{formatted_range_pieces, shown_range}, RangeText.range_pieces, TextParts.{Puts, pieces_text}};
-ghost use Rattle.fixed_decimal_c.specs.{Parts.{counts_of, no_part, parts_of, HasTaken, WritesParts}, RangeParts.{all_pieces, bounds_of, lies_in, parted_range, source_in, with_source, FormatsRangeParts, WritesRangePartsOf, WritesRangeParts}};
+ghost use Rattle.fixed_decimal_c.specs.{Parts.{counts_of, no_part, parts_of, WritesParts}, RangeParts.{all_pieces, bounds_of, lies_in, parted_range, source_in, with_source, FormatsRangeParts, Taken, WritesRangePartsOf, WritesRangeParts}};
 
 use crate::error::FdError;
 use crate::formatter::FdFormatter;
@@ -56,9 +56,7 @@ impl RangeBounds {
 
 impl<'a> PartList<'a> {
     fn take_segment(&mut self, range: &FormattedRange<'_>, segment: RangeSegment)
-        ensures { Puts (HasTaken self.old.parts.ghost_name self.old.parts.now self.old.count self.old.last)
-            (HasTaken self.new.parts.ghost_name self.new.parts.now self.new.count self.new.last)
-            (formatted_range_pieces range.now segment) }
+        ensures { Puts (Taken self.old) (Taken self.new) (formatted_range_pieces range.now segment) }
     {
         let _ = range.parts(segment, self);
     }

@@ -1,9 +1,9 @@
 //! Ranges of two decimals, by a formatter that C keeps.
-ghost use Rattle.std.specs.Prelude.{◌≡◌, ◌⊎◌, None, Ok, IfOk, IfErr, IfSome, IfNone};
+ghost use Rattle.std.specs.Prelude.{◌≡◌, ◌⊎◌, Some, None, Ok, IfOk, IfErr, IfSome, IfNone};
 ghost use Rattle.decimal_unsigned.specs.declared.decimal.TheConstants.{INLINE_DIGITS};
 ghost use Rattle.fixed_decimal.specs.DecimalText.{IsLong, read_decimal};
 ghost use Rattle.locale_data.specs.{declared.tables.symbols.TheConstants.LOCALES, Locales.symbols_at};
-ghost use Rattle.number_format.specs.{NumberText.{shown_number, FormattingNeedsMemory}, RangeText.IsRangeText};
+ghost use Rattle.number_format.specs.{Formatters.system_text, NumberText.{shown_number, FormattingNeedsMemory}, RangeText.IsRangeText};
 ghost use Rattle.fixed_decimal_c.specs.{KeptFormatters.IsNoFormatter, Ranges.{AreRangeTextsAt, EndsFail, FormatsRange, IsRangeFormatterIn, RangeFails, WritesRange}, Texts.WritesTo};
 
 use crate::error::FdError;
@@ -24,18 +24,33 @@ fn locales() -> &'static [LocaleSymbols]
     &LOCALES
 }
 
-/// Returns what the locale of rows writes of ranges, and `None` if there are no such rows.
-fn range_texts_at(id: LocaleId) -> Option<RangeTexts<'static>>
-    ensures some { IfSome result (AreRangeTextsAt id) }
+/// Returns the numbering system with a name, or else that of rows, and `None` if there are no such rows.
+fn system_at(id: LocaleId, name: &Option<NumberingSystem>) -> Option<NumberingSystem>
+    ensures some { IfSome result (λ system. system_text id name.now ≡ Some system) }
+    ensures none { IfNone result (symbols_at id ≡ None) }
+{
+    match name {
+        Some(name) => Some(*name),
+        None => {
+            let own = system_name_at(id)?;
+            match NumberingSystem::try_from_str(own) {
+                Ok(system) => Some(system),
+                Err(_) => None,
+            }
+        }
+    }
+}
+
+/// Returns what the locale of rows writes of ranges, in the numbering system with a name or else in that of the rows.
+/// Returns `None` if there are no such rows.
+fn range_texts_at(id: LocaleId, name: &Option<NumberingSystem>) -> Option<RangeTexts<'static>>
+    ensures some { IfSome result (AreRangeTextsAt id name.now) }
     ensures none { IfNone result (symbols_at id ≡ None) }
 {
     let locale = locales().get(id.locale as usize)?;
-    let system = system_name_at(id)?;
-    let Ok(tag) = str::from_utf8(unpadded(&locale.tag)) else {
-        return None;
-    };
-    match NumberingSystem::try_from_str(system) {
-        Ok(name) => RangeTexts::of(tag, &Some(name)),
+    let system = system_at(id, name)?;
+    match str::from_utf8(unpadded(&locale.tag)) {
+        Ok(tag) => RangeTexts::of(tag, &Some(system)),
         Err(_) => None,
     }
 }
@@ -49,7 +64,7 @@ impl FdFormatter {
         let Some((ids, options)) = self.ids_and_options() else {
             return None;
         };
-        let Some(texts) = range_texts_at(ids.symbols) else {
+        let Some(texts) = range_texts_at(ids.symbols, &options.numbering_system) else {
             return None;
         };
         match NumberFormatter::at(&ids, &options) {
@@ -93,12 +108,12 @@ pub(crate) fn error_of_range(
         start,
         end: _,
     } = failed;
-    if let RoundError::Memory = error {
-        return FdError::Memory;
-    }
-    match formatter.format(alloc, start) {
-        Ok(_) => FdError::Overflow { at: 1 },
-        Err(first) => error_of_format(first.error, 0),
+    match error {
+        RoundError::Memory => FdError::Memory,
+        RoundError::Limit => match formatter.format(alloc, start) {
+            Ok(_) => FdError::Overflow { at: 1 },
+            Err(first) => error_of_format(first.error, 0),
+        },
     }
 }
 

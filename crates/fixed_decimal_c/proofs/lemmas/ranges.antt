@@ -1,0 +1,2 @@
+pub mod ListedTags
+pub mod Failures
