@@ -346,12 +346,14 @@ typedef struct fd_format_rows {
     fd_outer_rows outer;
 } fd_format_rows;
 
-/* A formatter of numbers: plain data of 136 bytes without a pointer, to be copied and shared between threads. Make it
+/* A formatter of numbers: plain data of 152 bytes without a pointer, to be copied and shared between threads. Make it
  * by fd_formatter_by_options or fd_formatter_by_skeleton. Any bytes are allowed in it: those that name no row, no option
- * or no unit, or are not 0 where they are reserved, are FD_FORMATTER. All zeros are no formatter. */
+ * or no unit, or are not 0 where they are reserved, are FD_FORMATTER; so is for ranges a tag
+ * of no known locale. All zeros are no formatter. */
 typedef struct fd_formatter {
     fd_format_rows rows;
     fd_format_options options;
+    uint8_t tag[16]; /* the tag padded with spaces, or its first subtags: for ranges alone */
 } fd_formatter;
 
 /* An answer that is a formatter; its bytes are 0 if status is not FD_OK. */

@@ -187,6 +187,8 @@ static void test_ranges(void) {
         {"en", "currency/USD", "1", "1.001", "~$1.00"}, {"en", "%x100", "1", "2", "100% – 200%"},
         {"en", "K", "1000", "2000000", "1K – 2M"}, {"ja", "", "-5", "3", "-5 ～ 3"}, {"en", "", "5", "3", "5–3"},
         {"de-AT-1996", "", "1", "2", "1–2"}, {"ar-EG-u-nu-latn", "", "1", "2", "1–2"},
+        {"bs", "", "1", "2", "1 – 2"}, {"bs-Cyrl-BA", "", "1", "2", "1–2"},
+        {"bs-Cyrl-BA-u-nu-latn-ca-gregory-x-abc", "", "1", "2", "1–2"}, {"bs_Cyrl_BA.UTF-8@latin", "", "1", "2", "1–2"},
         {"ru", "unit/day unit-width-full-name", "1", "5", "1–5 дней"},
         {"de", "currency/EUR unit-width-full-name", "1", "1", "≈1,00 Euro"}};
     static const struct {
@@ -341,7 +343,7 @@ static int is_formatter(const fd_formatter *f) {
     int is = r.status != FD_FORMATTER;
     fd_result range = fd_format_range(f, B("-1234567.891"), B("3"), b, sizeof b);
     fd_parted split = fd_format_range_parts(f, B("-1234567.891"), B("3"), b, sizeof b, parts, 64);
-    CHECK(is == (range.status != FD_FORMATTER) && is == (split.status != FD_FORMATTER) && range.count == split.count);
+    CHECK((is || range.status == FD_FORMATTER) && split.status == range.status && split.count == range.count);
     CHECK(is == (read.status != FD_FORMATTER) && is == (p.status != FD_FORMATTER) && is == (o.status == FD_OK));
     CHECK(is == (c.status != FD_FORMATTER) && (!is || r.count == p.count));
     return is;
@@ -349,6 +351,7 @@ static int is_formatter(const fd_formatter *f) {
 
 static void test_any_bytes(void) {
     fd_formatter f;
+    uint8_t b[1];
     memset(&f, 0, sizeof f);
     CHECK(!is_formatter(&f));
     unsigned state = 1;
@@ -380,6 +383,12 @@ static void test_any_bytes(void) {
     CHECK(is_formatter(&f));
     f.rows.outer.kind = 4;
     CHECK(!is_formatter(&f));
+    /* Ranges alone need the tag. */
+    f = by_skeleton("de", "");
+    memcpy(f.tag, "tlh             ", sizeof f.tag);
+    CHECK(is_formatter(&f) && fd_format_range(&f, B("1"), B("2"), b, 0).status == FD_FORMATTER);
+    memset(f.tag, 0xFF, sizeof f.tag);
+    CHECK(is_formatter(&f) && fd_format_range(&f, B("1"), B("2"), b, 0).status == FD_FORMATTER);
     for (size_t k = 0; k < sizeof f.options.reserved; k++) {
         f = by_skeleton("de", "");
         f.options.reserved[k] = 1;

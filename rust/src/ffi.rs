@@ -70,10 +70,10 @@ struct FdUnits {
     per_unit: u8,
 }
 
-/// A formatter, of 136 bytes that only the library reads.
+/// A formatter, of 152 bytes that only the library reads.
 #[repr(C)]
 #[derive(Clone, Copy)]
-pub(crate) struct FdFormatter([u64; 17]);
+pub(crate) struct FdFormatter([u64; 19]);
 
 #[repr(C)]
 struct FdMade {

@@ -16,6 +16,7 @@ pub mod NumberReadings
 pub mod Conversions
 pub mod Keys
 pub mod Lines
+pub mod KeptTags
 pub mod KeptFormatters
 pub mod StatusTexts
 pub mod Parts

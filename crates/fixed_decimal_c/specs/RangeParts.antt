@@ -2,7 +2,7 @@
 use Rattle.std.specs.Prelude.{◌≡◌, ◌⊎◌, ℕ, ◌+◌, nat_le, ◌&&◌, if◌then◌else◌, Bool, List, ◌++◌, length, map, Result, Ok}
 use Rattle.fixed_decimal.specs.{Decimal.Decimal, DecimalText.read_decimal}
 use Rattle.number_format.specs.{declared.{format.formatter.NumberFormatter.NumberFormatter, range.range_texts.RangeTexts.RangeTexts}, RangeText.{IsRange, RangePieces, ShownRange, range_pieces}, TextParts.{Piece, pieces_text}}
-use Rattle.fixed_decimal_c.specs.{declared.{error.FdError.{FdError, TheVariants.Formatter}, formatter.FdFormatter.FdFormatter, parts.{FdPart.FdPart, FdParted.FdParted, PartCounts.PartCounts, PartList.PartList}, range_parts.RangeBounds.RangeBounds}, KeptFormatters.IsNoFormatter, Parts.{PartedText, counts_of, fd_parted, parts_of, HasTaken, WritesNoParts, WritesParts}, Ranges.{EndsFail, IsRangeFormatterIn, RangeFails}}
+use Rattle.fixed_decimal_c.specs.{declared.{error.FdError.{FdError, TheVariants.Formatter}, formatter.FdFormatter.FdFormatter, parts.{FdPart.FdPart, FdParted.FdParted, PartCounts.PartCounts, PartList.PartList}, range_parts.RangeBounds.RangeBounds}, Parts.{PartedText, counts_of, fd_parted, parts_of, HasTaken, WritesNoParts, WritesParts}, Ranges.{EndsFail, IsNoRangeFormatter, IsRangeFormatterIn, RangeFails}}
 
 -- the pieces of all segments
 abbrev pub all_pieces : RangePieces → List Piece
@@ -60,4 +60,4 @@ FormatsRangeParts r c start end old new old_parts new_parts =
     (counts : PartCounts) × (answer : Result Unit FdError) × (r ≡ fd_parted counts answer)
     × (((f : NumberFormatter) × (t : RangeTexts) × IsRangeFormatterIn c f t
     × WritesRangeParts f t counts answer start end old new old_parts new_parts)
-    ⊎ WritesNoParts (λ error. (error ≡ Formatter) × IsNoFormatter c) counts answer old new old_parts new_parts)
+    ⊎ WritesNoParts (λ error. (error ≡ Formatter) × IsNoRangeFormatter c) counts answer old new old_parts new_parts)

@@ -1,31 +1,25 @@
 -- Ranges of two decimals, as a formatter that C keeps writes them, and their plural categories.
-use Rattle.std.specs.{Prelude.{◌≡◌, ◌⊎◌, ℕ, zero, suc, ℤ, pos, List, slice_get, Option, Some, None, Result, Ok, Err}, Option.option_map, Str.IsUtf8}
+use Rattle.std.specs.{Prelude.{◌≡◌, ◌⊎◌, ℕ, zero, suc, ℤ, pos, List, Some, None, Result, Ok, Err}, Str.IsUtf8}
 use Rattle.decimal_unsigned.specs.declared.decimal.TheConstants.{INLINE_DIGITS}
 use Rattle.fixed_decimal.specs.{Decimal.Decimal, DecimalText.{read_decimal, IsLong}}
 use Rattle.plural_rules.specs.declared.rules.PluralCategory.{PluralCategory}
-use Rattle.locale_data.specs.{declared.{locales.LocaleId.LocaleId, tables.symbols.TheConstants.LOCALES}, PluralRanges.plural_range_category, Plurals.HasNoRules, Rows.unpadded}
-use Rattle.number_format.specs.{declared.{format.{ids.FormatterIds.FormatterIds, formatter.NumberFormatter.NumberFormatter}, options.NumberOptions.NumberOptions, range.range_texts.RangeTexts.RangeTexts}, Formatters.{system_text, AreIdsOf, IsFormatterAt}, FormattedRanges.AreRangeTexts, NumberText.{shown_number, FormattingNeedsMemory}, RangeText.IsRangeText, Scaled.ScaledValue}
-use Rattle.fixed_decimal_c.specs.{declared.{error.FdError.{FdError, TheVariants.{Formatter, Memory, Overflow, UnknownLocale, UnknownOption}}, formatter.FdFormatter.FdFormatter}, Categories.category_code, FormatOptions.AreFormatOptions, FormatRows.AreRows, KeptFormatters.IsNoFormatter, Numbers.ParsingFails, NumberTexts.HasFormatter, Texts.{WritesNothing, WritesTo}}
+use Rattle.locale_data.specs.{Locales.IsUnknown, PluralRanges.plural_range_category, Plurals.HasNoRules, Rows.unpadded}
+use Rattle.number_format.specs.{declared.{format.{ids.FormatterIds.FormatterIds, formatter.NumberFormatter.NumberFormatter}, options.NumberOptions.NumberOptions, range.range_texts.RangeTexts.RangeTexts}, Formatters.{system_text, IsFormatterAt}, FormattedRanges.AreRangeTexts, NumberText.{shown_number, FormattingNeedsMemory}, RangeText.IsRangeText, Scaled.ScaledValue}
+use Rattle.fixed_decimal_c.specs.{declared.{error.FdError.{FdError, TheVariants.{Formatter, Memory, Overflow, UnknownLocale, UnknownOption}}, formatter.FdFormatter.FdFormatter}, Categories.category_code, FormatOptions.AreFormatOptions, FormatRows.AreRows, KeptFormatters.IsNoFormatter, Numbers.ParsingFails, Texts.{WritesNothing, WritesTo}}
 
--- ---- The texts of ranges of a locale, by its rows.
+-- ---- The formatter, and the texts of ranges of its locale.
 
--- the tag of the listed locale of rows
-abbrev pub tag_at : LocaleId → Option (List ℕ)
-tag_at id = option_map (λ l. unpadded l.tag) (slice_get LOCALES id.locale)
-
--- the texts are those of the locale of rows, in the numbering system with a name, or else in that of the rows
-pub record AreRangeTextsAt (id : LocaleId) (name : Option (List ℕ)) (t : RangeTexts) : Type 0 where
-  pub tag : List ℕ
-  pub system : List ℕ
-  pub tag_is : tag_at id ≡ Some tag
-  pub system_is : system_text id name ≡ Some system
-  pub texts : AreRangeTexts tag (Some system) t
-
--- the formatter of the rows and the options that C has, and the texts of ranges of its locale
+-- the formatter of the rows and the options that C has, and the texts of ranges of its tag, in the numbering system of
+-- the options or else of the rows
 abbrev pub IsRangeFormatterIn : FdFormatter → NumberFormatter → RangeTexts → Type 0
 IsRangeFormatterIn c f t =
     (ids : FormatterIds) × (o : NumberOptions) × AreRows c.rows ids × AreFormatOptions c.options o
-    × IsFormatterAt ids o f × AreRangeTextsAt ids.symbols o.numbering_system t
+    × IsFormatterAt ids o f × (system : List ℕ) × (system_text ids.symbols o.numbering_system ≡ Some system)
+    × AreRangeTexts (unpadded c.tag) (Some system) t
+
+-- C has no formatter, or no tag of a known locale
+abbrev pub IsNoRangeFormatter : FdFormatter → Type 0
+IsNoRangeFormatter c = IsNoFormatter c ⊎ (IsUtf8 (unpadded c.tag) → IsUnknown (unpadded c.tag))
 
 -- ---- Errors.
 
@@ -56,13 +50,7 @@ WritesRange f t answer start end old new =
 abbrev pub FormatsRange : Result ℕ FdError → FdFormatter → List ℕ → List ℕ → List ℕ → List ℕ → Type 0
 FormatsRange answer c start end old new =
     ((f : NumberFormatter) × (t : RangeTexts) × IsRangeFormatterIn c f t × WritesRange f t answer start end old new)
-    ⊎ WritesNothing (λ error. (error ≡ Formatter) × IsNoFormatter c) answer old new
-
--- the same by the formatter of a tag and options, with the texts of ranges of its rows
-abbrev pub FormatsRangeBy : List ℕ → NumberOptions → Result ℕ FdError → List ℕ → List ℕ → List ℕ → List ℕ → Type 0
-FormatsRangeBy tag o answer start end old new =
-    (f : NumberFormatter) × (t : RangeTexts) × (ids : FormatterIds) × HasFormatter tag o f × AreIdsOf tag o ids
-    × AreRangeTextsAt ids.symbols o.numbering_system t × WritesRange f t answer start end old new
+    ⊎ WritesNothing (λ error. (error ≡ Formatter) × IsNoRangeFormatter c) answer old new
 
 -- ---- Plural categories.
 

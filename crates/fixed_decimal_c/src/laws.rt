@@ -3,8 +3,8 @@ ghost use Rattle.std.specs.{Prelude.{◌≡◌, ℕ, ◌+◌, Bool, List, ◌++�
 ghost use Rattle.conversions.specs.{Calls.Names, FormatWord.IsFormatWord, ReadWord.IsReadWord};
 ghost use Rattle.fixed_decimal.specs.declared.runs.Call.{Call};
 ghost use Rattle.locale_names.specs.declared.{locale_units.UnitDisplay.UnitDisplay, unit_id.Unit.Unit};
-ghost use Rattle.number_format.specs.declared.options.{NumberOptions.NumberOptions, NumberStyle.NumberStyle};
-ghost use Rattle.fixed_decimal_c.specs.{Calls.{IsPart, IsCall}, Formats.{FormatsNumber, FormatsBySkeleton}, KeptFormatters.{FormatsKept, MakesByOptions, MakesBySkeleton, ReadsKept}, NumberOptions.{AreNumberOptions, IsOptionStyle}, NumberTexts.AreOptionsOf, Ranges.{FormatsRange, FormatsRangeBy}, NumberReadings.{ReadsNumber, ReadsBySkeleton}, Styles.unit_displays, Units.{NamesUnit, fd_units}, Words.{IsReadAnswer, IsFormatAnswer, IsCallAnswer, IsWord, moved_call}, declared.{calls.FdCall.FdCall, error.FdError.FdError, formatter.FdFormatter.FdFormatter, number_options.FdNumberOptions.FdNumberOptions, words.FdWord.FdWord}};
+ghost use Rattle.number_format.specs.declared.options.NumberStyle.{NumberStyle};
+ghost use Rattle.fixed_decimal_c.specs.{Calls.{IsPart, IsCall}, Formats.{FormatsNumber, FormatsBySkeleton}, KeptFormatters.{FormatsKept, MakesByOptions, MakesBySkeleton, ReadsKept}, NumberOptions.IsOptionStyle, NumberReadings.{ReadsNumber, ReadsBySkeleton}, Styles.unit_displays, Units.{NamesUnit, fd_units}, Words.{IsReadAnswer, IsFormatAnswer, IsCallAnswer, IsWord, moved_call}, declared.{calls.FdCall.FdCall, error.FdError.FdError, formatter.FdFormatter.FdFormatter, number_options.FdNumberOptions.FdNumberOptions, words.FdWord.FdWord}};
 
 /// A part of a word is a part of words that are placed one after another: its start counts the bytes before the word.
 #[tactic(auto, using(crate::proofs::lemmas::words::JoinedWords::part_of_joined))]
@@ -65,21 +65,6 @@ pub fn kept_skeletons_read()
     ensures { (tag skeleton : List ℕ) (c : FdFormatter) (answer : Result ℕ FdError) (text : List ℕ) (lenient : Bool)
         (old new : List ℕ) → MakesBySkeleton (Ok c) tag skeleton → ReadsKept answer c text lenient old new
         → ReadsBySkeleton answer text tag skeleton lenient old new }
-{}
-
-/// `fd_format_range` by the formatter of a tag and options writes ranges as the formatter of these does, with the texts
-/// of ranges of its rows.
-pub fn kept_options_format_ranges()
-    ensures { (tag : List ℕ) (options : FdNumberOptions) (c : FdFormatter) (answer : Result ℕ FdError)
-        (start end old new : List ℕ) → MakesByOptions (Ok c) tag options → FormatsRange answer c start end old new
-        → (o : NumberOptions) × AreNumberOptions options o × FormatsRangeBy tag o answer start end old new }
-{}
-
-/// `fd_format_range` by the formatter of a tag and a skeleton writes ranges in the same way.
-pub fn kept_skeletons_format_ranges()
-    ensures { (tag skeleton : List ℕ) (c : FdFormatter) (answer : Result ℕ FdError) (start end old new : List ℕ)
-        → MakesBySkeleton (Ok c) tag skeleton → FormatsRange answer c start end old new
-        → (o : NumberOptions) × AreOptionsOf skeleton o × FormatsRangeBy tag o answer start end old new }
 {}
 
 /// Options with the style 4, the numbers that `fd_unit` returns for a name, and a width have the unit of this name.

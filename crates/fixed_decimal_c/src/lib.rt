@@ -18,6 +18,7 @@ mod format_options;
 mod format_rows;
 mod formatter;
 mod forms;
+mod kept_tag;
 mod keys;
 pub mod laws;
 mod lines;

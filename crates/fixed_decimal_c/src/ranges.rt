@@ -2,9 +2,9 @@
 ghost use Rattle.std.specs.Prelude.{◌≡◌, ◌⊎◌, Some, None, Ok, IfOk, IfErr, IfSome, IfNone};
 ghost use Rattle.decimal_unsigned.specs.declared.decimal.TheConstants.{INLINE_DIGITS};
 ghost use Rattle.fixed_decimal.specs.DecimalText.{IsLong, read_decimal};
-ghost use Rattle.locale_data.specs.{declared.tables.symbols.TheConstants.LOCALES, Locales.symbols_at};
+ghost use Rattle.locale_data.specs.Locales.{symbols_at};
 ghost use Rattle.number_format.specs.{Formatters.system_text, NumberText.{shown_number, FormattingNeedsMemory}, RangeText.IsRangeText};
-ghost use Rattle.fixed_decimal_c.specs.{KeptFormatters.IsNoFormatter, Ranges.{AreRangeTextsAt, EndsFail, FormatsRange, IsRangeFormatterIn, RangeFails, WritesRange}, Texts.WritesTo};
+ghost use Rattle.fixed_decimal_c.specs.{Ranges.{EndsFail, FormatsRange, IsNoRangeFormatter, IsRangeFormatterIn, RangeFails, WritesRange}, Texts.WritesTo};
 
 use crate::error::FdError;
 use crate::format::error_of_format;
@@ -12,17 +12,10 @@ use crate::formatter::FdFormatter;
 use crate::numbers::read;
 use crate::texts::write_by_block;
 use fixed_decimal::{Decimal, RoundError};
-use locale_data::{LOCALES, LocaleId, LocaleSymbols, NumberingSystem, system_name_at, unpadded};
+use locale_data::{LocaleId, NumberingSystem, system_name_at, unpadded};
 use number_format::{NumberFormatter, RangeFormatError, RangeTexts};
 use std::alloc::Global;
 use std::str;
-
-// A function that names a table is checked with all of its rows.
-fn locales() -> &'static [LocaleSymbols]
-    ensures { result.now ≡ LOCALES }
-{
-    &LOCALES
-}
 
 /// Returns the numbering system with a name, or else that of rows, and `None` if there are no such rows.
 fn system_at(id: LocaleId, name: &Option<NumberingSystem>) -> Option<NumberingSystem>
@@ -41,34 +34,26 @@ fn system_at(id: LocaleId, name: &Option<NumberingSystem>) -> Option<NumberingSy
     }
 }
 
-/// Returns what the locale of rows writes of ranges, in the numbering system with a name or else in that of the rows.
-/// Returns `None` if there are no such rows.
-fn range_texts_at(id: LocaleId, name: &Option<NumberingSystem>) -> Option<RangeTexts<'static>>
-    ensures some { IfSome result (AreRangeTextsAt id name.now) }
-    ensures none { IfNone result (symbols_at id ≡ None) }
-{
-    let locale = locales().get(id.locale as usize)?;
-    let system = system_at(id, name)?;
-    match str::from_utf8(unpadded(&locale.tag)) {
-        Ok(tag) => RangeTexts::of(tag, &Some(system)),
-        Err(_) => None,
-    }
-}
-
 impl FdFormatter {
     /// Returns the formatter of the rows and the options, and what its locale writes of ranges.
-    pub(crate) fn decode_range(&self) -> Option<(NumberFormatter, RangeTexts<'static>)>
+    pub(crate) fn decode_range(&self) -> Option<(NumberFormatter, RangeTexts<'_>)>
         ensures some { IfSome result (λ found. IsRangeFormatterIn self.now found.0 found.1) }
-        ensures none { IfNone result (IsNoFormatter self.now) }
+        ensures none { IfNone result (IsNoRangeFormatter self.now) }
     {
         let Some((ids, options)) = self.ids_and_options() else {
             return None;
         };
-        let Some(texts) = range_texts_at(ids.symbols, &options.numbering_system) else {
+        let Some(formatter) = NumberFormatter::at(&ids, &options) else {
             return None;
         };
-        match NumberFormatter::at(&ids, &options) {
-            Some(formatter) => Some((formatter, texts)),
+        let Some(system) = system_at(ids.symbols, &options.numbering_system) else {
+            return None;
+        };
+        let Ok(tag) = str::from_utf8(unpadded(&self.tag)) else {
+            return None;
+        };
+        match RangeTexts::of(tag, &Some(system)) {
+            Some(texts) => Some((formatter, texts)),
             None => None,
         }
     }

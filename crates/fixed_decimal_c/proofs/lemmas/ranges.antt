@@ -1,2 +1,2 @@
-pub mod ListedTags
 pub mod Failures
+pub mod SystemNames

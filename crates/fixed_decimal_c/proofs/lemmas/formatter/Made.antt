@@ -3,7 +3,7 @@ use Rattle.std.proofs.Common.{◌≡◌, ℕ, List, Bool, Option, Result, Ok, Er
 use Rattle.std.specs.Prelude.{IsSomeAnd}
 use Rattle.locale_data.specs.{declared.{currency.CurrencyId.CurrencyId, format_rows.FormatRows.FormatRows, locales.LocaleId.LocaleId, plurals.{PluralRulesId.PluralRulesId, PluralRuleType.TheVariants.Cardinal}}, Currencies.LacksCurrency, Formats.{AreFormatsOf}, Locales.symbols_at, Plurals.{rules_text_at, IsRulesText}}
 use Rattle.number_format.specs.{declared.{format.{ids.FormatterIds.FormatterIds, formatter.NumberFormatter.NumberFormatter}, options.NumberOptions.NumberOptions}, Formatters.{AreIdsOf, AreSymbolsOf, IsCurrencyRow, IsFormatterAt, LacksRows, system_text}, NumberStyles.AreOuterTexts}
-use Rattle.fixed_decimal_c.specs.{declared.{error.FdError.FdError, format_rows.FdFormatRows.FdFormatRows, formatter.FdFormatter.FdFormatter, number_options.FdNumberOptions.FdNumberOptions}, FormatRows.AreRows, Formats.{FormatsBySkeleton, FormatsNumber}, Ranges.{AreRangeTextsAt, FormatsRange, FormatsRangeBy}, KeptFormatters.{FormatsKept, IsFormatterIn, IsKept, IsNoFormatter, Keeps, MakesByOptions, MakesBySkeleton, ReadsKept}, NumberOptions.AreNumberOptions, NumberReadings.{ReadsBySkeleton, ReadsNumber}, NumberTexts.{AreOptionsOf, HasFormatter, IsMade, IsMadeBySkeleton}}
+use Rattle.fixed_decimal_c.specs.{declared.{error.FdError.FdError, format_rows.FdFormatRows.FdFormatRows, formatter.FdFormatter.FdFormatter, number_options.FdNumberOptions.FdNumberOptions}, FormatRows.AreRows, Formats.{FormatsBySkeleton, FormatsNumber}, KeptFormatters.{FormatsKept, IsFormatterIn, IsKept, IsNoFormatter, Keeps, MakesByOptions, MakesBySkeleton, ReadsKept}, NumberReadings.{ReadsBySkeleton, ReadsNumber}, NumberTexts.{HasFormatter, IsMade, IsMadeBySkeleton}}
 use Rattle.fixed_decimal_c.proofs.lemmas.format_options.Unique.{same_options}
 
 -- ---- Rows that C has are those of one formatter.
@@ -74,7 +74,7 @@ module _ (c : FdFormatRows) (a b : FormatterIds) (is : AreRows c a) (js : AreRow
 -- what C keeps is the formatter of the tag and the options
 pub kept_formatter : (tag : List ℕ) (o : NumberOptions) (c : FdFormatter) (f : NumberFormatter) → Keeps tag o c
     → IsFormatterIn c f → HasFormatter tag o f
-kept_formatter tag o c f (utf8, (ids, are, exist, rows, options)) (found, p, found_rows, found_options, at) =
+kept_formatter tag o c f (utf8, tag_is, (ids, are, exist, rows, options)) (found, p, found_rows, found_options, at) =
     let same = same_options c.options p o found_options options in (
       utf8,
       record {
@@ -86,9 +86,9 @@ kept_formatter tag o c f (utf8, (ids, are, exist, rows, options)) (found, p, fou
 
 -- and there is one
 pub keeps_one : (tag : List ℕ) (o : NumberOptions) (c : FdFormatter) → Keeps tag o c → IsNoFormatter c → ⊥
-keeps_one tag o c (utf8, (ids, are, exist, rows, options)) (inl none) = none ids rows
-keeps_one tag o c (utf8, (ids, are, exist, rows, options)) (inr (inl none)) = none o options
-keeps_one tag o c (utf8, (ids, are, exist, rows, options)) (inr (inr (found, found_rows, lacks))) =
+keeps_one tag o c (utf8, tag_is, (ids, are, exist, rows, options)) (inl none) = none ids rows
+keeps_one tag o c (utf8, tag_is, (ids, are, exist, rows, options)) (inr (inl none)) = none o options
+keeps_one tag o c (utf8, tag_is, (ids, are, exist, rows, options)) (inr (inr (found, found_rows, lacks))) =
     exist (lacks_too c.rows ids found rows found_rows lacks)
 
 pub by_options : (tag : List ℕ) (options : FdNumberOptions) (c : FdFormatter) (made : Result NumberFormatter FdError)
@@ -126,32 +126,3 @@ pub reads_by_skeleton : (tag skeleton : List ℕ) (c : FdFormatter) (answer : Re
     → ReadsKept answer c text lenient old new → ReadsBySkeleton answer text tag skeleton lenient old new
 reads_by_skeleton tag skeleton c answer text lenient old new makes (made, is, reads) =
     (made, by_skeleton tag skeleton c made makes is, reads)
-
-pub formats_range_by : (tag : List ℕ) (o : NumberOptions) (c : FdFormatter) (answer : Result ℕ FdError)
-    (start end old new : List ℕ) → Keeps tag o c → FormatsRange answer c start end old new
-    → FormatsRangeBy tag o answer start end old new
-formats_range_by tag o c answer start end old new keeps (inl (f, t, (ids, p, rows, options, at, texts), writes)) =
-    let (utf8, (found, are, exist, found_rows, found_options)) = keeps in
-    let same = same_options c.options p o options found_options in (
-      f,
-      t,
-      ids,
-      kept_formatter tag o c f keeps (ids, p, rows, options, at),
-      same_ids c.rows found ids found_rows rows tag o are,
-      subst (λ (q : NumberOptions). AreRangeTextsAt ids.symbols q.numbering_system t) same texts,
-      writes,
-    )
-formats_range_by tag o c answer start end old new keeps (inr (error, is, (e, none), same)) =
-    absurd (keeps_one tag o c keeps none)
-
-pub ranges_by_options : (tag : List ℕ) (options : FdNumberOptions) (c : FdFormatter) (answer : Result ℕ FdError)
-    (start end old new : List ℕ) → MakesByOptions (Ok c) tag options → FormatsRange answer c start end old new
-    → (o : NumberOptions) × AreNumberOptions options o × FormatsRangeBy tag o answer start end old new
-ranges_by_options tag options c answer start end old new (o, are, keeps) formats =
-    (o, are, formats_range_by tag o c answer start end old new keeps formats)
-
-pub ranges_by_skeleton : (tag skeleton : List ℕ) (c : FdFormatter) (answer : Result ℕ FdError)
-    (start end old new : List ℕ) → MakesBySkeleton (Ok c) tag skeleton → FormatsRange answer c start end old new
-    → (o : NumberOptions) × AreOptionsOf skeleton o × FormatsRangeBy tag o answer start end old new
-ranges_by_skeleton tag skeleton c answer start end old new (o, are, keeps) formats =
-    (o, are, formats_range_by tag o c answer start end old new keeps formats)

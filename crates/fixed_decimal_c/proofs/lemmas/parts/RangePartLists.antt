@@ -48,11 +48,15 @@ module _ (s0 s1 s2 s3 s4 s5 s6 s7 : PartList) (p : RangePieces)
       + (length (pieces_text p.middle) + (length (pieces_text p.end) + (length (pieces_text p.suffix)
       + length (pieces_text p.outer_suffix))))))
   total =
-      omega (arith, length_of_both p.prefix (p.outer_prefix ++ (p.start ++ (p.middle ++ (p.end ++ (p.suffix ++ p.outer_suffix))))),
-      length_of_both p.outer_prefix (p.start ++ (p.middle ++ (p.end ++ (p.suffix ++ p.outer_suffix)))),
-      length_of_both p.start (p.middle ++ (p.end ++ (p.suffix ++ p.outer_suffix))),
-      length_of_both p.middle (p.end ++ (p.suffix ++ p.outer_suffix)),
-      length_of_both p.end (p.suffix ++ p.outer_suffix), length_of_both p.suffix p.outer_suffix)
+      omega (
+        arith,
+        length_of_both p.prefix (p.outer_prefix ++ (p.start ++ (p.middle ++ (p.end ++ (p.suffix ++ p.outer_suffix))))),
+        length_of_both p.outer_prefix (p.start ++ (p.middle ++ (p.end ++ (p.suffix ++ p.outer_suffix)))),
+        length_of_both p.start (p.middle ++ (p.end ++ (p.suffix ++ p.outer_suffix))),
+        length_of_both p.middle (p.end ++ (p.suffix ++ p.outer_suffix)),
+        length_of_both p.end (p.suffix ++ p.outer_suffix),
+        length_of_both p.suffix p.outer_suffix,
+      )
 
   pub bounds : (b : RangeBounds) → b.start ≡ s2.last.end → b.middle ≡ s3.last.end → b.end ≡ s4.last.end
       → b.after ≡ s5.last.end → b ≡ bounds_of p
@@ -65,10 +69,14 @@ module _ (s0 s1 s2 s3 s4 s5 s6 s7 : PartList) (p : RangePieces)
       let l3 = length_of_both (p.prefix ++ p.outer_prefix) p.start in
       let l4 = length_of_both ((p.prefix ++ p.outer_prefix) ++ p.start) p.middle in
       let l5 = length_of_both (((p.prefix ++ p.outer_prefix) ++ p.start) ++ p.middle) p.end in
-      let e2 = start ∙ end_at s2 _ to2 (omega (arith, bound, total, l2)) ∙ l2 in
-      let e3 = middle ∙ end_at s3 _ to3 (omega (arith, bound, total, l2, l3)) ∙ l3 ∙ omega (arith, l2) in
-      let e4 = end ∙ end_at s4 _ to4 (omega (arith, bound, total, l2, l3, l4)) ∙ l4 ∙ omega (arith, l2, l3) in
-      let e5 = after ∙ end_at s5 _ to5 (omega (arith, bound, total, l2, l3, l4, l5)) ∙ l5 ∙ omega (arith, l2, l3, l4) in
+      let before = length (pieces_text p.prefix) + length (pieces_text p.outer_prefix) in
+      let e2 : b.start ≡ before = start ∙ end_at s2 _ to2 (omega (arith, bound, total, l2)) ∙ l2 in
+      let e3 : b.middle ≡ before + length (pieces_text p.start) =
+      middle ∙ end_at s3 _ to3 (omega (arith, bound, total, l2, l3)) ∙ l3 ∙ ap (λ n. n + length (pieces_text p.start)) l2 in
+      let e4 : b.end ≡ before + length (pieces_text p.start) + length (pieces_text p.middle) =
+      end ∙ end_at s4 _ to4 (omega (arith, bound, total, l2, l3, l4)) ∙ l4 ∙ omega (arith, l2, l3) in
+      let e5 : b.after ≡ before + length (pieces_text p.start) + length (pieces_text p.middle) + length (pieces_text p.end) =
+      after ∙ end_at s5 _ to5 (omega (arith, bound, total, l2, l3, l4, l5)) ∙ l5 ∙ omega (arith, l2, l3, l4) in
       λ i. record { start = e2 i; middle = e3 i; end = e4 i; after = e5 i }
 
 -- ---- Sources.

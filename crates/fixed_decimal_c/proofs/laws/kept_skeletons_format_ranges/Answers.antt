@@ -1,5 +1,0 @@
-use Rattle.fixed_decimal_c.proofs.lemmas.formatter.Made.{ranges_by_skeleton}
-use Rattle.fixed_decimal_c.proofs.laws.kept_skeletons_format_ranges.Goals as goal
-
-pub returns : goal.returns
-returns c = ranges_by_skeleton
