@@ -1,12 +1,15 @@
 -- The parts of the text of a range, as C receives them.
 use Rattle.std.specs.Prelude.{◌≡◌, ◌⊎◌, ℕ, ◌+◌, nat_le, ◌&&◌, if◌then◌else◌, Bool, List, ◌++◌, length, map, Result, Ok}
 use Rattle.fixed_decimal.specs.{Decimal.Decimal, DecimalText.read_decimal}
-use Rattle.number_format.specs.{declared.{format.formatter.NumberFormatter.NumberFormatter, range.range_texts.RangeTexts.RangeTexts}, RangeText.{IsRange, RangePieces, ShownRange, range_pieces}, TextParts.{Piece, pieces_text}}
+use Rattle.number_format.specs.{declared.{format.formatter.NumberFormatter.NumberFormatter, range.{formatted_range.FormattedRange.FormattedRange, range_texts.RangeTexts.RangeTexts}}, FormattedRanges.shown_range, RangeText.{IsRange, RangePieces, ShownRange, range_pieces}, TextParts.{Piece, pieces_text}}
 use Rattle.fixed_decimal_c.specs.{declared.{error.FdError.{FdError, TheVariants.Formatter}, formatter.FdFormatter.FdFormatter, parts.{FdPart.FdPart, FdParted.FdParted, PartCounts.PartCounts, PartList.PartList}, range_parts.RangeBounds.RangeBounds}, Parts.{PartedText, counts_of, fd_parted, parts_of, HasTaken, WritesNoParts, WritesParts}, Ranges.{EndsFail, IsNoRangeFormatter, IsRangeFormatterIn, RangeFails}}
 
 -- the pieces of all segments
 abbrev pub all_pieces : RangePieces → List Piece
 all_pieces p = p.prefix ++ (p.outer_prefix ++ (p.start ++ (p.middle ++ (p.end ++ (p.suffix ++ p.outer_suffix)))))
+
+abbrev pub pieces_of_range : FormattedRange → List Piece
+pieces_of_range r = all_pieces (range_pieces (shown_range r))
 
 -- where the segments of the start and of the end are in the text
 abbrev pub bounds_of : RangePieces → RangeBounds

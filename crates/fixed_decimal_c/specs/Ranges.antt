@@ -28,8 +28,8 @@ abbrev pub EndsFail : FdError → List ℕ → List ℕ → Type 0
 EndsFail error start end =
     ParsingFails error start 0 ⊎ ((v : Decimal) × (read_decimal start ≡ Ok v) × ParsingFails error end 1)
 
--- formatting a range fails: the start is shown beyond the limits; or the start is not, and the end is; or out of memory,
--- where a copy of the start or one of the numbers needs it
+-- formatting a range fails: the start is shown beyond the limits; or the start is not, and the end is; or out of
+-- memory, where a copy of the start or one of the numbers needs it
 abbrev pub RangeFails : NumberFormatter → Decimal → Decimal → FdError → Type 0
 RangeFails f v w (Overflow zero) = shown_number f v ≡ None
 RangeFails f v w (Overflow (suc zero)) =
@@ -39,7 +39,8 @@ RangeFails f v w error = ⊥
 
 -- ---- Writing.
 
--- the range of the decimals that two texts are is written if it fits; or one of them is none, and the buffer is as it was
+-- the range of the decimals that two texts are is written if it fits; or one of them is none, and the buffer is as it
+-- was
 abbrev pub WritesRange : NumberFormatter → RangeTexts → Result ℕ FdError → List ℕ → List ℕ → List ℕ → List ℕ → Type 0
 WritesRange f t answer start end old new =
     ((v w : Decimal) × (read_decimal start ≡ Ok v) × (read_decimal end ≡ Ok w)

@@ -288,8 +288,8 @@ pub fn fd_format_parts(
 
 /// Formats the range of two decimals by a formatter, in any order: `1–2`, or `~1` of two that are shown alike.
 ///
-/// The errors, the first that holds: `Formatter`; of the text of the first one, and then of the second one, by its place
-/// 1; `Overflow`, if the number that is shown is beyond the limits, with the same places; `BufferTooSmall`.
+/// The errors, the first that holds: `Formatter`; of the text of the first one, and then of the second one, by its
+/// place 1; `Overflow`, if the number that is shown is beyond the limits, with the same places; `BufferTooSmall`.
 pub fn fd_format_range(
     alloc: Global,
     formatter: &FdFormatter,
@@ -303,8 +303,8 @@ pub fn fd_format_range(
 }
 
 /// Formats the range of two decimals as [`fd_format_range`] does, and writes the parts of the text to an array as
-/// [`fd_format_parts`] does. The source of a part is 1 if all of it belongs to the first number, 2 if to the second one,
-/// and else 0.
+/// [`fd_format_parts`] does. The source of a part is 1 if all of it belongs to the first number, 2 if to the second
+/// one, and else 0.
 ///
 /// The errors: as there, and then `PartsTooSmall`. On an error the buffer and the array are as they were.
 pub fn fd_format_range_parts(
@@ -456,8 +456,8 @@ pub fn fd_category_of(alloc: Global, rules: u64, text: &[u8]) -> FdNumber
     encode_number(category_by(alloc, rules, text))
 }
 
-/// Returns the plural category of a range of numbers in the language of a tag, by the categories of its first and of its
-/// second number: that of `1–5 days`. Cardinal and ordinal numbers have the same ones.
+/// Returns the plural category of a range of numbers in the language of a tag, by the categories of its first and of
+/// its second number: that of `1–5 days`. Cardinal and ordinal numbers have the same ones.
 ///
 /// The errors, the first that holds: `UnknownOption`, if there is no such category; `UnknownLocale`.
 pub fn fd_category_range(tag: &[u8], start: u32, end: u32) -> FdNumber

@@ -1,7 +1,7 @@
 //! The text of a range with its parts.
 ghost use Rattle.std.specs.Prelude.{◌≡◌, ◌<◌, ◌^◌, ◌&&◌, nat_le, length, map};
 ghost use Rattle.number_format.specs.{FormattedRanges.{formatted_range_pieces, shown_range}, RangeText.range_pieces, TextParts.{Puts, pieces_text}};
-ghost use Rattle.fixed_decimal_c.specs.{Parts.{counts_of, no_part, parts_of, WritesParts}, RangeParts.{all_pieces, bounds_of, lies_in, parted_range, source_in, with_source, FormatsRangeParts, Taken, WritesRangePartsOf, WritesRangeParts}};
+ghost use Rattle.fixed_decimal_c.specs.{Parts.{counts_of, no_part, parts_of, WritesParts}, RangeParts.{bounds_of, lies_in, parted_range, pieces_of_range, source_in, with_source, FormatsRangeParts, Taken, WritesRangePartsOf, WritesRangeParts}};
 
 use crate::error::FdError;
 use crate::formatter::FdFormatter;
@@ -63,13 +63,13 @@ impl<'a> PartList<'a> {
 
     /// Takes the pieces of a range, before which it has taken none.
     fn take_range(&mut self, range: &FormattedRange<'_>) -> RangeBounds
-        requires counted { length (pieces_text (all_pieces (range_pieces (shown_range range.now)))) < 2 ^ 64 }
+        requires counted { length (pieces_text (pieces_of_range range.now)) < 2 ^ 64 }
         requires empty { self.old.count ≡ 0 }
         requires first { self.old.last ≡ no_part }
         ensures same_array { self.new.parts.ghost_name ≡ self.old.parts.ghost_name }
-        ensures count { self.new.count ≡ length (parts_of (all_pieces (range_pieces (shown_range range.now)))) }
-        ensures parts { length self.old.parts.now ≡ length (parts_of (all_pieces (range_pieces (shown_range range.now))))
-            → self.new.parts.now ≡ parts_of (all_pieces (range_pieces (shown_range range.now))) }
+        ensures count { self.new.count ≡ length (parts_of (pieces_of_range range.now)) }
+        ensures parts { length self.old.parts.now ≡ length (parts_of (pieces_of_range range.now))
+            → self.new.parts.now ≡ parts_of (pieces_of_range range.now) }
         ensures bounds { result ≡ bounds_of (range_pieces (shown_range range.now)) }
     {
         self.take_segment(range, RangeSegment::Prefix);
@@ -94,7 +94,7 @@ impl<'a> PartList<'a> {
 
 /// Returns the number of parts of the text of a range.
 fn count_parts(range: &FormattedRange<'_>) -> usize
-    requires { length (pieces_text (all_pieces (range_pieces (shown_range range.now)))) < 2 ^ 64 }
+    requires { length (pieces_text (pieces_of_range range.now)) < 2 ^ 64 }
     ensures { result ≡ length (parted_range (range_pieces (shown_range range.now))).parts }
 {
     let mut none = [];
@@ -105,7 +105,7 @@ fn count_parts(range: &FormattedRange<'_>) -> usize
 
 /// Writes the parts of the text of a range to an array of their number.
 fn fill_parts(range: &FormattedRange<'_>, parts: &mut [FdPart])
-    requires counted { length (pieces_text (all_pieces (range_pieces (shown_range range.now)))) < 2 ^ 64 }
+    requires counted { length (pieces_text (pieces_of_range range.now)) < 2 ^ 64 }
     requires fits { length parts.old ≡ length (parted_range (range_pieces (shown_range range.now))).parts }
     ensures { parts.new ≡ (parted_range (range_pieces (shown_range range.now))).parts }
 {

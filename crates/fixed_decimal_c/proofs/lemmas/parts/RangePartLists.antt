@@ -72,10 +72,12 @@ module _ (s0 s1 s2 s3 s4 s5 s6 s7 : PartList) (p : RangePieces)
       let before = length (pieces_text p.prefix) + length (pieces_text p.outer_prefix) in
       let e2 : b.start ≡ before = start ∙ end_at s2 _ to2 (omega (arith, bound, total, l2)) ∙ l2 in
       let e3 : b.middle ≡ before + length (pieces_text p.start) =
-      middle ∙ end_at s3 _ to3 (omega (arith, bound, total, l2, l3)) ∙ l3 ∙ ap (λ n. n + length (pieces_text p.start)) l2 in
+      middle ∙ end_at s3 _ to3 (omega (arith, bound, total, l2, l3)) ∙ l3
+      ∙ ap (λ n. n + length (pieces_text p.start)) l2 in
       let e4 : b.end ≡ before + length (pieces_text p.start) + length (pieces_text p.middle) =
       end ∙ end_at s4 _ to4 (omega (arith, bound, total, l2, l3, l4)) ∙ l4 ∙ omega (arith, l2, l3) in
-      let e5 : b.after ≡ before + length (pieces_text p.start) + length (pieces_text p.middle) + length (pieces_text p.end) =
+      let e5 : b.after ≡ before + length (pieces_text p.start) + length (pieces_text p.middle)
+      + length (pieces_text p.end) =
       after ∙ end_at s5 _ to5 (omega (arith, bound, total, l2, l3, l4, l5)) ∙ l5 ∙ omega (arith, l2, l3, l4) in
       λ i. record { start = e2 i; middle = e3 i; end = e4 i; after = e5 i }
 

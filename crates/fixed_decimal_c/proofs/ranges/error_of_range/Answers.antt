@@ -9,5 +9,5 @@ returns-in-Ok c =
 
 pub returns-in-Err : goal.returns-in-Err
 returns-in-Err c =
-    rw c.error_of_format.ensures (of_start c.args.formatter.now c.args.failed.start c.args.failed.end c.in-Err.first.error
-    c.in-Err.ensures.limit c.in-Err.ensures.memory)
+    rw c.error_of_format.ensures (of_start c.args.formatter.now c.args.failed.start c.args.failed.end
+    c.in-Err.first.error c.in-Err.ensures.limit c.in-Err.ensures.memory)
