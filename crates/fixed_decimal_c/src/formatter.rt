@@ -53,6 +53,7 @@ impl FdFormatter {
         ensures ok { IfOk result (Keeps tag.now options.now) }
         ensures err { IfErr result (λ error. OptionsFail error tag.now options.now) }
     {
+        let kept = kept_tag(tag);
         let Ok(tag) = str::from_utf8(tag) else {
             return Err(FdError::UnknownLocale);
         };
@@ -60,7 +61,7 @@ impl FdFormatter {
             Ok(ids) => Ok(FdFormatter {
                 rows: FdFormatRows::encode(&ids),
                 options: FdFormatOptions::encode(options),
-                tag: kept_tag(tag.as_bytes()),
+                tag: kept,
             }),
             Err(error) => Err(error_of_formatter(error)),
         }

@@ -1,4 +1,4 @@
-use Rattle.fixed_decimal_c.proofs.lemmas.ranges.Failures.{of_end, of_start}
+use Rattle.fixed_decimal_c.proofs.lemmas.ranges.Failures.{of_end}
 use Rattle.fixed_decimal_c.proofs.ranges.error_of_range.Goals as goal
 
 pub returns-in-Ok : goal.returns-in-Ok
@@ -6,8 +6,3 @@ returns-in-Ok c =
     let shown = c.in-Ok.ensures.pieces in
     of_end c.args.formatter.now c.args.failed.start c.args.failed.end shown.number shown.number_is
     (c.requires.limit c.in-Limit.is)
-
-pub returns-in-Err : goal.returns-in-Err
-returns-in-Err c =
-    rw c.error_of_format.ensures (of_start c.args.formatter.now c.args.failed.start c.args.failed.end
-    c.in-Err.first.error c.in-Err.ensures.limit c.in-Err.ensures.memory)
