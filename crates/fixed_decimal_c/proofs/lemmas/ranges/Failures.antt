@@ -1,9 +1,7 @@
 -- Why a range is not formatted.
-use Rattle.std.proofs.{Common.{◌≡◌, ◌⊎◌, inl, inr, None, Some, refl, sym, ◌∙◌}, lemmas.Option.none-some}
-use Rattle.decimal_digits.specs.declared.rounding.RoundError.{RoundError, TheVariants.{Limit, Memory}}
+use Rattle.std.proofs.{Common.{◌≡◌, ◌⊎◌, inl, inr, None, Some, sym, ◌∙◌}, lemmas.Option.none-some}
 use Rattle.fixed_decimal.specs.Decimal.{Decimal}
-use Rattle.number_format.specs.{declared.format.formatter.NumberFormatter.NumberFormatter, NumberText.{shown_number, FormattingNeedsMemory}, Scaled.ScaledValue}
-use Rattle.fixed_decimal_c.specs.{NumberTexts.error_of_format, Ranges.RangeFails}
+use Rattle.number_format.specs.{declared.format.formatter.NumberFormatter.NumberFormatter, NumberText.shown_number, Scaled.ScaledValue}
 
 module _ (f : NumberFormatter) (v w : Decimal) where
   -- the start is shown, so the end is beyond the limits
@@ -12,8 +10,3 @@ module _ (f : NumberFormatter) (v w : Decimal) where
       → (n : ScaledValue) × (shown_number f v ≡ Some n) × (shown_number f w ≡ None)
   of_end number is (inl none) = absurd (none-some number (sym none ∙ is))
   of_end number is (inr none) = (number, is, none)
-
-  pub of_start : (e : RoundError) → (e ≡ Limit → shown_number f v ≡ None)
-      → (e ≡ Memory → FormattingNeedsMemory f v) → RangeFails f v w (error_of_format e 0)
-  of_start Limit limit memory = limit refl
-  of_start Memory limit memory = inr (inl (memory refl))
