@@ -6,8 +6,8 @@
 #
 # `install` copies them and the header to PREFIX, by default /usr/local, or, if DESTDIR is set, to DESTDIR/PREFIX; a
 # relative one is in the current folder, and `tools/install.sh --uninstall PREFIX` removes them. A program that is
-# compiled by c/out/fixed_decimal.pc finds the shared library in c/out. Needs `rt` and gcc. What the gate has built of
-# the same sources is not proved again; with BUILT_BY_GATE=1 only the exports are.
+# compiled by c/out/fixed_decimal.pc finds the shared library in c/out. Needs `rt`, gcc and util-linux (flock). What the
+# gate has built of the same sources is not proved again; with BUILT_BY_GATE=1 only the exports are.
 set -eu
 [ $# = 0 ] || { [ $# = 1 ] && [ "$1" = install ]; } || { echo "usage: c/build.sh [install]" >&2; exit 2; }
 prefix=$(realpath -ms -- "${PREFIX:-/usr/local}")

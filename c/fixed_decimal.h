@@ -36,7 +36,7 @@ extern "C" {
 #endif
 
 /* The version of this interface: it grows when a number, a struct or a meaning changes. */
-#define FD_VERSION 7
+#define FD_VERSION 8
 
 /* The version of the library, to be compared with FD_VERSION. */
 uint32_t fd_version(void);
@@ -51,7 +51,8 @@ typedef enum fd_status {
     FD_OPERAND_LIMIT = 5,    /* the operand of call `at` has too many digits */
     FD_OVERLAP = 6,          /* the numbers that call `at` concatenates overlap */
     FD_OVERFLOW = 7,         /* the result of call `at`, a shift or a rounding, is beyond the limits; or, after all
-                                calls, where `at` is their number, the number that is shown */
+                                calls, where `at` is their number, the number that is shown; of a range, `at` is 0
+                                for its first number and 1 for its second one */
     FD_BUFFER_TOO_SMALL = 8, /* the text does not fit the rest of the buffer */
     FD_UNKNOWN_CALL = 9,     /* call `at` has an unknown kind, option or increment, or an operand outside the texts */
     FD_UNKNOWN_LOCALE = 10,  /* no locale of the tag is known, or its numbering system is not; or none has the number */
@@ -345,12 +346,14 @@ typedef struct fd_format_rows {
     fd_outer_rows outer;
 } fd_format_rows;
 
-/* A formatter of numbers: plain data of 136 bytes without a pointer, to be copied and shared between threads. Make it
+/* A formatter of numbers: plain data of 152 bytes without a pointer, to be copied and shared between threads. Make it
  * by fd_formatter_by_options or fd_formatter_by_skeleton. Any bytes are allowed in it: those that name no row, no option
- * or no unit, or are not 0 where they are reserved, are FD_FORMATTER. All zeros are no formatter. */
+ * or no unit, or are not 0 where they are reserved, are FD_FORMATTER; so is for ranges a tag
+ * of no known locale. All zeros are no formatter. */
 typedef struct fd_formatter {
     fd_format_rows rows;
     fd_format_options options;
+    uint8_t tag[16]; /* the tag padded with spaces, or its first subtags: for ranges alone */
 } fd_formatter;
 
 /* An answer that is a formatter; its bytes are 0 if status is not FD_OK. */
@@ -382,13 +385,21 @@ enum fd_part_kind {
     FD_PART_EXPONENT_SEPARATOR = 11,
     FD_PART_EXPONENT_MINUS_SIGN = 12,
     FD_PART_EXPONENT_PLUS_SIGN = 13,
-    FD_PART_EXPONENT_INTEGER = 14
+    FD_PART_EXPONENT_INTEGER = 14,
+    FD_PART_APPROXIMATELY_SIGN = 15 /* of a range, as in ~1 */
+};
+
+/* To which number of a range a part belongs, as formatRangeToParts of Intl.NumberFormat names it. */
+enum fd_part_source {
+    FD_SHARED = 0, /* to neither, or not all of it to one; also each part of one number */
+    FD_START_RANGE = 1,
+    FD_END_RANGE = 2
 };
 
 /* A part of a text: the bytes from start to end - 1. */
 typedef struct fd_part {
     uint32_t kind;   /* an fd_part_kind */
-    uint32_t source; /* 0: it is kept for ranges of numbers */
+    uint32_t source; /* an fd_part_source */
     size_t start;
     size_t end;
 } fd_part;
@@ -505,6 +516,22 @@ fd_column fd_format_column(const fd_formatter *formatter, const uint8_t *lines, 
 fd_parted fd_format_parts(const fd_formatter *formatter, const uint8_t *text, size_t count, uint8_t *buffer,
                           size_t capacity, fd_part *parts, size_t part_capacity);
 
+/* Formats the range of two decimals by a formatter, as formatRange of Intl.NumberFormat does: "1,00–2,00 €", or "≈1,00 €"
+ * if both are equal or shown alike. The first may be above the second. The buffer is as after fd_run.
+ * Errors, the first that holds: FD_FORMATTER; FD_SYNTAX, FD_LIMIT, FD_MEMORY of the first text, and then of the second
+ * one, with at 1; FD_OVERFLOW of the first number, and then of the second one, or FD_MEMORY; FD_BUFFER_TOO_SMALL. */
+fd_result fd_format_range(const fd_formatter *formatter, const uint8_t *start, size_t start_count, const uint8_t *end,
+                          size_t end_count, uint8_t *buffer, size_t capacity);
+
+/* Formats the range of two decimals as fd_format_range does, and writes the parts of the text as fd_format_parts does:
+ * consecutive bytes of one kind are one part, also if they belong to two numbers.
+ *
+ * The buffer and the array are as after fd_format_parts.
+ * Errors: as fd_format_range, and then FD_PARTS_TOO_SMALL. */
+fd_parted fd_format_range_parts(const fd_formatter *formatter, const uint8_t *start, size_t start_count,
+                                const uint8_t *end, size_t end_count, uint8_t *buffer, size_t capacity, fd_part *parts,
+                                size_t part_capacity);
+
 /* Reads a number as fd_format writes it, as fd_read_number does. It allocates.
  * Errors, the first that holds: FD_FORMATTER; FD_UNREADABLE_FORMAT; FD_SYNTAX, FD_LIMIT, FD_MEMORY of the text;
  * FD_BUFFER_TOO_SMALL. */
@@ -530,8 +557,9 @@ fd_column fd_lines(const uint8_t *lines, size_t count, uint32_t skip, const fd_f
                    size_t call_count, const uint8_t *texts, size_t texts_count, uint8_t *buffer, size_t capacity);
 
 /* Writes the line of an error, as the programs print it: "call 1: overflow" of FD_OVERFLOW at 1. `calls` is the number
- * of calls that were passed, and 0 for a function without calls: FD_OVERFLOW at this number is "format: overflow". The
- * text of FD_OK is empty. The buffer is as after fd_run; 80 bytes are enough.
+ * of calls that were passed, and 0 for a function without calls: FD_OVERFLOW at this number or above is
+ * "format: overflow". FD_SYNTAX is "start: syntax" at 0, and else "end: syntax", of the second text of a range; FD_LIMIT
+ * likewise. The text of FD_OK is empty. The buffer is as after fd_run; 80 bytes are enough.
  * Errors: FD_UNKNOWN_OPTION if no fd_status has the number; FD_BUFFER_TOO_SMALL. */
 fd_result fd_status_text(uint32_t status, size_t at, size_t calls, uint8_t *buffer, size_t capacity);
 
@@ -576,6 +604,11 @@ fd_unsigned fd_rules(const uint8_t *word, size_t count);
 /* As fd_category, by the rules with a number that fd_plural_rules or fd_rules returned.
  * Errors: as fd_compare; FD_UNKNOWN_LOCALE if no rules have the number. */
 fd_number fd_category_of(uint64_t rules, const uint8_t *text, size_t count);
+
+/* The plural category of a range of numbers in the language of a tag, by the categories of its first and its second
+ * number, each an fd_plural: in "ru" that of 1 to 5, FD_ONE and FD_MANY, is FD_MANY. Cardinal and ordinal numbers have
+ * the same ones. Errors, the first that holds: FD_UNKNOWN_OPTION if there is no such category; FD_UNKNOWN_LOCALE. */
+fd_number fd_category_range(const uint8_t *tag, size_t count, uint32_t start, uint32_t end);
 
 #ifdef __cplusplus
 }

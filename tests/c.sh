@@ -37,7 +37,7 @@ try 'formatters that are kept, and any bytes as one' "$room/formatter_plain"
 try 'the same with sanitizers' compile formatter formatter_asan -O1 -fsanitize=address,undefined -fno-sanitize-recover=all
 try 'formatters, sanitizers' "$room/formatter_asan"
 try 'the texts of node compile' compile format_vectors format_vectors -O1 -fsanitize=address,undefined -fno-sanitize-recover=all
-awk -F '\t' 'NF == 4' crates/vectors/rows/node_numbers.tsv crates/vectors/rows/node_units.tsv > "$room/texts"
+{ awk -F '\t' 'NF == 4' crates/vectors/rows/node_{numbers,units}.tsv; cat c/tests/ranges.tsv; } > "$room/texts"
 "$room/format_vectors" < "$room/texts" > "$room/log" 2>&1
 judge $? "node's texts, by one formatter a locale and options: $(tail -n 1 "$room/log")"
 if command -v valgrind > /dev/null; then
@@ -65,7 +65,7 @@ judge $? "docs/C.md names each function and each status: $(tr '\n' ' ' < "$room/
 nm -D --defined-only c/out/libfixed_decimal.so | awk '{ print $3 }' | grep -v '^fd_' > "$room/others"
 [ ! -s "$room/others" ]
 judge $? 'the shared library exports no other names'
-readelf -d c/out/libfixed_decimal.so | grep -q 'SONAME.*libfixed_decimal.so.7'
+readelf -d c/out/libfixed_decimal.so | grep -q 'SONAME.*libfixed_decimal.so.8'
 judge $? 'the shared library has a soname'
 
 # ---- Python

@@ -50,6 +50,7 @@ chmod 755 "$room"
 mkdir "$room/data" "$room/made"
 [ "$(id -u)" != 0 ] || chown postgres: "$room/data"
 cp examples/postgresql/{Makefile,*.c,*.control,*.sql} "$room/made"
+cp examples/options.h "$room"
 built=(make -C "$room/made" INCLUDE="$PWD/c" LIBRARY="$PWD/c/out/libfixed_decimal.a" PG_CONFIG="$config" COPT=-Werror)
 try 'make' "${built[@]}"
 try 'make install' "${built[@]}" install DESTDIR="$room/tree"

@@ -1,6 +1,6 @@
 /* Rows of a locale, options by the names of ECMA-402, as JSON or as words, a number and its text, on the standard input:
  * each text is that of one fd_formatter for consecutive rows of a locale and options, that of fd_format_number, and that
- * of its parts. */
+ * of its parts. Rows with two numbers are of a range: the text is that of fd_format_range, and that of its parts. */
 #include "../fixed_decimal.h"
 #include <stdio.h>
 #include <stdlib.h>
@@ -81,15 +81,32 @@ static fd_number_options read_options(char *text) {
     return o;
 }
 
-/* Whether the parts have all bytes of the text in order, with neighbors of other kinds. */
-static int divide(const fd_part *parts, size_t count, size_t length) {
+/* Whether the parts have all bytes of the text in order, with neighbors of other kinds and sources up to a number. */
+static int divide(const fd_part *parts, size_t count, size_t length, uint32_t sources) {
     size_t end = 0;
     for (size_t i = 0; i < count; i++) {
-        if (parts[i].start != end || parts[i].end <= end || parts[i].source != 0) return 0;
+        if (parts[i].start != end || parts[i].end <= end || parts[i].source > sources) return 0;
         if (i > 0 && parts[i].kind == parts[i - 1].kind) return 0;
         end = parts[i].end;
     }
     return end == length;
+}
+
+/* The columns of a row, with a zero byte after each; their number. */
+static size_t split(char *row, char **columns) {
+    size_t count = 0;
+    row[strcspn(row, "\n")] = 0;
+    for (char *next = row; next && count < 5; count++) {
+        columns[count] = next;
+        next = strchr(next, '\t');
+        if (next) *next++ = 0;
+    }
+    return count;
+}
+
+static int is_text(fd_result answer, const uint8_t *buffer, const char *text) {
+    size_t n = strlen(text);
+    return answer.status == FD_OK && answer.count == n && memcmp(buffer, text, n) == 0;
 }
 
 int main(void) {
@@ -98,16 +115,15 @@ int main(void) {
     fd_number_options options = FD_NUMBER_OPTIONS;
     fd_formatter formatter = {0};
     while (fgets(row, sizeof row, stdin)) {
+        char *columns[5];
         if (row[0] == '#') continue;
-        row[strcspn(row, "\n")] = 0;
-        char *json = strchr(row, '\t'), *number = json ? strchr(json + 1, '\t') : NULL;
-        char *text = number ? strchr(number + 1, '\t') : NULL;
-        if (!text) fail("no row", row);
-        *json++ = 0, *number++ = 0, *text++ = 0;
-        size_t key = (size_t)(number - row);
+        size_t count = split(row, columns);
+        if (count < 4) fail("no row", row);
+        const char *start = columns[2], *end = count == 5 ? columns[3] : NULL, *text = columns[count - 1];
+        size_t key = (size_t)(start - row);
         if (memcmp(row, last, key) != 0) {
             memcpy(last, row, key);
-            options = read_options(json);
+            options = read_options(columns[1]);
             fd_made it = fd_formatter_by_options(BYTES(row), &options);
             if (it.status != FD_OK) fail("no formatter", row);
             formatter = it.formatter;
@@ -115,17 +131,23 @@ int main(void) {
         }
         uint8_t kept[ROOM], once[ROOM], divided[ROOM];
         fd_part parts[PARTS];
-        fd_result a = fd_format(&formatter, BYTES(number), kept, ROOM);
-        fd_result b = fd_format_number(BYTES(number), BYTES(row), &options, once, ROOM);
-        fd_parted c = fd_format_parts(&formatter, BYTES(number), divided, ROOM, parts, PARTS);
-        size_t n = strlen(text);
-        int right = a.status == FD_OK && a.count == n && memcmp(kept, text, n) == 0;
-        right = right && b.status == FD_OK && b.count == n && memcmp(once, text, n) == 0;
-        right = right && c.status == FD_OK && c.count == n && memcmp(divided, text, n) == 0;
-        if (right && divide(parts, c.parts, n)) {
+        fd_result a, b;
+        fd_parted c;
+        if (end) {
+            a = fd_format_range(&formatter, BYTES(start), BYTES(end), kept, ROOM);
+            b = fd_format_range(&formatter, BYTES(start), BYTES(end), once, strlen(text));
+            c = fd_format_range_parts(&formatter, BYTES(start), BYTES(end), divided, ROOM, parts, PARTS);
+        } else {
+            a = fd_format(&formatter, BYTES(start), kept, ROOM);
+            b = fd_format_number(BYTES(start), BYTES(row), &options, once, ROOM);
+            c = fd_format_parts(&formatter, BYTES(start), divided, ROOM, parts, PARTS);
+        }
+        int right = is_text(a, kept, text) && is_text(b, once, text) &&
+                    is_text((fd_result){c.status, c.at, c.count}, divided, text);
+        if (right && divide(parts, c.parts, c.count, end ? FD_END_RANGE : FD_SHARED)) {
             passed++;
         } else if (failed++ < 20) {
-            fprintf(stderr, "%s %s: %.*s, but it is %s\n", row, number, (int)a.count, (char *)kept, text);
+            fprintf(stderr, "%s %s %s: %.*s, but it is %s\n", row, start, end ? end : "", (int)a.count, (char *)kept, text);
         }
     }
     printf("%zu formatters\n%zu passed, %zu failed\n", made, passed, failed);

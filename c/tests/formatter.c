@@ -103,23 +103,43 @@ static void test_parts(void) {
         const char *tag, *skeleton, *number, *text;
         uint32_t kinds[12];
         size_t ends[12], count;
+        const char *end; /* of a range */
+        uint32_t sources[12];
     } rows[] = {
         {"de", "currency/EUR", "-1234567.5", "-1.234.567,50\xc2\xa0" "€",
          {FD_PART_MINUS_SIGN, FD_PART_INTEGER, FD_PART_GROUP, FD_PART_INTEGER, FD_PART_GROUP, FD_PART_INTEGER,
           FD_PART_DECIMAL, FD_PART_FRACTION, FD_PART_LITERAL, FD_PART_CURRENCY},
-         {1, 2, 3, 6, 7, 10, 11, 13, 15, 18}, 10},
+         {1, 2, 3, 6, 7, 10, 11, 13, 15, 18}, 10, NULL, {0}},
         {"en", "scientific/+! .0", "1500", "1.5E+3",
          {FD_PART_INTEGER, FD_PART_DECIMAL, FD_PART_FRACTION, FD_PART_EXPONENT_SEPARATOR, FD_PART_EXPONENT_PLUS_SIGN,
-          FD_PART_EXPONENT_INTEGER}, {1, 2, 3, 4, 5, 6}, 6},
+          FD_PART_EXPONENT_INTEGER}, {1, 2, 3, 4, 5, 6}, 6, NULL, {0}},
         {"en", "scientific", "0.5", "5E-1",
          {FD_PART_INTEGER, FD_PART_EXPONENT_SEPARATOR, FD_PART_EXPONENT_MINUS_SIGN, FD_PART_EXPONENT_INTEGER},
-         {1, 2, 3, 4}, 4},
+         {1, 2, 3, 4}, 4, NULL, {0}},
         {"en", "K", "1234", "1.2K", {FD_PART_INTEGER, FD_PART_DECIMAL, FD_PART_FRACTION, FD_PART_COMPACT},
-         {1, 2, 3, 4}, 4},
-        {"en", "percent +!", "5", "+5%", {FD_PART_PLUS_SIGN, FD_PART_INTEGER, FD_PART_PERCENT_SIGN}, {1, 2, 3}, 3},
+         {1, 2, 3, 4}, 4, NULL, {0}},
+        {"en", "percent +!", "5", "+5%", {FD_PART_PLUS_SIGN, FD_PART_INTEGER, FD_PART_PERCENT_SIGN}, {1, 2, 3}, 3, NULL, {0}},
         {"en", "unit/celsius", "0.1", "0.1°C", {FD_PART_INTEGER, FD_PART_DECIMAL, FD_PART_FRACTION, FD_PART_UNIT},
-         {1, 2, 3, 6}, 4},
-        {"hi-u-nu-deva", "", "12", "१२", {FD_PART_INTEGER}, {6}, 1}};
+         {1, 2, 3, 6}, 4, NULL, {0}},
+        {"hi-u-nu-deva", "", "12", "१२", {FD_PART_INTEGER}, {6}, 1, NULL, {0}},
+        /* formatRangeToParts of node 20 */
+        {"de", "currency/EUR", "1", "1,00–2,50\xc2\xa0" "€",
+         {FD_PART_INTEGER, FD_PART_DECIMAL, FD_PART_FRACTION, FD_PART_LITERAL, FD_PART_INTEGER, FD_PART_DECIMAL,
+          FD_PART_FRACTION, FD_PART_LITERAL, FD_PART_CURRENCY},
+         {1, 2, 4, 7, 8, 9, 11, 13, 16}, 9, "2.5",
+         {FD_START_RANGE, FD_START_RANGE, FD_START_RANGE, FD_SHARED, FD_END_RANGE, FD_END_RANGE, FD_END_RANGE}},
+        {"en", "currency/USD", "1", "~$1.00",
+         {FD_PART_APPROXIMATELY_SIGN, FD_PART_CURRENCY, FD_PART_INTEGER, FD_PART_DECIMAL, FD_PART_FRACTION},
+         {1, 2, 3, 4, 6}, 5, "1.001", {FD_SHARED}},
+        {"rm", "currency/INR ()", "-1", "(₹1,00) – ₹1,00",
+         {FD_PART_LITERAL, FD_PART_CURRENCY, FD_PART_INTEGER, FD_PART_DECIMAL, FD_PART_FRACTION, FD_PART_LITERAL,
+          FD_PART_CURRENCY, FD_PART_INTEGER, FD_PART_DECIMAL, FD_PART_FRACTION},
+         {1, 4, 5, 6, 8, 14, 17, 18, 19, 21}, 10, "1",
+         {FD_START_RANGE, FD_START_RANGE, FD_START_RANGE, FD_START_RANGE, FD_START_RANGE, FD_SHARED, FD_END_RANGE,
+          FD_END_RANGE, FD_END_RANGE, FD_END_RANGE}},
+        {"en", "unit/day unit-width-full-name", "5", "5–3 days",
+         {FD_PART_INTEGER, FD_PART_LITERAL, FD_PART_INTEGER, FD_PART_LITERAL, FD_PART_UNIT},
+         {1, 4, 5, 6, 10}, 5, "3", {FD_START_RANGE, FD_SHARED, FD_END_RANGE}}};
     for (size_t i = 0; i < COUNT(rows); i++) {
         fd_formatter f = by_skeleton(rows[i].tag, rows[i].skeleton);
         size_t n = strlen(rows[i].text), m = rows[i].count;
@@ -129,15 +149,17 @@ static void test_parts(void) {
                 fd_part *parts = malloc((places ? places : 1) * sizeof *parts);
                 memset(buffer, 0xA5, room ? room : 1);
                 memset(parts, 0xA5, (places ? places : 1) * sizeof *parts);
-                fd_parted r = fd_format_parts(&f, BYTES(rows[i].number), buffer, room, parts, places);
+                const char *number = rows[i].number, *end = rows[i].end;
+                fd_parted r = end ? fd_format_range_parts(&f, BYTES(number), BYTES(end), buffer, room, parts, places)
+                                  : fd_format_parts(&f, BYTES(number), buffer, room, parts, places);
                 CHECK(r.count == n && r.parts == m && r.at == 0);
                 CHECK(r.status == (room < n ? FD_BUFFER_TOO_SMALL : places < m ? FD_PARTS_TOO_SMALL : FD_OK));
                 size_t written = r.status == FD_OK ? n : 0, listed = r.status == FD_OK ? m : 0;
                 CHECK(memcmp(buffer, rows[i].text, written) == 0 && all(buffer + written, room - written, 0xA5));
                 CHECK(all(parts + listed, (places - listed) * sizeof *parts, 0xA5));
                 for (size_t k = 0; k < listed; k++)
-                    CHECK(parts[k].kind == rows[i].kinds[k] && parts[k].source == 0 && parts[k].end == rows[i].ends[k] &&
-                          parts[k].start == (k ? rows[i].ends[k - 1] : 0));
+                    CHECK(parts[k].kind == rows[i].kinds[k] && parts[k].source == rows[i].sources[k] &&
+                          parts[k].end == rows[i].ends[k] && parts[k].start == (k ? rows[i].ends[k - 1] : 0));
                 free(buffer);
                 free(parts);
             }
@@ -153,6 +175,65 @@ static void test_parts(void) {
     f.options.reserved[29] = 1;
     r = fd_format_parts(&f, B("x"), buffer, 8, parts, 4);
     CHECK(r.status == FD_FORMATTER && r.count == 0 && r.parts == 0);
+}
+
+/* Ranges at each capacity; their errors, of the start before those of the end; and the category of a range. */
+static void test_ranges(void) {
+    static const struct {
+        const char *tag, *skeleton, *start, *end, *text;
+    } rows[] = {
+        /* formatRange of node 20 */
+        {"de", "currency/EUR", "1", "2.5", "1,00–2,50\xc2\xa0" "€"}, {"en", "currency/USD", "1", "2", "$1.00 – $2.00"},
+        {"en", "currency/USD", "1", "1.001", "~$1.00"}, {"en", "%x100", "1", "2", "100% – 200%"},
+        {"en", "K", "1000", "2000000", "1K – 2M"}, {"ja", "", "-5", "3", "-5 ～ 3"}, {"en", "", "5", "3", "5–3"},
+        {"de-AT-1996", "", "1", "2", "1–2"}, {"ar-EG-u-nu-latn", "", "1", "2", "1–2"},
+        {"bs", "", "1", "2", "1 – 2"}, {"bs-Cyrl-BA", "", "1", "2", "1–2"},
+        {"bs-Cyrl-BA-u-nu-latn-ca-gregory-x-abc", "", "1", "2", "1–2"}, {"bs_Cyrl_BA.UTF-8@latin", "", "1", "2", "1–2"},
+        {"ru", "unit/day unit-width-full-name", "1", "5", "1–5 дней"},
+        {"de", "currency/EUR unit-width-full-name", "1", "1", "≈1,00 Euro"}};
+    static const struct {
+        const char *start, *end;
+        uint32_t status;
+        size_t at;
+    } wrong[] = {{"x", "y", FD_SYNTAX, 0}, {"1", "y", FD_SYNTAX, 1}, {"1e32768", "y", FD_LIMIT, 0},
+                 {"1", "1e32768", FD_LIMIT, 1}, {"1e32767", "y", FD_SYNTAX, 1}, {"1e32767", "1e32767", FD_OVERFLOW, 0},
+                 {"1e32767", "1", FD_OVERFLOW, 0}, {"1", "1e32767", FD_OVERFLOW, 1}, {"", "1", FD_SYNTAX, 0}};
+    for (size_t i = 0; i < COUNT(rows); i++) {
+        fd_formatter f = by_skeleton(rows[i].tag, rows[i].skeleton);
+        size_t n = strlen(rows[i].text);
+        for (size_t room = 0; room < n + 3; room++) {
+            uint8_t *b = malloc(room ? room : 1);
+            memset(b, 0xA5, room ? room : 1);
+            fd_result r = fd_format_range(&f, BYTES(rows[i].start), BYTES(rows[i].end), b, room);
+            CHECK(room < n ? r.status == FD_BUFFER_TOO_SMALL && r.count == n && all(b, room, 0xA5)
+                           : gives(r, b, rows[i].text) && all(b + n, room - n, 0xA5));
+            free(b);
+        }
+    }
+    fd_formatter f = by_skeleton("en", "scale/100");
+    for (size_t i = 0; i < COUNT(wrong); i++) {
+        uint8_t b[64];
+        fd_part parts[4];
+        memset(b, 0xA5, 64);
+        memset(parts, 0xA5, sizeof parts);
+        fd_result r = fd_format_range(&f, BYTES(wrong[i].start), BYTES(wrong[i].end), b, 64);
+        CHECK(r.status == wrong[i].status && r.at == wrong[i].at && r.count == 0 && all(b, 64, 0xA5));
+        fd_parted p = fd_format_range_parts(&f, BYTES(wrong[i].start), BYTES(wrong[i].end), b, 64, parts, 4);
+        CHECK(p.status == wrong[i].status && p.at == wrong[i].at && p.count == 0 && p.parts == 0);
+        CHECK(all(b, 64, 0xA5) && all(parts, sizeof parts, 0xA5));
+    }
+    CHECK(fd_category_range(B("ru"), FD_ONE, FD_MANY).value == FD_MANY);
+    CHECK(fd_category_range(B("ru"), FD_MANY, FD_ONE).value == FD_ONE);
+    CHECK(fd_category_range(B("LV_lv.UTF-8"), FD_OTHER, FD_ZERO).value == FD_OTHER);
+    CHECK(fd_category_range(B("en"), FD_FEW, FD_FEW).value == FD_OTHER);
+    CHECK(fd_category_range(B("tlh"), FD_ONE, FD_OTHER).status == FD_UNKNOWN_LOCALE);
+    CHECK(fd_category_range(B("\xff"), FD_ONE, FD_OTHER).status == FD_UNKNOWN_LOCALE);
+    for (uint32_t c = 0; c < 300; c++) {
+        fd_number first = fd_category_range(B("tlh"), c, FD_OTHER), second = fd_category_range(B("ru"), FD_ONE, c);
+        CHECK(first.status == (c <= FD_OTHER ? FD_UNKNOWN_LOCALE : FD_UNKNOWN_OPTION) && first.value == 0);
+        CHECK(second.status == (c <= FD_OTHER ? FD_OK : FD_UNKNOWN_OPTION) && second.at == 0);
+    }
+    CHECK(fd_category_range(B("ru"), UINT32_MAX, UINT32_MAX).status == FD_UNKNOWN_OPTION);
 }
 
 /* A text of 43,690 bytes and 21,845 parts. */
@@ -228,7 +309,8 @@ static void test_status_texts(void) {
         {FD_MEMORY, 0, 0, "memory"}, {FD_OPERAND_SYNTAX, 2, 5, "call 2: syntax"},
         {FD_OPERAND_LIMIT, 10, 11, "call 10: limit"}, {FD_OVERLAP, 1, 2, "call 1: overlap"},
         {FD_OVERFLOW, 1, 2, "call 1: overflow"}, {FD_OVERFLOW, 2, 2, "format: overflow"},
-        {FD_OVERFLOW, 0, 0, "format: overflow"}, {FD_UNKNOWN_CALL, 3, 4, "no such call: 3"},
+        {FD_OVERFLOW, 0, 0, "format: overflow"}, {FD_OVERFLOW, 1, 0, "format: overflow"},
+        {FD_SYNTAX, 1, 0, "end: syntax"}, {FD_LIMIT, 1, 0, "end: limit"}, {FD_UNKNOWN_CALL, 3, 4, "no such call: 3"},
         {FD_UNKNOWN_LOCALE, 0, 0, "unknown locale"}, {FD_RULES_SYNTAX, SIZE_MAX, 0, "rules: syntax at 18446744073709551615"},
         {FD_SKELETON_SYNTAX, 14, 0, "skeleton: syntax at 14"}, {FD_SKELETON_UNSUPPORTED, 4, 0, "skeleton: unsupported at 4"},
         {FD_UNREADABLE_FORMAT, 0, 0, "skeleton: no reader"}, {FD_FORMATTER, 0, 0, "no formatter"},
@@ -259,6 +341,9 @@ static int is_formatter(const fd_formatter *f) {
     fd_column c = fd_format_column(f, B("1\n2"), 1, b, sizeof b);
     fd_resolution o = fd_resolved(f);
     int is = r.status != FD_FORMATTER;
+    fd_result range = fd_format_range(f, B("-1234567.891"), B("3"), b, sizeof b);
+    fd_parted split = fd_format_range_parts(f, B("-1234567.891"), B("3"), b, sizeof b, parts, 64);
+    CHECK((is || range.status == FD_FORMATTER) && split.status == range.status && split.count == range.count);
     CHECK(is == (read.status != FD_FORMATTER) && is == (p.status != FD_FORMATTER) && is == (o.status == FD_OK));
     CHECK(is == (c.status != FD_FORMATTER) && (!is || r.count == p.count));
     return is;
@@ -266,6 +351,7 @@ static int is_formatter(const fd_formatter *f) {
 
 static void test_any_bytes(void) {
     fd_formatter f;
+    uint8_t b[1];
     memset(&f, 0, sizeof f);
     CHECK(!is_formatter(&f));
     unsigned state = 1;
@@ -297,6 +383,12 @@ static void test_any_bytes(void) {
     CHECK(is_formatter(&f));
     f.rows.outer.kind = 4;
     CHECK(!is_formatter(&f));
+    /* Ranges alone need the tag. */
+    f = by_skeleton("de", "");
+    memcpy(f.tag, "tlh             ", sizeof f.tag);
+    CHECK(is_formatter(&f) && fd_format_range(&f, B("1"), B("2"), b, 0).status == FD_FORMATTER);
+    memset(f.tag, 0xFF, sizeof f.tag);
+    CHECK(is_formatter(&f) && fd_format_range(&f, B("1"), B("2"), b, 0).status == FD_FORMATTER);
     for (size_t k = 0; k < sizeof f.options.reserved; k++) {
         f = by_skeleton("de", "");
         f.options.reserved[k] = 1;
@@ -314,6 +406,7 @@ int main(void) {
     test_skeletons();
     test_options();
     test_parts();
+    test_ranges();
     test_many_parts();
     test_columns();
     test_resolved();

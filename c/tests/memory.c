@@ -89,20 +89,41 @@ static uint32_t short_format_kept(void) {
     if (options.status != FD_OK || fd_status_text(FD_OVERFLOW, 1, 2, buffer, 0).count != 16) return 96;
     return fd_format(&f, BYTES("-1234567.890123456"), buffer, ROOM).status;
 }
-static uint32_t parts_of(const char *number) {
-    static fd_part parts[256], old[256];
+static uint32_t range_kept(void) {
+    const fd_formatter f = kept();
+    return fd_format_range(&f, BYTES(digits), BYTES(digits), buffer, ROOM).status;
+}
+/* The end fails after the start. */
+static uint32_t range_to_long(void) {
+    const fd_formatter f = kept();
+    return fd_format_range(&f, BYTES("1"), BYTES(digits), buffer, ROOM).status;
+}
+static uint32_t short_range_kept(void) {
+    const fd_formatter f = kept();
+    if (fd_category_range(BYTES("ru"), FD_ONE, FD_MANY).value != FD_MANY) return 93;
+    return fd_format_range(&f, BYTES("-1234567.890123456"), BYTES("1234567.890123456"), buffer, ROOM).status;
+}
+static uint32_t parts_of(const char *number, const char *end) {
+    static fd_part parts[512], old[512];
     const fd_formatter f = kept();
     memset(parts, 0x3C, sizeof parts);
     memset(old, 0x3C, sizeof old);
-    fd_parted r = fd_format_parts(&f, BYTES(number), buffer, ROOM, parts, 256);
+    fd_parted r = end ? fd_format_range_parts(&f, BYTES(number), BYTES(end), buffer, ROOM, parts, 512)
+                      : fd_format_parts(&f, BYTES(number), buffer, ROOM, parts, 512);
     if (r.status != FD_OK && memcmp(parts, old, sizeof parts) != 0) return 95;
     return r.status;
 }
 static uint32_t parts_kept(void) {
-    return parts_of(digits);
+    return parts_of(digits, NULL);
+}
+static uint32_t range_parts_kept(void) {
+    return parts_of("-1", digits);
+}
+static uint32_t short_range_parts_kept(void) {
+    return parts_of("-1234567.890123456", "1");
 }
 static uint32_t short_parts_kept(void) {
-    return parts_of("-1234567.890123456");
+    return parts_of("-1234567.890123456", NULL);
 }
 static uint32_t read_kept(void) {
     const fd_formatter f = kept();
@@ -185,6 +206,9 @@ int main(void) {
                 {"fd_read_by_skeleton", read_by_skeleton, 1}, {"fd_convert, read", convert_read, 1},
                 {"fd_format_number", format_number, 1}, {"fd_read_number", read_number, 1},
                 {"fd_skeleton", skeleton, 1}, {"fd_format", format_kept, 1}, {"fd_format_parts", parts_kept, 1},
+                {"fd_format_range", range_kept, 1}, {"fd_format_range, long end", range_to_long, 1},
+                {"fd_format_range_parts", range_parts_kept, 1}, {"fd_format_range, short", short_range_kept, 0},
+                {"fd_format_range_parts, short", short_range_parts_kept, 0},
                 {"fd_read", read_kept, 1}, {"fd_format_column", column_kept, 1},
                 {"fd_format, short", short_format_kept, 0}, {"fd_format_parts, short", short_parts_kept, 0},
                 {"fd_format_column, short", short_column_kept, 0},

@@ -17,12 +17,9 @@
 #include "varatt.h"
 #endif
 
-#include <fixed_decimal.h>
+#include "../options.h"
 
 PG_MODULE_MAGIC;
-
-typedef struct bytes { const uint8_t *start; size_t count; } bytes;
-#define BYTES(b) (b).start, (b).count
 
 /* ---- Errors. */
 
@@ -151,82 +148,6 @@ make_words(conversion *it)
 
 /* ---- Options. */
 
-typedef struct named { fd_number_options number; uint8_t is_long; } named;
-#define OPTION(field) offsetof(named, number.field)
-
-/* The options of Intl.NumberFormat with their words, each with a space after it, or for a number of digits none. */
-static const struct { const char *name; size_t offset; const char *words; } options[] = {
-    {"style", OPTION(style), "decimal percent permille currency unit "},
-    {"currencyDisplay", OPTION(currency_display), "symbol narrowSymbol code hidden name "},
-    {"currencySign", OPTION(currency_sign), "standard accounting "},
-    {"currencyUsage", OPTION(currency_usage), "standard cash "},
-    {"unitDisplay", OPTION(unit_display), "short narrow long "},
-    {"notation", OPTION(notation), "standard scientific engineering compact "},
-    {"compactDisplay", offsetof(named, is_long), "short long "},
-    {"signDisplay", OPTION(sign_display), "auto never always exceptZero negative "},
-    {"useGrouping", OPTION(grouping), "auto false always min2 "},
-    {"decimalSeparator", OPTION(decimal_separator), "auto always "},
-    {"roundingMode", OPTION(rounding_mode),
-     "ceil floor expand trunc halfCeil halfFloor halfExpand halfTrunc halfEven "},
-    {"roundingPriority", OPTION(rounding_priority), "auto morePrecision lessPrecision "},
-    {"trailingZeroDisplay", OPTION(trailing_zeros), "auto stripIfInteger "},
-    {"minimumIntegerDigits", OPTION(minimum_integer_digits), NULL},
-    {"minimumFractionDigits", OPTION(minimum_fraction_digits), NULL},
-    {"maximumFractionDigits", OPTION(maximum_fraction_digits), NULL},
-    {"minimumSignificantDigits", OPTION(minimum_significant_digits), NULL},
-    {"maximumSignificantDigits", OPTION(maximum_significant_digits), NULL},
-    {"roundingIncrement", OPTION(rounding_increment), NULL}};
-
-static bool
-is(bytes text, const char *word, size_t count)
-{
-    return text.count == count && memcmp(text.start, word, count) == 0;
-}
-
-/* Sets an option to the index of its word; false: it is none of the words. */
-static bool
-set_word(uint8_t *option, const char *words, bytes text)
-{
-    for (uint8_t i = 0; *words; i++, words += strcspn(words, " ") + 1)
-        if (is(text, words, strcspn(words, " ")))
-            return *option = i, true;
-    return false;
-}
-
-/* Sets an option to a number, of digits and nothing else; false: it is none, or too great. */
-static bool
-set_number(uint8_t *option, bytes text)
-{
-    uint32_t number = 0;
-
-    for (size_t i = 0; i < text.count; i++) {
-        if (text.start[i] < '0' || text.start[i] > '9')
-            return false;
-        number = number * 10 + (text.start[i] - '0');
-        if (number >= FD_DEFAULT)
-            return false;
-    }
-    return text.count && memcpy(option, &(uint16_t){(uint16_t)number}, sizeof(uint16_t));
-}
-
-/* Sets an option by its name; false: there is none, or no such value. */
-static bool
-set_option(named *o, bytes name, bytes value)
-{
-    if (is(name, "currency", 8))
-        return value.count == 3 && memcpy(o->number.currency, value.start, 3);
-    if (is(name, "numberingSystem", 15))
-        return value.count <= 16 && !memchr(value.start, ' ', value.count)
-               && memcpy(memset(o->number.numbering_system, ' ', 16), value.start, value.count);
-    for (size_t i = 0; i < lengthof(options); i++) {
-        uint8_t *field = (uint8_t *)o + options[i].offset;
-
-        if (is(name, options[i].name, strlen(options[i].name)))
-            return options[i].words ? set_word(field, options[i].words, value) : set_number(field, value);
-    }
-    return false;
-}
-
 /* Parses names of options, each with its value after it. */
 static fd_number_options
 parse_options(struct varlena *array)
@@ -238,22 +159,14 @@ parse_options(struct varlena *array)
     if (count % 2)
         ereport(ERROR, errcode(ERRCODE_INVALID_PARAMETER_VALUE), errmsg("names of options with values"));
     for (int i = 0; i < count; i += 2) {
-        fd_units units = {FD_OK, 0, 0};
-
-        if (is(texts[i], "unit", 4)) {
-            units = fd_unit(BYTES(texts[i + 1]));
-            o.number.unit = units.unit, o.number.per_unit = units.per_unit;
-        } else if (!set_option(&o, texts[i], texts[i + 1]))
-            ereport(ERROR, errcode(ERRCODE_INVALID_PARAMETER_VALUE), errmsg("no such option"),
-                    errdetail("It is option %d.", i / 2 + 1));
-        if (units.status != FD_OK)
-            fail(units.status, 0, 0);
+        if (set_option(&o, texts[i], texts[i + 1]))
+            continue;
+        if (is(texts[i], "unit", 4))
+            fail(FD_UNKNOWN_UNIT, 0, 0);
+        ereport(ERROR, errcode(ERRCODE_INVALID_PARAMETER_VALUE), errmsg("no such option"),
+                errdetail("It is option %d.", i / 2 + 1));
     }
-    if (o.number.style == FD_PERCENT)
-        o.number.scale = 2;
-    if (o.number.notation == FD_COMPACT_SHORT)
-        o.number.notation += o.is_long;
-    return o.number;
+    return number_of(o);
 }
 
 static fd_made

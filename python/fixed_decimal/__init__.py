@@ -10,9 +10,10 @@
 from ._errors import DecimalError
 from ._native import Decimal, NumberFormat, __version__
 from ._native import column as _column
+from ._native import plural_range as _plural_range
 from ._options import number_skeleton
 
-__all__ = ["Decimal", "DecimalError", "NumberFormat", "column", "number_skeleton"]
+__all__ = ["Decimal", "DecimalError", "NumberFormat", "column", "number_skeleton", "plural_range"]
 
 
 def column(texts, *calls, read=None, read_skeleton=None, lenient=False, format=None, skeleton=None, errors="raise",
@@ -56,3 +57,14 @@ def column(texts, *calls, read=None, read_skeleton=None, lenient=False, format=N
     """
     texts = texts if type(texts) is list else list(texts)
     return _column(texts, calls, read, read_skeleton, bool(lenient), format, skeleton, errors, options)
+
+
+def plural_range(locale, start, end):
+    """Returns the plural category of a range of numbers, by the categories of its first and of its last number.
+
+    >>> plural_range("ru", Decimal("1").plural("ru"), Decimal("5").plural("ru"))
+    'many'
+
+    Cardinal and ordinal numbers have the same ones. Raises `DecimalError` if the locale is unknown.
+    """
+    return _plural_range(locale, start, end)

@@ -51,7 +51,7 @@ static const char *const modes[] = {"ceil", "floor", "expand", "trunc", "half-ce
 static const char *const displays[] = {"auto", "never", "always", "except-zero", "negative", NULL};
 static const char *const signs[] = {"none", "minus", "plus", NULL};
 static const char *const groupings[] = {"auto", "never", "always", "min2", NULL};
-static const char *const categories[] = {"zero", "one", "two", "few", "many", "other"};
+static const char *const categories[] = {"zero", "one", "two", "few", "many", "other", NULL};
 
 /* Raises DecimalError(reason, at, text) with the text that fails, or None; or MemoryError. */
 static PyObject *fail_object(uint32_t status, size_t at, PyObject *text) {
@@ -714,8 +714,14 @@ static void number_format_dealloc(NumberFormat *self) {
 /* What writes a text into a buffer. */
 typedef fd_result (*Writer)(const void *job, uint8_t *buffer, size_t room);
 
-/* The str of what is written of a text; an error is one of the text. */
-static PyObject *written(Writer write, const void *job, const uint8_t *text, size_t count) {
+/* Raises DecimalError with the text that fails: that of the end of a range at 1, and else that of the start. */
+static PyObject *fail_number(uint32_t status, size_t at, const Number *start, const Number *end) {
+    const Number *failed = end && at == 1 ? end : start;
+    return fail_text(status, at, failed->bytes, failed->count);
+}
+
+/* The str of what is written of a number, or of the range to another one; an error is that of one of both. */
+static PyObject *written(Writer write, const void *job, const Number *start, const Number *end) {
     uint8_t buffer[ROOM], *bytes = buffer;
     PyObject *made = NULL;
     fd_result answer = write(job, buffer, ROOM);
@@ -726,78 +732,115 @@ static PyObject *written(Writer write, const void *job, const uint8_t *text, siz
         answer = write(job, bytes, room);
     }
     if (answer.status == FD_OK) made = PyUnicode_DecodeUTF8((char *)bytes, (Py_ssize_t)answer.count, NULL);
-    else fail_text(answer.status, answer.at, text, count);
+    else fail_number(answer.status, answer.at, start, end);
     if (bytes != buffer) PyMem_Free(bytes);
     return made;
 }
 
-/* A text, and what it is formatted by. */
+/* A number, or if there is an end the range to it, and what it is formatted by. */
 typedef struct {
-    const NumberFormat *format;
-    const uint8_t *text;
-    size_t count;
+    const fd_formatter *formatter;
+    const Number *start, *end;
 } Formatting;
 
 static fd_result write_formatted(const void *job, uint8_t *buffer, size_t room) {
     const Formatting *it = job;
-    return fd_format(&it->format->formatter, it->text, it->count, buffer, room);
+    const Number *start = it->start, *end = it->end;
+    return end ? fd_format_range(it->formatter, start->bytes, start->count, end->bytes, end->count, buffer, room)
+               : fd_format(it->formatter, start->bytes, start->count, buffer, room);
 }
 
-static PyObject *formatted(const NumberFormat *format, const uint8_t *text, size_t count) {
-    Formatting job = {format, text, count};
-    return written(write_formatted, &job, text, count);
-}
-
-static const char number_expected[] = "a number is a str, an int or a Decimal";
-
-static PyObject *number_format_format(NumberFormat *self, PyObject *value) {
-    Number number;
-    if (!number_of(value, number_expected, &number)) return NULL;
-    PyObject *made = formatted(self, number.bytes, number.count);
-    Py_XDECREF(number.made);
-    return made;
+static PyObject *formatted(const NumberFormat *format, const Number *start, const Number *end) {
+    Formatting job = {&format->formatter, start, end};
+    return written(write_formatted, &job, start, end);
 }
 
 static const char *const part_kinds[] = {"integer", "group", "decimal", "fraction", "minusSign", "plusSign",
     "percentSign", "currency", "literal", "compact", "unit", "exponentSeparator", "exponentMinusSign",
-    "exponentPlusSign", "exponentInteger"};
+    "exponentPlusSign", "exponentInteger", "approximatelySign"};
+static const char *const part_sources[] = {"shared", "startRange", "endRange"};
 
-/* The parts of a text, as formatToParts of Intl.NumberFormat has them. */
-static PyObject *list_of_parts(const uint8_t *text, const fd_part *parts, size_t count) {
+/* The parts of a text, as formatToParts of Intl.NumberFormat has them; those of a range have a source. */
+static PyObject *list_of_parts(const uint8_t *text, const fd_part *parts, size_t count, int is_range) {
     PyObject *made = PyList_New((Py_ssize_t)count);
     for (size_t i = 0; made && i < count; i++) {
-        PyObject *part = Py_BuildValue("{s:s,s:s#}", "type", part_kinds[parts[i].kind], "value",
-                                       (const char *)text + parts[i].start,
-                                       (Py_ssize_t)(parts[i].end - parts[i].start));
+        const char *start = (const char *)text + parts[i].start, *kind = part_kinds[parts[i].kind];
+        Py_ssize_t size = (Py_ssize_t)(parts[i].end - parts[i].start);
+        PyObject *part = is_range ? Py_BuildValue("{s:s,s:s#,s:s}", "type", kind, "value", start, size, "source",
+                                                  part_sources[parts[i].source])
+                                  : Py_BuildValue("{s:s,s:s#}", "type", kind, "value", start, size);
         if (part) PyList_SET_ITEM(made, (Py_ssize_t)i, part);
         else Py_CLEAR(made);
     }
     return made;
 }
 
-static PyObject *parted(const NumberFormat *format, const uint8_t *text, size_t count) {
+static fd_parted write_parts(const Formatting *it, uint8_t *buffer, size_t room, fd_part *parts, size_t part_room) {
+    const Number *start = it->start, *end = it->end;
+    return end ? fd_format_range_parts(it->formatter, start->bytes, start->count, end->bytes, end->count, buffer, room,
+                                       parts, part_room)
+               : fd_format_parts(it->formatter, start->bytes, start->count, buffer, room, parts, part_room);
+}
+
+static PyObject *parted(const NumberFormat *format, const Number *start, const Number *end) {
     uint8_t buffer[ROOM], *bytes = buffer;
     fd_part array[ROOM / 4], *parts = array;
+    Formatting job = {&format->formatter, start, end};
     PyObject *made = NULL;
-    fd_parted answer = fd_format_parts(&format->formatter, text, count, buffer, ROOM, array, ROOM / 4);
+    fd_parted answer = write_parts(&job, buffer, ROOM, array, ROOM / 4);
     if (answer.status == FD_BUFFER_TOO_SMALL || answer.status == FD_PARTS_TOO_SMALL) {
         parts = PyMem_Malloc(answer.parts * sizeof *parts + answer.count);
         if (!parts) return PyErr_NoMemory();
         bytes = (uint8_t *)(parts + answer.parts);
-        answer = fd_format_parts(&format->formatter, text, count, bytes, answer.count, parts, answer.parts);
+        answer = write_parts(&job, bytes, answer.count, parts, answer.parts);
     }
-    if (answer.status == FD_OK) made = list_of_parts(bytes, parts, answer.parts);
-    else fail_text(answer.status, answer.at, text, count);
+    if (answer.status == FD_OK) made = list_of_parts(bytes, parts, answer.parts, end != NULL);
+    else fail_number(answer.status, answer.at, start, end);
     if (parts != array) PyMem_Free(parts);
     return made;
 }
 
-static PyObject *number_format_format_to_parts(NumberFormat *self, PyObject *value) {
+/* What makes a str or a list of a number, or of the range to another one. */
+typedef PyObject *(*Formatter)(const NumberFormat *format, const Number *start, const Number *end);
+
+static const char number_expected[] = "a number is a str, an int or a Decimal";
+
+static PyObject *format_one(const NumberFormat *format, PyObject *value, Formatter make) {
     Number number;
     if (!number_of(value, number_expected, &number)) return NULL;
-    PyObject *made = parted(self, number.bytes, number.count);
+    PyObject *made = make(format, &number, NULL);
     Py_XDECREF(number.made);
     return made;
+}
+
+static PyObject *format_two(const NumberFormat *format, PyObject *const *values, Py_ssize_t count, Formatter make,
+                            const char *method) {
+    Number start, end;
+    if (count != 2) return PyErr_Format(PyExc_TypeError, "%s() takes a start and an end", method);
+    if (!number_of(values[0], number_expected, &start)) return NULL;
+    PyObject *made = NULL;
+    if (number_of(values[1], number_expected, &end)) {
+        made = make(format, &start, &end);
+        Py_XDECREF(end.made);
+    }
+    Py_XDECREF(start.made);
+    return made;
+}
+
+static PyObject *number_format_format(NumberFormat *self, PyObject *value) {
+    return format_one(self, value, formatted);
+}
+
+static PyObject *number_format_format_to_parts(NumberFormat *self, PyObject *value) {
+    return format_one(self, value, parted);
+}
+
+static PyObject *number_format_format_range(NumberFormat *self, PyObject *const *arguments, Py_ssize_t count) {
+    return format_two(self, arguments, count, formatted, "format_range");
+}
+
+static PyObject *number_format_format_range_to_parts(NumberFormat *self, PyObject *const *arguments, Py_ssize_t count) {
+    return format_two(self, arguments, count, parted, "format_range_to_parts");
 }
 
 /* The Decimal of a text that a format has written. */
@@ -916,7 +959,8 @@ static PyObject *formatted_plainly(const Decimal *self, PyObject *locale, PyObje
     }
     if (options && !bind_plain(options, &form->option, &job.call, &job.call_count)) return NULL;
     form->locale = locale_of(locale);
-    return form->locale ? written(write_plainly, &job, BYTES(self)) : NULL;
+    Number number = {BYTES(self), NULL};
+    return form->locale ? written(write_plainly, &job, &number, NULL) : NULL;
 }
 
 /* The arguments: a locale, and a grouping, a skeleton, or options by their names in ECMA-402. */
@@ -931,7 +975,8 @@ static PyObject *decimal_format(Decimal *self, PyObject *const *arguments, Py_ss
         PyErr_SetString(PyExc_TypeError, "format() takes a grouping or options, not both: write use_grouping=");
     } else if (skeleton || (options && !is_plain(options))) {
         PyObject *format = kept_format(values[0], skeleton, options);
-        if (format) made = formatted((NumberFormat *)format, BYTES(self));
+        Number number = {BYTES(self), NULL};
+        if (format) made = formatted((NumberFormat *)format, &number, NULL);
         Py_XDECREF(format);
     } else {
         made = formatted_plainly(self, values[0], values[1], options);
@@ -1459,6 +1504,21 @@ static PyObject *native_unit_name(PyObject *ignored, PyObject *value) {
     return PyUnicode_DecodeUTF8((char *)buffer, (Py_ssize_t)answer.count, NULL);
 }
 
+/* plural_range(tag, start, end): the category of a range, by those of its numbers. */
+static PyObject *native_plural_range(PyObject *ignored, PyObject *arguments) {
+    PyObject *tag, *start, *end;
+    size_t count;
+    (void)ignored;
+    if (!PyArg_UnpackTuple(arguments, "plural_range", 3, 3, &tag, &start, &end)) return NULL;
+    const uint8_t *bytes = utf8_of(tag, &count, "a locale", FD_UNKNOWN_LOCALE);
+    int first = bytes ? index_of(categories, start, "plural category") : -1;
+    int second = first < 0 ? -1 : index_of(categories, end, "plural category");
+    if (second < 0) return NULL;
+    fd_number answer = fd_category_range(bytes, count, (uint32_t)first, (uint32_t)second);
+    return answer.status == FD_OK ? PyUnicode_FromString(categories[answer.value])
+                                  : fail_text(answer.status, answer.at, bytes, count);
+}
+
 PyDoc_STRVAR(round_text, "round($self, /, position, mode='half-even', increment=1)\n--\n\n"
 "Rounds as decimal's quantize does: d.round(-2) keeps two decimals, as d.quantize(decimal.Decimal('0.01')).\n\n"
 "The result is a multiple of increment * 10^position. The increment is 1, 2, 5 or 25.\n\n"
@@ -1579,6 +1639,15 @@ PyDoc_STRVAR(number_format_parts_text, "format_to_parts($self, number, /)\n--\n\
 ">>> [part['type'] for part in NumberFormat('en', style='percent').format_to_parts('-0.5')]\n"
 "['minusSign', 'integer', 'percentSign']\n"
 ">>> NumberFormat('en').format_to_parts(12)\n[{'type': 'integer', 'value': '12'}]\n");
+PyDoc_STRVAR(number_format_range_text, "format_range($self, start, end, /)\n--\n\n"
+"Returns the text of the range of two numbers, as formatRange of ECMA-402 does. Numbers that are equal or shown alike\n"
+"are one approximate number. The first may be above the second.\n\n"
+">>> NumberFormat('en', style='unit', unit='day', unit_display='long').format_range(1, 2)\n'1–2 days'\n"
+">>> NumberFormat('en').format_range(1, '1.0001')\n'~1'\n");
+PyDoc_STRVAR(number_format_range_parts_text, "format_range_to_parts($self, start, end, /)\n--\n\n"
+"Returns the parts of the text of a range in order, with the types and the sources of formatRangeToParts in ECMA-402.\n\n"
+">>> [(part['value'], part['source']) for part in NumberFormat('en').format_range_to_parts(1, 2)]\n"
+"[('1', 'startRange'), ('–', 'shared'), ('2', 'endRange')]\n");
 PyDoc_STRVAR(number_format_read_text, "read($self, /, text, lenient=False)\n--\n\n"
 "Reads a number as format() writes it; or, if lenient, as people type it.\n\n"
 ">>> euros = NumberFormat('de', style='currency', currency='EUR')\n"
@@ -1594,6 +1663,9 @@ PyDoc_STRVAR(number_format_options_text, "resolved_options($self, /)\n--\n\n"
 static PyMethodDef number_format_methods[] = {
     {"format", FUNCTION(number_format_format), METH_O, number_format_format_text},
     {"format_to_parts", FUNCTION(number_format_format_to_parts), METH_O, number_format_parts_text},
+    {"format_range", FUNCTION(number_format_format_range), METH_FASTCALL, number_format_range_text},
+    {"format_range_to_parts", FUNCTION(number_format_format_range_to_parts), METH_FASTCALL,
+     number_format_range_parts_text},
     {"read", FUNCTION(number_format_read), METH_FASTCALL | METH_KEYWORDS, number_format_read_text},
     {"resolved_options", FUNCTION(number_format_resolved_options), METH_NOARGS, number_format_options_text},
     {"__reduce__", FUNCTION(number_format_reduce), METH_NOARGS, NULL},
@@ -1613,6 +1685,7 @@ static PyType_Spec number_format_spec = {.name = "fixed_decimal.NumberFormat", .
                                          .slots = number_format_slots};
 
 static PyMethodDef functions[] = {{"column", native_column, METH_VARARGS, NULL},
+                                  {"plural_range", native_plural_range, METH_VARARGS, NULL},
                                   {"skeleton", native_skeleton, METH_O, NULL},
                                   {"unit", native_unit, METH_O, NULL},
                                   {"unit_name", native_unit_name, METH_O, NULL}, {NULL, NULL, 0, NULL}};

@@ -9,6 +9,7 @@ import doctest
 import functools
 import importlib.metadata
 import inspect
+import json
 import os
 import pickle
 import random
@@ -20,7 +21,7 @@ import time
 import tracemalloc
 
 import fixed_decimal
-from fixed_decimal import Decimal, DecimalError, NumberFormat, column, number_skeleton
+from fixed_decimal import Decimal, DecimalError, NumberFormat, column, number_skeleton, plural_range
 
 MODES = {  # those that decimal has
     "ceil": decimal.ROUND_CEILING, "floor": decimal.ROUND_FLOOR, "expand": decimal.ROUND_UP,
@@ -621,6 +622,93 @@ def test_errors_of_number_formats():
         raises(ValueError, lambda: NumberFormat("de", **wrong))
 
 
+# Texts by the parts of formatRangeToParts in node 20, and their sources.
+RANGES = [
+    ("de", EUROS, "1", "2.5", [
+        ("startRange", "integer|1|decimal|,|fraction|00"),
+        ("shared", "literal|–"),
+        ("endRange", "integer|2|decimal|,|fraction|50"),
+        ("shared", "literal|\xa0|currency|€"),
+    ]),
+    ("en", {"style": "currency", "currency": "USD"}, "1", "1.001", [
+        ("shared", "approximatelySign|~|currency|$|integer|1|decimal|.|fraction|00"),
+    ]),
+    ("he", {"style": "currency", "currency": "ILS"}, "-5", "3", [
+        ("startRange", "literal|\u200f\u200e|minusSign|-|integer|5|decimal|.|fraction|00|literal|\xa0\u200f|currency|₪"),
+        ("shared", "literal| – \u200f"),
+        ("endRange", "integer|3|decimal|.|fraction|00|literal|\xa0\u200f|currency|₪"),
+    ]),
+    ("ru", {"style": "unit", "unit": "day", "unit_display": "long"}, "5", "1", [
+        ("startRange", "integer|5"),
+        ("shared", "literal|–"),
+        ("endRange", "integer|1"),
+        ("shared", "literal| |unit|день"),
+    ]),
+    ("en", {"notation": "scientific"}, "1000", "2000000", [
+        ("startRange", "integer|1|exponentSeparator|E|exponentInteger|3"),
+        ("shared", "literal| – "),
+        ("endRange", "integer|2|exponentSeparator|E|exponentInteger|6"),
+    ]),
+    ("rm", {"style": "currency", "currency": "INR", "currency_sign": "accounting"}, "-1", "1", [
+        ("startRange", "literal|(|currency|₹|integer|1|decimal|,|fraction|00"),
+        ("shared", "literal|) – "),
+        ("endRange", "currency|₹|integer|1|decimal|,|fraction|00"),
+    ]),
+]
+
+
+def test_ranges():
+    """Ranges, their parts and their plural categories, beside node's."""
+    for locale, options, start, end, sources in RANGES:
+        want = []
+        for source, words in sources:
+            words = iter(words.split("|"))
+            want += [{"type": name, "value": next(words), "source": source} for name in words]
+        found = NumberFormat(locale, **options).format_range_to_parts(start, end)
+        check(found == want, locale, options, start, end, found, want)
+    rows = os.path.join(os.path.dirname(os.path.abspath(__file__)), "../../c/tests/ranges.tsv")
+    with open(rows, encoding="utf-8") as file:
+        rows = [line.rstrip("\n").split("\t") for line in file if not line.startswith("# ")]
+    check(len(rows) > 1000, len(rows))
+    for locale, options, start, end, text in rows:
+        options = {re.sub("[A-Z]", lambda capital: "_" + capital[0].lower(), name): value
+                   for name, value in json.loads(options).items()}
+        made = NumberFormat(locale, **options)
+        check(made.format_range(start, end) == text, locale, options, start, end, made.format_range(start, end), text)
+        parts = made.format_range_to_parts(start, end)
+        check("".join(part["value"] for part in parts) == text, locale, options, start, end, parts, text)
+    euros = NumberFormat("de", **EUROS)
+    for start, end in ((3, Decimal("5")), (decimal.Decimal("3.00"), "5.00"), ("3", 5)):
+        check(euros.format_range(start, end) == "3,00–5,00\xa0€", start, end)
+    long = "7" * 300
+    check(euros.format_range(long, "8" * 300) == euros.format(long)[:-2] + "–" + euros.format("8" * 300), "long numbers")
+    check(len(euros.format_range_to_parts(long, "8" * 300)) == 2 * 201 + 3, "many parts")
+    for locale, start, end, want in (
+        ("ru", "one", "many", "many"), ("ru-RU", "many", "one", "one"), ("en", "one", "other", "other"),
+        ("lv", "other", "zero", "other"), ("ar_EG.UTF-8", "zero", "one", "zero"),
+    ):
+        check(plural_range(locale, start, end) == want, locale, start, end, plural_range(locale, start, end))
+    scaled = NumberFormat("de", skeleton="scale/100")
+    for call, message in (
+        (lambda: euros.format_range("x", "y"), "syntax: 'x'"), (lambda: euros.format_range(1, "y"), "syntax: 'y'"),
+        (lambda: euros.format_range_to_parts("1e99999", 1), "limit: '1e99999'"),
+        (lambda: scaled.format_range("1e32767", 1), "overflow: '1e32767'"),
+        (lambda: scaled.format_range_to_parts(1, "1e32767"), "overflow: '1e32767'"),
+        (lambda: euros.format_range(1, "\ud800"), "syntax: '\\ud800'"),
+        (lambda: plural_range("tlh", "one", "one"), "unknown locale: 'tlh'"),
+        (lambda: plural_range("\udcff", "one", "one"), "unknown locale: '\\udcff'"),
+    ):
+        raises(DecimalError, call, text=message)
+    for call, message in (
+        (lambda: euros.format_range(1), "format_range() takes a start and an end"),
+        (lambda: euros.format_range_to_parts(1, 2, 3), "format_range_to_parts() takes a start and an end"),
+        (lambda: euros.format_range(1, None), "a number is a str, an int or a Decimal, not NoneType"),
+        (lambda: plural_range("ru", "one", 5), "plural category is a str, not int"),
+    ):
+        raises(TypeError, call, text=message)
+    raises(ValueError, lambda: plural_range("ru", "one", "two or more"))
+
+
 # Options that `Intl.NumberFormat` of node 20 rejects, with Python's words; `{"unit": "meter"}` it takes.
 WRONG_UNITS = [
     "foo", "Meter", "meters", "m", "meter ", "furlong", "tonne", "square-meter", "kilowatt-hour", "permille", "knot",
@@ -785,6 +873,9 @@ def test_leaks():
         lambda: NumberFormat("de", **EUROS), lambda: NumberFormat("de", skeleton="KK"), lambda: euros.format(one),
         lambda: euros.format("7" * 300), lambda: euros.format(12345), lambda: euros.format(decimal.Decimal("1.5")),
         lambda: euros.format_to_parts(one), lambda: euros.format_to_parts("7" * 300), lambda: euros.read("5,00\xa0€"),
+        lambda: euros.format_range(one, 1500), lambda: euros.format_range_to_parts("7" * 300, 12345),
+        lambda: fails(lambda: euros.format_range(12345, "x")), lambda: fails(lambda: euros.format_range(1, 1.5)),
+        lambda: plural_range("ru", "one", "many"), lambda: fails(lambda: plural_range("tlh", "one", "one")),
         lambda: euros.resolved_options(), lambda: repr(euros), lambda: hash(euros), lambda: euros == NumberFormat("en"),
         lambda: pickle.dumps(euros), lambda: one.format("de", **EUROS), lambda: one.format("de", skeleton="percent"),
         lambda: one.format("de", use_grouping=False), lambda: Decimal.read("5,00\xa0€", "de", **EUROS),
@@ -1050,6 +1141,9 @@ def test_memory():
         (lambda: euros.format(one), "1.234,50\xa0€"), (lambda: euros.format("0" + long), euros.format(long)),
         (lambda: euros.format(5), "5,00\xa0€"), (lambda: euros.format(number), "1,50\xa0€"),
         (lambda: len(euros.format_to_parts(one)), 7), (lambda: len(euros.format_to_parts(long)), 203),
+        (lambda: euros.format_range(one, 1500), "1.234,50–1.500,00\xa0€"),
+        (lambda: len(euros.format_range_to_parts(long, number)), 207),
+        (functools.partial(euros.format_range, 5, "x"), ("syntax", None)),
         (lambda: euros.read("1.234,50\xa0€"), Decimal("1234.50")),
         (lambda: euros.read("EUR 5", lenient=True), Decimal("5")),
         (lambda: euros.resolved_options()["currency"], "EUR"), (lambda: hash(euros), hash(euros)),
@@ -1126,6 +1220,7 @@ if __name__ == "__main__":
     test_examples()
     test_options()
     test_number_format()
+    test_ranges()
     test_errors_of_number_formats()
     test_units()
     test_values_of_number_formats()

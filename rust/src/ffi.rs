@@ -70,10 +70,10 @@ struct FdUnits {
     per_unit: u8,
 }
 
-/// A formatter, of 136 bytes that only the library reads.
+/// A formatter, of 152 bytes that only the library reads.
 #[repr(C)]
 #[derive(Clone, Copy)]
-pub(crate) struct FdFormatter([u64; 17]);
+pub(crate) struct FdFormatter([u64; 19]);
 
 #[repr(C)]
 struct FdMade {
@@ -86,7 +86,7 @@ struct FdMade {
 #[derive(Clone, Copy, Debug)]
 pub(crate) struct FdPart {
     pub(crate) kind: u32,
-    source: u32,
+    pub(crate) source: u32,
     pub(crate) start: usize,
     pub(crate) end: usize,
 }
@@ -129,6 +129,16 @@ extern "C" {
         buffer: *mut u8, capacity: usize, parts: *mut FdPart, part_capacity: usize,
     ) -> FdParted;
     #[rustfmt::skip]
+    fn fd_format_range(
+        formatter: *const FdFormatter, start: *const u8, start_count: usize, end: *const u8, end_count: usize,
+        buffer: *mut u8, capacity: usize,
+    ) -> FdResult;
+    #[rustfmt::skip]
+    fn fd_format_range_parts(
+        formatter: *const FdFormatter, start: *const u8, start_count: usize, end: *const u8, end_count: usize,
+        buffer: *mut u8, capacity: usize, parts: *mut FdPart, part_capacity: usize,
+    ) -> FdParted;
+    #[rustfmt::skip]
     fn fd_read(
         formatter: *const FdFormatter, text: *const u8, count: usize, lenient: u32,
         buffer: *mut u8, capacity: usize,
@@ -137,6 +147,7 @@ extern "C" {
     fn fd_category(rules: *const u8, rules_count: usize, text: *const u8, count: usize) -> FdNumber;
     fn fd_plural_rules(tag: *const u8, count: usize, rule_type: u32) -> FdUnsigned;
     fn fd_category_of(rules: u64, text: *const u8, count: usize) -> FdNumber;
+    fn fd_category_range(tag: *const u8, count: usize, start: u32, end: u32) -> FdNumber;
 }
 
 /// How many bytes are kept in place.
@@ -303,10 +314,20 @@ impl Deref for Formatted {
 
 /// Formats a decimal.
 pub(crate) fn format(formatter: &FdFormatter, start: &str) -> Result<Formatted, Failure> {
-    let write = |buffer: *mut u8, capacity| {
-        // SAFETY: as in `Text::set`; the formatter is borrowed.
-        unsafe { fd_format(formatter, start.as_ptr(), start.len(), buffer, capacity) }
-    };
+    // SAFETY: as in `Text::set`; the formatter is borrowed.
+    formatted(|buffer, capacity| unsafe { fd_format(formatter, start.as_ptr(), start.len(), buffer, capacity) })
+}
+
+/// Formats the range of two decimals.
+pub(crate) fn format_range(formatter: &FdFormatter, start: &str, end: &str) -> Result<Formatted, Failure> {
+    formatted(|buffer, capacity| {
+        let (start, start_count, end, end_count) = (start.as_ptr(), start.len(), end.as_ptr(), end.len());
+        // SAFETY: as in `format`.
+        unsafe { fd_format_range(formatter, start, start_count, end, end_count, buffer, capacity) }
+    })
+}
+
+fn formatted(write: impl Fn(*mut u8, usize) -> FdResult) -> Result<Formatted, Failure> {
     let mut bytes = [0; FORMATTED_IN_PLACE];
     let answer = write(bytes.as_mut_ptr(), FORMATTED_IN_PLACE);
     match answer.status {
@@ -318,17 +339,40 @@ pub(crate) fn format(formatter: &FdFormatter, start: &str) -> Result<Formatted, 
 
 /// Formats a decimal, with the parts of its text.
 pub(crate) fn format_parts(formatter: &FdFormatter, start: &str) -> Result<(String, Vec<FdPart>), Failure> {
+    parted(start.len(), |buffer, capacity, parts, part_capacity| {
+        let (start, count) = (start.as_ptr(), start.len());
+        // SAFETY: as in `format`; the parts have the capacity beside them.
+        unsafe { fd_format_parts(formatter, start, count, buffer, capacity, parts, part_capacity) }
+    })
+}
+
+/// Formats the range of two decimals, with the parts of its text.
+#[rustfmt::skip]
+pub(crate) fn format_range_parts(
+    formatter: &FdFormatter, start: &str, end: &str,
+) -> Result<(String, Vec<FdPart>), Failure> {
+    parted(start.len() + end.len(), |buffer, capacity, parts, part_capacity| {
+        let (start, start_count, end, end_count) = (start.as_ptr(), start.len(), end.as_ptr(), end.len());
+        // SAFETY: as in `format_parts`.
+        unsafe {
+            fd_format_range_parts(
+                formatter, start, start_count, end, end_count, buffer, capacity, parts, part_capacity,
+            )
+        }
+    })
+}
+
+/// The text and the parts that a function writes of texts of `count` bytes.
+#[rustfmt::skip]
+fn parted(
+    count: usize, write: impl Fn(*mut u8, usize, *mut FdPart, usize) -> FdParted,
+) -> Result<(String, Vec<FdPart>), Failure> {
     let mut parts: Vec<FdPart> = Vec::new();
     let mut buffer: Vec<u8> = Vec::new();
     let mut write = |count, part_count| {
         buffer.reserve(count);
         parts.reserve(part_count);
-        // SAFETY: as in `format`; the parts have the capacity beside them.
-        let answer = unsafe {
-            let (start, count) = (start.as_ptr(), start.len());
-            let (bytes, capacity) = (buffer.as_mut_ptr(), buffer.capacity());
-            fd_format_parts(formatter, start, count, bytes, capacity, parts.as_mut_ptr(), parts.capacity())
-        };
+        let answer = write(buffer.as_mut_ptr(), buffer.capacity(), parts.as_mut_ptr(), parts.capacity());
         if answer.status == OK {
             // SAFETY: the function has written the first `count` bytes and the first `parts` parts.
             unsafe {
@@ -338,7 +382,7 @@ pub(crate) fn format_parts(formatter: &FdFormatter, start: &str) -> Result<(Stri
         }
         answer
     };
-    let mut answer = write(4 * start.len() + ROOM, start.len() + ROOM);
+    let mut answer = write(4 * count + ROOM, count + ROOM);
     if answer.status == BUFFER_TOO_SMALL || answer.status == PARTS_TOO_SMALL {
         answer = write(answer.count, answer.parts);
     }
@@ -378,6 +422,12 @@ pub(crate) fn plural(locale: &str, rule_type: u32, text: &str) -> Result<i64, Fa
     }
 }
 
+/// The category of a range in a locale, by those of its numbers.
+pub(crate) fn plural_range(locale: &str, start: u32, end: u32) -> Result<i64, Failure> {
+    // SAFETY: as in `compare`.
+    number(unsafe { fd_category_range(locale.as_ptr(), locale.len(), start, end) })
+}
+
 fn number(answer: FdNumber) -> Result<i64, Failure> {
     match answer.status {
         OK => Ok(answer.value),
@@ -411,6 +461,6 @@ mod tests {
     #[test]
     fn structs_are_those_of_the_library() {
         // SAFETY: the function takes nothing.
-        assert_eq!(unsafe { super::fd_version() }, 7);
+        assert_eq!(unsafe { super::fd_version() }, 8);
     }
 }

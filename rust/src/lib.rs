@@ -20,7 +20,7 @@ pub use error::{
     DigitOptionsError, IntegerError, LimitError, NameError, NumberFormatError, NumberReadError, OverlapError,
     ParseError, ReadError, RulesError, UnknownLocale,
 };
-pub use number_format::{FormattedNumber, NumberFormat, NumberParts, PartKind};
+pub use number_format::{FormattedNumber, NumberFormat, NumberParts, PartKind, RangeParts, RangeSource};
 pub use number_options::{
     CompactLength, CurrencyCode, CurrencyDisplay, CurrencySign, CurrencyUsage, DecimalSeparatorDisplay,
     GroupingStrategy, NumberingSystem, Options, RoundingPriority, TrailingZeroDisplay, Unit, UnitDisplay,

@@ -22,7 +22,7 @@ pub struct NumberFormat {
     formatter: FdFormatter,
 }
 
-/// The text of a number. `{}` writes it with the width, the fill and the alignment of the format; the default is to the
+/// The text of a number, or of a range of two numbers. `{}` writes it with the width, the fill and the alignment of the format; the default is to the
 /// right, as for numbers. A precision changes nothing.
 #[derive(Clone)]
 pub struct FormattedNumber {
@@ -62,11 +62,13 @@ pub enum PartKind {
     ExponentPlusSign,
     /// The digits of an exponent.
     ExponentInteger,
+    /// A sign before a number that is not exact, in a range.
+    ApproximatelySign,
 }
 
 impl PartKind {
     /// Of each `fd_part_kind`.
-    const ALL: [PartKind; 15] = [
+    const ALL: [PartKind; 16] = [
         PartKind::Integer,
         PartKind::Group,
         PartKind::Decimal,
@@ -82,6 +84,7 @@ impl PartKind {
         PartKind::ExponentMinusSign,
         PartKind::ExponentPlusSign,
         PartKind::ExponentInteger,
+        PartKind::ApproximatelySign,
     ];
 }
 
@@ -90,6 +93,23 @@ impl PartKind {
 pub struct NumberParts {
     text: String,
     parts: Vec<FdPart>,
+}
+
+/// To which number of a range a part of its text belongs, as `formatRangeToParts` of ECMA-402 names it.
+#[derive(Clone, Copy, Debug, PartialEq, Eq, Hash)]
+pub enum RangeSource {
+    /// To neither number, or not all of it to one.
+    Shared,
+    /// To the first number.
+    StartRange,
+    /// To the second number.
+    EndRange,
+}
+
+/// The text of a range of two numbers with its parts, in order.
+#[derive(Clone, Debug)]
+pub struct RangeParts {
+    parts: NumberParts,
 }
 
 impl NumberFormat {
@@ -164,6 +184,45 @@ impl NumberFormat {
     pub fn parts(&self, number: &Decimal) -> Result<NumberParts, LimitError> {
         let (text, parts) = ffi::format_parts(&self.formatter, number.as_str()).map_err(limit_error)?;
         Ok(NumberParts { text, parts })
+    }
+
+    /// Formats the range of two numbers, in any order. Two numbers that are equal or shown alike are one approximate
+    /// number.
+    ///
+    /// # Errors
+    ///
+    /// One of the numbers that are shown is beyond the limits.
+    ///
+    /// ```
+    /// # use fixed_decimal_proved::{Decimal, NumberFormat, Options};
+    /// let format = NumberFormat::new("en", &Options::default())?;
+    /// assert_eq!(format.format_range(&Decimal::from(1), &Decimal::from(2))?.as_str(), "1–2");
+    /// assert_eq!(format.format_range(&Decimal::from(1), &"1.0001".parse()?)?.as_str(), "~1");
+    /// # Ok::<(), Box<dyn std::error::Error>>(())
+    /// ```
+    pub fn format_range(&self, start: &Decimal, end: &Decimal) -> Result<FormattedNumber, LimitError> {
+        let text = ffi::format_range(&self.formatter, start.as_str(), end.as_str()).map_err(limit_error)?;
+        Ok(FormattedNumber { text })
+    }
+
+    /// Formats the range of two numbers, with the parts of its text.
+    ///
+    /// # Errors
+    ///
+    /// As [`format_range`](NumberFormat::format_range).
+    ///
+    /// ```
+    /// # use fixed_decimal_proved::{Decimal, NumberFormat, Options, RangeSource};
+    /// let parts = NumberFormat::new("en", &Options::percent())?.range_parts(&Decimal::from(1), &Decimal::from(2))?;
+    /// let ends: Vec<_> = parts.iter().map(|(_, source, text)| (source, text)).collect();
+    /// assert_eq!(parts.as_str(), "100% – 200%");
+    /// assert_eq!(ends[0], (RangeSource::StartRange, "100"));
+    /// # Ok::<(), Box<dyn std::error::Error>>(())
+    /// ```
+    pub fn range_parts(&self, start: &Decimal, end: &Decimal) -> Result<RangeParts, LimitError> {
+        let found = ffi::format_range_parts(&self.formatter, start.as_str(), end.as_str());
+        let (text, parts) = found.map_err(limit_error)?;
+        Ok(RangeParts { parts: NumberParts { text, parts } })
     }
 
     /// Reads a text that [`format`](NumberFormat::format) writes, with its groups or without any. The value is the one
@@ -266,5 +325,22 @@ impl NumberParts {
     /// The parts in order: what each is, and its text.
     pub fn iter(&self) -> impl Iterator<Item = (PartKind, &str)> + '_ {
         self.parts.iter().map(|part| (PartKind::ALL[part.kind as usize], &self.text[part.start..part.end]))
+    }
+}
+
+impl RangeParts {
+    /// The text, which is all parts together.
+    pub fn as_str(&self) -> &str {
+        self.parts.as_str()
+    }
+
+    /// The parts in order: what each is, to which number it belongs, and its text.
+    pub fn iter(&self) -> impl Iterator<Item = (PartKind, RangeSource, &str)> + '_ {
+        let sources = self.parts.parts.iter().map(|part| match part.source {
+            1 => RangeSource::StartRange,
+            2 => RangeSource::EndRange,
+            _ => RangeSource::Shared,
+        });
+        self.parts.iter().zip(sources).map(|((kind, text), source)| (kind, source, text))
     }
 }

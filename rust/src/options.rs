@@ -1,4 +1,6 @@
 //! Modes, increments and signs, with the original's names.
+use crate::error::UnknownLocale;
+use crate::ffi;
 
 /// How a number between two multiples is rounded, by its magnitude alone.
 #[derive(Clone, Copy, Debug, PartialEq, Eq, Hash)]
@@ -101,6 +103,27 @@ pub enum PluralCategory {
 }
 
 impl PluralCategory {
+    /// The category of a range of numbers in a locale, by those of its first and of its last number. Cardinal and ordinal
+    /// numbers have the same ones.
+    ///
+    /// # Errors
+    ///
+    /// The locale is unknown.
+    ///
+    /// ```
+    /// # use fixed_decimal_proved::{PluralCategory, UnknownLocale};
+    /// let days = PluralCategory::of_range("ru", PluralCategory::One, PluralCategory::Many)?;
+    /// assert_eq!(days, PluralCategory::Many);
+    /// # Ok::<(), UnknownLocale>(())
+    /// ```
+    pub fn of_range(locale: &str, start: PluralCategory, end: PluralCategory) -> Result<Self, UnknownLocale> {
+        match ffi::plural_range(locale, start as u32, end as u32) {
+            Ok(code) => Ok(PluralCategory::of(code)),
+            Err(failure) if failure.status == 10 => Err(UnknownLocale),
+            Err(failure) => failure.never(),
+        }
+    }
+
     /// Of an `fd_plural`.
     pub(crate) fn of(code: i64) -> Self {
         match code {

@@ -5,7 +5,7 @@ use fixed_decimal_proved::{
     CompactLength, CurrencyCode, CurrencyDisplay, CurrencySign, CurrencyUsage, Decimal, DecimalSeparatorDisplay,
     DigitOptionsError, FormattedNumber, GroupingStrategy, IntegerError, LimitError, NameError, NumberFormat, NumberFormatError,
     NumberParts, NumberReadError, NumberingSystem, Options, OverlapError, ParseError, PartKind, PluralCategory,
-    ReadError, RoundingIncrement, RoundingPriority, RulesError, Sign, SignDisplay, SignedRoundingMode,
+    RangeParts, RangeSource, ReadError, RoundingIncrement, RoundingPriority, RulesError, Sign, SignDisplay, SignedRoundingMode,
     TrailingZeroDisplay, Unit, UnitDisplay, UnknownLocale,
 };
 use std::cmp::Ordering;
@@ -390,6 +390,53 @@ fn parts() {
 }
 
 #[test]
+/// Rows of `formatRange`, `formatRangeToParts` and `selectRange` in node 20.
+fn ranges() {
+    use PartKind::{Currency, Decimal, Fraction, Integer, Literal};
+    use RangeSource::{EndRange, Shared, StartRange};
+    for (locale, options, start, end, written) in [
+        ("de", currency("EUR"), "1", "2.5", "1,00–2,50\u{a0}€"),
+        ("en", currency("USD"), "1", "2", "$1.00 – $2.00"),
+        ("en", currency("USD"), "1", "1.001", "~$1.00"),
+        ("en", Options::percent(), "1", "2", "100% – 200%"),
+        ("en", Options::compact(CompactLength::Short), "1000", "2000000", "1K – 2M"),
+        ("ja", Options::default(), "-5", "3", "-5 ～ 3"),
+        ("ru", unit("day").with_unit_display(UnitDisplay::Long), "5", "1", "5–1 день"),
+    ] {
+        let format = NumberFormat::new(locale, &options).unwrap();
+        let (start, end) = (decimal(start), decimal(end));
+        assert_eq!(format.format_range(&start, &end).unwrap().as_str(), written, "{locale} {options:?}");
+        assert_eq!(format.range_parts(&start, &end).unwrap().as_str(), written, "{locale} {options:?}");
+    }
+    let euros = NumberFormat::new("de", &currency("EUR")).unwrap();
+    let parts = euros.range_parts(&decimal("1"), &decimal("2.5")).unwrap();
+    let found: Vec<_> = parts.iter().collect();
+    let expected = [
+        (Integer, StartRange, "1"),
+        (Decimal, StartRange, ","),
+        (Fraction, StartRange, "00"),
+        (Literal, Shared, "–"),
+        (Integer, EndRange, "2"),
+        (Decimal, EndRange, ","),
+        (Fraction, EndRange, "50"),
+        (Literal, Shared, "\u{a0}"),
+        (Currency, Shared, "€"),
+    ];
+    assert_eq!(found, expected);
+    let about = euros.range_parts(&decimal("1"), &decimal("1")).unwrap();
+    assert_eq!(about.iter().next(), Some((PartKind::ApproximatelySign, Shared, "≈")));
+    let long = decimal(&"7".repeat(300));
+    assert_eq!(euros.range_parts(&long, &long).unwrap().as_str().len(), euros.format(&long).unwrap().as_str().len() + 3);
+    let scaled = NumberFormat::by_skeleton("en", "scale/100").unwrap();
+    let (one, greatest) = (decimal("1"), decimal("1e32767"));
+    assert_eq!(scaled.format_range(&one, &greatest).unwrap_err(), LimitError);
+    assert_eq!(scaled.range_parts(&greatest, &one).unwrap_err(), LimitError);
+    let category = PluralCategory::of_range("ru", PluralCategory::One, PluralCategory::Many);
+    assert_eq!(category, Ok(PluralCategory::Many));
+    assert_eq!(PluralCategory::of_range("tlh", PluralCategory::One, PluralCategory::One), Err(UnknownLocale));
+}
+
+#[test]
 fn errors_of_number_formats() {
     use DigitOptionsError::{
         FractionDigits, Increment, IncrementDigits, IncrementPrecision, IntegerDigits, SignificantDigits,
@@ -451,6 +498,7 @@ fn shared_number_format() {
     is_shared::<Options>();
     is_shared::<FormattedNumber>();
     is_shared::<NumberParts>();
+    is_shared::<RangeParts>();
     let euros = NumberFormat::new("en", &currency("EUR")).unwrap();
     std::thread::scope(|scope| {
         for _ in 0..4 {

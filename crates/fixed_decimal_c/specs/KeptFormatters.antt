@@ -2,7 +2,7 @@
 use Rattle.std.specs.{Prelude.{◌≡◌, ◌⊎◌, ℕ, Bool, List, replicate, pos, Some, Result, Ok, Err}, Str.IsUtf8}
 use Rattle.locale_data.specs.Locales.{system_name_at}
 use Rattle.number_format.specs.{declared.{format.{ids.FormatterIds.FormatterIds, formatter.NumberFormatter.NumberFormatter}, options.NumberOptions.NumberOptions}, Formatters.{AreIdsOf, IsFormatterAt, LacksRows}}
-use Rattle.fixed_decimal_c.specs.{declared.{answer.FdColumn.FdColumn, error.FdError.{FdError, TheVariants.Formatter}, format_options.FdFormatOptions.FdFormatOptions, format_rows.{FdFormatRows.FdFormatRows, FdOuterRows.FdOuterRows}, formatter.{FdFormatter.FdFormatter, FdMade.FdMade, FdResolution.FdResolution}, number_options.FdNumberOptions.FdNumberOptions}, Errors.{status_of, place_of}, FormatOptions.{padded_name, AreFormatOptions}, FormatRows.AreRows, Formats.FormatsIfMade, Lines.FormatsColumnIfMade, NumberOptions.AreNumberOptions, NumberReadings.ReadsIfMade, NumberTexts.{AreOptionsOf, FormatterByFails, FormatterFails}}
+use Rattle.fixed_decimal_c.specs.{declared.{answer.FdColumn.FdColumn, error.FdError.{FdError, TheVariants.Formatter}, format_options.FdFormatOptions.FdFormatOptions, format_rows.{FdFormatRows.FdFormatRows, FdOuterRows.FdOuterRows}, formatter.{FdFormatter.FdFormatter, FdMade.FdMade, FdResolution.FdResolution}, number_options.FdNumberOptions.FdNumberOptions}, Errors.{status_of, place_of}, FormatOptions.{padded_name, AreFormatOptions}, FormatRows.AreRows, Formats.FormatsIfMade, KeptTags.kept_tag, Lines.FormatsColumnIfMade, NumberOptions.AreNumberOptions, NumberReadings.ReadsIfMade, NumberTexts.{AreOptionsOf, FormatterByFails, FormatterFails}}
 
 -- ---- What C keeps.
 
@@ -26,10 +26,10 @@ IsKept (Err error) c = (error ≡ Formatter) × IsNoFormatter c
 
 -- ---- Making.
 
--- C has the rows of a tag and options, which the tables have, and the options
+-- C has the rows of a tag and options, which the tables have, and the options and the tag
 abbrev pub Keeps : List ℕ → NumberOptions → FdFormatter → Type 0
 Keeps tag o c =
-    IsUtf8 tag
+    IsUtf8 tag × (c.tag ≡ kept_tag tag)
     × ((ids : FormatterIds) × AreIdsOf tag o ids × (LacksRows ids → ⊥) × AreRows c.rows ids
     × AreFormatOptions c.options o)
 
@@ -134,7 +134,7 @@ no_options = record {
 }
 
 abbrev pub no_formatter : FdFormatter
-no_formatter = record { rows = no_rows; options = no_options }
+no_formatter = record { rows = no_rows; options = no_options; tag = replicate 16 0 }
 
 -- an answer that is a formatter
 abbrev pub fd_made : Result FdFormatter FdError → FdMade

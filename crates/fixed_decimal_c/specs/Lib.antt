@@ -16,8 +16,11 @@ pub mod NumberReadings
 pub mod Conversions
 pub mod Keys
 pub mod Lines
+pub mod KeptTags
 pub mod KeptFormatters
 pub mod StatusTexts
 pub mod Parts
 pub mod Categories
+pub mod Ranges
+pub mod RangeParts
 pub mod Words

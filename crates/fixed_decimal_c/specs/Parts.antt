@@ -73,27 +73,38 @@ HasTaken name array count last (which ∷ pieces) =
 
 -- ---- Writing.
 
--- all is written, if both fit: the text and its parts, at the start of the buffer and of the array
-pub record AreWritten (pieces : List Piece) (old new : List ℕ) (old_parts new_parts : List FdPart) : Type 0 where
-  pub fits : length (pieces_text pieces) ≤ length old
-  pub text : new ≡ pieces_text pieces ++ drop (length (pieces_text pieces)) old
-  pub parts_fit : length (parts_of pieces) ≤ length old_parts
-  pub parts : new_parts ≡ parts_of pieces ++ drop (length (parts_of pieces)) old_parts
+-- a text and its parts
+pub record PartedText : Type 0 where
+  pub text : List ℕ
+  pub parts : List FdPart
 
--- the text and its parts are written; or the text does not fit, or else its parts, and nothing is written
-abbrev pub WritesParts :
-    Result Unit FdError → List Piece → List ℕ → List ℕ → List FdPart → List FdPart → Type 0
-WritesParts (Ok _) pieces old new old_parts new_parts = AreWritten pieces old new old_parts new_parts
-WritesParts (Err (BufferTooSmall needed)) pieces old new old_parts new_parts =
-    (needed ≡ length (pieces_text pieces)) × (length old < needed) × (new ≡ old) × (new_parts ≡ old_parts)
-WritesParts (Err PartsTooSmall) pieces old new old_parts new_parts =
-    (length (pieces_text pieces) ≤ length old) × (length old_parts < length (parts_of pieces)) × (new ≡ old)
-    × (new_parts ≡ old_parts)
-WritesParts (Err error) pieces old new old_parts new_parts = ⊥
+-- all is written, if both fit: the text and its parts, at the start of the buffer and of the array
+pub record AreWritten (shown : PartedText) (old new : List ℕ) (old_parts new_parts : List FdPart) : Type 0 where
+  pub fits : length shown.text ≤ length old
+  pub text : new ≡ shown.text ++ drop (length shown.text) old
+  pub parts_fit : length shown.parts ≤ length old_parts
+  pub parts : new_parts ≡ shown.parts ++ drop (length shown.parts) old_parts
 
 -- the numbers of bytes and of parts
-abbrev pub counts_of : List Piece → PartCounts
-counts_of pieces = record { count = length (pieces_text pieces); parts = length (parts_of pieces) }
+abbrev pub counts_of : PartedText → PartCounts
+counts_of shown = record { count = length shown.text; parts = length shown.parts }
+
+-- a buffer of this number of bytes has no room for the text, or else an array of this number of parts for its parts
+abbrev pub HaveNoRoom : FdError → PartCounts → ℕ → ℕ → Type 0
+HaveNoRoom (BufferTooSmall needed) counts bytes parts = (needed ≡ counts.count) × (bytes < counts.count)
+HaveNoRoom PartsTooSmall counts bytes parts = (counts.count ≤ bytes) × (parts < counts.parts)
+HaveNoRoom error counts bytes parts = ⊥
+
+-- the text and its parts are written; or there is no room for both, and nothing is written
+abbrev pub WritesParts :
+    Result Unit FdError → PartedText → List ℕ → List ℕ → List FdPart → List FdPart → Type 0
+WritesParts (Ok _) shown old new old_parts new_parts = AreWritten shown old new old_parts new_parts
+WritesParts (Err error) shown old new old_parts new_parts =
+    HaveNoRoom error (counts_of shown) (length old) (length old_parts) × (new ≡ old) × (new_parts ≡ old_parts)
+
+-- the text and the parts of a number's pieces
+abbrev pub parted : List Piece → PartedText
+parted pieces = record { text = pieces_text pieces; parts = parts_of pieces }
 
 abbrev pub no_counts : PartCounts
 no_counts = record { count = 0; parts = 0 }
@@ -109,8 +120,8 @@ WritesNoParts Fails counts answer old new old_parts new_parts =
 abbrev pub WritesPartsOf : NumberFormatter → Decimal → PartCounts → Result Unit FdError → List ℕ → List ℕ
     → List FdPart → List FdPart → Type 0
 WritesPartsOf f v counts answer old new old_parts new_parts =
-    ((pieces : List Piece) × AreNumberPieces f v pieces × (counts ≡ counts_of pieces)
-    × WritesParts answer pieces old new old_parts new_parts)
+    ((pieces : List Piece) × AreNumberPieces f v pieces × (counts ≡ counts_of (parted pieces))
+    × WritesParts answer (parted pieces) old new old_parts new_parts)
     ⊎ WritesNoParts (FormatFails (Skeleton f) v 0) counts answer old new old_parts new_parts
 
 -- the same of the decimal that a text is; or it is none

@@ -1,5 +1,5 @@
 -- The lines of statuses.
-use Rattle.std.specs.{Prelude.{◌≡◌, ℕ, zero, suc, ◌==◌, if◌then◌else◌, codes, List, [], ◌∷◌, ◌++◌, slice_get, Option, Some, None, Result}, Option.option_map, Fmt.decimal}
+use Rattle.std.specs.{Prelude.{◌≡◌, ℕ, zero, suc, ◌==◌, nat_lt, if◌then◌else◌, codes, List, [], ◌∷◌, ◌++◌, slice_get, Option, Some, None, Result}, Option.option_map, Fmt.decimal}
 use Rattle.fixed_decimal_c.specs.{declared.error.FdError.{FdError, TheVariants.{Syntax, Limit, Memory, OperandSyntax, OperandLimit, Overlap, Overflow, BufferTooSmall, UnknownCall, UnknownLocale, UnknownOption, NotWhole, OutOfRange, RulesSyntax, RulesLimit, SkeletonSyntax, SkeletonUnsupported, UnknownNumberingSystem, UnreadableFormat, DigitOptions, NoSkeleton, Formatter, PartsTooSmall, UnknownUnit}}, Texts.{Writes, WritesNothing}}
 
 -- the errors of the statuses, starting at status 1, at a place
@@ -19,16 +19,17 @@ abbrev pub line_with : List ℕ → Option ℕ → List ℕ → List ℕ
 line_with before None after = before ++ after
 line_with before (Some number) after = around before number after
 
--- the line of an error after this number of calls; an overflow after all calls is that of the format
+-- the line of an error after this number of calls; a text after the first is the end of a range, and an overflow after
+-- all calls is that of the format
 abbrev pub line_of : ℕ → FdError → List ℕ
-line_of calls (Syntax at) = codes "start: syntax"
-line_of calls (Limit at) = codes "start: limit"
+line_of calls (Syntax at) = if at == 0 then codes "start: syntax" else codes "end: syntax"
+line_of calls (Limit at) = if at == 0 then codes "start: limit" else codes "end: limit"
 line_of calls Memory = codes "memory"
 line_of calls (OperandSyntax at) = around (codes "call ") at (codes ": syntax")
 line_of calls (OperandLimit at) = around (codes "call ") at (codes ": limit")
 line_of calls (Overlap at) = around (codes "call ") at (codes ": overlap")
 line_of calls (Overflow at) =
-    if at == calls then codes "format: overflow" else around (codes "call ") at (codes ": overflow")
+    if nat_lt at calls then around (codes "call ") at (codes ": overflow") else codes "format: overflow"
 line_of calls (BufferTooSmall needed) = codes "buffer too small"
 line_of calls (UnknownCall at) = around (codes "no such call: ") at []
 line_of calls UnknownLocale = codes "unknown locale"

@@ -6,6 +6,7 @@ use crate::error::FdError;
 use crate::format::{error_of_formatter, format_text, options};
 use crate::format_options::{FdFormatOptions, NO_OPTIONS, padded_name};
 use crate::format_rows::{FdFormatRows, NO_ROWS};
+use crate::kept_tag::kept_tag;
 use crate::number_options::FdNumberOptions;
 use locale_data::system_name_at;
 use number_format::{FormatterIds, NumberFormatter, NumberOptions};
@@ -20,6 +21,8 @@ pub struct FdFormatter {
     pub rows: FdFormatRows,
     /// Its options.
     pub options: FdFormatOptions,
+    /// The tag of its locale, padded with spaces; of a longer one its first subtags. Ranges alone use it.
+    pub tag: [u8; 16],
 }
 
 /// An answer that is a formatter.
@@ -50,6 +53,7 @@ impl FdFormatter {
         ensures ok { IfOk result (Keeps tag.now options.now) }
         ensures err { IfErr result (λ error. OptionsFail error tag.now options.now) }
     {
+        let kept = kept_tag(tag);
         let Ok(tag) = str::from_utf8(tag) else {
             return Err(FdError::UnknownLocale);
         };
@@ -57,6 +61,7 @@ impl FdFormatter {
             Ok(ids) => Ok(FdFormatter {
                 rows: FdFormatRows::encode(&ids),
                 options: FdFormatOptions::encode(options),
+                tag: kept,
             }),
             Err(error) => Err(error_of_formatter(error)),
         }
@@ -84,7 +89,7 @@ impl FdFormatter {
 
     /// Returns the rows and the options.
     #[inline(always)]
-    fn ids_and_options(&self) -> Option<(FormatterIds, NumberOptions)>
+    pub(crate) fn ids_and_options(&self) -> Option<(FormatterIds, NumberOptions)>
         ensures some { IfSome result
             (λ found. AreRows self.now.rows found.0 × AreFormatOptions self.now.options found.1) }
         ensures none { IfNone result (IsNoFormatter self.now) }
@@ -187,6 +192,7 @@ pub(crate) fn encode_made(answer: Result<FdFormatter, FdError>) -> FdMade
             formatter: FdFormatter {
                 rows: NO_ROWS,
                 options: NO_OPTIONS,
+                tag: [0; 16],
             },
         },
     }

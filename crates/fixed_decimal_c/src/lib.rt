@@ -5,7 +5,7 @@
 #![tactic(auto)]
 
 ghost use Rattle.std.specs.Prelude.{◌≡◌, nat_lt};
-ghost use Rattle.fixed_decimal_c.specs.{Encodings.{Encodes, EncodesNumber, EncodesUnsigned}, Conversions.{Runs, ConvertsCalls}, Lines.ConvertsColumn, Numbers.{Compares, Equates, HasSign, HasI64, HasU64}, Locales.{IsLocaleNumber, IsRulesNumber, IsNamedRulesNumber}, Categories.{HasCategory, HasCategoryOf}, Formats.{FormatsNumber, FormatsBySkeleton}, NumberReadings.{ReadsNumber, ReadsBySkeleton}, NumberTexts.WritesSkeleton, KeptFormatters.{EncodesMade, MakesByOptions, MakesBySkeleton, FormatsKept, FormatsColumn, ReadsKept, EncodesResolution, IsResolved}, Units.{EncodesUnits, IsUnitNamed, WritesUnitName}, Parts.FormatsPartsKept, StatusTexts.{WritesLine, status_line}, Keys.{EncodesKey, HasKey, ComparesKeys}, Words.IsWord};
+ghost use Rattle.fixed_decimal_c.specs.{Encodings.{Encodes, EncodesNumber, EncodesUnsigned}, Conversions.{Runs, ConvertsCalls}, Lines.ConvertsColumn, Numbers.{Compares, Equates, HasSign, HasI64, HasU64}, Locales.{IsLocaleNumber, IsRulesNumber, IsNamedRulesNumber}, Categories.{HasCategory, HasCategoryOf}, Formats.{FormatsNumber, FormatsBySkeleton}, NumberReadings.{ReadsNumber, ReadsBySkeleton}, NumberTexts.WritesSkeleton, KeptFormatters.{EncodesMade, MakesByOptions, MakesBySkeleton, FormatsKept, FormatsColumn, ReadsKept, EncodesResolution, IsResolved}, Units.{EncodesUnits, IsUnitNamed, WritesUnitName}, Parts.FormatsPartsKept, Ranges.{FormatsRange, IsRangeCategory}, RangeParts.FormatsRangeParts, StatusTexts.{WritesLine, status_line}, Keys.{EncodesKey, HasKey, ComparesKeys}, Words.IsWord};
 
 mod answer;
 mod calls;
@@ -18,6 +18,7 @@ mod format_options;
 mod format_rows;
 mod formatter;
 mod forms;
+mod kept_tag;
 mod keys;
 pub mod laws;
 mod lines;
@@ -25,6 +26,8 @@ mod locales;
 mod number_options;
 mod numbers;
 mod parts;
+mod range_parts;
+mod ranges;
 mod read;
 mod slice_sink;
 mod status_text;
@@ -36,7 +39,7 @@ mod words;
 pub use answer::{FdColumn, FdNumber, FdResult, FdUnsigned, Progress};
 use answer::{encode, encode_number, encode_unsigned};
 pub use calls::FdCall;
-use categories::{category_by, category_of};
+use categories::{category_by, category_of, range_category};
 use convert::{convert, run};
 pub use error::FdError;
 use format::write_skeleton;
@@ -53,6 +56,9 @@ pub use number_options::FdNumberOptions;
 use numbers::{compare_texts, equal_texts, sign_of, to_i64, to_u64};
 use parts::format_parts;
 pub use parts::{FdPart, FdParted, PartCounts};
+pub use range_parts::RangeBounds;
+use range_parts::format_range_parts;
+use ranges::format_range;
 use read::read_number;
 use status_text::write_status;
 use std::alloc::Global;
@@ -64,9 +70,9 @@ use words::parse_word;
 
 /// Returns the version of the interface. It grows when a number, a struct or a meaning changes.
 pub fn fd_version() -> u32
-    ensures { result ≡ 7 }
+    ensures { result ≡ 8 }
 {
-    7
+    8
 }
 
 /// Makes calls in order on the decimal that `start` writes, and writes the text of the result.
@@ -280,6 +286,40 @@ pub fn fd_format_parts(
     format_parts(alloc, formatter, text, buffer, parts)
 }
 
+/// Formats the range of two decimals by a formatter, in any order: `1–2`, or `~1` of two that are shown alike.
+///
+/// The errors, the first that holds: `Formatter`; of the text of the first one, and then of the second one, by its
+/// place 1; `Overflow`, if the number that is shown is beyond the limits, with the same places; `BufferTooSmall`.
+pub fn fd_format_range(
+    alloc: Global,
+    formatter: &FdFormatter,
+    start: &[u8],
+    end: &[u8],
+    buffer: &mut [u8],
+) -> FdResult
+    ensures { Encodes result (λ answer. FormatsRange answer formatter.now start.now end.now buffer.old buffer.new) }
+{
+    encode(format_range(alloc, formatter, start, end, buffer))
+}
+
+/// Formats the range of two decimals as [`fd_format_range`] does, and writes the parts of the text to an array as
+/// [`fd_format_parts`] does. The source of a part is 1 if all of it belongs to the first number, 2 if to the second
+/// one, and else 0.
+///
+/// The errors: as there, and then `PartsTooSmall`. On an error the buffer and the array are as they were.
+pub fn fd_format_range_parts(
+    alloc: Global,
+    formatter: &FdFormatter,
+    start: &[u8],
+    end: &[u8],
+    buffer: &mut [u8],
+    parts: &mut [FdPart],
+) -> FdParted
+    ensures { FormatsRangeParts result formatter.now start.now end.now buffer.old buffer.new parts.old parts.new }
+{
+    format_range_parts(alloc, formatter, start, end, buffer, parts)
+}
+
 /// Reads a number that [`fd_format`] writes, and writes the own text of the value that is shown. With `lenient` the
 /// number may be as people type it.
 ///
@@ -307,8 +347,8 @@ pub fn fd_resolved(formatter: &FdFormatter) -> FdResolution
     encode_resolution(formatter.resolved())
 }
 
-/// Writes the line of a status, as the programs print it. An overflow at the number of calls, which is 0 for a function
-/// without calls, is that of the format.
+/// Writes the line of a status, as the programs print it. An error of a text after the first is that of the end of a
+/// range. An overflow at the number of calls, which is 0 for a function without calls, or above is that of the format.
 ///
 /// The errors: `UnknownOption`, if there is no such status; `BufferTooSmall`.
 pub fn fd_status_text(status: u32, at: usize, calls: usize, buffer: &mut [u8]) -> FdResult
@@ -414,6 +454,16 @@ pub fn fd_category_of(alloc: Global, rules: u64, text: &[u8]) -> FdNumber
     ensures { EncodesNumber result (λ answer. HasCategoryOf answer rules text.now) }
 {
     encode_number(category_by(alloc, rules, text))
+}
+
+/// Returns the plural category of a range of numbers in the language of a tag, by the categories of its first and of
+/// its second number: that of `1–5 days`. Cardinal and ordinal numbers have the same ones.
+///
+/// The errors, the first that holds: `UnknownOption`, if there is no such category; `UnknownLocale`.
+pub fn fd_category_range(tag: &[u8], start: u32, end: u32) -> FdNumber
+    ensures { EncodesNumber result (λ answer. IsRangeCategory answer tag.now start end) }
+{
+    encode_number(range_category(tag, start, end))
 }
 
 /// Reads a word as the programs do: `read:LOCALE[:lenient][:SKELETON]`, a call, or

@@ -1,7 +1,7 @@
 //! The text of a number with its parts.
 ghost use Rattle.std.specs.Prelude.{◌≡◌, ◌+◌, ◌-◌, ◌^◌, ◌<◌, ◌≤◌, ◌∷◌, ◌⊎◌, List, length, slice_set, false, IfOk, IfErr};
 ghost use Rattle.number_format.specs.{FormattedNumbers.formatted_number_pieces, TextParts.pieces_text, declared.format.text_part.PartKind.PartKind};
-ghost use Rattle.fixed_decimal_c.specs.{declared.parts.FdPart.FdPart, Parts.{kind_code, with_bytes, parts_of, last_of, no_part, counts_of, HasTaken, WritesParts, WritesPartsOf, FormatsParts, FormatsPartsKept, fd_parted}};
+ghost use Rattle.fixed_decimal_c.specs.{declared.parts.FdPart.FdPart, Parts.{kind_code, with_bytes, parted, parts_of, last_of, no_part, counts_of, HasTaken, HaveNoRoom, WritesParts, WritesPartsOf, FormatsParts, FormatsPartsKept, fd_parted}};
 
 use crate::error::FdError;
 use crate::format::error_of_format;
@@ -18,7 +18,7 @@ use std::alloc::Global;
 pub struct FdPart {
     /// The number of its kind.
     pub kind: u32,
-    /// 0: it is kept for ranges of numbers.
+    /// To which number of a range it belongs: 1 to the first, 2 to the second, and 0 to neither. Of one number it is 0.
     pub source: u32,
     /// Where it begins in the text.
     pub start: usize,
@@ -49,8 +49,25 @@ pub struct PartCounts {
     pub parts: usize,
 }
 
+impl PartCounts {
+    /// Returns whether a buffer and an array have room for the text and its parts, or which of them has not.
+    pub(crate) fn fit(self, buffer: &[u8], parts: &[FdPart]) -> Result<(), FdError>
+        ensures ok { IfOk result (λ _. (self.count ≤ length buffer.now) × (self.parts ≤ length parts.now)) }
+        ensures err { IfErr result (λ error. HaveNoRoom error self (length buffer.now) (length parts.now)) }
+    {
+        if buffer.len() < self.count {
+            let needed = self.count;
+            return Err(FdError::BufferTooSmall { needed });
+        }
+        if parts.len() < self.parts {
+            return Err(FdError::PartsTooSmall);
+        }
+        Ok(())
+    }
+}
+
 /// Those of no text.
-const NO_COUNTS: PartCounts = PartCounts { count: 0, parts: 0 };
+pub(crate) const NO_COUNTS: PartCounts = PartCounts { count: 0, parts: 0 };
 
 const NO_PART: FdPart = FdPart {
     kind: 0,
@@ -99,10 +116,10 @@ fn set_last(parts: &mut [FdPart], count: usize, last: FdPart)
 
 /// The parts of pieces. It counts all, and lists those for which an array has room.
 #[derive(Drop)]
-struct PartList<'a> {
-    parts: &'a mut [FdPart],
-    count: usize,
-    last: FdPart,
+pub(crate) struct PartList<'a> {
+    pub(crate) parts: &'a mut [FdPart],
+    pub(crate) count: usize,
+    pub(crate) last: FdPart,
 }
 
 impl PartSink for PartList<'_> {
@@ -120,7 +137,7 @@ impl PartSink for PartList<'_> {
 }
 
 impl<'a> PartList<'a> {
-    fn new(parts: &'a mut [FdPart]) -> PartList<'a>
+    pub(crate) fn new(parts: &'a mut [FdPart]) -> PartList<'a>
         ensures same_array { result.parts.ghost_name ≡ parts.entry.ghost_name }
         ensures array { result.parts.now ≡ parts.old }
         ensures count { result.count ≡ 0 }
@@ -174,20 +191,16 @@ fn write_parts(
     buffer: &mut [u8],
     parts: &mut [FdPart],
 ) -> (PartCounts, Result<(), FdError>)
-    ensures counts { result.0 ≡ counts_of (formatted_number_pieces number.now) }
-    ensures written { WritesParts result.1 (formatted_number_pieces number.now) buffer.old buffer.new parts.old
+    ensures counts { result.0 ≡ counts_of (parted (formatted_number_pieces number.now)) }
+    ensures written { WritesParts result.1 (parted (formatted_number_pieces number.now)) buffer.old buffer.new parts.old
         parts.new }
 {
     let counts = PartCounts {
         count: number.writeable_length_hint(),
         parts: count_parts(number),
     };
-    if buffer.len() < counts.count {
-        let needed = counts.count;
-        return (counts, Err(FdError::BufferTooSmall { needed }));
-    }
-    if parts.len() < counts.parts {
-        return (counts, Err(FdError::PartsTooSmall));
+    if let Err(error) = counts.fit(buffer, parts) {
+        return (counts, Err(error));
     }
     fill(number, &mut buffer[..counts.count]);
     fill_parts(number, &mut parts[..counts.parts]);
@@ -226,7 +239,7 @@ fn format_text(
     }
 }
 
-fn encode_parted(counts: PartCounts, answer: Result<(), FdError>) -> FdParted
+pub(crate) fn encode_parted(counts: PartCounts, answer: Result<(), FdError>) -> FdParted
     ensures { result ≡ fd_parted counts answer }
 {
     let (status, at) = match answer {

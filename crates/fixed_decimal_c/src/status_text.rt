@@ -85,14 +85,16 @@ fn line_of(calls: usize, error: FdError) -> StatusLine
     ensures { line_with result.before.now result.number result.after.now ≡ line_of calls error }
 {
     match error {
-        FdError::Syntax { .. } => plain("start: syntax"),
-        FdError::Limit { .. } => plain("start: limit"),
+        FdError::Syntax { at: 0 } => plain("start: syntax"),
+        FdError::Syntax { .. } => plain("end: syntax"),
+        FdError::Limit { at: 0 } => plain("start: limit"),
+        FdError::Limit { .. } => plain("end: limit"),
         FdError::Memory => plain("memory"),
         FdError::OperandSyntax { at } => placed("call ", at, ": syntax"),
         FdError::OperandLimit { at } => placed("call ", at, ": limit"),
         FdError::Overlap { at } => placed("call ", at, ": overlap"),
-        FdError::Overflow { at } if at == calls => plain("format: overflow"),
-        FdError::Overflow { at } => placed("call ", at, ": overflow"),
+        FdError::Overflow { at } if at < calls => placed("call ", at, ": overflow"),
+        FdError::Overflow { .. } => plain("format: overflow"),
         FdError::BufferTooSmall { .. } => plain("buffer too small"),
         FdError::UnknownCall { at } => placed("no such call: ", at, ""),
         FdError::UnknownLocale => plain("unknown locale"),

@@ -2,7 +2,7 @@
 #![tactic(auto)]
 
 ghost use Rattle.std.specs.Prelude.{◌≡◌, nat_lt};
-ghost use Rattle.fixed_decimal_c.specs.{Encodings.{Encodes, EncodesNumber, EncodesUnsigned}, Conversions.{Runs, ConvertsCalls}, Lines.ConvertsColumn, Numbers.{Compares, Equates, HasSign, HasI64, HasU64}, Locales.{IsLocaleNumber, IsRulesNumber, IsNamedRulesNumber}, Categories.{HasCategory, HasCategoryOf}, Formats.{FormatsNumber, FormatsBySkeleton}, NumberReadings.{ReadsNumber, ReadsBySkeleton}, NumberTexts.WritesSkeleton, KeptFormatters.{EncodesMade, MakesByOptions, MakesBySkeleton, FormatsKept, FormatsColumn, ReadsKept, EncodesResolution, IsResolved}, Units.{EncodesUnits, IsUnitNamed, WritesUnitName}, Parts.FormatsPartsKept, StatusTexts.{WritesLine, status_line}, Keys.{EncodesKey, HasKey, ComparesKeys}, Words.IsWord};
+ghost use Rattle.fixed_decimal_c.specs.{Encodings.{Encodes, EncodesNumber, EncodesUnsigned}, Conversions.{Runs, ConvertsCalls}, Lines.ConvertsColumn, Numbers.{Compares, Equates, HasSign, HasI64, HasU64}, Locales.{IsLocaleNumber, IsRulesNumber, IsNamedRulesNumber}, Categories.{HasCategory, HasCategoryOf}, Formats.{FormatsNumber, FormatsBySkeleton}, NumberReadings.{ReadsNumber, ReadsBySkeleton}, NumberTexts.WritesSkeleton, KeptFormatters.{EncodesMade, MakesByOptions, MakesBySkeleton, FormatsKept, FormatsColumn, ReadsKept, EncodesResolution, IsResolved}, Units.{EncodesUnits, IsUnitNamed, WritesUnitName}, Parts.FormatsPartsKept, Ranges.{FormatsRange, IsRangeCategory}, RangeParts.FormatsRangeParts, StatusTexts.{WritesLine, status_line}, Keys.{EncodesKey, HasKey, ComparesKeys}, Words.IsWord};
 
 use fixed_decimal_c::{
     FdCall, FdColumn, FdFormatter, FdForms, FdKey, FdKeyed, FdMade, FdNumber, FdNumberOptions,
@@ -12,7 +12,7 @@ use std::alloc::Global;
 
 #[unsafe(no_mangle)]
 pub extern "C" fn fd_version() -> u32
-    ensures { result ≡ 7 }
+    ensures { result ≡ 8 }
 {
     fixed_decimal_c::fd_version()
 }
@@ -185,6 +185,33 @@ pub extern "C" fn fd_format_parts(
 }
 
 #[unsafe(no_mangle)]
+pub extern "C" fn fd_format_range(
+    alloc: Global,
+    formatter: &FdFormatter,
+    start: &[u8],
+    end: &[u8],
+    buffer: &mut [u8],
+) -> FdResult
+    ensures { Encodes result (λ answer. FormatsRange answer formatter.now start.now end.now buffer.old buffer.new) }
+{
+    fixed_decimal_c::fd_format_range(alloc, formatter, start, end, buffer)
+}
+
+#[unsafe(no_mangle)]
+pub extern "C" fn fd_format_range_parts(
+    alloc: Global,
+    formatter: &FdFormatter,
+    start: &[u8],
+    end: &[u8],
+    buffer: &mut [u8],
+    parts: &mut [FdPart],
+) -> FdParted
+    ensures { FormatsRangeParts result formatter.now start.now end.now buffer.old buffer.new parts.old parts.new }
+{
+    fixed_decimal_c::fd_format_range_parts(alloc, formatter, start, end, buffer, parts)
+}
+
+#[unsafe(no_mangle)]
 pub extern "C" fn fd_read(
     alloc: Global,
     formatter: &FdFormatter,
@@ -310,6 +337,13 @@ pub extern "C" fn fd_category_of(alloc: Global, rules: u64, text: &[u8]) -> FdNu
     ensures { EncodesNumber result (λ answer. HasCategoryOf answer rules text.now) }
 {
     fixed_decimal_c::fd_category_of(alloc, rules, text)
+}
+
+#[unsafe(no_mangle)]
+pub extern "C" fn fd_category_range(tag: &[u8], start: u32, end: u32) -> FdNumber
+    ensures { EncodesNumber result (λ answer. IsRangeCategory answer tag.now start end) }
+{
+    fixed_decimal_c::fd_category_range(tag, start, end)
 }
 
 #[unsafe(no_mangle)]

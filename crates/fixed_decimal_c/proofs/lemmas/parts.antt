@@ -1,1 +1,2 @@
 pub mod PartLists
+pub mod RangePartLists

@@ -74,7 +74,7 @@ module _ (c : FdFormatRows) (a b : FormatterIds) (is : AreRows c a) (js : AreRow
 -- what C keeps is the formatter of the tag and the options
 pub kept_formatter : (tag : List ℕ) (o : NumberOptions) (c : FdFormatter) (f : NumberFormatter) → Keeps tag o c
     → IsFormatterIn c f → HasFormatter tag o f
-kept_formatter tag o c f (utf8, (ids, are, exist, rows, options)) (found, p, found_rows, found_options, at) =
+kept_formatter tag o c f (utf8, tag_is, (ids, are, exist, rows, options)) (found, p, found_rows, found_options, at) =
     let same = same_options c.options p o found_options options in (
       utf8,
       record {
@@ -86,9 +86,9 @@ kept_formatter tag o c f (utf8, (ids, are, exist, rows, options)) (found, p, fou
 
 -- and there is one
 pub keeps_one : (tag : List ℕ) (o : NumberOptions) (c : FdFormatter) → Keeps tag o c → IsNoFormatter c → ⊥
-keeps_one tag o c (utf8, (ids, are, exist, rows, options)) (inl none) = none ids rows
-keeps_one tag o c (utf8, (ids, are, exist, rows, options)) (inr (inl none)) = none o options
-keeps_one tag o c (utf8, (ids, are, exist, rows, options)) (inr (inr (found, found_rows, lacks))) =
+keeps_one tag o c (utf8, tag_is, (ids, are, exist, rows, options)) (inl none) = none ids rows
+keeps_one tag o c (utf8, tag_is, (ids, are, exist, rows, options)) (inr (inl none)) = none o options
+keeps_one tag o c (utf8, tag_is, (ids, are, exist, rows, options)) (inr (inr (found, found_rows, lacks))) =
     exist (lacks_too c.rows ids found rows found_rows lacks)
 
 pub by_options : (tag : List ℕ) (options : FdNumberOptions) (c : FdFormatter) (made : Result NumberFormatter FdError)

@@ -8,4 +8,4 @@ returns-in-Ok-of-clause-ok c =
     let utf8 : IsUtf8 c.args.tag.now = search rules in
     let exist : LacksRows c.in-Ok-of.ids → ⊥ = search rules in
     let ids : AreIdsOf c.args.tag.now c.args.options.now c.in-Ok-of.ids = search rules in
-    (utf8, (c.in-Ok-of.ids, ids, exist, c.encode.ensures, c.encode-in-Ok-of.ensures))
+    (utf8, c.kept_tag-kept.ensures, (c.in-Ok-of.ids, ids, exist, c.encode.ensures, c.encode-in-Ok-of.ensures))
