@@ -1,4 +1,3 @@
-use Rattle.std.proofs.Common.{◌≡◌, ◌<◌, length, rules}
 use Rattle.fixed_decimal_c.specs.RangeParts.{with_source}
 use Rattle.fixed_decimal_c.proofs.lemmas.parts.RangePartLists.{set_at}
 use Rattle.fixed_decimal_c.proofs.range_parts.RangeBounds.set_sources.Goals as goal
