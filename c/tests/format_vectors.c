@@ -50,8 +50,10 @@ static void set(fd_number_options *o, const char *name, const char *value) {
     else if (strcmp(name, "currencySign") == 0) o->currency_sign = word(signs, value);
     else if (strcmp(name, "notation") == 0) {
         if (strcmp(value, "compact") || o->notation != FD_COMPACT_LONG) o->notation = word(notations, value);
-    } else if (strcmp(name, "compactDisplay") == 0) o->notation = strcmp(value, "long") ? FD_COMPACT_SHORT : FD_COMPACT_LONG;
-    else if (strcmp(name, "signDisplay") == 0) o->sign_display = word(sign_displays, value);
+    } else if (strcmp(name, "compactDisplay") == 0) {
+        if (o->notation != FD_SCIENTIFIC && o->notation != FD_ENGINEERING)
+            o->notation = strcmp(value, "long") ? FD_COMPACT_SHORT : FD_COMPACT_LONG;
+    } else if (strcmp(name, "signDisplay") == 0) o->sign_display = word(sign_displays, value);
     else if (strcmp(name, "useGrouping") == 0) o->grouping = word(groupings, strcmp(value, "true") ? value : "always");
     else if (strcmp(name, "roundingMode") == 0) o->rounding_mode = word(modes, value);
     else if (strcmp(name, "roundingPriority") == 0) o->rounding_priority = word(priorities, value);

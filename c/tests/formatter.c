@@ -343,7 +343,8 @@ static int is_formatter(const fd_formatter *f) {
     int is = r.status != FD_FORMATTER;
     fd_result range = fd_format_range(f, B("-1234567.891"), B("3"), b, sizeof b);
     fd_parted split = fd_format_range_parts(f, B("-1234567.891"), B("3"), b, sizeof b, parts, 64);
-    CHECK((is || range.status == FD_FORMATTER) && split.status == range.status && split.count == range.count);
+    CHECK((is || range.status == FD_FORMATTER) && split.count == range.count);
+    CHECK(split.status == range.status || (split.status == FD_PARTS_TOO_SMALL && range.status == FD_OK));
     CHECK(is == (read.status != FD_FORMATTER) && is == (p.status != FD_FORMATTER) && is == (o.status == FD_OK));
     CHECK(is == (c.status != FD_FORMATTER) && (!is || r.count == p.count));
     return is;
