@@ -38,7 +38,8 @@ count() {
 
 # One job for each check, as many checks as there are processors: two jobs take a third more processor time.
 export RT_JOBS=${RT_JOBS:-$(nproc)} JOBS=${JOBS:-1}
-setsid python3 tools/built.py gate > "$room/log" 2>&1 9<&- &
+: > "$room/log"
+setsid python3 tools/built.py gate >> "$room/log" 2>&1 9<&- &
 gate=$!
 tail -n +1 -f --pid=$gate "$room/log" 9<&- &
 shown=$!
