@@ -348,7 +348,7 @@ typedef struct fd_format_rows {
 
 /* A formatter of numbers: plain data of 152 bytes without a pointer, to be copied and shared between threads. Make it
  * by fd_formatter_by_options or fd_formatter_by_skeleton. Any bytes are allowed in it: those that name no row, no option
- * or no unit, or are not 0 where they are reserved, are FD_FORMATTER; so is for ranges a tag
+ * or no unit, or are not 0 where they are reserved, are FD_FORMATTER. The functions of ranges also return it for a tag
  * of no known locale. All zeros are no formatter. */
 typedef struct fd_formatter {
     fd_format_rows rows;
@@ -516,8 +516,9 @@ fd_column fd_format_column(const fd_formatter *formatter, const uint8_t *lines, 
 fd_parted fd_format_parts(const fd_formatter *formatter, const uint8_t *text, size_t count, uint8_t *buffer,
                           size_t capacity, fd_part *parts, size_t part_capacity);
 
-/* Formats the range of two decimals by a formatter, as formatRange of Intl.NumberFormat does: "1,00–2,00 €", or "≈1,00 €"
- * if both are equal or shown alike. The first may be above the second. The buffer is as after fd_run.
+/* Formats the range of two decimals by a formatter, as formatRange of Intl.NumberFormat does: "1,00–2,00 €", or
+ * "≈1,00 €" if both are equal with the same sign, or shown alike. The first may be above the second. The buffer is as
+ * after fd_run.
  * Errors, the first that holds: FD_FORMATTER; FD_SYNTAX, FD_LIMIT, FD_MEMORY of the first text, and then of the second
  * one, with at 1; FD_OVERFLOW of the first number, and then of the second one, or FD_MEMORY; FD_BUFFER_TOO_SMALL. */
 fd_result fd_format_range(const fd_formatter *formatter, const uint8_t *start, size_t start_count, const uint8_t *end,

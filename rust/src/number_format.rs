@@ -22,8 +22,8 @@ pub struct NumberFormat {
     formatter: FdFormatter,
 }
 
-/// The text of a number, or of a range of two numbers. `{}` writes it with the width, the fill and the alignment of the format; the default is to the
-/// right, as for numbers. A precision changes nothing.
+/// The text of a number, or of a range of two numbers. `{}` writes it with the width, the fill and the alignment of the
+/// format; the default is to the right, as for numbers. A precision changes nothing.
 #[derive(Clone)]
 pub struct FormattedNumber {
     text: Formatted,
