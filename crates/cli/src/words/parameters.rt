@@ -16,8 +16,5 @@ pub fn parameter_of<'a>(name: &str, word: &'a str) -> Option<&'a str>
 pub fn has_name(name: &str, word: &str) -> bool
     ensures { result ≡ has_name name.now word.now }
 {
-    match parameter_of(name, word) {
-        Some(_) => true,
-        None => false,
-    }
+    parameter_of(name, word).is_some()
 }
