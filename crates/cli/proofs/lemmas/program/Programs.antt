@@ -2,7 +2,7 @@
 use Rattle.std.proofs.{Common.{◌≡◌, ℕ, ◌<◌, List, [], ◌∷◌, ◌++◌, String, string_bytes, Option, Some, None, Bool, true, false, Result, Ok, Err, IfOk, IfErr, refl, arith}, lemmas.{Bool.false≢true, List.append-nil}, KnownBytes.{Appends-kept, Appends-trans}}
 use Rattle.std.specs.{Prelude.{⊤, OnOk}, Result.result_and, declared.alloc.Global.Global, Io.KnownBytes.{Appends, Keeps}}
 use Rattle.decimal_digits.specs.AppendsPrefix.{AppendsPrefix}
-use Rattle.fixed_decimal.proofs.Calling.{prefix_more, then_prefix}
+use Rattle.fixed_decimal.proofs.Calling.{prefix_more}
 use Rattle.conversions.specs.declared.error.{OperationError.{OperationError, TheVariants.Output}, RangeError.RangeError}
 use Rattle.conversions.specs.declared.error.RangeError.TheVariants as range
 use Rattle.cli.specs.{declared.program.error.ProgramError.ProgramError, Diagnostics.Concludes, Error.{conversion_error, range_error, status_of}, Fixdec.{Run, of_text, of_range, HasRun, NamesRun, HasText, TextFails, TextsFail, HasTextRun, HasRangeRun, HasErrorOfText, HasErrorOfRange, HasError, PrintsLine, PrintsLinePrefix, Prints, PrintsPrefix}, RangeWords.{RangeWordsValue, range_words}}
@@ -58,11 +58,11 @@ pub text_begun :
     (run : Run) (a b : Option (List ℕ)) → HasText run (AppendsPrefix a b) → PrintsLinePrefix a b run
 text_begun run a b = text_map run _ _ (λ written h. prefix_more a b written (10 ∷ []) h)
 
--- a text was written, and then a prefix of a line feed
+-- a text was written, and no line feed
 pub feed_begun :
-    (run : Run) (a b d : Option (List ℕ)) → HasText run (Appends a b) → AppendsPrefix b d (10 ∷ [])
-    → PrintsLinePrefix a d run
-feed_begun run a b d h feed = text_map run _ _ (λ written p. then_prefix a b d written (10 ∷ []) p feed) h
+    (run : Run) (a b d : Option (List ℕ)) → HasText run (Appends a b) → Keeps b d → PrintsLinePrefix a d run
+feed_begun run a b d h k =
+    text_map run _ _ (λ written p. (written, 10 ∷ [], refl, Appends-kept a b d written p k)) h
 
 -- a text and a line feed were written
 pub feed_written :
