@@ -131,27 +131,27 @@ range_output error is = grind arith
 module _ (words : List (String Global)) (first : String Global) (others : List (String Global))
     (is : words ≡ first ∷ others)
   where
-  module _ (none : range_words others ≡ None) where
-    pub text_run :
-        (P : Run → Type 0) → HasTextRun (string_bytes first) others P → HasRun words P
-    text_run P (c, names, p) = run_of (of_text c (string_bytes first)) (rw is (none, refl, names)) p
+    module _ (none : range_words others ≡ None) where
+      pub text_run :
+          (P : Run → Type 0) → HasTextRun (string_bytes first) others P → HasRun words P
+      text_run P (c, names, p) = run_of (of_text c (string_bytes first)) (rw is (none, refl, names)) p
 
-    pub text_error :
-        (error : ProgramError) → HasErrorOfText (string_bytes first) others error → HasError words error
-    text_error (program.Setup error) (by, fails) = (by, rw (is, none) fails)
-    text_error (program.Operation error) h = text_run _ h
-    text_error program.Output h = text_run _ h
-    text_error error h = absurd h
+      pub text_error :
+          (error : ProgramError) → HasErrorOfText (string_bytes first) others error → HasError words error
+      text_error (program.Setup error) (by, fails) = (by, rw (is, none) fails)
+      text_error (program.Operation error) h = text_run _ h
+      text_error program.Output h = text_run _ h
+      text_error error h = absurd h
 
-  module _ (range : RangeWordsValue) (some : range_words others ≡ Some range) where
-    pub range_run :
-        (P : Run → Type 0) → HasRangeRun (string_bytes first) range P → HasRun words P
-    range_run P (c, names, p) =
-        run_of (of_range c (string_bytes first) range.end) (rw (is, some) (refl, refl, names)) p
+    module _ (range : RangeWordsValue) (some : range_words others ≡ Some range) where
+      pub range_run :
+          (P : Run → Type 0) → HasRangeRun (string_bytes first) range P → HasRun words P
+      range_run P (c, names, p) =
+          run_of (of_range c (string_bytes first) range.end) (rw (is, some) (refl, refl, names)) p
 
-    pub range_run_error :
-        (error : ProgramError) → HasErrorOfRange (string_bytes first) range error → HasError words error
-    range_run_error (program.Setup error) (by, fails) = (by, rw (is, some) fails)
-    range_run_error (program.Range error) h = range_run _ h
-    range_run_error program.Output h = range_run _ h
-    range_run_error error h = absurd h
+      pub range_run_error :
+          (error : ProgramError) → HasErrorOfRange (string_bytes first) range error → HasError words error
+      range_run_error (program.Setup error) (by, fails) = (by, rw (is, some) fails)
+      range_run_error (program.Range error) h = range_run _ h
+      range_run_error program.Output h = range_run _ h
+      range_run_error error h = absurd h
