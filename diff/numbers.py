@@ -5,9 +5,10 @@
 
 LOCALES is what `fixdec_lines --locales` prints, CASES is 20,000 by default. The tags are those of LOCALES that node
 knows, and those of node itself: each tag of a language, a script and a region of tools/locales/symbols.tsv that node
-resolves to itself. A few have a private use that looks like a numbering system. In standard notation texts are read
-back. Prints how often the two agree and how often each known difference occurs; each other difference, and each text
-that is not read back, is a line, with status 1. Needs the module, by `pip install ./python`, and node with this CLDR.
+resolves to itself. A few have a private use that looks like a numbering system. One number in five is a range. In
+standard notation the texts of numbers that have neither a unit nor a name are read back. Prints how often the two agree
+and how often each known difference occurs; each other difference, and each text that is not read back, is a line, with
+status 1. Needs the module, by `pip install ./python`, and node with this CLDR.
 """
 import collections
 import json
@@ -17,11 +18,16 @@ import re
 import subprocess
 import sys
 
-from fixed_decimal import Decimal
+from fixed_decimal import Decimal, NumberFormat
 
 NODE = """
 const formatted = ([locale, number, options]) => {
-  try { return new Intl.NumberFormat(locale, options).format(number); } catch (error) { return null; }
+  try {
+    const format = new Intl.NumberFormat(locale, options);
+    // The first two texts of a formatter may have a fault of ICU.
+    for (let index = 0; index < 3; index++) format.format(1);
+    return typeof number === 'string' ? format.format(number) : format.formatRange(...number);
+  } catch (error) { return null; }
 };
 const isKnown = locale => {
   try { return Intl.NumberFormat.supportedLocalesOf([locale]).length; } catch (error) { return false; }
@@ -37,6 +43,10 @@ console.log(JSON.stringify(cases ? cases.map(formatted)
   : [...new Set([...locales.filter(isKnown), ...combined(subtags).filter(isOwn)])]));
 """
 CURRENCIES = "EUR USD JPY CHF INR KWD BRL GBP XAF CAD ILS TND CLF XXX ZZZ MXN KRW UYW HUF IDR BYN".split()
+UNITS = """acre bit byte celsius centimeter day degree fahrenheit fluid-ounce foot gallon gigabit gigabyte gram hectare
+hour inch kilobit kilobyte kilogram kilometer liter megabit megabyte meter microsecond mile mile-scandinavian milliliter
+millimeter millisecond minute month nanosecond ounce percent petabyte pound second stone terabit terabyte week yard
+year""".split()
 INCREMENTS = [1, 2, 5, 10, 20, 25, 50, 100, 200, 250, 500, 1000, 2000, 2500, 5000]
 # The values of each option, and how often it is given.
 CHOICES = {
@@ -76,11 +86,21 @@ def random_number(rng):
     return rng.choice(["", "-"]) + whole + fraction
 
 
+def random_range(rng):
+    """Two numbers, which are equal or near each other now and then."""
+    start = random_number(rng)
+    near = start + ("1" if "." in start else ".001")
+    return [start, rng.choice([random_number(rng), random_number(rng), start, near])]
+
+
 def random_options(rng):
-    options = {"style": rng.choice(["decimal", "percent", "currency"])}
+    options = {"style": rng.choice(["decimal", "percent", "currency", "unit"])}
+    if options["style"] == "unit":
+        options["unit"] = "-per-".join(rng.choice(UNITS) for _ in range(rng.choice([1, 1, 2])))
+        options["unitDisplay"] = rng.choice(["short", "narrow", "long"])
     if options["style"] == "currency":
         options["currency"] = rng.choice(CURRENCIES)
-        options["currencyDisplay"] = rng.choice(["symbol", "narrowSymbol", "code"])
+        options["currencyDisplay"] = rng.choice(["symbol", "narrowSymbol", "code", "name"])
         options["currencySign"] = rng.choice(["standard", "accounting"])
     for name, (share, values) in CHOICES.items():
         if rng.random() < share:
@@ -101,14 +121,21 @@ def keywords(options):
 
 def by_module(locale, number, options):
     try:
-        return Decimal(number).format(locale, **keywords(options))
+        if isinstance(number, str):
+            return Decimal(number).format(locale, **keywords(options))
+        return NumberFormat(locale, **keywords(options)).format_range(*number)
     except ValueError:
         return None
 
 
-def is_read_back(text, locale, options):
+def is_outer(options):
+    """Whether a unit or a name is around the whole text."""
+    return options["style"] == "unit" or options.get("currencyDisplay") == "name"
+
+
+def is_read_back(text, locale, number, options):
     # By two precisions a number that is rounded to 0 is shown otherwise than 0.
-    if options.keys() & {"notation", "roundingPriority"}:
+    if options.keys() & {"notation", "roundingPriority"} or is_outer(options) or not isinstance(number, str):
         return True
     try:
         return Decimal.read(text, locale, **keywords(options)).format(locale, **keywords(options)) == text
@@ -123,7 +150,8 @@ def is_azerbaijani(tag):
 def known(locale, number, options, text):
     """The name of a difference that is node's, whose text is given."""
     compact, increment = options.get("notation") == "compact", options.get("roundingIncrement", 1)
-    digits = len(re.sub("[^0-9]", "", number))
+    numbers = [number] if isinstance(number, str) else number
+    digits = max(len(re.sub("[^0-9]", "", it)) for it in numbers)
     if text and re.search("[\ud800-\udfff]", text):
         return "half of a digit in an exponent"
     if increment > 1 and digits > 28:
@@ -132,6 +160,8 @@ def known(locale, number, options, text):
         return "compact, by the pattern of the rounded number"
     if compact and digits > 15:
         return "compact, more digits than a double has"
+    if digits > 15 and (is_outer(options) or len(numbers) > 1):
+        return "units, names and ranges, more digits than a double has"
     tag = locale.partition("-x-")[0].lower()
     if is_azerbaijani(tag) and options.get("numberingSystem") in ("arab", "arabext") or tag == "yrl":
         return "letters or signs in a pattern"
@@ -151,13 +181,14 @@ def main(path, cases=20_000, seed=1):
     rng = random.Random(int(seed))
     with open(path, encoding="utf-8") as file:
         locales = node([line.split()[0] for line in file], subtags(), None)
-    rows = [(random_locale(rng, locales), random_number(rng), random_options(rng)) for _ in range(int(cases))]
+    rows = [(random_locale(rng, locales), random_range(rng) if rng.random() < 0.2 else random_number(rng),
+             random_options(rng)) for _ in range(int(cases))]
     counts = collections.Counter()
     for row, text in zip(rows, node([], [], rows)):
-        locale, _, options = row
+        locale, number, options = row
         own = by_module(*row)
         name = "no text in either" if own is text is None else "equal" if own == text else own and known(*row, text)
-        if own and not is_read_back(own, locale, options):
+        if own and not is_read_back(own, locale, number, options):
             name = None
         counts[name] += 1
         if not name:

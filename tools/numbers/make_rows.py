@@ -3,6 +3,7 @@
 
     python3 tools/numbers/make_rows.py TEXTS ERRORS CURRENCIES > crates/vectors/rows/node_numbers.tsv
     python3 tools/numbers/make_rows.py --units UNITS NAMES > crates/vectors/rows/node_units.tsv
+    python3 tools/numbers/make_rows.py --parts PARTS > crates/vectors/rows/node_parts.tsv
     python3 tools/numbers/make_rows.py TEXTS
 
 TEXTS has rows of a locale, options as JSON by the names of ECMA-402, a number and its text; ERRORS has a locale, options
@@ -12,7 +13,10 @@ Rows of errors are those of each distinct choice of digits. Rows of texts are th
 and a notation, with a currency and its display, or with what is written around and between digits, a symbol of a currency
 being any. UNITS and NAMES have texts of units and of amounts with names of currencies; of these rows are written that
 are the first with a locale and a width, with a unit and its width, after `per` too, with a currency, or with a value of
-another option in a style and a notation. With TEXTS alone its rows are written, all.
+another option in a style and a notation. PARTS has parts instead of texts, as JSON: a type, a
+text and, in rows with a second number, the source in the range. Of these rows are written that are the first with types
+and sources in an order, in a style. With TEXTS alone its rows are written, all; it may
+also be PARTS.
 """
 import collections
 import json
@@ -55,6 +59,19 @@ def row_of(tag, options, number, text):
 def texts(path):
     for tag, options, number, text in rows(path):
         yield tag, json.loads(options), number, text
+
+
+def parts(path):
+    """The rows of parts, each with its types and, in a range, their sources."""
+    for tag, options, number, *end, found in rows(path):
+        found = json.loads(found)
+        text = "".join(f"|{kind}={text}" + "".join(f"@{it}" for it in source) for kind, text, *source in found)
+        yield tag, json.loads(options), "..".join([number, *end]), [(kind, *source) for kind, _, *source in found], text
+
+
+def row_of_parts(tag, options, number, _, text):
+    shown = words(options | {"check": "parts"}, [*SHOWN, "check"])
+    return f"{tag}\t{shown}\t{number}\t{text}"
 
 
 def is_plain(tag, options):
@@ -106,6 +123,16 @@ def cover_units(path):
         if not has <= seen:
             yield row_of(tag, options, number, text)
         seen |= has
+
+
+def cover_parts(path):
+    """The rows of parts that have types in an order, in a style, as the first."""
+    seen = set()
+    for row in parts(path):
+        order = (row[1].get("style"), *(kind for kind in row[3] if kind[0] not in ("group", "decimal", "fraction")))
+        if order not in seen:
+            yield row_of_parts(*row)
+        seen.add(order)
 
 
 def units(units_path, names_path):
@@ -162,6 +189,12 @@ def main(texts_path, errors_path, currencies_path):
 
 if sys.argv[1] == "--units":
     units(*sys.argv[2:])
+elif sys.argv[1] == "--parts":
+    print("# Made by `python3 tools/numbers/make_rows.py --parts PARTS`, of parts of node 20.20.2 with CLDR 48, under the "
+          "license in tools/locales/LICENSE.\n\n# Parts.\n" + "\n".join(cover_parts(sys.argv[2])))
+elif len(sys.argv) == 2 and next(rows(sys.argv[1]))[-1].startswith("[["):
+    for row in parts(sys.argv[1]):
+        print(row_of_parts(*row))
 elif len(sys.argv) == 2:
     for row in texts(sys.argv[1]):
         print(row_of(*row))

@@ -3,7 +3,7 @@ use Rattle.std.specs.{Prelude.{◌≡◌, ℕ, ◌==◌, Bool, true, false, ◌�
 use Rattle.fixed_decimal.specs.declared.variations.SignDisplay.{SignDisplay}
 use Rattle.decimal_format.specs.{Symbols.Symbols, declared.grouping.{GroupingSizes.GroupingSizes, GroupingStrategy.GroupingStrategy}}
 use Rattle.locale_data.specs.{declared.{compact.CompactStyle.CompactStyle, currency.{CurrencyId.CurrencyId, CurrencyPattern.CurrencyPattern, CurrencySign.CurrencySign}, local_currency.{CurrencyDigits.CurrencyDigits, LocalCurrency.LocalCurrency}, locales.LocaleId.LocaleId, tables.{formats.TheConstants.{PATTERNS, NUMBER_SIGNS}, rows.patterns.{NumberSigns.NumberSigns, Pattern.Pattern}}, number_formats.NumberFormats.NumberFormats, plurals.PluralRuleType.TheVariants.Cardinal}, Compact.AreExponents, Currencies.{currency_with, digits_of, IsCurrencyId, IsCurrencyAt, IsCurrencyPattern, LacksCurrency}, Formats.AreFormatsOf, Locales.{symbols_at, system_named, system_name_at, AreRowsOf, IsLocale, IsLocaleIn, IsUnknown}, Patterns.{separator_text, exponent_text}, Plurals.{rules_text_at, IsRulesText, HasNoRules}}
-use Rattle.number_format.specs.{declared.{digits.options.DigitOptions.DigitOptions, notation.Notation.Notation, format.{outer.OuterTexts.OuterTexts, ids.{FormatterIds.FormatterIds, NumberFormatError.NumberFormatError}, formatter.NumberFormatter.NumberFormatter, currency.ShownCurrency.ShownCurrency}, options.{CurrencyStyle.CurrencyStyle, DecimalSeparatorDisplay.DecimalSeparatorDisplay, NumberNotation.NumberNotation, NumberOptions.NumberOptions, NumberStyle.NumberStyle}}, DefaultDigits.AreDefaultDigits, NumberStyles.{plain_pattern, money_pattern, percent_text, percent_kind, in_system, outer_for, AreOuterTexts, IsShownBy, IsShownCurrency}, NumberText.compact_style}
+use Rattle.number_format.specs.{declared.{digits.options.DigitOptions.DigitOptions, notation.Notation.Notation, format.{outer.OuterTexts.OuterTexts, ids.{FormatterIds.FormatterIds, NumberFormatError.NumberFormatError}, formatter.NumberFormatter.NumberFormatter, currency.ShownCurrency.ShownCurrency}, options.{CurrencyStyle.CurrencyStyle, DecimalSeparatorDisplay.DecimalSeparatorDisplay, NumberNotation.NumberNotation, NumberOptions.NumberOptions, NumberStyle.NumberStyle}}, DefaultDigits.AreDefaultDigits, NumberStyles.{plain_pattern, money_pattern, percent_text, percent_kind, in_system, outer_for, AreOuterTexts, AreOuterTextsOfRanges, IsShownBy, IsShownCurrency}, NumberText.compact_style}
 
 -- ---- What options say by themselves.
 
@@ -154,12 +154,25 @@ pub record AreIdsOf (tag : List ℕ) (o : NumberOptions) (ids : FormatterIds) : 
   pub currency : IsCurrencyRow tag o.style ids.currency
   pub outer : AreOuterTexts tag o.style o.notation ids.outer
 
+-- those for ranges: what is around the whole text may be another
+pub record AreRangeIdsOf (tag : List ℕ) (o : NumberOptions) (ids : FormatterIds) : Type 0 where
+  pub single : FormatterIds
+  pub single_are : AreIdsOf tag o single
+  pub others : ids ≡ record single { outer = ids.outer }
+  pub outer : AreOuterTextsOfRanges tag o.style o.notation ids.outer
+
 -- ---- The formatter of a tag.
 
 -- the formatter of the rows of a known tag
 pub record IsFormatter (tag : List ℕ) (o : NumberOptions) (f : NumberFormatter) : Type 0 where
   pub ids : FormatterIds
   pub ids_are : AreIdsOf tag o ids
+  pub at : IsFormatterAt ids o f
+
+-- that for ranges
+pub record IsRangeFormatter (tag : List ℕ) (o : NumberOptions) (f : NumberFormatter) : Type 0 where
+  pub ids : FormatterIds
+  pub ids_are : AreRangeIdsOf tag o ids
   pub at : IsFormatterAt ids o f
 
 -- the tag is unknown, or has no plural rules, which each listed locale has; or the tag is known, and the numbering

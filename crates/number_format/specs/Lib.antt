@@ -14,3 +14,4 @@ pub mod Formatters
 pub mod NumberReading
 pub mod RangeText
 pub mod FormattedRanges
+pub mod TrimmedTexts

@@ -89,6 +89,12 @@ AreOuterTexts tag (NumberStyle.Unit u) notation = AreUnitTexts (is_percentage u 
 AreOuterTexts tag (NumberStyle.Currency c) notation = AreNameTexts (shows_name c.display) tag c.code
 AreOuterTexts tag other notation = λ texts. texts ≡ OuterTexts.None
 
+-- the same for ranges, in which percent before another unit is no percentage: `1–2%/h`, but `1%`
+abbrev pub AreOuterTextsOfRanges : List ℕ → NumberStyle → NumberNotation → OuterTexts → Type 0
+AreOuterTextsOfRanges tag (NumberStyle.Unit u) notation =
+    AreUnitTexts (not (is_some u.unit.per) && is_percentage u notation) tag u
+AreOuterTextsOfRanges tag other notation = AreOuterTexts tag other notation
+
 -- only units and currencies have texts around the whole text
 abbrev pub outer_for : NumberStyle → OuterTexts → OuterTexts
 outer_for (NumberStyle.Unit u) texts = texts

@@ -1,9 +1,9 @@
 -- The text of parts.
-use Rattle.std.specs.Prelude.{ℕ, zero, suc, ◌≡◌, List, [], ◌∷◌, ◌++◌, flat_map, ℤ, pos, negsuc, ◌-ℤ◌}
+use Rattle.std.specs.Prelude.{ℕ, zero, suc, ◌≡◌, Bool, true, false, if◌then◌else◌, List, [], ◌∷◌, ◌++◌, flat_map, take, drop, ℤ, pos, negsuc, ◌-ℤ◌}
 use Rattle.decimal_digits.specs.Number.{digit}
 use Rattle.decimal_unsigned.specs.Unsigned.{Unsigned}
 use Rattle.decimal_format.specs.{Formatted.{separator_before, separator_after, shown_count}, Symbols.{Symbols, digit_text}, declared.grouping.GroupingStrategy.GroupingStrategy}
-use Rattle.number_format.specs.declared.format.text_part.{PartKind.PartKind, TextPart.TextPart}
+use Rattle.number_format.specs.{declared.format.text_part.{PartKind.PartKind, TextPart.TextPart}, TrimmedTexts.{trimmed_length, kept_length}}
 
 -- the texts of parts, one after another
 abbrev pub parts_text : List TextPart → List ℕ
@@ -26,11 +26,35 @@ abbrev pub PutsPrefix : (List Piece → Type 0) → (List Piece → Type 0) → 
 PutsPrefix old new more = (part rest : List Piece) × (part ++ rest ≡ more) × Puts old new part
 
 -- a text as a piece; an empty text is none
+abbrev pub piece_of : PartKind → List ℕ → List Piece
+piece_of kind [] = []
+piece_of kind (b ∷ bytes) = record { kind = kind; text = b ∷ bytes } ∷ []
+
+-- a text whose white space and marks at its end are a literal
+abbrev pub pieces_to_end : PartKind → List ℕ → List Piece
+pieces_to_end kind text =
+    piece_of kind (take (kept_length text) text) ++ piece_of PartKind.Literal (drop (kept_length text) text)
+
+-- a text whose white space and marks at both ends are literals: of ` km` the space
+abbrev pub trimmed_pieces : PartKind → List ℕ → List Piece
+trimmed_pieces kind text =
+    piece_of PartKind.Literal (take (trimmed_length text) text) ++ pieces_to_end kind (drop (trimmed_length text) text)
+
+-- digits, separators of groups and literals are not trimmed
+abbrev pub is_whole : PartKind → Bool
+is_whole PartKind.Integer = true
+is_whole PartKind.Group = true
+is_whole PartKind.Fraction = true
+is_whole PartKind.Literal = true
+is_whole PartKind.ExponentInteger = true
+is_whole other = false
+
+-- a text as pieces; an empty text is none
 abbrev pub pieces_of : PartKind → List ℕ → List Piece
 pieces_of kind [] = []
-pieces_of kind (b ∷ bytes) = record { kind = kind; text = b ∷ bytes } ∷ []
+pieces_of kind (b ∷ bytes) = if is_whole kind then piece_of kind (b ∷ bytes) else trimmed_pieces kind (b ∷ bytes)
 
--- a part as a piece; an empty part is none
+-- a part as pieces; an empty part is none
 abbrev pub part_pieces : TextPart → List Piece
 part_pieces part = pieces_of part.kind part.text.now
 

@@ -15,3 +15,4 @@ pub(crate) mod parts;
 pub(crate) mod short_affixes;
 mod style;
 pub(crate) mod text_part;
+mod trimmed;

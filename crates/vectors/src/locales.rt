@@ -11,7 +11,8 @@
 //! [LOCALE] OPTIONS NUMBER TEXT        A number by options, in `en` without a locale. OPTIONS: words `name=value`,
 //!                                     mostly by the names of ECMA-402. TEXT: the text, or the name of the error.
 //! [LOCALE] OPTIONS TEXT VALUE         With `check=read` or `check=lenient`.
-//! [LOCALE] OPTIONS NUMBER PARTS       With `check=parts`.
+//! [LOCALE] OPTIONS NUMBER PARTS       With `check=parts`: `|kind=text` each.
+//! [LOCALE] OPTIONS START..END PARTS   The parts of a range: `|kind=text@source` each.
 //! SKELETON OPTIONS                    Its options; `syntax K` with the offset of the error, `unsupported STEM`; `=`
 //!                                     and another skeleton that has the same options; or `>` and the skeleton that
 //!                                     they are printed as. What is printed has to read as the same options.

@@ -39,7 +39,7 @@ impl NumberFormatter {
     ghost use Rattle.fixed_decimal.specs.DecimalText.{IsLong};
     ghost use Rattle.locale_data.specs.Plurals.{IsCategoryAt};
     ghost use Rattle.plural_rules.specs.Operands.{plain};
-    ghost use Rattle.number_format.specs.{FormattedNumbers.{ChoosesOuter, ChoosesPattern, ChoosesWhole, IsShownNumber}, Formatters.{LacksRows, IsFormatterAt, IsFormatter, IsFormatterError}, NumberText.{has_categories, operands_with, shown_number, rounded_in, rounded_by, whole_number, RoundingNeedsMemory, NeedsMemory, WholeRoundingNeedsMemory, WritingNeedsMemory, FormattingNeedsMemory}, Scaled.{ScaledValue, scaled_value}};
+    ghost use Rattle.number_format.specs.{FormattedNumbers.{ChoosesOuter, ChoosesPattern, ChoosesWhole, IsShownNumber}, Formatters.{LacksRows, IsFormatterAt, IsFormatter, IsFormatterError, IsRangeFormatter}, NumberText.{has_categories, operands_with, shown_number, rounded_in, rounded_by, whole_number, RoundingNeedsMemory, NeedsMemory, WholeRoundingNeedsMemory, WritingNeedsMemory, FormattingNeedsMemory}, Scaled.{ScaledValue, scaled_value}};
     ghost use Rattle.fixed_decimal.specs.Decimal.{Decimal};
 
     /// Makes the formatter of a locale and options. It does not allocate.
@@ -55,6 +55,34 @@ impl NumberFormatter {
         ensures err { IfErr result (λ e. IsFormatterError tag.now options.numbering_system e) }
     {
         let ids = FormatterIds::of(tag, &options)?;
+        match Self::at(&ids, &options) {
+            Some(formatter) => Ok(formatter),
+            None => unreachable!(),
+        }
+    }
+
+    /// Makes the formatter of a locale and options for [`format_range`](Self::format_range). It does not allocate.
+    ///
+    /// It differs from that of [`NumberFormatter::try_new`] for one unit. Of `percent-per-hour`, short or narrow and not
+    /// in compact notation, `Intl.NumberFormat` writes `1%` of one number, but `1–2%/h` of a range.
+    ///
+    /// # Errors
+    ///
+    /// As [`NumberFormatter::try_new`].
+    ///
+    /// ```
+    /// let formatter = NumberFormatter::for_ranges("en", options)?;
+    /// let texts = RangeTexts::of("en", &options.numbering_system)?;
+    /// formatter.format_range(alloc, &texts, start, end)? // 1–2%/h
+    /// ```
+    pub fn for_ranges(
+        tag: &str,
+        options: NumberOptions,
+    ) -> Result<NumberFormatter, NumberFormatError>
+        ensures ok { IfOk result (IsRangeFormatter tag.now options) }
+        ensures err { IfErr result (λ e. IsFormatterError tag.now options.numbering_system e) }
+    {
+        let ids = FormatterIds::of_ranges(tag, &options)?;
         match Self::at(&ids, &options) {
             Some(formatter) => Ok(formatter),
             None => unreachable!(),

@@ -2,9 +2,10 @@
 ghost use Rattle.std.specs.{Prelude.{◌≡◌, ◌*◌, ◌<◌, ◌≤◌, ◌-ℤ◌, [], ◌∷◌, ◌++◌, length, List, Option, Bool, true, false, pos, OnOk, OnErr}, Fmt.WritesStyledOnOk, Io.KnownBytes.Appends};
 ghost use Rattle.decimal_digits.specs.AppendsPrefix.{AppendsPrefix};
 ghost use Rattle.decimal_format.specs.Formatted.{shown_count};
-ghost use Rattle.number_format.specs.TextParts.{Piece, Puts, PutsPrefix, pieces_of, part_pieces, parts_pieces, parts_text, pieces_text, digit_kind, magnitude_pieces, digit_pieces};
+ghost use Rattle.number_format.specs.TextParts.{Piece, Puts, PutsPrefix, is_whole, piece_of, pieces_of, pieces_to_end, trimmed_pieces, part_pieces, parts_pieces, parts_text, pieces_text, digit_kind, magnitude_pieces, digit_pieces};
 
 use crate::format::text_part::{PartKind, TextPart};
+use crate::format::trimmed::{split_end, split_start};
 use decimal_format::FormattedAbsolute;
 use decimal_format::internal::Block;
 use fixed_decimal::{DecimalStore, Sink, SinkFault};
@@ -88,6 +89,50 @@ pub trait PartSink {
         ensures failed { OnErr result (has_failed self.new ≡ true) };
 }
 
+fn put_piece<P: PartSink>(sink: &mut P, kind: PartKind, text: &str) -> Result<(), SinkFault>
+    ensures ok { OnOk result (Puts (P.pieces sink.old) (P.pieces sink.new) (piece_of kind text.now)) }
+    ensures err { OnErr result (PutsPrefix (P.pieces sink.old) (P.pieces sink.new) (piece_of kind text.now)) }
+    ensures failed { OnErr result (P.has_failed sink.new ≡ true) }
+{
+    if text.is_empty() {
+        return Ok(());
+    }
+    sink.put(kind, text)
+}
+
+fn put_to_end<P: PartSink>(sink: &mut P, kind: PartKind, text: &str) -> Result<(), SinkFault>
+    ensures ok { OnOk result (Puts (P.pieces sink.old) (P.pieces sink.new) (pieces_to_end kind text.now)) }
+    ensures err { OnErr result (PutsPrefix (P.pieces sink.old) (P.pieces sink.new) (pieces_to_end kind text.now)) }
+    ensures failed { OnErr result (P.has_failed sink.new ≡ true) }
+{
+    let (kept, after) = split_end(text);
+    put_piece(sink, kind, kept)?;
+    put_piece(sink, PartKind::Literal, after)
+}
+
+fn put_trimmed<P: PartSink>(sink: &mut P, kind: PartKind, text: &str) -> Result<(), SinkFault>
+    ensures ok { OnOk result (Puts (P.pieces sink.old) (P.pieces sink.new) (trimmed_pieces kind text.now)) }
+    ensures err { OnErr result (PutsPrefix (P.pieces sink.old) (P.pieces sink.new) (trimmed_pieces kind text.now)) }
+    ensures failed { OnErr result (P.has_failed sink.new ≡ true) }
+{
+    let (before, rest) = split_start(text);
+    put_piece(sink, PartKind::Literal, before)?;
+    put_to_end(sink, kind, rest)
+}
+
+fn is_whole(kind: PartKind) -> bool
+    ensures { result ≡ is_whole kind }
+{
+    matches!(
+        kind,
+        PartKind::Integer
+            | PartKind::Group
+            | PartKind::Fraction
+            | PartKind::Literal
+            | PartKind::ExponentInteger
+    )
+}
+
 pub(crate) fn put<P: PartSink>(sink: &mut P, kind: PartKind, text: &str) -> Result<(), SinkFault>
     ensures ok { OnOk result (Puts (P.pieces sink.old) (P.pieces sink.new) (pieces_of kind text.now)) }
     ensures err { OnErr result (PutsPrefix (P.pieces sink.old) (P.pieces sink.new) (pieces_of kind text.now)) }
@@ -96,7 +141,10 @@ pub(crate) fn put<P: PartSink>(sink: &mut P, kind: PartKind, text: &str) -> Resu
     if text.is_empty() {
         return Ok(());
     }
-    sink.put(kind, text)
+    if is_whole(kind) {
+        return sink.put(kind, text);
+    }
+    put_trimmed(sink, kind, text)
 }
 
 pub(crate) fn put_parts<P: PartSink>(sink: &mut P, parts: &[TextPart<'_>]) -> Result<(), SinkFault>

@@ -2,6 +2,9 @@
 ghost use Rattle.std.specs.Prelude.{◌≡◌, ◌≤◌, length};
 
 /// What a part of the text of a number is, as `formatToParts` of ECMA-402 names it.
+///
+/// White space and direction marks at the ends of a text that is neither digits nor a separator of groups are literals,
+/// as ICU has them: `5 km` is `5`, a space, and `km`. ECMA-402 leaves this open.
 #[derive(Clone, Copy, Debug, PartialEq)]
 pub enum PartKind {
     /// Integer digits.
@@ -20,7 +23,7 @@ pub enum PartKind {
     PercentSign,
     /// The symbol, the code or the name of a currency.
     Currency,
-    /// Spaces, parentheses and marks.
+    /// Parentheses, and spaces and marks between the others.
     Literal,
     /// The word of a power of ten in compact notation.
     Compact,

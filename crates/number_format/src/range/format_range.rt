@@ -114,7 +114,8 @@ impl NumberFormatter {
 
     /// Formats the range of two numbers, in any order: `1–2`, or `~1` of two numbers that are shown alike.
     ///
-    /// `texts` are those of the formatter's locale. Both numbers are rounded as by [`format`](Self::format). What both
+    /// `texts` are those of the formatter's locale, and the formatter is that of
+    /// [`for_ranges`](NumberFormatter::for_ranges) or, but for `percent-per-` units, any. Both numbers are rounded as by [`format`](Self::format). What both
     /// have around them is written once if it has more than one character, as ICU does: `1,00–2,00 €`, but
     /// `$1.00 – $2.00`. `formatRange` of ECMA-402.
     ///
@@ -124,6 +125,7 @@ impl NumberFormatter {
     /// one. The first number is copied: `Memory` is also for a copy of more than `INLINE_DIGITS` digits.
     ///
     /// ```
+    /// let formatter = NumberFormatter::for_ranges("en", options)?;
     /// let texts = RangeTexts::of("en", &options.numbering_system)?;
     /// formatter.format_range(alloc, &texts, start, end)? // $1.00 – $2.00
     /// ```

@@ -1,6 +1,6 @@
 //! Numbers by options.
 use crate::locales::number_words::{Check, Options, parse_options};
-use crate::locales::parts::has_parts;
+use crate::locales::parts::{has_parts, has_range_parts};
 use crate::locales::reading::{reads, reads_leniently};
 use decimal_format::DecimalFormatter;
 use fixed_decimal::{
@@ -9,8 +9,8 @@ use fixed_decimal::{
 };
 use locale_data::locale;
 use number_format::{
-    DigitOptions, DigitOptionsError, FormatError, Notation, NumberFormatter, NumberReader,
-    NumberReaderError,
+    DigitOptions, DigitOptionsError, FormatError, Notation, NumberFormatter, NumberOptions,
+    NumberReader, NumberReaderError, RangeTexts,
 };
 use std::alloc::Global;
 use std::fmt::Display;
@@ -182,6 +182,26 @@ fn formats(
     }
 }
 
+/// Whether a formatter writes a number, or a range of two numbers with two points between them, in these parts.
+fn has_parts_of(
+    alloc: Global,
+    tag: &str,
+    options: NumberOptions,
+    (text, parts): (&str, &str),
+) -> Option<bool> {
+    let Some((start, end)) = text.split_once("..") else {
+        let formatter = NumberFormatter::try_new(tag, options).ok()?;
+        let value = Decimal::try_from_str(alloc, text).ok()?;
+        return Some(has_parts(&formatter.format(alloc, value).ok()?, parts));
+    };
+    let formatter = NumberFormatter::for_ranges(tag, options).ok()?;
+    let start = Decimal::try_from_str(alloc, start).ok()?;
+    let end = Decimal::try_from_str(alloc, end).ok()?;
+    let texts = RangeTexts::of(tag, &None)?;
+    let range = formatter.format_range(alloc, &texts, start, end).ok()?;
+    Some(has_range_parts(&range, parts))
+}
+
 /// Whether the formatter of these options does what a row says.
 fn checks(
     alloc: Global,
@@ -190,14 +210,12 @@ fn checks(
     digits: DigitOptions,
     (text, expected): (&str, &str),
 ) -> Option<bool> {
-    let formatter = NumberFormatter::try_new(tag, options.number(Some(digits))).ok()?;
+    let number = options.number(Some(digits));
+    let formatter = NumberFormatter::try_new(tag, number).ok()?;
     let reader = formatter.reader(alloc);
     match options.check {
         Check::Text => formats(alloc, &formatter, reader, options, (text, expected)),
-        Check::Parts => {
-            let value = Decimal::try_from_str(alloc, text).ok()?;
-            Some(has_parts(&formatter.format(alloc, value).ok()?, expected))
-        }
+        Check::Parts => has_parts_of(alloc, tag, number, (text, expected)),
         Check::Read => reads(alloc, &reader.ok()?, text, expected),
         Check::Lenient => reads_leniently(alloc, &reader.ok()?, text, expected),
     }

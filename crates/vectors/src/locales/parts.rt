@@ -2,7 +2,9 @@
 ghost use Rattle.std.specs.Prelude.{⊤};
 
 use fixed_decimal::{Sink, SinkFault};
-use number_format::{FormattedNumber, PartKind, PartSink};
+use number_format::{
+    FormattedNumber, FormattedRange, PartKind, PartSink, RangeSegment, RangeSource,
+};
 use test_support::LimitedSink;
 
 /// A sink that expects parts, `|kind=text` each.
@@ -60,4 +62,77 @@ pub fn has_parts(formatted: &FormattedNumber<'_>, parts: &str) -> bool {
         }
     }
     true
+}
+
+/// A sink that expects parts of a range, `|kind=text@source` each.
+#[derive(Drop)]
+struct RangePartTexts<'a> {
+    text: LimitedSink<'a>,
+    /// The kind of the last part, and the source of its pieces.
+    last: Option<(PartKind, RangeSource)>,
+    /// The source of the pieces that are put.
+    source: RangeSource,
+}
+
+/// Returns the source of a part of pieces of two sources.
+fn joined(first: RangeSource, second: RangeSource) -> RangeSource {
+    if first == second {
+        first
+    } else {
+        RangeSource::Shared
+    }
+}
+
+/// Returns what ends a part, if there is one.
+fn end_of(last: Option<(PartKind, RangeSource)>) -> &'static str {
+    match last {
+        None => "",
+        Some((_, RangeSource::Shared)) => "@shared",
+        Some((_, RangeSource::StartRange)) => "@startRange",
+        Some((_, RangeSource::EndRange)) => "@endRange",
+    }
+}
+
+/// Returns what ends the last part and begins the next one, if a piece is not of the last part, and the source of its
+/// part.
+fn next_part(
+    last: Option<(PartKind, RangeSource)>,
+    kind: PartKind,
+    source: RangeSource,
+) -> (&'static str, &'static str, RangeSource) {
+    match last {
+        Some((last, first)) if last == kind => ("", "", joined(first, source)),
+        _ => (end_of(last), name(kind), source),
+    }
+}
+
+impl<'a> PartSink for RangePartTexts<'a> {
+    ghost pieces = { λ _ _. ⊤ };
+
+    ghost has_failed = { λ s. ⟦<LimitedSink<'a> as Sink>⟧.has_failed s.text };
+
+    fn put(&mut self, kind: PartKind, text: &str) -> Result<(), SinkFault> {
+        let (end, begin, source) = next_part(self.last, kind, self.source);
+        self.last = Some((kind, source));
+        self.text.put_bytes(end.as_bytes())?;
+        self.text.put_bytes(begin.as_bytes())?;
+        self.text.put_bytes(text.as_bytes())
+    }
+}
+
+/// Whether a range has these parts.
+pub fn has_range_parts(formatted: &FormattedRange<'_>, parts: &str) -> bool {
+    let mut sink = RangePartTexts {
+        text: LimitedSink::new(parts.as_bytes(), parts.len()),
+        last: None,
+        source: RangeSource::Shared,
+    };
+    for segment in RangeSegment::ALL {
+        sink.source = segment.source();
+        if formatted.parts(segment, &mut sink).is_err() {
+            return false;
+        }
+    }
+    let end = end_of(sink.last);
+    sink.text.put_bytes(end.as_bytes()).is_ok() && sink.text.has_all()
 }

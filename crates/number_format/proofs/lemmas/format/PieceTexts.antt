@@ -6,7 +6,7 @@ use Rattle.fixed_decimal.specs.{Decimal.Decimal, declared.variations.Sign.Sign}
 use Rattle.decimal_format.specs.{declared.grouping.GroupingStrategy.{GroupingStrategy, TheVariants.Never}, Formatted.{separator_before, separator_after, magnitude_text, formatted_down, absolute_text, shown_count}, Symbols.{Symbols, digit_text}}
 use Rattle.decimal_digits.specs.Number.{digit}
 use Rattle.decimal_format.proofs.lemmas.formatter.Magnitudes.{one_more}
-use Rattle.number_format.specs.{declared.format.{formatted_number.FormattedNumber.FormattedNumber, affixes.{NumberAffixes.NumberAffixes, StyleTexts.StyleTexts}, formatter.NumberFormatter.NumberFormatter, outer.OuterAround.OuterAround, text_part.{PartKind.PartKind, TextPart.TextPart}}, TextParts.{Piece, Puts, PutsPrefix, part_pieces, parts_text, pieces_text, pieces_of, parts_pieces, digit_kind, magnitude_pieces, first_pieces, digit_pieces}, FormattedNumbers.{around_of, outer_of, exponent_text, number_pieces, number_text, number_text_if, separator_of, inner_pieces, inner_text, inner_text_if, formatted_number_text, IsOuter}, NumberText.{exponent_kind, exponent_pieces, exponent_of, number_part, AreParts}, PatternTexts.{Around, around, within, sign_text, affixes_for, affixes_of_style, by_sign}}
+use Rattle.number_format.specs.{declared.format.{formatted_number.FormattedNumber.FormattedNumber, affixes.{NumberAffixes.NumberAffixes, StyleTexts.StyleTexts}, formatter.NumberFormatter.NumberFormatter, outer.OuterAround.OuterAround, text_part.{PartKind.PartKind, TextPart.TextPart}}, TextParts.{Piece, Puts, PutsPrefix, is_whole, part_pieces, parts_text, piece_of, pieces_text, pieces_of, pieces_to_end, parts_pieces, trimmed_pieces, digit_kind, magnitude_pieces, first_pieces, digit_pieces}, TrimmedTexts.{trimmed_length, kept_length}, FormattedNumbers.{around_of, outer_of, exponent_text, number_pieces, number_text, number_text_if, separator_of, inner_pieces, inner_text, inner_text_if, formatted_number_text, IsOuter}, NumberText.{exponent_kind, exponent_pieces, exponent_of, number_part, AreParts}, PatternTexts.{Around, around, within, sign_text, affixes_for, affixes_of_style, by_sign}}
 use Rattle.number_format.specs.declared.format.text_part.PartKind.TheVariants as kind
 
 pub puts_nil : (a : List Piece → Type 0) → Puts a a []
@@ -116,9 +116,34 @@ then_put ps qs rs a b c before here same =
     here ∙ (λ i. before i ++ pieces_text (same i)) ∙ append_assoc a (pieces_text ps) (pieces_text rs)
     ∙ ap (λ l. a ++ l) (sym (text-append ps rs))
 
+text-of_one : (k : PartKind) (text : List ℕ) → pieces_text (piece_of k text) ≡ text
+text-of_one k [] = refl
+text-of_one k (b ∷ text) = flat_map-cons bytes (record { kind = k; text = b ∷ text }) [] ∙ append-nil (b ∷ text)
+
+-- a text that is split at a number of bytes
+text-of_split : (j k : PartKind) (n : ℕ) (text : List ℕ)
+    → pieces_text (piece_of j (take n text) ++ piece_of k (drop n text)) ≡ text
+text-of_split j k n text =
+    text-append (piece_of j (take n text)) (piece_of k (drop n text))
+    ∙ (λ i. text-of_one j (take n text) i ++ text-of_one k (drop n text) i)
+    ∙ take-append-drop n text
+
+text-of_trimmed : (k : PartKind) (text : List ℕ) → pieces_text (trimmed_pieces k text) ≡ text
+text-of_trimmed k text =
+    let n = trimmed_length text in
+    let rest = drop n text in
+    text-append (piece_of kind.Literal (take n text)) (pieces_to_end k rest)
+    ∙ (λ i. text-of_one kind.Literal (take n text) i ++ text-of_split k kind.Literal (kept_length rest) rest i)
+    ∙ take-append-drop n text
+
+text-by : (whole : Bool) (k : PartKind) (text : List ℕ)
+    → pieces_text (if whole then piece_of k text else trimmed_pieces k text) ≡ text
+text-by true k text = text-of_one k text
+text-by false k text = text-of_trimmed k text
+
 pub text-of : (k : PartKind) (text : List ℕ) → pieces_text (pieces_of k text) ≡ text
 text-of k [] = refl
-text-of k (b ∷ text) = flat_map-cons bytes (record { kind = k; text = b ∷ text }) [] ∙ append-nil (b ∷ text)
+text-of k (b ∷ text) = text-by (is_whole k) k (b ∷ text)
 
 -- the same, by a name that source can cite
 pub text_of : (k : PartKind) (text : List ℕ) → pieces_text (pieces_of k text) ≡ text
