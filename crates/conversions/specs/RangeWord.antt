@@ -1,9 +1,10 @@
 -- The formatter of ranges that `format:LOCALE[:GROUPING|:SKELETON]` names.
-use Rattle.std.specs.Prelude.{◌≡◌, ◌⊎◌, ℕ, List, Some, None, IsSome}
+use Rattle.std.specs.Prelude.{◌≡◌, ◌⊎◌, ℕ, List, Some, None, IsSome, Ok}
 use Rattle.decimal_format.specs.declared.grouping.GroupingStrategy.{GroupingStrategy}
 use Rattle.fixed_decimal.specs.declared.variations.SignDisplay.{SignDisplay}
-use Rattle.number_format.specs.{declared.{format.ids.NumberFormatError.NumberFormatError, options.NumberOptions.NumberOptions}, DefaultOptions.default_options, Formatters.{IsFormatter, IsFormatterError}, FormattedRanges.AreRangeTexts}
-use Rattle.conversions.specs.{declared.{error.FormError.FormError, range_formatter.{RangeFormatter.RangeFormatter, RangeNumbers.{RangeNumbers, TheVariants.{AllDigits, Skeleton}}, SignedFormatters.SignedFormatters}}, FormatWord.{strategy_of, IsSkeletonOption, IsErrorOfFormatter, IsNumberFormatter, NumberFormatterFails, IsEmptyOption}, Parameters.{locale_tag, locale_option}, RangeText.system_of}
+use Rattle.number_format.specs.{declared.{format.{formatter.NumberFormatter.NumberFormatter, ids.NumberFormatError.NumberFormatError}, options.NumberOptions.NumberOptions}, DefaultOptions.default_options, Formatters.{IsFormatter, IsRangeFormatter, IsFormatterError}, FormattedRanges.AreRangeTexts}
+use Rattle.number_skeleton.specs.Meaning.{skeleton_options, options_value}
+use Rattle.conversions.specs.{declared.{error.FormError.FormError, range_formatter.{RangeFormatter.RangeFormatter, RangeNumbers.{RangeNumbers, TheVariants.{AllDigits, Skeleton}}, SignedFormatters.SignedFormatters}}, FormatWord.{strategy_of, IsSkeletonOption, IsErrorOfFormatter, NumberFormatterFails, IsEmptyOption}, Parameters.{locale_tag, locale_option}, RangeText.system_of}
 
 -- the options of numbers with all digits, by a strategy and a sign display
 abbrev pub all_digits : GroupingStrategy → SignDisplay → NumberOptions
@@ -15,13 +16,18 @@ pub record AreSignedFormatters (tag : List ℕ) (strategy : GroupingStrategy) (f
   pub always : IsFormatter tag (all_digits strategy SignDisplay.Always) f.always
   pub except_zero : IsFormatter tag (all_digits strategy SignDisplay.ExceptZero) f.except_zero
 
+-- the formatter of ranges of a locale and of the options that a skeleton names
+abbrev pub IsRangeNumberFormatter : List ℕ → List ℕ → NumberFormatter → Type 0
+IsRangeNumberFormatter tag text f =
+    (o : NumberOptions) × (skeleton_options text ≡ Ok (options_value o)) × IsRangeFormatter tag o f
+
 -- `format:..` names this way to write the numbers of a range
 abbrev pub NamesRangeNumbers : List ℕ → RangeNumbers → Type 0
 NamesRangeNumbers format (AllDigits f) =
     (strategy : GroupingStrategy) × (strategy_of (locale_option format) ≡ Some strategy)
     × AreSignedFormatters (locale_tag format) strategy f
 NamesRangeNumbers format (Skeleton f) =
-    (text : List ℕ) × IsSkeletonOption (locale_option format) text × IsNumberFormatter (locale_tag format) text f
+    (text : List ℕ) × IsSkeletonOption (locale_option format) text × IsRangeNumberFormatter (locale_tag format) text f
 
 -- `format:..` names this formatter of ranges
 abbrev pub NamesRangeFormatter : List ℕ → RangeFormatter → Type 0

@@ -39,7 +39,7 @@ fn shown_stem(skeleton: &str, start: usize, end: usize) -> ShownWord
     }
 }
 
-fn error_of_skeleton(skeleton: &str, error: SkeletonError) -> FormError
+pub(crate) fn error_of_skeleton(skeleton: &str, error: SkeletonError) -> FormError
     ensures { IsErrorOfSkeleton skeleton.now error result }
 {
     match error {

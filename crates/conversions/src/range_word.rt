@@ -1,10 +1,11 @@
 //! The formatter of ranges that `format:LOCALE[:GROUPING|:SKELETON]` names.
 ghost use Rattle.std.specs.Prelude.{◌≡◌, IfOk, IfErr};
 ghost use Rattle.number_format.specs.Formatters.{IsFormatter};
-ghost use Rattle.conversions.specs.RangeWord.{all_digits, AllDigitsFail, AreSignedFormatters, NamesRangeNumbers, NamesRangeFormatter, RangeFormatterFails};
+ghost use Rattle.conversions.specs.FormatWord.{NumberFormatterFails};
+ghost use Rattle.conversions.specs.RangeWord.{all_digits, AllDigitsFail, AreSignedFormatters, NamesRangeNumbers, IsRangeNumberFormatter, NamesRangeFormatter, RangeFormatterFails};
 
 use crate::error::FormError;
-use crate::format_word::{error_of_formatter, number_formatter, parse_strategy};
+use crate::format_word::{error_of_formatter, error_of_skeleton, parse_strategy};
 use crate::parameters::{parameters, split_parameters};
 use crate::range_formatter::{RangeFormatter, RangeNumbers, SignedFormatters};
 use crate::shown_word::ShownWord;
@@ -24,6 +25,20 @@ fn all_digits_formatter(
         .with_grouping(strategy)
         .with_sign_display(display);
     match NumberFormatter::try_new(tag, options) {
+        Ok(formatter) => Ok(formatter),
+        Err(error) => Err(error_of_formatter(tag, error)),
+    }
+}
+
+fn range_number_formatter(tag: &str, skeleton: &str) -> Result<NumberFormatter, FormError>
+    ensures ok { IfOk result (IsRangeNumberFormatter tag.now skeleton.now) }
+    ensures err { IfErr result (NumberFormatterFails tag.now skeleton.now) }
+{
+    let options = match number_skeleton::parse(skeleton) {
+        Ok(options) => options,
+        Err(error) => return Err(error_of_skeleton(skeleton, error)),
+    };
+    match NumberFormatter::for_ranges(tag, options) {
         Ok(formatter) => Ok(formatter),
         Err(error) => Err(error_of_formatter(tag, error)),
     }
@@ -51,7 +66,7 @@ fn range_numbers(word: &str) -> Result<RangeNumbers, FormError>
     }
     match option {
         Some(skeleton) if !skeleton.is_empty() => {
-            let formatter = number_formatter(tag, skeleton)?;
+            let formatter = range_number_formatter(tag, skeleton)?;
             Ok(RangeNumbers::Skeleton(formatter))
         }
         _ => Err(FormError::NoSuchWord(ShownWord::of(word))),

@@ -16,5 +16,8 @@ pub fn parameter_of<'a>(name: &str, word: &'a str) -> Option<&'a str>
 pub fn has_name(name: &str, word: &str) -> bool
     ensures { result ≡ has_name name.now word.now }
 {
-    parameter_of(name, word).is_some()
+    match parameter_of(name, word) {
+        Some(_) => true,
+        None => false,
+    }
 }

@@ -1,8 +1,8 @@
 -- The outcome of a conversion of a range, and its errors.
-use Rattle.std.proofs.{Common.{◌≡◌, ◌≢◌, ℕ, List, Result, Ok, Err, inl, inr, refl, sym, subst}, lemmas.Result.{IfErr-weaker, on_ok_weaker}}
+use Rattle.std.proofs.{Common.{◌≡◌, ◌≢◌, ℕ, List, Option, Result, Ok, Err, inl, inr, refl, sym, subst}, lemmas.Result.{IfErr-weaker, on_ok_weaker}}
 use Rattle.std.specs.Prelude.{IfErr, OnErr, OnOk}
-use Rattle.fixed_decimal.specs.{Decimal.Decimal, Outcome.OutcomeError}
-use Rattle.conversions.specs.{declared.{error.{OperationError.{OperationError, TheVariants.{FormatOverflow, Memory, Output}}, RangeError.{RangeError, TheVariants.Operation}}, range_conversion.RangeConversion.RangeConversion, range_formatter.RangeFormatter.RangeFormatter}, Conversion.{LastFails, LastIsError, error_of, of_run}, RangeConversion.{HasRangeOutcome, IsEnd, IsErrorOfEnd, RangeFails}, RangeText.{HasRangeTextBy, IsRangeTextBy, RangeWritingFails}}
+use Rattle.fixed_decimal.specs.{Decimal.Decimal, Outcome.OutcomeError, declared.runs.Call.Call}
+use Rattle.conversions.specs.{declared.{error.{OperationError.{OperationError, TheVariants.{FormatOverflow, Memory, Output}}, RangeError.{RangeError, TheVariants.Operation}}, range_conversion.RangeConversion.RangeConversion, range_formatter.RangeFormatter.RangeFormatter, reader.LocaleReader.LocaleReader}, Conversion.{LastFails, LastIsError, error_of, of_run}, RangeConversion.{HasRangeOutcome, IsEnd, IsErrorOfEnd, RangeFails}, RangeText.{HasRangeTextBy, IsRangeTextBy, RangeWritingFails}}
 
 -- ---- The text of a range, written.
 
@@ -27,6 +27,13 @@ module _ (f : RangeFormatter) (v w : Decimal) (text : List ℕ) (is : IsRangeTex
 -- a text and its calls have no error of formatting
 no_format_overflow : (why : OutcomeError) → FormatOverflow ≡ error_of (of_run why) → ⊥
 no_format_overflow why is = grind arith
+
+-- before the text is written no output fails
+pub last_is_no_output :
+    (error : OperationError) (reader : Option LocaleReader) (calls : List Call) (text : List ℕ)
+    → LastFails error reader calls text → error ≢ Output
+last_is_no_output Output reader calls text h same = absurd h
+last_is_no_output error reader calls text h same = cc
 
 module _ (c : RangeConversion) (start end : List ℕ) where
   -- an error of the start
