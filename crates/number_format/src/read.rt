@@ -3,3 +3,4 @@ mod affix_reader;
 mod apart;
 pub(crate) mod number_reader;
 mod owned_affixes;
+pub(crate) mod pattern;

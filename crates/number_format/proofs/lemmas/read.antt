@@ -3,3 +3,4 @@ pub mod AffixedNumbers
 pub mod ReadBack
 pub mod FormatterTexts
 pub mod ShownValues
+pub mod PatternLists
