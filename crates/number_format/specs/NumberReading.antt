@@ -4,7 +4,7 @@ use Rattle.decimal_unsigned.specs.declared.error.ParseError.{ParseError, TheVari
 use Rattle.fixed_decimal.specs.{Decimal.Decimal, declared.variations.Sign.Sign}
 use Rattle.plural_rules.specs.declared.rules.PluralCategory.{PluralCategory}
 use Rattle.decimal_format.specs.{Readable.IsReadable, Symbols.{Affixes, affixes}, declared.reader.alternatives.Alternative.Alternative}
-use Rattle.number_format.specs.{declared.{format.{ outer.OuterTexts.OuterTexts, formatter.NumberFormatter.NumberFormatter}, options.{DecimalSeparatorDisplay.DecimalSeparatorDisplay, NumberNotation.NumberNotation, NumberStyle.NumberStyle}, read.{pattern.{NumberPattern.NumberPattern, TheConstants.{SIGN_KEYS, CATEGORY_KEYS}}, number_reader.{NumberReaderError.NumberReaderError, ParseMode.{ParseMode, TheVariants.{Strict, Lenient}}}}}, AffixedTexts.{AreNamed, Reader, IsReadExactly, IsReadTyped}, NumberText.{outer_by, shown_number, shown_sign}, PatternTexts.{Around, around, affixes_for}, Scaled.ScaledValue, TextParts.pieces_text}
+use Rattle.number_format.specs.{declared.{format.{outer.OuterTexts.OuterTexts, formatter.NumberFormatter.NumberFormatter}, options.{DecimalSeparatorDisplay.DecimalSeparatorDisplay, NumberNotation.NumberNotation, NumberStyle.NumberStyle}, read.{pattern.{NumberPattern.NumberPattern, TheConstants.{SIGN_KEYS, CATEGORY_KEYS}}, number_reader.{NumberReaderError.NumberReaderError, ParseMode.{ParseMode, TheVariants.{Strict, Lenient}}}}}, AffixedTexts.{AreNamed, Reader, IsReadExactly, IsReadTyped}, NumberText.{outer_by, shown_number, shown_sign}, PatternTexts.{Around, around, affixes_for}, Scaled.ScaledValue, TextParts.pieces_text}
 
 -- ---- Exactly.
 

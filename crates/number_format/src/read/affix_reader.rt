@@ -34,7 +34,10 @@ impl<'a> Model for AffixReader<'a> {
     ghost Value = { Reader };
 
     ghost view = { λ s. record {
-        symbols = s.symbols; patterns = s.patterns.items; rules = s.rules; shift = s.shift
+      symbols = s.symbols;
+      patterns = s.patterns.items;
+      rules = s.rules;
+      shift = s.shift;
     } };
 
     ghost invariant = { λ s. IsReadable s.symbols × AreNamed s.symbols s.patterns.items };
@@ -127,7 +130,10 @@ impl<'a> AffixReader<'a> {
         requires named { AreNamed symbols patterns.items }
         requires listed { IsSome (rules_text_at rules) }
         ensures { result ≡ record {
-            symbols = symbols.entry; patterns = patterns.items; rules = rules; shift = shift
+          symbols = symbols.entry;
+          patterns = patterns.items;
+          rules = rules;
+          shift = shift;
         } }
     {
         AffixReader {
@@ -162,7 +168,12 @@ impl<'a> AffixReader<'a> {
             return Ok(value);
         }
         let category = self.category(&value);
-        match split(&self.symbols, self.patterns.as_slice(), Some(category), text) {
+        match split(
+            &self.symbols,
+            self.patterns.as_slice(),
+            Some(category),
+            text,
+        ) {
             Some(_) => Ok(value),
             None => Err(ParseError::Syntax),
         }

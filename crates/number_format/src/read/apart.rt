@@ -70,12 +70,7 @@ fn are_told_apart(
 }
 
 impl NumberFormatter {
-    fn is_told_from(
-        &self,
-        key: PatternKey,
-        texts: &ShortAffixes<2550>,
-        keys: &[PatternKey],
-    ) -> bool
+    fn is_told_from(&self, key: PatternKey, texts: &ShortAffixes<2550>, keys: &[PatternKey]) -> bool
         requires standard { IsStandard self.now }
         requires readable { IsReadable self.now.style.symbols }
         requires texts { texts.now ≡ (pattern_at self.now key).affixes }
