@@ -45,8 +45,8 @@ IsOfCategory rules v p = IfSome p.category (IsCategoryAt rules (plain v))
 
 -- ---- Texts.
 
--- what texts are read with: symbols, patterns, the rules by which a number has its plural category, and the power of ten
--- by which the number shown is multiplied
+-- what texts are read with: symbols, patterns, the rules by which a number has its plural category, and the power of
+-- ten by which the number shown is multiplied
 pub record Reader : Type 0 where
   pub symbols : Symbols
   pub patterns : List NumberPattern

@@ -243,8 +243,8 @@ impl NumberReader {
     /// Reads a number in exactly one of the forms that the formatter writes, and undoes its scale: by style `Percent`
     /// and scale 2 `12.5%` is 0.125.
     ///
-    /// The number may have all grouping separators, or none. Around it are the texts of its plural category: `1 days` is
-    /// `Syntax`. The value is the one that is shown: rounded, and with the sign that is written.
+    /// The number may have all grouping separators, or none. Around it are the texts of its plural category: `1 days`
+    /// is `Syntax`. The value is the one that is shown: rounded, and with the sign that is written.
     ///
     /// # Errors
     ///

@@ -46,8 +46,8 @@ category_key PluralCategory.Zero Sign.Negative = (16, omega arith, refl)
 category_key PluralCategory.Zero Sign.Positive = (17, omega arith, refl)
 
 -- a key of the formatter that is for numbers of this category and sign, and has what is around them
-record IsKeyOf (f : NumberFormatter) (o : OuterTexts) (c : PluralCategory) (s : Sign) (key : Option PluralCategory × Sign)
-    : Type 0 where
+record IsKeyOf (f : NumberFormatter) (o : OuterTexts) (c : PluralCategory) (s : Sign)
+    (key : Option PluralCategory × Sign) : Type 0 where
   listed : Contains (keys_by o) key
   sign : key.1 ≡ s
   allowed : IfSome key.0 (λ own. own ≡ c)
