@@ -19,8 +19,9 @@ returns-in-Some g c =
     let symbols : self.symbols ≡ r.symbols = cc in
     let patterns : c.as_slice.result.now ≡ r.patterns = cc in
     inl (
-      shown_by r c.args.text.now can.1 c.args.value c.requires.valid c.category.result c.category.ensures
-          c.args.pattern.now _ _ c.requires.written (rw (symbols, patterns) at c.in-Some.ensures),
+      shown_by r c.args.text.now can.1 c.args.value c.requires.valid c.category-category.result
+          c.category-category.ensures c.args.pattern.now _ _ c.requires.written
+          (rw (symbols, patterns) at c.in-Some.ensures),
       refl,
     )
 
@@ -35,7 +36,7 @@ returns-in-None-split g c =
     let patterns : c.as_slice.result.now ≡ r.patterns = cc in
     let can : CanRead r = subst CanRead view c.self.invariant in
     inr (
-      not_shown r c.args.text.now can.1 c.args.value c.requires.valid c.category.result c.category.ensures
-          (rw (symbols, patterns) at c.in-None-split.ensures),
+      not_shown r c.args.text.now can.1 c.args.value c.requires.valid c.category-category.result
+          c.category-category.ensures (rw (symbols, patterns) at c.in-None-split.ensures),
       refl,
     )
