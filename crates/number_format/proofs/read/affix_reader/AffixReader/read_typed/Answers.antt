@@ -11,5 +11,5 @@ returns-in-Err-Syntax g c =
       Err Syntax,
       rw (c.as_bytes.ensures.value, c.in-Err-Syntax.field-0-is) at c.in-Err-Syntax.ensures,
       subst (λ (s : Symbols). IsRead g.D.DigitStore.L (IsNumeralOfFirst s (normalized s text) all)
-      (IsWrittenOfFirst s (normalized s text) all) c.read_alternatives.result) symbols c.read_alternatives.ensures,
+          (IsWrittenOfFirst s (normalized s text) all) c.read_alternatives.result) symbols c.read_alternatives.ensures,
     )
