@@ -13,5 +13,6 @@ pub mod NumberText
 pub mod Formatters
 pub mod NumberReading
 pub mod ScientificReading
+pub mod AffixedExponents
 pub mod RangeText
 pub mod FormattedRanges
