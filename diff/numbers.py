@@ -24,7 +24,7 @@ NODE = """
 const formatted = ([locale, number, options]) => {
   try {
     const format = new Intl.NumberFormat(locale, options);
-    // The first two texts of a formatter may have a fault of ICU.
+    // The first two texts of a formatter may be wrong, by an error of ICU.
     for (let index = 0; index < 3; index++) format.format(1);
     return typeof number === 'string' ? format.format(number) : format.formatRange(...number);
   } catch (error) { return null; }

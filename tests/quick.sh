@@ -7,7 +7,7 @@ set -u
 unset CDPATH
 cd "$(dirname "$0")/.." || exit 1
 . tests/programs.sh
-# One step of the interpreter, since it would not end on so many rows: the compiled program is what runs. It has a
+# One step of the interpreter, since it would not end on these rows: the compiled program is what runs. It has a
 # session of its own, which ends with this script.
 (cd crates/cli_vectors && exec setsid rt try --steps 1 --seconds 300 < stdin) > "$room/rows" 2>&1 &
 rows=$!
