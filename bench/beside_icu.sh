@@ -1,5 +1,5 @@
 # What the scripts share that time calls beside ICU: they source this file.
-. "$(dirname "$0")/../diff/build.sh"
+. "$(dirname -- "$0")/../diff/build.sh"
 
 # beside_icu NAME HEAD DEP..: builds NAME/main.rt.txt, over the libraries of decimals and locales and these, and
 # NAME/icu.cpp, and prints a table of what they print, and of NAME/node.js if there is node: columns, whose heads are in

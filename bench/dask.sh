@@ -16,7 +16,8 @@ if [[ ! $lines =~ ^[0-9]{1,12}$ ]] || [ $((10#$lines % 1000000)) != 0 ] || [ $((
 fi
 millions=$((10#$lines / 1000000))
 above=$(realpath -- "${2:-${TMPDIR:-/tmp}}")
-cd "$(dirname "$0")/.."
+unset CDPATH
+cd -- "$(dirname -- "$0")/.."
 for python in python3 /usr/bin/python3 ''; do
   ! "${python:-false}" -c 'import distributed' 2> /dev/null || break
 done

@@ -14,5 +14,5 @@
 #
 # Take it on a machine that does nothing else.
 set -euo pipefail
-. "$(dirname "$0")/beside_icu.sh"
+. "$(dirname -- "$0")/beside_icu.sh"
 beside_icu format 'Call | Locale | Number'

@@ -8,7 +8,7 @@
 # It proves what the gate has not built of the same sources; WORK, a folder outside the project, takes what is built in
 # Rattle. It needs cargo, libicu-dev, pkg-config, python3-distributed and python3-babel, and four idle processors.
 set -euo pipefail
-. "$(dirname "$0")/../diff/build.sh"
+. "$(dirname -- "$0")/../diff/build.sh"
 cd "$project"
 lines=${1:-5000000}
 room=$(mktemp -d)

@@ -23,7 +23,8 @@
 # machine that does nothing else.
 set -euo pipefail
 lines=${1:-5000000} passes=${2:-5}
-cd "$(dirname "$0")/.."
+unset CDPATH
+cd -- "$(dirname -- "$0")/.."
 python3 tools/built.py programs fixdec_lines
 room=$(mktemp -d)
 trap 'rm -rf "$room"' EXIT

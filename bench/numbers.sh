@@ -25,5 +25,5 @@
 #
 # Take it on a machine that does nothing else, or as `chrt -f 20 taskset -c 0 bench/numbers.sh`.
 set -euo pipefail
-. "$(dirname "$0")/beside_icu.sh"
+. "$(dirname -- "$0")/beside_icu.sh"
 beside_icu numbers 'Call | Locale | Skeleton | Number' number_format number_skeleton

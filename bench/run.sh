@@ -5,7 +5,7 @@
 #
 # README.md says what ORIGINAL is.
 set -euo pipefail
-. "$(dirname "$0")/../diff/common.sh"
+. "$(dirname -- "$0")/../diff/common.sh"
 passes=7 layouts=1 word=
 while [ $# -gt 0 ]; do
     case $1 in

@@ -14,7 +14,8 @@
 # nothing else.
 set -euo pipefail
 rounds=${1:-2000}
-here=$(cd "$(dirname "$0")" && pwd)
+unset CDPATH
+here=$(cd -- "$(dirname -- "$0")" && pwd)
 python3 "$here/../tools/built.py" programs fixdec
 room=$(mktemp -d)
 trap 'rm -rf "$room"' EXIT

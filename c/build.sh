@@ -12,7 +12,8 @@ set -eu
 [ $# = 0 ] || { [ $# = 1 ] && [ "$1" = install ]; } || { echo "usage: c/build.sh [install]" >&2; exit 2; }
 prefix=$(realpath -ms -- "${PREFIX:-/usr/local}")
 to=${DESTDIR:+$(realpath -ms -- "$DESTDIR")}$prefix
-cd "$(dirname "$0")"
+unset CDPATH
+cd -- "$(dirname -- "$0")"
 here=$PWD
 version=$(sed -n 's/^#define FD_VERSION //p' fixed_decimal.h)
 kit=$(dirname "$(dirname "$(readlink -f "$(command -v rt)")")")
@@ -57,10 +58,10 @@ build() {
 }
 
 # One build at a time: others wait. What it has made of the same files stays, and else its files are replaced, each at
-# once. A build that fails leaves no library.
+# once. A build that fails leaves no library. `timeout` repeats a signal that ends a script, and would end `rm` too.
 exec 9<build.sh
 flock 9
-trap 'rm -rf "$here/out"' EXIT
+trap 'trap "" HUP INT TERM; rm -rf "$here/out"' EXIT
 python3 ../tools/built.py archive
 archive=$(realpath ../crates/fixed_decimal_ffi/out/libfixed_decimal_ffi.a)
 if [ ! -f out/sums ] || [ "$(sums)" != "$(cat out/sums)" ]; then
@@ -76,7 +77,7 @@ fi
 trap - EXIT
 if [ "${1:-}" = install ]; then
   stage=$(mktemp -d)
-  trap 'rm -rf "$stage"' EXIT
+  trap 'trap "" HUP INT TERM; rm -rf "$stage"' EXIT
   mkdir -p "$stage/lib/pkgconfig" "$stage/include"
   cp -P out/libfixed_decimal.a out/libfixed_decimal.so out/libfixed_decimal.so.$version "$stage/lib"
   chmod -x "$stage/lib"/*.so.*

@@ -5,7 +5,8 @@
 
 die() { echo "$*" >&2; exit 2; }
 
-here=$(cd "$(dirname "$0")" && pwd)
+unset CDPATH
+here=$(cd -- "$(dirname -- "$0")" && pwd)
 project=$(dirname "$here")
 work=${WORK:-${TMPDIR:-/tmp}/fixed_decimal-beside}
 mkdir -p "$work"

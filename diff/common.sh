@@ -1,6 +1,6 @@
 # What diff/run.sh, diff/plants.sh and bench/run.sh share. Their first argument is the folder of the original.
 
-. "$(dirname "${BASH_SOURCE[0]}")/build.sh"
+. "$(dirname -- "${BASH_SOURCE[0]}")/build.sh"
 [ $# -gt 0 ] || die "usage: $0 ORIGINAL [OPTION].. (see README.md)"
 original=$(cd "$1" && pwd)
 shift

@@ -5,7 +5,7 @@
 #
 # Status 0: every one was. ONLY=WORD plants only those whose name contains the word.
 set -euo pipefail
-. "$(dirname "$0")/common.sh"
+. "$(dirname -- "$0")/common.sh"
 export RUSTFLAGS="$RUSTFLAGS -A warnings"
 seconds=${1:-8} threads=${2:-$(nproc)}
 export LIBRARY=$work/decimal_calls LD_LIBRARY_PATH=$project/c/out FIXED_DECIMAL_LIB=$project/c/out/libfixed_decimal.so

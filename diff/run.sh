@@ -5,7 +5,7 @@
 #
 # README.md says what ORIGINAL is. Status 0: no difference was found but the listed ones.
 set -euo pipefail
-. "$(dirname "$0")/common.sh"
+. "$(dirname -- "$0")/common.sh"
 seconds=540 threads=$(nproc) seed=1
 while [ $# -gt 0 ]; do
     case $1 in

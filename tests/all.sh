@@ -4,7 +4,8 @@
 # modules. A script that has not ended after half an hour fails, and an interrupt ends all of them. The last lines are
 # `not run: ..` for each thing that is missing here, and `N passed, M failed`; the status is 0 if M is 0.
 set -u
-cd "$(dirname "$0")/.." || exit 1
+unset CDPATH
+cd -- "$(dirname -- "$0")/.." || exit 1
 # One run at a time: another one would remove what the gate has built, and the scripts would not find it.
 exec 9< tests/all.sh || exit 1
 flock -n 9 || { echo 'waits for another tests/all.sh in this clone'; flock 9; }

@@ -11,7 +11,8 @@
 #
 # Needs bash and gcc. The last line is `N passed, M failed`; the status is 0 if M is 0.
 set -u
-cd "$(dirname "$0")/.." || exit 1
+unset CDPATH
+cd -- "$(dirname -- "$0")/.." || exit 1
 . tests/programs.sh
 copy_programs vectors fixdec fixdec_lines
 cp tests/allocations/*.txt "$room"

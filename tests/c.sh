@@ -3,7 +3,8 @@
 # `not run: ..`, and a failure under ALL=1: Python's headers and pip, sqlite3 with its headers, valgrind. With
 # BUILT_BY_GATE set nothing is proved. The last line is `N passed, M failed`; the status is 0 if M is 0.
 set -u
-cd "$(dirname "$0")/.." || exit 1
+unset CDPATH
+cd -- "$(dirname -- "$0")/.." || exit 1
 . tests/programs.sh
 
 # try NAME COMMAND..: the command succeeds; its output is shown if not.

@@ -3,7 +3,8 @@
 # worker that ends midway. Without python3-distributed the latter is a line `not run: ..`, and a failure under ALL=1.
 # With BUILT_BY_GATE set nothing is proved. The last line is `N passed, M failed`; the status is 0 if M is 0.
 set -u
-cd "$(dirname "$0")/.." || exit 1
+unset CDPATH
+cd -- "$(dirname -- "$0")/.." || exit 1
 . tests/programs.sh
 copy_programs fixdec_lines
 program=$room/fixdec_lines

@@ -4,7 +4,8 @@
 # others. tools/built.py proves and builds them first, but where the gate just did. Needs bash, and prlimit of
 # util-linux. The last line is `N passed, M failed`; the status is 0 if M is 0.
 set -u
-cd "$(dirname "$0")/.." || exit 1
+unset CDPATH
+cd -- "$(dirname -- "$0")/.." || exit 1
 . tests/programs.sh
 copy_programs fixdec fixdec_lines plural
 

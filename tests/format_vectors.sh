@@ -7,7 +7,8 @@
 #
 # The last line is `N passed, M failed`; the status is 0 if M is 0.
 set -u
-cd "$(dirname "$0")/.." || exit 1
+unset CDPATH
+cd -- "$(dirname -- "$0")/.." || exit 1
 . tests/programs.sh
 if [ $# -eq 0 ]; then
   node tools/locales/node.js vectors > "$room/rows" || exit 1

@@ -6,7 +6,8 @@
 # is a line `not run: ..`, and a failure under ALL=1: pkg-config, Python's headers and pip. The last line is
 # `N passed, M failed`; the status is 0 if M is 0.
 set -u
-cd "$(dirname "$0")/.." || exit 1
+unset CDPATH
+cd -- "$(dirname -- "$0")/.." || exit 1
 . tests/programs.sh
 copy_programs fixdec fixdec_lines plural
 bash c/build.sh > "$room/log" 2>&1

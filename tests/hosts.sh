@@ -2,7 +2,8 @@
 # Tries the Rust crate. Without cargo this is a line `not run: ..`, and a failure under ALL=1. With BUILT_BY_GATE set
 # nothing is proved but the exports of the C library. The last line is `N passed, M failed`; the status is 0 if M is 0.
 set -u
-cd "$(dirname "$0")/.." || exit 1
+unset CDPATH
+cd -- "$(dirname -- "$0")/.." || exit 1
 . tests/programs.sh
 
 if command -v cargo > /dev/null; then

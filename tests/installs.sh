@@ -5,7 +5,8 @@
 # git and gcc; without pkg-config the commands are a line `not run: ..`, and a failure under ALL=1. The last line is
 # `N passed, M failed`; the status is 0 if M is 0.
 set -u
-cd "$(dirname "$0")/.." || exit 1
+unset CDPATH
+cd -- "$(dirname -- "$0")/.." || exit 1
 . tests/programs.sh
 copy_programs fixdec fixdec_lines plural
 python3 tools/built.py archive || { echo "0 passed, 1 failed"; exit 1; }

@@ -4,7 +4,8 @@
 # tab. Without man-db, zsh or fish there is a line `not run: ..`, and a failure under ALL=1. The last line is
 # `N passed, M failed`; the status is 0 if M is 0.
 set -u
-cd "$(dirname "$0")/.." || exit 1
+unset CDPATH
+cd -- "$(dirname -- "$0")/.." || exit 1
 . tests/programs.sh
 copy_programs fixdec fixdec_lines plural
 export LC_ALL=C.UTF-8

@@ -5,7 +5,8 @@
 # With BUILT_BY_GATE set nothing is proved but the exports of the C library. The last line is `N passed, M failed`; the
 # status is 0 if M is 0.
 set -u
-cd "$(dirname "$0")/.." || exit 1
+unset CDPATH
+cd -- "$(dirname -- "$0")/.." || exit 1
 . tests/programs.sh
 unset "${!PG@}"
 

@@ -5,7 +5,7 @@
 # The last line is `N passed, M failed`; the status is 0 if M is 0.
 set -u
 unset CDPATH
-cd "$(dirname "$0")/.." || exit 1
+cd -- "$(dirname -- "$0")/.." || exit 1
 . tests/programs.sh
 # One step of the interpreter, since it would not end on these rows: the compiled program is what runs. It has a
 # session of its own, which ends with this script.

@@ -5,7 +5,8 @@
 # Python and SQLite, without which nothing is packed; pkg-config, sqlite3, cargo, and venv. The variable PYTHONS has the
 # programs of more versions of Python that take the wheel. The last line is `N passed, M failed`; the status is 0 if M is 0.
 set -u
-cd "$(dirname "$0")/.." || exit 1
+unset CDPATH
+cd -- "$(dirname -- "$0")/.." || exit 1
 . tests/programs.sh
 copy_programs fixdec fixdec_lines plural
 python3 tools/built.py archive || { echo "0 passed, 1 failed"; exit 1; }

@@ -5,7 +5,8 @@
 # failure under ALL=1. tools/built.py proves and builds the programs first, but where the gate just did. The last line is
 # `N passed, M failed`; the status is 0 if M is 0.
 set -u
-cd "$(dirname "$0")/.." || exit 1
+unset CDPATH
+cd -- "$(dirname -- "$0")/.." || exit 1
 . tests/programs.sh
 copy_programs fixdec fixdec_lines plural
 export BUILT_BY_GATE=1

@@ -8,6 +8,7 @@
 #
 # The last line is `N passed, M failed`; the status is 0 if M is 0.
 set -eu
-cd "$(dirname "$0")/.."
+unset CDPATH
+cd -- "$(dirname -- "$0")/.."
 bash c/build.sh > /dev/null
 exec python3 tests/skeleton_vectors.py "$1"

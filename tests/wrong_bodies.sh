@@ -8,9 +8,10 @@
 # the same sources are taken, and the others proved first. The last line is `N passed, M failed`; the status is 0 if M is
 # 0.
 set -u
-cd "$(dirname "$0")/.." || exit 1
+unset CDPATH
+cd -- "$(dirname -- "$0")/.." || exit 1
 scratch=$(mktemp -d) || exit 1
-trap 'rm -rf "$scratch"' EXIT
+trap 'trap "" TERM; rm -rf "$scratch"' EXIT
 [ $# -gt 0 ] || set -- $(ls wrong_bodies)
 if ! python3 tools/built.py copy "$scratch" "$@"; then
   echo "0 passed, 1 failed"

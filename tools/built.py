@@ -134,14 +134,30 @@ def unbuilt(crates, names):
     return [crate for crate in libraries if not is_built(crate, sources)] + others
 
 
+@contextlib.contextmanager
+def alone():
+    """Holds the lock of the clone: one run at a time builds, and copies what is built."""
+    with open(__file__, encoding="utf-8") as lock:
+        try:
+            fcntl.flock(lock, fcntl.LOCK_EX | fcntl.LOCK_NB)
+        except BlockingIOError:
+            print("waits for another tools/built.py in this clone", file=sys.stderr, flush=True)
+            fcntl.flock(lock, fcntl.LOCK_EX)
+        yield
+
+
+def require_gate(todo):
+    """Ends if these crates have to be built by the gate."""
+    lacking = " ".join(crate.name for crate in todo if crate.name != STATIC)
+    if lacking and os.environ.get("BUILT_BY_GATE"):
+        sys.exit(f"BUILT_BY_GATE is set, and no gate has built {lacking} of these sources: python3 tools/built.py gate")
+
+
 def build(crates, names):
     """Proves and builds what of these crates and the libraries below them is not built, if no other run just did."""
     if todo := unbuilt(crates, names):
-        lacking = " ".join(crate.name for crate in todo if crate.name != STATIC)
-        if lacking and os.environ.get("BUILT_BY_GATE"):
-            sys.exit(f"BUILT_BY_GATE is set, and no gate has built {lacking} of these sources: python3 tools/built.py gate")
-        with open(__file__, encoding="utf-8") as lock:
-            fcntl.flock(lock, fcntl.LOCK_EX)
+        require_gate(todo)
+        with alone():
             build_each(crates, unbuilt(crates, names))
 
 
@@ -164,7 +180,14 @@ def build_each(crates, todo):
 def copy(crates, folder, names):
     """Copies the crates to a folder, with the libraries below the named ones and what `rt check` has kept of these."""
     used = dict.fromkeys(crate.name for name in names for crate in crates[name].below())
-    build(crates, used)
+    require_gate(unbuilt(crates, used))
+    with alone():
+        build_each(crates, unbuilt(crates, used))
+        copy_built(folder, used, names)
+
+
+def copy_built(folder, used, names):
+    """Copies the crates, the libraries that are used, and what is kept of the named crates."""
     # A module may have the name `out` too.
     is_crate = lambda path: os.path.dirname(path) == f"{ROOT}/crates"
     shutil.copytree(f"{ROOT}/crates", f"{folder}/crates", ignore=lambda path, _: ["out"] if is_crate(path) else [])
@@ -213,7 +236,8 @@ def main(verb="", *names):
     elif verb == "copy" and len(names) > 1:
         copy(crates, os.path.abspath(names[0]), names[1:])
     elif verb == "gate" and not names:
-        return gate(crates)
+        with alone():
+            return gate(crates)
     else:
         print(__doc__, end="", file=sys.stderr)
         return 2

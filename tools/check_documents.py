@@ -63,11 +63,17 @@ def blocks(document):
 
 
 def check_scripts():
-    """A file that begins with the name of its interpreter can be executed."""
+    """A file that begins with the name of its interpreter can be executed. A script of a shell finds its own folder
+    whatever the folder's name is, and without CDPATH."""
     for path in FILES:
         with open(path, "rb") as file:
             if file.read(2) == b"#!":
                 check(os.access(path, os.X_OK), f"{path}: it begins with #! and is not executable")
+        if path.endswith(".sh"):
+            own = [line for line in read(path).splitlines() if re.search(r'dirname\b.*"\$\{?(0|BASH_SOURCE)', line)]
+            check(all("dirname -- " in line for line in own), f"{path}: `dirname -- \"$0\"` finds its folder")
+            enters = any(re.search(r"\bcd\b", line) for line in own)
+            check(not enters or "\nunset CDPATH\n" in read(path), f"{path}: it does not unset CDPATH")
 
 
 @functools.cache

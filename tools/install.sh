@@ -16,7 +16,8 @@ verb=install
 [ "${1:-}" != --uninstall ] || { verb=uninstall; shift; }
 [[ $# -le 1 && "${1:-}" != -* ]] || { echo "usage: install.sh [--uninstall] [PREFIX]" >&2; exit 2; }
 to=${DESTDIR:+$(realpath -ms -- "$DESTDIR")}$(realpath -ms "${1:-$HOME/.local}")
-cd "$(dirname "$0")/.."
+unset CDPATH
+cd -- "$(dirname -- "$0")/.."
 if [ $verb = uninstall ]; then
   python3 tools/installed.py uninstall "$to"
   echo "removed what was installed in $to"

@@ -19,7 +19,8 @@ is_release=
 [[ $# -le 1 && "${1:-}" != -* ]] || { echo "usage: release.sh [--release] [FOLDER]" >&2; exit 2; }
 [ -d "${1:-.}" ] || stop "no such folder: $1"
 folder=$(realpath "${1:-.}")
-cd "$(dirname "$0")/.."
+unset CDPATH
+cd -- "$(dirname -- "$0")/.."
 
 newest=$(sed -n 's/^## \[\([^]]*\)\].*/\1/p' CHANGELOG.md | head -n 1)
 number=$(sed -n 's/^## \[\([0-9][^]]*\)\].*/\1/p' CHANGELOG.md | head -n 1)
