@@ -255,9 +255,13 @@ impl<'f> FormattedRange<'f> {
         self.fmt_from_end(f)
     }
 
-    /// Puts the pieces of a segment of the text with their kinds: consecutive pieces of one kind are one part of
-    /// `formatRangeToParts` of ECMA-402, and [`RangeSegment::source`] is their source; pieces of one kind from two
-    /// sources are one part, which is shared. It does not allocate.
+    /// Puts the pieces of a segment of the text with their kinds into a sink, which is any [`PartSink`]. It does not
+    /// allocate.
+    ///
+    /// The segments, one after another, put all pieces of the text. Consecutive pieces of one kind are one part of
+    /// `formatRangeToParts` of ECMA-402. The source of a part says to which number it belongs: to the first one, to the
+    /// second one, or to neither alone. [`RangeSegment::source`] is the source of the pieces of a segment. A part with
+    /// pieces from two sources is shared.
     ///
     /// # Errors
     ///
@@ -265,7 +269,8 @@ impl<'f> FormattedRange<'f> {
     ///
     /// ```
     /// for segment in RangeSegment::ALL {
-    ///     range.parts(segment, &mut sink)?; // of `1–2`: integer, literal, integer
+    ///     sink.source = segment.source(); // a field of this sink
+    ///     range.parts(segment, &mut sink)?; // of `1–2`: integer `1`, literal `–`, integer `2`
     /// }
     /// ```
     pub fn parts<P: PartSink>(&self, segment: RangeSegment, sink: &mut P) -> Result<(), SinkFault>

@@ -16,10 +16,13 @@ pub struct RangeTexts<'t> {
 }
 
 impl<'t> RangeTexts<'t> {
-    /// Returns the texts of a tag, as [`locale`](locale_data::locale) has it, in a numbering system, or else in that of
-    /// the tag. Returns `None` where `locale` does. It does not allocate.
+    /// Returns what a locale writes of ranges, by the tag and the numbering system of the formatter.
+    ///
+    /// A tag is as [`locale`](locale_data::locale) has it. If the options name no numbering system, the texts are those
+    /// of the tag's own one. Returns `None` where `locale` does. It does not allocate.
     ///
     /// ```
+    /// let formatter = NumberFormatter::for_ranges("de", options)?;
     /// let texts = RangeTexts::of("de", &options.numbering_system)?;
     /// formatter.format_range(alloc, &texts, start, end)? // 1–2
     /// ```
