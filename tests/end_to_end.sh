@@ -108,7 +108,7 @@ row fixdec 2 '' $'skeleton: syntax at 0\n' 5 format:de:fast
 row fixdec 2 '' $'skeleton: unsupported scale\n' 5 'format:tlh:.00 scale/2'
 row fixdec 2 '' $'skeleton: no reader\n' 5 read:de:K foo
 
-# Status 3: standard output fails. A failed standard error changes no status.
+# Status 3: standard output fails. If standard error cannot be written, the status is the same.
 shell 3 '' $'output\n' 'fixdec 250 > /dev/full'
 shell 3 '' $'output\n' 'fixdec 250 >&-'
 shell 3 '' $'output\n' 'fixdec --help > /dev/full'
@@ -206,7 +206,7 @@ stack 4096 32767 '' csv
 printf '1\n2\n' > "$room/in"
 shell 0 $'1\n2\n' $'fixdec_lines: no such word: up (--help lists all)\n' '{ fixdec_lines up; cat; } < "$room/in"'
 
-# Status 3: standard output or standard input fails. A failed standard error changes no status.
+# Status 3: standard output or standard input fails. If standard error cannot be written, the status is the same.
 shell 3 '' $'output\n' 'fixdec_lines < "$room/in" > /dev/full'
 shell 3 '' $'output\n' 'fixdec_lines < "$room/in" >&-'
 shell 3 '' $'input\n' 'fixdec_lines < /'
@@ -280,7 +280,7 @@ row plural 2 '' $'plural: a word is not UTF-8\n' "$one" $'1\xff'
 row plural 2 '' $'unknown locale: xx\n' xx 1
 row plural 2 '' $'plural: no such type: ordnial\n' en:ordnial 1
 
-# Status 3: standard output fails. A failed standard error changes no status.
+# Status 3: standard output fails. If standard error cannot be written, the status is the same.
 shell 3 '' $'output\n' 'plural "$one" 1 > /dev/full'
 shell 3 '' $'output\n' 'plural "$one" 1 x > /dev/full'
 shell 1 $'one\n' '' 'plural "$one" 1 x 2> /dev/full'
