@@ -1,8 +1,8 @@
 /* Exact decimals for display, in C99 and C++.
  *
  * A value is its text: 2.50 is not 2.5, and the text of a value reads back as that value. So a function takes the text
- * of a value and writes the text of another one into a buffer of the caller. Nothing is kept between calls: there is no
- * handle, nothing to free and no global state, and each function may be called in any thread at any time.
+ * of a value and writes the text of another one into a buffer of the caller. Nothing is kept between calls: there is
+ * nothing to free and no global state, and each function may be called in any thread at any time.
  *
  * The number of a locale, of plural rules or of a unit names rows of constant tables, and an fd_formatter has such
  * numbers. They are the same in all threads, and valid in this process only, since another version of the library may
