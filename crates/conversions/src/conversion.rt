@@ -9,7 +9,8 @@ use crate::reader::LocaleReader;
 use fixed_decimal::{Call, Decimal, ParseError, RunError, Sink, apply_calls, run};
 use std::alloc::Global;
 
-/// How a text is read, what is done to its decimal, and how the result is written.
+/// How a text is read, what is done to its decimal, and how the result is written: by `read:de`, `shift:1` and
+/// `format:fr` the text `1,5` becomes `15`.
 pub struct Conversion<'a> {
     /// Reads the text in the form of a locale. `None`: the text is a decimal's own.
     pub reader: Option<LocaleReader<'a>>,

@@ -6,7 +6,7 @@ use crate::shown_word::ShownWord;
 use fixed_decimal::{ParseError, RunError, SinkFault};
 use thiserror::Error;
 
-/// Why a word names no reader and no formatter.
+/// Why a word names no reader and no formatter: of `format:xx` it is `UnknownLocale`.
 #[derive(Clone, Copy, Debug)]
 pub enum FormError {
     /// The option of this word is empty.
@@ -34,7 +34,8 @@ pub enum Reason {
     Limit,
 }
 
-/// The error of a text, or of the line that it is a field of. Calls have 0-based numbers.
+/// The error of a text, or of the line that it is a field of. Calls have 0-based numbers: if the result of the first call
+/// is beyond the limits, the error is `call 0: overflow`.
 #[derive(Clone, Copy, Debug, PartialEq, Error)]
 pub enum OperationError {
     /// The line has fewer fields.

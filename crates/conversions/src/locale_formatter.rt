@@ -9,7 +9,7 @@ use fixed_decimal::{Decimal, RoundError, Sink, Writeable};
 use number_format::{NumberFormatter, NumberWriteError};
 use std::alloc::Global;
 
-/// Writes decimals in the form of a locale.
+/// Writes decimals in the form of a locale, as `format:de` and `format:de:percent` name it.
 #[derive(Drop)]
 pub enum LocaleFormatter<'a> {
     /// With all digits.

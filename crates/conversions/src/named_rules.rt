@@ -8,7 +8,7 @@ use locale_data::{PluralRuleType, PluralRulesError, plural_rules_of};
 use plural_rules::{PluralRules, RulesError};
 use std::alloc::Global;
 
-/// Why a word names no plural rules.
+/// Why a word names no plural rules: of `xx` it is `UnknownLocale`, and of `de:nominal` `UnknownType`.
 #[derive(Clone, Copy, Debug)]
 pub enum NamedRulesError {
     /// The locale with this tag is unknown.

@@ -8,7 +8,7 @@ use number_format::{NumberReader, ParseMode};
 use std::alloc::Global;
 use std::str;
 
-/// Reads decimals by the symbols of a locale.
+/// Reads decimals by the symbols of a locale: in `de` 1234.5 from `1.234,5`.
 #[derive(Debug, Drop)]
 pub struct DecimalReader<'a> {
     /// The symbols of the locale.
@@ -43,7 +43,7 @@ impl<'a> DecimalReader<'a> {
     }
 }
 
-/// Reads decimals in the form of a locale.
+/// Reads decimals in the form of a locale, as `read:de` and `read:de:percent` name it.
 pub enum LocaleReader<'a> {
     /// With all digits.
     Decimals(DecimalReader<'a>),

@@ -31,7 +31,7 @@ pub enum CurrencyDisplay {
     Name,
 }
 
-/// For which use a currency's digits are chosen.
+/// For which use a currency's digits are chosen: 1.23 Swiss francs are `1.25` in cash, whose least coin is 0.05.
 #[derive(Clone, Copy, Debug, Default, PartialEq)]
 pub enum CurrencyUsage {
     /// The usual digits.
@@ -41,7 +41,7 @@ pub enum CurrencyUsage {
     Cash,
 }
 
-/// How an amount of money is written.
+/// How an amount of money is written: in `en`, by `CurrencyStyle::new(CurrencyCode::try_from_str("EUR")?)`, as `€1.50`.
 #[derive(Clone, Copy, Debug, PartialEq)]
 pub struct CurrencyStyle {
     /// The code of the currency; of one that is not listed two digits and the code are shown.

@@ -14,6 +14,8 @@ pub enum TrailingZeros {
 }
 
 /// Which digits of a number are shown. Every value is valid.
+///
+/// With at least 2 integer digits, 1 to 2 fraction digits and the mode `HalfExpand`, 2.345 is shown as `02.35`.
 #[derive(Clone, Copy, Debug, PartialEq)]
 pub struct DigitOptions {
     /// The numbers of integer digits.

@@ -14,7 +14,8 @@ pub enum Minimum {
     Both,
 }
 
-/// Fraction digits and significant digits, of which a number has both roundings.
+/// Fraction digits and significant digits, of which a number has both roundings: of 1234.567 they are `1234.57`, by at
+/// most 2 fraction digits, and `1230`, by at most 3 significant digits.
 #[derive(Clone, Copy, Debug, PartialEq)]
 pub struct BothDigits {
     /// The numbers of fraction digits.

@@ -11,6 +11,8 @@ use plural_rules::PluralCategory;
 use std::alloc::Global;
 
 /// Why a number is not formatted, and the number, unchanged.
+///
+/// As a percentage 10^32767 would be 10^32769: the error is `Limit`.
 #[derive(Drop)]
 pub struct FormatError {
     /// The error.
@@ -19,7 +21,7 @@ pub struct FormatError {
     pub value: Decimal,
 }
 
-/// Why a number is not written.
+/// Why a number is not written: of 10^32767 as a percentage it is `Format(RoundError::Limit)`.
 #[derive(Clone, Copy, Debug, PartialEq)]
 pub enum NumberWriteError {
     /// It is not formatted, as in [`NumberFormatter::format`]. The sink is unchanged.

@@ -39,7 +39,7 @@ pub(crate) fn displayed_sign(display: SignDisplay, is_zero: bool, sign: Sign) ->
     }
 }
 
-/// A number as a locale writes it. It borrows the formatter.
+/// A number as a locale writes it: 1234.5 in `de` is `1.234,5`. It borrows the formatter.
 pub struct FormattedNumber<'f> {
     pub(crate) formatter: &'f NumberFormatter,
     pub(crate) alloc: Global,

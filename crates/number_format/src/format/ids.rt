@@ -11,7 +11,7 @@ use locale_data::{
     system_name_at,
 };
 
-/// Why there is no formatter.
+/// Why there is no formatter: of `xx` it is `UnknownLocale`.
 #[derive(Clone, Copy, Debug, PartialEq)]
 pub enum NumberFormatError {
     /// No tag of the locale is listed, or the numbering system that it names is not.
@@ -20,7 +20,8 @@ pub enum NumberFormatError {
     UnknownNumberingSystem,
 }
 
-/// The rows of tables of which a formatter is made. They are the same as long as the tables are.
+/// The rows of tables of which a formatter is made, as [`of`](FormatterIds::of) finds those of `de` and options. They
+/// are the same as long as the tables are.
 #[derive(Clone, Copy)]
 pub struct FormatterIds {
     /// The symbols and the numbering system.

@@ -14,7 +14,8 @@ use locale_data::UnitAffixes;
 use locale_names::{CurrencyNames, UnitDisplay, UnitPatterns, currency_names, unit_patterns};
 use plural_rules::PluralCategory;
 
-/// What is written around the whole text, as rows of tables.
+/// What is written around the whole text, as rows of tables: the patterns of kilometers for `-1.5 km`, and the names of
+/// the euro for `1.50 euros`.
 #[derive(Clone, Copy)]
 pub enum OuterTexts {
     /// Nothing but the percent sign of compact notation.

@@ -68,6 +68,9 @@ pub(crate) fn parts_length(parts: &[TextPart<'_>]) -> usize
 }
 
 /// A destination of the pieces of the text of a number: consecutive pieces of one kind are one part.
+///
+/// The pieces of `1,234.5` are `1` of the kind `Integer`, `,` of `Group`, `234` of `Integer`, `.` of `Decimal` and `5`
+/// of `Fraction`. A part may come in several pieces.
 pub trait PartSink {
     /// Whether these may be the pieces that were put. Of a sink that keeps only their parts these are all pieces with
     /// these parts, and of a sink whose pieces are not observable any pieces.

@@ -8,7 +8,8 @@ use crate::notation::Notation;
 use fixed_decimal::{DigitStore, RoundError, Signed, Steps, UnsignedOver};
 use std::marker::Model;
 
-/// A significand and an exponent: the significand times 10 to the power of the exponent.
+/// A significand and an exponent: the significand times 10 to the power of the exponent. In engineering notation 12345
+/// is 12.345 with the exponent 3.
 #[derive(Debug)]
 pub struct Scaled<D: DigitStore> {
     significand: Signed<UnsignedOver<D>>,

@@ -17,6 +17,8 @@ use plural_rules::PluralCategory;
 use std::alloc::Global;
 
 /// Why a range is not formatted, and its numbers, unchanged.
+///
+/// As percentages the range from 1 to 10^32767 is the error `Limit`: the second number would be 10^32769.
 #[derive(Drop)]
 pub struct RangeFormatError {
     /// The error.

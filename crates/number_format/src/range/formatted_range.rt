@@ -27,6 +27,8 @@ pub enum RangeSource {
 }
 
 /// A segment of the text of a range. The text is that of the segments, in this order; a segment may be empty.
+///
+/// In `1,00–2,00 €` the start is `1,00`, the middle `–`, the end `2,00`, and the suffix the space and `€`.
 #[derive(Clone, Copy, Debug, PartialEq)]
 pub enum RangeSegment {
     /// What is before both numbers.

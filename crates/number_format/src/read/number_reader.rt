@@ -33,7 +33,7 @@ pub enum NumberReaderError {
     Memory,
 }
 
-/// How strictly a text is read.
+/// How strictly a text is read: in `de` both modes read `1.234,5`, and `1234,5` is read by `Lenient` alone.
 #[derive(Clone, Copy, Debug, PartialEq)]
 pub enum ParseMode {
     /// Exactly as numbers are formatted.
