@@ -59,6 +59,19 @@ block docs/C.md invoice.c > "$room/invoice.c"
 try 'the program of docs/C.md' gcc -std=c99 -Wall -Wextra -Werror "$room/invoice.c" "-I$room/prefix/include" \
   "-L$room/prefix/lib" -lfixed_decimal -o "$room/invoice"
 writes docs/C.md ./invoice "$room/invoice"
+{
+  printf '#include <fixed_decimal.h>\n#include <stdio.h>\nint main(void) {\n'
+  block docs/C.md FD_NAME
+  printf 'fd_made made = fd_formatter_by_options((const uint8_t *)"en", 2, &options);
+    uint8_t text[64];
+    fd_result result = fd_format(&made.formatter, (const uint8_t *)"5", 1, text, sizeof text);
+    return printf("%%.*s", (int)result.count, (const char *)text) < 0;\n}\n'
+} > "$room/speed.c"
+try 'the options of docs/C.md' gcc -std=c99 -Wall -Wextra -Werror "$room/speed.c" "-I$room/prefix/include" \
+  "-L$room/prefix/lib" -lfixed_decimal -o "$room/speed"
+found=$("$room/speed")
+[ "$found" = '5 kilometers per hour' ]
+judge $? "the options of docs/C.md write '$found'"
 sed -n 's/^[a-z].*\b\(fd_[a-z0-9_]*\)(.*/\1/p; /enum fd_status {/,/}/s/^ *\(FD_[A-Z_]*\) = .*/\1/p' c/fixed_decimal.h |
   while read -r name; do grep -q "\`$name\`" docs/C.md || echo "$name"; done > "$room/unnamed"
 [ ! -s "$room/unnamed" ]
