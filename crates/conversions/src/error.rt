@@ -34,8 +34,8 @@ pub enum Reason {
     Limit,
 }
 
-/// The error of a text, or of the line that it is a field of. Calls have 0-based numbers: if the result of the first call
-/// is beyond the limits, the error is `call 0: overflow`.
+/// The error of a text, or of the line that it is a field of. Calls have 0-based numbers: if the result of the first
+/// call is beyond the limits, the error is `call 0: overflow`.
 #[derive(Clone, Copy, Debug, PartialEq, Error)]
 pub enum OperationError {
     /// The line has fewer fields.

@@ -28,6 +28,7 @@ end_of n = record {
   pattern = pattern_of n;
 }
 
+-- what is shown of a formatted range
 abbrev pub shown_range : FormattedRange → ShownRange
 shown_range t = record {
   start = end_of t.start;

@@ -21,7 +21,8 @@ abbrev pub rounded_in : Notation → Option DigitOptions → Decimal → Option 
 rounded_in notation None v = Some (scaled_value v (pos 0))
 rounded_in notation (Some digits) v = scaled notation digits v
 
--- none if a limit is passed
+-- the significand and the exponent that are shown of a number: it is multiplied by the power of ten of the scale and
+-- rounded; none if the scaled number, the rounded one, its position or its significand is beyond the limits
 abbrev pub shown_number : NumberFormatter → Decimal → Option ScaledValue
 shown_number f v =
     option_and_then (rounded_in f.notation f.digits) (with_absolute v (multiplied_pow10 v.absolute f.options.scale))
@@ -164,11 +165,12 @@ compact_style (NumberNotation.Compact words) style =
     Some (if has_symbol style then CompactStyle.Currency else words_of words)
 compact_style other style = None
 
--- the number is the integer 1, without a minus sign
+-- the sign is a minus sign
 abbrev pub is_negative : Sign → Bool
 is_negative Sign.Negative = true
 is_negative other = false
 
+-- the number is 1 without a minus sign, as `1` or `1.0`
 abbrev pub is_one : Decimal → Bool
 is_one v =
     not (is_negative v.sign) && (operands.i v.absolute == 1 && operands.w v.absolute == 0)
@@ -226,6 +228,7 @@ outer_texts formats OuterTexts.None (Some words) NumberStyle.Permille category =
     around_texts PartKind.Unit (with_number [] (226 ∷ 128 ∷ 176 ∷ []))
 outer_texts formats OuterTexts.None words style category = around [] true []
 
+-- what a formatter writes around the whole text, by the plural category of the number
 abbrev pub outer_by : NumberFormatter → PluralCategory → Around
 outer_by f = outer_texts f.formats f.outer (compact_style f.options.notation f.options.style) f.options.style
 
@@ -309,8 +312,9 @@ abbrev pub has_categories : NumberFormatter → Bool
 has_categories f =
     is_by_category f.outer (compact_style f.options.notation f.options.style) f.options.style
 
--- for this category a copy of the number is rounded, but not in standard notation: in the rounding before compact
--- notation divides the number, or for the copy of a number of more digits than are kept without an allocation
+-- memory may be needed to find the category by which a unit or a name is chosen. In standard notation it never is; in
+-- the others a copy of the number is made, which may allocate if the number has more digits than are kept without an
+-- allocation, and compact notation rounds it, which may allocate too
 pub record WholeNeedsMemory (f : NumberFormatter) (v : Decimal) : Type 0 where
   pub by_category : has_categories f ≡ true
   pub copied : f.options.notation ≢ NumberNotation.Standard

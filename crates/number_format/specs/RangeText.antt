@@ -56,11 +56,13 @@ end_around n = around_by n.formatter.style n.sign n.pattern
 abbrev pub bare_words : StyleTexts → AffixText → List parts.Piece
 bare_words t a = compact_pieces a.before ++ (currency_if t a.has_currency ++ compact_pieces a.after)
 
+-- the affixes of a sign by the pattern of a style, without the space of a currency
 abbrev pub bare_pattern : StyleTexts → Sign → Around
 bare_pattern t s =
     let pieces = affix_pieces (pattern_pieces t) in
     around (pieces (affixes_of t.pattern s).prefix) true (pieces (affixes_of t.pattern s).suffix)
 
+-- the affixes of a sign by a compact pattern, without the space of a currency
 abbrev pub bare_compact : StyleTexts → Sign → CompactPattern → Around
 bare_compact t s p =
     around (first_sign t s p.form ++ (bare_words t p.prefix ++ last_sign t s p.form)) (has_number p.form)
@@ -71,29 +73,34 @@ abbrev pub bare_around : StyleTexts → Sign → Option CompactPattern → Aroun
 bare_around t s None = bare_pattern t s
 bare_around t s (Some p) = if is_plain p.form then bare_pattern t s else bare_compact t s p
 
--- the texts around a number
+-- the texts of what is around a number
 abbrev pub texts_of : Around → BareTexts
 texts_of a =
     record { affixes = affixes (pieces_text a.prefix) (pieces_text a.suffix); has_number = a.has_number }
 
+-- the texts around an end, without the spaces between a currency and a digit
 abbrev pub bare_texts : RangeEnd → BareTexts
 bare_texts n = texts_of (bare_around n.formatter.style n.sign n.pattern)
 
+-- two facts hold both or not at all
 abbrev pub both_or_neither : Bool → Bool → Bool
 both_or_neither a b = if a then b else not b
 
+-- the prefixes are equal, the suffixes are equal, and both stand around a number or both instead of one
 abbrev pub are_same_texts : BareTexts → BareTexts → Bool
 are_same_texts a b =
     bytes_eq a.affixes.prefix b.affixes.prefix
     && (bytes_eq a.affixes.suffix b.affixes.suffix && both_or_neither a.has_number b.has_number)
 
--- the number of characters of a text in UTF-8: of its bytes but those that continue a character
+-- a byte of UTF-8 begins a character: it is none of those that continue one
 abbrev pub begins_character : ℕ → Bool
 begins_character b = not (b / 64 == 2)
 
+-- the number of characters of a text in UTF-8
 abbrev pub characters : List ℕ → ℕ
 characters text = count_by begins_character text
 
+-- the number of characters before and after a number together
 abbrev pub characters_around : BareTexts → ℕ
 characters_around t = characters t.affixes.prefix + characters t.affixes.suffix
 
@@ -107,7 +114,7 @@ has_exponent other = false
 abbrev pub written_exponent : RangeEnd → ℤ
 written_exponent n = if has_exponent n.formatter.options.notation then n.exponent else pos 0
 
--- two numbers are equal exactly; `0` and `-0` are
+-- the numbers, before they are rounded, are equal; `0` and `-0` are equal too
 abbrev pub are_equal : Decimal → Decimal → Bool
 are_equal v w = int_eq (signed_number v) (signed_number w)
 
@@ -116,8 +123,9 @@ abbrev pub have_same_sign : Decimal → Decimal → Bool
 have_same_sign v w = both_or_neither (is_negative v.sign) (is_negative w.sign)
 
 -- the form of two ends, whose numbers are equal or not, and of one sign or not: one approximate number, if the same
--- texts are around both, and they are equal or are rounded to the same digits; one number after the other between these
--- texts, if they have more than one character; or each with its own
+-- texts are around both, the written exponents are equal, and the numbers are equal, or have one sign and are rounded
+-- to the same digits; one number after the other between these texts, if the prefix and the suffix together have more
+-- than one character; or each with its own
 abbrev pub form_by : Bool → Bool → RangeEnd → RangeEnd → RangeForm
 form_by equal same_sign m n =
     let alike = are_same_texts (bare_texts m) (bare_texts n) in
@@ -126,11 +134,13 @@ form_by equal same_sign m n =
     else if alike && nat_lt 1 (characters_around (bare_texts m)) then Common
     else Apart
 
+-- the form of the range of two numbers and their ends
 abbrev pub range_form : Decimal → Decimal → RangeEnd → RangeEnd → RangeForm
 range_form v w = form_by (are_equal v w) (have_same_sign v w)
 
 -- ---- The separator.
 
+-- each number has the texts around it
 abbrev pub is_apart : RangeForm → Bool
 is_apart Apart = true
 is_apart other = false
@@ -146,6 +156,7 @@ has_spaces SpacedHyphen = true
 has_spaces SpacedEnDash = true
 has_spaces other = false
 
+-- the separator, between two spaces if they are needed and it has none of its own
 abbrev pub separator_pieces : RangeSeparator → Bool → List parts.Piece
 separator_pieces s needed =
     let space = literal (if needed && not (has_spaces s) then 32 ∷ [] else []) in
@@ -153,6 +164,7 @@ separator_pieces s needed =
 
 -- ---- An approximate number.
 
+-- the approximately sign
 abbrev pub approximately_pieces : ApproximatelySign → List parts.Piece
 approximately_pieces a = pieces_of PartKind.ApproximatelySign (range_texts.sign_text a)
 
@@ -169,6 +181,7 @@ abbrev pub approximate_affixes : Pattern → Sign → AffixPair
 approximate_affixes p Sign.None = p.plus
 approximate_affixes p other = affixes_of p other
 
+-- what is around a number by the pattern of a style, with an approximately sign and the space of a currency
 abbrev pub approximate_pattern : StyleTexts → ApproximatelySign → Sign → Around
 approximate_pattern t a s =
     let pieces = affix_pieces (approximate_piece t a s) in
@@ -177,15 +190,17 @@ approximate_pattern t a s =
     around (pieces prefix ++ space_if (ends_with_currency prefix && t.currency.space_after)) true
     (space_if (begins_with_currency suffix && t.currency.space_before) ++ pieces suffix)
 
--- the approximately sign and the sign before the prefix, or after it
+-- the approximately sign and the sign before the prefix, unless the sign is last
 abbrev pub approximate_first : StyleTexts → ApproximatelySign → Sign → CompactForm → List parts.Piece
 approximate_first t a s SignLast = []
 approximate_first t a s other = approximately_pieces a ++ sign_pieces t.symbols s
 
+-- the approximately sign and the sign after the prefix, if the sign is last
 abbrev pub approximate_last : StyleTexts → ApproximatelySign → Sign → CompactForm → List parts.Piece
 approximate_last t a s SignLast = approximately_pieces a ++ sign_pieces t.symbols s
 approximate_last t a s other = []
 
+-- what is around a number by a compact pattern, with an approximately sign
 abbrev pub approximate_compact : StyleTexts → ApproximatelySign → Sign → CompactPattern → Around
 approximate_compact t a s p =
     around (approximate_first t a s p.form ++ (compact_prefix t p.prefix ++ approximate_last t a s p.form))
@@ -217,6 +232,7 @@ pub record ShownRange : Type 0 where
   pub spaced : Bool
   pub category : PluralCategory
 
+-- the pieces if a fact holds, and else none
 abbrev pub pieces_if : Bool → List parts.Piece → List parts.Piece
 pieces_if b pieces = if b then pieces else []
 
@@ -256,6 +272,7 @@ apart_pieces u start separator end = record {
   outer_suffix = u.suffix;
 }
 
+-- the pieces of a range in a form
 abbrev pub pieces_by : RangeForm → ShownRange → RangePieces
 pieces_by Approximate r =
     approximate_pieces (outer_by r.start.formatter r.category)
@@ -268,9 +285,11 @@ pieces_by Apart r =
     apart_pieces (outer_by r.start.formatter r.category) (within (end_around r.start) (end_number r.start))
     (separator_pieces r.format.separator r.spaced) (within (end_around r.end) (end_number r.end))
 
+-- the pieces of a range in its own form
 abbrev pub range_pieces : ShownRange → RangePieces
 range_pieces r = pieces_by r.form r
 
+-- the text of the pieces, one after another
 abbrev pub text_of_pieces : RangePieces → List ℕ
 text_of_pieces p =
     pieces_text p.prefix
@@ -278,7 +297,8 @@ text_of_pieces p =
     ++ (pieces_text p.start
     ++ (pieces_text p.middle ++ (pieces_text p.end ++ (pieces_text p.suffix ++ pieces_text p.outer_suffix)))))
 
--- the plural category of an approximate number is its own
+-- the plural category of an approximate number is its own, and that of two numbers is the one that the language has for
+-- a range of their categories
 abbrev pub range_category : List ℕ → RangeForm → PluralCategory → PluralCategory → PluralCategory
 range_category tag Approximate start end = start
 range_category tag other start end = plural_range_category tag start end
@@ -294,7 +314,8 @@ range_by t form start end start_category end_category = record {
   category = range_category t.tag.now form start_category end_category;
 }
 
--- the range of two numbers
+-- a range is that of two numbers: its ends are these as if each was written alone, and its form, separator and spaces
+-- are those of both; of its category only what it writes around the text has to be that of theirs
 pub record IsRange (f : NumberFormatter) (t : RangeTexts) (v w : Decimal) (r : ShownRange) : Type 0 where
   pub start_is : IsRangeEnd f v r.start
   pub end_is : IsRangeEnd f w r.end

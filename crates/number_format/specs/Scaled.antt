@@ -70,6 +70,7 @@ ScalingNeedsMemory held notation o sign n =
     let next = carried_exponent notation n made in
     NeedsMemory held o sign exponent n ⊎ ((exponent < next) × NeedsMemory held o sign next made)
 
+-- a significand, and the exponent of the power of ten by which it is multiplied
 pub record ScaledValue : Type 0 where
   pub significand : Decimal
   pub exponent : ℤ

@@ -114,16 +114,19 @@ impl NumberFormatter {
         })
     }
 
-    /// Formats the range of two numbers, in any order: `1–2`, or `~1` of two numbers that are shown alike.
+    /// Formats the range of two numbers, in any order: `1–2`. Two numbers that are equal, or have one sign and are
+    /// rounded to the same digits, are written as one with the approximately sign, `~1`, if the same texts are around
+    /// both and the same exponents are written.
     ///
-    /// `texts` are those of the formatter's locale. [`for_ranges`](NumberFormatter::for_ranges) makes the formatter.
+    /// `texts` should be those of the formatter's locale; with others the text has their separator.
+    /// [`for_ranges`](NumberFormatter::for_ranges) makes the formatter.
     /// Both numbers are rounded as by [`format`](Self::format). What both have around them is written once if it has
     /// more than one character, as ICU does: `1,00–2,00 €`, but `$1.00 – $2.00`. `formatRange` of ECMA-402.
     ///
     /// # Errors
     ///
-    /// Both numbers, unchanged, and the error of [`format`](Self::format): of the first number, or else of the second
-    /// one. The first number is copied: `Memory` is also for a copy of more than `INLINE_DIGITS` digits.
+    /// Both numbers, unchanged, and the error of [`format`](Self::format) of one of them. The first number is formatted
+    /// first. It is copied before: `Memory` is also for a copy of more than `INLINE_DIGITS` digits.
     ///
     /// ```
     /// let formatter = NumberFormatter::for_ranges("en", options)?;
