@@ -3,7 +3,7 @@ ghost use Rattle.std.specs.Prelude.{◌≡◌, ◌≢◌, ◌*◌, ◌^◌, ◌<
 ghost use Rattle.decimal_unsigned.specs.Unsigned.{Unsigned, IsValue};
 ghost use Rattle.fixed_decimal.specs.Decimal.{Decimal, with_sign_display};
 ghost use Rattle.decimal_format.specs.{Formatted.formatted, Readable.IsReadable, Symbols.{Symbols, sign_affixes}};
-ghost use Rattle.number_format.specs.{declared.read.scientific.ExponentForm.ExponentForm, FormattedNumbers.number_text, AffixedTexts.{Reader, AreNamed, text_with, shifted, IsReadExactly}, Formatters.{plain_options, IsFormatterBy, IsFormatter}, NumberReading.{IsStandard, reader_of, CanRead, IsShownAs}, NumberText.IsNumberText, ScientificReading.{CanReadExponent, exponent_form, HasExponentOf, notation_of, scientific_text, IsReadScientific}, ShownDigits.{rounded_with, applied, IsFractional, KeepsDigits}, Scaled.{KeepsExponent, KeepsValueOf}};
+ghost use Rattle.number_format.specs.{declared.read.scientific.ExponentForm.ExponentForm, FormattedNumbers.number_text, AffixedTexts.{Reader, AreNamed, between, text_with, shifted, IsReadExactly}, Formatters.{plain_options, IsFormatterBy, IsFormatter}, NumberReading.{IsStandard, reader_of, CanRead, IsShownAs}, NumberText.IsNumberText, ScientificReading.{CanReadExponent, exponent_form, HasExponentOf, notation_of, scientific_text, IsReadScientific}, AffixedExponents.IsReadWithExponent, ShownDigits.{rounded_with, applied, IsFractional, KeepsDigits}, Scaled.{KeepsExponent, KeepsValueOf}};
 
 use crate::digits::options::DigitOptions;
 use crate::digits::ranges::FractionDigits;
@@ -87,20 +87,20 @@ pub fn scaled_texts_read_back()
         → (w.sign ≡ v.sign) × (w.absolute.number ≡ v.absolute.number) }
 {}
 
-/// What a formatter writes of a value is read back by its reader as the number that is shown, rounded and with the sign
-/// that is written, with the scale undone.
+/// What a formatter writes of a value in standard notation is read back by its reader as the number that is shown,
+/// rounded and with the sign that is written, with the scale undone.
 pub fn formatted_texts_read_back()
     ensures { (inline : ℕ) (f : NumberFormatter) (v u : Decimal) (text : List ℕ) (result : Result Decimal ParseError)
-        → CanRead f → IsValue v.absolute → IsNumberText f v text → IsShownAs f v u
+        → IsStandard f → CanRead f → IsValue v.absolute → IsNumberText f v text → IsShownAs f v u
         → IsReadExactly inline (reader_of f) text result
         → (result ≡ shifted (reader_of f).shift (Ok u)) ⊎ (result ≡ Err ParseError.Memory) }
 {}
 
-/// Of a formatter whose texts are read two numbers that are shown have different texts.
+/// Of a formatter in standard notation whose texts are read two numbers that are shown have different texts.
 pub fn formatted_texts_are_unique()
-    ensures { (f : NumberFormatter) (v w x y : Decimal) (text : List ℕ) → CanRead f → IsValue v.absolute
-        → IsValue w.absolute → IsNumberText f v text → IsNumberText f w text → IsShownAs f v x → IsShownAs f w y
-        → x ≡ y }
+    ensures { (f : NumberFormatter) (v w x y : Decimal) (text : List ℕ) → IsStandard f → CanRead f
+        → IsValue v.absolute → IsValue w.absolute → IsNumberText f v text → IsNumberText f w text
+        → IsShownAs f v x → IsShownAs f w y → x ≡ y }
 {}
 
 /// A formatter by options with the notation `Standard` writes no words and no exponent, as reading needs it.
@@ -116,6 +116,16 @@ pub fn scientific_texts_read_back()
         (result : Result Decimal ParseError) → CanReadExponent s f → IsValue v → unsigned_abs e < 2 ^ 32
         → HasExponentOf (notation_of f) v.number e → IsReadScientific inline s f (scientific_text s f g v e) result
         → (result ≡ shifted e (Ok (record { sign = Sign.None; absolute = v }))) ⊎ (result ≡ Err ParseError.Memory) }
+{}
+
+/// The same between the affixes of a sign reads as that number with the sign, times 10^shift: `-1.20E3%` as -12.00.
+pub fn affixed_exponents_read_back()
+    ensures { (inline : ℕ) (r : Reader) (f : ExponentForm) (g : GroupingStrategy) (sign : Sign) (v : Unsigned) (e : ℤ)
+        (result : Result Decimal ParseError) → CanReadExponent r.symbols f → IsValue v → unsigned_abs e < 2 ^ 32
+        → HasExponentOf (notation_of f) v.number e
+        → IsReadWithExponent inline r f (between r sign (scientific_text r.symbols f g v e)) result
+        → (result ≡ shifted r.shift (shifted e (Ok (record { sign = sign; absolute = v }))))
+        ⊎ (result ≡ Err ParseError.Memory) }
 {}
 
 /// The digits and the exponent that a formatter writes, if no decimal separator is written after an integer, are the

@@ -134,7 +134,7 @@ module _ (r : Reader) (bytes : List ℕ) where
 
   module _ (readable : IsReadable r.symbols) (named : AreNamed r.symbols r.affixes) (sign : Sign)
       (middle : List ℕ) (inside : IsBetween r bytes sign middle) where
-    only_middle : (x : Sign) (text : List ℕ) → IsBetween r bytes x text → (x ≡ sign) × (middle ≡ text)
+    pub only_middle : (x : Sign) (text : List ℕ) → IsBetween r bytes x text → (x ≡ sign) × (middle ≡ text)
     only_middle x text b =
         let same = same_middle r.symbols (by_sign r.affixes) named.pair x sign text middle
         (record { begins = b.begins; ends = b.ends }) (record { begins = inside.begins; ends = inside.ends })

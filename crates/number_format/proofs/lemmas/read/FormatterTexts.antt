@@ -29,9 +29,10 @@ text_around f s x =
     refl
 
 -- the text of a number is that of the number that is shown
-pub formatter_text : (f : NumberFormatter) (v u : Decimal) (text : List ℕ) → HasNumberAlone f → IsNumberText f v text
+pub formatter_text : (f : NumberFormatter) (v u : Decimal) (text : List ℕ) → IsStandard f → HasNumberAlone f
+    → IsNumberText f v text
     → IsShownAs f v u → text ≡ text_with (reader_of f) f.options.grouping u
-formatter_text f v u text (standard, (alone, auto)) (pieces, is, of_pieces) shown =
+formatter_text f v u text standard (notation, (alone, auto)) (pieces, is, of_pieces) shown =
     let number : is.number ≡ shown.number = some_same _ _ (sym is.number_is ∙ shown.number_is) in
     let s = shown_sign f v shown.number.significand in
     let affixes = ap (affixes_for f.style) (sym shown.sign) ∙ sym (by_sign_is f.style u.sign) in
@@ -50,11 +51,12 @@ formatter_text f v u text (standard, (alone, auto)) (pieces, is, of_pieces) show
     ++ (absolute_text f.style.symbols f.options.grouping (sym shown.absolute i) ++ (affixes i).suffix))
 
 -- one text is shown of one number
-pub are_unique : (f : NumberFormatter) (v w x y : Decimal) (text : List ℕ) → CanRead f → IsNumberText f v text
-    → IsNumberText f w text → IsShownAs f v x → IsShownAs f w y → IsValue x.absolute → IsValue y.absolute → x ≡ y
-are_unique f v w x y text can a b p q valid valid' =
+pub are_unique : (f : NumberFormatter) (v w x y : Decimal) (text : List ℕ) → IsStandard f → CanRead f
+    → IsNumberText f v text → IsNumberText f w text → IsShownAs f v x → IsShownAs f w y → IsValue x.absolute
+    → IsValue y.absolute → x ≡ y
+are_unique f v w x y text standard can a b p q valid valid' =
     named_texts_are_unique (reader_of f) can.named can.readable f.options.grouping f.options.grouping x y valid valid'
-    (sym (formatter_text f v x text can.undo.0 a p) ∙ formatter_text f w y text can.undo.0 b q)
+    (sym (formatter_text f v x text standard can.undo.0 a p) ∙ formatter_text f w y text standard can.undo.0 b q)
 
 -- ---- Standard notation.
 
