@@ -11,14 +11,15 @@ use Rattle.number_format.specs.{declared.{digits.options.DigitOptions.DigitOptio
 abbrev pub IsStandard : NumberFormatter → Type 0
 IsStandard f = f.options.notation ≡ NumberNotation.Standard
 
--- no increment, which may make the significand 10: by multiples of 5 the text of 9 is `10E0`
-abbrev pub HasNoIncrements : Option DigitOptions → Type 0
-HasNoIncrements (Some o) = HasNoIncrement o.precision
-HasNoIncrements None = Unit {0}
+-- the significand that is shown is one of the notation: the number is rounded, but by no increment, as by multiples of 5
+-- the text of 9 is `10E0`; and no integer digit is cut off, as of 10.2E3 by one digit `0.2E3` is left
+abbrev pub KeepsNotation : Option DigitOptions → Type 0
+KeepsNotation (Some o) = (o.integer.max ≡ 32768) × HasNoIncrement o.precision
+KeepsNotation None = ⊥
 
 -- exponents are written in this form, and can be read
 abbrev pub CanReadExponents : NumberFormatter → Option ExponentForm → Type 0
-CanReadExponents f (Some form) = HasNoIncrements f.digits × CanReadExponent f.style.symbols form
+CanReadExponents f (Some form) = KeepsNotation f.digits × CanReadExponent f.style.symbols form
 CanReadExponents f None = ⊥
 
 -- no exponent is written, or exponents that can be read

@@ -3,12 +3,13 @@ ghost use Rattle.std.specs.Prelude.{◌≡◌, ◌≢◌, ◌*◌, ◌^◌, ◌<
 ghost use Rattle.decimal_unsigned.specs.Unsigned.{Unsigned, IsValue};
 ghost use Rattle.fixed_decimal.specs.Decimal.{Decimal, with_sign_display};
 ghost use Rattle.decimal_format.specs.{Formatted.formatted, Readable.IsReadable, Symbols.{Symbols, sign_affixes}};
-ghost use Rattle.number_format.specs.{declared.read.scientific.ExponentForm.ExponentForm, FormattedNumbers.number_text, AffixedTexts.{Reader, AreNamed, between, text_with, shifted, IsReadExactly}, Formatters.{plain_options, IsFormatterBy, IsFormatter}, NumberReading.{IsStandard, reader_of, CanRead, IsShownAs}, NumberText.IsNumberText, ScientificReading.{CanReadExponent, exponent_form, HasExponentOf, notation_of, scientific_text, IsReadScientific}, AffixedExponents.IsReadWithExponent, ShownDigits.{rounded_with, applied, IsFractional, KeepsDigits}, Scaled.{KeepsExponent, KeepsValueOf}};
+ghost use Rattle.number_format.specs.{declared.read.scientific.ExponentForm.ExponentForm, FormattedNumbers.number_text, AffixedTexts.{Reader, AreNamed, between, text_with, shifted, IsReadExactly}, Formatters.{plain_options, IsFormatterBy, IsFormatterAt, IsFormatter}, NumberReading.{IsStandard, reader_of, CanRead, IsShownAs}, NumberText.IsNumberText, ScientificReading.{CanReadExponent, exponent_form, HasExponentOf, notation_of, scientific_text, IsReadScientific}, AffixedExponents.IsReadWithExponent, ShownDigits.{rounded_with, applied, IsFractional, KeepsDigits}, Scaled.{KeepsExponent, KeepsValueOf}};
 
 use crate::digits::options::DigitOptions;
 use crate::digits::ranges::FractionDigits;
 use crate::format::formatted_number::FormattedNumber;
 use crate::format::formatter::NumberFormatter;
+use crate::format::ids::FormatterIds;
 use crate::format::outer::OuterTexts;
 use crate::notation::Notation;
 use crate::options::{DecimalSeparatorDisplay, NumberNotation, NumberOptions};
@@ -128,8 +129,19 @@ pub fn affixed_exponents_read_back()
         ⊎ (result ≡ Err ParseError.Memory) }
 {}
 
-/// The digits and the exponent that a formatter writes, if no decimal separator is written after an integer, are the
-/// text of a significand and an exponent by its form of exponents.
+/// What a formatter writes of a value with an exponent is read back by its reader as the number that is shown times the
+/// power of ten, with the scale undone. The number is rounded and has the sign that is written.
+pub fn formatted_exponents_read_back()
+    ensures { (inline : ℕ) (ids : FormatterIds) (o : NumberOptions) (f : NumberFormatter) (form : ExponentForm)
+        (v u : Decimal) (text : List ℕ) (result : Result Decimal ParseError) → IsFormatterAt ids o f
+        → exponent_form f f.options.notation ≡ Some form → CanRead f → IsValue v.absolute → IsNumberText f v text
+        → (shown : IsShownAs f v u) → IsReadWithExponent inline (reader_of f) form text result
+        → (result ≡ shifted (reader_of f).shift (shifted shown.number.exponent (Ok u)))
+        ⊎ (result ≡ Err ParseError.Memory) }
+{}
+
+/// The digits and the exponent that a formatter writes are a text by its form of exponents. This holds if no decimal
+/// separator is written after an integer.
 pub fn exponents_are_written_by_their_form()
     ensures { (n : FormattedNumber) (f : ExponentForm)
         → exponent_form n.formatter.now n.formatter.now.options.notation ≡ Some f

@@ -11,3 +11,4 @@ pub mod ScientificExponentTexts
 pub mod ScientificShown
 pub mod ScientificBodies
 pub mod ScientificAffixes
+pub mod FormattedExponents

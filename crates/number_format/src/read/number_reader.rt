@@ -1,6 +1,6 @@
 //! Readers of what formatters write.
 ghost use Rattle.std.specs.Prelude.{◌≡◌, ◌↔◌, IsTrue, ◌∷◌, [], ◌++◌, ◌-ℤ◌, pos, length, map, flat_map, IfOk, IfErr, OnOk};
-ghost use Rattle.number_format.specs.{PatternTexts.affixes_of_style, NumberReading.{HasNoIncrements, CanReadExponents, CanReadNotation, HasNumberAlone, CanRead, CanUndo, CannotRead, names_by, form, form_of, forms_of_name, number_reader_of, typed_forms, IsReadStrictly, IsTypedBy, IsReadLeniently, IsReadInMode}, ScientificReading.exponent_form};
+ghost use Rattle.number_format.specs.{PatternTexts.affixes_of_style, NumberReading.{KeepsNotation, CanReadExponents, CanReadNotation, HasNumberAlone, CanRead, CanUndo, CannotRead, names_by, form, form_of, forms_of_name, number_reader_of, typed_forms, IsReadStrictly, IsTypedBy, IsReadLeniently, IsReadInMode}, Scaled.HasNoIncrement, ScientificReading.exponent_form};
 
 use crate::digits::options::DigitOptions;
 use crate::digits::precision::Precision;
@@ -29,7 +29,7 @@ pub enum NumberReaderError {
     /// - A unit, the name of a currency, or a decimal separator without fraction digits is written.
     /// - The notation is scientific or engineering, and the sign of the exponent is never written; or the text before
     ///   the exponent begins with a digit or a separator, or one of these with it; or numbers are rounded to multiples
-    ///   of an increment.
+    ///   of an increment, or integer digits are cut off.
     Notation,
     /// The scale is -32768, which no scale undoes.
     Scale,
@@ -142,12 +142,18 @@ fn forms(
     Ok(forms)
 }
 
-fn has_no_increments(digits: &Option<DigitOptions>) -> bool
-    ensures { IsTrue result ↔ HasNoIncrements digits.now }
+fn has_no_increment(precision: Precision) -> bool
+    ensures { IsTrue result ↔ HasNoIncrement precision }
+{
+    !matches!(precision, Precision::Multiples(_))
+}
+
+fn keeps_notation(digits: &Option<DigitOptions>) -> bool
+    ensures { IsTrue result ↔ KeepsNotation digits.now }
 {
     match digits {
-        Some(options) => !matches!(options.precision, Precision::Multiples(_)),
-        None => true,
+        Some(options) => options.integer.max == 32768 && has_no_increment(options.precision),
+        None => false,
     }
 }
 
@@ -157,7 +163,7 @@ fn can_read_exponents(formatter: &NumberFormatter) -> bool
 {
     match ExponentForm::of(formatter) {
         Some(form) => {
-            has_no_increments(&formatter.digits) && form.can_read(&formatter.style.symbols)
+            keeps_notation(&formatter.digits) && form.can_read(&formatter.style.symbols)
         }
         None => false,
     }

@@ -1,5 +1,5 @@
 -- Scans of digits and separators.
-use Rattle.std.proofs.{Common.{◌≡◌, ◌≢◌, ℕ, suc, ◌+◌, ◌*◌, ◌%◌, ◌<◌, ◌==◌, Bool, true, false, List, [], ◌∷◌, ◌++◌, length, refl, sym, ◌∙◌, ap, subst, arith, append_assoc, append-nil, length-append, inl, inr}, lemmas.{Bool.{cases_eq, Decides.nat_tests}, List.append_cancel_left}}
+use Rattle.std.proofs.{Math.Bool.or-true, Common.{◌≡◌, ◌≢◌, ℕ, suc, ◌+◌, ◌*◌, ◌%◌, ◌<◌, ◌==◌, Bool, true, false, ◌||◌, List, [], ◌∷◌, ◌++◌, length, refl, sym, ◌∙◌, ap, subst, arith, append_assoc, append-nil, length-append, inl, inr}, lemmas.{Bool.{cases_eq, Decides.nat_tests}, List.append_cancel_left}}
 use Rattle.std.specs.{Prelude.{if◌then◌else◌}, Int.Digits.{AllBelowBase, number_from_digits_after}}
 use Rattle.decimal_format.specs.{Symbols.{Symbols}, Readable.{IsReadable, code}, Reading.{digits_text, fraction_text}}
 use Rattle.decimal_format.proofs.lemmas.reader.Codes.{apart, digit_code, none_not_code}
@@ -242,37 +242,24 @@ numeral-numbers f ds es all more =
 
 -- ---- Separators.
 
-decimal_stays : (scan : Scan) (ks : List ℕ) → scan.has_decimal ≡ true → (scanned scan ks).has_decimal ≡ true
-decimal_stays scan [] e = e
-decimal_stays scan (k ∷ ks) e = decimal_stays (with_code scan k) ks (next (k == 10) (k == 11) scan.has_decimal)
-  where
-    next : (a b c : Bool) → (if a then record scan { has_decimal = true }
-        else if b then record scan { has_grouping = true }
-        else if c then record scan { fraction = capped (scan.fraction * 10 + k) }
-        else record scan {
-          count = capped (scan.count + 1);
-          whole = capped (scan.whole * 10 + k);
-          remainder = (scan.remainder * 10 + k) % 3;
-        }).has_decimal ≡ true
-    next true b c = refl
-    next false true c = e
-    next false false true = e
-    next false false false = e
+abbrev has_separator : Scan → Bool
+has_separator scan = scan.has_decimal || scan.has_grouping
 
-grouping_stays : (scan : Scan) (ks : List ℕ) → scan.has_grouping ≡ true → (scanned scan ks).has_grouping ≡ true
-grouping_stays scan [] e = e
-grouping_stays scan (k ∷ ks) e = grouping_stays (with_code scan k) ks (next (k == 10) (k == 11) scan.has_decimal)
+-- a separator that was scanned stays
+separator_stays : (scan : Scan) (ks : List ℕ) → has_separator scan ≡ true → has_separator (scanned scan ks) ≡ true
+separator_stays scan [] e = e
+separator_stays scan (k ∷ ks) e = separator_stays (with_code scan k) ks (next (k == 10) (k == 11) scan.has_decimal)
   where
-    next : (a b c : Bool) → (if a then record scan { has_decimal = true }
+    next : (a b c : Bool) → has_separator (if a then record scan { has_decimal = true }
         else if b then record scan { has_grouping = true }
         else if c then record scan { fraction = capped (scan.fraction * 10 + k) }
         else record scan {
           count = capped (scan.count + 1);
           whole = capped (scan.whole * 10 + k);
           remainder = (scan.remainder * 10 + k) % 3;
-        }).has_grouping ≡ true
-    next true b c = e
-    next false true c = refl
+        }) ≡ true
+    next true b c = refl
+    next false true c = or-true scan.has_decimal
     next false false true = e
     next false false false = e
 
@@ -282,15 +269,15 @@ only_digits scan [] all plain = tt
 only_digits scan (k ∷ ks) all plain = (
   elim (cases_eq k 10) [
     | inl e ↦
-        let t = decimal_stays (record scan { has_decimal = true }) ks refl in
-        let same : (scanned (with_code scan 10) ks).has_decimal ≡ false =
-        ap (λ j. (scanned (with_code scan j) ks).has_decimal) (sym e) ∙ plain.0 in
+        let t = separator_stays (record scan { has_decimal = true }) ks refl in
+        let same : has_separator (scanned (with_code scan 10) ks) ≡ false =
+        ap (λ j. has_separator (scanned (with_code scan j) ks)) (sym e) ∙ (λ i. plain.0 i || plain.1 i) in
         absurd (cc (t, same))
     | inr ten ↦ elim (cases_eq k 11) [
       | inl e ↦
-          let t = grouping_stays (record scan { has_grouping = true }) ks refl in
-          let same : (scanned (with_code scan 11) ks).has_grouping ≡ false =
-          ap (λ j. (scanned (with_code scan j) ks).has_grouping) (sym e) ∙ plain.1 in
+          let t = separator_stays (record scan { has_grouping = true }) ks (or-true scan.has_decimal) in
+          let same : has_separator (scanned (with_code scan 11) ks) ≡ false =
+          ap (λ j. has_separator (scanned (with_code scan j) ks)) (sym e) ∙ (λ i. plain.0 i || plain.1 i) in
           absurd (cc (t, same))
       | inr eleven ↦ omega (arith, all.0, ten, eleven)
     ]
