@@ -11,8 +11,8 @@ use Rattle.number_format.specs.{declared.{digits.options.DigitOptions.DigitOptio
 abbrev pub IsStandard : NumberFormatter → Type 0
 IsStandard f = f.options.notation ≡ NumberNotation.Standard
 
--- the significand that is shown is one of the notation: the number is rounded, but by no increment, as by multiples of 5
--- the text of 9 is `10E0`; and no integer digit is cut off, as of 10.2E3 by one digit `0.2E3` is left
+-- no integer digit is cut off, as of 10.2E3 by one digit, which leaves `0.2E3`; and the number is rounded without an
+-- increment, since by multiples of 5 the text of 9 is `10E0`
 abbrev pub KeepsNotation : Option DigitOptions → Type 0
 KeepsNotation (Some o) = (o.integer.max ≡ 32768) × HasNoIncrement o.precision
 KeepsNotation None = ⊥

@@ -140,6 +140,14 @@ pub fn formatted_exponents_read_back()
         ⊎ (result ≡ Err ParseError.Memory) }
 {}
 
+/// Of a formatter that writes exponents and whose texts are read two numbers that are shown have different texts.
+pub fn formatted_exponents_are_unique()
+    ensures { (ids : FormatterIds) (o : NumberOptions) (f : NumberFormatter) (form : ExponentForm) (v w x y : Decimal)
+        (text : List ℕ) → IsFormatterAt ids o f → exponent_form f f.options.notation ≡ Some form → CanRead f
+        → IsValue v.absolute → IsValue w.absolute → IsNumberText f v text → IsNumberText f w text
+        → (p : IsShownAs f v x) (q : IsShownAs f w y) → (x ≡ y) × (p.number.exponent ≡ q.number.exponent) }
+{}
+
 /// The digits and the exponent that a formatter writes are a text by its form of exponents. This holds if no decimal
 /// separator is written after an integer.
 pub fn exponents_are_written_by_their_form()

@@ -11,4 +11,5 @@ pub mod ScientificExponentTexts
 pub mod ScientificShown
 pub mod ScientificBodies
 pub mod ScientificAffixes
+pub mod ScientificUnique
 pub mod FormattedExponents

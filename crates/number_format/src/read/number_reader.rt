@@ -295,10 +295,14 @@ impl NumberReader {
     /// The number may have all grouping separators, or none. The value is the one that is shown: rounded, and with the
     /// sign that is written.
     ///
+    /// In scientific and engineering notation the text has the exponent that the notation has for the number, with its
+    /// sign and its least number of digits: `1.2E3` is 1200, and `12E3`, `1E03` and `1200` are `Syntax`.
+    ///
     /// # Errors
     ///
     /// - `Syntax`: no decimal has this text, of any number of digits.
-    /// - `Limit`: there are more than 32,768 integer or fraction digits, or the scale leaves these limits.
+    /// - `Limit`: there are more than 32,768 integer or fraction digits, or the exponent or the scale leaves these
+    ///   limits.
     /// - `Memory`: out of memory; possible only with more than `L` digits.
     pub fn read<D: DigitStore>(
         &self,
@@ -332,7 +336,7 @@ impl NumberReader {
 
     /// Reads a number as people type it, and undoes the scale.
     ///
-    /// A text that [`read`](Self::read) accepts has the same value. Else the number is as
+    /// A text that [`read`](Self::read) accepts has the same value. Else the number has no exponent, and is as
     /// [`DecimalSymbols::read_lenient`](decimal_format::DecimalSymbols::read_lenient) accepts it. Around it may be what
     /// the formatter writes, nothing, or parentheses for a minus sign; or, on either side and with a space or without,
     /// the symbol, the narrow symbol or the code of the currency, or the percent sign, also after a sign. Two signs,

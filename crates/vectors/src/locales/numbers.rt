@@ -216,7 +216,12 @@ fn checks(
     match options.check {
         Check::Text => formats(alloc, &formatter, reader, options, (text, expected)),
         Check::Parts => has_parts_of(alloc, tag, number, (text, expected)),
-        Check::Read => reads(alloc, &reader.ok()?, text, expected),
+        Check::Read => reads(
+            alloc,
+            &reader.ok()?,
+            options.has_exponent(),
+            (text, expected),
+        ),
         Check::Lenient => reads_leniently(alloc, &reader.ok()?, text, expected),
     }
 }

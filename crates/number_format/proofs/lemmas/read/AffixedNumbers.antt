@@ -14,7 +14,7 @@ never_after_last : (s : Symbols) (g : GroupingStrategy) (n : ℕ) → separated_
 never_after_last s g n =
     strategy_is s g n 0 ∙ ap (λ b. b && is_grouped g s.sizes (pos (n - 1))) (none_after_last s)
 
-digits_end : (s : Symbols) (f : ℕ → Bool) → f 0 ≡ false → (d : ℕ) (ds : List ℕ) → d < 10 → AllBelowBase 10 ds
+pub digits_end : (s : Symbols) (f : ℕ → Bool) → f 0 ≡ false → (d : ℕ) (ds : List ℕ) → d < 10 → AllBelowBase 10 ds
     → EndsWithDigit s (digits_text s f (d ∷ ds))
 unfolding digits_text
 digits_end s f none d [] below all = record {

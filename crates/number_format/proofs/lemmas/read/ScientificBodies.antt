@@ -2,25 +2,17 @@
 use Rattle.std.proofs.Common.{◌≡◌, ℕ, ◌<◌, false, true, List, [], ◌∷◌, ◌++◌, length, refl, sym, ◌∙◌, ap, subst, arith, append-nil, append_assoc}
 use Rattle.std.specs.{Prelude.{Option, Some, None, ℤ}, Int.Digits.AllBelowBase}
 use Rattle.decimal_unsigned.specs.Unsigned.{Unsigned}
-use Rattle.decimal_format.specs.{declared.grouping.GroupingStrategy.TheVariants.Never, Symbols.{Symbols, digit_text, sign_affixes}, Formatted.absolute_text, Readable.{BeginsWithDigit, EndsWithDigit}, Reading.digits_text}
-use Rattle.decimal_format.proofs.lemmas.reader.{DigitTexts.digits_text-first, Scans.begins-append}
+use Rattle.decimal_format.specs.{declared.grouping.GroupingStrategy.TheVariants.Never, Symbols.{Symbols, sign_affixes}, Formatted.absolute_text, Readable.{BeginsWithDigit, EndsWithDigit}, Reading.digits_text}
+use Rattle.decimal_format.proofs.lemmas.reader.Scans.{begins-append}
 use Rattle.number_format.specs.{declared.{format.formatter.NumberFormatter.NumberFormatter, options.{DecimalSeparatorDisplay.DecimalSeparatorDisplay, NumberNotation.NumberNotation}, read.scientific.ExponentForm.ExponentForm}, FormattedNumbers.exponent_text, NumberText.{bare_separator, exponent_of, exponent_sign, shown_exponent}, ScientificReading.{exponent_form, ScientificNumeral, IsScientificNumeral, scientific_text}}
-use Rattle.number_format.proofs.lemmas.read.{NamedAffixes.ends-append, ScientificExponents.some_digits, ScientificTexts.unsigned_begins}
+use Rattle.number_format.proofs.lemmas.read.{AffixedNumbers.digits_end, NamedAffixes.ends-append, ScientificExponents.some_digits, ScientificTexts.unsigned_begins}
 
 -- ---- A number begins and ends with a digit.
 
 module _ (s : Symbols) where
-  digits_end : (ds : List ℕ) → 0 < length ds → AllBelowBase 10 ds → EndsWithDigit s (digits_text s (λ _. false) ds)
-  unfolding digits_text
-  digits_end [] some all = absurd (omega (arith, some))
-  digits_end (d ∷ []) some all = record {
-    digit = d;
-    before = [];
-    is_digit = all.0;
-    is = append-nil (digit_text s d);
-  }
-  digits_end (d ∷ (x ∷ ds)) some all =
-      ends-append s (digit_text s d) (digits_text s (λ _. false) (x ∷ ds)) (digits_end (x ∷ ds) (omega arith) all.1)
+  exponent_ends : (ds : List ℕ) → 0 < length ds → AllBelowBase 10 ds → EndsWithDigit s (digits_text s (λ _. false) ds)
+  exponent_ends [] some all = absurd (omega (arith, some))
+  exponent_ends (d ∷ ds) some all = digits_end s (λ _. false) refl d ds all.0 all.1
 
   pub scientific_begins : (f : ExponentForm) (bytes : List ℕ) (w : ScientificNumeral) → IsScientificNumeral s f bytes w
       → BeginsWithDigit s bytes
@@ -36,7 +28,7 @@ module _ (s : Symbols) where
       let back : EndsWithDigit s n.back =
       subst (EndsWithDigit s) (sym n.exponent.text)
       (ends-append s (sign_affixes s w.sign).prefix (digits_text s (λ _. false) w.exponent)
-      (digits_end w.exponent some n.exponent.digits)) in
+      (exponent_ends w.exponent some n.exponent.digits)) in
       subst (EndsWithDigit s) (sym n.text)
       (ends-append s n.front (f.separator.now ++ n.back) (ends-append s f.separator.now n.back back))
 

@@ -7,7 +7,7 @@ use Rattle.fixed_decimal.specs.{Decimal.Decimal, declared.variations.Sign.{TheVa
 use Rattle.fixed_decimal.proofs.Calling.{Extent, extent, first_of, offset_is, ten_pos, powers, number-append}
 use Rattle.decimal_format.specs.{declared.grouping.GroupingStrategy.GroupingStrategy, Symbols.Symbols, Formatted.{absolute_text}, Reading.{Numeral, AreDigits}, Scanning.value_of}
 use Rattle.decimal_format.proofs.lemmas.reader.NumeralTexts.{HasDigits, digits_of_value, formatted-digits}
-use Rattle.number_format.specs.{declared.{notation.Notation.{TheVariants.{Scientific, Engineering}}, read.scientific.ExponentForm.ExponentForm}, AffixedTexts.shifted, NumberText.exponent_sign, Scaled.exponent_at, ScientificReading.{step_of, IsInNotation, CanReadExponent, ScientificNumeral, IsScientificNumeral, IsReadScientific, scientific_text, scientific_value, notation_of, HasExponentOf}}
+use Rattle.number_format.specs.{declared.{notation.Notation.{TheVariants.{Scientific, Engineering}}, read.scientific.ExponentForm.ExponentForm}, AffixedTexts.shifted, NumberText.exponent_sign, Scaled.exponent_at, ScientificReading.{step_of, IsInNotation, CanReadExponent, ScientificNumeral, exponent_of, IsScientificNumeral, IsReadScientific, scientific_text, scientific_value, notation_of, HasExponentOf}}
 use Rattle.number_format.proofs.lemmas.read.{ScientificExponentTexts.exponent_shown, ScientificValues.digits_value}
 
 -- ---- The integer part.
@@ -155,10 +155,11 @@ module _ (s : Symbols) (f : ExponentForm) (g : GroupingStrategy) (v : Unsigned) 
             (number_from_digits 10 number.0.fraction)) (sym shown.number) in_notation;
       }
 
+  pub exponent_is : exponent_of numeral ≡ e
+  exponent_is = (exponent_shown s f.options e can.signs small).number
+
   pub numeral_is : scientific_value numeral ≡ shifted e (Ok (record { sign = None; absolute = v }))
-  numeral_is =
-      let shown = exponent_shown s f.options e can.signs small in
-      λ i. shifted (shown.number i) (digits_value _ number.0 number.2 i)
+  numeral_is = λ i. shifted (exponent_is i) (digits_value _ number.0 number.2 i)
 
   -- the text that is written reads as the number that is shown
   pub shown_reads : (inline : ℕ) (result : Result Decimal ParseError)
