@@ -1,5 +1,5 @@
 -- The exponent that scientific and engineering notation have for a number that is shown.
-use Rattle.std.proofs.{Common.{◌≡◌, ℕ, ◌*◌, ◌^◌, ◌<◌, Bool, true, false, inl, inr, sym, ◌∙◌, ap, arith}, Math.Nat.le-mul_of_pos_right, lemmas.{Bool.cases_lt, Int.{ints, clamps}}}
+use Rattle.std.proofs.{Common.{◌≡◌, ℕ, ◌*◌, ◌^◌, ◌<◌, Bool, true, false, inl, inr, refl, sym, ◌∙◌, ap, arith}, Math.Nat.le-mul_of_pos_right, lemmas.{Bool.cases_lt, Int.{ints, clamps}}}
 use Rattle.std.specs.{Prelude.{if◌then◌else◌, Some, ℤ, pos, negsuc, unsigned_abs, ◌-ℤ◌, ◌≤ℤ◌}, Int.{int_max, int_min}}
 use Rattle.decimal_digits.specs.Number.{offset, number_limit, first}
 use Rattle.fixed_decimal.specs.Decimal.{Decimal}

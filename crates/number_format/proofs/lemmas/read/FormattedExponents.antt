@@ -1,10 +1,9 @@
 -- What a formatter writes with an exponent is read back by its reader.
-use Rattle.std.proofs.Common.{◌≡◌, ℕ, List, inl, inr, refl, sym, ◌∙◌, ap, subst}
+use Rattle.std.proofs.Common.{◌≡◌, ℕ, true, false, List, inl, inr, refl, sym, ◌∙◌, ap, subst}
 use Rattle.std.specs.Prelude.{◌⊎◌, ◌<◌, ◌^◌, Option, Some, None, Result, Ok, Err, pos, unsigned_abs}
 use Rattle.decimal_unsigned.specs.{Unsigned.{Unsigned, IsValue}, declared.error.ParseError.{ParseError, TheVariants.Memory}}
 use Rattle.fixed_decimal.specs.Decimal.{Decimal}
 use Rattle.fixed_decimal.proofs.Calling.{below_limit}
-use Rattle.locale_data.specs.declared.number_formats.NumberFormats.{NumberFormats}
 use Rattle.decimal_format.specs.Scanning.{value_of}
 use Rattle.number_format.specs.ScientificReading as scientific
 use Rattle.number_format.specs.{declared.{digits.options.DigitOptions.DigitOptions, format.{formatter.NumberFormatter.NumberFormatter, ids.FormatterIds.FormatterIds}, notation.Notation.{Notation, TheVariants.{Scientific, Engineering}}, options.{NumberOptions.NumberOptions, NumberNotation.NumberNotation, NumberStyle.NumberStyle}, read.scientific.ExponentForm.ExponentForm}, AffixedExponents.IsReadWithExponent, AffixedTexts.{between, shifted, IsBetween}, Formatters.{IsFormatterAt, IsNotationBy}, NumberReading.{KeepsNotation, CanReadExponents, CanReadNotation, HasNumberAlone, CanRead, IsShownAs, reader_of}, NumberText.{IsNumberText, compact_style, exponent_of, rounded_in}, Scaled.{ScaledValue, scaled}, ScientificReading.{CanReadExponent, ScientificNumeral, IsScientificNumeral, exponent_form, HasExponentOf, notation_of, scientific_text}}
