@@ -6,9 +6,9 @@
 LOCALES is what `fixdec_lines --locales` prints, CASES is 20,000 by default. The tags are those of LOCALES that node
 knows, and those of node itself: each tag of a language, a script and a region of tools/locales/symbols.tsv that node
 resolves to itself. A few have a private use that looks like a numbering system. One number in five is a range. In
-standard notation the texts of numbers that have neither a unit nor a name are read back. Prints how often the two agree
-and how often each known difference occurs; each other difference, and each text that is not read back, is a line, with
-status 1. Needs the module, by `pip install ./python`, and node with this CLDR.
+each notation but compact the texts of numbers that have neither a unit nor a name are read back, with an exponent only
+if they have no increment. Prints how often the two agree and how often each known difference occurs; each other
+difference, and each text that is not read back, is a line, with status 1. Needs the module, by `pip install ./python`, and node with this CLDR.
 """
 import collections
 import json
@@ -135,7 +135,10 @@ def is_outer(options):
 
 def is_read_back(text, locale, number, options):
     # By two precisions a number that is rounded to 0 is shown otherwise than 0.
-    if options.keys() & {"notation", "roundingPriority"} or is_outer(options) or not isinstance(number, str):
+    if "roundingPriority" in options or is_outer(options) or not isinstance(number, str):
+        return True
+    notation = options.get("notation", "standard")
+    if notation == "compact" or notation != "standard" and "roundingIncrement" in options:
         return True
     try:
         return Decimal.read(text, locale, **keywords(options)).format(locale, **keywords(options)) == text

@@ -663,7 +663,10 @@ static void test_read_by_skeleton(void) {
         {"EUR 1.234,5", "de", "currency/EUR", 0, FD_SYNTAX, NULL},
         {"1 USD", "de", "currency/EUR", 1, FD_SYNTAX, NULL},
         {"\xff", "de", "percent", 1, FD_SYNTAX, NULL},
-        {"x", "en", "scientific", 0, FD_UNREADABLE_FORMAT, NULL},
+        {"-1.25E3", "en", "scientific", 0, FD_OK, "-1250"},
+        {"12,5E-3", "de", "engineering", 0, FD_OK, "0.0125"},
+        {"12E3", "en", "scientific", 0, FD_SYNTAX, NULL},
+        {"x", "en", "scientific/sign-never", 0, FD_UNREADABLE_FORMAT, NULL},
         {"x", "es", "K", 1, FD_UNREADABLE_FORMAT, NULL},
         {"x", "xx", "K", 0, FD_UNKNOWN_LOCALE, NULL},
         {"x", "xx", "percent/w", 0, FD_SKELETON_SYNTAX, NULL}};

@@ -118,7 +118,8 @@ pub enum NumberFormatError {
 pub enum NumberReadError {
     /// There is no such format.
     Format(NumberFormatError),
-    /// The numbers of the format are not read: they have an exponent or words, or two have the same text.
+    /// The numbers of the format are not read: they have words, a unit or an exponent without its minus sign, or two
+    /// have the same text.
     Unreadable,
     /// The text is not a number in this form.
     Text(ParseError),

@@ -260,6 +260,7 @@ fn numbers_are_read() {
         ("de", "currency/EUR", "-1.234,50\u{a0}€", "-1234.50"),
         ("en", "%x100 .0#", "12.5%", "0.125"),
         ("en", "currency/USD sign-accounting", "($1,234.50)", "-1234.50"),
+        ("de", "scientific", "-1,25E3", "-1250"),
         ("hi-u-nu-deva", "currency/INR", "₹१२,३४,५६७.५०", "1234567.50"),
     ] {
         assert_eq!(Decimal::read_number(locale, skeleton, text), Ok(decimal(own)), "{locale} {skeleton}");
@@ -269,7 +270,8 @@ fn numbers_are_read() {
     for (locale, skeleton, text, error) in [
         ("de", "percent/w", "x", NumberReadError::Format(NumberFormatError::SkeletonSyntax(7))),
         ("tlh", "percent", "x", NumberReadError::Format(NumberFormatError::UnknownLocale)),
-        ("de", "scientific", "x", NumberReadError::Unreadable),
+        ("de", "scientific", "12E3", NumberReadError::Text(ParseError::Syntax)),
+        ("de", "scientific/sign-never", "x", NumberReadError::Unreadable),
         ("de", "percent", "x", NumberReadError::Text(ParseError::Syntax)),
     ] {
         assert_eq!(Decimal::read_number(locale, skeleton, text), Err(error), "{locale} {skeleton}");

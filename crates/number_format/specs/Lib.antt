@@ -13,6 +13,7 @@ pub mod NumberText
 pub mod Formatters
 pub mod NumberReading
 pub mod ScientificReading
+pub mod AffixedExponents
 pub mod RangeText
 pub mod FormattedRanges
 pub mod TrimmedTexts

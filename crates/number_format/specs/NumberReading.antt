@@ -1,9 +1,9 @@
 -- What a formatter writes, read exactly and as people type it.
-use Rattle.std.specs.{Prelude.{◌≡◌, ◌≢◌, ℕ, ◌⊎◌, List, [], ◌∷◌, ◌++◌, map, flat_map, codes, Some, Result, Err, ◌-ℤ◌, pos, negsuc}, Str.IsUtf8}
+use Rattle.std.specs.{Prelude.{◌≡◌, ◌≢◌, ℕ, ◌⊎◌, List, [], ◌∷◌, ◌++◌, map, flat_map, codes, Option, Some, None, Result, Err, ◌-ℤ◌, pos, negsuc}, Str.IsUtf8}
 use Rattle.decimal_unsigned.specs.declared.error.ParseError.{ParseError, TheVariants.Syntax}
 use Rattle.fixed_decimal.specs.{Decimal.Decimal, declared.variations.Sign.Sign}
 use Rattle.decimal_format.specs.{Readable.IsReadable, Symbols.{Affixes, affixes}, declared.reader.alternatives.Alternative.Alternative}
-use Rattle.number_format.specs.{declared.{format.{outer.OuterTexts.OuterTexts, formatter.NumberFormatter.NumberFormatter}, options.{DecimalSeparatorDisplay.DecimalSeparatorDisplay, NumberNotation.NumberNotation, NumberStyle.NumberStyle}, read.number_reader.{NumberReaderError.NumberReaderError, ParseMode.{ParseMode, TheVariants.{Strict, Lenient}}}}, AffixedTexts.{AreNamed, Reader, IsReadExactly, IsReadTyped}, NumberText.{shown_number, shown_sign}, PatternTexts.{affixes_for, affixes_of_style}, Scaled.ScaledValue}
+use Rattle.number_format.specs.{declared.{digits.options.DigitOptions.DigitOptions, format.{outer.OuterTexts.OuterTexts, formatter.NumberFormatter.NumberFormatter}, options.{DecimalSeparatorDisplay.DecimalSeparatorDisplay, NumberNotation.NumberNotation, NumberStyle.NumberStyle}, read.{scientific.ExponentForm.ExponentForm, number_reader.{NumberReaderError.NumberReaderError, ParseMode.{ParseMode, TheVariants.{Strict, Lenient}}}}}, AffixedTexts.{AreNamed, Reader, IsReadExactly, IsReadTyped}, NumberText.{shown_number, shown_sign}, PatternTexts.{affixes_for, affixes_of_style}, Scaled.{ScaledValue, HasNoIncrement}, ScientificReading.{exponent_form, CanReadExponent}, AffixedExponents.{IsReadWithExponent, IsTypedWithExponent}}
 
 -- ---- Exactly.
 
@@ -11,10 +11,25 @@ use Rattle.number_format.specs.{declared.{format.{outer.OuterTexts.OuterTexts, f
 abbrev pub IsStandard : NumberFormatter → Type 0
 IsStandard f = f.options.notation ≡ NumberNotation.Standard
 
+-- no integer digit is cut off, as of 10.2E3 by one digit, which leaves `0.2E3`; and the number is rounded without an
+-- increment, since by multiples of 5 the text of 9 is `10E0`
+abbrev pub KeepsNotation : Option DigitOptions → Type 0
+KeepsNotation (Some o) = (o.integer.max ≡ 32768) × HasNoIncrement o.precision
+KeepsNotation None = ⊥
+
+-- exponents are written in this form, and can be read
+abbrev pub CanReadExponents : NumberFormatter → Option ExponentForm → Type 0
+CanReadExponents f (Some form) = KeepsNotation f.digits × CanReadExponent f.style.symbols form
+CanReadExponents f None = ⊥
+
+-- no exponent is written, or exponents that can be read
+abbrev pub CanReadNotation : NumberFormatter → Type 0
+CanReadNotation f = IsStandard f ⊎ CanReadExponents f (exponent_form f f.options.notation)
+
 -- and no unit, no name of a currency, and no decimal separator without fraction digits is written
 abbrev pub HasNumberAlone : NumberFormatter → Type 0
 HasNumberAlone f =
-    IsStandard f × ((f.outer ≡ OuterTexts.None) × (f.options.decimal_separator ≡ DecimalSeparatorDisplay.Auto))
+    CanReadNotation f × ((f.outer ≡ OuterTexts.None) × (f.options.decimal_separator ≡ DecimalSeparatorDisplay.Auto))
 
 -- the reader of its texts, which undoes its scale
 abbrev pub reader_of : NumberFormatter → Reader
@@ -79,19 +94,38 @@ typed_forms f =
 
 pub record NumberReader : Type 0 where
   pub texts : Reader
+  pub exponent : Option ExponentForm
   pub forms : List (Affixes × Sign)
 
 abbrev pub number_reader_of : NumberFormatter → NumberReader
-number_reader_of f = record { texts = reader_of f; forms = typed_forms f }
+number_reader_of f = record {
+  texts = reader_of f;
+  exponent = exponent_form f f.options.notation;
+  forms = typed_forms f;
+}
+
+-- the result of reading a text exactly, with an exponent if the formatter writes one
+abbrev pub IsReadBy : ℕ → Reader → Option ExponentForm → List ℕ → Result Decimal ParseError → Type 0
+IsReadBy inline r None text result = IsReadExactly inline r text result
+IsReadBy inline r (Some form) text result = IsReadWithExponent inline r form text result
+
+abbrev pub IsReadStrictly : ℕ → NumberReader → List ℕ → Result Decimal ParseError → Type 0
+IsReadStrictly inline r text result = IsReadBy inline r.texts r.exponent text result
+
+-- the result of lenient reading with alternatives
+abbrev pub IsTypedBy : ℕ → Reader → Option ExponentForm → List Alternative → List ℕ → Result Decimal ParseError
+    → Type 0
+IsTypedBy inline r None all text result = IsReadTyped inline r all text result
+IsTypedBy inline r (Some form) all text result = IsTypedWithExponent inline r form all text result
 
 -- the result of lenient reading: by the first of these forms that has a number
 abbrev pub IsReadLeniently : ℕ → NumberReader → List ℕ → Result Decimal ParseError → Type 0
 IsReadLeniently inline r text result =
     (alternatives : List Alternative) × (map form_of alternatives ≡ r.forms)
-    × IsReadTyped inline r.texts alternatives text result
+    × IsTypedBy inline r.texts r.exponent alternatives text result
 
 -- the result of reading in a mode; leniently, a text that is not UTF-8 is `Syntax`
 abbrev pub IsReadInMode : ℕ → ParseMode → NumberReader → List ℕ → Result Decimal ParseError → Type 0
-IsReadInMode inline Strict r text result = IsReadExactly inline r.texts text result
+IsReadInMode inline Strict r text result = IsReadStrictly inline r text result
 IsReadInMode inline Lenient r text result =
     (IsUtf8 text × IsReadLeniently inline r text result) ⊎ (¬ IsUtf8 text × (result ≡ Err Syntax))

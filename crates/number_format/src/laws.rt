@@ -3,12 +3,13 @@ ghost use Rattle.std.specs.Prelude.{◌≡◌, ◌≢◌, ◌*◌, ◌^◌, ◌<
 ghost use Rattle.decimal_unsigned.specs.Unsigned.{Unsigned, IsValue};
 ghost use Rattle.fixed_decimal.specs.Decimal.{Decimal, with_sign_display};
 ghost use Rattle.decimal_format.specs.{Formatted.formatted, Readable.IsReadable, Symbols.{Symbols, sign_affixes}};
-ghost use Rattle.number_format.specs.{declared.read.scientific.ExponentForm.ExponentForm, FormattedNumbers.number_text, AffixedTexts.{Reader, AreNamed, text_with, shifted, IsReadExactly}, Formatters.{plain_options, IsFormatterBy, IsFormatter}, NumberReading.{IsStandard, reader_of, CanRead, IsShownAs}, NumberText.IsNumberText, ScientificReading.{CanReadExponent, exponent_form, HasExponentOf, notation_of, scientific_text, IsReadScientific}, ShownDigits.{rounded_with, applied, IsFractional, KeepsDigits}, Scaled.{KeepsExponent, KeepsValueOf}};
+ghost use Rattle.number_format.specs.{declared.read.scientific.ExponentForm.ExponentForm, FormattedNumbers.number_text, AffixedTexts.{Reader, AreNamed, between, text_with, shifted, IsReadExactly}, Formatters.{plain_options, IsFormatterBy, IsFormatterAt, IsFormatter}, NumberReading.{IsStandard, reader_of, CanRead, IsShownAs}, NumberText.IsNumberText, ScientificReading.{CanReadExponent, exponent_form, HasExponentOf, notation_of, scientific_text, IsReadScientific}, AffixedExponents.IsReadWithExponent, ShownDigits.{rounded_with, applied, IsFractional, KeepsDigits}, Scaled.{KeepsExponent, KeepsValueOf}};
 
 use crate::digits::options::DigitOptions;
 use crate::digits::ranges::FractionDigits;
 use crate::format::formatted_number::FormattedNumber;
 use crate::format::formatter::NumberFormatter;
+use crate::format::ids::FormatterIds;
 use crate::format::outer::OuterTexts;
 use crate::notation::Notation;
 use crate::options::{DecimalSeparatorDisplay, NumberNotation, NumberOptions};
@@ -87,20 +88,20 @@ pub fn scaled_texts_read_back()
         → (w.sign ≡ v.sign) × (w.absolute.number ≡ v.absolute.number) }
 {}
 
-/// What a formatter writes of a value is read back by its reader as the number that is shown, rounded and with the sign
-/// that is written, with the scale undone.
+/// What a formatter writes of a value in standard notation is read back by its reader as the number that is shown,
+/// rounded and with the sign that is written, with the scale undone.
 pub fn formatted_texts_read_back()
     ensures { (inline : ℕ) (f : NumberFormatter) (v u : Decimal) (text : List ℕ) (result : Result Decimal ParseError)
-        → CanRead f → IsValue v.absolute → IsNumberText f v text → IsShownAs f v u
+        → IsStandard f → CanRead f → IsValue v.absolute → IsNumberText f v text → IsShownAs f v u
         → IsReadExactly inline (reader_of f) text result
         → (result ≡ shifted (reader_of f).shift (Ok u)) ⊎ (result ≡ Err ParseError.Memory) }
 {}
 
-/// Of a formatter whose texts are read two numbers that are shown have different texts.
+/// Of a formatter in standard notation whose texts are read two numbers that are shown have different texts.
 pub fn formatted_texts_are_unique()
-    ensures { (f : NumberFormatter) (v w x y : Decimal) (text : List ℕ) → CanRead f → IsValue v.absolute
-        → IsValue w.absolute → IsNumberText f v text → IsNumberText f w text → IsShownAs f v x → IsShownAs f w y
-        → x ≡ y }
+    ensures { (f : NumberFormatter) (v w x y : Decimal) (text : List ℕ) → IsStandard f → CanRead f
+        → IsValue v.absolute → IsValue w.absolute → IsNumberText f v text → IsNumberText f w text
+        → IsShownAs f v x → IsShownAs f w y → x ≡ y }
 {}
 
 /// A formatter by options with the notation `Standard` writes no words and no exponent, as reading needs it.
@@ -118,8 +119,38 @@ pub fn scientific_texts_read_back()
         → (result ≡ shifted e (Ok (record { sign = Sign.None; absolute = v }))) ⊎ (result ≡ Err ParseError.Memory) }
 {}
 
-/// The digits and the exponent that a formatter writes, if no decimal separator is written after an integer, are the
-/// text of a significand and an exponent by its form of exponents.
+/// The same between the affixes of a sign reads as that number with the sign, times 10^shift: `-1.20E3%` as -12.00.
+pub fn affixed_exponents_read_back()
+    ensures { (inline : ℕ) (r : Reader) (f : ExponentForm) (g : GroupingStrategy) (sign : Sign) (v : Unsigned) (e : ℤ)
+        (result : Result Decimal ParseError) → CanReadExponent r.symbols f → IsValue v → unsigned_abs e < 2 ^ 32
+        → HasExponentOf (notation_of f) v.number e
+        → IsReadWithExponent inline r f (between r sign (scientific_text r.symbols f g v e)) result
+        → (result ≡ shifted r.shift (shifted e (Ok (record { sign = sign; absolute = v }))))
+        ⊎ (result ≡ Err ParseError.Memory) }
+{}
+
+/// What a formatter writes of a value with an exponent is read back by its reader as the number that is shown times the
+/// power of ten, with the scale undone. The number is rounded and has the sign that is written. It is `Limit` if a digit
+/// that is written is below 10^-32768: a zero of `70E-32769`.
+pub fn formatted_exponents_read_back()
+    ensures { (inline : ℕ) (ids : FormatterIds) (o : NumberOptions) (f : NumberFormatter) (form : ExponentForm)
+        (v u : Decimal) (text : List ℕ) (result : Result Decimal ParseError) → IsFormatterAt ids o f
+        → exponent_form f f.options.notation ≡ Some form → CanRead f → IsValue v.absolute → IsNumberText f v text
+        → (shown : IsShownAs f v u) → IsReadWithExponent inline (reader_of f) form text result
+        → (result ≡ shifted (reader_of f).shift (shifted shown.number.exponent (Ok u)))
+        ⊎ (result ≡ Err ParseError.Memory) }
+{}
+
+/// Of a formatter that writes exponents and whose texts are read two numbers that are shown have different texts.
+pub fn formatted_exponents_are_unique()
+    ensures { (ids : FormatterIds) (o : NumberOptions) (f : NumberFormatter) (form : ExponentForm) (v w x y : Decimal)
+        (text : List ℕ) → IsFormatterAt ids o f → exponent_form f f.options.notation ≡ Some form → CanRead f
+        → IsValue v.absolute → IsValue w.absolute → IsNumberText f v text → IsNumberText f w text
+        → (p : IsShownAs f v x) (q : IsShownAs f w y) → (x ≡ y) × (p.number.exponent ≡ q.number.exponent) }
+{}
+
+/// The digits and the exponent that a formatter writes are a text by its form of exponents. This holds if no decimal
+/// separator is written after an integer.
 pub fn exponents_are_written_by_their_form()
     ensures { (n : FormattedNumber) (f : ExponentForm)
         → exponent_form n.formatter.now n.formatter.now.options.notation ≡ Some f

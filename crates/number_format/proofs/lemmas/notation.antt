@@ -1,1 +1,2 @@
 pub mod Scales
+pub mod Exponents

@@ -10,3 +10,6 @@ pub mod ScientificValues
 pub mod ScientificExponentTexts
 pub mod ScientificShown
 pub mod ScientificBodies
+pub mod ScientificAffixes
+pub mod ScientificUnique
+pub mod FormattedExponents

@@ -1,10 +1,11 @@
 //! Reading of numbers between affixes.
 ghost use Rattle.std.specs.Prelude.{◌≡◌, ◌≢◌, ℕ, List, ◌++◌, MatchOption};
 ghost use Rattle.decimal_format.specs.{Readable.IsReadable, Reading.IsRead};
-ghost use Rattle.number_format.specs.AffixedTexts.{AreNamed, shifted, IsShown, IsShownNumeral, IsBetween, IsReadExactly, IsReadWith, IsReadTyped};
+ghost use Rattle.number_format.specs.{AffixedTexts.{AreNamed, shifted, IsShown, IsShownNumeral, IsBetween, IsReadExactly, IsReadWith, IsReadTyped}, ScientificReading.IsSeparatorApart, AffixedExponents.{IsReadShown, IsReadWithExponent, IsTypedWithExponent}};
 
 use crate::format::by_sign::BySign;
 use crate::read::owned_affixes::OwnedAffixes;
+use crate::read::scientific::ExponentForm;
 use decimal_format::DecimalSymbols;
 use decimal_format::internal::{
     Alternative, begins_with_digit, ends_with_digit, read_alternatives,
@@ -132,6 +133,42 @@ impl<'a> AffixReader<'a> {
         shifted(self.read_shown(alloc, text), self.shift)
     }
 
+    fn read_shown_exponent<D: DigitStore>(
+        &self,
+        form: &ExponentForm<'_>,
+        alloc: Global,
+        text: &[u8],
+    ) -> Result<Signed<UnsignedOver<D>>, ParseError>
+        requires { IsSeparatorApart self.now.symbols form.now.separator.now }
+        ensures { IsReadShown D.L self.now form.now text.now result }
+    {
+        let Some((sign, middle)) = self.split(text) else {
+            return Err(ParseError::Syntax);
+        };
+        match form.read(&self.symbols, alloc, middle) {
+            Ok(shown) => Ok(shown.with_sign(sign)),
+            Err(error) => Err(error),
+        }
+    }
+
+    /// Reads a number with an exponent between the affixes of its sign, in exactly one of the forms that a formatter
+    /// writes.
+    ///
+    /// # Errors
+    ///
+    /// As for [`read`](Self::read); `Limit` also if the exponent leaves the limits.
+    pub(crate) fn read_with_exponent<D: DigitStore>(
+        &self,
+        form: &ExponentForm<'_>,
+        alloc: Global,
+        text: &[u8],
+    ) -> Result<Signed<UnsignedOver<D>>, ParseError>
+        requires { IsSeparatorApart self.now.symbols form.now.separator.now }
+        ensures { IsReadWithExponent D.L self.now form.now text.now result }
+    {
+        shifted(self.read_shown_exponent(form, alloc, text), self.shift)
+    }
+
     fn read_typed<D: DigitStore>(
         &self,
         alloc: Global,
@@ -165,5 +202,29 @@ impl<'a> AffixReader<'a> {
         ensures { IsReadTyped D.L self.now alternatives.now text.now result }
     {
         shifted(self.read_typed(alloc, alternatives, text), self.shift)
+    }
+
+    /// Reads a number as people type it: as [`read_with_exponent`](Self::read_with_exponent) does, or else without an
+    /// exponent as [`read_lenient`](Self::read_lenient) does.
+    ///
+    /// # Errors
+    ///
+    /// As for these.
+    pub(crate) fn read_lenient_with_exponent<D: DigitStore>(
+        &self,
+        form: &ExponentForm<'_>,
+        alloc: Global,
+        alternatives: &[Alternative<'_>],
+        text: &str,
+    ) -> Result<Signed<UnsignedOver<D>>, ParseError>
+        requires { IsSeparatorApart self.now.symbols form.now.separator.now }
+        ensures { IsTypedWithExponent D.L self.now form.now alternatives.now text.now result }
+    {
+        match self.read_with_exponent(form, alloc, text.as_bytes()) {
+            Ok(value) => Ok(value),
+            Err(ParseError::Syntax) => self.read_lenient(alloc, alternatives, text),
+            Err(ParseError::Limit) => Err(ParseError::Limit),
+            Err(ParseError::Memory) => Err(ParseError::Memory),
+        }
     }
 }

@@ -1,7 +1,9 @@
 //! Readers of what formatters write.
 ghost use Rattle.std.specs.Prelude.{◌≡◌, ◌↔◌, IsTrue, ◌∷◌, [], ◌++◌, ◌-ℤ◌, pos, length, map, flat_map, IfOk, IfErr, OnOk};
-ghost use Rattle.number_format.specs.{AffixedTexts.IsReadExactly, PatternTexts.affixes_of_style, NumberReading.{HasNumberAlone, CanRead, CanUndo, CannotRead, names_by, form, form_of, forms_of_name, number_reader_of, typed_forms, IsReadLeniently, IsReadInMode}};
+ghost use Rattle.number_format.specs.{PatternTexts.affixes_of_style, NumberReading.{KeepsNotation, CanReadExponents, CanReadNotation, HasNumberAlone, CanRead, CanUndo, CannotRead, names_by, form, form_of, forms_of_name, number_reader_of, typed_forms, IsReadStrictly, IsTypedBy, IsReadLeniently, IsReadInMode}, Scaled.HasNoIncrement, ScientificReading.exponent_form};
 
+use crate::digits::options::DigitOptions;
+use crate::digits::precision::Precision;
 use crate::format::by_sign::BySign;
 use crate::format::formatter::NumberFormatter;
 use crate::format::outer::OuterTexts;
@@ -10,6 +12,7 @@ use crate::options::{DecimalSeparatorDisplay, NumberNotation, NumberStyle};
 use crate::read::affix_reader::AffixReader;
 use crate::read::apart::are_apart;
 use crate::read::owned_affixes::OwnedAffixes;
+use crate::read::scientific::ExponentForm;
 use decimal_format::Affixes;
 use decimal_format::internal::Alternative;
 use fixed_decimal::{DigitStore, ParseError, Sign, Signed, UnsignedOver};
@@ -20,8 +23,13 @@ use std::str;
 /// Why the texts of a formatter cannot be read: the first of these that holds, or out of memory if none does.
 #[derive(Clone, Copy, Debug, PartialEq, Eq)]
 pub enum NumberReaderError {
-    /// The notation is compact, scientific or engineering; or a unit, the name of a currency, or a decimal separator
-    /// without fraction digits is written.
+    /// The number is not written alone, or the place of its exponent is not certain:
+    ///
+    /// - The notation is compact.
+    /// - A unit, the name of a currency, or a decimal separator without fraction digits is written.
+    /// - The notation is scientific or engineering, and the sign of the exponent is never written; or the text before
+    ///   the exponent begins with a digit or a separator, or one of these with it; or numbers are rounded to multiples
+    ///   of an increment, or integer digits are cut off.
     Notation,
     /// The scale is -32768, which no scale undoes.
     Scale,
@@ -134,23 +142,53 @@ fn forms(
     Ok(forms)
 }
 
+fn has_no_increment(precision: Precision) -> bool
+    ensures { IsTrue result ↔ HasNoIncrement precision }
+{
+    !matches!(precision, Precision::Multiples(_))
+}
+
+fn keeps_notation(digits: &Option<DigitOptions>) -> bool
+    ensures { IsTrue result ↔ KeepsNotation digits.now }
+{
+    match digits {
+        Some(options) => options.integer.max == 32768 && has_no_increment(options.precision),
+        None => false,
+    }
+}
+
+fn can_read_exponents(formatter: &NumberFormatter) -> bool
+    ensures { IsTrue result ↔ CanReadExponents formatter.now
+        (exponent_form formatter.now formatter.now.options.notation) }
+{
+    match ExponentForm::of(formatter) {
+        Some(form) => {
+            keeps_notation(&formatter.digits) && form.can_read(&formatter.style.symbols)
+        }
+        None => false,
+    }
+}
+
+fn is_standard(notation: NumberNotation) -> bool
+    ensures { IsTrue result ↔ (notation ≡ NumberNotation.Standard) }
+{
+    matches!(notation, NumberNotation::Standard)
+}
+
+fn can_read_notation(formatter: &NumberFormatter) -> bool
+    ensures { IsTrue result ↔ CanReadNotation formatter.now }
+{
+    is_standard(formatter.options.notation) || can_read_exponents(formatter)
+}
+
 fn has_number_alone(formatter: &NumberFormatter) -> bool
     ensures { IsTrue result ↔ HasNumberAlone formatter.now }
 {
-    let options = &formatter.options;
-    let kind = (
-        options.notation,
-        &formatter.outer,
-        options.decimal_separator,
-    );
-    matches!(
-        kind,
-        (
-            NumberNotation::Standard,
-            OuterTexts::None,
-            DecimalSeparatorDisplay::Auto
-        )
-    )
+    let around = (&formatter.outer, formatter.options.decimal_separator);
+    match around {
+        (OuterTexts::None, DecimalSeparatorDisplay::Auto) => can_read_notation(formatter),
+        _ => false,
+    }
 }
 
 fn shift(formatter: &NumberFormatter) -> Result<i16, NumberReaderError>
@@ -174,27 +212,34 @@ fn shift(formatter: &NumberFormatter) -> Result<i16, NumberReaderError>
 /// ```
 pub struct NumberReader {
     reader: AffixReader<'static>,
+    /// How exponents are written, if the notation has them.
+    exponent: Option<ExponentForm<'static>>,
     forms: Vec<Form>,
 }
 
 // Not derived: a derived drop is proved again wherever a value is dropped.
 impl Drop for NumberReader {
     fn drop(self) {
-        let NumberReader { reader, forms } = self;
+        let NumberReader {
+            reader,
+            exponent: _,
+            forms,
+        } = self;
         drop(reader);
         drop(forms);
     }
 }
 
 impl Model for NumberReader {
-    ghost use Rattle.std.specs.Prelude.{◌≡◌, length};
-    ghost use Rattle.number_format.specs.NumberReading.{NumberReader};
+    ghost use Rattle.std.specs.Prelude.{◌≡◌, length, IfSome};
+    ghost use Rattle.number_format.specs.{NumberReading.NumberReader, ScientificReading.IsSeparatorApart};
 
     ghost Value = { NumberReader };
 
-    ghost view = { λ s. record { texts = s.reader; forms = s.forms.items } };
+    ghost view = { λ s. record { texts = s.reader; exponent = s.exponent; forms = s.forms.items } };
 
-    ghost invariant = { λ s. length s.forms.items ≡ 29 };
+    ghost invariant = { λ s. (length s.forms.items ≡ 29)
+        × IfSome s.exponent (λ form. IsSeparatorApart s.reader.symbols form.separator.now) };
 }
 
 impl NumberFormatter {
@@ -223,7 +268,12 @@ impl NumberFormatter {
             return Err(NumberReaderError::Memory);
         };
         let reader = AffixReader::new(self.style.symbols.copied(), affixes, shift);
-        Ok(NumberReader { reader, forms })
+        let exponent = ExponentForm::of(self);
+        Ok(NumberReader {
+            reader,
+            exponent,
+            forms,
+        })
     }
 }
 
@@ -245,24 +295,48 @@ impl NumberReader {
     /// The number may have all grouping separators, or none. The value is the one that is shown: rounded, and with the
     /// sign that is written.
     ///
+    /// In scientific and engineering notation the text has the exponent that the notation has for the number, with its
+    /// sign and its least number of digits: `1.2E3` is 1200, and `12E3`, `1E03` and `1200` are `Syntax`.
+    ///
     /// # Errors
     ///
     /// - `Syntax`: no decimal has this text, of any number of digits.
-    /// - `Limit`: there are more than 32,768 integer or fraction digits, or the scale leaves these limits.
+    /// - `Limit`: there are more than 32,768 integer or fraction digits, or the exponent or the scale leaves these
+    ///   limits.
     /// - `Memory`: out of memory; possible only with more than `L` digits.
     pub fn read<D: DigitStore>(
         &self,
         alloc: Global,
         text: &[u8],
     ) -> Result<Signed<UnsignedOver<D>>, ParseError>
-        ensures { IsReadExactly D.L self.now.texts text.now result }
+        ensures { IsReadStrictly D.L self.now text.now result }
     {
-        self.reader.read(alloc, text)
+        match &self.exponent {
+            Some(form) => self.reader.read_with_exponent(form, alloc, text),
+            None => self.reader.read(alloc, text),
+        }
+    }
+
+    fn read_typed<D: DigitStore>(
+        &self,
+        alloc: Global,
+        alternatives: &[Alternative<'_>],
+        text: &str,
+    ) -> Result<Signed<UnsignedOver<D>>, ParseError>
+        ensures { IsTypedBy D.L self.now.texts self.now.exponent alternatives.now text.now result }
+    {
+        match &self.exponent {
+            Some(form) => {
+                self.reader
+                    .read_lenient_with_exponent(form, alloc, alternatives, text)
+            }
+            None => self.reader.read_lenient(alloc, alternatives, text),
+        }
     }
 
     /// Reads a number as people type it, and undoes the scale.
     ///
-    /// A text that [`read`](Self::read) accepts has the same value. Else the number is as
+    /// A text that [`read`](Self::read) accepts has the same value. Else the number has no exponent, and is as
     /// [`DecimalSymbols::read_lenient`](decimal_format::DecimalSymbols::read_lenient) accepts it. Around it may be what
     /// the formatter writes, nothing, or parentheses for a minus sign; or, on either side and with a space or without,
     /// the symbol, the narrow symbol or the code of the currency, or the percent sign, also after a sign. Two signs,
@@ -278,7 +352,7 @@ impl NumberReader {
     ) -> Result<Signed<UnsignedOver<D>>, ParseError>
         ensures { IsReadLeniently D.L self.now text.now result }
     {
-        self.reader.read_lenient(alloc, &self.alternatives(), text)
+        self.read_typed(alloc, &self.alternatives(), text)
     }
 
     /// Reads a number in a mode: by [`read`](Self::read), or by [`read_lenient`](Self::read_lenient).

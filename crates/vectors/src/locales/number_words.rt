@@ -65,6 +65,14 @@ impl Options {
         is_decimal && has_separators && self.number.scale == 0 && is_written && is_signed
     }
 
+    /// Whether an exponent is written.
+    pub fn has_exponent(&self) -> bool {
+        matches!(
+            self.number.notation,
+            NumberNotation::Scientific(_) | NumberNotation::Engineering(_)
+        )
+    }
+
     /// Returns the notation of `scale`.
     pub fn notation(&self) -> Notation {
         match self.number.notation {

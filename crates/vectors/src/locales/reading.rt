@@ -100,13 +100,19 @@ fn is_only_text(alloc: Global, reader: &NumberReader, text: &[u8], value: &str) 
     Some(all)
 }
 
-/// Whether a text is rejected, or has this value, also when it is read leniently, and no text with a change has it.
-pub fn reads(alloc: Global, reader: &NumberReader, text: &str, expected: &str) -> Option<bool> {
+/// Whether a text is rejected, or has this value, also when it is read leniently, and no text with a change has it. A
+/// text with an exponent has more digits than its value, so no changes of it are tried.
+pub fn reads(
+    alloc: Global,
+    reader: &NumberReader,
+    has_exponent: bool,
+    (text, expected): (&str, &str),
+) -> Option<bool> {
     let is_read = is_outcome::<Decimal>(reader.read(alloc, text.as_bytes()), expected)?;
     if !is_read || expected == "syntax" || expected == "limit" || text.len() > 100 {
         return Some(is_read);
     }
-    let is_only = is_only_text(alloc, reader, text.as_bytes(), expected)?;
+    let is_only = has_exponent || is_only_text(alloc, reader, text.as_bytes(), expected)?;
     Some(is_only && reads_leniently(alloc, reader, text, expected)?)
 }
 

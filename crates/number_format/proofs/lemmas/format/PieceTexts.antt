@@ -6,7 +6,7 @@ use Rattle.fixed_decimal.specs.{Decimal.Decimal, declared.variations.Sign.Sign}
 use Rattle.decimal_format.specs.{declared.grouping.GroupingStrategy.{GroupingStrategy, TheVariants.Never}, Formatted.{separator_before, separator_after, magnitude_text, formatted_down, absolute_text, shown_count}, Symbols.{Symbols, digit_text}}
 use Rattle.decimal_digits.specs.Number.{digit}
 use Rattle.decimal_format.proofs.lemmas.formatter.Magnitudes.{one_more}
-use Rattle.number_format.specs.{declared.format.{formatted_number.FormattedNumber.FormattedNumber, affixes.{NumberAffixes.NumberAffixes, StyleTexts.StyleTexts}, formatter.NumberFormatter.NumberFormatter, outer.OuterAround.OuterAround, text_part.{PartKind.PartKind, TextPart.TextPart}}, TextParts.{Piece, Puts, PutsPrefix, is_whole, part_pieces, parts_text, piece_of, pieces_text, pieces_of, pieces_to_end, parts_pieces, trimmed_pieces, digit_kind, magnitude_pieces, first_pieces, digit_pieces}, TrimmedTexts.{trimmed_length, kept_length}, FormattedNumbers.{around_of, outer_of, exponent_text, number_pieces, number_text, number_text_if, separator_of, inner_pieces, inner_text, inner_text_if, formatted_number_text, IsOuter}, NumberText.{exponent_kind, exponent_pieces, exponent_of, number_part, AreParts}, PatternTexts.{Around, around, within, sign_text, affixes_for, affixes_of_style, by_sign}}
+use Rattle.number_format.specs.{declared.format.{formatted_number.FormattedNumber.FormattedNumber, affixes.{NumberAffixes.NumberAffixes, StyleTexts.StyleTexts}, formatter.NumberFormatter.NumberFormatter, outer.OuterAround.OuterAround, text_part.{PartKind.PartKind, TextPart.TextPart}}, TextParts.{Piece, Puts, PutsPrefix, is_whole, part_pieces, parts_text, piece_of, pieces_text, pieces_of, pieces_to_end, parts_pieces, trimmed_pieces, digit_kind, magnitude_pieces, first_pieces, digit_pieces}, TrimmedTexts.{trimmed_length, kept_length}, FormattedNumbers.{around_of, outer_of, exponent_text, number_pieces, number_text, number_text_if, inner_pieces, inner_text, inner_text_if, formatted_number_text, IsOuter}, NumberText.{bare_separator, exponent_kind, exponent_pieces, exponent_of, number_part, AreParts}, PatternTexts.{Around, around, within, sign_text, affixes_for, affixes_of_style, by_sign}}
 use Rattle.number_format.specs.declared.format.text_part.PartKind.TheVariants as kind
 
 pub puts_nil : (a : List Piece → Type 0) → Puts a a []
@@ -195,19 +195,27 @@ text-of_exponent f (Some e) =
     (absolute_text f.style.symbols Never e.absolute) (text-of kind.ExponentSeparator f.separator.text.now)
     (text-of (exponent_kind e.sign) sign) (text-of_digits kind.ExponentInteger f.style.symbols Never e.absolute)
 
+-- the text of the digits and of an exponent
+pub text-of_digits_and_exponent : (f : NumberFormatter) (v : Unsigned) (e : Option Decimal)
+    → pieces_text (number_part f v e)
+    ≡ (absolute_text f.style.symbols f.options.grouping v
+    ++ bare_separator f.options.decimal_separator f.style.symbols v) ++ exponent_text f e
+text-of_digits_and_exponent f v e =
+    let digits = digit_pieces kind.Integer f.style.symbols f.options.grouping v in
+    let bare = bare_separator f.options.decimal_separator f.style.symbols v in
+    let separator = pieces_of kind.Decimal bare in
+    text-append (digits ++ separator) (exponent_pieces f e)
+    ∙ (λ i. (text-append digits separator
+    ∙ (λ j. text-of_digits kind.Integer f.style.symbols f.options.grouping v j ++ text-of kind.Decimal bare j)) i
+    ++ text-of_exponent f e i)
+
 pub text-of_number : (n : FormattedNumber)
     → pieces_text (number_part n.formatter.now n.value.absolute
     (exponent_of n.formatter.now.options.notation n.exponent))
     ≡ number_text n
 text-of_number n =
-    let f = n.formatter.now in
-    let e = exponent_of f.options.notation n.exponent in
-    let digits = digit_pieces kind.Integer f.style.symbols f.options.grouping n.value.absolute in
-    let separator = pieces_of kind.Decimal (separator_of n) in
-    text-append (digits ++ separator) (exponent_pieces f e)
-    ∙ (λ i. (text-append digits separator
-    ∙ (λ j. text-of_digits kind.Integer f.style.symbols f.options.grouping n.value.absolute j
-    ++ text-of kind.Decimal (separator_of n) j)) i ++ text-of_exponent f e i)
+    text-of_digits_and_exponent n.formatter.now n.value.absolute
+    (exponent_of n.formatter.now.options.notation n.exponent)
 
 pub text-if : (b : Bool) (ps : List Piece) (text : List ℕ) → pieces_text ps ≡ text
     → pieces_text (if b then ps else []) ≡ (if b then text else [])

@@ -7,7 +7,7 @@ use Rattle.decimal_unsigned.specs.Rounded.{reaches_limit}
 use Rattle.fixed_decimal.specs.{Decimal.Decimal, declared.variations.Sign.Sign, SignedRounding.mode_at}
 use Rattle.fixed_decimal.proofs.Calling.{narrow_kept, extent, first_of, last_of, offset_is, ten_pos, powers, first_up, first_zero, first_le}
 use Rattle.number_format.specs.{declared.{digits.{options.DigitOptions.DigitOptions, precision.Precision.{Precision, TheVariants.Multiples}}, notation.{Notation.{Notation, TheVariants.{Standard, Scientific, Engineering, Compact}}, CompactExponents.CompactExponents}}, ShownDigits.{Rounded, position_at, rounded_at, rounded_within, shown, base_of}, Scaled.{exponent_from_0, whole_exponent, carried_exponent, base_exponent, raised, Settled, settled_with, settled, ScaledValue, scaled_value, written, scaled, KeepsValueOf, exponent_at, compact_exponent, HasNoIncrement, IsOrdered, KeepsExponent}}
-use Rattle.number_format.proofs.lemmas.digits.{Applied.shown_number, Roundings.{chosen, carry_coarser, unit_some, kept, limited, IsNear, first_near, order}}
+use Rattle.number_format.proofs.lemmas.digits.{Applied.shown_number, Roundings.{chosen, carry_coarser, unit_some, kept, limited, reaches, IsNear, first_near, order}}
 
 -- ---- Shifts.
 -- a multiplication moves the first digit up
@@ -352,9 +352,26 @@ module _ (notation : Notation) (o : DigitOptions) (sign : Sign) (n : ℕ) (plain
           grind arith
     ]
 
+    -- a number above 0 whose first digit is at magnitude 0 or above stays above 0
+    pub stays_above_0 : 0 < n → pos 0 ≤ℤ first n → 0 < s.number
+    stays_above_0 some up = elim (cases_lt 0 s.number) [
+      | inl h ↦ h
+      | inr none ↦
+          let law = settles (first n) refl in
+          let zero : s.number ≡ 0 = omega (arith, none) in
+          let own : s.exponent ≡ 0 =
+          law.own ∙ exponent_low notation (first s.number) (omega (arith, ints, ap first zero, first_zero)) in
+          let e = extent (offset (pos 32768)) n some few (omega (arith, ints, offset_is (pos 32768))) in
+          let p = position_at o.precision s.exponent n in
+          let low =
+          position_most o.precision plain s.exponent n (first n) (omega (arith, ints)) (omega (arith, ints, own, up)) in
+          let reached = reaches mode p n e.top (omega (arith, ints, offset_is p, first_of e, low)) e.reaches in
+          absurd (omega (arith, law.once, by_1 s.exponent n few, reached, zero, ten_pos e.top))
+    ]
+
 -- ---- The significand and the exponent.
 -- an exponent is 0 or more, or at most 2 below the magnitude
-exponent_least : (notation : Notation) (m : ℤ) → int_min (m -ℤ pos 2) (pos 0) ≤ℤ exponent_at notation m
+pub exponent_least : (notation : Notation) (m : ℤ) → int_min (m -ℤ pos 2) (pos 0) ≤ℤ exponent_at notation m
 exponent_least notation m = grind (arith, ints, clamps)
 
 -- the multiple of 3 below a number
@@ -394,7 +411,7 @@ first_of_quotient : (n e r : ℕ) → n * 10 ^ e ≡ r → r < number_limit → 
 first_of_quotient n e r is few zero = grind (arith, ints, first_shifted, first_zero)
 
 -- the first digit after the multiplication
-first_raised : (notation : Notation) (n : ℕ) → raised notation n < number_limit
+pub first_raised : (notation : Notation) (n : ℕ) → raised notation n < number_limit
     → pos 0 ≤ℤ (first n -ℤ base_exponent notation n) → pos 0 ≤ℤ first (raised notation n)
 first_raised notation n below up = grind (arith, ints, clamps, first_shifted, first_zero)
 

@@ -14,7 +14,7 @@ never_after_last : (s : Symbols) (g : GroupingStrategy) (n : ℕ) → separated_
 never_after_last s g n =
     strategy_is s g n 0 ∙ ap (λ b. b && is_grouped g s.sizes (pos (n - 1))) (none_after_last s)
 
-digits_end : (s : Symbols) (f : ℕ → Bool) → f 0 ≡ false → (d : ℕ) (ds : List ℕ) → d < 10 → AllBelowBase 10 ds
+pub digits_end : (s : Symbols) (f : ℕ → Bool) → f 0 ≡ false → (d : ℕ) (ds : List ℕ) → d < 10 → AllBelowBase 10 ds
     → EndsWithDigit s (digits_text s f (d ∷ ds))
 unfolding digits_text
 digits_end s f none d [] below all = record {
@@ -134,7 +134,7 @@ module _ (r : Reader) (bytes : List ℕ) where
 
   module _ (readable : IsReadable r.symbols) (named : AreNamed r.symbols r.affixes) (sign : Sign)
       (middle : List ℕ) (inside : IsBetween r bytes sign middle) where
-    only_middle : (x : Sign) (text : List ℕ) → IsBetween r bytes x text → (x ≡ sign) × (middle ≡ text)
+    pub only_middle : (x : Sign) (text : List ℕ) → IsBetween r bytes x text → (x ≡ sign) × (middle ≡ text)
     only_middle x text b =
         let same = same_middle r.symbols (by_sign r.affixes) named.pair x sign text middle
         (record { begins = b.begins; ends = b.ends }) (record { begins = inside.begins; ends = inside.ends })

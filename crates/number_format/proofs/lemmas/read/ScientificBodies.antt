@@ -1,25 +1,18 @@
 -- Numbers with an exponent between other texts.
 use Rattle.std.proofs.Common.{◌≡◌, ℕ, ◌<◌, false, true, List, [], ◌∷◌, ◌++◌, length, refl, sym, ◌∙◌, ap, subst, arith, append-nil, append_assoc}
 use Rattle.std.specs.{Prelude.{Option, Some, None, ℤ}, Int.Digits.AllBelowBase}
-use Rattle.decimal_format.specs.{declared.grouping.GroupingStrategy.TheVariants.Never, Symbols.{Symbols, digit_text, sign_affixes}, Formatted.absolute_text, Readable.{BeginsWithDigit, EndsWithDigit}, Reading.digits_text}
-use Rattle.decimal_format.proofs.lemmas.reader.{DigitTexts.digits_text-first, Scans.begins-append}
-use Rattle.number_format.specs.{declared.{format.{formatted_number.FormattedNumber.FormattedNumber, formatter.NumberFormatter.NumberFormatter}, options.{DecimalSeparatorDisplay.DecimalSeparatorDisplay, NumberNotation.NumberNotation}, read.scientific.ExponentForm.ExponentForm}, FormattedNumbers.{exponent_text, number_text}, NumberText.{bare_separator, exponent_of, exponent_sign, shown_exponent}, ScientificReading.{exponent_form, ScientificNumeral, IsScientificNumeral, scientific_text}}
-use Rattle.number_format.proofs.lemmas.read.{NamedAffixes.ends-append, ScientificExponents.some_digits, ScientificTexts.unsigned_begins}
+use Rattle.decimal_unsigned.specs.Unsigned.{Unsigned}
+use Rattle.decimal_format.specs.{declared.grouping.GroupingStrategy.TheVariants.Never, Symbols.{Symbols, sign_affixes}, Formatted.absolute_text, Readable.{BeginsWithDigit, EndsWithDigit}, Reading.digits_text}
+use Rattle.decimal_format.proofs.lemmas.reader.Scans.{begins-append}
+use Rattle.number_format.specs.{declared.{format.formatter.NumberFormatter.NumberFormatter, options.{DecimalSeparatorDisplay.DecimalSeparatorDisplay, NumberNotation.NumberNotation}, read.scientific.ExponentForm.ExponentForm}, FormattedNumbers.exponent_text, NumberText.{bare_separator, exponent_of, exponent_sign, shown_exponent}, ScientificReading.{exponent_form, ScientificNumeral, IsScientificNumeral, scientific_text}}
+use Rattle.number_format.proofs.lemmas.read.{AffixedNumbers.digits_end, NamedAffixes.ends-append, ScientificExponents.some_digits, ScientificTexts.unsigned_begins}
 
 -- ---- A number begins and ends with a digit.
 
 module _ (s : Symbols) where
-  digits_end : (ds : List ℕ) → 0 < length ds → AllBelowBase 10 ds → EndsWithDigit s (digits_text s (λ _. false) ds)
-  unfolding digits_text
-  digits_end [] some all = absurd (omega (arith, some))
-  digits_end (d ∷ []) some all = record {
-    digit = d;
-    before = [];
-    is_digit = all.0;
-    is = append-nil (digit_text s d);
-  }
-  digits_end (d ∷ (x ∷ ds)) some all =
-      ends-append s (digit_text s d) (digits_text s (λ _. false) (x ∷ ds)) (digits_end (x ∷ ds) (omega arith) all.1)
+  exponent_ends : (ds : List ℕ) → 0 < length ds → AllBelowBase 10 ds → EndsWithDigit s (digits_text s (λ _. false) ds)
+  exponent_ends [] some all = absurd (omega (arith, some))
+  exponent_ends (d ∷ ds) some all = digits_end s (λ _. false) refl d ds all.0 all.1
 
   pub scientific_begins : (f : ExponentForm) (bytes : List ℕ) (w : ScientificNumeral) → IsScientificNumeral s f bytes w
       → BeginsWithDigit s bytes
@@ -35,7 +28,7 @@ module _ (s : Symbols) where
       let back : EndsWithDigit s n.back =
       subst (EndsWithDigit s) (sym n.exponent.text)
       (ends-append s (sign_affixes s w.sign).prefix (digits_text s (λ _. false) w.exponent)
-      (digits_end w.exponent some n.exponent.digits)) in
+      (exponent_ends w.exponent some n.exponent.digits)) in
       subst (EndsWithDigit s) (sym n.text)
       (ends-append s n.front (f.separator.now ++ n.back) (ends-append s f.separator.now n.back back))
 
@@ -62,16 +55,15 @@ exponent_written f (NumberNotation.Engineering o) form h e =
     ++ absolute_text f.style.symbols Never (shown_exponent x.options e).absolute))
     (form_same (record { separator = f.separator.text; options = o; is_engineering = true }) form h)
 
-pub number_written : (n : FormattedNumber) (form : ExponentForm)
-    → exponent_form n.formatter.now n.formatter.now.options.notation ≡ Some form
-    → n.formatter.now.options.decimal_separator ≡ DecimalSeparatorDisplay.Auto
-    → number_text n ≡ scientific_text n.formatter.now.style.symbols form n.formatter.now.options.grouping
-    n.value.absolute n.exponent
-number_written n form h auto =
-    let f = n.formatter.now in
-    let digits = absolute_text f.style.symbols f.options.grouping n.value.absolute in
-    (λ i. (digits ++ bare_separator (auto i) f.style.symbols n.value.absolute)
-    ++ exponent_written f f.options.notation form h n.exponent i)
-    ∙ ap (λ l. l ++ (form.separator.now ++ ((sign_affixes f.style.symbols
-    (exponent_sign form.options.sign n.exponent)).prefix
-    ++ absolute_text f.style.symbols Never (shown_exponent form.options n.exponent).absolute))) (append-nil digits)
+pub number_written : (f : NumberFormatter) (form : ExponentForm)
+    → exponent_form f f.options.notation ≡ Some form
+    → f.options.decimal_separator ≡ DecimalSeparatorDisplay.Auto → (v : Unsigned) (e : ℤ)
+    → (absolute_text f.style.symbols f.options.grouping v
+    ++ bare_separator f.options.decimal_separator f.style.symbols v)
+    ++ exponent_text f (exponent_of f.options.notation e)
+    ≡ scientific_text f.style.symbols form f.options.grouping v e
+number_written f form h auto v e =
+    let digits = absolute_text f.style.symbols f.options.grouping v in
+    (λ i. (digits ++ bare_separator (auto i) f.style.symbols v) ++ exponent_written f f.options.notation form h e i)
+    ∙ ap (λ l. l ++ (form.separator.now ++ ((sign_affixes f.style.symbols (exponent_sign form.options.sign e)).prefix
+    ++ absolute_text f.style.symbols Never (shown_exponent form.options e).absolute))) (append-nil digits)

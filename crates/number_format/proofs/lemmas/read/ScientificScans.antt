@@ -1,7 +1,7 @@
 -- Scans of digits and separators.
-use Rattle.std.proofs.{Common.{◌≡◌, ◌≢◌, ℕ, suc, ◌+◌, ◌*◌, ◌%◌, ◌<◌, ◌==◌, Bool, true, false, List, [], ◌∷◌, ◌++◌, length, refl, sym, ◌∙◌, ap, subst, arith, append_assoc, append-nil, length-append, inl, inr}, lemmas.{Bool.{cases_eq, Decides.nat_tests}, List.append_cancel_left}}
+use Rattle.std.proofs.{Math.Bool.or-true, Common.{◌≡◌, ◌≢◌, ℕ, suc, ◌+◌, ◌*◌, ◌%◌, ◌<◌, ◌==◌, Bool, true, false, ◌||◌, List, [], ◌∷◌, ◌++◌, length, refl, sym, ◌∙◌, ap, subst, arith, append_assoc, append-nil, length-append, inl, inr}, lemmas.{Bool.{cases_eq, Decides.nat_tests}, List.append_cancel_left}}
 use Rattle.std.specs.{Prelude.{if◌then◌else◌}, Int.Digits.{AllBelowBase, number_from_digits_after}}
-use Rattle.decimal_format.specs.{Symbols.{Symbols}, Readable.{IsReadable, code}, Reading.{digits_text, fraction_text}}
+use Rattle.decimal_format.specs.{Symbols.{Symbols}, Readable.{IsReadable, code}, Reading.{Numeral, AreDigits, absolute_numeral_text, digits_text, fraction_text}}
 use Rattle.decimal_format.proofs.lemmas.reader.Codes.{apart, digit_code, none_not_code}
 use Rattle.number_format.specs.{declared.read.scientific.scan.Scan.Scan, ScientificReading.{capped, with_digit, with_code, HasNumbers, IsPlain, EndsNumber, IsScan}}
 
@@ -107,6 +107,46 @@ module _ (s : Symbols) (readable : IsReadable s) where
 plain-codes : (ds : List ℕ) → digit_codes (λ _. false) ds ≡ ds
 plain-codes [] = refl
 plain-codes (d ∷ ds) = ap (λ l. d ∷ l) (plain-codes ds)
+
+-- ---- Numerals.
+
+abbrev numeral_codes : (ℕ → Bool) → List ℕ → List ℕ → List ℕ
+numeral_codes f ds es = digit_codes f ds ++ fraction_codes es
+
+numeral-below : (f : ℕ → Bool) (ds es : List ℕ) → AllBelowBase 10 ds → AllBelowBase 10 es
+    → AllBelowBase 12 (numeral_codes f ds es)
+numeral-below f ds es all more =
+    below-append 12 (digit_codes f ds) (fraction_codes es) (digits-below f ds all) (fraction-below es more)
+
+module _ (s : Symbols) (readable : IsReadable s) where
+  numeral-text : (f : ℕ → Bool) (ds es tail : List ℕ) → AllBelowBase 10 ds → AllBelowBase 10 es
+      → codes_text s (numeral_codes f ds es) ++ tail ≡ digits_text s f ds ++ (fraction_text s es ++ tail)
+  numeral-text f ds es tail all more =
+      ap (λ l. l ++ tail) (codes_text-append s (digit_codes f ds) (fraction_codes es))
+      ∙ append_assoc (codes_text s (digit_codes f ds)) (codes_text s (fraction_codes es)) tail
+      ∙ (λ i. digits-text s readable f ds all i ++ (fraction-text s readable es more i ++ tail))
+
+  -- the same text follows two numerals of a text
+  pub same_rest : (f g : ℕ → Bool) (w u : Numeral) (t r : List ℕ) → AreDigits w → AreDigits u → EndsNumber s t
+      → EndsNumber s r → absolute_numeral_text s f w ++ t ≡ absolute_numeral_text s g u ++ r → t ≡ r
+  same_rest f g w u t r p q a b e =
+      (codes-unique s readable (numeral_codes f w.whole w.fraction) (numeral_codes g u.whole u.fraction) t r
+      (numeral-below f w.whole w.fraction p.whole p.fraction) (numeral-below g u.whole u.fraction q.whole q.fraction)
+      a b
+      (numeral-text f w.whole w.fraction t p.whole p.fraction
+      ∙ sym (append_assoc (digits_text s f w.whole) (fraction_text s w.fraction) t) ∙ e
+      ∙ append_assoc (digits_text s g u.whole) (fraction_text s u.fraction) r
+      ∙ sym (numeral-text g u.whole u.fraction r q.whole q.fraction))).1
+
+  -- digits without separators have one text
+  pub plain-unique : (ds es : List ℕ) → AllBelowBase 10 ds → AllBelowBase 10 es
+      → digits_text s (λ _. false) ds ≡ digits_text s (λ _. false) es → ds ≡ es
+  plain-unique ds es p q e =
+      let same = codes-unique s readable (digit_codes (λ _. false) ds) (digit_codes (λ _. false) es) [] []
+      (digits-below (λ _. false) ds p) (digits-below (λ _. false) es q) (nil_ends s readable) (nil_ends s readable)
+      (ap (λ l. l ++ [])
+      (digits-text s readable (λ _. false) ds p ∙ e ∙ sym (digits-text s readable (λ _. false) es q))) in
+      sym (plain-codes ds) ∙ same.0 ∙ plain-codes es
 
 -- ---- What is scanned.
 
@@ -242,37 +282,24 @@ numeral-numbers f ds es all more =
 
 -- ---- Separators.
 
-decimal_stays : (scan : Scan) (ks : List ℕ) → scan.has_decimal ≡ true → (scanned scan ks).has_decimal ≡ true
-decimal_stays scan [] e = e
-decimal_stays scan (k ∷ ks) e = decimal_stays (with_code scan k) ks (next (k == 10) (k == 11) scan.has_decimal)
-  where
-    next : (a b c : Bool) → (if a then record scan { has_decimal = true }
-        else if b then record scan { has_grouping = true }
-        else if c then record scan { fraction = capped (scan.fraction * 10 + k) }
-        else record scan {
-          count = capped (scan.count + 1);
-          whole = capped (scan.whole * 10 + k);
-          remainder = (scan.remainder * 10 + k) % 3;
-        }).has_decimal ≡ true
-    next true b c = refl
-    next false true c = e
-    next false false true = e
-    next false false false = e
+abbrev has_separator : Scan → Bool
+has_separator scan = scan.has_decimal || scan.has_grouping
 
-grouping_stays : (scan : Scan) (ks : List ℕ) → scan.has_grouping ≡ true → (scanned scan ks).has_grouping ≡ true
-grouping_stays scan [] e = e
-grouping_stays scan (k ∷ ks) e = grouping_stays (with_code scan k) ks (next (k == 10) (k == 11) scan.has_decimal)
+-- a separator that was scanned stays
+separator_stays : (scan : Scan) (ks : List ℕ) → has_separator scan ≡ true → has_separator (scanned scan ks) ≡ true
+separator_stays scan [] e = e
+separator_stays scan (k ∷ ks) e = separator_stays (with_code scan k) ks (next (k == 10) (k == 11) scan.has_decimal)
   where
-    next : (a b c : Bool) → (if a then record scan { has_decimal = true }
+    next : (a b c : Bool) → has_separator (if a then record scan { has_decimal = true }
         else if b then record scan { has_grouping = true }
         else if c then record scan { fraction = capped (scan.fraction * 10 + k) }
         else record scan {
           count = capped (scan.count + 1);
           whole = capped (scan.whole * 10 + k);
           remainder = (scan.remainder * 10 + k) % 3;
-        }).has_grouping ≡ true
-    next true b c = e
-    next false true c = refl
+        }) ≡ true
+    next true b c = refl
+    next false true c = or-true scan.has_decimal
     next false false true = e
     next false false false = e
 
@@ -282,15 +309,15 @@ only_digits scan [] all plain = tt
 only_digits scan (k ∷ ks) all plain = (
   elim (cases_eq k 10) [
     | inl e ↦
-        let t = decimal_stays (record scan { has_decimal = true }) ks refl in
-        let same : (scanned (with_code scan 10) ks).has_decimal ≡ false =
-        ap (λ j. (scanned (with_code scan j) ks).has_decimal) (sym e) ∙ plain.0 in
+        let t = separator_stays (record scan { has_decimal = true }) ks refl in
+        let same : has_separator (scanned (with_code scan 10) ks) ≡ false =
+        ap (λ j. has_separator (scanned (with_code scan j) ks)) (sym e) ∙ (λ i. plain.0 i || plain.1 i) in
         absurd (cc (t, same))
     | inr ten ↦ elim (cases_eq k 11) [
       | inl e ↦
-          let t = grouping_stays (record scan { has_grouping = true }) ks refl in
-          let same : (scanned (with_code scan 11) ks).has_grouping ≡ false =
-          ap (λ j. (scanned (with_code scan j) ks).has_grouping) (sym e) ∙ plain.1 in
+          let t = separator_stays (record scan { has_grouping = true }) ks (or-true scan.has_decimal) in
+          let same : has_separator (scanned (with_code scan 11) ks) ≡ false =
+          ap (λ j. has_separator (scanned (with_code scan j) ks)) (sym e) ∙ (λ i. plain.0 i || plain.1 i) in
           absurd (cc (t, same))
       | inr eleven ↦ omega (arith, all.0, ten, eleven)
     ]
@@ -406,14 +433,9 @@ module _ (s : Symbols) (readable : IsReadable s) (bytes rest : List ℕ) (scan :
         let found = plain-numbers ds all (was.scan_is ∙ ap (scanned start) same.0) in
         (same.1, found.0, found.1);
     numeral = λ f ds es tail all more tail_ends text.
-        let ks = digit_codes f ds ++ fraction_codes es in
-        let is : codes_text s ks ++ tail ≡ digits_text s f ds ++ (fraction_text s es ++ tail) =
-        ap (λ l. l ++ tail) (codes_text-append s (digit_codes f ds) (fraction_codes es))
-        ∙ append_assoc (codes_text s (digit_codes f ds)) (codes_text s (fraction_codes es)) tail
-        ∙ (λ i. digits-text s readable f ds all i ++ (fraction-text s readable es more i ++ tail)) in
-        let same = codes-unique s readable was.codes ks rest tail was.below
-        (below-append 12 (digit_codes f ds) (fraction_codes es) (digits-below f ds all) (fraction-below es more))
-        ends tail_ends (sym was.text ∙ text ∙ sym is) in (
+        let same = codes-unique s readable was.codes (numeral_codes f ds es) rest tail was.below
+        (numeral-below f ds es all more) ends tail_ends
+        (sym was.text ∙ text ∙ sym (numeral-text s readable f ds es tail all more)) in (
           same.1,
           subst (λ x. HasNumbers x ds es) (sym (was.scan_is ∙ ap (scanned start) same.0))
               (numeral-numbers f ds es all more),

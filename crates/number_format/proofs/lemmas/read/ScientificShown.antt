@@ -7,7 +7,7 @@ use Rattle.fixed_decimal.specs.{Decimal.Decimal, declared.variations.Sign.{TheVa
 use Rattle.fixed_decimal.proofs.Calling.{Extent, extent, first_of, offset_is, ten_pos, powers, number-append}
 use Rattle.decimal_format.specs.{declared.grouping.GroupingStrategy.GroupingStrategy, Symbols.Symbols, Formatted.{absolute_text}, Reading.{Numeral, AreDigits}, Scanning.value_of}
 use Rattle.decimal_format.proofs.lemmas.reader.NumeralTexts.{HasDigits, digits_of_value, formatted-digits}
-use Rattle.number_format.specs.{declared.{notation.Notation.{TheVariants.{Scientific, Engineering}}, read.scientific.ExponentForm.ExponentForm}, AffixedTexts.shifted, NumberText.exponent_sign, Scaled.exponent_at, ScientificReading.{step_of, IsInNotation, CanReadExponent, ScientificNumeral, IsScientificNumeral, IsReadScientific, scientific_text, notation_of, HasExponentOf}}
+use Rattle.number_format.specs.{declared.{notation.Notation.{TheVariants.{Scientific, Engineering}}, read.scientific.ExponentForm.ExponentForm}, AffixedTexts.shifted, NumberText.exponent_sign, Scaled.exponent_at, ScientificReading.{step_of, IsInNotation, CanReadExponent, ScientificNumeral, exponent_of, IsScientificNumeral, IsReadScientific, scientific_text, scientific_value, notation_of, HasExponentOf}}
 use Rattle.number_format.proofs.lemmas.read.{ScientificExponentTexts.exponent_shown, ScientificValues.digits_value}
 
 -- ---- The integer part.
@@ -108,10 +108,10 @@ first_below true m e is =
 
 module _ (s : Symbols) (f : ExponentForm) (g : GroupingStrategy) (v : Unsigned) (valid : IsValue v) (e : ℤ)
     (can : CanReadExponent s f) (small : unsigned_abs e < 2 ^ 32) (is : HasExponentOf (notation_of f) v.number e) where
-  abbrev number : (w : Numeral) × AreDigits w × HasDigits (record { sign = None; absolute = v }) w
+  abbrev pub number : (w : Numeral) × AreDigits w × HasDigits (record { sign = None; absolute = v }) w
   number = digits_of_value (record { sign = None; absolute = v }) valid
 
-  abbrev numeral : ScientificNumeral
+  abbrev pub numeral : ScientificNumeral
   numeral = record {
     significand = number.0;
     sign = exponent_sign f.options.sign e;
@@ -155,13 +155,17 @@ module _ (s : Symbols) (f : ExponentForm) (g : GroupingStrategy) (v : Unsigned) 
             (number_from_digits 10 number.0.fraction)) (sym shown.number) in_notation;
       }
 
+  pub exponent_is : exponent_of numeral ≡ e
+  exponent_is = (exponent_shown s f.options e can.signs small).number
+
+  pub numeral_is : scientific_value numeral ≡ shifted e (Ok (record { sign = None; absolute = v }))
+  numeral_is = λ i. shifted (exponent_is i) (digits_value _ number.0 number.2 i)
+
   -- the text that is written reads as the number that is shown
   pub shown_reads : (inline : ℕ) (result : Result Decimal ParseError)
       → IsReadScientific inline s f (scientific_text s f g v e) result
       → (result ≡ shifted e (Ok (record { sign = None; absolute = v }))) ⊎ (result ≡ Err Memory)
-  shown_reads inline result read =
-      let shown = exponent_shown s f.options e can.signs small in
-      elim (read.value numeral shown_numeral) [
-        | inl x ↦ inl (x ∙ (λ i. shifted (shown.number i) (digits_value _ number.0 number.2 i)))
-        | inr x ↦ inr x.0
-      ]
+  shown_reads inline result read = elim (read.value numeral shown_numeral) [
+    | inl x ↦ inl (x ∙ numeral_is)
+    | inr x ↦ inr x.0
+  ]

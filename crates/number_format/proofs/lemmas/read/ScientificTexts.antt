@@ -20,7 +20,7 @@ module _ (s : Symbols) where
   ]
 
   -- a numeral without a sign
-  unsigned : (front : List ℕ) (w : Numeral) (n : IsNumeral s front w) → w.sign ≡ None
+  pub unsigned : (front : List ℕ) (w : Numeral) (n : IsNumeral s front w) → w.sign ≡ None
       → front ≡ absolute_numeral_text s (separated_by s n.strategy (length w.whole)) w
   unsigned front w n none =
       let number = absolute_numeral_text s (separated_by s n.strategy (length w.whole)) w in

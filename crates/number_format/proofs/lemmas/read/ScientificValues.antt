@@ -1,5 +1,5 @@
 -- The values of numbers with an exponent.
-use Rattle.std.proofs.{Common.{◌≡◌, ◌≢◌, ℕ, ◌<◌, Bool, true, false, ◌||◌, nat_lt, inl, inr, List, length, refl, sym, ◌∙◌, ap, subst, arith, rules}, lemmas.Bool.{cases_lt, Decides.nat_tests}}
+use Rattle.std.proofs.{Math.Bool.or-true, Common.{◌≡◌, ◌≢◌, ℕ, ◌<◌, Bool, true, false, ◌||◌, nat_lt, inl, inr, List, length, refl, sym, ◌∙◌, ap, subst, arith, rules}, lemmas.Bool.{cases_lt, Decides.nat_tests}}
 use Rattle.std.specs.Prelude.{if◌then◌else◌, Result, Ok, Err, ℤ}
 use Rattle.decimal_digits.specs.Number.{size}
 use Rattle.decimal_unsigned.specs.{Unsigned.{Unsigned, IsValue}, declared.error.ParseError.{ParseError, TheVariants.{Syntax, Limit, Memory}}}
@@ -17,10 +17,6 @@ within_limit n none = elim (cases_lt 32768 n) [
   | inl h ↦ absurd (none h)
   | inr h ↦ grind (arith, nat_tests)
 ]
-
-or-true : (b : Bool) → (b || true) ≡ true
-or-true true = refl
-or-true false = refl
 
 beyond_is : (w : Numeral) → IsBeyondLimits w → is_beyond_limits w ≡ true
 beyond_is w (inl h) = ap (λ b. b || nat_lt 32768 (length w.fraction)) (above_limit (length w.whole) h)

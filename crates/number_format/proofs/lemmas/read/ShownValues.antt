@@ -5,7 +5,7 @@ use Rattle.decimal_digits.specs.Number.{offset, weight, first, last, number_limi
 use Rattle.decimal_unsigned.specs.{Edits.{leaves_limits, multiplied, multiplied_pow10}, Unsigned.{Unsigned, IsValue}}
 use Rattle.fixed_decimal.specs.Decimal.{Decimal, with_absolute}
 use Rattle.fixed_decimal.proofs.Calling.{powers, offset_is, ten_pos, extent, first_of, last_of, first_le, last_zero}
-use Rattle.number_format.specs.{declared.{digits.options.{DigitOptions.DigitOptions, TrailingZeros.{TrailingZeros, TheVariants.{Auto, StripIfInteger}}}, format.formatter.NumberFormatter.NumberFormatter, notation.Notation.Notation}, NumberReading.IsShownAs, NumberText.rounded_in, Scaled.{ScaledValue, scaled_value, Settled, base_exponent, raised as raised_to, written, settled, scaled}, ShownDigits.{padded, stripped, shown}}
+use Rattle.number_format.specs.{declared.{digits.options.{DigitOptions.DigitOptions, TrailingZeros.{TrailingZeros, TheVariants.{Auto, StripIfInteger}}}, format.formatter.NumberFormatter.NumberFormatter, notation.Notation.Notation}, NumberReading.IsShownAs, NumberText.{rounded_in, shown_number}, Scaled.{ScaledValue, scaled_value, Settled, base_exponent, raised as raised_to, written, settled, scaled}, ShownDigits.{padded, stripped, shown}}
 
 -- a power of ten divides a number that ends with no fewer zeros
 ends_low : (n factor bottom low : ℕ) → low ≤ bottom → n ≡ factor * 10 ^ bottom → n % 10 ^ low ≡ 0
@@ -23,7 +23,7 @@ module _ (n : ℕ) (few : n < number_limit) where
     | inr none ↦ grind (arith, ints, last_zero)
   ]
 
-  first_to : first n ≤ℤ pos 32767
+  pub first_to : first n ≤ℤ pos 32767
   first_to =
       let there : offset (pos 32768) ≡ offset (pos 32767) + 1 =
       omega (arith, ints, offset_is (pos 32768), offset_is (pos 32767)) in
@@ -182,14 +182,18 @@ rounded_value notation None v x valid e =
     subst IsValue (ap (λ (s : ScaledValue). s.significand.absolute) (chosen false (scaled_value v (pos 0)) x e)) valid
 rounded_value notation (Some o) v x valid e = scaled_value_is notation o v x e
 
+-- the number before it is rounded is a value
+pub scaled_first : (f : NumberFormatter) (v : Decimal) (x : ScaledValue) → IsValue v.absolute
+    → shown_number f v ≡ Some x → (w : Decimal) × IsValue w.absolute × (rounded_in f.notation f.digits w ≡ Some x)
+scaled_first f v x valid is = go (multiplied_pow10 v.absolute f.options.scale) refl is
+  where
+    go : (a : Option Unsigned) → multiplied_pow10 v.absolute f.options.scale ≡ a
+        → option_and_then (rounded_in f.notation f.digits) (with_absolute v a) ≡ Some x
+        → (w : Decimal) × IsValue w.absolute × (rounded_in f.notation f.digits w ≡ Some x)
+    go None e h = absurd (cc)
+    go (Some a) e h = (record v { absolute = a }, multiplied_value v.absolute valid a f.options.scale e, h)
+
 pub shown_value : (f : NumberFormatter) (v u : Decimal) → IsValue v.absolute → IsShownAs f v u → IsValue u.absolute
 shown_value f v u valid shown =
-    subst IsValue (sym shown.absolute) (go (multiplied_pow10 v.absolute f.options.scale) refl shown.number_is)
-  where
-    go : (x : Option Unsigned) → multiplied_pow10 v.absolute f.options.scale ≡ x
-        → option_and_then (rounded_in f.notation f.digits) (with_absolute v x) ≡ Some shown.number
-        → IsValue shown.number.significand.absolute
-    go None e h = absurd (cc)
-    go (Some a) e h =
-        rounded_value f.notation f.digits (record v { absolute = a }) shown.number
-        (multiplied_value v.absolute valid a f.options.scale e) h
+    let w = scaled_first f v shown.number valid shown.number_is in
+    subst IsValue (sym shown.absolute) (rounded_value f.notation f.digits w.0 shown.number w.1 w.2)

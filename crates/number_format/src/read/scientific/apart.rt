@@ -1,4 +1,4 @@
-//! Whether exponents can be told from significands.
+//! Whether the separator of exponents is apart from digits and from other separators.
 ghost use Rattle.std.specs.Prelude.{◌≡◌, ◌↔◌, ◌<◌, IsTrue};
 ghost use Rattle.decimal_format.specs.Readable.{code, BeginsWith};
 ghost use Rattle.number_format.specs.ScientificReading.{AreApart, IsSeparatorApart};

@@ -10,7 +10,7 @@ loop-index-preserved c =
     let a = c.alternative.result in
     let form = c.index-forms-index.result in
     let long : length xs ≡ 29 = c.loop-index.invariant.0 in
-    let all : length forms ≡ 29 = omega (arith, c.self.invariant, ap length c.as_slice-forms.ensures.value) in (
+    let all : length forms ≡ 29 = omega (arith, c.self.invariant.0, ap length c.as_slice-forms.ensures.value) in (
       length-set xs i a ∙ long,
       ap (map form_of) (take_more_set xs i a (omega (arith, long))) ∙ map-append form_of (take i xs) (a ∷ [])
           ∙ (λ j. c.loop-index.invariant.1 j ++ (c.alternative.ensures ∙ c.index-forms-index.is) j ∷ [])
@@ -22,7 +22,7 @@ returns c =
     let xs = c.loop-index.alternatives in
     let forms = c.as_slice-forms.result.now in
     let long : length xs ≡ 29 = c.loop-index.invariant.0 in
-    let all : length forms ≡ 29 = omega (arith, c.self.invariant, ap length c.as_slice-forms.ensures.value) in
+    let all : length forms ≡ 29 = omega (arith, c.self.invariant.0, ap length c.as_slice-forms.ensures.value) in
     let end : length xs ≡ c.loop-index.index = omega (arith, long) in
     let end' : c.loop-index.index ≡ length forms = omega (arith, all) in
     ap (map form_of) (sym (take-length xs) ∙ ap (λ k. take k xs) end) ∙ c.loop-index.invariant.1

@@ -1,0 +1,27 @@
+use Rattle.std.proofs.Common.{◌≡◌, sym, subst}
+use Rattle.std.specs.Prelude.{Option, IfSome}
+use Rattle.number_format.specs.{declared.read.scientific.ExponentForm.ExponentForm, NumberReading.{NumberReader, IsReadBy}, ScientificReading.IsSeparatorApart}
+use Rattle.number_format.proofs.read.number_reader.NumberReader.read.Goals as goal
+
+pub read_with_exponent-requires : goal.read_with_exponent-requires
+read_with_exponent-requires g c =
+    subst (λ (x : Option ExponentForm). IfSome x (λ f. IsSeparatorApart c.self.inside.reader.symbols f.separator.now))
+    c.in-Some.is c.self.invariant.1
+
+pub returns-in-Some : goal.returns-in-Some
+returns-in-Some g c =
+    let result = c.read_with_exponent.result in
+    let text = c.args.text.now in
+    subst (λ (r : NumberReader). IsReadBy g.D.DigitStore.L r.texts r.exponent text result)
+    c.self.view_is
+    (subst (λ (x : Option ExponentForm). IsReadBy g.D.DigitStore.L c.self.inside.reader x text result)
+    (sym c.in-Some.is) c.read_with_exponent.ensures)
+
+pub returns-in-None : goal.returns-in-None
+returns-in-None g c =
+    let result = c.read.result in
+    let text = c.args.text.now in
+    subst (λ (r : NumberReader). IsReadBy g.D.DigitStore.L r.texts r.exponent text result)
+    c.self.view_is
+    (subst (λ (x : Option ExponentForm). IsReadBy g.D.DigitStore.L c.self.inside.reader x text result)
+    (sym c.in-None.is) c.read.ensures)

@@ -1,0 +1,29 @@
+use Rattle.std.proofs.Common.{◌≡◌, sym, subst}
+use Rattle.std.specs.Prelude.{Option, IfSome}
+use Rattle.number_format.specs.{declared.read.scientific.ExponentForm.ExponentForm, NumberReading.{NumberReader, IsTypedBy}, ScientificReading.IsSeparatorApart}
+use Rattle.number_format.proofs.read.number_reader.NumberReader.read_typed.Goals as goal
+
+pub read_lenient_with_exponent-requires : goal.read_lenient_with_exponent-requires
+read_lenient_with_exponent-requires g c =
+    subst (λ (x : Option ExponentForm). IfSome x (λ f. IsSeparatorApart c.self.inside.reader.symbols f.separator.now))
+    c.in-Some.is c.self.invariant.1
+
+pub returns-in-Some : goal.returns-in-Some
+returns-in-Some g c =
+    let result = c.read_lenient_with_exponent.result in
+    let all = c.args.alternatives.now in
+    let text = c.args.text.now in
+    subst (λ (r : NumberReader). IsTypedBy g.D.DigitStore.L r.texts r.exponent all text result)
+    c.self.view_is
+    (subst (λ (x : Option ExponentForm). IsTypedBy g.D.DigitStore.L c.self.inside.reader x all text result)
+    (sym c.in-Some.is) c.read_lenient_with_exponent.ensures)
+
+pub returns-in-None : goal.returns-in-None
+returns-in-None g c =
+    let result = c.read_lenient.result in
+    let all = c.args.alternatives.now in
+    let text = c.args.text.now in
+    subst (λ (r : NumberReader). IsTypedBy g.D.DigitStore.L r.texts r.exponent all text result)
+    c.self.view_is
+    (subst (λ (x : Option ExponentForm). IsTypedBy g.D.DigitStore.L c.self.inside.reader x all text result)
+    (sym c.in-None.is) c.read_lenient.ensures)
