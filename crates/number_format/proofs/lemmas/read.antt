@@ -10,3 +10,4 @@ pub mod ScientificValues
 pub mod ScientificExponentTexts
 pub mod ScientificShown
 pub mod ScientificBodies
+pub mod PatternLists

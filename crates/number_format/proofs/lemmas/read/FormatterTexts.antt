@@ -1,60 +1,156 @@
--- The texts of a formatter are texts between affixes.
-use Rattle.std.proofs.Common.{◌≡◌, ℕ, List, [], ◌++◌, refl, sym, ◌∙◌, ap, append-nil}
-use Rattle.std.specs.Prelude.{Some}
+-- The texts of a formatter are texts between those of patterns.
+use Rattle.std.proofs.{Common.{◌≡◌, ℕ, zero, suc, List, [], ◌∷◌, ◌++◌, refl, sym, ◌∙◌, ap, subst, arith, append-nil, append_assoc}}
+use Rattle.std.specs.{Prelude.{Bool, true, Option, None, Some, IfSome, map, if◌then◌else◌}, List.Contains}
 use Rattle.decimal_unsigned.specs.Unsigned.{IsValue}
 use Rattle.fixed_decimal.specs.{Decimal.Decimal, declared.variations.Sign.Sign}
-use Rattle.decimal_format.specs.Formatted.{absolute_text}
-use Rattle.number_format.specs.{declared.{format.{formatter.NumberFormatter.NumberFormatter, text_part.PartKind.PartKind}, options.{NumberOptions.NumberOptions, NumberNotation.NumberNotation}}, Formatters.IsFormatter, AffixedTexts.text_with, NumberReading.{IsStandard, HasNumberAlone, reader_of, CanRead, IsShownAs}, NumberText.{IsNumberText, shown_sign, compact_magnitude, is_one, compact_pattern, compact_style, outer_texts, around_by, exponent_pieces, significand_pieces, exponent_of}, PatternTexts.{pattern_around, affixes_for, within}, Scaled.ScaledValue, TextParts.{digit_pieces, pieces_text}}
-use Rattle.number_format.proofs.{lemmas.read.AffixedNumbers.named_texts_are_unique, lemmas.format.PieceTexts.{by_sign_is, text-of_digits, text-three}}
+use Rattle.decimal_format.specs.{Formatted.absolute_text, Symbols.Affixes}
+use Rattle.plural_rules.specs.{Operands.plain, declared.rules.PluralCategory.PluralCategory}
+use Rattle.locale_data.specs.Plurals.{IsCategoryAt}
+use Rattle.number_format.specs.{declared.{format.{outer.OuterTexts.OuterTexts, formatter.NumberFormatter.NumberFormatter, text_part.PartKind.PartKind}, options.{NumberOptions.NumberOptions, NumberNotation.NumberNotation}, read.pattern.{NumberPattern.NumberPattern, TheConstants.{SIGN_KEYS, CATEGORY_KEYS}}}, Formatters.IsFormatter, AffixedTexts.IsShown, NumberReading.{IsStandard, HasPlainDigits, HasNumbers, outer_at, pattern_at, keys_by, reader_of, CanRead, IsShownAs}, NumberText.{IsNumberText, shown_number, shown_sign, whole_number, compact_magnitude, is_one, compact_pattern, compact_style, operands_by, outer_by, outer_texts, around_by, exponent_pieces, significand_pieces, exponent_of}, PatternTexts.{Around, around, pattern_around, affixes_for, within}, Scaled.ScaledValue, TextParts.{Piece, digit_pieces, pieces_text}}
+use Rattle.number_format.proofs.lemmas.{read.AffixedNumbers.named_texts_are_unique, format.PieceTexts.{text-of_digits, text-three}}
 
 some_same : (x y : ScaledValue) → Some x ≡ Some y → x ≡ y
 some_same x y e = cc
 
--- the text of the pieces of a number between what a sign writes around it
-text_around : (f : NumberFormatter) (s : Sign) (x : ScaledValue)
-    → pieces_text (((pattern_around f.style s).prefix
+-- ---- The pattern of a category and a sign.
+
+in_map : {X Y : Type 0} (g : X → Y) (xs : List X) (x : X) → Contains xs x → Contains (map g xs) (g x)
+in_map g [] x (k, h, e) = absurd (omega (arith, h))
+in_map g (y ∷ ys) x (zero, h, e) = (0, omega arith, ap g e)
+in_map g (y ∷ ys) x (suc k, h, e) =
+    let r = in_map g ys x (k, omega arith, e) in (suc r.0, omega (arith, r.1), r.2)
+
+sign_key : (s : Sign) → Contains SIGN_KEYS (None, s)
+sign_key Sign.None = (0, omega arith, refl)
+sign_key Sign.Negative = (1, omega arith, refl)
+sign_key Sign.Positive = (2, omega arith, refl)
+
+category_key : (c : PluralCategory) (s : Sign) → Contains CATEGORY_KEYS (Some c, s)
+category_key PluralCategory.Other Sign.None = (0, omega arith, refl)
+category_key PluralCategory.Other Sign.Negative = (1, omega arith, refl)
+category_key PluralCategory.Other Sign.Positive = (2, omega arith, refl)
+category_key PluralCategory.One Sign.None = (3, omega arith, refl)
+category_key PluralCategory.One Sign.Negative = (4, omega arith, refl)
+category_key PluralCategory.One Sign.Positive = (5, omega arith, refl)
+category_key PluralCategory.Few Sign.None = (6, omega arith, refl)
+category_key PluralCategory.Few Sign.Negative = (7, omega arith, refl)
+category_key PluralCategory.Few Sign.Positive = (8, omega arith, refl)
+category_key PluralCategory.Many Sign.None = (9, omega arith, refl)
+category_key PluralCategory.Many Sign.Negative = (10, omega arith, refl)
+category_key PluralCategory.Many Sign.Positive = (11, omega arith, refl)
+category_key PluralCategory.Two Sign.None = (12, omega arith, refl)
+category_key PluralCategory.Two Sign.Negative = (13, omega arith, refl)
+category_key PluralCategory.Two Sign.Positive = (14, omega arith, refl)
+category_key PluralCategory.Zero Sign.None = (15, omega arith, refl)
+category_key PluralCategory.Zero Sign.Negative = (16, omega arith, refl)
+category_key PluralCategory.Zero Sign.Positive = (17, omega arith, refl)
+
+-- a key of the formatter that is for numbers of this category and sign, and has what is around them
+record IsKeyOf (f : NumberFormatter) (o : OuterTexts) (c : PluralCategory) (s : Sign)
+    (key : Option PluralCategory × Sign) : Type 0 where
+  listed : Contains (keys_by o) key
+  sign : key.1 ≡ s
+  allowed : IfSome key.0 (λ own. own ≡ c)
+  outer : outer_at f key.0 ≡ outer_by f c
+
+key_of : (f : NumberFormatter) → IsStandard f → (c : PluralCategory) (s : Sign) (o : OuterTexts) → f.outer ≡ o
+    → (key : Option PluralCategory × Sign) × IsKeyOf f o c s key
+key_of f standard c s OuterTexts.None e = (
+  (None, s),
+  record {
+    listed = sign_key s;
+    sign = refl;
+    allowed = tt;
+    outer = sym (λ i. outer_texts f.formats (e i) (compact_style (standard i) f.options.style) f.options.style c);
+  },
+)
+key_of f standard c s (OuterTexts.Units rows) e =
+    ((Some c, s), record { listed = category_key c s; sign = refl; allowed = refl; outer = refl })
+key_of f standard c s (OuterTexts.Names names) e =
+    ((Some c, s), record { listed = category_key c s; sign = refl; allowed = refl; outer = refl })
+
+-- ---- The text.
+
+within_number : (a : Around) (pieces : List Piece) → a.has_number ≡ true
+    → within a pieces ≡ a.prefix ++ (pieces ++ a.suffix)
+within_number a pieces has = ap (λ (b : Bool). a.prefix ++ ((if b then pieces else []) ++ a.suffix)) has
+
+-- the text of the pieces of a number between what a sign writes around it, and what is around the whole text
+text_around : (f : NumberFormatter) (outer : Around) (s : Sign) (x : ScaledValue)
+    → pieces_text (outer.prefix ++ (((pattern_around f.style s).prefix
     ++ (((digit_pieces PartKind.Integer f.style.symbols f.options.grouping x.significand.absolute ++ []) ++ [])
-    ++ (pattern_around f.style s).suffix)) ++ [])
-    ≡ (affixes_for f.style s).prefix
-    ++ (absolute_text f.style.symbols f.options.grouping x.significand.absolute ++ (affixes_for f.style s).suffix)
-text_around f s x =
+    ++ (pattern_around f.style s).suffix)) ++ outer.suffix))
+    ≡ (pieces_text outer.prefix ++ (affixes_for f.style s).prefix)
+    ++ (absolute_text f.style.symbols f.options.grouping x.significand.absolute
+    ++ ((affixes_for f.style s).suffix ++ pieces_text outer.suffix))
+text_around f outer s x =
     let digits = digit_pieces PartKind.Integer f.style.symbols f.options.grouping x.significand.absolute in
     let a = pattern_around f.style s in
-    ap pieces_text (append-nil (a.prefix ++ (((digits ++ []) ++ []) ++ a.suffix)))
-    ∙ text-three a.prefix ((digits ++ []) ++ []) a.suffix
-    (affixes_for f.style s).prefix (absolute_text f.style.symbols f.options.grouping x.significand.absolute)
-    (affixes_for f.style s).suffix refl
+    let text = absolute_text f.style.symbols f.options.grouping x.significand.absolute in
+    let inner = text-three a.prefix ((digits ++ []) ++ []) a.suffix
+    (affixes_for f.style s).prefix text (affixes_for f.style s).suffix refl
     (ap pieces_text (append-nil (digits ++ []) ∙ append-nil digits)
     ∙ text-of_digits PartKind.Integer f.style.symbols f.options.grouping x.significand.absolute)
+    refl in
+    text-three outer.prefix (a.prefix ++ (((digits ++ []) ++ []) ++ a.suffix)) outer.suffix (pieces_text outer.prefix)
+    ((affixes_for f.style s).prefix ++ (text ++ (affixes_for f.style s).suffix)) (pieces_text outer.suffix) refl inner
     refl
+    ∙ regrouped (pieces_text outer.prefix) (affixes_for f.style s).prefix text (affixes_for f.style s).suffix
+    (pieces_text outer.suffix)
+  where
+    regrouped : (a b c d e : List ℕ) → a ++ ((b ++ (c ++ d)) ++ e) ≡ (a ++ b) ++ (c ++ (d ++ e))
+    regrouped a b c d e = simp append_assoc
 
 -- the text of a number is that of the number that is shown
-pub formatter_text : (f : NumberFormatter) (v u : Decimal) (text : List ℕ) → HasNumberAlone f → IsNumberText f v text
-    → IsShownAs f v u → text ≡ text_with (reader_of f) f.options.grouping u
-formatter_text f v u text (standard, (alone, auto)) (pieces, is, of_pieces) shown =
+pub formatter_text : (f : NumberFormatter) (v u : Decimal) (text : List ℕ) → HasPlainDigits f → HasNumbers f
+    → IsNumberText f v text → IsShownAs f v u → IsShown (reader_of f) text u
+formatter_text f v u text (standard, auto) has (pieces, is, of_pieces) shown =
     let number : is.number ≡ shown.number = some_same _ _ (sym is.number_is ∙ shown.number_is) in
     let s = shown_sign f v shown.number.significand in
-    let affixes = ap (affixes_for f.style) (sym shown.sign) ∙ sym (by_sign_is f.style u.sign) in
-    of_pieces
-    ∙ ap pieces_text is.value
-    ∙ (λ i. pieces_text (within (outer_texts f.formats (alone i) (compact_style (standard i) f.options.style)
-    f.options.style is.whole)
-    (within (around_by f.style (shown_sign f v (number i).significand)
-    (compact_pattern f.formats (compact_style (standard i) f.options.style)
-    (compact_magnitude f.notation (number i).significand (number i).exponent) is.category
-    (is_one (number i).significand)))
-    (significand_pieces f (auto i) (number i).significand.absolute
-    ++ exponent_pieces f (exponent_of (standard i) (number i).exponent)))))
-    ∙ text_around f s shown.number
-    ∙ (λ i. (affixes i).prefix
-    ++ (absolute_text f.style.symbols f.options.grouping (sym shown.absolute i) ++ (affixes i).suffix))
+    let outer = outer_by f is.whole in
+    let found = key_of f standard is.whole s f.outer refl in
+    let key = found.1 in
+    let p = pattern_at f found.0 in
+    let operands : operands_by f.options.notation (whole_number f v) is.number ≡ plain u.absolute =
+    (λ i. operands_by (standard i) (whole_number f v) (number i)) ∙ ap plain (sym shown.absolute) in
+    let of_u : IsCategoryAt f.rules (plain u.absolute) is.whole =
+    subst (λ x. IsCategoryAt f.rules x is.whole) operands is.of_whole in (
+      p,
+      record {
+        listed = in_map (pattern_at f) (keys_by f.outer) found.0 key.listed;
+        sign = key.sign ∙ sym shown.sign;
+        strategy = f.options.grouping;
+        is = of_pieces
+            ∙ ap pieces_text is.value
+            ∙ (λ i. pieces_text (within outer
+            (within (around_by f.style (shown_sign f v (number i).significand)
+            (compact_pattern f.formats (compact_style (standard i) f.options.style)
+            (compact_magnitude f.notation (number i).significand (number i).exponent) is.category
+            (is_one (number i).significand)))
+            (significand_pieces f (auto i) (number i).significand.absolute
+            ++ exponent_pieces f (exponent_of (standard i) (number i).exponent)))))
+            ∙ ap pieces_text (within_number outer _ (has is.whole))
+            ∙ text_around f outer s shown.number
+            ∙ (λ i. (pieces_text (sym key.outer i).prefix ++ (affixes_for f.style (sym key.sign i)).prefix)
+            ++ (absolute_text f.style.symbols f.options.grouping (sym shown.absolute i)
+            ++ ((affixes_for f.style (sym key.sign i)).suffix ++ pieces_text (sym key.outer i).suffix)));
+      },
+      of_category_in found.0.0 key.allowed of_u,
+    )
+  where
+    of_category_in : (own : Option PluralCategory) → IfSome own (λ x. x ≡ is.whole)
+        → IsCategoryAt f.rules (plain u.absolute) is.whole → IfSome own (IsCategoryAt f.rules (plain u.absolute))
+    of_category_in None allowed is = tt
+    of_category_in (Some x) allowed h = subst (IsCategoryAt f.rules (plain u.absolute)) (sym allowed) h
 
 -- one text is shown of one number
 pub are_unique : (f : NumberFormatter) (v w x y : Decimal) (text : List ℕ) → CanRead f → IsNumberText f v text
     → IsNumberText f w text → IsShownAs f v x → IsShownAs f w y → IsValue x.absolute → IsValue y.absolute → x ≡ y
 are_unique f v w x y text can a b p q valid valid' =
-    named_texts_are_unique (reader_of f) can.named can.readable f.options.grouping f.options.grouping x y valid valid'
-    (sym (formatter_text f v x text can.undo.0 a p) ∙ formatter_text f w y text can.undo.0 b q)
+    let first = formatter_text f v x text can.undo.0 can.undo.1 a p in
+    let second = formatter_text f w y text can.undo.0 can.undo.1 b q in
+    named_texts_are_unique (reader_of f) can.named can.readable text x y valid valid' (first.0, first.1)
+    (second.0, second.1)
 
 -- ---- Standard notation.
 
