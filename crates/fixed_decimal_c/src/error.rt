@@ -43,8 +43,8 @@ pub enum FdError {
     SkeletonUnsupported { at: usize },
     /// The numbering system of the skeleton is unknown.
     UnknownNumberingSystem,
-    /// The formatter has no reader: its notation is not standard, its scale cannot be undone, its symbols have no
-    /// reader, or its affixes do not tell a number from its negative.
+    /// The formatter has no reader: its notation is not standard, a text of its unit has no number, its scale cannot be
+    /// undone, its symbols have no reader, or its affixes do not tell a number from its negative.
     UnreadableFormat,
     /// The numbers of digits in the options are none of ECMA-402's, by the reason with this number.
     DigitOptions { at: usize },

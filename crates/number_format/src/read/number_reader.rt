@@ -1,6 +1,6 @@
 //! Readers of what formatters write.
 ghost use Rattle.std.specs.Prelude.{◌≡◌, ◌↔◌, ◌≤◌, IsTrue, ◌∷◌, [], ◌++◌, ◌-ℤ◌, pos, length, take, map, flat_map, IfOk, IfErr, OnOk};
-ghost use Rattle.number_format.specs.{AffixedTexts.IsReadExactly, NumberReading.{HasPlainDigits, CanRead, CanUndo, CannotRead, names_by, form, form_of, form_of_pattern, forms_of_name, patterns_of, number_reader_of, typed_forms, IsReadLeniently, IsReadInMode}};
+ghost use Rattle.number_format.specs.{AffixedTexts.IsReadExactly, NumberReading.{HasPlainDigits, CanRead, CanUndo, CannotRead, percent_name, names_by, form, form_of, form_of_pattern, forms_of_name, patterns_of, number_reader_of, typed_forms, IsReadLeniently, IsReadInMode}};
 
 use crate::format::formatter::NumberFormatter;
 use crate::format::outer::OuterTexts;
@@ -108,15 +108,25 @@ fn push_patterns(
     }
 }
 
+fn percent_name(formatter: &NumberFormatter) -> &str
+    ensures { result.now ≡ percent_name formatter.now formatter.now.outer }
+{
+    match formatter.outer {
+        OuterTexts::None => formatter.style.percent.text,
+        OuterTexts::Units(_) | OuterTexts::Names(_) => "",
+    }
+}
+
 fn names(formatter: &NumberFormatter) -> (&str, &str, &str)
     ensures { result.0.now ∷ result.1.now ∷ result.2.now ∷ [] ≡ names_by formatter.now formatter.now.options.style }
 {
     let currency = &formatter.style.currency;
-    match (formatter.options.style, &formatter.outer) {
-        (NumberStyle::Currency(_), _) => (currency.wide, currency.narrow, currency.code.as_str()),
-        (NumberStyle::Decimal, _) => ("", "", ""),
-        (_, OuterTexts::None) => (formatter.style.percent.text, "", ""),
-        _ => ("", "", ""),
+    match formatter.options.style {
+        NumberStyle::Decimal => ("", "", ""),
+        NumberStyle::Percent | NumberStyle::Permille | NumberStyle::Unit(_) => {
+            (percent_name(formatter), "", "")
+        }
+        NumberStyle::Currency(_) => (currency.wide, currency.narrow, currency.code.as_str()),
     }
 }
 

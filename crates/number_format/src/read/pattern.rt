@@ -184,7 +184,7 @@ impl NumberFormatter {
     {
         match self.outer {
             OuterTexts::None => &SIGN_KEYS,
-            _ => &CATEGORY_KEYS,
+            OuterTexts::Units(_) | OuterTexts::Names(_) => &CATEGORY_KEYS,
         }
     }
 
