@@ -1,11 +1,13 @@
 //! Readers of what formatters write.
 ghost use Rattle.std.specs.Prelude.{◌≡◌, ◌↔◌, ◌≤◌, IsTrue, ◌∷◌, [], ◌++◌, ◌-ℤ◌, pos, length, take, map, flat_map, IfOk, IfErr, OnOk};
-ghost use Rattle.number_format.specs.{AffixedTexts.IsReadExactly, NumberReading.{HasPlainDigits, CanRead, CanUndo, CannotRead, percent_name, names_by, form, form_of, form_of_pattern, forms_of_name, patterns_of, number_reader_of, typed_forms, IsReadLeniently, IsReadInMode}};
+ghost use Rattle.decimal_format.specs.Readable.{IsReadable};
+ghost use Rattle.number_format.specs.{AffixedTexts.{AreNamed, IsReadExactly}, NumberReading.{HasPlainDigits, CanRead, CanUndo, CannotRead, percent_name, names_by, form, form_of, form_of_pattern, forms_of_name, patterns_of, number_reader_of, typed_forms, IsReadLeniently, IsReadInMode}};
 
 use crate::format::formatter::NumberFormatter;
 use crate::format::outer::OuterTexts;
 use crate::options::{DecimalSeparatorDisplay, NumberNotation, NumberStyle};
 use crate::read::affix_reader::AffixReader;
+use crate::read::apart::are_named;
 use crate::read::owned_affixes::OwnedAffixes;
 use crate::read::pattern::NumberPattern;
 use decimal_format::Affixes;
@@ -98,14 +100,11 @@ fn push_patterns(
 ) -> Result<(), AllocError>
     ensures { OnOk result (forms.new.items ≡ forms.old.items ++ map form_of_pattern patterns.now) }
 {
-    match patterns {
-        [] => Ok(()),
-        [first, rest @ ..] => {
-            let Affixes { prefix, suffix } = first.affixes.texts();
-            push_form(forms, alloc, &[prefix], &[suffix], first.sign)?;
-            push_patterns(forms, alloc, rest)
-        }
+    for pattern in patterns {
+        let Affixes { prefix, suffix } = pattern.affixes.texts();
+        push_form(forms, alloc, &[prefix], &[suffix], pattern.sign)?;
     }
+    Ok(())
 }
 
 fn percent_name(formatter: &NumberFormatter) -> &str
@@ -210,6 +209,34 @@ impl Model for NumberReader {
 }
 
 impl NumberFormatter {
+    fn patterns_error(&self) -> NumberReaderError
+        requires undo { CanUndo self.now }
+        requires readable { IsReadable self.now.style.symbols }
+        ensures { CannotRead result self.now }
+    {
+        if self.are_keys_apart(self.pattern_keys()) {
+            NumberReaderError::Memory
+        } else {
+            NumberReaderError::Affixes
+        }
+    }
+
+    fn named_patterns(&self, alloc: Global) -> Result<Vec<NumberPattern>, NumberReaderError>
+        requires undo { CanUndo self.now }
+        requires readable { IsReadable self.now.style.symbols }
+        ensures ok { IfOk result (λ patterns. (patterns.items ≡ patterns_of self.now)
+            × AreNamed self.now.style.symbols patterns.items) }
+        ensures err { IfErr result (λ e. CannotRead e self.now) }
+    {
+        let Ok(patterns) = self.number_patterns(alloc) else {
+            return Err(self.patterns_error());
+        };
+        if !are_named(&self.style.symbols, patterns.as_slice()) {
+            return Err(NumberReaderError::Affixes);
+        }
+        Ok(patterns)
+    }
+
     /// Makes the reader of what this formatter writes. The formatter stays.
     ///
     /// # Errors
@@ -224,12 +251,7 @@ impl NumberFormatter {
         if !self.style.symbols.is_readable() {
             return Err(NumberReaderError::Symbols);
         }
-        if !self.are_apart(self.pattern_keys()) {
-            return Err(NumberReaderError::Affixes);
-        }
-        let Ok(patterns) = self.number_patterns(alloc) else {
-            return Err(NumberReaderError::Memory);
-        };
+        let patterns = self.named_patterns(alloc)?;
         let Ok(forms) = forms(self, patterns.as_slice(), alloc) else {
             return Err(NumberReaderError::Memory);
         };

@@ -1,5 +1,5 @@
 //! The texts around a number that a formatter writes, and what they say of the number.
-ghost use Rattle.std.specs.Prelude.{◌≡◌, ◌↔◌, ◌≤◌, ◌+◌, ◌++◌, false, length, map, IsTrue, IfOk, MatchOption, OnOk};
+ghost use Rattle.std.specs.Prelude.{◌≡◌, ◌↔◌, ◌≤◌, ◌+◌, ◌++◌, false, length, IsTrue, IfOk, MatchOption};
 ghost use Rattle.number_format.specs.{AffixedTexts.Allows, FormattedNumbers.IsOuter, NumberReading.{IsStandard, HasNumbers, outer_at, pattern_at, keys_by, patterns_of}, NumberText.outer_by};
 
 use crate::format::formatter::NumberFormatter;
@@ -160,24 +160,6 @@ impl NumberFormatter {
         })
     }
 
-    fn push_patterns(
-        &self,
-        patterns: &mut Vec<NumberPattern>,
-        alloc: Global,
-        keys: &[PatternKey],
-    ) -> Result<(), AllocError>
-        requires { IsStandard self.now }
-        ensures { OnOk result (patterns.new.items ≡ patterns.old.items ++ map (pattern_at self.now) keys.now) }
-    {
-        match keys {
-            [] => Ok(()),
-            [first, rest @ ..] => {
-                patterns.push(self.pattern(alloc, *first)?)?;
-                self.push_patterns(patterns, alloc, rest)
-            }
-        }
-    }
-
     /// Returns for which plural categories and signs there are patterns.
     pub(crate) fn pattern_keys(&self) -> &'static [PatternKey]
         ensures { result.now ≡ keys_by self.now.outer }
@@ -193,8 +175,11 @@ impl NumberFormatter {
         requires { IsStandard self.now }
         ensures { IfOk result (λ patterns. patterns.items ≡ patterns_of self.now) }
     {
+        let keys = self.pattern_keys();
         let mut patterns = Vec::new(alloc);
-        self.push_patterns(&mut patterns, alloc, self.pattern_keys())?;
+        for key in keys {
+            patterns.push(self.pattern(alloc, *key)?)?;
+        }
         Ok(patterns)
     }
 }

@@ -7,18 +7,12 @@ use Rattle.decimal_format.specs.{Formatted.absolute_text, Symbols.Affixes}
 use Rattle.plural_rules.specs.{Operands.plain, declared.rules.PluralCategory.PluralCategory}
 use Rattle.locale_data.specs.Plurals.{IsCategoryAt}
 use Rattle.number_format.specs.{declared.{format.{outer.OuterTexts.OuterTexts, formatter.NumberFormatter.NumberFormatter, text_part.PartKind.PartKind}, options.{NumberOptions.NumberOptions, NumberNotation.NumberNotation}, read.pattern.{NumberPattern.NumberPattern, TheConstants.{SIGN_KEYS, CATEGORY_KEYS}}}, Formatters.IsFormatter, AffixedTexts.IsShown, NumberReading.{IsStandard, HasPlainDigits, HasNumbers, outer_at, pattern_at, keys_by, reader_of, CanRead, IsShownAs}, NumberText.{IsNumberText, shown_number, shown_sign, whole_number, compact_magnitude, is_one, compact_pattern, compact_style, operands_by, outer_by, outer_texts, around_by, exponent_pieces, significand_pieces, exponent_of}, PatternTexts.{Around, around, pattern_around, affixes_for, within}, Scaled.ScaledValue, TextParts.{Piece, digit_pieces, pieces_text}}
-use Rattle.number_format.proofs.lemmas.{read.AffixedNumbers.named_texts_are_unique, format.PieceTexts.{text-of_digits, text-three}}
+use Rattle.number_format.proofs.lemmas.{read.{AffixedNumbers.named_texts_are_unique, PatternLists.in_map}, format.PieceTexts.{text-of_digits, text-three}}
 
 some_same : (x y : ScaledValue) → Some x ≡ Some y → x ≡ y
 some_same x y e = cc
 
 -- ---- The pattern of a category and a sign.
-
-in_map : {X Y : Type 0} (g : X → Y) (xs : List X) (x : X) → Contains xs x → Contains (map g xs) (g x)
-in_map g [] x (k, h, e) = absurd (omega (arith, h))
-in_map g (y ∷ ys) x (zero, h, e) = (0, omega arith, ap g e)
-in_map g (y ∷ ys) x (suc k, h, e) =
-    let r = in_map g ys x (k, omega arith, e) in (suc r.0, omega (arith, r.1), r.2)
 
 sign_key : (s : Sign) → Contains SIGN_KEYS (None, s)
 sign_key Sign.None = (0, omega arith, refl)

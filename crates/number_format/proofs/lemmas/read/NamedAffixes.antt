@@ -54,18 +54,6 @@ pub apart_by_digit : (Apart : Type 0) (Digit : List ℕ → Type 0) (r : Bor (Li
 apart_by_digit Apart Digit r b e utf8 some test =
     unless b (Digit r.now) Apart test (λ apart. (e.1 apart).1, λ none. e.0 utf8 (some, none))
 
--- ---- Elements.
-
-pub first_or_rest : {X : Type 0} (x : X) (xs : List X) (y : X) → Contains (x ∷ xs) y → (x ≡ y) ⊎ Contains xs y
-first_or_rest x xs y (zero, h, e) = inl e
-first_or_rest x xs y (suc k, h, e) = inr (k, omega arith, e)
-
-pub is_first : {X : Type 0} (x : X) (xs : List X) → Contains (x ∷ xs) x
-is_first x xs = (0, omega arith, refl)
-
-pub in_rest : {X : Type 0} (x : X) (xs : List X) (y : X) → Contains xs y → Contains (x ∷ xs) y
-in_rest x xs y (k, h, e) = (suc k, omega arith, e)
-
 -- ---- Digits.
 
 module _ (s : Symbols) where
@@ -189,38 +177,3 @@ module _ (s : Symbols) where
     λ apart. before_suffix q p r.now g (suffixes_swapped p q apart),
   )
   suffixes_by_rest p q (Some r) b f g = (suffix_before p q r.now f, before_suffix p q r.now f)
-
-  -- ---- Patterns.
-
-  pair_swapped : (a b : Affixes) → ArePairApart s a b → ArePairApart s b a
-  pair_swapped a b (inl h) = inl (prefixes_swapped a.prefix b.prefix h)
-  pair_swapped a b (inr h) = inr (suffixes_swapped a.suffix b.suffix h)
-
-  told_swapped : (p q : NumberPattern) → AreToldApart s p q → AreToldApart s q p
-  told_swapped p q (inl (affixes, sign)) = inl (sym affixes, sym sign)
-  told_swapped p q (inr h) = inr (pair_swapped p.affixes q.affixes h)
-
-  module _ (p : NumberPattern) (ps : List NumberPattern) where
-    pub named_cons : All (AreToldApart s p) ps → AreNamed s ps → AreNamed s (p ∷ ps)
-    named_cons told named = record { pair = λ x y a b. go x y (first_or_rest p ps x a) (first_or_rest p ps y b) }
-      where
-        go : (x y : NumberPattern) → (p ≡ x) ⊎ Contains ps x → (p ≡ y) ⊎ Contains ps y → AreToldApart s x y
-        go x y (inl a) (inl b) =
-            let e : x ≡ y = sym a ∙ b in
-            inl (ap (λ (z : NumberPattern). z.affixes) e, ap (λ (z : NumberPattern). z.sign) e)
-        go x y (inl a) (inr b) =
-            subst (λ z. AreToldApart s z y) a (All-contains (AreToldApart s p) ps y told b)
-        go x y (inr a) (inl b) =
-            told_swapped y x (subst (λ z. AreToldApart s z x) b (All-contains (AreToldApart s p) ps x told a))
-        go x y (inr a) (inr b) = named.pair x y a b
-
-    pub told_first : AreNamed s (p ∷ ps) → All (AreToldApart s p) ps
-    told_first named =
-        All-weaker (Contains ps) (AreToldApart s p)
-        (λ x h. named.pair p x (is_first p ps) (in_rest p ps x h)) ps (All-contains_itself ps)
-
-    pub named_rest : AreNamed s (p ∷ ps) → AreNamed s ps
-    named_rest named = record { pair = λ x y a b. named.pair x y (in_rest p ps x a) (in_rest p ps y b) }
-
-  pub named_nil : AreNamed s []
-  named_nil = record { pair = λ x y a b. absurd (omega (arith, a.1)) }

@@ -1,49 +1,58 @@
--- Lists of patterns, from their first element on.
-use Rattle.std.proofs.{Common.{◌≡◌, ℕ, ◌-◌, ◌≤◌, List, [], ◌∷◌, length, get_or, take, drop, map, sym, ◌∙◌, ap, subst, arith}, lemmas.{List.take_all, List.Elements.{All-cons, All-head, All-tail}}}
-use Rattle.std.specs.Prelude.{All}
+-- Lists of patterns.
+use Rattle.std.proofs.{Common.{◌≡◌, ℕ, zero, suc, ◌+◌, ◌<◌, ◌≤◌, Bool, true, false, List, [], ◌∷◌, length, get_or, take, map, refl, sym, ◌∙◌, ap, subst, arith}, lemmas.{List.take_all, List.Elements.{All-contains, All-contains_itself, All-map, All-more}}}
+use Rattle.std.specs.{Prelude.{◌↔◌, IsTrue, All}, List.Contains}
 use Rattle.decimal_format.specs.Symbols.{Symbols}
 use Rattle.number_format.specs.{declared.{format.text_part.{PartKind.PartKind, TextPart.TextPart}, read.pattern.NumberPattern.NumberPattern}, AffixedTexts.{AreNamed, AreToldApart}, TextParts.{Piece, parts_pieces, parts_text, pieces_of, pieces_text}}
-use Rattle.number_format.proofs.lemmas.{format.PieceTexts.{text-of, text-of_parts}, read.NamedAffixes.{named_cons, named_rest, told_first}}
+use Rattle.number_format.proofs.lemmas.format.PieceTexts.{text-of, text-of_parts}
 
-pub as_cons : {X : Type 0} (xs : List X) (d : X) → 1 ≤ length xs → xs ≡ get_or xs 0 d ∷ take (length xs - 1) (drop 1 xs)
-as_cons [] d some = absurd (omega (arith, some))
-as_cons (x ∷ xs) d some =
-    let count : length (x ∷ xs) - 1 ≡ length xs = omega arith in
-    ap (λ l. x ∷ l) (sym (ap (λ n. take n xs) count ∙ take_all (length xs) xs (omega arith)))
+-- ---- A loop that ends at the first element that fails a test.
+
+module _ {X : Type 0} (P : X → Type 0) (xs : List X) (i : ℕ) where
+  pub all_more : (x d : X) (b : Bool) → i < length xs → x ≡ get_or xs i d → IsTrue b ↔ P x → b ≡ true
+      → All P (take i xs) → All P (take (i + 1) xs)
+  all_more x d b below is test passes all = All-more P xs i d below all (subst P is (test.0 passes))
+
+  pub not_all : (x d : X) (b : Bool) → i < length xs → x ≡ get_or xs i d → IsTrue b ↔ P x → b ≡ false
+      → IsTrue false ↔ All P xs
+  not_all x d b below is test fails =
+      (λ t. absurd (cc), λ all. let t = test.1 (subst P (sym is) (all i d below)) in absurd (cc))
+
+  pub all_done : length xs ≤ i → All P (take i xs) → IsTrue true ↔ All P xs
+  all_done end all = (λ t. subst (All P) (take_all i xs end) all, λ each. refl)
+
+-- ---- Elements.
+
+pub in_map : {X Y : Type 0} (g : X → Y) (xs : List X) (x : X) → Contains xs x → Contains (map g xs) (g x)
+in_map g [] x (k, h, e) = absurd (omega (arith, h))
+in_map g (y ∷ ys) x (zero, h, e) = (0, omega arith, ap g e)
+in_map g (y ∷ ys) x (suc k, h, e) =
+    let r = in_map g ys x (k, omega arith, e) in (suc r.0, omega (arith, r.1), r.2)
 
 -- ---- Patterns that are told apart.
 
-module _ {K : Type 0} (s : Symbols) (g : K → NumberPattern) (keys : List K) (d : K) (some : 1 ≤ length keys) where
-  abbrev pub Rest : List K
-  Rest = take (length keys - 1) (drop 1 keys)
+module _ (s : Symbols) where
+  -- each one from all is each two
+  pub named_by_all : (ps : List NumberPattern) → All (λ p. All (AreToldApart s p) ps) ps ↔ AreNamed s ps
+  named_by_all ps = (
+    λ all. record {
+      pair = λ p q a b.
+          All-contains (AreToldApart s p) ps q (All-contains (λ x. All (AreToldApart s x) ps) ps p all a) b
+    },
+    λ named k d below l e below'.
+        named.pair _ _ (All-contains_itself ps k d below) (All-contains_itself ps l e below'),
+  )
 
-  mapped : map g keys ≡ g (get_or keys 0 d) ∷ map g Rest
-  mapped = ap (map g) (as_cons keys d some)
-
-  module _ (p : NumberPattern) where
-    pub told_cons : AreToldApart s p (g (get_or keys 0 d)) → All (AreToldApart s p) (map g Rest)
-        → All (AreToldApart s p) (map g keys)
-    told_cons first rest =
-        subst (All (AreToldApart s p)) (sym mapped)
-        (All-cons (AreToldApart s p) (g (get_or keys 0 d)) (map g Rest) first rest)
-
-    pub told_head : All (AreToldApart s p) (map g keys) → AreToldApart s p (g (get_or keys 0 d))
-    told_head all =
-        All-head (AreToldApart s p) (g (get_or keys 0 d)) (map g Rest) (subst (All (AreToldApart s p)) mapped all)
-
-    pub told_tail : All (AreToldApart s p) (map g keys) → All (AreToldApart s p) (map g Rest)
-    told_tail all =
-        All-tail (AreToldApart s p) (g (get_or keys 0 d)) (map g Rest) (subst (All (AreToldApart s p)) mapped all)
-
-  pub apart_cons : All (AreToldApart s (g (get_or keys 0 d))) (map g Rest) → AreNamed s (map g Rest)
-      → AreNamed s (map g keys)
-  apart_cons told named = subst (AreNamed s) (sym mapped) (named_cons s (g (get_or keys 0 d)) (map g Rest) told named)
-
-  pub apart_first : AreNamed s (map g keys) → All (AreToldApart s (g (get_or keys 0 d))) (map g Rest)
-  apart_first named = told_first s (g (get_or keys 0 d)) (map g Rest) (subst (AreNamed s) mapped named)
-
-  pub apart_rest : AreNamed s (map g keys) → AreNamed s (map g Rest)
-  apart_rest named = named_rest s (g (get_or keys 0 d)) (map g Rest) (subst (AreNamed s) mapped named)
+  -- the same of the patterns of keys
+  pub named_by_keys : {K : Type 0} (g : K → NumberPattern) (keys : List K)
+      → All (λ k. All (λ l. AreToldApart s (g k) (g l)) keys) keys ↔ AreNamed s (map g keys)
+  named_by_keys g keys = (
+    λ all. (named_by_all (map g keys)).0
+        (All-map (λ p. All (AreToldApart s p) (map g keys)) g keys
+        (λ k d below. All-map (AreToldApart s (g (get_or keys k d))) g keys (all k d below))),
+    λ named k d below l e below'. named.pair _ _
+        (in_map g keys (get_or keys k d) (All-contains_itself keys k d below))
+        (in_map g keys (get_or keys l e) (All-contains_itself keys l e below')),
+  )
 
 -- ---- The texts of pieces.
 
