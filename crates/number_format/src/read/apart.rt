@@ -95,8 +95,8 @@ impl NumberFormatter {
     fn is_key_apart(&self, key: PatternKey, keys: &[PatternKey]) -> bool
         requires standard { IsStandard self.now }
         requires readable { IsReadable self.now.style.symbols }
-        ensures { IsTrue result
-            ↔ All (λ k. AreToldApart self.now.style.symbols (pattern_at self.now key) (pattern_at self.now k)) keys.now }
+        ensures { IsTrue result ↔ All (λ k. AreToldApart self.now.style.symbols (pattern_at self.now key)
+            (pattern_at self.now k)) keys.now }
     {
         let symbols = &self.style.symbols;
         let texts = self.pattern_texts(key);

@@ -36,7 +36,7 @@ module _ (s : Symbols) where
   named_by_all ps = (
     λ all. record {
       pair = λ p q a b.
-          All-contains (AreToldApart s p) ps q (All-contains (λ x. All (AreToldApart s x) ps) ps p all a) b
+          All-contains (AreToldApart s p) ps q (All-contains (λ x. All (AreToldApart s x) ps) ps p all a) b;
     },
     λ named k d below l e below'.
         named.pair _ _ (All-contains_itself ps k d below) (All-contains_itself ps l e below'),
