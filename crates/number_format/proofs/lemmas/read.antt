@@ -3,7 +3,6 @@ pub mod AffixedNumbers
 pub mod ReadBack
 pub mod FormatterTexts
 pub mod ShownValues
-pub mod TypedForms
 pub mod ScientificScans
 pub mod ScientificExponents
 pub mod ScientificTexts
@@ -12,4 +11,3 @@ pub mod ScientificExponentTexts
 pub mod ScientificShown
 pub mod ScientificBodies
 pub mod PatternLists
-pub mod TypedForms

@@ -1,10 +1,11 @@
 //! The texts around a number that a formatter writes, and what they say of the number.
-ghost use Rattle.std.specs.Prelude.{◌≡◌, ◌↔◌, ◌≤◌, ◌+◌, ◌++◌, false, length, IsTrue, IfOk, MatchOption};
-ghost use Rattle.number_format.specs.{AffixedTexts.Allows, FormattedNumbers.IsOuter, NumberReading.{IsStandard, HasNumbers, outer_at, pattern_at, keys_by, patterns_of}, NumberText.outer_by};
+ghost use Rattle.std.specs.Prelude.{◌≡◌, ◌↔◌, ◌≤◌, ◌+◌, ◌*◌, ◌++◌, false, length, IsTrue, IfOk, MatchOption};
+ghost use Rattle.number_format.specs.{AffixedTexts.Allows, FormattedNumbers.IsOuter, NumberReading.{IsStandard, HasNumbers, outer_at, pattern_at, keys_by, patterns_of}, NumberText.outer_by, TextParts.parts_text};
 
 use crate::format::formatter::NumberFormatter;
 use crate::format::outer::{OuterAround, OuterTexts};
 use crate::format::short_affixes::{ShortAffixes, joined};
+use crate::format::text_part::TextPart;
 use crate::read::owned_affixes::OwnedAffixes;
 use arrayvec::ArrayString;
 use fixed_decimal::Sign;
@@ -64,6 +65,13 @@ impl NumberPattern {
             _ => true,
         }
     }
+}
+
+fn short_text<const CAP: usize>(parts: &[TextPart<'_>]) -> ArrayString<CAP>
+    requires { 255 * length parts.now ≤ CAP }
+    ensures { result.bytes ≡ parts_text parts.now }
+{
+    joined(parts).unwrap()
 }
 
 fn pair_text(first: &str, second: &str) -> ArrayString<2550>
@@ -138,10 +146,10 @@ impl NumberFormatter {
     {
         let outer = self.outer_at(key.0);
         let inner = self.style.affixes(key.1, None);
-        let before: ArrayString<1020> = joined(&outer.before).unwrap();
-        let prefix: ArrayString<1530> = joined(&inner.prefix).unwrap();
-        let suffix: ArrayString<1275> = joined(&inner.suffix).unwrap();
-        let after: ArrayString<1020> = joined(&outer.after).unwrap();
+        let before: ArrayString<1020> = short_text(&outer.before);
+        let prefix: ArrayString<1530> = short_text(&inner.prefix);
+        let suffix: ArrayString<1275> = short_text(&inner.suffix);
+        let after: ArrayString<1020> = short_text(&outer.after);
         ShortAffixes {
             prefix: pair_text(before.as_str(), prefix.as_str()),
             suffix: pair_text(suffix.as_str(), after.as_str()),

@@ -1,8 +1,8 @@
 -- Lists of patterns.
 use Rattle.std.proofs.{Common.{◌≡◌, ℕ, zero, suc, ◌+◌, ◌<◌, ◌≤◌, Bool, true, false, List, [], ◌∷◌, length, get_or, take, map, refl, sym, ◌∙◌, ap, subst, arith}, lemmas.{List.take_all, List.Elements.{All-contains, All-contains_itself, All-map, All-more}}}
-use Rattle.std.specs.{Prelude.{◌↔◌, IsTrue, All}, List.Contains}
-use Rattle.decimal_format.specs.Symbols.{Symbols}
-use Rattle.number_format.specs.{declared.{format.text_part.{PartKind.PartKind, TextPart.TextPart}, read.pattern.NumberPattern.NumberPattern}, AffixedTexts.{AreNamed, AreToldApart}, TextParts.{Piece, parts_pieces, parts_text, pieces_of, pieces_text}}
+use Rattle.std.specs.{Prelude.{◌↔◌, ◌⊎◌, IsTrue, All}, List.Contains}
+use Rattle.decimal_format.specs.Symbols.{Symbols, Affixes}
+use Rattle.number_format.specs.{declared.{format.text_part.{PartKind.PartKind, TextPart.TextPart}, read.pattern.NumberPattern.NumberPattern}, AffixedTexts.{AreNamed, ArePairApart, AreToldApart}, TextParts.{Piece, parts_pieces, parts_text, pieces_of, pieces_text}}
 use Rattle.number_format.proofs.lemmas.format.PieceTexts.{text-of, text-of_parts}
 
 -- ---- A loop that ends at the first element that fails a test.
@@ -53,6 +53,13 @@ module _ (s : Symbols) where
         (in_map g keys (get_or keys k d) (All-contains_itself keys k d below))
         (in_map g keys (get_or keys l e) (All-contains_itself keys l e below')),
   )
+
+-- a test of their texts and signs
+pub told_by : (s : Symbols) (r : Bool) (a b : Affixes) (p q : NumberPattern) → a ≡ p.affixes → b ≡ q.affixes
+    → IsTrue r ↔ (((a ≡ b) × (p.sign ≡ q.sign)) ⊎ ArePairApart s a b) → IsTrue r ↔ AreToldApart s p q
+told_by s r a b p q first second test =
+    subst (λ x. IsTrue r ↔ (((p.affixes ≡ x) × (p.sign ≡ q.sign)) ⊎ ArePairApart s p.affixes x)) second
+    (subst (λ x. IsTrue r ↔ (((x ≡ b) × (p.sign ≡ q.sign)) ⊎ ArePairApart s x b)) first test)
 
 -- ---- The texts of pieces.
 
