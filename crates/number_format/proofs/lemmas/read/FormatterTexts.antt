@@ -1,12 +1,12 @@
 -- The texts of a formatter are texts between those of patterns.
-use Rattle.std.proofs.{Common.{◌≡◌, ℕ, zero, suc, List, [], ◌∷◌, ◌++◌, refl, sym, ◌∙◌, ap, subst, arith, append-nil, append_assoc}}
-use Rattle.std.specs.{Prelude.{Bool, true, Option, None, Some, IfSome, map, if◌then◌else◌}, List.Contains}
+use Rattle.std.proofs.{Common.{◌≡◌, ℕ, List, [], ◌++◌, refl, sym, ◌∙◌, ap, subst, arith, append-nil, append_assoc}}
+use Rattle.std.specs.{Prelude.{Bool, true, Option, None, Some, IfSome, if◌then◌else◌}, List.Contains}
 use Rattle.decimal_unsigned.specs.Unsigned.{IsValue}
 use Rattle.fixed_decimal.specs.{Decimal.Decimal, declared.variations.Sign.Sign}
-use Rattle.decimal_format.specs.{Formatted.absolute_text, Symbols.Affixes}
+use Rattle.decimal_format.specs.{Formatted.absolute_text}
 use Rattle.plural_rules.specs.{Operands.plain, declared.rules.PluralCategory.PluralCategory}
 use Rattle.locale_data.specs.Plurals.{IsCategoryAt}
-use Rattle.number_format.specs.{declared.{format.{outer.OuterTexts.OuterTexts, formatter.NumberFormatter.NumberFormatter, text_part.PartKind.PartKind}, options.{NumberOptions.NumberOptions, NumberNotation.NumberNotation}, read.pattern.{NumberPattern.NumberPattern, TheConstants.{SIGN_KEYS, CATEGORY_KEYS}}}, Formatters.IsFormatter, AffixedTexts.IsShown, NumberReading.{IsStandard, HasPlainDigits, HasNumbers, outer_at, pattern_at, keys_by, reader_of, CanRead, IsShownAs}, NumberText.{IsNumberText, shown_number, shown_sign, whole_number, compact_magnitude, is_one, compact_pattern, compact_style, operands_by, outer_by, outer_texts, around_by, exponent_pieces, significand_pieces, exponent_of}, PatternTexts.{Around, around, pattern_around, affixes_for, within}, Scaled.ScaledValue, TextParts.{Piece, digit_pieces, pieces_text}}
+use Rattle.number_format.specs.{declared.{format.{outer.OuterTexts.OuterTexts, formatter.NumberFormatter.NumberFormatter, text_part.PartKind.PartKind}, options.{NumberOptions.NumberOptions, NumberNotation.NumberNotation}, read.pattern.{TheConstants.{SIGN_KEYS, CATEGORY_KEYS}}}, Formatters.IsFormatter, AffixedTexts.IsShown, NumberReading.{IsStandard, HasPlainDigits, HasNumbers, outer_at, pattern_at, keys_by, reader_of, CanRead, IsShownAs}, NumberText.{IsNumberText, shown_sign, whole_number, compact_magnitude, is_one, compact_pattern, compact_style, operands_by, outer_by, outer_texts, around_by, exponent_pieces, significand_pieces, exponent_of}, PatternTexts.{Around, pattern_around, affixes_for, within}, Scaled.ScaledValue, TextParts.{Piece, digit_pieces, pieces_text}}
 use Rattle.number_format.proofs.lemmas.{read.{AffixedNumbers.named_texts_are_unique, PatternLists.in_map}, format.PieceTexts.{text-of_digits, text-three}}
 
 some_same : (x y : ScaledValue) → Some x ≡ Some y → x ≡ y

@@ -1,9 +1,9 @@
 -- Patterns that name the sign of a number.
-use Rattle.std.proofs.{Common.{◌≡◌, ◌≢◌, ℕ, zero, Bool, true, false, ◌%◌, suc, ◌+◌, ◌<◌, ◌≤◌, inl, inr, List, [], ◌∷◌, ◌++◌, length, get_or, refl, sym, ◌∙◌, ap, subst, arith, append_assoc, append-nil, length-append, Bor}, Math.Utf8.encode, lemmas.{Str.{encode_same, IsCharBoundary-at_seam}, Bool.Decides.nat_tests, List.{append_cancel_left, append_cancel_right}, List.Elements.{All-contains, All-contains_itself, All-weaker}}}
-use Rattle.std.specs.{List.Contains, Prelude.{◌↔◌, ◌⊎◌, All, not, nat_eq, IsTrue, Option, Some, None, MatchOption, encode_utf8, slice_index}, Option.option_or, Str.IsUtf8}
-use Rattle.decimal_format.specs.{Readable.{BeginsWithDigit, EndsWithDigit}, Symbols.{Symbols, Affixes, digit_text}}
+use Rattle.std.proofs.{Common.{◌≡◌, ◌≢◌, ℕ, Bool, true, false, ◌%◌, suc, ◌+◌, ◌<◌, ◌≤◌, inl, inr, List, [], ◌∷◌, ◌++◌, length, get_or, refl, sym, ◌∙◌, ap, subst, arith, append_assoc, append-nil, length-append, Bor}, Math.Utf8.encode, lemmas.{Str.{encode_same, IsCharBoundary-at_seam}, Bool.Decides.nat_tests, List.{append_cancel_left, append_cancel_right}}}
+use Rattle.std.specs.{Prelude.{◌↔◌, not, nat_eq, IsTrue, Option, Some, None, MatchOption, encode_utf8, slice_index}, Option.option_or, Str.IsUtf8}
+use Rattle.decimal_format.specs.{Readable.{BeginsWithDigit, EndsWithDigit}, Symbols.{Symbols, digit_text}}
 use Rattle.decimal_format.proofs.lemmas.reader.{Codes.meet, Scans.begins-append}
-use Rattle.number_format.specs.{declared.read.pattern.NumberPattern.NumberPattern, AffixedTexts.{ArePrefixesApart, AreSuffixesApart, ArePairApart, AreToldApart, AreNamed}}
+use Rattle.number_format.specs.{AffixedTexts.{ArePrefixesApart, AreSuffixesApart}}
 
 -- ---- Characters.
 

@@ -1,5 +1,5 @@
-use Rattle.std.proofs.Common.{◌≡◌, arith, get_or, refl, ◌∙◌}
-use Rattle.std.specs.Prelude.{◌↔◌, IsTrue, Option, None}
+use Rattle.std.proofs.Common.{arith, get_or, refl, ◌∙◌}
+use Rattle.std.specs.Prelude.{Option, None}
 use Rattle.fixed_decimal.specs.declared.variations.Sign.{Sign}
 use Rattle.plural_rules.specs.declared.rules.PluralCategory.{PluralCategory}
 use Rattle.decimal_format.specs.Symbols.{affixes}

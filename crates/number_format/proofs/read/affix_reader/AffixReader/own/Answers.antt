@@ -1,7 +1,6 @@
-use Rattle.std.proofs.Common.{◌≡◌, inl, inr, refl, List, subst}
-use Rattle.std.specs.Prelude.{Some}
-use Rattle.decimal_format.specs.{Readable.IsReadable, Symbols.Symbols}
-use Rattle.number_format.specs.{declared.read.pattern.NumberPattern.NumberPattern, AffixedTexts.{Reader, AreNamed}}
+use Rattle.std.proofs.Common.{◌≡◌, inl, inr, refl, subst}
+use Rattle.decimal_format.specs.{Readable.IsReadable}
+use Rattle.number_format.specs.{AffixedTexts.{Reader, AreNamed}}
 use Rattle.number_format.proofs.lemmas.read.AffixedNumbers.{shown_by, not_shown}
 use Rattle.number_format.proofs.read.affix_reader.AffixReader.own.Goals as goal
 
