@@ -21,8 +21,8 @@ returns-then-not-are_told_apart c =
     let second = (λ i. affixes (texts.prefix i) (texts.suffix i)) ∙ c.pattern_texts-others.ensures in
     let test = told_by s c.are_told_apart.result _ _ (pattern_at f c.args.key) (pattern_at f other) first second
     c.are_told_apart.ensures in
-    not_all (λ k. AreToldApart s (pattern_at f c.args.key) (pattern_at f k)) keys c.loop-other.other-index other plain_key
-    c.are_told_apart.result (omega arith) refl test c.if-not-are_told_apart.true
+    not_all (λ k. AreToldApart s (pattern_at f c.args.key) (pattern_at f k)) keys c.loop-other.other-index other
+    plain_key c.are_told_apart.result (omega arith) refl test c.if-not-are_told_apart.true
 
 pub loop-other-preserved : goal.loop-other-preserved
 loop-other-preserved c =
