@@ -449,7 +449,8 @@ static void test_read_number(void) {
         {"1", "de", OPTIONS(.notation = FD_COMPACT_SHORT), 1, FD_UNREADABLE_FORMAT, ""},
         {"1", "xx", OPTIONS(.notation = FD_COMPACT_SHORT), 0, FD_UNKNOWN_LOCALE, ""},
         {"x", "xx", OPTIONS(.style = 5), 0, FD_UNKNOWN_OPTION, ""},
-        {"1", "de", OPTIONS(MONEY("EUR"), .currency_display = FD_NAME), 1, FD_UNREADABLE_FORMAT, ""}};
+        {"1,50 Euro", "de", OPTIONS(MONEY("EUR"), .currency_display = FD_NAME), 0, FD_OK, "1.50"},
+        {"1,50 €", "de", OPTIONS(MONEY("EUR"), .currency_display = FD_NAME), 1, FD_OK, "1.50"}};
     for (size_t i = 0; i < sizeof rows / sizeof *rows; i++) {
         for (size_t room = 0, n = strlen(rows[i].own); room < n + 9; room++) {
             uint8_t buffer[40];

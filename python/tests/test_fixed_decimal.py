@@ -747,7 +747,9 @@ def test_units():
     for options in WRONG_UNIT_OPTIONS:
         raises(ValueError, lambda: NumberFormat("en", **options))
     raises(TypeError, lambda: NumberFormat("en", style="unit", unit=None))
-    raises(DecimalError, lambda: NumberFormat("en", **speed).read("5 kilometers per hour"), "unreadable format")
+    check(NumberFormat("en", **speed).read("5 kilometers per hour") == Decimal("5"), "a unit is read")
+    days = NumberFormat("ar", style="unit", unit="day", unit_display="long")
+    raises(DecimalError, lambda: days.read("5"), "unreadable format")
 
 
 def test_values_of_number_formats():

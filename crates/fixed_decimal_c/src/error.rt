@@ -43,8 +43,9 @@ pub enum FdError {
     SkeletonUnsupported { at: usize },
     /// The numbering system of the skeleton is unknown.
     UnknownNumberingSystem,
-    /// The formatter has no reader: it writes words or a unit, or exponents that are not certain; its scale cannot be
-    /// undone, its symbols have no reader, or the affixes of a number and of its negative are not apart.
+    /// The formatter has no reader: it writes words, exponents that are not certain, or a text of its unit without a
+    /// number; its scale cannot be undone, its symbols have no reader, or the affixes of a number and of its negative
+    /// are not apart.
     UnreadableFormat,
     /// The numbers of digits in the options are none of ECMA-402's, by the reason with this number.
     DigitOptions { at: usize },

@@ -16,6 +16,7 @@ fn error_of_reader(error: NumberReaderError) -> FdError
     match error {
         NumberReaderError::Memory => FdError::Memory,
         NumberReaderError::Notation
+        | NumberReaderError::NoNumber(_)
         | NumberReaderError::Scale
         | NumberReaderError::Symbols
         | NumberReaderError::Affixes => FdError::UnreadableFormat,

@@ -1,9 +1,10 @@
 -- What a formatter writes, read exactly and as people type it.
-use Rattle.std.specs.{Prelude.{◌≡◌, ◌≢◌, ℕ, ◌⊎◌, List, [], ◌∷◌, ◌++◌, map, flat_map, codes, Option, Some, None, Result, Err, ◌-ℤ◌, pos, negsuc}, Str.IsUtf8}
+use Rattle.std.specs.{Prelude.{◌≡◌, ◌≢◌, ℕ, ◌⊎◌, true, false, List, [], ◌∷◌, ◌++◌, map, flat_map, codes, Option, None, Some, Result, Err, ◌-ℤ◌, pos, negsuc}, Str.IsUtf8}
 use Rattle.decimal_unsigned.specs.declared.error.ParseError.{ParseError, TheVariants.Syntax}
 use Rattle.fixed_decimal.specs.{Decimal.Decimal, declared.variations.Sign.Sign}
+use Rattle.plural_rules.specs.declared.rules.PluralCategory.{PluralCategory}
 use Rattle.decimal_format.specs.{Readable.IsReadable, Symbols.{Affixes, affixes}, declared.reader.alternatives.Alternative.Alternative}
-use Rattle.number_format.specs.{declared.{digits.options.DigitOptions.DigitOptions, format.{outer.OuterTexts.OuterTexts, formatter.NumberFormatter.NumberFormatter}, options.{DecimalSeparatorDisplay.DecimalSeparatorDisplay, NumberNotation.NumberNotation, NumberStyle.NumberStyle}, read.{scientific.ExponentForm.ExponentForm, number_reader.{NumberReaderError.NumberReaderError, ParseMode.{ParseMode, TheVariants.{Strict, Lenient}}}}}, AffixedTexts.{AreNamed, Reader, IsReadExactly, IsReadTyped}, NumberText.{shown_number, shown_sign}, PatternTexts.{affixes_for, affixes_of_style}, Scaled.{ScaledValue, HasNoIncrement}, ScientificReading.{exponent_form, CanReadExponent}, AffixedExponents.{IsReadWithExponent, IsTypedWithExponent}}
+use Rattle.number_format.specs.{declared.{digits.options.DigitOptions.DigitOptions, format.{outer.OuterTexts.OuterTexts, formatter.NumberFormatter.NumberFormatter}, options.{DecimalSeparatorDisplay.DecimalSeparatorDisplay, NumberNotation.NumberNotation, NumberStyle.NumberStyle}, read.{pattern.{NumberPattern.NumberPattern, TheConstants.{SIGN_KEYS, CATEGORY_KEYS}}, scientific.ExponentForm.ExponentForm, number_reader.{NumberReaderError.NumberReaderError, ParseMode.{ParseMode, TheVariants.{Strict, Lenient}}}}}, AffixedTexts.{AreNamed, Reader, IsReadExactly, IsReadTyped}, NumberText.{outer_by, shown_number, shown_sign}, PatternTexts.{Around, around, affixes_for}, Scaled.{ScaledValue, HasNoIncrement}, ScientificReading.{exponent_form, CanReadExponent}, AffixedExponents.{IsReadWithExponent, IsTypedWithExponent}, TextParts.pieces_text}
 
 -- ---- Exactly.
 
@@ -22,37 +23,71 @@ abbrev pub CanReadExponents : NumberFormatter → Option ExponentForm → Type 0
 CanReadExponents f (Some form) = KeepsNotation f.digits × CanReadExponent f.style.symbols form
 CanReadExponents f None = ⊥
 
--- no exponent is written, or exponents that can be read
+-- no exponent is written; or exponents that can be read, and no unit and no name of a currency
 abbrev pub CanReadNotation : NumberFormatter → Type 0
-CanReadNotation f = IsStandard f ⊎ CanReadExponents f (exponent_form f f.options.notation)
+CanReadNotation f =
+    IsStandard f ⊎ ((f.outer ≡ OuterTexts.None) × CanReadExponents f (exponent_form f f.options.notation))
 
--- and no unit, no name of a currency, and no decimal separator without fraction digits is written
-abbrev pub HasNumberAlone : NumberFormatter → Type 0
-HasNumberAlone f =
-    CanReadNotation f × ((f.outer ≡ OuterTexts.None) × (f.options.decimal_separator ≡ DecimalSeparatorDisplay.Auto))
+-- and no decimal separator without fraction digits is written
+abbrev pub HasPlainDigits : NumberFormatter → Type 0
+HasPlainDigits f = CanReadNotation f × (f.options.decimal_separator ≡ DecimalSeparatorDisplay.Auto)
+
+-- the text of each category has the number: no text as `yesterday` replaces it
+abbrev pub HasNumbers : NumberFormatter → Type 0
+HasNumbers f = (c : PluralCategory) → (outer_by f c).has_number ≡ true
+
+-- what is around the whole text: nothing, or a unit or a name, by the plural category
+abbrev pub outer_at : NumberFormatter → Option PluralCategory → Around
+outer_at f None = around [] true []
+outer_at f (Some c) = outer_by f c
+
+-- the pattern of a category and a sign: what the sign writes around the number, within what is around the whole text
+abbrev pub pattern_at : NumberFormatter → Option PluralCategory × Sign → NumberPattern
+pattern_at f key = record {
+  affixes = affixes (pieces_text (outer_at f key.0).prefix ++ (affixes_for f.style key.1).prefix)
+      ((affixes_for f.style key.1).suffix ++ pieces_text (outer_at f key.0).suffix);
+  sign = key.1;
+  category = key.0;
+}
+
+-- each sign; and with a unit or a name each category and each sign
+abbrev pub keys_by : OuterTexts → List (Option PluralCategory × Sign)
+keys_by OuterTexts.None = SIGN_KEYS
+keys_by texts = CATEGORY_KEYS
+
+-- the patterns of a formatter
+abbrev pub patterns_of : NumberFormatter → List NumberPattern
+patterns_of f = map (pattern_at f) (keys_by f.outer)
 
 -- the reader of its texts, which undoes its scale
 abbrev pub reader_of : NumberFormatter → Reader
-reader_of f = record { symbols = f.style.symbols; affixes = affixes_of_style f.style; shift = pos 0 -ℤ f.options.scale }
+reader_of f = record {
+  symbols = f.style.symbols;
+  patterns = patterns_of f;
+  rules = f.rules;
+  shift = pos 0 -ℤ f.options.scale;
+}
 
--- the notation and the scale can be undone, and the number is written alone
+-- the number is written in each text, without words and with an exponent only if it can be read, and the scale can be
+-- undone
 abbrev pub CanUndo : NumberFormatter → Type 0
-CanUndo f = HasNumberAlone f × (f.options.scale ≢ negsuc 32767)
+CanUndo f = HasPlainDigits f × HasNumbers f × (f.options.scale ≢ negsuc 32767)
 
 -- the texts of the formatter are read: a text has at most one sign and one number
 pub record CanRead (f : NumberFormatter) : Type 0 where
   pub undo : CanUndo f
   pub readable : IsReadable f.style.symbols
-  pub named : AreNamed f.style.symbols (affixes_of_style f.style)
+  pub named : AreNamed f.style.symbols (patterns_of f)
 
 -- what an error says; `Memory` is reported only where the texts are read
 abbrev pub CannotRead : NumberReaderError → NumberFormatter → Type 0
-CannotRead NumberReaderError.Notation f = ¬ HasNumberAlone f
-CannotRead NumberReaderError.Scale f = HasNumberAlone f × (f.options.scale ≡ negsuc 32767)
+CannotRead NumberReaderError.Notation f = ¬ HasPlainDigits f
+CannotRead (NumberReaderError.NoNumber c) f = HasPlainDigits f × ((outer_by f c).has_number ≡ false)
+CannotRead NumberReaderError.Scale f = HasPlainDigits f × HasNumbers f × (f.options.scale ≡ negsuc 32767)
 CannotRead NumberReaderError.Memory f = CanRead f
 CannotRead NumberReaderError.Symbols f = CanUndo f × ¬ IsReadable f.style.symbols
 CannotRead NumberReaderError.Affixes f =
-    CanUndo f × (IsReadable f.style.symbols × ¬ AreNamed f.style.symbols (affixes_of_style f.style))
+    CanUndo f × (IsReadable f.style.symbols × ¬ AreNamed f.style.symbols (patterns_of f))
 
 -- u is the number that the formatter shows of v: scaled, rounded, and with the sign that is written
 pub record IsShownAs (f : NumberFormatter) (v u : Decimal) : Type 0 where
@@ -63,12 +98,17 @@ pub record IsShownAs (f : NumberFormatter) (v u : Decimal) : Type 0 where
 
 -- ---- As people type it.
 
+-- the percent sign, unless a unit has texts of its own
+abbrev pub percent_name : NumberFormatter → OuterTexts → List ℕ
+percent_name f OuterTexts.None = f.style.percent.text.now
+percent_name f texts = []
+
 -- the names of a number: the symbol, the narrow symbol and the code of the currency, or the percent sign
 abbrev pub names_by : NumberFormatter → NumberStyle → List (List ℕ)
 names_by f (NumberStyle.Currency c) =
     f.style.currency.wide.now ∷ f.style.currency.narrow.now ∷ f.style.currency.code ∷ []
 names_by f NumberStyle.Decimal = [] ∷ [] ∷ [] ∷ []
-names_by f other = f.style.percent.text.now ∷ [] ∷ [] ∷ []
+names_by f other = percent_name f f.outer ∷ [] ∷ [] ∷ []
 
 -- what is around a number, and the sign that it shows
 abbrev pub form : List ℕ → List ℕ → Sign → Affixes × Sign
@@ -85,12 +125,16 @@ forms_of_name name =
     ∷ form (codes "-" ++ (name ++ codes " ")) [] Sign.Negative ∷ form (codes "+" ++ name) [] Sign.Positive
     ∷ form (codes "+" ++ (name ++ codes " ")) [] Sign.Positive ∷ []
 
+-- the texts of a pattern, around a number of any category
+abbrev pub form_of_pattern : NumberPattern → Affixes × Sign
+form_of_pattern p = form p.affixes.prefix p.affixes.suffix p.sign
+
 -- what may be around a number: what the formatter writes, nothing, parentheses for a minus sign, and the names
 abbrev pub typed_forms : NumberFormatter → List (Affixes × Sign)
 typed_forms f =
-    (affixes_for f.style Sign.None, Sign.None) ∷ (affixes_for f.style Sign.Negative, Sign.Negative)
-    ∷ (affixes_for f.style Sign.Positive, Sign.Positive) ∷ form [] [] Sign.None
-    ∷ form (codes "(") (codes ")") Sign.Negative ∷ flat_map forms_of_name (names_by f f.options.style)
+    map form_of_pattern (patterns_of f)
+    ++ form [] [] Sign.None ∷ form (codes "(") (codes ")") Sign.Negative
+    ∷ flat_map forms_of_name (names_by f f.options.style)
 
 pub record NumberReader : Type 0 where
   pub texts : Reader

@@ -3,7 +3,7 @@ use Rattle.std.specs.Prelude.{ℕ, Bool, true, ◌&&◌, if◌then◌else◌, Li
 use Rattle.fixed_decimal.specs.declared.variations.Sign.{Sign}
 use Rattle.decimal_format.specs.Symbols.{Symbols, Affixes, affixes, sign_affixes}
 use Rattle.locale_data.specs.{Patterns.{literal_text, affixes_of}, declared.tables.rows.patterns.{Affix.Affix, Piece.Piece}}
-use Rattle.number_format.specs.{NumberStyles.{currency_text, ends_with_currency, begins_with_currency}, TextParts.{pieces_text, pieces_of}, declared.{format.affixes.StyleTexts.StyleTexts, format.by_sign.BySign.BySign, format.text_part.PartKind.PartKind}}
+use Rattle.number_format.specs.{NumberStyles.{currency_text, ends_with_currency, begins_with_currency}, TextParts.{pieces_text, pieces_of}, declared.format.{affixes.StyleTexts.StyleTexts, text_part.PartKind.PartKind}}
 use Rattle.number_format.specs.TextParts as parts
 
 -- pieces before and after a number, or instead of it
@@ -72,14 +72,3 @@ pattern_around t s =
 abbrev pub affixes_for : StyleTexts → Sign → Affixes
 affixes_for t s =
     affixes (pieces_text (pattern_around t s).prefix) (pieces_text (pattern_around t s).suffix)
-
-abbrev pub affixes_of_style : StyleTexts → BySign Affixes
-affixes_of_style t =
-    let by = affixes_for t in
-    record { none = by Sign.None; negative = by Sign.Negative; positive = by Sign.Positive }
-
--- the value of a sign
-abbrev pub by_sign : {T : Type 0} → BySign T → Sign → T
-by_sign t Sign.None = t.none
-by_sign t Sign.Negative = t.negative
-by_sign t Sign.Positive = t.positive

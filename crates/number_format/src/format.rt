@@ -1,6 +1,5 @@
 //! The text of a number in a locale.
 pub(crate) mod affixes;
-pub(crate) mod by_sign;
 mod compact;
 pub(crate) mod currency;
 pub(crate) mod default_digits;

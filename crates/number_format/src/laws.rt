@@ -1,9 +1,9 @@
 //! Laws of digit options, of notations and of texts: the contract of each function states a law.
-ghost use Rattle.std.specs.Prelude.{◌≡◌, ◌≢◌, ◌*◌, ◌^◌, ◌<◌, ◌≤◌, ◌⊎◌, ℕ, ℤ, List, [], Option, Some, suc, pos, negsuc, unsigned_abs, Result, Ok, Err, MatchResult};
+ghost use Rattle.std.specs.{Prelude.{◌≡◌, ◌≢◌, ◌*◌, ◌^◌, ◌<◌, ◌≤◌, ◌⊎◌, ℕ, ℤ, List, [], Option, Some, suc, pos, negsuc, unsigned_abs, Result, Ok, Err, MatchResult}, List.Contains};
 ghost use Rattle.decimal_unsigned.specs.Unsigned.{Unsigned, IsValue};
 ghost use Rattle.fixed_decimal.specs.Decimal.{Decimal, with_sign_display};
 ghost use Rattle.decimal_format.specs.{Formatted.formatted, Readable.IsReadable, Symbols.{Symbols, sign_affixes}};
-ghost use Rattle.number_format.specs.{declared.read.scientific.ExponentForm.ExponentForm, FormattedNumbers.number_text, AffixedTexts.{Reader, AreNamed, between, text_with, shifted, IsReadExactly}, Formatters.{plain_options, IsFormatterBy, IsFormatterAt, IsFormatter}, NumberReading.{IsStandard, reader_of, CanRead, IsShownAs}, NumberText.IsNumberText, ScientificReading.{CanReadExponent, exponent_form, HasExponentOf, notation_of, scientific_text, IsReadScientific}, AffixedExponents.IsReadWithExponent, ShownDigits.{rounded_with, applied, IsFractional, KeepsDigits}, Scaled.{KeepsExponent, KeepsValueOf}};
+ghost use Rattle.number_format.specs.{declared.read.{pattern.NumberPattern.NumberPattern, scientific.ExponentForm.ExponentForm}, FormattedNumbers.number_text, AffixedTexts.{Reader, AreNamed, between, IsWritten, IsShown, shifted, IsReadExactly}, Formatters.{plain_options, IsFormatterBy, IsFormatterAt, IsFormatter}, NumberReading.{IsStandard, reader_of, CanRead, IsShownAs}, NumberText.IsNumberText, ScientificReading.{CanReadExponent, exponent_form, HasExponentOf, notation_of, scientific_text, IsReadScientific}, AffixedExponents.IsReadWithExponent, ShownDigits.{rounded_with, applied, IsFractional, KeepsDigits}, Scaled.{KeepsExponent, KeepsValueOf}};
 
 use crate::digits::options::DigitOptions;
 use crate::digits::ranges::FractionDigits;
@@ -66,25 +66,26 @@ pub fn plain_texts_are_decimals()
         → IsNumberText f v text → text ≡ formatted own g (with_sign_display v SignDisplay.Auto) }
 {}
 
-/// With readable symbols, and affixes that name the sign, two values have different texts.
+/// With readable symbols, and patterns that are told apart, two values have different texts: also by patterns of other
+/// plural categories than theirs.
 pub fn affixed_texts_are_unique()
-    ensures { (r : Reader) (g h : GroupingStrategy) (v w : Decimal) → IsReadable r.symbols
-        → AreNamed r.symbols r.affixes → IsValue v.absolute → IsValue w.absolute
-        → text_with r g v ≡ text_with r h w → v ≡ w }
+    ensures { (r : Reader) (text : List ℕ) (v w : Decimal) → IsReadable r.symbols
+        → AreNamed r.symbols r.patterns → IsValue v.absolute → IsValue w.absolute
+        → IsWritten r text v → IsWritten r text w → v ≡ w }
 {}
 
-/// The text of a value, by any strategy, reads back as that value if there is no shift.
+/// The text of a value, by a pattern of its category and any strategy, reads back as that value if there is no shift.
 pub fn texts_read_back()
-    ensures { (inline : ℕ) (r : Reader) (g : GroupingStrategy) (v : Decimal) (result : Result Decimal ParseError)
-        → IsValue v.absolute → r.shift ≡ pos 0 → IsReadExactly inline r (text_with r g v) result
+    ensures { (inline : ℕ) (r : Reader) (text : List ℕ) (v : Decimal) (result : Result Decimal ParseError)
+        → IsValue v.absolute → r.shift ≡ pos 0 → IsShown r text v → IsReadExactly inline r text result
         → MatchResult result (λ w. w ≡ v) (λ e. e ≡ ParseError.Memory) }
 {}
 
 /// The text of 10^n times a number, read with the shift -n, is that number with its sign: `50%` is 0.50.
 pub fn scaled_texts_read_back()
-    ensures { (inline : ℕ) (r : Reader) (g : GroupingStrategy) (n : ℕ) (v u w : Decimal) → IsValue u.absolute
+    ensures { (inline : ℕ) (r : Reader) (text : List ℕ) (n : ℕ) (v u w : Decimal) → IsValue u.absolute
         → r.shift ≡ negsuc n → u.sign ≡ v.sign → u.absolute.number ≡ v.absolute.number * 10 ^ suc n
-        → IsReadExactly inline r (text_with r g u) (Ok w)
+        → IsShown r text u → IsReadExactly inline r text (Ok w)
         → (w.sign ≡ v.sign) × (w.absolute.number ≡ v.absolute.number) }
 {}
 
@@ -119,13 +120,14 @@ pub fn scientific_texts_read_back()
         → (result ≡ shifted e (Ok (record { sign = Sign.None; absolute = v }))) ⊎ (result ≡ Err ParseError.Memory) }
 {}
 
-/// The same between the affixes of a sign reads as that number with the sign, times 10^shift: `-1.20E3%` as -12.00.
+/// The same between the texts of a pattern reads as that number with the sign of the pattern, times 10^shift: `-1.20E3%`
+/// as -12.00.
 pub fn affixed_exponents_read_back()
-    ensures { (inline : ℕ) (r : Reader) (f : ExponentForm) (g : GroupingStrategy) (sign : Sign) (v : Unsigned) (e : ℤ)
-        (result : Result Decimal ParseError) → CanReadExponent r.symbols f → IsValue v → unsigned_abs e < 2 ^ 32
-        → HasExponentOf (notation_of f) v.number e
-        → IsReadWithExponent inline r f (between r sign (scientific_text r.symbols f g v e)) result
-        → (result ≡ shifted r.shift (shifted e (Ok (record { sign = sign; absolute = v }))))
+    ensures { (inline : ℕ) (r : Reader) (f : ExponentForm) (g : GroupingStrategy) (p : NumberPattern) (v : Unsigned)
+        (e : ℤ) (result : Result Decimal ParseError) → Contains r.patterns p → CanReadExponent r.symbols f → IsValue v
+        → unsigned_abs e < 2 ^ 32 → HasExponentOf (notation_of f) v.number e
+        → IsReadWithExponent inline r f (between p (scientific_text r.symbols f g v e)) result
+        → (result ≡ shifted r.shift (shifted e (Ok (record { sign = p.sign; absolute = v }))))
         ⊎ (result ≡ Err ParseError.Memory) }
 {}
 

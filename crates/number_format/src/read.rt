@@ -3,4 +3,5 @@ mod affix_reader;
 mod apart;
 pub(crate) mod number_reader;
 mod owned_affixes;
+pub(crate) mod pattern;
 mod scientific;

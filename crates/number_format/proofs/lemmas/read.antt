@@ -13,3 +13,4 @@ pub mod ScientificBodies
 pub mod ScientificAffixes
 pub mod ScientificUnique
 pub mod FormattedExponents
+pub mod PatternLists

@@ -1,12 +1,10 @@
 //! What is written before and after the digits of a number.
-ghost use Rattle.std.specs.{Prelude.{◌≡◌, ◌≤◌, ◌&&◌, ◌++◌, length, IsSome, IfSome, OnOk, true}, Option.option_copied};
+ghost use Rattle.std.specs.{Prelude.{◌≡◌, ◌≤◌, ◌&&◌, ◌++◌, length, IfSome, OnOk, true}, Option.option_copied};
 ghost use Rattle.locale_data.specs.Compact.{has_texts, text_of, AreTexts};
-ghost use Rattle.number_format.specs.{NumberStyles.{ends_with_currency, begins_with_currency}, PatternTexts.{sign_kind, sign_pieces, pattern_kind, pattern_text, pattern_pieces, affix_pieces, pattern_around, space_if, affixes_for, affixes_of_style}, NumberText.{currency_if, is_empty, first_sign, last_sign, compact_around, compact_suffix, around_by, AreParts}, TextParts.{part_pieces, pieces_text}};
+ghost use Rattle.number_format.specs.{NumberStyles.{ends_with_currency, begins_with_currency}, PatternTexts.{sign_kind, sign_pieces, pattern_kind, pattern_text, pattern_pieces, affix_pieces, pattern_around, space_if}, NumberText.{currency_if, is_empty, first_sign, last_sign, compact_around, compact_suffix, around_by, AreParts}, TextParts.{part_pieces, pieces_text}};
 
-use crate::format::by_sign::BySign;
 use crate::format::currency::{ShownCurrency, begins_with_currency, ends_with_currency};
 use crate::format::parts::put_part;
-use crate::format::short_affixes::ShortAffixes;
 use crate::format::text_part::{PartKind, TextPart};
 use decimal_format::DecimalSymbols;
 use decimal_format::internal::Block;
@@ -255,26 +253,6 @@ impl StyleTexts {
         let suffix = self.pattern.affixes(sign).suffix;
         put_part(space_if(self.needs_space_before(suffix)), block)?;
         self.put_affix(suffix, block)
-    }
-
-    fn affix_texts<const CAP: usize>(&self, sign: Sign) -> Option<ShortAffixes<CAP>>
-        ensures value { IfSome result (λ t. t ≡ affixes_for self.now sign) }
-        ensures some { 1785 ≤ CAP → IsSome result }
-    {
-        let affixes = self.affixes(sign, None);
-        ShortAffixes::joined(&affixes.prefix, &affixes.suffix)
-    }
-
-    /// Returns the texts around a number for each sign, if each has at most `CAP` bytes.
-    pub(crate) fn sign_texts<const CAP: usize>(&self) -> Option<BySign<ShortAffixes<CAP>>>
-        ensures value { IfSome result (λ t. t ≡ affixes_of_style self.now) }
-        ensures some { 1785 ≤ CAP → IsSome result }
-    {
-        Some(BySign {
-            none: self.affix_texts(Sign::None)?,
-            negative: self.affix_texts(Sign::Negative)?,
-            positive: self.affix_texts(Sign::Positive)?,
-        })
     }
 
     pub(crate) fn put_compact_prefix(

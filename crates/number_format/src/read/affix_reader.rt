@@ -1,25 +1,31 @@
-//! Reading of numbers between affixes.
-ghost use Rattle.std.specs.Prelude.{◌≡◌, ◌≢◌, ℕ, List, ◌++◌, MatchOption};
+//! Reading of numbers between the texts of patterns.
+ghost use Rattle.std.specs.{Prelude.{◌≡◌, ◌≢◌, ℕ, List, ◌++◌, MatchOption, IfOk, IsSome, None, Ok}};
 ghost use Rattle.decimal_format.specs.{Readable.IsReadable, Reading.IsRead};
-ghost use Rattle.number_format.specs.{AffixedTexts.{AreNamed, shifted, IsShown, IsShownNumeral, IsBetween, IsReadExactly, IsReadWith, IsReadTyped}, ScientificReading.IsSeparatorApart, AffixedExponents.{IsReadShown, IsReadWithExponent, IsTypedWithExponent}};
+ghost use Rattle.locale_data.specs.Plurals.{IsCategoryAt, rules_text_at};
+ghost use Rattle.number_format.specs.{AffixedTexts.{AreNamed, Allows, shifted, IsWritten, IsWrittenBy, IsNumeral, IsBetween, IsSplit, IsOwn, IsReadShown, IsReadExactly, IsReadWith, IsReadTyped}, ScientificReading.IsSeparatorApart, AffixedExponents.{IsReadShownExponent, IsReadWithExponent, IsTypedWithExponent}};
+ghost use Rattle.number_format.specs.declared.read.pattern.NumberPattern.{NumberPattern};
+ghost use Rattle.plural_rules.specs.Operands.{plain};
 
-use crate::format::by_sign::BySign;
-use crate::read::owned_affixes::OwnedAffixes;
+use crate::read::pattern::NumberPattern;
 use crate::read::scientific::ExponentForm;
 use decimal_format::DecimalSymbols;
 use decimal_format::internal::{
     Alternative, begins_with_digit, ends_with_digit, read_alternatives,
 };
-use fixed_decimal::{DigitStore, ParseError, Sign, Signed, UnsignedOver};
+use fixed_decimal::{DigitStore, ParseError, Signed, UnsignedOver};
+use locale_data::{PluralRulesId, plural_category_at};
+use plural_rules::{PluralCategory, PluralOperands};
 use std::alloc::Global;
 use std::marker::Model;
 
-/// Reads numbers between the affixes of their signs, and multiplies them by 10^shift: by -2 `12.5%` is 0.125.
+/// Reads numbers between the texts of patterns, and multiplies them by 10^shift: by -2 `12.5%` is 0.125.
 #[derive(Drop)]
 pub(crate) struct AffixReader<'a> {
     symbols: DecimalSymbols<'a>,
-    affixes: BySign<OwnedAffixes>,
+    patterns: Vec<NumberPattern>,
+    rules: PluralRulesId,
     shift: i16,
+    pub ghost rules_listed: { IsSome (rules_text_at rules) },
 }
 
 impl<'a> Model for AffixReader<'a> {
@@ -28,9 +34,14 @@ impl<'a> Model for AffixReader<'a> {
 
     ghost Value = { Reader };
 
-    ghost view = { λ s. record { symbols = s.symbols; affixes = s.affixes; shift = s.shift } };
+    ghost view = { λ s. record {
+      symbols = s.symbols;
+      patterns = s.patterns.items;
+      rules = s.rules;
+      shift = s.shift;
+    } };
 
-    ghost invariant = { λ s. IsReadable s.symbols × AreNamed s.symbols s.affixes };
+    ghost invariant = { λ s. IsReadable s.symbols × AreNamed s.symbols s.patterns.items };
 }
 
 fn cut_affixes<'t>(text: &'t [u8], prefix: &[u8], suffix: &[u8]) -> Option<&'t [u8]>
@@ -38,6 +49,60 @@ fn cut_affixes<'t>(text: &'t [u8], prefix: &[u8], suffix: &[u8]) -> Option<&'t [
         (λ middle. text.now ≡ prefix.now ++ (middle.now ++ suffix.now)) }
 {
     text.strip_prefix(prefix)?.strip_suffix(suffix)
+}
+
+fn between<'t>(
+    symbols: &DecimalSymbols<'_>,
+    pattern: &NumberPattern,
+    text: &'t [u8],
+) -> Option<&'t [u8]>
+    requires { IsReadable symbols.now }
+    ensures { MatchOption result ((middle : List ℕ) → ¬ IsBetween symbols.now text.now pattern.now middle)
+        (λ r. IsBetween symbols.now text.now pattern.now r.now) }
+{
+    let affixes = pattern.affixes.texts();
+    let middle = cut_affixes(text, affixes.prefix.as_bytes(), affixes.suffix.as_bytes())?;
+    if begins_with_digit(symbols, middle) && ends_with_digit(symbols, middle) {
+        return Some(middle);
+    }
+    None
+}
+
+fn between_if<'t>(
+    symbols: &DecimalSymbols<'_>,
+    pattern: &NumberPattern,
+    category: Option<PluralCategory>,
+    text: &'t [u8],
+) -> Option<&'t [u8]>
+    requires { IsReadable symbols.now }
+    ensures { MatchOption result
+        ((middle : List ℕ) → Allows category pattern.now → ¬ IsBetween symbols.now text.now pattern.now middle)
+        (λ r. Allows category pattern.now × IsBetween symbols.now text.now pattern.now r.now) }
+{
+    if pattern.allows(category) {
+        return between(symbols, pattern, text);
+    }
+    None
+}
+
+fn split<'p, 't>(
+    symbols: &DecimalSymbols<'_>,
+    patterns: &'p [NumberPattern],
+    category: Option<PluralCategory>,
+    text: &'t [u8],
+) -> Option<(&'p NumberPattern, &'t [u8])>
+    requires { IsReadable symbols.now }
+    ensures { MatchOption result
+        ((p : NumberPattern) (middle : List ℕ) → ¬ IsSplit symbols.now patterns.now category text.now p middle)
+        (λ r. IsSplit symbols.now patterns.now category text.now r.0.now r.1.now) }
+{
+    match patterns {
+        [] => None,
+        [first, rest @ ..] => match between_if(symbols, first, category, text) {
+            Some(middle) => Some((first, middle)),
+            None => split(symbols, rest, category, text),
+        },
+    }
 }
 
 fn shifted<D: DigitStore>(
@@ -54,48 +119,82 @@ fn shifted<D: DigitStore>(
 }
 
 impl<'a> AffixReader<'a> {
+    ghost use Rattle.decimal_unsigned.specs.Unsigned.{IsValue};
+
     pub(crate) fn new(
         symbols: DecimalSymbols<'a>,
-        affixes: BySign<OwnedAffixes>,
+        patterns: Vec<NumberPattern>,
+        rules: PluralRulesId,
         shift: i16,
     ) -> Self
         requires readable { IsReadable symbols }
-        requires named { AreNamed symbols affixes }
-        ensures { result ≡ record { symbols = symbols.entry; affixes = affixes; shift = shift } }
+        requires named { AreNamed symbols patterns.items }
+        requires listed { IsSome (rules_text_at rules) }
+        ensures { result ≡ record {
+          symbols = symbols.entry;
+          patterns = patterns.items;
+          rules = rules;
+          shift = shift;
+        } }
     {
         AffixReader {
             symbols,
-            affixes,
+            patterns,
+            rules,
             shift,
         }
     }
 
-    fn between<'t>(&self, sign: Sign, text: &'t [u8]) -> Option<&'t [u8]>
-        ensures { MatchOption result
-            ((middle : List ℕ) → ¬ IsBetween self.now text.now sign middle)
-            (λ r. IsBetween self.now text.now sign r.now) }
+    fn category<D: DigitStore>(&self, value: &Signed<UnsignedOver<D>>) -> PluralCategory
+        ensures { IsCategoryAt self.now.rules (plain value.now.absolute) result }
     {
-        let affixes = self.affixes.of(sign).texts();
-        let middle = cut_affixes(text, affixes.prefix.as_bytes(), affixes.suffix.as_bytes())?;
-        if begins_with_digit(&self.symbols, middle) && ends_with_digit(&self.symbols, middle) {
-            return Some(middle);
+        match plural_category_at(self.rules, &PluralOperands::of_decimal(value)) {
+            Some(category) => category,
+            // The rules of a reader are listed.
+            None => PluralCategory::Other,
         }
-        None
     }
 
-    fn split<'t>(&self, text: &'t [u8]) -> Option<(Sign, &'t [u8])>
-        ensures { MatchOption result
-            ((sign : Sign) (middle : List ℕ) → ¬ IsBetween self.now text.now sign middle)
-            (λ r. IsBetween self.now text.now r.0 r.1.now) }
+    fn own<D: DigitStore>(
+        &self,
+        pattern: &NumberPattern,
+        value: Signed<UnsignedOver<D>>,
+        text: &[u8],
+    ) -> Result<Signed<UnsignedOver<D>>, ParseError>
+        requires valid { IsValue value.absolute }
+        requires written { IsWrittenBy self.now text.now value pattern.now }
+        ensures { IsOwn self.now text.now (Ok value) result }
     {
-        if let Some(middle) = self.between(Sign::None, text) {
-            return Some((Sign::None, middle));
+        if let None = pattern.category {
+            return Ok(value);
         }
-        if let Some(middle) = self.between(Sign::Negative, text) {
-            return Some((Sign::Negative, middle));
+        let category = self.category(&value);
+        match split(
+            &self.symbols,
+            self.patterns.as_slice(),
+            Some(category),
+            text,
+        ) {
+            Some(_) => Ok(value),
+            None => Err(ParseError::Syntax),
         }
-        let middle = self.between(Sign::Positive, text)?;
-        Some((Sign::Positive, middle))
+    }
+
+    fn read_by<D: DigitStore>(
+        &self,
+        alloc: Global,
+        pattern: &NumberPattern,
+        middle: &[u8],
+        text: &[u8],
+    ) -> Result<Signed<UnsignedOver<D>>, ParseError>
+        requires { IsSplit self.now.symbols self.now.patterns None text.now pattern.now middle.now }
+        ensures read { IsRead D.L (IsNumeral self.now text.now) (IsWritten self.now text.now) result }
+        ensures by { IfOk result (λ v. IsWrittenBy self.now text.now v pattern.now) }
+    {
+        match self.symbols.read(alloc, middle) {
+            Ok(value) => Ok(value.with_sign(pattern.sign)),
+            Err(error) => Err(error),
+        }
     }
 
     fn read_shown<D: DigitStore>(
@@ -103,20 +202,22 @@ impl<'a> AffixReader<'a> {
         alloc: Global,
         text: &[u8],
     ) -> Result<Signed<UnsignedOver<D>>, ParseError>
-        ensures { IsRead D.L (IsShownNumeral self.now text.now) (IsShown self.now text.now) result }
+        ensures { IsReadShown D.L self.now text.now result }
     {
-        let Some((sign, middle)) = self.split(text) else {
+        let Some((pattern, middle)) = split(&self.symbols, self.patterns.as_slice(), None, text)
+        else {
             return Err(ParseError::Syntax);
         };
-        match self.symbols.read(alloc, middle) {
-            Ok(value) => Ok(value.with_sign(sign)),
+        match self.read_by(alloc, pattern, middle, text) {
+            Ok(value) => self.own(pattern, value, text),
             Err(error) => Err(error),
         }
     }
 
-    /// Reads a number between the affixes of its sign, in exactly one of the forms that a formatter writes.
+    /// Reads a number between the texts of a pattern, in exactly one of the forms that a formatter writes.
     ///
-    /// The number is as [`DecimalSymbols::read`] accepts it: with all grouping separators, or none.
+    /// The number is as [`DecimalSymbols::read`] accepts it: with all grouping separators, or none. Its plural category
+    /// is that of the pattern, if the pattern has one.
     ///
     /// # Errors
     ///
@@ -140,18 +241,19 @@ impl<'a> AffixReader<'a> {
         text: &[u8],
     ) -> Result<Signed<UnsignedOver<D>>, ParseError>
         requires { IsSeparatorApart self.now.symbols form.now.separator.now }
-        ensures { IsReadShown D.L self.now form.now text.now result }
+        ensures { IsReadShownExponent D.L self.now form.now text.now result }
     {
-        let Some((sign, middle)) = self.split(text) else {
+        let Some((pattern, middle)) = split(&self.symbols, self.patterns.as_slice(), None, text)
+        else {
             return Err(ParseError::Syntax);
         };
         match form.read(&self.symbols, alloc, middle) {
-            Ok(shown) => Ok(shown.with_sign(sign)),
+            Ok(shown) => Ok(shown.with_sign(pattern.sign)),
             Err(error) => Err(error),
         }
     }
 
-    /// Reads a number with an exponent between the affixes of its sign, in exactly one of the forms that a formatter
+    /// Reads a number with an exponent between the texts of a pattern, in exactly one of the forms that a formatter
     /// writes.
     ///
     /// # Errors
@@ -185,7 +287,7 @@ impl<'a> AffixReader<'a> {
         }
     }
 
-    /// Reads a number as people type it: between the affixes of its sign, or by the first alternative that
+    /// Reads a number as people type it: between the texts of a pattern, or by the first alternative that
     /// [reads](read_alternatives) the text.
     ///
     /// A text that [`read`](Self::read) accepts has the same value.

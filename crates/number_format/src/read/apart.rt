@@ -1,12 +1,13 @@
-//! Whether texts around numbers name the signs of the numbers.
-ghost use Rattle.std.specs.Prelude.{◌≡◌, ◌↔◌, IsTrue};
-ghost use Rattle.decimal_format.specs.Readable.{IsReadable};
-ghost use Rattle.number_format.specs.AffixedTexts.{ArePrefixesApart, AreSuffixesApart, ArePairApart, AreNamed};
+//! Whether the texts around numbers can be told apart.
+ghost use Rattle.std.specs.Prelude.{◌≡◌, ◌↔◌, ◌⊎◌, IsTrue, All, map};
+ghost use Rattle.decimal_format.specs.{Readable.IsReadable, Symbols.affixes};
+ghost use Rattle.number_format.specs.{AffixedTexts.{ArePrefixesApart, AreSuffixesApart, ArePairApart, AreToldApart, AreNamed}, NumberReading.{IsStandard, pattern_at}};
 
-use crate::format::by_sign::BySign;
-use crate::format::short_affixes::ShortAffixes;
-use decimal_format::DecimalSymbols;
+use crate::format::formatter::NumberFormatter;
+use crate::read::pattern::{NumberPattern, PatternKey};
 use decimal_format::internal::{begins_with_digit, ends_with_digit};
+use decimal_format::{Affixes, DecimalSymbols};
+use fixed_decimal::Sign;
 
 fn are_prefixes_apart(symbols: &DecimalSymbols<'_>, first: &str, second: &str) -> bool
     requires { IsReadable symbols.now }
@@ -28,25 +29,97 @@ fn are_suffixes_apart(symbols: &DecimalSymbols<'_>, first: &str, second: &str) -
     }
 }
 
-fn are_pair_apart(
-    symbols: &DecimalSymbols<'_>,
-    first: &ShortAffixes<1785>,
-    second: &ShortAffixes<1785>,
-) -> bool
+fn are_pair_apart(symbols: &DecimalSymbols<'_>, first: Affixes<'_>, second: Affixes<'_>) -> bool
     requires { IsReadable symbols.now }
-    ensures { IsTrue result ↔ ArePairApart symbols.now first.now second.now }
+    ensures { IsTrue result ↔ ArePairApart symbols.now (affixes first.entry.prefix.now first.entry.suffix.now)
+        (affixes second.entry.prefix.now second.entry.suffix.now) }
 {
-    let first = first.texts();
-    let second = second.texts();
     are_prefixes_apart(symbols, first.prefix, second.prefix)
         || are_suffixes_apart(symbols, first.suffix, second.suffix)
 }
 
-pub(crate) fn are_apart(symbols: &DecimalSymbols<'_>, texts: &BySign<ShortAffixes<1785>>) -> bool
-    requires { IsReadable symbols.now }
-    ensures { IsTrue result ↔ AreNamed symbols.now texts.now }
+fn are_same(first: Affixes<'_>, second: Affixes<'_>) -> bool
+    ensures { IsTrue result ↔ (affixes first.entry.prefix.now first.entry.suffix.now
+        ≡ affixes second.entry.prefix.now second.entry.suffix.now) }
 {
-    are_pair_apart(symbols, &texts.none, &texts.negative)
-        && are_pair_apart(symbols, &texts.none, &texts.positive)
-        && are_pair_apart(symbols, &texts.negative, &texts.positive)
+    first.prefix == second.prefix && first.suffix == second.suffix
+}
+
+fn are_told_apart(
+    symbols: &DecimalSymbols<'_>,
+    first: Affixes<'_>,
+    second: Affixes<'_>,
+    first_sign: Sign,
+    second_sign: Sign,
+) -> bool
+    requires { IsReadable symbols.now }
+    ensures { let a = affixes first.entry.prefix.now first.entry.suffix.now in
+        let b = affixes second.entry.prefix.now second.entry.suffix.now in
+        IsTrue result ↔ (((a ≡ b) × (first_sign ≡ second_sign)) ⊎ ArePairApart symbols.now a b) }
+{
+    if first_sign == second_sign && are_same(first, second) {
+        return true;
+    }
+    are_pair_apart(symbols, first, second)
+}
+
+impl NumberPattern {
+    fn is_told_from(&self, symbols: &DecimalSymbols<'_>, others: &[NumberPattern]) -> bool
+        requires { IsReadable symbols.now }
+        ensures { IsTrue result ↔ All (AreToldApart symbols.now self.now) others.now }
+    {
+        let texts = self.affixes.texts();
+        for other in others {
+            if !are_told_apart(symbols, texts, other.affixes.texts(), self.sign, other.sign) {
+                return false;
+            }
+        }
+        true
+    }
+}
+
+/// Returns whether each two patterns are told apart.
+pub(crate) fn are_named(symbols: &DecimalSymbols<'_>, patterns: &[NumberPattern]) -> bool
+    requires { IsReadable symbols.now }
+    ensures { IsTrue result ↔ AreNamed symbols.now patterns.now }
+{
+    for pattern in patterns {
+        if !pattern.is_told_from(symbols, patterns) {
+            return false;
+        }
+    }
+    true
+}
+
+impl NumberFormatter {
+    fn is_key_apart(&self, key: PatternKey, keys: &[PatternKey]) -> bool
+        requires standard { IsStandard self.now }
+        requires readable { IsReadable self.now.style.symbols }
+        ensures { IsTrue result ↔ All (λ k. AreToldApart self.now.style.symbols (pattern_at self.now key)
+            (pattern_at self.now k)) keys.now }
+    {
+        let symbols = &self.style.symbols;
+        let texts = self.pattern_texts(key);
+        for other in keys {
+            let others = self.pattern_texts(*other);
+            if !are_told_apart(symbols, texts.texts(), others.texts(), key.1, other.1) {
+                return false;
+            }
+        }
+        true
+    }
+
+    /// Returns whether each two patterns are told apart. It does not allocate, and is slow.
+    pub(crate) fn are_keys_apart(&self, keys: &[PatternKey]) -> bool
+        requires standard { IsStandard self.now }
+        requires readable { IsReadable self.now.style.symbols }
+        ensures { IsTrue result ↔ AreNamed self.now.style.symbols (map (pattern_at self.now) keys.now) }
+    {
+        for key in keys {
+            if !self.is_key_apart(*key, keys) {
+                return false;
+            }
+        }
+        true
+    }
 }

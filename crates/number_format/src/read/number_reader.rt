@@ -1,21 +1,22 @@
 //! Readers of what formatters write.
-ghost use Rattle.std.specs.Prelude.{◌≡◌, ◌↔◌, IsTrue, ◌∷◌, [], ◌++◌, ◌-ℤ◌, pos, length, map, flat_map, IfOk, IfErr, OnOk};
-ghost use Rattle.number_format.specs.{PatternTexts.affixes_of_style, NumberReading.{KeepsNotation, CanReadExponents, CanReadNotation, HasNumberAlone, CanRead, CanUndo, CannotRead, names_by, form, form_of, forms_of_name, number_reader_of, typed_forms, IsReadStrictly, IsTypedBy, IsReadLeniently, IsReadInMode}, Scaled.HasNoIncrement, ScientificReading.exponent_form};
+ghost use Rattle.std.specs.Prelude.{◌≡◌, ◌↔◌, ◌≤◌, IsTrue, ◌∷◌, [], ◌++◌, ◌-ℤ◌, pos, length, take, map, flat_map, IfOk, IfErr, OnOk};
+ghost use Rattle.decimal_format.specs.Readable.{IsReadable};
+ghost use Rattle.number_format.specs.{AffixedTexts.AreNamed, NumberReading.{KeepsNotation, CanReadExponents, CanReadNotation, HasPlainDigits, CanRead, CanUndo, CannotRead, percent_name, names_by, form, form_of, form_of_pattern, forms_of_name, patterns_of, number_reader_of, typed_forms, IsReadStrictly, IsTypedBy, IsReadLeniently, IsReadInMode}, Scaled.HasNoIncrement, ScientificReading.exponent_form};
 
 use crate::digits::options::DigitOptions;
 use crate::digits::precision::Precision;
-use crate::format::by_sign::BySign;
 use crate::format::formatter::NumberFormatter;
 use crate::format::outer::OuterTexts;
-use crate::format::short_affixes::ShortAffixes;
 use crate::options::{DecimalSeparatorDisplay, NumberNotation, NumberStyle};
 use crate::read::affix_reader::AffixReader;
-use crate::read::apart::are_apart;
+use crate::read::apart::are_named;
 use crate::read::owned_affixes::OwnedAffixes;
+use crate::read::pattern::NumberPattern;
 use crate::read::scientific::ExponentForm;
 use decimal_format::Affixes;
 use decimal_format::internal::Alternative;
 use fixed_decimal::{DigitStore, ParseError, Sign, Signed, UnsignedOver};
+use plural_rules::PluralCategory;
 use std::alloc::{AllocError, Global};
 use std::marker::Model;
 use std::str;
@@ -23,19 +24,21 @@ use std::str;
 /// Why the texts of a formatter cannot be read: the first of these that holds, or out of memory if none does.
 #[derive(Clone, Copy, Debug, PartialEq, Eq)]
 pub enum NumberReaderError {
-    /// The number is not written alone, or the place of its exponent is not certain:
+    /// The place of the number or of its exponent is not certain:
     ///
-    /// - The notation is compact.
-    /// - A unit, the name of a currency, or a decimal separator without fraction digits is written.
-    /// - The notation is scientific or engineering, and the sign of the exponent is never written; or the text before
-    ///   the exponent begins with a digit or a separator, or one of these with it; or numbers are rounded to multiples
-    ///   of an increment, or integer digits are cut off.
+    /// - The notation is compact, or a decimal separator without fraction digits is written.
+    /// - The notation is scientific or engineering, and a unit or the name of a currency is written; or the sign of the
+    ///   exponent is never written; or the text before the exponent begins with a digit or a separator, or one of these
+    ///   with it; or numbers are rounded to multiples of an increment, or integer digits are cut off.
     Notation,
+    /// The unit has a text without a number for numbers of a plural category: in Arabic `يومان` is two days.
+    NoNumber(PluralCategory),
     /// The scale is -32768, which no scale undoes.
     Scale,
     /// The symbols are not readable: of two digits, separators or prefixes of signs one begins with the other.
     Symbols,
-    /// Neither the prefixes nor the suffixes of two signs can be told apart.
+    /// Neither the prefixes nor the suffixes of two texts can be told apart: of two signs, or of two categories of a
+    /// unit or a name.
     Affixes,
     /// Out of memory.
     Memory,
@@ -52,6 +55,13 @@ pub enum ParseMode {
 
 /// Texts around a number, and the sign that they show.
 type Form = (OwnedAffixes, Sign);
+
+/// Nothing around a number.
+const NOTHING: Alternative<'static> = Alternative {
+    prefix: "",
+    suffix: "",
+    sign: Sign::None,
+};
 
 fn alternative(form: &Form) -> Alternative<'_>
     ensures { form_of result ≡ form.now }
@@ -91,17 +101,27 @@ fn push_name(forms: &mut Vec<Form>, alloc: Global, name: &str) -> Result<(), All
     push_form(forms, alloc, &["+", name, " "], &[], Sign::Positive)
 }
 
-fn owned(
-    texts: &BySign<ShortAffixes<1785>>,
+fn push_patterns(
+    forms: &mut Vec<Form>,
     alloc: Global,
-) -> Result<BySign<OwnedAffixes>, AllocError>
-    ensures { IfOk result (λ t. t ≡ texts.now) }
+    patterns: &[NumberPattern],
+) -> Result<(), AllocError>
+    ensures { OnOk result (forms.new.items ≡ forms.old.items ++ map form_of_pattern patterns.now) }
 {
-    Ok(BySign {
-        none: OwnedAffixes::copied(alloc, texts.none.texts())?,
-        negative: OwnedAffixes::copied(alloc, texts.negative.texts())?,
-        positive: OwnedAffixes::copied(alloc, texts.positive.texts())?,
-    })
+    for pattern in patterns {
+        let Affixes { prefix, suffix } = pattern.affixes.texts();
+        push_form(forms, alloc, &[prefix], &[suffix], pattern.sign)?;
+    }
+    Ok(())
+}
+
+fn percent_name(formatter: &NumberFormatter) -> &str
+    ensures { result.now ≡ percent_name formatter.now formatter.now.outer }
+{
+    match formatter.outer {
+        OuterTexts::None => formatter.style.percent.text,
+        OuterTexts::Units(_) | OuterTexts::Names(_) => "",
+    }
 }
 
 fn names(formatter: &NumberFormatter) -> (&str, &str, &str)
@@ -111,7 +131,7 @@ fn names(formatter: &NumberFormatter) -> (&str, &str, &str)
     match formatter.options.style {
         NumberStyle::Decimal => ("", "", ""),
         NumberStyle::Percent | NumberStyle::Permille | NumberStyle::Unit(_) => {
-            (formatter.style.percent.text, "", "")
+            (percent_name(formatter), "", "")
         }
         NumberStyle::Currency(_) => (currency.wide, currency.narrow, currency.code.as_str()),
     }
@@ -119,21 +139,16 @@ fn names(formatter: &NumberFormatter) -> (&str, &str, &str)
 
 fn forms(
     formatter: &NumberFormatter,
-    texts: &BySign<ShortAffixes<1785>>,
+    patterns: &[NumberPattern],
     alloc: Global,
 ) -> Result<Vec<Form>, AllocError>
-    requires { texts.now ≡ affixes_of_style formatter.now.style }
+    requires { patterns.now ≡ patterns_of formatter.now }
     ensures forms { IfOk result (λ forms. forms.items ≡ typed_forms formatter.now) }
-    ensures count { IfOk result (λ forms. length forms.items ≡ 29) }
+    ensures count { IfOk result (λ forms. length forms.items ≤ 44) }
 {
     let (symbol, narrow, code) = names(formatter);
     let mut forms = Vec::new(alloc);
-    let Affixes { prefix, suffix } = texts.none.texts();
-    push_form(&mut forms, alloc, &[prefix], &[suffix], Sign::None)?;
-    let Affixes { prefix, suffix } = texts.negative.texts();
-    push_form(&mut forms, alloc, &[prefix], &[suffix], Sign::Negative)?;
-    let Affixes { prefix, suffix } = texts.positive.texts();
-    push_form(&mut forms, alloc, &[prefix], &[suffix], Sign::Positive)?;
+    push_patterns(&mut forms, alloc, patterns)?;
     push_form(&mut forms, alloc, &[], &[], Sign::None)?;
     push_form(&mut forms, alloc, &["("], &[")"], Sign::Negative)?;
     push_name(&mut forms, alloc, symbol)?;
@@ -175,19 +190,28 @@ fn is_standard(notation: NumberNotation) -> bool
     matches!(notation, NumberNotation::Standard)
 }
 
+fn can_read_alone(formatter: &NumberFormatter) -> bool
+    ensures { IsTrue result ↔ ((formatter.now.outer ≡ OuterTexts.None) × CanReadExponents formatter.now
+        (exponent_form formatter.now formatter.now.options.notation)) }
+{
+    match formatter.outer {
+        OuterTexts::None => can_read_exponents(formatter),
+        OuterTexts::Units(_) | OuterTexts::Names(_) => false,
+    }
+}
+
 fn can_read_notation(formatter: &NumberFormatter) -> bool
     ensures { IsTrue result ↔ CanReadNotation formatter.now }
 {
-    is_standard(formatter.options.notation) || can_read_exponents(formatter)
+    is_standard(formatter.options.notation) || can_read_alone(formatter)
 }
 
-fn has_number_alone(formatter: &NumberFormatter) -> bool
-    ensures { IsTrue result ↔ HasNumberAlone formatter.now }
+fn has_plain_digits(formatter: &NumberFormatter) -> bool
+    ensures { IsTrue result ↔ HasPlainDigits formatter.now }
 {
-    let around = (&formatter.outer, formatter.options.decimal_separator);
-    match around {
-        (OuterTexts::None, DecimalSeparatorDisplay::Auto) => can_read_notation(formatter),
-        _ => false,
+    match formatter.options.decimal_separator {
+        DecimalSeparatorDisplay::Auto => can_read_notation(formatter),
+        DecimalSeparatorDisplay::Always => false,
     }
 }
 
@@ -196,8 +220,11 @@ fn shift(formatter: &NumberFormatter) -> Result<i16, NumberReaderError>
     ensures ok { OnOk result (CanUndo formatter.now) }
     ensures err { IfErr result (λ e. CannotRead e formatter.now) }
 {
-    if !has_number_alone(formatter) {
+    if !has_plain_digits(formatter) {
         return Err(NumberReaderError::Notation);
+    }
+    if let Some(category) = formatter.category_without_number() {
+        return Err(NumberReaderError::NoNumber(category));
     }
     let scale = formatter.options.scale;
     scale.checked_neg().ok_or(NumberReaderError::Scale)
@@ -210,6 +237,8 @@ fn shift(formatter: &NumberFormatter) -> Result<i16, NumberReaderError>
 /// let reader = formatter.reader(alloc)?;
 /// reader.read(alloc, "-1.234,50\u{a0}€".as_bytes())?; // -1234.50
 /// ```
+///
+/// The texts of a unit or of the name of a currency are read too: `3 Tage` of days in German is 3.
 pub struct NumberReader {
     reader: AffixReader<'static>,
     /// How exponents are written, if the notation has them.
@@ -231,18 +260,46 @@ impl Drop for NumberReader {
 }
 
 impl Model for NumberReader {
-    ghost use Rattle.std.specs.Prelude.{◌≡◌, length, IfSome};
+    ghost use Rattle.std.specs.Prelude.{◌≤◌, length, IfSome};
     ghost use Rattle.number_format.specs.{NumberReading.NumberReader, ScientificReading.IsSeparatorApart};
 
     ghost Value = { NumberReader };
 
     ghost view = { λ s. record { texts = s.reader; exponent = s.exponent; forms = s.forms.items } };
 
-    ghost invariant = { λ s. (length s.forms.items ≡ 29)
+    ghost invariant = { λ s. (length s.forms.items ≤ 44)
         × IfSome s.exponent (λ form. IsSeparatorApart s.reader.symbols form.separator.now) };
 }
 
 impl NumberFormatter {
+    fn patterns_error(&self) -> NumberReaderError
+        requires undo { CanUndo self.now }
+        requires readable { IsReadable self.now.style.symbols }
+        ensures { CannotRead result self.now }
+    {
+        if self.are_keys_apart(self.pattern_keys()) {
+            NumberReaderError::Memory
+        } else {
+            NumberReaderError::Affixes
+        }
+    }
+
+    fn named_patterns(&self, alloc: Global) -> Result<Vec<NumberPattern>, NumberReaderError>
+        requires undo { CanUndo self.now }
+        requires readable { IsReadable self.now.style.symbols }
+        ensures ok { IfOk result (λ patterns. (patterns.items ≡ patterns_of self.now)
+            × AreNamed self.now.style.symbols patterns.items) }
+        ensures err { IfErr result (λ e. CannotRead e self.now) }
+    {
+        let Ok(patterns) = self.number_patterns(alloc) else {
+            return Err(self.patterns_error());
+        };
+        if !are_named(&self.style.symbols, patterns.as_slice()) {
+            return Err(NumberReaderError::Affixes);
+        }
+        Ok(patterns)
+    }
+
     /// Makes the reader of what this formatter writes. The formatter stays.
     ///
     /// # Errors
@@ -257,17 +314,11 @@ impl NumberFormatter {
         if !self.style.symbols.is_readable() {
             return Err(NumberReaderError::Symbols);
         }
-        let texts = self.style.sign_texts().unwrap();
-        if !are_apart(&self.style.symbols, &texts) {
-            return Err(NumberReaderError::Affixes);
-        }
-        let Ok(forms) = forms(self, &texts, alloc) else {
+        let patterns = self.named_patterns(alloc)?;
+        let Ok(forms) = forms(self, patterns.as_slice(), alloc) else {
             return Err(NumberReaderError::Memory);
         };
-        let Ok(affixes) = owned(&texts, alloc) else {
-            return Err(NumberReaderError::Memory);
-        };
-        let reader = AffixReader::new(self.style.symbols.copied(), affixes, shift);
+        let reader = AffixReader::new(self.style.symbols.copied(), patterns, self.rules, shift);
         let exponent = ExponentForm::of(self);
         Ok(NumberReader {
             reader,
@@ -278,12 +329,12 @@ impl NumberFormatter {
 }
 
 impl NumberReader {
-    fn alternatives(&self) -> [Alternative<'_>; 29]
-        ensures { map form_of result ≡ self.now.forms }
+    fn alternatives(&self) -> [Alternative<'_>; 44]
+        ensures { map form_of (take (length self.now.forms) result) ≡ self.now.forms }
     {
         let forms = self.forms.as_slice();
-        let mut alternatives = [alternative(&forms[0]); 29];
-        for index in 0..29 {
+        let mut alternatives = [NOTHING; 44];
+        for index in 0..forms.len() {
             alternatives[index] = alternative(&forms[index]);
         }
         alternatives
@@ -292,8 +343,8 @@ impl NumberReader {
     /// Reads a number in exactly one of the forms that the formatter writes, and undoes its scale: by style `Percent`
     /// and scale 2 `12.5%` is 0.125.
     ///
-    /// The number may have all grouping separators, or none. The value is the one that is shown: rounded, and with the
-    /// sign that is written.
+    /// The number may have all grouping separators, or none. Around it are the texts of its plural category: `1 days`
+    /// is `Syntax`. The value is the one that is shown: rounded, and with the sign that is written.
     ///
     /// In scientific and engineering notation the text has the exponent that the notation has for the number, with its
     /// sign and its least number of digits: `1.2E3` is 1200, and `12E3`, `1E03` and `1200` are `Syntax`.
@@ -338,9 +389,9 @@ impl NumberReader {
     ///
     /// A text that [`read`](Self::read) accepts has the same value. Else the number has no exponent, and is as
     /// [`DecimalSymbols::read_lenient`](decimal_format::DecimalSymbols::read_lenient) accepts it. Around it may be what
-    /// the formatter writes, nothing, or parentheses for a minus sign; or, on either side and with a space or without,
-    /// the symbol, the narrow symbol or the code of the currency, or the percent sign, also after a sign. Two signs,
-    /// two symbols and another currency are `Syntax`.
+    /// the formatter writes, of any plural category, nothing, or parentheses for a minus sign; or, on either side and
+    /// with a space or without, the symbol, the narrow symbol or the code of the currency, or the percent sign, also
+    /// after a sign. Two signs, two symbols and another currency are `Syntax`.
     ///
     /// # Errors
     ///
@@ -352,7 +403,9 @@ impl NumberReader {
     ) -> Result<Signed<UnsignedOver<D>>, ParseError>
         ensures { IsReadLeniently D.L self.now text.now result }
     {
-        self.read_typed(alloc, &self.alternatives(), text)
+        let alternatives = self.alternatives();
+        let count = self.forms.len();
+        self.read_typed(alloc, &alternatives[..count], text)
     }
 
     /// Reads a number in a mode: by [`read`](Self::read), or by [`read_lenient`](Self::read_lenient).

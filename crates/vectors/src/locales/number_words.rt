@@ -109,14 +109,14 @@ impl Options {
         self
     }
 
-    /// Returns why there is no reader, where there is none.
-    pub fn reader_error(&self) -> NumberReaderError {
+    /// Whether there may be no reader for this reason.
+    pub fn is_reader_error(&self, error: NumberReaderError) -> bool {
         match (self.number.notation, self.number(None).style) {
-            (NumberNotation::Standard, NumberStyle::Unit(_)) => NumberReaderError::Notation,
-            (NumberNotation::Standard, NumberStyle::Currency(currency))
-                if currency.display == CurrencyDisplay::Name => { NumberReaderError::Notation }
-            (NumberNotation::Standard, _) => NumberReaderError::Scale,
-            _ => NumberReaderError::Notation,
+            (NumberNotation::Standard, NumberStyle::Unit(_)) => {
+                matches!(error, NumberReaderError::NoNumber(_))
+            }
+            (NumberNotation::Standard, _) => error == NumberReaderError::Scale,
+            _ => error == NumberReaderError::Notation,
         }
     }
 

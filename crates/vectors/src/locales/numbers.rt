@@ -142,7 +142,7 @@ fn reads_back(
     let reader = match reader {
         Ok(reader) => reader,
         Err(NumberReaderError::Memory) => return None,
-        Err(error) => return Some(error == options.reader_error()),
+        Err(error) => return Some(options.is_reader_error(error)),
     };
     if text.ends_with("E-32769") {
         return is_outcome::<Decimal>(reader.read(alloc, text.as_bytes()), "limit");

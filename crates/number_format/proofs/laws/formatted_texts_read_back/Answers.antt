@@ -5,4 +5,4 @@ use Rattle.number_format.proofs.laws.formatted_texts_read_back.Goals as goal
 pub returns : goal.returns
 returns c = λ inline f v u text result standard can valid is shown.
     reads inline (reader_of f) text u result (shown_value f v u valid shown)
-    (f.options.grouping, formatter_text f v u text standard can.undo.0 is shown)
+    (formatter_text f v u text standard can.undo.0 can.undo.1 is shown)

@@ -2,11 +2,11 @@
 use Rattle.std.proofs.{Common.{◌≡◌, ℕ, zero, suc, ◌+◌, ◌-◌, ◌<◌, List, [], ◌∷◌, ◌++◌, length, get_or, take, drop, take-append-drop, sym, ◌∙◌, ap, subst, refl, arith, append_assoc, append-nil}, lemmas.{List.{take_more, Concat.flat_map-cons}, Grind.flat_map-append}}
 use Rattle.std.specs.Prelude.{Option, Some, None, ℤ, pos, ◌-ℤ◌, Bool, true, false, if◌then◌else◌}
 use Rattle.decimal_unsigned.specs.Unsigned.{Unsigned}
-use Rattle.fixed_decimal.specs.{Decimal.Decimal, declared.variations.Sign.Sign}
+use Rattle.fixed_decimal.specs.Decimal.{Decimal}
 use Rattle.decimal_format.specs.{declared.grouping.GroupingStrategy.{GroupingStrategy, TheVariants.Never}, Formatted.{separator_before, separator_after, magnitude_text, formatted_down, absolute_text, shown_count}, Symbols.{Symbols, digit_text}}
 use Rattle.decimal_digits.specs.Number.{digit}
 use Rattle.decimal_format.proofs.lemmas.formatter.Magnitudes.{one_more}
-use Rattle.number_format.specs.{declared.format.{formatted_number.FormattedNumber.FormattedNumber, affixes.{NumberAffixes.NumberAffixes, StyleTexts.StyleTexts}, formatter.NumberFormatter.NumberFormatter, outer.OuterAround.OuterAround, text_part.{PartKind.PartKind, TextPart.TextPart}}, TextParts.{Piece, Puts, PutsPrefix, is_whole, part_pieces, parts_text, piece_of, pieces_text, pieces_of, pieces_to_end, parts_pieces, trimmed_pieces, digit_kind, magnitude_pieces, first_pieces, digit_pieces}, TrimmedTexts.{trimmed_length, kept_length}, FormattedNumbers.{around_of, outer_of, exponent_text, number_pieces, number_text, number_text_if, inner_pieces, inner_text, inner_text_if, formatted_number_text, IsOuter}, NumberText.{bare_separator, exponent_kind, exponent_pieces, exponent_of, number_part, AreParts}, PatternTexts.{Around, around, within, sign_text, affixes_for, affixes_of_style, by_sign}}
+use Rattle.number_format.specs.{declared.format.{formatted_number.FormattedNumber.FormattedNumber, affixes.NumberAffixes.NumberAffixes, formatter.NumberFormatter.NumberFormatter, outer.OuterAround.OuterAround, text_part.{PartKind.PartKind, TextPart.TextPart}}, TextParts.{Piece, Puts, PutsPrefix, is_whole, part_pieces, parts_text, piece_of, pieces_text, pieces_of, pieces_to_end, parts_pieces, trimmed_pieces, digit_kind, magnitude_pieces, first_pieces, digit_pieces}, TrimmedTexts.{trimmed_length, kept_length}, FormattedNumbers.{around_of, outer_of, exponent_text, number_pieces, number_text, number_text_if, inner_pieces, inner_text, inner_text_if, formatted_number_text, IsOuter}, NumberText.{bare_separator, exponent_kind, exponent_pieces, exponent_of, number_part, AreParts}, PatternTexts.{Around, around, within, sign_text}}
 use Rattle.number_format.specs.declared.format.text_part.PartKind.TheVariants as kind
 
 pub puts_nil : (a : List Piece → Type 0) → Puts a a []
@@ -256,9 +256,3 @@ pub text-of_bare : (n : FormattedNumber) → outer_of n ≡ around [] true [] �
 text-of_bare n none =
     sym (text-of_inner n) ∙ ap pieces_text (sym (append-nil (inner_pieces n)))
     ∙ ap (λ a. pieces_text (within a (inner_pieces n))) (sym none)
-
--- what a style writes around a number that is shown with a sign
-pub by_sign_is : (t : StyleTexts) (s : Sign) → by_sign (affixes_of_style t) s ≡ affixes_for t s
-by_sign_is t Sign.None = refl
-by_sign_is t Sign.Negative = refl
-by_sign_is t Sign.Positive = refl

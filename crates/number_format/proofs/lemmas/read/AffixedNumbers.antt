@@ -1,12 +1,16 @@
 -- From the text between the affixes to the whole text.
 use Rattle.std.proofs.{Common.{◌≡◌, ◌≢◌, ℕ, ◌<◌, Bool, false, ◌&&◌, List, [], ◌∷◌, ◌++◌, length, refl, sym, ◌∙◌, ap, subst, arith, append_assoc, append-nil, inl, inr}, lemmas.List.{append_cancel_left, append_cancel_right}}
-use Rattle.std.specs.{Prelude.{Result, Err, if◌then◌else◌, pos, ◌-◌}, Int.Digits.AllBelowBase}
+use Rattle.std.specs.Prelude as Prelude
+use Rattle.std.specs.{Prelude.{Result, Err, if◌then◌else◌, pos, ◌-◌, Option, Some, IfSome}, Int.Digits.AllBelowBase, List.Contains}
 use Rattle.decimal_unsigned.specs.{Unsigned.IsValue, declared.error.ParseError.{ParseError, TheVariants.Syntax}}
-use Rattle.fixed_decimal.specs.{Decimal.Decimal, declared.variations.Sign.{Sign, TheVariants.{None, Negative, Positive}}}
-use Rattle.decimal_format.specs.{declared.grouping.GroupingStrategy.GroupingStrategy, Formatted.absolute_text, Grouping.is_grouped, Readable.{IsReadable, BeginsWithDigit, EndsWithDigit}, Reading.{Numeral, AreDigits, IsNumeral, IsWritten, IsRead, digits_text, fraction_text, absolute_numeral_text, separated_by}, Symbols.{Symbols, Affixes, digit_text, sign_affixes}}
+use Rattle.fixed_decimal.specs.{Decimal.Decimal, declared.variations.Sign.{Sign, TheVariants.None}}
+use Rattle.plural_rules.specs.{Operands.plain, declared.rules.PluralCategory.PluralCategory}
+use Rattle.locale_data.specs.Plurals.{IsCategoryAt}
+use Rattle.decimal_format.specs.{declared.grouping.GroupingStrategy.GroupingStrategy, Formatted.absolute_text, Grouping.is_grouped, Readable.{IsReadable, BeginsWithDigit, EndsWithDigit}, Reading.{Numeral, AreDigits, IsRead, digits_text, fraction_text, absolute_numeral_text, separated_by}, Symbols.{Symbols, Affixes, digit_text, sign_affixes}}
+use Rattle.decimal_format.specs.Reading as reading
 use Rattle.decimal_format.proofs.lemmas.reader.{NumeralLaws.{texts_are_unique, none_read, with_sign, read_inside}, Around.no_sign, NumeralTexts.{digits_of_value, absolute_is}, Scans.{begins-append, number_begins, none_after_last, strategy_is}}
-use Rattle.number_format.specs.{AffixedTexts.{Reader, AreNamed, ArePairApart, between, text_with, IsShown, IsShownNumeral, IsBetween}, PatternTexts.by_sign}
-use Rattle.number_format.proofs.lemmas.read.NamedAffixes.{ends-append}
+use Rattle.number_format.specs.{declared.read.pattern.NumberPattern.NumberPattern, AffixedTexts.{Reader, AreNamed, AreSame, AreToldApart, ArePairApart, between, IsWritten, IsWrittenBy, IsShown, IsNumeral, IsNumeralBy, IsBetween, IsSplit}}
+use Rattle.number_format.proofs.lemmas.{range.RangeEnds.category_unique, read.NamedAffixes.ends-append}
 
 -- ---- A number ends with a digit.
 
@@ -62,7 +66,7 @@ value_text_is s g v valid =
     subst (IsNumberText s) (sym (ap (absolute_text s g) d.2.absolute ∙ absolute_is d.0 d.1 d.2.few s g))
     (numeral_text_is s g d.0 d.1)
 
--- ---- One sign.
+-- ---- One pattern.
 
 module _ (s : Symbols) where
   clash : (p q : Affixes) (a b : List ℕ) → ArePairApart s p q → IsNumberText s a → IsNumberText s b
@@ -73,112 +77,173 @@ module _ (s : Symbols) where
       h (p.prefix ++ a) (q.prefix ++ b) (ends-append s p.prefix a x.ends) (ends-append s q.prefix b y.ends)
       (append_assoc p.prefix a p.suffix ∙ e ∙ sym (append_assoc q.prefix b q.suffix))
 
-  module _ (by : Sign → Affixes) (named : (x y : Sign) → x ≢ y → ArePairApart s (by x) (by y)) where
-    same_sign : (x y : Sign) (a b : List ℕ) → IsNumberText s a → IsNumberText s b
-        → (by x).prefix ++ (a ++ (by x).suffix) ≡ (by y).prefix ++ (b ++ (by y).suffix) → x ≡ y
-    same_sign None None a b p q e = refl
-    same_sign None Negative a b p q e = absurd (clash _ _ a b (named None Negative (λ h. cc)) p q e)
-    same_sign None Positive a b p q e = absurd (clash _ _ a b (named None Positive (λ h. cc)) p q e)
-    same_sign Negative None a b p q e = absurd (clash _ _ a b (named Negative None (λ h. cc)) p q e)
-    same_sign Negative Negative a b p q e = refl
-    same_sign Negative Positive a b p q e = absurd (clash _ _ a b (named Negative Positive (λ h. cc)) p q e)
-    same_sign Positive None a b p q e = absurd (clash _ _ a b (named Positive None (λ h. cc)) p q e)
-    same_sign Positive Negative a b p q e = absurd (clash _ _ a b (named Positive Negative (λ h. cc)) p q e)
-    same_sign Positive Positive a b p q e = refl
-
-    same_middle : (x y : Sign) (a b : List ℕ) → IsNumberText s a → IsNumberText s b
-        → (by x).prefix ++ (a ++ (by x).suffix) ≡ (by y).prefix ++ (b ++ (by y).suffix) → (x ≡ y) × (a ≡ b)
-    same_middle x y a b p q e =
-        let same = same_sign x y a b p q e in
-        let here : (by x).prefix ++ (a ++ (by x).suffix) ≡ (by x).prefix ++ (b ++ (by x).suffix) =
-        e ∙ sym (ap (λ z. (by z).prefix ++ (b ++ (by z).suffix)) same) in (
-          same,
-          append_cancel_right a b (by x).suffix
-              (append_cancel_left (by x).prefix (a ++ (by x).suffix) (b ++ (by x).suffix) here),
-        )
+  same_middle : (p q : NumberPattern) (a b : List ℕ) → AreToldApart s p q → IsNumberText s a → IsNumberText s b
+      → between p a ≡ between q b → AreSame p q × (a ≡ b)
+  same_middle p q a b (inr apart) x y e = absurd (clash p.affixes q.affixes a b apart x y e)
+  same_middle p q a b (inl same) x y e =
+      let here : between p a ≡ between p b =
+      e ∙ ap (λ (t : Affixes). t.prefix ++ (b ++ t.suffix)) (sym same.0) in (
+        same,
+        append_cancel_right a b p.affixes.suffix
+            (append_cancel_left p.affixes.prefix (a ++ p.affixes.suffix) (b ++ p.affixes.suffix) here),
+      )
 
 -- two values have different texts
-pub named_texts_are_unique : (r : Reader) → AreNamed r.symbols r.affixes → IsReadable r.symbols
-    → (g h : GroupingStrategy) (v w : Decimal) → IsValue v.absolute → IsValue w.absolute
-    → text_with r g v ≡ text_with r h w → v ≡ w
-named_texts_are_unique r named readable g h v w p q e =
+pub named_texts_are_unique : (r : Reader) → AreNamed r.symbols r.patterns → IsReadable r.symbols
+    → (text : List ℕ) (v w : Decimal) → IsValue v.absolute → IsValue w.absolute → IsWritten r text v
+    → IsWritten r text w → v ≡ w
+named_texts_are_unique r named readable text v w valid valid' (p, x) (q, y) =
     let s = r.symbols in
-    let same = same_middle s (by_sign r.affixes) named.pair v.sign w.sign (absolute_text s g v.absolute)
-    (absolute_text s h w.absolute) (value_text_is s g v p) (value_text_is s h w q) e in
-    let plain = texts_are_unique s g h (record v { sign = None }) (record w { sign = None }) readable p q
-    (ap (λ t. t ++ []) same.1) in
+    let same = same_middle s p q (absolute_text s x.strategy v.absolute) (absolute_text s y.strategy w.absolute)
+    (named.pair p q x.listed y.listed) (value_text_is s x.strategy v valid) (value_text_is s y.strategy w valid')
+    (sym x.is ∙ y.is) in
+    let plain = texts_are_unique s x.strategy y.strategy (record v { sign = None }) (record w { sign = None }) readable
+    valid valid' (ap (λ t. t ++ []) same.1) in
     let absolute = ap (λ (d : Decimal). d.absolute) plain in
-    λ i. record { sign = same.0 i; absolute = absolute i }
+    let sign = sym x.sign ∙ same.0.1 ∙ y.sign in
+    λ i. record { sign = sign i; absolute = absolute i }
 
--- ---- What is read between the affixes.
+-- ---- What is read between the texts of a pattern.
 
 module _ (r : Reader) (bytes : List ℕ) where
-  numeral_between : (w : Numeral) (n : IsShownNumeral r bytes w) → IsBetween r bytes w.sign
+  numeral_between : (w : Numeral) (p : NumberPattern) (n : IsNumeralBy r bytes w p)
+      → IsSplit r.symbols r.patterns Prelude.None bytes p
       (absolute_numeral_text r.symbols (separated_by r.symbols n.strategy (length w.whole)) w)
-  numeral_between w n =
-      let text = numeral_text_is r.symbols n.strategy w n.digits in
-      record { begins = text.begins; ends = text.ends; is = n.text }
+  numeral_between w p n =
+      let text = numeral_text_is r.symbols n.strategy w n.digits in record {
+        listed = n.listed;
+        allowed = tt;
+        between = record { begins = text.begins; ends = text.ends; is = n.is };
+      }
 
-  value_between : (v : Decimal) → IsValue v.absolute → (written : IsShown r bytes v)
-      → IsBetween r bytes v.sign (absolute_text r.symbols written.0 v.absolute)
-  value_between v valid written =
-      let text = value_text_is r.symbols written.0 v valid in
-      record { begins = text.begins; ends = text.ends; is = written.1 }
+  value_between : (v : Decimal) → IsValue v.absolute → (p : NumberPattern) (x : IsWrittenBy r bytes v p)
+      → IsBetween r.symbols bytes p (absolute_text r.symbols x.strategy v.absolute)
+  value_between v valid p x =
+      let text = value_text_is r.symbols x.strategy v valid in
+      record { begins = text.begins; ends = text.ends; is = x.is }
 
-  -- the text is between the affixes of no sign
-  pub none_between : (inline : ℕ) → ((sign : Sign) (middle : List ℕ) → ¬ IsBetween r bytes sign middle)
-      → IsRead inline (IsShownNumeral r bytes) (IsShown r bytes) (Err Syntax)
+  -- the text is between those of no pattern
+  pub none_between : (inline : ℕ)
+      → ((p : NumberPattern) (middle : List ℕ) → ¬ IsSplit r.symbols r.patterns Prelude.None bytes p middle)
+      → IsRead inline (IsNumeral r bytes) (IsWritten r bytes) (Err Syntax)
   none_between inline none =
-      none_read (λ w n. none w.sign _ (numeral_between w n))
-      (λ v valid written. none v.sign _ (value_between v valid written))
+      none_read (λ w n. none n.0 _ (numeral_between w n.0 n.1))
+      (λ v valid x. none x.0 _
+      (record { listed = x.1.listed; allowed = tt; between = value_between v valid x.0 x.1 }))
 
-  module _ (readable : IsReadable r.symbols) (named : AreNamed r.symbols r.affixes) (sign : Sign)
-      (middle : List ℕ) (inside : IsBetween r bytes sign middle) where
-    pub only_middle : (x : Sign) (text : List ℕ) → IsBetween r bytes x text → (x ≡ sign) × (middle ≡ text)
-    only_middle x text b =
-        let same = same_middle r.symbols (by_sign r.affixes) named.pair x sign text middle
-        (record { begins = b.begins; ends = b.ends }) (record { begins = inside.begins; ends = inside.ends })
-        (sym b.is ∙ inside.is) in
-        (same.0, sym same.1)
+  -- ---- The category.
 
-    whole_text : (text : List ℕ) → middle ≡ text
-        → bytes ≡ between r sign text
-    whole_text text e =
-        inside.is ∙ ap (between r sign) e
+  module _ (named : AreNamed r.symbols r.patterns) (v : Decimal) (valid : IsValue v.absolute) (c : PluralCategory)
+      (of_value : IsCategoryAt r.rules (plain v.absolute) c) where
+    of_category : (own : Option PluralCategory) → IfSome own (λ x. x ≡ c)
+        → IfSome own (IsCategoryAt r.rules (plain v.absolute))
+    of_category Prelude.None allowed = tt
+    of_category (Some x) allowed = subst (IsCategoryAt r.rules (plain v.absolute)) (sym allowed) of_value
+
+    allows_it : (own : Option PluralCategory) → IfSome own (IsCategoryAt r.rules (plain v.absolute))
+        → IfSome own (λ x. x ≡ c)
+    allows_it Prelude.None is = tt
+    allows_it (Some x) is = category_unique r.rules (plain v.absolute) x c is of_value
+
+    -- the text is that of the pattern of this category
+    pub shown_by : (p q : NumberPattern) (middle : List ℕ) → IsWrittenBy r bytes v p
+        → IsSplit r.symbols r.patterns (Some c) bytes q middle → IsShown r bytes v
+    shown_by p q middle x split =
+        let text = absolute_text r.symbols x.strategy v.absolute in
+        let same = same_middle r.symbols p q text middle (named.pair p q x.listed split.listed)
+        (value_text_is r.symbols x.strategy v valid)
+        (record { begins = split.between.begins; ends = split.between.ends }) (sym x.is ∙ split.between.is) in (
+          q,
+          record {
+            listed = split.listed;
+            sign = sym same.0.1 ∙ x.sign;
+            strategy = x.strategy;
+            is = x.is ∙ ap (λ (a : Affixes). a.prefix ++ (text ++ a.suffix)) same.0.0;
+          },
+          of_category q.category split.allowed,
+        )
+
+    -- the text is that of no pattern of this category
+    pub not_shown : ((q : NumberPattern) (middle : List ℕ) → ¬ IsSplit r.symbols r.patterns (Some c) bytes q middle)
+        → ¬ IsShown r bytes v
+    not_shown none (p, x, of_its) = none p _ (record {
+      listed = x.listed;
+      allowed = allows_it p.category of_its;
+      between = value_between v valid p x;
+    })
+
+  module _ (readable : IsReadable r.symbols) (named : AreNamed r.symbols r.patterns) (p : NumberPattern)
+      (middle : List ℕ) (inside : IsSplit r.symbols r.patterns Prelude.None bytes p middle) where
+    pub only_middle : (q : NumberPattern) (text : List ℕ) → Contains r.patterns q → IsBetween r.symbols bytes q text
+        → AreSame p q × (middle ≡ text)
+    only_middle q text listed b =
+        same_middle r.symbols p q middle text (named.pair p q inside.listed listed)
+        (record { begins = inside.between.begins; ends = inside.between.ends })
+        (record { begins = b.begins; ends = b.ends }) (sym inside.between.is ∙ b.is)
+
+    whole_text : (text : List ℕ) → middle ≡ text → bytes ≡ between p text
+    whole_text text e = inside.between.is ∙ ap (between p) e
 
     -- without a sign there are no affixes
-    plain : (x : Sign) (text : List ℕ)
+    plain_text : (x : Sign) (text : List ℕ)
         → middle ≡ (sign_affixes r.symbols x).prefix ++ (text ++ (sign_affixes r.symbols x).suffix) → middle ≡ text
-    plain x text e =
-        let none = no_sign r.symbols readable x middle (text ++ (sign_affixes r.symbols x).suffix) inside.begins e in
+    plain_text x text e =
+        let none = no_sign r.symbols readable x middle (text ++ (sign_affixes r.symbols x).suffix)
+        inside.between.begins e in
         e ∙ ap (λ z. (sign_affixes r.symbols z).prefix ++ (text ++ (sign_affixes r.symbols z).suffix)) none
         ∙ append-nil text
 
-    numeral_up : (w : Numeral) → IsNumeral r.symbols middle w → IsShownNumeral r bytes (record w { sign = sign })
-    numeral_up w n = record {
+    numeral_up : (w : Numeral) → reading.IsNumeral r.symbols middle w
+        → IsNumeral r bytes (record w { sign = p.sign })
+    numeral_up w n = (
+      p,
+      record {
+        listed = inside.listed;
+        sign = refl;
+        digits = record { some = n.digits.some; whole = n.digits.whole; fraction = n.digits.fraction };
+        strategy = n.strategy;
+        is = whole_text _ (plain_text w.sign _ n.text);
+      },
+    )
+
+    numeral_down : (w : Numeral) → IsNumeral r bytes w → reading.IsNumeral r.symbols middle (record w { sign = None })
+    numeral_down w (q, n) = record {
       digits = record { some = n.digits.some; whole = n.digits.whole; fraction = n.digits.fraction };
       strategy = n.strategy;
-      text = whole_text _ (plain w.sign _ n.text);
+      text = (only_middle q _ n.listed (numeral_between w q n).between).1 ∙ sym (append-nil _);
     }
 
-    numeral_down : (w : Numeral) → IsShownNumeral r bytes w → IsNumeral r.symbols middle (record w { sign = None })
-    numeral_down w n = record {
-      digits = record { some = n.digits.some; whole = n.digits.whole; fraction = n.digits.fraction };
-      strategy = n.strategy;
-      text = (only_middle w.sign _ (numeral_between w n)).1 ∙ sym (append-nil _);
-    }
+    value_up : (v : Decimal) → IsValue v.absolute → reading.IsWritten r.symbols v middle
+        → IsWritten r bytes (record v { sign = p.sign })
+    value_up v valid written = (
+      p,
+      record {
+        listed = inside.listed;
+        sign = refl;
+        strategy = written.0;
+        is = whole_text _ (plain_text v.sign _ written.1);
+      },
+    )
 
-    value_up : (v : Decimal) → IsValue v.absolute → IsWritten r.symbols v middle
-        → IsShown r bytes (record v { sign = sign })
-    value_up v valid written = (written.0, whole_text _ (plain v.sign _ written.1))
-
-    value_down : (v : Decimal) → IsValue v.absolute → IsShown r bytes v
-        → (v.sign ≡ sign) × IsWritten r.symbols (record v { sign = None }) middle
-    value_down v valid written =
-        let same = only_middle v.sign _ (value_between v valid written) in
-        (same.0, (written.0, same.1 ∙ sym (append-nil _)))
+    value_down : (v : Decimal) → IsValue v.absolute → IsWritten r bytes v
+        → (v.sign ≡ p.sign) × reading.IsWritten r.symbols (record v { sign = None }) middle
+    value_down v valid (q, x) =
+        let same = only_middle q _ x.listed (value_between v valid q x) in
+        (sym x.sign ∙ sym same.0.1, (x.strategy, same.1 ∙ sym (append-nil _)))
 
     pub read_between : (inline : ℕ) (result : Result Decimal ParseError)
-        → IsRead inline (IsNumeral r.symbols middle) (λ v. IsWritten r.symbols v middle) result
-        → IsRead inline (IsShownNumeral r bytes) (IsShown r bytes) (with_sign sign result)
-    read_between inline result is = read_inside sign numeral_up numeral_down value_up value_down result is
+        → IsRead inline (reading.IsNumeral r.symbols middle) (λ v. reading.IsWritten r.symbols v middle) result
+        → IsRead inline (IsNumeral r bytes) (IsWritten r bytes) (with_sign p.sign result)
+    read_between inline result is = read_inside p.sign numeral_up numeral_down value_up value_down result is
+
+    -- what is written is written by this pattern
+    pub by_pattern : (v : Decimal) → IsValue v.absolute → IsWritten r bytes v → IsWrittenBy r bytes v p
+    by_pattern v valid (q, x) =
+        let same = only_middle q _ x.listed (value_between v valid q x) in record {
+          listed = inside.listed;
+          sign = same.0.1 ∙ x.sign;
+          strategy = x.strategy;
+          is = x.is
+              ∙ ap (λ (a : Affixes). a.prefix ++ (absolute_text r.symbols x.strategy v.absolute ++ a.suffix))
+              (sym same.0.0);
+        }

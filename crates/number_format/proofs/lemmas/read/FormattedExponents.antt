@@ -1,13 +1,14 @@
 -- What a formatter writes with an exponent is read back by its reader.
 use Rattle.std.proofs.Common.{◌≡◌, ℕ, true, false, List, inl, inr, refl, sym, ◌∙◌, ap, subst}
-use Rattle.std.specs.Prelude.{◌⊎◌, ◌<◌, ◌^◌, Option, Some, None, Result, Ok, Err, pos, unsigned_abs}
+use Rattle.std.specs.{Prelude.{◌⊎◌, ◌<◌, ◌^◌, Option, Some, None, Result, Ok, Err, pos, unsigned_abs}, List.Contains}
 use Rattle.decimal_unsigned.specs.{Unsigned.{Unsigned, IsValue}, declared.error.ParseError.{ParseError, TheVariants.Memory}}
-use Rattle.fixed_decimal.specs.Decimal.{Decimal}
+use Rattle.fixed_decimal.specs.{Decimal.Decimal, declared.variations.Sign.Sign}
 use Rattle.fixed_decimal.proofs.Calling.{below_limit}
+use Rattle.plural_rules.specs.declared.rules.PluralCategory.{PluralCategory}
 use Rattle.decimal_format.specs.Scanning.{value_of}
 use Rattle.number_format.specs.ScientificReading as scientific
-use Rattle.number_format.specs.{declared.{digits.options.DigitOptions.DigitOptions, format.{formatter.NumberFormatter.NumberFormatter, ids.FormatterIds.FormatterIds}, notation.Notation.{Notation, TheVariants.{Scientific, Engineering}}, options.{NumberOptions.NumberOptions, NumberNotation.NumberNotation, NumberStyle.NumberStyle}, read.scientific.ExponentForm.ExponentForm}, AffixedExponents.IsReadWithExponent, AffixedTexts.{between, shifted, IsBetween}, Formatters.{IsFormatterAt, IsNotationBy}, NumberReading.{KeepsNotation, CanReadExponents, CanReadNotation, HasNumberAlone, CanRead, IsShownAs, reader_of}, NumberText.{IsNumberText, compact_style, exponent_of, rounded_in}, Scaled.{ScaledValue, scaled}, ScientificReading.{CanReadExponent, ScientificNumeral, IsScientificNumeral, exponent_form, HasExponentOf, notation_of, scientific_text}}
-use Rattle.number_format.proofs.lemmas.{format.PieceTexts.text-of_digits_and_exponent, notation.Exponents.exponent_shown, read.{AffixedNumbers.only_middle, FormatterTexts.text_between, ScientificAffixes.affixed_reads, ScientificBodies.{number_written, scientific_begins, scientific_ends}, ScientificShown.{number, numeral, shown_numeral}, ScientificUnique.{one_significand, one_exponent}, ShownValues.{scaled_first, shown_value}}}
+use Rattle.number_format.specs.{declared.{digits.options.DigitOptions.DigitOptions, format.{formatter.NumberFormatter.NumberFormatter, ids.FormatterIds.FormatterIds, outer.OuterTexts.OuterTexts}, notation.Notation.{Notation, TheVariants.{Scientific, Engineering}}, options.{DecimalSeparatorDisplay.DecimalSeparatorDisplay, NumberOptions.NumberOptions, NumberNotation.NumberNotation, NumberStyle.NumberStyle}, read.{pattern.NumberPattern.NumberPattern, scientific.ExponentForm.ExponentForm}}, AffixedExponents.IsReadWithExponent, AffixedTexts.{between, shifted, IsSplit}, Formatters.{IsFormatterAt, IsNotationBy}, NumberReading.{KeepsNotation, CanReadExponents, CanReadNotation, HasNumbers, CanRead, IsShownAs, keys_by, pattern_at, patterns_of, reader_of}, NumberText.{IsNumberText, compact_style, exponent_of, rounded_in, shown_sign}, Scaled.{ScaledValue, scaled}, ScientificReading.{CanReadExponent, ScientificNumeral, IsScientificNumeral, exponent_form, HasExponentOf, notation_of, scientific_text}}
+use Rattle.number_format.proofs.lemmas.{format.PieceTexts.text-of_digits_and_exponent, notation.Exponents.exponent_shown, read.{AffixedNumbers.only_middle, FormatterTexts.{none_key, text_between}, PatternLists.in_map, ScientificAffixes.affixed_reads, ScientificBodies.{number_written, scientific_begins, scientific_ends}, ScientificShown.{number, numeral, shown_numeral}, ScientificUnique.{one_significand, one_exponent}, ShownValues.{scaled_first, shown_value}}}
 use Rattle.number_format.proofs.lemmas.read.ScientificShown as shown_texts
 
 -- ---- The notation.
@@ -42,10 +43,11 @@ notation_is f (NumberNotation.Engineering o) style form (Notation.Compact table)
 -- ---- The exponent.
 
 module _ (f : NumberFormatter) (form : ExponentForm) (h : exponent_form f f.options.notation ≡ Some form) where
-  can_read : CanReadNotation f → KeepsNotation f.digits × CanReadExponent f.style.symbols form
+  can_read : CanReadNotation f
+      → (f.outer ≡ OuterTexts.None) × (KeepsNotation f.digits × CanReadExponent f.style.symbols form)
   can_read (inl standard) =
       absurd (let none : None ≡ Some form = (λ i. exponent_form f (sym standard i)) ∙ h in cc)
-  can_read (inr can) = subst (CanReadExponents f) h can
+  can_read (inr (alone, can)) = (alone, subst (CanReadExponents f) h can)
 
   -- a number that is rounded has the exponent of the notation
   module _ (own : f.notation ≡ notation_of form) (w : Decimal) (valid : IsValue w.absolute) (x : ScaledValue) where
@@ -59,22 +61,36 @@ module _ (f : NumberFormatter) (form : ExponentForm) (h : exponent_form f f.opti
 
   -- ---- The text.
 
-  formatter_text : (v u : Decimal) (text : List ℕ) → HasNumberAlone f → IsNumberText f v text
+  formatter_text : (v u : Decimal) (text : List ℕ) → f.outer ≡ OuterTexts.None
+      → f.options.decimal_separator ≡ DecimalSeparatorDisplay.Auto → HasNumbers f → IsNumberText f v text
       → (shown : IsShownAs f v u)
-      → text ≡ between (reader_of f) u.sign
+      → text ≡ between (pattern_at f (None, u.sign))
       (scientific_text f.style.symbols form f.options.grouping u.absolute shown.number.exponent)
-  formatter_text v u text (notation, (alone, auto)) is shown =
+  formatter_text v u text alone auto has is shown =
       let e = shown.number.exponent in
-      text_between f v u text alone (no_words f f.options.notation f.options.style form h) is shown
-      ∙ ap (between (reader_of f) u.sign)
+      let words = no_words f f.options.notation f.options.style form h in
+      let key = none_key f words alone is.1.whole (shown_sign f v shown.number.significand) u.sign shown.sign in
+      text_between f v u text words has is shown (None, u.sign) key
+      ∙ ap (between (pattern_at f (None, u.sign)))
       (text-of_digits_and_exponent f u.absolute (exponent_of f.options.notation e)
       ∙ number_written f form h auto u.absolute e)
 
 -- the number that a formatter shows, and its text
 module _ (ids : FormatterIds) (o : NumberOptions) (f : NumberFormatter) (form : ExponentForm)
     (at : IsFormatterAt ids o f) (h : exponent_form f f.options.notation ≡ Some form) (can : CanRead f) where
+  alone : f.outer ≡ OuterTexts.None
+  alone = (can_read f form h can.undo.0.0).0
+
   keeps : KeepsNotation f.digits × CanReadExponent f.style.symbols form
-  keeps = can_read f form h can.undo.0.0
+  keeps = (can_read f form h can.undo.0.0).1
+
+  abbrev pattern : Sign → NumberPattern
+  pattern s = pattern_at f (None, s)
+
+  listed : (s : Sign) → Contains (patterns_of f) (pattern s)
+  listed s =
+      in_map (pattern_at f) (keys_by f.outer) (None, s)
+      (none_key f (no_words f f.options.notation f.options.style form h) alone PluralCategory.Other s s refl).listed
 
   own : f.notation ≡ notation_of form
   own =
@@ -106,11 +122,19 @@ module _ (ids : FormatterIds) (o : NumberOptions) (f : NumberFormatter) (form : 
         shown_numeral f.style.symbols form f.options.grouping u.absolute (shown_value f v u valid shown)
         shown.number.exponent keeps.1 has_exponent.1 has_exponent.0
 
-    is_between : (text : List ℕ) → IsNumberText f v text → IsBetween (reader_of f) text u.sign body
-    is_between text is = record {
-      begins = scientific_begins f.style.symbols form body shown_as is_numeral;
-      ends = scientific_ends f.style.symbols form body shown_as is_numeral;
-      is = formatter_text f form h v u text can.undo.0 is shown;
+    text_is : (text : List ℕ) → IsNumberText f v text → text ≡ between (pattern u.sign) body
+    text_is text is = formatter_text f form h v u text alone can.undo.0.1 can.undo.1 is shown
+
+    is_split : (text : List ℕ) → IsNumberText f v text
+        → IsSplit f.style.symbols (patterns_of f) None text (pattern u.sign) body
+    is_split text is = record {
+      listed = listed u.sign;
+      allowed = tt;
+      between = record {
+        begins = scientific_begins f.style.symbols form body shown_as is_numeral;
+        ends = scientific_ends f.style.symbols form body shown_as is_numeral;
+        is = text_is text is;
+      };
     }
 
     exponent_of_shown : scientific.exponent_of shown_as ≡ shown.number.exponent
@@ -127,10 +151,9 @@ module _ (ids : FormatterIds) (o : NumberOptions) (f : NumberFormatter) (form : 
         → IsReadWithExponent inline (reader_of f) form text result
         → (result ≡ shifted (reader_of f).shift (shifted shown.number.exponent (Ok u))) ⊎ (result ≡ Err Memory)
     reads inline text result is read =
-        affixed_reads inline (reader_of f) form f.options.grouping u.sign u.absolute shown.number.exponent result
-        keeps.1 (shown_value f v u valid shown) has_exponent.1 has_exponent.0
-        (subst (λ t. IsReadWithExponent inline (reader_of f) form t result)
-        (formatter_text f form h v u text can.undo.0 is shown) read)
+        affixed_reads inline (reader_of f) form f.options.grouping (pattern u.sign) u.absolute shown.number.exponent
+        result (listed u.sign) keeps.1 (shown_value f v u valid shown) has_exponent.1 has_exponent.0
+        (subst (λ t. IsReadWithExponent inline (reader_of f) form t result) (text_is text is) read)
 
   -- one text is shown of one number
   pub are_unique : (v w x y : Decimal) (text : List ℕ) (valid : IsValue v.absolute) (valid' : IsValue w.absolute)
@@ -138,8 +161,9 @@ module _ (ids : FormatterIds) (o : NumberOptions) (f : NumberFormatter) (form : 
       → (x ≡ y) × (p.number.exponent ≡ q.number.exponent)
   are_unique v w x y text valid valid' a b p q =
       let s = f.style.symbols in
-      let one = only_middle (reader_of f) text can.readable can.named x.sign (body v x valid p)
-      (is_between v x valid p text a) y.sign (body w y valid' q) (is_between w y valid' q text b) in
+      let second = is_split w y valid' q text b in
+      let one = only_middle (reader_of f) text can.readable can.named (pattern x.sign) (body v x valid p)
+      (is_split v x valid p text a) (pattern y.sign) (body w y valid' q) second.listed second.between in
       let v_as = shown_as v x valid p in
       let w_as = shown_as w y valid' q in
       let here : IsScientificNumeral s form (body w y valid' q) v_as =
@@ -150,6 +174,6 @@ module _ (ids : FormatterIds) (o : NumberOptions) (f : NumberFormatter) (form : 
       let exponent = one_exponent s can.readable form keeps.1.separator text' v_as w_as here there in
       let absolute : x.absolute ≡ y.absolute =
       value_is v x valid p ∙ ap value_of significand ∙ sym (value_is w y valid' q) in (
-        (λ i. record { sign = sym one.0 i; absolute = absolute i }),
+        (λ i. record { sign = one.0.1 i; absolute = absolute i }),
         sym (exponent_of_shown v x valid p) ∙ exponent ∙ exponent_of_shown w y valid' q,
       )

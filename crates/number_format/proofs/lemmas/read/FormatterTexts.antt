@@ -1,65 +1,177 @@
--- The texts of a formatter are texts between affixes.
-use Rattle.std.proofs.Common.{◌≡◌, ℕ, List, [], ◌++◌, refl, sym, ◌∙◌, ap, append-nil}
-use Rattle.std.specs.Prelude.{Some, None}
+-- The texts of a formatter are texts between those of patterns.
+use Rattle.std.proofs.{Common.{◌≡◌, ℕ, List, [], ◌++◌, refl, sym, ◌∙◌, ap, subst, arith, append-nil, append_assoc}}
+use Rattle.std.specs.{Prelude.{Bool, true, Option, None, Some, IfSome, if◌then◌else◌}, List.Contains}
 use Rattle.decimal_unsigned.specs.Unsigned.{IsValue}
 use Rattle.fixed_decimal.specs.{Decimal.Decimal, declared.variations.Sign.Sign}
-use Rattle.decimal_format.specs.Formatted.{absolute_text}
-use Rattle.number_format.specs.{declared.{format.{formatter.NumberFormatter.NumberFormatter, outer.OuterTexts.OuterTexts}, options.{NumberOptions.NumberOptions, NumberNotation.NumberNotation}}, FormattedNumbers.exponent_text, Formatters.IsFormatter, AffixedTexts.{between, text_with}, NumberReading.{IsStandard, HasNumberAlone, reader_of, CanRead, IsShownAs}, NumberText.{IsNumberText, bare_separator, shown_sign, compact_magnitude, is_one, compact_pattern, compact_style, outer_texts, around_by, number_part, exponent_of}, PatternTexts.{pattern_around, affixes_for, within}, Scaled.ScaledValue, TextParts.{Piece, pieces_text}}
-use Rattle.number_format.proofs.{lemmas.read.AffixedNumbers.named_texts_are_unique, lemmas.format.PieceTexts.{by_sign_is, text-of_digits_and_exponent, text-three}}
+use Rattle.decimal_format.specs.{Formatted.absolute_text}
+use Rattle.plural_rules.specs.{Operands.plain, declared.rules.PluralCategory.PluralCategory}
+use Rattle.locale_data.specs.Plurals.{IsCategoryAt}
+use Rattle.number_format.specs.{declared.{format.{outer.OuterTexts.OuterTexts, formatter.NumberFormatter.NumberFormatter}, options.{NumberOptions.NumberOptions, NumberNotation.NumberNotation}, read.pattern.{TheConstants.{SIGN_KEYS, CATEGORY_KEYS}}}, FormattedNumbers.exponent_text, Formatters.IsFormatter, AffixedTexts.{between, IsShown}, NumberReading.{IsStandard, HasPlainDigits, HasNumbers, outer_at, pattern_at, keys_by, reader_of, CanRead, IsShownAs}, NumberText.{IsNumberText, shown_sign, whole_number, compact_magnitude, is_one, compact_pattern, compact_style, operands_by, outer_by, outer_texts, around_by, bare_separator, number_part, exponent_of}, PatternTexts.{Around, pattern_around, affixes_for, within}, Scaled.ScaledValue, TextParts.{Piece, pieces_text}}
+use Rattle.number_format.proofs.lemmas.{read.{AffixedNumbers.named_texts_are_unique, PatternLists.in_map}, format.PieceTexts.{text-of_digits_and_exponent, text-three}}
 
 some_same : (x y : ScaledValue) → Some x ≡ Some y → x ≡ y
 some_same x y e = cc
 
--- the text of pieces between what a sign writes around them
-text_around : (f : NumberFormatter) (s : Sign) (pieces : List Piece)
-    → pieces_text (((pattern_around f.style s).prefix ++ (pieces ++ (pattern_around f.style s).suffix)) ++ [])
-    ≡ (affixes_for f.style s).prefix ++ (pieces_text pieces ++ (affixes_for f.style s).suffix)
-text_around f s pieces =
-    let a = pattern_around f.style s in
-    ap pieces_text (append-nil (a.prefix ++ (pieces ++ a.suffix)))
-    ∙ text-three a.prefix pieces a.suffix (affixes_for f.style s).prefix (pieces_text pieces)
-    (affixes_for f.style s).suffix refl refl refl
+-- ---- The pattern of a category and a sign.
 
--- the text of a number that is written alone and without words: that of the number that is shown, between the affixes
-pub text_between : (f : NumberFormatter) (v u : Decimal) (text : List ℕ) → f.outer ≡ OuterTexts.None
-    → compact_style f.options.notation f.options.style ≡ None → IsNumberText f v text → (shown : IsShownAs f v u)
-    → text ≡ between (reader_of f) u.sign
+sign_key : (s : Sign) → Contains SIGN_KEYS (None, s)
+sign_key Sign.None = (0, omega arith, refl)
+sign_key Sign.Negative = (1, omega arith, refl)
+sign_key Sign.Positive = (2, omega arith, refl)
+
+category_key : (c : PluralCategory) (s : Sign) → Contains CATEGORY_KEYS (Some c, s)
+category_key PluralCategory.Other Sign.None = (0, omega arith, refl)
+category_key PluralCategory.Other Sign.Negative = (1, omega arith, refl)
+category_key PluralCategory.Other Sign.Positive = (2, omega arith, refl)
+category_key PluralCategory.One Sign.None = (3, omega arith, refl)
+category_key PluralCategory.One Sign.Negative = (4, omega arith, refl)
+category_key PluralCategory.One Sign.Positive = (5, omega arith, refl)
+category_key PluralCategory.Few Sign.None = (6, omega arith, refl)
+category_key PluralCategory.Few Sign.Negative = (7, omega arith, refl)
+category_key PluralCategory.Few Sign.Positive = (8, omega arith, refl)
+category_key PluralCategory.Many Sign.None = (9, omega arith, refl)
+category_key PluralCategory.Many Sign.Negative = (10, omega arith, refl)
+category_key PluralCategory.Many Sign.Positive = (11, omega arith, refl)
+category_key PluralCategory.Two Sign.None = (12, omega arith, refl)
+category_key PluralCategory.Two Sign.Negative = (13, omega arith, refl)
+category_key PluralCategory.Two Sign.Positive = (14, omega arith, refl)
+category_key PluralCategory.Zero Sign.None = (15, omega arith, refl)
+category_key PluralCategory.Zero Sign.Negative = (16, omega arith, refl)
+category_key PluralCategory.Zero Sign.Positive = (17, omega arith, refl)
+
+-- a key of the formatter that is for numbers of this category and sign, and has what is around them
+record IsKeyOf (f : NumberFormatter) (o : OuterTexts) (c : PluralCategory) (s : Sign)
+    (key : Option PluralCategory × Sign) : Type 0 where
+  listed : Contains (keys_by o) key
+  sign : key.1 ≡ s
+  allowed : IfSome key.0 (λ own. own ≡ c)
+  outer : outer_at f key.0 ≡ outer_by f c
+
+-- the notation has no words
+abbrev HasNoWords : NumberFormatter → Type 0
+HasNoWords f = compact_style f.options.notation f.options.style ≡ None
+
+key_of : (f : NumberFormatter) → HasNoWords f → (c : PluralCategory) (s : Sign) (o : OuterTexts) → f.outer ≡ o
+    → (key : Option PluralCategory × Sign) × IsKeyOf f o c s key
+key_of f words c s OuterTexts.None e = (
+  (None, s),
+  record {
+    listed = sign_key s;
+    sign = refl;
+    allowed = tt;
+    outer = sym (λ i. outer_texts f.formats (e i) (words i) f.options.style c);
+  },
+)
+key_of f words c s (OuterTexts.Units rows) e =
+    ((Some c, s), record { listed = category_key c s; sign = refl; allowed = refl; outer = refl })
+key_of f words c s (OuterTexts.Names names) e =
+    ((Some c, s), record { listed = category_key c s; sign = refl; allowed = refl; outer = refl })
+
+-- without a unit and without a name the key has no category
+pub none_key : (f : NumberFormatter) → HasNoWords f → f.outer ≡ OuterTexts.None → (c : PluralCategory) (s own : Sign)
+    → own ≡ s → IsKeyOf f f.outer c s (None, own)
+none_key f words alone c s own e = record {
+  listed = subst (λ o. Contains (keys_by o) (None, own)) (sym alone) (sign_key own);
+  sign = e;
+  allowed = tt;
+  outer = sym (λ i. outer_texts f.formats (alone i) (words i) f.options.style c);
+}
+
+-- ---- The text.
+
+within_number : (a : Around) (pieces : List Piece) → a.has_number ≡ true
+    → within a pieces ≡ a.prefix ++ (pieces ++ a.suffix)
+within_number a pieces has = ap (λ (b : Bool). a.prefix ++ ((if b then pieces else []) ++ a.suffix)) has
+
+-- the text of pieces between what a sign writes around them, and what is around the whole text
+text_around : (f : NumberFormatter) (outer : Around) (s : Sign) (pieces : List Piece)
+    → pieces_text (outer.prefix ++ (((pattern_around f.style s).prefix
+    ++ (pieces ++ (pattern_around f.style s).suffix)) ++ outer.suffix))
+    ≡ (pieces_text outer.prefix ++ (affixes_for f.style s).prefix)
+    ++ (pieces_text pieces ++ ((affixes_for f.style s).suffix ++ pieces_text outer.suffix))
+text_around f outer s pieces =
+    let a = pattern_around f.style s in
+    let text = pieces_text pieces in
+    let inner = text-three a.prefix pieces a.suffix (affixes_for f.style s).prefix text (affixes_for f.style s).suffix
+    refl refl refl in
+    text-three outer.prefix (a.prefix ++ (pieces ++ a.suffix)) outer.suffix (pieces_text outer.prefix)
+    ((affixes_for f.style s).prefix ++ (text ++ (affixes_for f.style s).suffix)) (pieces_text outer.suffix) refl inner
+    refl
+    ∙ regrouped (pieces_text outer.prefix) (affixes_for f.style s).prefix text (affixes_for f.style s).suffix
+    (pieces_text outer.suffix)
+  where
+    regrouped : (a b c d e : List ℕ) → a ++ ((b ++ (c ++ d)) ++ e) ≡ (a ++ b) ++ (c ++ (d ++ e))
+    regrouped a b c d e = simp append_assoc
+
+-- the text of a number without words is that of the number that is shown, between the texts of a pattern of its
+-- category and sign
+pub text_between : (f : NumberFormatter) (v u : Decimal) (text : List ℕ) → HasNoWords f → HasNumbers f
+    → (t : IsNumberText f v text) (shown : IsShownAs f v u) (key : Option PluralCategory × Sign)
+    → IsKeyOf f f.outer t.1.whole (shown_sign f v shown.number.significand) key
+    → text ≡ between (pattern_at f key)
     (pieces_text (number_part f u.absolute (exponent_of f.options.notation shown.number.exponent)))
-text_between f v u text alone words (pieces, is, of_pieces) shown =
+text_between f v u text words has (pieces, is, of_pieces) shown own key =
     let number : is.number ≡ shown.number = some_same _ _ (sym is.number_is ∙ shown.number_is) in
     let s = shown_sign f v shown.number.significand in
     let e = exponent_of f.options.notation shown.number.exponent in
-    let affixes = ap (affixes_for f.style) (sym shown.sign) ∙ sym (by_sign_is f.style u.sign) in
+    let outer = outer_by f is.whole in
     of_pieces
     ∙ ap pieces_text is.value
-    ∙ (λ i. pieces_text (within (outer_texts f.formats (alone i) (words i) f.options.style is.whole)
+    ∙ (λ i. pieces_text (within outer
     (within (around_by f.style (shown_sign f v (number i).significand)
     (compact_pattern f.formats (words i)
     (compact_magnitude f.notation (number i).significand (number i).exponent) is.category
     (is_one (number i).significand)))
     (number_part f (number i).significand.absolute (exponent_of f.options.notation (number i).exponent)))))
-    ∙ text_around f s (number_part f shown.number.significand.absolute e)
-    ∙ (λ i. (affixes i).prefix ++ (pieces_text (number_part f (sym shown.absolute i) e) ++ (affixes i).suffix))
+    ∙ ap pieces_text (within_number outer _ (has is.whole))
+    ∙ text_around f outer s (number_part f shown.number.significand.absolute e)
+    ∙ (λ i. (pieces_text (sym key.outer i).prefix ++ (affixes_for f.style (sym key.sign i)).prefix)
+    ++ (pieces_text (number_part f (sym shown.absolute i) e)
+    ++ ((affixes_for f.style (sym key.sign i)).suffix ++ pieces_text (sym key.outer i).suffix)))
 
--- the text of a number is that of the number that is shown
-pub formatter_text : (f : NumberFormatter) (v u : Decimal) (text : List ℕ) → IsStandard f → HasNumberAlone f
-    → IsNumberText f v text → IsShownAs f v u → text ≡ text_with (reader_of f) f.options.grouping u
-formatter_text f v u text standard (notation, (alone, auto)) is shown =
+-- the text of a number in standard notation is that of the number that is shown
+pub formatter_text : (f : NumberFormatter) (v u : Decimal) (text : List ℕ) → IsStandard f → HasPlainDigits f
+    → HasNumbers f → IsNumberText f v text → IsShownAs f v u → IsShown (reader_of f) text u
+formatter_text f v u text standard (notation, auto) has t shown =
+    let is = t.1 in
+    let number : is.number ≡ shown.number = some_same _ _ (sym is.number_is ∙ shown.number_is) in
+    let words : HasNoWords f = ap (λ n. compact_style n f.options.style) standard in
+    let found = key_of f words is.whole (shown_sign f v shown.number.significand) f.outer refl in
+    let key = found.1 in
     let digits = absolute_text f.style.symbols f.options.grouping u.absolute in
-    text_between f v u text alone (ap (λ n. compact_style n f.options.style) standard) is shown
-    ∙ ap (between (reader_of f) u.sign)
-    (text-of_digits_and_exponent f u.absolute (exponent_of f.options.notation shown.number.exponent)
-    ∙ (λ i. (digits ++ bare_separator (auto i) f.style.symbols u.absolute)
-    ++ exponent_text f (exponent_of (standard i) shown.number.exponent))
-    ∙ append-nil (digits ++ []) ∙ append-nil digits)
+    let operands : operands_by f.options.notation (whole_number f v) is.number ≡ plain u.absolute =
+    (λ i. operands_by (standard i) (whole_number f v) (number i)) ∙ ap plain (sym shown.absolute) in
+    let of_u : IsCategoryAt f.rules (plain u.absolute) is.whole =
+    subst (λ x. IsCategoryAt f.rules x is.whole) operands is.of_whole in (
+      pattern_at f found.0,
+      record {
+        listed = in_map (pattern_at f) (keys_by f.outer) found.0 key.listed;
+        sign = key.sign ∙ sym shown.sign;
+        strategy = f.options.grouping;
+        is = text_between f v u text words has t shown found.0 key
+            ∙ ap (between (pattern_at f found.0))
+            (text-of_digits_and_exponent f u.absolute (exponent_of f.options.notation shown.number.exponent)
+            ∙ (λ i. (digits ++ bare_separator (auto i) f.style.symbols u.absolute)
+            ++ exponent_text f (exponent_of (standard i) shown.number.exponent))
+            ∙ append-nil (digits ++ []) ∙ append-nil digits);
+      },
+      of_category_in is.whole found.0.0 key.allowed of_u,
+    )
+  where
+    of_category_in : (c : PluralCategory) (own : Option PluralCategory) → IfSome own (λ x. x ≡ c)
+        → IsCategoryAt f.rules (plain u.absolute) c → IfSome own (IsCategoryAt f.rules (plain u.absolute))
+    of_category_in c None allowed is = tt
+    of_category_in c (Some x) allowed h = subst (IsCategoryAt f.rules (plain u.absolute)) (sym allowed) h
 
 -- one text is shown of one number
 pub are_unique : (f : NumberFormatter) (v w x y : Decimal) (text : List ℕ) → IsStandard f → CanRead f
     → IsNumberText f v text → IsNumberText f w text → IsShownAs f v x → IsShownAs f w y → IsValue x.absolute
     → IsValue y.absolute → x ≡ y
 are_unique f v w x y text standard can a b p q valid valid' =
-    named_texts_are_unique (reader_of f) can.named can.readable f.options.grouping f.options.grouping x y valid valid'
-    (sym (formatter_text f v x text standard can.undo.0 a p) ∙ formatter_text f w y text standard can.undo.0 b q)
+    let first = formatter_text f v x text standard can.undo.0 can.undo.1 a p in
+    let second = formatter_text f w y text standard can.undo.0 can.undo.1 b q in
+    named_texts_are_unique (reader_of f) can.named can.readable text x y valid valid' (first.0, first.1)
+    (second.0, second.1)
 
 -- ---- Standard notation.
 

@@ -1,10 +1,9 @@
--- Affixes that name the sign of a number.
+-- Patterns that name the sign of a number.
 use Rattle.std.proofs.{Common.{◌≡◌, ◌≢◌, ℕ, Bool, true, false, ◌%◌, suc, ◌+◌, ◌<◌, ◌≤◌, inl, inr, List, [], ◌∷◌, ◌++◌, length, get_or, refl, sym, ◌∙◌, ap, subst, arith, append_assoc, append-nil, length-append, Bor}, Math.Utf8.encode, lemmas.{Str.{encode_same, IsCharBoundary-at_seam}, Bool.Decides.nat_tests, List.{append_cancel_left, append_cancel_right}}}
 use Rattle.std.specs.{Prelude.{◌↔◌, not, nat_eq, IsTrue, Option, Some, None, MatchOption, encode_utf8, slice_index}, Option.option_or, Str.IsUtf8}
-use Rattle.fixed_decimal.specs.declared.variations.Sign.{Sign}
-use Rattle.decimal_format.specs.{Readable.{BeginsWithDigit, EndsWithDigit}, Symbols.{Symbols, Affixes, digit_text}}
+use Rattle.decimal_format.specs.{Readable.{BeginsWithDigit, EndsWithDigit}, Symbols.{Symbols, digit_text}}
 use Rattle.decimal_format.proofs.lemmas.reader.{Codes.meet, Scans.begins-append}
-use Rattle.number_format.specs.{declared.format.by_sign.BySign.BySign, AffixedTexts.{ArePrefixesApart, AreSuffixesApart, ArePairApart, AreNamed}, PatternTexts.by_sign}
+use Rattle.number_format.specs.{AffixedTexts.{ArePrefixesApart, AreSuffixesApart}}
 
 -- ---- Characters.
 
@@ -178,24 +177,3 @@ module _ (s : Symbols) where
     λ apart. before_suffix q p r.now g (suffixes_swapped p q apart),
   )
   suffixes_by_rest p q (Some r) b f g = (suffix_before p q r.now f, before_suffix p q r.now f)
-
-  -- ---- Three signs.
-
-  pair_swapped : (a b : Affixes) → ArePairApart s a b → ArePairApart s b a
-  pair_swapped a b (inl h) = inl (prefixes_swapped a.prefix b.prefix h)
-  pair_swapped a b (inr h) = inr (suffixes_swapped a.suffix b.suffix h)
-
-  pub named_if : (t : BySign Affixes) → ArePairApart s t.none t.negative → ArePairApart s t.none t.positive
-      → ArePairApart s t.negative t.positive → AreNamed s t
-  named_if t a b c = record { pair = go }
-    where
-      go : (x y : Sign) → x ≢ y → ArePairApart s (by_sign t x) (by_sign t y)
-      go Sign.None Sign.None other = absurd (other refl)
-      go Sign.None Sign.Negative other = a
-      go Sign.None Sign.Positive other = b
-      go Sign.Negative Sign.None other = pair_swapped _ _ a
-      go Sign.Negative Sign.Negative other = absurd (other refl)
-      go Sign.Negative Sign.Positive other = c
-      go Sign.Positive Sign.None other = pair_swapped _ _ b
-      go Sign.Positive Sign.Negative other = pair_swapped _ _ c
-      go Sign.Positive Sign.Positive other = absurd (other refl)

@@ -1,11 +1,10 @@
--- Texts between affixes read back.
+-- Texts between those of patterns read back.
 use Rattle.std.proofs.{Common.{◌≡◌, ℕ, suc, ◌*◌, ◌/◌, ◌^◌, Bool, true, false, ◌||◌, List, refl, sym, ◌∙◌, ap, subst, arith, inl, inr}, lemmas.Int.{ints, clamps}, Math.Nat.mul-div_cancel}
 use Rattle.std.specs.{Prelude.{Some, None, Result, Ok, Err, MatchResult, ok_or, ◌⊎◌, if◌then◌else◌, pos, negsuc, ◌+ℤ◌, int_lt}, Int.{int_max, int_min}}
 use Rattle.decimal_unsigned.specs.{Edits.{leaves_limits, multiplied, multiplied_pow10}, Unsigned.{Unsigned, IsValue}, declared.error.ParseError.{ParseError, TheVariants.{Limit, Memory}}}
 use Rattle.fixed_decimal.specs.Decimal.{Decimal, with_absolute}
 use Rattle.fixed_decimal.proofs.Calling.{ten_pos}
-use Rattle.decimal_format.specs.declared.grouping.GroupingStrategy.{GroupingStrategy}
-use Rattle.number_format.specs.AffixedTexts.{Reader, text_with, shifted, IsShown, IsReadExactly}
+use Rattle.number_format.specs.AffixedTexts.{Reader, shifted, IsShown, IsOwn, IsReadExactly}
 
 ok_is : (b : Bool) (u : Decimal) (x : Unsigned) (w : Decimal)
     → ok_or (with_absolute u (if b then None else Some x)) Limit ≡ Ok w → record u { absolute = x } ≡ w
@@ -28,32 +27,34 @@ unshifted v valid =
 pub reads : (inline : ℕ) (r : Reader) (text : List ℕ) (u : Decimal) (result : Result Decimal ParseError)
     → IsValue u.absolute → IsShown r text u → IsReadExactly inline r text result
     → (result ≡ shifted r.shift (Ok u)) ⊎ (result ≡ Err Memory)
-reads inline r text u result valid shown (read, is, e) = go read e (is.reads_back u valid shown)
+reads inline r text u result valid shown (read, (found, is, own), e) =
+    go found own (is.reads_back u valid (shown.0, shown.1))
   where
-    go : (read : Result Decimal ParseError) → result ≡ shifted r.shift read
-        → MatchResult read (λ x. x ≡ u) (λ x. x ≡ Memory)
+    go : (found : Result Decimal ParseError) → IsOwn r text found read
+        → MatchResult found (λ x. x ≡ u) (λ x. x ≡ Memory)
         → (result ≡ shifted r.shift (Ok u)) ⊎ (result ≡ Err Memory)
-    go (Ok x) e same = inl (e ∙ ap (λ y. shifted r.shift (Ok y)) same)
-    go (Err x) e memory = inr (e ∙ ap Err memory)
+    go (Ok x) (inl own) same = inl (e ∙ ap (shifted r.shift) (own.1 ∙ ap Ok same))
+    go (Ok x) (inr other) same = absurd (other.0 (subst (IsShown r text) (sym same) shown))
+    go (Err x) own memory = inr (e ∙ ap (shifted r.shift) (own ∙ ap Err memory))
 
-pub texts_read_back : (inline : ℕ) (r : Reader) (g : GroupingStrategy) (v : Decimal)
-    (result : Result Decimal ParseError) → IsValue v.absolute → r.shift ≡ pos 0
-    → IsReadExactly inline r (text_with r g v) result → MatchResult result (λ w. w ≡ v) (λ e. e ≡ Memory)
-texts_read_back inline r g v result valid none is =
+pub texts_read_back : (inline : ℕ) (r : Reader) (text : List ℕ) (v : Decimal)
+    (result : Result Decimal ParseError) → IsValue v.absolute → r.shift ≡ pos 0 → IsShown r text v
+    → IsReadExactly inline r text result → MatchResult result (λ w. w ≡ v) (λ e. e ≡ Memory)
+texts_read_back inline r text v result valid none shown is =
     let same : shifted r.shift (Ok v) ≡ Ok v =
     (λ i. shifted (none i) (Ok v)) ∙ ap (λ x. ok_or (with_absolute v x) Limit) (unshifted v.absolute valid) in
-    elim (reads inline r (text_with r g v) v result valid (g, refl) is) [
+    elim (reads inline r text v result valid shown is) [
       | inl e ↦ subst (λ (x : Result Decimal ParseError). MatchResult x (λ w. w ≡ v) (λ e. e ≡ Memory))
           (sym (e ∙ same)) refl
       | inr e ↦ subst (λ (x : Result Decimal ParseError). MatchResult x (λ w. w ≡ v) (λ e. e ≡ Memory)) (sym e) refl
     ]
 
-pub scaled_texts_read_back : (inline : ℕ) (r : Reader) (g : GroupingStrategy) (n : ℕ) (v u w : Decimal)
+pub scaled_texts_read_back : (inline : ℕ) (r : Reader) (text : List ℕ) (n : ℕ) (v u w : Decimal)
     → IsValue u.absolute → r.shift ≡ negsuc n → u.sign ≡ v.sign
-    → u.absolute.number ≡ v.absolute.number * 10 ^ suc n → IsReadExactly inline r (text_with r g u) (Ok w)
+    → u.absolute.number ≡ v.absolute.number * 10 ^ suc n → IsShown r text u → IsReadExactly inline r text (Ok w)
     → (w.sign ≡ v.sign) × (w.absolute.number ≡ v.absolute.number)
-scaled_texts_read_back inline r g n v u w valid shift signs scaled is =
-    elim (reads inline r (text_with r g u) u (Ok w) valid (g, refl) is) [
+scaled_texts_read_back inline r text n v u w valid shift signs scaled shown is =
+    elim (reads inline r text u (Ok w) valid shown is) [
       | inl e ↦
           let moved = ok_is (leaves_limits u.absolute (negsuc n)) u (multiplied u.absolute (negsuc n)) w
           (sym (e ∙ (λ i. shifted (shift i) (Ok u)))) in (

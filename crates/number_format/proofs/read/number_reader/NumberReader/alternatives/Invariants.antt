@@ -4,4 +4,4 @@ use Rattle.number_format.proofs.read.number_reader.NumberReader.alternatives.Giv
 
 abbrev pub invariant-loop-index : goal.invariant-loop-index
 invariant-loop-index l =
-    (length l.alternatives ≡ 29) × (map form_of (take l.index l.alternatives) ≡ take l.index l.forms)
+    (length l.alternatives ≡ 44) × (map form_of (take l.index l.alternatives) ≡ take l.index l.forms)

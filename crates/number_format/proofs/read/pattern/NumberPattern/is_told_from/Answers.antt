@@ -1,0 +1,32 @@
+use Rattle.std.proofs.Common.{arith}
+use Rattle.std.specs.Prelude.{◌↔◌, IsTrue}
+use Rattle.number_format.specs.AffixedTexts.{AreToldApart}
+use Rattle.number_format.proofs.lemmas.read.PatternLists.{all_done, all_more, not_all}
+use Rattle.number_format.proofs.read.pattern.NumberPattern.is_told_from.Goals as goal
+
+pub returns-then-not-are_told_apart : goal.returns-then-not-are_told_apart
+returns-then-not-are_told_apart c =
+    let p = c.args.self.now in
+    let s = c.args.symbols.now in
+    let item = c.other-item.result in
+    let test : IsTrue c.are_told_apart.result ↔ AreToldApart s p item =
+    rw (c.texts-texts.ensures.prefix, c.texts-texts.ensures.suffix, c.texts.ensures.prefix, c.texts.ensures.suffix)
+    at c.are_told_apart.ensures in
+    not_all (AreToldApart s p) c.args.others.now c.loop-other.other-index item item c.are_told_apart.result
+    (omega arith) c.other-item.is test c.if-not-are_told_apart.true
+
+pub loop-other-preserved : goal.loop-other-preserved
+loop-other-preserved c =
+    let p = c.args.self.now in
+    let s = c.args.symbols.now in
+    let item = c.other-item.result in
+    let test : IsTrue c.are_told_apart.result ↔ AreToldApart s p item =
+    rw (c.texts-texts.ensures.prefix, c.texts-texts.ensures.suffix, c.texts.ensures.prefix, c.texts.ensures.suffix)
+    at c.are_told_apart.ensures in
+    all_more (AreToldApart s p) c.args.others.now c.loop-other.other-index item item c.are_told_apart.result
+    (omega arith) c.other-item.is test c.if-not-are_told_apart.false c.loop-other.invariant
+
+pub returns : goal.returns
+returns c =
+    all_done (AreToldApart c.args.symbols.now c.args.self.now) c.args.others.now c.loop-other.other-index (omega arith)
+    c.loop-other.invariant

@@ -1,0 +1,193 @@
+//! The texts around a number that a formatter writes, and what they say of the number.
+ghost use Rattle.std.specs.Prelude.{◌≡◌, ◌↔◌, ◌≤◌, ◌+◌, ◌*◌, ◌++◌, false, length, IsTrue, IfOk, MatchOption};
+ghost use Rattle.number_format.specs.{AffixedTexts.Allows, FormattedNumbers.IsOuter, NumberReading.{IsStandard, HasNumbers, outer_at, pattern_at, keys_by, patterns_of}, NumberText.outer_by, TextParts.parts_text};
+
+use crate::format::formatter::NumberFormatter;
+use crate::format::outer::{OuterAround, OuterTexts};
+use crate::format::short_affixes::{ShortAffixes, joined};
+use crate::format::text_part::TextPart;
+use crate::read::owned_affixes::OwnedAffixes;
+use arrayvec::ArrayString;
+use fixed_decimal::Sign;
+use plural_rules::PluralCategory::{self, Few, Many, One, Other, Two, Zero};
+use std::alloc::{AllocError, Global};
+
+/// Texts around a number, and what they say of the number.
+#[derive(Drop)]
+pub(crate) struct NumberPattern {
+    /// The text before the number, and the text after it.
+    pub(crate) affixes: OwnedAffixes,
+    /// The sign that they show.
+    pub(crate) sign: Sign,
+    /// The plural category of the numbers that they are around; none if they are around every number.
+    pub(crate) category: Option<PluralCategory>,
+}
+
+/// The plural category and the sign of the numbers that a pattern is for.
+pub(crate) type PatternKey = (Option<PluralCategory>, Sign);
+
+/// The patterns of a formatter without texts by the plural category.
+pub(crate) const SIGN_KEYS: [PatternKey; 3] = [
+    (None, Sign::None),
+    (None, Sign::Negative),
+    (None, Sign::Positive),
+];
+
+/// The patterns of a formatter with a unit or the name of a currency.
+pub(crate) const CATEGORY_KEYS: [PatternKey; 18] = [
+    (Some(Other), Sign::None),
+    (Some(Other), Sign::Negative),
+    (Some(Other), Sign::Positive),
+    (Some(One), Sign::None),
+    (Some(One), Sign::Negative),
+    (Some(One), Sign::Positive),
+    (Some(Few), Sign::None),
+    (Some(Few), Sign::Negative),
+    (Some(Few), Sign::Positive),
+    (Some(Many), Sign::None),
+    (Some(Many), Sign::Negative),
+    (Some(Many), Sign::Positive),
+    (Some(Two), Sign::None),
+    (Some(Two), Sign::Negative),
+    (Some(Two), Sign::Positive),
+    (Some(Zero), Sign::None),
+    (Some(Zero), Sign::Negative),
+    (Some(Zero), Sign::Positive),
+];
+
+impl NumberPattern {
+    /// Returns whether numbers of a category may be between the texts; without a category whether any may.
+    pub(crate) fn allows(&self, category: Option<PluralCategory>) -> bool
+        ensures { IsTrue result ↔ Allows category self.now }
+    {
+        match (self.category, category) {
+            (Some(own), Some(category)) => own == category,
+            _ => true,
+        }
+    }
+}
+
+fn short_text<const CAP: usize>(parts: &[TextPart<'_>]) -> ArrayString<CAP>
+    requires { 255 * length parts.now ≤ CAP }
+    ensures { result.bytes ≡ parts_text parts.now }
+{
+    joined(parts).unwrap()
+}
+
+fn pair_text(first: &str, second: &str) -> ArrayString<2550>
+    requires { length first.now + length second.now ≤ 2550 }
+    ensures { result.bytes ≡ first.now ++ second.now }
+{
+    let mut text = ArrayString::new();
+    text.try_push_str(first).unwrap();
+    text.try_push_str(second).unwrap();
+    text
+}
+
+impl NumberFormatter {
+    fn outer_of_category(&self, category: PluralCategory) -> OuterAround<'_>
+        requires { IsStandard self.now }
+        ensures { IsOuter (outer_by self.now category) result }
+    {
+        match &self.outer {
+            OuterTexts::Units(rows) => OuterAround::of_unit(*rows, category),
+            OuterTexts::Names(names) => OuterAround::of_name(names, category),
+            OuterTexts::None => OuterAround::none(),
+        }
+    }
+
+    fn outer_at(&self, category: Option<PluralCategory>) -> OuterAround<'_>
+        requires { IsStandard self.now }
+        ensures { IsOuter (outer_at self.now category) result }
+    {
+        match category {
+            Some(category) => self.outer_of_category(category),
+            None => OuterAround::none(),
+        }
+    }
+
+    fn has_number(&self, category: PluralCategory) -> bool
+        requires { IsStandard self.now }
+        ensures { result ≡ (outer_by self.now category).has_number }
+    {
+        self.outer_of_category(category).has_number
+    }
+
+    /// Returns a category whose text has no number, as `yesterday` has none.
+    pub(crate) fn category_without_number(&self) -> Option<PluralCategory>
+        requires { IsStandard self.now }
+        ensures { MatchOption result (HasNumbers self.now) (λ c. (outer_by self.now c).has_number ≡ false) }
+    {
+        if !self.has_number(Zero) {
+            return Some(Zero);
+        }
+        if !self.has_number(One) {
+            return Some(One);
+        }
+        if !self.has_number(Two) {
+            return Some(Two);
+        }
+        if !self.has_number(Few) {
+            return Some(Few);
+        }
+        if !self.has_number(Many) {
+            return Some(Many);
+        }
+        if !self.has_number(Other) {
+            return Some(Other);
+        }
+        None
+    }
+
+    /// Returns the texts around a number of a pattern, in standard notation.
+    pub(crate) fn pattern_texts(&self, key: PatternKey) -> ShortAffixes<2550>
+        requires { IsStandard self.now }
+        ensures { result ≡ (pattern_at self.now key).affixes }
+    {
+        let outer = self.outer_at(key.0);
+        let inner = self.style.affixes(key.1, None);
+        let before: ArrayString<1020> = short_text(&outer.before);
+        let prefix: ArrayString<1530> = short_text(&inner.prefix);
+        let suffix: ArrayString<1275> = short_text(&inner.suffix);
+        let after: ArrayString<1020> = short_text(&outer.after);
+        ShortAffixes {
+            prefix: pair_text(before.as_str(), prefix.as_str()),
+            suffix: pair_text(suffix.as_str(), after.as_str()),
+        }
+    }
+
+    fn pattern(&self, alloc: Global, key: PatternKey) -> Result<NumberPattern, AllocError>
+        requires { IsStandard self.now }
+        ensures { IfOk result (λ p. p ≡ pattern_at self.now key) }
+    {
+        let affixes = OwnedAffixes::copied(alloc, self.pattern_texts(key).texts())?;
+        Ok(NumberPattern {
+            affixes,
+            sign: key.1,
+            category: key.0,
+        })
+    }
+
+    /// Returns for which plural categories and signs there are patterns.
+    pub(crate) fn pattern_keys(&self) -> &'static [PatternKey]
+        ensures { result.now ≡ keys_by self.now.outer }
+    {
+        match self.outer {
+            OuterTexts::None => &SIGN_KEYS,
+            OuterTexts::Units(_) | OuterTexts::Names(_) => &CATEGORY_KEYS,
+        }
+    }
+
+    /// Returns the texts around numbers, in standard notation.
+    pub(crate) fn number_patterns(&self, alloc: Global) -> Result<Vec<NumberPattern>, AllocError>
+        requires { IsStandard self.now }
+        ensures { IfOk result (λ patterns. patterns.items ≡ patterns_of self.now) }
+    {
+        let keys = self.pattern_keys();
+        let mut patterns = Vec::new(alloc);
+        for key in keys {
+            patterns.push(self.pattern(alloc, *key)?)?;
+        }
+        Ok(patterns)
+    }
+}
