@@ -66,6 +66,11 @@ WritingFails error formatter v = ⊥
 abbrev pub last_decimal : List Call → Result Decimal ReadError → Result Decimal OutcomeError
 last_decimal calls read = and_then (started read) (λ v. after_calls 0 v calls)
 
+-- the decimal after the calls on a text, or the first error
+abbrev pub IsLast : Option LocaleReader → List Call → List ℕ → Result Decimal OutcomeError → Type 0
+IsLast reader calls text last =
+    (read : Result Decimal ReadError) × IsReadBy reader text read × (last_decimal calls read ≡ last)
+
 -- the own text of a decimal, or the error before
 abbrev pub own_text : Result Decimal OutcomeError → Result (List ℕ) OutcomeError
 own_text last = and_then last (λ w. Ok (decimal_text w))
@@ -105,6 +110,23 @@ error_of format_overflow = FormatOverflow
 abbrev pub CallsNeedMemory : Decimal → List Call → Type 0
 CallsNeedMemory v calls =
     (why : CallError) × CallsFail INLINE_DIGITS why v calls × (error_of_run (run_error why) ≡ Memory)
+
+-- the error of a text or of a call on its decimal
+abbrev pub LastIsError : Option LocaleReader → List Call → List ℕ → OperationError → Type 0
+LastIsError reader calls text error =
+    (why : OutcomeError) × (error ≡ error_of (of_run why)) × IsLast reader calls text (Err why)
+
+-- reading a text, or the calls on its decimal, may need memory
+abbrev pub LastNeedsMemory : Option LocaleReader → List Call → List ℕ → Type 0
+LastNeedsMemory reader calls text =
+    ReadingByNeedsMemory reader text
+    ⊎ ((v : Decimal) × IsReadBy reader text (Ok v) × CallsNeedMemory v calls)
+
+-- reading a text, or the calls on its decimal, may fail with this error
+abbrev pub LastFails : OperationError → Option LocaleReader → List Call → List ℕ → Type 0
+LastFails Memory reader calls text = LastNeedsMemory reader calls text
+LastFails Output reader calls text = ⊥
+LastFails error reader calls text = LastIsError reader calls text error
 
 -- the calls on a decimal, or formatting the last one, may need memory
 abbrev pub WorkNeedsMemory : Decimal → List Call → Option LocaleFormatter → Type 0
