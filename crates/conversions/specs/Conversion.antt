@@ -128,18 +128,12 @@ LastFails Memory reader calls text = LastNeedsMemory reader calls text
 LastFails Output reader calls text = ⊥
 LastFails error reader calls text = LastIsError reader calls text error
 
--- the calls on a decimal, or formatting the last one, may need memory
-abbrev pub WorkNeedsMemory : Decimal → List Call → Option LocaleFormatter → Type 0
-WorkNeedsMemory v calls formatter =
-    CallsNeedMemory v calls
-    ⊎ ((last : Decimal) × (after_calls 0 v calls ≡ Ok last) × FormattingNeedsMemory formatter last)
-
--- the error is that of the outcome; or out of memory, where reading or the work may need it; or a failed output of a
--- text
+-- the error is that of the outcome; or out of memory, where reading, a call or formatting may need it; or a failed
+-- output of a text
 abbrev pub OperationsFail : OperationError → Conversion → List ℕ → Type 0
 OperationsFail Memory c text =
-    ReadingByNeedsMemory c.reader text
-    ⊎ ((v : Decimal) × IsReadBy c.reader text (Ok v) × WorkNeedsMemory v c.calls.items c.formatter)
+    LastNeedsMemory c.reader c.calls.items text
+    ⊎ ((v : Decimal) × IsLast c.reader c.calls.items text (Ok v) × FormattingNeedsMemory c.formatter v)
 OperationsFail Output c text = (written : List ℕ) × IsOutcome c text (Ok written)
 OperationsFail error c text = (why : ConversionError) × (error ≡ error_of why) × IsOutcome c text (Err why)
 

@@ -26,8 +26,8 @@ abbrev pub IsErrorOfEnd : OperationError → RangeError → Type 0
 IsErrorOfEnd Memory error = error ≡ Operation Memory
 IsErrorOfEnd why error = error ≡ End why
 
--- the error is the first one: of the text of the start, or of a call on it; of the end; of the text of the range; or out
--- of memory, where one of these may need it; or a failed output of a text
+-- the error is the first one: of the text of the start, or of a call on it; of the end; or of the text of the range; or
+-- out of memory, where one of these may need it; or a failed output of a text
 abbrev pub RangeFails : RangeError → RangeConversion → List ℕ → List ℕ → Type 0
 RangeFails (Operation FormatOverflow) c start end = HasEnds c start end (RangeWritingFails FormatOverflow c.formatter)
 RangeFails (Operation Memory) c start end =

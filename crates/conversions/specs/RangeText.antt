@@ -44,18 +44,13 @@ HasRangeTextBy f v w P = (text : List ℕ) × IsRangeTextBy f v w text × P text
 
 -- ---- Errors.
 
--- a number that is shown is beyond the limits
-abbrev pub RangeIsBeyondLimits : NumberFormatter → Decimal → Decimal → Type 0
-RangeIsBeyondLimits f v w = (shown_number f v ≡ None) ⊎ (shown_number f w ≡ None)
-
--- formatting may need memory: for a copy of the start, or for a number
-abbrev pub RangeNeedsMemory : NumberFormatter → Decimal → Decimal → Type 0
-RangeNeedsMemory f v w =
-    IsLong INLINE_DIGITS v ⊎ (FormattingNeedsMemory f v ⊎ FormattingNeedsMemory f w)
-
--- writing the text of the range may fail with this error
+-- writing the text of the range may fail with this error. Formatting needs memory for a copy of the start, or for a
+-- number
 abbrev pub RangeWritingFails : OperationError → RangeFormatter → Decimal → Decimal → Type 0
-RangeWritingFails FormatOverflow f v w = RangeIsBeyondLimits (formatter_of f v w) v w
-RangeWritingFails Memory f v w = RangeNeedsMemory (formatter_of f v w) v w
+RangeWritingFails FormatOverflow f v w =
+    let by = formatter_of f v w in (shown_number by v ≡ None) ⊎ (shown_number by w ≡ None)
+RangeWritingFails Memory f v w =
+    let by = formatter_of f v w in
+    IsLong INLINE_DIGITS v ⊎ (FormattingNeedsMemory by v ⊎ FormattingNeedsMemory by w)
 RangeWritingFails Output f v w = (text : List ℕ) × IsRangeTextBy f v w text
 RangeWritingFails error f v w = ⊥

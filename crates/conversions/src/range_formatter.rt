@@ -6,7 +6,7 @@ ghost use Rattle.conversions.specs.RangeText.{shown_signs, formatter_by, system_
 use crate::error::OperationError;
 use crate::locale_formatter::write_text;
 use fixed_decimal::{Decimal, RoundError, Sign, SignDisplay, Sink};
-use number_format::{NumberFormatter, NumberingSystem, RangeFormatError, RangeTexts};
+use number_format::{NumberFormatter, NumberingSystem, RangeTexts};
 use std::alloc::Global;
 
 /// Formatters of a locale that show all digits, by which signs they show.
@@ -101,18 +101,10 @@ impl RangeFormatter<'_> {
         let formatter = self.numbers.formatter_by(start.sign, end.sign);
         match formatter.format_range(alloc, &self.texts, start, end) {
             Ok(range) => write_text(&range, sink),
-            Err(
-                RangeFormatError {
-                    error: RoundError::Limit,
-                    ..
-                },
-            ) => Err(OperationError::FormatOverflow),
-            Err(
-                RangeFormatError {
-                    error: RoundError::Memory,
-                    ..
-                },
-            ) => Err(OperationError::Memory),
+            Err(failed) => match failed.error {
+                RoundError::Limit => Err(OperationError::FormatOverflow),
+                RoundError::Memory => Err(OperationError::Memory),
+            },
         }
     }
 }

@@ -5,7 +5,7 @@ use Rattle.decimal_unsigned.specs.{declared.{error.ParseError.ParseError, decima
 use Rattle.decimal_unsigned.specs.declared.error.ParseError.TheVariants as parse
 use Rattle.fixed_decimal.specs.{Decimal.Decimal, DecimalText.read_decimal, Calls.CallsFail, Errors.{RunFails, run_error}, Outcome.{OutcomeError, after_calls, outcome, start}, declared.runs.{Call.Call, CallError.CallError, RunError.{RunError, TheVariants.{Start, Operand, Memory, Sink}}}}
 use Rattle.fixed_decimal.specs.declared.runs.CallError.TheVariants as call
-use Rattle.conversions.specs.{declared.{conversion.Conversion.Conversion, locale_formatter.LocaleFormatter.LocaleFormatter, reader.LocaleReader.LocaleReader, error.OperationError.OperationError}, Error.{error_of_run, status_of_operation}, Conversion.{IsReadBy, ReadingByFails, ReadingByNeedsMemory, ConversionError, of_run, format_overflow, FormattingNeedsMemory, IsLast, LastIsError, LastNeedsMemory, LastFails, IsOutcome, HasOutcome, OperationsFail, IsRunFormatted, error_of, own_text, last_decimal, IsFormatted, WritingFails, HasTextBy, IsTextBy, is_plain}}
+use Rattle.conversions.specs.{declared.{conversion.Conversion.Conversion, locale_formatter.LocaleFormatter.LocaleFormatter, reader.LocaleReader.LocaleReader, error.OperationError.OperationError}, Error.{error_of_run, status_of_operation}, Conversion.{IsReadBy, ReadingByFails, ReadingByNeedsMemory, ConversionError, of_run, format_overflow, FormattingNeedsMemory, IsLast, LastIsError, LastFails, IsOutcome, HasOutcome, OperationsFail, IsRunFormatted, error_of, own_text, last_decimal, IsFormatted, WritingFails, HasTextBy, IsTextBy, is_plain}}
 use Rattle.conversions.specs.declared.error.OperationError.TheVariants as operation
 
 -- ---- The decimal after the calls.
@@ -50,14 +50,10 @@ module _ (c : Conversion) (text : List ℕ) where
     },
   )
 
-  needs_memory : LastNeedsMemory c.reader c.calls.items text → OperationsFail operation.Memory c text
-  needs_memory (inl h) = inl h
-  needs_memory (inr (v, read, h)) = inr (v, read, inl h)
-
   -- an error before the text is written
   pub last_fails :
       (error : OperationError) → LastFails error c.reader c.calls.items text → OperationsFail error c text
-  last_fails operation.Memory h = needs_memory h
+  last_fails operation.Memory h = inl h
   last_fails operation.Output h = absurd h
   last_fails error h = is_error_fails error h
 
@@ -69,16 +65,10 @@ module _ (c : Conversion) (text : List ℕ) where
       is = subst (λ l. IsFormatted c.formatter l result) (sym last.2) is;
     }
 
-    work_fails :
-        (read : Result Decimal ReadError) → IsReadBy c.reader text read → last_decimal c.calls.items read ≡ Ok v
-        → FormattingNeedsMemory c.formatter v → OperationsFail operation.Memory c text
-    work_fails (Ok first) read is h = inr (first, read, inr (v, is, h))
-    work_fails (Err why) read is h = cc
-
     -- an error of writing
     pub writing_fails : (error : OperationError) → WritingFails error c.formatter v → OperationsFail error c text
     writing_fails operation.FormatOverflow h = (format_overflow, refl, last_outcome (Err format_overflow) h)
-    writing_fails operation.Memory h = work_fails last.0 last.1 last.2 h
+    writing_fails operation.Memory h = inr (v, last, h)
     writing_fails operation.Output (written, h) = (written, last_outcome (Ok written) h)
     writing_fails error h = absurd h
 
@@ -177,7 +167,7 @@ module _ (c : Conversion) (text : List ℕ) (plain : is_plain c ≡ true) where
       → IsOkAnd r (λ first. CallsFail INLINE_DIGITS why first c.calls.items) → OperationsFail operation.Memory c text
   memory_fails why same (Ok v) e h =
       let (reader, formatter) = no_forms c.reader c.formatter plain in
-      inr (v, subst (λ r. IsReadBy r text (Ok v)) (sym reader) (sym e), inl (why, h, same))
+      inl (inr (v, subst (λ r. IsReadBy r text (Ok v)) (sym reader) (sym e), (why, h, same)))
   memory_fails why same (Err fault) e h = absurd h
 
   output_of : (o : Result (List ℕ) OutcomeError) → outcome text c.calls.items ≡ o → IsOk o
@@ -190,7 +180,7 @@ module _ (c : Conversion) (text : List ℕ) (plain : is_plain c ≡ true) where
       (why : RunError) → RunFails INLINE_DIGITS why text c.calls.items → OperationsFail (error_of_run why) c text
   run_fails (Start parse.Memory) h =
       let (reader, formatter) = no_forms c.reader c.formatter plain in
-      inl (subst (λ r. ReadingByNeedsMemory r text) (sym reader) h)
+      inl (inl (subst (λ r. ReadingByNeedsMemory r text) (sym reader) h))
   run_fails (Operand at parse.Memory) h = memory_fails (call.Operand at parse.Memory) refl (read_decimal text) refl h
   run_fails (Memory at) h = memory_fails (call.Memory at) refl (read_decimal text) refl h
   run_fails Sink h = output_of (outcome text c.calls.items) refl h

@@ -1,5 +1,5 @@
 -- The outcome of a conversion of a range, and its errors.
-use Rattle.std.proofs.{Common.{◌≡◌, ◌≢◌, ℕ, List, Option, Result, Ok, Err, inl, inr, refl, sym, subst}, lemmas.Result.{IfErr-weaker, on_ok_weaker}}
+use Rattle.std.proofs.{Common.{◌≡◌, ◌≢◌, ℕ, List, Option, Result, Ok, Err, inl, inr, refl, sym, subst, arith}, lemmas.Result.{IfErr-weaker, on_ok_weaker}}
 use Rattle.std.specs.Prelude.{IfErr, OnErr, OnOk}
 use Rattle.fixed_decimal.specs.{Decimal.Decimal, Outcome.OutcomeError, declared.runs.Call.Call}
 use Rattle.conversions.specs.{declared.{error.{OperationError.{OperationError, TheVariants.{FormatOverflow, Memory, Output}}, RangeError.{RangeError, TheVariants.Operation}}, range_conversion.RangeConversion.RangeConversion, range_formatter.RangeFormatter.RangeFormatter, reader.LocaleReader.LocaleReader}, Conversion.{LastFails, LastIsError, error_of, of_run}, RangeConversion.{HasRangeOutcome, IsEnd, IsErrorOfEnd, RangeFails}, RangeText.{HasRangeTextBy, IsRangeTextBy, RangeWritingFails}}
