@@ -62,13 +62,17 @@ abbrev pub TextsFail : RangeError → Run → Type 0
 TextsFail error (of_text conversion text) = ⊥
 TextsFail error (of_range conversion start end) = RangeFails error conversion start end
 
--- the error of the words, or of the conversion; or a failed output of a text
+-- the error of words for which `Fails` holds, or of the conversion of a run that `Has` has; or a failed output
+abbrev pub HasErrorOf : (WordsError → Type 0) → ((Run → Type 0) → Type 0) → ProgramError → Type 0
+HasErrorOf Fails Has (Setup error) = (error.program ≡ Fixdec) × Fails error.why
+HasErrorOf Fails Has (Operation error) = Has (TextFails error)
+HasErrorOf Fails Has (Range error) = Has (TextsFail error)
+HasErrorOf Fails Has Output = Has (λ run. HasText run (λ _. ⊤))
+HasErrorOf Fails Has _ = ⊥
+
+-- the error of the words or of their run
 abbrev pub HasError : List (String Global) → ProgramError → Type 0
-HasError words (Setup error) = (error.program ≡ Fixdec) × RunFails words error.why
-HasError words (Operation error) = HasRun words (TextFails error)
-HasError words (Range error) = HasRun words (TextsFail error)
-HasError words Output = HasRun words (λ run. HasText run (λ _. ⊤))
-HasError words _ = ⊥
+HasError words error = HasErrorOf (RunFails words) (HasRun words) error
 
 -- the work of `fixdec`: its conversion is printed; or it has an error: the block before the writer cannot be allocated;
 -- or the words have the error, and the writer is not called, but at `Output`, where it failed after a prefix of the
@@ -88,23 +92,17 @@ Converts contents out words (Err error) back =
 
 -- the words after a text name its conversion, and P holds of the run
 abbrev pub HasTextRun : List ℕ → List (String Global) → (Run → Type 0) → Type 0
-HasTextRun text words P =
-    (conversion : Conversion) × NamesConversion words conversion × P (of_text conversion text)
+HasTextRun text words P = (conversion : Conversion) × NamesConversion words conversion × P (of_text conversion text)
 
 -- the words after a start name the conversion of a range, and P holds of the run
 abbrev pub HasRangeRun : List ℕ → RangeWordsValue → (Run → Type 0) → Type 0
 HasRangeRun start words P =
     (conversion : RangeConversion) × NamesRangeConversion words conversion × P (of_range conversion start words.end)
 
--- the error of the words after a text, or of its conversion; or a failed output
+-- the error of the words after a text, or of its conversion
 abbrev pub HasErrorOfText : List ℕ → List (String Global) → ProgramError → Type 0
-HasErrorOfText text words (Setup error) = (error.program ≡ Fixdec) × ConversionFails words error.why
-HasErrorOfText text words (Operation error) = HasTextRun text words (TextFails error)
-HasErrorOfText text words Output = HasTextRun text words (λ run. HasText run (λ _. ⊤))
-HasErrorOfText text words _ = ⊥
+HasErrorOfText text words error = HasErrorOf (ConversionFails words) (HasTextRun text words) error
 
+-- the error of the words of a range, or of its conversion
 abbrev pub HasErrorOfRange : List ℕ → RangeWordsValue → ProgramError → Type 0
-HasErrorOfRange start words (Setup error) = (error.program ≡ Fixdec) × RangeConversionFails words error.why
-HasErrorOfRange start words (Range error) = HasRangeRun start words (TextsFail error)
-HasErrorOfRange start words Output = HasRangeRun start words (λ run. HasText run (λ _. ⊤))
-HasErrorOfRange start words _ = ⊥
+HasErrorOfRange start words error = HasErrorOf (RangeConversionFails words) (HasRangeRun start words) error

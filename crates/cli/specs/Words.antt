@@ -41,8 +41,7 @@ FormatFails Fails Named calls error = IsFormError Fails error ⊎ (Named × (cal
 
 -- the first wrong word, from the left, has this error: `read:..`, a call, `format:..`; or no word is wrong, and the
 -- list of the calls is out of memory
-abbrev pub WordsFail :
-    Option (List ℕ) → List (String Global) → (FormError → Type 0) → Type 0 → WordsError → Type 0
+abbrev pub WordsFail : Option (List ℕ) → List (String Global) → (FormError → Type 0) → Type 0 → WordsError → Type 0
 WordsFail read calls Fails Named error =
     IsFormError (ReaderFails read) error
     ⊎ (((reader : Option LocaleReader) × NamesReader read reader)

@@ -5,7 +5,7 @@ use Rattle.decimal_digits.specs.AppendsPrefix.{AppendsPrefix}
 use Rattle.fixed_decimal.proofs.Calling.{prefix_more}
 use Rattle.conversions.specs.declared.error.{OperationError.{OperationError, TheVariants.Output}, RangeError.RangeError}
 use Rattle.conversions.specs.declared.error.RangeError.TheVariants as range
-use Rattle.cli.specs.{declared.program.error.ProgramError.ProgramError, Diagnostics.Concludes, Error.{conversion_error, range_error, status_of}, Fixdec.{Run, of_text, of_range, HasRun, NamesRun, HasText, TextFails, TextsFail, HasTextRun, HasRangeRun, HasErrorOfText, HasErrorOfRange, HasError, PrintsLine, PrintsLinePrefix, Prints, PrintsPrefix}, RangeWords.{RangeWordsValue, range_words}}
+use Rattle.cli.specs.{declared.program.error.{ProgramError.ProgramError, WordsError.WordsError}, Diagnostics.Concludes, Error.{conversion_error, range_error, status_of}, Fixdec.{Run, of_text, of_range, HasRun, NamesRun, HasText, TextFails, TextsFail, HasTextRun, HasRangeRun, RunFails, HasErrorOf, HasErrorOfText, HasErrorOfRange, HasError, PrintsLine, PrintsLinePrefix, Prints, PrintsPrefix}, RangeWords.{RangeWordsValue, range_words, RangeConversionFails}, Words.ConversionFails}
 use Rattle.cli.specs.declared.program.error.ProgramError.TheVariants as program
 
 -- ---- Results.
@@ -128,6 +128,17 @@ range_output error is = grind arith
 
 -- ---- The words of a run.
 
+module _
+    (Fails Gives : WordsError → Type 0) (Has Holds : (Run → Type 0) → Type 0)
+    (gives : (why : WordsError) → Fails why → Gives why) (holds : (P : Run → Type 0) → Has P → Holds P)
+  where
+    error_map : (error : ProgramError) → HasErrorOf Fails Has error → HasErrorOf Gives Holds error
+    error_map (program.Setup error) (by, fails) = (by, gives error.why fails)
+    error_map (program.Operation error) h = holds _ h
+    error_map (program.Range error) h = holds _ h
+    error_map program.Output h = holds _ h
+    error_map error h = absurd h
+
 module _ (words : List (String Global)) (first : String Global) (others : List (String Global))
     (is : words ≡ first ∷ others)
   where
@@ -138,10 +149,9 @@ module _ (words : List (String Global)) (first : String Global) (others : List (
 
       pub text_error :
           (error : ProgramError) → HasErrorOfText (string_bytes first) others error → HasError words error
-      text_error (program.Setup error) (by, fails) = (by, rw (is, none) fails)
-      text_error (program.Operation error) h = text_run _ h
-      text_error program.Output h = text_run _ h
-      text_error error h = absurd h
+      text_error error h =
+          error_map (ConversionFails others) (RunFails words) (HasTextRun (string_bytes first) others) (HasRun words)
+          (λ why fails. rw (is, none) fails) text_run error h
 
     module _ (range : RangeWordsValue) (some : range_words others ≡ Some range) where
       pub range_run :
@@ -151,7 +161,6 @@ module _ (words : List (String Global)) (first : String Global) (others : List (
 
       pub range_run_error :
           (error : ProgramError) → HasErrorOfRange (string_bytes first) range error → HasError words error
-      range_run_error (program.Setup error) (by, fails) = (by, rw (is, some) fails)
-      range_run_error (program.Range error) h = range_run _ h
-      range_run_error program.Output h = range_run _ h
-      range_run_error error h = absurd h
+      range_run_error error h =
+          error_map (RangeConversionFails range) (RunFails words) (HasRangeRun (string_bytes first) range)
+          (HasRun words) (λ why fails. rw (is, some) fails) range_run error h

@@ -1,5 +1,5 @@
 use Rattle.std.proofs.Common.{◌≡◌, ℕ, List, Option, String, Ok, ap}
-use Rattle.std.specs.{declared.alloc.Global.Global, Prelude.map}
+use Rattle.std.specs.{declared.alloc.Global.Global, Option.option_copied, Prelude.map}
 use Rattle.conversions.specs.{declared.{conversion.Conversion.Conversion, locale_formatter.LocaleFormatter.LocaleFormatter}, Calls.copied, FormatWord.{NamesFormatter, FormatterFails}, ReadWord.NamesReader}
 use Rattle.cli.specs.{declared.program.error.WordsError.{WordsError, TheVariants.Memory}, Calls.calls_of, Error.words_error, Words.{split_read, split_format, NamesConversion, WordsFail, ConversionFails}}
 use Rattle.conversions.proofs.lemmas.calls.Results.{err_with}
@@ -44,10 +44,12 @@ pub returns-in_err-parse_formatter-in-Ok-clause-err : goal.returns-in_err-parse_
 returns-in_err-parse_formatter-in-Ok-clause-err c =
     let residual = c.from_residual-in_err-parse_formatter-in-Ok in
     let failed = c.in_err-parse_formatter-in-Ok in
+    let calls = c.split_format.result.1.now in
+    let format = option_copied c.split_format.result.0 in
     err_with (ConversionFails c.args.words.now) residual.result (words_error failed.field-0.0) residual.ensures.1
     (fails c.args.words.now _ _ _ _ c.split_read.ensures c.split_format.ensures (words_error failed.field-0.0)
-    (format_fails _ _ _ _ c.in_ok-reader.reader c.in_ok-reader.ensures.some (map copied c.in-Ok.calls.items)
-    c.in-Ok.ensures.some failed.field-0.0 failed.ensures.err))
+    (format_fails _ calls (FormatterFails format) (Named format) c.in_ok-reader.reader c.in_ok-reader.ensures.some
+    (map copied c.in-Ok.calls.items) c.in-Ok.ensures.some failed.field-0.0 failed.ensures.err))
 
 pub returns-in-Ok-clause-some : goal.returns-in-Ok-clause-some
 returns-in-Ok-clause-some c =
@@ -61,15 +63,20 @@ pub returns-in_err-parse_formatter-in-Err-Memory-clause-err :
 returns-in_err-parse_formatter-in-Err-Memory-clause-err c =
     let residual = c.from_residual-in_err-parse_formatter-in-Err-Memory in
     let failed = c.in_err-parse_formatter-in-Err-Memory in
+    let calls = c.split_format.result.1.now in
+    let format = option_copied c.split_format.result.0 in
     let none = rw c.in-Err-Memory.field-0-is at c.in-Err-Memory.ensures.err in
     err_with (ConversionFails c.args.words.now) residual.result (words_error failed.field-0.0) residual.ensures.1
     (fails c.args.words.now _ _ _ _ c.split_read.ensures c.split_format.ensures (words_error failed.field-0.0)
-    (format_fails_first _ _ _ _ c.in_ok-reader.reader c.in_ok-reader.ensures.some none failed.field-0.0
-    failed.ensures.err))
+    (format_fails_first _ calls (FormatterFails format) (Named format) c.in_ok-reader.reader
+    c.in_ok-reader.ensures.some none failed.field-0.0 failed.ensures.err))
 
 pub returns-in-Err-Memory-clause-err : goal.returns-in-Err-Memory-clause-err
 returns-in-Err-Memory-clause-err c =
     let parsed = c.in_ok-parse_formatter-in-Err-Memory in
+    let calls = c.split_format.result.1.now in
+    let format = option_copied c.split_format.result.0 in
     let none = rw c.in-Err-Memory.field-0-is at c.in-Err-Memory.ensures.err in
     fails c.args.words.now _ _ _ _ c.split_read.ensures c.split_format.ensures Memory
-    (memory_fails _ _ _ _ c.in_ok-reader.reader c.in_ok-reader.ensures.some none (parsed.field-0, parsed.ensures.some))
+    (memory_fails _ calls (FormatterFails format) (Named format) c.in_ok-reader.reader c.in_ok-reader.ensures.some none
+    (parsed.field-0, parsed.ensures.some))
