@@ -1,5 +1,5 @@
-//! `fixdec TEXT [to:TEXT] [read:LOCALE] [CALL].. [format:LOCALE]`: reads a decimal, makes the calls in order, and prints
-//! the text of the result; or those of a range of two decimals.
+//! `fixdec TEXT [to:END] [read:LOCALE] [CALL].. [format:LOCALE]`: reads a decimal, makes the calls in order, and prints
+//! the text of the result; or the text of a range of two decimals.
 ghost use Rattle.std.specs.{Prelude.{◌≡◌, ◌≢◌, ◌≤◌, ◌<◌, Bool, true, false, None, Result, Err, IfOk, IfErr, IfSome, OnOk}, Process.exit_status};
 ghost use Rattle.cli.specs.{declared.program.{error.ProgramError.ProgramError, help.Program.TheVariants.Fixdec}, Error.status_of, Fixdec.{of_text, HasError, Converts, HasTextRun, HasRangeRun, HasErrorOfText, HasErrorOfRange, PrintsLine, PrintsLinePrefix, Prints, PrintsPrefix}, Arguments.Ends, Diagnostics.Concludes};
 ghost use Rattle.conversions.specs.Conversion.{OperationsFail};

@@ -35,6 +35,10 @@ pub last_is_no_output :
 last_is_no_output Output reader calls text h same = absurd h
 last_is_no_output error reader calls text h same = cc
 
+pub end_is_no_output : (error : OperationError) (why : RangeError) → IsErrorOfEnd error why → why ≢ Operation Output
+end_is_no_output Memory why is same = cc
+end_is_no_output error why is same = cc
+
 module _ (c : RangeConversion) (start end : List ℕ) where
   -- an error of the start
   pub start_fails :
@@ -52,12 +56,6 @@ module _ (c : RangeConversion) (start end : List ℕ) where
     end_fails Memory why is h = rw is (inr (inl ((v, first), h)))
     end_fails Output why is h = absurd h
     end_fails error why is h = rw is ((v, first), h)
-
-    -- the failed output is that of the text
-    pub end_is_no_output :
-        (error : OperationError) (why : RangeError) → IsErrorOfEnd error why → why ≢ Operation Output
-    end_is_no_output Memory why is same = cc
-    end_is_no_output error why is same = cc
 
     module _ (w : Decimal) (last : IsEnd c end w) where
       -- an error of the text of the range

@@ -21,18 +21,16 @@ returns-in-Err-clause-prefix g c = λ failed.
 pub returns-in-Err-converted-clause-fails_with : goal.returns-in-Err-converted-clause-fails_with
 returns-in-Err-converted-clause-fails_with g c =
     end_fails c.args.conversion.now c.args.start.now c.args.end.now c.in-Ok.value
-    (rw c.as_slice-calls.ensures.value at c.in-Ok.ensures.last) c.in-Err-converted.error c.error_of_end.result c.error_of_end.ensures
-    (rw c.as_slice-calls.ensures.value at c.in-Err-converted.ensures.fails_with)
+    (rw c.as_slice-calls.ensures.value at c.in-Ok.ensures.last) c.in-Err-converted.error c.error_of_end.result
+    c.error_of_end.ensures (rw c.as_slice-calls.ensures.value at c.in-Err-converted.ensures.fails_with)
 
 pub returns-in-Err-converted-clause-failed : goal.returns-in-Err-converted-clause-failed
 returns-in-Err-converted-clause-failed g c = λ failed.
-    absurd (end_is_no_output c.args.conversion.now c.args.start.now c.args.end.now c.in-Ok.value
-    (rw c.as_slice-calls.ensures.value at c.in-Ok.ensures.last) c.in-Err-converted.error c.error_of_end.result c.error_of_end.ensures cc)
+    absurd (end_is_no_output c.in-Err-converted.error c.error_of_end.result c.error_of_end.ensures cc)
 
 pub returns-in-Err-converted-clause-prefix : goal.returns-in-Err-converted-clause-prefix
 returns-in-Err-converted-clause-prefix g c = λ failed.
-    absurd (end_is_no_output c.args.conversion.now c.args.start.now c.args.end.now c.in-Ok.value
-    (rw c.as_slice-calls.ensures.value at c.in-Ok.ensures.last) c.in-Err-converted.error c.error_of_end.result c.error_of_end.ensures cc)
+    absurd (end_is_no_output c.in-Err-converted.error c.error_of_end.result c.error_of_end.ensures cc)
 
 pub returns-in-Ok-write-clause-written : goal.returns-in-Ok-write-clause-written
 returns-in-Ok-write-clause-written g c =
@@ -44,7 +42,8 @@ pub returns-in-Err-write-clause-fails_with : goal.returns-in-Err-write-clause-fa
 returns-in-Err-write-clause-fails_with g c =
     text_fails c.args.conversion.now c.args.start.now c.args.end.now c.in-Ok.value
     (rw c.as_slice-calls.ensures.value at c.in-Ok.ensures.last) c.in-Ok-converted.value
-    (rw c.as_slice-calls.ensures.value at c.in-Ok-converted.ensures.last) c.in-Err-write.error c.in-Err-write.ensures.fails_with
+    (rw c.as_slice-calls.ensures.value at c.in-Ok-converted.ensures.last) c.in-Err-write.error
+    c.in-Err-write.ensures.fails_with
 
 pub returns-in-Err-write-clause-prefix : goal.returns-in-Err-write-clause-prefix
 returns-in-Err-write-clause-prefix g c = λ failed.
