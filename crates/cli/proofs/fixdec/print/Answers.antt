@@ -1,6 +1,11 @@
-use Rattle.std.proofs.{Common.refl, lemmas.Result.err_from_is_err_and}
+use Rattle.std.proofs.{Common.{◌≡◌, Err, refl, rules}, lemmas.Result.err_from_is_err_and}
+use Rattle.cli.specs.declared.program.error.ProgramError.TheVariants.{Output}
 use Rattle.cli.proofs.lemmas.program.Programs.{has_text, line_begun, prints_kept, run_map}
 use Rattle.cli.proofs.fixdec.print.Goals as goal
+
+pub returns-in_err-print_run-clause-prefix : goal.returns-in_err-print_run-clause-prefix
+returns-in_err-print_run-clause-prefix g c = λ is.
+    let failed : c.print_run.result ≡ Err Output = search (rules, is) in c.print_run.ensures.prefix failed
 
 pub returns-in_err-flush-clause-error : goal.returns-in_err-flush-clause-error
 returns-in_err-flush-clause-error g c =

@@ -17,6 +17,18 @@ module _ (read : Option (List ℕ)) (calls : List (String Global)) (Fails : Form
         → WordsFail read calls Fails Named (words_error why)
     format_fails named ok why h = inr ((reader, is), rw ok (inl (why, refl, h)))
 
+    other_calls :
+        (error : WordsError) → error ≢ Memory → (named : Result (List Call) (ℕ × List ℕ))
+        → MatchResult named (λ _. (calls ≢ []) × (error ≡ Memory)) (λ wrong. IsErrorOfWord wrong.0 wrong.1 error)
+        → MatchResult named (λ _. FormatFails Fails Named calls error) (λ wrong. IsErrorOfWord wrong.0 wrong.1 error)
+    other_calls error other (Ok named) none = absurd (other none.1)
+    other_calls error other (Err wrong) h = h
+
+    -- that of a call
+    pub calls_fail :
+        (error : WordsError) → error ≢ Memory → CallsFail calls error → WordsFail read calls Fails Named error
+    calls_fail error other h = inr ((reader, is), other_calls error other (calls_of calls) h)
+
     after_calls :
         (error : WordsError) (named : Result (List Call) (ℕ × List ℕ))
         → MatchResult named (λ _. (calls ≢ []) × (Memory ≡ Memory)) (λ wrong. IsErrorOfWord wrong.0 wrong.1 Memory)

@@ -1,9 +1,9 @@
-use Rattle.std.proofs.Common.{◌≡◌, ℕ, List, Option, String, Ok}
+use Rattle.std.proofs.Common.{◌≡◌, ℕ, List, Option, String, Ok, rules}
 use Rattle.std.specs.{declared.alloc.Global.Global, Prelude.map}
 use Rattle.conversions.specs.{declared.{range_conversion.RangeConversion.RangeConversion, range_formatter.RangeFormatter.RangeFormatter}, Calls.copied, RangeWord.{NamesRangeFormatter, RangeFormatterFails}, ReadWord.NamesReader}
 use Rattle.cli.specs.{declared.program.error.WordsError.{WordsError, TheVariants.Memory}, Calls.calls_of, Error.words_error, RangeWords.{RangeWordsValue, NamesRangeConversion, RangeConversionFails}, Words.{split_read, WordsFail}}
 use Rattle.conversions.proofs.lemmas.calls.Results.{err_with}
-use Rattle.cli.proofs.lemmas.words.WordsFails.{reader_fails, format_fails, format_fails_first, memory_fails}
+use Rattle.cli.proofs.lemmas.words.WordsFails.{reader_fails, calls_fail, format_fails, format_fails_first, memory_fails}
 use Rattle.cli.proofs.words.range.parse_range.Goals as goal
 
 -- `format:..` names a formatter
@@ -74,3 +74,10 @@ returns-in-Err-Memory-clause-err c =
     fails c.args.words.now _ c.words.view_is _ _ c.split_read.ensures Memory
     (memory_fails _ c.split_read.result.1.now (RangeFormatterFails format) (Named format) c.in_ok-reader.reader
     c.in_ok-reader.ensures.some none (parsed.field-0, parsed.ensures.ok))
+
+pub returns-clause-err : goal.returns-clause-err
+returns-clause-err c =
+    let format = c.words.inside.format.now in
+    fails c.args.words.now _ c.words.view_is _ _ c.split_read.ensures c.in-Err.error
+    (calls_fail _ c.split_read.result.1.now (RangeFormatterFails format) (Named format) c.in_ok-reader.reader
+    c.in_ok-reader.ensures.some c.in-Err.error (λ same. search (rules, same)) c.in-Err.ensures.err)
