@@ -40,12 +40,12 @@ category_key PluralCategory.Zero Sign.Negative = (16, omega arith, refl)
 category_key PluralCategory.Zero Sign.Positive = (17, omega arith, refl)
 
 -- a key of the formatter that is for numbers of this category and sign, and has what is around them
-record IsKeyOf (f : NumberFormatter) (o : OuterTexts) (c : PluralCategory) (s : Sign)
+pub record IsKeyOf (f : NumberFormatter) (o : OuterTexts) (c : PluralCategory) (s : Sign)
     (key : Option PluralCategory × Sign) : Type 0 where
-  listed : Contains (keys_by o) key
-  sign : key.1 ≡ s
-  allowed : IfSome key.0 (λ own. own ≡ c)
-  outer : outer_at f key.0 ≡ outer_by f c
+  pub listed : Contains (keys_by o) key
+  pub sign : key.1 ≡ s
+  pub allowed : IfSome key.0 (λ own. own ≡ c)
+  pub outer : outer_at f key.0 ≡ outer_by f c
 
 -- a notation that is read has no words
 pub without_words : (f : NumberFormatter) → CanReadNotation f → HasNoWords f
