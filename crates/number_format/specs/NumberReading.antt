@@ -4,13 +4,17 @@ use Rattle.decimal_unsigned.specs.declared.error.ParseError.{ParseError, TheVari
 use Rattle.fixed_decimal.specs.{Decimal.Decimal, declared.variations.Sign.Sign}
 use Rattle.plural_rules.specs.declared.rules.PluralCategory.{PluralCategory}
 use Rattle.decimal_format.specs.{Readable.IsReadable, Symbols.{Affixes, affixes}, declared.reader.alternatives.Alternative.Alternative}
-use Rattle.number_format.specs.{declared.{digits.options.DigitOptions.DigitOptions, format.{outer.OuterTexts.OuterTexts, formatter.NumberFormatter.NumberFormatter}, options.{DecimalSeparatorDisplay.DecimalSeparatorDisplay, NumberNotation.NumberNotation, NumberStyle.NumberStyle}, read.{pattern.{NumberPattern.NumberPattern, TheConstants.{SIGN_KEYS, CATEGORY_KEYS}}, scientific.ExponentForm.ExponentForm, number_reader.{NumberReaderError.NumberReaderError, ParseMode.{ParseMode, TheVariants.{Strict, Lenient}}}}}, AffixedTexts.{AreNamed, Reader, IsReadExactly, IsReadTyped}, NumberText.{outer_by, shown_number, shown_sign}, PatternTexts.{Around, around, affixes_for}, Scaled.{ScaledValue, HasNoIncrement}, ScientificReading.{exponent_form, CanReadExponent}, AffixedExponents.{IsReadWithExponent, IsTypedWithExponent}, TextParts.pieces_text}
+use Rattle.number_format.specs.{declared.{digits.options.DigitOptions.DigitOptions, format.{outer.OuterTexts.OuterTexts, formatter.NumberFormatter.NumberFormatter}, options.{DecimalSeparatorDisplay.DecimalSeparatorDisplay, NumberNotation.NumberNotation, NumberStyle.NumberStyle}, read.{pattern.{NumberPattern.NumberPattern, TheConstants.{SIGN_KEYS, CATEGORY_KEYS}}, scientific.ExponentForm.ExponentForm, number_reader.{NumberReaderError.NumberReaderError, ParseMode.{ParseMode, TheVariants.{Strict, Lenient}}}}}, AffixedTexts.{AreNamed, Reader, IsReadExactly, IsReadTyped}, NumberText.{compact_style, outer_by, shown_number, shown_sign}, PatternTexts.{Around, around, affixes_for}, Scaled.{ScaledValue, HasNoIncrement}, ScientificReading.{exponent_form, CanReadExponent}, AffixedExponents.{IsReadWithExponent, IsTypedWithExponent}, TextParts.pieces_text}
 
 -- ---- Exactly.
 
 -- the notation is `Standard`: no words and no exponent
 abbrev pub IsStandard : NumberFormatter → Type 0
 IsStandard f = f.options.notation ≡ NumberNotation.Standard
+
+-- no words of compact notation are written
+abbrev pub HasNoWords : NumberFormatter → Type 0
+HasNoWords f = compact_style f.options.notation f.options.style ≡ None
 
 -- no integer digit is cut off, as of 10.2E3 by one digit, which leaves `0.2E3`; and the number is rounded without an
 -- increment, since by multiples of 5 the text of 9 is `10E0`

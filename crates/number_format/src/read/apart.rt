@@ -1,7 +1,7 @@
 //! Whether the texts around numbers can be told apart.
 ghost use Rattle.std.specs.Prelude.{◌≡◌, ◌↔◌, ◌⊎◌, IsTrue, All, map};
 ghost use Rattle.decimal_format.specs.{Readable.IsReadable, Symbols.affixes};
-ghost use Rattle.number_format.specs.{AffixedTexts.{ArePrefixesApart, AreSuffixesApart, ArePairApart, AreToldApart, AreNamed}, NumberReading.{IsStandard, pattern_at}};
+ghost use Rattle.number_format.specs.{AffixedTexts.{ArePrefixesApart, AreSuffixesApart, ArePairApart, AreToldApart, AreNamed}, NumberReading.{HasNoWords, pattern_at}};
 
 use crate::format::formatter::NumberFormatter;
 use crate::read::pattern::{NumberPattern, PatternKey};
@@ -93,7 +93,7 @@ pub(crate) fn are_named(symbols: &DecimalSymbols<'_>, patterns: &[NumberPattern]
 
 impl NumberFormatter {
     fn is_key_apart(&self, key: PatternKey, keys: &[PatternKey]) -> bool
-        requires standard { IsStandard self.now }
+        requires words { HasNoWords self.now }
         requires readable { IsReadable self.now.style.symbols }
         ensures { IsTrue result ↔ All (λ k. AreToldApart self.now.style.symbols (pattern_at self.now key)
             (pattern_at self.now k)) keys.now }
@@ -111,7 +111,7 @@ impl NumberFormatter {
 
     /// Returns whether each two patterns are told apart. It does not allocate, and is slow.
     pub(crate) fn are_keys_apart(&self, keys: &[PatternKey]) -> bool
-        requires standard { IsStandard self.now }
+        requires words { HasNoWords self.now }
         requires readable { IsReadable self.now.style.symbols }
         ensures { IsTrue result ↔ AreNamed self.now.style.symbols (map (pattern_at self.now) keys.now) }
     {

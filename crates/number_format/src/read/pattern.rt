@@ -1,6 +1,6 @@
 //! The texts around a number that a formatter writes, and what they say of the number.
 ghost use Rattle.std.specs.Prelude.{◌≡◌, ◌↔◌, ◌≤◌, ◌+◌, ◌*◌, ◌++◌, false, length, IsTrue, IfOk, MatchOption};
-ghost use Rattle.number_format.specs.{AffixedTexts.Allows, FormattedNumbers.IsOuter, NumberReading.{IsStandard, HasNumbers, outer_at, pattern_at, keys_by, patterns_of}, NumberText.outer_by, TextParts.parts_text};
+ghost use Rattle.number_format.specs.{AffixedTexts.Allows, FormattedNumbers.IsOuter, NumberReading.{HasNoWords, HasNumbers, outer_at, pattern_at, keys_by, patterns_of}, NumberText.outer_by, TextParts.parts_text};
 
 use crate::format::formatter::NumberFormatter;
 use crate::format::outer::{OuterAround, OuterTexts};
@@ -86,7 +86,7 @@ fn pair_text(first: &str, second: &str) -> ArrayString<2550>
 
 impl NumberFormatter {
     fn outer_of_category(&self, category: PluralCategory) -> OuterAround<'_>
-        requires { IsStandard self.now }
+        requires { HasNoWords self.now }
         ensures { IsOuter (outer_by self.now category) result }
     {
         match &self.outer {
@@ -97,7 +97,7 @@ impl NumberFormatter {
     }
 
     fn outer_at(&self, category: Option<PluralCategory>) -> OuterAround<'_>
-        requires { IsStandard self.now }
+        requires { HasNoWords self.now }
         ensures { IsOuter (outer_at self.now category) result }
     {
         match category {
@@ -107,7 +107,7 @@ impl NumberFormatter {
     }
 
     fn has_number(&self, category: PluralCategory) -> bool
-        requires { IsStandard self.now }
+        requires { HasNoWords self.now }
         ensures { result ≡ (outer_by self.now category).has_number }
     {
         self.outer_of_category(category).has_number
@@ -115,7 +115,7 @@ impl NumberFormatter {
 
     /// Returns a category whose text has no number, as `yesterday` has none.
     pub(crate) fn category_without_number(&self) -> Option<PluralCategory>
-        requires { IsStandard self.now }
+        requires { HasNoWords self.now }
         ensures { MatchOption result (HasNumbers self.now) (λ c. (outer_by self.now c).has_number ≡ false) }
     {
         if !self.has_number(Zero) {
@@ -139,9 +139,9 @@ impl NumberFormatter {
         None
     }
 
-    /// Returns the texts around a number of a pattern, in standard notation.
+    /// Returns the texts around a number of a pattern.
     pub(crate) fn pattern_texts(&self, key: PatternKey) -> ShortAffixes<2550>
-        requires { IsStandard self.now }
+        requires { HasNoWords self.now }
         ensures { result ≡ (pattern_at self.now key).affixes }
     {
         let outer = self.outer_at(key.0);
@@ -157,7 +157,7 @@ impl NumberFormatter {
     }
 
     fn pattern(&self, alloc: Global, key: PatternKey) -> Result<NumberPattern, AllocError>
-        requires { IsStandard self.now }
+        requires { HasNoWords self.now }
         ensures { IfOk result (λ p. p ≡ pattern_at self.now key) }
     {
         let affixes = OwnedAffixes::copied(alloc, self.pattern_texts(key).texts())?;
@@ -178,9 +178,9 @@ impl NumberFormatter {
         }
     }
 
-    /// Returns the texts around numbers, in standard notation.
+    /// Returns the texts around numbers.
     pub(crate) fn number_patterns(&self, alloc: Global) -> Result<Vec<NumberPattern>, AllocError>
-        requires { IsStandard self.now }
+        requires { HasNoWords self.now }
         ensures { IfOk result (λ patterns. patterns.items ≡ patterns_of self.now) }
     {
         let keys = self.pattern_keys();

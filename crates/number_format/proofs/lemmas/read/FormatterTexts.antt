@@ -1,12 +1,12 @@
 -- The texts of a formatter are texts between those of patterns.
-use Rattle.std.proofs.{Common.{◌≡◌, ℕ, List, [], ◌++◌, refl, sym, ◌∙◌, ap, subst, arith, append-nil, append_assoc}}
+use Rattle.std.proofs.{Common.{◌≡◌, ℕ, List, [], ◌++◌, refl, sym, ◌∙◌, ap, subst, arith, inl, inr, append-nil, append_assoc}}
 use Rattle.std.specs.{Prelude.{Bool, true, Option, None, Some, IfSome, if◌then◌else◌}, List.Contains}
 use Rattle.decimal_unsigned.specs.Unsigned.{IsValue}
 use Rattle.fixed_decimal.specs.{Decimal.Decimal, declared.variations.Sign.Sign}
 use Rattle.decimal_format.specs.{Formatted.absolute_text}
 use Rattle.plural_rules.specs.{Operands.plain, declared.rules.PluralCategory.PluralCategory}
 use Rattle.locale_data.specs.Plurals.{IsCategoryAt}
-use Rattle.number_format.specs.{declared.{format.{outer.OuterTexts.OuterTexts, formatter.NumberFormatter.NumberFormatter}, options.{NumberOptions.NumberOptions, NumberNotation.NumberNotation}, read.pattern.{TheConstants.{SIGN_KEYS, CATEGORY_KEYS}}}, FormattedNumbers.exponent_text, Formatters.IsFormatter, AffixedTexts.{between, IsShown}, NumberReading.{IsStandard, HasPlainDigits, HasNumbers, outer_at, pattern_at, keys_by, reader_of, CanRead, IsShownAs}, NumberText.{IsNumberText, shown_sign, whole_number, compact_magnitude, is_one, compact_pattern, compact_style, operands_by, outer_by, outer_texts, around_by, bare_separator, number_part, exponent_of}, PatternTexts.{Around, pattern_around, affixes_for, within}, Scaled.ScaledValue, TextParts.{Piece, pieces_text}}
+use Rattle.number_format.specs.{declared.{format.{outer.OuterTexts.OuterTexts, formatter.NumberFormatter.NumberFormatter}, options.{NumberOptions.NumberOptions, NumberNotation.NumberNotation}, read.pattern.{TheConstants.{SIGN_KEYS, CATEGORY_KEYS}}}, FormattedNumbers.exponent_text, Formatters.IsFormatter, AffixedTexts.{between, IsShown}, NumberReading.{IsStandard, HasNoWords, CanReadExponents, CanReadNotation, HasPlainDigits, HasNumbers, outer_at, pattern_at, keys_by, reader_of, CanRead, IsShownAs}, NumberText.{IsNumberText, shown_sign, whole_number, compact_magnitude, is_one, compact_pattern, compact_style, operands_by, outer_by, outer_texts, around_by, bare_separator, number_part, exponent_of}, PatternTexts.{Around, pattern_around, affixes_for, within}, Scaled.ScaledValue, ScientificReading.exponent_form, TextParts.{Piece, pieces_text}}
 use Rattle.number_format.proofs.lemmas.{read.{AffixedNumbers.named_texts_are_unique, PatternLists.in_map}, format.PieceTexts.{text-of_digits_and_exponent, text-three}}
 
 some_same : (x y : ScaledValue) → Some x ≡ Some y → x ≡ y
@@ -40,16 +40,23 @@ category_key PluralCategory.Zero Sign.Negative = (16, omega arith, refl)
 category_key PluralCategory.Zero Sign.Positive = (17, omega arith, refl)
 
 -- a key of the formatter that is for numbers of this category and sign, and has what is around them
-record IsKeyOf (f : NumberFormatter) (o : OuterTexts) (c : PluralCategory) (s : Sign)
+pub record IsKeyOf (f : NumberFormatter) (o : OuterTexts) (c : PluralCategory) (s : Sign)
     (key : Option PluralCategory × Sign) : Type 0 where
-  listed : Contains (keys_by o) key
-  sign : key.1 ≡ s
-  allowed : IfSome key.0 (λ own. own ≡ c)
-  outer : outer_at f key.0 ≡ outer_by f c
+  pub listed : Contains (keys_by o) key
+  pub sign : key.1 ≡ s
+  pub allowed : IfSome key.0 (λ own. own ≡ c)
+  pub outer : outer_at f key.0 ≡ outer_by f c
 
--- the notation has no words
-abbrev HasNoWords : NumberFormatter → Type 0
-HasNoWords f = compact_style f.options.notation f.options.style ≡ None
+-- a notation that is read has no words
+pub without_words : (f : NumberFormatter) → CanReadNotation f → HasNoWords f
+without_words f (inl standard) = ap (λ n. compact_style n f.options.style) standard
+without_words f (inr can) = by f.options.notation can.1
+  where
+    by : (n : NumberNotation) → CanReadExponents f (exponent_form f n) → compact_style n f.options.style ≡ None
+    by NumberNotation.Standard can = refl
+    by (NumberNotation.Compact words) can = absurd can
+    by (NumberNotation.Scientific o) can = refl
+    by (NumberNotation.Engineering o) can = refl
 
 key_of : (f : NumberFormatter) → HasNoWords f → (c : PluralCategory) (s : Sign) (o : OuterTexts) → f.outer ≡ o
     → (key : Option PluralCategory × Sign) × IsKeyOf f o c s key

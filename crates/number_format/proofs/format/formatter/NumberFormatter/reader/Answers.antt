@@ -15,7 +15,7 @@ apart_by f None can = absurd can
 is_apart : (f : NumberFormatter) → CanReadNotation f → IsApart f.style.symbols (exponent_form f f.options.notation)
 is_apart f (inl standard) =
     subst (λ (n : NumberNotation). IsApart f.style.symbols (exponent_form f n)) (sym standard) tt
-is_apart f (inr can) = apart_by f (exponent_form f f.options.notation) can
+is_apart f (inr can) = apart_by f (exponent_form f f.options.notation) can.1
 
 pub invariant_of-result : goal.invariant_of-result
 invariant_of-result c =
