@@ -12,6 +12,12 @@ returns-in-Err-clause-err c =
     rw (c.in-Some.is, ← c.split_fields.ensures.own, ← c.split_fields.ensures.others)
     (inr (sym c.in_default-only_index.ensures, (c.new.result, named, inl refl)))
 
+pub returns-in_err-conversion-clause-err : goal.returns-in_err-conversion-clause-err
+returns-in_err-conversion-clause-err c =
+    let residual = c.from_residual-in_err-conversion in
+    let p = err_from_is_err_and residual.result residual.ensures.1 in
+    rw (p.1, p.2, c.in-Some.is, ← c.split_fields.ensures.own) (inl c.in_err-conversion.ensures.err)
+
 pub returns-in_err-parse_more-clause-err : goal.returns-in_err-parse_more-clause-err
 returns-in_err-parse_more-clause-err c =
     let named : IsNamed (copied c.in-Some.column) c.split_fields.result.0.now c.new.result = (
