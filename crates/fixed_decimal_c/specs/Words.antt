@@ -1,9 +1,19 @@
 -- The words of the programs, as C receives them.
-use Rattle.std.specs.{Prelude.{◌≡◌, ◌≢◌, ◌⊎◌, ℕ, ◌+◌, List, [], ◌++◌, Option, Some, None, IsSome, IsSomeAnd, Result, Ok, Err}, Str.IsUtf8}
+use Rattle.std.specs.{Prelude.{◌≡◌, ◌≢◌, ◌⊎◌, ℕ, ◌+◌, List, [], ◌++◌, codes, Option, Some, None, IsSome, IsSomeAnd, Result, Ok, Err}, Str.IsUtf8}
 use Rattle.fixed_decimal.specs.declared.runs.Call.{Call}
 use Rattle.number_format.specs.declared.read.number_reader.ParseMode.{ParseMode}
-use Rattle.conversions.specs.{Calls.{call_of, Names}, FormatWord.{strategy_of, IsSkeletonOption, IsFormatWord}, Parameters.{locale_tag, locale_option}, ReadWord.{read_option, IsReadWord}}
+use Rattle.conversions.specs.{Calls.{call_of, Names}, FormatWord.{strategy_of, IsSkeletonOption}, Parameters.{locale_tag, locale_option}, ReadWord.read_option}
 use Rattle.fixed_decimal_c.specs.{declared.{calls.FdCall.FdCall, error.FdError.{FdError, TheVariants.{UnknownCall, UnknownLocale}}, forms.FdForm.FdForm, words.FdWord.FdWord}, Calls.{IsPart, IsCall, no_call, fd_call_of}, Errors.status_of, Forms.reading_code, NumberOptions.grouping_code}
+
+-- ---- Words.
+
+-- the word is `read:` and a text
+abbrev pub IsReadWord : List ℕ → Type 0
+IsReadWord word = (text : List ℕ) × (word ≡ codes "read:" ++ text)
+
+-- the word is `format:` and a text
+abbrev pub IsFormatWord : List ℕ → Type 0
+IsFormatWord word = (text : List ℕ) × (word ≡ codes "format:" ++ text)
 
 -- ---- What C receives.
 

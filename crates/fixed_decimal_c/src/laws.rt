@@ -1,10 +1,10 @@
 //! Laws of words and of formatters that C keeps: the contract of each function states a law.
 ghost use Rattle.std.specs.{Prelude.{◌≡◌, ℕ, ◌+◌, Bool, List, ◌++◌, length, slice_get, Some, Ok, Result}, Str.IsUtf8};
-ghost use Rattle.conversions.specs.{Calls.Names, FormatWord.IsFormatWord, ReadWord.IsReadWord};
+ghost use Rattle.conversions.specs.Calls.{Names};
 ghost use Rattle.fixed_decimal.specs.declared.runs.Call.{Call};
 ghost use Rattle.locale_names.specs.declared.{locale_units.UnitDisplay.UnitDisplay, unit_id.Unit.Unit};
 ghost use Rattle.number_format.specs.declared.options.NumberStyle.{NumberStyle};
-ghost use Rattle.fixed_decimal_c.specs.{Calls.{IsPart, IsCall}, Formats.{FormatsNumber, FormatsBySkeleton}, KeptFormatters.{FormatsKept, MakesByOptions, MakesBySkeleton, ReadsKept}, NumberOptions.IsOptionStyle, NumberReadings.{ReadsNumber, ReadsBySkeleton}, Styles.unit_displays, Units.{NamesUnit, fd_units}, Words.{IsReadAnswer, IsFormatAnswer, IsCallAnswer, IsWord, moved_call}, declared.{calls.FdCall.FdCall, error.FdError.FdError, formatter.FdFormatter.FdFormatter, number_options.FdNumberOptions.FdNumberOptions, words.FdWord.FdWord}};
+ghost use Rattle.fixed_decimal_c.specs.{Calls.{IsPart, IsCall}, Formats.{FormatsNumber, FormatsBySkeleton}, KeptFormatters.{FormatsKept, MakesByOptions, MakesBySkeleton, ReadsKept}, NumberOptions.IsOptionStyle, NumberReadings.{ReadsNumber, ReadsBySkeleton}, Styles.unit_displays, Units.{NamesUnit, fd_units}, Words.{IsReadWord, IsFormatWord, IsReadAnswer, IsFormatAnswer, IsCallAnswer, IsWord, moved_call}, declared.{calls.FdCall.FdCall, error.FdError.FdError, formatter.FdFormatter.FdFormatter, number_options.FdNumberOptions.FdNumberOptions, words.FdWord.FdWord}};
 
 /// A part of a word is a part of words that are placed one after another: its start counts the bytes before the word.
 #[tactic(auto, using(crate::proofs::lemmas::words::JoinedWords::part_of_joined))]

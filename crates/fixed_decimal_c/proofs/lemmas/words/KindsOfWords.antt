@@ -2,8 +2,8 @@
 use Rattle.std.proofs.{Common.{ℕ, List, sym, ap, ◌∙◌, arith, inl, inr}, lemmas.Option.none-some}
 use Rattle.std.specs.{Prelude.slice_index, Str.IsUtf8}
 use Rattle.fixed_decimal.specs.declared.runs.Call.{Call}
-use Rattle.conversions.specs.{Calls.{copied, Names}, FormatWord.IsFormatWord, ReadWord.IsReadWord}
-use Rattle.fixed_decimal_c.specs.{declared.words.FdWord.FdWord, Words.{IsReadAnswer, IsFormatAnswer, IsCallAnswer, IsWord}}
+use Rattle.conversions.specs.Calls.{copied, Names}
+use Rattle.fixed_decimal_c.specs.{declared.words.FdWord.FdWord, Words.{IsReadWord, IsFormatWord, IsReadAnswer, IsFormatAnswer, IsCallAnswer, IsWord}}
 
 -- a word that names a call begins with neither `format:` nor `read:`
 call_is_no_format : (word : List ℕ) (call : Call) → Names word call → IsFormatWord word → ⊥

@@ -1,7 +1,7 @@
 use Rattle.std.proofs.Common.{Result, Ok, Err, IfErr, inl, inr, sym, ap, ◌∙◌, rules}
 use Rattle.std.specs.Prelude.{IfOk}
-use Rattle.conversions.specs.{Calls.Names, FormatWord.IsFormatWord}
-use Rattle.fixed_decimal_c.specs.{declared.{error.FdError.FdError, forms.FdForm.FdForm}, Words.{IsFormatForm, FormatFormFails, IsFormOr, call_word}}
+use Rattle.conversions.specs.Calls.{Names}
+use Rattle.fixed_decimal_c.specs.{declared.{error.FdError.FdError, forms.FdForm.FdForm}, Words.{IsFormatWord, IsFormatForm, FormatFormFails, IsFormOr, call_word}}
 use Rattle.fixed_decimal_c.proofs.lemmas.words.CallWords.{call_is}
 use Rattle.fixed_decimal_c.proofs.words.parse_word.Goals as goal
 
