@@ -1,4 +1,4 @@
-use Rattle.std.proofs.Common.{◌≡◌, sym, subst}
+use Rattle.std.proofs.Common.{sym, subst}
 use Rattle.std.specs.Prelude.{Option, IfSome}
 use Rattle.number_format.specs.{declared.read.scientific.ExponentForm.ExponentForm, NumberReading.{NumberReader, IsTypedBy}, ScientificReading.IsSeparatorApart}
 use Rattle.number_format.proofs.read.number_reader.NumberReader.read_typed.Goals as goal
