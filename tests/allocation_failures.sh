@@ -94,6 +94,8 @@ each_ends() {
 # Those of the words, of their calls, of the buffer, the start, an operand, a concatenation and a rounding.
 each_ends /dev/null fixdec 1e20 trim-start concat:0.12345678901234567
 each_ends /dev/null fixdec 1234567812345678 round:-1:trunc:25 concat:0.0012345678901234567
+# Those of a range: of both texts, of the calls on both numbers, and of the copy of the start.
+each_ends /dev/null fixdec 1234567812345678 to:12345678901234567890 round:-1:trunc:25 format:de:currency/EUR
 # Those of lines that get longer, and of long numbers.
 printf '70\n12345678901234567890.125\nx\n1e20\n%0200d\n' 5 > in
 for mode in '' skip; do

@@ -98,6 +98,15 @@ row fixdec 1 '' $'call 0: overlap\n' 120 concat:25
 row fixdec 1 '' $'call 1: overflow\n' 98765 shift:32763 shift:1
 row fixdec 1 '' $'format: overflow\n' 9.5e32767 'format:en:@'
 
+# A range: its text, and an error of its end.
+row fixdec 0 $'3,00–5,00\xc2\xa0€\n' '' 3 to:5 format:de:currency/EUR
+row fixdec 0 $'3–5\n' '' 3 to:5 format:de
+row fixdec 1 '' $'end: syntax\n' 3 to:x format:de
+row fixdec 1 '' $'end: limit\n' 3 "to:$(printf '%032769d' 0)" format:de
+row fixdec 1 '' $'end: call 0: overlap\n' 1200 to:120 concat:25 format:de
+row fixdec 1 '' $'end: call 1: overflow\n' 1 to:98765 shift:32763 shift:1 format:de
+row fixdec 2 '' "$usage" 3 to:5
+
 # Status 2: the first wrong word decides.
 row fixdec 2 '' "$usage"
 row fixdec 2 '' "$usage" 5 round:0:up:1
@@ -165,6 +174,7 @@ wrong() {
   lines 2 '1\n' '' "fixdec_lines: $1"$'\n' "${@:2}"
 }
 wrong 'no such word: trimm (--help lists all)' trimm
+wrong 'no such word: to:5 (--help lists all)' to:5 format:de
 wrong 'no such word:  (--help lists all)' ''
 wrong 'format:de is not in its place (--help lists all)' format:de trim-end
 wrong 'field:2 stands after a call' trim-end field:2

@@ -76,7 +76,9 @@ mapfile -t locales < <("$room/fixdec_lines" --locales)
 [ ${#calls[@]} -ge 11 ] && [ ${#options[@]} -ge 8 ] && [ ${#modes[@]} -ge 9 ] && [ ${#locales[@]} -gt 300 ]
 judge $? "docs/PROGRAMS.md has calls, options and modes: ${#calls[@]}, ${#options[@]}, ${#modes[@]}, ${#locales[@]}"
 offers 'fixdec ' --help
-offers 'fixdec 5 ' "${calls[@]}" read: format:
+offers 'fixdec 5 ' "${calls[@]}" to: read: format:
+offers 'fixdec 5 to:6 ' "${calls[@]}" read: format:
+offers 'fixdec 5 to:'
 offers 'fixdec_lines csv ' "${options[@]}" "${calls[@]}" read: format:
 offers 'fixdec_lines --' --help --version --locales
 offers 'fixdec 5 trim-end ro' round:

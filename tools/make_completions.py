@@ -22,7 +22,7 @@ PARTS = [("plural/1/*:*", ["cardinal", "ordinal"]), ("plural/1/*", ["LOCALE", "-
          ("*/*/round:*:*:*", ["INC"]), ("*/*/round:*:*", ["MODE"]), ("*/*/sign:*", ["SIGN"]),
          ("*/*/display:*", ["DISPLAY"]), ("*/*/read:*:lenient:*", ["STEM"]), ("*/*/read:*:*", ["lenient:", "STEM"]),
          ("*/*/read:*", ["LOCALE"]), ("*/*/format:*:*", ["GROUPING", "STEM"]), ("*/*/format:*", ["LOCALE"]),
-         ("*/*/*:*", []), ("fixdec/*", ["CALL"]),
+         ("*/*/*:*", []), ("fixdec/2/*", ["to:", "CALL"]), ("fixdec/*", ["CALL"]),
          ("fixdec_lines/1/*", ["OPTION", "CALL", "--help", "--version", "--locales"]),
          ("fixdec_lines/*", ["OPTION", "CALL"])]
 

@@ -236,6 +236,27 @@ static void test_ranges(void) {
     CHECK(fd_category_range(B("ru"), UINT32_MAX, UINT32_MAX).status == FD_UNKNOWN_OPTION);
 }
 
+/* Of a tag with more than 16 bytes a formatter keeps the first subtags: the numbering system after them is not lost. */
+static void test_long_tags(void) {
+    static const char *const tags[] = {"de", "sr-Cyrl-ME", "bs_Cyrl_BA", "az-Latn-AZ", "es-419"};
+    static const char *const middles[] = {"-u-nu-", "-u-ca-gregory-nu-", "-variant1-u-nu-"};
+    static const char *const systems[] = {"arab", "latn", "mathsanb"};
+    for (size_t i = 0; i < COUNT(tags) * COUNT(middles) * COUNT(systems); i++) {
+        const char *tag = tags[i % 5], *system = systems[i / 15];
+        fd_number_options o = FD_NUMBER_OPTIONS;
+        char whole[64];
+        snprintf(whole, sizeof whole, "%s%s%s", tag, middles[i / 5 % 3], system);
+        fd_made by_tag = fd_formatter_by_options(BYTES(whole), &o);
+        memset(o.numbering_system, ' ', sizeof o.numbering_system);
+        memcpy(o.numbering_system, system, strlen(system));
+        fd_made by_option = fd_formatter_by_options(BYTES(tag), &o);
+        uint8_t a[64], b[64];
+        fd_result r = fd_format_range(&by_tag.formatter, B("-1.5"), B("1234567"), a, sizeof a);
+        fd_result s = fd_format_range(&by_option.formatter, B("-1.5"), B("1234567"), b, sizeof b);
+        CHECK(r.status == FD_OK && s.status == FD_OK && r.count == s.count && memcmp(a, b, r.count) == 0);
+    }
+}
+
 /* A text of 43,690 bytes and 21,845 parts. */
 static void test_many_parts(void) {
     static uint8_t buffer[70000];
@@ -408,6 +429,7 @@ int main(void) {
     test_options();
     test_parts();
     test_ranges();
+    test_long_tags();
     test_many_parts();
     test_columns();
     test_resolved();

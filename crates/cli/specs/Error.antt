@@ -1,8 +1,9 @@
 -- The errors of the programs, and the exit status that goes with each.
 use Rattle.std.specs.Prelude.{ℕ, Bool, true, false, Option, None}
 use Rattle.plural_rules.specs.declared.parse.RulesError.TheVariants as rules
-use Rattle.conversions.specs.{declared.{error.{FormError.FormError, OperationError.{OperationError, TheVariants.Output}, Reason.TheVariants.{Syntax, Limit}}, named_rules.NamedRulesError.{NamedRulesError, TheVariants.{UnknownLocale, UnknownType, Rules}}}, Error.status_of_operation}
+use Rattle.conversions.specs.{declared.{error.{FormError.FormError, OperationError.{OperationError, TheVariants.Output}, RangeError.RangeError, Reason.TheVariants.{Syntax, Limit}}, named_rules.NamedRulesError.{NamedRulesError, TheVariants.{UnknownLocale, UnknownType, Rules}}}, Error.{status_of_operation, status_of_range}}
 use Rattle.conversions.specs.declared.error.FormError.TheVariants as form
+use Rattle.conversions.specs.declared.error.RangeError.TheVariants as range
 use Rattle.cli.specs.declared.program.{error.{FieldLabel.FieldLabel, HeaderError.HeaderError, LineError.LineError, ProgramError.ProgramError, WordsError.WordsError}, help.Program.{Program, TheVariants.Plural}}
 use Rattle.cli.specs.declared.program.error.HeaderError.TheVariants as header
 use Rattle.cli.specs.declared.program.error.ProgramError.TheVariants as program
@@ -45,6 +46,7 @@ status_of_header _ = 1
 abbrev pub status_of : ProgramError → ℕ
 status_of (program.Setup error) = status_of_words error.why
 status_of (program.Operation error) = status_of_operation error
+status_of (program.Range error) = status_of_range error
 status_of (program.Line line error) = status_of_operation error.error
 status_of (program.Header error) = status_of_header error
 status_of (program.LongLine line) = 3
@@ -67,6 +69,11 @@ setup_error by why = program.Setup (record { program = by; why = why })
 abbrev pub conversion_error : OperationError → ProgramError
 conversion_error Output = program.Output
 conversion_error error = program.Operation error
+
+-- an error of the one range of a program
+abbrev pub range_error : RangeError → ProgramError
+range_error (range.Operation Output) = program.Output
+range_error error = program.Range error
 
 -- the error of a word that names no rules
 abbrev pub error_of_rules : NamedRulesError → ProgramError

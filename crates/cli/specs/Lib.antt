@@ -20,6 +20,7 @@ pub mod NamedFilter
 pub mod Options
 pub mod Parameters
 pub mod Plural
+pub mod RangeWords
 pub mod Records
 pub mod Targets
 pub mod Trim

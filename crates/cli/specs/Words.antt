@@ -35,19 +35,23 @@ NamesConversion words conversion =
 abbrev pub IsFormError : (FormError → Type 0) → WordsError → Type 0
 IsFormError Fails error = (why : FormError) × (error ≡ words_error why) × Fails why
 
--- after calls `format:..` has this error; or it has none, and the list of the calls is out of memory
-abbrev pub FormatFails : Option (List ℕ) → List (String Global) → WordsError → Type 0
-FormatFails format calls error =
-    IsFormError (FormatterFails format) error
-    ⊎ (((formatter : Option LocaleFormatter) × NamesFormatter format formatter) × (calls ≢ []) × (error ≡ Memory))
+-- after calls `format:..` has this error; or it names a formatter, and the list of the calls is out of memory
+abbrev pub FormatFails : (FormError → Type 0) → Type 0 → List (String Global) → WordsError → Type 0
+FormatFails Fails Named calls error = IsFormError Fails error ⊎ (Named × (calls ≢ []) × (error ≡ Memory))
 
--- the words name no conversion, for this error: that of the first wrong word, from the left: `read:..`, a call,
--- `format:..`; or no word is wrong, and the list of the calls is out of memory
+-- the first wrong word, from the left, has this error: `read:..`, a call, `format:..`; or no word is wrong, and the
+-- list of the calls is out of memory
+abbrev pub WordsFail : Option (List ℕ) → List (String Global) → (FormError → Type 0) → Type 0 → WordsError → Type 0
+WordsFail read calls Fails Named error =
+    IsFormError (ReaderFails read) error
+    ⊎ (((reader : Option LocaleReader) × NamesReader read reader)
+    × MatchResult (calls_of calls) (λ _. FormatFails Fails Named calls error)
+    (λ wrong. IsErrorOfWord wrong.0 wrong.1 error))
+
+-- the words name no conversion, for this error
 abbrev pub ConversionFails : List (String Global) → WordsError → Type 0
 ConversionFails words error =
     let read = split_read words in
     let format = split_format read.1 in
-    IsFormError (ReaderFails read.0) error
-    ⊎ (((reader : Option LocaleReader) × NamesReader read.0 reader)
-    × MatchResult (calls_of format.1) (λ calls. FormatFails format.0 format.1 error)
-    (λ wrong. IsErrorOfWord wrong.0 wrong.1 error))
+    WordsFail read.0 format.1 (FormatterFails format.0)
+    ((formatter : Option LocaleFormatter) × NamesFormatter format.0 formatter) error

@@ -1,7 +1,7 @@
-//! `fixdec TEXT [read:LOCALE] [CALL].. [format:LOCALE]`: reads a decimal, makes the calls in order, and prints the text
-//! of the result.
+//! `fixdec TEXT [to:END] [read:LOCALE] [CALL].. [format:LOCALE]`: reads a decimal, makes the calls in order, and prints
+//! the text of the result; or the text of a range of two decimals.
 ghost use Rattle.std.specs.{Prelude.{◌≡◌, ◌≢◌, ◌≤◌, ◌<◌, Bool, true, false, None, Result, Err, IfOk, IfErr, IfSome, OnOk}, Process.exit_status};
-ghost use Rattle.cli.specs.{declared.program.{error.ProgramError.ProgramError, help.Program.TheVariants.Fixdec}, Error.status_of, Fixdec.{HasError, Converts, NamesRun, PrintsLine, PrintsLinePrefix, Prints, PrintsPrefix}, Arguments.Ends, Diagnostics.Concludes};
+ghost use Rattle.cli.specs.{declared.program.{error.ProgramError.ProgramError, help.Program.TheVariants.Fixdec}, Error.status_of, Fixdec.{of_text, HasError, Converts, HasTextRun, HasRangeRun, HasErrorOfText, HasErrorOfRange, PrintsLine, PrintsLinePrefix, Prints, PrintsPrefix}, Arguments.Ends, Diagnostics.Concludes};
 ghost use Rattle.conversions.specs.Conversion.{OperationsFail};
 
 use crate::program::arguments::start;
@@ -9,7 +9,8 @@ use crate::program::diagnostics::{Diagnostics, ErrorLines, conclude};
 use crate::program::error::{ProgramError, WordsError};
 use crate::program::help::Program;
 use crate::words::conversion::parse_conversion;
-use conversions::{Conversion, OperationError, convert};
+use crate::words::range::{RangeWords, parse_range, range_words};
+use conversions::{Conversion, OperationError, convert, convert_range};
 use fixed_decimal::{Closed, Out, Sink};
 use std::alloc::Global;
 use std::env::Args;
@@ -29,29 +30,79 @@ pub fn print_line<W: Sink>(
     sink: &mut W,
 ) -> Result<(), OperationError>
     ensures printed { OnOk result
-        (PrintsLine (W.contents sink.old) (W.contents sink.new) conversion.now text.now) }
+        (PrintsLine (W.contents sink.old) (W.contents sink.new) (of_text conversion.now text.now)) }
     ensures fails_with { IfErr result (λ error. OperationsFail error conversion.now text.now) }
     ensures unchanged_on_error { IfErr result (λ error. error ≢ OperationError.Output → sink.new ≡ sink.old) }
     ensures failed { result ≡ Err OperationError.Output → W.has_failed sink.new ≡ true }
     ensures prefix { result ≡ Err OperationError.Output →
-        PrintsLinePrefix (W.contents sink.old) (W.contents sink.new) conversion.now text.now }
+        PrintsLinePrefix (W.contents sink.old) (W.contents sink.new) (of_text conversion.now text.now) }
 {
     convert(alloc, conversion, text, sink)?;
     sink.put_byte(b'\n')?;
     Ok(())
 }
 
-fn parse_words(alloc: Global, words: &[String]) -> Result<(&[u8], Conversion<'_>), ProgramError>
-    ensures some { IfOk result (λ run. NamesRun words.now run.1 run.0.now) }
-    ensures err { IfErr result (HasError words.now) }
-    ensures no_output { IfErr result (λ error. error ≢ ProgramError.Output) }
+/// Prints the conversion of a text.
+fn print_text<W: Sink>(
+    alloc: Global,
+    text: &[u8],
+    words: &[String],
+    sink: &mut W,
+) -> Result<(), ProgramError>
+    ensures printed { OnOk result
+        (HasTextRun text.now words.now (PrintsLine (W.contents sink.old) (W.contents sink.new))) }
+    ensures fails_with { IfErr result (HasErrorOfText text.now words.now) }
+    ensures unchanged_on_error { IfErr result (λ error. error ≢ ProgramError.Output → sink.new ≡ sink.old) }
+    ensures failed { result ≡ Err ProgramError.Output → W.has_failed sink.new ≡ true }
+    ensures prefix { result ≡ Err ProgramError.Output →
+        HasTextRun text.now words.now (PrintsLinePrefix (W.contents sink.old) (W.contents sink.new)) }
 {
-    match words.split_first() {
-        None => Err(ProgramError::setup(Program::Fixdec, WordsError::NoText)),
-        Some((text, words)) => match parse_conversion(alloc, words) {
-            Ok(conversion) => Ok((text.as_bytes(), conversion)),
-            Err(why) => Err(ProgramError::setup(Program::Fixdec, why)),
-        },
+    let conversion = match parse_conversion(alloc, words) {
+        Ok(conversion) => conversion,
+        Err(why) => return Err(ProgramError::setup(Program::Fixdec, why)),
+    };
+    print_line(alloc, &conversion, text, sink)?;
+    Ok(())
+}
+
+/// Prints the conversion of a range.
+fn print_range<W: Sink>(
+    alloc: Global,
+    start: &[u8],
+    words: &RangeWords<'_>,
+    sink: &mut W,
+) -> Result<(), ProgramError>
+    ensures printed { OnOk result
+        (HasRangeRun start.now words.now (PrintsLine (W.contents sink.old) (W.contents sink.new))) }
+    ensures fails_with { IfErr result (HasErrorOfRange start.now words.now) }
+    ensures unchanged_on_error { IfErr result (λ error. error ≢ ProgramError.Output → sink.new ≡ sink.old) }
+    ensures failed { result ≡ Err ProgramError.Output → W.has_failed sink.new ≡ true }
+    ensures prefix { result ≡ Err ProgramError.Output →
+        HasRangeRun start.now words.now (PrintsLinePrefix (W.contents sink.old) (W.contents sink.new)) }
+{
+    let conversion = match parse_range(alloc, words) {
+        Ok(conversion) => conversion,
+        Err(why) => return Err(ProgramError::setup(Program::Fixdec, why)),
+    };
+    convert_range(alloc, &conversion, start, words.end.as_bytes(), sink)?;
+    sink.put_byte(b'\n')?;
+    Ok(())
+}
+
+fn print_run<W: Sink>(alloc: Global, words: &[String], sink: &mut W) -> Result<(), ProgramError>
+    ensures printed { OnOk result (Prints words.now (W.contents sink.old) (W.contents sink.new)) }
+    ensures fails_with { IfErr result (HasError words.now) }
+    ensures unchanged_on_error { IfErr result (λ error. error ≢ ProgramError.Output → sink.new ≡ sink.old) }
+    ensures failed { result ≡ Err ProgramError.Output → W.has_failed sink.new ≡ true }
+    ensures prefix { result ≡ Err ProgramError.Output →
+        PrintsPrefix words.now (W.contents sink.old) (W.contents sink.new) }
+{
+    let Some((text, others)) = words.split_first() else {
+        return Err(ProgramError::setup(Program::Fixdec, WordsError::NoText));
+    };
+    match range_words(others) {
+        None => print_text(alloc, text.as_bytes(), others, sink),
+        Some(range) => print_range(alloc, text.as_bytes(), &range, sink),
     }
 }
 
@@ -65,22 +116,23 @@ fn print<O: Write>(alloc: Global, words: &[String], out: &mut Out<O>) -> Result<
     ensures prefix { result ≡ Err ProgramError.Output →
         PrintsPrefix words.now (O.contents out.old.0) (O.contents out.new.0) }
 {
-    let (text, conversion) = parse_words(alloc, words)?;
-    print_line(alloc, &conversion, text, out)?;
+    print_run(alloc, words, out)?;
     out.flush()?;
     Ok(true)
 }
 
 /// Runs the program on the words after its name, and returns the exit status.
 ///
-/// The first word is the text, whatever it holds. The others are a `read:`, calls and a `format:`, as the text of
-/// `--help` has them. The words `250` and `shift:-2` print `2.50`.
+/// The first word is the text, whatever it holds. The others are a `to:`, a `read:`, calls and a `format:`, as the text
+/// of `--help` has them. The words `250` and `shift:-2` print `2.50`, and `3`, `to:5` and `format:de:currency/EUR`
+/// print `3,00–5,00 €`.
 ///
 /// # Errors
 ///
 /// The error is reported, once:
 ///
-/// - Status 1: the run fails with `start: syntax`, `call 7: overlap` and others of [`OperationError`].
+/// - Status 1: the run fails with `start: syntax`, `call 7: overlap` and others of [`OperationError`], or with `end:
+///   syntax`, `end: call 7: overlap` and others of [`RangeError`](conversions::RangeError).
 /// - Status 2: no text, a word that names nothing, or `unknown locale`.
 /// - Status 3: `memory`, or `output` where a write or the flush of `out` fails.
 pub fn program<O: Write, D: Diagnostics<ProgramError>>(

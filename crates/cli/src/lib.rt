@@ -10,7 +10,7 @@ pub mod plural;
 mod program;
 mod words;
 
-pub use conversions::{Conversion, OperationError, Reason, ShownWord, convert};
+pub use conversions::{Conversion, OperationError, RangeError, Reason, ShownWord, convert};
 pub use lines::edits::FieldConversion;
 pub use lines::fields::Field;
 pub use lines::filter::{Filter, Target};

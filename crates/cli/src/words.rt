@@ -4,4 +4,5 @@ pub mod columns;
 pub mod conversion;
 pub mod options;
 pub mod parameters;
+pub mod range;
 pub mod targets;

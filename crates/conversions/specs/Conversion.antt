@@ -66,6 +66,11 @@ WritingFails error formatter v = ⊥
 abbrev pub last_decimal : List Call → Result Decimal ReadError → Result Decimal OutcomeError
 last_decimal calls read = and_then (started read) (λ v. after_calls 0 v calls)
 
+-- the decimal after the calls on a text, or the first error
+abbrev pub IsLast : Option LocaleReader → List Call → List ℕ → Result Decimal OutcomeError → Type 0
+IsLast reader calls text last =
+    (read : Result Decimal ReadError) × IsReadBy reader text read × (last_decimal calls read ≡ last)
+
 -- the own text of a decimal, or the error before
 abbrev pub own_text : Result Decimal OutcomeError → Result (List ℕ) OutcomeError
 own_text last = and_then last (λ w. Ok (decimal_text w))
@@ -106,18 +111,29 @@ abbrev pub CallsNeedMemory : Decimal → List Call → Type 0
 CallsNeedMemory v calls =
     (why : CallError) × CallsFail INLINE_DIGITS why v calls × (error_of_run (run_error why) ≡ Memory)
 
--- the calls on a decimal, or formatting the last one, may need memory
-abbrev pub WorkNeedsMemory : Decimal → List Call → Option LocaleFormatter → Type 0
-WorkNeedsMemory v calls formatter =
-    CallsNeedMemory v calls
-    ⊎ ((last : Decimal) × (after_calls 0 v calls ≡ Ok last) × FormattingNeedsMemory formatter last)
+-- the error of a text or of a call on its decimal
+abbrev pub LastIsError : Option LocaleReader → List Call → List ℕ → OperationError → Type 0
+LastIsError reader calls text error =
+    (why : OutcomeError) × (error ≡ error_of (of_run why)) × IsLast reader calls text (Err why)
 
--- the error is that of the outcome; or out of memory, where reading or the work may need it; or a failed output of a
--- text
+-- reading a text, or the calls on its decimal, may need memory
+abbrev pub LastNeedsMemory : Option LocaleReader → List Call → List ℕ → Type 0
+LastNeedsMemory reader calls text =
+    ReadingByNeedsMemory reader text
+    ⊎ ((v : Decimal) × IsReadBy reader text (Ok v) × CallsNeedMemory v calls)
+
+-- reading a text, or the calls on its decimal, may fail with this error
+abbrev pub LastFails : OperationError → Option LocaleReader → List Call → List ℕ → Type 0
+LastFails Memory reader calls text = LastNeedsMemory reader calls text
+LastFails Output reader calls text = ⊥
+LastFails error reader calls text = LastIsError reader calls text error
+
+-- the error is that of the outcome; or out of memory, where reading, a call or formatting may need it; or a failed
+-- output of a text
 abbrev pub OperationsFail : OperationError → Conversion → List ℕ → Type 0
 OperationsFail Memory c text =
-    ReadingByNeedsMemory c.reader text
-    ⊎ ((v : Decimal) × IsReadBy c.reader text (Ok v) × WorkNeedsMemory v c.calls.items c.formatter)
+    LastNeedsMemory c.reader c.calls.items text
+    ⊎ ((v : Decimal) × IsLast c.reader c.calls.items text (Ok v) × FormattingNeedsMemory c.formatter v)
 OperationsFail Output c text = (written : List ℕ) × IsOutcome c text (Ok written)
 OperationsFail error c text = (why : ConversionError) × (error ≡ error_of why) × IsOutcome c text (Err why)
 

@@ -4,7 +4,8 @@ use Rattle.decimal_unsigned.specs.declared.error.ParseError.TheVariants as parse
 use Rattle.decimal_unsigned.specs.Reading.{ReadError, syntax, limit}
 use Rattle.fixed_decimal.specs.declared.runs.RunError.{RunError}
 use Rattle.fixed_decimal.specs.declared.runs.RunError.TheVariants as run
-use Rattle.conversions.specs.declared.error.{Reason.{Reason, TheVariants.{Syntax, Limit}}, OperationError.{OperationError, TheVariants.{Field, Quote, Start, Operand, Overlap, Overflow, FormatOverflow, Memory, Output}}}
+use Rattle.conversions.specs.declared.error.{Reason.{Reason, TheVariants.{Syntax, Limit}}, OperationError.{OperationError, TheVariants.{Field, Quote, Start, Operand, Overlap, Overflow, FormatOverflow, Memory, Output}}, RangeError.RangeError}
+use Rattle.conversions.specs.declared.error.RangeError.TheVariants as range
 
 -- an error of a run as an error of a conversion
 abbrev pub error_of_run : RunError → OperationError
@@ -31,6 +32,11 @@ status_of_operation (Overflow at) = 1
 status_of_operation FormatOverflow = 1
 status_of_operation Memory = 3
 status_of_operation Output = 3
+
+-- the status of an error of a range
+abbrev pub status_of_range : RangeError → ℕ
+status_of_range (range.Operation error) = status_of_operation error
+status_of_range (range.End error) = status_of_operation error
 
 -- a reason as an error of the libraries
 abbrev pub read_error_of : Reason → ReadError

@@ -1,5 +1,5 @@
 -- The formatter that `format:LOCALE[:GROUPING|:SKELETON]` names.
-use Rattle.std.specs.{Prelude.{◌≡◌, ◌≢◌, ◌⊎◌, ℕ, ◌-◌, ⊤, if◌then◌else◌, List, [], ◌∷◌, ◌++◌, take, drop, codes, Option, Some, None, IsSome, Ok, Err}, Str.is_utf8}
+use Rattle.std.specs.{Prelude.{◌≡◌, ◌≢◌, ◌⊎◌, ℕ, ◌-◌, ⊤, if◌then◌else◌, List, [], ◌∷◌, take, drop, codes, Option, Some, None, IsSome, Ok, Err}, Str.is_utf8}
 use Rattle.decimal_format.specs.declared.grouping.GroupingStrategy.{GroupingStrategy, TheVariants.{Auto, Never, Always, Min2}}
 use Rattle.locale_data.specs.Locales.{IsLocale, IsUnknown}
 use Rattle.number_format.specs.{declared.{format.{ids.NumberFormatError.NumberFormatError, formatter.NumberFormatter.NumberFormatter}, options.NumberOptions.NumberOptions}, Formatters.{IsFormatter, IsFormatterError}}
@@ -7,10 +7,6 @@ use Rattle.number_format.specs.declared.format.ids.NumberFormatError.TheVariants
 use Rattle.number_skeleton.specs.{declared.error.SkeletonError.SkeletonError, Meaning.{skeleton_options, options_value}}
 use Rattle.number_skeleton.specs.declared.error.SkeletonError.TheVariants as skeleton
 use Rattle.conversions.specs.{declared.{error.FormError.{FormError, TheVariants.{NoSuchWord, UnknownLocale, SkeletonSyntax, SkeletonUnsupported}}, locale_formatter.LocaleFormatter.{LocaleFormatter, TheVariants.{AllDigits, Skeleton}}}, Parameters.{lookup, locale_tag, locale_option}, ShownWord.IsShown}
-
--- the word is `format:` and a text
-abbrev pub IsFormatWord : List ℕ → Type 0
-IsFormatWord word = (text : List ℕ) × (word ≡ codes "format:" ++ text)
 
 -- ---- Options.
 

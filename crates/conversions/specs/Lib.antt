@@ -6,6 +6,9 @@ pub mod FormatWord
 pub mod Lines
 pub mod NamedRules
 pub mod Parameters
+pub mod RangeConversion
+pub mod RangeText
+pub mod RangeWord
 pub mod ReadWord
 pub mod Reader
 pub mod ShownWord

@@ -1,5 +1,5 @@
 -- The parameters of a word, after its first colon: the tag of a locale, and an option after a colon; or a number.
-use Rattle.std.specs.{Prelude.{◌∷◌, ◌≡◌, ℕ, ℤ, pos, neg_ℤ, ◌==◌, ◌&&◌, Bool, nat_le, nat_lt, if◌then◌else◌, List, [], ◌++◌, length, drop, slice_index, Option, Some, None, option_map, unwrap_or}, List.{list_any, before_first, after_first}, Str.{all_ascii_digits, bytes_eq, Parse.digits_value}}
+use Rattle.std.specs.{Prelude.{◌∷◌, ℕ, ℤ, pos, neg_ℤ, ◌==◌, ◌&&◌, Bool, nat_le, nat_lt, if◌then◌else◌, List, [], length, drop, slice_index, Option, Some, None, option_map, unwrap_or}, List.{list_any, before_first, after_first}, Str.{all_ascii_digits, bytes_eq, Parse.digits_value}}
 use Rattle.decimal_digits.specs.Ascii.{minus_sign}
 
 abbrev pub is_colon : ℕ → Bool
@@ -48,7 +48,3 @@ number bytes =
     if slice_index bytes 0 == minus_sign
     then option_map (λ n. neg_ℤ (pos n)) (digits_up_to 32768 (drop 1 bytes))
     else option_map pos (digits_up_to 32767 bytes)
-
--- a name with its colon, and then this number
-abbrev pub HasNumber : List ℕ → List ℕ → ℤ → Type 0
-HasNumber name word n = (digits : List ℕ) × (word ≡ name ++ digits) × (number digits ≡ Some n)

@@ -1,12 +1,8 @@
 -- The reader that `read:LOCALE[:lenient][:SKELETON]` names.
-use Rattle.std.specs.{Prelude.{◌≡◌, ◌≢◌, ◌⊎◌, ℕ, ⊤, if◌then◌else◌, List, [], ◌++◌, codes, Option, Some, None}, Str.bytes_eq}
+use Rattle.std.specs.{Prelude.{◌≡◌, ◌≢◌, ◌⊎◌, ℕ, ⊤, if◌then◌else◌, List, [], codes, Option, Some, None}, Str.bytes_eq}
 use Rattle.locale_data.specs.Locales.{IsLocale}
 use Rattle.number_format.specs.{declared.{format.formatter.NumberFormatter.NumberFormatter, read.number_reader.ParseMode.{ParseMode, TheVariants.{Strict, Lenient}}}, NumberReading.{CanRead, NumberReader, number_reader_of}}
 use Rattle.conversions.specs.{declared.{error.FormError.{FormError, TheVariants.{NoSuchWord, NoReader, Memory}}, reader.LocaleReader.{LocaleReader, TheVariants.{Decimals, Numbers}}}, FormatWord.{IsNumberFormatter, NumberFormatterFails, IsUnknownLocale}, Parameters.{tag_of, option_of, locale_tag, locale_option}, ShownWord.IsShown}
-
--- the word is `read:` and a text
-abbrev pub IsReadWord : List ℕ → Type 0
-IsReadWord word = (text : List ℕ) × (word ≡ codes "read:" ++ text)
 
 -- the mode and the skeleton of an option: `lenient`, `lenient:SKELETON`, or `SKELETON`
 abbrev pub read_option : Option (List ℕ) → ParseMode × Option (List ℕ)

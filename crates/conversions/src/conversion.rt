@@ -1,7 +1,7 @@
 //! Conversions: a text is read, calls are made on its decimal, and the text of the result is written.
 ghost use Rattle.std.specs.{Prelude.{◌≡◌, ◌≢◌, Ok, Err, true, IfOk, IfErr, OnOk, OnErr}, Io.KnownBytes.Appends};
 ghost use Rattle.decimal_digits.specs.AppendsPrefix.{AppendsPrefix};
-ghost use Rattle.conversions.specs.Conversion.{IsReadBy, ReadingByFails, HasTextBy, WritingFails, HasOutcome, OperationsFail, is_plain};
+ghost use Rattle.conversions.specs.Conversion.{IsReadBy, ReadingByFails, HasTextBy, WritingFails, HasOutcome, OperationsFail, IsLast, LastFails, is_plain};
 
 use crate::error::OperationError;
 use crate::locale_formatter::{LocaleFormatter, write_number, write_text};
@@ -33,23 +33,48 @@ impl<'a> Drop for Conversion<'a> {
     }
 }
 
+#[inline]
+fn read(
+    alloc: Global,
+    reader: &Option<LocaleReader<'_>>,
+    text: &[u8],
+) -> Result<Decimal, ParseError>
+    ensures found { IfOk result (λ v. IsReadBy reader.now text.now (Ok v)) }
+    ensures fails_with { IfErr result (ReadingByFails reader.now text.now) }
+{
+    match reader {
+        Some(reader) => reader.read(alloc, text),
+        None => Decimal::try_from_utf8(alloc, text),
+    }
+}
+
+/// Reads a text, and makes calls on its decimal.
+#[inline]
+pub(crate) fn converted(
+    alloc: Global,
+    reader: &Option<LocaleReader<'_>>,
+    calls: &[Call<'_>],
+    text: &[u8],
+) -> Result<Decimal, OperationError>
+    ensures last { IfOk result (λ v. IsLast reader.now calls.now text.now (Ok v)) }
+    ensures fails_with { IfErr result (λ error. LastFails error reader.now calls.now text.now) }
+{
+    let mut value = match read(alloc, reader, text) {
+        Ok(value) => value,
+        Err(error) => return Err(OperationError::from(RunError::Start(error))),
+    };
+    if let Err(error) = apply_calls(alloc, &mut value, calls) {
+        return Err(OperationError::from(RunError::from(error)));
+    }
+    Ok(value)
+}
+
 impl Conversion<'_> {
     #[inline]
     fn is_plain(&self) -> bool
         ensures { result ≡ is_plain self.now }
     {
         self.reader.is_none() && self.formatter.is_none()
-    }
-
-    #[inline]
-    fn read(&self, alloc: Global, text: &[u8]) -> Result<Decimal, ParseError>
-        ensures found { IfOk result (λ v. IsReadBy self.now.reader text.now (Ok v)) }
-        ensures fails_with { IfErr result (ReadingByFails self.now.reader text.now) }
-    {
-        match &self.reader {
-            Some(reader) => reader.read(alloc, text),
-            None => Decimal::try_from_utf8(alloc, text),
-        }
     }
 
     fn write<W: Sink>(
@@ -92,14 +117,10 @@ impl Conversion<'_> {
         ensures prefix { result ≡ Err OperationError.Output → HasOutcome self.now text.now
             (AppendsPrefix (W.contents sink.old) (W.contents sink.new)) }
     {
-        let mut value = match self.read(alloc, text) {
-            Ok(value) => value,
-            Err(error) => return Err(OperationError::from(RunError::Start(error))),
-        };
-        if let Err(error) = apply_calls(alloc, &mut value, self.calls.as_slice()) {
-            return Err(OperationError::from(RunError::from(error)));
+        match converted(alloc, &self.reader, self.calls.as_slice(), text) {
+            Ok(value) => self.write(alloc, value, sink),
+            Err(error) => Err(error),
         }
-        self.write(alloc, value, sink)
     }
 }
 

@@ -1,9 +1,10 @@
 //! The errors of words that name forms, and of conversions.
 ghost use Rattle.std.specs.Prelude.{◌≡◌, ◌<◌, ◌≤◌};
-ghost use Rattle.conversions.specs.Error.{status_of_operation};
+ghost use Rattle.conversions.specs.Error.{status_of_operation, status_of_range};
 
 use crate::shown_word::ShownWord;
 use fixed_decimal::{ParseError, RunError, SinkFault};
+use std::{error, fmt};
 use thiserror::Error;
 
 /// Why a word names no reader and no formatter: of `format:xx` it is `UnknownLocale`.
@@ -65,6 +66,15 @@ pub enum OperationError {
     /// A write or the flush of the output failed.
     #[error("output")]
     Output,
+}
+
+/// The error of a range of two texts. The same calls are made on both numbers.
+#[derive(Clone, Copy, Debug, PartialEq)]
+pub enum RangeError {
+    /// The error of the start, of the text of the range, or of the output; or out of memory.
+    Operation(OperationError),
+    /// The text of the end is rejected, or a call on its number fails.
+    End(OperationError),
 }
 
 impl OperationError {
@@ -132,3 +142,28 @@ impl From<SinkFault> for OperationError {
         OperationError::Output
     }
 }
+
+impl RangeError {
+    /// Returns the exit status.
+    pub fn status(&self) -> u8
+        ensures status { result ≡ status_of_range self.now }
+        ensures positive { 0 < result }
+        ensures at_most { result ≤ 3 }
+    {
+        match self {
+            RangeError::Operation(error) | RangeError::End(error) => error.status(),
+        }
+    }
+}
+
+impl fmt::Display for RangeError {
+    fn fmt<W: fmt::Write>(&self, f: &mut fmt::Formatter<W>) -> fmt::Result {
+        match self {
+            RangeError::Operation(error) => write!(f, "{error}"),
+            RangeError::End(OperationError::Start(reason)) => write!(f, "end: {reason}"),
+            RangeError::End(error) => write!(f, "end: {error}"),
+        }
+    }
+}
+
+impl error::Error for RangeError {}

@@ -1,8 +1,8 @@
 //! The formatter that `format:LOCALE[:GROUPING|:SKELETON]` names.
-ghost use Rattle.std.specs.{Prelude.{◌≡◌, IfOk, IfErr, true, false}, Option.option_copied};
+ghost use Rattle.std.specs.{Prelude.{◌≡◌, IfOk, IfErr}, Option.option_copied};
 ghost use Rattle.decimal_format.specs.declared.grouping.GroupingStrategy.{GroupingStrategy};
 ghost use Rattle.locale_data.specs.Locales.{IsLocale};
-ghost use Rattle.conversions.specs.{FormatWord.{strategy_of, stem_bytes, IsErrorOfSkeleton, IsErrorOfFormatter, IsNumberFormatter, NumberFormatterFails, IsUnknownLocale, IsFormatWord, NamesFormatter, FormatterFails}, ShownWord.IsShown};
+ghost use Rattle.conversions.specs.{FormatWord.{strategy_of, stem_bytes, IsErrorOfSkeleton, IsErrorOfFormatter, IsNumberFormatter, NumberFormatterFails, IsUnknownLocale, NamesFormatter, FormatterFails}, ShownWord.IsShown};
 
 use crate::error::FormError;
 use crate::locale_formatter::LocaleFormatter;
@@ -13,14 +13,6 @@ use locale_data::locale;
 use number_format::{NumberFormatError, NumberFormatter};
 use number_skeleton::SkeletonError;
 use std::str;
-
-/// Returns whether a word begins with `format:`.
-pub fn is_format_word(word: &str) -> bool
-    ensures yes { result ≡ true → IsFormatWord word.now }
-    ensures no { result ≡ false → ¬ IsFormatWord word.now }
-{
-    word.strip_prefix("format:").is_some()
-}
 
 /// Parses the option of `format:` as a grouping strategy.
 pub fn parse_strategy(option: Option<&str>) -> Option<GroupingStrategy>
@@ -47,7 +39,7 @@ fn shown_stem(skeleton: &str, start: usize, end: usize) -> ShownWord
     }
 }
 
-fn error_of_skeleton(skeleton: &str, error: SkeletonError) -> FormError
+pub(crate) fn error_of_skeleton(skeleton: &str, error: SkeletonError) -> FormError
     ensures { IsErrorOfSkeleton skeleton.now error result }
 {
     match error {
@@ -58,7 +50,7 @@ fn error_of_skeleton(skeleton: &str, error: SkeletonError) -> FormError
     }
 }
 
-fn error_of_formatter(tag: &str, error: NumberFormatError) -> FormError
+pub(crate) fn error_of_formatter(tag: &str, error: NumberFormatError) -> FormError
     ensures { IsErrorOfFormatter tag.now error result }
 {
     match error {

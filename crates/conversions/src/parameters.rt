@@ -1,6 +1,6 @@
 //! The parameters of a word, after its first colon, and numbers.
-ghost use Rattle.std.specs.{Prelude.{◌≡◌, ℤ, IfSome, Some}, Option.option_copied};
-ghost use Rattle.conversions.specs.Parameters.{tag_of, option_of, parameters_of, number, HasNumber};
+ghost use Rattle.std.specs.{Prelude.◌≡◌, Option.option_copied};
+ghost use Rattle.conversions.specs.Parameters.{tag_of, option_of, parameters_of, number};
 
 /// Splits a text at its first colon.
 pub fn split_parameters(parameters: &str) -> (&str, Option<&str>)
@@ -32,12 +32,4 @@ pub fn number(word: &str) -> Option<i16>
         return None;
     }
     word.parse().ok()
-}
-
-/// Parses the number after a prefix.
-pub fn number_after(prefix: &str, word: &str) -> Option<i16>
-    ensures some { IfSome result (HasNumber prefix.now word.now) }
-    ensures only { (n : ℤ) → HasNumber prefix.now word.now n → result ≡ Some n }
-{
-    number(word.strip_prefix(prefix)?)
 }

@@ -1,8 +1,8 @@
 //! The reader that `read:LOCALE[:lenient][:SKELETON]` names.
-ghost use Rattle.std.specs.{Prelude.{◌≡◌, IfOk, IfErr, true, false}, Option.option_copied};
+ghost use Rattle.std.specs.{Prelude.{◌≡◌, IfOk, IfErr}, Option.option_copied};
 ghost use Rattle.locale_data.specs.Locales.{IsLocale};
 ghost use Rattle.number_format.specs.NumberReading.{CanRead, number_reader_of};
-ghost use Rattle.conversions.specs.{FormatWord.IsUnknownLocale, ReadWord.{read_option, IsErrorOfReader, IsNumberReader, SkeletonReaderFails, IsReadWord, NamesReader, ReaderFails}};
+ghost use Rattle.conversions.specs.{FormatWord.IsUnknownLocale, ReadWord.{read_option, IsErrorOfReader, IsNumberReader, SkeletonReaderFails, NamesReader, ReaderFails}};
 
 use crate::error::FormError;
 use crate::format_word::number_formatter;
@@ -12,14 +12,6 @@ use crate::shown_word::ShownWord;
 use locale_data::locale;
 use number_format::{NumberFormatter, NumberReader, NumberReaderError, ParseMode};
 use std::alloc::Global;
-
-/// Returns whether a word begins with `read:`.
-pub fn is_read_word(word: &str) -> bool
-    ensures yes { result ≡ true → IsReadWord word.now }
-    ensures no { result ≡ false → ¬ IsReadWord word.now }
-{
-    word.strip_prefix("read:").is_some()
-}
 
 /// Splits the option of `read:` into the mode and the skeleton.
 pub fn split_mode(option: Option<&str>) -> (ParseMode, Option<&str>)

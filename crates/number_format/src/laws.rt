@@ -120,8 +120,8 @@ pub fn scientific_texts_read_back()
         → (result ≡ shifted e (Ok (record { sign = Sign.None; absolute = v }))) ⊎ (result ≡ Err ParseError.Memory) }
 {}
 
-/// The same between the texts of a pattern reads as that number with the sign of the pattern, times 10^shift: `-1.20E3%`
-/// as -12.00.
+/// The same between the texts of a pattern reads as that number with the sign of the pattern, times 10^shift:
+/// `-1.20E3%` as -12.00.
 pub fn affixed_exponents_read_back()
     ensures { (inline : ℕ) (r : Reader) (f : ExponentForm) (g : GroupingStrategy) (p : NumberPattern) (v : Unsigned)
         (e : ℤ) (result : Result Decimal ParseError) → Contains r.patterns p → CanReadExponent r.symbols f → IsValue v

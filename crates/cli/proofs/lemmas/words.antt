@@ -1,1 +1,2 @@
 pub mod CallWords
+pub mod WordsFails

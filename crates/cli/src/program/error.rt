@@ -3,7 +3,7 @@ ghost use Rattle.std.specs.Prelude.{◌≡◌, ◌<◌, ◌≤◌};
 ghost use Rattle.cli.specs.Error.{status_of_words, status_of_header, status_of, is_output, setup_error};
 
 use crate::program::help::Program;
-use conversions::{FormError, NamedRulesError, OperationError, Reason, ShownWord};
+use conversions::{FormError, NamedRulesError, OperationError, RangeError, Reason, ShownWord};
 use fixed_decimal::SinkFault;
 use plural_rules::RulesError;
 use std::{error, fmt};
@@ -208,6 +208,9 @@ pub enum ProgramError {
     /// The conversion of the text fails.
     #[error(transparent)]
     Operation(OperationError),
+    /// The conversion of the range fails.
+    #[error(transparent)]
+    Range(RangeError),
     /// The conversion of this line fails.
     #[error("line {line}: {error}")]
     Line { line: u64, error: LineError },
@@ -259,6 +262,7 @@ impl ProgramError {
         match self {
             ProgramError::Setup(error) => error.why.status(),
             ProgramError::Operation(error) => error.status(),
+            ProgramError::Range(error) => error.status(),
             ProgramError::Line { error, .. } => error.error.status(),
             ProgramError::Header(error) => error.status(),
             ProgramError::Rules { .. } | ProgramError::Text { .. } => 1,
@@ -276,6 +280,19 @@ impl From<OperationError> for ProgramError {
         match error {
             OperationError::Output => ProgramError::Output,
             error => ProgramError::Operation(error),
+        }
+    }
+}
+
+impl From<RangeError> for ProgramError {
+    ghost use Rattle.cli.specs.Error.{range_error};
+
+    ghost from_gives = { λ error result. result ≡ range_error error };
+
+    fn from(error: RangeError) -> ProgramError {
+        match error {
+            RangeError::Operation(OperationError::Output) => ProgramError::Output,
+            error => ProgramError::Range(error),
         }
     }
 }

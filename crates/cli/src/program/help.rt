@@ -35,15 +35,18 @@ const PLURAL: &str = "usage: plural RULES TEXT..";
 const TEXT: &str = "
 
 All words: TEXT [read:LOCALE[:lenient][:SKELETON]] [CALL].. [format:LOCALE[:GROUPING|:SKELETON]]
-Reads TEXT as a decimal, makes the calls in order, and writes the result and a line feed.
+   or: TEXT to:END [read:LOCALE[:lenient][:SKELETON]] [CALL].. format:LOCALE[:GROUPING|:SKELETON]
+Reads TEXT as a decimal, makes the calls in order, and writes the result and a line feed. With to:END it reads
+END in the same way, makes the same calls on it, and writes the range from TEXT to END.
 
 fixdec 250 shift:-2                              2.50
 fixdec 1.234,565 read:de round:-2:half-even:1    1234.56
 fixdec '$7.50' read:en:currency/USD              7.50
 fixdec 1234567.5 format:en-IN                    12,34,567.5
 fixdec 1234567 format:en:K                       1.2M
+fixdec 3 to:5 format:ko                          3~5
 
-Status 0: the result is on standard output. 1: TEXT or a call is rejected. 2: a word is wrong. 3: out of
+Status 0: the result is on standard output. 1: TEXT, END or a call is rejected. 2: a word is wrong. 3: out of
 memory, or the output fails. Errors are lines of standard error; call 0 is the first call.
 ";
 

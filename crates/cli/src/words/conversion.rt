@@ -8,7 +8,7 @@ use crate::words::parameters::has_name;
 use conversions::{Conversion, parse_formatter, parse_reader};
 use std::alloc::Global;
 
-fn split_read(words: &[String]) -> (Option<&str>, &[String])
+pub(super) fn split_read(words: &[String]) -> (Option<&str>, &[String])
     ensures { (option_copied result.0, result.1.now) ≡ split_read words.now }
 {
     let Some((first, rest)) = words.split_first() else {
@@ -21,7 +21,7 @@ fn split_read(words: &[String]) -> (Option<&str>, &[String])
     (None, words)
 }
 
-fn split_format(words: &[String]) -> (Option<&str>, &[String])
+pub(super) fn split_format(words: &[String]) -> (Option<&str>, &[String])
     ensures { (option_copied result.0, result.1.now) ≡ split_format words.now }
 {
     let Some((last, rest)) = words.split_last() else {

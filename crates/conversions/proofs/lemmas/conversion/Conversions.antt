@@ -1,51 +1,80 @@
 -- The outcome of a conversion, and its errors.
-use Rattle.std.proofs.{Common.{◌≡◌, ◌&&◌, ℕ, List, Option, Some, None, Result, Ok, Err, true, inl, inr, refl, sym, ap, ◌∙◌, subst, arith}, lemmas.{Bool.false≢true, Result.IfErr-weaker}}
+use Rattle.std.proofs.{Common.{◌≡◌, ◌≢◌, ◌&&◌, ℕ, List, Option, Some, None, Result, Ok, Err, true, inl, inr, refl, sym, ap, ◌∙◌, subst, arith}, lemmas.{Bool.false≢true, Result.IfErr-weaker}}
 use Rattle.std.specs.{Prelude.{IfErr, OnErr, IsOk, IsOkAnd}, Option.is_none}
 use Rattle.decimal_unsigned.specs.{declared.{error.ParseError.ParseError, decimal.TheConstants.INLINE_DIGITS}, Reading.{ReadError, syntax, limit}}
 use Rattle.decimal_unsigned.specs.declared.error.ParseError.TheVariants as parse
 use Rattle.fixed_decimal.specs.{Decimal.Decimal, DecimalText.read_decimal, Calls.CallsFail, Errors.{RunFails, run_error}, Outcome.{OutcomeError, after_calls, outcome, start}, declared.runs.{Call.Call, CallError.CallError, RunError.{RunError, TheVariants.{Start, Operand, Memory, Sink}}}}
 use Rattle.fixed_decimal.specs.declared.runs.CallError.TheVariants as call
-use Rattle.conversions.specs.{declared.{conversion.Conversion.Conversion, locale_formatter.LocaleFormatter.LocaleFormatter, reader.LocaleReader.LocaleReader, error.OperationError.OperationError}, Error.{error_of_run, status_of_operation}, Conversion.{IsReadBy, ReadingByFails, ReadingByNeedsMemory, ConversionError, of_run, format_overflow, IsOutcome, HasOutcome, OperationsFail, IsRunFormatted, error_of, own_text, last_decimal, IsFormatted, WritingFails, HasTextBy, IsTextBy, is_plain}}
+use Rattle.conversions.specs.{declared.{conversion.Conversion.Conversion, locale_formatter.LocaleFormatter.LocaleFormatter, reader.LocaleReader.LocaleReader, error.OperationError.OperationError}, Error.{error_of_run, status_of_operation}, Conversion.{IsReadBy, ReadingByFails, ReadingByNeedsMemory, ConversionError, of_run, format_overflow, FormattingNeedsMemory, IsLast, LastIsError, LastFails, IsOutcome, HasOutcome, OperationsFail, IsRunFormatted, error_of, own_text, last_decimal, IsFormatted, WritingFails, HasTextBy, IsTextBy, is_plain}}
 use Rattle.conversions.specs.declared.error.OperationError.TheVariants as operation
 
-module _ (c : Conversion) (text : List ℕ) where
-  -- ---- The errors of the parts.
+-- ---- The decimal after the calls.
 
+module _ (reader : Option LocaleReader) (calls : List Call) (text : List ℕ) where
   -- an error of reading
   pub reading_fails :
-      (why : ParseError) → ReadingByFails c.reader text why → OperationsFail (error_of_run (Start why)) c text
-  reading_fails parse.Syntax h = (of_run (start syntax), refl, record { read = Err syntax; is_read = h; is = refl })
-  reading_fails parse.Limit h = (of_run (start limit), refl, record { read = Err limit; is_read = h; is = refl })
+      (why : ParseError) → ReadingByFails reader text why → LastFails (error_of_run (Start why)) reader calls text
+  reading_fails parse.Syntax h = (start syntax, refl, (Err syntax, h, refl))
+  reading_fails parse.Limit h = (start limit, refl, (Err limit, h, refl))
   reading_fails parse.Memory h = inl h
 
-  module _ (v : Decimal) (read : IsReadBy c.reader text (Ok v)) where
-    -- an outcome of the calls
-    pub read_outcome :
-        (r : Result Decimal OutcomeError) (result : Result (List ℕ) ConversionError) → after_calls 0 v c.calls.items ≡ r
-        → IsFormatted c.formatter r result → IsOutcome c text result
-    read_outcome r result e is =
-        record { read = Ok v; is_read = read; is = subst (λ last. IsFormatted c.formatter last result) (sym e) is }
+  -- an error of the calls
+  pub calls_fail :
+      (v : Decimal) → IsReadBy reader text (Ok v) → (why : CallError) → CallsFail INLINE_DIGITS why v calls
+      → LastFails (error_of_run (run_error why)) reader calls text
+  calls_fail v read (call.Operand at parse.Memory) h = inr (v, read, (call.Operand at parse.Memory, h, refl))
+  calls_fail v read (call.Memory at) h = inr (v, read, (call.Memory at, h, refl))
+  calls_fail v read why h = (_, refl, (Ok v, read, h))
 
-    -- an error of the calls
-    pub calls_fail :
-        (why : CallError) → CallsFail INLINE_DIGITS why v c.calls.items
-        → OperationsFail (error_of_run (run_error why)) c text
-    calls_fail (call.Operand at parse.Memory) h = inr (v, read, inl (call.Operand at parse.Memory, h, refl))
-    calls_fail (call.Memory at) h = inr (v, read, inl (call.Memory at, h, refl))
-    calls_fail why h = (_, refl, read_outcome (Err _) (Err (of_run _)) h refl)
+  -- out of memory and a failed output are no errors of a text
+  pub last_is_error :
+      (error : OperationError) → error ≢ operation.Memory → LastFails error reader calls text
+      → LastIsError reader calls text error
+  last_is_error operation.Memory other h = absurd (other refl)
+  last_is_error operation.Output other h = absurd h
+  last_is_error error other h = h
 
-    module _ (last : Decimal) (is : after_calls 0 v c.calls.items ≡ Ok last) where
-      -- an error of writing
-      pub writing_fails : (error : OperationError) → WritingFails error c.formatter last → OperationsFail error c text
-      writing_fails operation.FormatOverflow h =
-          (format_overflow, refl, read_outcome (Ok last) (Err format_overflow) is h)
-      writing_fails operation.Memory h = inr (v, read, inr (last, is, h))
-      writing_fails operation.Output (written, h) = (written, read_outcome (Ok last) (Ok written) is h)
-      writing_fails error h = absurd h
+-- ---- The outcome.
 
-      -- what holds of the text that is written
-      pub written_outcome : (P : List ℕ → Type 0) → HasTextBy c.formatter last P → HasOutcome c text P
-      written_outcome P (written, h, holds) = (written, read_outcome (Ok last) (Ok written) is h, holds)
+module _ (c : Conversion) (text : List ℕ) where
+  is_error_fails :
+      (error : OperationError) → LastIsError c.reader c.calls.items text error
+      → (why : ConversionError) × (error ≡ error_of why) × IsOutcome c text (Err why)
+  is_error_fails error (why, e, (read, is_read, last)) = (
+    of_run why,
+    e,
+    record {
+      read = read;
+      is_read = is_read;
+      is = subst (λ l. IsFormatted c.formatter l (Err (of_run why))) (sym last) refl;
+    },
+  )
+
+  -- an error before the text is written
+  pub last_fails :
+      (error : OperationError) → LastFails error c.reader c.calls.items text → OperationsFail error c text
+  last_fails operation.Memory h = inl h
+  last_fails operation.Output h = absurd h
+  last_fails error h = is_error_fails error h
+
+  module _ (v : Decimal) (last : IsLast c.reader c.calls.items text (Ok v)) where
+    last_outcome : (result : Result (List ℕ) ConversionError) → IsTextBy c.formatter v result → IsOutcome c text result
+    last_outcome result is = record {
+      read = last.0;
+      is_read = last.1;
+      is = subst (λ l. IsFormatted c.formatter l result) (sym last.2) is;
+    }
+
+    -- an error of writing
+    pub writing_fails : (error : OperationError) → WritingFails error c.formatter v → OperationsFail error c text
+    writing_fails operation.FormatOverflow h = (format_overflow, refl, last_outcome (Err format_overflow) h)
+    writing_fails operation.Memory h = inr (v, last, h)
+    writing_fails operation.Output (written, h) = (written, last_outcome (Ok written) h)
+    writing_fails error h = absurd h
+
+    -- what holds of the text that is written
+    pub written_outcome : (P : List ℕ → Type 0) → HasTextBy c.formatter v P → HasOutcome c text P
+    written_outcome P (written, h, holds) = (written, last_outcome (Ok written) h, holds)
 
 -- ---- The text of a value, written.
 
@@ -138,7 +167,7 @@ module _ (c : Conversion) (text : List ℕ) (plain : is_plain c ≡ true) where
       → IsOkAnd r (λ first. CallsFail INLINE_DIGITS why first c.calls.items) → OperationsFail operation.Memory c text
   memory_fails why same (Ok v) e h =
       let (reader, formatter) = no_forms c.reader c.formatter plain in
-      inr (v, subst (λ r. IsReadBy r text (Ok v)) (sym reader) (sym e), inl (why, h, same))
+      inl (inr (v, subst (λ r. IsReadBy r text (Ok v)) (sym reader) (sym e), (why, h, same)))
   memory_fails why same (Err fault) e h = absurd h
 
   output_of : (o : Result (List ℕ) OutcomeError) → outcome text c.calls.items ≡ o → IsOk o
@@ -151,7 +180,7 @@ module _ (c : Conversion) (text : List ℕ) (plain : is_plain c ≡ true) where
       (why : RunError) → RunFails INLINE_DIGITS why text c.calls.items → OperationsFail (error_of_run why) c text
   run_fails (Start parse.Memory) h =
       let (reader, formatter) = no_forms c.reader c.formatter plain in
-      inl (subst (λ r. ReadingByNeedsMemory r text) (sym reader) h)
+      inl (inl (subst (λ r. ReadingByNeedsMemory r text) (sym reader) h))
   run_fails (Operand at parse.Memory) h = memory_fails (call.Operand at parse.Memory) refl (read_decimal text) refl h
   run_fails (Memory at) h = memory_fails (call.Memory at) refl (read_decimal text) refl h
   run_fails Sink h = output_of (outcome text c.calls.items) refl h
