@@ -75,8 +75,12 @@ exponent_shown b o v s plain all few is =
             | inl some ↦
                 let more = le-mul_of_pos_right m (ten_pos (unsigned_abs (base_exponent notation m))) in
                 let up = first_raised notation m below (raises b (first m)) in
-                absurd (omega (arith, nothing, stays_above_0 notation o v.sign n plain (ordered b) below t made.1
-                (omega (arith, some, more)) up))
+                absurd (omega (
+                  arith,
+                  nothing,
+                  stays_above_0 notation o v.sign n plain (ordered b) below t made.1
+                      (omega (arith, some, more)) up,
+                ))
             | inr h ↦ omega (arith, h)
           ] in
           let base : base_exponent notation m ≡ pos 0 = ap (base_exponent notation) start ∙ base_of_0 b in

@@ -145,8 +145,9 @@ module _ (ids : FormatterIds) (o : NumberOptions) (f : NumberFormatter) (form : 
       let here : IsScientificNumeral s form (body w y valid' q) v_as =
       subst (λ l. IsScientificNumeral s form l v_as) one.1 (is_numeral v x valid p) in
       let there = is_numeral w y valid' q in
-      let significand = one_significand s can.readable form keeps.1.separator (body w y valid' q) v_as w_as here there in
-      let exponent = one_exponent s can.readable form keeps.1.separator (body w y valid' q) v_as w_as here there in
+      let text' = body w y valid' q in
+      let significand = one_significand s can.readable form keeps.1.separator text' v_as w_as here there in
+      let exponent = one_exponent s can.readable form keeps.1.separator text' v_as w_as here there in
       let absolute : x.absolute ≡ y.absolute =
       value_is v x valid p ∙ ap value_of significand ∙ sym (value_is w y valid' q) in (
         (λ i. record { sign = sym one.0 i; absolute = absolute i }),

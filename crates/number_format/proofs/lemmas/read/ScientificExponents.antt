@@ -27,7 +27,8 @@ module _ (s : Symbols) where
       sym (append-nil (digits_text s (λ _. false) (d ∷ ds))) ∙ digits_text-first s (λ _. false) d ds []
       ∙ ap (λ l. digit_text s d ++ l) (append-nil (digits_text s (λ _. false) ds))
 
-  pub digits_begin : (ds : List ℕ) → 0 < length ds → AllBelowBase 10 ds → BeginsWithDigit s (digits_text s (λ _. false) ds)
+  pub digits_begin : (ds : List ℕ) → 0 < length ds → AllBelowBase 10 ds
+      → BeginsWithDigit s (digits_text s (λ _. false) ds)
   digits_begin [] some all = absurd (omega (arith, some))
   digits_begin (d ∷ ds) some all = record {
     digit = d;
