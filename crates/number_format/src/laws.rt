@@ -130,8 +130,8 @@ pub fn affixed_exponents_read_back()
 {}
 
 /// What a formatter writes of a value with an exponent is read back by its reader as the number that is shown times the
-/// power of ten, with the scale undone. The number is rounded and has the sign that is written. The result is `Limit` if
-/// a digit that is written is below 10^-32768: the zero of `70E-32769`.
+/// power of ten, with the scale undone. The number is rounded and has the sign that is written. The result is `Limit`
+/// if a digit that is written is below 10^-32768: the zero of `70E-32769`.
 pub fn formatted_exponents_read_back()
     ensures { (inline : ℕ) (ids : FormatterIds) (o : NumberOptions) (f : NumberFormatter) (form : ExponentForm)
         (v u : Decimal) (text : List ℕ) (result : Result Decimal ParseError) → IsFormatterAt ids o f
