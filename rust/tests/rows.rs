@@ -486,7 +486,9 @@ fn errors_of_number_formats() {
         assert_eq!(format!("{:?}", Unit::try_from_str(name).unwrap()), name);
     }
     let speed = NumberFormat::new("en", &unit("kilometer-per-hour")).unwrap();
-    assert_eq!(speed.read("5 km/h"), Err(NumberReadError::Unreadable));
+    assert_eq!(speed.read("5 km/h"), Ok(decimal("5")));
+    let days = NumberFormat::new("ar", &unit("day").with_unit_display(UnitDisplay::Long)).unwrap();
+    assert_eq!(days.read("5"), Err(NumberReadError::Unreadable));
     let parts = NumberFormat::new("en", &unit("celsius")).unwrap().parts(&decimal("5")).unwrap();
     assert_eq!(parts.iter().collect::<Vec<_>>(), [(PartKind::Integer, "5"), (PartKind::Unit, "°C")]);
     assert_ne!(plain.with_numbering_system("arab".parse().unwrap()), plain);
