@@ -64,10 +64,10 @@ typedef enum fd_status {
     FD_SKELETON_SYNTAX = 16, /* the text is no skeleton, or not UTF-8, from byte `at` on; or it is outside the texts */
     FD_SKELETON_UNSUPPORTED = 17,    /* the library has no such option as the stem at byte `at` of the skeleton */
     FD_UNKNOWN_NUMBERING_SYSTEM = 18, /* no numbering system is known by the name in the options */
-    FD_UNREADABLE_FORMAT = 19, /* the numbers of the options are not read: they have words of compact notation, or a
-                                  text of the unit has no number; or an exponent whose minus sign is not written, or
-                                  beside a unit or a name of a currency, an increment with an exponent, or integer
-                                  digits that are cut off before one; or two have the same text */
+    FD_UNREADABLE_FORMAT = 19, /* the numbers of the options are not read: they have words of compact notation, two have
+                                  the same text, or a text of the unit has no number. With an exponent also: its minus
+                                  sign is not written, a unit or a name of a currency is, numbers are rounded to an
+                                  increment, or integer digits are cut off */
     FD_DIGIT_OPTIONS = 20,     /* the numbers of digits are those of no format, by the fd_digit_reason at */
     FD_NO_SKELETON = 21,       /* no skeleton has these options */
     FD_FORMATTER = 22,         /* the bytes are no fd_formatter */
