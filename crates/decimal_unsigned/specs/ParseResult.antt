@@ -18,8 +18,8 @@ abbrev pub IsParseResult : {V : Type 0} → (V → Type 0) → Result V ParseErr
 IsParseResult allocates (Ok v) reading = reading ≡ Ok v
 IsParseResult allocates (Err e) reading = ParseFails (IsOkAnd reading allocates) e reading
 
--- the result by the grammar: `Syntax` exactly if the text has no parts, `Limit` exactly if the parts are beyond the
--- limits, and `Ok` only with the value of the parts
+-- the result by the grammar: `Syntax` exactly if the text has no parts, `Limit` exactly if a digit that the parts show
+-- is beyond the limits, and `Ok` only with the value of the parts
 pub record ResultFollowsGrammar (text : List ℕ) (answer : Result Unsigned ParseError) : Type 0 where
   pub syntax : (answer ≡ Err Syntax) ↔ ((w : Literal) → ¬ Grammar text w)
   pub limit : (answer ≡ Err Limit) ↔ ((w : Literal) × Grammar text w × (value_of w ≡ Err limit))

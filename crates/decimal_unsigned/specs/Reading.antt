@@ -12,7 +12,8 @@ use Rattle.decimal_unsigned.specs.Grammar.{Literal, Grammar}
 
 -- ---- The value of the parts.
 
--- why a text has no value: it is not in the grammar, or the value is beyond the limits
+-- why a text has no value: it is not in the grammar; or a digit that it shows, a leading zero too, is beyond the
+-- limits
 pub data ReadError : Type 0 where
   syntax : ReadError
   limit : ReadError
