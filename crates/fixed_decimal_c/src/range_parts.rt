@@ -151,7 +151,7 @@ fn write_range_parts(
 {
     match formatter.format_range(alloc, texts, start, end) {
         Ok(range) => write_parts(&range, buffer, parts),
-        Err(failed) => (NO_COUNTS, Err(error_of_range(alloc, formatter, failed))),
+        Err(failed) => (NO_COUNTS, Err(error_of_range(&failed))),
     }
 }
 

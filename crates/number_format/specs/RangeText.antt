@@ -1,14 +1,15 @@
 -- The text of a range of two numbers, as `1–2 days`: that of ECMA-402's formatRange. Which texts both numbers have in
 -- common ECMA-402 leaves open, and it is as ICU has it.
-use Rattle.std.specs.{Prelude.{◌≡◌, ℕ, ◌+◌, ◌/◌, ◌==◌, nat_lt, Bool, true, false, not, ◌||◌, ◌&&◌, if◌then◌else◌, List, [], ◌∷◌, ◌++◌, count_by, Option, Some, None, ℤ, pos}, Str.bytes_eq, Ordering.int_eq}
-use Rattle.decimal_unsigned.specs.Unsigned.{Unsigned, same}
-use Rattle.fixed_decimal.specs.{Decimal.{Decimal, signed_number}, declared.variations.Sign.Sign}
+use Rattle.std.specs.{Prelude.{◌≡◌, ℕ, ◌+◌, ◌/◌, ◌==◌, nat_lt, Bool, true, false, not, ◌||◌, ◌&&◌, if◌then◌else◌, ◌⊎◌, IsSome, List, [], ◌∷◌, ◌++◌, count_by, Option, Some, None, ℤ, pos}, Str.bytes_eq, Ordering.int_eq}
+use Rattle.decimal_digits.specs.declared.rounding.RoundError.{RoundError}
+use Rattle.decimal_unsigned.specs.{Unsigned.{Unsigned, same}, declared.decimal.TheConstants.INLINE_DIGITS}
+use Rattle.fixed_decimal.specs.{Decimal.{Decimal, signed_number}, DecimalText.IsLong, declared.variations.Sign.Sign}
 use Rattle.decimal_format.specs.Symbols.{affixes}
 use Rattle.plural_rules.specs.Operands as operands
 use Rattle.plural_rules.specs.declared.rules.PluralCategory.{PluralCategory}
 use Rattle.locale_data.specs.{declared.tables.rows.{compact.{AffixText.AffixText, CompactForm.{CompactForm, TheVariants.SignLast}, CompactPattern.CompactPattern}, patterns.{AffixPair.AffixPair, Pattern.Pattern, Piece.Piece}, ranges.{ApproximatelySign.ApproximatelySign, RangeFormat.RangeFormat, RangeSeparator.{RangeSeparator, TheVariants.{SpacedHyphen, SpacedEnDash}}}}, Patterns.affixes_of, PluralRanges.plural_range_category, Plurals.IsCategoryAt}
 use Rattle.locale_data.specs.RangeFormats as range_texts
-use Rattle.number_format.specs.{declared.{format.{affixes.StyleTexts.StyleTexts, formatter.NumberFormatter.NumberFormatter, text_part.PartKind.PartKind}, options.NumberNotation.NumberNotation, range.{common.BareTexts.BareTexts, form.RangeForm.{RangeForm, TheVariants.{Approximate, Common, Apart}}, range_texts.RangeTexts.RangeTexts}}, NumberStyles.{begins_with_currency, ends_with_currency}, NumberText.{around_by, compact_magnitude, compact_pattern, compact_pieces, compact_prefix, compact_style, compact_suffix, currency_if, exponent_of, first_sign, has_number, is_negative, is_one, is_plain, last_sign, number_part, outer_by, outer_operands, shown_number, shown_sign}, PatternTexts.{Around, around, affix_pieces, literal, pattern_pieces, sign_pieces, space_if, within}, Scaled.ScaledValue, TextParts.{pieces_of, pieces_text}}
+use Rattle.number_format.specs.{declared.{format.{affixes.StyleTexts.StyleTexts, formatter.NumberFormatter.NumberFormatter, text_part.PartKind.PartKind}, options.NumberNotation.NumberNotation, range.{common.BareTexts.BareTexts, form.RangeForm.{RangeForm, TheVariants.{Approximate, Common, Apart}}, range_texts.RangeTexts.RangeTexts}}, NumberStyles.{begins_with_currency, ends_with_currency}, NumberText.{around_by, compact_magnitude, compact_pattern, compact_pieces, compact_prefix, compact_style, compact_suffix, currency_if, exponent_of, first_sign, has_number, is_negative, is_one, is_plain, last_sign, number_part, outer_by, outer_operands, shown_number, shown_sign, FormattingNeedsMemory}, PatternTexts.{Around, around, affix_pieces, literal, pattern_pieces, sign_pieces, space_if, within}, Scaled.ScaledValue, TextParts.{pieces_of, pieces_text}}
 use Rattle.number_format.specs.TextParts as parts
 
 -- ---- The ends.
@@ -86,7 +87,7 @@ bare_texts n = texts_of (bare_around n.formatter.style n.sign n.pattern)
 abbrev pub both_or_neither : Bool → Bool → Bool
 both_or_neither a b = if a then b else not b
 
--- the prefixes are equal, the suffixes are equal, and both stand around a number or both instead of one
+-- the prefixes are equal, the suffixes are equal, and a number is between both, or between neither
 abbrev pub are_same_texts : BareTexts → BareTexts → Bool
 are_same_texts a b =
     bytes_eq a.affixes.prefix b.affixes.prefix
@@ -327,3 +328,13 @@ pub record IsRange (f : NumberFormatter) (t : RangeTexts) (v w : Decimal) (r : S
 -- the text of the range of two numbers
 abbrev pub IsRangeText : NumberFormatter → RangeTexts → Decimal → Decimal → List ℕ → Type 0
 IsRangeText f t v w text = (r : ShownRange) × IsRange f t v w r × (text ≡ text_of_pieces (range_pieces r))
+
+-- ---- Errors.
+
+-- why the range of two numbers is not formatted: the start is shown beyond the limits, or needs memory, or its copy does;
+-- or the start is shown, and the end is not formatted
+abbrev pub RangeFormattingFails : NumberFormatter → Decimal → Decimal → Bool → RoundError → Type 0
+RangeFormattingFails f v w false RoundError.Limit = shown_number f v ≡ None
+RangeFormattingFails f v w false RoundError.Memory = IsLong INLINE_DIGITS v ⊎ FormattingNeedsMemory f v
+RangeFormattingFails f v w true RoundError.Limit = IsSome (shown_number f v) × (shown_number f w ≡ None)
+RangeFormattingFails f v w true RoundError.Memory = IsSome (shown_number f v) × FormattingNeedsMemory f w

@@ -1,8 +1,6 @@
 //! Formatting of a range of two numbers.
-ghost use Rattle.std.specs.Prelude.{◌≡◌, ◌⊎◌, None, IfOk, IfErr};
-ghost use Rattle.decimal_unsigned.specs.declared.decimal.TheConstants.{INLINE_DIGITS};
-ghost use Rattle.fixed_decimal.specs.DecimalText.{IsLong};
-ghost use Rattle.number_format.specs.{FormattedRanges.{IsFormattedEnd, end_of, formatted_range_text, shown_range}, NumberText.{shown_number, is_negative, FormattingNeedsMemory}, RangeText.{are_equal, have_same_sign, range_by, range_category, IsRange, IsRangeText}};
+ghost use Rattle.std.specs.Prelude.{◌≡◌, None, IfOk, IfErr};
+ghost use Rattle.number_format.specs.{FormattedRanges.{IsFormattedEnd, end_of, formatted_range_text, shown_range}, NumberText.{shown_number, is_negative, FormattingNeedsMemory}, RangeText.{are_equal, have_same_sign, range_by, range_category, IsRange, IsRangeText, RangeFormattingFails}};
 
 use crate::format::format_number::FormatError;
 use crate::format::formatted_number::{FormattedNumber, displayed_sign};
@@ -23,6 +21,8 @@ use std::alloc::Global;
 pub struct RangeFormatError {
     /// The error.
     pub error: RoundError,
+    /// Whether it is of the second number; the first one can be formatted.
+    pub at_end: bool,
     /// The first number.
     pub start: Decimal,
     /// The second number.
@@ -125,8 +125,8 @@ impl NumberFormatter {
     ///
     /// # Errors
     ///
-    /// Both numbers, unchanged, and the error of [`format`](Self::format) of one of them. The first number is formatted
-    /// first. It is copied before: `Memory` is also for a copy of more than `INLINE_DIGITS` digits.
+    /// Both numbers, unchanged, and the error of [`format`](Self::format) of the first number, or else of the second one.
+    /// The first number is copied before: `Memory` is also for a copy of more than `INLINE_DIGITS` digits.
     ///
     /// ```
     /// let formatter = NumberFormatter::for_ranges("en", options)?;
@@ -143,15 +143,15 @@ impl NumberFormatter {
         ensures range { IfOk result (λ r. IsRange self.now texts.now start end (shown_range r)) }
         ensures text { IfOk result (λ r. IsRangeText self.now texts.now start end (formatted_range_text r)) }
         ensures unchanged { IfErr result (λ e. (e.start ≡ start) × (e.end ≡ end)) }
-        ensures limit { IfErr result (λ e. e.error ≡ RoundError.Limit
-            → (shown_number self.now start ≡ None) ⊎ (shown_number self.now end ≡ None)) }
-        ensures memory { IfErr result (λ e. e.error ≡ RoundError.Memory
-            → IsLong INLINE_DIGITS start ⊎ (FormattingNeedsMemory self.now start
-            ⊎ FormattingNeedsMemory self.now end)) }
+        ensures fails { IfErr result (λ e. RangeFormattingFails self.now start end e.at_end e.error) }
     {
         let Ok(kept) = start.clone() else {
-            let error = RoundError::Memory;
-            return Err(RangeFormatError { error, start, end });
+            return Err(RangeFormatError {
+                error: RoundError::Memory,
+                at_end: false,
+                start,
+                end,
+            });
         };
         let equal = are_equal(&start, &end);
         let same_sign = have_same_sign(&start, &end);
@@ -160,6 +160,7 @@ impl NumberFormatter {
             Err(FormatError { error, value }) => {
                 return Err(RangeFormatError {
                     error,
+                    at_end: false,
                     start: value,
                     end,
                 });
@@ -170,6 +171,7 @@ impl NumberFormatter {
             Err(FormatError { error, value }) => {
                 return Err(RangeFormatError {
                     error,
+                    at_end: true,
                     start: kept,
                     end: value,
                 });
