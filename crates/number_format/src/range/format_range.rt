@@ -1,11 +1,11 @@
 //! Formatting of a range of two numbers.
 ghost use Rattle.std.specs.Prelude.{◌≡◌, None, IfOk, IfErr};
-ghost use Rattle.number_format.specs.{FormattedRanges.{IsFormattedEnd, end_of, formatted_range_text, shown_range}, NumberText.{shown_number, is_negative, FormattingNeedsMemory}, RangeText.{are_equal, have_same_sign, range_by, range_category, IsRange, IsRangeText, RangeFormattingFails}};
+ghost use Rattle.number_format.specs.{FormattedRanges.{IsFormattedEnd, end_of, formatted_range_text, shown_range}, NumberText.{shown_number, is_negative, FormattingNeedsMemory}, RangeText.{are_equal, have_same_sign, needs_spaces, range_by, range_category, IsRange, IsRangeText, RangeFormattingFails}};
 
 use crate::format::format_number::FormatError;
 use crate::format::formatted_number::{FormattedNumber, displayed_sign};
 use crate::format::formatter::NumberFormatter;
-use crate::range::common::are_both_or_neither;
+use crate::range::common::{BareTexts, are_both_or_neither};
 use crate::range::form::{RangeForm, form_by, needs_spaces};
 use crate::range::formatted_range::FormattedRange;
 use crate::range::range_texts::RangeTexts;
@@ -64,13 +64,14 @@ fn range_category(
 fn range_by<'f>(
     texts: &RangeTexts<'_>,
     form: RangeForm,
+    spaced: bool,
     mut start: FormattedNumber<'f>,
     end: FormattedNumber<'f>,
 ) -> FormattedRange<'f>
+    requires { spaced ≡ needs_spaces form (end_of start) }
     ensures { shown_range result ≡ range_by texts.now form (end_of start.entry) (end_of end.entry)
         start.entry.whole end.entry.whole }
 {
-    let spaced = needs_spaces(form, &start);
     start.whole = range_category(texts.tag, form, start.whole, end.whole);
     FormattedRange {
         start,
@@ -177,7 +178,9 @@ impl NumberFormatter {
                 });
             }
         };
-        let form = form_by(equal, same_sign, &first, &second);
-        Ok(range_by(texts, form, first, second))
+        let around = BareTexts::of(&first);
+        let form = form_by(&around, equal, same_sign, &first, &second);
+        let spaced = needs_spaces(form, &around, &first);
+        Ok(range_by(texts, form, spaced, first, second))
     }
 }
