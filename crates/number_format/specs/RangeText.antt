@@ -301,8 +301,8 @@ IsRangeText f t v w text = (r : ShownRange) × IsRange f t v w r × (text ≡ te
 
 -- ---- Errors.
 
--- why the range of two numbers is not formatted: the start is shown beyond the limits, or needs memory, or its copy does;
--- or the start is shown, and the end is not formatted
+-- why the range of two numbers is not formatted, by an error of the start or of the end: the number is shown beyond the
+-- limits; or it needs memory, or a copy of the start does. By an error of the end the start is within the limits
 abbrev pub RangeFormattingFails : NumberFormatter → Decimal → Decimal → Bool → RoundError → Type 0
 RangeFormattingFails f v w false RoundError.Limit = shown_number f v ≡ None
 RangeFormattingFails f v w false RoundError.Memory = IsLong INLINE_DIGITS v ⊎ FormattingNeedsMemory f v

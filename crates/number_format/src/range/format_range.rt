@@ -21,7 +21,7 @@ use std::alloc::Global;
 pub struct RangeFormatError {
     /// The error.
     pub error: RoundError,
-    /// Whether it is of the second number; the first one can be formatted.
+    /// Whether it is the error of the second number. If it is not, the second number may have one too.
     pub at_end: bool,
     /// The first number.
     pub start: Decimal,
@@ -126,8 +126,8 @@ impl NumberFormatter {
     ///
     /// # Errors
     ///
-    /// Both numbers, unchanged, and the error of [`format`](Self::format) of the first number, or else of the second one.
-    /// The first number is copied before: `Memory` is also for a copy of more than `INLINE_DIGITS` digits.
+    /// Both numbers, unchanged, and the error of [`format`](Self::format) of the first one, or else of the second one. The
+    /// first number is copied before: `Memory` is also for a copy of more than `INLINE_DIGITS` digits.
     ///
     /// ```
     /// let formatter = NumberFormatter::for_ranges("en", options)?;
