@@ -1,7 +1,7 @@
 #!/usr/bin/env bash
 # All tests: the gate, and then side by side the built programs as a shell runs them, failing allocations, interrupted
-# writes, the C library, Rust and Dask, setting up, the guide, installs, releases, manual pages, the documents, and the
-# modules. A script that has not ended after half an hour fails, and an interrupt ends all of them. The last lines are
+# writes, the C library, rows of numbers in locales, Rust and Dask, setting up, the guide, installs, releases, manual pages,
+# the documents, and the modules. A script that has not ended after half an hour fails, and an interrupt ends all of them. The last lines are
 # `not run: ..` for each thing that is missing here, and `N passed, M failed`; the status is 0 if M is 0.
 set -u
 unset CDPATH
@@ -52,7 +52,7 @@ count 'the gate' $status "$room/log"
 # The scripts take what `rt ci` has just built, and nothing else. Those that take longest begin.
 export BUILT_BY_GATE=1
 scripts=(tests/{c,postgresql,end_to_end,installs,setting_up,guide,releases,dask,hosts,manuals,allocation_failures}.sh
-  tests/interrupted_writes.sh
+  tests/{interrupted_writes.sh,rows.py}
   tools/check_{documents,modules}.py)
 started=()
 for script in "${scripts[@]}"; do

@@ -37,10 +37,7 @@ try 'the test of formatters compiles' compile formatter formatter_plain -O1
 try 'formatters that are kept, and any bytes as one' "$room/formatter_plain"
 try 'the same with sanitizers' compile formatter formatter_asan -O1 -fsanitize=address,undefined -fno-sanitize-recover=all
 try 'formatters, sanitizers' "$room/formatter_asan"
-try 'the texts of node compile' compile format_vectors format_vectors -O1 -fsanitize=address,undefined -fno-sanitize-recover=all
-{ awk -F '\t' 'NF == 4' crates/vectors/rows/node_{numbers,units}.tsv; cat c/tests/ranges.tsv; } > "$room/texts"
-"$room/format_vectors" < "$room/texts" > "$room/log" 2>&1
-judge $? "node's texts, by one formatter a locale and options: $(tail -n 1 "$room/log")"
+try 'options and their skeletons' python3 tests/skeleton_options.py 5000
 if command -v valgrind > /dev/null; then
   try 'valgrind' valgrind -q --error-exitcode=9 --leak-check=full --show-leak-kinds=all "$room/test_plain"
   try 'formatters, valgrind' valgrind -q --error-exitcode=9 --leak-check=full --show-leak-kinds=all "$room/formatter_plain"

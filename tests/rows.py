@@ -1,5 +1,5 @@
 #!/usr/bin/env python3
-"""Checks rows of numbers in locales against the C library: `tests/rows.py [--icu] [FILE..]`, by default tests/rows/*.tsv.
+"""Checks rows of numbers in locales against the C library: `tests/rows.py [FILE..]`, by default tests/rows/*.tsv.
 
 A row has fields with tabs between them. Blank lines, and lines that start with `# `, are not rows.
 
@@ -22,15 +22,11 @@ Each row of a file wrong.tsv has to fail. Of options that are rejected the numbe
 texts `0*3` after a space is `000`; in skeletons `«@*3»` is `@@@`, and `␉`, `␊` and `␍` are a tab, a line feed and a
 carriage return.
 
-With `--icu` the files are what ICU says of skeletons: rows of a locale, a skeleton, a number and its text, perhaps with a
-word and the text of CLDR 48; of a skeleton, ICU's error and its offset in UTF-16 units; or of a skeleton and its normal
-form, which has to write the same. `\\uXXXX` and `\\{TEXT*COUNT}` are a UTF-16 unit and repetitions. Counted by themselves
-are stems that are not supported, by name, and rows with an error of ICU that is not one of syntax, as of numbers with
-more digits than it rounds.
+`node tools/locales/node.js vectors` writes rows of decimals and categories for all locales, by the node that is
+installed, which has to be node 20 for the texts of CLDR 48.
 
 The last line is `N passed, M failed`; the status is 0 if M is 0.
 """
-import collections
 import ctypes
 import functools
 import glob

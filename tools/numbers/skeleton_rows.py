@@ -1,7 +1,7 @@
 #!/usr/bin/env python3
-"""Writes rows of `vectors`: skeletons, and the options or the error that ICU has for each.
+"""Writes rows of tests/rows: skeletons, and the options or the error that ICU has for each.
 
-    python3 tools/numbers/skeleton_rows.py SKELETONS MODEL UNITS > crates/vectors/rows/icu_skeletons.tsv
+    python3 tools/numbers/skeleton_rows.py SKELETONS MODEL UNITS > tests/rows/icu_skeletons.tsv
 
 SKELETONS has `skeleton_errors.tsv` and `normal.tsv`, which ICU wrote, `readings.tsv`, and `skeleton.py`, a reader that says
 a skeleton in the options of ECMA-402; MODEL has its tables. UNITS has `skeleton_units_errors.tsv`, `normal_units.tsv` and
@@ -40,7 +40,7 @@ def rows(path):
 
 
 def escaped(text):
-    """A skeleton of a row as `vectors` reads it: only `\\\\{TEXT*COUNT}` stays short."""
+    """A skeleton of a row as tests/rows.py reads it: only `\\\\{TEXT*COUNT}` stays short."""
     def one(match):
         code = match.group(0)
         if code[1] == "u":
