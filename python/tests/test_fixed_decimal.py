@@ -428,10 +428,12 @@ def test_examples():
 
 def test_options():
     """The rows of `Intl.NumberFormat` in the tests of numbers: options, a number and its text in a locale."""
-    rows = os.path.join(os.path.dirname(os.path.abspath(__file__)), "../../crates/vectors/stdin")
-    with open(rows, encoding="utf-8") as file:
-        rows = [row for line in file if len(row := line.rstrip("\n").split("\t")) == 4
-                and ("=" in row[1] or not row[1]) and not re.search(r"[*]|\b(?:check|scale|integer|fraction)=", line)]
+    rows = []
+    for name in ("numbers", "node_numbers", "node_systems", "node_units"):
+        home = os.path.dirname(os.path.abspath(__file__))
+        with open(os.path.join(home, "../../tests/rows", f"{name}.tsv"), encoding="utf-8") as file:
+            rows += [row for line in file if len(row := line.rstrip("\n").split("\t")) == 4
+                     and not re.search(r"[*]|\b(?:check|scale|integer|fraction)=", line)]
     check(len(rows) > 7000, len(rows))
     plain = 0
     for locale, words, number, text in rows:

@@ -1,8 +1,8 @@
 //! Checks what the programs write, and their statuses; and skeletons that options are printed as.
 //!
-//! Each line of standard input is a row. One of two fields, with a tab between them, is of a skeleton, as `tests/rows.py`
-//! says: the options of the skeleton have to be printed as one. All others have six fields; empty last ones may be left
-//! out:
+//! Each line of standard input is a row. One of two fields, with a tab between them, is of a skeleton, as
+//! `tests/rows.py` says: the options of the skeleton have to be printed as one. All others have six fields; empty last
+//! ones may be left out:
 //!
 //! 1. `fixdec`, `lines` (`fixdec_lines`) or `plural`, and after a blank perhaps what fails: `read` (each read after the
 //!    input), `memory` (the same, out of memory), `flush` (of a closed pipe), `no-words` (out of memory) or `not-utf8`.

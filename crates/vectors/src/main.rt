@@ -1,11 +1,11 @@
 //! Checks test vectors over every store of digits: texts, calls, and their expected results.
 //!
-//! Each line of standard input is a row of fields with ` | ` between them. Blank lines, and lines that start with `#` and
-//! have no tab, are not rows. Each row that fails is printed with its line number; the last line counts the rows.
+//! Each line of standard input is a row of fields with ` | ` between them. Blank lines, and lines that start with `#`
+//! and have no tab, are not rows. Each row that fails is printed with its line number; the last line counts the rows.
 //!
-//! The rows are in `rows/`, in a file for each kind. The file `stdin` has all of them. To add a row, write it into a file
-//! of `rows/`, run `cat crates/vectors/rows/* > crates/vectors/stdin`, and raise the count in `stdout`. Rows of numbers in
-//! locales are in `tests/rows`, and `tests/rows.py` checks them.
+//! The rows are in `rows/`, in a file for each kind. The file `stdin` has all of them. To add a row, write it into a
+//! file of `rows/`, run `cat crates/vectors/rows/* > crates/vectors/stdin`, and raise the count in `stdout`. Rows of
+//! numbers in locales are in `tests/rows`, and `tests/rows.py` checks them.
 //!
 //! ```text
 //! unsigned | TEXT | RESULT                  TEXT is read as a value that prints RESULT, or fails with
