@@ -491,12 +491,15 @@ def check(name, line, index, failures):
 
 
 def main(names):
-    passed, failures = 0, []
+    count, failures = 0, []
     for name in names:
         with open(name, encoding="utf-8", newline="\n") as file:
-            passed += sum(check(name, line, index, failures) for index, line in enumerate(file, 1))
+            found = sum(check(name, line, index, failures) for index, line in enumerate(file, 1))
+        if found == 0:
+            sys.exit(f"{name} has no rows")
+        count += found
     print("\n".join(failures[:20]))
-    print(f"{passed - len(failures)} passed, {len(failures)} failed")
+    print(f"{count - len(failures)} passed, {len(failures)} failed")
     return len(failures) > 0
 
 
