@@ -3,7 +3,7 @@ use Rattle.std.specs.{Prelude.{◌≡◌, ℕ, ◌==◌, Bool, true, false, ◌�
 use Rattle.fixed_decimal.specs.declared.variations.SignDisplay.{SignDisplay}
 use Rattle.decimal_format.specs.{Symbols.Symbols, declared.grouping.{GroupingSizes.GroupingSizes, GroupingStrategy.GroupingStrategy}}
 use Rattle.locale_data.specs.{declared.{compact.CompactStyle.CompactStyle, currency.{CurrencyId.CurrencyId, CurrencyPattern.CurrencyPattern, CurrencySign.CurrencySign}, local_currency.{CurrencyDigits.CurrencyDigits, LocalCurrency.LocalCurrency}, locales.LocaleId.LocaleId, tables.{formats.TheConstants.{PATTERNS, NUMBER_SIGNS}, rows.patterns.{NumberSigns.NumberSigns, Pattern.Pattern}}, number_formats.NumberFormats.NumberFormats, plurals.PluralRuleType.TheVariants.Cardinal}, Compact.AreExponents, Currencies.{currency_with, digits_of, IsCurrencyId, IsCurrencyAt, IsCurrencyPattern, LacksCurrency}, Formats.AreFormatsOf, Locales.{symbols_at, system_named, system_name_at, AreRowsOf, IsLocale, IsLocaleIn, IsUnknown}, Patterns.{separator_text, exponent_text}, Plurals.{rules_text_at, IsRulesText, HasNoRules}}
-use Rattle.number_format.specs.{declared.{digits.options.DigitOptions.DigitOptions, notation.Notation.Notation, format.{outer.OuterTexts.OuterTexts, ids.{FormatterIds.FormatterIds, NumberFormatError.NumberFormatError}, formatter.NumberFormatter.NumberFormatter, currency.ShownCurrency.ShownCurrency}, options.{CurrencyStyle.CurrencyStyle, DecimalSeparatorDisplay.DecimalSeparatorDisplay, NumberNotation.NumberNotation, NumberOptions.NumberOptions, NumberStyle.NumberStyle}}, DefaultDigits.AreDefaultDigits, NumberStyles.{plain_pattern, money_pattern, percent_text, percent_kind, in_system, outer_for, AreOuterTexts, AreOuterTextsOfRanges, IsShownBy, IsShownCurrency}, NumberText.compact_style}
+use Rattle.number_format.specs.{declared.{digits.options.DigitOptions.DigitOptions, notation.Notation.Notation, format.{outer.OuterTexts.OuterTexts, ids.{FormatterIds.FormatterIds, NumberFormatError.NumberFormatError}, formatter.NumberFormatter.NumberFormatter, currency.ShownCurrency.ShownCurrency}, options.{CurrencyStyle.CurrencyStyle, DecimalSeparatorDisplay.DecimalSeparatorDisplay, NumberNotation.NumberNotation, NumberOptions.NumberOptions, NumberStyle.NumberStyle}}, DefaultDigits.AreDefaultDigits, NumberStyles.{plain_pattern, money_pattern, percent_text, percent_kind, in_system, outer_for, outer_alone, AreOuterTexts, IsShownBy, IsShownCurrency}, NumberText.compact_style}
 
 -- ---- What options say by themselves.
 
@@ -114,8 +114,9 @@ abbrev pub IsCurrencyBy : Option CurrencyId → Option LocalCurrency → Type 0
 IsCurrencyBy None currency = currency ≡ None
 IsCurrencyBy (Some id) currency = IsSomeAnd currency (IsCurrencyAt id)
 
--- the formatter that rows and options make
-pub record IsFormatterAt (ids : FormatterIds) (o : NumberOptions) (f : NumberFormatter) : Type 0 where
+-- the formatter that rows, texts around the whole text and options make
+pub record IsFormatterWith (ids : FormatterIds) (texts : OuterTexts) (o : NumberOptions) (f : NumberFormatter)
+    : Type 0 where
   pub own : Symbols
   pub system : List ℕ
   pub currency : Option LocalCurrency
@@ -124,7 +125,14 @@ pub record IsFormatterAt (ids : FormatterIds) (o : NumberOptions) (f : NumberFor
   pub currency_is : IsCurrencyBy ids.currency currency
   pub formats : f.formats ≡ ids.formats
   pub rules : f.rules ≡ ids.rules
-  pub made : IsFormatterBy own system currency ids.outer o f
+  pub made : IsFormatterBy own system currency texts o f
+
+-- that of one number, and that of ranges
+abbrev pub IsFormatterAt : FormatterIds → NumberOptions → NumberFormatter → Type 0
+IsFormatterAt ids o = IsFormatterWith ids (outer_alone o.style o.notation ids.outer) o
+
+abbrev pub IsRangeFormatterAt : FormatterIds → NumberOptions → NumberFormatter → Type 0
+IsRangeFormatterAt ids = IsFormatterWith ids ids.outer
 
 -- a table has no such row
 abbrev pub LacksRows : FormatterIds → Type 0
@@ -154,13 +162,6 @@ pub record AreIdsOf (tag : List ℕ) (o : NumberOptions) (ids : FormatterIds) : 
   pub currency : IsCurrencyRow tag o.style ids.currency
   pub outer : AreOuterTexts tag o.style o.notation ids.outer
 
--- those for ranges: what is around the whole text may be another
-pub record AreRangeIdsOf (tag : List ℕ) (o : NumberOptions) (ids : FormatterIds) : Type 0 where
-  pub single : FormatterIds
-  pub single_are : AreIdsOf tag o single
-  pub others : ids ≡ record single { outer = ids.outer }
-  pub outer : AreOuterTextsOfRanges tag o.style o.notation ids.outer
-
 -- ---- The formatter of a tag.
 
 -- the formatter of the rows of a known tag
@@ -169,11 +170,11 @@ pub record IsFormatter (tag : List ℕ) (o : NumberOptions) (f : NumberFormatter
   pub ids_are : AreIdsOf tag o ids
   pub at : IsFormatterAt ids o f
 
--- that for ranges
+-- that of ranges
 pub record IsRangeFormatter (tag : List ℕ) (o : NumberOptions) (f : NumberFormatter) : Type 0 where
   pub ids : FormatterIds
-  pub ids_are : AreRangeIdsOf tag o ids
-  pub at : IsFormatterAt ids o f
+  pub ids_are : AreIdsOf tag o ids
+  pub at : IsRangeFormatterAt ids o f
 
 -- the tag is unknown, or has no plural rules, which each listed locale has; or the tag is known, and the numbering
 -- system of the options is not listed

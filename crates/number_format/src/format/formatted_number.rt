@@ -157,7 +157,7 @@ impl<'f> FormattedNumber<'f> {
         }
     }
 
-    fn affixes(&self) -> NumberAffixes<'_>
+    pub(crate) fn affixes(&self) -> NumberAffixes<'_>
         ensures parts { AreParts (around_of self.now) result }
         ensures text { parts_text result.prefix ++ (number_text_if self.now result.has_number
             ++ parts_text result.suffix) ≡ inner_text self.now }
@@ -283,7 +283,11 @@ impl<'f> FormattedNumber<'f> {
         write_parts(&affixes.suffix, sink)
     }
 
-    fn write_inner_if<W: Sink>(&self, has_number: bool, sink: &mut W) -> Result<(), SinkFault>
+    pub(crate) fn write_inner_if<W: Sink>(
+        &self,
+        has_number: bool,
+        sink: &mut W,
+    ) -> Result<(), SinkFault>
         ensures ok { OnOk result
             (Appends (W.contents sink.old) (W.contents sink.new) (inner_text_if self.now has_number)) }
         ensures err { OnErr result
@@ -310,7 +314,7 @@ impl<'f> FormattedNumber<'f> {
         write_parts(&outer.after, sink)
     }
 
-    fn fmt_inner_if<W: fmt::Write>(
+    pub(crate) fn fmt_inner_if<W: fmt::Write>(
         &self,
         has_number: bool,
         f: &mut fmt::Formatter<W>,
@@ -343,7 +347,7 @@ impl<'f> FormattedNumber<'f> {
         }
     }
 
-    fn inner_length(&self) -> usize
+    pub(crate) fn inner_length(&self) -> usize
         ensures value { result ≡ length (inner_text self.now) }
         ensures at_most { result ≤ 17240100 }
     {
@@ -536,7 +540,11 @@ impl<'f> FormattedNumber<'f> {
         put_parts(sink, &affixes.suffix)
     }
 
-    fn put_inner_if<P: PartSink>(&self, has_number: bool, sink: &mut P) -> Result<(), SinkFault>
+    pub(crate) fn put_inner_if<P: PartSink>(
+        &self,
+        has_number: bool,
+        sink: &mut P,
+    ) -> Result<(), SinkFault>
         ensures ok { OnOk result (Puts (P.pieces sink.old) (P.pieces sink.new) (inner_pieces_if self.now has_number)) }
         ensures err { OnErr result
             (PutsPrefix (P.pieces sink.old) (P.pieces sink.new) (inner_pieces_if self.now has_number)) }

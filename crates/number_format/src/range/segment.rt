@@ -1,60 +1,38 @@
 //! Segments of the text of a range.
-ghost use Rattle.std.specs.{Prelude.{◌≡◌, ◌≤◌, [], ◌∷◌, length, OnOk, OnErr, true, false, if◌then◌else◌}, Fmt.WritesStyledOnOk, Io.KnownBytes.Appends};
+ghost use Rattle.std.specs.{Prelude.{◌≡◌, ◌≤◌, ◌++◌, length, OnOk, OnErr, true, false}, Fmt.WritesStyledOnOk, Io.KnownBytes.Appends};
 ghost use Rattle.decimal_digits.specs.AppendsPrefix.{AppendsPrefix};
-ghost use Rattle.number_format.specs.{FormattedNumbers.number_pieces_if, FormattedRanges.{end_of, inner_pieces, inner_text, outer_pieces, outer_text, segment_pieces, segment_text}, PatternTexts.{literal, within}, RangeText.{end_around, end_number, has_spaces, pieces_if, separator_pieces}, TextParts.{part_pieces, parts_pieces, parts_text, Puts, PutsPrefix}};
+ghost use Rattle.number_format.specs.{FormattedRanges.{affixed_pieces, affixed_text, segment_pieces, segment_text}, RangeText.{has_spaces, separator_pieces}, TextParts.{parts_pieces, parts_text, pieces_of, Puts, PutsPrefix}};
+ghost use Rattle.number_format.specs.declared.format.text_part.PartKind.TheVariants.{Literal};
 
 use crate::format::formatted_number::FormattedNumber;
-use crate::format::outer::{OuterAround, put_outer};
+use crate::format::outer::put_outer;
 use crate::format::parts::{PartSink, fmt_parts, parts_length, put_parts, write_parts};
 use crate::format::text_part::{PartKind, TextPart};
-use crate::range::affixes::{NOTHING, shows_number};
+use crate::range::affixes::{ApproximateAffixes, NOTHING};
 use fixed_decimal::{Sink, SinkFault};
 use locale_data::RangeSeparator;
 use std::fmt;
 
-/// Parts, a number, and parts.
+/// The digits of an approximate number, between its affixes.
 #[derive(Clone, Copy)]
-pub(crate) struct InnerSegment<'r, 'f> {
-    pub(crate) prefix: [TextPart<'f>; 9],
+pub(crate) struct ApproximateNumber<'r, 'f> {
     pub(crate) number: &'r FormattedNumber<'f>,
-    pub(crate) has_number: bool,
-    pub(crate) suffix: [TextPart<'f>; 9],
+    pub(crate) affixes: ApproximateAffixes<'f>,
 }
 
-/// A segment of the text of a range: what is before or after the whole text; or a number, and what is around it.
+/// A segment of the text of a range.
 #[derive(Clone, Copy)]
-pub(crate) struct Segment<'r, 'f> {
-    pub(crate) outer: OuterAround<'r>,
-    /// Whether it is after the whole text.
-    pub(crate) is_after: bool,
-    pub(crate) inner: InnerSegment<'r, 'f>,
-}
-
-fn no_texts<'f>() -> [TextPart<'f>; 4]
-    ensures { parts_text result ≡ [] }
-{
-    [NOTHING, NOTHING, NOTHING, NOTHING]
-}
-
-fn no_outer<'r>() -> OuterAround<'r>
-    ensures { outer_pieces result false ≡ [] }
-{
-    let before = no_texts();
-    let after = no_texts();
-    OuterAround {
-        kind: PartKind::Literal,
-        before,
-        has_number: true,
-        after,
-    }
-}
-
-fn no_parts<'f>() -> [TextPart<'f>; 9]
-    ensures { parts_pieces result ≡ [] }
-{
-    [
-        NOTHING, NOTHING, NOTHING, NOTHING, NOTHING, NOTHING, NOTHING, NOTHING, NOTHING,
-    ]
+pub(crate) enum Segment<'r, 'f> {
+    /// What is before both numbers: parts, and texts of one kind.
+    Prefix([TextPart<'r>; 6], PartKind, [TextPart<'r>; 4]),
+    /// What is after both numbers, or between them.
+    Suffix([TextPart<'r>; 5], PartKind, [TextPart<'r>; 4]),
+    /// The digits of a number, if they are shown.
+    Digits(&'r FormattedNumber<'f>, bool),
+    /// A number with its own affixes, if it is shown.
+    Number(&'r FormattedNumber<'f>, bool),
+    /// An approximate number.
+    Approximate(ApproximateNumber<'r, 'f>),
 }
 
 fn has_spaces(separator: RangeSeparator) -> bool
@@ -66,239 +44,118 @@ fn has_spaces(separator: RangeSeparator) -> bool
     )
 }
 
-fn space_if(needed: bool) -> TextPart<'static>
-    ensures { part_pieces result ≡ literal (if needed then 32 ∷ [] else []) }
-{
-    TextPart::new(PartKind::Literal, if needed { " " } else { "" })
-}
-
 /// Returns a separator, with spaces beside it if it needs them and has none.
-fn separator_parts<'f>(separator: RangeSeparator, needs_spaces: bool) -> [TextPart<'f>; 9]
-    ensures { parts_pieces result ≡ separator_pieces separator needs_spaces }
+pub(crate) fn separator_texts(
+    separator: RangeSeparator,
+    needs_spaces: bool,
+) -> [TextPart<'static>; 4]
+    ensures { pieces_of Literal (parts_text result) ≡ separator_pieces separator needs_spaces }
 {
-    let space = space_if(needs_spaces && !has_spaces(separator));
+    let spaced = needs_spaces && !has_spaces(separator);
+    let space = TextPart::new(PartKind::Literal, if spaced { " " } else { "" });
     let text = TextPart::new(PartKind::Literal, separator.text());
-    [
-        space, text, space, NOTHING, NOTHING, NOTHING, NOTHING, NOTHING, NOTHING,
-    ]
+    [space, text, space, NOTHING]
 }
 
-impl<'r, 'f> InnerSegment<'r, 'f> {
-    /// Returns the segment of a number alone, or one without pieces.
-    fn number_if(number: &'r FormattedNumber<'f>, has_number: bool) -> Self
-        ensures { inner_pieces result ≡ number_pieces_if number.now has_number }
-    {
-        let prefix = no_parts();
-        let suffix = no_parts();
-        InnerSegment {
-            prefix,
-            number,
-            has_number,
-            suffix,
-        }
-    }
+fn write_shared<W: Sink>(
+    parts: &[TextPart<'_>],
+    texts: &[TextPart<'_>; 4],
+    sink: &mut W,
+) -> Result<(), SinkFault>
+    ensures ok { OnOk result
+        (Appends (W.contents sink.old) (W.contents sink.new) (parts_text parts.now ++ parts_text texts.now)) }
+    ensures err { OnErr result
+        (AppendsPrefix (W.contents sink.old) (W.contents sink.new) (parts_text parts.now ++ parts_text texts.now)) }
+    ensures failed { OnErr result (W.has_failed sink.new ≡ true) }
+{
+    write_parts(parts, sink)?;
+    write_parts(texts, sink)
+}
 
-    fn of_parts(number: &'r FormattedNumber<'f>, prefix: [TextPart<'f>; 9]) -> Self
-        ensures { inner_pieces result ≡ parts_pieces prefix.entry }
-    {
-        let suffix = no_parts();
-        InnerSegment {
-            prefix,
-            number,
-            has_number: false,
-            suffix,
-        }
-    }
+fn fmt_shared<W: fmt::Write>(
+    parts: &[TextPart<'_>],
+    texts: &[TextPart<'_>; 4],
+    f: &mut fmt::Formatter<W>,
+) -> fmt::Result
+    ensures { WritesStyledOnOk W.write_str_gives f.old result (parts_text parts.now ++ parts_text texts.now) f.new }
+{
+    fmt_parts(parts, f)?;
+    fmt_parts(texts, f)
+}
 
-    fn whole(number: &'r FormattedNumber<'f>) -> Self
-        ensures { inner_pieces result
-            ≡ within (end_around (end_of number.now)) (end_number (end_of number.now)) }
-    {
-        let formatter = number.formatter;
-        let style = &formatter.style;
-        let pattern = number.compact_pattern();
-        let prefix = style.range_prefix(number.value.sign, pattern);
-        let suffix = style.range_suffix(number.value.sign, pattern);
-        InnerSegment {
-            prefix,
-            number,
-            has_number: shows_number(pattern),
-            suffix,
-        }
-    }
+fn put_shared<P: PartSink>(
+    sink: &mut P,
+    parts: &[TextPart<'_>],
+    kind: PartKind,
+    texts: &[TextPart<'_>; 4],
+) -> Result<(), SinkFault>
+    ensures ok { OnOk result (Puts (P.pieces sink.old) (P.pieces sink.new)
+        (parts_pieces parts.now ++ pieces_of kind (parts_text texts.now))) }
+    ensures err { OnErr result (PutsPrefix (P.pieces sink.old) (P.pieces sink.new)
+        (parts_pieces parts.now ++ pieces_of kind (parts_text texts.now))) }
+    ensures failed { OnErr result (P.has_failed sink.new ≡ true) }
+{
+    put_parts(sink, parts)?;
+    put_outer(sink, kind, texts)
+}
 
+impl ApproximateNumber<'_, '_> {
     fn write<W: Sink>(&self, sink: &mut W) -> Result<(), SinkFault>
-        ensures ok { OnOk result (Appends (W.contents sink.old) (W.contents sink.new) (inner_text self.now)) }
+        ensures ok { OnOk result (Appends (W.contents sink.old) (W.contents sink.new) (affixed_text self.now)) }
         ensures err { OnErr result
-            (AppendsPrefix (W.contents sink.old) (W.contents sink.new) (inner_text self.now)) }
+            (AppendsPrefix (W.contents sink.old) (W.contents sink.new) (affixed_text self.now)) }
         ensures failed { OnErr result (W.has_failed sink.new ≡ true) }
     {
-        write_parts(&self.prefix, sink)?;
-        self.number.write_number_if(self.has_number, sink)?;
-        write_parts(&self.suffix, sink)
+        write_parts(&self.affixes.prefix, sink)?;
+        self.number.write_number_if(self.affixes.has_number, sink)?;
+        write_parts(&self.affixes.suffix, sink)
     }
 
     fn fmt<W: fmt::Write>(&self, f: &mut fmt::Formatter<W>) -> fmt::Result
-        ensures { WritesStyledOnOk W.write_str_gives f.old result (inner_text self.now) f.new }
+        ensures { WritesStyledOnOk W.write_str_gives f.old result (affixed_text self.now) f.new }
     {
-        fmt_parts(&self.prefix, f)?;
-        self.number.fmt_number_if(self.has_number, f)?;
-        fmt_parts(&self.suffix, f)
+        fmt_parts(&self.affixes.prefix, f)?;
+        self.number.fmt_number_if(self.affixes.has_number, f)?;
+        fmt_parts(&self.affixes.suffix, f)
     }
 
     fn length(&self) -> usize
-        ensures value { result ≡ length (inner_text self.now) }
-        ensures at_most { result ≤ 17241833 }
+        ensures value { result ≡ length (affixed_text self.now) }
+        ensures at_most { result ≤ 17242343 }
     {
-        let number = if self.has_number {
+        let number = if self.affixes.has_number {
             self.number.number_length()
         } else {
             0
         };
-        parts_length(&self.prefix) + number + parts_length(&self.suffix)
+        parts_length(&self.affixes.prefix) + number + parts_length(&self.affixes.suffix)
     }
 
     fn put<P: PartSink>(&self, sink: &mut P) -> Result<(), SinkFault>
-        ensures ok { OnOk result (Puts (P.pieces sink.old) (P.pieces sink.new) (inner_pieces self.now)) }
-        ensures err { OnErr result (PutsPrefix (P.pieces sink.old) (P.pieces sink.new) (inner_pieces self.now)) }
+        ensures ok { OnOk result (Puts (P.pieces sink.old) (P.pieces sink.new) (affixed_pieces self.now)) }
+        ensures err { OnErr result
+            (PutsPrefix (P.pieces sink.old) (P.pieces sink.new) (affixed_pieces self.now)) }
         ensures failed { OnErr result (P.has_failed sink.new ≡ true) }
     {
-        put_parts(sink, &self.prefix)?;
-        self.number.put_number_if(self.has_number, sink)?;
-        put_parts(sink, &self.suffix)
+        put_parts(sink, &self.affixes.prefix)?;
+        self.number.put_number_if(self.affixes.has_number, sink)?;
+        put_parts(sink, &self.affixes.suffix)
     }
 }
 
 impl<'r, 'f> Segment<'r, 'f> {
-    /// Returns the segment of a number, and what is around it.
-    pub(crate) fn of_inner(inner: InnerSegment<'r, 'f>) -> Self
-        ensures { segment_pieces result ≡ inner_pieces inner.entry }
+    /// Returns the segment of texts of one kind before both numbers.
+    pub(crate) fn before(kind: PartKind, texts: [TextPart<'r>; 4]) -> Self
+        ensures { segment_pieces result ≡ pieces_of kind (parts_text texts.entry) }
     {
-        let outer = no_outer();
-        Segment {
-            outer,
-            is_after: false,
-            inner,
-        }
+        Segment::Prefix([NOTHING; 6], kind, texts)
     }
 
-    /// Returns the segment of what is before or after the whole text.
-    pub(crate) fn of_outer(
-        number: &'r FormattedNumber<'f>,
-        outer: OuterAround<'r>,
-        is_after: bool,
-    ) -> Self
-        ensures { segment_pieces result ≡ outer_pieces outer.entry is_after }
+    /// Returns the segment of texts of one kind after both numbers, or between them.
+    pub(crate) fn after(kind: PartKind, texts: [TextPart<'r>; 4]) -> Self
+        ensures { segment_pieces result ≡ pieces_of kind (parts_text texts.entry) }
     {
-        let inner = InnerSegment::number_if(number, false);
-        Segment {
-            outer,
-            is_after,
-            inner,
-        }
-    }
-
-    /// Returns a segment without pieces.
-    pub(crate) fn empty(number: &'r FormattedNumber<'f>) -> Self
-        ensures { segment_pieces result ≡ [] }
-    {
-        Self::of_inner(InnerSegment::number_if(number, false))
-    }
-
-    /// Returns the segment of a number alone, or one without pieces.
-    pub(crate) fn number_if(number: &'r FormattedNumber<'f>, has_number: bool) -> Self
-        ensures { segment_pieces result ≡ pieces_if has_number (end_number (end_of number.now)) }
-    {
-        Self::of_inner(InnerSegment::number_if(number, has_number))
-    }
-
-    /// Returns the segment of parts, or one without pieces.
-    pub(crate) fn parts_if(
-        number: &'r FormattedNumber<'f>,
-        parts: [TextPart<'f>; 9],
-        shown: bool,
-    ) -> Self
-        ensures { segment_pieces result ≡ pieces_if shown (parts_pieces parts.entry) }
-    {
-        if shown {
-            Self::of_inner(InnerSegment::of_parts(number, parts))
-        } else {
-            Self::empty(number)
-        }
-    }
-
-    /// Returns the segment of a number between its affixes, or one without pieces.
-    pub(crate) fn whole_if(number: &'r FormattedNumber<'f>, shown: bool) -> Self
-        ensures { segment_pieces result ≡ pieces_if shown
-            (within (end_around (end_of number.now)) (end_number (end_of number.now))) }
-    {
-        if shown {
-            Self::of_inner(InnerSegment::whole(number))
-        } else {
-            Self::empty(number)
-        }
-    }
-
-    /// Returns the segment of a separator, or one without pieces.
-    pub(crate) fn separator_if(
-        number: &'r FormattedNumber<'f>,
-        separator: RangeSeparator,
-        needs_spaces: bool,
-        shown: bool,
-    ) -> Self
-        ensures { segment_pieces result ≡ pieces_if shown (separator_pieces separator needs_spaces) }
-    {
-        Self::parts_if(number, separator_parts(separator, needs_spaces), shown)
-    }
-
-    fn write_outer<W: Sink>(&self, sink: &mut W) -> Result<(), SinkFault>
-        ensures ok { OnOk result
-            (Appends (W.contents sink.old) (W.contents sink.new) (outer_text self.now.outer self.now.is_after)) }
-        ensures err { OnErr result (AppendsPrefix (W.contents sink.old) (W.contents sink.new)
-            (outer_text self.now.outer self.now.is_after)) }
-        ensures failed { OnErr result (W.has_failed sink.new ≡ true) }
-    {
-        if self.is_after {
-            write_parts(&self.outer.after, sink)
-        } else {
-            write_parts(&self.outer.before, sink)
-        }
-    }
-
-    fn fmt_outer<W: fmt::Write>(&self, f: &mut fmt::Formatter<W>) -> fmt::Result
-        ensures { WritesStyledOnOk W.write_str_gives f.old result
-            (outer_text self.now.outer self.now.is_after) f.new }
-    {
-        if self.is_after {
-            fmt_parts(&self.outer.after, f)
-        } else {
-            fmt_parts(&self.outer.before, f)
-        }
-    }
-
-    fn outer_length(&self) -> usize
-        ensures value { result ≡ length (outer_text self.now.outer self.now.is_after) }
-        ensures at_most { result ≤ 1020 }
-    {
-        if self.is_after {
-            parts_length(&self.outer.after)
-        } else {
-            parts_length(&self.outer.before)
-        }
-    }
-
-    fn put_outer<P: PartSink>(&self, sink: &mut P) -> Result<(), SinkFault>
-        ensures ok { OnOk result
-            (Puts (P.pieces sink.old) (P.pieces sink.new) (outer_pieces self.now.outer self.now.is_after)) }
-        ensures err { OnErr result
-            (PutsPrefix (P.pieces sink.old) (P.pieces sink.new) (outer_pieces self.now.outer self.now.is_after)) }
-        ensures failed { OnErr result (P.has_failed sink.new ≡ true) }
-    {
-        if self.is_after {
-            put_outer(sink, self.outer.kind, &self.outer.after)
-        } else {
-            put_outer(sink, self.outer.kind, &self.outer.before)
-        }
+        Segment::Suffix([NOTHING; 5], kind, texts)
     }
 
     /// Appends the text.
@@ -308,24 +165,41 @@ impl<'r, 'f> Segment<'r, 'f> {
             (AppendsPrefix (W.contents sink.old) (W.contents sink.new) (segment_text self.now)) }
         ensures failed { OnErr result (W.has_failed sink.new ≡ true) }
     {
-        self.write_outer(sink)?;
-        self.inner.write(sink)
+        match self {
+            Segment::Prefix(parts, _, texts) => write_shared(parts, texts, sink),
+            Segment::Suffix(parts, _, texts) => write_shared(parts, texts, sink),
+            Segment::Digits(number, shown) => number.write_number_if(*shown, sink),
+            Segment::Number(number, shown) => number.write_inner_if(*shown, sink),
+            Segment::Approximate(approximate) => approximate.write(sink),
+        }
     }
 
     /// Writes the text.
     pub(crate) fn fmt<W: fmt::Write>(&self, f: &mut fmt::Formatter<W>) -> fmt::Result
         ensures { WritesStyledOnOk W.write_str_gives f.old result (segment_text self.now) f.new }
     {
-        self.fmt_outer(f)?;
-        self.inner.fmt(f)
+        match self {
+            Segment::Prefix(parts, _, texts) => fmt_shared(parts, texts, f),
+            Segment::Suffix(parts, _, texts) => fmt_shared(parts, texts, f),
+            Segment::Digits(number, shown) => number.fmt_number_if(*shown, f),
+            Segment::Number(number, shown) => number.fmt_inner_if(*shown, f),
+            Segment::Approximate(approximate) => approximate.fmt(f),
+        }
     }
 
     /// Returns the number of bytes of the text.
     pub(crate) fn length(&self) -> usize
         ensures value { result ≡ length (segment_text self.now) }
-        ensures at_most { result ≤ 17242853 }
+        ensures at_most { result ≤ 17242343 }
     {
-        self.outer_length() + self.inner.length()
+        match self {
+            Segment::Prefix(parts, _, texts) => parts_length(parts) + parts_length(texts),
+            Segment::Suffix(parts, _, texts) => parts_length(parts) + parts_length(texts),
+            Segment::Digits(number, true) => number.number_length(),
+            Segment::Number(number, true) => number.inner_length(),
+            Segment::Digits(_, false) | Segment::Number(_, false) => 0,
+            Segment::Approximate(approximate) => approximate.length(),
+        }
     }
 
     /// Puts the pieces.
@@ -334,7 +208,12 @@ impl<'r, 'f> Segment<'r, 'f> {
         ensures err { OnErr result (PutsPrefix (P.pieces sink.old) (P.pieces sink.new) (segment_pieces self.now)) }
         ensures failed { OnErr result (P.has_failed sink.new ≡ true) }
     {
-        self.put_outer(sink)?;
-        self.inner.put(sink)
+        match self {
+            Segment::Prefix(parts, kind, texts) => put_shared(sink, parts, *kind, texts),
+            Segment::Suffix(parts, kind, texts) => put_shared(sink, parts, *kind, texts),
+            Segment::Digits(number, shown) => number.put_number_if(*shown, sink),
+            Segment::Number(number, shown) => number.put_inner_if(*shown, sink),
+            Segment::Approximate(approximate) => approximate.put(sink),
+        }
     }
 }

@@ -2,26 +2,26 @@ use Rattle.std.proofs.lemmas.Result.{on_err_weaker}
 use Rattle.fixed_decimal.proofs.Calling.{on_err}
 use Rattle.number_format.specs.{FormattedNumbers.number_pieces_if, TextParts.parts_pieces}
 use Rattle.number_format.proofs.lemmas.format.PieceTexts.{first_of_three, second_of_three, third_of_three}
-use Rattle.number_format.proofs.range.segment.InnerSegment.put.Goals as goal
+use Rattle.number_format.proofs.range.segment.ApproximateNumber.put.Goals as goal
 
 pub returns-in_err-put_parts-clause-err : goal.returns-in_err-put_parts-clause-err
 returns-in_err-put_parts-clause-err g c =
     let s = c.args.self.now in
     on_err c.from_residual.result _
-    (first_of_three (parts_pieces s.prefix) (number_pieces_if s.number.now s.has_number) (parts_pieces s.suffix) _ _
+    (first_of_three (parts_pieces s.affixes.prefix) (number_pieces_if s.number.now s.affixes.has_number) (parts_pieces s.affixes.suffix) _ _
     c.in_err-put_parts.ensures.err)
 
 pub returns-in_err-put_number_if-clause-err : goal.returns-in_err-put_number_if-clause-err
 returns-in_err-put_number_if-clause-err g c =
     let s = c.args.self.now in
     on_err c.from_residual-in_err-put_number_if.result _
-    (second_of_three (parts_pieces s.prefix) (number_pieces_if s.number.now s.has_number) (parts_pieces s.suffix) _ _ _
+    (second_of_three (parts_pieces s.affixes.prefix) (number_pieces_if s.number.now s.affixes.has_number) (parts_pieces s.affixes.suffix) _ _ _
     c.in_ok-put_parts.ensures.ok c.in_err-put_number_if.ensures.err)
 
 pub returns-clause-err : goal.returns-clause-err
 returns-clause-err g c =
     let s = c.args.self.now in
     on_err_weaker c.put_parts-2.result
-    (third_of_three (parts_pieces s.prefix) (number_pieces_if s.number.now s.has_number) (parts_pieces s.suffix) _ _ _ _
+    (third_of_three (parts_pieces s.affixes.prefix) (number_pieces_if s.number.now s.affixes.has_number) (parts_pieces s.affixes.suffix) _ _ _ _
     c.in_ok-put_parts.ensures.ok c.in_ok-put_number_if.ensures.ok)
     c.put_parts-2.ensures.err
