@@ -12,6 +12,7 @@ import collections
 import re
 import sys
 
+sys.dont_write_bytecode = True
 from c_library import fd
 from rows import OK, ROOM, SKELETON_SYNTAX, UNSUPPORTED, sized, stem_at
 

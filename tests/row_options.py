@@ -78,7 +78,7 @@ def set_bytes(struct, field, text, size):
 
 
 def set_option(struct, name, value):
-    """Sets an option of ECMA-402, or `scale`, `numberingSystem` and the words of ICU, which both structs have."""
+    """Sets an option that both structs have."""
     if name in WORDS:
         setattr(struct, field_of(name), WORDS[name].index(value))
         if name == "style":
@@ -96,9 +96,12 @@ def set_option(struct, name, value):
 
 
 def set_options(struct, options):
+    """Sets the options that both structs have."""
     for name, value in options.items():
         set_option(struct, name, value)
     struct.notation += options.get("notation") == "compact" and options.get("compactDisplay") == "long"
+    for notation in {"scientific", "engineering"} & options.keys():
+        struct.notation = WORDS["notation"].index(notation)
 
 
 def pair(words):
@@ -144,9 +147,6 @@ def number_options(options):
     for name in COUNTS:
         setattr(struct, field_of(name), NUMBERS["FD_DEFAULT"])
     set_options(struct, options)
-    for notation in ("scientific", "engineering"):
-        if notation in options:
-            struct.notation = WORDS["notation"].index(notation)
     return struct
 
 
@@ -160,6 +160,7 @@ def parse_options(words):
 
 
 def fields_of(struct):
+    """The fields of a struct as a dictionary."""
     found = ((name, getattr(struct, name)) for name, *_ in struct._fields_)
     return {name: bytes(value) if hasattr(value, "__len__") else value for name, value in found}
 
@@ -171,7 +172,5 @@ def options_of_words(words):
                                         has_numbering_system="numberingSystem" in options)
     set_options(struct, options)
     struct.exponent_digits = struct.notation in (1, 2)
-    for notation in {"scientific", "engineering"} & options.keys():
-        struct.notation = WORDS["notation"].index(notation)
     set_beyond(struct, options)
     return fields_of(struct)

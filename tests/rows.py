@@ -35,6 +35,7 @@ import re
 import sys
 import unicodedata
 
+sys.dont_write_bytecode = True
 from c_library import NUMBERS, ROOT, TYPES, fd
 from row_options import fields_of, has_beyond, number_options, options_of_words, parse_options, set_beyond
 

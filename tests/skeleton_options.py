@@ -9,6 +9,7 @@ import ctypes
 import random
 import sys
 
+sys.dont_write_bytecode = True
 from c_library import TYPES, fd
 
 OK, UNKNOWN_OPTION, DIGIT_OPTIONS, NO_SKELETON, DEFAULT = 0, 11, 20, 21, 65535
