@@ -1,7 +1,5 @@
-"""The C library for tests in Python: its functions with the types of `c/fixed_decimal.h`, its structs and its numbers.
-
-`load()` builds the library if it is not built of these sources. A struct is a class of `ctypes`, and the constants of
-the header are `NUMBERS["FD_OK"]`.
+"""The C library for tests in Python, by its header: `fd.fd_run` is a function, `TYPES["fd_result"]` a struct, and
+`NUMBERS["FD_OK"]` a constant. What of the library is not built of these sources is built first.
 """
 import ctypes
 import os
@@ -30,14 +28,10 @@ def parameter(text):
     return ctypes.c_char_p if kind == "uint8_t" else ctypes.POINTER(TYPES[kind])
 
 
-def load():
-    """Returns the shared library, each function with its types."""
-    built = subprocess.run(["bash", f"{ROOT}/c/build.sh"], stdout=subprocess.DEVNULL)
-    if built.returncode:
-        sys.exit("c/build.sh failed")
-    library = ctypes.CDLL(f"{ROOT}/c/out/libfixed_decimal.so")
-    for kind, name, parameters in re.findall(r"^(\w+) (fd_\w+)\((.*?)\);", _HEADER, re.M | re.S):
-        function = getattr(library, name)
-        function.restype = TYPES[kind]
-        function.argtypes = [] if parameters == "void" else [parameter(it) for it in parameters.split(",")]
-    return library
+if subprocess.run(["bash", f"{ROOT}/c/build.sh"], stdout=subprocess.DEVNULL).returncode:
+    sys.exit("c/build.sh failed")
+fd = ctypes.CDLL(f"{ROOT}/c/out/libfixed_decimal.so")
+for _kind, _name, _parameters in re.findall(r"^(\w+) (fd_\w+)\((.*?)\);", _HEADER, re.M | re.S):
+    _function = getattr(fd, _name)
+    _function.restype = TYPES[_kind]
+    _function.argtypes = [] if _parameters == "void" else [parameter(it) for it in _parameters.split(",")]

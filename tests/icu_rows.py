@@ -12,8 +12,9 @@ import collections
 import re
 import sys
 
-import rows
-from rows import OK, SKELETON_SYNTAX, UNSUPPORTED, sized, stem_at
+sys.dont_write_bytecode = True
+from c_library import fd
+from rows import OK, ROOM, SKELETON_SYNTAX, UNSUPPORTED, sized, stem_at
 
 ESCAPED = re.compile(r"\\(?:\{(.*?)\*(\d+)\}|u([0-9A-Fa-f]{4})|(.))", re.S)
 SAMPLE = "-1234567.891"
@@ -31,9 +32,8 @@ def plain(text):
 
 def formatted(locale, skeleton, number):
     """The text of a number by a skeleton, or the status and the offset of the error."""
-    room = rows.ROOM
-    answer = rows.fd.fd_format_by_skeleton(*sized(number), *sized(locale), *sized(skeleton), room, len(room))
-    return room[:answer.count].decode() if answer.status == OK else (answer.status, answer.at)
+    answer = fd.fd_format_by_skeleton(*sized(number), *sized(locale), *sized(skeleton), ROOM, len(ROOM))
+    return ROOM[:answer.count].decode() if answer.status == OK else (answer.status, answer.at)
 
 
 def is_right(row, found):
@@ -73,5 +73,4 @@ def main(name):
 
 
 if __name__ == "__main__":
-    rows.fd = rows.c_library.load()
     sys.exit(main(sys.argv[1]))

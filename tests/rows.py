@@ -8,19 +8,19 @@ A row has fields with tabs between them. Blank lines, and lines that start with 
     LOCALE SYSTEM STRATEGY NUMBER TEXT  The same with another numbering system.
     LOCALE read|lenient TEXT VALUE      A text that is read by these symbols, and its value or error.
     LANGUAGE cardinal|ordinal NUMBER CATEGORY
-    [LOCALE] OPTIONS NUMBER TEXT        A number by options, in `en` without a locale. OPTIONS: words `name=value`, mostly
-                                        by the names of ECMA-402, or JSON. TEXT: the text, or the name of the error.
+    [LOCALE] OPTIONS NUMBER TEXT        A number by options, in `en` without a locale. OPTIONS: words `name=value` or
+                                        JSON, as `row_options.py` says. TEXT: the text, or the name of the error.
     [LOCALE] OPTIONS TEXT VALUE         With `check=read` or `check=lenient`.
     [LOCALE] OPTIONS NUMBER PARTS       With `check=parts`: `|kind=text` each; or JSON, a list of lists.
     LOCALE OPTIONS START END TEXT       A range of two numbers, or its parts, each with its source.
     [LOCALE] OPTIONS START..END PARTS   The same with `check=parts`: `|kind=text@source` each.
-    SKELETON OPTIONS                    Its options; `syntax K` with the offset of the error, `unsupported STEM`; `=` and
-                                        another skeleton that has the same options; or `>` and the skeleton that they
-                                        are printed as.
+    SKELETON OPTIONS                    Its options; `syntax K` with the offset of the error, `unsupported STEM`; `=`
+                                        and another skeleton that has the same options; or `>` and the skeleton that
+                                        they are printed as, which has the same (`crates/cli_vectors` prints it).
 
-Each row of a file wrong.tsv has to fail. Of options that are rejected the number is empty, and the text may also be the class of ECMA-402's error. In numbers and
-texts `0*3` after a space is `000`; in skeletons `«@*3»` is `@@@`, and `␉`, `␊` and `␍` are a tab, a line feed and a
-carriage return.
+Each row of a file wrong.tsv has to fail. Of options that are rejected the number is empty, and the text may also be the
+class of ECMA-402's error. In numbers and texts `0*3` after a space is `000`; in skeletons `«@*3»` is `@@@`, and `␉`,
+`␊` and `␍` are a tab, a line feed and a carriage return.
 
 `node tools/locales/node.js vectors` writes rows of decimals and categories for all locales, by the node that is
 installed, which has to be node 20 for the texts of CLDR 48.
@@ -35,8 +35,9 @@ import re
 import sys
 import unicodedata
 
-import c_library
-from c_library import NUMBERS, TYPES
+sys.dont_write_bytecode = True
+from c_library import NUMBERS, ROOT, TYPES, fd
+from row_options import fields_of, has_beyond, number_options, options_of_words, parse_options, set_beyond
 
 OK, SYNTAX, LIMIT, TOO_SMALL = (NUMBERS[f"FD_{name}"] for name in ("OK", "SYNTAX", "LIMIT", "BUFFER_TOO_SMALL"))
 OVERFLOW, UNKNOWN_LOCALE = NUMBERS["FD_OVERFLOW"], NUMBERS["FD_UNKNOWN_LOCALE"]
@@ -55,30 +56,7 @@ KINDS = ["integer", "group", "decimal", "fraction", "minusSign", "plusSign", "pe
          "compact", "unit", "exponentSeparator", "exponentMinusSign", "exponentPlusSign", "exponentInteger",
          "approximatelySign"]
 SOURCES = ["shared", "startRange", "endRange"]
-# The words of options by their numbers in C; the field is the name in other letters, or the one that is named.
-WORDS = {
-    "style": "decimal percent permille currency unit",
-    "currencyDisplay": "symbol narrowSymbol code hidden name",
-    "currencySign": "standard accounting",
-    "currencyUsage": "standard cash",
-    "unitDisplay": "short narrow long",
-    "notation": "standard scientific engineering compact",
-    "signDisplay": "auto never always exceptZero negative",
-    "useGrouping": "auto false always min2",
-    "decimalSeparator": "auto always",
-    "roundingMode": "ceil floor expand trunc halfCeil halfFloor halfExpand halfTrunc halfEven",
-    "roundingPriority": "auto morePrecision lessPrecision",
-    "trailingZeroDisplay": "auto stripIfInteger",
-}
-WORDS = {name: words.split() for name, words in WORDS.items()}
-FIELDS = {"useGrouping": "grouping", "trailingZeroDisplay": "trailing_zeros"}
-COUNTS = ["minimumIntegerDigits", "minimumFractionDigits", "maximumFractionDigits", "minimumSignificantDigits",
-          "maximumSignificantDigits", "roundingIncrement"]
-SCALES = {"percent": 2, "permille": 3}
-PRECISIONS = ["all", "fraction", "multiples", "significant", "more", "less"]
 UNIT_OPTIONS = ["style", "unit", "unitDisplay", "numberingSystem"]
-# What options have beyond those of ECMA-402.
-BEYOND = ["integer", "scientific", "engineering", *PRECISIONS]
 NEGATIVE = set("-(\u2212\u2010\u2011\u2012\ufe63\uff0d")
 ROOM = ctypes.create_string_buffer(1 << 18)
 PARTS = (TYPES["fd_part"] * (1 << 16))()
@@ -112,111 +90,6 @@ def expanded(field):
     return "".join(text * int(*count or "1") for text, *count in parts)
 
 
-# ---- Options.
-
-def field_of(name):
-    """The field of a struct of C with the option of a name."""
-    return FIELDS.get(name) or re.sub("[A-Z]", lambda capital: "_" + capital[0].lower(), name)
-
-
-@functools.lru_cache(None)
-def unit_numbers():
-    """The numbers of all units by their names."""
-    return {name: number for number in range(1, 257) if (name := written(fd.fd_unit_name, number)) != 11}
-
-
-@functools.lru_cache(None)
-def unit(name):
-    """The numbers of a unit, also of one that ECMA-402 does not have."""
-    found = fd.fd_unit(*sized(name))
-    if found.status == OK:
-        return found.unit, found.per_unit
-    numbers = unit_numbers()
-    if name in numbers:
-        return numbers[name], 0
-    first, second = name.split("-per-")
-    return numbers[first], numbers[second]
-
-
-def set_bytes(struct, field, text, size):
-    setattr(struct, field, type(getattr(struct, field))(*text.encode().ljust(size)))
-
-
-def set_option(struct, name, value):
-    """Sets an option of ECMA-402, or `scale`, `numberingSystem` and the words of ICU, which both structs have."""
-    if name in WORDS:
-        setattr(struct, field_of(name), WORDS[name].index(value))
-        if name == "style":
-            struct.scale = SCALES.get(value, 0)
-    elif name == "currency":
-        set_bytes(struct, "currency", value, 3)
-    elif name == "numberingSystem":
-        set_bytes(struct, "numbering_system", value, 16)
-    elif name == "unit":
-        struct.unit, struct.per_unit = unit(value)
-    elif name in COUNTS or name == "scale":
-        setattr(struct, field_of(name), int(value))
-    elif name not in BEYOND and name not in ("check", "compactDisplay"):
-        raise ValueError(f"no such option: {name}")
-
-
-def set_options(struct, options):
-    for name, value in options.items():
-        set_option(struct, name, value)
-    struct.notation += options.get("notation") == "compact" and options.get("compactDisplay") == "long"
-
-
-def pair(words):
-    return [int(it) for it in words.split(",")]
-
-
-def set_precision(struct, name, value):
-    """Sets the precision of an fd_format_options."""
-    struct.precision, struct.rounding_increment = PRECISIONS.index(name), 1
-    first, *rest = value.split(";")
-    if name == "multiples":
-        struct.maximum_fraction_digits, struct.rounding_increment = pair(first)
-        struct.minimum_fraction_digits = struct.maximum_fraction_digits
-    if name in ("fraction", "more", "less"):
-        struct.minimum_fraction_digits, struct.maximum_fraction_digits = pair(first)
-    if name in ("significant", "more", "less"):
-        struct.minimum_significant_digits, struct.maximum_significant_digits = pair([first, *rest][-2:][0])
-    struct.zeros = rest[1:] == ["both"]
-
-
-def set_beyond(struct, options):
-    """Sets what options have beyond those of ECMA-402 in an fd_format_options."""
-    for name, value in options.items():
-        if name in PRECISIONS:
-            set_precision(struct, name, value)
-        elif name == "integer":
-            struct.minimum_integer_digits, struct.maximum_integer_digits = pair(value)
-        elif name in BEYOND:
-            digits, sign = value.split(",")
-            struct.exponent_digits, struct.exponent_sign = int(digits), ["auto", "always", "never"].index(sign)
-
-
-def number_options(options):
-    """The fd_number_options of options."""
-    struct = TYPES["fd_number_options"](rounding_mode=NUMBERS["FD_HALF_EXPAND"])
-    for name in COUNTS:
-        setattr(struct, field_of(name), NUMBERS["FD_DEFAULT"])
-    set_options(struct, options)
-    for notation in ("scientific", "engineering"):
-        if notation in options:
-            struct.notation = WORDS["notation"].index(notation)
-    return struct
-
-
-def parse_options(words):
-    """The options of words, or of JSON; None if a field is neither."""
-    if words[:1] != "{":
-        return dict(word.split("=", 1) for word in words.split()) if "=" in words or not words else None
-    shown = {"True": "always", "true": "always", "False": "false"}
-    found = {name: str(value) for name, value in json.loads(words).items()}
-    return {name: shown.get(value, value) if name == "useGrouping" else value for name, value in found.items()}
-
-
 @functools.lru_cache(256)
 def formatter(tag, words):
     """The fd_made of a locale and options, with what they have beyond ECMA-402, and an fd_number_options if nothing."""
@@ -224,7 +97,7 @@ def formatter(tag, words):
     number = number_options(options)
     made = fd.fd_formatter_by_options(*sized(tag), ctypes.byref(number))
     set_beyond(made.formatter.options, options)
-    return made, None if options.keys() & set(BEYOND) else number
+    return made, None if has_beyond(options) else number
 
 
 # ---- Numbers.
@@ -252,21 +125,26 @@ def divide(found, text):
             and all(first[0] != second[0] for first, second in zip(found, found[1:])))
 
 
+def are_shared(found):
+    """Whether parts are of one number."""
+    return all(source == "shared" for *_, source in found)
+
+
 def has_number(text):
     return any(unicodedata.category(it) == "Nd" for it in text)
 
 
 def may_be_unreadable(tag, options):
     """Whether there may be no reader: in standard notation only if the unit has texts without a number."""
-    if "scientific" in options or "engineering" in options or options.get("notation", "standard") != "standard":
+    if {"scientific", "engineering"} & options.keys() or options.get("notation", "standard") != "standard":
         return True
     plain, _ = formatter(tag, " ".join(f"{name}={options[name]}" for name in UNIT_OPTIONS if name in options))
     return options.get("style") == "unit" and not all(has_number(formatted(plain, str(it))) for it in range(101))
 
 
 def reads_back(made, tag, options, text):
-    """Whether both readers read a text back as a number with this text, or as zero, which may show fewer zeros when it is
-    rounded once more."""
+    """Whether both readers read a text back as a number with this text, or as zero, which may show fewer zeros when it
+    is rounded once more."""
     value = read(made, text, 0)
     if value == UNREADABLE:
         return may_be_unreadable(tag, options) or made.formatter.options.scale == -32768
@@ -278,7 +156,7 @@ def reads_back(made, tag, options, text):
 
 
 def has_text(made, number, options, tag, text, value):
-    """Whether a value has a text, by a formatter, by the options and in parts, which is read back; or the error Limit."""
+    """Whether a value has a text by a formatter, by options and in parts, which is read back; or the error Limit."""
     ways = [(fd.fd_format, (made.formatter, *sized(value)))]
     if number:
         ways.append((fd.fd_format_number, (*sized(value), *sized(tag), number)))
@@ -286,7 +164,7 @@ def has_text(made, number, options, tag, text, value):
     if text == "Limit":
         return found == OVERFLOW and all(written(function, *it) == OVERFLOW for function, it in ways)
     return (all(is_written(text, function, *it) for function, it in ways) and isinstance(found, list)
-            and divide(found, text) and reads_back(made, tag, options, text))
+            and divide(found, text) and are_shared(found) and reads_back(made, tag, options, text))
 
 
 def has_parts(made, fields, expected):
@@ -297,7 +175,7 @@ def has_parts(made, fields, expected):
         found = parts(fd.fd_format_range_parts, made.formatter, *sized(fields[0]), *sized(fields[1]))
     if not isinstance(found, list):
         return False
-    if len(fields) == 1:
+    if len(fields) == 1 and are_shared(found):
         found = [part[:2] for part in found]
     if expected.startswith("[["):
         return found == [tuple(part) for part in json.loads(expected)]
@@ -318,12 +196,13 @@ def digits(text):
 
 
 def is_own(made, text):
-    """Whether lenient reading rejects a text, or returns a value of its digits, but for zeros at the ends, and its sign."""
+    """Whether lenient reading rejects a text, or returns a value of its digits, but for zeros at the ends, and sign."""
     value = read(made, text, 1)
     if value in READ_ERRORS:
         return True
     shown = text.decode()
-    return isinstance(value, str) and digits(value) == digits(shown) and (value[0] == "-") == bool(NEGATIVE & set(shown))
+    is_negative = bool(NEGATIVE & set(shown))
+    return isinstance(value, str) and digits(value) == digits(shown) and (value[0] == "-") == is_negative
 
 
 def is_utf8(text):
@@ -334,8 +213,8 @@ def is_utf8(text):
 
 
 def is_only_text(made, text, value):
-    """Whether no cut of a text, no removal of a byte, and no change of one leaves its value, and lenient reading keeps the
-    digits and the sign of each."""
+    """Whether no cut of a text, no removal of a byte, and no change of one leaves its value, and lenient reading keeps
+    the digits and the sign of each."""
     for at in range(len(text)):
         front, rest, without = text[:at], text[at:], text[:at] + text[at + 1:]
         cuts = [front, without, *[rest] * (at > 0)]
@@ -349,14 +228,14 @@ def is_only_text(made, text, value):
 
 
 def reads(made, options, text, expected):
-    """Whether a text has a value or an error, also when it is read leniently, and no text with a change has the value. A
-    text with an exponent has more digits than its value, so no changes of it are tried."""
+    """Whether a text has a value or an error, also when it is read leniently, and no text with a change has the value.
+    A text with an exponent has more digits than its value, so no changes of it are tried."""
     value = read(made, text, 0)
     if READ_ERRORS.get(value, value) != expected:
         return False
     if expected in READ_ERRORS.values() or len(text.encode()) > 100:
         return True
-    has_exponent = "notation" in options or "scientific" in options or "engineering" in options
+    has_exponent = {"notation", "scientific", "engineering"} & options.keys()
     return (has_exponent or is_only_text(made, text.encode(), expected)) and read(made, text, 1) == expected
 
 
@@ -401,8 +280,9 @@ def is_decimal(tag, word, number, text):
     if fd.fd_locale(*sized(tag)).status == UNKNOWN_LOCALE:
         return text == "unknown"
     own = written(fd.fd_run, *sized(number), None, 0, b"", 0)
-    is_written = converted(tag, number, grouping=word) == text
-    return is_written and all(converted(tag, text, reading=it) == own for it in READINGS)
+    if converted(tag, number, grouping=word) != text:
+        return False
+    return all(converted(tag, text, reading=it) == own for it in READINGS)
 
 
 def is_category(tag, word, number, category):
@@ -436,24 +316,6 @@ def reading(skeleton):
         return f"unsupported {stem_at(skeleton, made.at)}"
     assert made.status == OK, made.status
     return fields_of(made.formatter.options)
-
-
-def fields_of(struct):
-    found = ((name, getattr(struct, name)) for name, *_ in struct._fields_)
-    return {name: bytes(value) if hasattr(value, "__len__") else value for name, value in found}
-
-
-def options_of_words(words):
-    """The options of words that say all digits, as a dictionary of the fields of C."""
-    options = parse_options(words)
-    struct = TYPES["fd_format_options"](minimum_integer_digits=1, maximum_integer_digits=32768,
-                                        has_numbering_system="numberingSystem" in options)
-    set_options(struct, options)
-    struct.exponent_digits = struct.notation in (1, 2)
-    for notation in {"scientific", "engineering"} & options.keys():
-        struct.notation = WORDS["notation"].index(notation)
-    set_beyond(struct, options)
-    return fields_of(struct)
 
 
 def is_skeleton(skeleton, expected):
@@ -504,5 +366,4 @@ def main(names):
 
 
 if __name__ == "__main__":
-    fd = c_library.load()
-    sys.exit(main(sys.argv[1:] or sorted(glob.glob(f"{c_library.ROOT}/tests/rows/*.tsv"))))
+    sys.exit(main(sys.argv[1:] or sorted(glob.glob(f"{ROOT}/tests/rows/*.tsv"))))

@@ -9,7 +9,8 @@ import ctypes
 import random
 import sys
 
-import c_library
+sys.dont_write_bytecode = True
+from c_library import TYPES, fd
 
 OK, UNKNOWN_OPTION, DIGIT_OPTIONS, NO_SKELETON, DEFAULT = 0, 11, 20, 21, 65535
 CURRENCY, PERMILLE, COMPACT, NEVER, ACCOUNTING, CASH, STANDARD = 3, 2, (3, 4), 1, 1, 1, 0
@@ -18,7 +19,7 @@ CASH_DIGITS = {b"USD": (2, 1), b"EUR": (2, 1), b"CHF": (2, 5), b"JPY": (0, 1), b
 ECMA_CASH = {b"DKK": (2, 50)}
 SYSTEMS = [b"latn", b"arab", b"arabext", b"beng", b"deva", b"thai", b"hanidec", b"fullwide"]
 NUMBERS = ["0", "-0.5", "1234567.891", "-999.995", "0.000123455", "25000", "-12.5", "1e21"]
-Options = c_library.TYPES["fd_number_options"]
+Options = TYPES["fd_number_options"]
 room = ctypes.create_string_buffer(1 << 17)
 
 
@@ -38,9 +39,9 @@ def random_options(rng):
     style, notation = rng.randrange(4), rng.choice([0, 0, 0, 1, 2, 3, 4])
     options = Options(style=style, currency=(ctypes.c_uint8 * 3)(*rng.choice(list(CASH_DIGITS))), notation=notation,
                       numbering_system=(ctypes.c_uint8 * 16)(*(name.ljust(16) if name else bytes(16))),
-                      currency_display=rng.randrange(4), currency_sign=rng.randrange(2), currency_usage=rng.randrange(2),
-                      sign_display=rng.randrange(5), grouping=rng.randrange(4), rounding_mode=rng.randrange(9),
-                      trailing_zeros=rng.randrange(2),
+                      currency_display=rng.randrange(4), currency_sign=rng.randrange(2),
+                      currency_usage=rng.randrange(2), sign_display=rng.randrange(5), grouping=rng.randrange(4),
+                      rounding_mode=rng.randrange(9), trailing_zeros=rng.randrange(2),
                       scale=rng.choice([0, 0, 2, -2, rng.randrange(-300, 300), rng.randrange(-32768, 32768)]),
                       minimum_integer_digits=rng.choice([DEFAULT, DEFAULT, 1, rng.randrange(1, 22)]),
                       rounding_increment=DEFAULT)
@@ -62,7 +63,8 @@ def random_options(rng):
 def has_own_cash(options):
     """Whether the digits are those of `precision-currency-cash`, or None where these rules do not say it."""
     own = CASH_DIGITS[bytes(options.currency)]
-    if options.rounding_priority or {options.minimum_significant_digits, options.maximum_significant_digits} != {DEFAULT}:
+    significant = {options.minimum_significant_digits, options.maximum_significant_digits}
+    if options.rounding_priority or significant != {DEFAULT}:
         return False
     if options.notation != STANDARD:
         return None
@@ -95,7 +97,7 @@ def text_of(answer):
 
 def is_right(options, number):
     """Whether the skeleton of options says them; None if the digits are those of no format."""
-    answer = library.fd_skeleton(options, room, len(room))
+    answer = fd.fd_skeleton(options, room, len(room))
     if answer.status == DIGIT_OPTIONS:
         return None
     if answer.status == UNKNOWN_OPTION:
@@ -106,8 +108,8 @@ def is_right(options, number):
     if answer.status != OK or has_skeleton(options) is False:
         return False
     given, end = [number, len(number), b"de", 2], [room, len(room)]
-    by_options = text_of(library.fd_format_number(*given, options, *end))
-    return by_options == text_of(library.fd_format_by_skeleton(*given, skeleton, len(skeleton), *end))
+    by_options = text_of(fd.fd_format_number(*given, options, *end))
+    return by_options == text_of(fd.fd_format_by_skeleton(*given, skeleton, len(skeleton), *end))
 
 
 def main(count):
@@ -124,5 +126,4 @@ def main(count):
 
 
 if __name__ == "__main__":
-    library = c_library.load()
     sys.exit(main(int(sys.argv[1]) if len(sys.argv) > 1 else 100_000))

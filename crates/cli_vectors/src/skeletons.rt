@@ -39,10 +39,11 @@ pub fn holds(alloc: Global, skeleton: &str, expected: &str) -> Option<bool> {
         Ok(options) => is_printed(alloc, &options, expected),
         Err(SkeletonError::Syntax { at: _ }) => Some(expected.starts_with("syntax ")),
         Err(SkeletonError::Unsupported { start, end }) => {
-            match expected.strip_prefix("unsupported ") {
-                Some(stem) => Some(skeleton.as_str().get(start..end) == Some(stem)),
-                None => Some(expected.starts_with('=')),
-            }
+            let Some(stem) = expected.strip_prefix("unsupported ") else {
+                return Some(expected.starts_with('='));
+            };
+            let stem = expanded(alloc, stem).ok()?;
+            Some(skeleton.as_str().get(start..end) == Some(stem.as_str()))
         }
     }
 }
