@@ -3,8 +3,7 @@ use Rattle.std.specs.Prelude.{◌≡◌, ◌⊎◌, ℕ, List, ◌++◌, Option,
 use Rattle.fixed_decimal.specs.Decimal.{Decimal}
 use Rattle.plural_rules.specs.declared.rules.PluralCategory.{PluralCategory}
 use Rattle.locale_data.specs.{declared.locales.LocaleId.LocaleId, Locales.AreRowsOf, RangeFormats.IsRangeFormat}
-use Rattle.number_format.specs.{declared.{format.{formatted_number.FormattedNumber.FormattedNumber, formatter.NumberFormatter.NumberFormatter}, range.{affixes.ApproximateAffixes.ApproximateAffixes, formatted_range.{FormattedRange.FormattedRange, RangeSegment.{RangeSegment, TheVariants.{Prefix, Start, Middle, End, Suffix}}, RangeSource.{RangeSource, TheVariants.{Shared, StartRange, EndRange}}}, range_texts.RangeTexts.RangeTexts, segment.{ApproximateNumber.ApproximateNumber, Segment.Segment}}}, Formatters.system_text, FormattedNumbers.{inner_pieces_if, inner_text_if, number_pieces_if, number_text_if, pattern_of}, NumberText.outer_by, PatternTexts.Around, RangeText.{IsRangeEnd, RangeEnd, RangePieces, ShownRange, range_pieces, text_of_pieces}, TextParts.{Piece, parts_pieces, parts_text, pieces_of, pieces_text}}
-use Rattle.number_format.specs.declared.range.segment.Segment.TheVariants as segment
+use Rattle.number_format.specs.{declared.{format.{formatted_number.FormattedNumber.FormattedNumber, formatter.NumberFormatter.NumberFormatter}, range.{affixes.ApproximateAffixes.ApproximateAffixes, formatted_range.{FormattedRange.FormattedRange, RangeSegment.{RangeSegment, TheVariants.{Prefix, Start, Middle, End, Suffix}}, RangeSource.{RangeSource, TheVariants.{Shared, StartRange, EndRange}}}, range_texts.RangeTexts.RangeTexts, segment.Segment.Segment}}, Formatters.system_text, FormattedNumbers.{number_pieces_if, number_text_if, pattern_of}, NumberText.outer_by, PatternTexts.Around, RangeText.{IsRangeEnd, RangeEnd, RangePieces, ShownRange, range_pieces, text_of_pieces}, TextParts.{Piece, parts_pieces, parts_text, pieces_of, pieces_text}}
 
 -- ---- The texts of a locale.
 
@@ -75,29 +74,16 @@ pub record AreApproximateAffixes (a : Around) (shown : ApproximateAffixes) : Typ
   pub has_number : shown.has_number ≡ a.has_number
   pub suffix : parts_pieces shown.suffix ≡ a.suffix
 
-abbrev pub affixed_pieces : ApproximateNumber → List Piece
-affixed_pieces a =
-    parts_pieces a.affixes.prefix
-    ++ (number_pieces_if a.number.now a.affixes.has_number ++ parts_pieces a.affixes.suffix)
-
-abbrev pub affixed_text : ApproximateNumber → List ℕ
-affixed_text a =
-    parts_text a.affixes.prefix ++ (number_text_if a.number.now a.affixes.has_number ++ parts_text a.affixes.suffix)
-
 -- the texts of one kind are one piece
 abbrev pub segment_pieces : Segment → List Piece
-segment_pieces (segment.Prefix parts kind texts) = parts_pieces parts ++ pieces_of kind (parts_text texts)
-segment_pieces (segment.Suffix parts kind texts) = parts_pieces parts ++ pieces_of kind (parts_text texts)
-segment_pieces (segment.Digits n shown) = number_pieces_if n.now shown
-segment_pieces (segment.Number n shown) = inner_pieces_if n.now shown
-segment_pieces (segment.Approximate a) = affixed_pieces a
+segment_pieces s =
+    parts_pieces s.prefix
+    ++ (number_pieces_if s.number.now s.has_number ++ (parts_pieces s.suffix ++ pieces_of s.kind (parts_text s.texts)))
 
 abbrev pub segment_text : Segment → List ℕ
-segment_text (segment.Prefix parts kind texts) = parts_text parts ++ parts_text texts
-segment_text (segment.Suffix parts kind texts) = parts_text parts ++ parts_text texts
-segment_text (segment.Digits n shown) = number_text_if n.now shown
-segment_text (segment.Number n shown) = inner_text_if n.now shown
-segment_text (segment.Approximate a) = affixed_text a
+segment_text s =
+    parts_text s.prefix
+    ++ (number_text_if s.number.now s.has_number ++ (parts_text s.suffix ++ parts_text s.texts))
 
 -- a formatted number is an end of a range, and has the category of what is around the whole text
 abbrev pub IsFormattedEnd : NumberFormatter → Decimal → FormattedNumber → Type 0

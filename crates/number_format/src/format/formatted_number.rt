@@ -283,11 +283,7 @@ impl<'f> FormattedNumber<'f> {
         write_parts(&affixes.suffix, sink)
     }
 
-    pub(crate) fn write_inner_if<W: Sink>(
-        &self,
-        has_number: bool,
-        sink: &mut W,
-    ) -> Result<(), SinkFault>
+    fn write_inner_if<W: Sink>(&self, has_number: bool, sink: &mut W) -> Result<(), SinkFault>
         ensures ok { OnOk result
             (Appends (W.contents sink.old) (W.contents sink.new) (inner_text_if self.now has_number)) }
         ensures err { OnErr result
@@ -314,7 +310,7 @@ impl<'f> FormattedNumber<'f> {
         write_parts(&outer.after, sink)
     }
 
-    pub(crate) fn fmt_inner_if<W: fmt::Write>(
+    fn fmt_inner_if<W: fmt::Write>(
         &self,
         has_number: bool,
         f: &mut fmt::Formatter<W>,
@@ -347,7 +343,7 @@ impl<'f> FormattedNumber<'f> {
         }
     }
 
-    pub(crate) fn inner_length(&self) -> usize
+    fn inner_length(&self) -> usize
         ensures value { result ≡ length (inner_text self.now) }
         ensures at_most { result ≤ 17240100 }
     {
@@ -540,11 +536,7 @@ impl<'f> FormattedNumber<'f> {
         put_parts(sink, &affixes.suffix)
     }
 
-    pub(crate) fn put_inner_if<P: PartSink>(
-        &self,
-        has_number: bool,
-        sink: &mut P,
-    ) -> Result<(), SinkFault>
+    fn put_inner_if<P: PartSink>(&self, has_number: bool, sink: &mut P) -> Result<(), SinkFault>
         ensures ok { OnOk result (Puts (P.pieces sink.old) (P.pieces sink.new) (inner_pieces_if self.now has_number)) }
         ensures err { OnErr result
             (PutsPrefix (P.pieces sink.old) (P.pieces sink.new) (inner_pieces_if self.now has_number)) }

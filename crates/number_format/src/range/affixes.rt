@@ -72,8 +72,8 @@ impl StyleTexts {
         before: TextPart<'t>,
         after: TextPart<'t>,
     ) -> [TextPart<'t>; 10]
-        ensures { parts_pieces result ≡ part_pieces before ++ (affix_pieces
-            (approximate_piece self.now approximately sign) affix ++ part_pieces after) }
+        ensures { parts_pieces result ≡ part_pieces before.entry ++ (affix_pieces
+            (approximate_piece self.now approximately sign) affix ++ part_pieces after.entry) }
     {
         let one = self.approximate_piece(approximately, sign, affix.first);
         let two = self.approximate_piece(approximately, sign, affix.second);

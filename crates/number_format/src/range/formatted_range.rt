@@ -1,7 +1,7 @@
 //! A range of two numbers as a locale writes it.
 ghost use Rattle.std.specs.{Prelude.{◌≡◌, ◌≤◌, length, Some, OnOk, OnErr, true}, Fmt.WritesStyledOnOk, Io.KnownBytes.Appends};
 ghost use Rattle.decimal_digits.specs.AppendsPrefix.{AppendsPrefix};
-ghost use Rattle.number_format.specs.{FormattedNumbers.{around_of, outer_of, pattern_of, IsOuter}, FormattedRanges.{affixed_pieces, end_of, formatted_range_pieces, formatted_range_text, pieces_in, segment_pieces, segment_text, shown_range, source_of, text_from_middle}, PatternTexts.within, RangeText.{approximate_around, end_number, pieces_by, pieces_if, separator_pieces}, TextParts.{Puts, PutsPrefix, pieces_text}};
+ghost use Rattle.number_format.specs.{FormattedNumbers.{outer_of, IsOuter}, FormattedRanges.{formatted_range_pieces, formatted_range_text, pieces_in, segment_pieces, segment_text, shown_range, source_of, text_from_middle}, RangeText.{pieces_by, pieces_if, separator_pieces}, TextParts.{Puts, PutsPrefix, pieces_text}};
 ghost use Rattle.number_format.specs.declared.range.form.RangeForm.TheVariants as form;
 
 use crate::format::formatted_number::FormattedNumber;
@@ -9,9 +9,9 @@ use crate::format::outer::OuterAround;
 use crate::format::parts::PartSink;
 use crate::format::text_part::PartKind;
 use crate::range::form::RangeForm;
-use crate::range::segment::{ApproximateNumber, Segment, separator_texts};
+use crate::range::segment::{Segment, separator_texts};
 use fixed_decimal::{Sink, SinkFault, Writeable};
-use locale_data::{CompactForm, RangeFormat};
+use locale_data::RangeFormat;
 use std::fmt;
 
 /// To which number of a range a part of its text belongs, as `formatRangeToParts` of ECMA-402 names it.
@@ -97,32 +97,18 @@ impl<'f> FormattedRange<'f> {
         self.start.outer_around()
     }
 
-    fn approximate_number(&self) -> ApproximateNumber<'_, 'f>
-        ensures { affixed_pieces result ≡ within
-            (approximate_around self.now.start.formatter.now.style self.now.format.approximately
-            self.now.start.value.sign (pattern_of self.now.start)) (end_number (end_of self.now.start)) }
-    {
-        let number = &self.start;
-        let style = &number.formatter.style;
-        let approximately = self.format.approximately;
-        let pattern = number.compact_pattern();
-        ApproximateNumber {
-            number,
-            affixes: style.approximate_affixes(approximately, number.value.sign, pattern),
-        }
-    }
-
     fn approximate_segment(&self, segment: RangeSegment) -> Segment<'_, 'f>
         ensures { segment_pieces result ≡ pieces_in (pieces_by form.Approximate (shown_range self.now)) segment }
     {
         let outer = self.outer();
+        let start = &self.start;
         match segment {
-            RangeSegment::Prefix => Segment::before(outer.kind, outer.before),
+            RangeSegment::Prefix => Segment::shared(start, &[], outer.kind, outer.before),
             RangeSegment::Middle if outer.has_number => {
-                Segment::Approximate(self.approximate_number())
+                Segment::approximate(start, self.format.approximately)
             }
-            RangeSegment::Suffix => Segment::after(outer.kind, outer.after),
-            _ => Segment::Digits(&self.start, false),
+            RangeSegment::Suffix => Segment::shared(start, &[], outer.kind, outer.after),
+            _ => Segment::digits_if(start, false),
         }
     }
 
@@ -130,39 +116,32 @@ impl<'f> FormattedRange<'f> {
         ensures { segment_pieces result
             ≡ pieces_if shown (separator_pieces self.now.format.separator self.now.spaced) }
     {
+        let start = &self.start;
         if !shown {
-            return Segment::Digits(&self.start, false);
+            return Segment::digits_if(start, false);
         }
         let texts = separator_texts(self.format.separator, self.spaced);
-        Segment::after(PartKind::Literal, texts)
-    }
-
-    fn shows_number(&self) -> bool
-        ensures { result ≡ (around_of self.now.start).has_number }
-    {
-        match self.start.compact_pattern() {
-            Some(pattern) => !matches!(pattern.form, CompactForm::Literal),
-            None => true,
-        }
+        Segment::shared(start, &[], PartKind::Literal, texts)
     }
 
     fn common_segment(&self, segment: RangeSegment) -> Segment<'_, 'f>
         ensures { segment_pieces result ≡ pieces_in (pieces_by form.Common (shown_range self.now)) segment }
     {
         let outer = self.outer();
-        let shown = outer.has_number && self.shows_number();
         let start = &self.start;
+        let affixes = start.affixes();
+        let shown = outer.has_number && affixes.has_number;
         match segment {
             RangeSegment::Prefix => {
-                Segment::Prefix(start.affixes().prefix, outer.kind, outer.before)
+                Segment::shared(start, &affixes.prefix, outer.kind, outer.before)
             }
-            RangeSegment::Start => Segment::Digits(start, shown),
+            RangeSegment::Start => Segment::digits_if(start, shown),
             RangeSegment::Middle => self.separator_if(shown),
-            RangeSegment::End => Segment::Digits(&self.end, shown),
+            RangeSegment::End => Segment::digits_if(&self.end, shown),
             RangeSegment::Suffix if outer.has_number => {
-                Segment::Suffix(start.affixes().suffix, outer.kind, outer.after)
+                Segment::shared(start, &affixes.suffix, outer.kind, outer.after)
             }
-            RangeSegment::Suffix => Segment::after(outer.kind, outer.after),
+            RangeSegment::Suffix => Segment::shared(start, &[], outer.kind, outer.after),
         }
     }
 
@@ -170,12 +149,13 @@ impl<'f> FormattedRange<'f> {
         ensures { segment_pieces result ≡ pieces_in (pieces_by form.Apart (shown_range self.now)) segment }
     {
         let outer = self.outer();
+        let start = &self.start;
         match segment {
-            RangeSegment::Prefix => Segment::before(outer.kind, outer.before),
-            RangeSegment::Start => Segment::Number(&self.start, outer.has_number),
+            RangeSegment::Prefix => Segment::shared(start, &[], outer.kind, outer.before),
+            RangeSegment::Start => Segment::number_if(start, outer.has_number),
             RangeSegment::Middle => self.separator_if(outer.has_number),
-            RangeSegment::End => Segment::Number(&self.end, outer.has_number),
-            RangeSegment::Suffix => Segment::after(outer.kind, outer.after),
+            RangeSegment::End => Segment::number_if(&self.end, outer.has_number),
+            RangeSegment::Suffix => Segment::shared(start, &[], outer.kind, outer.after),
         }
     }
 
@@ -192,7 +172,7 @@ impl<'f> FormattedRange<'f> {
 
     fn segment_length(&self, segment: RangeSegment) -> usize
         ensures value { result ≡ length (pieces_text (formatted_range_pieces self.now segment)) }
-        ensures at_most { result ≤ 17242343 }
+        ensures at_most { result ≤ 17243363 }
     {
         self.segment(segment).length()
     }

@@ -1,38 +1,27 @@
 //! Segments of the text of a range.
-ghost use Rattle.std.specs.{Prelude.{◌≡◌, ◌≤◌, ◌++◌, length, OnOk, OnErr, true, false}, Fmt.WritesStyledOnOk, Io.KnownBytes.Appends};
+ghost use Rattle.std.specs.{Prelude.{◌≡◌, ◌≤◌, ◌++◌, [], length, OnOk, OnErr, true}, Fmt.WritesStyledOnOk, Io.KnownBytes.Appends};
 ghost use Rattle.decimal_digits.specs.AppendsPrefix.{AppendsPrefix};
-ghost use Rattle.number_format.specs.{FormattedRanges.{affixed_pieces, affixed_text, segment_pieces, segment_text}, RangeText.{has_spaces, separator_pieces}, TextParts.{parts_pieces, parts_text, pieces_of, Puts, PutsPrefix}};
+ghost use Rattle.number_format.specs.{FormattedNumbers.{inner_pieces_if, number_pieces, number_pieces_if, pattern_of}, FormattedRanges.{segment_pieces, segment_text}, PatternTexts.within, RangeText.{approximate_around, has_spaces, separator_pieces}, TextParts.{parts_pieces, parts_text, pieces_of, Puts, PutsPrefix}};
 ghost use Rattle.number_format.specs.declared.format.text_part.PartKind.TheVariants.{Literal};
 
 use crate::format::formatted_number::FormattedNumber;
 use crate::format::outer::put_outer;
 use crate::format::parts::{PartSink, fmt_parts, parts_length, put_parts, write_parts};
 use crate::format::text_part::{PartKind, TextPart};
-use crate::range::affixes::{ApproximateAffixes, NOTHING};
+use crate::range::affixes::NOTHING;
 use fixed_decimal::{Sink, SinkFault};
-use locale_data::RangeSeparator;
+use locale_data::{ApproximatelySign, RangeSeparator};
 use std::fmt;
 
-/// The digits of an approximate number, between its affixes.
+/// A segment of the text of a range: the digits of a number between parts, and texts of one kind.
 #[derive(Clone, Copy)]
-pub(crate) struct ApproximateNumber<'r, 'f> {
-    pub(crate) number: &'r FormattedNumber<'f>,
-    pub(crate) affixes: ApproximateAffixes<'f>,
-}
-
-/// A segment of the text of a range.
-#[derive(Clone, Copy)]
-pub(crate) enum Segment<'r, 'f> {
-    /// What is before both numbers: parts, and texts of one kind.
-    Prefix([TextPart<'r>; 6], PartKind, [TextPart<'r>; 4]),
-    /// What is after both numbers, or between them.
-    Suffix([TextPart<'r>; 5], PartKind, [TextPart<'r>; 4]),
-    /// The digits of a number, if they are shown.
-    Digits(&'r FormattedNumber<'f>, bool),
-    /// A number with its own affixes, if it is shown.
-    Number(&'r FormattedNumber<'f>, bool),
-    /// An approximate number.
-    Approximate(ApproximateNumber<'r, 'f>),
+pub(crate) struct Segment<'r, 'f> {
+    prefix: [TextPart<'r>; 10],
+    number: &'r FormattedNumber<'f>,
+    has_number: bool,
+    suffix: [TextPart<'r>; 10],
+    kind: PartKind,
+    texts: [TextPart<'r>; 4],
 }
 
 fn has_spaces(separator: RangeSeparator) -> bool
@@ -57,105 +46,97 @@ pub(crate) fn separator_texts(
     [space, text, space, NOTHING]
 }
 
-fn write_shared<W: Sink>(
-    parts: &[TextPart<'_>],
-    texts: &[TextPart<'_>; 4],
-    sink: &mut W,
-) -> Result<(), SinkFault>
-    ensures ok { OnOk result
-        (Appends (W.contents sink.old) (W.contents sink.new) (parts_text parts.now ++ parts_text texts.now)) }
-    ensures err { OnErr result
-        (AppendsPrefix (W.contents sink.old) (W.contents sink.new) (parts_text parts.now ++ parts_text texts.now)) }
-    ensures failed { OnErr result (W.has_failed sink.new ≡ true) }
+fn no_parts() -> [TextPart<'static>; 10]
+    ensures { parts_pieces result ≡ [] }
 {
-    write_parts(parts, sink)?;
-    write_parts(texts, sink)
+    [NOTHING; 10]
 }
 
-fn fmt_shared<W: fmt::Write>(
-    parts: &[TextPart<'_>],
-    texts: &[TextPart<'_>; 4],
-    f: &mut fmt::Formatter<W>,
-) -> fmt::Result
-    ensures { WritesStyledOnOk W.write_str_gives f.old result (parts_text parts.now ++ parts_text texts.now) f.new }
+fn wide<'r>(parts: &[TextPart<'r>]) -> [TextPart<'r>; 10]
+    requires { length parts.now ≤ 10 }
+    ensures { parts_pieces result ≡ parts_pieces parts.now }
 {
-    fmt_parts(parts, f)?;
-    fmt_parts(texts, f)
-}
-
-fn put_shared<P: PartSink>(
-    sink: &mut P,
-    parts: &[TextPart<'_>],
-    kind: PartKind,
-    texts: &[TextPart<'_>; 4],
-) -> Result<(), SinkFault>
-    ensures ok { OnOk result (Puts (P.pieces sink.old) (P.pieces sink.new)
-        (parts_pieces parts.now ++ pieces_of kind (parts_text texts.now))) }
-    ensures err { OnErr result (PutsPrefix (P.pieces sink.old) (P.pieces sink.new)
-        (parts_pieces parts.now ++ pieces_of kind (parts_text texts.now))) }
-    ensures failed { OnErr result (P.has_failed sink.new ≡ true) }
-{
-    put_parts(sink, parts)?;
-    put_outer(sink, kind, texts)
-}
-
-impl ApproximateNumber<'_, '_> {
-    fn write<W: Sink>(&self, sink: &mut W) -> Result<(), SinkFault>
-        ensures ok { OnOk result (Appends (W.contents sink.old) (W.contents sink.new) (affixed_text self.now)) }
-        ensures err { OnErr result
-            (AppendsPrefix (W.contents sink.old) (W.contents sink.new) (affixed_text self.now)) }
-        ensures failed { OnErr result (W.has_failed sink.new ≡ true) }
-    {
-        write_parts(&self.affixes.prefix, sink)?;
-        self.number.write_number_if(self.affixes.has_number, sink)?;
-        write_parts(&self.affixes.suffix, sink)
-    }
-
-    fn fmt<W: fmt::Write>(&self, f: &mut fmt::Formatter<W>) -> fmt::Result
-        ensures { WritesStyledOnOk W.write_str_gives f.old result (affixed_text self.now) f.new }
-    {
-        fmt_parts(&self.affixes.prefix, f)?;
-        self.number.fmt_number_if(self.affixes.has_number, f)?;
-        fmt_parts(&self.affixes.suffix, f)
-    }
-
-    fn length(&self) -> usize
-        ensures value { result ≡ length (affixed_text self.now) }
-        ensures at_most { result ≤ 17242343 }
-    {
-        let number = if self.affixes.has_number {
-            self.number.number_length()
-        } else {
-            0
-        };
-        parts_length(&self.affixes.prefix) + number + parts_length(&self.affixes.suffix)
-    }
-
-    fn put<P: PartSink>(&self, sink: &mut P) -> Result<(), SinkFault>
-        ensures ok { OnOk result (Puts (P.pieces sink.old) (P.pieces sink.new) (affixed_pieces self.now)) }
-        ensures err { OnErr result
-            (PutsPrefix (P.pieces sink.old) (P.pieces sink.new) (affixed_pieces self.now)) }
-        ensures failed { OnErr result (P.has_failed sink.new ≡ true) }
-    {
-        put_parts(sink, &self.affixes.prefix)?;
-        self.number.put_number_if(self.affixes.has_number, sink)?;
-        put_parts(sink, &self.affixes.suffix)
-    }
+    let mut wide = [NOTHING; 10];
+    wide[..parts.len()].copy_from_slice(parts);
+    wide
 }
 
 impl<'r, 'f> Segment<'r, 'f> {
-    /// Returns the segment of texts of one kind before both numbers.
-    pub(crate) fn before(kind: PartKind, texts: [TextPart<'r>; 4]) -> Self
-        ensures { segment_pieces result ≡ pieces_of kind (parts_text texts.entry) }
+    fn between(
+        prefix: [TextPart<'r>; 10],
+        number: &'r FormattedNumber<'f>,
+        has_number: bool,
+        suffix: [TextPart<'r>; 10],
+    ) -> Self
+        ensures { segment_pieces result ≡ parts_pieces prefix.entry
+            ++ (number_pieces_if number.now has_number ++ parts_pieces suffix.entry) }
     {
-        Segment::Prefix([NOTHING; 6], kind, texts)
+        let texts = [NOTHING; 4];
+        Segment {
+            prefix,
+            number,
+            has_number,
+            suffix,
+            kind: PartKind::Literal,
+            texts,
+        }
     }
 
-    /// Returns the segment of texts of one kind after both numbers, or between them.
-    pub(crate) fn after(kind: PartKind, texts: [TextPart<'r>; 4]) -> Self
-        ensures { segment_pieces result ≡ pieces_of kind (parts_text texts.entry) }
+    /// Returns the segment of parts, and of texts of one kind after them.
+    pub(crate) fn shared(
+        number: &'r FormattedNumber<'f>,
+        parts: &[TextPart<'r>],
+        kind: PartKind,
+        texts: [TextPart<'r>; 4],
+    ) -> Self
+        requires { length parts.now ≤ 10 }
+        ensures { segment_pieces result ≡ parts_pieces parts.now ++ pieces_of kind (parts_text texts.entry) }
     {
-        Segment::Suffix([NOTHING; 5], kind, texts)
+        let prefix = wide(parts);
+        let suffix = no_parts();
+        Segment {
+            prefix,
+            number,
+            has_number: false,
+            suffix,
+            kind,
+            texts,
+        }
+    }
+
+    /// Returns the segment of the digits of a number, or one without pieces.
+    pub(crate) fn digits_if(number: &'r FormattedNumber<'f>, has_number: bool) -> Self
+        ensures { segment_pieces result ≡ number_pieces_if number.now has_number }
+    {
+        Self::between(no_parts(), number, has_number, no_parts())
+    }
+
+    /// Returns the segment of a number with its own affixes, or one without pieces.
+    pub(crate) fn number_if(number: &'r FormattedNumber<'f>, shown: bool) -> Self
+        ensures { segment_pieces result ≡ inner_pieces_if number.now shown }
+    {
+        if !shown {
+            return Self::digits_if(number, false);
+        }
+        let affixes = number.affixes();
+        let prefix = wide(&affixes.prefix);
+        let suffix = wide(&affixes.suffix);
+        Self::between(prefix, number, affixes.has_number, suffix)
+    }
+
+    /// Returns the segment of a number with an approximately sign.
+    pub(crate) fn approximate(
+        number: &'r FormattedNumber<'f>,
+        approximately: ApproximatelySign,
+    ) -> Self
+        ensures { segment_pieces result ≡ within
+            (approximate_around number.now.formatter.now.style approximately number.now.value.sign
+            (pattern_of number.now)) (number_pieces number.now) }
+    {
+        let style = &number.formatter.style;
+        let pattern = number.compact_pattern();
+        let affixes = style.approximate_affixes(approximately, number.value.sign, pattern);
+        Self::between(affixes.prefix, number, affixes.has_number, affixes.suffix)
     }
 
     /// Appends the text.
@@ -165,41 +146,33 @@ impl<'r, 'f> Segment<'r, 'f> {
             (AppendsPrefix (W.contents sink.old) (W.contents sink.new) (segment_text self.now)) }
         ensures failed { OnErr result (W.has_failed sink.new ≡ true) }
     {
-        match self {
-            Segment::Prefix(parts, _, texts) => write_shared(parts, texts, sink),
-            Segment::Suffix(parts, _, texts) => write_shared(parts, texts, sink),
-            Segment::Digits(number, shown) => number.write_number_if(*shown, sink),
-            Segment::Number(number, shown) => number.write_inner_if(*shown, sink),
-            Segment::Approximate(approximate) => approximate.write(sink),
-        }
+        write_parts(&self.prefix, sink)?;
+        self.number.write_number_if(self.has_number, sink)?;
+        write_parts(&self.suffix, sink)?;
+        write_parts(&self.texts, sink)
     }
 
     /// Writes the text.
     pub(crate) fn fmt<W: fmt::Write>(&self, f: &mut fmt::Formatter<W>) -> fmt::Result
         ensures { WritesStyledOnOk W.write_str_gives f.old result (segment_text self.now) f.new }
     {
-        match self {
-            Segment::Prefix(parts, _, texts) => fmt_shared(parts, texts, f),
-            Segment::Suffix(parts, _, texts) => fmt_shared(parts, texts, f),
-            Segment::Digits(number, shown) => number.fmt_number_if(*shown, f),
-            Segment::Number(number, shown) => number.fmt_inner_if(*shown, f),
-            Segment::Approximate(approximate) => approximate.fmt(f),
-        }
+        fmt_parts(&self.prefix, f)?;
+        self.number.fmt_number_if(self.has_number, f)?;
+        fmt_parts(&self.suffix, f)?;
+        fmt_parts(&self.texts, f)
     }
 
     /// Returns the number of bytes of the text.
     pub(crate) fn length(&self) -> usize
         ensures value { result ≡ length (segment_text self.now) }
-        ensures at_most { result ≤ 17242343 }
+        ensures at_most { result ≤ 17243363 }
     {
-        match self {
-            Segment::Prefix(parts, _, texts) => parts_length(parts) + parts_length(texts),
-            Segment::Suffix(parts, _, texts) => parts_length(parts) + parts_length(texts),
-            Segment::Digits(number, true) => number.number_length(),
-            Segment::Number(number, true) => number.inner_length(),
-            Segment::Digits(_, false) | Segment::Number(_, false) => 0,
-            Segment::Approximate(approximate) => approximate.length(),
-        }
+        let number = if self.has_number {
+            self.number.number_length()
+        } else {
+            0
+        };
+        parts_length(&self.prefix) + number + parts_length(&self.suffix) + parts_length(&self.texts)
     }
 
     /// Puts the pieces.
@@ -208,12 +181,9 @@ impl<'r, 'f> Segment<'r, 'f> {
         ensures err { OnErr result (PutsPrefix (P.pieces sink.old) (P.pieces sink.new) (segment_pieces self.now)) }
         ensures failed { OnErr result (P.has_failed sink.new ≡ true) }
     {
-        match self {
-            Segment::Prefix(parts, kind, texts) => put_shared(sink, parts, *kind, texts),
-            Segment::Suffix(parts, kind, texts) => put_shared(sink, parts, *kind, texts),
-            Segment::Digits(number, shown) => number.put_number_if(*shown, sink),
-            Segment::Number(number, shown) => number.put_inner_if(*shown, sink),
-            Segment::Approximate(approximate) => approximate.put(sink),
-        }
+        put_parts(sink, &self.prefix)?;
+        self.number.put_number_if(self.has_number, sink)?;
+        put_parts(sink, &self.suffix)?;
+        put_outer(sink, self.kind, &self.texts)
     }
 }
