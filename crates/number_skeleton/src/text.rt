@@ -10,7 +10,7 @@ use locale_data::{CurrencyCode, CurrencySign, NumberingSystem};
 use locale_names::{Unit, UnitDisplay};
 use number_format::{
     CompactLength, CurrencyDisplay, DecimalSeparatorDisplay, ExponentOptions, ExponentSign,
-    IntegerDigits, NumberNotation, NumberOptions, NumberStyle,
+    GroupSizes, IntegerDigits, NumberNotation, NumberOptions, NumberStyle,
 };
 use numbers::{push_number, push_power, push_run};
 use precision::push_shown_precision;
@@ -95,8 +95,11 @@ fn mode_text(mode: SignedRoundingMode) -> &'static str {
     }
 }
 
-fn grouping_text(is_compact: bool, grouping: GroupingStrategy) -> &'static str {
-    match (is_compact, grouping) {
+fn grouping_text(is_compact: bool, sizes: GroupSizes, strategy: GroupingStrategy) -> &'static str {
+    if matches!(sizes, GroupSizes::Thousands) {
+        return "group-thousands ";
+    }
+    match (is_compact, strategy) {
         (true, GroupingStrategy::Min2) | (false, GroupingStrategy::Auto) => "",
         (true, GroupingStrategy::Auto) => "group-auto ",
         (false, GroupingStrategy::Min2) => "group-min2 ",
@@ -214,7 +217,7 @@ pub(crate) fn push_skeleton(text: &mut String, options: &NumberOptions) -> Resul
         push_shown_precision(text, options, digits)?;
         text.push_str(mode_text(digits.mode))?;
     }
-    text.push_str(grouping_text(options.is_compact(), options.grouping))?;
+    text.push_str(grouping_text(options.is_compact(), options.group_sizes, options.grouping))?;
     if let Some(digits) = options.digits {
         push_integer(text, digits.integer)?;
     }
