@@ -110,14 +110,14 @@ fn grouping_text(is_compact: bool, sizes: GroupSizes, strategy: GroupingStrategy
 
 /// Appends `integer-width/*00`, or `integer-width/##00` where there is a greatest number.
 fn push_integer(text: &mut String, integer: IntegerDigits) -> Result<(), AllocError> {
-    if integer.max == 32768 {
-        if integer.min == 1 {
-            return Ok(());
+    match (integer.min, integer.max) {
+        (1, 32768) => return Ok(()),
+        (0, 0) => return text.push_str("integer-width-trunc "),
+        (_, 32768) => text.push_str("integer-width/*")?,
+        (min, max) => {
+            text.push_str("integer-width/")?;
+            push_run(text, '#', (max - min) as u32)?;
         }
-        text.push_str("integer-width/*")?;
-    } else {
-        text.push_str("integer-width/")?;
-        push_run(text, '#', (integer.max - integer.min) as u32)?;
     }
     push_run(text, '0', integer.min as u32)?;
     text.push(' ')

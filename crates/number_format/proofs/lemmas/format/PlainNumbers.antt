@@ -53,7 +53,7 @@ is_plain system own currency texts g name f made not_always =
 abbrev pieces_for : NumberFormatter → Symbols → Pattern → GroupingStrategy → Unsigned → Sign → List Piece
 pieces_for f symbols pattern g v s =
     let a = pattern_around (record f.style { symbols = symbols; pattern = pattern }) s in
-    (a.prefix ++ (((digit_pieces PartKind.Integer symbols g v ++ []) ++ []) ++ a.suffix)) ++ []
+    (a.prefix ++ (((digit_pieces false PartKind.Integer symbols g v ++ []) ++ []) ++ a.suffix)) ++ []
 
 abbrev plain_pieces : NumberFormatter → Symbols → GroupingStrategy → Unsigned → Sign → List Piece
 plain_pieces f own = pieces_for f own (plain_pattern own.sizes)
@@ -64,18 +64,18 @@ around_is : (f : NumberFormatter) (own : Symbols) (g : GroupingStrategy) (v : Un
     ≡ (sign_affixes own (negative_or Sign.None s)).prefix
     ++ (absolute_text own g v ++ (sign_affixes own (negative_or Sign.None s)).suffix)
 around_is f own g v Sign.None e =
-    let left : plain_pieces f own g v Sign.None ≡ digit_pieces PartKind.Integer own g v = simp append-nil in
+    let left : plain_pieces f own g v Sign.None ≡ digit_pieces false PartKind.Integer own g v = simp append-nil in
     ap pieces_text left ∙ text-of_digits PartKind.Integer own g v ∙ sym (append-nil (absolute_text own g v))
 around_is f own g v Sign.Positive e =
-    let left : plain_pieces f own g v Sign.None ≡ digit_pieces PartKind.Integer own g v = simp append-nil in
+    let left : plain_pieces f own g v Sign.None ≡ digit_pieces false PartKind.Integer own g v = simp append-nil in
     ap pieces_text left ∙ text-of_digits PartKind.Integer own g v ∙ sym (append-nil (absolute_text own g v))
 around_is f own g v Sign.Negative e =
     let minus = own.minus.prefix in
     let digits = absolute_text own g v in
     let left : plain_pieces f own g v Sign.Negative ≡ pieces_of PartKind.MinusSign minus
-    ++ digit_pieces PartKind.Integer own g v = simp append-nil in
+    ++ digit_pieces false PartKind.Integer own g v = simp append-nil in
     ap pieces_text left
-    ∙ text-append (pieces_of PartKind.MinusSign minus) (digit_pieces PartKind.Integer own g v)
+    ∙ text-append (pieces_of PartKind.MinusSign minus) (digit_pieces false PartKind.Integer own g v)
     ∙ (λ i. text-of PartKind.MinusSign minus i ++ text-of_digits PartKind.Integer own g v i)
     ∙ ap (λ l. minus ++ l) (sym (append-nil digits))
     ∙ ap (λ l. minus ++ (digits ++ l)) (sym e)
@@ -100,7 +100,7 @@ of_plain f own g name v text plain valid no_suffix (pieces, is, of_pieces) =
     (compact_pattern f.formats (compact_style (plain.options i).notation (plain.options i).style)
     (compact_magnitude f.notation (number i).significand (number i).exponent) is.category
     (is_one (number i).significand)))
-    (significand_pieces f (plain.options i).decimal_separator (number i).significand.absolute
+    (significand_pieces f (plain.digits i) (plain.options i).decimal_separator (number i).significand.absolute
     ++ exponent_pieces f (exponent_of (plain.options i).notation (number i).exponent))))
     ∙ (λ i. pieces_for f (plain.symbols i) (plain.pattern i) (plain.options i).grouping v.absolute s))
     ∙ around_is f own g v.absolute v.sign no_suffix
